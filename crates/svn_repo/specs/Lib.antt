@@ -1,6 +1,7 @@
 pub mod History
-pub mod Stored
 pub mod Walks
 pub mod Trees
+pub mod Stored
+pub mod Heights
 pub mod Drafts
 pub mod Changes
