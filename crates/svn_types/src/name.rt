@@ -11,6 +11,7 @@ use crate::fault::PathFault;
 use std::alloc::{AllocError, Global};
 use std::cmp::Ordering;
 use std::convert::AsStr;
+use std::fmt;
 use std::marker::Model;
 
 /// The longest name of a node or a property, in bytes.
@@ -146,5 +147,14 @@ impl Ord for Name {
 
     fn cmp(&self, other: &Name) -> Ordering {
         self.as_str().cmp(other.as_str())
+    }
+}
+
+impl fmt::Display for Name {
+    ghost output = { λ name. Some name };
+
+    fn fmt<W: fmt::Write>(&self, f: &mut fmt::Formatter<W>) -> fmt::Result {
+        let text = self.as_str();
+        write!(f, "{text}")
     }
 }
