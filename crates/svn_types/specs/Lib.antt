@@ -1,4 +1,5 @@
 pub mod Names
 pub mod NameFaults
 pub mod NameSplits
+pub mod Paths
 pub mod Pairs
