@@ -4,3 +4,4 @@ pub mod Walks
 pub mod Trees
 pub mod Drafts
 pub mod Changes
+pub mod Readings

@@ -58,6 +58,14 @@ impl Entries {
         self.map.get(name).copied()
     }
 
+    /// The entries as a map. It takes no memory.
+    pub fn as_map(&self) -> &BTreeMap<Name, NodeId>
+        ensures entries { result.now.entries ≡ self.now }
+        ensures ordered { InNameOrder self.now }
+    {
+        &self.map
+    }
+
     pub fn insert(&mut self, name: Name, node: NodeId) -> Result<(), AllocError>
         ensures ok { OnOk result (self.new ≡ insert_entry name_cmp self.old name node) }
         ensures lookups { OnOk result (ChangesOnly self.old self.new name (Some node)) }

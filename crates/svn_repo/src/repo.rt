@@ -1,8 +1,9 @@
 //! A repository: its revisions, and the nodes that they share.
-ghost use Rattle.std.specs.Prelude.{◌≡◌, ℕ, ◌+◌, length, option_map, slice_get, IfOk, Some, None, option_and_then, ◌∷◌, [], ◌⊎◌, IfErr, OnErr};
+ghost use Rattle.std.specs.Prelude.{◌≡◌, ℕ, ◌+◌, length, option_map, slice_get, IfOk, Some, None, option_and_then, ◌∷◌, [], ◌⊎◌, IfErr, OnErr, IfNone, IfSome};
 ghost use Rattle.std.specs.Option.{option_copied};
 ghost use Rattle.svn_repo.specs.Changes.{IsCommit, commit_fault};
 ghost use Rattle.svn_repo.specs.History.{look, node_at, text_in, entries_in, new_history};
+ghost use Rattle.svn_repo.specs.Readings.{entries_of};
 
 use crate::change::{Change, CommitFault};
 use crate::commit::extend;
@@ -112,7 +113,10 @@ impl Repo {
 
     /// The entries of a directory.
     pub fn entries(&self, id: NodeId) -> Option<&Entries>
-        ensures { option_copied result ≡ option_and_then entries_in (node_at self.now id) }
+        ensures value { option_copied result ≡ option_and_then entries_in (node_at self.now id) }
+        // what is no directory has nothing beneath it
+        ensures leaf { IfNone result (entries_of self.now id ≡ []) }
+        ensures listing { IfSome result (λ entries. entries.now ≡ entries_of self.now id) }
     {
         let node = self.nodes.get(id.index)?;
         match &node.content {
