@@ -1,0 +1,4 @@
+pub mod Names
+pub mod NameFaults
+pub mod NameSplits
+pub mod Pairs

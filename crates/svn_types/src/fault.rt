@@ -1,0 +1,44 @@
+//! Why a text is no name or no path.
+ghost use Rattle.std.specs.Prelude.{◌≡◌};
+ghost use Rattle.svn_types.specs.NameFaults.{path_fault_number};
+
+use thiserror::Error;
+
+/// Why a text is no name, no path or no name of a property.
+#[derive(Clone, Copy, Debug, PartialEq, Eq, Error)]
+pub enum PathFault {
+    /// A name without a byte, as between two slashes.
+    #[error("a name is empty")]
+    EmptyComponent,
+    /// The name `.` or `..`.
+    #[error("a name is `.` or `..`")]
+    Dots,
+    /// A character that no name may have.
+    #[error("a name has a character that no name may have")]
+    BadCharacter,
+    /// A name of over 255 bytes.
+    #[error("a name has over 255 bytes")]
+    NameTooLong,
+    /// A path of over 128 names.
+    #[error("a path has over 128 names")]
+    TooManyComponents,
+    /// A growth was refused.
+    #[error("out of memory")]
+    Memory,
+}
+
+impl PathFault {
+    /// The fault's number, 1 to 6.
+    pub fn number(self) -> u32
+        ensures { result ≡ path_fault_number self }
+    {
+        match self {
+            PathFault::EmptyComponent => 1,
+            PathFault::Dots => 2,
+            PathFault::BadCharacter => 3,
+            PathFault::NameTooLong => 4,
+            PathFault::TooManyComponents => 5,
+            PathFault::Memory => 6,
+        }
+    }
+}

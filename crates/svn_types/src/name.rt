@@ -1,0 +1,150 @@
+//! Names of files and directories.
+ghost use Rattle.std.specs.Prelude.{◌≡◌, refl, nat_eq, IfOk, Some, None};
+ghost use Rattle.std.specs.List.{list_all};
+ghost use Rattle.std.specs.Ordering.{nat_cmp};
+ghost use Rattle.std.specs.Cmp.Lexicographic.{pointwise, slice_cmp, nat_list_eq_equiv, nat_list_cmp_total, texts_ties, texts_po};
+ghost use Rattle.std.specs.Cmp.{partial_equiv_from_equiv};
+ghost use Rattle.svn_types.specs.Names.{IsName, is_plain};
+ghost use Rattle.svn_types.specs.NameFaults.{name_fault, AnswersPath};
+
+use crate::fault::PathFault;
+use std::alloc::{AllocError, Global};
+use std::cmp::Ordering;
+use std::convert::AsStr;
+use std::marker::Model;
+
+/// The longest name of a node or a property, in bytes.
+pub const MAX_NAME_LEN: usize = 255;
+
+/// The name of a file or a directory: 1 to 255 bytes of UTF-8 without `/` and control characters, and neither `.` nor `..`.
+/// A contract sees it as its bytes.
+#[derive(Debug, Drop)]
+pub struct Name {
+    text: String,
+}
+
+impl Model for Name {
+    ghost use Rattle.std.specs.Prelude.{ℕ, List};
+    ghost use Rattle.std.specs.String.{string_bytes};
+    ghost use Rattle.svn_types.specs.Names.{IsName};
+
+    ghost Value = { List ℕ };
+
+    ghost view = { λ n. string_bytes n.text };
+
+    ghost invariant = { λ n. IsName (string_bytes n.text) };
+}
+
+fn is_plain_byte(byte: u8) -> bool
+    ensures { result ≡ is_plain byte }
+{
+    32 <= byte && byte != b'/' && byte != 127
+}
+
+fn is_plain_text(text: &str) -> bool
+    ensures { result ≡ list_all is_plain text.now }
+{
+    text.as_bytes().iter().all(|byte| is_plain_byte(*byte))
+}
+
+// Why a text is no name. It takes no memory.
+pub(crate) fn fault_of_name(text: &str) -> Option<PathFault>
+    ensures { result ≡ name_fault text.now }
+{
+    if text.len() == 0 {
+        Some(PathFault::EmptyComponent)
+    } else if text == "." || text == ".." {
+        Some(PathFault::Dots)
+    } else if text.len() > MAX_NAME_LEN {
+        Some(PathFault::NameTooLong)
+    } else if is_plain_text(text) {
+        None
+    } else {
+        Some(PathFault::BadCharacter)
+    }
+}
+
+impl Name {
+    /// Reads a name. The first fault in this order is answered: EmptyComponent, Dots, NameTooLong, BadCharacter; Memory comes last.
+    pub fn parse(alloc: Global, text: &str) -> Result<Name, PathFault>
+        ensures { AnswersPath (name_fault text.now) text.now result }
+    {
+        match fault_of_name(text) {
+            Some(fault) => Err(fault),
+            None => Name::from_checked(alloc, text).map_err(|_| PathFault::Memory),
+        }
+    }
+
+    pub(crate) fn from_checked(alloc: Global, text: &str) -> Result<Name, AllocError>
+        requires { name_fault text.now ≡ None }
+        ensures { IfOk result (λ n. n ≡ text.now) }
+    {
+        Ok(Name {
+            text: String::from_str(alloc, text)?,
+        })
+    }
+
+    /// Its text.
+    pub fn as_str(&self) -> &str
+        ensures value { result.now ≡ self.now }
+        ensures name { IsName self.now }
+    {
+        self.text.as_str()
+    }
+}
+
+impl Clone for Name {
+    ghost is_clone = { λ name copy. copy ≡ name };
+
+    fn clone(&self) -> Result<Name, AllocError> {
+        Ok(Name {
+            text: self.text.clone()?,
+        })
+    }
+}
+
+impl AsStr for Name {
+    ghost text = { λ name. name };
+
+    fn as_str(&self) -> &str {
+        Name::as_str(self)
+    }
+}
+
+impl PartialEq for Name {
+    ghost eq = { pointwise nat_eq };
+
+    ghost laws = { partial_equiv_from_equiv nat_list_eq_equiv };
+
+    fn eq(&self, other: &Name) -> bool {
+        self.as_str() == other.as_str()
+    }
+}
+
+impl Eq for Name {
+    ghost laws = { nat_list_eq_equiv };
+}
+
+impl PartialOrd for Name {
+    ghost partial_cmp = { λ x y. Some (slice_cmp nat_cmp x y) };
+
+    ghost laws = { texts_po };
+
+    fn partial_cmp(&self, other: &Name) -> Option<Ordering> {
+        Some(self.cmp(other))
+    }
+}
+
+impl Ord for Name {
+    ghost cmp = { slice_cmp nat_cmp };
+
+    ghost total = { nat_list_cmp_total };
+
+    ghost matches_partial_cmp = { λ x y. refl };
+
+    ghost matches_eq = { texts_ties };
+
+    fn cmp(&self, other: &Name) -> Ordering {
+        self.as_str().cmp(other.as_str())
+    }
+}

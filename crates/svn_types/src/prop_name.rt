@@ -1,0 +1,160 @@
+//! Names of properties.
+ghost use Rattle.std.specs.Prelude.{◌≡◌, refl, nat_eq, IfOk, Some, None};
+ghost use Rattle.std.specs.List.{list_all};
+ghost use Rattle.std.specs.Ordering.{nat_cmp};
+ghost use Rattle.std.specs.Cmp.Lexicographic.{pointwise, slice_cmp, nat_list_eq_equiv, nat_list_cmp_total, texts_ties, texts_po};
+ghost use Rattle.std.specs.Cmp.{partial_equiv_from_equiv};
+ghost use Rattle.svn_types.specs.Names.{IsPropName, starts_prop_name, continues_prop_name, is_prop_text};
+ghost use Rattle.svn_types.specs.NameFaults.{prop_name_fault, AnswersPath};
+
+use crate::fault::PathFault;
+use crate::name::MAX_NAME_LEN;
+use std::alloc::{AllocError, Global};
+use std::cmp::Ordering;
+use std::convert::AsStr;
+use std::marker::Model;
+
+/// The name of a property: 1 to 255 ASCII characters, the first a letter, `:` or `_`, the rest letters, digits, `:`, `_`, `-` and `.`.
+/// A contract sees it as its bytes.
+#[derive(Debug, Drop)]
+pub struct PropName {
+    text: String,
+}
+
+impl Model for PropName {
+    ghost use Rattle.std.specs.Prelude.{ℕ, List};
+    ghost use Rattle.std.specs.String.{string_bytes};
+    ghost use Rattle.svn_types.specs.Names.{IsPropName};
+
+    ghost Value = { List ℕ };
+
+    ghost view = { λ n. string_bytes n.text };
+
+    ghost invariant = { λ n. IsPropName (string_bytes n.text) };
+}
+
+fn starts_name(byte: u8) -> bool
+    ensures { result ≡ starts_prop_name byte }
+{
+    byte.is_ascii_alphabetic() || byte == b':' || byte == b'_'
+}
+
+fn continues_name(byte: u8) -> bool
+    ensures { result ≡ continues_prop_name byte }
+{
+    starts_name(byte) || byte.is_ascii_digit() || byte == b'-' || byte == b'.'
+}
+
+fn all_continue(bytes: &[u8]) -> bool
+    ensures { result ≡ list_all continues_prop_name bytes.now }
+{
+    bytes.iter().all(|byte| continues_name(*byte))
+}
+
+fn is_prop_name(bytes: &[u8]) -> bool
+    ensures { result ≡ is_prop_text bytes.now }
+{
+    match bytes {
+        [] => false,
+        [first, rest @ ..] => starts_name(*first) && all_continue(rest),
+    }
+}
+
+fn fault_of_prop_name(text: &str) -> Option<PathFault>
+    ensures { result ≡ prop_name_fault text.now }
+{
+    if text.len() == 0 {
+        Some(PathFault::EmptyComponent)
+    } else if text.len() > MAX_NAME_LEN {
+        Some(PathFault::NameTooLong)
+    } else if is_prop_name(text.as_bytes()) {
+        None
+    } else {
+        Some(PathFault::BadCharacter)
+    }
+}
+
+impl PropName {
+    /// Reads the name of a property. The first fault in this order is answered: EmptyComponent, NameTooLong, BadCharacter; Memory comes last.
+    pub fn parse(alloc: Global, text: &str) -> Result<PropName, PathFault>
+        ensures { AnswersPath (prop_name_fault text.now) text.now result }
+    {
+        match fault_of_prop_name(text) {
+            Some(fault) => Err(fault),
+            None => PropName::from_checked(alloc, text).map_err(|_| PathFault::Memory),
+        }
+    }
+
+    fn from_checked(alloc: Global, text: &str) -> Result<PropName, AllocError>
+        requires { prop_name_fault text.now ≡ None }
+        ensures { IfOk result (λ n. n ≡ text.now) }
+    {
+        Ok(PropName {
+            text: String::from_str(alloc, text)?,
+        })
+    }
+
+    /// Its text.
+    pub fn as_str(&self) -> &str
+        ensures value { result.now ≡ self.now }
+        ensures name { IsPropName self.now }
+    {
+        self.text.as_str()
+    }
+}
+
+impl Clone for PropName {
+    ghost is_clone = { λ name copy. copy ≡ name };
+
+    fn clone(&self) -> Result<PropName, AllocError> {
+        Ok(PropName {
+            text: self.text.clone()?,
+        })
+    }
+}
+
+impl AsStr for PropName {
+    ghost text = { λ name. name };
+
+    fn as_str(&self) -> &str {
+        PropName::as_str(self)
+    }
+}
+
+impl PartialEq for PropName {
+    ghost eq = { pointwise nat_eq };
+
+    ghost laws = { partial_equiv_from_equiv nat_list_eq_equiv };
+
+    fn eq(&self, other: &PropName) -> bool {
+        self.as_str() == other.as_str()
+    }
+}
+
+impl Eq for PropName {
+    ghost laws = { nat_list_eq_equiv };
+}
+
+impl PartialOrd for PropName {
+    ghost partial_cmp = { λ x y. Some (slice_cmp nat_cmp x y) };
+
+    ghost laws = { texts_po };
+
+    fn partial_cmp(&self, other: &PropName) -> Option<Ordering> {
+        Some(self.cmp(other))
+    }
+}
+
+impl Ord for PropName {
+    ghost cmp = { slice_cmp nat_cmp };
+
+    ghost total = { nat_list_cmp_total };
+
+    ghost matches_partial_cmp = { λ x y. refl };
+
+    ghost matches_eq = { texts_ties };
+
+    fn cmp(&self, other: &PropName) -> Ordering {
+        self.as_str().cmp(other.as_str())
+    }
+}

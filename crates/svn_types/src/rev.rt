@@ -1,0 +1,16 @@
+//! Revision numbers.
+use std::marker::Model;
+
+/// A revision number. A contract sees it as the number.
+#[derive(Clone, Copy, Debug, PartialEq, Eq)]
+pub struct Rev(pub u64);
+
+impl Model for Rev {
+    ghost use Rattle.std.specs.Prelude.{ℕ};
+
+    ghost Value = { ℕ };
+
+    ghost view = { λ r. r.0 };
+
+    ghost inverse = { λ n. record { 0 = n } };
+}
