@@ -5,4 +5,4 @@ pub mod Editing
 pub mod Words
 pub mod Reports
 pub mod ReportOrder
-
+pub mod Lines
