@@ -18,12 +18,13 @@ use Rattle.svn_wc.specs.declared.base_node.BaseNode.TheVariants.{File as FileNod
 use Rattle.svn_wc.specs.Nodes.{WorkingCopy, get_in, is_present, base_node}
 use Rattle.svn_wc.specs.Effects.{settled, effect, read_fault, edit_fault, refusal, step_effect, PathsFit, AllAcceptedFrom, AllAccepted}
 use Rattle.svn_law.specs.Laws.{request_of, Composes, composition}
+use Rattle.svn_law.proofs.Entered.{switched_to}
 use Rattle.svn_law.proofs.Entered.{Setting}
 use Rattle.svn_law.proofs.Progress.{state}
 use Rattle.svn_law.proofs.Standing.{stands_after}
 use Rattle.svn_law.proofs.Tokens.{GivesPaths, gives_call, step_of-call, Ready, steps_after-append, effect-read}
 use Rattle.svn_law.proofs.Prefixes.{ready}
-use Rattle.svn_law.proofs.Ends.{switched_under, ends_at, ends, setting_of}
+use Rattle.svn_law.proofs.Ends.{ends_at, ends, setting_of}
 use Rattle.svn_law.proofs.Fits.{fits_next}
 
 -- the last call keeps a present node present
@@ -51,7 +52,7 @@ module _ (d : Request) (w : WorkingCopy) (setting : Setting d w) (late : Bool) w
 
       by : (m : Mode) → d.mode ≡ m → PathsFit m w'
       by Update e = tt
-      by (SwitchTo root) e = λ p present. subst (λ n. n ≤ path_limit) (ap length (sym (switched_under d w setting root e p)) ∙ length-append root p) (in_target p present)
+      by (SwitchTo root) e = λ p present. subst (λ n. n ≤ path_limit) (ap length (switched_to d root e p) ∙ length-append root p) (in_target p present)
 
   -- calls that are in order are accepted, from any point of a drive on
   accepted_from : (earlier : List Call) (opened : List Path) (done steps : List Step) (w' : WorkingCopy) → GivesPaths earlier opened → target_of earlier ≡ d.target

@@ -12,7 +12,7 @@ use Rattle.svn_drive.specs.Sources.{governing_revision}
 use Rattle.svn_delta.specs.Steps.{Action, Delete, Open, Add, Change, Text, Close}
 use Rattle.svn_drive.specs.Follow.{Request, follow, is_kept, source_node, target_node}
 use Rattle.svn_drive.specs.Steps.{is_text, is_touched, is_new, is_gone, gone_actions, touched_actions, new_actions, entered_actions, text_actions, path_actions, source_props, source_text}
-use Rattle.svn_law.proofs.Entered.{and_true}
+use Rattle.svn_law.proofs.Tests.{and_true, not_true}
 use Rattle.svn_law.proofs.Parents.{is_inner, TargetKind}
 
 -- ---- which of two actions at a path comes first
@@ -92,10 +92,6 @@ pub and_true_right : (b : Bool) → (b && true) ≡ b
 and_true_right true = refl
 and_true_right false = refl
 
-pub and_false_right : (b : Bool) → (b && false) ≡ false
-and_false_right true = refl
-and_false_right false = refl
-
 -- changes of properties before a body leave a body
 changes_first : (k : Kind) (cs : List PropChange) (tail : List Action) → Body k tail → Body k (map (Change k) cs ++ tail)
 changes_first k [] tail b = b
@@ -116,10 +112,6 @@ texts_first d old new c = by (bytes_eq old new)
     by : (b : Bool) → Body File (cond b [] (Text (Some (d.checksum old)) new ∷ []) ++ (Close File c ∷ []))
     by true = only_close File c
     by false = text_and_close (Some (d.checksum old)) new c
-
-not_true : (x : Bool) → not x ≡ true → x ≡ false
-not_true true e = absurd (true≢false (sym e))
-not_true false e = refl
 
 -- what is opened, and what is added
 touched_course : (d : Request) (p : Path) (n : ℕ) (k : Kind) → TargetKind d p k → is_kept d p ≡ true → Course d p (touched_actions d p n k)

@@ -4,6 +4,7 @@ use Rattle.std.specs.Prelude.{Option, Some, None, is_some, is_none, cond, nat_lt
 use Rattle.std.specs.List.{cons_option}
 use Rattle.std.specs.Option.{option_or}
 use Rattle.std.proofs.lemmas.Bool.{lt-ltb}
+use Rattle.std.proofs.Math.Bool.{and-false}
 use Rattle.svn_law.proofs.Names.{Name, same_path}
 use Rattle.svn_types.specs.Names.{Path}
 use Rattle.svn_types.specs.Paths.{path_eq, child, parent, is_root}
@@ -85,10 +86,6 @@ module _ (h : History) (nodes : List (Path × BaseNode)) (t : IsTrueCopy h nodes
       let rev : revision_of (Some x) ≡ node_revision (Some b) = sym (ap revision_of g) ∙ ((covers h nodes t p).present (ap is_present e ∙ pr)).revision ∙ ap node_revision e in
       (ap (λ r. nat_lt r (length h.roots)) rev ∙ revision_there h (node_revision (Some b)) (node_path (Some b)) s.0 s.2, ap is_none s.1)
 
-  and_false : (k : Bool) → (k && false) ≡ false
-  and_false true = refl
-  and_false false = refl
-
   -- where a set or a link stands, a node is present
   set_is_present : (p : Path) (b : BaseNode) (x : ReportEntry) → get_in nodes p ≡ Some b → (reported (crawl nodes) p).own ≡ Some x → is_present (Some b) ≡ true → is_set_or_link (Some x) ≡ true
   set_is_present p b x e o pr = sym (ap is_set_or_link (own_governs (crawl nodes) p x o)) ∙ ((covers h nodes t p).present (ap is_present e ∙ pr)).set
@@ -102,8 +99,8 @@ module _ (h : History) (nodes : List (Path × BaseNode)) (t : IsTrueCopy h nodes
       let k = set_is_present p b x e o pr in
       let f = entry_fits p b x e o k pr in
       four _ _ _ _ (NoSuchRevision i) (NoNode i) RootNotDir (ParentNotDir i)
-      (ap (λ y. is_set_or_link (Some x) && not y) f.0 ∙ and_false (is_set_or_link (Some x)))
-      (ap (λ y. is_set_or_link (Some x) && y) f.1 ∙ and_false (is_set_or_link (Some x))) c d
+      (ap (λ y. is_set_or_link (Some x) && not y) f.0 ∙ and-false (is_set_or_link (Some x)))
+      (ap (λ y. is_set_or_link (Some x) && y) f.1 ∙ and-false (is_set_or_link (Some x))) c d
 
   root_directory : is_directory_at h (source_at h (crawl nodes) []) ≡ true
   root_directory = directory_there [] (get_in nodes []) refl (t.true_of []) t.shape.root
@@ -126,7 +123,7 @@ module _ (h : History) (nodes : List (Path × BaseNode)) (t : IsTrueCopy h nodes
 
   parent_fits : (p : Path) (name : Name) (b : BaseNode) → get_in nodes (child p name) ≡ Some b
       → (not (is_root (child p name)) && not (is_directory_at h (source_at h (crawl nodes) (parent (child p name))))) ≡ false
-  parent_fits p name b e = ap (λ y. not (is_root (child p name)) && not y) (parent_directory p name b e) ∙ and_false (not (is_root (child p name)))
+  parent_fits p name b e = ap (λ y. not (is_root (child p name)) && not y) (parent_directory p name b e) ∙ and-false (not (is_root (child p name)))
 
   deleted_is : (i : Bool) (x : ReportEntry) → cond i None (Some DeletePath) ≡ Some x → x ≡ DeletePath
   deleted_is true x k = cc

@@ -4,6 +4,7 @@ use Rattle.std.specs.Prelude.{Option, Some, None, is_some, cond, nat_eq, bytes_e
 use Rattle.std.specs.Option.{option_or}
 use Rattle.std.proofs.lemmas.Bool.{eqb-true}
 use Rattle.std.specs.Map.{keys_of}
+use Rattle.svn_law.proofs.Tests.{or_false, not_false, dir_present}
 use Rattle.svn_law.proofs.Names.{value_of-first, Name, same_path, same_bytes}
 use Rattle.svn_types.specs.Names.{Path}
 use Rattle.svn_types.specs.Paths.{path_eq, child, is_root, last_name}
@@ -103,14 +104,6 @@ present_is_not_deleted None h = absurd (true≢false (sym h))
 present_is_not_deleted (Some (FileNode r q t ps)) h = refl
 present_is_not_deleted (Some (DirNode r q c ps)) h = refl
 present_is_not_deleted (Some NotPresent) h = absurd (true≢false (sym h))
-
-pub or_false : (x y : Bool) → (x || y) ≡ false → (x ≡ false) × (y ≡ false)
-or_false true y h = absurd (true≢false h)
-or_false false y h = (refl, h)
-
-pub not_false : (x : Bool) → not x ≡ false → x ≡ true
-not_false true h = refl
-not_false false h = absurd (true≢false h)
 
 pub shows_child : (above here : Reported) (name : Name) (p : Path) (up node : Option BaseNode) → IsChildOf above here name → OwnGoverns above → Shows above up
     → here.own ≡ entry_for p up node → is_root p ≡ false → last_name p ≡ name ∷ [] → is_present node ≡ true → Shows here node
@@ -252,12 +245,6 @@ module _ (h : History) (nodes : List (Path × BaseNode)) (t : IsTrueCopy h nodes
     pub is_parent : (node : Option BaseNode) → w (child p name) ≡ node → (node ≢ None) → is_dir (w p) ≡ true
     is_parent node e n = t.shape.parents p name (λ q. n (sym e ∙ q))
 
-    dir_present : (up : Option BaseNode) → is_dir up ≡ true → is_present up ≡ true
-    dir_present None k = absurd (true≢false (sym k))
-    dir_present (Some NotPresent) k = absurd (true≢false (sym k))
-    dir_present (Some (FileNode r q x ps)) k = absurd (true≢false (sym k))
-    dir_present (Some (DirNode r q c ps)) k = refl
-
     present_child : (b : BaseNode) → w (child p name) ≡ Some b → is_present (Some b) ≡ true → Shows (says (child p name)) (Some b)
     present_child b e k =
         let up = is_parent (Some b) e (λ q. cc) in
@@ -336,7 +323,7 @@ module _ (h : History) (nodes : List (Path × BaseNode)) (t : IsTrueCopy h nodes
     present = by (is_present (w p)) refl;
     revision = λ k. sym ((covers p).present k).revision;
     repos_path = λ k. sym ((covers p).present k).repos_path;
-    incomplete = λ k. sym ((covers p).present (dir_present p [] (covers p) (w p) k)).empty;
+    incomplete = λ k. sym ((covers p).present (dir_present (w p) k)).empty;
   }
     where
       by : (b : Bool) → is_present (w p) ≡ b → is_present (w p) ≡ is_some (source h (says p))

@@ -14,9 +14,8 @@ use Rattle.svn_types.specs.declared.kind.Kind.TheVariants.{File, Directory}
 use Rattle.svn_delta.specs.Steps.{Action, Delete, Open, Add, Change, Text, Close, Step}
 use Rattle.svn_drive.specs.Follow.{Request}
 use Rattle.svn_drive.specs.Steps.{Mark, Named, End, mark_cmp, key, key_of, comes_after, has_text, InKeyOrder}
+use Rattle.svn_law.proofs.Tests.{or_false, and_true}
 use Rattle.svn_law.proofs.Names.{same_path, same_bytes, bytes_eq-same}
-use Rattle.svn_law.proofs.CrawlDescribes.{or_false}
-use Rattle.svn_law.proofs.Entered.{and_true}
 use Rattle.svn_law.proofs.Progress.{is_at, actions_at}
 
 -- ---- keys of paths that stand below one another

@@ -4,7 +4,7 @@ use Rattle.std.proofs.Math.Bool.{and-false, or-true}
 use Rattle.std.specs.Prelude.{Option, Some, None, is_some, option_map, cond, map, filter}
 use Rattle.std.specs.List.{list_any}
 use Rattle.svn_types.specs.Names.{Path}
-use Rattle.svn_types.specs.Paths.{path_eq, is_within, is_below, child, is_root}
+use Rattle.svn_types.specs.Paths.{path_eq, is_within, is_below, is_root}
 use Rattle.svn_types.specs.declared.kind.Kind.{Kind}
 use Rattle.svn_types.specs.declared.kind.Kind.TheVariants.{File, Directory}
 use Rattle.svn_repo.specs.History.{History}
@@ -16,7 +16,7 @@ use Rattle.svn_delta.specs.declared.call.Call.{Call}
 use Rattle.svn_delta.specs.declared.call.Call.TheVariants.{SetTargetRevision, CloseEdit}
 use Rattle.svn_drive.specs.Steps.{IsDriveOf, is_touched, is_new, is_gone, starts_empty_at, source_props, source_text, entered_actions, path_actions}
 use Rattle.svn_delta.specs.Calls.{number_eq}
-use Rattle.svn_drive.specs.Follow.{Request, root_path, follow, is_kept, target_path, source_node, target_node}
+use Rattle.svn_drive.specs.Follow.{Request, follow, is_kept, target_path, source_node, target_node}
 use Rattle.svn_drive.specs.Drive.{numbered, IsDrive}
 use Rattle.svn_wc.specs.declared.base_node.BaseNode.{BaseNode}
 use Rattle.svn_wc.specs.declared.base_node.BaseNode.TheVariants.{File as FileNode, Dir as DirNode, NotPresent}
@@ -24,15 +24,15 @@ use Rattle.svn_wc.specs.Nodes.{WorkingCopy, get_in, is_present, node_path, base_
 use Rattle.svn_wc.specs.Effects.{settled, settled_path, effect, after, after_from}
 use Rattle.svn_law.specs.Result.{result}
 use Rattle.svn_law.specs.Laws.{IsTrueCopy, request_of, HasTarget}
+use Rattle.svn_law.proofs.Tests.{or_false, or_first, not_false}
+use Rattle.svn_law.proofs.Entered.{switched_to}
 use Rattle.svn_law.proofs.Names.{same_path, path_eq-same}
-use Rattle.svn_law.proofs.Descents.{path_ind}
-use Rattle.svn_law.proofs.CrawlDescribes.{or_false, not_false}
 use Rattle.svn_law.proofs.CrawlCheckable.{crawl_describes_holds}
 use Rattle.svn_law.proofs.Entered.{Setting, both_nodes, kept_related}
 use Rattle.svn_law.proofs.Progress.{is_at, actions_at, actions_at-append, actions_at-drive, acted, is_delete, is_deleted_above, base, state}
 use Rattle.svn_law.proofs.Cuts.{NoneMain, after_next, none_main_left}
 use Rattle.svn_law.proofs.Parents.{any-append2, not_deleted_above}
-use Rattle.svn_law.proofs.Standing.{kept_path_is, switched_path}
+use Rattle.svn_law.proofs.Standing.{kept_path_is}
 use Rattle.svn_law.proofs.Prefixes.{after-first}
 use Rattle.svn_law.proofs.Gone.{gone_above}
 use Rattle.svn_law.proofs.FinalStates.{KeptAs, kept_as, entered_end, ended, acted_all, kept_not_gone}
@@ -82,18 +82,13 @@ module _ (d : Request) (w : WorkingCopy) (setting : Setting d w) where
   abbrev h : History
   h = d.history
 
-  -- a switch brings each path to the same path under the new root
-  pub switched_under : (root : Path) → d.mode ≡ SwitchTo root → (p : Path) → root ++ p ≡ target_path d p
-  switched_under root e = path_ind (λ p. root ++ p ≡ target_path d p) (append-nil root ∙ sym (ap (λ m. root_path m d.report.root) e)) (λ p name ih.
-      sym (append_assoc root p (name ∷ [])) ∙ ap (λ q. child q name) ih ∙ sym (switched_path d w setting root e p name))
-
   -- the last call leaves a path of the target at its place
   settled_at : (p : Path) → settled_path d.mode p (target_path d p) ≡ target_path d p
   settled_at p = by d.mode refl
     where
       by : (m : Mode) → d.mode ≡ m → settled_path m p (target_path d p) ≡ target_path d p
       by Update e = refl
-      by (SwitchTo root) e = switched_under root e p
+      by (SwitchTo root) e = sym (switched_to d root e p)
 
   -- and of what is kept
   settled_kept : (p : Path) → is_kept d p ≡ true → is_present (w p) ≡ true → settled_path d.mode p (node_path (w p)) ≡ target_path d p
@@ -182,7 +177,7 @@ module _ (d : Request) (w : WorkingCopy) (setting : Setting d w) where
 
   -- and at the next step those above its path
   pub deleted_next : (late : Bool) (done : List Step) (s : Step) (rest : List Step) → IsDriveOf d late (done ++ s ∷ rest) → (q : Path) → is_below q s.path ≡ true → is_gone d q ≡ true → is_deleted_above done s.path ≡ true
-  deleted_next late done s rest drive q b g = deleted_by q s.path done (in_front (list_any is_delete (actions_at q done)) (list_any is_delete (actions_at q rest)) any (no_main_no_delete (actions_at q rest) none)) b
+  deleted_next late done s rest drive q b g = deleted_by q s.path done (or_first (list_any is_delete (actions_at q done)) (list_any is_delete (actions_at q rest)) any (no_main_no_delete (actions_at q rest) none)) b
     where
       none : NoneMain (actions_at q rest)
       none = none_main_left d late s rest q b (after_next d late done s rest drive.in_order)
@@ -199,10 +194,6 @@ module _ (d : Request) (w : WorkingCopy) (setting : Setting d w) where
           ap (λ x. list_any is_delete (actions_at q done) || list_any is_delete (map (λ (t : Step). t.action) (cond x (s ∷ filter (is_at q) rest) (filter (is_at q) rest)))) (sym elsewhere)
           ∙ sym (any-append2 is_delete (actions_at q done) (actions_at q (s ∷ rest)))
           ∙ ap (list_any is_delete) (sym (actions_at-append q done (s ∷ rest)) ∙ actions_at-drive d late (done ++ s ∷ rest) drive q) ∙ gone_deletes d q g
-
-      in_front : (x y : Bool) → (x || y) ≡ true → y ≡ false → x ≡ true
-      in_front true y e f = refl
-      in_front false y e f = absurd (true≢false (sym e ∙ f))
 
   -- a kept path keeps what it had until its own actions
   pub kept_base : (late : Bool) (done rest : List Step) → IsDriveOf d late (done ++ rest) → (p : Path) → is_kept d p ≡ true → base w done p ≡ w p

@@ -1,9 +1,11 @@
 -- A path has steps only below a directory that is opened or added.
-use Rattle.std.proofs.Common.{◌≡◌, ◌≢◌, ℕ, Bool, true, false, ◌&&◌, ◌||◌, not, List, [], ◌∷◌, ◌++◌, refl, sym, ◌∙◌, ap, true≢false, eq-eqb}
-use Rattle.std.specs.Prelude.{Option, Some, None, is_some, cond, nat_eq, bytes_eq}
+use Rattle.std.proofs.Common.{append_assoc, append-nil, ◌≡◌, ◌≢◌, ℕ, Bool, true, false, ◌&&◌, ◌||◌, not, List, [], ◌∷◌, ◌++◌, refl, sym, ◌∙◌, ap, true≢false}
+use Rattle.std.specs.Prelude.{Option, Some, None, is_some, cond, bytes_eq}
 use Rattle.std.specs.List.{list_any}
 use Rattle.std.specs.Option.{option_or}
 use Rattle.std.proofs.lemmas.Bool.{eqb-true}
+use Rattle.svn_law.proofs.Tests.{or_false, and_true, not_false, nat_eq-same, some_number, dir_present}
+use Rattle.std.proofs.Math.Bool.{and-false}
 use Rattle.svn_law.proofs.Names.{Name, same_path, bytes_eq-same}
 use Rattle.svn_types.specs.Names.{Path}
 use Rattle.svn_types.specs.Paths.{path_eq, is_within, is_below, child, is_root}
@@ -24,11 +26,7 @@ use Rattle.svn_wc.specs.declared.base_node.BaseNode.TheVariants.{File as FileNod
 use Rattle.svn_wc.specs.Nodes.{WorkingCopy, IsWorkingCopy, is_present, is_dir, node_revision, node_path, IsTrueNode, IsTrueOf}
 use Rattle.svn_law.specs.Describes.{Describes}
 use Rattle.svn_law.proofs.Descents.{path_ind, is_root-child, entry_below, look-child, follow-child, follow-here, parent_is_kept-child}
-use Rattle.svn_law.proofs.CrawlDescribes.{IsChildOf, is_child, own_governs, own-is, open_above, or_false, not_false, source_below}
-
-pub and_true : (x y : Bool) → (x && y) ≡ true → (x ≡ true) × (y ≡ true)
-and_true true y h = (refl, h)
-and_true false y h = absurd (true≢false (sym h))
+use Rattle.svn_law.proofs.CrawlDescribes.{IsChildOf, is_child, own_governs, own-is, open_above, source_below}
 
 -- ---- paths below a path
 
@@ -101,6 +99,17 @@ module _ (d : Request) where
       ∙ ap (λ k. cond k (candidate d.mode (follow_child d (follow d p) name).here.repos_path (child (target_path d p) name)) (child (target_path d p) name)) (sym (ap (λ (f : Followed). f.is_kept) (follow-child d p name)))
       ∙ ap (λ s. cond (is_kept d (child p name)) (candidate d.mode s.repos_path (child (target_path d p) name)) (child (target_path d p) name)) (here-child p name)
 
+-- in a switch the new root and the path make the path in the target
+pub switched_to : (d : Request) (root : Path) → d.mode ≡ SwitchTo root → (p : Path) → target_path d p ≡ root ++ p
+switched_to d root m = path_ind (λ p. target_path d p ≡ root ++ p) (ap (λ x. root_path x d.report.root) m ∙ sym (append-nil root)) (λ p name ih.
+    target_path-child d p name
+    ∙ ap (λ x. cond (is_kept d (child p name)) (candidate x (reported d.report (child p name)).repos_path (child (target_path d p) name)) (child (target_path d p) name)) m
+    ∙ same (is_kept d (child p name)) (child (target_path d p) name) ∙ ap (λ q. child q name) ih ∙ append_assoc root p (name ∷ []))
+  where
+    same : (b : Bool) (x : Path) → cond b x x ≡ x
+    same true x = refl
+    same false x = refl
+
 -- a copy that a request's report describes, with a target that has its root
 pub record Setting (d : Request) (w : WorkingCopy) : Type 0 where
   pub history : IsHistory d.history
@@ -108,9 +117,6 @@ pub record Setting (d : Request) (w : WorkingCopy) : Type 0 where
   pub true_of : IsTrueOf d.history w
   pub describes : Describes d.history d.report w
   pub has_target : are_related d.history (source_node d []) (target_node d []) ≡ true
-
-nat_eq-same : (n : ℕ) → nat_eq n n ≡ true
-nat_eq-same n = eq-eqb n n refl
 
 pub both_nodes : (h : History) (a b : Option ℕ) → are_related h a b ≡ true → number_eq a b ≡ true → (n : ℕ) × (a ≡ Some n) × (b ≡ Some n)
 both_nodes h None b r e = absurd (true≢false (sym r))
@@ -225,10 +231,6 @@ module _ (d : Request) (w : WorkingCopy) (setting : Setting d w) where
           and_dir true false r q = absurd (true≢false (sym r))
           and_dir false y r q = refl
 
-  and_false : (k : Bool) → (k && false) ≡ false
-  and_false true = refl
-  and_false false = refl
-
   no_actions : (c : Path) → is_gone d c ≡ false → entered_actions d c (target_node d c) ≡ [] → path_actions d c ≡ []
   no_actions c g e = ap (λ b. cond b (Delete (governing_revision (follow d c).here) ∷ []) [] ++ entered_actions d c (target_node d c)) g ∙ e
 
@@ -251,7 +253,7 @@ module _ (d : Request) (w : WorkingCopy) (setting : Setting d w) where
       by : (o : Option ℕ) → s.node ≡ o → path_actions d c ≡ []
       by None q =
           let kept : is_kept d c ≡ false =
-          is_kept-child d p name ∙ ap (λ o. is_kept d p && are_related h o (look h d.target (candidate_at d p name))) (s.in_source ∙ q) ∙ and_false (is_kept d p) in
+          is_kept-child d p name ∙ ap (λ o. is_kept d p && are_related h o (look h d.target (candidate_at d p name))) (s.in_source ∙ q) ∙ and-false (is_kept d p) in
           let target : target_node d c ≡ None =
           ap (look h d.target) (target_path-child d p name ∙ ap (λ b. cond b (candidate_at d p name) (child (target_path d p) name)) kept) ∙ s.in_place ∙ q in
           no_actions c (ap (λ o. is_some o && not (follow d c).is_kept && (follow d c).parent_is_kept) (s.in_source ∙ q)) (ap (entered_actions d c) target)
@@ -270,7 +272,7 @@ module _ (d : Request) (w : WorkingCopy) (setting : Setting d w) where
           ∙ ap (λ b. (follow d c).is_kept && (not b || starts_empty_at d c || has_entry_below d.report.entries c)) same
           ∙ ap (λ o. (follow d c).is_kept && (starts_empty o && is_directory_at h (source_node d c) || has_entry_below d.report.entries c)) own
           ∙ ap (λ b. (follow d c).is_kept && b) s.none_below
-          ∙ and_false (follow d c).is_kept in
+          ∙ and-false (follow d c).is_kept in
           no_actions c
           (ap (λ b. is_some (source_node d c) && not b && (follow d c).parent_is_kept) kept ∙ and_and_false (is_some (source_node d c)) (follow d c).parent_is_kept)
           (no_entered c touched (ap (λ b. not b && is_some (target_node d c)) kept) (target_node d c))
@@ -288,12 +290,8 @@ module _ (d : Request) (w : WorkingCopy) (setting : Setting d w) where
       ap (look h d.target) (target_path-child d p name ∙ ap (λ b. cond b (candidate_at d p name) (child (target_path d p) name)) kept)
       ∙ look-child h d.target (target_path d p) name ∙ ap (λ x. entry_below h x name) t in
       no_actions c
-      (ap (λ b. is_some (source_node d c) && not (follow d c).is_kept && b) (parent_is_kept-child d p name ∙ k) ∙ and_false (is_some (source_node d c) && not (follow d c).is_kept))
+      (ap (λ b. is_some (source_node d c) && not (follow d c).is_kept && b) (parent_is_kept-child d p name ∙ k) ∙ and-false (is_some (source_node d c) && not (follow d c).is_kept))
       (ap (entered_actions d c) target)
-
-  pub some_number : (o : Option ℕ) → is_some o ≡ true → (m : ℕ) × (o ≡ Some m)
-  some_number None q = absurd (true≢false (sym q))
-  some_number (Some m) q = (m, refl)
 
   -- what stands at the source of a path is a node of the copy there
   pub source_from_copy : (p : Path) (node : Option BaseNode) → w p ≡ node → IsTrueNode h w p node → is_present node ≡ true → (m : ℕ) × (source_node d p ≡ Some m) × (is_dir node ≡ true → kind_of h m ≡ Directory)
@@ -323,13 +321,6 @@ module _ (d : Request) (w : WorkingCopy) (setting : Setting d w) where
       let dir = setting.shape.parents p name (λ q. true≢false (sym present ∙ ap is_present q)) in
       let s = source_from_copy p (w p) refl (setting.true_of p) (dir_present (w p) dir) in
       (s.0, s.1, s.2 dir)
-    where
-      dir_present : (up : Option BaseNode) → is_dir up ≡ true → is_present up ≡ true
-      dir_present None k = absurd (true≢false (sym k))
-      dir_present (Some NotPresent) k = absurd (true≢false (sym k))
-      dir_present (Some (FileNode r q x ps)) k = absurd (true≢false (sym k))
-      dir_present (Some (DirNode r q c ps)) k = refl
-
   related_source : (m : ℕ) (o : Option ℕ) → are_related h (Some m) o ≡ true → (n : ℕ) × (o ≡ Some n) × (line_of h m ≡ line_of h n)
   related_source m None q = absurd (true≢false (sym q))
   related_source m (Some n) q = (n, refl, eqb-true (line_of h m) (line_of h n) q)
@@ -371,10 +362,10 @@ module _ (d : Request) (w : WorkingCopy) (setting : Setting d w) where
       by : (b k : Bool) → is_some (source_node d c) ≡ b → is_kept d p ≡ k → path_actions d c ≡ []
       by b false q r =
           let kept : is_kept d c ≡ false = is_kept-child d p name ∙ ap (λ x. x && are_related h (source_node d c) (look h d.target (candidate_at d p name))) r in
-          not_kept kept (ap (λ x. is_some (source_node d c) && not (follow d c).is_kept && x) (parent_is_kept-child d p name ∙ r) ∙ and_false (is_some (source_node d c) && not (follow d c).is_kept))
+          not_kept kept (ap (λ x. is_some (source_node d c) && not (follow d c).is_kept && x) (parent_is_kept-child d p name ∙ r) ∙ and-false (is_some (source_node d c) && not (follow d c).is_kept))
       by false true q r =
           let kept : is_kept d c ≡ false =
-          is_kept-child d p name ∙ ap (λ o. is_kept d p && are_related h o (look h d.target (candidate_at d p name))) (no_source q) ∙ and_false (is_kept d p) in
+          is_kept-child d p name ∙ ap (λ o. is_kept d p && are_related h o (look h d.target (candidate_at d p name))) (no_source q) ∙ and-false (is_kept d p) in
           not_kept kept (ap (λ x. x && not (follow d c).is_kept && (follow d c).parent_is_kept) q)
       by true true q r =
           let s = source_is_directory p name q in

@@ -3,22 +3,21 @@ use Rattle.std.proofs.Common.{◌≡◌, ◌≢◌, ℕ, ◌+◌, ◌≤◌, Boo
 use Rattle.std.specs.Prelude.{Option, Some, None, is_some, cond, map, filter, bytes_eq}
 use Rattle.std.specs.List.{list_any}
 use Rattle.std.proofs.lemmas.Bool.{or_left, or_right, false_from_ne_true}
+use Rattle.svn_law.proofs.Entered.{switched_to}
 use Rattle.svn_law.proofs.Names.{named_value, Name, same_path, bytes_eq-same, has_name, has_name-fold}
 use Rattle.svn_types.specs.Names.{Path}
 use Rattle.svn_types.specs.Paths.{path_eq, child}
-use Rattle.svn_repo.specs.History.{History, look}
+use Rattle.svn_repo.specs.History.{look}
 use Rattle.svn_repo.specs.Readings.{are_related, entries_of}
 use Rattle.svn_delta.specs.declared.entry.ReportEntry.{ReportEntry}
 use Rattle.svn_delta.specs.Reports.{entry_at}
 use Rattle.svn_drive.specs.Sources.{Reported, source, starts_empty, reported, governing_revision}
 use Rattle.svn_delta.specs.Steps.{Mode, Update, SwitchTo, Action, Delete}
-use Rattle.svn_drive.specs.Follow.{Request, root_path, candidate, follow, is_kept, target_path, source_node, target_node}
+use Rattle.svn_drive.specs.Follow.{Request, candidate, follow, is_kept, target_path, source_node, target_node}
 use Rattle.svn_drive.specs.Steps.{InKeyOrder, IsDriveOf, entered_actions, path_actions, path_steps}
-use Rattle.svn_drive.specs.Drive.{IsDrive}
-use Rattle.svn_wc.specs.declared.base_node.BaseNode.{BaseNode}
 use Rattle.svn_wc.specs.Nodes.{WorkingCopy, get_in, is_present, node_path}
 use Rattle.svn_law.specs.SlowDrive.{entry_names, next_name, names_in, names_below, paths_below, slow_steps, slow_drive}
-use Rattle.svn_law.specs.Laws.{IsTrueCopy, request_of, HasTarget}
+use Rattle.svn_law.specs.Laws.{request_of, a_drive}
 use Rattle.svn_law.proofs.Descents.{path_ind, entry_below, look-child, follow-here}
 use Rattle.svn_law.proofs.CrawlDescribes.{is_child, own-is, hidden_below, source_inherits}
 use Rattle.svn_law.proofs.Entered.{Setting, entered_below, kept_related, target_path-child, own_path, source-open}
@@ -56,17 +55,6 @@ named_in p name (e ∷ es) x h =
         or_left (has_name (next_name p e.0) name) (has_name (names_in p es) name)
         (ap (λ y. has_name (next_name p y) name) (same_path e.0 (child p name) q) ∙ ap (λ ns. has_name ns name) (next_name-child p name) ∙ ap (λ b. b || false) (bytes_eq-same name))
     by false q k ih = or_right (has_name (next_name p e.0) name) (has_name (names_in p es) name) (ih k)
-
--- in a switch the new root and the path make the path in the target
-pub switched_to : (d : Request) (root : Path) → d.mode ≡ SwitchTo root → (p : Path) → target_path d p ≡ root ++ p
-switched_to d root m = path_ind (λ p. target_path d p ≡ root ++ p) (ap (λ x. root_path x d.report.root) m ∙ sym (append-nil root)) (λ p name ih.
-    target_path-child d p name
-    ∙ ap (λ x. cond (is_kept d (child p name)) (candidate x (reported d.report (child p name)).repos_path (child (target_path d p) name)) (child (target_path d p) name)) m
-    ∙ same (is_kept d (child p name)) (child (target_path d p) name) ∙ ap (λ q. child q name) ih ∙ append_assoc root p (name ∷ []))
-  where
-    same : (b : Bool) (x : Path) → cond b x x ≡ x
-    same true x = refl
-    same false x = refl
 
 module _ (d : Request) (w : WorkingCopy) (setting : Setting d w) where
   abbrev says : Path → Reported
@@ -254,8 +242,8 @@ module _ (d : Request) (w : WorkingCopy) (setting : Setting d w) where
   }
 
 -- a true copy's request has a drive
-pub slow_drive_is : (h : History) (nodes : List (Path × BaseNode)) (target : ℕ) (mode : Mode) (checksum : List ℕ → List ℕ) (late : Bool)
-    → IsTrueCopy h nodes → HasTarget (request_of h nodes target mode checksum) → IsDrive (request_of h nodes target mode checksum) late (slow_drive (request_of h nodes target mode checksum) late 129)
-slow_drive_is h nodes target mode checksum late t has =
+pub a_drive_holds : a_drive
+a_drive_holds h nodes target mode checksum late t has =
     let d = request_of h nodes target mode checksum in
-    record { steps = slow_steps d late 129; of_each_path = drive_exists d (get_in nodes) (setting_of h nodes target mode checksum t has) late 129 (omega arith); numbered_calls = refl }
+    let steps = drive_exists d (get_in nodes) (setting_of h nodes target mode checksum t has) late 129 (omega arith) in
+    (slow_drive d late 129, record { steps = slow_steps d late 129; of_each_path = steps; numbered_calls = refl })

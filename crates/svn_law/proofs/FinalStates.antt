@@ -18,11 +18,12 @@ use Rattle.svn_wc.specs.declared.base_node.BaseNode.{BaseNode}
 use Rattle.svn_wc.specs.declared.base_node.BaseNode.TheVariants.{File as FileNode, Dir as DirNode, NotPresent}
 use Rattle.svn_wc.specs.Nodes.{WorkingCopy, is_present, is_dir, is_incomplete, node_revision, node_path, IsTrueNode, base_node_by, base_node}
 use Rattle.svn_wc.specs.Effects.{change_in, text_in, text_or}
+use Rattle.svn_law.proofs.Tests.{and_true}
 use Rattle.svn_law.proofs.Names.{same_bytes}
 use Rattle.svn_law.proofs.Maps.{sorted-nil}
 use Rattle.svn_law.proofs.PropChanges.{with_changes-between}
 use Rattle.svn_law.proofs.Descents.{follow-here}
-use Rattle.svn_law.proofs.Entered.{Setting, and_true, kept_directory, source_looked, shown_source}
+use Rattle.svn_law.proofs.Entered.{Setting, kept_directory, source_looked, shown_source}
 use Rattle.svn_law.proofs.Progress.{act, acted, changes_in, texts_in}
 use Rattle.svn_law.proofs.Parents.{acted-append}
 use Rattle.svn_law.proofs.Standing.{kept_present}

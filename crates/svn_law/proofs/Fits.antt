@@ -3,6 +3,7 @@ use Rattle.std.proofs.Common.{◌≡◌, ℕ, Bool, true, false, ◌&&◌, ◌�
 use Rattle.std.specs.Prelude.{Option, Some, None, is_some, cond, map, nat_eq, nat_lt, bytes_eq, filter_map}
 use Rattle.std.specs.List.{cons_option}
 use Rattle.std.proofs.lemmas.Bool.{le-ltb}
+use Rattle.svn_law.proofs.Tests.{and_true}
 use Rattle.svn_law.proofs.Names.{value_of-first, Name, bytes_eq-same}
 use Rattle.svn_types.specs.Names.{Path}
 use Rattle.svn_types.specs.Paths.{is_below, child}
@@ -23,7 +24,7 @@ use Rattle.svn_wc.specs.declared.base_node.BaseNode.TheVariants.{Dir as DirNode,
 use Rattle.svn_wc.specs.Nodes.{WorkingCopy, is_present, node_revision, node_path, node_text}
 use Rattle.svn_wc.specs.Effects.{is_too_long, is_wrong_sum, has_kind, text_or, moved_path, joined_path, step_fault}
 use Rattle.svn_law.proofs.Descents.{follow-here, parent_is_kept-child}
-use Rattle.svn_law.proofs.Entered.{Setting, and_true}
+use Rattle.svn_law.proofs.Entered.{Setting}
 use Rattle.svn_law.proofs.Progress.{actions_at, texts_at-actions, acted, act, texts_in, base, state}
 use Rattle.svn_law.proofs.Parents.{adds_not_kept, kept_above_child, none_deleted_above}
 use Rattle.svn_law.proofs.Standing.{kept_present, path_cases, own_actions, here, moved_is, joined_new, entered_path, joined_next}

@@ -1,17 +1,16 @@
 -- A present node that isn't kept goes: it or a path above it is deleted.
 use Rattle.std.proofs.Common.{◌≡◌, Bool, true, false, ◌&&◌, not, [], ◌∷◌, refl, sym, ◌∙◌, ap, true≢false}
-use Rattle.std.specs.Prelude.{Option, Some, None, is_some, bytes_eq}
+use Rattle.std.specs.Prelude.{is_some, bytes_eq}
+use Rattle.svn_law.proofs.Tests.{and_true, dir_present}
 use Rattle.svn_law.proofs.Names.{Name, bytes_eq-same}
 use Rattle.svn_types.specs.Names.{Path}
 use Rattle.svn_types.specs.Paths.{is_within, child}
 use Rattle.svn_drive.specs.Sources.{source}
 use Rattle.svn_drive.specs.Follow.{Request, follow, is_kept, source_node}
 use Rattle.svn_drive.specs.Steps.{is_gone}
-use Rattle.svn_wc.specs.declared.base_node.BaseNode.{BaseNode}
-use Rattle.svn_wc.specs.declared.base_node.BaseNode.TheVariants.{File as FileNode, Dir as DirNode, NotPresent}
-use Rattle.svn_wc.specs.Nodes.{WorkingCopy, is_present, is_dir}
+use Rattle.svn_wc.specs.Nodes.{WorkingCopy, is_present}
 use Rattle.svn_law.proofs.Descents.{path_ind, follow-here, parent_is_kept-child}
-use Rattle.svn_law.proofs.Entered.{Setting, and_true}
+use Rattle.svn_law.proofs.Entered.{Setting}
 
 pub is_within-same : (p : Path) → is_within p p ≡ true
 is_within-same [] = refl
@@ -27,12 +26,6 @@ is_within-longer (m ∷ q) (n ∷ p) name h =
 module _ (d : Request) (w : WorkingCopy) (setting : Setting d w) where
   abbrev GoneAbove : Path → Type 0
   GoneAbove p = is_present (w p) ≡ true → is_kept d p ≡ false → (q : Path) × (is_within q p ≡ true) × (is_gone d q ≡ true)
-
-  dir_present : (found : Option BaseNode) → is_dir found ≡ true → is_present found ≡ true
-  dir_present None k = absurd (true≢false (sym k))
-  dir_present (Some NotPresent) k = absurd (true≢false (sym k))
-  dir_present (Some (FileNode r q x ps)) k = absurd (true≢false (sym k))
-  dir_present (Some (DirNode r q c ps)) k = refl
 
   gone_child : (p : Path) (name : Name) → GoneAbove p → GoneAbove (child p name)
   gone_child p name ih present k = by (is_kept d p) refl

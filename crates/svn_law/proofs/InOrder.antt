@@ -4,6 +4,7 @@ use Rattle.std.specs.Prelude.{Option, Some, None, is_some, cond, map, length, sl
 use Rattle.std.specs.List.{list_any, cons_option}
 use Rattle.std.specs.Ordering.{is_gt}
 use Rattle.std.specs.Cmp.Lexicographic.{slice_cmp}
+use Rattle.std.proofs.Math.Bool.{and-false}
 use Rattle.svn_law.proofs.Names.{Name, path_eq-same}
 use Rattle.svn_types.specs.Names.{Path}
 use Rattle.svn_types.specs.Paths.{path_eq, is_below, child, parent, is_root}
@@ -26,7 +27,7 @@ use Rattle.svn_law.proofs.Cuts.{AllSteps, main_key, is_main, key_above, all_of_a
 use Rattle.svn_law.proofs.Parents.{any-append2, is_inner}
 use Rattle.svn_law.proofs.Progress.{is_delete}
 use Rattle.svn_law.proofs.Standing.{is_entry, path_cases}
-use Rattle.svn_law.proofs.Courses.{is_entry_of, is_close_of, inner_of, precedes, same_kinds, kind_eq-same, fits_kind, and_false_right}
+use Rattle.svn_law.proofs.Courses.{is_entry_of, is_close_of, inner_of, precedes, same_kinds, kind_eq-same, fits_kind}
 use Rattle.svn_law.proofs.Turns.{never, has_not, all_map, all_both, all_left, all_right, Member, members, has, has_parts, Found, find, in_whole, Before, before_step, own_entry, Within, any_path_actions, is_closed_later, kinds_at, root_entered, directory_entered}
 use Rattle.svn_law.proofs.Numbers.{call_by, call_at, entered, Tells, is_root_action, none_twice, root_actions, at_root, above_done, tells_done, token_next, calls_apart}
 use Rattle.svn_law.proofs.Readings.{on_given, is_close, is_change_of, IsSubdirectory, none_in, some_in, gives, gives-append, none_given, length-gives, gives_at, GivesAt, given_here, open-call, closes-call, applies_text-call, changes_dir-call, sub-given, open_below-call, opens_subdirectory-call, deletes-call, opens_entry-call, is_last-call, last_pick}
@@ -371,7 +372,7 @@ module _ (d : Request) (w : WorkingCopy) (setting : Setting d w) (late : Bool) (
   in_time i k n (inl h) =
       ap (λ o. not (number_eq o (Some (T s.path))) && a_directory_is_open earlier) (current_here d w setting late done s rest drive i h (own_of_kind i File k))
       ∙ ap (λ b. not b && a_directory_is_open earlier) (eq-eqb (T s.path) (T s.path) refl)
-  in_time i k n (inr h) = ap (λ b. not (is_current earlier (T s.path)) && b) (none_open h (file_below_root n)) ∙ and_false_right (not (is_current earlier (T s.path)))
+  in_time i k n (inr h) = ap (λ b. not (is_current earlier (T s.path)) && b) (none_open h (file_below_root n)) ∙ and-false (not (is_current earlier (T s.path)))
 
   -- the two keys that these have
   either_key : (b : Bool) → (cond b (End ∷ map Named s.path) (map Named s.path) ≡ map Named s.path) ⊎ (cond b (End ∷ map Named s.path) (map Named s.path) ≡ End ∷ map Named s.path)
@@ -565,7 +566,7 @@ module _ (d : Request) (w : WorkingCopy) (setting : Setting d w) (late : Bool) (
   end_in_order =
       passes (begun all) CloseEdit
       (none_in number is_last all (all_map (Member all) (λ x. is_last (call_at number x) ≡ false) (λ x m. is_last-call number x) all (members all)))
-      refl refl refl refl refl (and_false_right (has_its_text (begun all) (current_file (begun all)))) refl refl refl refl refl refl refl
+      refl refl refl refl refl (and-false (has_its_text (begun all) (current_file (begun all)))) refl refl refl refl refl refl refl
       (or_false_both _ _ (or_false_both _ _ root_given (none_left_open Directory)) (none_left_open File))
 
   -- from any point of a drive on the calls are lawful

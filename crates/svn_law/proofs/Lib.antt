@@ -1,3 +1,4 @@
+pub mod Tests
 pub mod Rows
 pub mod Keys
 pub mod OneDrive

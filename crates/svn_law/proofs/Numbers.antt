@@ -3,6 +3,7 @@ use Rattle.std.proofs.Common.{◌≡◌, ℕ, suc, Bool, true, false, ◌&&◌, 
 use Rattle.std.specs.Prelude.{cond, map, length, nat_eq, if◌then◌else◌}
 use Rattle.std.specs.List.{list_any}
 use Rattle.std.proofs.lemmas.Bool.{eqb-true}
+use Rattle.std.proofs.Math.Bool.{and-false}
 use Rattle.svn_law.proofs.Names.{Name, same_path, path_eq-same}
 use Rattle.svn_types.specs.Names.{Path}
 use Rattle.svn_types.specs.Paths.{path_eq, child, parent, is_root}
@@ -22,7 +23,7 @@ use Rattle.svn_law.proofs.Standing.{is_entry, path_cases, same_kind}
 use Rattle.svn_law.proofs.Tokens.{is_opened}
 use Rattle.svn_law.proofs.Cuts.{AllSteps}
 use Rattle.svn_law.proofs.Progress.{actions_at-drive}
-use Rattle.svn_law.proofs.Courses.{inner_of, is_entry_of, precedes, AllOf, Course, left_alone, taken_away, entered_open, entered_new, entered_again, course_of, and_true_right, and_false_right}
+use Rattle.svn_law.proofs.Courses.{inner_of, is_entry_of, precedes, AllOf, Course, left_alone, taken_away, entered_open, entered_new, entered_again, course_of, and_true_right}
 use Rattle.svn_law.proofs.Turns.{has_not, all_map, at_steps, none_any, has, in_whole, Before, before_step, own_entry, root_entered, parent_done, all_right}
 
 -- ---- calls with tokens for paths
@@ -100,12 +101,12 @@ is_opened-entered (s ∷ steps) p =
     opens = or_false_right (path_eq p s.path) ∙ path_eq-flip p s.path ∙ sym (and_true_right (path_eq s.path p))
 
     each : (a : Action) → (list_any (path_eq p) (opened_after [] s.path a) || is_opened (entered steps) p) ≡ ((path_eq s.path p && is_entry a) || is_opened (entered steps) p)
-    each (Delete r) = ap (λ b. b || is_opened (entered steps) p) (sym (and_false_right (path_eq s.path p)))
+    each (Delete r) = ap (λ b. b || is_opened (entered steps) p) (sym (and-false (path_eq s.path p)))
     each (Open k r) = ap (λ b. b || is_opened (entered steps) p) opens
     each (Add k) = ap (λ b. b || is_opened (entered steps) p) opens
-    each (Change k x) = ap (λ b. b || is_opened (entered steps) p) (sym (and_false_right (path_eq s.path p)))
-    each (Text b t) = ap (λ b. b || is_opened (entered steps) p) (sym (and_false_right (path_eq s.path p)))
-    each (Close k x) = ap (λ b. b || is_opened (entered steps) p) (sym (and_false_right (path_eq s.path p)))
+    each (Change k x) = ap (λ b. b || is_opened (entered steps) p) (sym (and-false (path_eq s.path p)))
+    each (Text b t) = ap (λ b. b || is_opened (entered steps) p) (sym (and-false (path_eq s.path p)))
+    each (Close k x) = ap (λ b. b || is_opened (entered steps) p) (sym (and-false (path_eq s.path p)))
 
 -- a path that is opened now gets the next number
 token_first : (opened : List Path) (p : Path) (more : List Path) → is_opened opened p ≡ false → token_of (opened ++ p ∷ more) p ≡ length opened

@@ -7,6 +7,7 @@ use Rattle.svn_types.specs.Paths.{path_eq}
 use Rattle.svn_delta.specs.Steps.{Step}
 use Rattle.svn_drive.specs.Follow.{Request}
 use Rattle.svn_drive.specs.Steps.{comes_after, InKeyOrder}
+use Rattle.svn_drive.specs.Drive.{calls_of}
 use Rattle.svn_law.specs.Laws.{one_drive}
 use Rattle.svn_law.proofs.Names.{path_eq-same}
 use Rattle.svn_law.proofs.Keys.{same_place}
@@ -67,4 +68,6 @@ one d late (s ∷ xs) (t ∷ ys) e h k =
     λ i. same i ∷ rest i
 
 pub one_drive_holds : one_drive
-one_drive_holds d late xs ys h k = one d late xs ys (λ p. h.at_each_path p ∙ sym (k.at_each_path p)) h.in_order k.in_order
+one_drive_holds d late xs ys h k =
+    let same = one d late h.steps k.steps (λ p. h.of_each_path.at_each_path p ∙ sym (k.of_each_path.at_each_path p)) h.of_each_path.in_order k.of_each_path.in_order in
+    h.numbered_calls ∙ ap (calls_of d.target) same ∙ sym k.numbered_calls

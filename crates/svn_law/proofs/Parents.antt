@@ -2,6 +2,7 @@
 use Rattle.std.proofs.Common.{◌≡◌, ℕ, Bool, true, false, ◌&&◌, ◌||◌, not, List, [], ◌∷◌, ◌++◌, refl, sym, ◌∙◌, ap, subst, true≢false, append_assoc, append-nil}
 use Rattle.std.specs.Prelude.{Option, Some, None, is_some, cond, map, filter, bytes_eq}
 use Rattle.std.specs.List.{list_any}
+use Rattle.svn_law.proofs.Tests.{and_true, not_true}
 use Rattle.svn_law.proofs.Names.{Name, same_path, path_eq-same}
 use Rattle.svn_types.specs.Names.{Path}
 use Rattle.svn_types.specs.Paths.{path_eq, is_within, is_below, child}
@@ -15,7 +16,7 @@ use Rattle.svn_drive.specs.Follow.{Request, follow, is_kept, source_node, target
 use Rattle.svn_drive.specs.Steps.{IsDriveOf, is_touched, is_new, is_gone, gone_actions, touched_actions, new_actions, entered_actions, text_actions, path_actions, source_props, source_text}
 use Rattle.svn_wc.specs.declared.base_node.BaseNode.{BaseNode}
 use Rattle.svn_law.proofs.Descents.{path_ind}
-use Rattle.svn_law.proofs.Entered.{and_true, is_kept-child}
+use Rattle.svn_law.proofs.Entered.{is_kept-child}
 use Rattle.svn_law.proofs.Progress.{is_at, acted, act, is_delete, is_deleted_above}
 
 pub acted-append : (d : Request) (p : Path) (before xs ys : List Action) (node : Option BaseNode)
@@ -232,10 +233,6 @@ below_child (m ∷ q) (n ∷ p) name h k =
     let parts = and_true (bytes_eq m n) (is_within q (child p name)) h in
     ap (λ b. b && is_within q p) parts.0 ∙ below_child q p name parts.1 (sym (ap (λ b. b && path_eq q (child p name)) parts.0) ∙ k)
 
-pub flip_not : (x : Bool) → not x ≡ true → x ≡ false
-flip_not true e = absurd (true≢false (sym e))
-flip_not false e = refl
-
 pub kept_above : (d : Request) (q p : Path) → is_below q p ≡ true → is_kept d p ≡ true → is_kept d q ≡ true
 kept_above d q = path_ind (λ p. is_below q p ≡ true → is_kept d p ≡ true → is_kept d q ≡ true) (λ h k. root_case q h) more
   where
@@ -247,7 +244,7 @@ kept_above d q = path_ind (λ p. is_below q p ≡ true → is_kept d p ≡ true 
     more p name ih h k =
         let up : is_kept d p ≡ true = (and_true (is_kept d p) _ (sym (is_kept-child d p name) ∙ k)).0 in
         let parts = and_true (is_within q (child p name)) (not (path_eq q (child p name))) h in
-        by (path_eq q p) refl up (below_child q p name parts.0 (flip_not (path_eq q (child p name)) parts.1))
+        by (path_eq q p) refl up (below_child q p name parts.0 (not_true (path_eq q (child p name)) parts.1))
       where
         by : (x : Bool) → path_eq q p ≡ x → is_kept d p ≡ true → is_within q p ≡ true → is_kept d q ≡ true
         by true e up i = ap (is_kept d) (same_path q p e) ∙ up
@@ -309,7 +306,7 @@ kept_above_child d q p name h k = by (path_eq q p) refl
 
     by : (x : Bool) → path_eq q p ≡ x → is_kept d q ≡ true
     by true e = ap (is_kept d) (same_path q p e) ∙ k
-    by false e = kept_above d q p (ap (λ b. b && not (path_eq q p)) (below_child q p name parts.0 (flip_not (path_eq q (child p name)) parts.1)) ∙ ap not e) k
+    by false e = kept_above d q p (ap (λ b. b && not (path_eq q p)) (below_child q p name parts.0 (not_true (path_eq q (child p name)) parts.1)) ∙ ap not e) k
 
 -- no step of a drive takes away what has only kept paths above
 pub none_deleted_above : (d : Request) (late : Bool) (done rest : List Step) → IsDriveOf d late (done ++ rest) → (p : Path) → ((q : Path) → is_below q p ≡ true → is_kept d q ≡ true) → is_deleted_above done p ≡ false

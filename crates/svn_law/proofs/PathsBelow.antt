@@ -8,6 +8,7 @@ use Rattle.std.specs.declared.cmp.Ordering.TheVariants.{Less, Equal, Greater}
 use Rattle.std.specs.Ordering.{is_lt, match_ordering}
 use Rattle.std.proofs.lemmas.List.Elements.{filter-append}
 use Rattle.std.proofs.lemmas.Bool.{or_right, false_from_ne_true}
+use Rattle.svn_law.proofs.Tests.{or_false, not_false}
 use Rattle.svn_law.proofs.Names.{Name, same_path, same_bytes, path_eq-same, bytes_eq-same, has_name, lt_chain, lt_apart, flipped, eq_symm}
 use Rattle.svn_types.specs.Names.{Path, name_cmp}
 use Rattle.svn_types.specs.Paths.{path_eq, is_within, child}
@@ -15,7 +16,6 @@ use Rattle.svn_delta.specs.Steps.{Action, Step, steps_at}
 use Rattle.svn_drive.specs.Follow.{Request, source_node, target_node}
 use Rattle.svn_drive.specs.Steps.{path_steps, path_actions}
 use Rattle.svn_law.specs.SlowDrive.{entry_names, names_in, names_below, flat_paths, paths_below, flat_steps}
-use Rattle.svn_law.proofs.CrawlDescribes.{or_false, not_false}
 use Rattle.svn_law.proofs.Entered.{is_within-longer}
 use Rattle.svn_law.proofs.Progress.{is_at}
 use Rattle.svn_law.proofs.Gone.{is_within-same}

@@ -6,6 +6,7 @@ use Rattle.std.specs.Ordering.{is_gt, ordering_then}
 use Rattle.std.specs.Cmp.Lexicographic.{slice_cmp, nat_list_cmp_total}
 use Rattle.std.proofs.lemmas.Cmp.{tied_itself}
 use Rattle.std.proofs.lemmas.Bool.{or_from}
+use Rattle.svn_law.proofs.Tests.{or_false}
 use Rattle.svn_law.proofs.Names.{Name, same_path}
 use Rattle.svn_types.specs.Names.{Path}
 use Rattle.svn_types.specs.Paths.{child}
@@ -20,7 +21,6 @@ use Rattle.svn_drive.specs.Steps.{Named, End, mark_cmp, key, comes_after, IsDriv
 use Rattle.svn_wc.specs.declared.base_node.BaseNode.{BaseNode}
 use Rattle.svn_wc.specs.declared.base_node.BaseNode.TheVariants.{File as FileNode, Dir as DirNode, NotPresent}
 use Rattle.svn_wc.specs.Nodes.{WorkingCopy, base_node}
-use Rattle.svn_law.proofs.CrawlDescribes.{or_false}
 use Rattle.svn_law.proofs.Entered.{Setting}
 use Rattle.svn_law.proofs.Progress.{is_at, actions_at, acted, act, is_deleted_above, base, state}
 use Rattle.svn_law.proofs.Cuts.{AllSteps, is_main, main_key, NoneMain}

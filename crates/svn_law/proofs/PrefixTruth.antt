@@ -5,6 +5,7 @@ use Rattle.std.specs.List.{list_any}
 use Rattle.std.proofs.Math.Bool.{or-true}
 use Rattle.std.proofs.lemmas.Bool.{or_right}
 use Rattle.std.specs.Map.{keys_of}
+use Rattle.svn_law.proofs.Tests.{and_true}
 use Rattle.svn_law.proofs.Names.{value_of-first, value_of_name, Name, same_bytes, bytes_eq-same, has_name}
 use Rattle.svn_types.specs.Names.{Path, IsName}
 use Rattle.svn_types.specs.Paths.{child, is_root}
@@ -25,7 +26,7 @@ use Rattle.svn_wc.specs.declared.base_node.BaseNode.TheVariants.{File as FileNod
 use Rattle.svn_wc.specs.Nodes.{WorkingCopy, IsWorkingCopy, is_present, is_dir, node_path, HasEntries, IsTrueNode, IsTrueOf, base_node_by, base_node}
 use Rattle.svn_law.specs.Result.{result}
 use Rattle.svn_law.proofs.Descents.{entry_below, look-child}
-use Rattle.svn_law.proofs.Entered.{Setting, and_true, is_kept-child, kept_related, target_path-child}
+use Rattle.svn_law.proofs.Entered.{Setting, is_kept-child, kept_related, target_path-child}
 use Rattle.svn_law.proofs.Progress.{actions_at, acted, is_deleted_above, base, state}
 use Rattle.svn_law.proofs.Cuts.{NoneMain}
 use Rattle.svn_law.proofs.Parents.{any-append2}

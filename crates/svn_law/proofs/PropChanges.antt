@@ -12,9 +12,9 @@ use Rattle.std.proofs.lemmas.Map.Text.{is_eq-slice_cmp}
 use Rattle.svn_types.specs.Names.{name_cmp}
 use Rattle.svn_types.specs.Pairs.{value_of, with_value, InNameOrder}
 use Rattle.svn_types.specs.Props.{is_same_value, with_changes, names_of_both, change_between, changes_between}
+use Rattle.svn_law.proofs.Tests.{or_false}
 use Rattle.svn_law.proofs.Maps.{lookup-remove, sorted-insert, sorted-remove, same_entries}
 use Rattle.svn_law.proofs.Names.{Name, same_bytes, bytes_eq-same, same_name, flipped, lt_apart, value_of-first, has_name, has_name-fold, no_name_no_value}
-use Rattle.svn_law.proofs.CrawlDescribes.{or_false}
 
 -- ---- one change
 

@@ -3,6 +3,7 @@ use Rattle.std.proofs.Common.{◌≡◌, ◌≢◌, Bool, true, false, ◌&&◌,
 use Rattle.std.specs.Prelude.{Option, Some, None, is_some, cond, map, filter}
 use Rattle.std.specs.List.{list_any}
 use Rattle.std.proofs.lemmas.Bool.{or_left, or_right, false_from_ne_true}
+use Rattle.svn_law.proofs.Tests.{or_false, and_true, not_true, dir_present}
 use Rattle.svn_law.proofs.Names.{Name, same_path}
 use Rattle.svn_types.specs.Names.{Path}
 use Rattle.svn_types.specs.Paths.{path_eq, is_within, is_below, child}
@@ -14,12 +15,11 @@ use Rattle.svn_drive.specs.Steps.{InKeyOrder, IsDriveOf, comes_after, is_gone, e
 use Rattle.svn_wc.specs.declared.base_node.BaseNode.{BaseNode}
 use Rattle.svn_wc.specs.declared.base_node.BaseNode.TheVariants.{File as FileNode, Dir as DirNode, NotPresent}
 use Rattle.svn_wc.specs.Nodes.{WorkingCopy, is_present, is_dir}
-use Rattle.svn_law.proofs.CrawlDescribes.{or_false}
-use Rattle.svn_law.proofs.Entered.{Setting, EnteredDirectory, entered_below, and_true, is_below-child, kept_dir}
+use Rattle.svn_law.proofs.Entered.{Setting, EnteredDirectory, entered_below, is_below-child, kept_dir}
 use Rattle.svn_law.proofs.Progress.{is_at, actions_at, actions_at-append, actions_at-drive, acted, act, is_delete, is_deleted_above, base, state}
 use Rattle.svn_law.proofs.Cuts.{AllSteps, all_of_any, NoneMain, none_main_left}
-use Rattle.svn_law.proofs.Parents.{any-append2, below_child, flip_not, AllInner, Shape, nothing, gone_only, touched, added, replaced, shape_of}
-use Rattle.svn_law.proofs.Standing.{is_entry, has_entry, dir_present, kept_present, acted_dir, inner-front, first_not_main, added_dir, same_kind}
+use Rattle.svn_law.proofs.Parents.{any-append2, below_child, AllInner, Shape, nothing, gone_only, touched, added, replaced, shape_of}
+use Rattle.svn_law.proofs.Standing.{is_entry, has_entry, kept_present, acted_dir, inner-front, first_not_main, added_dir, same_kind}
 use Rattle.svn_law.proofs.Gone.{is_within-longer, gone_above}
 use Rattle.svn_law.proofs.Ends.{deleted_by, no_main_no_delete, kept_base}
 use Rattle.svn_law.proofs.PathsBelow.{within_shorter}
@@ -80,7 +80,7 @@ deleted_from p name (s ∷ steps) h k = by (is_delete s.action) (is_below s.path
     by true true true e u v h k ih = absurd (true≢false (sym (ap (λ x. x || list_any is_delete (actions_at p steps)) e) ∙ k))
     by true true false e u v h k ih =
         let parts = and_true (is_within s.path (child p name)) (not (path_eq s.path (child p name))) u in
-        let within = below_child s.path p name parts.0 (flip_not (path_eq s.path (child p name)) parts.1) in
+        let within = below_child s.path p name parts.0 (not_true (path_eq s.path (child p name)) parts.1) in
         absurd (true≢false (sym (ap (λ x. x && is_below s.path p) e ∙ ap (λ x. x && not (path_eq s.path p)) within ∙ ap not v) ∙ h.0))
     by true false true e u v h k ih = ih h.1 (or_false (is_delete s.action) (list_any is_delete (actions_at p steps)) k).1
     by true false false e u v h k ih = ih h.1 k

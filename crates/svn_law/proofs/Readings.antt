@@ -2,6 +2,7 @@
 use Rattle.std.proofs.Common.{◌≡◌, ℕ, suc, Bool, true, false, ◌&&◌, ◌||◌, not, List, [], ◌∷◌, ◌++◌, refl, sym, ◌∙◌, ap, true≢false}
 use Rattle.std.specs.Prelude.{Option, Some, None, cond, map, length, slice_get, nat_eq, filter_map, fold}
 use Rattle.std.specs.List.{list_any, cons_option}
+use Rattle.std.proofs.Math.Bool.{and-false}
 use Rattle.svn_types.specs.Names.{Path}
 use Rattle.svn_types.specs.Paths.{path_eq, parent, is_root}
 use Rattle.svn_types.specs.declared.kind.Kind.{Kind}
@@ -15,7 +16,7 @@ use Rattle.svn_law.proofs.Names.{same_path}
 use Rattle.svn_law.proofs.Cuts.{AllSteps}
 use Rattle.svn_law.proofs.Progress.{is_delete}
 use Rattle.svn_law.proofs.Standing.{is_entry}
-use Rattle.svn_law.proofs.Courses.{is_entry_of, and_true_right, and_false_right}
+use Rattle.svn_law.proofs.Courses.{is_entry_of, and_true_right}
 use Rattle.svn_law.proofs.Turns.{has}
 use Rattle.svn_law.proofs.Numbers.{call_by, call_at, entered, Tells, is_root_action}
 
@@ -179,7 +180,7 @@ module _ (T : Path → ℕ) where
           let g = gives_at k x e in
           ap (on_given (λ g. kind_eq g.kind k && not (is_closed earlier g.token))) g.is_found
           ∙ ap (λ t. kind_eq g.found.kind k && not (is_closed earlier t)) g.token
-          ∙ ap (λ b. kind_eq g.found.kind k && not b) (h e) ∙ and_false_right (kind_eq g.found.kind k)
+          ∙ ap (λ b. kind_eq g.found.kind k && not b) (h e) ∙ and-false (kind_eq g.found.kind k)
       by false e = none x.action e
 
   -- ---- tests on one step's call
@@ -190,14 +191,14 @@ module _ (T : Path → ℕ) where
     closes-call x = by x.action
       where
         by : (a : Action) → closes (T p) (call_by T x.path a) ≡ (path_eq x.path p && is_close a)
-        by (Delete r) = sym (and_false_right (path_eq x.path p))
-        by (Open Directory r) = either_call (closes (T p)) false (is_root x.path) (OpenRoot r (T x.path)) (OpenDirectory x.path (T (parent x.path)) r (T x.path)) refl refl ∙ sym (and_false_right (path_eq x.path p))
-        by (Open File r) = sym (and_false_right (path_eq x.path p))
-        by (Add Directory) = sym (and_false_right (path_eq x.path p))
-        by (Add File) = sym (and_false_right (path_eq x.path p))
-        by (Change Directory c) = sym (and_false_right (path_eq x.path p))
-        by (Change File c) = sym (and_false_right (path_eq x.path p))
-        by (Text s t) = sym (and_false_right (path_eq x.path p))
+        by (Delete r) = sym (and-false (path_eq x.path p))
+        by (Open Directory r) = either_call (closes (T p)) false (is_root x.path) (OpenRoot r (T x.path)) (OpenDirectory x.path (T (parent x.path)) r (T x.path)) refl refl ∙ sym (and-false (path_eq x.path p))
+        by (Open File r) = sym (and-false (path_eq x.path p))
+        by (Add Directory) = sym (and-false (path_eq x.path p))
+        by (Add File) = sym (and-false (path_eq x.path p))
+        by (Change Directory c) = sym (and-false (path_eq x.path p))
+        by (Change File c) = sym (and-false (path_eq x.path p))
+        by (Text s t) = sym (and-false (path_eq x.path p))
         by (Close Directory c) = tells x.path ∙ sym (and_true_right (path_eq x.path p))
         by (Close File c) = tells x.path ∙ sym (and_true_right (path_eq x.path p))
 
@@ -206,32 +207,32 @@ module _ (T : Path → ℕ) where
     applies_text-call x = by x.action
       where
         by : (a : Action) → applies_text (T p) (call_by T x.path a) ≡ (path_eq x.path p && is_text a)
-        by (Delete r) = sym (and_false_right (path_eq x.path p))
-        by (Open Directory r) = either_call (applies_text (T p)) false (is_root x.path) (OpenRoot r (T x.path)) (OpenDirectory x.path (T (parent x.path)) r (T x.path)) refl refl ∙ sym (and_false_right (path_eq x.path p))
-        by (Open File r) = sym (and_false_right (path_eq x.path p))
-        by (Add Directory) = sym (and_false_right (path_eq x.path p))
-        by (Add File) = sym (and_false_right (path_eq x.path p))
-        by (Change Directory c) = sym (and_false_right (path_eq x.path p))
-        by (Change File c) = sym (and_false_right (path_eq x.path p))
+        by (Delete r) = sym (and-false (path_eq x.path p))
+        by (Open Directory r) = either_call (applies_text (T p)) false (is_root x.path) (OpenRoot r (T x.path)) (OpenDirectory x.path (T (parent x.path)) r (T x.path)) refl refl ∙ sym (and-false (path_eq x.path p))
+        by (Open File r) = sym (and-false (path_eq x.path p))
+        by (Add Directory) = sym (and-false (path_eq x.path p))
+        by (Add File) = sym (and-false (path_eq x.path p))
+        by (Change Directory c) = sym (and-false (path_eq x.path p))
+        by (Change File c) = sym (and-false (path_eq x.path p))
         by (Text s t) = tells x.path ∙ sym (and_true_right (path_eq x.path p))
-        by (Close Directory c) = sym (and_false_right (path_eq x.path p))
-        by (Close File c) = sym (and_false_right (path_eq x.path p))
+        by (Close Directory c) = sym (and-false (path_eq x.path p))
+        by (Close File c) = sym (and-false (path_eq x.path p))
 
     -- a change of the token's directory is one of the path's
     pub changes_dir-call : (x : Step) → changes_dir (T p) (call_at T x) ≡ has (is_change_of Directory) p x
     changes_dir-call x = by x.action
       where
         by : (a : Action) → changes_dir (T p) (call_by T x.path a) ≡ (path_eq x.path p && is_change_of Directory a)
-        by (Delete r) = sym (and_false_right (path_eq x.path p))
-        by (Open Directory r) = either_call (changes_dir (T p)) false (is_root x.path) (OpenRoot r (T x.path)) (OpenDirectory x.path (T (parent x.path)) r (T x.path)) refl refl ∙ sym (and_false_right (path_eq x.path p))
-        by (Open File r) = sym (and_false_right (path_eq x.path p))
-        by (Add Directory) = sym (and_false_right (path_eq x.path p))
-        by (Add File) = sym (and_false_right (path_eq x.path p))
+        by (Delete r) = sym (and-false (path_eq x.path p))
+        by (Open Directory r) = either_call (changes_dir (T p)) false (is_root x.path) (OpenRoot r (T x.path)) (OpenDirectory x.path (T (parent x.path)) r (T x.path)) refl refl ∙ sym (and-false (path_eq x.path p))
+        by (Open File r) = sym (and-false (path_eq x.path p))
+        by (Add Directory) = sym (and-false (path_eq x.path p))
+        by (Add File) = sym (and-false (path_eq x.path p))
         by (Change Directory c) = tells x.path ∙ sym (and_true_right (path_eq x.path p))
-        by (Change File c) = sym (and_false_right (path_eq x.path p))
-        by (Text s t) = sym (and_false_right (path_eq x.path p))
-        by (Close Directory c) = sym (and_false_right (path_eq x.path p))
-        by (Close File c) = sym (and_false_right (path_eq x.path p))
+        by (Change File c) = sym (and-false (path_eq x.path p))
+        by (Text s t) = sym (and-false (path_eq x.path p))
+        by (Close Directory c) = sym (and-false (path_eq x.path p))
+        by (Close File c) = sym (and-false (path_eq x.path p))
 
     -- what is opened below the token is a subdirectory of the path
     pub sub-given : (x : Step) → on_given (opens_below (T p)) (given_by (call_at T x)) ≡ true → IsSubdirectory p x
@@ -285,15 +286,15 @@ module _ (T : Path → ℕ) where
     where
       by : (a : Action) → deletes p (call_by T x.path a) ≡ (path_eq x.path p && is_delete a)
       by (Delete r) = sym (and_true_right (path_eq x.path p))
-      by (Open Directory r) = either_call (deletes p) false (is_root x.path) (OpenRoot r (T x.path)) (OpenDirectory x.path (T (parent x.path)) r (T x.path)) refl refl ∙ sym (and_false_right (path_eq x.path p))
-      by (Open File r) = sym (and_false_right (path_eq x.path p))
-      by (Add Directory) = sym (and_false_right (path_eq x.path p))
-      by (Add File) = sym (and_false_right (path_eq x.path p))
-      by (Change Directory c) = sym (and_false_right (path_eq x.path p))
-      by (Change File c) = sym (and_false_right (path_eq x.path p))
-      by (Text s t) = sym (and_false_right (path_eq x.path p))
-      by (Close Directory c) = sym (and_false_right (path_eq x.path p))
-      by (Close File c) = sym (and_false_right (path_eq x.path p))
+      by (Open Directory r) = either_call (deletes p) false (is_root x.path) (OpenRoot r (T x.path)) (OpenDirectory x.path (T (parent x.path)) r (T x.path)) refl refl ∙ sym (and-false (path_eq x.path p))
+      by (Open File r) = sym (and-false (path_eq x.path p))
+      by (Add Directory) = sym (and-false (path_eq x.path p))
+      by (Add File) = sym (and-false (path_eq x.path p))
+      by (Change Directory c) = sym (and-false (path_eq x.path p))
+      by (Change File c) = sym (and-false (path_eq x.path p))
+      by (Text s t) = sym (and-false (path_eq x.path p))
+      by (Close Directory c) = sym (and-false (path_eq x.path p))
+      by (Close File c) = sym (and-false (path_eq x.path p))
 
   -- an entry of a path
   pub opens_entry-call : (p : Path) (x : Step) → opens_entry p (call_at T x) ≡ has is_entry p x
@@ -304,16 +305,16 @@ module _ (T : Path → ℕ) where
       root (n ∷ q) r t = sym (and_true_right (path_eq (n ∷ q) p))
 
       by : (a : Action) → opens_entry p (call_by T x.path a) ≡ (path_eq x.path p && is_entry a)
-      by (Delete r) = sym (and_false_right (path_eq x.path p))
+      by (Delete r) = sym (and-false (path_eq x.path p))
       by (Open Directory r) = root x.path r (T x.path)
       by (Open File r) = sym (and_true_right (path_eq x.path p))
       by (Add Directory) = sym (and_true_right (path_eq x.path p))
       by (Add File) = sym (and_true_right (path_eq x.path p))
-      by (Change Directory c) = sym (and_false_right (path_eq x.path p))
-      by (Change File c) = sym (and_false_right (path_eq x.path p))
-      by (Text s t) = sym (and_false_right (path_eq x.path p))
-      by (Close Directory c) = sym (and_false_right (path_eq x.path p))
-      by (Close File c) = sym (and_false_right (path_eq x.path p))
+      by (Change Directory c) = sym (and-false (path_eq x.path p))
+      by (Change File c) = sym (and-false (path_eq x.path p))
+      by (Text s t) = sym (and-false (path_eq x.path p))
+      by (Close Directory c) = sym (and-false (path_eq x.path p))
+      by (Close File c) = sym (and-false (path_eq x.path p))
 
   -- no step's call is the last
   pub is_last-call : (x : Step) → is_last (call_at T x) ≡ false

@@ -1,8 +1,10 @@
 -- A copy that a drive leaves when it stops leads each path to the same place in the target as the copy that it began with.
-use Rattle.std.proofs.Common.{◌≡◌, ℕ, Bool, true, false, ◌&&◌, ◌⊎◌, List, [], ◌++◌, refl, sym, ◌∙◌, ap, subst, true≢false, eq-eqb, take, inl, inr}
-use Rattle.std.specs.Prelude.{Option, Some, None, is_some, option_map, cond, nat_eq}
+use Rattle.std.proofs.Common.{◌≡◌, ℕ, Bool, true, false, ◌&&◌, ◌⊎◌, List, [], ◌++◌, refl, sym, ◌∙◌, ap, subst, true≢false, take, inl, inr}
+use Rattle.std.specs.Prelude.{Option, Some, None, is_some, option_map, cond}
 use Rattle.std.specs.List.{list_any}
 use Rattle.std.proofs.lemmas.Bool.{false_from_ne_true}
+use Rattle.svn_law.proofs.Tests.{and_true, nat_eq-same, some_number, dir_present}
+use Rattle.svn_law.proofs.Entered.{switched_to}
 use Rattle.svn_law.proofs.Names.{Name}
 use Rattle.svn_types.specs.Names.{Path}
 use Rattle.svn_types.specs.Paths.{child}
@@ -26,10 +28,9 @@ use Rattle.svn_law.specs.Result.{result}
 use Rattle.svn_law.specs.Laws.{IsTrueCopy, request_of, HasTarget, resuming}
 use Rattle.svn_law.proofs.Descents.{path_ind, follow-here}
 use Rattle.svn_law.proofs.CrawlCheckable.{crawl_describes_holds}
-use Rattle.svn_law.proofs.Entered.{Setting, and_true, shown_source, is_kept-child, target_path-child, kept_related, source_looked}
+use Rattle.svn_law.proofs.Entered.{Setting, shown_source, is_kept-child, target_path-child, kept_related, source_looked}
 use Rattle.svn_law.proofs.Progress.{actions_at, acted, is_delete, is_deleted_above, state}
-use Rattle.svn_law.proofs.Standing.{dir_present, kept_path_is}
-use Rattle.svn_law.proofs.Exists.{switched_to}
+use Rattle.svn_law.proofs.Standing.{kept_path_is}
 use Rattle.svn_law.proofs.Ends.{ends, setting_of}
 use Rattle.svn_law.proofs.Reached.{kept_or_old, none_deleted, kept_stays}
 use Rattle.svn_law.proofs.PrefixStates.{Stands, absent, not_present, old, opened_file, open_directory, finished, stands}
@@ -38,19 +39,12 @@ use Rattle.svn_law.proofs.PrefixesTrue.{Reached, under_way, at_end, reached, tru
 
 -- ---- a copy that a report describes
 
-is_some_is : (o : Option ℕ) → is_some o ≡ true → (m : ℕ) × (o ≡ Some m)
-is_some_is None q = absurd (true≢false (sym q))
-is_some_is (Some m) q = (m, refl)
-
 -- the source of a present node is the node at its repository path
 described_source : (h : History) (r : ReportView) (v : WorkingCopy) → Describes h r v → (p : Path) → is_present (v p) ≡ true → source h (reported r p) ≡ look h (node_revision (v p)) (node_path (v p))
 described_source h r v d p k =
-    let s = is_some_is (source h (reported r p)) (sym (d p).present ∙ k) in
+    let s = some_number (source h (reported r p)) (sym (d p).present ∙ k) in
     s.1 ∙ sym (shown_source h (reported r p) s.0 s.1).1
     ∙ (λ i. look h (sym ((d p).revision k) i) (sym ((d p).repos_path k) i))
-
-nat_eq-same : (n : ℕ) → nat_eq n n ≡ true
-nat_eq-same n = eq-eqb n n refl
 
 related_some : (h : History) (o t : Option ℕ) → are_related h o t ≡ true → is_some o ≡ true
 related_some h None t e = absurd (true≢false (sym e))
@@ -263,8 +257,8 @@ module _ (d : Request) (w : WorkingCopy) (setting : Setting d w) (r : ReportView
       prefix_leads p = leads_by p (old_kept p)
 
 -- the copy that is left leads each path to the same place
-pub same_place : (d : Request) (w : WorkingCopy) → Setting d w → (late : Bool) (r : ReportView) (v : WorkingCopy) → Reached d w late v → Describes d.history r v → (p : Path) → target_path (reported_again d r) p ≡ target_path d p
-same_place d w setting late r v where_now describes = by d.mode refl
+pub same_target_path : (d : Request) (w : WorkingCopy) → Setting d w → (late : Bool) (r : ReportView) (v : WorkingCopy) → Reached d w late v → Describes d.history r v → (p : Path) → target_path (reported_again d r) p ≡ target_path d p
+same_target_path d w setting late r v where_now describes = by d.mode refl
   where
     in_update : d.mode ≡ Update → Reached d w late v → (p : Path) → target_path (reported_again d r) p ≡ target_path d p
     in_update m (under_way xs ys drive e) p =
@@ -280,7 +274,7 @@ same_place d w setting late r v where_now describes = by d.mode refl
 pub same_root : (d : Request) (w : WorkingCopy) → Setting d w → (late : Bool) (r : ReportView) (v : WorkingCopy) → Reached d w late v → Describes d.history r v → HasTarget (reported_again d r)
 same_root d w setting late r v where_now describes =
     ap (λ o. are_related d.history o (target_node (reported_again d r) [])) (described_source d.history r v describes [] (present where_now))
-    ∙ ap (λ q. are_related d.history (look d.history (node_revision (v [])) (node_path (v []))) (look d.history d.target q)) (same_place d w setting late r v where_now describes [])
+    ∙ ap (λ q. are_related d.history (look d.history (node_revision (v [])) (node_path (v []))) (look d.history d.target q)) (same_target_path d w setting late r v where_now describes [])
     ∙ still_related d w setting r [] (v []) refl (root where_now)
   where
     root : Reached d w late v → Leads d w r [] (v [])
@@ -320,7 +314,7 @@ module _ (h : History) (nodes stopped : List (Path × BaseNode)) (target : ℕ) 
   stopped_described = subst (Describes h (crawl stopped)) (sym left_is) (crawl_describes_holds h stopped stopped_true).1
 
   pub stopped_path : (p : Path) → target_path (request_of h stopped target mode checksum) p ≡ target_path d p
-  stopped_path = same_place d (get_in nodes) setting late (crawl stopped) left where_left stopped_described
+  stopped_path = same_target_path d (get_in nodes) setting late (crawl stopped) left where_left stopped_described
 
   -- it has a target
   pub stopped_target : HasTarget (request_of h stopped target mode checksum)
@@ -336,4 +330,9 @@ module _ (h : History) (nodes stopped : List (Path × BaseNode)) (target : ℕ) 
       ends (request_of h stopped target mode checksum) (get_in stopped) (setting_of h stopped target mode checksum stopped_true stopped_target) late' calls' drive' p ∙ stopped_result p
 
 pub resuming_holds : resuming
-resuming_holds = stopped_path
+resuming_holds h nodes stopped target mode checksum late calls n t has drive ordered same = record {
+  has_target = stopped_target h nodes stopped target mode checksum late calls n t has drive ordered same;
+  same_paths = stopped_path h nodes stopped target mode checksum late calls n t has drive ordered same;
+  same_result = stopped_result h nodes stopped target mode checksum late calls n t has drive ordered same;
+  ends = stopped_ends h nodes stopped target mode checksum late calls n t has drive ordered same;
+}

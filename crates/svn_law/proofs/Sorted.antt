@@ -19,9 +19,9 @@ use Rattle.svn_delta.specs.Steps.{Action, Delete, Open, Add, Change, Text, Close
 use Rattle.svn_drive.specs.Follow.{Request, follow, source_node, target_node}
 use Rattle.svn_drive.specs.Steps.{Mark, Named, End, mark_cmp, key, key_of, comes_after, has_text, is_text, InKeyOrder, path_steps, is_gone, is_touched, is_new, gone_actions, entered_actions, touched_actions, new_actions, text_actions, source_props, source_text}
 use Rattle.svn_law.specs.SlowDrive.{insert_step, sort_steps}
+use Rattle.svn_law.proofs.Tests.{or_false}
 use Rattle.svn_law.proofs.Names.{same_path, path_eq-same}
 use Rattle.svn_law.proofs.Keys.{keys_total}
-use Rattle.svn_law.proofs.CrawlDescribes.{or_false}
 use Rattle.svn_law.proofs.Progress.{is_at}
 use Rattle.svn_law.proofs.Parents.{any-append2}
 use Rattle.svn_law.proofs.Cuts.{is_main, main_key, AllMain}

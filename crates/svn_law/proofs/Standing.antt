@@ -2,6 +2,7 @@
 use Rattle.std.proofs.Common.{◌≡◌, ◌≢◌, ℕ, Bool, true, false, ◌||◌, ◌⊎◌, List, [], ◌∷◌, ◌++◌, refl, sym, ◌∙◌, ap, subst, true≢false, append_assoc, append-nil, inl, inr}
 use Rattle.std.specs.Prelude.{Option, Some, None, is_some, cond, map, filter}
 use Rattle.std.specs.List.{list_any}
+use Rattle.svn_law.proofs.Tests.{dir_present}
 use Rattle.svn_law.proofs.Names.{Name, path_eq-same, same_path}
 use Rattle.svn_types.specs.Names.{Path}
 use Rattle.svn_types.specs.Paths.{path_eq, is_below, child, is_root, last_name}
@@ -245,12 +246,6 @@ after_steps d done w (s ∷ rest) = after_steps d (done ++ s ∷ []) (step_effec
 pub acted_dir : (d : Request) (p : Path) (before acts : List Action) (node : Option BaseNode) → AllInner acts → is_dir node ≡ true → is_dir (acted d p before node acts) ≡ true
 acted_dir d p before [] node i k = k
 acted_dir d p before (a ∷ acts) node i k = acted_dir d p (before ++ a ∷ []) acts (act d p before a node) i.1 (act_dir d p before a node i.0 k)
-
-pub dir_present : (node : Option BaseNode) → is_dir node ≡ true → is_present node ≡ true
-dir_present None k = absurd (true≢false (sym k))
-dir_present (Some NotPresent) k = absurd (true≢false (sym k))
-dir_present (Some (FileNode r q x ps)) k = absurd (true≢false (sym k))
-dir_present (Some (DirNode r q c ps)) k = refl
 
 -- a directory that was opened or added, and what was done there since
 entered_dir : (d : Request) (p : Path) (before inner : List Action) (node : Option BaseNode) → AllInner inner → is_dir node ≡ true → PathIs (target_path d p) node

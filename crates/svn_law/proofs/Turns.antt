@@ -2,6 +2,7 @@
 use Rattle.std.proofs.Common.{◌≡◌, ◌≢◌, ℕ, Bool, true, false, ◌&&◌, ◌||◌, List, [], ◌∷◌, ◌++◌, refl, sym, ◌∙◌, ap, subst, true≢false}
 use Rattle.std.specs.Prelude.{Option, Some, None, cond, map, filter}
 use Rattle.std.specs.List.{list_any}
+use Rattle.svn_law.proofs.Tests.{dir_present}
 use Rattle.svn_law.proofs.Names.{Name, same_path, path_eq-same}
 use Rattle.svn_types.specs.Names.{Path}
 use Rattle.svn_types.specs.Paths.{path_eq, is_below, child}
@@ -11,9 +12,7 @@ use Rattle.svn_repo.specs.Readings.{are_related, kind_of}
 use Rattle.svn_delta.specs.Steps.{Action, Delete, Open, Add, Change, Text, Close, Step}
 use Rattle.svn_drive.specs.Follow.{Request, source_node, target_node}
 use Rattle.svn_drive.specs.Steps.{IsDriveOf, is_text, is_touched, is_new, gone_actions, touched_actions, new_actions, entered_actions, path_actions, comes_after}
-use Rattle.svn_wc.specs.declared.base_node.BaseNode.{BaseNode}
-use Rattle.svn_wc.specs.declared.base_node.BaseNode.TheVariants.{File as FileNode, Dir as DirNode, NotPresent}
-use Rattle.svn_wc.specs.Nodes.{WorkingCopy, is_present, is_dir}
+use Rattle.svn_wc.specs.Nodes.{WorkingCopy, is_dir}
 use Rattle.svn_law.proofs.Entered.{Setting, EnteredDirectory, entered_below, is_below-child, path_eq-child, source_from_copy, kept_directory}
 use Rattle.svn_law.proofs.Progress.{is_at, actions_at, actions_at-append, actions_at-drive}
 use Rattle.svn_law.proofs.Cuts.{AllSteps, before_next, after_next, is_main, NoneMain, none_main_left}
@@ -215,12 +214,6 @@ module _ (d : Request) (w : WorkingCopy) (setting : Setting d w) where
   pub root_entered : EnteredDirectory d w setting []
   root_entered = by (target_node d []) refl (source_from_copy d w setting [] (w []) refl (setting.true_of []) (dir_present (w []) setting.shape.root))
     where
-      dir_present : (up : Option BaseNode) → is_dir up ≡ true → is_present up ≡ true
-      dir_present None k = absurd (true≢false (sym k))
-      dir_present (Some NotPresent) k = absurd (true≢false (sym k))
-      dir_present (Some (FileNode r q x ps)) k = absurd (true≢false (sym k))
-      dir_present (Some (DirNode r q c ps)) k = refl
-
       none_related : (a : Option ℕ) → are_related d.history a None ≡ true → ⊥
       none_related None q = true≢false (sym q)
       none_related (Some m) q = true≢false (sym q)

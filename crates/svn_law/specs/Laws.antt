@@ -4,10 +4,9 @@ use Rattle.svn_types.specs.Names.{Path}
 use Rattle.svn_repo.specs.History.{History}
 use Rattle.svn_repo.specs.Readings.{IsHistory, are_related}
 use Rattle.svn_delta.specs.declared.call.Call.{Call}
-use Rattle.svn_delta.specs.Steps.{Mode, Step}
+use Rattle.svn_delta.specs.Steps.{Mode}
 use Rattle.svn_drive.specs.Checks.{IsCheckable}
 use Rattle.svn_drive.specs.Follow.{Request, target_path, source_node, target_node}
-use Rattle.svn_drive.specs.Steps.{IsDriveOf}
 use Rattle.svn_drive.specs.Drive.{IsDrive}
 use Rattle.svn_wc.specs.declared.base_node.BaseNode.{BaseNode}
 use Rattle.svn_wc.specs.Nodes.{WorkingCopy, IsWorkingCopy, get_in, InPathOrder, IsTrueOf}
@@ -36,9 +35,17 @@ abbrev pub crawl_describes : Type 0
 crawl_describes =
     (h : History) (nodes : List (Path × BaseNode)) → IsTrueCopy h nodes → IsCheckable h (crawl nodes) × Describes h (crawl nodes) (get_in nodes)
 
--- there is one list of steps, and so one list of calls
+-- there is one drive
 abbrev pub one_drive : Type 0
-one_drive = (d : Request) (late : Bool) (xs ys : List Step) → IsDriveOf d late xs → IsDriveOf d late ys → xs ≡ ys
+one_drive = (d : Request) (late : Bool) (xs ys : List Call) → IsDrive d late xs → IsDrive d late ys → xs ≡ ys
+
+-- the drive of a true copy is there
+abbrev pub a_drive : Type 0
+a_drive =
+    (h : History) (nodes : List (Path × BaseNode)) (target : ℕ) (mode : Mode) (checksum : List ℕ → List ℕ) (late : Bool)
+    → IsTrueCopy h nodes
+    → HasTarget (request_of h nodes target mode checksum)
+    → (calls : List Call) × IsDrive (request_of h nodes target mode checksum) late calls
 
 -- no call of the drive is refused, and after all of them the copy is the result
 pub record Composes (d : Request) (w : WorkingCopy) (calls : List Call) : Type 0 where
@@ -62,7 +69,15 @@ prefixes_true =
     → IsDrive (request_of h nodes target mode checksum) late calls
     → IsWorkingCopy (after mode (get_in nodes) (take n calls)) × IsTrueOf h (after mode (get_in nodes) (take n calls))
 
--- where the run stops anywhere, the copy that it leaves is driven to the same target with the same result
+-- A second request, of the copy that a stopped drive left, leads where the first did: each path to its place in the target, and so to the same result,
+-- with which each drive of it ends.
+pub record Resumes (first second : Request) (left : WorkingCopy) : Type 0 where
+  pub has_target : HasTarget second
+  pub same_paths : (p : Path) → target_path second p ≡ target_path first p
+  pub same_result : (p : Path) → result second p ≡ result first p
+  pub ends : (late : Bool) (calls : List Call) → IsDrive second late calls → (p : Path) → after first.mode left calls p ≡ result first p
+
+-- wherever the drive of a true copy stops, the copy that it leaves is driven to the same target with the same result
 abbrev pub resuming : Type 0
 resuming =
     (h : History) (nodes stopped : List (Path × BaseNode)) (target : ℕ) (mode : Mode) (checksum : List ℕ → List ℕ) (late : Bool) (calls : List Call) (n : ℕ)
@@ -71,4 +86,4 @@ resuming =
     → IsDrive (request_of h nodes target mode checksum) late calls
     → InPathOrder stopped
     → ((p : Path) → get_in stopped p ≡ after mode (get_in nodes) (take n calls) p)
-    → (p : Path) → target_path (request_of h stopped target mode checksum) p ≡ target_path (request_of h nodes target mode checksum) p
+    → Resumes (request_of h nodes target mode checksum) (request_of h stopped target mode checksum) (get_in stopped)
