@@ -2,3 +2,5 @@ pub mod FaultNumbers
 pub mod Calls
 pub mod Order
 pub mod Editing
+pub mod Reports
+pub mod Steps
