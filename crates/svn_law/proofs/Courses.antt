@@ -13,7 +13,7 @@ use Rattle.svn_delta.specs.Steps.{Action, Delete, Open, Add, Change, Text, Close
 use Rattle.svn_drive.specs.Follow.{Request, follow, is_kept, source_node, target_node}
 use Rattle.svn_drive.specs.Steps.{is_text, is_touched, is_new, is_gone, gone_actions, touched_actions, new_actions, entered_actions, text_actions, path_actions, source_props, source_text}
 use Rattle.svn_law.proofs.Tests.{and_true, not_true}
-use Rattle.svn_law.proofs.Parents.{is_inner, TargetKind}
+use Rattle.svn_law.proofs.NextStep.{is_inner, TargetKind}
 
 -- ---- which of two actions at a path comes first
 

@@ -21,7 +21,7 @@ use Rattle.svn_wc.specs.Nodes.{WorkingCopy, get_in, is_present, is_dir, is_incom
 use Rattle.svn_wc.specs.Crawl.{is_switched, entry_for, crawl}
 use Rattle.svn_law.specs.Describes.{Describes}
 use Rattle.svn_law.specs.Laws.{IsTrueCopy}
-use Rattle.svn_law.proofs.Descents.{path_ind, parent-child, last_name-child, is_root-child, entry_below, look-child, reported-child, reported-path}
+use Rattle.svn_law.proofs.Children.{path_ind, parent-child, last_name-child, is_root-child, entry_below, look-child, reported-child, reported-path}
 use Rattle.svn_law.proofs.CrawlEntries.{crawled, entry_at-crawl}
 
 -- what the report says of a child, by what it says of the parent

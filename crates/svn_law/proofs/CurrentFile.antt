@@ -20,14 +20,14 @@ use Rattle.svn_drive.specs.Drive.{token_of}
 use Rattle.svn_wc.specs.Nodes.{WorkingCopy}
 use Rattle.svn_law.proofs.Names.{path_eq-same}
 use Rattle.svn_law.proofs.Keys.{keys_total, same_place}
-use Rattle.svn_law.proofs.Entered.{Setting}
-use Rattle.svn_law.proofs.Cuts.{AllSteps, main_key}
-use Rattle.svn_law.proofs.Parents.{any-append2, is_inner}
+use Rattle.svn_law.proofs.Classes.{Setting}
+use Rattle.svn_law.proofs.FirstSteps.{AllSteps, main_key}
+use Rattle.svn_law.proofs.NextStep.{any-append2, is_inner}
 use Rattle.svn_law.proofs.Courses.{is_entry_of, is_close_of, inner_of, precedes, and_true_right}
-use Rattle.svn_law.proofs.Turns.{never, has_not, all_map, all_right, has, has_parts, Found, find, in_whole, any_path_actions, Before, before_step, after_step, own_entry, Within, is_text_closed}
-use Rattle.svn_law.proofs.Numbers.{call_by, call_at, entered, Tells, tells_done}
-use Rattle.svn_law.proofs.Readings.{either_call}
-use Rattle.svn_law.proofs.Directories.{entry_main, drive_there, between}
+use Rattle.svn_law.proofs.StepOrder.{never, has_not, all_map, all_right, has, has_parts, Found, find, in_whole, any_path_actions, Before, before_step, after_step, own_entry, Within, is_text_closed}
+use Rattle.svn_law.proofs.TokenNumbers.{call_by, call_at, entered, Tells, tells_done}
+use Rattle.svn_law.proofs.CallTests.{either_call}
+use Rattle.svn_law.proofs.OpenDirectories.{entry_main, drive_there, between}
 
 -- ---- the fold over the steps' calls
 

@@ -9,8 +9,8 @@ use Rattle.svn_drive.specs.Sources.{source}
 use Rattle.svn_drive.specs.Follow.{Request, follow, is_kept, source_node}
 use Rattle.svn_drive.specs.Steps.{is_gone}
 use Rattle.svn_wc.specs.Nodes.{WorkingCopy, is_present}
-use Rattle.svn_law.proofs.Descents.{path_ind, follow-here, parent_is_kept-child}
-use Rattle.svn_law.proofs.Entered.{Setting}
+use Rattle.svn_law.proofs.Children.{path_ind, follow-here, parent_is_kept-child}
+use Rattle.svn_law.proofs.Classes.{Setting}
 
 pub is_within-same : (p : Path) → is_within p p ≡ true
 is_within-same [] = refl

@@ -21,14 +21,14 @@ use Rattle.svn_drive.specs.Steps.{Named, End, mark_cmp, key, comes_after, IsDriv
 use Rattle.svn_wc.specs.declared.base_node.BaseNode.{BaseNode}
 use Rattle.svn_wc.specs.declared.base_node.BaseNode.TheVariants.{File as FileNode, Dir as DirNode, NotPresent}
 use Rattle.svn_wc.specs.Nodes.{WorkingCopy, base_node}
-use Rattle.svn_law.proofs.Entered.{Setting}
-use Rattle.svn_law.proofs.Progress.{is_at, actions_at, acted, act, is_deleted_above, base, state}
-use Rattle.svn_law.proofs.Cuts.{AllSteps, is_main, main_key, NoneMain}
-use Rattle.svn_law.proofs.Parents.{TargetKind, any-append2, AllInner, Shape, nothing, gone_only, touched, added, replaced, shape_of}
-use Rattle.svn_law.proofs.Standing.{inner-front}
-use Rattle.svn_law.proofs.FinalStates.{AllQuiet, acted_quiet, KeptAs, kept_as, entered_end}
-use Rattle.svn_law.proofs.Ends.{kept_base, state_all}
-use Rattle.svn_law.proofs.Reached.{taken_at, cut}
+use Rattle.svn_law.proofs.Classes.{Setting}
+use Rattle.svn_law.proofs.States.{is_at, actions_at, acted, act, is_deleted_above, base, state}
+use Rattle.svn_law.proofs.FirstSteps.{AllSteps, is_main, main_key, NoneMain}
+use Rattle.svn_law.proofs.NextStep.{TargetKind, any-append2, AllInner, Shape, nothing, gone_only, touched, added, replaced, shape_of}
+use Rattle.svn_law.proofs.AfterSteps.{inner-front}
+use Rattle.svn_law.proofs.AfterAllSteps.{AllQuiet, acted_quiet, KeptAs, kept_as, entered_end}
+use Rattle.svn_law.proofs.EndsAsResult.{kept_base, state_all}
+use Rattle.svn_law.proofs.Progress.{taken_at, cut}
 
 -- ---- a close comes last
 

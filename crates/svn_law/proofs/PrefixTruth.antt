@@ -25,15 +25,15 @@ use Rattle.svn_wc.specs.declared.base_node.BaseNode.{BaseNode}
 use Rattle.svn_wc.specs.declared.base_node.BaseNode.TheVariants.{File as FileNode, Dir as DirNode, NotPresent}
 use Rattle.svn_wc.specs.Nodes.{WorkingCopy, IsWorkingCopy, is_present, is_dir, node_path, HasEntries, IsTrueNode, IsTrueOf, base_node_by, base_node}
 use Rattle.svn_law.specs.Result.{result}
-use Rattle.svn_law.proofs.Descents.{entry_below, look-child}
-use Rattle.svn_law.proofs.Entered.{Setting, is_kept-child, kept_related, target_path-child}
-use Rattle.svn_law.proofs.Progress.{actions_at, acted, is_deleted_above, base, state}
-use Rattle.svn_law.proofs.Cuts.{NoneMain}
-use Rattle.svn_law.proofs.Parents.{any-append2}
-use Rattle.svn_law.proofs.Standing.{is_entry, kept_present}
-use Rattle.svn_law.proofs.Exists.{new_path, has_either, is_source_present, near_target}
-use Rattle.svn_law.proofs.FinalStates.{KeptAs, kept_as}
-use Rattle.svn_law.proofs.Reached.{has_actions, kept_is_dir, kept_stays, entered_some, old_below, stands_below}
+use Rattle.svn_law.proofs.Children.{entry_below, look-child}
+use Rattle.svn_law.proofs.Classes.{Setting, is_kept-child, kept_related, target_path-child}
+use Rattle.svn_law.proofs.States.{actions_at, acted, is_deleted_above, base, state}
+use Rattle.svn_law.proofs.FirstSteps.{NoneMain}
+use Rattle.svn_law.proofs.NextStep.{any-append2}
+use Rattle.svn_law.proofs.AfterSteps.{is_entry, kept_present}
+use Rattle.svn_law.proofs.DriveExists.{new_path, has_either, is_source_present, near_target}
+use Rattle.svn_law.proofs.AfterAllSteps.{KeptAs, kept_as}
+use Rattle.svn_law.proofs.Progress.{has_actions, kept_is_dir, kept_stays, entered_some, old_below, stands_below}
 use Rattle.svn_law.proofs.PrefixStates.{closes_dir, children_done, Stands, absent, not_present, old, opened_file, open_directory, finished, stands}
 
 -- ---- names and entries

@@ -11,10 +11,10 @@ use Rattle.svn_wc.specs.Nodes.{WorkingCopy, IsWorkingCopy, IsTrueOf, get_in}
 use Rattle.svn_wc.specs.Effects.{after}
 use Rattle.svn_law.specs.Result.{result}
 use Rattle.svn_law.specs.Laws.{prefixes_true, request_of}
-use Rattle.svn_law.proofs.Entered.{Setting}
-use Rattle.svn_law.proofs.Progress.{state}
-use Rattle.svn_law.proofs.Prefixes.{after-first}
-use Rattle.svn_law.proofs.Ends.{ends, setting_of}
+use Rattle.svn_law.proofs.Classes.{Setting}
+use Rattle.svn_law.proofs.States.{state}
+use Rattle.svn_law.proofs.AfterCalls.{after-first}
+use Rattle.svn_law.proofs.EndsAsResult.{ends, setting_of}
 use Rattle.svn_law.proofs.PrefixTruth.{result_true, result_shape, prefix_true, prefix_shape}
 
 -- the first calls of some steps and a last call: those of the first steps, or all

@@ -4,7 +4,7 @@ use Rattle.std.specs.Prelude.{Option, Some, None, is_some, option_map, cond}
 use Rattle.std.specs.List.{list_any}
 use Rattle.std.proofs.lemmas.Bool.{false_from_ne_true}
 use Rattle.svn_law.proofs.Tests.{and_true, nat_eq-same, some_number, dir_present}
-use Rattle.svn_law.proofs.Entered.{switched_to}
+use Rattle.svn_law.proofs.Classes.{switched_to}
 use Rattle.svn_law.proofs.Names.{Name}
 use Rattle.svn_types.specs.Names.{Path}
 use Rattle.svn_types.specs.Paths.{child}
@@ -26,13 +26,13 @@ use Rattle.svn_law.specs.Describes.{Describes}
 use Rattle.svn_wc.specs.Effects.{after}
 use Rattle.svn_law.specs.Result.{result}
 use Rattle.svn_law.specs.Laws.{IsTrueCopy, request_of, HasTarget, resuming}
-use Rattle.svn_law.proofs.Descents.{path_ind, follow-here}
+use Rattle.svn_law.proofs.Children.{path_ind, follow-here}
 use Rattle.svn_law.proofs.CrawlCheckable.{crawl_describes_holds}
-use Rattle.svn_law.proofs.Entered.{Setting, shown_source, is_kept-child, target_path-child, kept_related, source_looked}
-use Rattle.svn_law.proofs.Progress.{actions_at, acted, is_delete, is_deleted_above, state}
-use Rattle.svn_law.proofs.Standing.{kept_path_is}
-use Rattle.svn_law.proofs.Ends.{ends, setting_of}
-use Rattle.svn_law.proofs.Reached.{kept_or_old, none_deleted, kept_stays}
+use Rattle.svn_law.proofs.Classes.{Setting, shown_source, is_kept-child, target_path-child, kept_related, source_looked}
+use Rattle.svn_law.proofs.States.{actions_at, acted, is_delete, is_deleted_above, state}
+use Rattle.svn_law.proofs.AfterSteps.{kept_path_is}
+use Rattle.svn_law.proofs.EndsAsResult.{ends, setting_of}
+use Rattle.svn_law.proofs.Progress.{kept_or_old, none_deleted, kept_stays}
 use Rattle.svn_law.proofs.PrefixStates.{Stands, absent, not_present, old, opened_file, open_directory, finished, stands}
 use Rattle.svn_law.proofs.PrefixTruth.{present_not_none, kept_target}
 use Rattle.svn_law.proofs.PrefixesTrue.{Reached, under_way, at_end, reached, true_when}

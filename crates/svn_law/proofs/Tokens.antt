@@ -15,8 +15,8 @@ use Rattle.svn_drive.specs.Drive.{token_of, call_of, opened_after, numbered}
 use Rattle.svn_wc.specs.Nodes.{WorkingCopy}
 use Rattle.svn_wc.specs.Effects.{step_effect, read_effect, effect, after_from}
 use Rattle.svn_law.proofs.Names.{same_path}
-use Rattle.svn_law.proofs.Parents.{is_inner}
-use Rattle.svn_law.proofs.Standing.{after_steps}
+use Rattle.svn_law.proofs.NextStep.{is_inner}
+use Rattle.svn_law.proofs.AfterSteps.{after_steps}
 
 -- ---- the paths that stand for the tokens
 

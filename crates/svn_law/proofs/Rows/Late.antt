@@ -1,6 +1,5 @@
 -- Texts after the directories.
 use Rattle.std.specs.Prelude.{◌≡◌, true, false, List, [], ◌∷◌, Some, None, refl}
-use Rattle.svn_repo.specs.History.{History}
 use Rattle.svn_delta.specs.declared.entry.ReportEntry.TheVariants.{SetPath, DeletePath}
 use Rattle.svn_delta.specs.Steps.{Update}
 use Rattle.svn_delta.specs.declared.call.Call.{Call}
@@ -10,8 +9,8 @@ use Rattle.svn_wc.specs.Nodes.{WorkingCopy, listed}
 use Rattle.svn_wc.specs.Crawl.{crawl}
 use Rattle.svn_wc.specs.Builders.{checkout}
 use Rattle.svn_wc.specs.Effects.{after}
-use Rattle.svn_law.proofs.Rows.Setting.{history_of}
-use Rattle.svn_law.proofs.Rows.Setting.{a, d, f, x, y, abc, at, at2, dir, file, drive, refused, stopped, whole, plain}
+use Rattle.svn_law.proofs.Rows.Setting.{a, d, f, x, y, abc, at, at2, drive, refused, stopped, whole, plain}
+use Rattle.svn_law.proofs.Rows.Plain.{empty}
 use Rattle.svn_law.proofs.Rows.Mixed.{grown, mixed, mixed_paths}
 
 abbrev late_calls : List Call
@@ -41,9 +40,6 @@ late_resumed : listed mixed_paths (after Update late_stopped (drive false Update
 late_resumed = refl
 
 -- an empty file added
-abbrev empty : History
-empty = history_of (0 ∷ 1 ∷ []) (dir 0 [] ∷ dir 0 ((f, 2) ∷ []) ∷ file 1 [] ∷ [])
-
 abbrev empty_calls : List Call
 empty_calls = SetTargetRevision 1 ∷ OpenRoot 0 0 ∷ AddFile (at f) 0 1 ∷ CloseDirectory 0 ∷ ApplyText 1 None [] ∷ CloseFile 1 (Some []) ∷ CloseEdit ∷ []
 

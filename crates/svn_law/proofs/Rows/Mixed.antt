@@ -10,8 +10,7 @@ use Rattle.svn_wc.specs.Nodes.{WorkingCopy, listed}
 use Rattle.svn_wc.specs.Crawl.{crawl}
 use Rattle.svn_wc.specs.Builders.{checkout, placed}
 use Rattle.svn_wc.specs.Effects.{after}
-use Rattle.svn_law.proofs.Rows.Setting.{history_of}
-use Rattle.svn_law.proofs.Rows.Setting.{a, d, f, x, y, abc, at, at2, dir, dir_with, file, drive, stopped, whole, partial, plain}
+use Rattle.svn_law.proofs.Rows.Setting.{history_of, a, d, f, x, y, abc, at, at2, dir, dir_with, file, drive, stopped, whole, partial, plain}
 use Rattle.svn_law.proofs.Rows.Plain.{k, k_paths, k_copy, k_calls}
 
 -- a file of an older revision

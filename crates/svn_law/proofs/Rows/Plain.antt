@@ -10,8 +10,7 @@ use Rattle.svn_wc.specs.Nodes.{WorkingCopy, listed}
 use Rattle.svn_wc.specs.Crawl.{crawl}
 use Rattle.svn_wc.specs.Builders.{checkout, forgotten}
 use Rattle.svn_wc.specs.Effects.{after}
-use Rattle.svn_law.proofs.Rows.Setting.{history_of}
-use Rattle.svn_law.proofs.Rows.Setting.{a, b, c, d, e, f, x, abc, at, at2, dir, dir_with, file, drive, refused, whole, plain}
+use Rattle.svn_law.proofs.Rows.Setting.{history_of, a, b, c, d, e, f, x, abc, at, at2, dir, dir_with, file, drive, refused, whole, plain}
 
 -- a file whose text changes
 abbrev pub k : History
@@ -102,3 +101,16 @@ copied_drive : drive false Update copied one_paths (checkout copied [] 1) 2
     ≡ SetTargetRevision 2 ∷ OpenRoot 1 0 ∷ OpenDirectory (at d) 0 1 1 ∷ OpenFile (at2 d x) 1 1 2 ∷ ApplyText 2 (Some a) abc ∷ CloseFile 2 (Some abc) ∷ CloseDirectory 1
     ∷ CloseDirectory 0 ∷ CloseEdit ∷ []
 copied_drive = refl
+
+-- an empty file added: its text is sent
+abbrev pub empty : History
+empty = history_of (0 ∷ 1 ∷ []) (dir 0 [] ∷ dir 0 ((f, 2) ∷ []) ∷ file 1 [] ∷ [])
+
+abbrev pub empty_added : List Call
+empty_added = SetTargetRevision 1 ∷ OpenRoot 0 0 ∷ AddFile (at f) 0 1 ∷ ApplyText 1 None [] ∷ CloseFile 1 (Some []) ∷ CloseDirectory 0 ∷ CloseEdit ∷ []
+
+empty_drive : drive false Update empty k_paths (checkout empty [] 0) 1 ≡ empty_added
+empty_drive = refl
+
+empty_after : listed k_paths (after Update (checkout empty [] 0) empty_added) ≡ ([], whole 1 []) ∷ (at f, plain 1 (at f) []) ∷ []
+empty_after = refl

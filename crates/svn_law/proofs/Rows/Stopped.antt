@@ -1,12 +1,15 @@
 -- Runs that were stopped, and the drives that resume them.
-use Rattle.std.specs.Prelude.{◌≡◌, true, false, [], ◌∷◌, refl}
+use Rattle.std.specs.Prelude.{◌≡◌, ℕ, true, false, List, [], ◌∷◌, map, Some, None, refl}
 use Rattle.svn_delta.specs.declared.entry.ReportEntry.TheVariants.{SetPath, LinkPath}
 use Rattle.svn_delta.specs.Steps.{Update}
-use Rattle.svn_delta.specs.declared.call.Call.TheVariants.{SetTargetRevision, OpenRoot, DeleteEntry, AddDirectory, OpenDirectory, CloseDirectory, CloseEdit}
+use Rattle.svn_delta.specs.declared.call.Call.TheVariants.{SetTargetRevision, OpenRoot, DeleteEntry, AddDirectory, OpenDirectory, CloseDirectory, AddFile, ApplyText, CloseFile, CloseEdit}
+use Rattle.svn_wc.specs.declared.base_node.BaseNode.TheVariants.{NotPresent}
 use Rattle.svn_wc.specs.Nodes.{WorkingCopy, listed}
 use Rattle.svn_wc.specs.Crawl.{crawl}
+use Rattle.svn_wc.specs.Builders.{checkout}
 use Rattle.svn_wc.specs.Effects.{after}
-use Rattle.svn_law.proofs.Rows.Setting.{a, b, d, s, x, y, at, at2, drive, stopped, whole, partial, plain}
+use Rattle.svn_law.proofs.Rows.Setting.{a, b, d, f, s, x, y, at, at2, drive, stopped, whole, partial, plain}
+use Rattle.svn_law.proofs.Rows.Plain.{k, k_copy, k_calls, k_paths, empty, empty_added}
 use Rattle.svn_law.proofs.Rows.Switched.{two, two_paths, a_at_b, a_at_b_calls, without_b, lapsed_calls, renewed, renewed_paths, s_at_b, renewed_calls}
 
 -- in a switched directory
@@ -50,3 +53,29 @@ renewed_back : drive false Update renewed renewed_paths renewed_stopped 1
     ≡ SetTargetRevision 1 ∷ OpenRoot 2 0 ∷ DeleteEntry (at d) 2 0 ∷ AddDirectory (at d) 0 1 ∷ AddDirectory (at2 d s) 1 2 ∷ CloseDirectory 2 ∷ CloseDirectory 1 ∷ CloseDirectory 0
     ∷ CloseEdit ∷ []
 renewed_back = refl
+
+-- after an added file, before its close
+abbrev empty_stopped : WorkingCopy
+empty_stopped = stopped Update (checkout empty [] 0) 3 empty_added
+
+empty_nodes : listed k_paths empty_stopped ≡ ([], partial 1 []) ∷ (at f, NotPresent) ∷ []
+empty_nodes = refl
+
+empty_report : (crawl (listed k_paths empty_stopped)).entries ≡ ([], SetPath 1 true) ∷ []
+empty_report = refl
+
+empty_resumed : drive false Update empty k_paths empty_stopped 1
+    ≡ SetTargetRevision 1 ∷ OpenRoot 1 0 ∷ AddFile (at f) 0 1 ∷ ApplyText 1 None [] ∷ CloseFile 1 (Some []) ∷ CloseDirectory 0 ∷ CloseEdit ∷ []
+empty_resumed = refl
+
+-- before the first call nothing is changed
+not_begun : listed k_paths (stopped Update k_copy 0 k_calls) ≡ listed k_paths k_copy
+not_begun = refl
+
+-- and wherever the drive of a file's change is stopped, the copy is driven on to the same
+abbrev stops : List ℕ
+stops = 0 ∷ 1 ∷ 2 ∷ 3 ∷ 4 ∷ 5 ∷ 6 ∷ 7 ∷ []
+
+driven_on : map (λ n. listed k_paths (after Update (stopped Update k_copy n k_calls) (drive false Update k k_paths (stopped Update k_copy n k_calls) 2))) stops
+    ≡ map (λ n. listed k_paths (after Update k_copy k_calls)) stops
+driven_on = refl

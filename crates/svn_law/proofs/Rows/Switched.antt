@@ -10,8 +10,7 @@ use Rattle.svn_wc.specs.Nodes.{WorkingCopy, listed}
 use Rattle.svn_wc.specs.Crawl.{crawl}
 use Rattle.svn_wc.specs.Builders.{checkout, placed}
 use Rattle.svn_wc.specs.Effects.{after}
-use Rattle.svn_law.proofs.Rows.Setting.{history_of}
-use Rattle.svn_law.proofs.Rows.Setting.{a, b, d, f, g, s, x, y, abc, at, at2, dir, file, drive, refused, whole, plain}
+use Rattle.svn_law.proofs.Rows.Setting.{history_of, a, b, d, f, g, s, x, y, abc, at, at2, dir, file, drive, refused, whole, plain}
 use Rattle.svn_law.proofs.Rows.Plain.{k, k_copy}
 
 -- two directories with a file each

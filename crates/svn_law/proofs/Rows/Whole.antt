@@ -11,11 +11,10 @@ use Rattle.svn_wc.specs.Nodes.{WorkingCopy, listed}
 use Rattle.svn_wc.specs.Crawl.{crawl}
 use Rattle.svn_wc.specs.Builders.{checkout, placed}
 use Rattle.svn_wc.specs.Effects.{after}
-use Rattle.svn_law.proofs.Rows.Setting.{history_of}
-use Rattle.svn_law.proofs.Rows.Setting.{a, b, d, e, f, t, x, abc, at, at2, dir, file, drive, refused, stopped, whole, partial, plain}
+use Rattle.svn_law.proofs.Rows.Setting.{history_of, a, b, d, e, f, t, x, abc, at, at2, dir, file, drive, refused, stopped, whole, partial, plain}
 
 -- r1 has t with t/d/x and t/f, and e; r2 has b, a copy of t; in r3 b/f has changed
-abbrev branched : History
+abbrev pub branched : History
 branched = history_of (0 ∷ 1 ∷ 7 ∷ 8 ∷ []) (dir 0 [] ∷ dir 0 ((e, 2) ∷ (t, 3) ∷ []) ∷ dir 1 [] ∷ dir 2 ((d, 4) ∷ (f, 6) ∷ []) ∷ dir 3 ((x, 5) ∷ []) ∷ file 4 a ∷ file 5 a
     ∷ dir 0 ((b, 3) ∷ (e, 2) ∷ (t, 3) ∷ []) ∷ dir 0 ((b, 9) ∷ (e, 2) ∷ (t, 3) ∷ []) ∷ dir 2 ((d, 4) ∷ (f, 10) ∷ []) ∷ file 5 abc ∷ [])
 

@@ -1,4 +1,4 @@
-use Rattle.svn_law.proofs.Exists.{a_drive_holds}
+use Rattle.svn_law.proofs.DriveExists.{a_drive_holds}
 use Rattle.svn_law.proofs.drive_exists.Goals as goal
 
 pub returns : goal.returns

@@ -25,17 +25,17 @@ use Rattle.svn_wc.specs.Effects.{settled, settled_path, effect, after, after_fro
 use Rattle.svn_law.specs.Result.{result}
 use Rattle.svn_law.specs.Laws.{IsTrueCopy, request_of, HasTarget}
 use Rattle.svn_law.proofs.Tests.{or_false, or_first, not_false}
-use Rattle.svn_law.proofs.Entered.{switched_to}
+use Rattle.svn_law.proofs.Classes.{switched_to}
 use Rattle.svn_law.proofs.Names.{same_path, path_eq-same}
 use Rattle.svn_law.proofs.CrawlCheckable.{crawl_describes_holds}
-use Rattle.svn_law.proofs.Entered.{Setting, both_nodes, kept_related}
-use Rattle.svn_law.proofs.Progress.{is_at, actions_at, actions_at-append, actions_at-drive, acted, is_delete, is_deleted_above, base, state}
-use Rattle.svn_law.proofs.Cuts.{NoneMain, after_next, none_main_left}
-use Rattle.svn_law.proofs.Parents.{any-append2, not_deleted_above}
-use Rattle.svn_law.proofs.Standing.{kept_path_is}
-use Rattle.svn_law.proofs.Prefixes.{after-first}
+use Rattle.svn_law.proofs.Classes.{Setting, both_nodes, kept_related}
+use Rattle.svn_law.proofs.States.{is_at, actions_at, actions_at-append, actions_at-drive, acted, is_delete, is_deleted_above, base, state}
+use Rattle.svn_law.proofs.FirstSteps.{NoneMain, after_next, none_main_left}
+use Rattle.svn_law.proofs.NextStep.{any-append2, not_deleted_above}
+use Rattle.svn_law.proofs.AfterSteps.{kept_path_is}
+use Rattle.svn_law.proofs.AfterCalls.{after-first}
 use Rattle.svn_law.proofs.Gone.{gone_above}
-use Rattle.svn_law.proofs.FinalStates.{KeptAs, kept_as, entered_end, ended, acted_all, kept_not_gone}
+use Rattle.svn_law.proofs.AfterAllSteps.{KeptAs, kept_as, entered_end, ended, acted_all, kept_not_gone}
 
 -- ---- deletes above
 

@@ -23,13 +23,13 @@ use Rattle.svn_wc.specs.declared.base_node.BaseNode.{BaseNode}
 use Rattle.svn_wc.specs.declared.base_node.BaseNode.TheVariants.{Dir as DirNode, NotPresent}
 use Rattle.svn_wc.specs.Nodes.{WorkingCopy, is_present, node_revision, node_path, node_text}
 use Rattle.svn_wc.specs.Effects.{is_too_long, is_wrong_sum, has_kind, text_or, moved_path, joined_path, step_fault}
-use Rattle.svn_law.proofs.Descents.{follow-here, parent_is_kept-child}
-use Rattle.svn_law.proofs.Entered.{Setting}
-use Rattle.svn_law.proofs.Progress.{actions_at, texts_at-actions, acted, act, texts_in, base, state}
-use Rattle.svn_law.proofs.Parents.{adds_not_kept, kept_above_child, none_deleted_above}
-use Rattle.svn_law.proofs.Standing.{kept_present, path_cases, own_actions, here, moved_is, joined_new, entered_path, joined_next}
-use Rattle.svn_law.proofs.FinalStates.{AllQuiet, acted_quiet, quiet-append, quiet_changes, quiet_texts, texts_in-append, texts_in-changes, text_or-texts, KeptAs, kept_as, touched_kept, new_not_kept, kept_not_gone}
-use Rattle.svn_law.proofs.Ends.{nothing_left, deleted_next, kept_base}
+use Rattle.svn_law.proofs.Children.{follow-here, parent_is_kept-child}
+use Rattle.svn_law.proofs.Classes.{Setting}
+use Rattle.svn_law.proofs.States.{actions_at, texts_at-actions, acted, act, texts_in, base, state}
+use Rattle.svn_law.proofs.NextStep.{adds_not_kept, kept_above_child, none_deleted_above}
+use Rattle.svn_law.proofs.AfterSteps.{kept_present, path_cases, own_actions, here, moved_is, joined_new, entered_path, joined_next}
+use Rattle.svn_law.proofs.AfterAllSteps.{AllQuiet, acted_quiet, quiet-append, quiet_changes, quiet_texts, texts_in-append, texts_in-changes, text_or-texts, KeptAs, kept_as, touched_kept, new_not_kept, kept_not_gone}
+use Rattle.svn_law.proofs.EndsAsResult.{nothing_left, deleted_next, kept_base}
 
 -- ---- the refusal of an action, by its path's own actions alone
 

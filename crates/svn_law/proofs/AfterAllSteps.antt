@@ -22,11 +22,11 @@ use Rattle.svn_law.proofs.Tests.{and_true}
 use Rattle.svn_law.proofs.Names.{same_bytes}
 use Rattle.svn_law.proofs.Maps.{sorted-nil}
 use Rattle.svn_law.proofs.PropChanges.{with_changes-between}
-use Rattle.svn_law.proofs.Descents.{follow-here}
-use Rattle.svn_law.proofs.Entered.{Setting, kept_directory, source_looked, shown_source}
-use Rattle.svn_law.proofs.Progress.{act, acted, changes_in, texts_in}
-use Rattle.svn_law.proofs.Parents.{acted-append}
-use Rattle.svn_law.proofs.Standing.{kept_present}
+use Rattle.svn_law.proofs.Children.{follow-here}
+use Rattle.svn_law.proofs.Classes.{Setting, kept_directory, source_looked, shown_source}
+use Rattle.svn_law.proofs.States.{act, acted, changes_in, texts_in}
+use Rattle.svn_law.proofs.NextStep.{acted-append}
+use Rattle.svn_law.proofs.AfterSteps.{kept_present}
 
 -- ---- changes and texts leave a node as it is
 

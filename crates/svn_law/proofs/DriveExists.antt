@@ -3,7 +3,7 @@ use Rattle.std.proofs.Common.{◌≡◌, ◌≢◌, ℕ, ◌+◌, ◌≤◌, Boo
 use Rattle.std.specs.Prelude.{Option, Some, None, is_some, cond, map, filter, bytes_eq}
 use Rattle.std.specs.List.{list_any}
 use Rattle.std.proofs.lemmas.Bool.{or_left, or_right, false_from_ne_true}
-use Rattle.svn_law.proofs.Entered.{switched_to}
+use Rattle.svn_law.proofs.Classes.{switched_to}
 use Rattle.svn_law.proofs.Names.{named_value, Name, same_path, bytes_eq-same, has_name, has_name-fold}
 use Rattle.svn_types.specs.Names.{Path}
 use Rattle.svn_types.specs.Paths.{path_eq, child}
@@ -18,15 +18,15 @@ use Rattle.svn_drive.specs.Steps.{InKeyOrder, IsDriveOf, entered_actions, path_a
 use Rattle.svn_wc.specs.Nodes.{WorkingCopy, get_in, is_present, node_path}
 use Rattle.svn_law.specs.SlowDrive.{entry_names, next_name, names_in, names_below, paths_below, slow_steps, slow_drive}
 use Rattle.svn_law.specs.Laws.{request_of, a_drive}
-use Rattle.svn_law.proofs.Descents.{path_ind, entry_below, look-child, follow-here}
+use Rattle.svn_law.proofs.Children.{path_ind, entry_below, look-child, follow-here}
 use Rattle.svn_law.proofs.CrawlDescribes.{is_child, own-is, hidden_below, source_inherits}
-use Rattle.svn_law.proofs.Entered.{Setting, entered_below, kept_related, target_path-child, own_path, source-open}
-use Rattle.svn_law.proofs.Progress.{is_at}
-use Rattle.svn_law.proofs.Parents.{any-append2}
-use Rattle.svn_law.proofs.Standing.{is_entry, has_entry}
-use Rattle.svn_law.proofs.Ends.{setting_of}
-use Rattle.svn_law.proofs.Sorted.{sort_in_order, filter-sort, path_in_order}
-use Rattle.svn_law.proofs.PathsBelow.{steps_of_paths, no_steps, inside, Named}
+use Rattle.svn_law.proofs.Classes.{Setting, entered_below, kept_related, target_path-child, own_path, source-open}
+use Rattle.svn_law.proofs.States.{is_at}
+use Rattle.svn_law.proofs.NextStep.{any-append2}
+use Rattle.svn_law.proofs.AfterSteps.{is_entry, has_entry}
+use Rattle.svn_law.proofs.EndsAsResult.{setting_of}
+use Rattle.svn_law.proofs.SortedSteps.{sort_in_order, filter-sort, path_in_order}
+use Rattle.svn_law.proofs.VisitedPaths.{steps_of_paths, no_steps, inside, Named}
 
 -- ---- names that are found
 

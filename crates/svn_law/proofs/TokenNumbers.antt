@@ -16,15 +16,15 @@ use Rattle.svn_drive.specs.Follow.{Request}
 use Rattle.svn_drive.specs.Steps.{IsDriveOf, path_actions}
 use Rattle.svn_drive.specs.Drive.{token_of, call_of, opened_after, numbered}
 use Rattle.svn_wc.specs.Nodes.{WorkingCopy}
-use Rattle.svn_law.proofs.Descents.{parent-child}
-use Rattle.svn_law.proofs.Entered.{Setting}
-use Rattle.svn_law.proofs.Parents.{any-append2, is_inner}
-use Rattle.svn_law.proofs.Standing.{is_entry, path_cases, same_kind}
+use Rattle.svn_law.proofs.Children.{parent-child}
+use Rattle.svn_law.proofs.Classes.{Setting}
+use Rattle.svn_law.proofs.NextStep.{any-append2, is_inner}
+use Rattle.svn_law.proofs.AfterSteps.{is_entry, path_cases, same_kind}
 use Rattle.svn_law.proofs.Tokens.{is_opened}
-use Rattle.svn_law.proofs.Cuts.{AllSteps}
-use Rattle.svn_law.proofs.Progress.{actions_at-drive}
+use Rattle.svn_law.proofs.FirstSteps.{AllSteps}
+use Rattle.svn_law.proofs.States.{actions_at-drive}
 use Rattle.svn_law.proofs.Courses.{inner_of, is_entry_of, precedes, AllOf, Course, left_alone, taken_away, entered_open, entered_new, entered_again, course_of, and_true_right}
-use Rattle.svn_law.proofs.Turns.{has_not, all_map, at_steps, none_any, has, in_whole, Before, before_step, own_entry, root_entered, parent_done, all_right}
+use Rattle.svn_law.proofs.StepOrder.{has_not, all_map, at_steps, none_any, has, in_whole, Before, before_step, own_entry, root_entered, parent_done, all_right}
 
 -- ---- calls with tokens for paths
 

@@ -13,10 +13,10 @@ use Rattle.svn_delta.specs.Steps.{Action, Delete, Open, Add, Change, Text, Close
 use Rattle.svn_drive.specs.Follow.{Request, source_node, target_node}
 use Rattle.svn_drive.specs.Steps.{IsDriveOf, is_text, is_touched, is_new, gone_actions, touched_actions, new_actions, entered_actions, path_actions, comes_after}
 use Rattle.svn_wc.specs.Nodes.{WorkingCopy, is_dir}
-use Rattle.svn_law.proofs.Entered.{Setting, EnteredDirectory, entered_below, is_below-child, path_eq-child, source_from_copy, kept_directory}
-use Rattle.svn_law.proofs.Progress.{is_at, actions_at, actions_at-append, actions_at-drive}
-use Rattle.svn_law.proofs.Cuts.{AllSteps, before_next, after_next, is_main, NoneMain, none_main_left}
-use Rattle.svn_law.proofs.Parents.{any-append2, is_inner}
+use Rattle.svn_law.proofs.Classes.{Setting, EnteredDirectory, entered_below, is_below-child, path_eq-child, source_from_copy, kept_directory}
+use Rattle.svn_law.proofs.States.{is_at, actions_at, actions_at-append, actions_at-drive}
+use Rattle.svn_law.proofs.FirstSteps.{AllSteps, before_next, after_next, is_main, NoneMain, none_main_left}
+use Rattle.svn_law.proofs.NextStep.{any-append2, is_inner}
 use Rattle.svn_law.proofs.Courses.{inner_of, precedes, is_entry_of, is_close_of, AllOf, InTurn, or_true, course_of, course_in_turn, inside, course_closed, course_kind, fits_kind, text_closed, part_of}
 
 -- ---- lists of steps

@@ -17,10 +17,10 @@ use Rattle.svn_drive.specs.Drive.{opened_after, numbered}
 use Rattle.svn_wc.specs.Nodes.{WorkingCopy}
 use Rattle.svn_wc.specs.Effects.{after}
 use Rattle.svn_law.proofs.Names.{same_path, path_eq-same}
-use Rattle.svn_law.proofs.Entered.{Setting}
-use Rattle.svn_law.proofs.Progress.{is_at, actions_at, actions_at-append, actions_at-drive, state}
-use Rattle.svn_law.proofs.Parents.{is_inner, any-append2, Place, deleting, entering, adding, inside_touched, inside_added, place_of, shape_of}
-use Rattle.svn_law.proofs.Standing.{is_entry, stands_after}
+use Rattle.svn_law.proofs.Classes.{Setting}
+use Rattle.svn_law.proofs.States.{is_at, actions_at, actions_at-append, actions_at-drive, state}
+use Rattle.svn_law.proofs.NextStep.{is_inner, any-append2, Place, deleting, entering, adding, inside_touched, inside_added, place_of, shape_of}
+use Rattle.svn_law.proofs.AfterSteps.{is_entry, stands_after}
 use Rattle.svn_law.proofs.Tokens.{opened_from, is_opened, IsPlain, Ready, after-numbered}
 
 -- ---- what is opened

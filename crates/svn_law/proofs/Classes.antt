@@ -25,7 +25,7 @@ use Rattle.svn_wc.specs.declared.base_node.BaseNode.{BaseNode}
 use Rattle.svn_wc.specs.declared.base_node.BaseNode.TheVariants.{File as FileNode, Dir as DirNode, NotPresent}
 use Rattle.svn_wc.specs.Nodes.{WorkingCopy, IsWorkingCopy, is_present, is_dir, node_revision, node_path, IsTrueNode, IsTrueOf}
 use Rattle.svn_law.specs.Describes.{Describes}
-use Rattle.svn_law.proofs.Descents.{path_ind, is_root-child, entry_below, look-child, follow-child, follow-here, parent_is_kept-child}
+use Rattle.svn_law.proofs.Children.{path_ind, is_root-child, entry_below, look-child, follow-child, follow-here, parent_is_kept-child}
 use Rattle.svn_law.proofs.CrawlDescribes.{IsChildOf, is_child, own_governs, own-is, open_above, source_below}
 
 -- ---- paths below a path

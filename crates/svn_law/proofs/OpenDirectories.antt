@@ -16,13 +16,13 @@ use Rattle.svn_delta.specs.Steps.{Action, Delete, Open, Add, Change, Text, Close
 use Rattle.svn_drive.specs.Steps.{Mark, Named, End, mark_cmp, key_of, comes_after, IsDriveOf}
 use Rattle.svn_drive.specs.Follow.{Request}
 use Rattle.svn_law.proofs.Keys.{keys_total, tied_keys, path_in, path_in-map}
-use Rattle.svn_law.proofs.Cuts.{AllSteps, key_above, apart_keys, main_key, is_main}
-use Rattle.svn_law.proofs.Parents.{any-append2, below_child}
-use Rattle.svn_law.proofs.Standing.{is_entry}
+use Rattle.svn_law.proofs.FirstSteps.{AllSteps, key_above, apart_keys, main_key, is_main}
+use Rattle.svn_law.proofs.NextStep.{any-append2, below_child}
+use Rattle.svn_law.proofs.AfterSteps.{is_entry}
 use Rattle.svn_law.proofs.Courses.{is_entry_of, is_close_of, precedes, fits_kind}
-use Rattle.svn_law.proofs.Turns.{never, has_not, all_map, all_both, all_left, all_right, none_any, Member, members, has, has_parts, in_front, in_whole, kinds_at, Before, before_step, after_step, is_closed_later}
-use Rattle.svn_law.proofs.Numbers.{path_eq-flip, none_twice}
-use Rattle.svn_law.proofs.Readings.{is_close}
+use Rattle.svn_law.proofs.StepOrder.{never, has_not, all_map, all_both, all_left, all_right, none_any, Member, members, has, has_parts, in_front, in_whole, kinds_at, Before, before_step, after_step, is_closed_later}
+use Rattle.svn_law.proofs.TokenNumbers.{path_eq-flip, none_twice}
+use Rattle.svn_law.proofs.CallTests.{is_close}
 
 -- ---- the order of keys
 

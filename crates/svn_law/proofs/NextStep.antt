@@ -15,9 +15,9 @@ use Rattle.svn_delta.specs.Steps.{Action, Delete, Open, Add, Change, Text, Close
 use Rattle.svn_drive.specs.Follow.{Request, follow, is_kept, source_node, target_node}
 use Rattle.svn_drive.specs.Steps.{IsDriveOf, is_touched, is_new, is_gone, gone_actions, touched_actions, new_actions, entered_actions, text_actions, path_actions, source_props, source_text}
 use Rattle.svn_wc.specs.declared.base_node.BaseNode.{BaseNode}
-use Rattle.svn_law.proofs.Descents.{path_ind}
-use Rattle.svn_law.proofs.Entered.{is_kept-child}
-use Rattle.svn_law.proofs.Progress.{is_at, acted, act, is_delete, is_deleted_above}
+use Rattle.svn_law.proofs.Children.{path_ind}
+use Rattle.svn_law.proofs.Classes.{is_kept-child}
+use Rattle.svn_law.proofs.States.{is_at, acted, act, is_delete, is_deleted_above}
 
 pub acted-append : (d : Request) (p : Path) (before xs ys : List Action) (node : Option BaseNode)
     → acted d p before node (xs ++ ys) ≡ acted d p (before ++ xs) (acted d p before node xs) ys

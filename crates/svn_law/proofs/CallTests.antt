@@ -13,12 +13,12 @@ use Rattle.svn_delta.specs.declared.call.Call.{Call}
 use Rattle.svn_delta.specs.declared.call.Call.TheVariants.{OpenRoot, OpenDirectory}
 use Rattle.svn_drive.specs.Steps.{is_text}
 use Rattle.svn_law.proofs.Names.{same_path}
-use Rattle.svn_law.proofs.Cuts.{AllSteps}
-use Rattle.svn_law.proofs.Progress.{is_delete}
-use Rattle.svn_law.proofs.Standing.{is_entry}
+use Rattle.svn_law.proofs.FirstSteps.{AllSteps}
+use Rattle.svn_law.proofs.States.{is_delete}
+use Rattle.svn_law.proofs.AfterSteps.{is_entry}
 use Rattle.svn_law.proofs.Courses.{is_entry_of, and_true_right}
-use Rattle.svn_law.proofs.Turns.{has}
-use Rattle.svn_law.proofs.Numbers.{call_by, call_at, entered, Tells, is_root_action}
+use Rattle.svn_law.proofs.StepOrder.{has}
+use Rattle.svn_law.proofs.TokenNumbers.{call_by, call_at, entered, Tells, is_root_action}
 
 -- the test on what a call gives, if it gives a token
 abbrev pub on_given : (Given → Bool) → Option Given → Bool

@@ -18,11 +18,11 @@ use Rattle.svn_wc.specs.declared.base_node.BaseNode.{BaseNode}
 use Rattle.svn_wc.specs.declared.base_node.BaseNode.TheVariants.{File as FileNode, Dir as DirNode, NotPresent}
 use Rattle.svn_wc.specs.Nodes.{WorkingCopy, is_present, is_dir, is_not_present, node_path}
 use Rattle.svn_wc.specs.Effects.{joined_path, moved_path, opened_directory, closed_directory, closed_file, added_node, stepped, step_effect, texts_at}
-use Rattle.svn_law.proofs.Descents.{path_ind, parent-child, last_name-child, is_root-child, follow-here}
-use Rattle.svn_law.proofs.Entered.{Setting, EnteredDirectory, entered_below, is_below-child, target_path-child, own_path, kept_related, kept_dir, path_eq-child}
-use Rattle.svn_law.proofs.Progress.{is_at, actions_at, actions_at-append, actions_at-drive, changes_at-actions, texts_at-actions, acted, act, changes_in, texts_in, is_delete, base, state, state-more, FitsAt}
-use Rattle.svn_law.proofs.Cuts.{before_next, after_next, none_below_next, is_main, main_key, NoneMain, none_main_left}
-use Rattle.svn_law.proofs.Parents.{TargetKind, any-append2, acted-append, AllInner, is_inner, Shape, nothing, gone_only, touched, added, replaced, shape_of, Place, deleting, entering, adding, inside_touched, inside_added, place_of, adds_not_kept, not_deleted_above}
+use Rattle.svn_law.proofs.Children.{path_ind, parent-child, last_name-child, is_root-child, follow-here}
+use Rattle.svn_law.proofs.Classes.{Setting, EnteredDirectory, entered_below, is_below-child, target_path-child, own_path, kept_related, kept_dir, path_eq-child}
+use Rattle.svn_law.proofs.States.{is_at, actions_at, actions_at-append, actions_at-drive, changes_at-actions, texts_at-actions, acted, act, changes_in, texts_in, is_delete, base, state, state-more, FitsAt}
+use Rattle.svn_law.proofs.FirstSteps.{before_next, after_next, none_below_next, is_main, main_key, NoneMain, none_main_left}
+use Rattle.svn_law.proofs.NextStep.{TargetKind, any-append2, acted-append, AllInner, is_inner, Shape, nothing, gone_only, touched, added, replaced, shape_of, Place, deleting, entering, adding, inside_touched, inside_added, place_of, adds_not_kept, not_deleted_above}
 
 -- ---- what the actions keep
 

@@ -22,9 +22,9 @@ use Rattle.svn_law.specs.SlowDrive.{insert_step, sort_steps}
 use Rattle.svn_law.proofs.Tests.{or_false}
 use Rattle.svn_law.proofs.Names.{same_path, path_eq-same}
 use Rattle.svn_law.proofs.Keys.{keys_total}
-use Rattle.svn_law.proofs.Progress.{is_at}
-use Rattle.svn_law.proofs.Parents.{any-append2}
-use Rattle.svn_law.proofs.Cuts.{is_main, main_key, AllMain}
+use Rattle.svn_law.proofs.States.{is_at}
+use Rattle.svn_law.proofs.NextStep.{any-append2}
+use Rattle.svn_law.proofs.FirstSteps.{is_main, main_key, AllMain}
 
 -- ---- what sorting keeps
 

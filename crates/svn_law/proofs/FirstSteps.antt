@@ -16,7 +16,7 @@ use Rattle.svn_drive.specs.Follow.{Request}
 use Rattle.svn_drive.specs.Steps.{Mark, Named, End, mark_cmp, key, key_of, comes_after, has_text, InKeyOrder}
 use Rattle.svn_law.proofs.Tests.{or_false, and_true}
 use Rattle.svn_law.proofs.Names.{same_path, same_bytes, bytes_eq-same}
-use Rattle.svn_law.proofs.Progress.{is_at, actions_at}
+use Rattle.svn_law.proofs.States.{is_at, actions_at}
 
 -- ---- keys of paths that stand below one another
 

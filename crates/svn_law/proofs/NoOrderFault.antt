@@ -21,17 +21,17 @@ use Rattle.svn_delta.specs.Calls.{number_eq}
 use Rattle.svn_drive.specs.Follow.{Request}
 use Rattle.svn_drive.specs.Drive.{token_of, IsDrive}
 use Rattle.svn_wc.specs.Nodes.{WorkingCopy}
-use Rattle.svn_law.proofs.Descents.{parent-child}
-use Rattle.svn_law.proofs.Entered.{Setting, is_below-child}
-use Rattle.svn_law.proofs.Cuts.{AllSteps, main_key, is_main, key_above, all_of_any}
-use Rattle.svn_law.proofs.Parents.{any-append2, is_inner}
-use Rattle.svn_law.proofs.Progress.{is_delete}
-use Rattle.svn_law.proofs.Standing.{is_entry, path_cases}
+use Rattle.svn_law.proofs.Children.{parent-child}
+use Rattle.svn_law.proofs.Classes.{Setting, is_below-child}
+use Rattle.svn_law.proofs.FirstSteps.{AllSteps, main_key, is_main, key_above, all_of_any}
+use Rattle.svn_law.proofs.NextStep.{any-append2, is_inner}
+use Rattle.svn_law.proofs.States.{is_delete}
+use Rattle.svn_law.proofs.AfterSteps.{is_entry, path_cases}
 use Rattle.svn_law.proofs.Courses.{is_entry_of, is_close_of, inner_of, precedes, same_kinds, kind_eq-same, fits_kind}
-use Rattle.svn_law.proofs.Turns.{never, has_not, all_map, all_both, all_left, all_right, Member, members, has, has_parts, Found, find, in_whole, Before, before_step, own_entry, Within, any_path_actions, is_closed_later, kinds_at, root_entered, directory_entered}
-use Rattle.svn_law.proofs.Numbers.{call_by, call_at, entered, Tells, is_root_action, none_twice, root_actions, at_root, above_done, tells_done, token_next, calls_apart}
-use Rattle.svn_law.proofs.Readings.{on_given, is_close, is_change_of, IsSubdirectory, none_in, some_in, gives, gives-append, none_given, length-gives, gives_at, GivesAt, given_here, open-call, closes-call, applies_text-call, changes_dir-call, sub-given, open_below-call, opens_subdirectory-call, deletes-call, opens_entry-call, is_last-call, last_pick}
-use Rattle.svn_law.proofs.Directories.{before_end, before_late, entry_main, closed_before, none_below, own_open, above_open, longer, drive_there, closed_between}
+use Rattle.svn_law.proofs.StepOrder.{never, has_not, all_map, all_both, all_left, all_right, Member, members, has, has_parts, Found, find, in_whole, Before, before_step, own_entry, Within, any_path_actions, is_closed_later, kinds_at, root_entered, directory_entered}
+use Rattle.svn_law.proofs.TokenNumbers.{call_by, call_at, entered, Tells, is_root_action, none_twice, root_actions, at_root, above_done, tells_done, token_next, calls_apart}
+use Rattle.svn_law.proofs.CallTests.{on_given, is_close, is_change_of, IsSubdirectory, none_in, some_in, gives, gives-append, none_given, length-gives, gives_at, GivesAt, given_here, open-call, closes-call, applies_text-call, changes_dir-call, sub-given, open_below-call, opens_subdirectory-call, deletes-call, opens_entry-call, is_last-call, last_pick}
+use Rattle.svn_law.proofs.OpenDirectories.{before_end, before_late, entry_main, closed_before, none_below, own_open, above_open, longer, drive_there, closed_between}
 use Rattle.svn_law.proofs.CurrentFile.{current_here, text_open}
 
 -- ---- all tests together

@@ -16,8 +16,8 @@ use Rattle.svn_delta.specs.Steps.{Action, Step, steps_at}
 use Rattle.svn_drive.specs.Follow.{Request, source_node, target_node}
 use Rattle.svn_drive.specs.Steps.{path_steps, path_actions}
 use Rattle.svn_law.specs.SlowDrive.{entry_names, names_in, names_below, flat_paths, paths_below, flat_steps}
-use Rattle.svn_law.proofs.Entered.{is_within-longer}
-use Rattle.svn_law.proofs.Progress.{is_at}
+use Rattle.svn_law.proofs.Classes.{is_within-longer}
+use Rattle.svn_law.proofs.States.{is_at}
 use Rattle.svn_law.proofs.Gone.{is_within-same}
 
 -- ---- names in order are apart
