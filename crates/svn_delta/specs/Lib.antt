@@ -6,3 +6,5 @@ pub mod Words
 pub mod Reports
 pub mod ReportOrder
 pub mod Lines
+pub mod Reports
+pub mod Steps

@@ -6,13 +6,14 @@ use Rattle.svn_types.specs.Names.{Path}
 use Rattle.svn_types.specs.Paths.{child}
 use Rattle.svn_repo.specs.History.{History, look}
 use Rattle.svn_repo.specs.Readings.{are_related}
-use Rattle.svn_delta.specs.Report.{Report, Reported, reported_root, reported_child, source}
+use Rattle.svn_delta.specs.Reports.{ReportView}
 use Rattle.svn_delta.specs.Steps.{Mode, Update, SwitchTo}
+use Rattle.svn_drive.specs.Sources.{Reported, reported_root, reported_child, source}
 
 -- what a drive is asked for, and how texts are summed
 pub record Request : Type 0 where
   pub history : History
-  pub report : Report
+  pub report : ReportView
   pub target : ℕ
   pub mode : Mode
   pub checksum : List ℕ → List ℕ

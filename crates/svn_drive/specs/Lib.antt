@@ -1,4 +1,5 @@
 pub mod FaultNumbers
+pub mod Sources
 pub mod Checks
 pub mod Follow
 pub mod Steps

@@ -2,7 +2,7 @@
 --     path_steps d p      the steps at a path, in order
 --     is_touched, is_new, is_gone      the three classes of paths
 --     IsDriveOf d late steps      the steps of a drive: those of every path, in order of their keys
-use Rattle.std.specs.Prelude.{◌≡◌, ℕ, Bool, true, false, ◌&&◌, ◌||◌, not, List, [], ◌∷◌, ◌++◌, map, filter, nat_eq, bytes_eq, Option, Some, None, is_some, if◌then◌else◌}
+use Rattle.std.specs.Prelude.{◌≡◌, ℕ, Bool, true, false, ◌&&◌, ◌||◌, not, List, [], ◌∷◌, ◌++◌, map, filter, bytes_eq, Option, Some, None, is_some, if◌then◌else◌}
 use Rattle.std.specs.List.{list_any}
 use Rattle.std.specs.declared.cmp.Ordering.{Ordering}
 use Rattle.std.specs.declared.cmp.Ordering.TheVariants.{Less, Equal, Greater}
@@ -14,17 +14,13 @@ use Rattle.svn_types.specs.Names.{Path, name_cmp}
 use Rattle.svn_types.specs.Paths.{path_eq, is_root}
 use Rattle.svn_types.specs.Props.{changes_between}
 use Rattle.svn_repo.specs.Readings.{kind_of, text_of, props_of, is_directory_at}
-use Rattle.svn_delta.specs.Report.{governing_revision, starts_empty, has_entry_below}
+use Rattle.svn_delta.specs.Calls.{number_eq}
+use Rattle.svn_delta.specs.Reports.{has_entry_below}
 use Rattle.svn_delta.specs.Steps.{Action, Delete, Open, Add, Change, Text, Close, Step, steps_at}
+use Rattle.svn_drive.specs.Sources.{governing_revision, starts_empty}
 use Rattle.svn_drive.specs.Follow.{Request, follow, source_node, target_node}
 
 -- ---- classes of paths
-
--- the same node revision, or nothing in both
-abbrev pub number_eq : Option ℕ → Option ℕ → Bool
-number_eq None None = true
-number_eq (Some m) (Some n) = nat_eq m n
-number_eq _ _ = false
 
 abbrev pub starts_empty_at : Request → Path → Bool
 starts_empty_at d p = starts_empty (follow d p).here.own && is_directory_at d.history (source_node d p)
@@ -32,7 +28,7 @@ starts_empty_at d p = starts_empty (follow d p).here.own && is_directory_at d.hi
 abbrev pub is_touched : Request → Path → Bool
 is_touched d p =
     (follow d p).is_kept
-    && (is_root p || not (number_eq (source_node d p) (target_node d p)) || starts_empty_at d p || has_entry_below d.report p)
+    && (is_root p || not (number_eq (source_node d p) (target_node d p)) || starts_empty_at d p || has_entry_below d.report.entries p)
 
 -- not kept, and in the result; the parent is then touched or new
 abbrev pub is_new : Request → Path → Bool

@@ -1,16 +1,14 @@
 -- What a working copy reports.
 --     crawl nodes      the report of what the copy has
---     Describes h r w      a report says of each path what the copy has there
-use Rattle.std.specs.Prelude.{◌≡◌, ℕ, Bool, true, false, ◌||◌, not, List, [], ◌∷◌, ◌++◌, nat_eq, Option, Some, None, is_some, option_map, if◌then◌else◌, filter_map}
+use Rattle.std.specs.Prelude.{ℕ, Bool, true, false, ◌||◌, not, List, [], ◌∷◌, ◌++◌, nat_eq, Option, Some, None, option_map, if◌then◌else◌, filter_map}
 use Rattle.svn_types.specs.Names.{Path}
 use Rattle.svn_types.specs.Paths.{path_eq, parent, is_root, last_name}
-use Rattle.svn_repo.specs.History.{History}
 use Rattle.svn_delta.specs.declared.entry.ReportEntry.{ReportEntry}
 use Rattle.svn_delta.specs.declared.entry.ReportEntry.TheVariants.{SetPath, LinkPath, DeletePath}
-use Rattle.svn_delta.specs.Report.{Report, Reported, reported, source, governing_revision, starts_empty}
+use Rattle.svn_delta.specs.Reports.{ReportView}
 use Rattle.svn_wc.specs.declared.base_node.BaseNode.{BaseNode}
 use Rattle.svn_wc.specs.declared.base_node.BaseNode.TheVariants.{File as FileNode, Dir as DirNode, NotPresent}
-use Rattle.svn_wc.specs.Nodes.{WorkingCopy, get_in, is_present, is_dir, is_incomplete, is_not_present, node_revision, node_path}
+use Rattle.svn_wc.specs.Nodes.{get_in, is_incomplete, is_not_present, node_revision, node_path}
 
 -- the repository path isn't the parent's joined with the name
 abbrev pub is_switched : Path → Option BaseNode → Option BaseNode → Bool
@@ -30,19 +28,8 @@ entry_for p above node =
 abbrev pub reported_at : List (Path × BaseNode) → Path × BaseNode → Option (Path × ReportEntry)
 reported_at nodes e = option_map (λ entry. (e.0, entry)) (entry_for e.0 (get_in nodes (parent e.0)) (Some e.1))
 
-abbrev pub crawl : List (Path × BaseNode) → Report
+abbrev pub crawl : List (Path × BaseNode) → ReportView
 crawl nodes = record {
   root = node_path (get_in nodes []);
   entries = filter_map (reported_at nodes) nodes;
 }
-
--- ---- a report that says what a copy has
-
-pub record DescribesAt (h : History) (s : Reported) (node : Option BaseNode) : Type 0 where
-  pub present : is_present node ≡ is_some (source h s)
-  pub revision : is_present node ≡ true → node_revision node ≡ governing_revision s
-  pub repos_path : is_present node ≡ true → node_path node ≡ s.repos_path
-  pub incomplete : is_dir node ≡ true → is_incomplete node ≡ starts_empty s.own
-
-abbrev pub Describes : History → Report → WorkingCopy → Type 0
-Describes h r w = (p : Path) → DescribesAt h (reported r p) (w p)
