@@ -114,8 +114,14 @@ fn faults_and_ends_are_shown(rt: HostRuntime) -> Result<(), Fail> {
         "Settled { sent: 1, taken: 0, .. }"
     );
     let (teller, watcher) = notice(alloc)?;
-    assert_eq!(rt; format!(in alloc; "{teller:?}")?.as_str(), "Teller { told: false, .. }");
-    assert_eq!(rt; format!(in alloc; "{watcher:?}")?.as_str(), "Watcher { .. }");
+    assert_eq!(rt;
+        format!(in alloc; "{teller:?}")?.as_str(),
+        "Teller { told: false, .. }"
+    );
+    assert_eq!(rt;
+        format!(in alloc; "{watcher:?}")?.as_str(),
+        "Watcher { .. }"
+    );
     Ok(())
 }
 
@@ -125,7 +131,9 @@ const PASSES: [(usize, u64); 3] = [(1, 50_000), (64, 1_000_000), (MAX_CAPACITY, 
 #[test]
 fn calls_pass_between_two_threads(rt: HostRuntime) -> Result<(), Fail> {
     for (capacity, count) in PASSES {
-        let (settled, in_order) = pass_revisions(&rt, rt.alloc(), capacity, count).ok_or("no thread")?;
+        let (settled, in_order) = pass_revisions(&rt, rt.alloc(), capacity, count).ok_or(
+            "no thread",
+        )?;
         assert_eq!(rt; (settled.sent, settled.taken), (count + 1, count + 1));
         assert!(rt; in_order, "at {capacity}");
     }
@@ -156,7 +164,11 @@ fn send_revisions<R: Wait>(rt: &R, mut outbox: Outbox, count: u64) -> Outbox
     ensures { result.link ≡ outbox.link }
 {
     for revision in 0..count {
-        send_if_open(rt, &mut outbox, Call::SetTargetRevision { rev: Rev(revision) });
+        send_if_open(
+            rt,
+            &mut outbox,
+            Call::SetTargetRevision { rev: Rev(revision) },
+        );
     }
     send_if_open(rt, &mut outbox, Call::CloseEdit);
     outbox
