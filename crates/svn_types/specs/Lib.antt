@@ -3,3 +3,4 @@ pub mod NameFaults
 pub mod NameSplits
 pub mod Paths
 pub mod Pairs
+pub mod Props

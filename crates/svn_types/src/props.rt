@@ -52,6 +52,13 @@ impl Props {
         self.map.is_empty()
     }
 
+    /// Whether the properties are the same ones, with the same values.
+    pub fn is_same(&self, other: &Props) -> bool
+        ensures { IsTrue result ↔ (self.now ≡ other.now) }
+    {
+        self.map == other.map
+    }
+
     /// The properties as a map.
     pub fn as_map(&self) -> &BTreeMap<PropName, Text>
         ensures { result.now.entries ≡ self.now }

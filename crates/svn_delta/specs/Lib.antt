@@ -1,0 +1,4 @@
+pub mod FaultNumbers
+pub mod Calls
+pub mod Order
+pub mod Editing

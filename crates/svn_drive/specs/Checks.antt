@@ -1,0 +1,36 @@
+-- What in a report a repository can't serve.
+--     first_fault h r      the first fault of a report
+--     IsCheckable h r      there is none
+use Rattle.std.specs.Prelude.{◌≡◌, ℕ, ◌+◌, ◌&&◌, not, List, [], ◌∷◌, length, nat_lt, Option, Some, None, is_none, if◌then◌else◌}
+use Rattle.std.specs.Option.{option_or}
+use Rattle.svn_types.specs.Names.{Path}
+use Rattle.svn_types.specs.Paths.{parent, is_root}
+use Rattle.svn_repo.specs.History.{History}
+use Rattle.svn_repo.specs.Readings.{is_directory_at}
+use Rattle.svn_delta.specs.declared.entry.ReportEntry.{ReportEntry}
+use Rattle.svn_delta.specs.Report.{Report, revision_of, is_set_or_link, source_at}
+use Rattle.svn_drive.specs.declared.fault.ReportFault.{ReportFault}
+use Rattle.svn_drive.specs.declared.fault.ReportFault.TheVariants.{NoEntries, NoSuchRevision, NoNode, ParentNotDir, RootNotDir}
+
+abbrev pub fault_of : History → Report → ℕ → Path → ReportEntry → Option ReportFault
+fault_of h r i p e =
+    if is_set_or_link (Some e) && not (nat_lt (revision_of (Some e)) (length h.roots)) then Some (NoSuchRevision i)
+    else if is_set_or_link (Some e) && is_none (source_at h r p) then Some (NoNode i)
+    else if is_root p && not (is_directory_at h (source_at h r p)) then Some RootNotDir
+    else if not (is_root p) && not (is_directory_at h (source_at h r (parent p))) then Some (ParentNotDir i)
+    else None
+
+-- of the entries from the i-th on
+abbrev pub first_fault_from : History → Report → ℕ → List (Path × ReportEntry) → Option ReportFault
+first_fault_from h r i [] = None
+first_fault_from h r i (e ∷ es) = option_or (fault_of h r i e.0 e.1) (first_fault_from h r (i + 1) es)
+
+abbrev pub first_fault_in : History → Report → List (Path × ReportEntry) → Option ReportFault
+first_fault_in h r [] = Some NoEntries
+first_fault_in h r (e ∷ es) = first_fault_from h r 0 (e ∷ es)
+
+abbrev pub first_fault : History → Report → Option ReportFault
+first_fault h r = first_fault_in h r r.entries
+
+abbrev pub IsCheckable : History → Report → Type 0
+IsCheckable h r = first_fault h r ≡ None

@@ -1,0 +1,5 @@
+pub mod FaultNumbers
+pub mod Checks
+pub mod Follow
+pub mod Steps
+pub mod Drive

@@ -1,0 +1,15 @@
+pub mod Soundness
+pub mod Walking
+pub mod Lookups
+pub mod Puts
+pub mod Thawing
+pub mod Ways
+pub mod Putting
+pub mod Making
+pub mod Keeping
+pub mod Faults
+pub mod Standing
+pub mod Pendings
+pub mod Runs
+pub mod Commits
+pub mod Propping

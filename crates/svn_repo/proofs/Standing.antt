@@ -1,0 +1,31 @@
+-- What stands at a path of a draft.
+use Rattle.std.proofs.Common.{◌≡◌, ℕ, ◌<◌, ◌≤◌, suc, zero, true, cond, List, [], ◌∷◌, length, refl, arith, Option, Some, None, sym, ap, ◌∙◌}
+use Rattle.std.specs.Prelude.{nat_lt}
+use Rattle.std.specs.List.{slice_get}
+use Rattle.std.specs.Option.{option_and_then, option_map, is_some}
+use Rattle.svn_repo.specs.declared.store.Node.{Node}
+use Rattle.svn_types.specs.Names.{Path}
+use Rattle.svn_repo.specs.History.{NodeRow, walk}
+use Rattle.svn_repo.specs.Stored.{row_of, rows}
+use Rattle.svn_repo.specs.Trees.{place_of, place_at}
+use Rattle.svn_repo.specs.Drafts.{IsClosedIn, tree_in}
+use Rattle.svn_repo.proofs.Thawing.{in_range}
+
+slice_get_inside : {X : Type 0} (xs : List X) (n : ℕ) → n < length xs → is_some (slice_get xs n) ≡ true
+slice_get_inside [] n h = absurd (omega arith)
+slice_get_inside (x ∷ xs) zero h = refl
+slice_get_inside (x ∷ xs) (suc n) h = slice_get_inside xs n (omega arith)
+
+is_some-maps : (number : Option ℕ) (o : Option Node) → is_some (option_map (place_of number) (option_map row_of o)) ≡ is_some o
+is_some-maps number None = refl
+is_some-maps number (Some x) = refl
+
+pub is_some-place_at : (base : ℕ) (nodes : List Node) (n : ℕ) → n < length nodes → is_some (place_at (rows nodes) base n) ≡ true
+is_some-place_at base nodes n h = is_some-maps (cond (nat_lt n base) (Some n) None) (slice_get nodes n) ∙ slice_get_inside nodes n h
+
+by_walk : (base : ℕ) (nodes : List Node) (o : Option ℕ) → ((n : ℕ) → o ≡ Some n → n < length nodes) → is_some o ≡ is_some (option_and_then (place_at (rows nodes) base) o)
+by_walk base nodes None h = refl
+by_walk base nodes (Some n) h = sym (is_some-place_at base nodes n (h n refl))
+
+pub is_some-tree_in : (base : ℕ) (nodes : List Node) (root : ℕ) (q : Path) → root < length nodes → IsClosedIn nodes → is_some (walk (rows nodes) root q) ≡ is_some (tree_in base nodes root q)
+is_some-tree_in base nodes root q inside closed = by_walk base nodes (walk (rows nodes) root q) (λ n e. in_range nodes closed root n q inside e)

@@ -1,0 +1,7 @@
+pub mod History
+pub mod Stored
+pub mod Walks
+pub mod Trees
+pub mod Drafts
+pub mod Changes
+pub mod Readings

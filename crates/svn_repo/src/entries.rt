@@ -1,0 +1,94 @@
+//! Node numbers, and the entries of a directory.
+ghost use Rattle.std.specs.Prelude.{◌≡◌, ◌↔◌, IsTrue, [], length, OnOk, OnErr, Some, None};
+ghost use Rattle.std.specs.Map.{lookup, remove_entry};
+ghost use Rattle.std.specs.BTreeMap.{is_at, insert_entry};
+ghost use Rattle.svn_types.specs.Names.{name_cmp};
+ghost use Rattle.svn_types.specs.Pairs.{InNameOrder, ChangesOnly};
+
+use std::alloc::{AllocError, Global};
+use std::collections::BTreeMap;
+use std::marker::Model;
+use svn_types::Name;
+
+/// A node revision of a repository. A contract sees it as its number.
+#[derive(Clone, Copy, Debug, PartialEq, Eq)]
+pub struct NodeId {
+    pub(crate) index: usize,
+}
+
+impl Model for NodeId {
+    ghost use Rattle.std.specs.Prelude.{ℕ};
+
+    ghost Value = { ℕ };
+
+    ghost view = { λ n. n.index };
+
+    ghost inverse = { λ n. record { index = n } };
+}
+
+/// The entries of a directory. A contract sees them as pairs of a name and a node, in order of the names.
+#[derive(Debug, Drop)]
+pub struct Entries {
+    map: BTreeMap<Name, NodeId>,
+}
+
+impl Model for Entries {
+    ghost use Rattle.std.specs.Prelude.{ℕ, List};
+    ghost use Rattle.svn_types.specs.Pairs.{InNameOrder};
+
+    ghost Value = { List (List ℕ × ℕ) };
+
+    ghost view = { λ e. e.map.entries };
+
+    ghost invariant = { λ e. InNameOrder e.map.entries };
+}
+
+impl Entries {
+    pub fn new(alloc: Global) -> Entries
+        ensures { result ≡ [] }
+    {
+        Entries {
+            map: BTreeMap::new(alloc),
+        }
+    }
+
+    pub fn get(&self, name: &Name) -> Option<NodeId>
+        ensures { result ≡ lookup (is_at (name_cmp name.now)) self.now }
+    {
+        self.map.get(name).copied()
+    }
+
+    /// The entries as a map. It takes no memory.
+    pub fn as_map(&self) -> &BTreeMap<Name, NodeId>
+        ensures entries { result.now.entries ≡ self.now }
+        ensures ordered { InNameOrder self.now }
+    {
+        &self.map
+    }
+
+    pub fn insert(&mut self, name: Name, node: NodeId) -> Result<(), AllocError>
+        ensures ok { OnOk result (self.new ≡ insert_entry name_cmp self.old name node) }
+        ensures lookups { OnOk result (ChangesOnly self.old self.new name (Some node)) }
+        ensures err { OnErr result (self.new ≡ self.old) }
+    {
+        self.map.insert(name, node)?;
+        Ok(())
+    }
+
+    pub fn remove(&mut self, name: &Name)
+        ensures removed { self.new ≡ remove_entry (is_at (name_cmp name.now)) self.old }
+        ensures lookups { ChangesOnly self.old self.new name.now None }
+    {
+        self.map.remove(name);
+    }
+}
+
+impl Clone for Entries {
+    ghost is_clone = { λ entries copy. copy ≡ entries };
+
+    fn clone(&self) -> Result<Entries, AllocError> {
+        Ok(Entries {
+            map: self.map.clone()?,
+        })
+    }
+}

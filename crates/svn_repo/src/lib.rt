@@ -1,0 +1,17 @@
+//! A versioned tree of files and directories, kept in memory. Each commit makes a new revision, and old revisions stay.
+#![tactic(auto)]
+
+mod change;
+mod commit;
+mod entries;
+mod fault;
+mod repo;
+mod store;
+
+pub use change::{Change, CommitFault};
+pub use entries::{Entries, NodeId};
+pub use repo::Repo;
+pub use svn_types::{Kind, Name, PathFault, PropName, Props, RelPath, Rev, Text};
+
+#[cfg(test)]
+mod tests;

@@ -1,0 +1,292 @@
+//! The stored nodes, each named by its place.
+ghost use Rattle.std.specs.Prelude.{◌≡◌, ◌≢◌, ℕ, ◌<◌, slice_get, length, vec_len, ◌≤◌, IsSome, IfOk, OnOk, OnErr, option_map, option_and_then, Some, None, true, List, [], ◌∷◌, ◌++◌};
+ghost use Rattle.svn_types.specs.Pairs.{with_value, ChangesOnly};
+ghost use Rattle.svn_repo.specs.History.{child_in, walk};
+ghost use Rattle.svn_repo.specs.Stored.{row_of, rows, kind_of, entries_of};
+ghost use Rattle.svn_repo.specs.Trees.{IsWay, is_directory_place, leaf, place_of, place_at, with_prop};
+ghost use Rattle.svn_repo.specs.Drafts.{IsListing, PutsChild, SetsProp, CopiesNode, IsClosedIn, ThawsChild, IsDraft, IsThawed, KeepsOld, IsGrafted, IsOld, old_part, tree_in};
+
+use crate::entries::{Entries, NodeId};
+use std::alloc::AllocError;
+use svn_types::{Kind, Name, PropName, Props, Text};
+
+#[derive(Debug, Drop)]
+pub(crate) enum Content {
+    Text(Text),
+    Listing(Entries),
+}
+
+#[derive(Debug, Drop)]
+pub(crate) struct Node {
+    pub(crate) line: u64,
+    pub(crate) props: Props,
+    pub(crate) content: Content,
+}
+
+impl Node {
+    pub(crate) fn kind(&self) -> Kind
+        ensures { result ≡ kind_of self.now.content }
+    {
+        match &self.content {
+            Content::Text(_) => Kind::File,
+            Content::Listing(_) => Kind::Directory,
+        }
+    }
+}
+
+// The entry of a node under a name.
+pub(crate) fn child(nodes: &[Node], at: NodeId, name: &Name) -> Option<NodeId>
+    ensures { result ≡ child_in (rows nodes.now at) name.now }
+{
+    let node = nodes.get(at.index)?;
+    match &node.content {
+        Content::Text(_) => None,
+        Content::Listing(entries) => entries.get(name),
+    }
+}
+
+// The node at a path below a node.
+pub(crate) fn node_below(nodes: &[Node], from: NodeId, names: &[Name]) -> Option<NodeId>
+    ensures { result ≡ walk (rows nodes.now) from names.now }
+{
+    let mut at = from;
+    for name in names {
+        at = child(nodes, at, name)?;
+    }
+    Some(at)
+}
+
+impl Clone for Content {
+    ghost is_clone = { λ content copy. copy ≡ content };
+
+    fn clone(&self) -> Result<Content, AllocError> {
+        Ok(match self {
+            Content::Text(text) => Content::Text(text.clone()?),
+            Content::Listing(entries) => Content::Listing(entries.clone()?),
+        })
+    }
+}
+
+// Makes a copy of a node.
+fn copy_node(nodes: &mut Vec<Node>, id: NodeId) -> Result<NodeId, AllocError>
+    requires { id < vec_len nodes.old }
+    ensures ok { IfOk result (λ n. (n ≡ length nodes.old.items) × CopiesNode nodes.old.items nodes.new.items id) }
+    ensures err { OnErr result (nodes.new.items ≡ nodes.old.items) }
+{
+    let node = &nodes[id.index];
+    let copy = Node {
+        line: node.line,
+        props: node.props.clone()?,
+        content: node.content.clone()?,
+    };
+    let index = nodes.len();
+    nodes.push(copy)?;
+    Ok(NodeId { index })
+}
+
+fn put_entry(entries: &mut Entries, name: &Name, child: Option<NodeId>) -> Result<(), AllocError>
+    ensures ok { OnOk result (entries.new ≡ with_value entries.old name.now child) }
+    ensures lookups { OnOk result (ChangesOnly entries.old entries.new name.now child) }
+{
+    match child {
+        Some(child) => entries.insert(name.clone()?, child),
+        None => {
+            entries.remove(name);
+            Ok(())
+        }
+    }
+}
+
+// Makes a name of a directory lead to a child, or nowhere.
+fn put_child(
+    nodes: &mut Vec<Node>,
+    at: NodeId,
+    name: &Name,
+    child: Option<NodeId>,
+) -> Result<(), AllocError>
+    requires { IsListing nodes.old.items at }
+    ensures ok { OnOk result (PutsChild nodes.old.items nodes.new.items at name.now child) }
+    ensures others { (m : ℕ) → m ≢ at → slice_get nodes.new.items m ≡ slice_get nodes.old.items m }
+    ensures size { length nodes.new.items ≡ length nodes.old.items }
+{
+    let node = &mut nodes[at.index];
+    match &mut node.content {
+        Content::Text(_) => Ok(()),
+        Content::Listing(entries) => put_entry(entries, name, child),
+    }
+}
+
+// Makes the child of a directory afresh, where it isn't yet.
+fn thaw_child(
+    nodes: &mut Vec<Node>,
+    base: usize,
+    at: NodeId,
+    name: &Name,
+) -> Result<NodeId, AllocError>
+    requires listing { IsListing nodes.old.items at }
+    requires closed { IsClosedIn nodes.old.items }
+    requires present { IsSome (child_in (rows nodes.old.items at) name.now) }
+    ensures ok { IfOk result (ThawsChild base nodes.old.items nodes.new.items at name.now) }
+    ensures kept { (m : ℕ) → m < length nodes.old.items → m ≢ at → slice_get nodes.new.items m ≡ slice_get nodes.old.items m }
+    ensures grown { length nodes.old.items ≤ length nodes.new.items }
+{
+    let found = child(nodes, at, name).unwrap();
+    if found.index >= base {
+        return Ok(found);
+    }
+    let copy = copy_node(nodes, found)?;
+    put_child(nodes, at, name, Some(copy))?;
+    Ok(copy)
+}
+
+// Makes afresh every node from the root, which is so already, to a path, and answers the last one.
+fn thaw(
+    nodes: &mut Vec<Node>,
+    base: usize,
+    root: NodeId,
+    names: &[Name],
+) -> Result<NodeId, AllocError>
+    requires draft { IsDraft base nodes.old.items root }
+    requires fresh { base ≤ root }
+    requires way { IsWay (tree_in base nodes.old.items root) names.now }
+    ensures ok { IfOk result (IsThawed base nodes.old.items nodes.new.items root root names.now) }
+    ensures kept { KeepsOld base nodes.old.items nodes.new.items }
+{
+    let mut at = root;
+    for name in names {
+        at = thaw_child(nodes, base, at, name)?;
+    }
+    Ok(at)
+}
+
+// Makes the root afresh, where it isn't yet.
+fn thaw_root(nodes: &mut Vec<Node>, base: usize, root: NodeId) -> Result<NodeId, AllocError>
+    requires { IsDraft base nodes.old.items root }
+    ensures ok { IfOk result (λ n. IsThawed base nodes.old.items nodes.new.items root n [] n) }
+    ensures kept { KeepsOld base nodes.old.items nodes.new.items }
+{
+    if root.index >= base {
+        return Ok(root);
+    }
+    copy_node(nodes, root)
+}
+
+// Makes afresh every node from the root to a path, and answers the new root and the last of these nodes.
+fn thaw_path(
+    nodes: &mut Vec<Node>,
+    base: usize,
+    root: NodeId,
+    names: &[Name],
+) -> Result<(NodeId, NodeId), AllocError>
+    requires draft { IsDraft base nodes.old.items root }
+    requires way { IsWay (tree_in base nodes.old.items root) names.now }
+    ensures ok { IfOk result (λ r. (base ≤ r.0) × IsThawed base nodes.old.items nodes.new.items root r.0 names.now r.1) }
+    ensures kept { KeepsOld base nodes.old.items nodes.new.items }
+{
+    let top = thaw_root(nodes, base, root)?;
+    let at = thaw(nodes, base, top, names)?;
+    Ok((top, at))
+}
+
+/// Puts a new node under a name of a directory of a draft, and answers the new root.
+pub(crate) fn put_made(
+    nodes: &mut Vec<Node>,
+    base: usize,
+    root: NodeId,
+    above: &[Name],
+    name: &Name,
+    node: Node,
+) -> Result<NodeId, AllocError>
+    requires draft { IsDraft base nodes.old.items root }
+    requires way { IsWay (tree_in base nodes.old.items root) above.now }
+    requires directory { is_directory_place (tree_in base nodes.old.items root above.now) ≡ true }
+    requires childless { entries_of node.content ≡ [] }
+    ensures ok { IfOk result (λ n. IsGrafted base nodes.old.items nodes.new.items root n (above.now ++ name.now ∷ []) (leaf (place_of None (row_of node)))) }
+    ensures kept { KeepsOld base nodes.old.items nodes.new.items }
+    ensures grown { OnOk result (length nodes.old.items < length nodes.new.items) }
+{
+    let (top, at) = thaw_path(nodes, base, root, above)?;
+    let index = nodes.len();
+    nodes.push(node)?;
+    put_child(nodes, at, name, Some(NodeId { index }))?;
+    Ok(top)
+}
+
+/// Puts an old node under a name of a directory of a draft, or takes away what is there, and answers the new root.
+pub(crate) fn put_old(
+    nodes: &mut Vec<Node>,
+    base: usize,
+    root: NodeId,
+    above: &[Name],
+    name: &Name,
+    child: Option<NodeId>,
+) -> Result<NodeId, AllocError>
+    requires draft { IsDraft base nodes.old.items root }
+    requires way { IsWay (tree_in base nodes.old.items root) above.now }
+    requires directory { is_directory_place (tree_in base nodes.old.items root above.now) ≡ true }
+    requires old { IsOld base child }
+    ensures ok { IfOk result (λ n. IsGrafted base nodes.old.items nodes.new.items root n (above.now ++ name.now ∷ []) (old_part base nodes.old.items child)) }
+    ensures kept { KeepsOld base nodes.old.items nodes.new.items }
+{
+    let (top, at) = thaw_path(nodes, base, root, above)?;
+    put_child(nodes, at, name, child)?;
+    Ok(top)
+}
+
+// What stands at a node, if there is one.
+pub(crate) fn kind_at(nodes: &[Node], at: Option<NodeId>) -> Option<Kind>
+    requires { (n : ℕ) → at ≡ Some n → n < length nodes.now }
+    ensures { (base : ℕ) → result ≡ option_map (λ p. p.kind) (option_and_then (place_at (rows nodes.now) base) at) }
+{
+    match at {
+        None => None,
+        Some(id) => Some(nodes[id.index].kind()),
+    }
+}
+
+fn put_value(props: &mut Props, name: &PropName, value: &Option<Text>) -> Result<(), AllocError>
+    ensures ok { OnOk result (props.new ≡ with_value props.old name.now value.now) }
+{
+    match value {
+        Some(value) => props.insert(name.clone()?, value.clone()?),
+        None => {
+            props.remove(name);
+            Ok(())
+        }
+    }
+}
+
+// Sets or removes a property of a node.
+fn set_value(
+    nodes: &mut Vec<Node>,
+    at: NodeId,
+    name: &PropName,
+    value: &Option<Text>,
+) -> Result<(), AllocError>
+    requires { at < length nodes.old.items }
+    ensures ok { OnOk result (SetsProp nodes.old.items nodes.new.items at name.now value.now) }
+    ensures others { (m : ℕ) → m ≢ at → slice_get nodes.new.items m ≡ slice_get nodes.old.items m }
+    ensures size { length nodes.new.items ≡ length nodes.old.items }
+{
+    let node = &mut nodes[at.index];
+    put_value(&mut node.props, name, value)
+}
+
+/// Sets or removes a property of the node at a path of a draft, and answers the new root.
+pub(crate) fn put_prop(
+    nodes: &mut Vec<Node>,
+    base: usize,
+    root: NodeId,
+    names: &[Name],
+    name: &PropName,
+    value: &Option<Text>,
+) -> Result<NodeId, AllocError>
+    requires draft { IsDraft base nodes.old.items root }
+    requires way { IsWay (tree_in base nodes.old.items root) names.now }
+    ensures ok { IfOk result (λ n. IsGrafted base nodes.old.items nodes.new.items root n names.now (with_prop (tree_in base nodes.old.items root) names.now name.now value.now)) }
+    ensures kept { KeepsOld base nodes.old.items nodes.new.items }
+{
+    let (top, at) = thaw_path(nodes, base, root, names)?;
+    set_value(nodes, at, name, value)?;
+    Ok(top)
+}
