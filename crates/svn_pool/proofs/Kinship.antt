@@ -133,3 +133,23 @@ module _ (pools new : BTreeMap ℕ Entry) (children after : set.BTreeSet (ℕ ×
     small = λ c h. linked.small c (back c h);
     ordered = ordered;
   }
+
+-- one pool has other strings
+pub linked-written : (pools new : BTreeMap ℕ Entry) (children : set.BTreeSet (ℕ × ℕ)) → IsLinked pools children → (s : ℕ) (d e : Entry) → get nat_cmp pools s ≡ Some d → e.parent ≡ d.parent
+    → Updates nat_cmp pools new s (Some e) → IsOrdered nat_cmp new → IsLinked new children
+linked-written pools new children linked s d e found same put ordered =
+    let here : get nat_cmp new s ≡ Some e = updated_here pools new s (Some e) put in
+    linked-same pools new children children linked s
+    (λ c. elim (cases_eq c s) [
+      | inl is ↦ ap (λ (k : ℕ). parent_of (get nat_cmp new k)) is ∙ ap parent_of here ∙ same ∙ sym (ap parent_of found) ∙ ap (λ (k : ℕ). parent_of (get nat_cmp pools k)) (sym is)
+      | inr apart ↦ ap parent_of (updated_away pools new s (Some e) put c apart)
+    ])
+    (λ c h. elim (cases_eq c s) [
+      | inl is ↦ ap (λ (k : ℕ). is_some (get nat_cmp pools k)) is ∙ ap is_some found
+      | inr apart ↦ subst IsSome (updated_away pools new s (Some e) put c apart) h
+    ])
+    (λ c h. elim (cases_eq c s) [
+      | inl is ↦ ap (λ (k : ℕ). is_some (get nat_cmp new k)) is ∙ ap is_some here
+      | inr apart ↦ subst IsSome (sym (updated_away pools new s (Some e) put c apart)) h
+    ])
+    ordered
