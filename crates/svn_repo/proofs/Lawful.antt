@@ -15,7 +15,8 @@ use Rattle.svn_repo.specs.declared.change.CommitFault.{CommitFault}
 use Rattle.svn_repo.specs.declared.change.CommitFault.TheVariants.{Exists, NotFile, TooDeep, TooLong}
 use Rattle.svn_types.specs.Names.{Path, name_cmp}
 use Rattle.svn_types.specs.Pairs.{InNameOrder, value_of, with_value}
-use Rattle.svn_repo.specs.History.{History, Nodes, NodeRow, node_at, entries_at, child_in, walk, look, reaches, path_limit, size_limit}
+use Rattle.svn_repo.specs.History.{History, Nodes, NodeRow, node_at, entries_at, child_in, walk, look, reaches}
+use Rattle.svn_repo.specs.Readings.{path_limit, size_limit}
 use Rattle.svn_repo.specs.Walks.{rest_below, led}
 use Rattle.svn_repo.specs.Trees.{Place, Tree, place_of, place_at, tree_at, touched, touch, graft, is_within, leaf, nothing, with_prop, place_with_prop, is_directory_place}
 use Rattle.svn_repo.specs.Stored.{IsLawfulPlace, IsLawfulTree}

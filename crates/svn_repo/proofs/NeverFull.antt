@@ -7,7 +7,8 @@ use Rattle.svn_repo.specs.declared.change.Change.TheVariants.{MakeDir, PutFile, 
 use Rattle.svn_repo.specs.declared.change.CommitFault.{CommitFault}
 use Rattle.svn_repo.specs.declared.change.CommitFault.TheVariants.{Exists, Missing, NotDir, NotFile, IsRoot, TooDeep, NoSuchRevision, TooLong, Full, Memory}
 use Rattle.svn_types.specs.Names.{Path}
-use Rattle.svn_repo.specs.History.{History, Nodes, node_at, look, reaches, path_limit, size_limit}
+use Rattle.svn_repo.specs.History.{History, Nodes, node_at, look, reaches}
+use Rattle.svn_repo.specs.Readings.{path_limit, size_limit}
 use Rattle.svn_repo.specs.Trees.{Place, Tree, tree_at, is_directory_place}
 use Rattle.svn_repo.specs.Changes.{Pending, directory_fault, above_fault, missing_fault, fault_if, root_fault, depth_fault, size_fault, value_fault, walk_fault, revision_fault, copy_depth_fault, directory_fault_at, file_fault_at, copy_fault, change_fault, after_change, changes_fault}
 

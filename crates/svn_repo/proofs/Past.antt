@@ -11,7 +11,8 @@ use Rattle.svn_repo.specs.declared.change.Change.{Change}
 use Rattle.svn_repo.specs.declared.change.CommitFault.{CommitFault}
 use Rattle.svn_repo.specs.declared.change.CommitFault.TheVariants.{Exists, Missing, TooDeep, NoSuchRevision}
 use Rattle.svn_types.specs.Names.{Path}
-use Rattle.svn_repo.specs.History.{History, Nodes, NodeRow, node_at, child_in, walk, look, reaches, path_limit}
+use Rattle.svn_repo.specs.History.{History, Nodes, NodeRow, node_at, child_in, walk, look, reaches}
+use Rattle.svn_repo.specs.Readings.{path_limit}
 use Rattle.svn_repo.specs.Stored.{row_of, rows, history_of, IsHeight}
 use Rattle.svn_repo.specs.Trees.{Place, Tree, place_of, place_at, tree_at}
 use Rattle.svn_repo.specs.Drafts.{IsDraft, IsClosedIn, KeepsOld, AreRootsBelow, IsOldPart, IsPast, look_in, past_in, tree_in}

@@ -1,17 +1,18 @@
 -- The first repository, and what every repository tells its readers.
 use Rattle.std.proofs.Common.{◌≡◌, ◌≢◌, ℕ, zero, suc, ◌<◌, ◌≤◌, Bool, true, false, cond, List, [], ◌∷◌, length, map, refl, arith, Option, Some, None, subst, sym, ap, ◌∙◌}
-use Rattle.std.specs.Prelude.{nat_lt, nat_le}
+use Rattle.std.specs.Prelude.{nat_lt, nat_le, IsSome}
 use Rattle.std.specs.List.{All, slice_get}
 use Rattle.std.specs.Option.{option_and_then, option_map}
-use Rattle.std.specs.Map.{values_of}
+use Rattle.std.specs.Map.{keys_of, values_of}
 use Rattle.std.proofs.Math.Dec.{leb-zero, leb-suc-zero}
-use Rattle.std.proofs.lemmas.List.Elements.{All-nil}
+use Rattle.std.proofs.lemmas.List.Elements.{All-nil, All-head, All-tail}
 use Rattle.std.proofs.lemmas.Option.{slice_get_within}
 use Rattle.svn_types.specs.declared.kind.Kind.{Kind}
 use Rattle.svn_types.specs.declared.kind.Kind.TheVariants.{File, Directory}
 use Rattle.svn_types.specs.Names.{Path, IsName}
 use Rattle.svn_repo.specs.declared.store.Node.{Node}
-use Rattle.svn_repo.specs.History.{NodeRow, Nodes, History, IsHistory, StandsAt, row_at, some_row, node_at, child_in, walk, look, empty_directory, new_history, IsDirectoryIn, reaches, path_limit, size_limit}
+use Rattle.svn_repo.specs.History.{NodeRow, Nodes, History, node_at, child_in, walk, look, empty_directory, new_history, IsDirectoryIn, reaches}
+use Rattle.svn_repo.specs.Readings.{IsHistory, StandsAt, AllNames, SmallValues, row_or_empty, path_limit, size_limit}
 use Rattle.svn_repo.specs.Trees.{Place, place_of, place_at, tree_at}
 use Rattle.svn_repo.specs.Stored.{row_of, rows, IsRepository, IsLawfulRow, IsLawfulPlace, IsHeight, AreHeights}
 use Rattle.svn_repo.proofs.Pairs.{in_order-nil}
@@ -79,6 +80,17 @@ first_heights nodes heights e h = rw h (record { size = sym (one nodes e); each 
 
 -- ---- what readers know
 
+names_all : (es : List (List ℕ × ℕ)) → All IsName (keys_of es) → AllNames es
+names_all [] all = tt
+names_all (e ∷ es) all = (All-head IsName e.0 (keys_of es) all, names_all es (All-tail IsName e.0 (keys_of es) all))
+
+values_all : (ps : List (List ℕ × List ℕ)) → All (λ v. length v ≤ size_limit) (values_of ps) → SmallValues ps
+values_all [] all = tt
+values_all (e ∷ ps) all = (All-head (λ v. length v ≤ size_limit) e.1 (values_of ps) all, values_all ps (All-tail (λ v. length v ≤ size_limit) e.1 (values_of ps) all))
+
+some_is : (row : NodeRow) → IsSome (Some row)
+some_is row = search
+
 module _ (h : History) (sound : IsRepository h) where
   standing_in : (r n : ℕ) (p : Path) → StandsAt h r p n → n < length h.nodes
   standing_in r n p e =
@@ -86,7 +98,7 @@ module _ (h : History) (sound : IsRepository h) where
       let d = sound.roots r s.0 s.1 in
       walk_stays (λ k. k < length h.nodes) (node_at h) (λ k m x b f. sound.closed k m x f) s.0 n p (slice_get_within h.nodes s.0 d.0 d.1) s.2
 
-  row_is : (o : Option NodeRow) (n : ℕ) → slice_get h.nodes n ≡ o → n < length h.nodes → o ≡ Some (some_row o)
+  row_is : (o : Option NodeRow) (n : ℕ) → slice_get h.nodes n ≡ o → n < length h.nodes → o ≡ Some (row_or_empty o)
   row_is None n e b = let bad : length h.nodes ≤ n = none_past h.nodes n e in absurd (omega arith)
     where
       none_past : (xs : List NodeRow) (k : ℕ) → slice_get xs k ≡ None → length xs ≤ k
@@ -95,40 +107,41 @@ module _ (h : History) (sound : IsRepository h) where
       none_past (x ∷ xs) (suc k) e = let r : length xs ≤ k = none_past xs k e in omega arith
   row_is (Some row) n e b = refl
 
-  row_there : (r n : ℕ) (p : Path) → StandsAt h r p n → node_at h n ≡ Some (row_at h n)
+  row_there : (r n : ℕ) (p : Path) → StandsAt h r p n → node_at h n ≡ Some (row_or_empty (node_at h n))
   row_there r n p e = row_is (node_at h n) n refl (standing_in r n p e)
 
-  row_lawful : (r n : ℕ) (p : Path) → StandsAt h r p n → IsLawfulRow (row_at h n)
-  row_lawful r n p e = sound.rows n (row_at h n) (row_there r n p e)
+  row_lawful : (r n : ℕ) (p : Path) → StandsAt h r p n → IsLawfulRow (row_or_empty (node_at h n))
+  row_lawful r n p e = sound.rows n (row_or_empty (node_at h n)) (row_there r n p e)
 
   number : ℕ → Option ℕ
   number n = cond (nat_lt n (length h.nodes)) (Some n) None
 
-  place_there : (r n : ℕ) (p : Path) → StandsAt h r p n → tree_at h r p ≡ Some (place_of (cond (nat_lt n (length h.nodes)) (Some n) None) (row_at h n))
+  place_there : (r n : ℕ) (p : Path) → StandsAt h r p n → tree_at h r p ≡ Some (place_of (cond (nat_lt n (length h.nodes)) (Some n) None) (row_or_empty (node_at h n)))
   place_there r n p e = ap (option_and_then (place_at (node_at h) (length h.nodes))) e ∙ ap (option_map (place_of (cond (nat_lt n (length h.nodes)) (Some n) None))) (row_there r n p e)
 
-  place_lawful : (r n : ℕ) (p : Path) → StandsAt h r p n → IsLawfulPlace sound.kinds h.lines p (place_of (cond (nat_lt n (length h.nodes)) (Some n) None) (row_at h n))
-  place_lawful r n p e = sound.trees r p (place_of (cond (nat_lt n (length h.nodes)) (Some n) None) (row_at h n)) (place_there r n p e)
+  place_lawful : (r n : ℕ) (p : Path) → StandsAt h r p n → IsLawfulPlace sound.kinds h.lines p (place_of (cond (nat_lt n (length h.nodes)) (Some n) None) (row_or_empty (node_at h n)))
+  place_lawful r n p e = sound.trees r p (place_of (cond (nat_lt n (length h.nodes)) (Some n) None) (row_or_empty (node_at h n))) (place_there r n p e)
 
-  root_kind : (r n : ℕ) → StandsAt h r [] n → (row_at h n).kind ≡ Directory
+  root_kind : (r n : ℕ) → StandsAt h r [] n → (row_or_empty (node_at h n)).kind ≡ Directory
   root_kind r n e =
       let s = and_then_parts (λ (m : ℕ). Some m) (slice_get h.roots r) n e in
       let same : s.0 ≡ n = let t : Some s.0 ≡ Some n = s.2 in cc in
       let d = sound.roots r n (s.1 ∙ ap Some same) in
-      ap (λ o. (some_row o).kind) d.1 ∙ d.2
+      ap (λ o. (row_or_empty o).kind) d.1 ∙ d.2
+
+  pub nodes_exist : (r : ℕ) (p : Path) (n : ℕ) → look h r p ≡ Some n → IsSome (node_at h n)
+  nodes_exist r p n e = subst IsSome (sym (row_there r n p e)) (some_is (row_or_empty (node_at h n)))
 
   pub is_history : IsHistory h
   is_history = record {
-    some_revision = sound.some_revision;
-    nodes_exist = λ r p n e. row_there r n p e;
     root_is_directory = root_kind;
     files_are_leaves = λ r p n e. (row_lawful r n p e).leaf;
     directories_without_text = λ r p n e. (row_lawful r n p e).no_text;
     one_line_one_kind = λ r s p q m n e f l. (place_lawful r m p e).kind ∙ ap sound.kinds l ∙ sym (place_lawful s n q f).kind;
     entries_in_order = λ r p n e. (row_lawful r n p e).in_order;
-    entries_named = λ r p n e. (row_lawful r n p e).named;
+    entries_named = λ r p n e. names_all (row_or_empty (node_at h n)).entries (row_lawful r n p e).named;
     props_in_order = λ r p n e. (place_lawful r n p e).props_in_order;
-    props_small = λ r p n e. (place_lawful r n p e).props_small;
+    props_small = λ r p n e. values_all (row_or_empty (node_at h n)).props (place_lawful r n p e).props_small;
     texts_small = λ r p n e. (place_lawful r n p e).text_small;
     paths_short = λ r p n e. (place_lawful r n p e).short;
   }

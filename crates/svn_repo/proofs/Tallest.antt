@@ -9,7 +9,8 @@ use Rattle.std.proofs.lemmas.Bool.{cases_lt, cases_eq, lt-ltb, le-ltb, le-leb, l
 use Rattle.std.proofs.lemmas.List.Elements.{All-head, All-tail}
 use Rattle.std.proofs.lemmas.Option.{slice_get_within}
 use Rattle.svn_repo.specs.declared.store.Node.{Node}
-use Rattle.svn_repo.specs.History.{History, Nodes, NodeRow, entries_at, child_in, reaches, path_limit}
+use Rattle.svn_repo.specs.History.{History, Nodes, NodeRow, entries_at, child_in, reaches}
+use Rattle.svn_repo.specs.Readings.{path_limit}
 use Rattle.svn_repo.specs.Stored.{row_of, rows, IsHeight, AreHeights}
 use Rattle.svn_repo.specs.Heights.{height_above, height_from, IsOrdered}
 use Rattle.svn_repo.specs.Drafts.{IsDraft, IsClosedIn, KeepsOld}

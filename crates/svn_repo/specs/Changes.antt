@@ -15,7 +15,8 @@ use Rattle.svn_repo.specs.Drafts.{IsDraft, tree_in, past_in}
 use Rattle.svn_repo.specs.Stored.{history_of}
 use Rattle.svn_types.specs.Names.{Path}
 use Rattle.svn_types.specs.Pairs.{with_value}
-use Rattle.svn_repo.specs.History.{NodeRow, History, Nodes, node_at, look, walk, reaches, path_limit, size_limit}
+use Rattle.svn_repo.specs.History.{NodeRow, History, Nodes, node_at, look, walk, reaches}
+use Rattle.svn_repo.specs.Readings.{path_limit, size_limit}
 use Rattle.svn_repo.specs.Trees.{Place, Tree, place_at, tree_at, tree_below, touch, graft, leaf, nothing, with_prop, is_directory_place}
 
 -- the tree that the changes so far have made, and the next line

@@ -3,22 +3,12 @@
 --     look h r p      the node at path p in revision r
 --     walk nodes n p      the node at path p below node n
 --     reaches nodes k n      whether a path of k names leads down from node n
---     IsHistory h      what holds of every repository
-use Rattle.std.specs.Prelude.{◌≡◌, ℕ, zero, suc, ◌≤◌, Bool, true, false, List, [], ◌∷◌, length, slice_get, Option, Some, None, option_and_then, option_map}
-use Rattle.std.specs.List.{All, list_any}
-use Rattle.std.specs.Map.{keys_of, values_of}
+use Rattle.std.specs.Prelude.{◌≡◌, ℕ, zero, suc, Bool, true, List, [], ◌∷◌, slice_get, Option, Some, None, option_and_then, option_map}
+use Rattle.std.specs.List.{list_any}
 use Rattle.svn_types.specs.declared.kind.Kind.{Kind}
 use Rattle.svn_types.specs.declared.kind.Kind.TheVariants.{File, Directory}
-use Rattle.svn_types.specs.Names.{Path, IsName}
-use Rattle.svn_types.specs.Pairs.{InNameOrder, value_of}
-
--- the longest path in a repository
-abbrev pub path_limit : ℕ
-path_limit = 64
-
--- the longest text or value of a property, in bytes
-abbrev pub size_limit : ℕ
-size_limit = 1048576
+use Rattle.svn_types.specs.Names.{Path}
+use Rattle.svn_types.specs.Pairs.{value_of}
 
 -- what a node is; a directory has no text, and a file no entries
 pub record NodeRow : Type 0 where
@@ -74,34 +64,6 @@ entries_in row = entries_by row.kind row.entries
     entries_by : Kind → List (List ℕ × ℕ) → Option (List (List ℕ × ℕ))
     entries_by File entries = None
     entries_by Directory entries = Some entries
-
--- ---- what holds of every repository
-
--- n is the node at p in revision r
-abbrev pub StandsAt : History → ℕ → Path → ℕ → Type 0
-StandsAt h r p n = look h r p ≡ Some n
-
-abbrev pub some_row : Option NodeRow → NodeRow
-some_row None = record { line = 0; kind = File; text = []; props = []; entries = [] }
-some_row (Some row) = row
-
--- what the node is, where there is one
-abbrev pub row_at : History → ℕ → NodeRow
-row_at h n = some_row (node_at h n)
-
-pub record IsHistory (h : History) : Type 0 where
-  pub some_revision : 1 ≤ length h.roots
-  pub nodes_exist : (r : ℕ) (p : Path) (n : ℕ) → StandsAt h r p n → node_at h n ≡ Some (row_at h n)
-  pub root_is_directory : (r n : ℕ) → StandsAt h r [] n → (row_at h n).kind ≡ Directory
-  pub files_are_leaves : (r : ℕ) (p : Path) (n : ℕ) → StandsAt h r p n → (row_at h n).kind ≡ File → (row_at h n).entries ≡ []
-  pub directories_without_text : (r : ℕ) (p : Path) (n : ℕ) → StandsAt h r p n → (row_at h n).kind ≡ Directory → (row_at h n).text ≡ []
-  pub one_line_one_kind : (r s : ℕ) (p q : Path) (m n : ℕ) → StandsAt h r p m → StandsAt h s q n → (row_at h m).line ≡ (row_at h n).line → (row_at h m).kind ≡ (row_at h n).kind
-  pub entries_in_order : (r : ℕ) (p : Path) (n : ℕ) → StandsAt h r p n → InNameOrder (row_at h n).entries
-  pub entries_named : (r : ℕ) (p : Path) (n : ℕ) → StandsAt h r p n → All IsName (keys_of (row_at h n).entries)
-  pub props_in_order : (r : ℕ) (p : Path) (n : ℕ) → StandsAt h r p n → InNameOrder (row_at h n).props
-  pub props_small : (r : ℕ) (p : Path) (n : ℕ) → StandsAt h r p n → All (λ v. length v ≤ size_limit) (values_of (row_at h n).props)
-  pub texts_small : (r : ℕ) (p : Path) (n : ℕ) → StandsAt h r p n → length (row_at h n).text ≤ size_limit
-  pub paths_short : (r : ℕ) (p : Path) (n : ℕ) → StandsAt h r p n → length p ≤ path_limit
 
 -- ---- the first history
 

@@ -5,3 +5,4 @@ pub mod Stored
 pub mod Heights
 pub mod Drafts
 pub mod Changes
+pub mod Readings

@@ -9,7 +9,8 @@ use Rattle.svn_repo.specs.declared.store.Content.{Content}
 use Rattle.svn_repo.specs.declared.store.Content.TheVariants.{Text, Listing}
 use Rattle.svn_types.specs.Names.{Path, IsName}
 use Rattle.svn_types.specs.Pairs.{InNameOrder}
-use Rattle.svn_repo.specs.History.{NodeRow, History, Nodes, node_at, child_in, IsDirectoryIn, reaches, path_limit, size_limit}
+use Rattle.svn_repo.specs.History.{NodeRow, History, Nodes, node_at, child_in, IsDirectoryIn, reaches}
+use Rattle.svn_repo.specs.Readings.{path_limit, size_limit}
 use Rattle.svn_repo.specs.Trees.{Place, Tree, tree_at}
 
 abbrev pub kind_of : Content → Kind

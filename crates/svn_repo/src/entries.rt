@@ -88,7 +88,7 @@ impl Entries {
         self.map.iter()
     }
 
-    /// The map itself.
+    /// The entries as a map. It takes no memory.
     pub fn as_map(&self) -> &BTreeMap<Name, NodeId>
         ensures entries { result.now.entries ≡ self.now }
         ensures ordered { InNameOrder self.now }

@@ -2,7 +2,8 @@
 ghost use Rattle.std.specs.Prelude.{◌≡◌, ◌+◌, ◌<◌, ◌≤◌, ℕ, length, slice_get, nat_lt, take, Some, None};
 ghost use Rattle.std.specs.Option.{option_or, is_some};
 ghost use Rattle.svn_types.specs.Names.{depth_limit};
-ghost use Rattle.svn_repo.specs.History.{path_limit, walk};
+ghost use Rattle.svn_repo.specs.History.{walk};
+ghost use Rattle.svn_repo.specs.Readings.{path_limit};
 ghost use Rattle.svn_repo.specs.Stored.{rows};
 ghost use Rattle.svn_repo.specs.Drafts.{IsClosedIn, IsOldPart, IsPast, past_in, tree_in};
 ghost use Rattle.svn_repo.specs.Trees.{is_directory_place};

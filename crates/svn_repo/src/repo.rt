@@ -1,8 +1,10 @@
 //! A repository: its revisions, and the nodes that they share.
-ghost use Rattle.std.specs.Prelude.{◌≡◌, ◌≢◌, ℕ, ◌+◌, length, map, option_map, IfOk, Some, None, option_and_then, ◌∷◌, [], ◌⊎◌, IfErr, OnErr};
+ghost use Rattle.std.specs.Prelude.{◌≡◌, ◌≢◌, ℕ, ◌+◌, length, map, option_map, IfOk, Some, None, option_and_then, ◌∷◌, [], ◌⊎◌, IfErr, OnErr, IfNone, IfSome, IsSome};
 ghost use Rattle.std.specs.Option.{option_copied};
+ghost use Rattle.svn_types.specs.Names.{Path};
 ghost use Rattle.svn_repo.specs.Changes.{IsCommit, commit_fault};
-ghost use Rattle.svn_repo.specs.History.{IsHistory, look, node_at, text_in, entries_in, empty_directory, new_history};
+ghost use Rattle.svn_repo.specs.History.{look, node_at, text_in, entries_in, empty_directory, new_history};
+ghost use Rattle.svn_repo.specs.Readings.{IsHistory, entries_of};
 ghost use Rattle.svn_repo.specs.Stored.{row_of};
 
 use crate::change::{Change, CommitFault};
@@ -78,7 +80,9 @@ impl Repo {
 
     /// What holds of every repository, for the proofs of its callers. It does nothing.
     pub fn law(&self)
-        ensures { IsHistory self.now }
+        ensures history { IsHistory self.now }
+        // what stands anywhere is a node, which the readers know
+        ensures nodes { (r : ℕ) (p : Path) (n : ℕ) → look self.now r p ≡ Some n → IsSome (node_at self.now n) }
     {
         let _lines = &self.lines;
     }
@@ -138,7 +142,10 @@ impl Repo {
 
     /// The entries of a directory; None at a file, and where there is no such node.
     pub fn entries(&self, id: NodeId) -> Option<&Entries>
-        ensures { option_copied result ≡ option_and_then entries_in (node_at self.now id) }
+        ensures value { option_copied result ≡ option_and_then entries_in (node_at self.now id) }
+        // what is no directory has nothing beneath it
+        ensures leaf { IfNone result (entries_of self.now id ≡ []) }
+        ensures listing { IfSome result (λ entries. entries.now ≡ entries_of self.now id) }
     {
         let node = self.nodes.get(id.index)?;
         match &node.content {

@@ -12,6 +12,7 @@ use crate::name::MAX_NAME_LEN;
 use std::alloc::{AllocError, Global};
 use std::cmp::Ordering;
 use std::convert::AsStr;
+use std::fmt;
 use std::marker::Model;
 
 /// The name of a property: 1 to 255 ASCII characters, the first a letter, `:` or `_`, the rest letters, digits, `:`, `_`, `-` and `.`.
@@ -156,5 +157,14 @@ impl Ord for PropName {
 
     fn cmp(&self, other: &PropName) -> Ordering {
         self.as_str().cmp(other.as_str())
+    }
+}
+
+impl fmt::Display for PropName {
+    ghost output = { λ name. Some name };
+
+    fn fmt<W: fmt::Write>(&self, f: &mut fmt::Formatter<W>) -> fmt::Result {
+        let text = self.as_str();
+        write!(f, "{text}")
     }
 }

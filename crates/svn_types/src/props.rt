@@ -11,7 +11,7 @@ use std::alloc::{AllocError, Global};
 use std::collections::BTreeMap;
 use std::marker::Model;
 
-/// The properties of a node. A contract sees them as pairs of a name and a value, in order of the names.
+/// The properties of a node: values by their names, in byte order of the names. A contract sees them as the pairs in this order.
 #[derive(Debug, Drop)]
 pub struct Props {
     map: BTreeMap<PropName, Text>,
@@ -29,6 +29,7 @@ impl Model for Props {
 }
 
 impl Props {
+    /// No properties. It takes no memory.
     pub fn new(alloc: Global) -> Props
         ensures { result ≡ [] }
     {
@@ -37,12 +38,42 @@ impl Props {
         }
     }
 
+    /// How many there are.
+    pub fn len(&self) -> usize
+        ensures { result ≡ length self.now }
+    {
+        self.map.len()
+    }
+
+    /// Whether there are none.
+    pub fn is_empty(&self) -> bool
+        ensures { IsTrue result ↔ (self.now ≡ []) }
+    {
+        self.map.is_empty()
+    }
+
+    /// Whether the properties are the same ones, with the same values.
+    pub fn is_same(&self, other: &Props) -> bool
+        ensures { IsTrue result ↔ (self.now ≡ other.now) }
+    {
+        self.map == other.map
+    }
+
+    /// The properties as a map.
+    pub fn as_map(&self) -> &BTreeMap<PropName, Text>
+        ensures { result.now.entries ≡ self.now }
+    {
+        &self.map
+    }
+
+    /// The value under a name, if it is set.
     pub fn get(&self, name: &PropName) -> Option<&Text>
         ensures { option_copied result ≡ lookup (is_at (name_cmp name.now)) self.now }
     {
         self.map.get(name)
     }
 
+    /// Sets a property; the value before goes. Where a growth is refused nothing changes.
     pub fn insert(&mut self, name: PropName, value: Text) -> Result<(), AllocError>
         ensures ok { OnOk result (self.new ≡ insert_entry name_cmp self.old name value) }
         ensures err { OnErr result (self.new ≡ self.old) }
@@ -51,6 +82,7 @@ impl Props {
         Ok(())
     }
 
+    /// Removes a property, if it is set. It takes no memory.
     pub fn remove(&mut self, name: &PropName)
         ensures { self.new ≡ remove_entry (is_at (name_cmp name.now)) self.old }
     {

@@ -1,4 +1,8 @@
 //! Revision numbers.
+ghost use Rattle.std.specs.Prelude.{Some};
+ghost use Rattle.std.specs.Fmt.{decimal};
+
+use std::fmt;
 use std::marker::Model;
 
 /// A revision number. A contract sees it as the number.
@@ -13,4 +17,13 @@ impl Model for Rev {
     ghost view = { λ r. r.0 };
 
     ghost inverse = { λ n. record { 0 = n } };
+}
+
+impl fmt::Display for Rev {
+    ghost output = { λ r. Some (decimal r) };
+
+    fn fmt<W: fmt::Write>(&self, f: &mut fmt::Formatter<W>) -> fmt::Result {
+        let Rev(number) = *self;
+        write!(f, "{number}")
+    }
 }

@@ -1,7 +1,8 @@
 use Rattle.std.proofs.Common.{◌≡◌, ◌-◌, ◌+◌, ℕ, true, false, Some, None, length, take, sym, ap, ◌∙◌}
 use Rattle.std.specs.Option.{option_or, is_some}
 use Rattle.svn_repo.specs.declared.change.CommitFault.TheVariants.{Exists, TooDeep}
-use Rattle.svn_repo.specs.History.{reaches, path_limit}
+use Rattle.svn_repo.specs.History.{reaches}
+use Rattle.svn_repo.specs.Readings.{path_limit}
 use Rattle.svn_repo.specs.Stored.{rows}
 use Rattle.svn_repo.specs.Drafts.{tree_in}
 use Rattle.svn_repo.specs.Changes.{fault_if}

@@ -1,0 +1,5 @@
+pub mod FaultNumbers
+pub mod Nodes
+pub mod Crawl
+pub mod Builders
+pub mod Effects

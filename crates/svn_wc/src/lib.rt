@@ -1,0 +1,8 @@
+//! Working copies: what stands at each path, whether it is true of a repository, what it reports, and what an edit does to it.
+#![tactic(auto)]
+
+mod base_node;
+mod fault;
+
+pub use base_node::BaseNode;
+pub use fault::WcFault;
