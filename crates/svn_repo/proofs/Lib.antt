@@ -18,4 +18,5 @@ pub mod Runs
 pub mod Lawful
 pub mod NeverFull
 pub mod Commits
+pub mod Meanings
 pub mod Propping

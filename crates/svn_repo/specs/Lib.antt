@@ -6,3 +6,4 @@ pub mod Heights
 pub mod Drafts
 pub mod Changes
 pub mod Readings
+pub mod Laws
