@@ -25,6 +25,7 @@ pub mod CallTests
 pub mod TokenNumbers
 pub mod OpenDirectories
 pub mod CurrentFile
+pub mod OrderTests
 pub mod NoOrderFault
 pub mod Composition
 pub mod SortedSteps
