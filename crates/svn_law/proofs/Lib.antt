@@ -7,6 +7,7 @@ pub mod PropChanges
 pub mod CrawlEntries
 pub mod CrawlDescribes
 pub mod CrawlCheckable
+pub mod Targets
 pub mod Classes
 pub mod Gone
 pub mod OneDrive
