@@ -1,6 +1,6 @@
 -- The notice: nothing, or one number, told once. A word stands for it, which is 0 while nothing was told.
 -- One pass may tell, and has what was told. A number that a pass has seen is the one in the word.
-use Rattle.std.specs.Prelude.{◌≡◌, ℕ, zero, suc, Bool, true, false, List, Option, Some, None, IfSome, slice_index}
+use Rattle.std.specs.Prelude.{◌≡◌, ℕ, zero, suc, Bool, true, List, Option, Some, None, IfSome, slice_index}
 use mathlib.Core.Option.{some}
 use lib.ListN.{get_elem?}
 use Rattle.svn_link.specs.declared.word.News.{News}

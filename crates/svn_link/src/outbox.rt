@@ -6,10 +6,9 @@ ghost use Rattle.svn_link.specs.Calls.{is_over};
 ghost use Rattle.svn_link.specs.Queue.{hand, sent_more};
 
 use crate::queue::{Pass, Sender, Sends};
-use std::fmt;
 use std::marker::Model;
 use std::sync::Wait;
-use std::thread;
+use std::{fmt, thread};
 use svn_delta::Call;
 
 /// The end of a link that sends calls. Contracts see its link and the list of the calls that it sent.

@@ -114,19 +114,30 @@ fn faults_and_ends_are_shown(rt: HostRuntime) -> Result<(), Fail> {
         "Settled { sent: 1, taken: 0, .. }"
     );
     let (teller, watcher) = notice(alloc)?;
-    assert_eq!(rt; format!(in alloc; "{teller:?}")?.as_str(), "Teller { told: false, .. }");
-    assert_eq!(rt; format!(in alloc; "{watcher:?}")?.as_str(), "Watcher { .. }");
+    assert_eq!(rt;
+        format!(in alloc; "{teller:?}")?.as_str(),
+        "Teller { told: false, .. }"
+    );
+    assert_eq!(rt;
+        format!(in alloc; "{watcher:?}")?.as_str(),
+        "Watcher { .. }"
+    );
     Ok(())
 }
 
-// So many calls pass through a queue of each capacity. Capacity 1 takes a switch of threads for each call.
-const PASSES: [(usize, u64); 3] = [(1, 50_000), (64, 1_000_000), (MAX_CAPACITY, 1_000_000)];
+// How many calls pass from thread to thread at each capacity, beside the last call.
+const CALLS: u64 = 1_000_000;
 
 #[test]
 fn calls_pass_between_two_threads(rt: HostRuntime) -> Result<(), Fail> {
-    for (capacity, count) in PASSES {
-        let (settled, in_order) = pass_revisions(&rt, rt.alloc(), capacity, count).ok_or("no thread")?;
-        assert_eq!(rt; (settled.sent, settled.taken), (count + 1, count + 1));
+    for capacity in [1, 64, MAX_CAPACITY] {
+        let passed = pass_revisions(&rt, rt.alloc(), capacity, CALLS);
+        let (settled, in_order) = passed.ok_or("no link or no thread")?;
+        assert_eq!(rt;
+            (settled.sent, settled.taken),
+            (CALLS + 1, CALLS + 1),
+            "at {capacity}"
+        );
         assert!(rt; in_order, "at {capacity}");
     }
     Ok(())
@@ -134,7 +145,7 @@ fn calls_pass_between_two_threads(rt: HostRuntime) -> Result<(), Fail> {
 
 #[test]
 fn a_refused_call_stops_the_sender(rt: HostRuntime) -> Result<(), Fail> {
-    let (settled, told, seen) = stop_early(&rt, rt.alloc()).ok_or("no thread")?;
+    let (settled, told, seen) = stop_early(&rt, rt.alloc()).ok_or("no link or no thread")?;
     assert_eq!(rt; settled.sent, settled.taken);
     assert_eq!(rt; told, Some(REFUSED));
     assert!(rt; seen.is_none() || seen == told);
@@ -156,7 +167,11 @@ fn send_revisions<R: Wait>(rt: &R, mut outbox: Outbox, count: u64) -> Outbox
     ensures { result.link ≡ outbox.link }
 {
     for revision in 0..count {
-        send_if_open(rt, &mut outbox, Call::SetTargetRevision { rev: Rev(revision) });
+        send_if_open(
+            rt,
+            &mut outbox,
+            Call::SetTargetRevision { rev: Rev(revision) },
+        );
     }
     send_if_open(rt, &mut outbox, Call::CloseEdit);
     outbox

@@ -4,3 +4,4 @@ pub mod NameSplits
 pub mod Paths
 pub mod Pairs
 pub mod Props
+pub mod PathHash

@@ -1,4 +1,4 @@
-use Rattle.std.proofs.Common.{◌≡◌, ◌∙◌, ◌++◌, true, sym, ap, subst, rules}
+use Rattle.std.proofs.Common.{◌∙◌, ◌++◌, sym, ap, subst, rules}
 use Rattle.svn_link.specs.Calls.{EndsAtLast}
 use Rattle.svn_link.proofs.Moves.{joins, remains}
 use Rattle.svn_link.proofs.CallLists.{taken_whole}

@@ -1,4 +1,4 @@
-use Rattle.std.proofs.Common.{◌≡◌, ◌+◌, ◌∙◌, ◌++◌, ◌∷◌, List, [], length, true, false, sym, ap, subst, rules, arith, length-append}
+use Rattle.std.proofs.Common.{◌+◌, ◌∙◌, ◌∷◌, [], length, true, false, sym, ap, length-append}
 use Rattle.crossbeam_channel.specs.Claims.{view as hand_of}
 use Rattle.svn_link.specs.declared.queue.Hand.{Hand}
 use Rattle.svn_link.specs.Calls.{is_over}
