@@ -5,6 +5,7 @@ mod change;
 mod commit;
 mod entries;
 mod fault;
+mod heights;
 mod repo;
 mod store;
 

@@ -17,7 +17,6 @@ fn fault_of(parsed: Result<RelPath, PathFault>) -> u32 {
     }
 }
 
-
 fn put(alloc: Global, repo: &mut Repo, at: &str, text: &str) -> Result<u64, CommitFault> {
     let path = RelPath::parse(alloc, at).map_err(|_| CommitFault::Memory)?;
     let text = bytes(alloc, text)?;
