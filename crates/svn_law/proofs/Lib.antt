@@ -19,6 +19,7 @@ pub mod Tokens
 pub mod AfterCalls
 pub mod AfterAllSteps
 pub mod EndsAsResult
+pub mod NewPaths
 pub mod NoEditFault
 pub mod Courses
 pub mod StepOrder
