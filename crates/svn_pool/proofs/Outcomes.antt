@@ -53,7 +53,7 @@ module _ (pools : BTreeMap ℕ Entry) (children : BTreeSet (ℕ × ℕ)) (linked
   pub not_beneath_itself : (s : ℕ) → IsBeneath (get nat_cmp pools) s s → ⊥
   not_beneath_itself s b = let lt = above_older s b.0 s b.1 in omega (arith, lt)
 
-parentless : (f : ℕ → Option Entry) (s n q : ℕ) → parent_of (f q) ≡ None → IsAbove f s n q → ⊥
+pub parentless : (f : ℕ → Option Entry) (s n q : ℕ) → parent_of (f q) ≡ None → IsAbove f s n q → ⊥
 parentless f s zero q none above = let no : None ≡ Some s = sym none ∙ above in cc
 parentless f s (suc n) q none above = let no : None ≡ Some above.0 = sym none ∙ above.1 in cc
 

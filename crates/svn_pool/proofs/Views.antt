@@ -65,6 +65,13 @@ module _ (t : fin.FinMap nat_cmp Entry) (s : ℕ) (e : Entry) where
   pub inserted_away : (q : ℕ) → q ≢ s → fin.get (fin.insert t s e) q ≡ fin.get t q
   inserted_away q apart = fin.get-insert nat_cmp_total t s e q ∙ ap (λ (b : Bool). cond b (Some e) (fin.get t q)) (not_same q s apart)
 
+module _ (t : fin.FinMap nat_cmp Entry) (s : ℕ) where
+  pub removed_here : fin.get (fin.remove t s) s ≡ None
+  removed_here = fin.get-remove nat_cmp_total t s s ∙ ap (λ (b : Bool). cond b None (fin.get t s)) (itself s)
+
+  pub removed_away : (q : ℕ) → q ≢ s → fin.get (fin.remove t s) q ≡ fin.get t q
+  removed_away q apart = fin.get-remove nat_cmp_total t s q ∙ ap (λ (b : Bool). cond b None (fin.get t q)) (not_same q s apart)
+
 -- maps with the same pools are the same
 pub same_contents : (m : BTreeMap ℕ Entry) → IsOrdered nat_cmp m → (t : fin.FinMap nat_cmp Entry) → ((q : ℕ) → get nat_cmp m q ≡ fin.get t q) → contents m ≡ t
 same_contents m ordered t same = fin.same_map nat_cmp_total fin.nat_cmp-IsAntisymmetric (contents m) t (λ q. get-contents m ordered q ∙ same q)

@@ -18,6 +18,9 @@ create_fault t p = fault_if_live (pool_at t p) (λ _. if nat_le 1844674407370955
 abbrev pub push_fault : Pools → ℕ → ℕ → Option PoolFault
 push_fault t s n = fault_if_live (pool_at t s) (λ e. string_fault (store_of t) e.strings n)
 
+abbrev pub read_fault : Pools → ℕ → Option PoolFault
+read_fault t s = fault_if_live (pool_at t s) (λ _. None)
+
 abbrev pub clear_fault : Pools → ℕ → Option PoolFault
 clear_fault t s = fault_if_live (pool_at t s) (λ _. None)
 
