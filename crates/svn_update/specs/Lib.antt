@@ -1,0 +1,2 @@
+pub mod FaultNumbers
+pub mod Words

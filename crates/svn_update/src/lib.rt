@@ -1,0 +1,18 @@
+//! Updates of a working copy, and the script language that drives them.
+#![tactic(auto)]
+
+mod command;
+mod fault;
+mod lines;
+mod outcome;
+mod print;
+mod script;
+mod state;
+mod update;
+mod words;
+
+pub use update::update_in_turn;
+pub use fault::ScriptFault;
+pub use outcome::{Cause, Outcome, RunFault};
+pub use lines::MAX_SCRIPT;
+pub use script::{Settings, run_script};

@@ -1,0 +1,4 @@
+pub mod PathsBelow
+pub mod Lookups
+pub mod Trees
+pub mod Sweeps

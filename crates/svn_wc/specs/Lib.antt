@@ -1,0 +1,4 @@
+pub mod FaultNumbers
+pub mod Nodes
+pub mod Builders
+pub mod Standing

@@ -1,0 +1,244 @@
+//! An update of a copy that is what a checkout gives: a walk by names over the trees of two revisions, which skips what is the same node
+//! in both, and applies each call of the edit (`svn_delta.h`) at once.
+use crate::base_node::BaseNode;
+use crate::fill::{child_path, count, fill, put_node};
+use crate::working_copy::WorkingCopy;
+use std::alloc::{AllocError, Global};
+use std::collections::BTreeMap;
+use svn_repo::{Entries, NodeId, Repo};
+use svn_types::{Name, Props, RelPath, Rev};
+
+/// The walk of one update: what it reads, and the revision that it goes to.
+#[derive(Clone, Copy)]
+pub(crate) struct Walk<'a> {
+    pub(crate) alloc: Global,
+    pub(crate) repo: &'a Repo,
+    pub(crate) target: Rev,
+}
+
+// Whether two nodes are one node at two revisions: of one line, and so of one kind.
+fn are_related(repo: &Repo, from: NodeId, to: NodeId) -> bool {
+    repo.line(from) == repo.line(to) && repo.kind(from) == repo.kind(to)
+}
+
+// The node that an entry was before, where it is kept.
+fn kept(repo: &Repo, from: &Entries, name: &Name, to: NodeId) -> Option<NodeId> {
+    match from.get(name) {
+        Some(old) if are_related(repo, old, to) => Some(old),
+        _ => None,
+    }
+}
+
+// Whether an entry is kept.
+fn stays(repo: &Repo, from: NodeId, to: &Entries, name: &Name) -> bool {
+    match to.get(name) {
+        Some(node) => are_related(repo, from, node),
+        None => false,
+    }
+}
+
+// How many names have a value in the one that they haven't in the other.
+fn values_apart(props: &Props, others: &Props) -> usize {
+    let mut apart = 0usize;
+    for (name, value) in props.as_map() {
+        let same = match others.get(name) {
+            Some(other) => other == value,
+            None => false,
+        };
+        if !same {
+            apart = apart.saturating_add(1);
+        }
+    }
+    apart
+}
+
+// How many names are only in the second.
+fn names_apart(props: &Props, others: &Props) -> usize {
+    let mut apart = 0usize;
+    for (name, _) in others.as_map() {
+        if props.get(name).is_none() {
+            apart = apart.saturating_add(1);
+        }
+    }
+    apart
+}
+
+// How many property changes lead from a node to another.
+fn changed_props(repo: &Repo, from: NodeId, to: NodeId) -> usize {
+    match (repo.props(from), repo.props(to)) {
+        (Some(old), Some(new)) => values_apart(old, new).saturating_add(names_apart(old, new)),
+        _ => 0,
+    }
+}
+
+// How many calls change a node by itself: its open and its close, one for each property that changes, and one for a text that does.
+fn calls_of_change(repo: &Repo, from: NodeId, to: NodeId) -> usize {
+    let calls = changed_props(repo, from, to).saturating_add(2);
+    if repo.text(from) == repo.text(to) {
+        calls
+    } else {
+        calls.saturating_add(1)
+    }
+}
+
+// Opens a directory: from now on it is incomplete.
+fn open_directory(path: &RelPath, nodes: &mut BTreeMap<RelPath, BaseNode>) {
+    if let Some(BaseNode::Dir { complete, .. }) = nodes.get_mut(path) {
+        *complete = false;
+    }
+}
+
+// Gives a present node a revision, and answers whether it is present.
+fn revise(node: &mut BaseNode, target: Rev) -> bool {
+    match node {
+        BaseNode::File { rev, .. } => {
+            *rev = target;
+            true
+        }
+        BaseNode::Dir { rev, .. } => {
+            *rev = target;
+            true
+        }
+        BaseNode::NotPresent => false,
+    }
+}
+
+// Closes the edit: every present node is of the target's revision, and every entry without a node goes.
+fn close_edit(target: Rev, nodes: &mut BTreeMap<RelPath, BaseNode>) {
+    nodes.retain(|_, node| revise(node, target));
+}
+
+impl Walk<'_> {
+    // Takes a node away that a copy has of the repository, and all that is beneath it.
+    fn delete(
+        &self,
+        path: &RelPath,
+        id: NodeId,
+        nodes: &mut BTreeMap<RelPath, BaseNode>,
+    ) -> Result<(), AllocError> {
+        if let Some(entries) = self.repo.entries(id) {
+            for (name, child) in entries.as_map() {
+                let below = child_path(self.alloc, path, name)?;
+                self.delete(&below, *child, nodes)?;
+            }
+        }
+        nodes.remove(path);
+        Ok(())
+    }
+
+    // Takes the entries of a directory away that aren't kept.
+    fn delete_gone(
+        &self,
+        path: &RelPath,
+        from: &Entries,
+        to: &Entries,
+        nodes: &mut BTreeMap<RelPath, BaseNode>,
+        calls: &mut u64,
+    ) -> Result<(), AllocError> {
+        for (name, old) in from.as_map() {
+            if !stays(self.repo, *old, to, name) {
+                let below = child_path(self.alloc, path, name)?;
+                self.delete(&below, *old, nodes)?;
+                count(calls, 1);
+            }
+        }
+        Ok(())
+    }
+
+    // Brings an entry of a directory to the target, where it isn't the same node already.
+    #[cycle(update)]
+    fn update_entry(
+        &self,
+        path: &RelPath,
+        name: &Name,
+        from: Option<NodeId>,
+        to: NodeId,
+        nodes: &mut BTreeMap<RelPath, BaseNode>,
+        calls: &mut u64,
+    ) -> Result<(), AllocError> {
+        if from == Some(to) {
+            return Ok(());
+        }
+        let below = child_path(self.alloc, path, name)?;
+        match from {
+            Some(old) => self.update_node(&below, old, to, nodes, calls),
+            None => fill(self.alloc, self.repo, self.target, &below, to, nodes, calls),
+        }
+    }
+
+    // Brings the entries of a directory to the target.
+    #[cycle(update)]
+    fn update_entries(
+        &self,
+        path: &RelPath,
+        from: &Entries,
+        to: &Entries,
+        nodes: &mut BTreeMap<RelPath, BaseNode>,
+        calls: &mut u64,
+    ) -> Result<(), AllocError> {
+        for (name, child) in to.as_map() {
+            let before = kept(self.repo, from, name, *child);
+            self.update_entry(path, name, before, *child, nodes, calls)?;
+        }
+        Ok(())
+    }
+
+    // Brings a node of a copy, and all that is beneath it, from one node of the repository to another.
+    #[cycle(update)]
+    fn update_node(
+        &self,
+        path: &RelPath,
+        from: NodeId,
+        to: NodeId,
+        nodes: &mut BTreeMap<RelPath, BaseNode>,
+        calls: &mut u64,
+    ) -> Result<(), AllocError> {
+        if let (Some(before), Some(after)) = (self.repo.entries(from), self.repo.entries(to)) {
+            open_directory(path, nodes);
+            self.delete_gone(path, before, after, nodes, calls)?;
+            self.update_entries(path, before, after, nodes, calls)?;
+        }
+        put_node(self.alloc, self.repo, self.target, path, to, nodes)?;
+        count(calls, calls_of_change(self.repo, from, to));
+        Ok(())
+    }
+}
+
+impl WorkingCopy {
+    // The node of the repository that the copy's root is, where it is a directory.
+    fn root_node(&self, repo: &Repo, root: &RelPath) -> Option<NodeId> {
+        match self.nodes.get(root) {
+            Some(BaseNode::Dir { rev, .. }) => repo.lookup(*rev, root),
+            _ => None,
+        }
+    }
+
+    /// Brings a copy that `plain` accepts to the target, whose root is a node of the repository, and answers how many calls the edit has.
+    /// Where a growth is refused, the answer is how many were made, and the root is left incomplete.
+    pub fn update_plain(
+        &mut self,
+        alloc: Global,
+        repo: &Repo,
+        to: NodeId,
+        target: Rev,
+    ) -> Result<u64, u64> {
+        let root = RelPath::root(alloc);
+        let mut calls = 1;
+        let Some(from) = self.root_node(repo, &root) else {
+            return Err(calls);
+        };
+        let walk = Walk {
+            alloc,
+            repo,
+            target,
+        };
+        match walk.update_node(&root, from, to, &mut self.nodes, &mut calls) {
+            Ok(()) => {
+                close_edit(target, &mut self.nodes);
+                count(&mut calls, 1);
+                Ok(calls)
+            }
+            Err(_) => Err(calls),
+        }
+    }
+}
