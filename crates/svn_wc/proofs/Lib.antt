@@ -2,3 +2,4 @@ pub mod PathsBelow
 pub mod Lookups
 pub mod Trees
 pub mod Sweeps
+pub mod Filling

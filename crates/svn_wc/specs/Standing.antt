@@ -2,14 +2,11 @@
 --     standing h rev q n      what stands below path q, where q has node n of revision rev
 --     Puts part q w w'     the part stands at q and below, and elsewhere nothing changed
 --     IsPlain h w      the copy is what a checkout of one revision gives
-use Rattle.std.specs.Prelude.{◌≡◌, ℕ, Bool, true, false, ◌&&◌, List, [], ◌∷◌, ◌++◌, nat_eq, Option, Some, None, option_map, option_and_then, is_some, if◌then◌else◌}
-use Rattle.svn_types.specs.declared.kind.Kind.{Kind}
-use Rattle.svn_types.specs.declared.kind.Kind.TheVariants.{File, Directory}
+use Rattle.std.specs.Prelude.{◌≡◌, ℕ, Bool, true, false, List, [], ◌∷◌, ◌++◌, nat_eq, Option, Some, None, option_map, option_and_then, is_some, if◌then◌else◌}
 use Rattle.svn_types.specs.Names.{Path}
 use Rattle.svn_types.specs.Paths.{is_within}
 use Rattle.svn_types.specs.Pairs.{InNameOrder, value_of}
-use Rattle.svn_repo.specs.History.{History, node_at, walk, look}
-use Rattle.svn_repo.specs.Readings.{line_of, kind_of}
+use Rattle.svn_repo.specs.History.{History, node_at, walk}
 use Rattle.svn_wc.specs.declared.base_node.BaseNode.{BaseNode}
 use Rattle.svn_wc.specs.declared.base_node.BaseNode.TheVariants.{File as FileNode, Dir as DirNode, NotPresent}
 use Rattle.svn_wc.specs.Nodes.{WorkingCopy, base_node, is_dir}
@@ -57,23 +54,37 @@ AreAmong {V} left all = (name : List ℕ) (v : V) → value_of left name ≡ Som
 
 -- ---- what is kept
 
-abbrev pub kind_eq : Kind → Kind → Bool
-kind_eq File File = true
-kind_eq Directory Directory = true
-kind_eq _ _ = false
+abbrev pub lines_eq : Option ℕ → Option ℕ → Bool
+lines_eq (Some a) (Some b) = nat_eq a b
+lines_eq _ _ = false
 
--- of one line, and so of one kind
-abbrev pub is_same_node : History → ℕ → ℕ → Bool
-is_same_node h m n = nat_eq (line_of h m) (line_of h n) && kind_eq (kind_of h m) (kind_of h n)
+abbrev pub line_at : History → ℕ → Option ℕ
+line_at h n = option_map (λ row. row.line) (node_at h n)
 
--- the node that an entry had before, where the entry stays
+-- the node that an entry had before, where that and the one it gets are of one line
 abbrev pub kept_of : History → Option ℕ → Option ℕ → Option ℕ
-kept_of h (Some m) (Some n) = if is_same_node h m n then Some m else None
+kept_of h (Some m) (Some n) = if lines_eq (line_at h m) (line_at h n) then Some m else None
 kept_of h _ _ = None
 
 -- what stands below a name of q, if it has a node
 abbrev pub standing_at : History → ℕ → Path → List ℕ → Option ℕ → WorkingCopy
 standing_at h rev q name node r = option_and_then (λ n. standing h rev (q ++ name ∷ []) n r) node
+
+-- below q stands, name by name, what the part says, and else nothing changed
+pub record PutsBelow (part : List ℕ → WorkingCopy) (q : Path) (w w' : WorkingCopy) : Type 0 where
+  pub here : w' q ≡ w q
+  pub outside : SameOutside q w w'
+  pub below : (name : List ℕ) (r : Path) → w' (q ++ name ∷ r) ≡ part name r
+
+-- the same, but for the revisions
+pub record PutsBelowRevised (rev : ℕ) (part : List ℕ → WorkingCopy) (q : Path) (w w' : WorkingCopy) : Type 0 where
+  pub here : w' q ≡ w q
+  pub outside : SameOutside q w w'
+  pub below : (name : List ℕ) (r : Path) → revised rev (w' (q ++ name ∷ r)) ≡ part name r
+
+-- nothing stands below q but where the tree below a node has something
+abbrev pub OnlyBelow : History → Path → ℕ → WorkingCopy → Type 0
+OnlyBelow h q n w = (r : Path) → walk (node_at h) n r ≡ None → w (q ++ r) ≡ None
 
 -- ---- plain copies
 

@@ -1,5 +1,14 @@
 //! An update of a copy that is what a checkout gives: a walk by names over the trees of two revisions, which skips what is the same node
 //! in both, and applies each call of the edit (`svn_delta.h`) at once.
+ghost use Rattle.std.specs.Prelude.{◌≡◌, ℕ, ◌∷◌, ◌++◌, [], List, OnOk, IfOk, Some, None, is_some, option_and_then, false, if◌then◌else◌};
+ghost use Rattle.svn_types.specs.Names.{Path};
+ghost use Rattle.svn_types.specs.Paths.{path_eq};
+ghost use Rattle.svn_types.specs.Pairs.{value_of};
+ghost use Rattle.svn_repo.specs.History.{node_at, walk};
+ghost use Rattle.svn_repo.specs.Readings.{entries_of};
+ghost use Rattle.svn_wc.specs.Nodes.{get_in};
+ghost use Rattle.svn_wc.specs.Standing.{standing, standing_at, nothing, revised, lines_eq, line_at, kept_of, Puts, PutsRevised, PutsBelow, PutsBelowRevised, OnlyBelow};
+
 use crate::base_node::BaseNode;
 use crate::fill::{child_path, count, fill, put_node};
 use crate::working_copy::WorkingCopy;
@@ -8,29 +17,45 @@ use std::collections::BTreeMap;
 use svn_repo::{Entries, NodeId, Repo};
 use svn_types::{Name, Props, RelPath, Rev};
 
-/// The walk of one update: what it reads, and the revision that it goes to.
+/// The walk of one update: what it reads, and the revisions that it leads from and to.
 #[derive(Clone, Copy)]
 pub(crate) struct Walk<'a> {
     pub(crate) alloc: Global,
     pub(crate) repo: &'a Repo,
+    pub(crate) base: Rev,
     pub(crate) target: Rev,
 }
 
-// Whether two nodes are one node at two revisions: of one line, and so of one kind.
-fn are_related(repo: &Repo, from: NodeId, to: NodeId) -> bool {
-    repo.line(from) == repo.line(to) && repo.kind(from) == repo.kind(to)
+// Whether two nodes are one node at two revisions: of one line.
+fn are_related(repo: &Repo, from: NodeId, to: NodeId) -> bool
+    ensures { result ≡ lines_eq (line_at repo.now from) (line_at repo.now to) }
+{
+    match (repo.line(from), repo.line(to)) {
+        (Some(old), Some(new)) => old == new,
+        _ => false,
+    }
 }
 
 // The node that an entry was before, where it is kept.
-fn kept(repo: &Repo, from: &Entries, name: &Name, to: NodeId) -> Option<NodeId> {
+fn kept(repo: &Repo, from: &Entries, name: &Name, to: NodeId) -> Option<NodeId>
+    ensures { result ≡ kept_of repo.now (value_of from.now name.now) (Some to) }
+{
     match from.get(name) {
-        Some(old) if are_related(repo, old, to) => Some(old),
-        _ => None,
+        Some(old) => {
+            if are_related(repo, old, to) {
+                Some(old)
+            } else {
+                None
+            }
+        }
+        None => None,
     }
 }
 
 // Whether an entry is kept.
-fn stays(repo: &Repo, from: NodeId, to: &Entries, name: &Name) -> bool {
+fn stays(repo: &Repo, from: NodeId, to: &Entries, name: &Name) -> bool
+    ensures { result ≡ is_some (kept_of repo.now (Some from) (value_of to.now name.now)) }
+{
     match to.get(name) {
         Some(node) => are_related(repo, from, node),
         None => false,
@@ -82,14 +107,18 @@ fn calls_of_change(repo: &Repo, from: NodeId, to: NodeId) -> usize {
 }
 
 // Opens a directory: from now on it is incomplete.
-fn open_directory(path: &RelPath, nodes: &mut BTreeMap<RelPath, BaseNode>) {
+fn open_directory(path: &RelPath, nodes: &mut BTreeMap<RelPath, BaseNode>)
+    ensures { (p : Path) → path_eq path.now p ≡ false → get_in nodes.new.entries p ≡ get_in nodes.old.entries p }
+{
     if let Some(BaseNode::Dir { complete, .. }) = nodes.get_mut(path) {
         *complete = false;
     }
 }
 
 // Gives a present node a revision, and answers whether it is present.
-fn revise(node: &mut BaseNode, target: Rev) -> bool {
+fn revise(node: &mut BaseNode, target: Rev) -> bool
+    ensures { revised target (Some node.old) ≡ (if result then Some node.new else None) }
+{
     match node {
         BaseNode::File { rev, .. } => {
             *rev = target;
@@ -104,23 +133,45 @@ fn revise(node: &mut BaseNode, target: Rev) -> bool {
 }
 
 // Closes the edit: every present node is of the target's revision, and every entry without a node goes.
-fn close_edit(target: Rev, nodes: &mut BTreeMap<RelPath, BaseNode>) {
+fn close_edit(target: Rev, nodes: &mut BTreeMap<RelPath, BaseNode>)
+    ensures { (p : Path) → get_in nodes.new.entries p ≡ revised target (get_in nodes.old.entries p) }
+{
     nodes.retain(|_, node| revise(node, target));
 }
 
 impl Walk<'_> {
+    // Takes all entries of a directory away.
+    #[cycle(delete)]
+    fn delete_entries(
+        &self,
+        path: &RelPath,
+        entries: &Entries,
+        nodes: &mut BTreeMap<RelPath, BaseNode>,
+    ) -> Result<(), AllocError>
+        requires only { (name : List ℕ) (r : Path) → option_and_then (λ n. walk (node_at self.now.repo.now) n r) (value_of entries.now name) ≡ None → get_in nodes.old.entries (path.now ++ name ∷ r) ≡ None }
+        ensures { OnOk result (PutsBelow (λ name. nothing) path.now (get_in nodes.old.entries) (get_in nodes.new.entries)) }
+    {
+        for (name, child) in entries.as_map() {
+            let below = child_path(self.alloc, path, name)?;
+            self.delete(&below, *child, nodes)?;
+        }
+        Ok(())
+    }
+
     // Takes a node away that a copy has of the repository, and all that is beneath it.
+    #[cycle(delete)]
     fn delete(
         &self,
         path: &RelPath,
         id: NodeId,
         nodes: &mut BTreeMap<RelPath, BaseNode>,
-    ) -> Result<(), AllocError> {
-        if let Some(entries) = self.repo.entries(id) {
-            for (name, child) in entries.as_map() {
-                let below = child_path(self.alloc, path, name)?;
-                self.delete(&below, *child, nodes)?;
-            }
+    ) -> Result<(), AllocError>
+        requires only { OnlyBelow self.now.repo.now path.now id (get_in nodes.old.entries) }
+        ensures { OnOk result (Puts nothing path.now (get_in nodes.old.entries) (get_in nodes.new.entries)) }
+    {
+        match self.repo.entries(id) {
+            Some(entries) => self.delete_entries(path, entries, nodes)?,
+            None => (),
         }
         nodes.remove(path);
         Ok(())
@@ -134,7 +185,10 @@ impl Walk<'_> {
         to: &Entries,
         nodes: &mut BTreeMap<RelPath, BaseNode>,
         calls: &mut u64,
-    ) -> Result<(), AllocError> {
+    ) -> Result<(), AllocError>
+        requires before { (name : List ℕ) (r : Path) → get_in nodes.old.entries (path.now ++ name ∷ r) ≡ standing_at self.now.repo.now self.now.base path.now name (value_of from.now name) r }
+        ensures { OnOk result (PutsBelow (λ name. standing_at self.now.repo.now self.now.base path.now name (kept_of self.now.repo.now (value_of from.now name) (value_of to.now name))) path.now (get_in nodes.old.entries) (get_in nodes.new.entries)) }
+    {
         for (name, old) in from.as_map() {
             if !stays(self.repo, *old, to, name) {
                 let below = child_path(self.alloc, path, name)?;
@@ -155,14 +209,25 @@ impl Walk<'_> {
         to: NodeId,
         nodes: &mut BTreeMap<RelPath, BaseNode>,
         calls: &mut u64,
-    ) -> Result<(), AllocError> {
+    ) -> Result<(), AllocError>
+        requires before { (r : Path) → get_in nodes.old.entries (path.now ++ name.now ∷ r) ≡ standing_at self.now.repo.now self.now.base path.now name.now from r }
+        ensures { OnOk result (PutsRevised self.now.target (standing self.now.repo.now self.now.target (path.now ++ name.now ∷ []) to) (path.now ++ name.now ∷ []) (get_in nodes.old.entries) (get_in nodes.new.entries)) }
+    {
         if from == Some(to) {
             return Ok(());
         }
         let below = child_path(self.alloc, path, name)?;
         match from {
             Some(old) => self.update_node(&below, old, to, nodes, calls),
-            None => fill(self.alloc, self.repo, self.target, &below, to, nodes, calls),
+            None => fill(
+                self.alloc,
+                self.repo,
+                self.target,
+                &below,
+                to,
+                nodes,
+                calls,
+            ),
         }
     }
 
@@ -175,12 +240,60 @@ impl Walk<'_> {
         to: &Entries,
         nodes: &mut BTreeMap<RelPath, BaseNode>,
         calls: &mut u64,
-    ) -> Result<(), AllocError> {
+    ) -> Result<(), AllocError>
+        requires before { (name : List ℕ) (r : Path) → get_in nodes.old.entries (path.now ++ name ∷ r) ≡ standing_at self.now.repo.now self.now.base path.now name (kept_of self.now.repo.now (value_of from.now name) (value_of to.now name)) r }
+        ensures { OnOk result (PutsBelowRevised self.now.target (λ name. standing_at self.now.repo.now self.now.target path.now name (value_of to.now name)) path.now (get_in nodes.old.entries) (get_in nodes.new.entries)) }
+    {
         for (name, child) in to.as_map() {
             let before = kept(self.repo, from, name, *child);
             self.update_entry(path, name, before, *child, nodes, calls)?;
         }
         Ok(())
+    }
+
+    // Brings a directory of a copy to the target.
+    #[cycle(update)]
+    fn update_directory(
+        &self,
+        path: &RelPath,
+        to: NodeId,
+        before: &Entries,
+        after: &Entries,
+        nodes: &mut BTreeMap<RelPath, BaseNode>,
+        calls: &mut u64,
+    ) -> Result<(), AllocError>
+        requires before { (name : List ℕ) (r : Path) → get_in nodes.old.entries (path.now ++ name ∷ r) ≡ standing_at self.now.repo.now self.now.base path.now name (value_of before.now name) r }
+        requires after { after.now ≡ entries_of self.now.repo.now to }
+        ensures { OnOk result (PutsRevised self.now.target (standing self.now.repo.now self.now.target path.now to) path.now (get_in nodes.old.entries) (get_in nodes.new.entries)) }
+    {
+        open_directory(path, nodes);
+        self.delete_gone(path, before, after, nodes, calls)?;
+        self.update_entries(path, before, after, nodes, calls)?;
+        put_node(self.alloc, self.repo, self.target, path, to, nodes)
+    }
+
+    // Puts a node anew in the place of another.
+    fn replace_node(
+        &self,
+        path: &RelPath,
+        from: NodeId,
+        to: NodeId,
+        nodes: &mut BTreeMap<RelPath, BaseNode>,
+        calls: &mut u64,
+    ) -> Result<(), AllocError>
+        requires before { (r : Path) → get_in nodes.old.entries (path.now ++ r) ≡ standing self.now.repo.now self.now.base path.now from r }
+        ensures { OnOk result (PutsRevised self.now.target (standing self.now.repo.now self.now.target path.now to) path.now (get_in nodes.old.entries) (get_in nodes.new.entries)) }
+    {
+        self.delete(path, from, nodes)?;
+        fill(
+            self.alloc,
+            self.repo,
+            self.target,
+            path,
+            to,
+            nodes,
+            calls,
+        )
     }
 
     // Brings a node of a copy, and all that is beneath it, from one node of the repository to another.
@@ -192,23 +305,26 @@ impl Walk<'_> {
         to: NodeId,
         nodes: &mut BTreeMap<RelPath, BaseNode>,
         calls: &mut u64,
-    ) -> Result<(), AllocError> {
-        if let (Some(before), Some(after)) = (self.repo.entries(from), self.repo.entries(to)) {
-            open_directory(path, nodes);
-            self.delete_gone(path, before, after, nodes, calls)?;
-            self.update_entries(path, before, after, nodes, calls)?;
-        }
-        put_node(self.alloc, self.repo, self.target, path, to, nodes)?;
+    ) -> Result<(), AllocError>
+        requires before { (r : Path) → get_in nodes.old.entries (path.now ++ r) ≡ standing self.now.repo.now self.now.base path.now from r }
+        ensures { OnOk result (PutsRevised self.now.target (standing self.now.repo.now self.now.target path.now to) path.now (get_in nodes.old.entries) (get_in nodes.new.entries)) }
+    {
         count(calls, calls_of_change(self.repo, from, to));
-        Ok(())
+        match (self.repo.entries(from), self.repo.entries(to)) {
+            (Some(before), Some(after)) => {
+                self.update_directory(path, to, before, after, nodes, calls)
+            }
+            (None, None) => put_node(self.alloc, self.repo, self.target, path, to, nodes),
+            _ => self.replace_node(path, from, to, nodes, calls),
+        }
     }
 }
 
 impl WorkingCopy {
-    // The node of the repository that the copy's root is, where it is a directory.
-    fn root_node(&self, repo: &Repo, root: &RelPath) -> Option<NodeId> {
+    // The revision of the copy's root, where that is a directory.
+    fn root_revision(&self, root: &RelPath) -> Option<Rev> {
         match self.nodes.get(root) {
-            Some(BaseNode::Dir { rev, .. }) => repo.lookup(*rev, root),
+            Some(BaseNode::Dir { rev, .. }) => Some(*rev),
             _ => None,
         }
     }
@@ -224,12 +340,16 @@ impl WorkingCopy {
     ) -> Result<u64, u64> {
         let root = RelPath::root(alloc);
         let mut calls = 1;
-        let Some(from) = self.root_node(repo, &root) else {
+        let Some(base) = self.root_revision(&root) else {
+            return Err(calls);
+        };
+        let Some(from) = repo.lookup(base, &root) else {
             return Err(calls);
         };
         let walk = Walk {
             alloc,
             repo,
+            base,
             target,
         };
         match walk.update_node(&root, from, to, &mut self.nodes, &mut calls) {

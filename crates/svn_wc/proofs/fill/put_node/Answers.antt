@@ -8,4 +8,4 @@ pub returns : goal.returns
 returns c =
     let key : c.in_ok-clone.field-0 ≡ c.args.path.now = c.in_ok-clone.ensures.cases in
     let value : c.in_ok-node.node ≡ base_node c.args.repo.now c.args.rev c.args.path.now c.args.id = c.in_ok-node.ensures in
-    λ p. get_in-updated _ _ _ _ c.in_ok-insert.ensures.updates.0 p ∙ (λ i. cond (path_eq (key i) p) (Some (value i)) (get_in c.args.nodes.now.entries p))
+    λ p. get_in-updated c.args.nodes.now.entries c.insert.new.self.entries c.in_ok-clone.field-0 (Some c.in_ok-node.node) c.in_ok-insert.ensures.updates.0 p ∙ (λ i. cond (path_eq (key i) p) (Some (value i)) (get_in c.args.nodes.now.entries p))
