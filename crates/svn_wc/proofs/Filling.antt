@@ -14,7 +14,7 @@ use Rattle.svn_wc.proofs.PathsBelow.{apart_paths, same_path, below_is_other}
 use Rattle.svn_wc.proofs.Trees.{standing-here, standing-below}
 use Rattle.svn_wc.proofs.Sweeps.{swept_on, among_left, value_of-first}
 
-none_of : {A : Type 0} (o : Option A) → is_some o ≡ false → o ≡ None
+pub none_of : {A : Type 0} (o : Option A) → is_some o ≡ false → o ≡ None
 none_of None h = refl
 none_of (Some x) h = let bad : true ≡ false = h in cc
 

@@ -3,3 +3,7 @@ pub mod Lookups
 pub mod Trees
 pub mod Sweeps
 pub mod Filling
+pub mod Deleting
+pub mod Updating
+pub mod Roots
+pub mod InStep

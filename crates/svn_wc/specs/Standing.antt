@@ -9,7 +9,7 @@ use Rattle.svn_types.specs.Pairs.{InNameOrder, value_of}
 use Rattle.svn_repo.specs.History.{History, node_at, walk}
 use Rattle.svn_wc.specs.declared.base_node.BaseNode.{BaseNode}
 use Rattle.svn_wc.specs.declared.base_node.BaseNode.TheVariants.{File as FileNode, Dir as DirNode, NotPresent}
-use Rattle.svn_wc.specs.Nodes.{WorkingCopy, base_node, is_dir}
+use Rattle.svn_wc.specs.Nodes.{WorkingCopy, get_in, base_node, is_dir}
 use Rattle.svn_wc.specs.Builders.{checkout}
 
 abbrev pub standing : History → ℕ → Path → ℕ → WorkingCopy
@@ -18,11 +18,14 @@ standing h rev q n r = option_map (base_node h rev (q ++ r)) (walk (node_at h) n
 abbrev pub nothing : WorkingCopy
 nothing r = None
 
--- the same node at another revision; an entry without a node is none
+-- the same node at another revision
+abbrev pub at_revision : ℕ → BaseNode → BaseNode
+at_revision rev (FileNode r q text props) = FileNode rev q text props
+at_revision rev (DirNode r q complete props) = DirNode rev q complete props
+at_revision rev NotPresent = NotPresent
+
 abbrev pub revised : ℕ → Option BaseNode → Option BaseNode
-revised rev (Some (FileNode r q text props)) = Some (FileNode rev q text props)
-revised rev (Some (DirNode r q complete props)) = Some (DirNode rev q complete props)
-revised rev _ = None
+revised rev found = option_map (at_revision rev) found
 
 -- elsewhere than at q and below nothing changed
 abbrev pub SameOutside : Path → WorkingCopy → WorkingCopy → Type 0
@@ -86,9 +89,18 @@ pub record PutsBelowRevised (rev : ℕ) (part : List ℕ → WorkingCopy) (q : P
 abbrev pub OnlyBelow : History → Path → ℕ → WorkingCopy → Type 0
 OnlyBelow h q n w = (r : Path) → walk (node_at h) n r ≡ None → w (q ++ r) ≡ None
 
+-- the revision of a directory
+abbrev pub directory_revision : Option BaseNode → Option ℕ
+directory_revision (Some (DirNode r q complete props)) = Some r
+directory_revision _ = None
+
 -- ---- plain copies
 
 pub record IsPlain (h : History) (w : WorkingCopy) : Type 0 where
   pub revision : ℕ
   pub root : is_dir (w []) ≡ true
   pub same : (p : Path) → w p ≡ checkout h [] revision p
+
+-- the nodes begin with those of the tree below a node, and the rest comes behind them
+abbrev pub BeginsWithTree : History → ℕ → Path → ℕ → List (Path × BaseNode) → List (Path × BaseNode) → Type 0
+BeginsWithTree h rev q n nodes rest = (tree : List (Path × BaseNode)) × (nodes ≡ tree ++ rest) × Puts (standing h rev q n) q nothing (get_in tree)

@@ -4,10 +4,11 @@ ghost use Rattle.std.specs.Prelude.{◌≡◌, ℕ, ◌∷◌, ◌++◌, [], Lis
 ghost use Rattle.svn_types.specs.Names.{Path};
 ghost use Rattle.svn_types.specs.Paths.{path_eq};
 ghost use Rattle.svn_types.specs.Pairs.{value_of};
-ghost use Rattle.svn_repo.specs.History.{node_at, walk};
+ghost use Rattle.svn_repo.specs.History.{node_at, walk, look};
 ghost use Rattle.svn_repo.specs.Readings.{entries_of};
 ghost use Rattle.svn_wc.specs.Nodes.{get_in};
-ghost use Rattle.svn_wc.specs.Standing.{standing, standing_at, nothing, revised, lines_eq, line_at, kept_of, Puts, PutsRevised, PutsBelow, PutsBelowRevised, OnlyBelow};
+ghost use Rattle.svn_wc.specs.Standing.{standing, standing_at, nothing, at_revision, revised, lines_eq, line_at, kept_of, Puts, PutsRevised, PutsBelow, PutsBelowRevised, OnlyBelow, IsPlain, directory_revision};
+ghost use Rattle.svn_wc.specs.Builders.{checkout};
 
 use crate::base_node::BaseNode;
 use crate::fill::{child_path, count, fill, put_node};
@@ -106,51 +107,60 @@ fn calls_of_change(repo: &Repo, from: NodeId, to: NodeId) -> usize {
     }
 }
 
+// Marks a directory as incomplete.
+fn mark_incomplete(node: &mut BaseNode) {
+    match node {
+        BaseNode::Dir { complete, .. } => *complete = false,
+        _ => (),
+    }
+}
+
 // Opens a directory: from now on it is incomplete.
 fn open_directory(path: &RelPath, nodes: &mut BTreeMap<RelPath, BaseNode>)
     ensures { (p : Path) → path_eq path.now p ≡ false → get_in nodes.new.entries p ≡ get_in nodes.old.entries p }
 {
-    if let Some(BaseNode::Dir { complete, .. }) = nodes.get_mut(path) {
-        *complete = false;
+    match nodes.get_mut(path) {
+        Some(node) => mark_incomplete(node),
+        None => (),
     }
 }
 
-// Gives a present node a revision, and answers whether it is present.
-fn revise(node: &mut BaseNode, target: Rev) -> bool
-    ensures { revised target (Some node.old) ≡ (if result then Some node.new else None) }
+// Gives a node a revision.
+fn revise(node: &mut BaseNode, target: Rev)
+    ensures { node.new ≡ at_revision target node.old }
 {
     match node {
-        BaseNode::File { rev, .. } => {
-            *rev = target;
-            true
-        }
-        BaseNode::Dir { rev, .. } => {
-            *rev = target;
-            true
-        }
-        BaseNode::NotPresent => false,
+        BaseNode::File { rev, .. } => *rev = target,
+        BaseNode::Dir { rev, .. } => *rev = target,
+        BaseNode::NotPresent => (),
     }
 }
 
-// Closes the edit: every present node is of the target's revision, and every entry without a node goes.
+// Closes the edit: every node is of the target's revision.
 fn close_edit(target: Rev, nodes: &mut BTreeMap<RelPath, BaseNode>)
     ensures { (p : Path) → get_in nodes.new.entries p ≡ revised target (get_in nodes.old.entries p) }
 {
-    nodes.retain(|_, node| revise(node, target));
+    nodes.retain(|_, node| {
+        revise(node, target);
+        true
+    });
 }
 
 impl Walk<'_> {
-    // Takes all entries of a directory away.
+    // Takes all away that is beneath a node that a copy has of the repository.
     #[cycle(delete)]
     fn delete_entries(
         &self,
         path: &RelPath,
-        entries: &Entries,
+        id: NodeId,
         nodes: &mut BTreeMap<RelPath, BaseNode>,
     ) -> Result<(), AllocError>
-        requires only { (name : List ℕ) (r : Path) → option_and_then (λ n. walk (node_at self.now.repo.now) n r) (value_of entries.now name) ≡ None → get_in nodes.old.entries (path.now ++ name ∷ r) ≡ None }
+        requires only { OnlyBelow self.now.repo.now path.now id (get_in nodes.old.entries) }
         ensures { OnOk result (PutsBelow (λ name. nothing) path.now (get_in nodes.old.entries) (get_in nodes.new.entries)) }
     {
+        let Some(entries) = self.repo.entries(id) else {
+            return Ok(());
+        };
         for (name, child) in entries.as_map() {
             let below = child_path(self.alloc, path, name)?;
             self.delete(&below, *child, nodes)?;
@@ -169,10 +179,7 @@ impl Walk<'_> {
         requires only { OnlyBelow self.now.repo.now path.now id (get_in nodes.old.entries) }
         ensures { OnOk result (Puts nothing path.now (get_in nodes.old.entries) (get_in nodes.new.entries)) }
     {
-        match self.repo.entries(id) {
-            Some(entries) => self.delete_entries(path, entries, nodes)?,
-            None => (),
-        }
+        self.delete_entries(path, id, nodes)?;
         nodes.remove(path);
         Ok(())
     }
@@ -218,16 +225,22 @@ impl Walk<'_> {
         }
         let below = child_path(self.alloc, path, name)?;
         match from {
-            Some(old) => self.update_node(&below, old, to, nodes, calls),
-            None => fill(
-                self.alloc,
-                self.repo,
-                self.target,
-                &below,
-                to,
-                nodes,
-                calls,
-            ),
+            Some(old) => {
+                self.update_node(&below, old, to, nodes, calls)?;
+                Ok(())
+            }
+            None => {
+                fill(
+                    self.alloc,
+                    self.repo,
+                    self.target,
+                    &below,
+                    to,
+                    nodes,
+                    calls,
+                )?;
+                Ok(())
+            }
         }
     }
 
@@ -269,7 +282,8 @@ impl Walk<'_> {
         open_directory(path, nodes);
         self.delete_gone(path, before, after, nodes, calls)?;
         self.update_entries(path, before, after, nodes, calls)?;
-        put_node(self.alloc, self.repo, self.target, path, to, nodes)
+        put_node(self.alloc, self.repo, self.target, path, to, nodes)?;
+        Ok(())
     }
 
     // Puts a node anew in the place of another.
@@ -293,7 +307,8 @@ impl Walk<'_> {
             to,
             nodes,
             calls,
-        )
+        )?;
+        Ok(())
     }
 
     // Brings a node of a copy, and all that is beneath it, from one node of the repository to another.
@@ -314,7 +329,11 @@ impl Walk<'_> {
             (Some(before), Some(after)) => {
                 self.update_directory(path, to, before, after, nodes, calls)
             }
-            (None, None) => put_node(self.alloc, self.repo, self.target, path, to, nodes),
+            (None, None) => {
+                put_node(self.alloc, self.repo, self.target, path, to, nodes)?;
+                Ok(())
+            }
+            // one line has nodes of one kind, so this doesn't come
             _ => self.replace_node(path, from, to, nodes, calls),
         }
     }
@@ -322,7 +341,9 @@ impl Walk<'_> {
 
 impl WorkingCopy {
     // The revision of the copy's root, where that is a directory.
-    fn root_revision(&self, root: &RelPath) -> Option<Rev> {
+    fn root_revision(&self, root: &RelPath) -> Option<Rev>
+        ensures { result ≡ directory_revision (get_in self.now root.now) }
+    {
         match self.nodes.get(root) {
             Some(BaseNode::Dir { rev, .. }) => Some(*rev),
             _ => None,
@@ -337,7 +358,11 @@ impl WorkingCopy {
         repo: &Repo,
         to: NodeId,
         target: Rev,
-    ) -> Result<u64, u64> {
+    ) -> Result<u64, u64>
+        requires plain { IsPlain repo.now (get_in self.old) }
+        requires root { look repo.now target [] ≡ Some to }
+        ensures { OnOk result ((p : Path) → get_in self.new p ≡ checkout repo.now [] target p) }
+    {
         let root = RelPath::root(alloc);
         let mut calls = 1;
         let Some(base) = self.root_revision(&root) else {
