@@ -9,29 +9,22 @@ use Rattle.std.proofs.lemmas.List.{length-map}
 use Rattle.svn_types.specs.declared.kind.Kind.{Kind}
 use Rattle.svn_types.specs.declared.kind.Kind.TheVariants.{File, Directory}
 use Rattle.svn_repo.specs.declared.store.Node.{Node}
+use Rattle.svn_repo.specs.declared.store.Content.{Content}
+use Rattle.svn_repo.specs.declared.store.Content.TheVariants.{Text, Listing}
 use Rattle.svn_repo.specs.declared.change.Change.{Change}
 use Rattle.svn_repo.specs.declared.change.CommitFault.{CommitFault}
 use Rattle.svn_types.specs.Names.{Path}
-use Rattle.svn_repo.specs.History.{History, Nodes, NodeRow, node_at, child_in, walk, look, IsDirectoryIn}
-use Rattle.svn_repo.specs.Stored.{row_of, rows, history_of, IsRepository}
-use Rattle.svn_repo.specs.Trees.{Place, Tree, place_of, place_at, tree_below, is_directory_place}
-use Rattle.svn_repo.specs.Drafts.{IsDraft, IsClosedIn, KeepsOld, tree_in}
+use Rattle.svn_repo.specs.History.{History, Nodes, NodeRow, node_at, entries_at, child_in, walk, look, IsDirectoryIn}
+use Rattle.svn_repo.specs.Stored.{row_of, rows, entries_of, history_of, IsRepository, IsLawfulRow, IsLawfulPlace, IsLawfulTree, IsHeight, AreHeights}
+use Rattle.svn_repo.specs.Trees.{Place, Tree, place_of, place_at, tree_at, tree_below, is_directory_place}
+use Rattle.svn_repo.specs.Drafts.{IsDraft, IsDraftEntries, IsClosedIn, KeepsOld, AreRootsBelow, IsPast, tree_in}
 use Rattle.svn_repo.specs.Changes.{Pending, pending_in, latest_pending, commit_fault, changes_fault, after_changes, AllMade, IsRevision, IsCommit, StandsIn, IsNumbered, IsNodeOf}
-use Rattle.svn_repo.proofs.Walking.{and_then_same}
+use Rattle.svn_repo.proofs.Walking.{and_then_same, and_then_parts}
+use Rattle.svn_repo.proofs.Entering.{no_entries, old_entries}
+use Rattle.svn_repo.proofs.Past.{kept_take, nodes_are}
+use Rattle.svn_repo.proofs.Lawful.{IsLawfulState, changes_lawful, renumbered}
 use Rattle.svn_repo.proofs.Thawing.{walk_stays, walk_same, in_range}
 use Rattle.svn_repo.proofs.Puts.{slice_get-append, slice_get-push}
-
-pub kept_take : {X : Type 0} (old new : List X) → length old ≤ length new → ((m : ℕ) → m < length old → slice_get new m ≡ slice_get old m) → take (length old) new ≡ old
-kept_take [] new grown same = refl
-kept_take (x ∷ old) [] grown same = absurd (omega arith)
-kept_take (x ∷ old) (y ∷ new) grown same =
-    let first : Some y ≡ Some x = same zero (omega arith) in
-    let rest : take (length old) new ≡ old = kept_take old new (omega arith) (λ m h. same (suc m) (omega arith)) in
-    cc
-
--- the nodes of a history by their numbers
-pub nodes_are : (nodes : List Node) (n : ℕ) → slice_get (map row_of nodes) n ≡ rows nodes n
-nodes_are nodes n = slice_get-map row_of nodes n
 
 module _ (roots : List ℕ) (old : List Node) (lines : ℕ) (from : ℕ)
     (sound : IsRepository (history_of roots old lines)) (last : slice_get roots (length roots - 1) ≡ Some from) where
@@ -54,7 +47,33 @@ module _ (roots : List ℕ) (old : List Node) (lines : ℕ) (from : ℕ)
     closed = closed;
     old_closed = λ n m name h e. closed n m name e;
     distinct = λ p q m h v w. let b : m < length old = in_range old closed from m p from_inside v in absurd (omega arith);
+    each = λ n. each_row n (rows old n) refl;
   }
+    where
+      each_row : (n : ℕ) (o : Option NodeRow) → rows old n ≡ o → IsDraftEntries (length old) n (entries_at o)
+      each_row n None e = no_entries (length old) n [] refl
+      each_row n (Some row) e =
+          let lawful : IsLawfulRow row = sound.rows n row (nodes_are old n ∙ e) in
+          old_entries (length old) n row.entries lawful.in_order lawful.named (λ name m f. closed n m name (ap (λ o. child_in o name) e ∙ f))
+
+  pub roots_below : AreRootsBelow (length old) roots
+  roots_below r n e = let d = sound.roots r n e in let b = slice_get_within (map row_of old) n d.0 d.1 in rw size at b
+
+  pub start_past : (heights : List ℕ) → AreHeights old heights → IsPast roots heights old
+  start_past heights known = record {
+    roots_in = λ r n e. rw known.size (roots_below r n e);
+    old = record {
+      inside = omega (arith, known.size);
+      closed = λ n m name h e. rw known.size (closed n m name e);
+      known = λ n k e. subst (λ (nodes : List Node). IsHeight (rows nodes) n k) whole (known.each n k e);
+    };
+  }
+    where
+      whole : old ≡ take (length heights) old
+      whole = sym (ap (λ k. take k old) known.size ∙ kept_take old old (omega arith) (λ m h. refl))
+
+  pub start_state : IsLawfulState (history_of roots old lines) (latest_pending (history_of roots old lines))
+  start_state = record { kinds = sound.kinds; tree = sound.trees (length roots - 1); past = sound.trees }
 
   start_tree : (q : Path) → (latest_pending (history_of roots old lines)).tree q ≡ tree_in (length old) old from q
   start_tree q =
@@ -71,15 +90,15 @@ module _ (roots : List ℕ) (old : List Node) (lines : ℕ) (from : ℕ)
 
 module _ (roots : List ℕ) (old new : List Node) (lines next : ℕ) (from root : ℕ) (changes : List Change)
     (sound : IsRepository (history_of roots old lines)) (last : slice_get roots (length roots - 1) ≡ Some from)
-    (made : AllMade old new from lines root next changes) (kept : KeepsOld (length old) old new) where
+    (made : AllMade roots old new from lines root next changes) (kept : KeepsOld (length old) old new) where
   before : History
   before = history_of roots old lines
 
   pub no_fault : commit_fault (history_of roots old lines) changes ≡ None
-  no_fault = ap (λ s. changes_fault (history_of roots old lines) s changes) (start_pending roots old lines from sound last) ∙ made.no_fault (history_of roots old lines)
+  no_fault = ap (λ s. changes_fault (history_of roots old lines) s changes) (start_pending roots old lines from sound last) ∙ made.no_fault
 
   pending : pending_in (length old) new root next ≡ after_changes (history_of roots old lines) (latest_pending (history_of roots old lines)) changes
-  pending = made.pending (history_of roots old lines) ∙ sym (ap (λ s. after_changes (history_of roots old lines) s changes) (start_pending roots old lines from sound last))
+  pending = made.pending ∙ sym (ap (λ s. after_changes (history_of roots old lines) s changes) (start_pending roots old lines from sound last))
 
   old_size : length (map row_of old) ≡ length old
   old_size = simp length-map
@@ -188,10 +207,75 @@ module _ (roots : List ℕ) (old new : List Node) (lines next : ℕ) (from root 
         subst (IsDirectoryIn (map row_of new)) same new_root
   ]
 
+  -- ---- what stands is lawful
+
+  state : IsLawfulState (history_of roots old lines) (after_changes (history_of roots old lines) (latest_pending (history_of roots old lines)) changes)
+  state = changes_lawful (history_of roots old lines) (latest_pending (history_of roots old lines)) changes no_fault (start_state roots old lines from sound last)
+
+  after_lines : (after_changes (history_of roots old lines) (latest_pending (history_of roots old lines)) changes).lines ≡ next
+  after_lines = ap (λ s. s.lines) (sym pending)
+
+  new_place : (m : ℕ) → place_at (λ k. slice_get (map row_of new) k) (length (map row_of new)) m ≡ option_map (place_of (cond (nat_lt m (length new)) (Some m) None)) (rows new m)
+  new_place m = ap (λ k. option_map (place_of (cond (nat_lt m k) (Some m) None)) (slice_get (map row_of new) m)) new_size ∙ ap (option_map (place_of (cond (nat_lt m (length new)) (Some m) None))) (nodes_are new m)
+
+  -- a place that stands is lawful whatever its number is
+  by_row : (kinds : ℕ → Kind) (q : Path) (a b : Option ℕ) (o : Option NodeRow) (x : Place) → option_map (place_of a) o ≡ Some x → ((y : Place) → option_map (place_of b) o ≡ Some y → IsLawfulPlace kinds next q y) → IsLawfulPlace kinds next q x
+  by_row kinds q a b None x e lawful = cc
+  by_row kinds q a b (Some row) x e lawful =
+      let s : place_of a row ≡ x = cc in
+      subst (IsLawfulPlace kinds next q) s (renumbered kinds next q (place_of a row) (place_of b row) refl refl refl refl (lawful (place_of b row) refl))
+
+  lawful_new : (q : Path) (x : Place) → tree_at (history_of (roots ++ root ∷ []) new next) (length roots) q ≡ Some x → IsLawfulPlace state.kinds next q x
+  lawful_new q x e =
+      let s = and_then_parts (place_at (λ k. slice_get (map row_of new) k) (length (map row_of new))) (look (history_of (roots ++ root ∷ []) new next) (length roots) q) x e in
+      let walked : walk (rows new) root q ≡ Some s.0 = sym (new_look q) ∙ s.1 in
+      by_row state.kinds q (cond (nat_lt s.0 (length new)) (Some s.0) None) (cond (nat_lt s.0 (length old)) (Some s.0) None) (rows new s.0) x (sym (new_place s.0) ∙ s.2) (λ y f.
+      subst (λ k. IsLawfulPlace state.kinds k q y) after_lines (state.tree q y (ap (λ z. z.tree q) (sym pending) ∙ ap (option_and_then (place_at (rows new) (length old))) walked ∙ f)))
+
+  lawful_old : (r : ℕ) (q : Path) (x : Place) → r < length roots → tree_at (history_of (roots ++ root ∷ []) new next) r q ≡ Some x → IsLawfulPlace state.kinds next q x
+  lawful_old r q x h e =
+      let s = and_then_parts (place_at (λ k. slice_get (map row_of new) k) (length (map row_of new))) (look (history_of (roots ++ root ∷ []) new next) r q) x e in
+      let looked : look (history_of roots old lines) r q ≡ Some s.0 = sym (look_kept r q h) ∙ s.1 in
+      let top = and_then_parts (λ n. walk (λ m. slice_get (map row_of old) m) n q) (slice_get roots r) s.0 looked in
+      let below : s.0 < length old = old_walk top.0 s.0 q (root_inside r top.0 top.1) top.2 in
+      by_row state.kinds q (cond (nat_lt s.0 (length new)) (Some s.0) None) (cond (nat_lt s.0 (length (map row_of old))) (Some s.0) None) (rows new s.0) x (sym (new_place s.0) ∙ s.2) (λ y f.
+      subst (λ k. IsLawfulPlace state.kinds k q y) after_lines (state.past r q y (ap (option_and_then (place_at (λ n. slice_get (map row_of old) n) (length (map row_of old)))) looked ∙ ap (option_map (place_of (cond (nat_lt s.0 (length (map row_of old))) (Some s.0) None))) (nodes_are old s.0 ∙ sym (rows_kept s.0 below)) ∙ f)))
+    where
+      old_walk : (n m : ℕ) (q : Path) → n < length old → walk (λ m. slice_get (map row_of old) m) n q ≡ Some m → m < length old
+      old_walk n m q h e = (let V : Nodes → Option ℕ = λ f. walk f n q in in_range old (start_draft roots old lines from sound last).closed n m q h (sym (ap V old_nodes) ∙ e))
+
+  lawful_trees : (r : ℕ) → IsLawfulTree state.kinds next (tree_at (history_of (roots ++ root ∷ []) new next) r)
+  lawful_trees r q x e = elim (cases_lt r (length roots)) [
+    | inl h ↦ lawful_old r q x h e
+    | inr h ↦ elim (cases_eq r (length roots)) [
+      | inl same ↦ lawful_new q x (ap (λ k. tree_at (history_of (roots ++ root ∷ []) new next) k q) (sym same) ∙ e)
+      | inr other ↦
+          let past : slice_get (roots ++ root ∷ []) r ≡ None = slice_get_past (roots ++ root ∷ []) r (omega (arith, length-append roots (root ∷ []))) in
+          let bad : None ≡ Some x = sym (ap (λ o. option_and_then (place_at (λ k. slice_get (map row_of new) k) (length (map row_of new))) (option_and_then (λ n. walk (λ k. slice_get (map row_of new) k) n q) o)) past) ∙ e in cc
+    ]
+  ]
+
+  lawful_rows : (n : ℕ) (row : NodeRow) → slice_get (map row_of new) n ≡ Some row → IsLawfulRow row
+  lawful_rows n row e = by (slice_get new n) refl (sym (nodes_are new n) ∙ e)
+    where
+      by_content : (c : Content) (node : Node) → node.content ≡ c → IsDraftEntries (length old) n (entries_of c) → IsLawfulRow (row_of (record node { content = c }))
+      by_content (Text text) node is each = record { leaf = λ k. refl; no_text = λ k. cc; in_order = each.in_order; named = each.named }
+      by_content (Listing entries) node is each = record { leaf = λ k. cc; no_text = λ k. refl; in_order = each.in_order; named = each.named }
+
+      by : (o : Option Node) → slice_get new n ≡ o → option_map row_of o ≡ Some row → IsLawfulRow row
+      by None at e = cc
+      by (Some node) at e =
+          let s : row_of node ≡ row = cc in
+          let here : entries_at (rows new n) ≡ entries_of node.content = ap (λ o. entries_at (option_map row_of o)) at in
+          subst IsLawfulRow s (by_content node.content node refl (subst (IsDraftEntries (length old) n) here (made.draft.each n)))
+
   pub still_sound : IsRepository (history_of (roots ++ root ∷ []) new next)
   still_sound = record {
     some_revision = omega (arith, length-append roots (root ∷ []));
     roots = all_roots;
     closed = λ n m name e. rw new_size (made.draft.closed n m name (ap (λ o. child_in o name) (sym (nodes_are new n)) ∙ e));
     lines = rw new_size made.bounded;
+    rows = lawful_rows;
+    kinds = state.kinds;
+    trees = lawful_trees;
   }

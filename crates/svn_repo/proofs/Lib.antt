@@ -1,4 +1,6 @@
 pub mod Soundness
+pub mod Pairs
+pub mod Entering
 pub mod Walking
 pub mod Lookups
 pub mod Puts
@@ -6,10 +8,15 @@ pub mod Thawing
 pub mod Ways
 pub mod Putting
 pub mod Making
+pub mod Past
+pub mod Tallest
 pub mod Keeping
 pub mod Faults
 pub mod Standing
 pub mod Pendings
 pub mod Runs
+pub mod Lawful
+pub mod NeverFull
 pub mod Commits
+pub mod Meanings
 pub mod Propping

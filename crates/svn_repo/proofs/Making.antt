@@ -6,13 +6,14 @@ use Rattle.std.specs.Option.{option_and_then, option_map, is_some}
 use Rattle.std.proofs.lemmas.Bool.{cases_Bool}
 use Rattle.svn_repo.specs.declared.store.Node.{Node}
 use Rattle.svn_types.specs.Names.{Path}
-use Rattle.svn_repo.specs.History.{Nodes, NodeRow, child_in, walk}
+use Rattle.svn_repo.specs.History.{Nodes, NodeRow, entries_at, child_in, walk}
 use Rattle.svn_repo.specs.Stored.{row_of, rows, entries_of}
 use Rattle.svn_repo.specs.Walks.{rest_below, led}
 use Rattle.svn_repo.specs.Trees.{Place, Tree, place_of, place_at, tree_below, touched, touch, graft, is_within, leaf, IsWay, is_directory_place}
-use Rattle.svn_repo.specs.Drafts.{IsDraft, IsClosedIn, PutsChild, CopiesNode, shape_at, tree_in, IsThawed, IsGrafted, KeepsOld, old_part, IsOld, IsListing}
+use Rattle.svn_repo.specs.Drafts.{IsDraft, IsDraftEntries, IsClosedIn, PutsChild, CopiesNode, shape_at, tree_in, IsThawed, IsGrafted, KeepsOld, old_part, IsOld, IsListing}
 use Rattle.svn_repo.proofs.Walking.{and_then_same, and_then_parts, walk_step, walk_append}
 use Rattle.svn_repo.proofs.Thawing.{StaysIn, walk_stays, walk_same, place_from_shape, place_fresh, touched_shape, rows-append, rows-push, closed_grown, walk_grown, in_range}
+use Rattle.svn_repo.proofs.Entering.{no_entries, old_entries, each-push}
 use Rattle.svn_repo.proofs.Ways.{is_some-touch, is_directory_place-touch, listing_at}
 use Rattle.svn_repo.proofs.Putting.{put_tree, put_draft, put_graft}
 
@@ -47,6 +48,9 @@ module _ (base : ℕ) (old : List Node) (root : ℕ) (node : Node) (draft : IsDr
       ap (option_and_then (place_at (rows (old ++ node ∷ [])) base)) (walk_new x q)
       ∙ and_then_same (place_at (rows (old ++ node ∷ [])) base) (place_at (rows old) base) (walk (rows old) root (x ∷ q)) (λ m e. place_from_shape (old ++ node ∷ []) old base m (shape_same m (in_range old draft.closed root m (x ∷ q) draft.root_in e)))
 
+  copied_entries : IsDraftEntries base root (entries_of node.content)
+  copied_entries = subst (λ o. IsDraftEntries base root (entries_at o)) copy (draft.each root)
+
   pub root_thawed : IsThawed base old (old ++ node ∷ []) root (length old) [] (length old)
   root_thawed = record {
     draft = record {
@@ -55,6 +59,7 @@ module _ (base : ℕ) (old : List Node) (root : ℕ) (node : Node) (draft : IsDr
       closed = closed_grown old node draft.closed (λ m x e. draft.closed root m x (ap (λ o. child_in o x) copy ∙ e));
       old_closed = λ k m x h e. let b : k < length old = omega (arith, draft.base_in) in draft.old_closed k m x h (ap (λ o. child_in o x) (sym (rows-append old node k b)) ∙ e);
       distinct = root_distinct;
+      each = each-push base old node draft.each (old_entries base (length old) (entries_of node.content) (copied_entries.in_order) (copied_entries.named) (λ name m e. draft.old_closed root m name below (ap (λ o. child_in o name) copy ∙ e)));
     };
     here = refl;
     fresh = draft.base_in;
@@ -113,7 +118,14 @@ module _ (base : ℕ) (old mid new : List Node) (from root at : ℕ) (p : Path) 
     closed = closed_grown mid node thawed.draft.closed (λ m x e. let bad : None ≡ Some m = sym (no_child x) ∙ e in cc);
     old_closed = λ k m x h e. let b : k < length mid = omega (arith, thawed.draft.base_in) in thawed.draft.old_closed k m x h (ap (λ o. child_in o x) (sym (rows-append mid node k b)) ∙ e);
     distinct = λ q r m h v w. thawed.draft.distinct q r m h (sym (walk_mid q) ∙ v) (sym (walk_mid r) ∙ w);
+    each = each-push base mid node thawed.draft.each (no_entries base (length mid) (entries_of node.content) childless);
   }
+
+  last_later : (c : ℕ) → Some (length mid) ≡ Some c → (c < base) ⊎ (at < c)
+  last_later c e =
+      let s : length mid ≡ c = cc in
+      let b : at < length mid = in_range mid thawed.draft.closed root at p thawed.draft.root_in thawed.here in
+      inr (omega arith)
 
   inside : (c : ℕ) → Some (length mid) ≡ Some c → c < length (mid ++ node ∷ [])
   inside c e = let s : length mid ≡ c = cc in omega (arith, length-append mid (node ∷ []))
@@ -145,10 +157,10 @@ module _ (base : ℕ) (old mid new : List Node) (from root at : ℕ) (p : Path) 
 
   pub made_grafted : base ≤ root → IsGrafted base old new from root (p ++ name ∷ []) (leaf (place_of None (row_of node)))
   made_grafted fresh = record {
-    draft = put_draft base (mid ++ node ∷ []) new root at p name (Some (length mid)) draft_mid way_mid thawed.fresh put inside aside alone;
+    draft = put_draft base (mid ++ node ∷ []) new root at p name (Some (length mid)) draft_mid way_mid thawed.fresh put inside aside alone last_later;
     fresh = fresh;
     tree = λ q.
-        put_tree base (mid ++ node ∷ []) new root at p name (Some (length mid)) draft_mid way_mid thawed.fresh put inside aside alone q
+        put_tree base (mid ++ node ∷ []) new root at p name (Some (length mid)) draft_mid way_mid thawed.fresh put inside aside alone last_later q
         ∙ ap (led (rest_below (p ++ name ∷ []) q) (λ r. tree_in base (mid ++ node ∷ []) (length mid) r)) (places_mid q ∙ thawed.tree q)
         ∙ put_graft (tree_in base old from) p name (λ r. tree_in base (mid ++ node ∷ []) (length mid) r) (leaf (place_of None (row_of node))) q part_is;
   }
@@ -184,10 +196,10 @@ module _ (base : ℕ) (old mid new : List Node) (from root at : ℕ) (p : Path) 
 
   pub old_grafted : base ≤ root → IsGrafted base old new from root (p ++ name ∷ []) (old_part base old w)
   old_grafted fresh = record {
-    draft = put_draft base mid new root at p name w thawed.draft thawed.here thawed.fresh put inside2 aside2 alone2;
+    draft = put_draft base mid new root at p name w thawed.draft thawed.here thawed.fresh put inside2 aside2 alone2 (λ c e. inl (is_old c e));
     fresh = fresh;
     tree = λ q.
-        put_tree base mid new root at p name w thawed.draft thawed.here thawed.fresh put inside2 aside2 alone2 q
+        put_tree base mid new root at p name w thawed.draft thawed.here thawed.fresh put inside2 aside2 alone2 (λ c e. inl (is_old c e)) q
         ∙ ap (led (rest_below (p ++ name ∷ []) q) (old_part base mid w)) (thawed.tree q)
         ∙ put_graft (tree_in base old from) p name (old_part base mid w) (old_part base old w) q part_is2;
   }

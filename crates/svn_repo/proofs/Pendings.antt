@@ -3,12 +3,12 @@ use Rattle.std.proofs.Common.{◌≡◌, ℕ, ◌≤◌, ◌+◌, Bool, false, c
 use Rattle.svn_repo.specs.declared.store.Node.{Node}
 use Rattle.svn_repo.specs.declared.change.Change.{Change}
 use Rattle.svn_types.specs.Names.{Path}
-use Rattle.svn_repo.specs.History.{History}
-use Rattle.svn_repo.specs.Trees.{Place, Tree, graft, touch, touched, is_directory_place, with_prop, place_with_prop, IsWay}
-use Rattle.svn_repo.specs.Drafts.{IsDraft, IsGrafted, tree_in}
+use Rattle.svn_repo.specs.History.{History, look, node_at}
+use Rattle.svn_repo.specs.Trees.{Place, Tree, tree_at, graft, touch, touched, is_directory_place, with_prop, place_with_prop, IsWay}
+use Rattle.svn_repo.specs.Drafts.{IsDraft, IsGrafted, past_in, tree_in}
 use Rattle.std.specs.Option.{option_or, option_map, is_some}
-use Rattle.svn_repo.specs.declared.change.Change.TheVariants.{MakeDir, PutFile, SetProp, Remove}
-use Rattle.svn_repo.specs.Changes.{Pending, pending_in, after_change, IsMade, root_fault, above_fault, change_fault, fault_if, depth_fault, size_fault, missing_fault, value_fault, lines_after}
+use Rattle.svn_repo.specs.declared.change.Change.TheVariants.{MakeDir, PutFile, SetProp, Remove, CopyFrom}
+use Rattle.svn_repo.specs.Changes.{Pending, pending_in, after_change, IsMade, root_fault, above_fault, change_fault, fault_if, depth_fault, size_fault, missing_fault, value_fault, lines_after, revision_fault, walk_fault, copy_fault, copy_depth_fault}
 use Rattle.svn_repo.specs.declared.change.CommitFault.TheVariants.{Exists, NotFile, Missing}
 use Rattle.svn_repo.proofs.Faults.{or_none, way_whole}
 use Rattle.svn_repo.proofs.Ways.{is_directory_place-touch}
@@ -17,8 +17,8 @@ grafted_root : (t part : Tree) (p : Path) → root_fault p ≡ None → graft t 
 grafted_root t part [] h = cc
 grafted_root t part (m ∷ p) h = refl
 
-pub made_by_graft : (base : ℕ) (old new : List Node) (from root lines next : ℕ) (p : Path) (part : Tree) (change : Change) → IsGrafted base old new from root p part → root_fault p ≡ None → next ≤ length new → ((h : History) → after_change h (pending_in base old from lines) change ≡ record { tree = graft (tree_in base old from) p part; lines = next }) → IsMade base old new from lines root next change
-made_by_graft base old new from root lines next p part change g not_root bounded is = record {
+pub made_by_graft : (base : ℕ) (old new : List Node) (from root lines next : ℕ) (p : Path) (part : Tree) (change : Change) (roots : List ℕ) → IsGrafted base old new from root p part → root_fault p ≡ None → next ≤ length new → ((l : ℕ) → after_change (past_in base roots old l) (pending_in base old from lines) change ≡ record { tree = graft (tree_in base old from) p part; lines = next }) → IsMade base roots old new from lines root next change
+made_by_graft base old new from root lines next p part change roots g not_root bounded is = record {
   draft = g.draft;
   bounded = bounded;
   directory = λ d. ap is_directory_place (g.tree [] ∙ grafted_root (tree_in base old from) part p not_root) ∙ is_directory_place-touch (tree_in base old from) p [] ∙ d;
@@ -75,13 +75,43 @@ prop_root : (t : Tree) (p : Path) (name : List ℕ) (value : Option (List ℕ)) 
 prop_root t [] name value = kind_with_prop name value (t [])
 prop_root t (m ∷ p) name value = is_directory_place-touch t (m ∷ p) []
 
-pub made_by_prop : (base : ℕ) (old new : List Node) (from root lines : ℕ) (p : Path) (name : List ℕ) (value : Option (List ℕ)) (change : Change) → IsGrafted base old new from root p (with_prop (tree_in base old from) p name value) → lines ≤ length new → change ≡ SetProp p name value → IsMade base old new from lines root lines change
-made_by_prop base old new from root lines p name value change g bounded is = record {
+pub made_by_prop : (base : ℕ) (old new : List Node) (from root lines : ℕ) (p : Path) (name : List ℕ) (value : Option (List ℕ)) (change : Change) (roots : List ℕ) → IsGrafted base old new from root p (with_prop (tree_in base old from) p name value) → lines ≤ length new → change ≡ SetProp p name value → IsMade base roots old new from lines root lines change
+made_by_prop base old new from root lines p name value change roots g bounded is = record {
   draft = g.draft;
   bounded = bounded;
   directory = λ d. ap is_directory_place (g.tree []) ∙ prop_root (tree_in base old from) p name value ∙ d;
   pending = λ h.
       (let same : tree_in base new root ≡ graft (tree_in base old from) p (with_prop (tree_in base old from) p name value) = λ i q. g.tree q i in
       let P : Tree → Pending = λ t. record { tree = t; lines = lines } in
-      ap P same ∙ sym (ap (after_change h (pending_in base old from lines)) is));
+      ap P same ∙ sym (ap (after_change (past_in base roots old h) (pending_in base old from lines)) is));
 }
+
+-- ---- copies
+
+pub record CanCopy (h : History) (t : Tree) (rev : ℕ) (source path : Path) : Type 0 where
+  pub not_root : root_fault path ≡ None
+  pub revision : revision_fault h rev ≡ None
+  pub way : above_fault (tree_at h rev) source ≡ None
+  pub present : is_some (tree_at h rev source) ≡ true
+  pub above : above_fault t path ≡ None
+  pub depth : copy_depth_fault (node_at h) (look h rev source) path ≡ None
+
+pub can_copy : (h : History) (s : Pending) (rev : ℕ) (source path : Path) → change_fault h s (CopyFrom rev source path) ≡ None → CanCopy h s.tree rev source path
+can_copy h s rev source path e =
+    let depth : Option _ = copy_depth_fault (node_at h) (look h rev source) path in
+    let exists : Option _ = fault_if (is_some (s.tree path)) Exists in
+    let above : Option _ = above_fault s.tree path in
+    let a = or_none (root_fault path) (copy_fault h s.tree rev source path) e in
+    let b = or_none (revision_fault h rev) (option_or (walk_fault (tree_at h rev) source) (option_or above (option_or exists depth))) a.1 in
+    let c = or_none (walk_fault (tree_at h rev) source) (option_or above (option_or exists depth)) b.1 in
+    let d = or_none above (option_or exists depth) c.1 in
+    let f = or_none exists depth d.1 in
+    let g = or_none (above_fault (tree_at h rev) source) (missing_fault (tree_at h rev source)) c.0 in
+    record {
+      not_root = a.0;
+      revision = b.0;
+      way = g.0;
+      present = some_by (tree_at h rev source) g.1;
+      above = d.0;
+      depth = f.1;
+    }

@@ -9,11 +9,11 @@ use Rattle.std.proofs.lemmas.Grind.{common_steps}
 use Rattle.svn_repo.specs.declared.store.Node.{Node}
 use Rattle.svn_types.specs.Names.{Path}
 use Rattle.svn_types.specs.Pairs.{with_value}
-use Rattle.svn_repo.specs.History.{Nodes, NodeRow, child_in, walk}
+use Rattle.svn_repo.specs.History.{Nodes, NodeRow, entries_at, child_in, walk}
 use Rattle.svn_repo.specs.Stored.{row_of, rows}
 use Rattle.svn_repo.specs.Walks.{rest_below, led}
 use Rattle.svn_repo.specs.Trees.{Place, Tree, place_of, place_at, touched, touch, graft, is_within, place_with_prop, with_prop}
-use Rattle.svn_repo.specs.Drafts.{IsDraft, IsClosedIn, SetsProp, shape_at, tree_in, IsThawed, IsGrafted}
+use Rattle.svn_repo.specs.Drafts.{IsDraft, IsDraftEntries, IsClosedIn, SetsProp, shape_at, tree_in, IsThawed, IsGrafted}
 use Rattle.svn_repo.proofs.Puts.{slice_get-set_other, slice_get-set_same}
 use Rattle.svn_repo.proofs.Walking.{and_then_same, rest_below_is}
 use Rattle.svn_repo.proofs.Thawing.{StaysIn, walk_same, place_from_shape, place_fresh, touched_shape, rest_below_self, path_cases, append_nil}
@@ -30,6 +30,7 @@ sets_prop old at node name value ps here is =
       others = slice_get-set_other old at (record node { props = ps });
       shape = rw (now, was, is) refl;
       children = λ x. rw (now, was) refl;
+      entries = rw (now, was) refl;
     }
 
 module _ (base : ℕ) (old mid new : List Node) (from root at : ℕ) (p : Path) (name : List ℕ) (value : Option (List ℕ))
@@ -38,6 +39,12 @@ module _ (base : ℕ) (old mid new : List Node) (from root at : ℕ) (p : Path) 
   children_same n x = elim (cases_eq n at) [
     | inl e ↦ subst (λ k. child_in (rows new k) x ≡ child_in (rows mid k) x) (sym e) (sets.children x)
     | inr ne ↦ ap (λ o. child_in (option_map row_of o) x) (sets.others n ne)
+  ]
+
+  entries_same : (n : ℕ) → entries_at (rows new n) ≡ entries_at (rows mid n)
+  entries_same n = elim (cases_eq n at) [
+    | inl e ↦ subst (λ k. entries_at (rows new k) ≡ entries_at (rows mid k)) (sym e) sets.entries
+    | inr ne ↦ ap (λ o. entries_at (option_map row_of o)) (sets.others n ne)
   ]
 
   walk_prop : (n : ℕ) (q : Path) → walk (rows new) n q ≡ walk (rows mid) n q
@@ -99,6 +106,7 @@ module _ (base : ℕ) (old mid new : List Node) (from root at : ℕ) (p : Path) 
       closed = λ n m x e. rw sets.size (thawed.draft.closed n m x (sym (children_same n x) ∙ e));
       old_closed = λ n m x h e. thawed.draft.old_closed n m x h (sym (children_same n x) ∙ e);
       distinct = λ q r m h v w. thawed.draft.distinct q r m h (sym (walk_prop root q) ∙ v) (sym (walk_prop root r) ∙ w);
+      each = λ n. subst (IsDraftEntries base n) (sym (entries_same n)) (thawed.draft.each n);
     };
     fresh = fresh;
     tree = prop_tree;

@@ -12,6 +12,7 @@ use Rattle.svn_repo.specs.Walks.{rest_below, led}
 use Rattle.svn_repo.specs.Trees.{Place, Tree, place_of, place_at, tree_below, touched, touch, graft, is_within}
 use Rattle.svn_repo.specs.Drafts.{IsDraft, IsClosedIn, PutsChild, shape_at, tree_in, IsThawed}
 use Rattle.svn_repo.proofs.Walking.{SameBut, IsApart, IsOnlyWay, and_then_same, and_then_parts, walk_step, walk_append, walk_after_put, rest_below_is}
+use Rattle.svn_repo.proofs.Entering.{each-put}
 use Rattle.svn_repo.proofs.Thawing.{place_from_shape, rows-append, rows-push, closed_grown, walk_grown, in_range, within_more, rest_below_self, path_cases}
 
 pub led_same : {T : Type 0} (o : Option Path) (u v : Path → T) (x y : T) → ((r : Path) → u r ≡ v r) → (o ≡ None → x ≡ y) → led o u x ≡ led o v y
@@ -23,7 +24,8 @@ module _ (base : ℕ) (mid new : List Node) (root at : ℕ) (p : Path) (name : L
     (put : PutsChild mid new at name w)
     (inside : (c : ℕ) → w ≡ Some c → c < length mid)
     (aside : (c m : ℕ) (q r : Path) → w ≡ Some c → base ≤ m → walk (rows mid) c r ≡ Some m → walk (rows mid) root q ≡ Some m → ⊥)
-    (alone : (c m : ℕ) (q r : Path) → w ≡ Some c → base ≤ m → walk (rows mid) c q ≡ Some m → walk (rows mid) c r ≡ Some m → q ≡ r) where
+    (alone : (c m : ℕ) (q r : Path) → w ≡ Some c → base ≤ m → walk (rows mid) c q ≡ Some m → walk (rows mid) c r ≡ Some m → q ≡ r)
+    (later : (c : ℕ) → w ≡ Some c → (c < base) ⊎ (at < c)) where
   spot : Path
   spot = p ++ name ∷ []
 
@@ -97,6 +99,7 @@ module _ (base : ℕ) (mid new : List Node) (root at : ℕ) (p : Path) (name : L
     closed = closed_put;
     old_closed = old_closed_put;
     distinct = distinct_put;
+    each = each-put base mid new at name w draft.each put later;
   }
 
 -- the tree after the way to p was thawed and the part put at the name

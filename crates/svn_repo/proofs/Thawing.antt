@@ -9,12 +9,13 @@ use Rattle.std.proofs.lemmas.Option.{slice_get_past}
 use Rattle.std.proofs.lemmas.Slice.Eq.{bytes_eq-Decides, slice_eq-Decides}
 use Rattle.svn_repo.specs.declared.store.Node.{Node}
 use Rattle.svn_types.specs.Names.{Path}
-use Rattle.svn_repo.specs.History.{Nodes, NodeRow, child_in, walk}
-use Rattle.svn_repo.specs.Stored.{row_of, rows}
+use Rattle.svn_repo.specs.History.{Nodes, NodeRow, entries_at, child_in, walk}
+use Rattle.svn_repo.specs.Stored.{row_of, rows, entries_of}
 use Rattle.svn_repo.specs.Walks.{rest_below, led}
 use Rattle.svn_repo.specs.Trees.{Place, Tree, place_of, place_at, tree_below, touched, touch, is_within}
-use Rattle.svn_repo.specs.Drafts.{IsDraft, IsClosedIn, ThawsChild, already, copied, CopiesNode, PutsChild, shape_at, tree_in, IsThawed}
+use Rattle.svn_repo.specs.Drafts.{IsDraft, IsDraftEntries, IsClosedIn, ThawsChild, already, copied, CopiesNode, PutsChild, shape_at, tree_in, IsThawed}
 use Rattle.svn_repo.proofs.Puts.{slice_get-append, slice_get-push}
+use Rattle.svn_repo.proofs.Entering.{old_entries, each-push, each-put}
 use Rattle.svn_repo.proofs.Walking.{SameBut, IsApart, IsOnlyWay, and_then_same, and_then_parts, walk_step, walk_append, walk_after_put, rest_below_is}
 
 -- ---- paths
@@ -268,6 +269,15 @@ module _ (base : ℕ) (old between new : List Node) (root at : ℕ) (p : Path) (
       ap (option_and_then (place_at (rows new) base)) (walk_else q ne)
       ∙ and_then_same (place_at (rows new) base) (place_at (rows old) base) (walk (rows old) root q) (λ m e. place_from_shape new old base m (shape_old m (in_range old draft.closed root m q draft.root_in e)))
 
+  copied_entries : IsDraftEntries base n (entries_of node.content)
+  copied_entries = subst (λ o. IsDraftEntries base n (entries_at o)) copy (draft.each n)
+
+  each_between : (k : ℕ) → IsDraftEntries base k (entries_at (rows between k))
+  each_between = rw grown (each-push base old node draft.each (old_entries base (length old) (entries_of node.content) copied_entries.in_order copied_entries.named (λ x m e. draft.old_closed n m x is_old (ap (λ o. child_in o x) copy ∙ e))))
+
+  each_new : (k : ℕ) → IsDraftEntries base k (entries_at (rows new k))
+  each_new = each-put base between new at name (Some (length old)) each_between put (λ c e. let s : length old ≡ c = cc in inr (omega (arith, at_below)))
+
   step_copied : IsStep base old new root (p ++ name ∷ []) (length old)
   step_copied = record {
     draft = record {
@@ -276,6 +286,7 @@ module _ (base : ℕ) (old between new : List Node) (root at : ℕ) (p : Path) (
       closed = closed_new;
       old_closed = old_closed_new;
       distinct = distinct_new;
+      each = each_new;
     };
     here = walk_here;
     fresh = draft.base_in;

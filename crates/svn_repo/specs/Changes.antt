@@ -2,35 +2,27 @@
 --     change_fault h s change      why the change can't be made, if it can't
 --     after_change h s change      the tree and the next line after it
 --     IsCommit h h' changes      h' is h with one more revision, made by the changes
-use Rattle.std.specs.Prelude.{◌≡◌, ℕ, ◌+◌, ◌-◌, ◌≤◌, ◌<◌, Bool, true, false, not, List, [], ◌∷◌, ◌++◌, length, nat_lt, slice_get, Option, Some, None, MatchOption, is_some, is_none, option_map, option_and_then, if◌then◌else◌, ◌⊎◌}
+use Rattle.std.specs.Prelude.{◌≡◌, ℕ, ◌+◌, ◌-◌, ◌≤◌, ◌<◌, Bool, true, false, not, List, [], ◌∷◌, ◌++◌, length, nat_lt, nat_le, slice_get, Option, Some, None, MatchOption, is_some, is_none, option_map, option_and_then, if◌then◌else◌, ◌⊎◌}
 use Rattle.std.specs.Option.{option_or}
 use Rattle.svn_types.specs.declared.kind.Kind.{Kind}
 use Rattle.svn_types.specs.declared.kind.Kind.TheVariants.{File, Directory}
 use Rattle.svn_repo.specs.declared.change.Change.{Change}
-use Rattle.svn_repo.specs.declared.change.Change.TheVariants.{MakeDir, PutFile, SetProp, Remove}
+use Rattle.svn_repo.specs.declared.change.Change.TheVariants.{MakeDir, PutFile, SetProp, Remove, CopyFrom}
 use Rattle.svn_repo.specs.declared.change.CommitFault.{CommitFault}
-use Rattle.svn_repo.specs.declared.change.CommitFault.TheVariants.{Exists, Missing, NotDir, NotFile, IsRoot, TooDeep, NoSuchRevision, TooLong, Memory}
+use Rattle.svn_repo.specs.declared.change.CommitFault.TheVariants.{Exists, Missing, NotDir, NotFile, IsRoot, TooDeep, NoSuchRevision, TooLong, Full, Memory}
 use Rattle.svn_repo.specs.declared.store.Node.{Node}
-use Rattle.svn_repo.specs.Drafts.{IsDraft, tree_in}
+use Rattle.svn_repo.specs.Drafts.{IsDraft, tree_in, past_in}
+use Rattle.svn_repo.specs.Stored.{history_of}
 use Rattle.svn_types.specs.Names.{Path}
 use Rattle.svn_types.specs.Pairs.{with_value}
-use Rattle.svn_repo.specs.History.{NodeRow, History, node_at, look, walk}
-use Rattle.svn_repo.specs.Trees.{Place, Tree, place_at, tree_below, touch, graft, leaf, nothing, with_prop, is_directory_place}
-
-abbrev pub path_limit : ℕ
-path_limit = 64
-
-abbrev pub size_limit : ℕ
-size_limit = 1048576
+use Rattle.svn_repo.specs.History.{NodeRow, History, Nodes, node_at, look, walk, reaches}
+use Rattle.svn_repo.specs.Readings.{path_limit, size_limit}
+use Rattle.svn_repo.specs.Trees.{Place, Tree, place_at, tree_at, tree_below, touch, graft, leaf, nothing, with_prop, is_directory_place}
 
 -- the tree that the changes so far have made, and the next line
 pub record Pending : Type 0 where
   pub tree : Tree
   pub lines : ℕ
-
--- the tree of a revision, each node still being what it is
-abbrev pub tree_at : History → ℕ → Tree
-tree_at h r q = option_and_then (place_at (node_at h) (length h.nodes)) (look h r q)
 
 abbrev pub pending_in : ℕ → List Node → ℕ → ℕ → Pending
 pending_in base nodes root lines = record { tree = tree_in base nodes root; lines = lines }
@@ -66,15 +58,38 @@ abbrev pub value_fault : Option (List ℕ) → Option CommitFault
 value_fault None = None
 value_fault (Some value) = size_fault value
 
+-- on the way to a path that has to stand
+abbrev pub walk_fault : Tree → Path → Option CommitFault
+walk_fault t p = option_or (above_fault t p) (missing_fault (t p))
+
+abbrev pub revision_fault : History → ℕ → Option CommitFault
+revision_fault h r = fault_if (nat_le (length h.roots) r) NoSuchRevision
+
+-- a node below the source would stand at a path of too many names
+abbrev pub copy_depth_fault : Nodes → Option ℕ → Path → Option CommitFault
+copy_depth_fault nodes None p = None
+copy_depth_fault nodes (Some n) p = fault_if (reaches nodes (path_limit + 1 - length p) n) TooDeep
+
+abbrev pub directory_fault_at : Tree → Path → Option CommitFault
+directory_fault_at t path = option_or (above_fault t path) (option_or (fault_if (is_some (t path)) Exists) (depth_fault path))
+
+abbrev pub file_fault_at : Tree → Path → Option CommitFault
+file_fault_at t path = option_or (above_fault t path) (option_or (fault_if (is_directory_place (t path)) NotFile) (depth_fault path))
+
+-- the source is looked up first, in its own revision
+abbrev pub copy_fault : History → Tree → ℕ → Path → Path → Option CommitFault
+copy_fault h t rev source path =
+    option_or (revision_fault h rev)
+    (option_or (walk_fault (tree_at h rev) source)
+    (option_or (above_fault t path)
+    (option_or (fault_if (is_some (t path)) Exists) (copy_depth_fault (node_at h) (look h rev source) path))))
+
 abbrev pub change_fault : History → Pending → Change → Option CommitFault
-change_fault h s (MakeDir path) =
-    option_or (root_fault path) (option_or (above_fault s.tree path) (option_or (fault_if (is_some (s.tree path)) Exists) (depth_fault path)))
-change_fault h s (PutFile path text) =
-    option_or (root_fault path) (option_or (size_fault text) (option_or (above_fault s.tree path) (option_or (fault_if (is_directory_place (s.tree path)) NotFile) (depth_fault path))))
-change_fault h s (SetProp path name value) =
-    option_or (value_fault value) (option_or (above_fault s.tree path) (missing_fault (s.tree path)))
-change_fault h s (Remove path) =
-    option_or (root_fault path) (option_or (above_fault s.tree path) (missing_fault (s.tree path)))
+change_fault h s (MakeDir path) = option_or (root_fault path) (directory_fault_at s.tree path)
+change_fault h s (PutFile path text) = option_or (root_fault path) (option_or (size_fault text) (file_fault_at s.tree path))
+change_fault h s (SetProp path name value) = option_or (value_fault value) (walk_fault s.tree path)
+change_fault h s (Remove path) = option_or (root_fault path) (walk_fault s.tree path)
+change_fault h s (CopyFrom rev source path) = option_or (root_fault path) (copy_fault h s.tree rev source path)
 
 -- ---- what a change makes
 
@@ -95,6 +110,7 @@ after_change h s (MakeDir path) = record { tree = graft s.tree path (leaf (new_d
 after_change h s (PutFile path text) = record { tree = graft s.tree path (leaf (with_text s.lines (s.tree path) text)); lines = lines_after s.lines (s.tree path) }
 after_change h s (SetProp path name value) = record { tree = graft s.tree path (with_prop s.tree path name value); lines = s.lines }
 after_change h s (Remove path) = record { tree = graft s.tree path nothing; lines = s.lines }
+after_change h s (CopyFrom rev source path) = record { tree = graft s.tree path (λ q. tree_at h rev (source ++ q)); lines = s.lines }
 
 -- ---- a list of changes
 
@@ -144,21 +160,35 @@ pub record IsRevision (h h' : History) (s : Pending) : Type 0 where
 abbrev pub IsCommit : History → History → List Change → Type 0
 IsCommit h h' changes = (commit_fault h changes ≡ None) × IsRevision h h' (after_changes h (latest_pending h) changes)
 
+-- ---- changes on a draft
+
 -- the change is made on a draft: the root and the next line after it
-pub record IsMade (base : ℕ) (old new : List Node) (from lines root next : ℕ) (change : Change) : Type 0 where
+pub record IsMade (base : ℕ) (roots : List ℕ) (old new : List Node) (from lines root next : ℕ) (change : Change) : Type 0 where
   pub draft : IsDraft base new root
   pub bounded : next ≤ length new
   pub directory : is_directory_place (tree_in base old from []) ≡ true → is_directory_place (tree_in base new root []) ≡ true
-  pub pending : (h : History) → pending_in base new root next ≡ after_change h (pending_in base old from lines) change
+  pub pending : (l : ℕ) → pending_in base new root next ≡ after_change (past_in base roots old l) (pending_in base old from lines) change
 
 -- the changes are made on a draft over the old nodes
-pub record AllMade (old new : List Node) (from lines root next : ℕ) (changes : List Change) : Type 0 where
+pub record AllMade (roots : List ℕ) (old new : List Node) (from lines root next : ℕ) (changes : List Change) : Type 0 where
   pub draft : IsDraft (length old) new root
   pub bounded : next ≤ length new
   pub directory : is_directory_place (tree_in (length old) old from []) ≡ true → is_directory_place (tree_in (length old) new root []) ≡ true
-  pub no_fault : (h : History) → changes_fault h (pending_in (length old) old from lines) changes ≡ None
-  pub pending : (h : History) → pending_in (length old) new root next ≡ after_changes h (pending_in (length old) old from lines) changes
+  pub no_fault : changes_fault (history_of roots old lines) (pending_in (length old) old from lines) changes ≡ None
+  pub pending : pending_in (length old) new root next ≡ after_changes (history_of roots old lines) (pending_in (length old) old from lines) changes
 
 -- the fault is that of the first change which can't be made, or want of memory
-abbrev pub IsFaultOf : List Node → ℕ → ℕ → List Change → CommitFault → Type 0
-IsFaultOf old from lines changes e = (e ≡ Memory) ⊎ ((h : History) → changes_fault h (pending_in (length old) old from lines) changes ≡ Some e)
+abbrev pub IsFaultOf : List ℕ → List Node → ℕ → ℕ → List Change → CommitFault → Type 0
+IsFaultOf roots old from lines changes e = (e ≡ Memory) ⊎ (changes_fault (history_of roots old lines) (pending_in (length old) old from lines) changes ≡ Some e)
+
+abbrev pub commit_fault_number : CommitFault → ℕ
+commit_fault_number Exists = 1
+commit_fault_number Missing = 2
+commit_fault_number NotDir = 3
+commit_fault_number NotFile = 4
+commit_fault_number IsRoot = 5
+commit_fault_number TooDeep = 6
+commit_fault_number NoSuchRevision = 7
+commit_fault_number TooLong = 8
+commit_fault_number Full = 9
+commit_fault_number Memory = 10

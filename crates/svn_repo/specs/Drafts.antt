@@ -1,16 +1,25 @@
 -- The stored nodes while a commit is made. Those from the base on are made by it, and stand at one path at most.
-use Rattle.std.specs.Prelude.{◌≡◌, ◌≢◌, ℕ, ◌<◌, ◌≤◌, List, [], ◌∷◌, ◌++◌, length, bytes_eq, slice_get, Option, Some, None, option_map, option_and_then, if◌then◌else◌}
+use Rattle.std.specs.Prelude.{◌≡◌, ◌≢◌, ℕ, ◌<◌, ◌≤◌, List, [], ◌∷◌, ◌++◌, length, bytes_eq, slice_get, Option, Some, None, option_map, option_and_then, if◌then◌else◌, take, ◌⊎◌}
+use Rattle.std.specs.List.{All}
+use Rattle.std.specs.Map.{keys_of, values_of}
 use Rattle.svn_types.specs.declared.kind.Kind.{Kind}
 use Rattle.svn_repo.specs.declared.store.Node.{Node}
 use Rattle.svn_repo.specs.declared.store.Content.TheVariants.{Listing}
-use Rattle.svn_types.specs.Names.{Path}
-use Rattle.svn_repo.specs.History.{NodeRow, Nodes, child_in, walk}
-use Rattle.svn_repo.specs.Stored.{row_of, rows}
+use Rattle.svn_types.specs.Names.{Path, IsName}
+use Rattle.svn_types.specs.Pairs.{InNameOrder, with_value}
+use Rattle.svn_repo.specs.History.{NodeRow, History, Nodes, entries_at, child_in, walk}
+use Rattle.svn_repo.specs.Stored.{row_of, rows, history_of, IsHeight}
 use Rattle.svn_repo.specs.Trees.{Place, place_of, Tree, tree_below, touch, graft, place_with_prop}
 
 -- each child is one of the nodes
 abbrev pub IsClosedIn : List Node → Type 0
 IsClosedIn nodes = (n m : ℕ) (name : List ℕ) → child_in (rows nodes n) name ≡ Some m → m < length nodes
+
+-- the entries of node n are in order, under lawful names, and a fresh child of a fresh node is a later node
+pub record IsDraftEntries (base n : ℕ) (es : List (List ℕ × ℕ)) : Type 0 where
+  pub in_order : InNameOrder es
+  pub named : All IsName (keys_of es)
+  pub later : base ≤ n → All (λ m. (m < base) ⊎ (n < m)) (values_of es)
 
 pub record IsDraft (base : ℕ) (nodes : List Node) (root : ℕ) : Type 0 where
   pub base_in : base ≤ length nodes
@@ -18,6 +27,7 @@ pub record IsDraft (base : ℕ) (nodes : List Node) (root : ℕ) : Type 0 where
   pub closed : IsClosedIn nodes
   pub old_closed : (n m : ℕ) (name : List ℕ) → n < base → child_in (rows nodes n) name ≡ Some m → m < base
   pub distinct : (p q : Path) (m : ℕ) → base ≤ m → walk (rows nodes) root p ≡ Some m → walk (rows nodes) root q ≡ Some m → p ≡ q
+  pub each : (n : ℕ) → IsDraftEntries base n (entries_at (rows nodes n))
 
 -- a node but for its entries
 abbrev pub shape_at : List Node → ℕ → Option Place
@@ -33,6 +43,8 @@ pub record PutsChild (old new : List Node) (at : ℕ) (name : List ℕ) (child :
   pub others : (m : ℕ) → m ≢ at → slice_get new m ≡ slice_get old m
   pub shape : shape_at new at ≡ shape_at old at
   pub children : (x : List ℕ) → child_in (rows new at) x ≡ (if bytes_eq name x then child else child_in (rows old at) x)
+  pub entries : entries_at (rows new at) ≡ with_value (entries_at (rows old at)) name child
+  pub named : IsName name
 
 -- a copy of the node is made, and is the last one
 abbrev pub CopiesNode : List Node → List Node → ℕ → Type 0
@@ -77,3 +89,28 @@ pub record SetsProp (old new : List Node) (at : ℕ) (name : List ℕ) (value : 
   pub others : (m : ℕ) → m ≢ at → slice_get new m ≡ slice_get old m
   pub shape : shape_at new at ≡ option_map (place_with_prop name value) (shape_at old at)
   pub children : (x : List ℕ) → child_in (rows new at) x ≡ child_in (rows old at) x
+  pub entries : entries_at (rows new at) ≡ entries_at (rows old at)
+
+-- ---- the revisions that a draft is made over
+
+-- the node at a path in a revision, where the nodes may have a draft's behind them
+abbrev pub look_in : List Node → List ℕ → ℕ → Path → Option ℕ
+look_in nodes roots r p = option_and_then (λ n. walk (rows nodes) n p) (slice_get roots r)
+
+-- the history without the draft: its nodes are the first of the stored ones
+abbrev pub past_in : ℕ → List ℕ → List Node → ℕ → History
+past_in base roots nodes lines = history_of roots (take base nodes) lines
+
+-- each root is one of the old nodes
+abbrev pub AreRootsBelow : ℕ → List ℕ → Type 0
+AreRootsBelow base roots = (r n : ℕ) → slice_get roots r ≡ Some n → n < base
+
+-- the old nodes, of which there are as many as heights, lead to old nodes, and have these heights
+pub record IsOldPart (heights : List ℕ) (nodes : List Node) : Type 0 where
+  pub inside : length heights ≤ length nodes
+  pub closed : (n m : ℕ) (name : List ℕ) → n < length heights → child_in (rows nodes n) name ≡ Some m → m < length heights
+  pub known : (n k : ℕ) → slice_get heights n ≡ Some k → IsHeight (rows (take (length heights) nodes)) n k
+
+pub record IsPast (roots heights : List ℕ) (nodes : List Node) : Type 0 where
+  pub roots_in : AreRootsBelow (length heights) roots
+  pub old : IsOldPart heights nodes

@@ -2,7 +2,9 @@
 -- A node number stands for one node revision, so equal numbers have equal lines, contents and subtrees.
 --     look h r p      the node at path p in revision r
 --     walk nodes n p      the node at path p below node n
-use Rattle.std.specs.Prelude.{◌≡◌, ℕ, List, [], ◌∷◌, slice_get, Option, Some, None, option_and_then, option_map}
+--     reaches nodes k n      whether a path of k names leads down from node n
+use Rattle.std.specs.Prelude.{◌≡◌, ℕ, zero, suc, Bool, true, List, [], ◌∷◌, slice_get, Option, Some, None, option_and_then, option_map}
+use Rattle.std.specs.List.{list_any}
 use Rattle.svn_types.specs.declared.kind.Kind.{Kind}
 use Rattle.svn_types.specs.declared.kind.Kind.TheVariants.{File, Directory}
 use Rattle.svn_types.specs.Names.{Path}
@@ -28,6 +30,10 @@ Nodes = ℕ → Option NodeRow
 abbrev pub node_at : History → Nodes
 node_at h n = slice_get h.nodes n
 
+abbrev pub entries_at : Option NodeRow → List (List ℕ × ℕ)
+entries_at None = []
+entries_at (Some row) = row.entries
+
 abbrev pub child_in : Option NodeRow → List ℕ → Option ℕ
 child_in None name = None
 child_in (Some row) name = value_of row.entries name
@@ -38,6 +44,10 @@ walk nodes n (name ∷ p) = option_and_then (λ m. walk nodes m p) (child_in (no
 
 abbrev pub look : History → ℕ → Path → Option ℕ
 look h r p = option_and_then (λ n. walk (node_at h) n p) (slice_get h.roots r)
+
+abbrev pub reaches : Nodes → ℕ → ℕ → Bool
+reaches nodes zero n = true
+reaches nodes (suc k) n = list_any (λ e. reaches nodes k e.1) (entries_at (nodes n))
 
 -- ---- what the readers answer
 
@@ -55,7 +65,7 @@ entries_in row = entries_by row.kind row.entries
     entries_by File entries = None
     entries_by Directory entries = Some entries
 
--- ---- what every repository meets
+-- ---- the first history
 
 -- n is one of the nodes, and a directory
 abbrev pub IsDirectoryIn : List NodeRow → ℕ → Type 0

@@ -7,7 +7,7 @@ use Rattle.svn_types.specs.declared.kind.Kind.TheVariants.{File, Directory}
 use Rattle.svn_types.specs.Names.{Path}
 use Rattle.svn_types.specs.Pairs.{with_value}
 use Rattle.svn_repo.specs.Walks.{rest_below, led}
-use Rattle.svn_repo.specs.History.{NodeRow, History, Nodes, node_at, walk}
+use Rattle.svn_repo.specs.History.{NodeRow, History, Nodes, node_at, walk, look}
 
 -- what stands at a path: the node that it still is, or none where it was made afresh, and its content but for its entries
 pub record Place : Type 0 where
@@ -30,6 +30,10 @@ place_at nodes base n = option_map (place_of (if nat_lt n base then Some n else 
 -- the tree below a node, in which the nodes below the base are old ones
 abbrev pub tree_below : Nodes → ℕ → ℕ → Tree
 tree_below nodes base n q = option_and_then (place_at nodes base) (walk nodes n q)
+
+-- the tree of a revision, each node still being what it is
+abbrev pub tree_at : History → ℕ → Tree
+tree_at h r q = option_and_then (place_at (node_at h) (length h.nodes)) (look h r q)
 
 abbrev pub touched : Place → Place
 touched p = record { number = None; line = p.line; kind = p.kind; text = p.text; props = p.props }

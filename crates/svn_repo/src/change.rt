@@ -1,58 +1,83 @@
 //! What a commit is asked to change, and why it refuses.
 ghost use Rattle.std.specs.Prelude.{◌≡◌};
 ghost use Rattle.svn_repo.specs.declared.change.CommitFault.TheVariants.{Memory};
+ghost use Rattle.svn_repo.specs.Changes.{commit_fault_number};
 
 use std::alloc::AllocError;
-use svn_types::{PropName, RelPath, Text};
+use svn_types::{PropName, RelPath, Rev, Text};
 use thiserror::Error;
 
-/// One change of a commit.
+/// One change of a commit. Each makes afresh every directory above its path; what it doesn't make stays the node revision that it was.
 #[derive(Debug, Drop)]
 pub enum Change {
+    /// Makes a directory of a new line, without entries and properties, where nothing stands.
     MakeDir {
         path: RelPath,
     },
+    /// Gives the file at the path this text; it keeps its line and its properties. Where nothing stands it makes a file of a new line.
     PutFile {
         path: RelPath,
         text: Text,
     },
+    /// Sets a property of the node at the path, or removes it where there is no value. To remove what isn't set is no fault.
     SetProp {
         path: RelPath,
         name: PropName,
         value: Option<Text>,
     },
+    /// Removes the node at the path, with all beneath it.
     Remove {
+        path: RelPath,
+    },
+    /// Puts the source's own node revision, of an existing revision, at a path where nothing stands (`svn_fs_copy` of `svn_fs.h`).
+    CopyFrom {
+        rev: Rev,
+        source: RelPath,
         path: RelPath,
     },
 }
 
-/// Why a commit is refused.
+/// Why a commit is refused. The first change that can't be made decides, and of its faults the first in this order: IsRoot,
+/// NoSuchRevision, TooLong, then Missing or NotDir on the ways down, then Exists, NotFile, TooDeep, Memory.
 #[derive(Clone, Copy, Debug, PartialEq, Eq, Error)]
 pub enum CommitFault {
+    /// Something stands where a directory or a copy is to be put.
     #[error("something stands at the path")]
     Exists,
+    /// Nothing stands at the path, at its source, or at a path above one of them.
     #[error("nothing stands at the path")]
     Missing,
+    /// A file stands above the path or its source.
     #[error("a file stands where a directory is needed")]
     NotDir,
+    /// A directory stands where a text is to be put.
     #[error("a directory stands where a file is needed")]
     NotFile,
+    /// The root is to be made, put, removed or copied to.
     #[error("the root can't be changed so")]
     IsRoot,
+    /// A node would stand at a path of over 64 names.
     #[error("a path has over 64 names")]
     TooDeep,
+    /// The source of a copy is in a revision that doesn't exist.
     #[error("there is no such revision")]
     NoSuchRevision,
+    /// A text or a value has over 1,048,576 bytes.
     #[error("a text has over 1048576 bytes")]
     TooLong,
+    /// No revision, line or node number is left. Want of memory always comes before it, so it is never answered.
     #[error("no number is left")]
     Full,
+    /// A growth was refused.
     #[error("out of memory")]
     Memory,
 }
 
 impl CommitFault {
-    pub fn number(self) -> u32 {
+    /// The fault's number, 1 to 10.
+    pub fn number(self) -> u32
+        ensures { result ≡ commit_fault_number self }
+    {
         match self {
             CommitFault::Exists => 1,
             CommitFault::Missing => 2,

@@ -1,18 +1,19 @@
 //! The changes of a commit, made one after another on a draft.
-ghost use Rattle.std.specs.Prelude.{◌≡◌, ◌≤◌, ◌<◌, ℕ, List, [], ◌∷◌, ◌++◌, Some, None, true, length, IfOk, IfErr, OnErr, ◌⊎◌, OnOk, ◌+◌, ◌^◌, if◌then◌else◌};
+ghost use Rattle.std.specs.Prelude.{◌≡◌, ◌≤◌, ◌<◌, ℕ, IsSome, take, List, [], ◌∷◌, ◌++◌, Some, None, true, length, IfOk, IfErr, OnErr, ◌⊎◌, OnOk, ◌+◌, ◌^◌, if◌then◌else◌};
 ghost use Rattle.std.specs.Option.{option_and_then};
 ghost use Rattle.svn_repo.specs.History.{History};
-ghost use Rattle.svn_repo.specs.Drafts.{IsDraft, IsGrafted, KeepsOld, tree_in};
-ghost use Rattle.svn_repo.specs.Stored.{rows, row_of, entries_of, history_of, IsRepository};
+ghost use Rattle.svn_repo.specs.Drafts.{IsDraft, IsGrafted, KeepsOld, AreRootsBelow, IsPast, look_in, old_part, past_in, tree_in};
+ghost use Rattle.svn_repo.specs.Stored.{rows, row_of, entries_of, history_of, IsStored};
 ghost use Rattle.svn_repo.specs.Trees.{leaf, nothing, place_at, place_of};
 ghost use Rattle.svn_repo.specs.Changes.{above_fault, change_fault, root_fault, pending_in, with_text, new_directory, IsMade, AllMade, IsFaultOf, IsCommit, commit_fault};
 
 use crate::change::{Change, CommitFault};
 use crate::entries::{Entries, NodeId};
 use crate::fault::{fault_of, stands};
-use crate::store::{Content, Node, node_below, put_made, put_old, put_prop};
+use crate::heights::add_heights;
+use crate::store::{Content, Node, lookup_in, node_below, put_made, put_old, put_prop};
 use std::alloc::{AllocError, Global};
-use svn_types::{Name, Props, Text};
+use svn_types::{Name, Props, Rev, Text};
 
 // The last name of a path that isn't the root, and the names above.
 fn split_path(names: &[Name]) -> (&Name, &[Name])
@@ -100,6 +101,24 @@ fn put_file(
     put_made(nodes, base, root, above, last, node)
 }
 
+fn put_copy(
+    nodes: &mut Vec<Node>,
+    base: usize,
+    root: NodeId,
+    names: &[Name],
+    source: NodeId,
+) -> Result<NodeId, AllocError>
+    requires draft { IsDraft base nodes.old.items root }
+    requires not_root { root_fault names.now ≡ None }
+    requires above { above_fault (tree_in base nodes.old.items root) names.now ≡ None }
+    requires old { source < base }
+    ensures ok { IfOk result (λ n. IsGrafted base nodes.old.items nodes.new.items root n names.now (old_part base nodes.old.items (Some source))) }
+    ensures kept { KeepsOld base nodes.old.items nodes.new.items }
+{
+    let (last, above) = split_path(names);
+    put_old(nodes, base, root, above, last, Some(source))
+}
+
 fn put_nothing(
     nodes: &mut Vec<Node>,
     base: usize,
@@ -124,19 +143,29 @@ fn next_line(lines: u64, stood: bool) -> u64
     if stood { lines } else { lines + 1 }
 }
 
+// The node that a copy takes.
+fn source_of(nodes: &[Node], roots: &[NodeId], rev: Rev, names: &[Name]) -> NodeId
+    requires { IsSome (look_in nodes.now roots.now rev names.now) }
+    ensures { look_in nodes.now roots.now rev names.now ≡ Some result }
+{
+    lookup_in(nodes, roots, rev, names).unwrap()
+}
+
 // Makes a change on a draft, and answers the new root and the next line.
 fn make(
     alloc: Global,
     nodes: &mut Vec<Node>,
+    roots: &[NodeId],
     base: usize,
     root: NodeId,
     lines: u64,
     change: &Change,
 ) -> Result<(NodeId, u64), AllocError>
     requires draft { IsDraft base nodes.old.items root }
-    requires no_fault { (h : History) → change_fault h (pending_in base nodes.old.items root lines) change.now ≡ None }
+    requires roots_in { AreRootsBelow base roots.now }
+    requires no_fault { (l : ℕ) → change_fault (past_in base roots.now nodes.old.items l) (pending_in base nodes.old.items root lines) change.now ≡ None }
     requires bounded { lines ≤ length nodes.old.items }
-    ensures ok { IfOk result (λ r. IsMade base nodes.old.items nodes.new.items root lines r.0 r.1 change.now) }
+    ensures ok { IfOk result (λ r. IsMade base roots.now nodes.old.items nodes.new.items root lines r.0 r.1 change.now) }
     ensures kept { KeepsOld base nodes.old.items nodes.new.items }
 {
     match change {
@@ -158,60 +187,92 @@ fn make(
             let top = put_nothing(nodes, base, root, path.components())?;
             Ok((top, lines))
         }
+        Change::CopyFrom { rev, source, path } => {
+            let node = source_of(nodes, roots, *rev, source.components());
+            let top = put_copy(nodes, base, root, path.components(), node)?;
+            Ok((top, lines))
+        }
     }
 }
 
-// Makes changes in order on a draft, and answers the new root and the next line.
-pub(crate) fn make_all(
+// Makes the changes in order, and answers the new root and the next line; the fault of the first that can't be made, else.
+fn make_all(
     alloc: Global,
     nodes: &mut Vec<Node>,
+    roots: &[NodeId],
+    heights: &[u8],
     root: NodeId,
     lines: u64,
     changes: &[Change],
 ) -> Result<(NodeId, u64), CommitFault>
     requires draft { IsDraft (length nodes.old.items) nodes.old.items root }
+    requires size { length heights.now ≡ length nodes.old.items }
+    requires past { IsPast roots.now heights.now nodes.old.items }
     requires bounded { lines ≤ length nodes.old.items }
-    ensures ok { IfOk result (λ r. AllMade nodes.old.items nodes.new.items root lines r.0 r.1 changes.now) }
-    ensures err { IfErr result (λ e. IsFaultOf nodes.old.items root lines changes.now e) }
+    ensures ok { IfOk result (λ r. AllMade roots.now nodes.old.items nodes.new.items root lines r.0 r.1 changes.now) }
+    ensures err { IfErr result (IsFaultOf roots.now nodes.old.items root lines changes.now) }
     ensures kept { KeepsOld (length nodes.old.items) nodes.old.items nodes.new.items }
 {
     let base = nodes.len();
     let mut top = root;
     let mut next = lines;
     for change in changes {
-        match fault_of(nodes, top, change) {
-            Some(fault) => return Err(fault),
-            None => (top, next) = make(alloc, nodes, base, top, next, change)?,
+        if let Some(fault) = fault_of(nodes, roots, heights, top, change) {
+            return Err(fault);
         }
+        (top, next) = make(alloc, nodes, roots, base, top, next, change)?;
     }
     Ok((top, next))
 }
 
-/// Adds a revision that the changes make of the last one, and answers the next line.
+// Makes the changes in order on a draft over the last revision, and puts its root behind the others.
+fn push_revision(
+    alloc: Global,
+    nodes: &mut Vec<Node>,
+    roots: &mut Vec<NodeId>,
+    heights: &mut Vec<u8>,
+    lines: u64,
+    changes: &[Change],
+) -> Result<u64, CommitFault>
+    requires { IsStored roots.old.items nodes.old.items lines heights.old.items }
+    ensures ok { IfOk result (λ next. let h = history_of roots.old.items nodes.old.items lines in let k = history_of roots.new.items nodes.new.items next in IsStored roots.new.items nodes.new.items next heights.new.items × IsCommit h k changes.now) }
+    ensures fault { IfErr result (λ e. (e ≡ CommitFault.Memory) ⊎ (commit_fault (history_of roots.old.items nodes.old.items lines) changes.now ≡ Some e)) }
+    ensures roots_kept { OnErr result (roots.new.items ≡ roots.old.items) }
+    ensures nodes_kept { OnErr result (KeepsOld (length nodes.old.items) nodes.old.items nodes.new.items) }
+    ensures heights_kept { OnErr result (take (length nodes.old.items) heights.new.items ≡ heights.old.items) }
+{
+    let last = roots[roots.len() - 1];
+    let (root, next) = match make_all(alloc, nodes, roots, heights, last, lines, changes) {
+        Ok(made) => made,
+        Err(fault) => return Err(fault),
+    };
+    add_heights(nodes, heights)?;
+    match roots.push(root) {
+        Ok(()) => Ok(next),
+        Err(_) => Err(CommitFault::Memory),
+    }
+}
+
+/// Adds one more revision: the changes made in order on the last one. A refusal leaves all as it was.
 pub(crate) fn extend(
     alloc: Global,
     nodes: &mut Vec<Node>,
     roots: &mut Vec<NodeId>,
+    heights: &mut Vec<u8>,
     lines: u64,
     changes: &[Change],
 ) -> Result<u64, CommitFault>
-    requires { IsRepository (history_of roots.old.items nodes.old.items lines) }
-    ensures ok { IfOk result (λ next. let h = history_of roots.old.items nodes.old.items lines in let k = history_of roots.new.items nodes.new.items next in IsRepository k × IsCommit h k changes.now) }
+    requires { IsStored roots.old.items nodes.old.items lines heights.old.items }
+    ensures ok { IfOk result (λ next. let h = history_of roots.old.items nodes.old.items lines in let k = history_of roots.new.items nodes.new.items next in IsStored roots.new.items nodes.new.items next heights.new.items × IsCommit h k changes.now) }
     ensures fault { IfErr result (λ e. (e ≡ CommitFault.Memory) ⊎ (commit_fault (history_of roots.old.items nodes.old.items lines) changes.now ≡ Some e)) }
-    ensures unchanged { OnErr result ((nodes.new.items ≡ nodes.old.items) × (roots.new.items ≡ roots.old.items)) }
+    ensures unchanged { OnErr result ((nodes.new.items ≡ nodes.old.items) × (roots.new.items ≡ roots.old.items) × (heights.new.items ≡ heights.old.items)) }
 {
     let base = nodes.len();
-    let last = roots[roots.len() - 1];
-    match make_all(alloc, nodes, last, lines, changes) {
-        Ok((root, next)) => match roots.push(root) {
-            Ok(()) => Ok(next),
-            Err(_) => {
-                nodes.truncate(base);
-                Err(CommitFault::Memory)
-            }
-        },
+    match push_revision(alloc, nodes, roots, heights, lines, changes) {
+        Ok(next) => Ok(next),
         Err(fault) => {
             nodes.truncate(base);
+            heights.truncate(base);
             Err(fault)
         }
     }

@@ -1,16 +1,19 @@
 //! Node numbers, and the entries of a directory.
-ghost use Rattle.std.specs.Prelude.{◌≡◌, ◌↔◌, IsTrue, [], length, OnOk, OnErr, Some, None};
+ghost use Rattle.std.specs.Prelude.{◌≡◌, ◌↔◌, IsTrue, ℕ, ◌<◌, ◌^◌, List, [], length, OnOk, OnErr, Some, None};
+ghost use Rattle.std.specs.List.{All};
+ghost use Rattle.std.specs.Map.Iter.{ShowsInOrder, deref_pair};
 ghost use Rattle.std.specs.Map.{lookup, remove_entry};
 ghost use Rattle.std.specs.BTreeMap.{is_at, insert_entry};
 ghost use Rattle.svn_types.specs.Names.{name_cmp};
-ghost use Rattle.svn_types.specs.Pairs.{InNameOrder, ChangesOnly};
+ghost use Rattle.svn_types.specs.Pairs.{InNameOrder, ChangesOnly, value_of};
 
 use std::alloc::{AllocError, Global};
 use std::collections::BTreeMap;
+use std::collections::btree_map::Iter;
 use std::marker::Model;
 use svn_types::Name;
 
-/// A node revision of a repository. A contract sees it as its number.
+/// A node revision of a repository. Two that are equal have one line, one content and one subtree. A contract sees it as its number.
 #[derive(Clone, Copy, Debug, PartialEq, Eq)]
 pub struct NodeId {
     pub(crate) index: usize,
@@ -44,7 +47,8 @@ impl Model for Entries {
 }
 
 impl Entries {
-    pub fn new(alloc: Global) -> Entries
+    /// No entries. It takes no memory.
+    pub(crate) fn new(alloc: Global) -> Entries
         ensures { result ≡ [] }
     {
         Entries {
@@ -52,10 +56,36 @@ impl Entries {
         }
     }
 
+    /// The node under a name, if there is one.
     pub fn get(&self, name: &Name) -> Option<NodeId>
         ensures { result ≡ lookup (is_at (name_cmp name.now)) self.now }
     {
         self.map.get(name).copied()
+    }
+
+    /// How many entries there are.
+    pub fn len(&self) -> usize
+        ensures { result ≡ length self.now }
+    {
+        self.map.len()
+    }
+
+    /// Whether there is none.
+    pub fn is_empty(&self) -> bool
+        ensures { IsTrue result ↔ (self.now ≡ []) }
+    {
+        self.map.is_empty()
+    }
+
+    /// The names and nodes, in order of the names.
+    pub fn iter(&self) -> Iter<'_, Name, NodeId>
+        ensures rest { result ≡ self.now }
+        ensures runs { ShowsInOrder (deref_pair {K = List ℕ} {X = ℕ}) }
+        ensures ordered { InNameOrder self.now }
+        ensures fits { length self.now < 2 ^ 63 }
+        ensures found { All (λ e. value_of self.now e.0 ≡ Some e.1) self.now }
+    {
+        self.map.iter()
     }
 
     /// The entries as a map. It takes no memory.
@@ -66,7 +96,7 @@ impl Entries {
         &self.map
     }
 
-    pub fn insert(&mut self, name: Name, node: NodeId) -> Result<(), AllocError>
+    pub(crate) fn insert(&mut self, name: Name, node: NodeId) -> Result<(), AllocError>
         ensures ok { OnOk result (self.new ≡ insert_entry name_cmp self.old name node) }
         ensures lookups { OnOk result (ChangesOnly self.old self.new name (Some node)) }
         ensures err { OnErr result (self.new ≡ self.old) }
@@ -75,7 +105,7 @@ impl Entries {
         Ok(())
     }
 
-    pub fn remove(&mut self, name: &Name)
+    pub(crate) fn remove(&mut self, name: &Name)
         ensures removed { self.new ≡ remove_entry (is_at (name_cmp name.now)) self.old }
         ensures lookups { ChangesOnly self.old self.new name.now None }
     {

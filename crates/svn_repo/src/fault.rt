@@ -1,15 +1,18 @@
 //! Why a change can't be made on a draft. These functions take no memory.
-ghost use Rattle.std.specs.Prelude.{◌≡◌, ◌<◌, ℕ, length};
+ghost use Rattle.std.specs.Prelude.{◌≡◌, ◌+◌, ◌<◌, ◌≤◌, ℕ, length, slice_get, nat_lt, take, Some, None};
 ghost use Rattle.std.specs.Option.{option_or, is_some};
-ghost use Rattle.svn_repo.specs.History.{History};
-ghost use Rattle.svn_repo.specs.Drafts.{IsClosedIn, tree_in};
+ghost use Rattle.svn_types.specs.Names.{depth_limit};
+ghost use Rattle.svn_repo.specs.History.{walk};
+ghost use Rattle.svn_repo.specs.Readings.{path_limit};
+ghost use Rattle.svn_repo.specs.Stored.{rows};
+ghost use Rattle.svn_repo.specs.Drafts.{IsClosedIn, IsOldPart, IsPast, past_in, tree_in};
 ghost use Rattle.svn_repo.specs.Trees.{is_directory_place};
-ghost use Rattle.svn_repo.specs.Changes.{above_fault, change_fault, fault_if, depth_fault, size_fault, root_fault, missing_fault, value_fault, pending_in};
+ghost use Rattle.svn_repo.specs.Changes.{above_fault, change_fault, copy_fault, directory_fault_at, file_fault_at, copy_depth_fault, fault_if, depth_fault, size_fault, root_fault, missing_fault, walk_fault, value_fault, pending_in};
 
 use crate::change::{Change, CommitFault};
 use crate::entries::NodeId;
-use crate::store::{Node, child, kind_at, node_below};
-use svn_types::{Kind, Name, Text};
+use crate::store::{Node, child, kind_at, node_below, root_of};
+use svn_types::{Kind, Name, Rev, Text};
 
 /// The longest path in a repository.
 pub const MAX_DEPTH: usize = 64;
@@ -73,7 +76,8 @@ fn fault_at_file(nodes: &[Node], root: NodeId, names: &[Name]) -> Option<CommitF
     }
 }
 
-fn fault_at_removed(nodes: &[Node], root: NodeId, names: &[Name]) -> Option<CommitFault>
+// Why a path isn't one at which something stands.
+fn fault_at_present(nodes: &[Node], root: NodeId, names: &[Name]) -> Option<CommitFault>
     requires root_in { root < length nodes.now }
     requires closed { IsClosedIn nodes.now }
     ensures { (base : ℕ) → result ≡ missing_fault (tree_in base nodes.now root names.now) }
@@ -108,7 +112,7 @@ fn fault_of_root(names: &[Name]) -> Option<CommitFault>
 fn fault_of_dir(nodes: &[Node], root: NodeId, names: &[Name]) -> Option<CommitFault>
     requires root_in { root < length nodes.now }
     requires closed { IsClosedIn nodes.now }
-    ensures { (base : ℕ) → let t = tree_in base nodes.now root in result ≡ option_or (root_fault names.now) (option_or (above_fault t names.now) (option_or (fault_if (is_some (t names.now)) CommitFault.Exists) (depth_fault names.now))) }
+    ensures { (base : ℕ) → let t = tree_in base nodes.now root in result ≡ option_or (root_fault names.now) (directory_fault_at t names.now) }
 {
     if let Some(fault) = fault_of_root(names) {
         return Some(fault);
@@ -122,7 +126,7 @@ fn fault_of_dir(nodes: &[Node], root: NodeId, names: &[Name]) -> Option<CommitFa
 fn fault_of_file(nodes: &[Node], root: NodeId, names: &[Name], text: &Text) -> Option<CommitFault>
     requires root_in { root < length nodes.now }
     requires closed { IsClosedIn nodes.now }
-    ensures { (base : ℕ) → let t = tree_in base nodes.now root in result ≡ option_or (root_fault names.now) (option_or (size_fault text.now) (option_or (above_fault t names.now) (option_or (fault_if (is_directory_place (t names.now)) CommitFault.NotFile) (depth_fault names.now)))) }
+    ensures { (base : ℕ) → let t = tree_in base nodes.now root in result ≡ option_or (root_fault names.now) (option_or (size_fault text.now) (file_fault_at t names.now)) }
 {
     if let Some(fault) = fault_of_root(names) {
         return Some(fault);
@@ -136,18 +140,27 @@ fn fault_of_file(nodes: &[Node], root: NodeId, names: &[Name], text: &Text) -> O
     fault_at_file(nodes, root, names)
 }
 
+// Why the way to a path that has to stand can't be gone.
+fn fault_of_walk(nodes: &[Node], root: NodeId, names: &[Name]) -> Option<CommitFault>
+    requires root_in { root < length nodes.now }
+    requires closed { IsClosedIn nodes.now }
+    ensures { (base : ℕ) → result ≡ walk_fault (tree_in base nodes.now root) names.now }
+{
+    if let Some(fault) = fault_above(nodes, root, names) {
+        return Some(fault);
+    }
+    fault_at_present(nodes, root, names)
+}
+
 fn fault_of_removed(nodes: &[Node], root: NodeId, names: &[Name]) -> Option<CommitFault>
     requires root_in { root < length nodes.now }
     requires closed { IsClosedIn nodes.now }
-    ensures { (base : ℕ) → let t = tree_in base nodes.now root in result ≡ option_or (root_fault names.now) (option_or (above_fault t names.now) (missing_fault (t names.now))) }
+    ensures { (base : ℕ) → result ≡ option_or (root_fault names.now) (walk_fault (tree_in base nodes.now root) names.now) }
 {
     if let Some(fault) = fault_of_root(names) {
         return Some(fault);
     }
-    if let Some(fault) = fault_above(nodes, root, names) {
-        return Some(fault);
-    }
-    fault_at_removed(nodes, root, names)
+    fault_of_walk(nodes, root, names)
 }
 
 fn fault_of_value(value: &Option<Text>) -> Option<CommitFault>
@@ -167,22 +180,113 @@ fn fault_of_prop(
 ) -> Option<CommitFault>
     requires root_in { root < length nodes.now }
     requires closed { IsClosedIn nodes.now }
-    ensures { (base : ℕ) → let t = tree_in base nodes.now root in result ≡ option_or (value_fault value.now) (option_or (above_fault t names.now) (missing_fault (t names.now))) }
+    ensures { (base : ℕ) → result ≡ option_or (value_fault value.now) (walk_fault (tree_in base nodes.now root) names.now) }
 {
     if let Some(fault) = fault_of_value(value) {
+        return Some(fault);
+    }
+    fault_of_walk(nodes, root, names)
+}
+
+// Whether something below the node would stand too deep, were the node put at a path. The height of each old node is known.
+fn is_too_deep(heights: &[u8], node: NodeId, names: &[Name]) -> bool
+    requires node_in { node < length heights.now }
+    requires depth { length names.now ≤ depth_limit }
+    ensures { (k : ℕ) → slice_get heights.now node ≡ Some k → result ≡ nat_lt path_limit (length names.now + k) }
+{
+    names.len() + heights[node.index] as usize > MAX_DEPTH
+}
+
+// Why a copy of what stands at the source can't be put at a path below directories.
+fn fault_at_copy(
+    nodes: &[Node],
+    heights: &[u8],
+    root: NodeId,
+    node: NodeId,
+    names: &[Name],
+) -> Option<CommitFault>
+    requires root_in { root < length nodes.now }
+    requires closed { IsClosedIn nodes.now }
+    requires node_in { node < length heights.now }
+    requires depth { length names.now ≤ depth_limit }
+    requires not_root { root_fault names.now ≡ None }
+    requires past { IsOldPart heights.now nodes.now }
+    ensures { (base : ℕ) → result ≡ option_or (fault_if (is_some (tree_in base nodes.now root names.now)) CommitFault.Exists) (copy_depth_fault (rows (take (length heights.now) nodes.now)) (Some node) names.now) }
+{
+    if stands(nodes, root, names) {
+        Some(CommitFault::Exists)
+    } else if is_too_deep(heights, node, names) {
+        Some(CommitFault::TooDeep)
+    } else {
+        None
+    }
+}
+
+// Why what stands at the source, below a root that stood before, can't be copied to a path.
+fn fault_below_top(
+    nodes: &[Node],
+    heights: &[u8],
+    root: NodeId,
+    top: NodeId,
+    source: &[Name],
+    names: &[Name],
+) -> Option<CommitFault>
+    requires root_in { root < length nodes.now }
+    requires closed { IsClosedIn nodes.now }
+    requires depth { length names.now ≤ depth_limit }
+    requires not_root { root_fault names.now ≡ None }
+    requires top_in { top < length heights.now }
+    requires past { IsOldPart heights.now nodes.now }
+    ensures { (base : ℕ) → let t = tree_in base nodes.now root in result ≡ option_or (walk_fault (tree_in base nodes.now top) source.now) (option_or (above_fault t names.now) (option_or (fault_if (is_some (t names.now)) CommitFault.Exists) (copy_depth_fault (rows (take (length heights.now) nodes.now)) (walk (rows nodes.now) top source.now) names.now))) }
+{
+    if let Some(fault) = fault_of_walk(nodes, top, source) {
         return Some(fault);
     }
     if let Some(fault) = fault_above(nodes, root, names) {
         return Some(fault);
     }
-    fault_at_removed(nodes, root, names)
+    let Some(node) = node_below(nodes, top, source) else {
+        unreachable!()
+    };
+    fault_at_copy(nodes, heights, root, node, names)
 }
 
-/// Why a change can't be made, if it can't.
-pub(crate) fn fault_of(nodes: &[Node], root: NodeId, change: &Change) -> Option<CommitFault>
+fn fault_of_copy(
+    nodes: &[Node],
+    roots: &[NodeId],
+    heights: &[u8],
+    root: NodeId,
+    rev: Rev,
+    source: &[Name],
+    names: &[Name],
+) -> Option<CommitFault>
     requires root_in { root < length nodes.now }
     requires closed { IsClosedIn nodes.now }
-    ensures { (h : History) (base lines : ℕ) → result ≡ change_fault h (pending_in base nodes.now root lines) change.now }
+    requires depth { length names.now ≤ depth_limit }
+    requires past { IsPast roots.now heights.now nodes.now }
+    ensures { (l : ℕ) → let base = length heights.now in result ≡ option_or (root_fault names.now) (copy_fault (past_in base roots.now nodes.now l) (tree_in base nodes.now root) rev source.now names.now) }
+{
+    if let Some(fault) = fault_of_root(names) {
+        return Some(fault);
+    }
+    match root_of(roots, rev) {
+        None => Some(CommitFault::NoSuchRevision),
+        Some(top) => fault_below_top(nodes, heights, root, top, source, names),
+    }
+}
+
+/// Why a change can't be made on a draft, if it can't. There is a height for each node that stood before the draft.
+pub(crate) fn fault_of(
+    nodes: &[Node],
+    roots: &[NodeId],
+    heights: &[u8],
+    root: NodeId,
+    change: &Change,
+) -> Option<CommitFault>
+    requires root_in { root < length nodes.now }
+    requires closed { IsClosedIn nodes.now }
+    requires past { IsPast roots.now heights.now nodes.now }
+    ensures { (l next : ℕ) → let base = length heights.now in result ≡ change_fault (past_in base roots.now nodes.now l) (pending_in base nodes.now root next) change.now }
 {
     match change {
         Change::MakeDir { path } => fault_of_dir(nodes, root, path.components()),
@@ -193,5 +297,14 @@ pub(crate) fn fault_of(nodes: &[Node], root: NodeId, change: &Change) -> Option<
             value,
         } => fault_of_prop(nodes, root, path.components(), value),
         Change::Remove { path } => fault_of_removed(nodes, root, path.components()),
+        Change::CopyFrom { rev, source, path } => fault_of_copy(
+            nodes,
+            roots,
+            heights,
+            root,
+            *rev,
+            source.components(),
+            path.components(),
+        ),
     }
 }

@@ -5,11 +5,14 @@ mod change;
 mod commit;
 mod entries;
 mod fault;
+mod heights;
+mod laws;
 mod repo;
 mod store;
 
 pub use change::{Change, CommitFault};
 pub use entries::{Entries, NodeId};
+pub use laws::{changes_keep_lines, copies_keep_nodes, untouched_paths_keep_nodes};
 pub use repo::Repo;
 pub use svn_types::{Kind, Name, PathFault, PropName, Props, RelPath, Rev, Text};
 

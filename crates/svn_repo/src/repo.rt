@@ -1,14 +1,16 @@
 //! A repository: its revisions, and the nodes that they share.
-ghost use Rattle.std.specs.Prelude.{◌≡◌, ℕ, ◌+◌, length, option_map, slice_get, IfOk, Some, None, option_and_then, ◌∷◌, [], ◌⊎◌, IfErr, OnErr, IfNone, IfSome};
+ghost use Rattle.std.specs.Prelude.{◌≡◌, ◌≢◌, ℕ, ◌+◌, length, map, option_map, IfOk, Some, None, option_and_then, ◌∷◌, [], ◌⊎◌, IfErr, OnErr, IfNone, IfSome, IsSome};
 ghost use Rattle.std.specs.Option.{option_copied};
+ghost use Rattle.svn_types.specs.Names.{Path};
 ghost use Rattle.svn_repo.specs.Changes.{IsCommit, commit_fault};
-ghost use Rattle.svn_repo.specs.History.{look, node_at, text_in, entries_in, new_history};
-ghost use Rattle.svn_repo.specs.Readings.{entries_of};
+ghost use Rattle.svn_repo.specs.History.{look, node_at, text_in, entries_in, empty_directory, new_history};
+ghost use Rattle.svn_repo.specs.Readings.{IsHistory, entries_of};
+ghost use Rattle.svn_repo.specs.Stored.{row_of};
 
 use crate::change::{Change, CommitFault};
 use crate::commit::extend;
 use crate::entries::{Entries, NodeId};
-use crate::store::{Content, Node, node_below};
+use crate::store::{Content, Node, lookup_in};
 use std::alloc::{AllocError, Global};
 use std::marker::Model;
 use svn_types::{Kind, Props, RelPath, Rev};
@@ -19,6 +21,7 @@ pub struct Repo {
     alloc: Global,
     roots: Vec<NodeId>,
     nodes: Vec<Node>,
+    heights: Vec<u8>,
     lines: u64,
 }
 
@@ -27,56 +30,82 @@ impl Model for Repo {
 
     ghost Value = { History };
 
-    ghost use Rattle.svn_repo.specs.Stored.{history_of, IsRepository};
+    ghost use Rattle.svn_repo.specs.Stored.{history_of, IsStored};
 
     ghost view = { λ r. history_of r.roots.items r.nodes.items r.lines };
 
-    ghost invariant = { λ r. IsRepository (history_of r.roots.items r.nodes.items r.lines) };
+    ghost invariant = { λ r. IsStored r.roots.items r.nodes.items r.lines r.heights.items };
 }
 
-fn root_only(alloc: Global) -> Result<Vec<NodeId>, AllocError>
-    ensures { IfOk result (λ v. v.items ≡ 0 ∷ []) }
+// The one node of revision 0, and its number.
+fn first_root(alloc: Global) -> Result<(Vec<Node>, Vec<NodeId>), AllocError>
+    ensures roots { IfOk result (λ r. r.1.items ≡ 0 ∷ []) }
+    ensures nodes { IfOk result (λ r. map row_of r.0.items ≡ empty_directory 0 ∷ []) }
 {
+    let mut nodes = Vec::new(alloc);
+    nodes.push(Node {
+        line: 0,
+        props: Props::new(alloc),
+        content: Content::Listing(Entries::new(alloc)),
+    })?;
     let mut roots = Vec::new(alloc);
     roots.push(NodeId { index: 0 })?;
-    Ok(roots)
+    Ok((nodes, roots))
+}
+
+fn first_height(alloc: Global) -> Result<Vec<u8>, AllocError>
+    ensures { IfOk result (λ v. v.items ≡ 0 ∷ []) }
+{
+    let mut heights = Vec::new(alloc);
+    heights.push(0)?;
+    Ok(heights)
 }
 
 impl Repo {
-    /// A repository whose revision 0 is an empty root.
-    pub fn new(alloc: Global) -> Result<Repo, AllocError>
-        ensures { IfOk result (λ r. r ≡ new_history) }
+    /// A repository whose revision 0 is an empty root, without properties, of line 0. Memory is its only fault.
+    pub fn new(alloc: Global) -> Result<Repo, CommitFault>
+        ensures ok { IfOk result (λ r. r ≡ new_history) }
+        ensures fault { IfErr result (λ e. e ≡ CommitFault.Memory) }
     {
-        let mut nodes = Vec::new(alloc);
-        nodes.push(Node {
-            line: 0,
-            props: Props::new(alloc),
-            content: Content::Listing(Entries::new(alloc)),
-        })?;
+        let (nodes, roots) = first_root(alloc)?;
+        let heights = first_height(alloc)?;
         Ok(Repo {
             alloc,
-            roots: root_only(alloc)?,
+            roots,
             nodes,
+            heights,
             lines: 1,
         })
     }
 
+    /// What holds of every repository, for the proofs of its callers. It does nothing.
+    pub fn law(&self)
+        ensures history { IsHistory self.now }
+        // what stands anywhere is a node, which the readers know
+        ensures nodes { (r : ℕ) (p : Path) (n : ℕ) → look self.now r p ≡ Some n → IsSome (node_at self.now n) }
+    {
+        let _lines = &self.lines;
+    }
+
     /// The newest revision.
     pub fn latest(&self) -> Rev
-        ensures { result + 1 ≡ length self.now.roots }
+        ensures value { result + 1 ≡ length self.now.roots }
+        ensures history { IsHistory self.now }
     {
+        self.law();
         Rev((self.roots.len() - 1) as u64)
     }
 
-    /// The node at a path in a revision.
+    /// The node at a path in a revision; None where there is no such revision, or nothing stands there.
     pub fn lookup(&self, rev: Rev, path: &RelPath) -> Option<NodeId>
-        ensures { result ≡ look self.now rev path.now }
+        ensures value { result ≡ look self.now rev path.now }
+        ensures history { IsHistory self.now }
     {
-        let root = self.roots.get(usize::try_from(rev.0).ok()?)?;
-        node_below(&self.nodes, *root, path.components())
+        self.law();
+        lookup_in(&self.nodes, &self.roots, rev, path.components())
     }
 
-    /// The line of a node.
+    /// The line of a node: two nodes are related exactly where they have one line. None where there is no such node.
     pub fn line(&self, id: NodeId) -> Option<u64>
         ensures { result ≡ option_map (λ row. row.line) (node_at self.now id) }
     {
@@ -84,7 +113,7 @@ impl Repo {
         Some(node.line)
     }
 
-    /// Whether a node is a file or a directory.
+    /// Whether a node is a file or a directory; None where there is no such node.
     pub fn kind(&self, id: NodeId) -> Option<Kind>
         ensures { result ≡ option_map (λ row. row.kind) (node_at self.now id) }
     {
@@ -92,7 +121,7 @@ impl Repo {
         Some(node.kind())
     }
 
-    /// The text of a file.
+    /// The text of a file; None at a directory, and where there is no such node.
     pub fn text(&self, id: NodeId) -> Option<&[u8]>
         ensures { option_copied result ≡ option_and_then text_in (node_at self.now id) }
     {
@@ -103,7 +132,7 @@ impl Repo {
         }
     }
 
-    /// The properties of a node.
+    /// The properties of a node; None where there is no such node.
     pub fn props(&self, id: NodeId) -> Option<&Props>
         ensures { option_copied result ≡ option_map (λ row. row.props) (node_at self.now id) }
     {
@@ -111,7 +140,7 @@ impl Repo {
         Some(&node.props)
     }
 
-    /// The entries of a directory.
+    /// The entries of a directory; None at a file, and where there is no such node.
     pub fn entries(&self, id: NodeId) -> Option<&Entries>
         ensures value { option_copied result ≡ option_and_then entries_in (node_at self.now id) }
         // what is no directory has nothing beneath it
@@ -125,10 +154,14 @@ impl Repo {
         }
     }
 
-    /// Makes the changes in order, as one more revision.
+    /// Makes the changes in order, as one more revision, which is answered. The first change that can't be made decides
+    /// the fault, and then nothing has changed. No changes make a revision with the same root node.
+    ///
+    /// It costs what the nodes cost that the changes make: those at their paths and the directories above, each once.
     pub fn commit(&mut self, changes: &[Change]) -> Result<Rev, CommitFault>
         ensures ok { IfOk result (λ r. (r ≡ length self.old.roots) × IsCommit self.old self.new changes.now) }
         ensures fault { IfErr result (λ e. (e ≡ CommitFault.Memory) ⊎ (commit_fault self.old changes.now ≡ Some e)) }
+        ensures never_full { IfErr result (λ e. e ≢ CommitFault.Full) }
         ensures unchanged { OnErr result (self.new ≡ self.old) }
     {
         let revision = self.roots.len() as u64;
@@ -136,6 +169,7 @@ impl Repo {
             self.alloc,
             &mut self.nodes,
             &mut self.roots,
+            &mut self.heights,
             self.lines,
             changes,
         ) {

@@ -1,14 +1,15 @@
 //! The stored nodes, each named by its place.
 ghost use Rattle.std.specs.Prelude.{◌≡◌, ◌≢◌, ℕ, ◌<◌, slice_get, length, vec_len, ◌≤◌, IsSome, IfOk, OnOk, OnErr, option_map, option_and_then, Some, None, true, List, [], ◌∷◌, ◌++◌};
+ghost use Rattle.svn_types.specs.Names.{IsName};
 ghost use Rattle.svn_types.specs.Pairs.{with_value, ChangesOnly};
 ghost use Rattle.svn_repo.specs.History.{child_in, walk};
 ghost use Rattle.svn_repo.specs.Stored.{row_of, rows, kind_of, entries_of};
 ghost use Rattle.svn_repo.specs.Trees.{IsWay, is_directory_place, leaf, place_of, place_at, with_prop};
-ghost use Rattle.svn_repo.specs.Drafts.{IsListing, PutsChild, SetsProp, CopiesNode, IsClosedIn, ThawsChild, IsDraft, IsThawed, KeepsOld, IsGrafted, IsOld, old_part, tree_in};
+ghost use Rattle.svn_repo.specs.Drafts.{IsListing, PutsChild, SetsProp, CopiesNode, IsClosedIn, ThawsChild, IsDraft, IsThawed, KeepsOld, IsGrafted, IsOld, look_in, old_part, tree_in};
 
 use crate::entries::{Entries, NodeId};
 use std::alloc::AllocError;
-use svn_types::{Kind, Name, PropName, Props, Text};
+use svn_types::{Kind, Name, PropName, Props, Rev, Text};
 
 #[derive(Debug, Drop)]
 pub(crate) enum Content {
@@ -56,6 +57,26 @@ pub(crate) fn node_below(nodes: &[Node], from: NodeId, names: &[Name]) -> Option
     Some(at)
 }
 
+// The root of a revision, if there is such a revision.
+pub(crate) fn root_of(roots: &[NodeId], rev: Rev) -> Option<NodeId>
+    ensures { result ≡ slice_get roots.now rev }
+{
+    roots.get(usize::try_from(rev.0).ok()?).copied()
+}
+
+// The node at a path in a revision.
+pub(crate) fn lookup_in(
+    nodes: &[Node],
+    roots: &[NodeId],
+    rev: Rev,
+    names: &[Name],
+) -> Option<NodeId>
+    ensures { result ≡ look_in nodes.now roots.now rev names.now }
+{
+    let root = root_of(roots, rev)?;
+    node_below(nodes, root, names)
+}
+
 impl Clone for Content {
     ghost is_clone = { λ content copy. copy ≡ content };
 
@@ -87,7 +108,10 @@ fn copy_node(nodes: &mut Vec<Node>, id: NodeId) -> Result<NodeId, AllocError>
 fn put_entry(entries: &mut Entries, name: &Name, child: Option<NodeId>) -> Result<(), AllocError>
     ensures ok { OnOk result (entries.new ≡ with_value entries.old name.now child) }
     ensures lookups { OnOk result (ChangesOnly entries.old entries.new name.now child) }
+    ensures named { IsName name.now }
 {
+    // So that the proof has the law of names.
+    let _text = name.as_str();
     match child {
         Some(child) => entries.insert(name.clone()?, child),
         None => {

@@ -4,14 +4,17 @@ ghost use Rattle.std.specs.List.{slice_split};
 ghost use Rattle.std.specs.Ordering.{nat_cmp};
 ghost use Rattle.std.specs.Cmp.Lexicographic.{pointwise, slice_cmp, nat_list_eq_equiv, nat_list_cmp_total, texts_ties, lists_per, lists_equiv, lists_total, lists_ties};
 ghost use Rattle.std.specs.Cmp.{partial_equiv_from_equiv, partial_order_from_agreeing_total};
+ghost use Rattle.std.specs.Hash as fed;
 ghost use Rattle.svn_types.specs.Names.{depth_limit, is_slash, path_of_text};
 ghost use Rattle.svn_types.specs.NameSplits.{IsNameSplit};
+ghost use Rattle.svn_types.specs.PathHash.{same_path_hash};
 ghost use Rattle.svn_types.specs.NameFaults.{path_fault, names_fault, count_fault, AnswersPath};
 
 use crate::fault::PathFault;
 use crate::name::{Name, fault_of_name};
 use std::alloc::{AllocError, Global};
 use std::cmp::Ordering;
+use std::hash::{Hash, Hasher};
 use std::marker::Model;
 
 /// The most names in a path.
@@ -193,5 +196,15 @@ impl Ord for RelPath {
 
     fn cmp(&self, other: &RelPath) -> Ordering {
         self.names.as_slice().cmp(other.names.as_slice())
+    }
+}
+
+impl Hash for RelPath {
+    ghost hash_input = { fed.slice fed.str };
+
+    ghost respects_eq = { same_path_hash };
+
+    fn hash<H: Hasher>(&self, state: &mut H) {
+        self.names.as_slice().hash(state);
     }
 }

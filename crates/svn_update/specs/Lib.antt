@@ -1,2 +1,2 @@
 pub mod FaultNumbers
-pub mod Words
+pub mod Outcomes

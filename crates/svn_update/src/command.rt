@@ -1,4 +1,6 @@
 //! The commands of a script, read from its lines.
+ghost use Rattle.std.specs.Prelude.{◌<◌, length, IfSome};
+
 use std::alloc::{AllocError, Global};
 use svn_repo::Change;
 use svn_types::{PathFault, RelPath, Rev, Text};
@@ -100,7 +102,9 @@ fn read_rev(line: &[u8]) -> Result<Rev, LineFault> {
 }
 
 // The byte that a word begins with, escaped or as it is, and what is behind it.
-fn next_byte(word: &[u8]) -> Option<(u8, &[u8])> {
+fn next_byte(word: &[u8]) -> Option<(u8, &[u8])>
+    ensures { IfSome result (λ r. length r.1.now < length word.now) }
+{
     match word {
         [b'%', high, low, rest @ ..] => Some((hex_digit(*high)? * 16 + hex_digit(*low)?, rest)),
         [b'%', ..] => None,

@@ -9,10 +9,9 @@ mod print;
 mod script;
 mod state;
 mod update;
-mod words;
 
-pub use update::update_in_turn;
 pub use fault::ScriptFault;
-pub use outcome::{Cause, Outcome, RunFault};
 pub use lines::MAX_SCRIPT;
+pub use outcome::{Cause, Outcome, RunFault};
 pub use script::{Settings, run_script};
+pub use update::update_in_turn;

@@ -1,4 +1,6 @@
 //! A script as bytes, and its lines.
+ghost use Rattle.std.specs.Prelude.{◌<◌, ◌≤◌, length, vec_len, IfSome, IfOk};
+
 use crate::fault::ScriptFault;
 use std::alloc::Global;
 use std::io::Read;
@@ -10,7 +12,9 @@ pub const MAX_SCRIPT: usize = 16777216;
 const BLOCK: usize = 8192;
 
 /// Reads a script to its end, or one block past the most bytes.
-pub(crate) fn read_script<R: Read>(alloc: Global, reader: &mut R) -> Result<Vec<u8>, ScriptFault> {
+pub(crate) fn read_script<R: Read>(alloc: Global, reader: &mut R) -> Result<Vec<u8>, ScriptFault>
+    ensures { IfOk result (λ v. vec_len v ≤ 16777216) }
+{
     let mut script = Vec::new(alloc);
     let mut block = [0u8; BLOCK];
     'blocks: while script.len() <= MAX_SCRIPT {
@@ -28,7 +32,9 @@ pub(crate) fn read_script<R: Read>(alloc: Global, reader: &mut R) -> Result<Vec<
 }
 
 /// The first line of a text, without its line feed, and what is behind that.
-pub(crate) fn split_line(text: &[u8]) -> Option<(&[u8], &[u8])> {
+pub(crate) fn split_line(text: &[u8]) -> Option<(&[u8], &[u8])>
+    ensures { IfSome result (λ r. length r.1.now < length text.now) }
+{
     let end = text.iter().position(|byte| *byte == b'\n')?;
     Some((&text[..end], &text[end + 1..]))
 }

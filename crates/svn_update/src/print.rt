@@ -1,8 +1,8 @@
 //! What a script prints.
 use crate::outcome::{Cause, Outcome, RunFault};
-use crate::words::{PathWord, Word};
 use std::io;
 use std::io::Write;
+use svn_delta::{PathWord, Word};
 use svn_repo::CommitFault;
 use svn_types::{Props, RelPath};
 use svn_wc::{BaseNode, WcFault, WorkingCopy};

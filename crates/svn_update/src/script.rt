@@ -1,4 +1,6 @@
 //! Scripts.
+ghost use Rattle.std.specs.Prelude.{◌≤◌, length};
+
 use crate::command::{LineFault, read_command};
 use crate::fault::ScriptFault;
 use crate::lines::{read_script, split_line, without_return};

@@ -4,10 +4,10 @@ use crate::update::update_in_turn;
 use crate::print::{
     commit_fault_name, print_copy, print_outcome, print_refusal, run_fault_name, wc_fault_name,
 };
-use std::alloc::{AllocError, Global};
+use std::alloc::Global;
 use std::io;
 use std::io::Write;
-use svn_repo::{Change, Repo};
+use svn_repo::{Change, CommitFault, Repo};
 use svn_types::Rev;
 use svn_wc::WorkingCopy;
 
@@ -21,8 +21,8 @@ pub(crate) struct State {
 }
 
 impl State {
-    /// A new repository, no changes and no working copy.
-    pub(crate) fn new(alloc: Global) -> Result<State, AllocError> {
+    /// A new repository, no changes and no working copy. Memory is the only fault.
+    pub(crate) fn new(alloc: Global) -> Result<State, CommitFault> {
         Ok(State {
             alloc,
             repo: Repo::new(alloc)?,

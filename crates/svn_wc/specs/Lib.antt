@@ -1,4 +1,6 @@
 pub mod FaultNumbers
 pub mod Nodes
+pub mod Crawl
 pub mod Builders
+pub mod Effects
 pub mod Standing

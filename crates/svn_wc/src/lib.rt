@@ -1,4 +1,4 @@
-//! Working copies: what stands at each path, how one is made of a revision, and an update of a whole copy.
+//! Working copies: what stands at each path, whether it is true of a repository, what it reports, and what an edit does to it.
 #![tactic(auto)]
 
 mod base_node;

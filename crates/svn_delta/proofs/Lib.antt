@@ -1,0 +1,4 @@
+pub mod PrintedWords
+pub mod PathOrder
+pub mod OneMore
+pub mod Listings

@@ -1,0 +1,269 @@
+-- After all steps of a drive and the last call the copy is the result.
+use Rattle.std.proofs.Common.{◌≡◌, ℕ, Bool, true, false, ◌&&◌, ◌||◌, not, List, [], ◌∷◌, ◌++◌, refl, sym, ◌∙◌, ap, subst, true≢false, append_assoc, append-nil}
+use Rattle.std.proofs.Math.Bool.{and-false, or-true}
+use Rattle.std.specs.Prelude.{Option, Some, None, is_some, option_map, cond, map, filter}
+use Rattle.std.specs.List.{list_any}
+use Rattle.svn_types.specs.Names.{Path}
+use Rattle.svn_types.specs.Paths.{path_eq, is_within, is_below, is_root}
+use Rattle.svn_types.specs.declared.kind.Kind.{Kind}
+use Rattle.svn_types.specs.declared.kind.Kind.TheVariants.{File, Directory}
+use Rattle.svn_repo.specs.History.{History}
+use Rattle.svn_repo.specs.Readings.{are_related, kind_of, text_of, props_of}
+use Rattle.svn_delta.specs.Reports.{has_entry_below}
+use Rattle.svn_drive.specs.Sources.{governing_revision}
+use Rattle.svn_delta.specs.Steps.{Mode, Update, SwitchTo, Action, Delete, Open, Add, Change, Text, Close, Step}
+use Rattle.svn_delta.specs.declared.call.Call.{Call}
+use Rattle.svn_delta.specs.declared.call.Call.TheVariants.{SetTargetRevision, CloseEdit}
+use Rattle.svn_drive.specs.Steps.{IsDriveOf, is_touched, is_new, is_gone, starts_empty_at, source_props, source_text, entered_actions, path_actions}
+use Rattle.svn_delta.specs.Calls.{number_eq}
+use Rattle.svn_drive.specs.Follow.{Request, follow, is_kept, target_path, source_node, target_node}
+use Rattle.svn_drive.specs.Drive.{numbered, IsDrive}
+use Rattle.svn_wc.specs.declared.base_node.BaseNode.{BaseNode}
+use Rattle.svn_wc.specs.declared.base_node.BaseNode.TheVariants.{File as FileNode, Dir as DirNode, NotPresent}
+use Rattle.svn_wc.specs.Nodes.{WorkingCopy, get_in, is_present, node_path, base_node_by, base_node}
+use Rattle.svn_wc.specs.Effects.{settled, settled_path, effect, after, after_from}
+use Rattle.svn_law.specs.Result.{result}
+use Rattle.svn_law.proofs.Targets.{related_of}
+use Rattle.svn_law.specs.Laws.{IsTrueCopy, request_of, HasTarget}
+use Rattle.svn_law.proofs.Tests.{or_false, or_first, not_false}
+use Rattle.svn_law.proofs.Classes.{switched_to}
+use Rattle.svn_law.proofs.Names.{same_path, path_eq-same}
+use Rattle.svn_law.proofs.CrawlCheckable.{crawl_describes_holds}
+use Rattle.svn_law.proofs.Classes.{Setting, both_nodes, kept_related}
+use Rattle.svn_law.proofs.States.{is_at, actions_at, actions_at-append, actions_at-drive, acted, is_delete, is_deleted_above, base, state}
+use Rattle.svn_law.proofs.FirstSteps.{NoneMain, after_next, none_main_left}
+use Rattle.svn_law.proofs.NextStep.{any-append2, not_deleted_above}
+use Rattle.svn_law.proofs.AfterSteps.{kept_path_is}
+use Rattle.svn_law.proofs.AfterCalls.{after-first}
+use Rattle.svn_law.proofs.Gone.{gone_above}
+use Rattle.svn_law.proofs.AfterAllSteps.{KeptAs, kept_as, entered_end, ended, acted_all, kept_not_gone}
+
+-- ---- deletes above
+
+-- a delete among the steps of a path above takes the path away
+pub deleted_by : (q p : Path) (steps : List Step) → list_any is_delete (actions_at q steps) ≡ true → is_below q p ≡ true → is_deleted_above steps p ≡ true
+deleted_by q p [] h b = absurd (true≢false (sym h))
+deleted_by q p (s ∷ steps) h b = by (is_at q s) (is_delete s.action) refl refl h (λ k. deleted_by q p steps k b)
+  where
+    or_right : (x y : Bool) → y ≡ true → (x || y) ≡ true
+    or_right x y e = ap (λ z. x || z) e ∙ or-true x
+
+    by : (a x : Bool) → is_at q s ≡ a → is_delete s.action ≡ x
+        → list_any is_delete (map (λ (t : Step). t.action) (cond a (s ∷ filter (is_at q) steps) (filter (is_at q) steps))) ≡ true
+        → (list_any is_delete (actions_at q steps) ≡ true → is_deleted_above steps p ≡ true)
+        → ((is_delete s.action && is_below s.path p) || is_deleted_above steps p) ≡ true
+    by true true e u k ih = ap (λ z. (z && is_below s.path p) || is_deleted_above steps p) u ∙ ap (λ z. z || is_deleted_above steps p) (ap (λ z. is_below z p) (same_path s.path q e) ∙ b)
+    by true false e u k ih = or_right (is_delete s.action && is_below s.path p) (is_deleted_above steps p) (ih (sym (ap (λ z. z || list_any is_delete (actions_at q steps)) u) ∙ k))
+    by false x e u k ih = or_right (is_delete s.action && is_below s.path p) (is_deleted_above steps p) (ih k)
+
+-- a path that is gone has a delete
+pub gone_deletes : (d : Request) (q : Path) → is_gone d q ≡ true → list_any is_delete (path_actions d q) ≡ true
+gone_deletes d q g = ap (λ b. list_any is_delete (cond b (Delete (governing_revision (follow d q).here) ∷ []) [] ++ entered_actions d q (target_node d q))) g
+
+-- a delete is a main action
+pub no_main_no_delete : (acts : List Action) → NoneMain acts → list_any is_delete acts ≡ false
+no_main_no_delete [] n = refl
+no_main_no_delete (Delete r ∷ acts) n = absurd (true≢false n.0)
+no_main_no_delete (Open k r ∷ acts) n = absurd (true≢false n.0)
+no_main_no_delete (Add k ∷ acts) n = absurd (true≢false n.0)
+no_main_no_delete (Change k c ∷ acts) n = absurd (true≢false n.0)
+no_main_no_delete (Text b t ∷ acts) n = no_main_no_delete acts n.1
+no_main_no_delete (Close k c ∷ acts) n = no_main_no_delete acts n.1
+
+-- ---- what the last call leaves
+
+-- what isn't present goes
+absent_settled : (mode : Mode) (target : ℕ) (p : Path) (found : Option BaseNode) → is_present found ≡ false → settled mode target p found ≡ None
+absent_settled mode target p None k = refl
+absent_settled mode target p (Some NotPresent) k = refl
+absent_settled mode target p (Some (FileNode r q t ps)) k = absurd (true≢false k)
+absent_settled mode target p (Some (DirNode r q c ps)) k = absurd (true≢false k)
+
+module _ (d : Request) (w : WorkingCopy) (setting : Setting d w) where
+  abbrev h : History
+  h = d.history
+
+  -- the last call leaves a path of the target at its place
+  settled_at : (p : Path) → settled_path d.mode p (target_path d p) ≡ target_path d p
+  settled_at p = by d.mode refl
+    where
+      by : (m : Mode) → d.mode ≡ m → settled_path m p (target_path d p) ≡ target_path d p
+      by Update e = refl
+      by (SwitchTo root) e = sym (switched_to d root e p)
+
+  -- and of what is kept
+  settled_kept : (p : Path) → is_kept d p ≡ true → is_present (w p) ≡ true → settled_path d.mode p (node_path (w p)) ≡ target_path d p
+  settled_kept p k present = by d.mode refl
+    where
+      by : (m : Mode) → d.mode ≡ m → settled_path m p (node_path (w p)) ≡ target_path d p
+      by Update e = kept_path_is d w setting e p k present
+      by (SwitchTo root) e = sym (ap (λ m. settled_path m p (target_path d p)) e) ∙ settled_at p
+
+  -- and what is in the target stays as it is
+  settled_base : (p : Path) (k : Kind) (text : List ℕ) (props : List (List ℕ × List ℕ))
+      → settled d.mode d.target p (Some (base_node_by k d.target (target_path d p) text props)) ≡ Some (base_node_by k d.target (target_path d p) text props)
+  settled_base p File text props = ap (λ q. Some (FileNode d.target q text props)) (settled_at p)
+  settled_base p Directory text props = ap (λ q. Some (DirNode d.target q true props)) (settled_at p)
+
+  -- a kept path that isn't touched has one node in source and target, and is complete
+  pub untouched_same : (p : Path) → is_kept d p ≡ true → is_touched d p ≡ false → (n : ℕ) × (source_node d p ≡ Some n) × (target_node d p ≡ Some n) × (starts_empty_at d p ≡ false)
+  untouched_same p k t =
+      let or1 = or_false (is_root p || not (number_eq (source_node d p) (target_node d p)) || starts_empty_at d p) (has_entry_below d.report.entries p)
+      (sym (ap (λ b. b && (is_root p || not (number_eq (source_node d p) (target_node d p)) || starts_empty_at d p || has_entry_below d.report.entries p)) k) ∙ t) in
+      let or2 = or_false (is_root p || not (number_eq (source_node d p) (target_node d p))) (starts_empty_at d p) or1.0 in
+      let or3 = or_false (is_root p) (not (number_eq (source_node d p) (target_node d p))) or2.0 in
+      let both = both_nodes h (source_node d p) (target_node d p) (kept_related d w setting p k) (not_false _ or3.1) in
+      (both.0, both.1, both.2, or2.1)
+
+  -- what stands there is what the result has, but for its revision and path
+  settled_untouched : (p : Path) (n : ℕ) (k : Kind) → source_node d p ≡ Some n → starts_empty_at d p ≡ false → is_kept d p ≡ true → KeptAs d w setting p k
+      → settled d.mode d.target p (w p) ≡ Some (base_node_by k d.target (target_path d p) (text_of h n) (props_of h n))
+  settled_untouched p n File s e k kept =
+      ap (settled d.mode d.target p) kept.is
+      ∙ (λ i. Some (FileNode d.target (place i) (same_text i) (same_props i)))
+    where
+      place : settled_path d.mode p kept.path ≡ target_path d p
+      place = ap (λ o. settled_path d.mode p (node_path o)) (sym kept.is) ∙ settled_kept p k (ap is_present kept.is)
+
+      same_text : kept.text ≡ text_of h n
+      same_text = kept.same_text ∙ ap (source_text d) s
+
+      same_props : kept.props ≡ props_of h n
+      same_props = kept.same_props ∙ ap (source_props d p) s ∙ ap (λ b. cond b [] (props_of h n)) e
+  settled_untouched p n Directory s e k kept =
+      ap (settled d.mode d.target p) kept.is
+      ∙ (λ i. Some (DirNode d.target (place i) (complete i) (same_props i)))
+    where
+      place : settled_path d.mode p kept.path ≡ target_path d p
+      place = ap (λ o. settled_path d.mode p (node_path o)) (sym kept.is) ∙ settled_kept p k (ap is_present kept.is)
+
+      complete : kept.complete ≡ true
+      complete = kept.same_complete ∙ ap not e
+
+      same_props : kept.props ≡ props_of h n
+      same_props = sym (ap (λ b. cond b kept.props []) complete) ∙ kept.same_props ∙ ap (source_props d p) s ∙ ap (λ b. cond b [] (props_of h n)) e
+
+  -- ---- the whole of a drive
+
+  -- of what isn't kept nothing is left once all deletes at it and above are done
+  pub nothing_left : (done : List Step) (p : Path) → ((q : Path) → is_below q p ≡ true → is_gone d q ≡ true → is_deleted_above done p ≡ true)
+      → is_kept d p ≡ false → is_present (cond (is_gone d p) None (base w done p)) ≡ false
+  nothing_left done p deleted k = by (is_present (w p)) refl
+    where
+      absent : (g x : Bool) → is_present (w p) ≡ false → is_present (cond g None (cond x None (w p))) ≡ false
+      absent true x e = refl
+      absent false true e = refl
+      absent false false e = e
+
+      gone : (g : Bool) → is_present (cond g None None) ≡ false
+      gone true = refl
+      gone false = refl
+
+      by : (b : Bool) → is_present (w p) ≡ b → is_present (cond (is_gone d p) None (base w done p)) ≡ false
+      by false e = absent (is_gone d p) (is_deleted_above done p) e
+      by true e = at (gone_above d w setting p e k)
+        where
+          at : (q : Path) × (is_within q p ≡ true) × (is_gone d q ≡ true) → is_present (cond (is_gone d p) None (base w done p)) ≡ false
+          at found = split (path_eq found.0 p) refl
+            where
+              split : (b : Bool) → path_eq found.0 p ≡ b → is_present (cond (is_gone d p) None (base w done p)) ≡ false
+              split true z = ap (λ g. is_present (cond g None (base w done p))) (sym (ap (is_gone d) (same_path found.0 p z)) ∙ found.2)
+              split false z =
+                  ap (λ x. is_present (cond (is_gone d p) None (cond x None (w p)))) (deleted found.0 (ap (λ b. b && not (path_eq found.0 p)) found.1 ∙ ap not z) found.2)
+                  ∙ gone (is_gone d p)
+
+  -- in a whole drive they are
+  pub deleted_all : (late : Bool) (steps : List Step) → IsDriveOf d late steps → (p q : Path) → is_below q p ≡ true → is_gone d q ≡ true → is_deleted_above steps p ≡ true
+  deleted_all late steps drive p q b g = deleted_by q p steps (ap (list_any is_delete) (actions_at-drive d late steps drive q) ∙ gone_deletes d q g) b
+
+  -- and at the next step those above its path
+  pub deleted_next : (late : Bool) (done : List Step) (s : Step) (rest : List Step) → IsDriveOf d late (done ++ s ∷ rest) → (q : Path) → is_below q s.path ≡ true → is_gone d q ≡ true → is_deleted_above done s.path ≡ true
+  deleted_next late done s rest drive q b g = deleted_by q s.path done (or_first (list_any is_delete (actions_at q done)) (list_any is_delete (actions_at q rest)) any (no_main_no_delete (actions_at q rest) none)) b
+    where
+      none : NoneMain (actions_at q rest)
+      none = none_main_left d late s rest q b (after_next d late done s rest drive.in_order)
+
+      elsewhere : path_eq s.path q ≡ false
+      elsewhere = by (path_eq s.path q) refl
+        where
+          by : (x : Bool) → path_eq s.path q ≡ x → x ≡ false
+          by false e = refl
+          by true e = absurd (true≢false (sym b ∙ ap (λ x. is_below q x) (same_path s.path q e) ∙ ap (λ x. is_within q q && not x) (path_eq-same q) ∙ and-false (is_within q q)))
+
+      any : (list_any is_delete (actions_at q done) || list_any is_delete (actions_at q rest)) ≡ true
+      any =
+          ap (λ x. list_any is_delete (actions_at q done) || list_any is_delete (map (λ (t : Step). t.action) (cond x (s ∷ filter (is_at q) rest) (filter (is_at q) rest)))) (sym elsewhere)
+          ∙ sym (any-append2 is_delete (actions_at q done) (actions_at q (s ∷ rest)))
+          ∙ ap (list_any is_delete) (sym (actions_at-append q done (s ∷ rest)) ∙ actions_at-drive d late (done ++ s ∷ rest) drive q) ∙ gone_deletes d q g
+
+  -- a kept path keeps what it had until its own actions
+  pub kept_base : (late : Bool) (done rest : List Step) → IsDriveOf d late (done ++ rest) → (p : Path) → is_kept d p ≡ true → base w done p ≡ w p
+  kept_base late done rest drive p k = ap (λ b. cond b None (w p)) (not_deleted_above d late done rest drive p k)
+
+  -- where all actions of a path are done it stands as they end
+  pub state_all : (late : Bool) (done rest : List Step) → IsDriveOf d late (done ++ rest) → (p : Path) → actions_at p done ≡ path_actions d p → state d w done p ≡ ended d w setting p (base w done p)
+  state_all late done rest drive p e = ap (acted d p [] (base w done p)) e ∙ acted_all d w setting p (base w done p) (kept_base late done rest drive p)
+
+  -- after all steps and the last call a path is as in the result
+  pub ends_at : (late : Bool) (steps : List Step) → IsDriveOf d late steps → (p : Path) → settled d.mode d.target p (state d w steps p) ≡ result d p
+  ends_at late steps drive p =
+      ap (settled d.mode d.target p) (state_all late steps [] whole p (actions_at-drive d late steps drive p))
+      ∙ by (target_node d p) (is_kept d p) (is_touched d p) refl refl refl
+    where
+      whole : IsDriveOf d late (steps ++ [])
+      whole = subst (IsDriveOf d late) (sym (append-nil steps)) drive
+
+      b : Option BaseNode
+      b = cond (is_gone d p) None (base w steps p)
+
+      not_related : (o : Option ℕ) → are_related h o None ≡ true → ⊥
+      not_related None q = true≢false (sym q)
+      not_related (Some m) q = true≢false (sym q)
+
+      put : (n : ℕ) (x : Bool) → x ≡ true → settled d.mode d.target p (cond x (Some (base_node h d.target (target_path d p) n)) b) ≡ Some (base_node h d.target (target_path d p) n)
+      put n x e = ap (λ y. settled d.mode d.target p (cond y (Some (base_node h d.target (target_path d p) n)) b)) e ∙ settled_base p (kind_of h n) (text_of h n) (props_of h n)
+
+      by : (o : Option ℕ) (k t : Bool) → target_node d p ≡ o → is_kept d p ≡ k → is_touched d p ≡ t
+          → settled d.mode d.target p (entered_end d w setting p o b) ≡ option_map (base_node h d.target (target_path d p)) o
+      by None true t z u v = absurd (not_related (source_node d p) (sym (ap (are_related h (source_node d p)) z) ∙ kept_related d w setting p u))
+      by None false t z u v = absent_settled d.mode d.target p b (nothing_left steps p (deleted_all late steps drive p) u)
+      by (Some n) k true z u v = put n (is_touched d p || is_new d p) (ap (λ x. x || is_new d p) v)
+      by (Some n) false false z u v = put n (is_touched d p || is_new d p) (ap (λ x. x || is_new d p) v ∙ ap (λ x. not x && is_some (target_node d p)) u ∙ ap is_some z)
+      by (Some n) true false z u v =
+          let one = untouched_same p u v in
+          let same : one.0 ≡ n = same_number one.0 n (sym one.2 ∙ z) in
+          ap (λ x. settled d.mode d.target p (cond x (Some (base_node h d.target (target_path d p) n)) b)) (ap (λ x. x || is_new d p) v ∙ ap (λ x. not x && is_some (target_node d p)) u)
+          ∙ ap (λ g. settled d.mode d.target p (cond g None (base w steps p))) (kept_not_gone d w setting p u)
+          ∙ ap (settled d.mode d.target p) (kept_base late steps [] whole p u)
+          ∙ settled_untouched p n (kind_of h n) (one.1 ∙ ap Some same) one.3 u (kept_as d w setting p n u z)
+        where
+          same_number : (x y : ℕ) → Some x ≡ Some y → x ≡ y
+          same_number x y e = cc
+
+  -- ---- the calls
+
+  -- the copy after one more call
+  after-last : (mode : Mode) (earlier : List Call) (w : WorkingCopy) (xs : List Call) (c : Call) → after_from mode earlier w (xs ++ c ∷ []) ≡ effect mode (earlier ++ xs) c (after_from mode earlier w xs)
+  after-last mode earlier w [] c = ap (λ e. effect mode e c w) (sym (append-nil earlier))
+  after-last mode earlier w (x ∷ xs) c =
+      after-last mode (earlier ++ x ∷ []) (effect mode earlier x w) xs c
+      ∙ ap (λ e. effect mode e c (after_from mode (earlier ++ x ∷ []) (effect mode earlier x w) xs)) (append_assoc earlier (x ∷ []) xs)
+
+  -- after all calls of a drive the copy is the result
+  pub ends : (late : Bool) (calls : List Call) → IsDrive d late calls → (p : Path) → after d.mode w calls p ≡ result d p
+  ends late calls drive p =
+      ap (λ c. after d.mode w c p) drive.numbered_calls
+      ∙ ap (λ v. v p) (after-last d.mode [] w (SetTargetRevision d.target ∷ numbered [] drive.steps) CloseEdit)
+      ∙ ap (settled d.mode d.target p) (after-first d w setting late drive.steps [] (subst (IsDriveOf d late) (sym (append-nil drive.steps)) drive.of_each_path) p)
+      ∙ ends_at late drive.steps drive.of_each_path p
+
+-- a true copy that is driven to a target
+pub setting_of : (h : History) (nodes : List (Path × BaseNode)) (target : ℕ) (mode : Mode) (checksum : List ℕ → List ℕ) → IsTrueCopy h nodes → HasTarget (request_of h nodes target mode checksum)
+    → Setting (request_of h nodes target mode checksum) (get_in nodes)
+setting_of h nodes target mode checksum t has = record {
+  history = t.history;
+  shape = t.shape;
+  true_of = t.true_of;
+  describes = (crawl_describes_holds h nodes t).1;
+  has_target = related_of (request_of h nodes target mode checksum) has;
+}

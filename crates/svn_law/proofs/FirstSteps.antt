@@ -1,0 +1,186 @@
+-- The first steps of a drive, up to some step: which steps of other paths are among them.
+use Rattle.std.proofs.Common.{◌≡◌, Bool, true, false, ◌&&◌, ◌⊎◌, not, List, [], ◌∷◌, ◌++◌, refl, sym, ◌∙◌, ap, true≢false, append-nil, inl, inr}
+use Rattle.std.specs.Prelude.{cond, map, filter, bytes_eq}
+use Rattle.std.specs.List.{list_any}
+use Rattle.std.specs.declared.cmp.Ordering.{Ordering}
+use Rattle.std.specs.declared.cmp.Ordering.TheVariants.{Less, Equal, Greater}
+use Rattle.std.specs.Ordering.{is_gt, ordering_then}
+use Rattle.std.specs.Cmp.Lexicographic.{slice_cmp, nat_list_cmp_total}
+use Rattle.std.specs.FinMap.{slice_cmp-IsAntisymmetric, nat_cmp-IsAntisymmetric}
+use Rattle.std.proofs.lemmas.Cmp.{tied_itself}
+use Rattle.svn_types.specs.Names.{Path, name_cmp}
+use Rattle.svn_types.specs.Paths.{path_eq, is_within, is_below}
+use Rattle.svn_types.specs.declared.kind.Kind.TheVariants.{File, Directory}
+use Rattle.svn_delta.specs.Steps.{Action, Delete, Open, Add, Change, Text, Close, Step}
+use Rattle.svn_drive.specs.Follow.{Request}
+use Rattle.svn_drive.specs.Steps.{Mark, Named, End, mark_cmp, key, key_of, comes_after, has_text, InKeyOrder}
+use Rattle.svn_law.proofs.Tests.{or_false, and_true}
+use Rattle.svn_law.proofs.Names.{same_path, same_bytes, bytes_eq-same}
+use Rattle.svn_law.proofs.States.{is_at, actions_at}
+
+-- ---- keys of paths that stand below one another
+
+longer_key : (p q : Path) (x : List Mark) → is_within p q ≡ true → path_eq p q ≡ false → is_gt (slice_cmp mark_cmp (map Named q ++ x) (map Named p)) ≡ true
+longer_key [] [] x h k = absurd (true≢false k)
+longer_key [] (n ∷ q) x h k = refl
+longer_key (m ∷ p) [] x h k = absurd (true≢false (sym h))
+longer_key (m ∷ p) (n ∷ q) x h k =
+    let parts = and_true (bytes_eq m n) (is_within p q) h in
+    let same : name_cmp n m ≡ Equal = ap (λ y. name_cmp y m) (sym (same_bytes m n parts.0)) ∙ tied_itself nat_list_cmp_total m in
+    ap (λ o. is_gt (ordering_then o (slice_cmp mark_cmp (map Named q ++ x) (map Named p)))) same
+    ∙ longer_key p q x parts.1 (sym (ap (λ b. b && path_eq p q) parts.0) ∙ k)
+
+late_key : (p : Path) (k : List Mark) → is_gt (slice_cmp mark_cmp (End ∷ k) (map Named p)) ≡ true
+late_key [] k = refl
+late_key (m ∷ p) k = refl
+
+pub key_above : (d : Request) (late : Bool) (p q : Path) (a : Action) → is_below p q ≡ true → is_gt (slice_cmp mark_cmp (key d late q a) (map Named p)) ≡ true
+key_above d late p q a b = by_action a
+  where
+    parts : (is_within p q ≡ true) × (not (path_eq p q) ≡ true)
+    parts = and_true (is_within p q) (not (path_eq p q)) b
+
+    apart : path_eq p q ≡ false
+    apart = flip (path_eq p q) parts.1
+      where
+        flip : (x : Bool) → not x ≡ true → x ≡ false
+        flip true e = absurd (true≢false (sym e))
+        flip false e = refl
+
+    plain : is_gt (slice_cmp mark_cmp (map Named q) (map Named p)) ≡ true
+    plain = ap (λ k. is_gt (slice_cmp mark_cmp k (map Named p))) (sym (append-nil (map Named q))) ∙ longer_key p q [] parts.0 apart
+
+    either : (x : Bool) → is_gt (slice_cmp mark_cmp (cond x (End ∷ map Named q) (map Named q)) (map Named p)) ≡ true
+    either true = late_key p (map Named q)
+    either false = plain
+
+    by_action : (a : Action) → is_gt (slice_cmp mark_cmp (key d late q a) (map Named p)) ≡ true
+    by_action (Delete r) = plain
+    by_action (Open k r) = plain
+    by_action (Add k) = plain
+    by_action (Change k c) = plain
+    by_action (Text s t) = either late
+    by_action (Close Directory c) = longer_key p q (End ∷ []) parts.0 apart
+    by_action (Close File c) = either (late && has_text d q)
+
+-- ---- what stands before and after the next step
+
+abbrev pub AllSteps : (Step → Type 0) → List Step → Type 0
+AllSteps P [] = Unit {0}
+AllSteps P (s ∷ steps) = P s × AllSteps P steps
+
+pub all_of_any : (f : Step → Bool) (steps : List Step) → list_any f steps ≡ false → AllSteps (λ t. f t ≡ false) steps
+all_of_any f [] h = tt
+all_of_any f (s ∷ steps) h = let parts = or_false (f s) (list_any f steps) h in (parts.0, all_of_any f steps parts.1)
+
+any_part : (f : Step → Bool) (xs : List Step) (s : Step) (ys : List Step) → list_any f (xs ++ s ∷ ys) ≡ false → f s ≡ false
+any_part f [] s ys h = (or_false (f s) (list_any f ys) h).0
+any_part f (x ∷ xs) s ys h = any_part f xs s ys (or_false (f x) (list_any f (xs ++ s ∷ ys)) h).1
+
+pub before_next : (d : Request) (late : Bool) (done : List Step) (s : Step) (rest : List Step) → InKeyOrder d late (done ++ s ∷ rest) → AllSteps (λ t. comes_after d late t s ≡ false) done
+before_next d late [] s rest h = tt
+before_next d late (t ∷ done) s rest h = (any_part (comes_after d late t) done s rest h.0, before_next d late done s rest h.1)
+
+pub after_next : (d : Request) (late : Bool) (done : List Step) (s : Step) (rest : List Step) → InKeyOrder d late (done ++ s ∷ rest) → AllSteps (λ u. comes_after d late s u ≡ false) rest
+after_next d late [] s rest h = all_of_any (comes_after d late s) rest h.0
+after_next d late (t ∷ done) s rest h = after_next d late done s rest h.1
+
+-- no step below the path of a step whose key is its path has been taken
+pub none_below_next : (d : Request) (late : Bool) (done : List Step) (s : Step) (q : Path) → AllSteps (λ t. comes_after d late t s ≡ false) done
+    → key_of d late s ≡ map Named s.path → is_below s.path q ≡ true → filter (is_at q) done ≡ []
+none_below_next d late [] s q h k b = refl
+none_below_next d late (t ∷ done) s q h k b = by (is_at q t) refl (none_below_next d late done s q h.1 k b)
+  where
+    by : (x : Bool) → is_at q t ≡ x → filter (is_at q) done ≡ [] → cond x (t ∷ filter (is_at q) done) (filter (is_at q) done) ≡ []
+    by true e ih =
+        let after : comes_after d late t s ≡ true =
+        ap (λ y. is_gt (slice_cmp mark_cmp (key_of d late t) y)) k ∙ key_above d late s.path t.path t.action (ap (is_below s.path) (same_path t.path q e) ∙ b) in
+        absurd (true≢false (sym after ∙ h.0))
+    by false e ih = ih
+
+-- ---- the steps of the path above
+
+-- the key of the action is the path itself
+abbrev pub is_main : Action → Bool
+is_main (Close k c) = false
+is_main (Text s t) = false
+is_main _ = true
+
+pub main_key : (d : Request) (late : Bool) (p : Path) (a : Action) → is_main a ≡ true → key d late p a ≡ map Named p
+main_key d late p (Delete r) h = refl
+main_key d late p (Open k r) h = refl
+main_key d late p (Add k) h = refl
+main_key d late p (Change k c) h = refl
+main_key d late p (Text s t) h = absurd (true≢false (sym h))
+main_key d late p (Close k c) h = absurd (true≢false (sym h))
+
+abbrev pub NoneMain : List Action → Type 0
+NoneMain [] = Unit {0}
+NoneMain (a ∷ acts) = (is_main a ≡ false) × NoneMain acts
+
+-- of the steps above the next one's path those with the path as key have all been taken
+pub none_main_left : (d : Request) (late : Bool) (s : Step) (rest : List Step) (p : Path) → is_below p s.path ≡ true → AllSteps (λ u. comes_after d late s u ≡ false) rest → NoneMain (actions_at p rest)
+none_main_left d late s [] p b h = tt
+none_main_left d late s (u ∷ rest) p b h = by (is_at p u) refl (none_main_left d late s rest p b h.1)
+  where
+    by_main : (x : Bool) → is_at p u ≡ true → is_main u.action ≡ x → is_main u.action ≡ false
+    by_main true e m =
+        let after : comes_after d late s u ≡ true =
+        ap (λ y. is_gt (slice_cmp mark_cmp (key_of d late s) y)) (main_key d late u.path u.action m ∙ ap (map Named) (same_path u.path p e))
+        ∙ key_above d late p s.path s.action b in
+        absurd (true≢false (sym after ∙ h.0))
+    by_main false e m = m
+
+    by : (x : Bool) → is_at p u ≡ x → NoneMain (actions_at p rest) → NoneMain (map (λ (s : Step). s.action) (cond x (u ∷ filter (is_at p) rest) (filter (is_at p) rest)))
+    by true e ih = (by_main (is_main u.action) e refl, ih)
+    by false e ih = ih
+
+-- a list of actions that is cut behind its main ones
+abbrev pub AllMain : List Action → Type 0
+AllMain [] = Unit {0}
+AllMain (a ∷ acts) = (is_main a ≡ true) × AllMain acts
+
+pub cut_behind : (xs ys mains : List Action) (last : Action) → xs ++ ys ≡ mains ++ last ∷ [] → AllMain mains → NoneMain ys → (xs ≡ mains) ⊎ (xs ≡ mains ++ last ∷ [])
+cut_behind [] ys [] last e m n = inl refl
+cut_behind [] [] (a ∷ mains) last e m n = absurd (nil e)
+  where
+    nil : [] ≡ a ∷ (mains ++ last ∷ []) → ⊥
+    nil q = cc
+cut_behind [] (y ∷ ys) (a ∷ mains) last e m n = absurd (true≢false (sym m.0 ∙ ap is_main (sym (heads e)) ∙ n.0))
+  where
+    heads : y ∷ ys ≡ a ∷ (mains ++ last ∷ []) → y ≡ a
+    heads q = cc
+cut_behind (x ∷ []) ys [] last e m n = inr (ap (λ (z : Action). z ∷ []) (heads e))
+  where
+    heads : x ∷ ys ≡ last ∷ [] → x ≡ last
+    heads q = cc
+cut_behind (x ∷ z ∷ xs) ys [] last e m n = absurd (tails e)
+  where
+    tails : x ∷ z ∷ (xs ++ ys) ≡ last ∷ [] → ⊥
+    tails q = cc
+cut_behind (x ∷ xs) ys (a ∷ mains) last e m n = more (cut_behind xs ys mains last (tails e) m.1 n) (heads e)
+  where
+    heads : x ∷ (xs ++ ys) ≡ a ∷ (mains ++ last ∷ []) → x ≡ a
+    heads q = cc
+
+    tails : x ∷ (xs ++ ys) ≡ a ∷ (mains ++ last ∷ []) → xs ++ ys ≡ mains ++ last ∷ []
+    tails q = cc
+
+    more : (xs ≡ mains) ⊎ (xs ≡ mains ++ last ∷ []) → x ≡ a → (x ∷ xs ≡ a ∷ mains) ⊎ (x ∷ xs ≡ a ∷ (mains ++ last ∷ []))
+    more (inl q) h = inl (λ i. h i ∷ q i)
+    more (inr q) h = inr (λ i. h i ∷ q i)
+
+-- where one path comes before another and isn't above it, all that begins with the one comes before all that begins with the other
+pub apart_keys : (p q : Path) (x y : List Mark) → slice_cmp name_cmp p q ≡ Less → is_within p q ≡ false → slice_cmp mark_cmp (map Named p ++ x) (map Named q ++ y) ≡ Less
+apart_keys [] q x y h k = absurd (true≢false k)
+apart_keys (m ∷ p) [] x y h k = cc
+apart_keys (m ∷ p) (n ∷ q) x y h k = by (name_cmp m n) refl h (apart_keys p q x y)
+  where
+    by : (o : Ordering) → name_cmp m n ≡ o → ordering_then o (slice_cmp name_cmp p q) ≡ Less
+        → (slice_cmp name_cmp p q ≡ Less → is_within p q ≡ false → slice_cmp mark_cmp (map Named p ++ x) (map Named q ++ y) ≡ Less)
+        → ordering_then o (slice_cmp mark_cmp (map Named p ++ x) (map Named q ++ y)) ≡ Less
+    by Less c e ih = refl
+    by Greater c e ih = e
+    by Equal c e ih =
+        let one = slice_cmp-IsAntisymmetric nat_cmp-IsAntisymmetric m n c in
+        ih e (sym (ap (λ b. b && is_within p q) (ap (bytes_eq m) (sym one) ∙ bytes_eq-same m)) ∙ k)

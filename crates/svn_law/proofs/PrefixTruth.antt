@@ -1,0 +1,345 @@
+-- After the first steps of a drive, and after the whole of it, the copy has the shape of a working copy and is true.
+use Rattle.std.proofs.Common.{◌≡◌, ◌≢◌, ℕ, ◌+◌, ◌≤◌, Bool, true, false, ◌&&◌, ◌||◌, not, List, [], ◌∷◌, ◌++◌, length, refl, sym, ◌∙◌, ap, subst, true≢false}
+use Rattle.std.specs.Prelude.{Option, Some, None, is_some, option_map, cond, map, bytes_eq}
+use Rattle.std.specs.List.{list_any}
+use Rattle.std.proofs.Math.Bool.{or-true}
+use Rattle.std.proofs.lemmas.Bool.{or_right}
+use Rattle.std.specs.Map.{keys_of}
+use Rattle.svn_law.proofs.Tests.{and_true}
+use Rattle.svn_law.proofs.Names.{value_of-first, value_of_name, Name, same_bytes, bytes_eq-same, has_name}
+use Rattle.svn_types.specs.Names.{Path, IsName}
+use Rattle.svn_types.specs.Paths.{child, is_root}
+use Rattle.svn_types.specs.Props.{changes_between}
+use Rattle.svn_types.specs.declared.kind.Kind.{Kind}
+use Rattle.svn_types.specs.declared.kind.Kind.TheVariants.{File, Directory}
+use Rattle.svn_types.specs.Pairs.{value_of}
+use Rattle.svn_repo.specs.Readings.{AllNames, are_related, kind_of, text_of, props_of, entries_of}
+use Rattle.svn_repo.specs.History.{History, look}
+use Rattle.svn_delta.specs.Reports.{has_entry_below}
+use Rattle.svn_drive.specs.Sources.{reported, governing_revision}
+use Rattle.svn_delta.specs.Steps.{Action, Open, Add, Change, Close, Step}
+use Rattle.svn_drive.specs.Steps.{IsDriveOf, is_touched, is_new, starts_empty_at, source_props, gone_actions, touched_actions, new_actions, entered_actions, path_actions}
+use Rattle.svn_delta.specs.Calls.{number_eq}
+use Rattle.svn_drive.specs.Follow.{Request, candidate, follow, is_kept, target_path, source_node, target_node}
+use Rattle.svn_wc.specs.declared.base_node.BaseNode.{BaseNode}
+use Rattle.svn_wc.specs.declared.base_node.BaseNode.TheVariants.{File as FileNode, Dir as DirNode, NotPresent}
+use Rattle.svn_wc.specs.Nodes.{WorkingCopy, IsWorkingCopy, is_present, is_dir, node_path, HasEntries, IsTrueNode, IsTrueOf, base_node_by, base_node}
+use Rattle.svn_law.specs.Result.{result}
+use Rattle.svn_law.proofs.Children.{entry_below, look-child}
+use Rattle.svn_law.proofs.Classes.{Setting, is_kept-child, kept_related, target_path-child}
+use Rattle.svn_law.proofs.States.{actions_at, acted, is_deleted_above, base, state}
+use Rattle.svn_law.proofs.FirstSteps.{NoneMain}
+use Rattle.svn_law.proofs.NextStep.{any-append2}
+use Rattle.svn_law.proofs.AfterSteps.{is_entry, kept_present}
+use Rattle.svn_law.proofs.DriveExists.{new_path, has_either, is_source_present, near_target}
+use Rattle.svn_law.proofs.AfterAllSteps.{KeptAs, kept_as}
+use Rattle.svn_law.proofs.Progress.{has_actions, kept_is_dir, kept_stays, entered_some, old_below, stands_below}
+use Rattle.svn_law.proofs.PrefixStates.{closes_dir, children_done, Stands, absent, not_present, old, opened_file, open_directory, finished, stands}
+
+-- ---- names and entries
+
+allowed_name : (es : List (List ℕ × ℕ)) (name : Name) (n : ℕ) → AllNames es → value_of es name ≡ Some n → IsName name
+allowed_name [] name n a e = absurd (none e)
+  where
+    none : None ≡ Some n → ⊥
+    none q = cc
+allowed_name (x ∷ es) name n a e = by (bytes_eq x.0 name) refl (sym (value_of-first x es name) ∙ e) (allowed_name es name n a.1)
+  where
+    by : (b : Bool) → bytes_eq x.0 name ≡ b → cond b (Some x.1) (value_of es name) ≡ Some n → (value_of es name ≡ Some n → IsName name) → IsName name
+    by true q k ih = subst IsName (same_bytes x.0 name q) a.0
+    by false q k ih = ih k
+
+-- where each of the names has an entry, all have
+entries_stand : (v : WorkingCopy) (p : Path) (names : List (List ℕ)) → ((name : Name) → has_name names name ≡ true → v (child p name) ≢ None) → HasEntries v p names
+entries_stand v p [] h = tt
+entries_stand v p (name ∷ names) h = (
+  h name (ap (λ b. b || has_name names name) (bytes_eq-same name)),
+  entries_stand v p names (λ m e. h m (or_right (bytes_eq name m) (has_name names m) e)),
+)
+
+entries_kept : (v w : WorkingCopy) (p : Path) (names : List (List ℕ)) → ((name : Name) → w (child p name) ≢ None → v (child p name) ≢ None) → HasEntries w p names → HasEntries v p names
+entries_kept v w p [] f h = tt
+entries_kept v w p (name ∷ names) f h = (f name h.0, entries_kept v w p names f h.1)
+
+some_not_none : (found : Option BaseNode) → is_some found ≡ true → found ≢ None
+some_not_none found h e = true≢false (sym h ∙ ap is_some e)
+
+pub present_not_none : (found : Option BaseNode) → is_present found ≡ true → found ≢ None
+present_not_none found h e = true≢false (sym h ∙ ap is_present e)
+
+-- a node that is kept as a directory is one, and no file is
+kind_of_dir : (k : Kind) → (k ≡ File → ⊥) → k ≡ Directory
+kind_of_dir File h = absurd (h refl)
+kind_of_dir Directory h = refl
+
+module _ (d : Request) (w : WorkingCopy) (setting : Setting d w) where
+  abbrev h : History
+  h = d.history
+
+  related_target : (o : Option ℕ) (a : Option ℕ) → are_related h a o ≡ true → (n : ℕ) × (o ≡ Some n)
+  related_target None None e = absurd (true≢false (sym e))
+  related_target None (Some m) e = absurd (true≢false (sym e))
+  related_target (Some n) a e = (n, refl)
+
+  pub kept_target : (p : Path) → is_kept d p ≡ true → (n : ℕ) × (target_node d p ≡ Some n)
+  kept_target p k = related_target (target_node d p) (source_node d p) (kept_related d w setting p k)
+
+  -- a path that isn't kept stands in the target below its parent
+  placed_below : (p : Path) (name : Name) → is_kept d (child p name) ≡ false → target_node d (child p name) ≡ entry_below h (target_node d p) name
+  placed_below p name k =
+      ap (look h d.target) (target_path-child d p name ∙ ap (λ b. cond b (candidate d.mode (reported d.report (child p name)).repos_path (child (target_path d p) name)) (child (target_path d p) name)) k)
+      ∙ look-child h d.target (target_path d p) name
+
+  -- where a child that isn't kept is in the target, the path is a directory there
+  below_directory : (p : Path) (name : Name) (m : ℕ) → entry_below h (target_node d p) name ≡ Some m → (n : ℕ) × (target_node d p ≡ Some n) × (kind_of h n ≡ Directory)
+  below_directory p name m e = by (target_node d p) refl e
+    where
+      none : None ≡ Some m → ⊥
+      none q = cc
+
+      by : (o : Option ℕ) → target_node d p ≡ o → entry_below h o name ≡ Some m → (n : ℕ) × (o ≡ Some n) × (kind_of h n ≡ Directory)
+      by None t q = absurd (none q)
+      by (Some n) t q = (n, refl, kind_of_dir (kind_of h n) (λ f. none (sym (ap (λ es. value_of es name) (setting.history.files_are_leaves d.target (target_path d p) n t f)) ∙ q)))
+
+  -- a path that has a node in the target, or actions, has an allowed name
+  new_name : (p : Path) (name : Name) (n : ℕ) → entry_below h (target_node d p) name ≡ Some n → IsName name
+  new_name p name n e = by (target_node d p) refl e
+    where
+      none : None ≡ Some n → ⊥
+      none q = cc
+
+      by : (o : Option ℕ) → target_node d p ≡ o → entry_below h o name ≡ Some n → IsName name
+      by None t q = absurd (none q)
+      by (Some m) t q = allowed_name (entries_of h m) name n (setting.history.entries_named d.target (target_path d p) m t) q
+
+  source_name : (p : Path) (name : Name) (n : ℕ) → source_node d (child p name) ≡ Some n → IsName name
+  source_name p name n s = setting.shape.names p name (present_not_none (w (child p name)) (is_source_present d w setting (child p name) n s))
+
+  target_name : (p : Path) (name : Name) (n : ℕ) → target_node d (child p name) ≡ Some n → IsName name
+  target_name p name n t = by (source_node d (child p name)) refl
+    where
+      by : (o : Option ℕ) → source_node d (child p name) ≡ o → IsName name
+      by (Some m) s = source_name p name m s
+      by None s = new_name p name n (sym (ap (look h d.target) (new_path d w setting p name s) ∙ look-child h d.target (target_path d p) name) ∙ t)
+
+  actions_name : (p : Path) (name : Name) → path_actions d (child p name) ≢ [] → IsName name
+  actions_name p name some = by (source_node d (child p name)) refl
+    where
+      by : (o : Option ℕ) → source_node d (child p name) ≡ o → IsName name
+      by (Some m) s = source_name p name m s
+      by None s = let t = has_either d w setting (child p name) some s in target_name p name t.0 t.1
+
+  -- a kept path whose copy is a directory is one in the target
+  kept_dir_target : (p : Path) (n : ℕ) → is_kept d p ≡ true → target_node d p ≡ Some n → is_dir (w p) ≡ true → kind_of h n ≡ Directory
+  kept_dir_target p n k t dir = kind_of_dir (kind_of h n) (λ f. by (subst (KeptAs d w setting p) f (kept_as d w setting p n k t)))
+    where
+      by : KeptAs d w setting p File → ⊥
+      by f = true≢false (sym dir ∙ ap is_dir f.is)
+
+  -- a true node's repository path is short
+  true_short : (v : WorkingCopy) (p : Path) (found : Option BaseNode) → IsTrueNode h v p found → is_present found ≡ true → length (node_path found) ≤ 64
+  true_short v p None t k = absurd (true≢false (sym k))
+  true_short v p (Some NotPresent) t k = absurd (true≢false (sym k))
+  true_short v p (Some (FileNode r q x ps)) t k = setting.history.paths_short r q t.0 t.1
+  true_short v p (Some (DirNode r q c ps)) t k = setting.history.paths_short r q t.0 t.1
+
+  -- the target's node is true where its entries stand
+  true_base : (v : WorkingCopy) (p : Path) (n : ℕ) → target_node d p ≡ Some n → ((name : Name) (m : ℕ) → kind_of h n ≡ Directory → value_of (entries_of h n) name ≡ Some m → v (child p name) ≢ None)
+      → IsTrueNode h v p (Some (base_node h d.target (target_path d p) n))
+  true_base v p n t some = by (kind_of h n) refl
+    where
+      by : (k : Kind) → kind_of h n ≡ k → IsTrueNode h v p (Some (base_node_by k d.target (target_path d p) (text_of h n) (props_of h n)))
+      by File k = (n, t, record { kind = k; same_text = refl; same_props = refl })
+      by Directory k = (
+        n,
+        t,
+        record { kind = k; same_props = λ z. refl; has_entries = λ z. entries_stand v p (keys_of (entries_of h n)) (λ name e. let m = value_of_name (entries_of h n) name e in some name m.0 k m.1) },
+      )
+
+  base_path : (k : Kind) (q : Path) (x : List ℕ) (ps : List (List ℕ × List ℕ)) → node_path (Some (base_node_by k d.target q x ps)) ≡ q
+  base_path File q x ps = refl
+  base_path Directory q x ps = refl
+
+  -- ---- the result
+
+  result_some : (p : Path) → result d p ≢ None → (n : ℕ) × (target_node d p ≡ Some n)
+  result_some p some = by (target_node d p) some
+    where
+      by : (o : Option ℕ) → option_map (base_node h d.target (target_path d p)) o ≢ None → (n : ℕ) × (o ≡ Some n)
+      by None s = absurd (s refl)
+      by (Some n) s = (n, refl)
+
+  result_is : (p : Path) (n : ℕ) → target_node d p ≡ Some n → result d p ≡ Some (base_node h d.target (target_path d p) n)
+  result_is p n t = ap (option_map (base_node h d.target (target_path d p))) t
+
+  result_dir : (p : Path) (n : ℕ) → target_node d p ≡ Some n → kind_of h n ≡ Directory → is_dir (result d p) ≡ true
+  result_dir p n t k = ap is_dir (result_is p n t) ∙ ap (λ x. is_dir (Some (base_node_by x d.target (target_path d p) (text_of h n) (props_of h n)))) k
+
+  result_present : (p : Path) → is_present (result d p) ≡ true → (n : ℕ) × (target_node d p ≡ Some n)
+  result_present p k = result_some p (present_not_none (result d p) k)
+
+  -- each entry of the target's node is in the result
+  result_below : (p : Path) (n : ℕ) → target_node d p ≡ Some n → (name : Name) (m : ℕ) → value_of (entries_of h n) name ≡ Some m → result d (child p name) ≢ None
+  result_below p n t name m e = by (is_kept d (child p name)) refl
+    where
+      there : (k : ℕ) → target_node d (child p name) ≡ Some k → result d (child p name) ≢ None
+      there k z = some_not_none (result d (child p name)) (ap is_some (result_is (child p name) k z))
+
+      by : (b : Bool) → is_kept d (child p name) ≡ b → result d (child p name) ≢ None
+      by true k = let z = kept_target (child p name) k in there z.0 z.1
+      by false k = there m (placed_below p name k ∙ ap (λ o. entry_below h o name) t ∙ e)
+
+  pub result_true : IsTrueOf h (result d)
+  result_true p = by (target_node d p) refl
+    where
+      by : (o : Option ℕ) → target_node d p ≡ o → IsTrueNode h (result d) p (option_map (base_node h d.target (target_path d p)) o)
+      by None t = tt
+      by (Some n) t = true_base (result d) p n t (λ name m k e. result_below p n t name m e)
+
+  pub result_shape : IsWorkingCopy (result d)
+  result_shape = record {
+    root = let z = kept_target [] refl in result_dir [] z.0 z.1 (kept_dir_target [] z.0 refl z.1 setting.shape.root);
+    parents = parents;
+    names = λ p name some. let z = result_some (child p name) some in target_name p name z.0 z.1;
+    repos_paths = λ p k. true_short (result d) p (result d p) (result_true p) k;
+    paths = λ p k. let z = result_present p k in
+        subst (λ q. length p ≤ 64 + length q) (sym (ap node_path (result_is p z.0 z.1) ∙ base_path (kind_of h z.0) (target_path d p) (text_of h z.0) (props_of h z.0))) (near_target d w setting p z.0 z.1);
+  }
+    where
+      parents : (p : Path) (name : Name) → result d (child p name) ≢ None → is_dir (result d p) ≡ true
+      parents p name some = by (is_kept d (child p name)) refl
+        where
+          z : (n : ℕ) × (target_node d (child p name) ≡ Some n)
+          z = result_some (child p name) some
+
+          by : (b : Bool) → is_kept d (child p name) ≡ b → is_dir (result d p) ≡ true
+          by false k = let up = below_directory p name z.0 (sym (placed_below p name k) ∙ z.1) in result_dir p up.0 up.1 up.2
+          by true k =
+              let kept : is_kept d p ≡ true = kept_up k in
+              let t = kept_target p kept in
+              let dir = setting.shape.parents p name (present_not_none (w (child p name)) (kept_present d w setting (child p name) k)) in
+              result_dir p t.0 t.1 (kept_dir_target p t.0 kept t.1 dir)
+            where
+              kept_up : is_kept d (child p name) ≡ true → is_kept d p ≡ true
+              kept_up e = (and_true (is_kept d p) _ (sym (is_kept-child d p name) ∙ e)).0
+
+  -- ---- the first steps
+
+  module _ (late : Bool) (steps rest : List Step) (drive : IsDriveOf d late (steps ++ rest)) where
+    abbrev now : WorkingCopy
+    now = state d w steps
+
+    abbrev standing : (p : Path) → Stands d w setting late steps rest drive p (now p)
+    standing p = stands d w setting late steps rest drive p
+
+    -- a directory whose actions are all done is closed
+    closed_dir : (p : Path) (n : ℕ) → target_node d p ≡ Some n → kind_of h n ≡ Directory → (is_touched d p || is_new d p) ≡ true → list_any closes_dir (path_actions d p) ≡ true
+    closed_dir p n t k entered =
+        any-append2 closes_dir (gone_actions d p) (entered_actions d p (target_node d p))
+        ∙ ap (λ b. list_any closes_dir (gone_actions d p) || b) (ap (λ o. list_any closes_dir (entered_actions d p o)) t ∙ by (is_touched d p) (is_new d p) entered)
+        ∙ or-true (list_any closes_dir (gone_actions d p))
+      where
+        closing : (l : List Action) → list_any closes_dir (l ++ (Close Directory None ∷ [])) ≡ true
+        closing l = any-append2 closes_dir l (Close Directory None ∷ []) ∙ or-true (list_any closes_dir l)
+
+        by : (x y : Bool) → (x || y) ≡ true → list_any closes_dir (cond x (touched_actions d p n (kind_of h n)) (cond y (new_actions d n (kind_of h n)) [])) ≡ true
+        by true y q = ap (λ z. list_any closes_dir (touched_actions d p n z)) k ∙ closing (opening ∷ map (Change Directory) (changes_between (source_props d p (source_node d p)) (props_of h n)))
+          where
+            opening : Action
+            opening = Open Directory (governing_revision (follow d p).here)
+        by false true q = ap (λ z. list_any closes_dir (new_actions d n z)) k ∙ closing (Add Directory ∷ map (Change Directory) (changes_between [] (props_of h n)))
+        by false false q = absurd (true≢false (sym q))
+
+    -- each entry of a closed directory stands
+    closed_below : (p : Path) (n : ℕ) → target_node d p ≡ Some n → (is_touched d p || is_new d p) ≡ true → actions_at p steps ≡ path_actions d p
+        → (name : Name) (m : ℕ) → kind_of h n ≡ Directory → value_of (entries_of h n) name ≡ Some m → now (child p name) ≢ None
+    closed_below p n t entered whole name m k e = by (is_kept d (child p name)) refl
+      where
+        c : Path
+        c = child p name
+
+        main : NoneMain (actions_at (child p name) rest)
+        main = children_done d w setting late steps rest drive p name (ap (list_any closes_dir) whole ∙ closed_dir p n t k entered)
+
+        by : (b : Bool) → is_kept d (child p name) ≡ b → now (child p name) ≢ None
+        by true q = present_not_none (now c) (kept_stays d w setting late steps rest drive c q)
+        by false q =
+            let there : target_node d c ≡ Some m = placed_below p name q ∙ ap (λ o. entry_below h o name) t ∙ e in
+            some_not_none (now c) (entered_some d w setting late steps rest drive c (added_entry there) main)
+          where
+            adds : (kind : Kind) → list_any is_entry (new_actions d m kind) ≡ true
+            adds File = refl
+            adds Directory = refl
+
+            not_touched : is_touched d c ≡ false
+            not_touched = ap (λ b. b && (is_root c || not (number_eq (source_node d c) (target_node d c)) || starts_empty_at d c || has_entry_below d.report.entries c)) q
+
+            new : target_node d c ≡ Some m → is_new d c ≡ true
+            new z = ap (λ b. not b && is_some (target_node d c)) q ∙ ap is_some z
+
+            added_entry : target_node d c ≡ Some m → list_any is_entry (path_actions d c) ≡ true
+            added_entry z =
+                any-append2 is_entry (gone_actions d c) (entered_actions d c (target_node d c))
+                ∙ ap (λ b. list_any is_entry (gone_actions d c) || b)
+                (ap (λ o. list_any is_entry (entered_actions d c o)) z
+                ∙ ap (λ b. list_any is_entry (cond b (touched_actions d c m (kind_of h m)) (cond (is_new d c) (new_actions d m (kind_of h m)) []))) not_touched
+                ∙ ap (λ b. list_any is_entry (cond b (new_actions d m (kind_of h m)) [])) (new z) ∙ adds (kind_of h m))
+                ∙ or-true (list_any is_entry (gone_actions d c))
+
+    -- what was true and is untouched is true
+    still_true : (p : Path) → actions_at p steps ≡ [] → is_deleted_above steps p ≡ false → (found : Option BaseNode) → IsTrueNode h w p found → IsTrueNode h now p found
+    still_true p none above None t = tt
+    still_true p none above (Some NotPresent) t = tt
+    still_true p none above (Some (FileNode r q x ps)) t = t
+    still_true p none above (Some (DirNode r q c ps)) t = (
+      t.0,
+      t.1,
+      record {
+        kind = t.2.kind;
+        same_props = t.2.same_props;
+        has_entries = λ z. entries_kept now w p (keys_of (entries_of h t.0)) (λ name some none_now. some (sym (old_below d w setting late steps rest drive p name none above) ∙ none_now)) (t.2.has_entries z);
+      },
+    )
+
+    pub prefix_true : IsTrueOf h now
+    prefix_true p = by (now p) (standing p)
+      where
+        by : (found : Option BaseNode) → Stands d w setting late steps rest drive p found → IsTrueNode h now p found
+        by found absent = tt
+        by found not_present = tt
+        by found (old e above none) = still_true p none above found (subst (IsTrueNode h w p) e (setting.true_of p))
+        by found (opened_file e k) = subst (IsTrueNode h w p) e (setting.true_of p)
+        by found (open_directory z) = (z.0, z.1, record { kind = z.2; same_props = λ q. absurd (true≢false (sym q)); has_entries = λ q. absurd (true≢false (sym q)) })
+        by found (finished n t entered whole) = true_base now p n t (closed_below p n t entered whole)
+
+    pub prefix_shape : IsWorkingCopy now
+    prefix_shape = record {
+      root = kept_is_dir d w setting late steps rest drive [] refl setting.shape.root;
+      parents = stands_below d w setting late steps rest drive;
+      names = names;
+      repos_paths = λ p k. true_short now p (now p) (prefix_true p) k;
+      paths = λ p k. short p (now p) (standing p) k;
+    }
+      where
+        names : (p : Path) (name : Name) → now (child p name) ≢ None → IsName name
+        names p name some = by (actions_at (child p name) steps) refl
+          where
+            before : (b : Bool) → cond b None (w (child p name)) ≢ None → IsName name
+            before true s = absurd (s refl)
+            before false s = setting.shape.names p name s
+
+            by : (l : List Action) → actions_at (child p name) steps ≡ l → IsName name
+            by [] e = before (is_deleted_above steps (child p name)) (λ z. some (ap (acted d (child p name) [] (base w steps (child p name))) e ∙ z))
+            by (a ∷ l) e = actions_name p name (has_actions d w setting late steps rest drive (child p name) (λ z. cons (sym e ∙ z)))
+              where
+                cons : a ∷ l ≡ [] → ⊥
+                cons q = cc
+
+        short : (p : Path) (found : Option BaseNode) → Stands d w setting late steps rest drive p found → is_present found ≡ true → length p ≤ 64 + length (node_path found)
+        short p found absent k = absurd (true≢false (sym k))
+        short p found not_present k = absurd (true≢false (sym k))
+        short p found (old e above none) k = subst (λ o. length p ≤ 64 + length (node_path o)) e (setting.shape.paths p (ap is_present e ∙ k))
+        short p found (opened_file e kept) k = subst (λ o. length p ≤ 64 + length (node_path o)) e (setting.shape.paths p (ap is_present e))
+        short p found (open_directory z) k = near_target d w setting p z.0 z.1
+        short p found (finished n t entered whole) k =
+            subst (λ q. length p ≤ 64 + length q) (sym (base_path (kind_of h n) (target_path d p) (text_of h n) (props_of h n))) (near_target d w setting p n t)

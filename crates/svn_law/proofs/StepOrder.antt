@@ -1,0 +1,262 @@
+-- The steps of a drive: which come before and after one of them, and which there are.
+use Rattle.std.proofs.Common.{◌≡◌, ◌≢◌, ℕ, Bool, true, false, ◌&&◌, ◌||◌, List, [], ◌∷◌, ◌++◌, refl, sym, ◌∙◌, ap, subst, true≢false}
+use Rattle.std.specs.Prelude.{Option, Some, None, cond, map, filter}
+use Rattle.std.specs.List.{list_any}
+use Rattle.svn_law.proofs.Tests.{dir_present}
+use Rattle.svn_law.proofs.Names.{Name, same_path, path_eq-same}
+use Rattle.svn_types.specs.Names.{Path}
+use Rattle.svn_types.specs.Paths.{path_eq, is_below, child}
+use Rattle.svn_types.specs.declared.kind.Kind.{Kind}
+use Rattle.svn_types.specs.declared.kind.Kind.TheVariants.{File, Directory}
+use Rattle.svn_repo.specs.Readings.{are_related, kind_of}
+use Rattle.svn_delta.specs.Steps.{Action, Delete, Open, Add, Change, Text, Close, Step}
+use Rattle.svn_drive.specs.Follow.{Request, source_node, target_node}
+use Rattle.svn_drive.specs.Steps.{IsDriveOf, is_text, is_touched, is_new, gone_actions, touched_actions, new_actions, entered_actions, path_actions, comes_after}
+use Rattle.svn_wc.specs.Nodes.{WorkingCopy, is_dir}
+use Rattle.svn_law.proofs.Classes.{Setting, EnteredDirectory, entered_below, is_below-child, path_eq-child, source_from_copy, kept_directory}
+use Rattle.svn_law.proofs.States.{is_at, actions_at, actions_at-append, actions_at-drive}
+use Rattle.svn_law.proofs.FirstSteps.{AllSteps, before_next, after_next, is_main, NoneMain, none_main_left}
+use Rattle.svn_law.proofs.NextStep.{any-append2, is_inner}
+use Rattle.svn_law.proofs.Courses.{inner_of, precedes, is_entry_of, is_close_of, AllOf, InTurn, or_true, course_of, course_in_turn, inside, course_closed, course_kind, fits_kind, text_closed, part_of}
+
+-- ---- lists of steps
+
+-- what holds of all steps of a list
+pub all_map : (P Q : Step → Type 0) → ((x : Step) → P x → Q x) → (xs : List Step) → AllSteps P xs → AllSteps Q xs
+all_map P Q f [] h = tt
+all_map P Q f (x ∷ xs) h = (f x h.0, all_map P Q f xs h.1)
+
+pub all_both : (P Q : Step → Type 0) (xs : List Step) → AllSteps P xs → AllSteps Q xs → AllSteps (λ x. P x × Q x) xs
+all_both P Q [] h k = tt
+all_both P Q (x ∷ xs) h k = ((h.0, k.0), all_both P Q xs h.1 k.1)
+
+pub all_left : (P : Step → Type 0) (xs ys : List Step) → AllSteps P (xs ++ ys) → AllSteps P xs
+all_left P [] ys h = tt
+all_left P (x ∷ xs) ys h = (h.0, all_left P xs ys h.1)
+
+pub all_right : (P : Step → Type 0) (xs ys : List Step) → AllSteps P (xs ++ ys) → AllSteps P ys
+all_right P [] ys h = h
+all_right P (x ∷ xs) ys h = all_right P xs ys h.1
+
+-- a test that no step passes
+pub none_any : (f : Step → Bool) (xs : List Step) → AllSteps (λ x. f x ≡ false) xs → list_any f xs ≡ false
+none_any f [] h = refl
+none_any f (x ∷ xs) h = ap (λ b. b || list_any f xs) h.0 ∙ none_any f xs h.1
+
+-- a step of the list that passes the test, with what is before it and behind it
+pub record Found (f : Step → Bool) (l : List Step) : Type 0 where
+  pub front : List Step
+  pub here : Step
+  pub back : List Step
+  pub cut : front ++ here ∷ back ≡ l
+  pub passes : f here ≡ true
+
+-- what passes a test somewhere stands somewhere
+pub find : (f : Step → Bool) (l : List Step) → list_any f l ≡ true → Found f l
+find f [] h = absurd (true≢false (sym h))
+find f (x ∷ l) h = by (f x) refl h (find f l)
+  where
+    by : (b : Bool) → f x ≡ b → (b || list_any f l) ≡ true → (list_any f l ≡ true → Found f l) → Found f (x ∷ l)
+    by true e h ih = record { front = []; here = x; back = l; cut = refl; passes = e }
+    by false e h ih =
+        let r = ih h in
+        record { front = x ∷ r.front; here = r.here; back = r.back; cut = ap (λ (y : List Step). x ∷ y) r.cut; passes = r.passes }
+
+-- a test that contradicts itself where it holds
+pub never : (b : Bool) → (b ≡ true → true ≡ false) → b ≡ false
+never true h = h refl
+never false h = refl
+
+-- a step with such an action at the path
+abbrev pub has : (Action → Bool) → Path → Step → Bool
+has f p t = path_eq t.path p && f t.action
+
+-- what such a test says
+pub has_parts : (f : Action → Bool) (p : Path) (t : Step) → has f p t ≡ true → (t.path ≡ p) × (f t.action ≡ true)
+has_parts f p t h = by (path_eq t.path p) (f t.action) refl refl h
+  where
+    by : (a b : Bool) → path_eq t.path p ≡ a → f t.action ≡ b → (a && b) ≡ true → (t.path ≡ p) × (f t.action ≡ true)
+    by true b e q h = (same_path t.path p e, q ∙ h)
+    by false b e q h = absurd (true≢false (sym h))
+
+-- and when it fails
+pub has_not : (f : Action → Bool) (p : Path) (t : Step) → (t.path ≡ p → f t.action ≡ false) → has f p t ≡ false
+has_not f p t h = never (has f p t) (λ e. let parts = has_parts f p t e in sym parts.1 ∙ h parts.0)
+
+-- a test on the actions of a path, as one on the steps
+pub any-actions : (f : Action → Bool) (p : Path) (steps : List Step) → list_any f (actions_at p steps) ≡ list_any (has f p) steps
+any-actions f p [] = refl
+any-actions f p (t ∷ steps) = by (is_at p t) (any-actions f p steps)
+  where
+    by : (b : Bool) → list_any f (actions_at p steps) ≡ list_any (has f p) steps
+        → list_any f (map (λ (s : Step). s.action) (cond b (t ∷ filter (is_at p) steps) (filter (is_at p) steps))) ≡ ((b && f t.action) || list_any (has f p) steps)
+    by true ih = ap (λ b. f t.action || b) ih
+    by false ih = ih
+
+-- what is in the whole and not in the second part is in the first
+pub in_front : {X : Type 0} (f : X → Bool) (xs ys : List X) → list_any f (xs ++ ys) ≡ true → list_any f ys ≡ false → list_any f xs ≡ true
+in_front f xs ys h k = by (list_any f xs) (sym (any-append2 f xs ys ∙ ap (λ b. list_any f xs || b) k) ∙ h)
+  where
+    by : (b : Bool) → (b || false) ≡ true → b ≡ true
+    by true e = refl
+    by false e = e
+
+-- what is in a part is in the whole
+pub in_whole : {X : Type 0} (f : X → Bool) (xs ys : List X) → list_any f xs ≡ true → list_any f (xs ++ ys) ≡ true
+in_whole f xs ys h = any-append2 f xs ys ∙ ap (λ b. b || list_any f ys) h
+
+-- each step of a list is a member of it
+abbrev pub Member : List Step → Step → Type 0
+Member l x = (f : Step → Bool) → f x ≡ true → list_any f l ≡ true
+
+-- the steps of a list are members of it
+pub members : (xs : List Step) → AllSteps (Member xs) xs
+members [] = tt
+members (x ∷ xs) = (λ f e. ap (λ b. b || list_any f xs) e, all_map (Member xs) (Member (x ∷ xs)) (λ y m f e. ap (λ b. f x || b) (m f e) ∙ or_true (f x)) xs (members xs))
+
+-- ---- before and after a step of a drive
+
+-- how a step stands to a later one
+abbrev pub Before : Request → Bool → Step → Step → Type 0
+Before d late t s = (comes_after d late t s ≡ false) × (t.path ≡ s.path → precedes t.action s.action ≡ true)
+
+-- in a list in turn, each action has its turn after those before it
+turn_split : (xs : List Action) (a : Action) (ys : List Action) → InTurn (xs ++ a ∷ ys) → AllOf (λ x. precedes x a) xs × AllOf (precedes a) ys
+turn_split [] a ys h = (tt, h.0)
+turn_split (x ∷ xs) a ys h = let r = turn_split xs a ys h.1 in ((part_of (precedes x) xs a ys h.0, r.0), r.1)
+
+-- what holds of the actions of a path holds of its steps
+pub at_steps : (f : Action → Bool) (p : Path) (steps : List Step) → AllOf f (actions_at p steps) → AllSteps (λ t. t.path ≡ p → f t.action ≡ true) steps
+at_steps f p [] h = tt
+at_steps f p (t ∷ steps) h = by (is_at p t) refl h (at_steps f p steps)
+  where
+    by : (b : Bool) → is_at p t ≡ b → AllOf f (map (λ (s : Step). s.action) (cond b (t ∷ filter (is_at p) steps) (filter (is_at p) steps)))
+        → (AllOf f (actions_at p steps) → AllSteps (λ t. t.path ≡ p → f t.action ≡ true) steps)
+        → (t.path ≡ p → f t.action ≡ true) × AllSteps (λ t. t.path ≡ p → f t.action ≡ true) steps
+    by true e h ih = (λ q. h.0, ih h.1)
+    by false e h ih = (λ q. absurd (true≢false (sym (ap (λ x. path_eq x p) q ∙ path_eq-same p) ∙ e)), ih h)
+
+module _ (d : Request) (late : Bool) (done : List Step) (s : Step) (rest : List Step) (drive : IsDriveOf d late (done ++ s ∷ rest)) where
+  -- the actions of the path of a step, cut at the step
+  pub cut_actions : actions_at s.path done ++ s.action ∷ actions_at s.path rest ≡ path_actions d s.path
+  cut_actions =
+      ap (λ b. actions_at s.path done ++ map (λ (t : Step). t.action) (cond b (s ∷ filter (is_at s.path) rest) (filter (is_at s.path) rest))) (sym (path_eq-same s.path))
+      ∙ sym (actions_at-append s.path done (s ∷ rest)) ∙ actions_at-drive d late (done ++ s ∷ rest) drive s.path
+
+  -- which have had their turn, and which have not
+  turns : AllOf (λ x. precedes x s.action) (actions_at s.path done) × AllOf (precedes s.action) (actions_at s.path rest)
+  turns = turn_split (actions_at s.path done) s.action (actions_at s.path rest) (subst InTurn (sym cut_actions) (course_in_turn d s.path (path_actions d s.path) (course_of d s.path)))
+
+  -- each step before the step is before it by key and by turn
+  pub before_step : AllSteps (λ t. Before d late t s) done
+  before_step =
+      all_both (λ t. comes_after d late t s ≡ false) (λ t. t.path ≡ s.path → precedes t.action s.action ≡ true) done
+      (before_next d late done s rest drive.in_order) (at_steps (λ x. precedes x s.action) s.path done turns.0)
+
+  -- and each one behind it behind it
+  pub after_step : AllSteps (λ u. Before d late s u) rest
+  after_step =
+      all_both (λ u. comes_after d late s u ≡ false) (λ u. s.path ≡ u.path → precedes s.action u.action ≡ true) rest
+      (after_next d late done s rest drive.in_order)
+      (all_map (λ u. u.path ≡ s.path → precedes s.action u.action ≡ true) (λ u. s.path ≡ u.path → precedes s.action u.action ≡ true) (λ u h e. h (sym e)) rest
+      (at_steps (precedes s.action) s.path rest turns.1))
+
+  -- an inner step comes after the opening of its path
+  pub record Within : Type 0 where
+    pub kind : Kind
+    pub entered : list_any (has (is_entry_of kind) s.path) done ≡ true
+    pub of_kind : inner_of kind s.action ≡ true
+
+  -- that opening, with its kind
+  pub own_entry : is_inner s.action ≡ true → Within
+  own_entry i =
+      let e = inside d s.path (path_actions d s.path) (course_of d s.path) (actions_at s.path done) s.action (actions_at s.path rest) cut_actions i in
+      record { kind = e.kind; entered = sym (any-actions (is_entry_of e.kind) s.path done) ∙ e.entered; of_kind = e.of_kind }
+
+-- ---- which steps a drive has
+
+module _ (d : Request) (late : Bool) (all : List Step) (drive : IsDriveOf d late all) where
+  -- a test on the steps of a path, as one on its actions
+  pub any_path_actions : (f : Action → Bool) (p : Path) → list_any (has f p) all ≡ list_any f (path_actions d p)
+  any_path_actions f p = sym (any-actions f p all) ∙ ap (list_any f) (actions_at-drive d late all drive p)
+
+  -- what is done inside a path is for the kind of node that it is
+  pub kinds_at : (k : Kind) (p : Path) → list_any (has (is_entry_of k) p) all ≡ true → AllSteps (λ t. t.path ≡ p → fits_kind k t.action ≡ true) all
+  kinds_at k p h =
+      at_steps (fits_kind k) p all (subst (AllOf (fits_kind k)) (sym (actions_at-drive d late all drive p)) (course_kind d p (path_actions d p) (course_of d p) k (sym (any_path_actions (is_entry_of k) p) ∙ h)))
+
+  -- what is opened is closed
+  pub is_closed_later : (k : Kind) (p : Path) → list_any (has (is_entry_of k) p) all ≡ true → list_any (has (is_close_of k) p) all ≡ true
+  is_closed_later k p h =
+      any_path_actions (is_close_of k) p ∙ (course_closed d p (path_actions d p) (course_of d p) k (sym (any_path_actions (is_entry_of k) p) ∙ h)).0
+
+  -- a file with a text is closed
+  pub is_text_closed : (p : Path) → list_any (has is_text p) all ≡ true → list_any (has (is_close_of File) p) all ≡ true
+  is_text_closed p h = any_path_actions (is_close_of File) p ∙ text_closed d p (path_actions d p) (course_of d p) (sym (any_path_actions is_text p) ∙ h)
+
+-- ---- the directory above
+
+-- where no main action is left, no entry is
+no_entry_main : (k : Kind) (acts : List Action) → NoneMain acts → list_any (is_entry_of k) acts ≡ false
+no_entry_main k [] h = refl
+no_entry_main k (a ∷ acts) h = each a h.0 (no_entry_main k acts h.1)
+  where
+    each : (a : Action) → is_main a ≡ false → list_any (is_entry_of k) acts ≡ false → (is_entry_of k a || list_any (is_entry_of k) acts) ≡ false
+    each (Delete r) e ih = ih
+    each (Open l r) e ih = absurd (true≢false e)
+    each (Add l) e ih = absurd (true≢false e)
+    each (Change l c) e ih = ih
+    each (Text x t) e ih = ih
+    each (Close l c) e ih = ih
+
+module _ (d : Request) (w : WorkingCopy) (setting : Setting d w) where
+  -- the root is a directory that is opened
+  pub root_entered : EnteredDirectory d w setting []
+  root_entered = by (target_node d []) refl (source_from_copy d w setting [] (w []) refl (setting.true_of []) (dir_present (w []) setting.shape.root))
+    where
+      none_related : (a : Option ℕ) → are_related d.history a None ≡ true → ⊥
+      none_related None q = true≢false (sym q)
+      none_related (Some m) q = true≢false (sym q)
+
+      by : (o : Option ℕ) → target_node d [] ≡ o → (m : ℕ) × (source_node d [] ≡ Some m) × (is_dir (w []) ≡ true → kind_of d.history m ≡ Directory) → EnteredDirectory d w setting []
+      by None e s = absurd (none_related (source_node d []) (sym (ap (are_related d.history (source_node d [])) e) ∙ setting.has_target))
+      by (Some n) e s = record { node = n; target = e; directory = kept_directory d w setting [] s.0 n refl s.1 e ∙ s.2 setting.shape.root; entered = refl }
+
+  -- a directory below which something is done is opened or added as one
+  pub directory_entered : (p : Path) → EnteredDirectory d w setting p → list_any (is_entry_of Directory) (path_actions d p) ≡ true
+  directory_entered p e =
+      any-append2 (is_entry_of Directory) (gone_actions d p) (entered_actions d p (target_node d p))
+      ∙ ap (λ b. list_any (is_entry_of Directory) (gone_actions d p) || b) (ap (λ o. list_any (is_entry_of Directory) (entered_actions d p o)) e.target ∙ by (is_touched d p) (is_new d p) e.entered)
+      ∙ or_true (list_any (is_entry_of Directory) (gone_actions d p))
+    where
+      by : (t n : Bool) → (t || n) ≡ true → list_any (is_entry_of Directory) (cond t (touched_actions d p e.node (kind_of d.history e.node)) (cond n (new_actions d e.node (kind_of d.history e.node)) [])) ≡ true
+      by true n q = ap (λ k. list_any (is_entry_of Directory) (touched_actions d p e.node k)) e.directory
+      by false true q = ap (λ k. list_any (is_entry_of Directory) (new_actions d e.node k)) e.directory
+      by false false q = absurd (true≢false (sym q))
+
+  module _ (late : Bool) (done : List Step) (s : Step) (rest : List Step) (drive : IsDriveOf d late (done ++ s ∷ rest)) (q : Path) (name : Name) (e : s.path ≡ child q name) where
+    -- the path of a step has actions
+    some_actions : path_actions d (child q name) ≢ []
+    some_actions z = none (actions_at s.path done) (actions_at s.path rest) (cut_actions d late done s rest drive ∙ ap (path_actions d) e ∙ z)
+      where
+        none : (xs ys : List Action) → xs ++ s.action ∷ ys ≡ [] → ⊥
+        none [] ys z = cc
+        none (x ∷ xs) ys z = cc
+
+    -- a path is not the one above it
+    elsewhere : path_eq s.path q ≡ false
+    elsewhere = never (path_eq s.path q) (λ z. sym (sym (path_eq-child q name) ∙ ap (λ x. path_eq q x) (sym e ∙ same_path s.path q z) ∙ path_eq-same q))
+
+    -- the main actions of the path above have been taken
+    none_left : NoneMain (actions_at q (s ∷ rest))
+    none_left = subst NoneMain (ap (λ b. map (λ (t : Step). t.action) (cond b (s ∷ filter (is_at q) rest) (filter (is_at q) rest))) (sym elsewhere))
+        (none_main_left d late s rest q (ap (is_below q) e ∙ is_below-child q name) (after_next d late done s rest drive.in_order))
+
+    -- the directory of a step's path has been opened or added before it
+    pub parent_done : list_any (has (is_entry_of Directory) q) done ≡ true
+    parent_done =
+        sym (any-actions (is_entry_of Directory) q done)
+        ∙ in_front (is_entry_of Directory) (actions_at q done) (actions_at q (s ∷ rest))
+        (ap (list_any (is_entry_of Directory)) (sym (actions_at-append q done (s ∷ rest)) ∙ actions_at-drive d late (done ++ s ∷ rest) drive q)
+        ∙ directory_entered q (entered_below d w setting q name some_actions))
+        (no_entry_main Directory (actions_at q (s ∷ rest)) none_left)

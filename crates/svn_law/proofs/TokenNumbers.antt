@@ -1,0 +1,327 @@
+-- The calls of a drive, each by itself: a path's token is its place among all paths that the drive opens.
+use Rattle.std.proofs.Common.{◌≡◌, ℕ, suc, Bool, true, false, ◌&&◌, ◌||◌, ◌⊎◌, List, [], ◌∷◌, ◌++◌, refl, sym, ◌∙◌, ap, subst, true≢false, append_assoc, append-nil, inl, inr, eq-eqb, ne_eqb, arith}
+use Rattle.std.specs.Prelude.{cond, map, length, nat_eq, if◌then◌else◌}
+use Rattle.std.specs.List.{list_any}
+use Rattle.std.proofs.lemmas.Bool.{eqb-true}
+use Rattle.std.proofs.Math.Bool.{and-false}
+use Rattle.svn_law.proofs.Names.{Name, same_path, path_eq-same}
+use Rattle.svn_types.specs.Names.{Path}
+use Rattle.svn_types.specs.Paths.{path_eq, child, parent, is_root}
+use Rattle.svn_types.specs.declared.kind.Kind.{Kind}
+use Rattle.svn_types.specs.declared.kind.Kind.TheVariants.{File, Directory}
+use Rattle.svn_delta.specs.Steps.{Action, Delete, Open, Add, Change, Text, Close, Step}
+use Rattle.svn_delta.specs.declared.call.Call.{Call}
+use Rattle.svn_delta.specs.declared.call.Call.TheVariants.{OpenRoot, DeleteEntry, AddDirectory, OpenDirectory, ChangeDirProp, CloseDirectory, AddFile, OpenFile, ChangeFileProp, ApplyText, CloseFile}
+use Rattle.svn_drive.specs.Follow.{Request}
+use Rattle.svn_drive.specs.Steps.{IsDriveOf, path_actions}
+use Rattle.svn_drive.specs.Drive.{token_of, call_of, opened_after, numbered}
+use Rattle.svn_wc.specs.Nodes.{WorkingCopy}
+use Rattle.svn_law.proofs.Children.{parent-child}
+use Rattle.svn_law.proofs.Classes.{Setting}
+use Rattle.svn_law.proofs.NextStep.{any-append2, is_inner}
+use Rattle.svn_law.proofs.AfterSteps.{is_entry, path_cases, same_kind}
+use Rattle.svn_law.proofs.Tokens.{is_opened}
+use Rattle.svn_law.proofs.FirstSteps.{AllSteps}
+use Rattle.svn_law.proofs.States.{actions_at-drive}
+use Rattle.svn_law.proofs.Courses.{inner_of, is_entry_of, precedes, AllOf, Course, left_alone, taken_away, entered_open, entered_new, entered_again, course_of, and_true_right}
+use Rattle.svn_law.proofs.StepOrder.{has_not, all_map, at_steps, none_any, has, in_whole, Before, before_step, own_entry, root_entered, parent_done, all_right}
+
+-- ---- calls with tokens for paths
+
+abbrev pub call_by : (Path → ℕ) → Path → Action → Call
+call_by T p (Delete r) = DeleteEntry p r (T (parent p))
+call_by T p (Open Directory base) = if is_root p then OpenRoot base (T p) else OpenDirectory p (T (parent p)) base (T p)
+call_by T p (Open File base) = OpenFile p (T (parent p)) base (T p)
+call_by T p (Add Directory) = AddDirectory p (T (parent p)) (T p)
+call_by T p (Add File) = AddFile p (T (parent p)) (T p)
+call_by T p (Change Directory change) = ChangeDirProp (T p) change.0 change.1
+call_by T p (Change File change) = ChangeFileProp (T p) change.0 change.1
+call_by T p (Text base_checksum text) = ApplyText (T p) base_checksum text
+call_by T p (Close Directory checksum) = CloseDirectory (T p)
+call_by T p (Close File checksum) = CloseFile (T p) checksum
+
+abbrev pub call_at : (Path → ℕ) → Step → Call
+call_at T s = call_by T s.path s.action
+
+-- the paths that the steps open, in order
+abbrev pub entered : List Step → List Path
+entered [] = []
+entered (s ∷ steps) = opened_after [] s.path s.action ++ entered steps
+
+-- what some steps open, and then some others
+pub entered-append : (xs ys : List Step) → entered (xs ++ ys) ≡ entered xs ++ entered ys
+entered-append [] ys = refl
+entered-append (x ∷ xs) ys = ap (λ l. opened_after [] x.path x.action ++ l) (entered-append xs ys) ∙ sym (append_assoc (opened_after [] x.path x.action) (entered xs) (entered ys))
+
+-- the list of opened paths grows at its end
+opened_more : (opened : List Path) (p : Path) (a : Action) → opened_after opened p a ≡ opened ++ opened_after [] p a
+opened_more opened p (Delete r) = sym (append-nil opened)
+opened_more opened p (Open k r) = refl
+opened_more opened p (Add k) = refl
+opened_more opened p (Change k x) = sym (append-nil opened)
+opened_more opened p (Text s t) = sym (append-nil opened)
+opened_more opened p (Close k x) = sym (append-nil opened)
+
+-- by what the next step opens
+entered_next : (done : List Step) (s : Step) → opened_after (entered done) s.path s.action ≡ entered (done ++ s ∷ [])
+entered_next done s = opened_more (entered done) s.path s.action ∙ ap (λ l. entered done ++ l) (sym (append-nil (opened_after [] s.path s.action))) ∙ sym (entered-append done (s ∷ []))
+
+-- an entry opens its path
+entered_entry : (s : Step) (steps : List Step) → is_entry s.action ≡ true → entered (s ∷ steps) ≡ s.path ∷ entered steps
+entered_entry s steps h = each s.action h
+  where
+    each : (a : Action) → is_entry a ≡ true → opened_after [] s.path a ++ entered steps ≡ s.path ∷ entered steps
+    each (Open k r) e = refl
+    each (Add k) e = refl
+    each a e = absurd (true≢false (sym e))
+
+-- ---- tokens
+
+-- the test on two paths, either way round
+pub path_eq-flip : (p q : Path) → path_eq p q ≡ path_eq q p
+path_eq-flip p q = by (path_eq p q) (path_eq q p) refl refl
+  where
+    by : (a b : Bool) → path_eq p q ≡ a → path_eq q p ≡ b → a ≡ b
+    by true true e h = refl
+    by false false e h = refl
+    by true false e h = sym (path_eq-same p) ∙ ap (λ x. path_eq x p) (same_path p q e) ∙ h
+    by false true e h = sym e ∙ ap (λ x. path_eq x q) (sym (same_path q p h)) ∙ path_eq-same q
+
+-- a path is opened where it has an entry
+pub is_opened-entered : (steps : List Step) (p : Path) → is_opened (entered steps) p ≡ list_any (has is_entry p) steps
+is_opened-entered [] p = refl
+is_opened-entered (s ∷ steps) p =
+    any-append2 (path_eq p) (opened_after [] s.path s.action) (entered steps) ∙ each s.action ∙ ap (λ b. has is_entry p s || b) (is_opened-entered steps p)
+  where
+    or_false_right : (b : Bool) → (b || false) ≡ b
+    or_false_right true = refl
+    or_false_right false = refl
+
+    opens : (path_eq p s.path || false) ≡ (path_eq s.path p && true)
+    opens = or_false_right (path_eq p s.path) ∙ path_eq-flip p s.path ∙ sym (and_true_right (path_eq s.path p))
+
+    each : (a : Action) → (list_any (path_eq p) (opened_after [] s.path a) || is_opened (entered steps) p) ≡ ((path_eq s.path p && is_entry a) || is_opened (entered steps) p)
+    each (Delete r) = ap (λ b. b || is_opened (entered steps) p) (sym (and-false (path_eq s.path p)))
+    each (Open k r) = ap (λ b. b || is_opened (entered steps) p) opens
+    each (Add k) = ap (λ b. b || is_opened (entered steps) p) opens
+    each (Change k x) = ap (λ b. b || is_opened (entered steps) p) (sym (and-false (path_eq s.path p)))
+    each (Text b t) = ap (λ b. b || is_opened (entered steps) p) (sym (and-false (path_eq s.path p)))
+    each (Close k x) = ap (λ b. b || is_opened (entered steps) p) (sym (and-false (path_eq s.path p)))
+
+-- a path that is opened now gets the next number
+token_first : (opened : List Path) (p : Path) (more : List Path) → is_opened opened p ≡ false → token_of (opened ++ p ∷ more) p ≡ length opened
+token_first [] p more h = ap (λ b. cond b 0 (suc (token_of more p))) (path_eq-same p)
+token_first (o ∷ opened) p more h = by (path_eq p o) h (token_first opened p more)
+  where
+    by : (b : Bool) → (b || is_opened opened p) ≡ false → (is_opened opened p ≡ false → token_of (opened ++ p ∷ more) p ≡ length opened)
+        → cond b 0 (suc (token_of (opened ++ p ∷ more) p)) ≡ suc (length opened)
+    by true e ih = absurd (true≢false e)
+    by false e ih = ap suc (ih e)
+
+-- and keeps it
+token_stays : (opened : List Path) (p : Path) (more : List Path) → is_opened opened p ≡ true → token_of (opened ++ more) p ≡ token_of opened p
+token_stays [] p more h = absurd (true≢false (sym h))
+token_stays (o ∷ opened) p more h = by (path_eq p o) h (token_stays opened p more)
+  where
+    by : (b : Bool) → (b || is_opened opened p) ≡ true → (is_opened opened p ≡ true → token_of (opened ++ more) p ≡ token_of opened p)
+        → cond b 0 (suc (token_of (opened ++ more) p)) ≡ cond b 0 (suc (token_of opened p))
+    by true e ih = refl
+    by false e ih = ap suc (ih e)
+
+-- the token of a path is no other path's
+abbrev pub Tells : (Path → ℕ) → Path → Type 0
+Tells T p = (q : Path) → nat_eq (T q) (T p) ≡ path_eq q p
+
+-- the test on numbers, where they are one more, and where one is zero
+next_numbers : (m n : ℕ) → nat_eq (suc m) (suc n) ≡ nat_eq m n
+next_numbers m n = by (nat_eq (suc m) (suc n)) (nat_eq m n) refl refl
+  where
+    down : suc m ≡ suc n → m ≡ n
+    down e = omega arith
+
+    by : (a b : Bool) → nat_eq (suc m) (suc n) ≡ a → nat_eq m n ≡ b → a ≡ b
+    by true true e h = refl
+    by false false e h = refl
+    by true false e h = sym (eq-eqb m n (down (eqb-true (suc m) (suc n) e))) ∙ h
+    by false true e h = sym e ∙ eq-eqb (suc m) (suc n) (ap suc (eqb-true m n h))
+
+zero_not_next : (n : ℕ) → nat_eq 0 (suc n) ≡ false
+zero_not_next n = ne_eqb 0 (suc n) (λ (e : 0 ≡ suc n). omega arith)
+
+next_not_zero : (n : ℕ) → nat_eq (suc n) 0 ≡ false
+next_not_zero n = ne_eqb (suc n) 0 (λ (e : suc n ≡ 0). omega arith)
+
+-- an opened path is told from all others by its token
+pub tells_opened : (opened : List Path) (p : Path) → is_opened opened p ≡ true → Tells (token_of opened) p
+tells_opened [] p h q = absurd (true≢false (sym h))
+tells_opened (o ∷ opened) p h q = by (path_eq p o) (path_eq q o) refl refl h (λ k. tells_opened opened p k q)
+  where
+    by : (a b : Bool) → path_eq p o ≡ a → path_eq q o ≡ b → (a || is_opened opened p) ≡ true → (is_opened opened p ≡ true → nat_eq (token_of opened q) (token_of opened p) ≡ path_eq q p)
+        → nat_eq (cond b 0 (suc (token_of opened q))) (cond a 0 (suc (token_of opened p))) ≡ path_eq q p
+    by true true e f h ih = sym (ap (λ x. path_eq x p) (same_path q o f ∙ sym (same_path p o e)) ∙ path_eq-same p)
+    by true false e f h ih = next_not_zero (token_of opened q) ∙ sym (ap (path_eq q) (same_path p o e) ∙ f)
+    by false true e f h ih = zero_not_next (token_of opened p) ∙ sym (ap (λ x. path_eq x p) (same_path q o f) ∙ path_eq-flip o p ∙ e)
+    by false false e f h ih = next_numbers (token_of opened q) (token_of opened p) ∙ ih h
+
+-- ---- the calls of a drive
+
+-- ---- the calls of a drive
+
+-- at the root a directory is opened, and nothing is deleted or added
+abbrev pub is_root_action : Action → Bool
+is_root_action (Delete r) = false
+is_root_action (Open Directory r) = true
+is_root_action (Open File r) = false
+is_root_action (Add k) = false
+is_root_action a = true
+
+-- inner actions may stand at the root
+inner_at_root : (k : Kind) (inner : List Action) → AllOf (inner_of k) inner → AllOf is_root_action inner
+inner_at_root k [] h = tt
+inner_at_root k (a ∷ inner) h = (each a h.0, inner_at_root k inner h.1)
+  where
+    each : (a : Action) → inner_of k a ≡ true → is_root_action a ≡ true
+    each (Change l c) e = refl
+    each (Text s t) e = refl
+    each (Close l c) e = refl
+    each a e = absurd (true≢false (sym e))
+
+-- steps whose entry is earlier come with that entry's token
+any_entry : (k : Kind) (p : Path) (steps : List Step) → list_any (has (is_entry_of k) p) steps ≡ true → list_any (has is_entry p) steps ≡ true
+any_entry k p [] h = h
+any_entry k p (s ∷ steps) h = by (path_eq s.path p) s.action h (any_entry k p steps)
+  where
+    by : (b : Bool) (a : Action) → ((b && is_entry_of k a) || list_any (has (is_entry_of k) p) steps) ≡ true
+        → (list_any (has (is_entry_of k) p) steps ≡ true → list_any (has is_entry p) steps ≡ true) → ((b && is_entry a) || list_any (has is_entry p) steps) ≡ true
+    by false a h ih = ih h
+    by true (Delete r) h ih = ih h
+    by true (Open l r) h ih = refl
+    by true (Add l) h ih = refl
+    by true (Change l c) h ih = ih h
+    by true (Text x t) h ih = ih h
+    by true (Close l c) h ih = ih h
+
+-- before an open or an add at a path there is none
+pub none_twice : (d : Request) (late : Bool) (t s : Step) → is_entry s.action ≡ true → Before d late t s → has is_entry s.path t ≡ false
+none_twice d late t s h b = has_not is_entry s.path t (λ e. each t.action s.action h (b.1 e))
+  where
+    each : (x a : Action) → is_entry a ≡ true → precedes x a ≡ true → is_entry x ≡ false
+    each (Delete r) a e q = refl
+    each (Change k c) a e q = refl
+    each (Text x y) a e q = refl
+    each (Close k c) a e q = refl
+    each (Open k r) (Open l v) e q = absurd (true≢false (sym q))
+    each (Open k r) (Add l) e q = absurd (true≢false (sym q))
+    each (Add k) (Delete v) e q = absurd (true≢false (sym e))
+    each (Add k) (Open l v) e q = absurd (true≢false (sym q))
+    each (Add k) (Add l) e q = absurd (true≢false (sym q))
+    each (Add k) (Change l c) e q = absurd (true≢false (sym e))
+    each (Add k) (Text x y) e q = absurd (true≢false (sym e))
+    each (Add k) (Close l c) e q = absurd (true≢false (sym e))
+    each (Open k r) a e q = absurd (true≢false (sym e))
+
+module _ (d : Request) (w : WorkingCopy) (setting : Setting d w) (late : Bool) where
+  -- at the root no other stands
+  root_course : (l : List Action) → Course d [] l → AllOf is_root_action l
+  root_course l left_alone = tt
+  root_course l (taken_away r f) = absurd (true≢false f)
+  root_course l (entered_open k r {inner} z e b) = (by k (same_kind d w setting [] k z (root_entered d w setting)), inner_at_root k inner b.of_kind)
+    where
+      by : (k : Kind) → k ≡ Directory → is_root_action (Open k r) ≡ true
+      by Directory q = refl
+      by File q = absurd (differ q)
+        where
+          differ : File ≡ Directory → ⊥
+          differ z = cc
+  root_course l (entered_new k z e b) = absurd (true≢false e)
+  root_course l (entered_again r k z e b) = absurd (true≢false e)
+
+  -- so at each step of a drive
+  pub root_actions : (all : List Step) → IsDriveOf d late all → AllSteps (λ x. is_root x.path ≡ true → is_root_action x.action ≡ true) all
+  root_actions all drive =
+      all_map (λ x. x.path ≡ [] → is_root_action x.action ≡ true) (λ x. is_root x.path ≡ true → is_root_action x.action ≡ true) (λ x h e. h (no_names x.path e)) all
+      (at_steps is_root_action [] all (subst (AllOf is_root_action) (sym (actions_at-drive d late all drive [])) (root_course (path_actions d []) (course_of d []))))
+    where
+      no_names : (p : Path) → is_root p ≡ true → p ≡ []
+      no_names [] e = refl
+      no_names (n ∷ p) e = absurd (true≢false (sym e))
+
+  module _ (done : List Step) (s : Step) (rest : List Step) (drive : IsDriveOf d late (done ++ s ∷ rest)) where
+    abbrev all : List Step
+    all = done ++ s ∷ rest
+
+    abbrev T : Path → ℕ
+    T = token_of (entered all)
+
+    -- and at the next one
+    pub at_root : is_root s.path ≡ true → is_root_action s.action ≡ true
+    at_root = (all_right (λ x. is_root x.path ≡ true → is_root_action x.action ≡ true) done (s ∷ rest) (root_actions (done ++ s ∷ rest) drive)).0
+
+    -- the directory above has been entered
+    pub above_done : is_root s.path ≡ false → list_any (has (is_entry_of Directory) (parent s.path)) done ≡ true
+    above_done h = by (path_cases s.path)
+      where
+        by : (s.path ≡ []) ⊎ ((q : Path) × (name : Name) × (s.path ≡ child q name)) → list_any (has (is_entry_of Directory) (parent s.path)) done ≡ true
+        by (inl r) = absurd (true≢false (sym (ap is_root r) ∙ h))
+        by (inr c) =
+            ap (λ q. list_any (has (is_entry_of Directory) q) done) (ap parent c.2 ∙ parent-child c.0 c.1)
+            ∙ parent_done d w setting late done s rest drive c.0 c.1 c.2
+
+    -- an entry among the steps done has its token, and it is known which path it stands for
+    token_done : (k : Kind) (p : Path) → list_any (has (is_entry_of k) p) done ≡ true → token_of (entered done) p ≡ T p
+    token_done k p h =
+        sym (token_stays (entered done) p (entered (s ∷ rest)) (is_opened-entered done p ∙ any_entry k p done h))
+        ∙ ap (λ l. token_of l p) (sym (entered-append done (s ∷ rest)))
+
+    -- what has been entered is told from all others
+    pub tells_done : (k : Kind) (p : Path) → list_any (has (is_entry_of k) p) done ≡ true → Tells T p
+    tells_done k p h = tells_opened (entered all) p (is_opened-entered all p ∙ in_whole (has is_entry p) done (s ∷ rest) (any_entry k p done h))
+
+    -- a step that opens or adds gives the next token
+    pub token_next : is_entry s.action ≡ true → T s.path ≡ length (entered done)
+    token_next h =
+        ap (λ l. token_of l s.path) (entered-append done (s ∷ rest) ∙ ap (λ l. entered done ++ l) (entered_entry s rest h))
+        ∙ token_first (entered done) s.path (entered rest)
+        (is_opened-entered done s.path
+        ∙ none_any (has is_entry s.path) done (all_map (λ t. Before d late t s) (λ t. has is_entry s.path t ≡ false) (λ t. none_twice d late t s h) done (before_step d late done s rest drive)))
+
+    -- the token of the own path, and of the path above
+    own_token : is_inner s.action ≡ true → token_of (entered done) s.path ≡ T s.path
+    own_token i = let e = own_entry d late done s rest drive i in token_done e.kind s.path e.entered
+
+    above_token : is_root_action s.action ≡ false → token_of (entered done) (parent s.path) ≡ T (parent s.path)
+    above_token h = by (is_root s.path) refl
+      where
+        by : (b : Bool) → is_root s.path ≡ b → token_of (entered done) (parent s.path) ≡ T (parent s.path)
+        by true e = absurd (true≢false (sym (at_root e) ∙ h))
+        by false e = token_done Directory (parent s.path) (above_done e)
+
+    -- the call of a step is the same with the numbers so far and with those of the whole
+    pub one_call : call_of (entered done) s.path s.action ≡ call_by T s.path s.action
+    one_call = each s.action refl
+      where
+        each : (a : Action) → s.action ≡ a → call_of (entered done) s.path a ≡ call_by T s.path a
+        each (Delete r) e = ap (DeleteEntry s.path r) (above_token (ap is_root_action e))
+        each (Open Directory r) e = by (is_root s.path) refl
+          where
+            by : (b : Bool) → is_root s.path ≡ b
+                → cond b (OpenRoot r (length (entered done))) (OpenDirectory s.path (token_of (entered done) (parent s.path)) r (length (entered done)))
+                ≡ cond b (OpenRoot r (T s.path)) (OpenDirectory s.path (T (parent s.path)) r (T s.path))
+            by true q = ap (OpenRoot r) (sym (token_next (ap is_entry e)))
+            by false q = λ i. OpenDirectory s.path (token_done Directory (parent s.path) (above_done q) i) r (sym (token_next (ap is_entry e)) i)
+        each (Open File r) e = λ i. OpenFile s.path (above_token (ap is_root_action e) i) r (sym (token_next (ap is_entry e)) i)
+        each (Add Directory) e = λ i. AddDirectory s.path (above_token (ap is_root_action e) i) (sym (token_next (ap is_entry e)) i)
+        each (Add File) e = λ i. AddFile s.path (above_token (ap is_root_action e) i) (sym (token_next (ap is_entry e)) i)
+        each (Change Directory c) e = ap (λ t. ChangeDirProp t c.0 c.1) (own_token (ap is_inner e))
+        each (Change File c) e = ap (λ t. ChangeFileProp t c.0 c.1) (own_token (ap is_inner e))
+        each (Text x t) e = ap (λ n. ApplyText n x t) (own_token (ap is_inner e))
+        each (Close Directory c) e = ap CloseDirectory (own_token (ap is_inner e))
+        each (Close File c) e = ap (λ n. CloseFile n c) (own_token (ap is_inner e))
+
+  -- the calls of a drive are those of its steps, each by itself
+  pub calls_apart : (done steps : List Step) → IsDriveOf d late (done ++ steps) → numbered (entered done) steps ≡ map (call_at (token_of (entered (done ++ steps)))) steps
+  calls_apart done [] drive = refl
+  calls_apart done (s ∷ steps) drive =
+      let longer = append_assoc done (s ∷ []) steps in
+      let more = calls_apart (done ++ s ∷ []) steps (subst (IsDriveOf d late) (sym longer) drive) in
+      λ i. one_call done s steps drive i ∷ (ap (λ o. numbered o steps) (entered_next done s) ∙ more ∙ ap (λ l. map (call_at (token_of (entered l))) steps) longer) i

@@ -1,0 +1,4 @@
+pub mod Describes
+pub mod Result
+pub mod SlowDrive
+pub mod Laws

@@ -1,0 +1,4 @@
+pub mod CallLists
+pub mod Moves
+pub mod Telling
+pub mod Views

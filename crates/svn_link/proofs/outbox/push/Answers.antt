@@ -1,0 +1,10 @@
+use Rattle.std.proofs.Common.{◌+◌, ◌<◌, ◌^◌, ◌∙◌, length, ap, arith}
+use Rattle.crossbeam_channel.specs.Claims.{view as hand_of}
+use Rattle.svn_link.proofs.Moves.{sends}
+use Rattle.svn_link.proofs.outbox.push.Goals as goal
+
+pub send_as-requires-clause-rule : goal.send_as-requires-clause-rule
+send_as-requires-clause-rule g c =
+    let same = c.loop.invariant.1 in
+    let room : length (hand_of c.loop.pass).sent + 1 < 2 ^ 64 = let long = ap (λ h. length h.sent) same in omega (arith, c.requires.room) in
+    (sends _ _ _ _ (ap (λ h. h.sends) (same ∙ c.requires.sends)) room, (λ _ _ _ _. tt))

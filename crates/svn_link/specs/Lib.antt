@@ -1,0 +1,10 @@
+pub mod Calls
+pub mod Ends
+pub mod Inbox
+pub mod LinkFault
+pub mod Notice
+pub mod Outbox
+pub mod Queue
+pub mod Settled
+pub mod Teller
+pub mod Watcher

@@ -1,0 +1,40 @@
+//! Why there is no link, or no notice.
+ghost use Rattle.std.specs.Prelude.{◌≡◌};
+ghost use Rattle.svn_link.specs.LinkFault.{link_fault_number};
+
+use std::alloc::AllocError;
+use thiserror::Error;
+
+/// Why there is no link, or no notice.
+#[derive(Clone, Copy, Debug, PartialEq, Eq, Error)]
+pub enum LinkFault {
+    /// The capacity is not from 1 to 4,096.
+    #[error("the capacity is not from 1 to 4096")]
+    Capacity,
+    /// A growth was refused.
+    #[error("out of memory")]
+    Memory,
+}
+
+impl LinkFault {
+    /// The fault's number, 1 or 2.
+    pub fn number(self) -> u32
+        ensures { result ≡ link_fault_number self }
+    {
+        match self {
+            LinkFault::Capacity => 1,
+            LinkFault::Memory => 2,
+        }
+    }
+}
+
+impl From<AllocError> for LinkFault {
+    ghost use Rattle.std.specs.Prelude.{◌≡◌};
+    ghost use Rattle.svn_link.specs.declared.fault.LinkFault.TheVariants.{Memory};
+
+    ghost from_gives = { λ _ e. e ≡ Memory };
+
+    fn from(_: AllocError) -> LinkFault {
+        LinkFault::Memory
+    }
+}

@@ -1,0 +1,37 @@
+//! What the two threads of an update share: a bounded queue of editor calls, and the notice of an early stop.
+//!
+//! [`link`] makes the two ends of a queue. The driver's thread sends through the [`Outbox`], the thread of the working
+//! copy takes from the [`Inbox`], and [`settle`] joins both ends again: what was taken is a prefix of what was sent, and
+//! all of it once the Inbox is over, whatever the two threads did in between. [`notice`] makes the two ends of a notice.
+//! The [`Teller`] tells the number of the first refused call, and the [`Watcher`] sees it, so that the driver may stop.
+//! A number that it sees is the number that was told.
+//!
+//! `send`, `take`, `refused`, `seen` and `settle_notice` may wait for the other thread. All else returns at once. Memory
+//! is taken by `link` and `notice` alone.
+//!
+//! The two ends of a link belong together until one of them is over. Who drops one of them earlier leaves the other to
+//! wait for ever, as its type says.
+#![tactic(auto)]
+
+mod early_stop;
+mod ends;
+mod fault;
+mod inbox;
+mod outbox;
+mod queue;
+mod settled;
+mod teller;
+mod watcher;
+mod word;
+
+pub use early_stop::{notice, settle_notice};
+pub use ends::{MAX_CAPACITY, link};
+pub use fault::LinkFault;
+pub use inbox::Inbox;
+pub use outbox::Outbox;
+pub use settled::{Settled, settle};
+pub use teller::Teller;
+pub use watcher::Watcher;
+
+#[cfg(test)]
+mod tests;

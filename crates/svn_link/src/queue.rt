@@ -1,0 +1,89 @@
+//! The rule of the queue, and what each of its steps tells the thread that makes it.
+
+use crossbeam_channel::protocol::{Join, Lesson, Outcome, Protocol, Split};
+use crossbeam_channel::{RuledReceiver, RuledSender};
+use std::collections::LinkedList;
+use svn_delta::Call;
+
+// What a pass may do, and what it has sent and taken. It exists in proofs alone: no value of it is made.
+pub struct Hand {
+    pub sends: bool,
+    pub takes: bool,
+    pub sent: LinkedList<Call>,
+    pub taken: LinkedList<Call>,
+}
+
+// What was taken, and then what the queue holds, is what was sent.
+pub struct InOrder;
+
+impl Protocol<Call, Hand> for InOrder {
+    ghost use Rattle.std.specs.Prelude.{true, []};
+    ghost use Rattle.svn_link.specs.Queue.{hand, IsInOrder};
+
+    ghost holds = { IsInOrder };
+
+    ghost first = { hand true true [] [] };
+}
+
+// The pass that may do both is split into one that sends and one that takes, and they are joined to one again.
+pub struct Roles;
+
+impl Split<Hand> for Roles {
+    ghost use Rattle.std.specs.Prelude.{true, false, []};
+    ghost use Rattle.svn_link.specs.Queue.{hand};
+
+    ghost left = { λ h. hand true false h.sent [] };
+
+    ghost right = { λ h. hand false true [] h.taken };
+}
+
+impl Join<Hand> for Roles {
+    ghost use Rattle.std.specs.Prelude.{true, false, []};
+    ghost use Rattle.svn_link.specs.Queue.{hand};
+
+    ghost both = { λ h k. hand true true h.sent k.taken };
+
+    ghost spent = { hand false false [] [] };
+}
+
+// A send: the call is the last of those that were sent. A send that finds the queue full tells nothing.
+pub struct Sends;
+
+impl Outcome<Call, Hand> for Sends {
+    ghost use Rattle.std.specs.Prelude.{◌≡◌};
+    ghost use Rattle.svn_link.specs.Queue.{sent_more};
+
+    ghost then = { λ h c k. k ≡ sent_more h c };
+}
+
+impl Lesson<Call, Hand> for Sends {
+    ghost fact = { λ _ _. Unit {0} };
+}
+
+// A take: the call is the last of those that were taken. A take that finds the queue empty tells nothing.
+pub struct Takes;
+
+impl Outcome<Call, Hand> for Takes {
+    ghost use Rattle.svn_link.specs.Queue.{IsTake};
+
+    ghost then = { IsTake };
+}
+
+impl Lesson<Call, Hand> for Takes {
+    ghost fact = { λ _ _. Unit {0} };
+}
+
+// What the joined pass learns of the queue: what was taken, and then what the queue holds, is what was sent.
+pub struct Remains;
+
+impl Lesson<Call, Hand> for Remains {
+    ghost use Rattle.std.specs.Prelude.{◌≡◌, ◌++◌};
+
+    ghost fact = { λ h items. h.sent ≡ h.taken ++ items };
+}
+
+pub type Sender = RuledSender<Call, Hand, InOrder>;
+
+pub type Receiver = RuledReceiver<Call, Hand, InOrder>;
+
+pub type Pass = crossbeam_channel::Pass<Call, Hand>;

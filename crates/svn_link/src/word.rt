@@ -1,0 +1,88 @@
+//! The rule of the notice, and what each of its steps tells the thread that makes it. The word is 0 or the number told.
+
+use atomic_table::{Join, Split};
+use crossbeam_utils::atomic::seq_cell::RuledSeqCell;
+use crossbeam_utils::rule::{Outcome, Protocol};
+
+// What a pass may do, what it told and what it saw. It exists in proofs alone: no value of it is made.
+pub struct News {
+    pub tells: bool,
+    pub told: Option<u64>,
+    pub seen: Option<u64>,
+}
+
+// The number in the word is the one told, and a number that was seen is that one.
+pub struct ToldOnce;
+
+impl Protocol<[u64; 1], News> for ToldOnce {
+    ghost use Rattle.std.specs.Prelude.{true, None};
+    ghost use Rattle.svn_link.specs.Notice.{news, IsNoticed};
+
+    ghost holds = { IsNoticed };
+
+    ghost first = { news true None None };
+}
+
+// The pass that may do both is split into one that tells and one that sees, and they are joined to one again.
+pub struct Roles;
+
+impl Split<News> for Roles {
+    ghost use Rattle.std.specs.Prelude.{true, false, None};
+    ghost use Rattle.svn_link.specs.Notice.{news};
+
+    ghost left = { λ v. news true v.told None };
+
+    ghost right = { λ v. news false None v.seen };
+}
+
+impl Join<News> for Roles {
+    ghost use Rattle.std.specs.Prelude.{true, false, None};
+    ghost use Rattle.svn_link.specs.Notice.{news};
+
+    ghost both = { λ v w. news true v.told w.seen };
+
+    ghost spent = { news false None None };
+}
+
+// All that a pass saw goes to a new one, since a pass that made steps can't be joined.
+pub struct Moved;
+
+impl Split<News> for Moved {
+    ghost use Rattle.std.specs.Prelude.{false, None};
+    ghost use Rattle.svn_link.specs.Notice.{news};
+
+    ghost left = { λ _. news false None None };
+
+    ghost right = { λ v. v };
+}
+
+// The store: the number is told.
+pub struct Tells;
+
+impl Outcome<[u64; 1], News> for Tells {
+    ghost use Rattle.svn_link.specs.Notice.{IsTold};
+
+    ghost then = { IsTold };
+}
+
+// A load by the pass that sees: the number in the word is seen, and is the one seen before, if one was.
+pub struct Sees;
+
+impl Outcome<[u64; 1], News> for Sees {
+    ghost use Rattle.svn_link.specs.Notice.{IsSeen};
+
+    ghost then = { IsSeen };
+}
+
+// A load by the joined pass: the number in the word is the one told, and what was seen is that one.
+pub struct Agrees;
+
+impl Outcome<[u64; 1], News> for Agrees {
+    ghost use Rattle.svn_link.specs.Notice.{IsAgreed};
+
+    ghost then = { IsAgreed };
+}
+
+pub type Cell = RuledSeqCell<[u64; 1], News, ToldOnce, 1>;
+
+pub type Pass = crossbeam_utils::atomic::seq_cell::Pass<[u64; 1], News>;

@@ -1,0 +1,81 @@
+use Rattle.std.proofs.Common.{rules, ◌≡◌, ℕ, ◌-◌, ◌<◌, Some, List, length, arith, subst, sym, ap, ◌∙◌, ◌⊎◌, inl, inr}
+use Rattle.std.specs.List.{slice_get}
+use Rattle.std.proofs.lemmas.Option.{slice_get_within}
+use Rattle.svn_repo.specs.declared.store.Node.{Node}
+use Rattle.svn_repo.specs.Stored.{rows, history_of, IsHeight, AreHeights}
+use Rattle.svn_repo.specs.Heights.{IsOrdered}
+use Rattle.svn_repo.specs.Drafts.{IsPast}
+use Rattle.svn_repo.specs.Changes.{AllMade, IsFaultOf, changes_fault}
+use Rattle.svn_repo.proofs.Past.{last_root}
+use Rattle.svn_repo.proofs.Tallest.{draft_ordered, heights_kept}
+use Rattle.svn_repo.proofs.Commits.{start_draft, start_past, start_pending, still_sound, no_fault, is_revision}
+use Rattle.svn_repo.proofs.commit.push_revision.Goals as goal
+
+pub make_all-requires-clause-draft : goal.make_all-requires-clause-draft
+make_all-requires-clause-draft c =
+    let roots = c.args.roots.now.items in
+    let old = c.args.nodes.now.items in
+    let from : ℕ = c.index-last.result.now in
+    let count : c.len.result ≡ length roots = search rules in
+    let sound = c.requires.repository in
+    let last : slice_get roots (length roots - 1) ≡ Some from = last_root roots c.len.result from count sound.some_revision c.index-last.ensures in
+    start_draft roots old c.args.lines from sound last
+
+pub make_all-requires-clause-past : goal.make_all-requires-clause-past
+make_all-requires-clause-past c =
+    let roots = c.args.roots.now.items in
+    let old = c.args.nodes.now.items in
+    let from : ℕ = c.index-last.result.now in
+    let count : c.len.result ≡ length roots = search rules in
+    let sound = c.requires.repository in
+    let last : slice_get roots (length roots - 1) ≡ Some from = last_root roots c.len.result from count sound.some_revision c.index-last.ensures in
+    rw (c.deref.ensures.value, c.deref-2.ensures.value) (start_past roots old c.args.lines from sound last c.args.heights.now.items c.requires.known)
+
+pub returns-in-Err-clause-fault : goal.returns-in-Err-clause-fault
+returns-in-Err-clause-fault c =
+    let roots = c.args.roots.now.items in
+    let old = c.args.nodes.now.items in
+    let from : ℕ = c.index-last.result.now in
+    let count : c.len.result ≡ length roots = search rules in
+    let sound = c.requires.repository in
+    let last : slice_get roots (length roots - 1) ≡ Some from = last_root roots c.len.result from count sound.some_revision c.index-last.ensures in
+    let h = history_of roots old c.args.lines in
+    let told : IsFaultOf roots old from c.args.lines c.args.changes.now c.in-Err.fault = subst (λ (r : List ℕ). IsFaultOf r old from c.args.lines c.args.changes.now c.in-Err.fault) c.deref.ensures.value c.in-Err.ensures.err in
+    elim told [
+      | inl m ↦ inl m
+      | inr f ↦ inr (ap (λ s. changes_fault h s c.args.changes.now) (start_pending roots old c.args.lines from sound last) ∙ f)
+    ]
+
+pub add_heights-requires-clause-ordered : goal.add_heights-requires-clause-ordered
+add_heights-requires-clause-ordered c =
+    let ordered : IsOrdered c.make_all.new.nodes.items (length c.args.nodes.now.items) = draft_ordered (length c.args.nodes.now.items) c.make_all.new.nodes.items c.in-Ok.made.0 c.in-Ok.ensures.ok.draft in
+    rw (c.deref-3.ensures.value, c.requires.known.size) ordered
+
+pub add_heights-requires-clause-old : goal.add_heights-requires-clause-old
+add_heights-requires-clause-old c = λ n k e.
+    let known = c.requires.known in
+    let below : n < length c.args.heights.now.items = slice_get_within c.args.heights.now.items n k e in
+    rw c.deref-3.ensures.value (heights_kept c.args.nodes.now.items c.make_all.new.nodes.items c.args.heights.now.items c.in-Ok.made.0 known c.in-Ok.ensures.ok.draft c.make_all.ensures.kept n k e (omega (arith, known.size)))
+
+pub returns-in-Ok-push-clause-ok : goal.returns-in-Ok-push-clause-ok
+returns-in-Ok-push-clause-ok c =
+    let roots = c.args.roots.now.items in
+    let old = c.args.nodes.now.items in
+    let from : ℕ = c.index-last.result.now in
+    let count : c.len.result ≡ length roots = search rules in
+    let sound = c.requires.repository in
+    let last : slice_get roots (length roots - 1) ≡ Some from = last_root roots c.len.result from count sound.some_revision c.index-last.ensures in
+    let new = c.make_all.new.nodes.items in
+    let root = c.in-Ok.made.0 in
+    let next = c.in-Ok.made.1 in
+    let changes = c.args.changes.now in
+    let kept = c.make_all.ensures.kept in
+    let made : AllMade roots old new from c.args.lines root next changes = subst (λ (r : List ℕ). AllMade r old new from c.args.lines root next changes) c.deref.ensures.value c.in-Ok.ensures.ok in
+    let known : AreHeights new c.add_heights.new.heights.items = subst (λ (nodes : List Node). AreHeights nodes c.add_heights.new.heights.items) c.deref-3.ensures.value c.in_ok-add_heights.ensures.ok in
+    rw c.in-Ok-push.ensures.items (
+      record { repository = still_sound roots old new c.args.lines next from root changes sound last made kept; known = known },
+      (
+        no_fault roots old new c.args.lines next from root changes sound last made kept,
+        is_revision roots old new c.args.lines next from root changes sound last made kept,
+      ),
+    )

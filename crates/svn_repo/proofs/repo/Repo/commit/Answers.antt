@@ -1,0 +1,9 @@
+use Rattle.svn_repo.specs.Stored.{history_of}
+use Rattle.svn_repo.specs.Changes.{latest_pending}
+use Rattle.svn_repo.proofs.NeverFull.{never_full}
+use Rattle.svn_repo.proofs.repo.Repo.commit.Goals as goal
+
+pub returns-in-Err-clause-never_full : goal.returns-in-Err-clause-never_full
+returns-in-Err-clause-never_full c =
+    let h = history_of c.self.inside.roots.items c.self.inside.nodes.items c.self.inside.lines in
+    never_full h (latest_pending h) c.args.changes.now c.in-Err.fault c.in-Err.ensures.fault
