@@ -1,2 +1,3 @@
 pub mod FaultNumbers
 pub mod Outcomes
+pub mod Scripts

@@ -1,5 +1,6 @@
 //! Scripts.
-ghost use Rattle.std.specs.Prelude.{◌≤◌, length};
+ghost use Rattle.std.specs.Prelude.{◌≡◌, ◌≤◌, length, true, false, IfErr};
+ghost use Rattle.svn_update.specs.Scripts.{is_refused_whole};
 
 use crate::command::{LineFault, read_command};
 use crate::fault::ScriptFault;
@@ -23,11 +24,14 @@ fn run_line<W: Write>(
     line: &[u8],
     number: u64,
     writer: &mut W,
-) -> Result<(), ScriptFault> {
+) -> Result<(), ScriptFault>
+    ensures { IfErr result (λ e. is_refused_whole e ≡ false) }
+{
     match read_command(alloc, line) {
-        Ok(command) => state
-            .run(command, writer)
-            .map_err(|_| ScriptFault::Write),
+        Ok(command) => match state.run(command, writer) {
+            Ok(()) => Ok(()),
+            Err(_) => Err(ScriptFault::Write),
+        },
         Err(LineFault::Bad) => Err(ScriptFault::BadLine(number)),
         Err(LineFault::Memory) => Err(ScriptFault::Memory),
     }
@@ -35,6 +39,7 @@ fn run_line<W: Write>(
 
 fn run_lines<W: Write>(alloc: Global, script: &[u8], writer: &mut W) -> Result<(), ScriptFault>
     requires { length script.now ≤ 16777216 }
+    ensures { IfErr result (λ e. is_refused_whole e ≡ false) }
 {
     let Ok(mut state) = State::new(alloc) else {
         return Err(ScriptFault::Memory);
@@ -49,13 +54,17 @@ fn run_lines<W: Write>(alloc: Global, script: &[u8], writer: &mut W) -> Result<(
     run_line(alloc, &mut state, rest, number, writer)
 }
 
-/// Runs a script: reads it to its end, then does its lines one after the other and writes what they print.
+/// Runs a script: reads it to its end, then does its lines one after the other and writes what they print. BadLine ends it at a line that
+/// is no command; TooLong and Read come before the first line runs, and then nothing was written. Write is answered also where the last
+/// bytes couldn't be flushed, and Memory where a growth was refused that belongs to no command.
 pub fn run_script<R: Read, W: Write>(
     alloc: Global,
     reader: &mut R,
     writer: &mut W,
     _settings: &Settings,
-) -> Result<(), ScriptFault> {
+) -> Result<(), ScriptFault>
+    ensures refused_whole { IfErr result (λ e. is_refused_whole e ≡ true → writer.new ≡ writer.old) }
+{
     let script = read_script(alloc, reader)?;
     let ended = run_lines(alloc, &script, writer);
     match writer.flush() {
