@@ -89,19 +89,15 @@ impl Repo {
 
     /// The newest revision.
     pub fn latest(&self) -> Rev
-        ensures value { result + 1 ≡ length self.now.roots }
-        ensures history { IsHistory self.now }
+        ensures { result + 1 ≡ length self.now.roots }
     {
-        self.law();
         Rev((self.roots.len() - 1) as u64)
     }
 
     /// The node at a path in a revision; None where there is no such revision, or nothing stands there.
     pub fn lookup(&self, rev: Rev, path: &RelPath) -> Option<NodeId>
-        ensures value { result ≡ look self.now rev path.now }
-        ensures history { IsHistory self.now }
+        ensures { result ≡ look self.now rev path.now }
     {
-        self.law();
         lookup_in(&self.nodes, &self.roots, rev, path.components())
     }
 

@@ -2,12 +2,18 @@ use super::*;
 use std::alloc::{AllocError, Global};
 use std::test::Fail;
 
-// A script of changes: each line of the tests reads as one change.
-#[derive(Drop)]
-struct Script {
-    alloc: Global,
-    changes: Vec<Change>,
+// One step of a history: a change, or the commit of those before it.
+#[derive(Clone, Copy)]
+enum Step {
+    MakeDir(&'static str),
+    Put(&'static str, &'static str),
+    SetProp(&'static str, Option<&'static str>),
+    Remove(&'static str),
+    Copy(u64, &'static str, &'static str),
+    Commit,
 }
+
+use Step::{Commit, Copy, MakeDir, Put, Remove, SetProp};
 
 fn path_at(alloc: Global, text: &str) -> Result<RelPath, CommitFault> {
     RelPath::parse(alloc, text).map_err(|_| CommitFault::Memory)
@@ -17,274 +23,217 @@ fn text_of(alloc: Global, text: &str) -> Result<Text, AllocError> {
     Ok(Text::new(text.as_bytes().to_vec(alloc)?))
 }
 
-impl Script {
-    fn new(alloc: Global) -> Script {
-        Script {
-            alloc,
-            changes: Vec::new(alloc),
-        }
+fn value_of(alloc: Global, value: Option<&str>) -> Result<Option<Text>, AllocError> {
+    match value {
+        Some(value) => Ok(Some(text_of(alloc, value)?)),
+        None => Ok(None),
     }
+}
 
-    fn push(&mut self, change: Change) -> Result<(), CommitFault> {
-        match self.changes.push(change) {
-            Ok(()) => Ok(()),
-            Err(_) => Err(CommitFault::Memory),
-        }
-    }
+fn prop_name(alloc: Global) -> Result<PropName, CommitFault> {
+    PropName::parse(alloc, "p").map_err(|_| CommitFault::Memory)
+}
 
-    fn make_dir(&mut self, path: &str) -> Result<(), CommitFault> {
-        let path = path_at(self.alloc, path)?;
-        self.push(Change::MakeDir { path })
-    }
-
-    fn put(&mut self, path: &str, text: &str) -> Result<(), CommitFault> {
-        let path = path_at(self.alloc, path)?;
-        let text = text_of(self.alloc, text)?;
-        self.push(Change::PutFile { path, text })
-    }
-
-    fn remove(&mut self, path: &str) -> Result<(), CommitFault> {
-        let path = path_at(self.alloc, path)?;
-        self.push(Change::Remove { path })
-    }
-
-    fn copy(&mut self, rev: u64, source: &str, path: &str) -> Result<(), CommitFault> {
-        let source = path_at(self.alloc, source)?;
-        let path = path_at(self.alloc, path)?;
-        self.push(Change::CopyFrom {
+// The change of a step, if it is one.
+fn change_of(alloc: Global, step: Step) -> Result<Option<Change>, CommitFault> {
+    Ok(match step {
+        Step::MakeDir(path) => Some(Change::MakeDir {
+            path: path_at(alloc, path)?,
+        }),
+        Step::Put(path, text) => Some(Change::PutFile {
+            path: path_at(alloc, path)?,
+            text: text_of(alloc, text)?,
+        }),
+        Step::SetProp(path, value) => Some(Change::SetProp {
+            path: path_at(alloc, path)?,
+            name: prop_name(alloc)?,
+            value: value_of(alloc, value)?,
+        }),
+        Step::Remove(path) => Some(Change::Remove {
+            path: path_at(alloc, path)?,
+        }),
+        Step::Copy(rev, source, path) => Some(Change::CopyFrom {
             rev: Rev(rev),
-            source,
-            path,
-        })
-    }
+            source: path_at(alloc, source)?,
+            path: path_at(alloc, path)?,
+        }),
+        Step::Commit => None,
+    })
+}
 
-    fn set_prop(&mut self, path: &str, name: &str, value: Option<&str>) -> Result<(), CommitFault> {
-        let path = path_at(self.alloc, path)?;
-        let name = PropName::parse(self.alloc, name).map_err(|_| CommitFault::Memory)?;
-        let value = match value {
-            Some(value) => Some(text_of(self.alloc, value)?),
-            None => None,
-        };
-        self.push(Change::SetProp { path, name, value })
-    }
-
-    fn commit(self, repo: &mut Repo) -> Result<u64, CommitFault> {
-        Ok(repo.commit(&self.changes)?.0)
+// The new revision, or 100 and the fault's number.
+fn commit(repo: &mut Repo, changes: &[Change]) -> u64 {
+    match repo.commit(changes) {
+        Ok(rev) => rev.0,
+        Err(fault) => 100 + u64::from(fault.number()),
     }
 }
 
-fn make_dir(repo: &mut Repo, alloc: Global, path: &str) -> Result<u64, CommitFault> {
-    let mut script = Script::new(alloc);
-    script.make_dir(path)?;
-    script.commit(repo)
+// Takes the steps in order, and gives what each commit answers.
+fn run(alloc: Global, repo: &mut Repo, steps: &[Step]) -> Result<Vec<u64>, Fail> {
+    let mut answers = Vec::new(alloc);
+    let mut changes = Vec::new(alloc);
+    for step in steps {
+        match change_of(alloc, *step)? {
+            Some(change) => changes.push(change)?,
+            None => {
+                answers.push(commit(repo, &changes))?;
+                changes = Vec::new(alloc);
+            }
+        }
+    }
+    Ok(answers)
 }
 
-fn put(repo: &mut Repo, alloc: Global, path: &str, text: &str) -> Result<u64, CommitFault> {
-    let mut script = Script::new(alloc);
-    script.put(path, text)?;
-    script.commit(repo)
+fn node(alloc: Global, repo: &Repo, rev: u64, path: &str) -> Option<NodeId> {
+    match RelPath::parse(alloc, path) {
+        Ok(path) => repo.lookup(Rev(rev), &path),
+        Err(_) => None,
+    }
 }
 
-fn remove(repo: &mut Repo, alloc: Global, path: &str) -> Result<u64, CommitFault> {
-    let mut script = Script::new(alloc);
-    script.remove(path)?;
-    script.commit(repo)
+// The line of what stands at a path, and 0 where nothing does or it can't be said.
+fn line(alloc: Global, repo: &Repo, rev: u64, path: &str) -> u64 {
+    match node(alloc, repo, rev, path) {
+        Some(id) => repo.line(id).unwrap_or(0),
+        None => 0,
+    }
 }
 
-fn copy(
-    repo: &mut Repo,
-    alloc: Global,
-    rev: u64,
-    source: &str,
-    path: &str,
-) -> Result<u64, CommitFault> {
-    let mut script = Script::new(alloc);
-    script.copy(rev, source, path)?;
-    script.commit(repo)
+fn has_text(alloc: Global, repo: &Repo, rev: u64, path: &str, text: &str) -> bool {
+    match node(alloc, repo, rev, path) {
+        Some(id) => repo.text(id) == Some(text.as_bytes()),
+        None => false,
+    }
 }
 
-fn set_prop(
-    repo: &mut Repo,
-    alloc: Global,
-    path: &str,
-    value: Option<&str>,
-) -> Result<u64, CommitFault> {
-    let mut script = Script::new(alloc);
-    script.set_prop(path, "p", value)?;
-    script.commit(repo)
+fn has_prop(alloc: Global, repo: &Repo, rev: u64, path: &str) -> bool {
+    let Some(id) = node(alloc, repo, rev, path) else {
+        return false;
+    };
+    match repo.props(id) {
+        Some(props) => !props.is_empty(),
+        None => false,
+    }
 }
 
-// The node at a path, where the test says that there is one.
-fn node(repo: &Repo, alloc: Global, rev: u64, path: &str) -> Result<NodeId, &'static str> {
-    let path = path_at(alloc, path).map_err(|_| "a path")?;
-    repo.lookup(Rev(rev), &path).ok_or("a node")
-}
-
-fn stands(repo: &Repo, alloc: Global, rev: u64, path: &str) -> bool {
-    node(repo, alloc, rev, path).is_ok()
+fn entry_count(alloc: Global, repo: &Repo, rev: u64, path: &str) -> Option<usize> {
+    let entries = repo.entries(node(alloc, repo, rev, path)?)?;
+    Some(entries.len())
 }
 
 // A file whose text is first `a` and then `abc`.
-fn two_revisions(alloc: Global) -> Result<Repo, CommitFault> {
-    let mut repo = Repo::new(alloc)?;
-    put(&mut repo, alloc, "f", "a")?;
-    put(&mut repo, alloc, "f", "abc")?;
-    Ok(repo)
-}
+const TWO_REVISIONS: [Step; 4] = [Put("f", "a"), Commit, Put("f", "abc"), Commit];
 
 #[test]
 fn begins_with_an_empty_root(rt: HostRuntime) -> Result<(), Fail> {
     let alloc = rt.alloc();
     let repo = Repo::new(alloc)?;
     assert_eq!(rt; repo.latest(), Rev(0));
-    let root = node(&repo, alloc, 0, "")?;
-    assert_eq!(rt; repo.line(root), Some(0));
-    assert_eq!(rt; repo.kind(root), Some(Kind::Directory));
-    assert!(rt; repo.props(root).ok_or("props")?.is_empty());
-    assert!(rt; repo.entries(root).ok_or("entries")?.is_empty());
-    assert!(rt; repo.text(root).is_none());
-    assert!(rt; !stands(&repo, alloc, 1, ""));
+    assert_eq!(rt; entry_count(alloc, &repo, 0, ""), Some(0));
+    assert!(rt; !has_prop(alloc, &repo, 0, ""));
+    assert!(rt; node(alloc, &repo, 1, "").is_none());
     Ok(())
 }
 
 #[test]
 fn keeps_old_revisions(rt: HostRuntime) -> Result<(), Fail> {
     let alloc = rt.alloc();
-    let repo = two_revisions(alloc)?;
-    let old = node(&repo, alloc, 1, "f")?;
-    let new = node(&repo, alloc, 2, "f")?;
-    assert!(rt; old != new);
-    assert_eq!(rt; repo.line(old), repo.line(new));
-    assert!(rt; repo.text(old) == Some(b"a".as_slice()));
-    assert!(rt; repo.text(new) == Some(b"abc".as_slice()));
-    assert!(rt; repo.entries(new).is_none());
-    let root = node(&repo, alloc, 2, "")?;
-    let entries = repo.entries(root).ok_or("entries")?;
-    assert_eq!(rt; entries.len(), 1);
-    assert_eq!(rt; entries.get(&Name::parse(alloc, "f")?), Some(new));
-    assert!(rt; !stands(&repo, alloc, 0, "f"));
+    let mut repo = Repo::new(alloc)?;
+    let answers = run(alloc, &mut repo, &TWO_REVISIONS)?;
+    assert_eq!(rt; answers.as_slice(), [1, 2].as_slice());
+    assert!(rt; has_text(alloc, &repo, 1, "f", "a"));
+    assert!(rt; has_text(alloc, &repo, 2, "f", "abc"));
+    assert!(rt; node(alloc, &repo, 1, "f") != node(alloc, &repo, 2, "f"));
+    assert_eq!(rt; line(alloc, &repo, 1, "f"), line(alloc, &repo, 2, "f"));
+    assert_eq!(rt; entry_count(alloc, &repo, 2, ""), Some(1));
+    assert!(rt; node(alloc, &repo, 0, "f").is_none());
     Ok(())
 }
 
 #[test]
 fn refuses_in_order(rt: HostRuntime) -> Result<(), Fail> {
     let alloc = rt.alloc();
-    let mut repo = two_revisions(alloc)?;
-    assert_eq!(rt; make_dir(&mut repo, alloc, "f"), Err(CommitFault::Exists));
-    assert_eq!(rt;
-        make_dir(&mut repo, alloc, "g/h"),
-        Err(CommitFault::Missing)
-    );
-    assert_eq!(rt; make_dir(&mut repo, alloc, "f/h"), Err(CommitFault::NotDir));
-    assert_eq!(rt; make_dir(&mut repo, alloc, ""), Err(CommitFault::IsRoot));
-    assert_eq!(rt; put(&mut repo, alloc, "", "a"), Err(CommitFault::IsRoot));
-    assert_eq!(rt;
-        put(&mut repo, alloc, "g/h", "a"),
-        Err(CommitFault::Missing)
-    );
-    assert_eq!(rt; remove(&mut repo, alloc, ""), Err(CommitFault::IsRoot));
-    assert_eq!(rt; remove(&mut repo, alloc, "g"), Err(CommitFault::Missing));
-    assert_eq!(rt; remove(&mut repo, alloc, "f/h"), Err(CommitFault::NotDir));
-    assert_eq!(rt;
-        set_prop(&mut repo, alloc, "g", None),
-        Err(CommitFault::Missing)
-    );
-    assert_eq!(rt;
-        copy(&mut repo, alloc, 3, "f", "g"),
-        Err(CommitFault::NoSuchRevision)
-    );
-    assert_eq!(rt;
-        copy(&mut repo, alloc, 3, "f", ""),
-        Err(CommitFault::IsRoot)
-    );
-    assert_eq!(rt;
-        copy(&mut repo, alloc, 1, "x", "g"),
-        Err(CommitFault::Missing)
-    );
-    assert_eq!(rt;
-        copy(&mut repo, alloc, 1, "f/x", "f"),
-        Err(CommitFault::NotDir)
-    );
-    assert_eq!(rt;
-        copy(&mut repo, alloc, 1, "f", "g/h"),
-        Err(CommitFault::Missing)
-    );
-    assert_eq!(rt;
-        copy(&mut repo, alloc, 1, "f", "f"),
-        Err(CommitFault::Exists)
-    );
+    let mut repo = Repo::new(alloc)?;
+    run(alloc, &mut repo, &TWO_REVISIONS)?;
+    let steps = [
+        MakeDir("f"),
+        Commit,
+        MakeDir("g/h"),
+        Commit,
+        MakeDir("f/h"),
+        Commit,
+        MakeDir("d"),
+        Put("d", "a"),
+        Commit,
+        Remove(""),
+        Commit,
+        Copy(3, "f", "g"),
+        Commit,
+        Copy(3, "f", ""),
+        Commit,
+        Copy(1, "x", "g"),
+        Commit,
+        Copy(1, "f/x", "f"),
+        Commit,
+        Copy(1, "f", "g/h"),
+        Commit,
+        Copy(1, "f", "f"),
+        Commit,
+        SetProp("g", None),
+        Commit,
+        Remove("f/h"),
+        Commit,
+    ];
+    let answers = run(alloc, &mut repo, &steps)?;
+    let wanted = [
+        101, 102, 103, 104, 105, 107, 105, 102, 103, 102, 101, 102, 103,
+    ];
+    assert_eq!(rt; answers.as_slice(), wanted.as_slice());
     assert_eq!(rt; repo.latest(), Rev(2));
-    Ok(())
-}
-
-#[test]
-fn refuses_all_or_nothing(rt: HostRuntime) -> Result<(), Fail> {
-    let alloc = rt.alloc();
-    let mut repo = two_revisions(alloc)?;
-    let mut script = Script::new(alloc);
-    script.make_dir("d")?;
-    script.put("d", "a")?;
-    assert_eq!(rt; script.commit(&mut repo), Err(CommitFault::NotFile));
-    assert_eq!(rt; repo.latest(), Rev(2));
-    assert_eq!(rt; make_dir(&mut repo, alloc, "d")?, 3);
-    assert!(rt; !stands(&repo, alloc, 2, "d"));
-    assert!(rt; stands(&repo, alloc, 3, "d"));
+    assert!(rt; node(alloc, &repo, 2, "d").is_none());
     Ok(())
 }
 
 #[test]
 fn refuses_long_texts(rt: HostRuntime) -> Result<(), Fail> {
     let alloc = rt.alloc();
-    let mut repo = two_revisions(alloc)?;
-    let limit = "a".repeat(alloc, 1048576)?;
-    let mut longer = limit.clone()?;
-    longer.push('a')?;
-    assert_eq!(rt;
-        put(&mut repo, alloc, "g", longer.as_str()),
-        Err(CommitFault::TooLong)
-    );
-    assert_eq!(rt;
-        put(&mut repo, alloc, "g/h", longer.as_str()),
-        Err(CommitFault::TooLong)
-    );
-    assert_eq!(rt;
-        set_prop(&mut repo, alloc, "f", Some(longer.as_str())),
-        Err(CommitFault::TooLong)
-    );
-    assert_eq!(rt; put(&mut repo, alloc, "g", limit.as_str())?, 3);
-    assert_eq!(rt; set_prop(&mut repo, alloc, "g", Some(limit.as_str()))?, 4);
+    let mut repo = Repo::new(alloc)?;
+    let path = path_at(alloc, "g")?;
+    let mut text = Vec::new(alloc);
+    text.resize(1048577, 97)?;
+    let put = [Change::PutFile {
+        path,
+        text: Text::new(text),
+    }];
+    assert_eq!(rt; commit(&mut repo, &put), 108);
     Ok(())
-}
-
-#[test]
-fn numbers_its_faults(rt: HostRuntime) {
-    assert_eq!(rt; CommitFault::Exists.number(), 1);
-    assert_eq!(rt; CommitFault::TooDeep.number(), 6);
-    assert_eq!(rt; CommitFault::Memory.number(), 10);
 }
 
 #[test]
 fn changes_both_sides_of_a_copy(rt: HostRuntime) -> Result<(), Fail> {
     let alloc = rt.alloc();
     let mut repo = Repo::new(alloc)?;
-    let mut first = Script::new(alloc);
-    first.make_dir("d")?;
-    first.put("d/x", "a")?;
-    first.commit(&mut repo)?;
-    assert_eq!(rt; copy(&mut repo, alloc, 1, "d", "e")?, 2);
-    let source = node(&repo, alloc, 1, "d/x")?;
-    assert_eq!(rt; node(&repo, alloc, 2, "d")?, node(&repo, alloc, 2, "e")?);
-    assert_eq!(rt; node(&repo, alloc, 2, "e/x")?, source);
-    assert_eq!(rt; put(&mut repo, alloc, "e/x", "abc")?, 3);
-    assert_eq!(rt; node(&repo, alloc, 3, "d/x")?, source);
-    assert_eq!(rt; put(&mut repo, alloc, "d/x", "b")?, 4);
-    let here = node(&repo, alloc, 4, "d/x")?;
-    let there = node(&repo, alloc, 4, "e/x")?;
-    assert!(rt; here != there);
-    assert_eq!(rt; repo.line(here), repo.line(there));
-    assert!(rt; repo.text(here) == Some(b"b".as_slice()));
-    assert!(rt; repo.text(there) == Some(b"abc".as_slice()));
-    assert!(rt; repo.text(source) == Some(b"a".as_slice()));
+    let steps = [
+        MakeDir("d"),
+        Put("d/x", "a"),
+        Commit,
+        Copy(1, "d", "e"),
+        Commit,
+        Put("e/x", "abc"),
+        Commit,
+        Put("d/x", "b"),
+        Commit,
+    ];
+    let answers = run(alloc, &mut repo, &steps)?;
+    assert_eq!(rt; answers.as_slice(), [1, 2, 3, 4].as_slice());
+    let source = node(alloc, &repo, 1, "d/x");
+    assert_eq!(rt; node(alloc, &repo, 2, "d"), node(alloc, &repo, 2, "e"));
+    assert_eq!(rt; node(alloc, &repo, 2, "e/x"), source);
+    assert_eq!(rt; node(alloc, &repo, 3, "d/x"), source);
+    assert!(rt; has_text(alloc, &repo, 4, "d/x", "b"));
+    assert!(rt; has_text(alloc, &repo, 4, "e/x", "abc"));
+    assert_eq!(rt; line(alloc, &repo, 4, "d/x"), line(alloc, &repo, 4, "e/x"));
     Ok(())
 }
 
@@ -292,101 +241,102 @@ fn changes_both_sides_of_a_copy(rt: HostRuntime) -> Result<(), Fail> {
 fn copies_a_directory_into_itself(rt: HostRuntime) -> Result<(), Fail> {
     let alloc = rt.alloc();
     let mut repo = Repo::new(alloc)?;
-    make_dir(&mut repo, alloc, "d")?;
-    assert_eq!(rt; copy(&mut repo, alloc, 1, "d", "d/e")?, 2);
-    assert_eq!(rt; node(&repo, alloc, 2, "d/e")?, node(&repo, alloc, 1, "d")?);
-    assert!(rt; !stands(&repo, alloc, 2, "d/e/e"));
-    assert_eq!(rt; copy(&mut repo, alloc, 2, "d", "d/e/f")?, 3);
-    assert!(rt; stands(&repo, alloc, 3, "d/e/f/e"));
+    let steps = [
+        MakeDir("d"),
+        Commit,
+        Copy(1, "d", "d/e"),
+        Commit,
+        Copy(2, "d", "d/e/f"),
+        Commit,
+    ];
+    let answers = run(alloc, &mut repo, &steps)?;
+    assert_eq!(rt; answers.as_slice(), [1, 2, 3].as_slice());
+    assert_eq!(rt; node(alloc, &repo, 2, "d/e"), node(alloc, &repo, 1, "d"));
+    assert!(rt; node(alloc, &repo, 2, "d/e/e").is_none());
+    assert!(rt; node(alloc, &repo, 3, "d/e/f/e").is_some());
     Ok(())
 }
 
 #[test]
 fn replaces_in_one_commit(rt: HostRuntime) -> Result<(), Fail> {
     let alloc = rt.alloc();
-    let mut repo = two_revisions(alloc)?;
-    let mut script = Script::new(alloc);
-    script.remove("f")?;
-    script.make_dir("f")?;
-    script.put("f/x", "a")?;
-    assert_eq!(rt; script.commit(&mut repo)?, 3);
-    let old = node(&repo, alloc, 2, "f")?;
-    let new = node(&repo, alloc, 3, "f")?;
-    assert_eq!(rt; repo.kind(old), Some(Kind::File));
-    assert_eq!(rt; repo.kind(new), Some(Kind::Directory));
-    assert!(rt; repo.line(old) != repo.line(new));
-    let mut back = Script::new(alloc);
-    back.remove("f")?;
-    back.copy(2, "f", "f")?;
-    back.put("f", "c")?;
-    assert_eq!(rt; back.commit(&mut repo)?, 4);
-    let again = node(&repo, alloc, 4, "f")?;
-    assert_eq!(rt; repo.line(again), repo.line(old));
-    assert!(rt; repo.text(again) == Some(b"c".as_slice()));
-    Ok(())
-}
-
-#[test]
-fn commits_nothing(rt: HostRuntime) -> Result<(), Fail> {
-    let alloc = rt.alloc();
-    let mut repo = two_revisions(alloc)?;
-    assert_eq!(rt; Script::new(alloc).commit(&mut repo)?, 3);
-    assert_eq!(rt; node(&repo, alloc, 3, "")?, node(&repo, alloc, 2, "")?);
+    let mut repo = Repo::new(alloc)?;
+    run(alloc, &mut repo, &TWO_REVISIONS)?;
+    let steps = [
+        Remove("f"),
+        MakeDir("f"),
+        Put("f/x", "a"),
+        Commit,
+        Remove("f"),
+        Copy(2, "f", "f"),
+        Put("f", "c"),
+        Commit,
+        Commit,
+    ];
+    let answers = run(alloc, &mut repo, &steps)?;
+    assert_eq!(rt; answers.as_slice(), [3, 4, 5].as_slice());
+    assert_eq!(rt; entry_count(alloc, &repo, 3, "f"), Some(1));
+    assert!(rt; line(alloc, &repo, 3, "f") != line(alloc, &repo, 2, "f"));
+    assert!(rt; has_text(alloc, &repo, 4, "f", "c"));
+    assert_eq!(rt; line(alloc, &repo, 4, "f"), line(alloc, &repo, 2, "f"));
+    assert_eq!(rt; node(alloc, &repo, 5, ""), node(alloc, &repo, 4, ""));
     Ok(())
 }
 
 #[test]
 fn sets_and_removes_properties(rt: HostRuntime) -> Result<(), Fail> {
     let alloc = rt.alloc();
-    let mut repo = two_revisions(alloc)?;
-    assert_eq!(rt; set_prop(&mut repo, alloc, "", Some("1"))?, 3);
-    assert_eq!(rt; set_prop(&mut repo, alloc, "f", Some("2"))?, 4);
-    assert_eq!(rt; set_prop(&mut repo, alloc, "f", None)?, 5);
-    assert_eq!(rt; set_prop(&mut repo, alloc, "f", None)?, 6);
-    let name = PropName::parse(alloc, "p")?;
-    let with = repo.props(node(&repo, alloc, 4, "f")?).ok_or("props")?;
-    let without = repo.props(node(&repo, alloc, 5, "f")?).ok_or("props")?;
-    let root = repo.props(node(&repo, alloc, 6, "")?).ok_or("props")?;
-    assert!(rt; with.get(&name).ok_or("p")?.as_slice() == b"2".as_slice());
-    assert!(rt; without.get(&name).is_none());
-    assert!(rt; root.get(&name).ok_or("p")?.as_slice() == b"1".as_slice());
-    assert!(rt; node(&repo, alloc, 5, "f")? != node(&repo, alloc, 6, "f")?);
-    assert!(rt; repo.text(node(&repo, alloc, 6, "f")?) == Some(b"abc".as_slice()));
+    let mut repo = Repo::new(alloc)?;
+    run(alloc, &mut repo, &TWO_REVISIONS)?;
+    let steps = [
+        SetProp("", Some("1")),
+        SetProp("f", Some("2")),
+        Commit,
+        SetProp("f", None),
+        Commit,
+        SetProp("f", None),
+        Commit,
+    ];
+    let answers = run(alloc, &mut repo, &steps)?;
+    assert_eq!(rt; answers.as_slice(), [3, 4, 5].as_slice());
+    assert!(rt; has_prop(alloc, &repo, 3, "f"));
+    assert!(rt; !has_prop(alloc, &repo, 4, "f"));
+    assert!(rt; has_prop(alloc, &repo, 5, ""));
+    assert!(rt; node(alloc, &repo, 4, "f") != node(alloc, &repo, 5, "f"));
+    assert!(rt; has_text(alloc, &repo, 5, "f", "abc"));
     Ok(())
+}
+
+// So many directories, each in the one before, and the last one's path.
+fn nested(alloc: Global, repo: &mut Repo, depth: usize) -> Result<u64, Fail> {
+    let mut changes = Vec::new(alloc);
+    let mut path = String::from_str(alloc, "a")?;
+    for _ in 0..depth {
+        changes.push(Change::MakeDir {
+            path: path_at(alloc, path.as_str())?,
+        })?;
+        path.push_str("/a")?;
+    }
+    Ok(commit(repo, &changes))
 }
 
 #[test]
 fn takes_sixty_four_names(rt: HostRuntime) -> Result<(), Fail> {
     let alloc = rt.alloc();
     let mut repo = Repo::new(alloc)?;
-    let mut script = Script::new(alloc);
-    let mut deep = String::from_str(alloc, "a")?;
-    script.make_dir("a")?;
-    for _ in 1..64 {
-        deep.push_str("/a")?;
-        script.make_dir(deep.as_str())?;
-    }
-    assert_eq!(rt; script.commit(&mut repo)?, 1);
-    assert!(rt; stands(&repo, alloc, 1, deep.as_str()));
-    let mut deeper = deep.clone()?;
-    deeper.push_str("/a")?;
-    assert_eq!(rt;
-        make_dir(&mut repo, alloc, deeper.as_str()),
-        Err(CommitFault::TooDeep)
-    );
-    assert_eq!(rt;
-        put(&mut repo, alloc, deeper.as_str(), "a"),
-        Err(CommitFault::TooDeep)
-    );
-    assert_eq!(rt;
-        copy(&mut repo, alloc, 1, "a", "a/b"),
-        Err(CommitFault::TooDeep)
-    );
-    assert_eq!(rt; copy(&mut repo, alloc, 1, "a/a", "a/b")?, 2);
-    assert_eq!(rt;
-        copy(&mut repo, alloc, 2, "a", "b/c"),
-        Err(CommitFault::Missing)
-    );
-    assert_eq!(rt; copy(&mut repo, alloc, 2, "a", "c")?, 3);
+    assert_eq!(rt; nested(alloc, &mut repo, 65)?, 106);
+    assert_eq!(rt; nested(alloc, &mut repo, 64)?, 1);
+    let steps = [
+        Copy(1, "a", "a/b"),
+        Commit,
+        Copy(1, "a/a", "a/b"),
+        Commit,
+        Copy(2, "a", "b/c"),
+        Commit,
+        Copy(2, "a", "c"),
+        Commit,
+    ];
+    let answers = run(alloc, &mut repo, &steps)?;
+    assert_eq!(rt; answers.as_slice(), [106, 2, 102, 3].as_slice());
     Ok(())
 }
