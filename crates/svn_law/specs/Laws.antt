@@ -1,5 +1,5 @@
 -- The laws of the definitions, as statements. Their proofs are the contracts of functions with empty bodies.
-use Rattle.std.specs.Prelude.{◌≡◌, ℕ, Bool, true, ◌||◌, List, [], None, take}
+use Rattle.std.specs.Prelude.{◌≡◌, ℕ, Bool, true, ◌||◌, List, None, take}
 use Rattle.svn_types.specs.Names.{Path}
 use Rattle.svn_types.specs.Paths.{child}
 use Rattle.svn_repo.specs.History.{History}
