@@ -70,7 +70,9 @@ fn digit(byte: u8) -> Option<u64> {
 }
 
 // The value of a hexadecimal digit of either case.
-fn hex_digit(byte: u8) -> Option<u8> {
+fn hex_digit(byte: u8) -> Option<u8>
+    ensures { IfSome result (λ digit. digit < 16) }
+{
     match byte {
         b'0'..=b'9' => Some(byte - b'0'),
         b'a'..=b'f' => Some(byte - b'a' + 10),
@@ -106,7 +108,11 @@ fn next_byte(word: &[u8]) -> Option<(u8, &[u8])>
     ensures { IfSome result (λ r. length r.1.now < length word.now) }
 {
     match word {
-        [b'%', high, low, rest @ ..] => Some((hex_digit(*high)? * 16 + hex_digit(*low)?, rest)),
+        [b'%', high, low, rest @ ..] => {
+            let high = hex_digit(*high)?;
+            let low = hex_digit(*low)?;
+            Some((high * 16 + low, rest))
+        }
         [b'%', ..] => None,
         [byte, rest @ ..] => Some((*byte, rest)),
         [] => None,
