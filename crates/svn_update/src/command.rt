@@ -41,7 +41,10 @@ impl From<AllocError> for LineFault {
 fn next_word(line: &[u8]) -> Option<(&[u8], &[u8])> {
     let start = line.iter().position(|byte| *byte != b' ')?;
     let words = &line[start..];
-    let end = words.iter().position(|byte| *byte == b' ').unwrap_or(words.len());
+    let end = words
+        .iter()
+        .position(|byte| *byte == b' ')
+        .unwrap_or(words.len());
     Some(words.split_at(end))
 }
 
