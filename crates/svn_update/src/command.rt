@@ -41,7 +41,10 @@ impl From<AllocError> for LineFault {
 fn next_word(line: &[u8]) -> Option<(&[u8], &[u8])> {
     let start = line.iter().position(|byte| *byte != b' ')?;
     let words = &line[start..];
-    let end = words.iter().position(|byte| *byte == b' ').unwrap_or(words.len());
+    let end = words
+        .iter()
+        .position(|byte| *byte == b' ')
+        .unwrap_or(words.len());
     Some(words.split_at(end))
 }
 
@@ -70,7 +73,9 @@ fn digit(byte: u8) -> Option<u64> {
 }
 
 // The value of a hexadecimal digit of either case.
-fn hex_digit(byte: u8) -> Option<u8> {
+fn hex_digit(byte: u8) -> Option<u8>
+    ensures { IfSome result (λ digit. digit < 16) }
+{
     match byte {
         b'0'..=b'9' => Some(byte - b'0'),
         b'a'..=b'f' => Some(byte - b'a' + 10),
@@ -106,7 +111,11 @@ fn next_byte(word: &[u8]) -> Option<(u8, &[u8])>
     ensures { IfSome result (λ r. length r.1.now < length word.now) }
 {
     match word {
-        [b'%', high, low, rest @ ..] => Some((hex_digit(*high)? * 16 + hex_digit(*low)?, rest)),
+        [b'%', high, low, rest @ ..] => {
+            let high = hex_digit(*high)?;
+            let low = hex_digit(*low)?;
+            Some((high * 16 + low, rest))
+        }
         [b'%', ..] => None,
         [byte, rest @ ..] => Some((*byte, rest)),
         [] => None,

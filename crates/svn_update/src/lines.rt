@@ -17,7 +17,7 @@ pub(crate) fn read_script<R: Read>(alloc: Global, reader: &mut R) -> Result<Vec<
 {
     let mut script = Vec::new(alloc);
     let mut block = [0u8; BLOCK];
-    'blocks: while script.len() <= MAX_SCRIPT {
+    'reads: while script.len() <= MAX_SCRIPT {
         let Ok(count) = reader.read(&mut block) else {
             return Err(ScriptFault::Read);
         };

@@ -1,9 +1,9 @@
 //! What a script works on, and what its commands do.
 use crate::command::Command;
-use crate::update::update_in_turn;
 use crate::print::{
     commit_fault_name, print_copy, print_outcome, print_refusal, run_fault_name, wc_fault_name,
 };
+use crate::update::update_in_turn;
 use std::alloc::Global;
 use std::io;
 use std::io::Write;

@@ -32,8 +32,9 @@ pub fn update_in_turn(
     ensures unchanged { OnErr result (copy.new ≡ copy.old) }
 {
     let root = RelPath::root(alloc);
-    let Some(to) = repo.lookup(target, &root) else {
-        return Err(RunFault::NoSuchRevision);
+    let to = match repo.lookup(target, &root) {
+        Some(to) => to,
+        None => return Err(RunFault::NoSuchRevision),
     };
     match copy.update_plain(alloc, repo, to, target) {
         Ok(calls) => Ok(Outcome::Closed { calls }),

@@ -28,13 +28,16 @@ module _ (h : History) (q : Path) (n : ℕ) (w : WorkingCopy) (only : OnlyBelow 
   Gone name r found = found ≡ None
 
   pub delete_begins : (es : List (List ℕ × ℕ)) → InNameOrder es → es ≡ entries_of h n → IsSwept q es Only Gone w w × AreAmong es (entries_of h n)
-  delete_begins es order is = (record {
-    order = order;
-    here = refl;
-    outside = λ p out. refl;
-    waiting = λ name some r none. only (name ∷ r) none;
-    done = λ name none r. only (name ∷ r) (walk-below h n name r ∙ ap (option_and_then (λ m. walk (node_at h) m r)) (ap (λ l. value_of l name) (sym is) ∙ none_of (value_of es name) none));
-  }, λ name v found. ap (λ l. value_of l name) (sym is) ∙ found)
+  delete_begins es order is = (
+    record {
+      order = order;
+      here = refl;
+      outside = λ p out. refl;
+      waiting = λ name some r none. only (name ∷ r) none;
+      done = λ name none r. only (name ∷ r) (walk-below h n name r ∙ ap (option_and_then (λ m. walk (node_at h) m r)) (ap (λ l. value_of l name) (sym is) ∙ none_of (value_of es name) none));
+    },
+    λ name v found. ap (λ l. value_of l name) (sym is) ∙ found,
+  )
 
   pub delete_ends : (w2 : WorkingCopy) → IsSwept {V = ℕ} q [] Only Gone w w2 → PutsBelow (λ name. nothing) q w w2
   delete_ends w2 swept = record { here = swept.here; outside = swept.outside; below = λ name r. swept.done name refl r }

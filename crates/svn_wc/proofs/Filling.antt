@@ -34,13 +34,16 @@ module _ (h : History) (rev : ℕ) (q : Path) (n : ℕ) (w w1 : WorkingCopy)
   Filled name r found = found ≡ standing_at h rev q name (value_of (entries_of h n) name) r
 
   pub fill_begins : ((r : Path) → w (q ++ r) ≡ None) → (es : List (List ℕ × ℕ)) → InNameOrder es → es ≡ entries_of h n → IsSwept q es Free Filled w1 w1 × AreAmong es (entries_of h n)
-  fill_begins free es order is = (record {
-    order = order;
-    here = refl;
-    outside = λ p out. refl;
-    waiting = λ name some r. still name r;
-    done = λ name none r. still name r ∙ sym (ap (λ o. standing_at h rev q name o r) (ap (λ l. value_of l name) (sym is) ∙ none_of (value_of es name) none));
-  }, λ name v found. ap (λ l. value_of l name) (sym is) ∙ found)
+  fill_begins free es order is = (
+    record {
+      order = order;
+      here = refl;
+      outside = λ p out. refl;
+      waiting = λ name some r. still name r;
+      done = λ name none r. still name r ∙ sym (ap (λ o. standing_at h rev q name o r) (ap (λ l. value_of l name) (sym is) ∙ none_of (value_of es name) none));
+    },
+    λ name v found. ap (λ l. value_of l name) (sym is) ∙ found,
+  )
     where
       still : (name : List ℕ) (r : Path) → w1 (q ++ name ∷ r) ≡ None
       still name r = put (q ++ name ∷ r) ∙ ap (λ b. cond b (Some (base_node h rev q n)) (w (q ++ name ∷ r))) (below_is_other q name r) ∙ free (name ∷ r)

@@ -65,7 +65,7 @@ module _ (h : History) (rev : ℕ) (q : Path) (n : ℕ) (node : BaseNode) (is_ba
   tree_next e left taken tree swept among puts =
       fill_next h rev q n nothing (get_in ((q, node) ∷ [])) first_put e left (get_in taken) (get_in (taken ++ tree)) swept among
       (puts_behind (standing h rev (q ++ e.0 ∷ []) e.1) (q ++ e.0 ∷ []) taken tree
-        (fill_free h rev q n nothing (get_in ((q, node) ∷ [])) first_put e left (get_in taken) (get_in taken) swept) puts)
+      (fill_free h rev q n nothing (get_in ((q, node) ∷ [])) first_put e left (get_in taken) (get_in taken) swept) puts)
 
 -- nodes that are one tree from the root are a plain copy
 pub plain_is : (h : History) (es rest rest2 : List (Path × BaseNode)) (q : Path) (node : BaseNode) (rev n : ℕ) → es ≡ (q, node) ∷ rest → q ≡ [] → is_dir (Some node) ≡ true → Some n ≡ look h rev q

@@ -44,15 +44,18 @@ module _ (h : History) (base : ℕ) (q : Path) (from to : List (List ℕ × ℕ)
   Kept name r found = found ≡ standing_at h base q name (kept_of h (value_of from name) (value_of to name)) r
 
   pub gone_begins : (es : List (List ℕ × ℕ)) → InNameOrder es → es ≡ from → IsSwept q es Before Kept w w × AreAmong es from
-  gone_begins es order is = (record {
-    order = order;
-    here = refl;
-    outside = λ p out. refl;
-    waiting = λ name some r. before name r;
-    done = λ name none r.
-        let absent : value_of from name ≡ None = ap (λ l. value_of l name) (sym is) ∙ none_of (value_of es name) none in
-        before name r ∙ ap (λ o. standing_at h base q name o r) absent ∙ sym (ap (λ o. standing_at h base q name (kept_of h o (value_of to name)) r) absent);
-  }, λ name v found. ap (λ l. value_of l name) (sym is) ∙ found)
+  gone_begins es order is = (
+    record {
+      order = order;
+      here = refl;
+      outside = λ p out. refl;
+      waiting = λ name some r. before name r;
+      done = λ name none r.
+          let absent : value_of from name ≡ None = ap (λ l. value_of l name) (sym is) ∙ none_of (value_of es name) none in
+          before name r ∙ ap (λ o. standing_at h base q name o r) absent ∙ sym (ap (λ o. standing_at h base q name (kept_of h o (value_of to name)) r) absent);
+    },
+    λ name v found. ap (λ l. value_of l name) (sym is) ∙ found,
+  )
 
   pub gone_ends : (w2 : WorkingCopy) → IsSwept {V = ℕ} q [] Before Kept w w2 → PutsBelow (λ name. standing_at h base q name (kept_of h (value_of from name) (value_of to name))) q w w2
   gone_ends w2 swept = record { here = swept.here; outside = swept.outside; below = λ name r. swept.done name refl r }
@@ -70,16 +73,16 @@ module _ (h : History) (base : ℕ) (q : Path) (from to : List (List ℕ × ℕ)
     pub gone_stays : is_some (kept_of h (Some e.1) (value_of to e.0)) ≡ true → IsSwept q left Before Kept w w2 × AreAmong left from
     gone_stays stays = (
       swept_on ℕ e left swept.order q Before Kept w w2 w2 swept
-      (λ r. present r ∙ sym (ap (λ o. standing_at h base q e.0 o r) (kept_here ∙ kept_same h e.1 (value_of to e.0) stays)))
-      (λ p out. refl),
+          (λ r. present r ∙ sym (ap (λ o. standing_at h base q e.0 o r) (kept_here ∙ kept_same h e.1 (value_of to e.0) stays)))
+          (λ p out. refl),
       among_left ℕ e left swept.order from among,
     )
 
     pub gone_next : (w3 : WorkingCopy) → is_some (kept_of h (Some e.1) (value_of to e.0)) ≡ false → Puts nothing (q ++ e.0 ∷ []) w2 w3 → IsSwept q left Before Kept w w3 × AreAmong left from
     gone_next w3 goes puts = (
       swept_on ℕ e left swept.order q Before Kept w w2 w3 swept
-      (λ r. ap w3 (sym (append_assoc q (e.0 ∷ []) r)) ∙ puts.inside r ∙ sym (ap (λ o. standing_at h base q e.0 o r) (kept_here ∙ none_of (kept_of h (Some e.1) (value_of to e.0)) goes)))
-      puts.outside,
+          (λ r. ap w3 (sym (append_assoc q (e.0 ∷ []) r)) ∙ puts.inside r ∙ sym (ap (λ o. standing_at h base q e.0 o r) (kept_here ∙ none_of (kept_of h (Some e.1) (value_of to e.0)) goes)))
+          puts.outside,
       among_left ℕ e left swept.order from among,
     )
 
@@ -108,16 +111,19 @@ module _ (h : History) (base target : ℕ) (q : Path) (from to : List (List ℕ 
   Updated name r found = revised target found ≡ standing_at h target q name (value_of to name) r
 
   pub update_begins : (es : List (List ℕ × ℕ)) → InNameOrder es → es ≡ to → IsSwept q es Waits Updated w w × AreAmong es to
-  update_begins es order is = (record {
-    order = order;
-    here = refl;
-    outside = λ p out. refl;
-    waiting = λ name some r. before name r;
-    done = λ name none r.
-        let absent : value_of to name ≡ None = ap (λ l. value_of l name) (sym is) ∙ none_of (value_of es name) none in
-        ap (revised target) (before name r ∙ ap (λ o. standing_at h base q name (kept_of h (value_of from name) o) r) absent ∙ ap (λ o. standing_at h base q name o r) (kept_none h (value_of from name)))
-        ∙ sym (ap (λ o. standing_at h target q name o r) absent);
-  }, λ name v found. ap (λ l. value_of l name) (sym is) ∙ found)
+  update_begins es order is = (
+    record {
+      order = order;
+      here = refl;
+      outside = λ p out. refl;
+      waiting = λ name some r. before name r;
+      done = λ name none r.
+          let absent : value_of to name ≡ None = ap (λ l. value_of l name) (sym is) ∙ none_of (value_of es name) none in
+          ap (revised target) (before name r ∙ ap (λ o. standing_at h base q name (kept_of h (value_of from name) o) r) absent ∙ ap (λ o. standing_at h base q name o r) (kept_none h (value_of from name)))
+          ∙ sym (ap (λ o. standing_at h target q name o r) absent);
+    },
+    λ name v found. ap (λ l. value_of l name) (sym is) ∙ found,
+  )
 
   pub update_ends : (w2 : WorkingCopy) → IsSwept {V = ℕ} q [] Waits Updated w w2 → PutsBelowRevised target (λ name. standing_at h target q name (value_of to name)) q w w2
   update_ends w2 swept = record { here = swept.here; outside = swept.outside; below = λ name r. swept.done name refl r }
@@ -129,8 +135,8 @@ module _ (h : History) (base target : ℕ) (q : Path) (from to : List (List ℕ 
     pub update_next : (w3 : WorkingCopy) → PutsRevised target (standing h target (q ++ e.0 ∷ []) e.1) (q ++ e.0 ∷ []) w2 w3 → IsSwept q left Waits Updated w w3 × AreAmong left to
     update_next w3 puts = (
       swept_on ℕ e left swept.order q Waits Updated w w2 w3 swept
-      (λ r. ap (λ p. revised target (w3 p)) (sym (append_assoc q (e.0 ∷ []) r)) ∙ puts.inside r ∙ sym (ap (λ o. standing_at h target q e.0 o r) (among e.0 e.1 (value_of-first e left))))
-      puts.outside,
+          (λ r. ap (λ p. revised target (w3 p)) (sym (append_assoc q (e.0 ∷ []) r)) ∙ puts.inside r ∙ sym (ap (λ o. standing_at h target q e.0 o r) (among e.0 e.1 (value_of-first e left))))
+          puts.outside,
       among_left ℕ e left swept.order to among,
     )
 

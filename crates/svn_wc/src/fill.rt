@@ -13,11 +13,7 @@ use svn_repo::{NodeId, Repo};
 use svn_types::{Kind, Name, Props, RelPath, Rev, Text};
 
 /// The path of a child. A path of a repository has at most 64 names, so want of memory is all that can come.
-pub(crate) fn child_path(
-    alloc: Global,
-    path: &RelPath,
-    name: &Name,
-) -> Result<RelPath, AllocError>
+pub(crate) fn child_path(alloc: Global, path: &RelPath, name: &Name) -> Result<RelPath, AllocError>
     ensures path { IfOk result (λ p. p ≡ path.now ++ name.now ∷ []) }
     ensures bounded { OnOk result (length path.now + 1 < depth_limit + 1) }
 {

@@ -230,15 +230,7 @@ impl Walk<'_> {
                 Ok(())
             }
             None => {
-                fill(
-                    self.alloc,
-                    self.repo,
-                    self.target,
-                    &below,
-                    to,
-                    nodes,
-                    calls,
-                )?;
+                fill(self.alloc, self.repo, self.target, &below, to, nodes, calls)?;
                 Ok(())
             }
         }
@@ -299,15 +291,7 @@ impl Walk<'_> {
         ensures { OnOk result (PutsRevised self.now.target (standing self.now.repo.now self.now.target path.now to) path.now (get_in nodes.old.entries) (get_in nodes.new.entries)) }
     {
         self.delete(path, from, nodes)?;
-        fill(
-            self.alloc,
-            self.repo,
-            self.target,
-            path,
-            to,
-            nodes,
-            calls,
-        )?;
+        fill(self.alloc, self.repo, self.target, path, to, nodes, calls)?;
         Ok(())
     }
 

@@ -28,10 +28,12 @@ fill-requires t c =
     let below : c.in_ok-below.below ≡ c.args.path.now ++ c.in-Some-2.name.now ∷ [] = c.in_ok-below.ensures.path in
     let longer : length c.in_ok-below.below ≡ length c.args.path.now + 1 = ap length below ∙ length-append c.args.path.now (c.in-Some-2.name.now ∷ []) in
     let step : c.loop-name.name-iterator ≡ (c.in-Some-2.name.now, c.in-Some-2.child.now) ∷ c.next.new.self = c.in-Some-2.ensures.steps in
-    let inv = rw step at c.loop-name.invariant in
-    (omega (arith, longer, c.in_ok-below.ensures.bounded), λ r. ap (λ (p : Path). get_in c.loop-name.nodes.entries (p ++ r)) below
-    ∙ fill_free c.args.repo.now c.args.rev c.args.path.now c.args.id (get_in c.args.nodes.now.entries) (get_in c.put_node.new.nodes.entries)
-        c.in_ok-put_node.ensures (c.in-Some-2.name.now, c.in-Some-2.child.now) c.next.new.self (get_in c.loop-name.nodes.entries) (get_in c.loop-name.nodes.entries) inv.0 r)
+    let inv = rw step at c.loop-name.invariant in (
+      omega (arith, longer, c.in_ok-below.ensures.bounded),
+      λ r. ap (λ (p : Path). get_in c.loop-name.nodes.entries (p ++ r)) below
+          ∙ fill_free c.args.repo.now c.args.rev c.args.path.now c.args.id (get_in c.args.nodes.now.entries) (get_in c.put_node.new.nodes.entries)
+          c.in_ok-put_node.ensures (c.in-Some-2.name.now, c.in-Some-2.child.now) c.next.new.self (get_in c.loop-name.nodes.entries) (get_in c.loop-name.nodes.entries) inv.0 r,
+    )
 
 pub loop-name-preserved : goal.loop-name-preserved
 loop-name-preserved t c =

@@ -16,9 +16,12 @@ is_tree-requires t c =
     omega (arith, longer, c.is_child.ensures.bounded)
 
 pub returns-in_default : goal.returns-in_default
-returns-in_default t c = λ _. ((c.args.path.now, c.args.node.now) ∷ [], refl,
-    tree_leaf c.args.repo.now c.args.rev c.args.path.now c.args.id c.args.node.now (c.is_base_node.ensures c.if-not-is_base_node.false)
-    (when_none c.entries.result (entries_of c.args.repo.now c.args.id ≡ []) c.in_default.not-Some c.entries.ensures.leaf))
+returns-in_default t c = λ _. (
+  (c.args.path.now, c.args.node.now) ∷ [],
+  refl,
+  tree_leaf c.args.repo.now c.args.rev c.args.path.now c.args.id c.args.node.now (c.is_base_node.ensures c.if-not-is_base_node.false)
+      (when_none c.entries.result (entries_of c.args.repo.now c.args.id ≡ []) c.in_default.not-Some c.entries.ensures.leaf),
+)
 
 pub loop-name-init : goal.loop-name-init
 loop-name-init t c =
@@ -26,7 +29,7 @@ loop-name-init t c =
     let e2 : c.as_map-name-items.result.now.entries ≡ c.in-Some.entries.now = c.as_map-name-items.ensures.entries in
     let e3 : c.in-Some.entries.now ≡ entries_of c.args.repo.now c.args.id = c.in-Some.ensures.listing in
     let begins = tree_begins c.args.repo.now c.args.rev c.args.path.now c.args.id c.args.node.now (c.is_base_node.ensures c.if-not-is_base_node.false)
-      c.into_iter-name-iterator.result (subst (λ (l : List (List ℕ × ℕ)). InNameOrder l) (sym (e1 ∙ e2)) c.as_map-name-items.ensures.ordered) (e1 ∙ e2 ∙ e3) in
+    c.into_iter-name-iterator.result (subst (λ (l : List (List ℕ × ℕ)). InNameOrder l) (sym (e1 ∙ e2)) c.as_map-name-items.ensures.ordered) (e1 ∙ e2 ∙ e3) in
     ((c.args.path.now, c.args.node.now) ∷ [], refl, begins.0, begins.1)
 
 pub loop-name-preserved : goal.loop-name-preserved
@@ -38,10 +41,12 @@ loop-name-preserved t c =
     let tree = c.is_tree.ensures c.if-not-is_tree.false in
     let tree' = subst (λ (p : Path). BeginsWithTree c.args.repo.now c.args.rev p c.in-Some-2.child.now ((c.in-Some-next.below.now, c.in-Some-next.found.now) ∷ c.next-in-loop-name.new.self) c.is_tree.new.rest) child tree in
     let more = tree_next c.args.repo.now c.args.rev c.args.path.now c.args.id c.args.node.now (c.is_base_node.ensures c.if-not-is_base_node.false)
-      (c.in-Some-2.name.now, c.in-Some-2.child.now) c.next.new.self inv.0 tree'.0 inv.2 inv.3 tree'.2 in
-    (inv.0 ++ tree'.0,
-     inv.1 ∙ ap (λ (l : List (Path × BaseNode)). inv.0 ++ l) (next ∙ tree'.1) ∙ sym (append_assoc inv.0 tree'.0 c.is_tree.new.rest),
-     more.0, more.1)
+    (c.in-Some-2.name.now, c.in-Some-2.child.now) c.next.new.self inv.0 tree'.0 inv.2 inv.3 tree'.2 in (
+      inv.0 ++ tree'.0,
+      inv.1 ∙ ap (λ (l : List (Path × BaseNode)). inv.0 ++ l) (next ∙ tree'.1) ∙ sym (append_assoc inv.0 tree'.0 c.is_tree.new.rest),
+      more.0,
+      more.1,
+    )
 
 pub returns : goal.returns
 returns t c = λ _.

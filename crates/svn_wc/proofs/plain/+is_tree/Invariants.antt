@@ -16,6 +16,6 @@ abbrev pub invariant-loop-name : goal.invariant-loop-name
 invariant-loop-name l =
     (taken : List (Path × BaseNode)) × ((l.path, l.fn.node) ∷ l.fn.rest ≡ taken ++ l.rest)
     × IsSwept l.path l.name-iterator (λ name r found. found ≡ None)
-      (λ name r found. found ≡ standing_at l.repo l.rev l.path name (value_of (entries_of l.repo l.fn.id) name) r)
-      (get_in ((l.path, l.fn.node) ∷ [])) (get_in taken)
+    (λ name r found. found ≡ standing_at l.repo l.rev l.path name (value_of (entries_of l.repo l.fn.id) name) r)
+    (get_in ((l.path, l.fn.node) ∷ [])) (get_in taken)
     × AreAmong l.name-iterator (entries_of l.repo l.fn.id)

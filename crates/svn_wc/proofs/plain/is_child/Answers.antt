@@ -10,7 +10,7 @@ not_false false h = sym h
 pub returns-clause-child : goal.returns-clause-child
 returns-clause-child c = λ t.
     let above : c.in-Some.above.now ≡ c.args.path.now =
-        (slice_eq-Decides {E = bytes_eq} bytes_eq-Decides c.in-Some.above.now c.components.result.now c.eq.result c.eq.ensures).0 t ∙ c.components.ensures.names in
+    (slice_eq-Decides {E = bytes_eq} bytes_eq-Decides c.in-Some.above.now c.components.result.now c.eq.result c.eq.ensures).0 t ∙ c.components.ensures.names in
     let last : c.in-Some.last.now ≡ c.args.name.now =
-        (bytes_eq-Decides c.in-Some.last.now c.args.name.now).0 (not_false (bytes_eq c.in-Some.last.now c.args.name.now) (sym c.ne.ensures ∙ c.if-ne.false)) in
+    (bytes_eq-Decides c.in-Some.last.now c.args.name.now).0 (not_false (bytes_eq c.in-Some.last.now c.args.name.now) (sym c.ne.ensures ∙ c.if-ne.false)) in
     sym c.components-names.ensures.names ∙ c.in-Some.ensures.cases.0 ∙ (λ i. above i ++ last i ∷ [])

@@ -10,5 +10,5 @@ use Rattle.svn_wc.proofs.walk.close_edit.Goals as goal
 pub returns : goal.returns
 returns c = λ p.
     ap (λ (l : List (Path × BaseNode)). get_in l p)
-      (map_same_pairs _ (at_revision c.args.target) _ (λ k v b w f' t. search rules) c.args.nodes.now.entries c.retain.new.self.entries c.retain.ensures.filtered)
+    (map_same_pairs _ (at_revision c.args.target) _ (λ k v b w f' t. search rules) c.args.nodes.now.entries c.retain.new.self.entries c.retain.ensures.filtered)
     ∙ lookup-map_values (at_revision c.args.target) (is_at (path_cmp p)) c.args.nodes.now.entries

@@ -34,10 +34,12 @@ delete_entries-delete-requires t c =
     let below : c.in_ok-below.below ≡ c.args.path.now ++ c.in-Some-2.name.now ∷ [] = c.in_ok-below.ensures.path in
     let longer : length c.in_ok-below.below ≡ length c.args.path.now + 1 = ap length below ∙ length-append c.args.path.now (c.in-Some-2.name.now ∷ []) in
     let step : c.loop-name.name-iterator ≡ (c.in-Some-2.name.now, c.in-Some-2.child.now) ∷ c.next.new.self = c.in-Some-2.ensures.steps in
-    let inv = rw step at c.loop-name.invariant in
-    (omega (arith, longer, c.in_ok-below.ensures.bounded), subst (λ (p : Path). OnlyBelow c.args.self.now.repo.now p c.in-Some-2.child.now (get_in c.loop-name.nodes.entries)) (sym below)
-      (delete_only c.args.self.now.repo.now c.args.path.now c.args.id (get_in c.args.nodes.now.entries) c.requires.only
-        (c.in-Some-2.name.now, c.in-Some-2.child.now) c.next.new.self (get_in c.loop-name.nodes.entries) (get_in c.loop-name.nodes.entries) inv.0 inv.1))
+    let inv = rw step at c.loop-name.invariant in (
+      omega (arith, longer, c.in_ok-below.ensures.bounded),
+      subst (λ (p : Path). OnlyBelow c.args.self.now.repo.now p c.in-Some-2.child.now (get_in c.loop-name.nodes.entries)) (sym below)
+          (delete_only c.args.self.now.repo.now c.args.path.now c.args.id (get_in c.args.nodes.now.entries) c.requires.only
+          (c.in-Some-2.name.now, c.in-Some-2.child.now) c.next.new.self (get_in c.loop-name.nodes.entries) (get_in c.loop-name.nodes.entries) inv.0 inv.1),
+    )
 
 pub delete_entries-loop-name-preserved : goal.delete_entries-loop-name-preserved
 delete_entries-loop-name-preserved t c =

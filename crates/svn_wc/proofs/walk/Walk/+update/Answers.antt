@@ -18,21 +18,24 @@ update_entry-returns-then-eq t c =
 pub update_entry-fill-requires : goal.update_entry-fill-requires
 update_entry-fill-requires t c =
     let below : c.in_ok-below.below ≡ c.args.path.now ++ c.args.name.now ∷ [] = c.in_ok-below.ensures.path in
-    record { free = λ r.
-      ap (λ (p : Path). get_in c.args.nodes.now.entries (p ++ r)) below
-      ∙ ap (get_in c.args.nodes.now.entries) (append_assoc c.args.path.now (c.args.name.now ∷ []) r)
-      ∙ c.requires.before r
-      ∙ ap (λ o. standing_at c.args.self.now.repo.now c.args.self.now.base c.args.path.now c.args.name.now o r) c.in-None.is }
+    record {
+      free = λ r.
+          ap (λ (p : Path). get_in c.args.nodes.now.entries (p ++ r)) below
+          ∙ ap (get_in c.args.nodes.now.entries) (append_assoc c.args.path.now (c.args.name.now ∷ []) r)
+          ∙ c.requires.before r
+          ∙ ap (λ o. standing_at c.args.self.now.repo.now c.args.self.now.base c.args.path.now c.args.name.now o r) c.in-None.is;
+    }
 
 pub update_entry-update_node-requires : goal.update_entry-update_node-requires
 update_entry-update_node-requires t c =
     let below : c.in_ok-below.below ≡ c.args.path.now ++ c.args.name.now ∷ [] = c.in_ok-below.ensures.path in
-    let longer : length c.in_ok-below.below ≡ length c.args.path.now + 1 = ap length below ∙ length-append c.args.path.now (c.args.name.now ∷ []) in
-    (omega (arith, longer, c.in_ok-below.ensures.bounded),
-     subst (λ (p : Path). (r : Path) → get_in c.args.nodes.now.entries (p ++ r) ≡ standing c.args.self.now.repo.now c.args.self.now.base p c.in-Some.old r) (sym below)
-       (λ r. ap (get_in c.args.nodes.now.entries) (append_assoc c.args.path.now (c.args.name.now ∷ []) r)
-         ∙ c.requires.before r
-         ∙ ap (λ o. standing_at c.args.self.now.repo.now c.args.self.now.base c.args.path.now c.args.name.now o r) c.in-Some.is))
+    let longer : length c.in_ok-below.below ≡ length c.args.path.now + 1 = ap length below ∙ length-append c.args.path.now (c.args.name.now ∷ []) in (
+      omega (arith, longer, c.in_ok-below.ensures.bounded),
+      subst (λ (p : Path). (r : Path) → get_in c.args.nodes.now.entries (p ++ r) ≡ standing c.args.self.now.repo.now c.args.self.now.base p c.in-Some.old r) (sym below)
+          (λ r. ap (get_in c.args.nodes.now.entries) (append_assoc c.args.path.now (c.args.name.now ∷ []) r)
+          ∙ c.requires.before r
+          ∙ ap (λ o. standing_at c.args.self.now.repo.now c.args.self.now.base c.args.path.now c.args.name.now o r) c.in-Some.is),
+    )
 
 -- ---- the entries of a directory
 
@@ -46,11 +49,13 @@ update_entries-loop-name-init t c =
 pub update_entries-update_entry-requires : goal.update_entries-update_entry-requires
 update_entries-update_entry-requires t c =
     let step : c.loop-name.name-iterator ≡ (c.in-Some.name.now, c.in-Some.child.now) ∷ c.next.new.self = c.in-Some.ensures.steps in
-    let inv = rw step at c.loop-name.invariant in
-    (omega arith, λ r.
-      update_waits c.args.self.now.repo.now c.args.self.now.base c.args.self.now.target c.args.path.now c.args.from.now c.args.to.now (get_in c.args.nodes.now.entries) c.requires.before
-        (c.in-Some.name.now, c.in-Some.child.now) c.next.new.self (get_in c.loop-name.nodes.entries) inv.0 inv.1 r
-      ∙ sym (ap (λ o. standing_at c.args.self.now.repo.now c.args.self.now.base c.args.path.now c.in-Some.name.now o r) c.kept-before.ensures))
+    let inv = rw step at c.loop-name.invariant in (
+      omega arith,
+      λ r.
+          update_waits c.args.self.now.repo.now c.args.self.now.base c.args.self.now.target c.args.path.now c.args.from.now c.args.to.now (get_in c.args.nodes.now.entries) c.requires.before
+          (c.in-Some.name.now, c.in-Some.child.now) c.next.new.self (get_in c.loop-name.nodes.entries) inv.0 inv.1 r
+          ∙ sym (ap (λ o. standing_at c.args.self.now.repo.now c.args.self.now.base c.args.path.now c.in-Some.name.now o r) c.kept-before.ensures),
+    )
 
 pub update_entries-loop-name-preserved : goal.update_entries-loop-name-preserved
 update_entries-loop-name-preserved t c =
@@ -83,10 +88,13 @@ update_directory-returns t c =
     c.in_ok-put_node.ensures
 
 pub update_node-update_directory-requires : goal.update_node-update_directory-requires
-update_node-update_directory-requires t c =
-    (omega arith,
-     (below_node c.args.self.now.repo.now c.args.self.now.base c.args.path.now c.args.from c.in-Some-Some.before.now (get_in c.args.nodes.now.entries) c.requires.before c.in-Some-Some.ensures.listing,
-     c.in-Some-Some.ensures'.listing))
+update_node-update_directory-requires t c = (
+  omega arith,
+  (
+    below_node c.args.self.now.repo.now c.args.self.now.base c.args.path.now c.args.from c.in-Some-Some.before.now (get_in c.args.nodes.now.entries) c.requires.before c.in-Some-Some.ensures.listing,
+    c.in-Some-Some.ensures'.listing,
+  ),
+)
 
 pub update_node-returns-in_ok-put_node-in-None-None : goal.update_node-returns-in_ok-put_node-in-None-None
 update_node-returns-in_ok-put_node-in-None-None t c =

@@ -18,9 +18,11 @@ delete-requires c =
     let below : c.in_ok-below.below ≡ c.args.path.now ++ c.in-Some.name.now ∷ [] = c.in_ok-below.ensures.path in
     let step : c.loop-name.name-iterator ≡ (c.in-Some.name.now, c.in-Some.old.now) ∷ c.next.new.self = c.in-Some.ensures.steps in
     let inv = rw step at c.loop-name.invariant in
-    record { only = subst (λ (p : Path). OnlyBelow c.args.self.now.repo.now p c.in-Some.old.now (get_in c.loop-name.nodes.entries)) (sym below)
-      (gone_only c.args.self.now.repo.now c.args.self.now.base c.args.path.now c.args.from.now c.args.to.now (get_in c.args.nodes.now.entries) c.requires.before
-        (c.in-Some.name.now, c.in-Some.old.now) c.next.new.self (get_in c.loop-name.nodes.entries) inv.0 inv.1) }
+    record {
+      only = subst (λ (p : Path). OnlyBelow c.args.self.now.repo.now p c.in-Some.old.now (get_in c.loop-name.nodes.entries)) (sym below)
+          (gone_only c.args.self.now.repo.now c.args.self.now.base c.args.path.now c.args.from.now c.args.to.now (get_in c.args.nodes.now.entries) c.requires.before
+          (c.in-Some.name.now, c.in-Some.old.now) c.next.new.self (get_in c.loop-name.nodes.entries) inv.0 inv.1);
+    }
 
 pub loop-name-preserved-then-not-stays : goal.loop-name-preserved-then-not-stays
 loop-name-preserved-then-not-stays c =

@@ -12,8 +12,10 @@ update_node-requires c =
     let root : c.root-root.result ≡ [] = c.root-root.ensures in
     let base : Some c.in-Some.base ≡ directory_revision (get_in c.args.self.now []) = c.in-Some.ensures ∙ ap (λ (q : Path). directory_revision (get_in c.args.self.now q)) root in
     let from : Some c.in-Some-lookup.from ≡ look c.args.repo.now c.in-Some.base [] = c.in-Some-lookup.ensures.value ∙ ap (look c.args.repo.now c.in-Some.base) root in
-    record { before = subst (λ (q : Path). (r : Path) → get_in c.self.inside.nodes.entries (q ++ r) ≡ standing c.args.repo.now c.in-Some.base q c.in-Some-lookup.from r) (sym root)
-      (λ r. ap (λ (l : List (Path × BaseNode)). get_in l r) c.self.view_is ∙ plain_standing c.args.repo.now (get_in c.args.self.now) c.requires.plain c.in-Some.base c.in-Some-lookup.from base from r) }
+    record {
+      before = subst (λ (q : Path). (r : Path) → get_in c.self.inside.nodes.entries (q ++ r) ≡ standing c.args.repo.now c.in-Some.base q c.in-Some-lookup.from r) (sym root)
+          (λ r. ap (λ (l : List (Path × BaseNode)). get_in l r) c.self.view_is ∙ plain_standing c.args.repo.now (get_in c.args.self.now) c.requires.plain c.in-Some.base c.in-Some-lookup.from base from r);
+    }
 
 pub returns-in-Ok : goal.returns-in-Ok
 returns-in-Ok c =
