@@ -1,4 +1,5 @@
 pub mod PrintedWords
 pub mod PathOrder
-pub mod OneMore
+pub mod Places
 pub mod Listings
+pub mod OrderRows

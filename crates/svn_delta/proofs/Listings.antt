@@ -24,7 +24,7 @@ use Rattle.std.specs.Cmp.Lexicographic.{pointwise}
 use Rattle.indexmap.specs.IndexMap.{insert_entry}
 use Rattle.svn_delta.specs.ReportOrder.{IsKept, IsNext, IsPrevious}
 use Rattle.svn_delta.proofs.PathOrder.{same_path, path_eq-same, below_after, within_between}
-use Rattle.svn_delta.proofs.OneMore.{any_from_get, none_from_get, get_cases, or_false}
+use Rattle.svn_delta.proofs.Places.{get_cases}
 
 path_eq-flip : (p q : Path) → path_eq p q ≡ path_eq q p
 path_eq-flip p q = by (path_eq p q) refl (path_eq q p) refl

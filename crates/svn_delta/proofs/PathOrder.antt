@@ -46,15 +46,6 @@ within_short (m ∷ p) (n ∷ q) h = by (bytes_eq m n) (within_short p q (omega 
     by true e = e
     by false e = refl
 
-pub parent_last : (p : Path) (name : List ℕ) → parent (p ++ name ∷ []) ≡ p
-parent_last [] name = refl
-parent_last (m ∷ []) name = refl
-parent_last (m ∷ n ∷ p) name = ap (λ (q : Path). m ∷ q) (parent_last (n ∷ p) name)
-
-pub root_last : (p : Path) (name : List ℕ) → is_root (p ++ name ∷ []) ≡ false
-root_last [] name = refl
-root_last (m ∷ p) name = refl
-
 -- ---- in path order, what is beneath a path comes directly after it
 
 pub below_after : (p q : Path) → is_within p q ≡ true → path_eq p q ≡ false → path_cmp p q ≡ Less

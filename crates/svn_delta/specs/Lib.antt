@@ -6,5 +6,4 @@ pub mod Words
 pub mod Reports
 pub mod ReportOrder
 pub mod Lines
-pub mod Reports
 pub mod Steps

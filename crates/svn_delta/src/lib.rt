@@ -8,7 +8,6 @@ mod entry;
 mod fault;
 mod lines;
 mod listing;
-mod open_edit;
 mod recorder;
 mod report;
 mod token;
@@ -24,3 +23,6 @@ pub use recorder::Recorder;
 pub use report::{Report, Reporter};
 pub use token::Token;
 pub use words::{ChecksumWord, PathWord, Word};
+
+#[cfg(test)]
+mod tests;

@@ -51,7 +51,14 @@ impl fmt::Display for Call {
                 parent,
                 base,
                 token,
-            } => write!(f, "open_directory {} {} {} {}", PathWord(path), *parent, base.0, *token),
+            } => write!(
+                f,
+                "open_directory {} {} {} {}",
+                PathWord(path),
+                *parent,
+                base.0,
+                *token
+            ),
             Call::ChangeDirProp { token, name, value } => {
                 write_change("change_dir_prop", *token, name, value, f)
             }
@@ -66,7 +73,14 @@ impl fmt::Display for Call {
                 parent,
                 base,
                 token,
-            } => write!(f, "open_file {} {} {} {}", PathWord(path), *parent, base.0, *token),
+            } => write!(
+                f,
+                "open_file {} {} {} {}",
+                PathWord(path),
+                *parent,
+                base.0,
+                *token
+            ),
             Call::ChangeFileProp { token, name, value } => {
                 write_change("change_file_prop", *token, name, value, f)
             }
@@ -76,7 +90,13 @@ impl fmt::Display for Call {
                 text,
             } => {
                 let text = Word(text.as_slice());
-                write!(f, "apply_text {} {} {}", *token, ChecksumWord(*base_md5), text)
+                write!(
+                    f,
+                    "apply_text {} {} {}",
+                    *token,
+                    ChecksumWord(*base_md5),
+                    text
+                )
             }
             Call::CloseFile { token, text_md5 } => {
                 write!(f, "close_file {} {}", *token, ChecksumWord(*text_md5))

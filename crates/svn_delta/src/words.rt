@@ -92,11 +92,7 @@ fn write_slashed<W: fmt::Write>(names: &[Name], f: &mut fmt::Formatter<W>) -> fm
     Ok(())
 }
 
-fn write_names<W: fmt::Write>(
-    first: &Name,
-    rest: &[Name],
-    f: &mut fmt::Formatter<W>,
-) -> fmt::Result
+fn write_names<W: fmt::Write>(first: &Name, rest: &[Name], f: &mut fmt::Formatter<W>) -> fmt::Result
     ensures { DisplaysOnOk W.write_str_gives f.old result (Some (path_word (first.now ∷ rest.now))) f.new }
 {
     write_escaped(first.as_str().as_bytes(), f)?;

@@ -1,13 +1,13 @@
 -- What a report says of each path, and the node that a client has there.
 --     reported r p      the nearest entry at or above a path, and its repository path
 --     source h s, source_at h r p      the node that the client has there
-use Rattle.std.specs.Prelude.{◌≡◌, ℕ, Bool, true, false, ◌&&◌, ◌||◌, not, List, [], ◌∷◌, Option, Some, None, is_some, if◌then◌else◌}
+use Rattle.std.specs.Prelude.{ℕ, Bool, true, false, ◌&&◌, ◌||◌, not, List, [], ◌∷◌, Option, Some, None, is_some, if◌then◌else◌}
 use Rattle.std.specs.Option.{option_or}
 use Rattle.svn_types.specs.Names.{Path}
 use Rattle.svn_types.specs.Paths.{child}
 use Rattle.svn_repo.specs.History.{History, look}
 use Rattle.svn_delta.specs.declared.entry.ReportEntry.{ReportEntry}
-use Rattle.svn_delta.specs.declared.entry.ReportEntry.TheVariants.{SetPath, LinkPath, DeletePath}
+use Rattle.svn_delta.specs.declared.entry.ReportEntry.TheVariants.{SetPath, LinkPath}
 use Rattle.svn_delta.specs.Reports.{ReportView, entry_at}
 
 -- ---- entries

@@ -6,3 +6,6 @@ mod fault;
 
 pub use drive_end::DriveEnd;
 pub use fault::{DriveFault, ReportFault};
+
+#[cfg(test)]
+mod tests;

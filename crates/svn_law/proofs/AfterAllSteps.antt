@@ -198,7 +198,6 @@ module _ (d : Request) (w : WorkingCopy) (setting : Setting d w) where
             same_props = by_complete c refl empty (λ z. tr.2.same_props z ∙ ap (props_of h) one) ∙ sym (ap (source_props d p) m.1);
           })
         where
-
           by_complete : (b : Bool) → c ≡ b → not b ≡ starts_empty_at d p → (b ≡ true → ps ≡ props_of h m.0) → cond b ps [] ≡ cond (starts_empty_at d p) [] (props_of h m.0)
           by_complete true z u v = v refl ∙ ap (λ b. cond b [] (props_of h m.0)) u
           by_complete false z u v = ap (λ b. cond b [] (props_of h m.0)) u

@@ -321,6 +321,7 @@ module _ (d : Request) (w : WorkingCopy) (setting : Setting d w) where
       let dir = setting.shape.parents p name (λ q. true≢false (sym present ∙ ap is_present q)) in
       let s = source_from_copy p (w p) refl (setting.true_of p) (dir_present (w p) dir) in
       (s.0, s.1, s.2 dir)
+
   related_source : (m : ℕ) (o : Option ℕ) → are_related h (Some m) o ≡ true → (n : ℕ) × (o ≡ Some n) × (line_of h m ≡ line_of h n)
   related_source m None q = absurd (true≢false (sym q))
   related_source m (Some n) q = (n, refl, eqb-true (line_of h m) (line_of h n) q)

@@ -133,9 +133,12 @@ touched_course d p n File z e =
 
 new_body : (d : Request) (n : ℕ) (k : Kind) → (inner : List Action) × (new_actions d n k ≡ Add k ∷ inner) × Body k inner
 new_body d n Directory = (_, refl, changes_first Directory (changes_between [] (props_of d.history n)) (Close Directory None ∷ []) (only_close Directory None))
-new_body d n File =
-    (_, refl, changes_first File (changes_between [] (props_of d.history n)) (Text None (text_of d.history n) ∷ Close File (Some (d.checksum (text_of d.history n))) ∷ [])
-    (text_and_close None (text_of d.history n) (Some (d.checksum (text_of d.history n)))))
+new_body d n File = (
+  _,
+  refl,
+  changes_first File (changes_between [] (props_of d.history n)) (Text None (text_of d.history n) ∷ Close File (Some (d.checksum (text_of d.history n))) ∷ [])
+      (text_and_close None (text_of d.history n) (Some (d.checksum (text_of d.history n)))),
+)
 
 -- the actions of each path have a course
 pub course_of : (d : Request) (p : Path) → Course d p (path_actions d p)

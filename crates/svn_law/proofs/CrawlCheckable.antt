@@ -45,7 +45,7 @@ all_in (e ∷ es) h =
     (found_first e es, all_in_longer e es es (absent_after e es h) (all_in es (rest_in_order e es h)))
 
 -- a node that can be looked up is in a revision that is there
-revision_there : (h : History) (r : ℕ) (p : Path) (n : ℕ) → look h r p ≡ Some n → nat_lt r (length h.roots) ≡ true
+pub revision_there : (h : History) (r : ℕ) (p : Path) (n : ℕ) → look h r p ≡ Some n → nat_lt r (length h.roots) ≡ true
 revision_there h r p n e = lt-ltb r (length h.roots) (there h.roots r (by (slice_get h.roots r) e))
   where
     by : (o : Option ℕ) → option_and_then (λ m. walk (node_at h) m p) o ≡ Some n → is_some o ≡ true

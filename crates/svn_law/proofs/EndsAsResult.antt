@@ -23,6 +23,7 @@ use Rattle.svn_wc.specs.declared.base_node.BaseNode.TheVariants.{File as FileNod
 use Rattle.svn_wc.specs.Nodes.{WorkingCopy, get_in, is_present, node_path, base_node_by, base_node}
 use Rattle.svn_wc.specs.Effects.{settled, settled_path, effect, after, after_from}
 use Rattle.svn_law.specs.Result.{result}
+use Rattle.svn_law.proofs.Targets.{related_of}
 use Rattle.svn_law.specs.Laws.{IsTrueCopy, request_of, HasTarget}
 use Rattle.svn_law.proofs.Tests.{or_false, or_first, not_false}
 use Rattle.svn_law.proofs.Classes.{switched_to}
@@ -264,5 +265,5 @@ setting_of h nodes target mode checksum t has = record {
   shape = t.shape;
   true_of = t.true_of;
   describes = (crawl_describes_holds h nodes t).1;
-  has_target = has;
+  has_target = related_of (request_of h nodes target mode checksum) has;
 }

@@ -7,6 +7,7 @@ pub mod PropChanges
 pub mod CrawlEntries
 pub mod CrawlDescribes
 pub mod CrawlCheckable
+pub mod Targets
 pub mod Classes
 pub mod Gone
 pub mod OneDrive
@@ -18,6 +19,7 @@ pub mod Tokens
 pub mod AfterCalls
 pub mod AfterAllSteps
 pub mod EndsAsResult
+pub mod NewPaths
 pub mod NoEditFault
 pub mod Courses
 pub mod StepOrder
@@ -25,6 +27,7 @@ pub mod CallTests
 pub mod TokenNumbers
 pub mod OpenDirectories
 pub mod CurrentFile
+pub mod OrderTests
 pub mod NoOrderFault
 pub mod Composition
 pub mod SortedSteps

@@ -87,9 +87,10 @@ module _ (d : Request) (late : Bool) (done : List Step) (s : Step) (rest : List 
 
       none : list_any (has (is_close_of Directory) r) (s ∷ rest) ≡ false
       none =
-          none_any (has (is_close_of Directory) r) (s ∷ rest)
-          (not_here s (ap is_gt (tied_itself keys_total (key_of d late s))),
-          all_map (λ u. Before d late s u) (λ u. has (is_close_of Directory) r u ≡ false) (λ u b. not_here u b.0) rest (after_step d late done s rest drive))
+          none_any (has (is_close_of Directory) r) (s ∷ rest) (
+            not_here s (ap is_gt (tied_itself keys_total (key_of d late s))),
+            all_map (λ u. Before d late s u) (λ u. has (is_close_of Directory) r u ≡ false) (λ u b. not_here u b.0) rest (after_step d late done s rest drive),
+          )
 
   -- the directory above a step that isn't late hasn't been closed
   pub open_above : (q : Path) (name : Name) → s.path ≡ child q name → is_main s.action ≡ true → (u : Step) → Before d late u s → has (is_close_of Directory) q u ≡ false

@@ -25,6 +25,7 @@ use Rattle.svn_wc.specs.Crawl.{crawl}
 use Rattle.svn_law.specs.Describes.{Describes}
 use Rattle.svn_wc.specs.Effects.{after}
 use Rattle.svn_law.specs.Result.{result}
+use Rattle.svn_law.proofs.Targets.{no_target_fault}
 use Rattle.svn_law.specs.Laws.{IsTrueCopy, request_of, HasTarget, resuming}
 use Rattle.svn_law.proofs.Children.{path_ind, follow-here}
 use Rattle.svn_law.proofs.CrawlCheckable.{crawl_describes_holds}
@@ -271,7 +272,7 @@ same_target_path d w setting late r v where_now describes = by d.mode refl
     by (SwitchTo root) m p = switched_to (reported_again d r) root m p ∙ sym (switched_to d root m p)
 
 -- and its root is the target's
-pub same_root : (d : Request) (w : WorkingCopy) → Setting d w → (late : Bool) (r : ReportView) (v : WorkingCopy) → Reached d w late v → Describes d.history r v → HasTarget (reported_again d r)
+pub same_root : (d : Request) (w : WorkingCopy) → Setting d w → (late : Bool) (r : ReportView) (v : WorkingCopy) → Reached d w late v → Describes d.history r v → are_related d.history (source_node (reported_again d r) []) (target_node (reported_again d r) []) ≡ true
 same_root d w setting late r v where_now describes =
     ap (λ o. are_related d.history o (target_node (reported_again d r) [])) (described_source d.history r v describes [] (present where_now))
     ∙ ap (λ q. are_related d.history (look d.history (node_revision (v [])) (node_path (v []))) (look d.history d.target q)) (same_target_path d w setting late r v where_now describes [])
@@ -318,7 +319,7 @@ module _ (h : History) (nodes stopped : List (Path × BaseNode)) (target : ℕ) 
 
   -- it has a target
   pub stopped_target : HasTarget (request_of h stopped target mode checksum)
-  stopped_target = same_root d (get_in nodes) setting late (crawl stopped) left where_left stopped_described
+  stopped_target = no_target_fault (request_of h stopped target mode checksum) (same_root d (get_in nodes) setting late (crawl stopped) left where_left stopped_described)
 
   -- and its result is the same
   pub stopped_result : (p : Path) → result (request_of h stopped target mode checksum) p ≡ result d p

@@ -1,12 +1,14 @@
 -- The laws of the definitions, as statements. Their proofs are the contracts of functions with empty bodies.
-use Rattle.std.specs.Prelude.{◌≡◌, ℕ, Bool, true, List, [], take}
+use Rattle.std.specs.Prelude.{◌≡◌, ℕ, Bool, true, ◌||◌, List, None, take}
 use Rattle.svn_types.specs.Names.{Path}
+use Rattle.svn_types.specs.Paths.{child}
 use Rattle.svn_repo.specs.History.{History}
-use Rattle.svn_repo.specs.Readings.{IsHistory, are_related}
+use Rattle.svn_repo.specs.Readings.{IsHistory}
 use Rattle.svn_delta.specs.declared.call.Call.{Call}
 use Rattle.svn_delta.specs.Steps.{Mode}
-use Rattle.svn_drive.specs.Checks.{IsCheckable}
-use Rattle.svn_drive.specs.Follow.{Request, target_path, source_node, target_node}
+use Rattle.svn_drive.specs.Checks.{IsCheckable, target_fault}
+use Rattle.svn_drive.specs.Follow.{Request, target_path}
+use Rattle.svn_drive.specs.Steps.{is_touched, is_new}
 use Rattle.svn_drive.specs.Drive.{IsDrive}
 use Rattle.svn_wc.specs.declared.base_node.BaseNode.{BaseNode}
 use Rattle.svn_wc.specs.Nodes.{WorkingCopy, IsWorkingCopy, get_in, InPathOrder, IsTrueOf}
@@ -26,9 +28,9 @@ pub record IsTrueCopy (h : History) (nodes : List (Path × BaseNode)) : Type 0 w
 abbrev pub request_of : History → List (Path × BaseNode) → ℕ → Mode → (List ℕ → List ℕ) → Request
 request_of h nodes target mode checksum = record { history = h; report = crawl nodes; target = target; mode = mode; checksum = checksum }
 
--- the target revision is there, and its root is the copy's
+-- the target revision is there, and the copy's root is in it
 abbrev pub HasTarget : Request → Type 0
-HasTarget d = are_related d.history (source_node d []) (target_node d []) ≡ true
+HasTarget d = target_fault d ≡ None
 
 -- a true copy's crawl is checkable and describes it
 abbrev pub crawl_describes : Type 0
@@ -46,6 +48,16 @@ a_drive =
     → IsTrueCopy h nodes
     → HasTarget (request_of h nodes target mode checksum)
     → (calls : List Call) × IsDrive (request_of h nodes target mode checksum) late calls
+
+-- what is new stands below what is touched or new, so the definition of a new path needn't say it
+abbrev pub new_below : Type 0
+new_below =
+    (h : History) (nodes : List (Path × BaseNode)) (target : ℕ) (mode : Mode) (checksum : List ℕ → List ℕ)
+    → IsTrueCopy h nodes
+    → HasTarget (request_of h nodes target mode checksum)
+    → (p : Path) (name : List ℕ)
+    → is_new (request_of h nodes target mode checksum) (child p name) ≡ true
+    → (is_touched (request_of h nodes target mode checksum) p || is_new (request_of h nodes target mode checksum) p) ≡ true
 
 -- no call of the drive is refused, and after all of them the copy is the result
 pub record Composes (d : Request) (w : WorkingCopy) (calls : List Call) : Type 0 where

@@ -2,7 +2,7 @@
 //! the function has the law.
 #![tactic(auto)]
 
-ghost use Rattle.svn_law.specs.Laws.{a_drive, composition, crawl_describes, one_drive, prefixes_true, resuming};
+ghost use Rattle.svn_law.specs.Laws.{a_drive, composition, crawl_describes, new_below, one_drive, prefixes_true, resuming};
 
 /// What a true working copy reports can be served, and says what the copy has.
 pub fn crawl_says_what_stands()
@@ -12,6 +12,11 @@ pub fn crawl_says_what_stands()
 /// A true working copy whose root is in the target has a drive.
 pub fn drive_exists()
     ensures { a_drive }
+{}
+
+/// In a drive of a true working copy what is added stands in a directory that is opened or added.
+pub fn new_paths_have_parents()
+    ensures { new_below }
 {}
 
 /// There is at most one drive.

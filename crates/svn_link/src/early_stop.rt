@@ -4,8 +4,8 @@ ghost use Rattle.svn_link.specs.Notice.{IsNoneOrSame};
 
 use crate::fault::LinkFault;
 use crate::teller::Teller;
-use crate::watcher::{Watcher, number_in};
-use crate::word::{Agrees, Cell, Moved, Roles};
+use crate::watcher::Watcher;
+use crate::word::{Agrees, Cell, Moved, Roles, number_in};
 use std::alloc::Global;
 use std::sync::{Arc, Wait};
 

@@ -48,8 +48,9 @@ impl Inbox {
         ensures link { self.new.link ≡ self.old.link }
     {
         let call = pop(rt, &self.receiver, &mut self.pass);
+        let over = call.is_last();
         self.count += 1;
-        self.over = call.is_last();
+        self.over = over;
         call
     }
 

@@ -6,10 +6,10 @@
 //! The [`Teller`] tells the number of the first refused call, and the [`Watcher`] sees it, so that the driver may stop.
 //! A number that it sees is the number that was told.
 //!
-//! `send`, `take`, `refused`, `seen` and `settle_notice` may wait for the other thread. All else returns at once. Memory
-//! is taken by `link` and `notice` alone.
+//! `send`, `take`, `refused`, `seen` and `settle_notice` may wait for the other thread, and no other call. `link` and
+//! `notice` alone take memory.
 //!
-//! The two ends of a link belong together until one of them is over. Who drops one of them earlier leaves the other to
+//! Both ends of a link are kept until the Inbox is over. Where one of them is dropped earlier, a call of the other may
 //! wait for ever, as its type says.
 #![tactic(auto)]
 

@@ -1,8 +1,8 @@
 //! The end of a notice that sees.
 ghost use Rattle.std.specs.Prelude.{◌≡◌};
-ghost use Rattle.svn_link.specs.Notice.{number_of, IsNoneOrSame};
+ghost use Rattle.svn_link.specs.Notice.{IsNoneOrSame};
 
-use crate::word::{Cell, Pass, Sees};
+use crate::word::{Cell, Pass, Sees, number_in};
 use std::fmt;
 use std::marker::Model;
 use std::sync::{Arc, Wait};
@@ -47,11 +47,4 @@ impl fmt::Debug for Watcher {
     fn fmt<W: fmt::Write>(&self, f: &mut fmt::Formatter<W>) -> fmt::Result {
         f.debug_struct("Watcher").finish_non_exhaustive()
     }
-}
-
-// The number that a word stands for.
-pub(crate) fn number_in(word: u64) -> Option<u64>
-    ensures { result ≡ number_of word }
-{
-    if word == 0 { None } else { Some(word) }
 }

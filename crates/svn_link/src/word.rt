@@ -1,4 +1,6 @@
 //! The rule of the notice, and what each of its steps tells the thread that makes it. The word is 0 or the number told.
+ghost use Rattle.std.specs.Prelude.{◌≡◌};
+ghost use Rattle.svn_link.specs.Notice.{number_of};
 
 use atomic_table::{Join, Split};
 use crossbeam_utils::atomic::seq_cell::RuledSeqCell;
@@ -86,3 +88,10 @@ impl Outcome<[u64; 1], News> for Agrees {
 pub type Cell = RuledSeqCell<[u64; 1], News, ToldOnce, 1>;
 
 pub type Pass = crossbeam_utils::atomic::seq_cell::Pass<[u64; 1], News>;
+
+// The number that a word stands for.
+pub(crate) fn number_in(word: u64) -> Option<u64>
+    ensures { result ≡ number_of word }
+{
+    if word == 0 { None } else { Some(word) }
+}

@@ -1,5 +1,5 @@
 -- The pairs of parents and children stay true of the pools.
-use Rattle.std.proofs.Common.{◌≡◌, ◌≢◌, ℕ, suc, ◌+◌, ◌<◌, ◌≤◌, Bool, true, false, List, [], Option, None, Some, IsSome, is_some, refl, sym, ap, subst, ◌∙◌, inl, inr, arith}
+use Rattle.std.proofs.Common.{◌≡◌, ◌≢◌, ℕ, ◌<◌, Bool, true, false, [], Option, None, Some, IsSome, is_some, refl, sym, ap, subst, ◌∙◌, inl, inr, arith}
 use Rattle.std.proofs.lemmas.Bool.{cases_eq}
 use Rattle.std.specs.BTreeMap.{BTreeMap, get, Updates, IsOrdered}
 use Rattle.std.specs.BTreeSet as set
@@ -27,6 +27,10 @@ no_edge pools children linked s fresh q =
 pub gone_is_none : (o : Option Entry) → (IsSome o → ⊥) → o ≡ None
 gone_is_none None h = refl
 gone_is_none (Some e) h = absurd (h refl)
+
+pub gone_from_test : (o : Option Entry) → is_some o ≡ false → o ≡ None
+gone_from_test None h = refl
+gone_from_test (Some e) h = let no : ⊥ = cc in absurd no
 
 pub none_is_gone : (o : Option Entry) → o ≡ None → IsSome o → ⊥
 none_is_gone o e live = let no : false ≡ true = sym (ap is_some e) ∙ live in let none : ⊥ = cc in none

@@ -1,5 +1,5 @@
 -- Why a call on the tree is refused, want of memory aside, in the order of the tests.
-use Rattle.std.specs.Prelude.{ℕ, Bool, nat_le, nat_eq, if◌then◌else◌, Option, None, Some}
+use Rattle.std.specs.Prelude.{ℕ, nat_le, nat_eq, if◌then◌else◌, Option, None, Some}
 use Rattle.svn_pool.specs.Pools.{Entry, Pools, pool_at, store_of}
 use Rattle.svn_pool.specs.Stores.{string_fault}
 use Rattle.svn_pool.specs.declared.fault.PoolFault.{PoolFault}
@@ -17,6 +17,9 @@ create_fault t p = fault_if_live (pool_at t p) (λ _. if nat_le 1844674407370955
 -- the string is too long, or no place or no block is left
 abbrev pub push_fault : Pools → ℕ → ℕ → Option PoolFault
 push_fault t s n = fault_if_live (pool_at t s) (λ e. string_fault (store_of t) e.strings n)
+
+abbrev pub read_fault : Pools → ℕ → Option PoolFault
+read_fault t s = fault_if_live (pool_at t s) (λ _. None)
 
 abbrev pub clear_fault : Pools → ℕ → Option PoolFault
 clear_fault t s = fault_if_live (pool_at t s) (λ _. None)

@@ -1,5 +1,5 @@
 -- The blocks that are in use and those that are spare.
-use Rattle.std.specs.Prelude.{◌≡◌, ℕ, ◌+◌, ◌-◌, ◌≤◌, Bool, false, true, nat_le, nat_eq, if◌then◌else◌, ◌&&◌, not, Option, None, Some, List, length}
+use Rattle.std.specs.Prelude.{ℕ, ◌+◌, ◌-◌, Bool, true, nat_le, nat_eq, if◌then◌else◌, ◌&&◌, not, Option, None, Some, List, length}
 use Rattle.svn_pool.specs.Layout.{layout}
 use Rattle.svn_pool.specs.declared.fault.PoolFault.{PoolFault}
 use Rattle.svn_pool.specs.declared.fault.PoolFault.TheVariants.{Full, TooLong}

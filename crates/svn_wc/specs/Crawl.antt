@@ -1,13 +1,12 @@
 -- What a working copy reports.
 --     crawl nodes      the report of what the copy has
-use Rattle.std.specs.Prelude.{ℕ, Bool, true, false, ◌||◌, not, List, [], ◌∷◌, ◌++◌, nat_eq, Option, Some, None, option_map, if◌then◌else◌, filter_map}
+use Rattle.std.specs.Prelude.{Bool, ◌||◌, not, List, [], ◌++◌, nat_eq, Option, Some, None, option_map, if◌then◌else◌, filter_map}
 use Rattle.svn_types.specs.Names.{Path}
 use Rattle.svn_types.specs.Paths.{path_eq, parent, is_root, last_name}
 use Rattle.svn_delta.specs.declared.entry.ReportEntry.{ReportEntry}
 use Rattle.svn_delta.specs.declared.entry.ReportEntry.TheVariants.{SetPath, LinkPath, DeletePath}
 use Rattle.svn_delta.specs.Reports.{ReportView}
 use Rattle.svn_wc.specs.declared.base_node.BaseNode.{BaseNode}
-use Rattle.svn_wc.specs.declared.base_node.BaseNode.TheVariants.{File as FileNode, Dir as DirNode, NotPresent}
 use Rattle.svn_wc.specs.Nodes.{get_in, is_incomplete, is_not_present, node_revision, node_path}
 
 -- the repository path isn't the parent's joined with the name

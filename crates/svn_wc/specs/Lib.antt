@@ -3,3 +3,4 @@ pub mod Nodes
 pub mod Crawl
 pub mod Builders
 pub mod Effects
+pub mod Standing

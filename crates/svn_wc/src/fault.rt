@@ -1,7 +1,9 @@
 //! Why a working copy refuses.
 ghost use Rattle.std.specs.Prelude.{◌≡◌};
 ghost use Rattle.svn_wc.specs.FaultNumbers.{wc_fault_number};
+ghost use Rattle.svn_wc.specs.declared.fault.WcFault.TheVariants.{Memory};
 
+use std::alloc::AllocError;
 use thiserror::Error;
 
 /// Why a working copy can't be made or changed so. A refusal leaves it as it was.
@@ -48,5 +50,13 @@ impl WcFault {
             WcFault::Twice => 7,
             WcFault::BadRoot => 8,
         }
+    }
+}
+
+impl From<AllocError> for WcFault {
+    ghost from_gives = { λ _ e. e ≡ Memory };
+
+    fn from(_error: AllocError) -> WcFault {
+        WcFault::Memory
     }
 }

@@ -3,6 +3,11 @@
 
 mod base_node;
 mod fault;
+mod fill;
+mod plain;
+mod walk;
+mod working_copy;
 
 pub use base_node::BaseNode;
 pub use fault::WcFault;
+pub use working_copy::WorkingCopy;

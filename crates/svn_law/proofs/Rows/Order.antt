@@ -8,7 +8,7 @@ use Rattle.svn_delta.specs.declared.fault.OrderFault.TheVariants.{TargetFirst, U
 use Rattle.svn_delta.specs.Order.{order_fault}
 use Rattle.svn_delta.specs.declared.fault.EditFault.TheVariants.{TextChecksum}
 use Rattle.svn_law.proofs.Rows.Setting.{a, b, f, g, abc, at, at2, refused}
-use Rattle.svn_law.proofs.Rows.Plain.{k_copy}
+use Rattle.svn_law.proofs.Rows.Plain.{k_copy, k_calls}
 
 abbrev begun : List Call
 begun = SetTargetRevision 1 ∷ OpenRoot 0 0 ∷ []
@@ -92,3 +92,11 @@ without_close = refl
 
 without_root_close : order_fault (SetTargetRevision 2 ∷ OpenRoot 1 0 ∷ OpenFile (at f) 0 1 1 ∷ ApplyText 1 (Some a) abc ∷ CloseFile 1 (Some abc) ∷ []) CloseEdit ≡ Some RootNotClosed
 without_root_close = refl
+
+-- the seven calls with one given twice: why the second is refused
+abbrev second_faults : List Call → List Call → List (Option OrderFault)
+second_faults earlier [] = []
+second_faults earlier (c ∷ calls) = order_fault (earlier ++ c ∷ []) c ∷ second_faults (earlier ++ c ∷ []) calls
+
+given_twice : second_faults [] k_calls ≡ Some TargetFirst ∷ Some TokenOrder ∷ Some TokenOrder ∷ Some TextAgain ∷ Some ClosedToken ∷ Some ClosedToken ∷ Some Ended ∷ []
+given_twice = refl

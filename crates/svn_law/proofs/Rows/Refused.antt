@@ -1,22 +1,25 @@
 -- Calls that a copy refuses, and calls whose later ones count.
-use Rattle.std.specs.Prelude.{◌≡◌, List, [], ◌∷◌, ◌++◌, Option, Some, None, refl}
+use Rattle.std.specs.Prelude.{◌≡◌, ℕ, List, [], ◌∷◌, ◌++◌, Option, Some, None, refl}
 use Rattle.svn_delta.specs.declared.call.Call.{Call}
 use Rattle.svn_delta.specs.declared.call.Call.TheVariants.{SetTargetRevision, OpenRoot, DeleteEntry, OpenDirectory, AddFile, OpenFile, ChangeFileProp, ApplyText, CloseFile}
 use Rattle.svn_delta.specs.declared.fault.EditFault.{EditFault}
-use Rattle.svn_delta.specs.declared.fault.EditFault.TheVariants.{NoEntry, WrongKind, WrongRevision, BaseChecksum, TextChecksum, EntryExists}
-use Rattle.svn_delta.specs.Steps.{Update}
+use Rattle.svn_delta.specs.declared.fault.EditFault.TheVariants.{NoEntry, WrongKind, WrongRevision, BaseChecksum, TextChecksum, EntryExists, TooDeep}
+use Rattle.svn_delta.specs.Steps.{Mode, Update, SwitchTo}
 use Rattle.svn_wc.specs.declared.base_node.BaseNode.TheVariants.{File as FileNode}
 use Rattle.svn_wc.specs.Nodes.{WorkingCopy, get_in, listed}
 use Rattle.svn_wc.specs.Effects.{after, refusal}
-use Rattle.svn_law.proofs.Rows.Setting.{a, f, g, abc, at, sum, stopped, whole, partial, plain}
+use Rattle.svn_law.proofs.Rows.Setting.{a, f, g, deep, abc, at, sum, stopped, whole, partial, plain}
 use Rattle.svn_law.proofs.Rows.Plain.{k_copy, k_paths, k_calls}
 
 abbrev begun : List Call
 begun = SetTargetRevision 2 ∷ OpenRoot 1 0 ∷ []
 
 -- the refusal of the call on the copy, after these calls
+abbrev answer_in : Mode → WorkingCopy → List Call → Call → Option EditFault
+answer_in mode w calls c = refusal sum mode calls c (after mode w calls)
+
 abbrev answer : WorkingCopy → List Call → Call → Option EditFault
-answer w calls c = refusal sum Update calls c (after Update w calls)
+answer = answer_in Update
 
 nothing_to_delete : answer k_copy begun (DeleteEntry (at g) 1 0) ≡ Some NoEntry
 nothing_to_delete = refl
@@ -42,6 +45,22 @@ wrong_base = refl
 
 wrong_close : answer k_copy (begun ++ OpenFile (at f) 0 1 1 ∷ []) (CloseFile 1 (Some abc)) ≡ Some TextChecksum
 wrong_close = refl
+
+-- a repository path has at most 64 names
+abbrev at_depth : ℕ → WorkingCopy
+at_depth n = get_in (([], whole 1 (deep n)) ∷ [])
+
+deepest_added : answer (at_depth 63) begun (AddFile (at g) 0 1) ≡ None
+deepest_added = refl
+
+too_deep_added : answer (at_depth 64) begun (AddFile (at g) 0 1) ≡ Some TooDeep
+too_deep_added = refl
+
+deepest_switched : answer_in (SwitchTo (deep 63)) k_copy begun (OpenFile (at f) 0 1 1) ≡ None
+deepest_switched = refl
+
+too_deep_switched : answer_in (SwitchTo (deep 64)) k_copy begun (OpenFile (at f) 0 1 1) ≡ Some TooDeep
+too_deep_switched = refl
 
 -- of two changes of one property the later holds, and a file without a text is empty
 abbrev twice : List Call

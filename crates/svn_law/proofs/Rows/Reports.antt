@@ -1,5 +1,5 @@
 -- Reports that a repository can't serve, and drives of reports made by hand.
-use Rattle.std.specs.Prelude.{◌≡◌, ℕ, true, false, List, [], ◌∷◌, Option, Some, None, refl}
+use Rattle.std.specs.Prelude.{◌≡◌, ℕ, true, false, List, [], ◌∷◌, ◌++◌, Option, Some, None, refl}
 use Rattle.svn_types.specs.Names.{Path}
 use Rattle.svn_repo.specs.History.{History}
 use Rattle.svn_delta.specs.declared.call.Call.TheVariants.{SetTargetRevision, OpenRoot, CloseDirectory, AddFile, OpenFile, ApplyText, CloseFile, CloseEdit}
@@ -76,6 +76,13 @@ another_root = refl
 
 file_root : trunk_to (SwitchTo (at2 t f)) 3 ≡ Some OtherRoot
 file_root = refl
+
+-- a later revision without the root of the copy
+abbrev pruned : History
+pruned = record { roots = branched.roots ++ 11 ∷ []; nodes = branched.nodes ++ dir 0 ((b, 9) ∷ []) ∷ []; lines = branched.lines }
+
+root_gone : target_fault (ask Update pruned (record { root = at t; entries = ([], SetPath 1 false) ∷ [] }) 4) ≡ Some NoRoot
+root_gone = refl
 
 its_root : trunk_to (SwitchTo (at b)) 3 ≡ None
 its_root = refl

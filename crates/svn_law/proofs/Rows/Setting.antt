@@ -1,5 +1,5 @@
 -- What the worked examples share: short names, and histories as tables of nodes.
-use Rattle.std.specs.Prelude.{ℕ, Bool, true, false, List, [], ◌∷◌, length, take}
+use Rattle.std.specs.Prelude.{ℕ, zero, suc, Bool, true, false, List, [], ◌∷◌, length, take}
 use Rattle.svn_law.proofs.Names.{Name}
 use Rattle.svn_types.specs.Names.{Path}
 use Rattle.svn_types.specs.declared.kind.Kind.TheVariants.{File, Directory}
@@ -57,6 +57,11 @@ at n = n ∷ []
 
 abbrev pub at2 : Name → Name → Path
 at2 m n = m ∷ n ∷ []
+
+-- a path of so many names
+abbrev pub deep : ℕ → Path
+deep zero = []
+deep (suc n) = d ∷ deep n
 
 abbrev pub dir : ℕ → List (List ℕ × ℕ) → NodeRow
 dir line entries = record { line = line; kind = Directory; text = []; props = []; entries = entries }

@@ -6,9 +6,10 @@ use Rattle.svn_delta.specs.declared.entry.ReportEntry.TheVariants.{SetPath, Link
 use Rattle.svn_delta.specs.Steps.{Update}
 use Rattle.svn_delta.specs.declared.call.Call.{Call}
 use Rattle.svn_delta.specs.declared.call.Call.TheVariants.{SetTargetRevision, OpenRoot, DeleteEntry, AddDirectory, OpenDirectory, CloseDirectory, AddFile, OpenFile, ApplyText, CloseFile, CloseEdit}
+use Rattle.svn_wc.specs.declared.base_node.BaseNode.TheVariants.{NotPresent}
 use Rattle.svn_wc.specs.Nodes.{WorkingCopy, listed}
 use Rattle.svn_wc.specs.Crawl.{crawl}
-use Rattle.svn_wc.specs.Builders.{checkout, placed}
+use Rattle.svn_wc.specs.Builders.{checkout, placed, forgotten}
 use Rattle.svn_wc.specs.Effects.{after}
 use Rattle.svn_law.proofs.Rows.Setting.{history_of, a, b, d, f, g, s, x, y, abc, at, at2, dir, file, drive, refused, whole, plain}
 use Rattle.svn_law.proofs.Rows.Plain.{k, k_copy}
@@ -108,3 +109,13 @@ g_at_f_report = refl
 g_at_f_drive : drive false Update k ([] ∷ at f ∷ at g ∷ []) g_at_f 2
     ≡ SetTargetRevision 2 ∷ OpenRoot 1 0 ∷ OpenFile (at f) 0 1 1 ∷ ApplyText 1 (Some a) abc ∷ CloseFile 1 (Some abc) ∷ CloseDirectory 0 ∷ CloseEdit ∷ []
 g_at_f_drive = refl
+
+-- what isn't present, and isn't in the target either, is gone after the last call
+abbrev g_forgotten : WorkingCopy
+g_forgotten = forgotten g_at_f (at g)
+
+g_forgotten_nodes : listed ([] ∷ at f ∷ at g ∷ []) g_forgotten ≡ ([], whole 1 []) ∷ (at f, plain 1 (at f) a) ∷ (at g, NotPresent) ∷ []
+g_forgotten_nodes = refl
+
+g_forgotten_after : listed ([] ∷ at f ∷ at g ∷ []) (after Update g_forgotten (drive false Update k ([] ∷ at f ∷ at g ∷ []) g_forgotten 2)) ≡ ([], whole 2 []) ∷ (at f, plain 2 (at f) abc) ∷ []
+g_forgotten_after = refl

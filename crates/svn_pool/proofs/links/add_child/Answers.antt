@@ -1,9 +1,7 @@
-use Rattle.std.proofs.Common.{◌≡◌, ◌≢◌, ◌+◌, ◌<◌, ◌⊎◌, ℕ, Bool, true, false, List, [], Option, None, Some, IsSome, refl, sym, ap, subst, ◌∙◌, inl, inr, arith}
-use Rattle.std.specs.BTreeMap.{is_at, get, values, Updates}
-use Rattle.std.specs.List.{sum_by}
+use Rattle.std.proofs.Common.{◌≡◌, ◌<◌, ℕ, List, None, Some, ap, subst, arith}
+use Rattle.std.specs.BTreeMap.{is_at, get, Updates}
 use Rattle.std.specs.Map.{lookup}
 use Rattle.std.specs.Ordering.{nat_cmp}
-use Rattle.svn_pool.specs.Linked.{has_edge, blocks_held, fixed_held}
 use Rattle.svn_pool.specs.Pools.{Entry, blocks_of, fixed_of}
 use Rattle.svn_pool.proofs.Counts.{sum_with}
 use Rattle.svn_pool.proofs.Edges.{edge_taken_back}

@@ -1,5 +1,4 @@
-use Rattle.std.proofs.Common.{◌≡◌, ◌≤◌, ◌<◌, ℕ, true, false, List, [], ◌∷◌, refl, sym, ap, subst, ◌∙◌, arith}
-use Rattle.std.specs.BTreeSet.{contains}
+use Rattle.std.proofs.Common.{◌≡◌, ℕ, false, sym, ap, subst, ◌∙◌, arith}
 use Rattle.std.specs.Ordering.{is_gt}
 use Rattle.svn_pool.specs.Linked.{edge_cmp, has_edge}
 use Rattle.svn_pool.proofs.Edges.{edge_between, edge_le}

@@ -1,4 +1,4 @@
-use Rattle.std.proofs.Common.{◌≡◌, ℕ, sym, ap}
+use Rattle.std.proofs.Common.{ℕ, sym, ap}
 use Rattle.svn_pool.proofs.Edges.{edge_away, edge_before}
 use Rattle.svn_pool.proofs.links.unlink.Goals as goal
 

@@ -1,9 +1,9 @@
-use Rattle.std.proofs.Common.{◌≡◌, ◌+◌, ℕ, Option, Some, is_some, Result, Ok, Err, OnErr, sym, ap, ◌∙◌, arith}
+use Rattle.std.proofs.Common.{◌≡◌, Some, is_some, Result, Ok, Err, OnErr, sym, ap, ◌∙◌, arith}
 use Rattle.std.proofs.lemmas.Map.Steps.{set_value_same}
 use Rattle.std.specs.BTreeMap.{get, is_at}
 use Rattle.std.specs.Map.{set_value}
 use Rattle.std.specs.Ordering.{nat_cmp}
-use Rattle.svn_pool.specs.Pools.{Entry, blocks_of}
+use Rattle.svn_pool.specs.Pools.{blocks_of}
 use Rattle.svn_pool.proofs.Counts.{sum_changed}
 use Rattle.svn_pool.proofs.Kinship.{linked-written}
 use Rattle.svn_pool.proofs.live.push_onto.Goals as goal

@@ -1,4 +1,4 @@
-use Rattle.std.proofs.Common.{◌≡◌, ℕ, sym, subst, ◌∙◌}
+use Rattle.std.proofs.Common.{ℕ, sym, subst, ◌∙◌}
 use Rattle.svn_pool.specs.Linked.{IsLeaf}
 use Rattle.svn_pool.proofs.Pruning.{IsOnWay, leaf_from_none, way_down, way_ends, way_has_parent, way_up}
 use Rattle.svn_pool.proofs.prune.prune.Goals as goal

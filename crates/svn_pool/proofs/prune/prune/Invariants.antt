@@ -1,4 +1,4 @@
-use Rattle.std.proofs.Common.{ℕ, ◌+◌, ◌-◌, ◌*◌}
+use Rattle.std.proofs.Common.{◌+◌, ◌-◌, ◌*◌}
 use Rattle.std.specs.BTreeMap.{btree_map_len}
 use Rattle.svn_pool.proofs.Pruning.{IsPruning}
 use Rattle.svn_pool.proofs.prune.prune.Given as goal

@@ -12,8 +12,8 @@ returns-then-is_within c =
     c.is_deleted.ensures
     ∙ ap (λ (es : Entries). is_deleted_at (entry_at es c.in-Some.previous.now)) (sym c.self.view_is)
     ∙ ap (λ b. b && is_deleted_at (entry_at c.self.inside.entries.entries c.in-Some.previous.now)) (sym c.if-is_within.true ∙ c.is_within.ensures
-        ∙ ap (λ (p : Path). is_within p c.components-in-Some.result.now) c.components.ensures.names
-        ∙ ap (λ (p : Path). is_within c.in-Some.previous.now p) c.components-in-Some.ensures.names)
+    ∙ ap (λ (p : Path). is_within p c.components-in-Some.result.now) c.components.ensures.names
+    ∙ ap (λ (p : Path). is_within c.in-Some.previous.now p) c.components-in-Some.ensures.names)
     ∙ deleted
     ∙ ap (λ (es : Entries). list_any (is_deleted_above c.args.path.now) es) c.self.view_is
 
@@ -22,8 +22,8 @@ returns-else-is_within c =
     let deleted = previous_deleted c.self.inside.paths c.self.inside.entries.entries c.args.path.now c.in-Some.previous.now c.self.invariant c.in-Some.ensures in
     c.if-is_within.false
     ∙ ap (λ b. b && is_deleted_at (entry_at c.self.inside.entries.entries c.in-Some.previous.now)) (sym c.if-is_within.false ∙ c.is_within.ensures
-        ∙ ap (λ (p : Path). is_within p c.components-in-Some.result.now) c.components.ensures.names
-        ∙ ap (λ (p : Path). is_within c.in-Some.previous.now p) c.components-in-Some.ensures.names)
+    ∙ ap (λ (p : Path). is_within p c.components-in-Some.result.now) c.components.ensures.names
+    ∙ ap (λ (p : Path). is_within c.in-Some.previous.now p) c.components-in-Some.ensures.names)
     ∙ deleted
     ∙ ap (λ (es : Entries). list_any (is_deleted_above c.args.path.now) es) c.self.view_is
 

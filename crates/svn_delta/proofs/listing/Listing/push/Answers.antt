@@ -21,12 +21,12 @@ invariant_of-self-in-Ok c =
     let added = c.in-Ok.ensures.entries ∙ welcome_added c.self.inside.entries.entries c.args.path.now c.in_ok-again.again c.args.entry c.in_ok-again.ensures.cases lawful in
     subst (λ (es : Entries). IsKept c.insert.new.self es) (sym added)
     (kept_more c.self.inside.paths c.insert.new.self c.self.inside.entries.entries c.args.path.now c.args.entry c.self.invariant lawful
-        (λ q. c.in_ok-insert.ensures.updates.0 q ∙ ap (λ (p : Path). cond (is_at (path_cmp p) q) true (contains path_cmp c.self.inside.paths q)) c.in_ok-clone.ensures.cases))
+    (λ q. c.in_ok-insert.ensures.updates.0 q ∙ ap (λ (p : Path). cond (is_at (path_cmp p) q) true (contains path_cmp c.self.inside.paths q)) c.in_ok-clone.ensures.cases))
 
 pub invariant_of-self-in-Err : goal.invariant_of-self-in-Err
 invariant_of-self-in-Err c =
     let lawful = ap (λ (es : Entries). reporter_fault es c.args.path.now c.args.entry) c.self.view_is ∙ c.requires in
     subst (λ (es : Entries). IsKept c.remove.new.self es) (sym c.in-Err.ensures.err)
     (kept_again c.self.inside.paths c.insert.new.self c.remove.new.self c.self.inside.entries.entries c.args.path.now c.args.entry c.self.invariant lawful
-        (λ q. c.in_ok-insert.ensures.updates.0 q ∙ ap (λ (p : Path). cond (is_at (path_cmp p) q) true (contains path_cmp c.self.inside.paths q)) c.in_ok-clone.ensures.cases)
-        (λ q. c.remove.ensures.updates.0 q))
+    (λ q. c.in_ok-insert.ensures.updates.0 q ∙ ap (λ (p : Path). cond (is_at (path_cmp p) q) true (contains path_cmp c.self.inside.paths q)) c.in_ok-clone.ensures.cases)
+    (λ q. c.remove.ensures.updates.0 q))

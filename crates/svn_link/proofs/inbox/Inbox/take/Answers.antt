@@ -17,5 +17,5 @@ invariant_of-self g c =
       seat = c.pop-call.ensures.seat;
       takes = taken ∙ ap (λ (h : Hand). taken_more h call) was.takes ∙ ap (λ l. hand false true [] l) (sym calls);
       counted = ap (λ n. n + 1) was.counted ∙ sym (length-append before (call ∷ [])) ∙ ap length (sym calls);
-      over = c.is_last-self-inside.ensures ∙ sym (is_over-snoc before call) ∙ ap is_over (sym calls);
+      over = c.is_last-over.ensures ∙ sym (is_over-snoc before call) ∙ ap is_over (sym calls);
     }

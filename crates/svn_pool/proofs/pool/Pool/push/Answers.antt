@@ -1,4 +1,4 @@
-use Rattle.std.proofs.Common.{◌≡◌, ◌+◌, ◌≤◌, ◌<◌, ℕ, List, ◌∷◌, [], ◌++◌, length, sym, ap, ◌∙◌, arith}
+use Rattle.std.proofs.Common.{◌≡◌, ◌+◌, ◌≤◌, ◌<◌, ℕ, List, length, sym, ap, ◌∙◌, arith}
 use Rattle.svn_pool.specs.Layout.{layout}
 use Rattle.svn_pool.specs.Pools.{blocks_of}
 use Rattle.svn_pool.specs.Stores.{Store}

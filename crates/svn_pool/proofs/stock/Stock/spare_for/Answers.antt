@@ -1,4 +1,4 @@
-use Rattle.std.proofs.Common.{◌≡◌, ◌+◌, ◌-◌, ◌<◌, ℕ, Bool, true, cond, nat_le, [], sym, ap, ◌∙◌, arith}
+use Rattle.std.proofs.Common.{◌≡◌, ◌+◌, ◌<◌, Bool, true, cond, nat_le, [], sym, ap, ◌∙◌, arith}
 use Rattle.std.proofs.lemmas.Bool.{le-leb}
 use Rattle.svn_pool.proofs.Blocks.{blanks-pop, blanks_some}
 use Rattle.svn_pool.proofs.stock.Stock.spare_for.Goals as goal

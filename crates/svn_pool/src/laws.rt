@@ -1,0 +1,13 @@
+//! Laws that follow from what the calls do. Each function does nothing: its contract is the law.
+ghost use Rattle.svn_pool.specs.Laws.{LeafGoesAlone, OldIsGone, OldStaysOld};
+
+/// A serial is never given again: one whose pool is gone answers `Gone` or `None`, and does so after every later call.
+pub fn old_serials_stay_old()
+    ensures gone { OldIsGone }
+    ensures stays { OldStaysOld }
+{}
+
+/// Destroying a pool without children removes that pool alone.
+pub fn leaf_goes_alone()
+    ensures { LeafGoesAlone }
+{}

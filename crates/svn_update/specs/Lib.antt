@@ -1,0 +1,3 @@
+pub mod FaultNumbers
+pub mod Outcomes
+pub mod Scripts

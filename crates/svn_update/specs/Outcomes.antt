@@ -1,0 +1,11 @@
+-- What an update's end says.
+use Rattle.std.specs.Prelude.{Result, Ok, Err}
+use Rattle.svn_update.specs.declared.outcome.Outcome.{Outcome}
+use Rattle.svn_update.specs.declared.outcome.Outcome.TheVariants.{Closed, Aborted}
+use Rattle.svn_update.specs.declared.outcome.RunFault.{RunFault}
+
+-- the update closed, and so the fact holds
+abbrev pub IfClosed : Result Outcome RunFault → Type 0 → Type 0
+IfClosed (Ok (Closed calls)) P = P
+IfClosed (Ok (Aborted made accepted late cause)) P = Unit {0}
+IfClosed (Err fault) P = Unit {0}

@@ -1,0 +1,17 @@
+//! Updates of a working copy, and the script language that drives them.
+#![tactic(auto)]
+
+mod command;
+mod fault;
+mod lines;
+mod outcome;
+mod print;
+mod script;
+mod state;
+mod update;
+
+pub use fault::ScriptFault;
+pub use lines::MAX_SCRIPT;
+pub use outcome::{Cause, Outcome, RunFault};
+pub use script::{Settings, run_script};
+pub use update::update_in_turn;

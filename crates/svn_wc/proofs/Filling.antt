@@ -1,0 +1,85 @@
+-- A tree of the repository is added to a copy: its node first, and then the entries in order of their names.
+use Rattle.std.proofs.Common.{◌≡◌, ℕ, Bool, true, false, cond, List, [], ◌∷◌, ◌++◌, refl, sym, ap, subst, ◌∙◌, Option, Some, None, append_assoc}
+use Rattle.std.proofs.lemmas.List.{append-nil}
+use Rattle.std.specs.Option.{is_some, IfNone}
+use Rattle.svn_types.specs.Names.{Path}
+use Rattle.svn_types.specs.Paths.{is_within, path_eq}
+use Rattle.svn_types.specs.Pairs.{InNameOrder, value_of}
+use Rattle.svn_repo.specs.History.{History}
+use Rattle.svn_repo.specs.Readings.{entries_of}
+use Rattle.svn_wc.specs.declared.base_node.BaseNode.{BaseNode}
+use Rattle.svn_wc.specs.Nodes.{WorkingCopy, base_node}
+use Rattle.svn_wc.specs.Standing.{standing, standing_at, Puts, IsSwept, SameOutside, AreAmong}
+use Rattle.svn_wc.proofs.PathsBelow.{apart_paths, same_path, below_is_other}
+use Rattle.svn_wc.proofs.Trees.{standing-here, standing-below}
+use Rattle.svn_wc.proofs.Sweeps.{swept_on, among_left, value_of-first}
+
+pub none_of : {A : Type 0} (o : Option A) → is_some o ≡ false → o ≡ None
+none_of None h = refl
+none_of (Some x) h = let bad : true ≡ false = h in cc
+
+-- what holds where there is no value
+pub when_none : {A : Type 0} (o : Option A) (P : Type 0) → ((x : A) → o ≡ Some x → ⊥) → IfNone o P → P
+when_none None P not h = h
+when_none (Some x) P not h = absurd (not x refl)
+
+module _ (h : History) (rev : ℕ) (q : Path) (n : ℕ) (w w1 : WorkingCopy)
+    (put : (p : Path) → w1 p ≡ cond (path_eq q p) (Some (base_node h rev q n)) (w p)) where
+  -- nothing stands yet at an entry that is left
+  abbrev pub Free : List ℕ → Path → Option BaseNode → Type 0
+  Free name r found = found ≡ None
+
+  -- what belongs there stands at an entry that is done
+  abbrev pub Filled : List ℕ → Path → Option BaseNode → Type 0
+  Filled name r found = found ≡ standing_at h rev q name (value_of (entries_of h n) name) r
+
+  pub fill_begins : ((r : Path) → w (q ++ r) ≡ None) → (es : List (List ℕ × ℕ)) → InNameOrder es → es ≡ entries_of h n → IsSwept q es Free Filled w1 w1 × AreAmong es (entries_of h n)
+  fill_begins free es order is = (record {
+    order = order;
+    here = refl;
+    outside = λ p out. refl;
+    waiting = λ name some r. still name r;
+    done = λ name none r. still name r ∙ sym (ap (λ o. standing_at h rev q name o r) (ap (λ l. value_of l name) (sym is) ∙ none_of (value_of es name) none));
+  }, λ name v found. ap (λ l. value_of l name) (sym is) ∙ found)
+    where
+      still : (name : List ℕ) (r : Path) → w1 (q ++ name ∷ r) ≡ None
+      still name r = put (q ++ name ∷ r) ∙ ap (λ b. cond b (Some (base_node h rev q n)) (w (q ++ name ∷ r))) (below_is_other q name r) ∙ free (name ∷ r)
+
+  -- all is there once the node and its entries are
+  module _ (w2 : WorkingCopy) (here : w2 q ≡ w1 q) (done : (name : List ℕ) (r : Path) → Filled name r (w2 (q ++ name ∷ r))) (outside : SameOutside q w1 w2) where
+    within : (r : Path) → w2 (q ++ r) ≡ standing h rev q n r
+    within [] =
+        ap w2 (append-nil q) ∙ here ∙ put q ∙ ap (λ b. cond b (Some (base_node h rev q n)) (w q)) (same_path q)
+        ∙ sym (standing-here h rev q n)
+    within (name ∷ r) = done name r ∙ sym (standing-below h rev q n name r)
+
+    pub whole : Puts (standing h rev q n) q w w2
+    whole = record {
+      inside = within;
+      outside = λ p out. outside p out ∙ put p ∙ ap (λ b. cond b (Some (base_node h rev q n)) (w p)) (apart_paths q p out);
+    }
+
+  pub fill_ends : (w2 : WorkingCopy) → IsSwept {V = ℕ} q [] Free Filled w1 w2 → Puts (standing h rev q n) q w w2
+  fill_ends w2 swept = whole w2 swept.here (λ name r. swept.done name refl r) swept.outside
+
+  pub fill_leaf : ((r : Path) → w (q ++ r) ≡ None) → entries_of h n ≡ [] → Puts (standing h rev q n) q w w1
+  fill_leaf free leaf =
+      whole w1 refl
+      (λ name r. put (q ++ name ∷ r) ∙ ap (λ b. cond b (Some (base_node h rev q n)) (w (q ++ name ∷ r))) (below_is_other q name r) ∙ free (name ∷ r)
+      ∙ sym (ap (λ l. standing_at h rev q name (value_of l name) r) leaf))
+      (λ p out. refl)
+
+  module _ (e : List ℕ × ℕ) (left : List (List ℕ × ℕ)) (w2 w3 : WorkingCopy) (swept : IsSwept q (e ∷ left) Free Filled w1 w2) where
+    pub fill_free : (r : Path) → w2 ((q ++ e.0 ∷ []) ++ r) ≡ None
+    fill_free r = ap w2 (append_assoc q (e.0 ∷ []) r) ∙ swept.waiting e.0 (ap is_some (value_of-first e left)) r
+
+    pub fill_next : AreAmong (e ∷ left) (entries_of h n) → Puts (standing h rev (q ++ e.0 ∷ []) e.1) (q ++ e.0 ∷ []) w2 w3 → IsSwept q left Free Filled w1 w3 × AreAmong left (entries_of h n)
+    fill_next among puts = (
+      swept_on ℕ e left swept.order q Free Filled w1 w2 w3 swept filled puts.outside,
+      among_left ℕ e left swept.order (entries_of h n) among,
+    )
+      where
+        filled : (r : Path) → Filled e.0 r (w3 (q ++ e.0 ∷ r))
+        filled r =
+            ap w3 (sym (append_assoc q (e.0 ∷ []) r)) ∙ puts.inside r
+            ∙ sym (ap (λ o. standing_at h rev q e.0 o r) (among e.0 e.1 (value_of-first e left)))

@@ -1,0 +1,9 @@
+pub mod PathsBelow
+pub mod Lookups
+pub mod Trees
+pub mod Sweeps
+pub mod Filling
+pub mod Deleting
+pub mod Updating
+pub mod Roots
+pub mod InStep

@@ -1,0 +1,16 @@
+-- A copy as a map, and as the function from paths.
+use Rattle.std.proofs.Common.{◌≡◌, ℕ, Bool, true, false, cond, List, [], ◌∷◌, ◌++◌, refl, sym, ap, ◌∙◌, Option, Some, None}
+use Rattle.std.specs.BTreeMap.{is_at}
+use Rattle.std.specs.Cmp.Lexicographic.{texts_ties, lists_ties}
+use Rattle.svn_types.specs.Names.{Path, name_cmp, path_cmp}
+use Rattle.svn_types.specs.Paths.{path_eq}
+use Rattle.svn_wc.specs.declared.base_node.BaseNode.{BaseNode}
+use Rattle.svn_wc.specs.Nodes.{get_in}
+
+-- the test by the order is the test of equal paths
+pub at_path : (p q : Path) → is_at (path_cmp p) q ≡ path_eq p q
+at_path p q = sym (lists_ties name_cmp texts_ties p q)
+
+-- a map after one key was set or removed
+pub get_in-updated : (m n : List (Path × BaseNode)) (k : Path) (v : Option BaseNode) → ((q : Path) → get_in n q ≡ cond (is_at (path_cmp k) q) v (get_in m q)) → (p : Path) → get_in n p ≡ cond (path_eq k p) v (get_in m p)
+get_in-updated m n k v h p = h p ∙ ap (λ b. cond b v (get_in m p)) (at_path k p)

@@ -1,0 +1,16 @@
+use Rattle.std.proofs.Common.{◌≡◌, Bool, true, false, not, refl, ◌++◌, ◌∷◌, [], ℕ, List, ap, sym, ◌∙◌}
+use Rattle.std.specs.Prelude.{bytes_eq}
+use Rattle.std.proofs.lemmas.Slice.Eq.{bytes_eq-Decides, slice_eq-Decides}
+use Rattle.svn_wc.proofs.plain.is_child.Goals as goal
+
+not_false : (b : Bool) → not b ≡ false → b ≡ true
+not_false true h = refl
+not_false false h = sym h
+
+pub returns-clause-child : goal.returns-clause-child
+returns-clause-child c = λ t.
+    let above : c.in-Some.above.now ≡ c.args.path.now =
+        (slice_eq-Decides {E = bytes_eq} bytes_eq-Decides c.in-Some.above.now c.components.result.now c.eq.result c.eq.ensures).0 t ∙ c.components.ensures.names in
+    let last : c.in-Some.last.now ≡ c.args.name.now =
+        (bytes_eq-Decides c.in-Some.last.now c.args.name.now).0 (not_false (bytes_eq c.in-Some.last.now c.args.name.now) (sym c.ne.ensures ∙ c.if-ne.false)) in
+    sym c.components-names.ensures.names ∙ c.in-Some.ensures.cases.0 ∙ (λ i. above i ++ last i ∷ [])
