@@ -1,10 +1,10 @@
 -- A draft on which all changes were made is one more revision.
-use Rattle.std.proofs.Common.{◌≡◌, ◌≢◌, ℕ, zero, suc, ◌+◌, ◌-◌, ◌<◌, ◌≤◌, Bool, true, false, cond, List, [], ◌∷◌, ◌++◌, length, take, map, refl, arith, Option, Some, None, subst, sym, ap, ◌∙◌, length-append, ◌⊎◌, inl, inr}
-use Rattle.std.specs.Prelude.{nat_lt, MatchOption}
+use Rattle.std.proofs.Common.{◌≡◌, ℕ, zero, suc, ◌-◌, ◌<◌, ◌≤◌, true, false, cond, List, [], ◌∷◌, ◌++◌, length, take, map, refl, arith, Option, Some, None, subst, sym, ap, ◌∙◌, length-append, inl, inr}
+use Rattle.std.specs.Prelude.{nat_lt}
 use Rattle.std.specs.List.{slice_get}
 use Rattle.std.specs.Option.{option_and_then, option_map}
 use Rattle.std.proofs.lemmas.Bool.{cases_lt, cases_eq, lt-ltb, le-ltb}
-use Rattle.std.proofs.lemmas.Option.{slice_get-map, slice_get_within, slice_get_past}
+use Rattle.std.proofs.lemmas.Option.{slice_get_within, slice_get_past}
 use Rattle.std.proofs.lemmas.List.{length-map}
 use Rattle.svn_types.specs.declared.kind.Kind.{Kind}
 use Rattle.svn_types.specs.declared.kind.Kind.TheVariants.{File, Directory}
@@ -12,18 +12,17 @@ use Rattle.svn_repo.specs.declared.store.Node.{Node}
 use Rattle.svn_repo.specs.declared.store.Content.{Content}
 use Rattle.svn_repo.specs.declared.store.Content.TheVariants.{Text, Listing}
 use Rattle.svn_repo.specs.declared.change.Change.{Change}
-use Rattle.svn_repo.specs.declared.change.CommitFault.{CommitFault}
 use Rattle.svn_types.specs.Names.{Path}
 use Rattle.svn_repo.specs.History.{History, Nodes, NodeRow, node_at, entries_at, child_in, walk, look, IsDirectoryIn}
 use Rattle.svn_repo.specs.Stored.{row_of, rows, entries_of, history_of, IsRepository, IsLawfulRow, IsLawfulPlace, IsLawfulTree, IsHeight, AreHeights}
-use Rattle.svn_repo.specs.Trees.{Place, Tree, place_of, place_at, tree_at, tree_below, is_directory_place}
+use Rattle.svn_repo.specs.Trees.{Place, Tree, place_of, place_at, tree_at, is_directory_place}
 use Rattle.svn_repo.specs.Drafts.{IsDraft, IsDraftEntries, IsClosedIn, KeepsOld, AreRootsBelow, IsPast, tree_in}
-use Rattle.svn_repo.specs.Changes.{Pending, pending_in, latest_pending, commit_fault, changes_fault, after_changes, AllMade, IsRevision, IsCommit, StandsIn, IsNumbered, IsNodeOf}
+use Rattle.svn_repo.specs.Changes.{Pending, pending_in, latest_pending, commit_fault, changes_fault, after_changes, AllMade, IsRevision, StandsIn, IsNumbered}
 use Rattle.svn_repo.proofs.Walking.{and_then_same, and_then_parts}
 use Rattle.svn_repo.proofs.Entering.{no_entries, old_entries}
 use Rattle.svn_repo.proofs.Past.{kept_take, nodes_are}
 use Rattle.svn_repo.proofs.Lawful.{IsLawfulState, changes_lawful, renumbered}
-use Rattle.svn_repo.proofs.Thawing.{walk_stays, walk_same, in_range}
+use Rattle.svn_repo.proofs.Thawing.{walk_same, in_range}
 use Rattle.svn_repo.proofs.Puts.{slice_get-append, slice_get-push}
 
 module _ (roots : List ℕ) (old : List Node) (lines : ℕ) (from : ℕ)

@@ -1,18 +1,17 @@
 -- The first fault on a way down, and what it means that there is none.
-use Rattle.std.proofs.Common.{◌≡◌, ℕ, zero, suc, ◌+◌, ◌<◌, ◌≤◌, Bool, true, false, cond, List, [], ◌∷◌, ◌++◌, length, take, drop, get_or, refl, arith, Option, Some, None, subst, sym, ap, ◌∙◌, drop-cons, add-one}
+use Rattle.std.proofs.Common.{◌≡◌, ℕ, zero, suc, ◌+◌, ◌<◌, ◌≤◌, Bool, true, false, cond, List, [], ◌∷◌, ◌++◌, length, take, drop, get_or, refl, arith, Option, Some, None, sym, ap, ◌∙◌, drop-cons, add-one}
 use Rattle.std.specs.Prelude.{nat_lt}
 use Rattle.std.specs.List.{slice_get}
 use Rattle.std.specs.Option.{option_and_then, option_map, option_or, is_some}
-use Rattle.svn_types.specs.declared.kind.Kind.{Kind}
 use Rattle.svn_types.specs.declared.kind.Kind.TheVariants.{File, Directory}
 use Rattle.svn_repo.specs.declared.store.Node.{Node}
 use Rattle.svn_repo.specs.declared.change.CommitFault.{CommitFault}
-use Rattle.svn_repo.specs.declared.change.CommitFault.TheVariants.{Missing, NotDir}
+use Rattle.svn_repo.specs.declared.change.CommitFault.TheVariants.{NotDir}
 use Rattle.svn_types.specs.Names.{Path}
-use Rattle.svn_repo.specs.History.{Nodes, NodeRow, child_in, walk}
+use Rattle.svn_repo.specs.History.{child_in, walk}
 use Rattle.svn_repo.specs.Stored.{row_of, rows, kind_of}
-use Rattle.svn_repo.specs.Trees.{Place, Tree, place_of, place_at, tree_below, IsWay, is_directory_place}
-use Rattle.svn_repo.specs.Drafts.{IsDraft, IsClosedIn, tree_in, old_part}
+use Rattle.svn_repo.specs.Trees.{Place, Tree, place_of, place_at, IsWay, is_directory_place}
+use Rattle.svn_repo.specs.Drafts.{tree_in, old_part}
 use Rattle.svn_repo.specs.Changes.{above_fault, directory_fault}
 
 pub above_same : (t u : Tree) (p : Path) → ((q : Path) → t q ≡ u q) → above_fault t p ≡ above_fault u p

@@ -1,11 +1,11 @@
 -- What a commit makes is within the limits, and of its line's kind: a law of the definitions alone.
-use Rattle.std.proofs.Common.{◌≡◌, ◌≢◌, ℕ, zero, suc, ◌+◌, ◌-◌, ◌<◌, ◌≤◌, Bool, true, false, cond, ◌||◌, List, [], ◌∷◌, ◌++◌, length, refl, arith, Option, Some, None, subst, sym, ap, ◌∙◌, length-append, ◌⊎◌, inl, inr}
-use Rattle.std.specs.Prelude.{nat_lt, nat_eq, nat_le}
+use Rattle.std.proofs.Common.{◌≡◌, ℕ, zero, suc, ◌+◌, ◌-◌, ◌<◌, ◌≤◌, Bool, true, false, cond, ◌||◌, List, [], ◌∷◌, ◌++◌, length, refl, arith, Option, Some, None, subst, sym, ap, ◌∙◌, length-append, inl, inr}
+use Rattle.std.specs.Prelude.{nat_lt, nat_eq}
 use Rattle.std.specs.List.{All, list_any, slice_get}
 use Rattle.std.specs.Map.{values_of}
 use Rattle.std.specs.BTreeMap.{is_at}
 use Rattle.std.specs.Option.{option_and_then, option_map, option_or, is_some}
-use Rattle.std.proofs.lemmas.Bool.{cases_lt, cases_Bool, lt-ltb, le-ltb, eq-eqb, ne_eqb}
+use Rattle.std.proofs.lemmas.Bool.{cases_lt, lt-ltb, eq-eqb, ne_eqb}
 use Rattle.std.proofs.lemmas.List.Elements.{All-nil}
 use Rattle.svn_types.specs.declared.kind.Kind.{Kind}
 use Rattle.svn_types.specs.declared.kind.Kind.TheVariants.{File, Directory}
@@ -14,13 +14,13 @@ use Rattle.svn_repo.specs.declared.change.Change.TheVariants.{MakeDir, PutFile, 
 use Rattle.svn_repo.specs.declared.change.CommitFault.{CommitFault}
 use Rattle.svn_repo.specs.declared.change.CommitFault.TheVariants.{Exists, NotFile, TooDeep, TooLong}
 use Rattle.svn_types.specs.Names.{Path, name_cmp}
-use Rattle.svn_types.specs.Pairs.{InNameOrder, value_of, with_value}
+use Rattle.svn_types.specs.Pairs.{InNameOrder, value_of}
 use Rattle.svn_repo.specs.History.{History, Nodes, NodeRow, node_at, entries_at, child_in, walk, look, reaches}
 use Rattle.svn_repo.specs.Readings.{path_limit, size_limit}
 use Rattle.svn_repo.specs.Walks.{rest_below, led}
-use Rattle.svn_repo.specs.Trees.{Place, Tree, place_of, place_at, tree_at, touched, touch, graft, is_within, leaf, nothing, with_prop, place_with_prop, is_directory_place}
+use Rattle.svn_repo.specs.Trees.{Place, Tree, place_at, tree_at, touched, touch, graft, is_within, leaf, nothing, with_prop, place_with_prop, is_directory_place}
 use Rattle.svn_repo.specs.Stored.{IsLawfulPlace, IsLawfulTree}
-use Rattle.svn_repo.specs.Changes.{Pending, root_fault, depth_fault, size_fault, value_fault, above_fault, missing_fault, walk_fault, fault_if, directory_fault_at, file_fault_at, copy_fault, copy_depth_fault, change_fault, after_change, changes_fault, after_changes, new_directory, with_text, lines_after}
+use Rattle.svn_repo.specs.Changes.{Pending, root_fault, depth_fault, size_fault, value_fault, above_fault, walk_fault, fault_if, directory_fault_at, file_fault_at, copy_depth_fault, change_fault, after_change, changes_fault, after_changes, new_directory, with_text, lines_after}
 use Rattle.svn_repo.proofs.Walking.{and_then_parts, walk_append, rest_below_is}
 use Rattle.svn_repo.proofs.Faults.{or_none}
 use Rattle.svn_repo.proofs.Pendings.{CanCopy, can_copy}

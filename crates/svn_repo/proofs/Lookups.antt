@@ -1,6 +1,5 @@
 -- What a map from names has at a name after a change.
 use Rattle.std.proofs.Common.{◌≡◌, ℕ, cond, List, Option, ap, sym, ◌∙◌}
-use Rattle.std.specs.Prelude.{bytes_eq}
 use Rattle.std.specs.BTreeMap.{is_at}
 use Rattle.std.specs.Cmp.Lexicographic.{texts_ties}
 use Rattle.svn_types.specs.Names.{name_cmp}

@@ -1,17 +1,14 @@
 -- A draft with the root made afresh, with a new node put in, and with an old node put in.
-use Rattle.std.proofs.Common.{◌≡◌, ◌≢◌, ℕ, ◌+◌, ◌<◌, ◌≤◌, suc, Bool, true, false, cond, List, [], ◌∷◌, ◌++◌, length, refl, arith, Option, Some, None, subst, sym, ap, ◌∙◌, length-append, ◌⊎◌, inl, inr}
-use Rattle.std.specs.Prelude.{nat_lt}
-use Rattle.std.specs.List.{slice_get}
+use Rattle.std.proofs.Common.{◌≡◌, ℕ, ◌<◌, ◌≤◌, true, cond, List, [], ◌∷◌, ◌++◌, length, refl, arith, Option, Some, None, subst, sym, ap, ◌∙◌, length-append, ◌⊎◌, inl, inr}
 use Rattle.std.specs.Option.{option_and_then, option_map, is_some}
-use Rattle.std.proofs.lemmas.Bool.{cases_Bool}
 use Rattle.svn_repo.specs.declared.store.Node.{Node}
 use Rattle.svn_types.specs.Names.{Path}
-use Rattle.svn_repo.specs.History.{Nodes, NodeRow, entries_at, child_in, walk}
+use Rattle.svn_repo.specs.History.{entries_at, child_in, walk}
 use Rattle.svn_repo.specs.Stored.{row_of, rows, entries_of}
 use Rattle.svn_repo.specs.Walks.{rest_below, led}
-use Rattle.svn_repo.specs.Trees.{Place, Tree, place_of, place_at, tree_below, touched, touch, graft, is_within, leaf, IsWay, is_directory_place}
-use Rattle.svn_repo.specs.Drafts.{IsDraft, IsDraftEntries, IsClosedIn, PutsChild, CopiesNode, shape_at, tree_in, IsThawed, IsGrafted, KeepsOld, old_part, IsOld, IsListing}
-use Rattle.svn_repo.proofs.Walking.{and_then_same, and_then_parts, walk_step, walk_append}
+use Rattle.svn_repo.specs.Trees.{Place, Tree, place_of, place_at, touched, touch, is_within, leaf, IsWay, is_directory_place}
+use Rattle.svn_repo.specs.Drafts.{IsDraft, IsDraftEntries, PutsChild, shape_at, tree_in, IsThawed, IsGrafted, KeepsOld, old_part, IsOld, IsListing}
+use Rattle.svn_repo.proofs.Walking.{and_then_same}
 use Rattle.svn_repo.proofs.Thawing.{StaysIn, walk_stays, walk_same, place_from_shape, place_fresh, touched_shape, rows-append, rows-push, closed_grown, walk_grown, in_range}
 use Rattle.svn_repo.proofs.Entering.{no_entries, old_entries, each-push}
 use Rattle.svn_repo.proofs.Ways.{is_some-touch, is_directory_place-touch, listing_at}

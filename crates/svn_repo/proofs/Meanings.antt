@@ -1,23 +1,22 @@
 -- The laws of commits, from their definition.
-use Rattle.std.proofs.Common.{◌≡◌, ◌≢◌, ℕ, ◌+◌, ◌-◌, ◌<◌, ◌≤◌, Bool, true, false, cond, ◌||◌, List, [], ◌∷◌, ◌++◌, length, refl, arith, Option, Some, None, subst, sym, ap, ◌∙◌}
-use Rattle.std.specs.Prelude.{nat_lt, IsSome, MatchOption}
+use Rattle.std.proofs.Common.{◌≡◌, ℕ, ◌<◌, Bool, true, false, cond, ◌||◌, List, [], ◌∷◌, ◌++◌, length, refl, arith, Option, Some, None, subst, sym, ap, ◌∙◌}
+use Rattle.std.specs.Prelude.{nat_lt, IsSome}
 use Rattle.std.specs.List.{list_any, slice_get}
 use Rattle.std.specs.Option.{option_and_then, option_map, option_or, is_some}
-use Rattle.std.proofs.lemmas.Bool.{cases_Bool, lt-ltb}
+use Rattle.std.proofs.lemmas.Bool.{lt-ltb}
 use Rattle.std.proofs.lemmas.List.Folds.{list_any-append}
 use Rattle.std.proofs.lemmas.Option.{slice_get_within}
 use Rattle.svn_repo.specs.declared.change.Change.{Change}
 use Rattle.svn_repo.specs.declared.change.Change.TheVariants.{MakeDir, PutFile, SetProp, Remove, CopyFrom}
 use Rattle.svn_repo.specs.declared.change.CommitFault.TheVariants.{Exists}
 use Rattle.svn_types.specs.Names.{Path}
-use Rattle.svn_repo.specs.History.{History, NodeRow, node_at, walk, look}
+use Rattle.svn_repo.specs.History.{History, NodeRow, node_at, look}
 use Rattle.svn_repo.specs.Walks.{rest_below, led}
-use Rattle.svn_repo.specs.Trees.{Place, Tree, place_of, place_at, tree_at, touched, touch, graft, is_within, leaf, nothing, with_prop, place_with_prop, is_directory_place}
-use Rattle.svn_repo.specs.Changes.{Pending, latest_pending, root_fault, above_fault, fault_if, depth_fault, directory_fault_at, copy_fault, copy_depth_fault, walk_fault, revision_fault, change_fault, after_change, after_changes, with_text, IsCommit, IsRevision, StandsIn, IsNumbered, IsNodeOf}
-use Rattle.svn_repo.specs.Laws.{CopiesKeepNodes, ChangesKeepLines, UntouchedPathsKeepNodes, IsRooted, touches, NodesExist, AreCommits, no_commit, one_more, latest_of}
+use Rattle.svn_repo.specs.Trees.{Place, Tree, place_of, place_at, tree_at, touched, touch, graft, is_within, leaf, nothing, with_prop, place_with_prop}
+use Rattle.svn_repo.specs.Changes.{Pending, latest_pending, root_fault, above_fault, fault_if, depth_fault, directory_fault_at, copy_fault, copy_depth_fault, walk_fault, revision_fault, after_change, after_changes, with_text, IsCommit, IsRevision, StandsIn}
+use Rattle.svn_repo.specs.Laws.{CopiesKeepNodes, ChangesKeepLines, UntouchedPathsKeepNodes, IsRooted, touches, NodesExist, no_commit, one_more, latest_of}
 use Rattle.svn_repo.proofs.Walking.{rest_below_is}
 use Rattle.svn_repo.proofs.Thawing.{append_nil, rest_below_self}
-use Rattle.std.specs.Prelude.{bytes_eq}
 use Rattle.std.proofs.lemmas.Slice.Eq.{bytes_eq-Decides}
 use Rattle.svn_repo.proofs.Faults.{or_none}
 

@@ -1,16 +1,16 @@
 -- No change is refused for want of a number.
-use Rattle.std.proofs.Common.{◌≡◌, ◌≢◌, ℕ, ◌+◌, ◌-◌, Bool, true, false, cond, List, [], ◌∷◌, ◌++◌, length, refl, Option, Some, None, sym, ap, ◌∙◌, ◌⊎◌, inl, inr}
+use Rattle.std.proofs.Common.{◌≡◌, ◌≢◌, ℕ, ◌+◌, ◌-◌, Bool, true, false, cond, List, [], ◌∷◌, length, Option, Some, None, ap, ◌∙◌, ◌⊎◌, inl, inr}
 use Rattle.std.specs.Prelude.{nat_lt, nat_le}
 use Rattle.std.specs.Option.{option_or, is_some}
 use Rattle.svn_repo.specs.declared.change.Change.{Change}
 use Rattle.svn_repo.specs.declared.change.Change.TheVariants.{MakeDir, PutFile, SetProp, Remove, CopyFrom}
 use Rattle.svn_repo.specs.declared.change.CommitFault.{CommitFault}
-use Rattle.svn_repo.specs.declared.change.CommitFault.TheVariants.{Exists, Missing, NotDir, NotFile, IsRoot, TooDeep, NoSuchRevision, TooLong, Full, Memory}
+use Rattle.svn_repo.specs.declared.change.CommitFault.TheVariants.{Exists, NotDir, NotFile, TooDeep, NoSuchRevision, TooLong, Full, Memory}
 use Rattle.svn_types.specs.Names.{Path}
 use Rattle.svn_repo.specs.History.{History, Nodes, node_at, look, reaches}
 use Rattle.svn_repo.specs.Readings.{path_limit, size_limit}
 use Rattle.svn_repo.specs.Trees.{Place, Tree, tree_at, is_directory_place}
-use Rattle.svn_repo.specs.Changes.{Pending, directory_fault, above_fault, missing_fault, fault_if, root_fault, depth_fault, size_fault, value_fault, walk_fault, revision_fault, copy_depth_fault, directory_fault_at, file_fault_at, copy_fault, change_fault, after_change, changes_fault}
+use Rattle.svn_repo.specs.Changes.{Pending, directory_fault, above_fault, missing_fault, fault_if, root_fault, depth_fault, size_fault, value_fault, walk_fault, revision_fault, copy_depth_fault, copy_fault, change_fault, after_change, changes_fault}
 
 abbrev IsOther : Option CommitFault → Type 0
 IsOther o = o ≢ Some Full

@@ -1,5 +1,5 @@
 -- The revisions that a draft is made over, read from the nodes that have the draft's behind them.
-use Rattle.std.proofs.Common.{◌≡◌, ◌≢◌, ℕ, zero, suc, ◌+◌, ◌-◌, ◌<◌, ◌≤◌, Bool, true, false, cond, List, [], ◌∷◌, ◌++◌, length, take, map, get_or, refl, arith, Option, Some, None, subst, sym, ap, ◌∙◌, length-take, ◌⊎◌, inl, inr}
+use Rattle.std.proofs.Common.{◌≡◌, ℕ, zero, suc, ◌+◌, ◌-◌, ◌<◌, ◌≤◌, Bool, true, false, cond, List, [], ◌∷◌, ◌++◌, length, take, map, get_or, refl, arith, Option, Some, None, subst, sym, ap, ◌∙◌, length-take, inl, inr}
 use Rattle.std.specs.Prelude.{nat_lt, nat_le, IsSome}
 use Rattle.std.specs.List.{slice_get}
 use Rattle.std.specs.Option.{option_and_then, option_map, option_or, is_some}
@@ -8,15 +8,14 @@ use Rattle.std.proofs.lemmas.Option.{slice_get-map, slice_get_read, slice_get_wi
 use Rattle.std.proofs.lemmas.List.{length-map}
 use Rattle.svn_repo.specs.declared.store.Node.{Node}
 use Rattle.svn_repo.specs.declared.change.Change.{Change}
-use Rattle.svn_repo.specs.declared.change.CommitFault.{CommitFault}
-use Rattle.svn_repo.specs.declared.change.CommitFault.TheVariants.{Exists, Missing, TooDeep, NoSuchRevision}
+use Rattle.svn_repo.specs.declared.change.CommitFault.TheVariants.{Exists, Missing, NoSuchRevision}
 use Rattle.svn_types.specs.Names.{Path}
-use Rattle.svn_repo.specs.History.{History, Nodes, NodeRow, node_at, child_in, walk, look, reaches}
+use Rattle.svn_repo.specs.History.{History, Nodes, node_at, child_in, walk, look, reaches}
 use Rattle.svn_repo.specs.Readings.{path_limit}
 use Rattle.svn_repo.specs.Stored.{row_of, rows, history_of, IsHeight}
-use Rattle.svn_repo.specs.Trees.{Place, Tree, place_of, place_at, tree_at}
-use Rattle.svn_repo.specs.Drafts.{IsDraft, IsClosedIn, KeepsOld, AreRootsBelow, IsOldPart, IsPast, look_in, past_in, tree_in}
-use Rattle.svn_repo.specs.Changes.{Pending, pending_in, change_fault, after_change, root_fault, above_fault, missing_fault, walk_fault, revision_fault, copy_fault, copy_depth_fault, fault_if}
+use Rattle.svn_repo.specs.Trees.{Tree, place_of, place_at, tree_at}
+use Rattle.svn_repo.specs.Drafts.{KeepsOld, AreRootsBelow, IsOldPart, IsPast, look_in, past_in, tree_in}
+use Rattle.svn_repo.specs.Changes.{pending_in, change_fault, root_fault, above_fault, missing_fault, walk_fault, revision_fault, copy_fault, copy_depth_fault, fault_if}
 use Rattle.svn_repo.proofs.Walking.{and_then_same, and_then_parts, walk_append}
 use Rattle.svn_repo.proofs.Thawing.{walk_stays, walk_same}
 use Rattle.svn_repo.proofs.Faults.{or_none, above_same}

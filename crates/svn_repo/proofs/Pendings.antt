@@ -4,12 +4,12 @@ use Rattle.svn_repo.specs.declared.store.Node.{Node}
 use Rattle.svn_repo.specs.declared.change.Change.{Change}
 use Rattle.svn_types.specs.Names.{Path}
 use Rattle.svn_repo.specs.History.{History, look, node_at}
-use Rattle.svn_repo.specs.Trees.{Place, Tree, tree_at, graft, touch, touched, is_directory_place, with_prop, place_with_prop, IsWay}
-use Rattle.svn_repo.specs.Drafts.{IsDraft, IsGrafted, past_in, tree_in}
+use Rattle.svn_repo.specs.Trees.{Place, Tree, tree_at, graft, touch, is_directory_place, with_prop, place_with_prop, IsWay}
+use Rattle.svn_repo.specs.Drafts.{IsGrafted, past_in, tree_in}
 use Rattle.std.specs.Option.{option_or, option_map, is_some}
 use Rattle.svn_repo.specs.declared.change.Change.TheVariants.{MakeDir, PutFile, SetProp, Remove, CopyFrom}
 use Rattle.svn_repo.specs.Changes.{Pending, pending_in, after_change, IsMade, root_fault, above_fault, change_fault, fault_if, depth_fault, size_fault, missing_fault, value_fault, lines_after, revision_fault, walk_fault, copy_fault, copy_depth_fault}
-use Rattle.svn_repo.specs.declared.change.CommitFault.TheVariants.{Exists, NotFile, Missing}
+use Rattle.svn_repo.specs.declared.change.CommitFault.TheVariants.{Exists, NotFile}
 use Rattle.svn_repo.proofs.Faults.{or_none, way_whole}
 use Rattle.svn_repo.proofs.Ways.{is_directory_place-touch}
 

@@ -1,5 +1,5 @@
 -- A property of one fresh node of a draft is set: the tree changes there alone.
-use Rattle.std.proofs.Common.{◌≡◌, ◌≢◌, ℕ, ◌+◌, ◌<◌, ◌≤◌, Bool, true, false, cond, List, [], ◌∷◌, ◌++◌, length, refl, arith, Option, Some, None, subst, sym, ap, ◌∙◌, ◌⊎◌, inl, inr}
+use Rattle.std.proofs.Common.{◌≡◌, ◌≢◌, ℕ, ◌≤◌, true, false, cond, List, [], ◌∷◌, ◌++◌, refl, arith, Option, Some, None, subst, sym, ap, ◌∙◌, inl, inr}
 use Rattle.std.specs.Prelude.{bytes_eq}
 use Rattle.std.proofs.lemmas.Slice.Eq.{bytes_eq-Decides}
 use Rattle.std.specs.List.{slice_get, slice_set}
@@ -9,14 +9,14 @@ use Rattle.std.proofs.lemmas.Grind.{common_steps}
 use Rattle.svn_repo.specs.declared.store.Node.{Node}
 use Rattle.svn_types.specs.Names.{Path}
 use Rattle.svn_types.specs.Pairs.{with_value}
-use Rattle.svn_repo.specs.History.{Nodes, NodeRow, entries_at, child_in, walk}
+use Rattle.svn_repo.specs.History.{entries_at, child_in, walk}
 use Rattle.svn_repo.specs.Stored.{row_of, rows}
 use Rattle.svn_repo.specs.Walks.{rest_below, led}
-use Rattle.svn_repo.specs.Trees.{Place, Tree, place_of, place_at, touched, touch, graft, is_within, place_with_prop, with_prop}
-use Rattle.svn_repo.specs.Drafts.{IsDraft, IsDraftEntries, IsClosedIn, SetsProp, shape_at, tree_in, IsThawed, IsGrafted}
+use Rattle.svn_repo.specs.Trees.{Place, place_of, place_at, touched, touch, graft, is_within, place_with_prop, with_prop}
+use Rattle.svn_repo.specs.Drafts.{IsDraftEntries, SetsProp, shape_at, tree_in, IsThawed, IsGrafted}
 use Rattle.svn_repo.proofs.Puts.{slice_get-set_other, slice_get-set_same}
 use Rattle.svn_repo.proofs.Walking.{and_then_same, rest_below_is}
-use Rattle.svn_repo.proofs.Thawing.{StaysIn, walk_same, place_from_shape, place_fresh, touched_shape, rest_below_self, path_cases, append_nil}
+use Rattle.svn_repo.proofs.Thawing.{place_from_shape, place_fresh, rest_below_self, append_nil}
 
 same_name : (m : List ℕ) → bytes_eq m m ≡ true
 same_name m = (bytes_eq-Decides m m).1 refl

@@ -1,18 +1,16 @@
 -- What writing the entries of one directory does to the nodes.
-use Rattle.std.proofs.Common.{◌≡◌, ◌≢◌, ℕ, zero, suc, ◌<◌, ◌++◌, cond, List, ◌∷◌, [], length, refl, ap, sym, ◌∙◌, Option, Some, None, arith, subst, Result, Ok, Err}
-use Rattle.std.specs.Prelude.{bytes_eq, OnOk}
+use Rattle.std.proofs.Common.{◌≡◌, ◌≢◌, ℕ, zero, suc, ◌<◌, ◌++◌, List, ◌∷◌, [], length, refl, ap, ◌∙◌, Option, Some, arith, Result, Ok, Err}
+use Rattle.std.specs.Prelude.{OnOk}
 use Rattle.std.specs.List.{slice_get, slice_set}
 use Rattle.std.specs.Option.{option_map}
 use Rattle.std.proofs.lemmas.Grind.{common_steps}
-use Rattle.std.proofs.lemmas.Option.{gets, slice_get_within}
+use Rattle.std.proofs.lemmas.Option.{gets}
 use Rattle.svn_repo.specs.declared.store.Node.{Node}
-use Rattle.svn_repo.specs.declared.store.Content.{Content}
 use Rattle.svn_repo.specs.declared.store.Content.TheVariants.{Listing}
 use Rattle.svn_types.specs.Names.{IsName}
-use Rattle.svn_types.specs.Pairs.{ChangesOnly, value_of, with_value}
-use Rattle.svn_repo.specs.History.{child_in}
+use Rattle.svn_types.specs.Pairs.{ChangesOnly, with_value}
 use Rattle.svn_repo.specs.Stored.{row_of, rows}
-use Rattle.svn_repo.specs.Drafts.{PutsChild, IsListing, shape_at}
+use Rattle.svn_repo.specs.Drafts.{PutsChild}
 
 pub slice_get-set_other : {X : Type 0} (xs : List X) (i : ℕ) (v : X) (m : ℕ) → m ≢ i → slice_get (slice_set xs i v) m ≡ slice_get xs m
 slice_get-set_other xs i v m ne = grind (arith, common_steps, gets)

@@ -1,19 +1,18 @@
 -- Another child put into a fresh directory of a draft: the tree has the child's part there, and nothing else changes.
-use Rattle.std.proofs.Common.{◌≡◌, ◌≢◌, ℕ, ◌+◌, ◌<◌, ◌≤◌, suc, Bool, true, false, cond, List, [], ◌∷◌, ◌++◌, length, refl, arith, Option, Some, None, subst, sym, ap, ◌∙◌, length-append, ◌⊎◌, inl, inr}
+use Rattle.std.proofs.Common.{◌≡◌, ◌≢◌, ℕ, ◌<◌, ◌≤◌, cond, List, [], ◌∷◌, ◌++◌, length, refl, arith, Option, Some, None, subst, sym, ap, ◌∙◌, ◌⊎◌, inl, inr}
 use Rattle.std.specs.Prelude.{bytes_eq}
-use Rattle.std.specs.List.{slice_get}
 use Rattle.std.specs.Option.{option_and_then, option_map}
 use Rattle.std.proofs.lemmas.Bool.{cases_Bool, cases_eq}
 use Rattle.svn_repo.specs.declared.store.Node.{Node}
 use Rattle.svn_types.specs.Names.{Path}
-use Rattle.svn_repo.specs.History.{Nodes, NodeRow, child_in, walk}
+use Rattle.svn_repo.specs.History.{child_in, walk}
 use Rattle.svn_repo.specs.Stored.{row_of, rows}
 use Rattle.svn_repo.specs.Walks.{rest_below, led}
-use Rattle.svn_repo.specs.Trees.{Place, Tree, place_of, place_at, tree_below, touched, touch, graft, is_within}
-use Rattle.svn_repo.specs.Drafts.{IsDraft, IsClosedIn, PutsChild, shape_at, tree_in, IsThawed}
-use Rattle.svn_repo.proofs.Walking.{SameBut, IsApart, IsOnlyWay, and_then_same, and_then_parts, walk_step, walk_append, walk_after_put, rest_below_is}
+use Rattle.svn_repo.specs.Trees.{Tree, place_of, place_at, touched, touch, graft}
+use Rattle.svn_repo.specs.Drafts.{IsDraft, IsClosedIn, PutsChild, shape_at, tree_in}
+use Rattle.svn_repo.proofs.Walking.{SameBut, IsOnlyWay, and_then_same, and_then_parts, walk_after_put, rest_below_is}
 use Rattle.svn_repo.proofs.Entering.{each-put}
-use Rattle.svn_repo.proofs.Thawing.{place_from_shape, rows-append, rows-push, closed_grown, walk_grown, in_range, within_more, rest_below_self, path_cases}
+use Rattle.svn_repo.proofs.Thawing.{place_from_shape, within_more, rest_below_self}
 
 pub led_same : {T : Type 0} (o : Option Path) (u v : Path → T) (x y : T) → ((r : Path) → u r ≡ v r) → (o ≡ None → x ≡ y) → led o u x ≡ led o v y
 led_same None u v x y h k = k refl

@@ -1,5 +1,5 @@
 -- The first repository, and what every repository tells its readers.
-use Rattle.std.proofs.Common.{◌≡◌, ◌≢◌, ℕ, zero, suc, ◌<◌, ◌≤◌, Bool, true, false, cond, List, [], ◌∷◌, length, map, refl, arith, Option, Some, None, subst, sym, ap, ◌∙◌}
+use Rattle.std.proofs.Common.{◌≡◌, ℕ, zero, suc, ◌<◌, ◌≤◌, cond, List, [], ◌∷◌, length, map, refl, arith, Option, Some, None, subst, sym, ap, ◌∙◌}
 use Rattle.std.specs.Prelude.{nat_lt, nat_le, IsSome}
 use Rattle.std.specs.List.{All, slice_get}
 use Rattle.std.specs.Option.{option_and_then, option_map}
@@ -7,8 +7,7 @@ use Rattle.std.specs.Map.{keys_of, values_of}
 use Rattle.std.proofs.Math.Dec.{leb-zero, leb-suc-zero}
 use Rattle.std.proofs.lemmas.List.Elements.{All-nil, All-head, All-tail}
 use Rattle.std.proofs.lemmas.Option.{slice_get_within}
-use Rattle.svn_types.specs.declared.kind.Kind.{Kind}
-use Rattle.svn_types.specs.declared.kind.Kind.TheVariants.{File, Directory}
+use Rattle.svn_types.specs.declared.kind.Kind.TheVariants.{Directory}
 use Rattle.svn_types.specs.Names.{Path, IsName}
 use Rattle.svn_repo.specs.declared.store.Node.{Node}
 use Rattle.svn_repo.specs.History.{NodeRow, Nodes, History, node_at, child_in, walk, look, empty_directory, new_history, IsDirectoryIn, reaches}

@@ -1,11 +1,11 @@
 -- What stands at a path of a draft.
-use Rattle.std.proofs.Common.{◌≡◌, ℕ, ◌<◌, ◌≤◌, suc, zero, true, cond, List, [], ◌∷◌, length, refl, arith, Option, Some, None, sym, ap, ◌∙◌}
+use Rattle.std.proofs.Common.{◌≡◌, ℕ, ◌<◌, suc, zero, true, cond, List, [], ◌∷◌, length, refl, arith, Option, Some, None, sym, ◌∙◌}
 use Rattle.std.specs.Prelude.{nat_lt}
 use Rattle.std.specs.List.{slice_get}
 use Rattle.std.specs.Option.{option_and_then, option_map, is_some}
 use Rattle.svn_repo.specs.declared.store.Node.{Node}
 use Rattle.svn_types.specs.Names.{Path}
-use Rattle.svn_repo.specs.History.{NodeRow, walk}
+use Rattle.svn_repo.specs.History.{walk}
 use Rattle.svn_repo.specs.Stored.{row_of, rows}
 use Rattle.svn_repo.specs.Trees.{place_of, place_at}
 use Rattle.svn_repo.specs.Drafts.{IsClosedIn, tree_in}

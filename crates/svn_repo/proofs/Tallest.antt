@@ -1,6 +1,6 @@
 -- The height of a node from those of its children.
-use Rattle.std.proofs.Common.{◌≡◌, ◌≢◌, ℕ, zero, suc, ◌+◌, ◌-◌, ◌<◌, ◌≤◌, Bool, true, false, cond, ◌||◌, List, [], ◌∷◌, ◌++◌, length, length-take, take, max, refl, arith, Option, Some, None, subst, sym, ap, ◌∙◌, ◌⊎◌, inl, inr}
-use Rattle.std.specs.Prelude.{nat_lt, nat_le}
+use Rattle.std.proofs.Common.{◌≡◌, ◌≢◌, ℕ, zero, suc, ◌+◌, ◌<◌, ◌≤◌, Bool, true, false, ◌||◌, List, [], ◌∷◌, ◌++◌, length, length-take, take, max, refl, arith, Option, Some, None, subst, sym, ap, ◌∙◌, ◌⊎◌, inl, inr}
+use Rattle.std.specs.Prelude.{nat_le}
 use Rattle.std.specs.List.{All, list_any, slice_get, slice_set}
 use Rattle.std.specs.Map.{values_of}
 use Rattle.std.specs.Option.{option_map}
@@ -9,11 +9,11 @@ use Rattle.std.proofs.lemmas.Bool.{cases_lt, cases_eq, lt-ltb, le-ltb, le-leb, l
 use Rattle.std.proofs.lemmas.List.Elements.{All-head, All-tail}
 use Rattle.std.proofs.lemmas.Option.{slice_get_within}
 use Rattle.svn_repo.specs.declared.store.Node.{Node}
-use Rattle.svn_repo.specs.History.{History, Nodes, NodeRow, entries_at, child_in, reaches}
+use Rattle.svn_repo.specs.History.{Nodes, entries_at, reaches}
 use Rattle.svn_repo.specs.Readings.{path_limit}
 use Rattle.svn_repo.specs.Stored.{row_of, rows, IsHeight, AreHeights}
 use Rattle.svn_repo.specs.Heights.{height_above, height_from, IsOrdered}
-use Rattle.svn_repo.specs.Drafts.{IsDraft, IsClosedIn, KeepsOld}
+use Rattle.svn_repo.specs.Drafts.{IsDraft, KeepsOld}
 use Rattle.svn_repo.proofs.Pairs.{all_values}
 use Rattle.svn_repo.proofs.Entering.{children_found}
 use Rattle.svn_repo.proofs.Puts.{slice_get-append, slice_get-set_same, slice_get-set_other}

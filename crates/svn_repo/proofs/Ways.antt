@@ -1,5 +1,5 @@
 -- The way down: what a thawed way still has of the way that stood.
-use Rattle.std.proofs.Common.{◌≡◌, ℕ, ◌+◌, ◌<◌, ◌≤◌, Bool, true, false, cond, List, [], ◌∷◌, ◌++◌, length, take, get_or, refl, arith, Option, Some, None, subst, sym, ap, ◌∙◌}
+use Rattle.std.proofs.Common.{◌≡◌, ℕ, ◌+◌, ◌<◌, Bool, true, false, cond, List, [], ◌∷◌, ◌++◌, length, take, get_or, refl, arith, Option, Some, None, sym, ap, ◌∙◌}
 use Rattle.std.specs.Prelude.{IsSome, nat_lt}
 use Rattle.std.specs.List.{slice_get}
 use Rattle.std.specs.Option.{option_and_then, option_map, is_some}
@@ -8,12 +8,12 @@ use Rattle.svn_repo.specs.declared.store.Node.{Node}
 use Rattle.svn_repo.specs.declared.store.Content.{Content}
 use Rattle.svn_repo.specs.declared.store.Content.TheVariants.{Text, Listing}
 use Rattle.svn_types.specs.Names.{Path}
-use Rattle.svn_repo.specs.History.{Nodes, NodeRow, child_in, walk}
-use Rattle.svn_repo.specs.Stored.{row_of, rows, kind_of}
-use Rattle.svn_repo.specs.Trees.{Place, Tree, place_of, place_at, tree_below, touched, touch, is_within, IsWay, is_directory_place}
-use Rattle.svn_repo.specs.Drafts.{IsDraft, IsThawed, IsListing, KeepsOld, ThawsChild, tree_in}
-use Rattle.svn_repo.proofs.Walking.{walk_append, and_then_parts}
-use Rattle.svn_repo.proofs.Thawing.{thaw_more, thaw_none}
+use Rattle.svn_repo.specs.History.{child_in, walk}
+use Rattle.svn_repo.specs.Stored.{row_of, rows}
+use Rattle.svn_repo.specs.Trees.{Place, Tree, place_of, place_at, touched, touch, is_within, IsWay, is_directory_place}
+use Rattle.svn_repo.specs.Drafts.{IsThawed, IsListing, ThawsChild, tree_in}
+use Rattle.svn_repo.proofs.Walking.{walk_append}
+use Rattle.svn_repo.proofs.Thawing.{thaw_more}
 
 some_of_touched : (b : Bool) (o : Option Place) → is_some (cond b (option_map touched o) o) ≡ is_some o
 some_of_touched true None = refl

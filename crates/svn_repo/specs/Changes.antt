@@ -2,9 +2,8 @@
 --     change_fault h s change      why the change can't be made, if it can't
 --     after_change h s change      the tree and the next line after it
 --     IsCommit h h' changes      h' is h with one more revision, made by the changes
-use Rattle.std.specs.Prelude.{◌≡◌, ℕ, ◌+◌, ◌-◌, ◌≤◌, ◌<◌, Bool, true, false, not, List, [], ◌∷◌, ◌++◌, length, nat_lt, nat_le, slice_get, Option, Some, None, MatchOption, is_some, is_none, option_map, option_and_then, if◌then◌else◌, ◌⊎◌}
+use Rattle.std.specs.Prelude.{◌≡◌, ℕ, ◌+◌, ◌-◌, ◌≤◌, ◌<◌, Bool, true, List, [], ◌∷◌, ◌++◌, length, nat_lt, nat_le, Option, Some, None, MatchOption, is_some, if◌then◌else◌, ◌⊎◌}
 use Rattle.std.specs.Option.{option_or}
-use Rattle.svn_types.specs.declared.kind.Kind.{Kind}
 use Rattle.svn_types.specs.declared.kind.Kind.TheVariants.{File, Directory}
 use Rattle.svn_repo.specs.declared.change.Change.{Change}
 use Rattle.svn_repo.specs.declared.change.Change.TheVariants.{MakeDir, PutFile, SetProp, Remove, CopyFrom}
@@ -14,10 +13,9 @@ use Rattle.svn_repo.specs.declared.store.Node.{Node}
 use Rattle.svn_repo.specs.Drafts.{IsDraft, tree_in, past_in}
 use Rattle.svn_repo.specs.Stored.{history_of}
 use Rattle.svn_types.specs.Names.{Path}
-use Rattle.svn_types.specs.Pairs.{with_value}
-use Rattle.svn_repo.specs.History.{NodeRow, History, Nodes, node_at, look, walk, reaches}
+use Rattle.svn_repo.specs.History.{NodeRow, History, Nodes, node_at, look, reaches}
 use Rattle.svn_repo.specs.Readings.{path_limit, size_limit}
-use Rattle.svn_repo.specs.Trees.{Place, Tree, place_at, tree_at, tree_below, touch, graft, leaf, nothing, with_prop, is_directory_place}
+use Rattle.svn_repo.specs.Trees.{Place, Tree, tree_at, graft, leaf, nothing, with_prop, is_directory_place}
 
 -- the tree that the changes so far have made, and the next line
 pub record Pending : Type 0 where

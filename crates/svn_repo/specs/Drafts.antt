@@ -2,12 +2,11 @@
 use Rattle.std.specs.Prelude.{◌≡◌, ◌≢◌, ℕ, ◌<◌, ◌≤◌, List, [], ◌∷◌, ◌++◌, length, bytes_eq, slice_get, Option, Some, None, option_map, option_and_then, if◌then◌else◌, take, ◌⊎◌}
 use Rattle.std.specs.List.{All}
 use Rattle.std.specs.Map.{keys_of, values_of}
-use Rattle.svn_types.specs.declared.kind.Kind.{Kind}
 use Rattle.svn_repo.specs.declared.store.Node.{Node}
 use Rattle.svn_repo.specs.declared.store.Content.TheVariants.{Listing}
 use Rattle.svn_types.specs.Names.{Path, IsName}
 use Rattle.svn_types.specs.Pairs.{InNameOrder, with_value}
-use Rattle.svn_repo.specs.History.{NodeRow, History, Nodes, entries_at, child_in, walk}
+use Rattle.svn_repo.specs.History.{History, entries_at, child_in, walk}
 use Rattle.svn_repo.specs.Stored.{row_of, rows, history_of, IsHeight}
 use Rattle.svn_repo.specs.Trees.{Place, place_of, Tree, tree_below, touch, graft, place_with_prop}
 

@@ -1,5 +1,5 @@
 -- How deep the tree below a node is, given the heights of its children.
-use Rattle.std.specs.Prelude.{◌≡◌, ℕ, ◌+◌, ◌<◌, ◌≤◌, List, [], ◌∷◌, length, nat_lt, max, slice_get, Option, Some, None, if◌then◌else◌, ◌⊎◌}
+use Rattle.std.specs.Prelude.{ℕ, ◌+◌, ◌<◌, ◌≤◌, List, [], ◌∷◌, length, nat_lt, max, slice_get, Option, Some, None, if◌then◌else◌, ◌⊎◌}
 use Rattle.std.specs.List.{All}
 use Rattle.std.specs.Map.{values_of}
 use Rattle.svn_repo.specs.declared.store.Node.{Node}

@@ -3,7 +3,7 @@
 --     look h r p      the node at path p in revision r
 --     walk nodes n p      the node at path p below node n
 --     reaches nodes k n      whether a path of k names leads down from node n
-use Rattle.std.specs.Prelude.{◌≡◌, ℕ, zero, suc, Bool, true, List, [], ◌∷◌, slice_get, Option, Some, None, option_and_then, option_map}
+use Rattle.std.specs.Prelude.{◌≡◌, ℕ, zero, suc, Bool, true, List, [], ◌∷◌, slice_get, Option, Some, None, option_and_then}
 use Rattle.std.specs.List.{list_any}
 use Rattle.svn_types.specs.declared.kind.Kind.{Kind}
 use Rattle.svn_types.specs.declared.kind.Kind.TheVariants.{File, Directory}

@@ -2,7 +2,7 @@
 --     CopiesKeepNodes      a copy puts the source's own node revisions at its path
 --     ChangesKeepLines      what stands at a path before a change and after it is of one line
 --     UntouchedPathsKeepNodes      where nothing at, above or below a path was changed, one node revision stands there
-use Rattle.std.specs.Prelude.{◌≡◌, ◌≢◌, ℕ, ◌-◌, Bool, false, ◌||◌, List, [], ◌++◌, length, Option, Some, None, IsSome}
+use Rattle.std.specs.Prelude.{◌≡◌, ◌≢◌, ℕ, ◌-◌, Bool, false, ◌||◌, List, [], ◌++◌, length, Some, None, IsSome}
 use Rattle.std.specs.List.{list_any}
 use Rattle.svn_repo.specs.declared.change.Change.{Change}
 use Rattle.svn_repo.specs.declared.change.Change.TheVariants.{MakeDir, PutFile, SetProp, Remove, CopyFrom}

@@ -1,5 +1,5 @@
 -- What a stored node is to a reader, and what holds of every repository.
-use Rattle.std.specs.Prelude.{◌≡◌, ℕ, ◌<◌, ◌≤◌, List, [], length, slice_get, Option, Some, None, option_map, map, nat_le}
+use Rattle.std.specs.Prelude.{◌≡◌, ℕ, ◌<◌, ◌≤◌, List, [], length, slice_get, Some, option_map, map, nat_le}
 use Rattle.std.specs.List.{All}
 use Rattle.std.specs.Map.{keys_of, values_of}
 use Rattle.svn_types.specs.declared.kind.Kind.{Kind}

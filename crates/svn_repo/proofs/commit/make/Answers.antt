@@ -1,12 +1,10 @@
-use Rattle.std.proofs.Common.{◌≡◌, ℕ, Some, None, subst, List, ap, sym, ◌∙◌, arith, refl, ◌≤◌, length, cond, ◌+◌}
+use Rattle.std.proofs.Common.{◌≡◌, ℕ, Some, None, subst, List, ap, sym, ◌∙◌, arith, ◌≤◌, length, ◌+◌}
 use Rattle.std.specs.Option.{is_some}
 use Rattle.svn_repo.specs.declared.store.Node.{Node}
 use Rattle.svn_repo.specs.declared.change.Change.{Change}
-use Rattle.svn_repo.specs.declared.change.Change.TheVariants.{MakeDir, PutFile, SetProp, Remove, CopyFrom}
 use Rattle.svn_types.specs.Names.{Path}
-use Rattle.svn_repo.specs.History.{History, look}
 use Rattle.svn_repo.specs.Trees.{Tree, leaf, graft, nothing, with_prop, IsWay}
-use Rattle.svn_repo.specs.Drafts.{tree_in, past_in, look_in, old_part, IsGrafted}
+use Rattle.svn_repo.specs.Drafts.{tree_in, past_in, old_part, IsGrafted}
 use Rattle.svn_repo.specs.Changes.{Pending, change_fault, after_change, pending_in, new_directory, with_text, lines_after}
 use Rattle.svn_repo.proofs.Pendings.{CanCopy, can_copy, CanPut, can_make_dir, can_put_file, can_remove, can_set_prop, made_by_prop, made_by_graft, next_is, next_below}
 use Rattle.svn_repo.proofs.Past.{source_found, looked_in, copied_part}

@@ -1,10 +1,9 @@
-use Rattle.std.proofs.Common.{rules, ◌≡◌, ℕ, ◌-◌, ◌<◌, Some, List, length, arith, subst, sym, ap, ◌∙◌, ◌⊎◌, inl, inr}
+use Rattle.std.proofs.Common.{rules, ◌≡◌, ℕ, ◌-◌, ◌<◌, Some, List, length, arith, subst, ap, ◌∙◌, inl, inr}
 use Rattle.std.specs.List.{slice_get}
 use Rattle.std.proofs.lemmas.Option.{slice_get_within}
 use Rattle.svn_repo.specs.declared.store.Node.{Node}
-use Rattle.svn_repo.specs.Stored.{rows, history_of, IsHeight, AreHeights}
+use Rattle.svn_repo.specs.Stored.{history_of, AreHeights}
 use Rattle.svn_repo.specs.Heights.{IsOrdered}
-use Rattle.svn_repo.specs.Drafts.{IsPast}
 use Rattle.svn_repo.specs.Changes.{AllMade, IsFaultOf, changes_fault}
 use Rattle.svn_repo.proofs.Past.{last_root}
 use Rattle.svn_repo.proofs.Tallest.{draft_ordered, heights_kept}

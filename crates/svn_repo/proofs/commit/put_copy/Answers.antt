@@ -3,7 +3,6 @@ use Rattle.svn_types.specs.Names.{Path}
 use Rattle.svn_repo.specs.Drafts.{tree_in}
 use Rattle.svn_repo.specs.Changes.{above_fault}
 use Rattle.svn_repo.proofs.Faults.{way_from_fault}
-use Rattle.svn_repo.proofs.Thawing.{in_range}
 use Rattle.svn_repo.proofs.commit.put_copy.Goals as goal
 
 pub put_old-requires-clause-way : goal.put_old-requires-clause-way

@@ -1,7 +1,6 @@
-use Rattle.std.proofs.Common.{◌≡◌, ℕ, Some, length, refl, sym, ap, ◌∙◌, arith, List, rules, subst}
+use Rattle.std.proofs.Common.{◌≡◌, Some, length, refl, sym, ◌∙◌, arith}
 use Rattle.std.specs.List.{slice_get}
 use Rattle.std.proofs.lemmas.Option.{slice_get_read}
-use Rattle.svn_repo.specs.declared.store.Node.{Node}
 use Rattle.svn_repo.proofs.Faults.{led_file, led_directory}
 use Rattle.svn_repo.proofs.fault.fault_above.Goals as goal
 

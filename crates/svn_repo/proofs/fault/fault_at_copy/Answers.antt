@@ -1,4 +1,4 @@
-use Rattle.std.proofs.Common.{◌≡◌, ◌-◌, ◌+◌, ℕ, true, false, Some, None, length, take, sym, ap, ◌∙◌}
+use Rattle.std.proofs.Common.{◌≡◌, ◌-◌, ◌+◌, true, false, length, take, sym, ap, ◌∙◌}
 use Rattle.std.specs.Option.{option_or, is_some}
 use Rattle.svn_repo.specs.declared.change.CommitFault.TheVariants.{Exists, TooDeep}
 use Rattle.svn_repo.specs.History.{reaches}
