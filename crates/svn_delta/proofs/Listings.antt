@@ -1,6 +1,6 @@
 -- Entries found by their path, and by what stands next to a path.
-use Rattle.std.proofs.Common.{◌≡◌, ◌≢◌, ℕ, zero, suc, Bool, true, false, ◌&&◌, ◌||◌, not, cond, List, [], ◌∷◌, ◌++◌, length, refl, sym, ◌∙◌, ap, subst, inl, inr, true≢false}
-use Rattle.std.specs.Prelude.{Option, Some, None, ◌⊎◌, is_some, slice_get, bytes_eq, MatchOption}
+use Rattle.std.proofs.Common.{◌≡◌, ℕ, suc, Bool, true, false, ◌&&◌, ◌||◌, not, cond, List, [], ◌∷◌, ◌++◌, length, refl, sym, ◌∙◌, ap, subst, inl, inr, true≢false}
+use Rattle.std.specs.Prelude.{Option, Some, None, ◌⊎◌, is_some, slice_get, MatchOption}
 use Rattle.std.specs.declared.cmp.Ordering.{Ordering}
 use Rattle.std.specs.declared.cmp.Ordering.TheVariants.{Less, Equal, Greater}
 use Rattle.std.specs.List.{list_any}
@@ -18,7 +18,7 @@ use Rattle.svn_types.specs.Names.{Path, path_cmp}
 use Rattle.svn_types.specs.Paths.{path_eq, is_within, is_below}
 use Rattle.svn_delta.specs.declared.entry.ReportEntry.{ReportEntry}
 use Rattle.svn_delta.specs.declared.entry.ReporterFault.{ReporterFault}
-use Rattle.svn_delta.specs.Reports.{Entries, entry_at, has_entry_below, is_delete, is_deleted_at, is_deleted_above, is_root_missing, is_link_too_deep, reporter_fault}
+use Rattle.svn_delta.specs.Reports.{Entries, entry_at, has_entry_below, is_delete, is_deleted_at, is_deleted_above, is_root_missing, reporter_fault}
 use Rattle.std.specs.Prelude.{nat_eq}
 use Rattle.std.specs.Cmp.Lexicographic.{pointwise}
 use Rattle.indexmap.specs.IndexMap.{insert_entry}

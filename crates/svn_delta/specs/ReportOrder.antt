@@ -1,5 +1,5 @@
 -- How a report keeps its paths in their order, so that what stands above or beneath one is found next to it.
-use Rattle.std.specs.Prelude.{◌≡◌, Bool, true, false, ℕ, Option, Some, None, is_some, MatchOption, slice_get}
+use Rattle.std.specs.Prelude.{◌≡◌, true, false, ℕ, Option, Some, None, is_some, MatchOption, slice_get}
 use Rattle.std.specs.declared.cmp.Ordering.TheVariants.{Less}
 use Rattle.std.specs.BTreeSet.{BTreeSet, contains}
 use Rattle.svn_types.specs.Names.{Path, path_cmp}
