@@ -46,7 +46,13 @@ fn refuses(rt: HostRuntime) -> Result<(), Fail> {
     assert_eq!(rt; tree.get(root, 2), Some(&text[..8189]));
     assert_eq!(rt; tree.get(root, 3), None);
     assert_eq!(rt; tree.count(root), Some(3));
+    let mut lengths = [0usize; 3];
+    for (length, string) in lengths.iter_mut().zip(tree.strings(root)?) {
+        *length = string.len();
+    }
+    assert_eq!(rt; lengths, [1, 8188, 8189]);
     tree.clear(root)?;
+    assert_eq!(rt; tree.strings(root)?.next(), None);
     assert_eq!(rt; counts(&tree), (1, 0, 2));
     assert_eq!(rt; tree.push(root, &text), Err(PoolFault::TooLong));
     assert_eq!(rt; tree.push(root, &text[..1_048_576])?, 0);
