@@ -1,11 +1,11 @@
 -- Serials whose pools are gone, and pools without children.
-use Rattle.std.proofs.Common.{◌≡◌, ◌≢◌, ℕ, zero, suc, ◌+◌, ◌<◌, Bool, true, false, cond, List, [], Option, None, Some, IsSome, is_some, refl, sym, ap, subst, ◌∙◌, inl, inr, arith}
+use Rattle.std.proofs.Common.{◌≡◌, ◌≢◌, ℕ, zero, suc, ◌<◌, [], None, Some, IsSome, sym, ap, subst, ◌∙◌, inl, inr, arith}
 use Rattle.std.proofs.lemmas.Bool.{cases_eq}
 use Rattle.std.proofs.lemmas.Cmp.{nat_cmp_total}
 use Rattle.std.specs.FinMap as fin
 use Rattle.svn_pool.specs.Ancestry.{IsAbove, IsBeneath, IsOld}
 use Rattle.svn_pool.specs.Laws.{LeafGoesAlone, OldIsGone, OldStaysOld}
-use Rattle.svn_pool.specs.Pools.{Entry, Pools, pool_at, parent_of, strings_of_pool}
+use Rattle.svn_pool.specs.Pools.{Pools, pool_at, parent_of, strings_of_pool}
 use Rattle.svn_pool.proofs.Kinship.{none_is_gone}
 use Rattle.svn_pool.proofs.Outcomes.{fault_if_gone, parentless}
 use Rattle.svn_pool.proofs.Views.{inserted_away, removed_here, removed_away}

@@ -1,5 +1,5 @@
 -- Laws of the pool object, which follow from what the calls do.
-use Rattle.std.specs.Prelude.{◌≡◌, ◌≢◌, ℕ, List, [], Option, None, Some, IsSome}
+use Rattle.std.specs.Prelude.{◌≡◌, ◌≢◌, ℕ, List, [], Some, IsSome}
 use Rattle.std.specs.FinMap as map
 use Rattle.svn_pool.specs.Ancestry.{IsCleared, IsDestroyed, IsOld}
 use Rattle.svn_pool.specs.Pools.{Pools, pool_at, parent_of, strings_at, created, pushed}

@@ -1,6 +1,5 @@
-use Rattle.std.proofs.Common.{◌≡◌, ◌++◌, length}
-use Rattle.svn_pool.specs.Frames.{IsFramed, unframe}
-use Rattle.svn_pool.specs.Layout.{strings_of}
+use Rattle.std.proofs.Common.{◌≡◌, length}
+use Rattle.svn_pool.specs.Frames.{IsFramed}
 use Rattle.svn_pool.specs.Readers.{targets, to_read}
 use Rattle.svn_pool.proofs.reader.ReaderIterator.next.Given as goal
 

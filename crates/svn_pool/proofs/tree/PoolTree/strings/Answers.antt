@@ -1,7 +1,5 @@
-use Rattle.std.proofs.Common.{◌≡◌, ℕ, List, Option, None, Some, Ok, Err, IsSome, is_some, refl, sym, ap, subst, ◌∙◌}
-use Rattle.svn_pool.specs.Faults.{Answers}
-use Rattle.svn_pool.specs.Pools.{pool_at, strings_at, strings_of_pool}
-use Rattle.svn_pool.specs.declared.fault.PoolFault.{PoolFault}
+use Rattle.std.proofs.Common.{◌≡◌, None, Some, is_some, refl, sym, ap, ◌∙◌}
+use Rattle.svn_pool.specs.Pools.{pool_at, strings_of_pool}
 use Rattle.svn_pool.proofs.Outcomes.{fault_if_gone, fault_if_some}
 use Rattle.svn_pool.proofs.Views.{pool_is}
 use Rattle.svn_pool.proofs.tree.PoolTree.strings.Goals as goal
