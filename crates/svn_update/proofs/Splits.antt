@@ -25,9 +25,10 @@ not_less n m e = grind (arith, nat_tests)
 nowhere : (p : ℕ → Bool) (xs : List ℕ) → length xs ≤ position_or_len p xs → slice_split p xs ≡ xs ∷ []
 nowhere p [] h = refl
 nowhere p (x ∷ xs) h =
-    (elim (p x) as (λ (b : Bool). length (x ∷ xs) ≤ cond (not b) (1 + prefix_len (λ y. not (p y)) xs) 0 → cond b ([] ∷ slice_split p xs) (onto_first x (slice_split p xs)) ≡ (x ∷ xs) ∷ [])
-    [ true ↦ λ few. absurd (omega (arith, few))
-    | false ↦ λ few. ap (onto_first x) (nowhere p xs (omega (arith, few))) ]) h
+    (elim (p x) as (λ (b : Bool). length (x ∷ xs) ≤ cond (not b) (1 + prefix_len (λ y. not (p y)) xs) 0 → cond b ([] ∷ slice_split p xs) (onto_first x (slice_split p xs)) ≡ (x ∷ xs) ∷ []) [
+      | true ↦ λ few. absurd (omega (arith, few))
+      | false ↦ λ few. ap (onto_first x) (nowhere p xs (omega (arith, few)))
+    ]) h
 
 -- without one, all is one part
 pub split_nowhere : (p : ℕ → Bool) (xs : List ℕ) → position p xs ≡ None → slice_split p xs ≡ xs ∷ []

@@ -21,8 +21,8 @@ too_large n bs h =
     let large : 2 ^ 64 ≤ decimal_from n bs = omega (arith, more) in
     unfitting (decimal_from n bs) large
   where
-  unfitting : (m : ℕ) → 2 ^ 64 ≤ m → fitting m ≡ None
-  unfitting m large = grind (arith, nat_tests)
+    unfitting : (m : ℕ) → 2 ^ 64 ≤ m → fitting m ≡ None
+    unfitting m large = grind (arith, nat_tests)
 
 -- a byte but for the percent sign stands for itself
 pub unescaped_plain : (b : ℕ) (bs : List ℕ) → nat_eq b 37 ≡ false → unescaped (b ∷ bs) ≡ onto (Some b) (unescaped bs)

@@ -39,13 +39,7 @@ fn last_word(line: &[u8]) -> Option<&[u8]>
     ensures { MatchOption result (only_word (words_of line.now) ≡ None) (λ w. only_word (words_of line.now) ≡ Some w.now) }
 {
     match next_word(line) {
-        Some((word, rest)) => {
-            if is_blank(rest) {
-                Some(word)
-            } else {
-                None
-            }
-        }
+        Some((word, rest)) => { if is_blank(rest) { Some(word) } else { None } }
         None => None,
     }
 }

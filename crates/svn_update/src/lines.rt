@@ -61,13 +61,7 @@ pub(crate) fn without_return(line: &[u8]) -> &[u8]
     ensures { result.now ≡ without_return line.now }
 {
     match line.split_last() {
-        Some((last, front)) => {
-            if *last == b'\r' {
-                front
-            } else {
-                line
-            }
-        }
+        Some((last, front)) => { if *last == b'\r' { front } else { line } }
         None => line,
     }
 }

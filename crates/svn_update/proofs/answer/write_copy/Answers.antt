@@ -13,11 +13,12 @@ loop-path-init g c =
 pub loop-path-preserved : goal.loop-path-preserved
 loop-path-preserved g c =
     let inv = c.loop-path.invariant in
-    let text = node_lines (c.in-Some.path.now, c.in-Some.node.now) in
-    (inv.0 ++ text,
-     next_item node_lines inv.0 (c.in-Some.path.now, c.in-Some.node.now) c.next.new.self c.loop-path.path-iterator
-       (flat_map node_lines c.args.copy.now) c.in-Some.ensures.steps inv.1,
-     λ plain. let before = inv.2 plain in has_written_append _ _ _ _ _ _ before (c.in_ok-write_node.ensures before.plain refl))
+    let text = node_lines (c.in-Some.path.now, c.in-Some.node.now) in (
+      inv.0 ++ text,
+      next_item node_lines inv.0 (c.in-Some.path.now, c.in-Some.node.now) c.next.new.self c.loop-path.path-iterator
+          (flat_map node_lines c.args.copy.now) c.in-Some.ensures.steps inv.1,
+      λ plain. let before = inv.2 plain in has_written_append _ _ _ _ _ _ before (c.in_ok-write_node.ensures before.plain refl),
+    )
 
 pub returns : goal.returns
 returns g c = λ plain ok.

@@ -13,11 +13,12 @@ loop-name-init g c =
 pub loop-name-preserved : goal.loop-name-preserved
 loop-name-preserved g c =
     let inv = c.loop-name.invariant in
-    let text = prop_line c.args.path.now (c.in-Some.name.now, c.in-Some.value.now) in
-    (inv.0 ++ text,
-     next_item (prop_line c.args.path.now) inv.0 (c.in-Some.name.now, c.in-Some.value.now) c.next.new.self c.loop-name.name-iterator
-       (flat_map (prop_line c.args.path.now) c.args.props.now) c.in-Some.ensures.steps inv.1,
-     λ plain. let before = inv.2 plain in has_written_append _ _ _ _ _ _ before (c.in_ok-write_prop.ensures before.plain refl))
+    let text = prop_line c.args.path.now (c.in-Some.name.now, c.in-Some.value.now) in (
+      inv.0 ++ text,
+      next_item (prop_line c.args.path.now) inv.0 (c.in-Some.name.now, c.in-Some.value.now) c.next.new.self c.loop-name.name-iterator
+          (flat_map (prop_line c.args.path.now) c.args.props.now) c.in-Some.ensures.steps inv.1,
+      λ plain. let before = inv.2 plain in has_written_append _ _ _ _ _ _ before (c.in_ok-write_prop.ensures before.plain refl),
+    )
 
 pub returns : goal.returns
 returns g c = λ plain ok.
