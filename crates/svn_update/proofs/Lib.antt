@@ -1,0 +1,4 @@
+pub mod Printing
+pub mod ScriptLemmas
+pub mod Splits
+pub mod WordLemmas

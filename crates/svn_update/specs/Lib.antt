@@ -1,3 +1,8 @@
 pub mod FaultNumbers
+pub mod Reading
+pub mod Gives
+pub mod Commands
+pub mod Answers
 pub mod Outcomes
+pub mod ScriptStates
 pub mod Scripts

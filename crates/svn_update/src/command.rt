@@ -1,9 +1,14 @@
 //! The commands of a script, read from its lines.
-ghost use Rattle.std.specs.Prelude.{◌<◌, length, IfSome};
+ghost use Rattle.std.specs.Prelude.{◌≡◌, ◌∷◌, [], MatchOption, Some, None};
+ghost use Rattle.svn_update.specs.Reading.{words_of};
+ghost use Rattle.svn_update.specs.Gives.{Gives};
+ghost use Rattle.svn_update.specs.Commands.{no_words, only_word, only_path, only_number, put_of, verb_of, when_no_word, with_words, is_comment, command_of};
 
-use std::alloc::{AllocError, Global};
+use crate::lines::next_word;
+use crate::words::{LineFault, read_bytes, read_number, read_path};
+use std::alloc::Global;
 use svn_repo::Change;
-use svn_types::{PathFault, RelPath, Rev, Text};
+use svn_types::{RelPath, Rev};
 
 /// One line of a script.
 #[derive(Debug, Drop)]
@@ -22,156 +27,66 @@ pub(crate) enum Command {
     Show,
 }
 
-/// Why a line was not read.
-#[derive(Clone, Copy, Debug, PartialEq, Eq)]
-pub(crate) enum LineFault {
-    /// It is no command.
-    Bad,
-    /// A growth was refused.
-    Memory,
-}
-
-impl From<AllocError> for LineFault {
-    fn from(_error: AllocError) -> LineFault {
-        LineFault::Memory
-    }
-}
-
-// The first word of a line, and what is behind it. Words stand between spaces.
-fn next_word(line: &[u8]) -> Option<(&[u8], &[u8])> {
-    let start = line.iter().position(|byte| *byte != b' ')?;
-    let words = &line[start..];
-    let end = words
-        .iter()
-        .position(|byte| *byte == b' ')
-        .unwrap_or(words.len());
-    Some(words.split_at(end))
+// Whether a line has no word.
+fn is_blank(line: &[u8]) -> bool
+    ensures { result ≡ no_words (words_of line.now) }
+{
+    next_word(line).is_none()
 }
 
 // The one word that is left of a line.
-fn last_word(line: &[u8]) -> Result<&[u8], LineFault> {
-    let (word, rest) = next_word(line).ok_or(LineFault::Bad)?;
-    no_word(rest)?;
-    Ok(word)
-}
-
-// Refuses a line with more words.
-fn no_word(line: &[u8]) -> Result<(), LineFault> {
-    match next_word(line) {
-        Some(_) => Err(LineFault::Bad),
-        None => Ok(()),
-    }
-}
-
-// The value of a decimal digit.
-fn digit(byte: u8) -> Option<u64> {
-    if byte.is_ascii_digit() {
-        Some(u64::from(byte - b'0'))
-    } else {
-        None
-    }
-}
-
-// The value of a hexadecimal digit of either case.
-fn hex_digit(byte: u8) -> Option<u8>
-    ensures { IfSome result (λ digit. digit < 16) }
+fn last_word(line: &[u8]) -> Option<&[u8]>
+    ensures { MatchOption result (only_word (words_of line.now) ≡ None) (λ w. only_word (words_of line.now) ≡ Some w.now) }
 {
-    match byte {
-        b'0'..=b'9' => Some(byte - b'0'),
-        b'a'..=b'f' => Some(byte - b'a' + 10),
-        b'A'..=b'F' => Some(byte - b'A' + 10),
-        _ => None,
+    match next_word(line) {
+        Some((word, rest)) => { if is_blank(rest) { Some(word) } else { None } }
+        None => None,
     }
 }
 
-/// The most digits of a number.
-const MAX_DIGITS: usize = 20;
-
-// Reads a number: 1 to 20 decimal digits, at most 18446744073709551615.
-fn read_number(word: &[u8]) -> Option<u64> {
-    if word.is_empty() || word.len() > MAX_DIGITS {
-        return None;
-    }
-    let mut value = 0u64;
-    for byte in word {
-        value = value.checked_mul(10)?.checked_add(digit(*byte)?)?;
-    }
-    Some(value)
-}
-
-fn read_rev(line: &[u8]) -> Result<Rev, LineFault> {
-    match read_number(last_word(line)?) {
-        Some(number) => Ok(Rev(number)),
+// The path that is left of a line.
+fn last_path(alloc: Global, line: &[u8]) -> Result<RelPath, LineFault>
+    ensures { Gives (λ p. p) result (only_path (words_of line.now)) }
+{
+    match last_word(line) {
+        Some(word) => read_path(alloc, word),
         None => Err(LineFault::Bad),
     }
 }
 
-// The byte that a word begins with, escaped or as it is, and what is behind it.
-fn next_byte(word: &[u8]) -> Option<(u8, &[u8])>
-    ensures { IfSome result (λ r. length r.1.now < length word.now) }
+// The revision that is left of a line.
+fn last_rev(line: &[u8]) -> Result<Rev, LineFault>
+    ensures { Gives (λ r. r) result (only_number (words_of line.now)) }
 {
-    match word {
-        [b'%', high, low, rest @ ..] => {
-            let high = hex_digit(*high)?;
-            let low = hex_digit(*low)?;
-            Some((high * 16 + low, rest))
-        }
-        [b'%', ..] => None,
-        [byte, rest @ ..] => Some((*byte, rest)),
-        [] => None,
+    match last_word(line) {
+        Some(word) => match read_number(word) {
+            Some(number) => Ok(Rev(number)),
+            None => Err(LineFault::Bad),
+        },
+        None => Err(LineFault::Bad),
     }
 }
 
-// Reads the bytes that a word stands for.
-fn read_bytes(alloc: Global, word: &[u8]) -> Result<Vec<u8>, LineFault> {
-    let mut bytes = Vec::new(alloc);
-    if word == b"\"\"".as_slice() {
-        return Ok(bytes);
-    }
-    let mut rest = word;
-    'bytes: while !rest.is_empty() {
-        let (byte, after) = next_byte(rest).ok_or(LineFault::Bad)?;
-        if bytes.push(byte).is_err() {
-            return Err(LineFault::Memory);
-        }
-        rest = after;
-    }
-    Ok(bytes)
+// The file that a path and a text put.
+fn put_file(alloc: Global, path: &[u8], text: &[u8]) -> Result<Command, LineFault>
+    ensures { Gives (λ c. c) result (put_of (path.now ∷ text.now ∷ [])) }
+{
+    let path = read_path(alloc, path)?;
+    let text = read_bytes(alloc, text)?;
+    Ok(Command::Change(Change::PutFile { path, text }))
 }
 
-// Reads a path: the root is `.` or the empty word.
-fn read_path(alloc: Global, word: &[u8]) -> Result<RelPath, LineFault> {
-    let bytes = read_bytes(alloc, word)?;
-    let Ok(text) = str::from_utf8(&bytes) else {
-        return Err(LineFault::Bad);
-    };
-    if text == "." {
-        return Ok(RelPath::root(alloc));
+// The file that is put by what is left of a line, a path and a text.
+fn read_put(alloc: Global, line: &[u8]) -> Result<Command, LineFault>
+    ensures { Gives (λ c. c) result (put_of (words_of line.now)) }
+{
+    match next_word(line) {
+        Some((path, rest)) => match last_word(rest) {
+            Some(text) => put_file(alloc, path, text),
+            None => Err(LineFault::Bad),
+        },
+        None => Err(LineFault::Bad),
     }
-    match RelPath::parse(alloc, text) {
-        Ok(path) => Ok(path),
-        Err(PathFault::Memory) => Err(LineFault::Memory),
-        Err(_) => Err(LineFault::Bad),
-    }
-}
-
-fn read_put(alloc: Global, line: &[u8]) -> Result<Change, LineFault> {
-    let (path, rest) = next_word(line).ok_or(LineFault::Bad)?;
-    let text = last_word(rest)?;
-    Ok(Change::PutFile {
-        path: read_path(alloc, path)?,
-        text: Text::new(read_bytes(alloc, text)?),
-    })
-}
-
-fn read_mkdir(alloc: Global, line: &[u8]) -> Result<Change, LineFault> {
-    let path = read_path(alloc, last_word(line)?)?;
-    Ok(Change::MakeDir { path })
-}
-
-fn read_remove(alloc: Global, line: &[u8]) -> Result<Change, LineFault> {
-    let path = read_path(alloc, last_word(line)?)?;
-    Ok(Change::Remove { path })
 }
 
 // The names of the commands.
@@ -186,47 +101,82 @@ enum Verb {
     Show,
 }
 
-fn read_verb(word: &[u8]) -> Option<Verb> {
-    match word {
-        b"mkdir" => Some(Verb::Mkdir),
-        b"put" => Some(Verb::Put),
-        b"remove" => Some(Verb::Remove),
-        b"commit" => Some(Verb::Commit),
-        b"checkout" => Some(Verb::Checkout),
-        b"update" => Some(Verb::Update),
-        b"show" => Some(Verb::Show),
-        _ => None,
+fn read_verb(name: &[u8]) -> Option<Verb>
+    ensures { result ≡ verb_of name.now }
+{
+    if name == b"mkdir".as_slice() {
+        Some(Verb::Mkdir)
+    } else if name == b"put".as_slice() {
+        Some(Verb::Put)
+    } else if name == b"remove".as_slice() {
+        Some(Verb::Remove)
+    } else if name == b"commit".as_slice() {
+        Some(Verb::Commit)
+    } else if name == b"checkout".as_slice() {
+        Some(Verb::Checkout)
+    } else if name == b"update".as_slice() {
+        Some(Verb::Update)
+    } else if name == b"show".as_slice() {
+        Some(Verb::Show)
+    } else {
+        None
     }
 }
 
-fn read_arguments(alloc: Global, verb: Verb, line: &[u8]) -> Result<Command, LineFault> {
+// A command that has no words behind its name.
+fn alone(command: Command, line: &[u8]) -> Result<Command, LineFault>
+    ensures { Gives (λ c. c) result (when_no_word command (words_of line.now)) }
+{
+    if is_blank(line) {
+        Ok(command)
+    } else {
+        Err(LineFault::Bad)
+    }
+}
+
+// Reads what is behind the name of a command.
+fn read_rest(alloc: Global, verb: Verb, line: &[u8]) -> Result<Command, LineFault>
+    ensures { Gives (λ c. c) result (with_words verb (words_of line.now)) }
+{
     match verb {
-        Verb::Mkdir => Ok(Command::Change(read_mkdir(alloc, line)?)),
-        Verb::Put => Ok(Command::Change(read_put(alloc, line)?)),
-        Verb::Remove => Ok(Command::Change(read_remove(alloc, line)?)),
-        Verb::Commit => {
-            no_word(line)?;
-            Ok(Command::Commit)
+        Verb::Mkdir => {
+            let path = last_path(alloc, line)?;
+            Ok(Command::Change(Change::MakeDir { path }))
         }
-        Verb::Checkout => Ok(Command::Checkout(read_rev(line)?)),
-        Verb::Update => Ok(Command::Update(read_rev(line)?)),
-        Verb::Show => {
-            no_word(line)?;
-            Ok(Command::Show)
+        Verb::Put => read_put(alloc, line),
+        Verb::Remove => {
+            let path = last_path(alloc, line)?;
+            Ok(Command::Change(Change::Remove { path }))
         }
+        Verb::Commit => alone(Command::Commit, line),
+        Verb::Checkout => Ok(Command::Checkout(last_rev(line)?)),
+        Verb::Update => Ok(Command::Update(last_rev(line)?)),
+        Verb::Show => alone(Command::Show, line),
+    }
+}
+
+// Whether a line is a comment.
+fn is_comment(line: &[u8]) -> bool
+    ensures { result ≡ is_comment line.now }
+{
+    match line {
+        [first, ..] => *first == b'#',
+        [] => false,
     }
 }
 
 /// Reads one line of a script, which has no line feed.
-pub(crate) fn read_command(alloc: Global, line: &[u8]) -> Result<Command, LineFault> {
-    if line.first() == Some(&b'#') {
+pub(crate) fn read_command(alloc: Global, line: &[u8]) -> Result<Command, LineFault>
+    ensures { Gives (λ c. c) result (command_of line.now) }
+{
+    if is_comment(line) {
         return Ok(Command::Nothing);
     }
-    let Some((name, rest)) = next_word(line) else {
-        return Ok(Command::Nothing);
-    };
-    match read_verb(name) {
-        Some(verb) => read_arguments(alloc, verb, rest),
-        None => Err(LineFault::Bad),
+    match next_word(line) {
+        Some((name, rest)) => match read_verb(name) {
+            Some(verb) => read_rest(alloc, verb, rest),
+            None => Err(LineFault::Bad),
+        },
+        None => Ok(Command::Nothing),
     }
 }

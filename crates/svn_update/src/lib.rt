@@ -1,14 +1,15 @@
 //! Updates of a working copy, and the script language that drives them.
 #![tactic(auto)]
 
+mod answer;
 mod command;
 mod fault;
 mod lines;
 mod outcome;
-mod print;
 mod script;
 mod state;
 mod update;
+mod words;
 
 pub use fault::ScriptFault;
 pub use lines::MAX_SCRIPT;

@@ -1,11 +1,14 @@
 //! Scripts.
-ghost use Rattle.std.specs.Prelude.{◌≡◌, ◌≤◌, length, true, false, IfErr};
-ghost use Rattle.svn_update.specs.Scripts.{is_refused_whole};
+ghost use Rattle.std.specs.Prelude.{◌≡◌, ℕ, ◌≤◌, ◌<◌, List, length, IfErr, IfSome, OnOk, None, true, false};
+ghost use Rattle.std.specs.Io.KnownBytes.{Appends};
+ghost use Rattle.svn_update.specs.Commands.{command_of};
+ghost use Rattle.svn_update.specs.Scripts.{DoesLine, Prints, StopsAt, is_refused_whole};
 
-use crate::command::{LineFault, read_command};
+use crate::command::read_command;
 use crate::fault::ScriptFault;
-use crate::lines::{read_script, split_line, without_return};
+use crate::lines::{MAX_SCRIPT, read_script, split_once, without_return};
 use crate::state::State;
+use crate::words::LineFault;
 use std::alloc::Global;
 use std::io::{Read, Write};
 
@@ -18,6 +21,7 @@ pub struct Settings {
     pub in_turn: bool,
 }
 
+// Does one line, and prints what it has to say.
 fn run_line<W: Write>(
     alloc: Global,
     state: &mut State,
@@ -25,47 +29,68 @@ fn run_line<W: Write>(
     number: u64,
     writer: &mut W,
 ) -> Result<(), ScriptFault>
-    ensures { IfErr result (λ e. is_refused_whole e ≡ false) }
+    ensures ok { OnOk result ((text : List ℕ) × DoesLine line.now state.old state.new text × Appends (W.contents writer.old) (W.contents writer.new) text) }
+    ensures bad { IfErr result (λ e. (n : ℕ) → e ≡ ScriptFault.BadLine n → (n ≡ number) × (command_of line.now ≡ None) × (writer.new ≡ writer.old)) }
+    ensures begun { IfErr result (λ e. is_refused_whole e ≡ false) }
 {
     match read_command(alloc, line) {
-        Ok(command) => match state.run(command, writer) {
-            Ok(()) => Ok(()),
-            Err(_) => Err(ScriptFault::Write),
-        },
+        Ok(command) => {
+            let answer = state.run(command);
+            match state.print(answer, writer) {
+                Ok(()) => Ok(()),
+                Err(_) => Err(ScriptFault::Write),
+            }
+        }
         Err(LineFault::Bad) => Err(ScriptFault::BadLine(number)),
         Err(LineFault::Memory) => Err(ScriptFault::Memory),
     }
 }
 
+// Does the lines of a script one after the other.
 fn run_lines<W: Write>(alloc: Global, script: &[u8], writer: &mut W) -> Result<(), ScriptFault>
-    requires { length script.now ≤ 16777216 }
-    ensures { IfErr result (λ e. is_refused_whole e ≡ false) }
+    requires { length script.now ≤ MAX_SCRIPT }
+    ensures ok { OnOk result ((text : List ℕ) × Prints script.now text × Appends (W.contents writer.old) (W.contents writer.new) text) }
+    ensures bad { IfErr result (λ e. (n : ℕ) → e ≡ ScriptFault.BadLine n → (text : List ℕ) × StopsAt script.now n text × Appends (W.contents writer.old) (W.contents writer.new) text) }
+    ensures begun { IfErr result (λ e. is_refused_whole e ≡ false) }
 {
     let Ok(mut state) = State::new(alloc) else {
         return Err(ScriptFault::Memory);
     };
     let mut rest = script;
     let mut number = 1u64;
-    'lines: while let Some((line, after)) = split_line(rest) {
-        run_line(alloc, &mut state, without_return(line), number, writer)?;
+    'lines: while let Some((line, after)) = split_once(rest, b'\n') {
+        if let Err(fault) = run_line(alloc, &mut state, without_return(line), number, writer) {
+            return Err(fault);
+        }
         rest = after;
         number += 1;
     }
     run_line(alloc, &mut state, rest, number, writer)
 }
 
-/// Runs a script: reads it to its end, then does its lines one after the other and writes what they print. BadLine ends it at a line that
-/// is no command; TooLong and Read come before the first line runs, and then nothing was written. Write is answered also where the last
-/// bytes couldn't be flushed, and Memory where a growth was refused that belongs to no command.
+/// Runs a script: reads it to its end, then does its lines one after the other and writes what they print, and flushes the writer at the end.
+/// BadLine where a line is no command: what the lines before it printed is written. TooLong over 16,777,216 bytes, and Read where the reader
+/// fails: no line was done. Write where the writer fails. Memory where a growth is refused while a line is read; where one is refused to a
+/// command, that command prints its refusal.
+///
+/// The settings are without effect as long as driver and working copy run in turn alone.
 pub fn run_script<R: Read, W: Write>(
     alloc: Global,
     reader: &mut R,
     writer: &mut W,
     _settings: &Settings,
 ) -> Result<(), ScriptFault>
+    // what is written is an output of the script that was read
+    ensures ok { OnOk result (IfSome (R.remaining reader.old) (λ script. (text : List ℕ) × Prints script text × Appends (W.contents writer.old) (W.contents writer.new) text)) }
+    // at a bad line it is that of the lines before
+    ensures bad_line { IfErr result (λ e. (n : ℕ) → e ≡ ScriptFault.BadLine n → IfSome (R.remaining reader.old) (λ script. (text : List ℕ) × StopsAt script n text × Appends (W.contents writer.old) (W.contents writer.new) text)) }
     ensures refused_whole { IfErr result (λ e. is_refused_whole e ≡ true → writer.new ≡ writer.old) }
+    ensures too_long { IfErr result (λ e. e ≡ ScriptFault.TooLong → IfSome (R.remaining reader.old) (λ script. MAX_SCRIPT < length script)) }
 {
-    let script = read_script(alloc, reader)?;
+    let script = match read_script(alloc, reader) {
+        Ok(script) => script,
+        Err(fault) => return Err(fault),
+    };
     let ended = run_lines(alloc, &script, writer);
     match writer.flush() {
         Ok(()) => ended,

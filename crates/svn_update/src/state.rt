@@ -1,17 +1,22 @@
 //! What a script works on, and what its commands do.
+ghost use Rattle.std.specs.Prelude.{◌≡◌, IfOk, OnOk};
+ghost use Rattle.std.specs.Io.KnownBytes.{Appends};
+ghost use Rattle.svn_update.specs.Answers.{answer_text};
+ghost use Rattle.svn_update.specs.ScriptStates.{new_state};
+ghost use Rattle.svn_update.specs.Scripts.{AddsChange, Does};
+
+use crate::answer::{Answer, AnswerLines, Refusal};
 use crate::command::Command;
-use crate::print::{
-    commit_fault_name, print_copy, print_outcome, print_refusal, run_fault_name, wc_fault_name,
-};
 use crate::update::update_in_turn;
 use std::alloc::Global;
 use std::io;
 use std::io::Write;
+use std::marker::Model;
 use svn_repo::{Change, CommitFault, Repo};
 use svn_types::Rev;
 use svn_wc::WorkingCopy;
 
-/// A repository, the changes for its next commit, and a working copy once one was checked out.
+/// A repository, the changes for its next commit, and a working copy once one was checked out. A contract sees it as these three.
 #[derive(Drop)]
 pub(crate) struct State {
     alloc: Global,
@@ -20,9 +25,19 @@ pub(crate) struct State {
     copy: Option<WorkingCopy>,
 }
 
+impl Model for State {
+    ghost use Rattle.svn_update.specs.ScriptStates.{ScriptState};
+
+    ghost Value = { ScriptState };
+
+    ghost view = { λ s. record { repo = s.repo; pending = s.pending.items; copy = s.copy } };
+}
+
 impl State {
-    /// A new repository, no changes and no working copy. Memory is the only fault.
-    pub(crate) fn new(alloc: Global) -> Result<State, CommitFault> {
+    /// A new repository, no changes and no working copy.
+    pub(crate) fn new(alloc: Global) -> Result<State, CommitFault>
+        ensures { IfOk result (λ s. s ≡ new_state) }
+    {
         Ok(State {
             alloc,
             repo: Repo::new(alloc)?,
@@ -31,61 +46,84 @@ impl State {
         })
     }
 
-    fn add_change<W: Write>(&mut self, change: Change, writer: &mut W) -> io::Result<()> {
+    fn add_change(&mut self, change: Change) -> Answer
+        ensures { AddsChange change self.old self.new result }
+    {
         match self.pending.push(change) {
-            Ok(()) => Ok(()),
-            Err(_) => print_refusal("Memory", writer),
+            Ok(()) => Answer::Silent,
+            Err(_) => Answer::Refused(Refusal::Memory),
         }
     }
 
-    fn commit<W: Write>(&mut self, writer: &mut W) -> io::Result<()> {
+    fn commit(&mut self) -> Answer
+        ensures { Does Command.Commit self.old self.new result }
+    {
         let committed = self.repo.commit(&self.pending);
         self.pending.clear();
         match committed {
-            Ok(rev) => writeln!(writer, "committed {rev}"),
-            Err(fault) => print_refusal(commit_fault_name(fault), writer),
+            Ok(rev) => Answer::Committed(rev),
+            Err(fault) => Answer::Refused(Refusal::Commit(fault)),
         }
     }
 
-    fn checkout<W: Write>(&mut self, rev: Rev, writer: &mut W) -> io::Result<()> {
+    fn checkout(&mut self, rev: Rev) -> Answer
+        ensures { Does (Command.Checkout rev) self.old self.new result }
+    {
         match WorkingCopy::checkout(self.alloc, &self.repo, rev) {
             Ok(copy) => {
                 self.copy = Some(copy);
-                writeln!(writer, "ok")
+                Answer::Done
             }
-            Err(fault) => print_refusal(wc_fault_name(fault), writer),
+            Err(fault) => Answer::Refused(Refusal::Copy(fault)),
         }
     }
 
-    fn update<W: Write>(&mut self, target: Rev, writer: &mut W) -> io::Result<()> {
+    fn update(&mut self, target: Rev) -> Answer
+        ensures { Does (Command.Update target) self.old self.new result }
+    {
         let Some(copy) = &mut self.copy else {
-            return print_refusal("NoCopy", writer);
+            return Answer::Refused(Refusal::NoCopy);
         };
         if !copy.plain(&self.repo) {
-            return print_refusal("Untrue", writer);
+            return Answer::Refused(Refusal::Untrue);
         }
         match update_in_turn(self.alloc, &self.repo, copy, target, None) {
-            Ok(outcome) => print_outcome(outcome, writer),
-            Err(fault) => print_refusal(run_fault_name(fault), writer),
+            Ok(outcome) => Answer::Ended(outcome),
+            Err(fault) => Answer::Refused(Refusal::Run(fault)),
         }
     }
 
-    fn show<W: Write>(&self, writer: &mut W) -> io::Result<()> {
+    fn show(&self) -> Answer
+        ensures { Does Command.Show self.now self.now result }
+    {
         match &self.copy {
-            Some(copy) => print_copy(copy, writer),
-            None => print_refusal("NoCopy", writer),
+            Some(_) => Answer::Nodes,
+            None => Answer::Refused(Refusal::NoCopy),
         }
     }
 
-    /// Does what a command says, and prints what it prints.
-    pub(crate) fn run<W: Write>(&mut self, command: Command, writer: &mut W) -> io::Result<()> {
+    /// Does what a command says.
+    pub(crate) fn run(&mut self, command: Command) -> Answer
+        ensures { Does command self.old self.new result }
+    {
         match command {
-            Command::Nothing => Ok(()),
-            Command::Change(change) => self.add_change(change, writer),
-            Command::Commit => self.commit(writer),
-            Command::Checkout(rev) => self.checkout(rev, writer),
-            Command::Update(rev) => self.update(rev, writer),
-            Command::Show => self.show(writer),
+            Command::Nothing => Answer::Silent,
+            Command::Change(change) => self.add_change(change),
+            Command::Commit => self.commit(),
+            Command::Checkout(rev) => self.checkout(rev),
+            Command::Update(rev) => self.update(rev),
+            Command::Show => self.show(),
         }
+    }
+
+    /// Prints what a command had to say.
+    pub(crate) fn print<W: Write>(&self, answer: Answer, writer: &mut W) -> io::Result<()>
+        ensures { OnOk result (Appends (W.contents writer.old) (W.contents writer.new) (answer_text self.now.copy answer)) }
+    {
+        let lines = AnswerLines {
+            answer,
+            copy: &self.copy,
+        };
+        write!(writer, "{lines}")
     }
 }

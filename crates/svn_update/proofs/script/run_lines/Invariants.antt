@@ -1,9 +1,18 @@
-use Rattle.std.proofs.Common.{◌≤◌, ◌+◌, length}
+use Rattle.std.proofs.Common.{◌≡◌, ◌+◌, ◌++◌, ◌≤◌, List, ℕ, length}
+use Rattle.std.specs.Io.KnownBytes.{Appends}
+use Rattle.svn_update.specs.Reading.{lines_of}
+use Rattle.svn_update.specs.ScriptStates.{new_state}
+use Rattle.svn_update.specs.Scripts.{DoesLines}
 use Rattle.svn_update.proofs.script.run_lines.Given as goal
 
--- a line has a line feed at least
 abbrev pub decreases-lines : goal.decreases-lines
 decreases-lines g l = length l.rest
 
+-- some lines are done, and the others are those of the rest; each line takes one byte at least
 abbrev pub invariant-lines : goal.invariant-lines
-invariant-lines g l = l.number + length l.rest ≤ 16777217
+invariant-lines g l =
+    (before : List (List ℕ)) × (text : List ℕ)
+    × (lines_of l.script ≡ before ++ lines_of l.rest) × (l.number ≡ length before + 1)
+    × DoesLines before new_state l.state text
+    × Appends (g.W.Write.contents l.initial.writer) (g.W.Write.contents l.writer) text
+    × (l.number + length l.rest ≤ 16777217)

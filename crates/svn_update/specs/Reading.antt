@@ -1,0 +1,107 @@
+-- A script as bytes: its lines, their words, and what a word stands for.
+--     lines_of script      its lines
+--     words_of line      the words of a line, those that stand between spaces
+--     number_of word, bytes_of word, path_of word      what a word stands for, or nothing where it has not this form
+use Rattle.std.specs.Prelude.{ℕ, ◌+◌, ◌-◌, ◌*◌, ◌^◌, Bool, true, false, ◌&&◌, not, List, [], ◌∷◌, length, nat_lt, nat_le, nat_eq, bytes_eq, filter, Option, Some, None, option_map, option_and_then, is_some, if◌then◌else◌}
+use Rattle.std.specs.List.{slice_split, list_all}
+use Rattle.std.specs.Str.{is_utf8}
+use Rattle.svn_types.specs.Names.{Path, is_between, path_of_text}
+use Rattle.svn_types.specs.NameFaults.{path_fault}
+
+-- ---- lines
+
+-- a line without the carriage return at its end
+abbrev pub without_return : List ℕ → List ℕ
+without_return [] = []
+without_return (b ∷ []) = if nat_eq b 13 then [] else b ∷ []
+without_return (b ∷ c ∷ bs) = b ∷ without_return (c ∷ bs)
+
+-- a carriage return is dropped before a line feed alone, so the last line keeps its own
+abbrev pub without_returns : List (List ℕ) → List (List ℕ)
+without_returns [] = []
+without_returns (l ∷ []) = l ∷ []
+without_returns (l ∷ m ∷ ls) = without_return l ∷ without_returns (m ∷ ls)
+
+abbrev pub lines_of : List ℕ → List (List ℕ)
+lines_of script = without_returns (slice_split (λ b. nat_eq b 10) script)
+
+-- ---- words
+
+abbrev pub has_bytes : List ℕ → Bool
+has_bytes bs = not (nat_eq (length bs) 0)
+
+abbrev pub words_of : List ℕ → List (List ℕ)
+words_of line = filter has_bytes (slice_split (λ b. nat_eq b 32) line)
+
+-- ---- numbers
+
+abbrev pub is_digit : ℕ → Bool
+is_digit = is_between 48 57
+
+-- the number that has the digits of n, and then these
+abbrev pub decimal_from : ℕ → List ℕ → ℕ
+decimal_from n [] = n
+decimal_from n (b ∷ bs) = decimal_from (n * 10 + (b - 48)) bs
+
+abbrev pub decimal_value : List ℕ → ℕ
+decimal_value digits = decimal_from 0 digits
+
+abbrev pub fitting : ℕ → Option ℕ
+fitting n = if nat_lt n (2 ^ 64) then Some n else None
+
+-- 1 to 20 decimal digits, at most 18446744073709551615
+abbrev pub number_of : List ℕ → Option ℕ
+number_of word =
+    if has_bytes word && nat_le (length word) 20 && list_all is_digit word then fitting (decimal_value word)
+    else None
+
+-- ---- bytes
+
+-- the value of a hexadecimal digit of either case
+abbrev pub hex_value : ℕ → Option ℕ
+hex_value b =
+    if is_between 48 57 b then Some (b - 48)
+    else if is_between 97 102 b then Some (b - 97 + 10)
+    else if is_between 65 70 b then Some (b - 65 + 10)
+    else None
+
+abbrev pub hex_byte : ℕ → ℕ → Option ℕ
+hex_byte high low = option_and_then (λ h. option_map (λ l. h * 16 + l) (hex_value low)) (hex_value high)
+
+-- a byte that stands for itself
+abbrev pub own_byte : ℕ → Option ℕ
+own_byte b = if nat_eq b 37 then None else Some b
+
+-- one more byte in front
+abbrev pub onto : Option ℕ → Option (List ℕ) → Option (List ℕ)
+onto None bytes = None
+onto (Some b) None = None
+onto (Some b) (Some bs) = Some (b ∷ bs)
+
+-- a percent sign and two hexadecimal digits stand for a byte, and every other byte for itself
+abbrev pub unescaped : List ℕ → Option (List ℕ)
+unescaped [] = Some []
+unescaped (b ∷ []) = onto (own_byte b) (Some [])
+unescaped (b ∷ c ∷ []) = onto (own_byte b) (unescaped (c ∷ []))
+unescaped (b ∷ c ∷ d ∷ bs) =
+    if nat_eq b 37 then onto (hex_byte c d) (unescaped bs)
+    else onto (Some b) (unescaped (c ∷ d ∷ bs))
+
+-- `""` is the word of no bytes
+abbrev pub bytes_of : List ℕ → Option (List ℕ)
+bytes_of word = if bytes_eq word (34 ∷ 34 ∷ []) then Some [] else unescaped word
+
+-- ---- paths
+
+abbrev pub path_of_names : Path → Option Path
+path_of_names p = if is_some (path_fault p) then None else Some p
+
+-- the root is `.` or no bytes
+abbrev pub path_of_bytes : List ℕ → Option Path
+path_of_bytes bytes =
+    if bytes_eq bytes (46 ∷ []) then Some []
+    else if is_utf8 bytes then path_of_names (path_of_text bytes)
+    else None
+
+abbrev pub path_of : List ℕ → Option Path
+path_of word = option_and_then path_of_bytes (bytes_of word)
