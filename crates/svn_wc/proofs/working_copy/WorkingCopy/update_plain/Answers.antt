@@ -11,7 +11,7 @@ pub update_node-requires : goal.update_node-requires
 update_node-requires c =
     let root : c.root-root.result ≡ [] = c.root-root.ensures in
     let base : Some c.in-Some.base ≡ directory_revision (get_in c.args.self.now []) = c.in-Some.ensures ∙ ap (λ (q : Path). directory_revision (get_in c.args.self.now q)) root in
-    let from : Some c.in-Some-lookup.from ≡ look c.args.repo.now c.in-Some.base [] = c.in-Some-lookup.ensures.value ∙ ap (look c.args.repo.now c.in-Some.base) root in
+    let from : Some c.in-Some-lookup.from ≡ look c.args.repo.now c.in-Some.base [] = c.in-Some-lookup.ensures ∙ ap (look c.args.repo.now c.in-Some.base) root in
     record {
       before = subst (λ (q : Path). (r : Path) → get_in c.self.inside.nodes.entries (q ++ r) ≡ standing c.args.repo.now c.in-Some.base q c.in-Some-lookup.from r) (sym root)
           (λ r. ap (λ (l : List (Path × BaseNode)). get_in l r) c.self.view_is ∙ plain_standing c.args.repo.now (get_in c.args.self.now) c.requires.plain c.in-Some.base c.in-Some-lookup.from base from r);
