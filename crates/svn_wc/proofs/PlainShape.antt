@@ -14,6 +14,7 @@ use Rattle.svn_repo.specs.Readings.{kind_of, text_of, props_of, entries_of, AllN
 use Rattle.svn_wc.specs.declared.base_node.BaseNode.{BaseNode}
 use Rattle.svn_wc.specs.Nodes.{WorkingCopy, IsWorkingCopy, IsTrueNode, IsTrueOf, HasEntries, base_node, base_node_by, is_dir, is_present, node_path}
 use Rattle.svn_wc.specs.Builders.{checkout}
+use Rattle.svn_wc.specs.Standing.{IsPlain}
 use Rattle.svn_wc.proofs.Sweeps.{value_of-cons, value_of-first}
 use Rattle.svn_wc.proofs.NextNode.{look-append, look-child}
 
@@ -23,11 +24,11 @@ none_some a e = true≢false (sym (ap is_some e))
 -- an entry has an allowed name
 allowed : (es : List (List ℕ × ℕ)) (name : List ℕ) → AllNames es → is_some (value_of es name) ≡ true → IsName name
 allowed [] name all some = absurd (true≢false (sym some))
-allowed (e ∷ es) name all some = by (bytes_eq name e.0) refl (sym (ap is_some (value_of-cons e es name)) ∙ some)
+allowed (e ∷ es) name all some = by (bytes_eq name e.0) refl (sym (ap is_some (value_of-cons e es name)) ∙ some) (allowed es name all.1)
   where
-    by : (b : Bool) → bytes_eq name e.0 ≡ b → is_some (cond b (Some e.1) (value_of es name)) ≡ true → IsName name
-    by true t h = subst IsName (sym ((bytes_eq-Decides name e.0).0 t)) all.0
-    by false f h = allowed es name all.1 h
+    by : (b : Bool) → bytes_eq name e.0 ≡ b → is_some (cond b (Some e.1) (value_of es name)) ≡ true → (is_some (value_of es name) ≡ true → IsName name) → IsName name
+    by true t h later = subst IsName (sym ((bytes_eq-Decides name e.0).0 t)) all.0
+    by false f h later = later h
 
 still_some : (e : List ℕ × ℕ) (es : List (List ℕ × ℕ)) (name : List ℕ) → is_some (value_of es name) ≡ true → is_some (value_of (e ∷ es) name) ≡ true
 still_some e es name some = ap is_some (value_of-cons e es name) ∙ by (bytes_eq name e.0)
@@ -125,3 +126,20 @@ module _ (h : History) (history : IsHistory h) (w : WorkingCopy) (rev : ℕ) (sa
       by : (o : Option ℕ) → look h rev p ≡ o → IsTrueNode h w p (option_map (base_node h rev p) o)
       by None found = tt
       by (Some n) found = node n found (kind_of h n) refl
+
+-- ---- what a checkout gives, and what is plain
+
+-- the root of a revision is a directory
+root_stands : (h : History) → IsHistory h → (w : WorkingCopy) (rev n : ℕ) → Some n ≡ look h rev [] → ((p : Path) → w p ≡ checkout h [] rev p) → is_dir (w []) ≡ true
+root_stands h history w rev n found same =
+    ap is_dir (same [] ∙ ap (option_map (base_node h rev [])) (sym found))
+    ∙ node_is_dir (kind_of h n) rev [] (text_of h n) (props_of h n) (history.root_is_directory rev n (sym found))
+
+pub found_shape : (h : History) → IsHistory h → (w : WorkingCopy) (rev n : ℕ) → Some n ≡ look h rev [] → ((p : Path) → w p ≡ checkout h [] rev p) → IsWorkingCopy w
+found_shape h history w rev n found same = checkout_shape h history w rev same (root_stands h history w rev n found same)
+
+pub plain_shape : (h : History) → IsHistory h → (w : WorkingCopy) → IsPlain h w → IsWorkingCopy w
+plain_shape h history w plain = checkout_shape h history w plain.revision plain.same plain.root
+
+pub plain_true : (h : History) → IsHistory h → (w : WorkingCopy) → IsPlain h w → IsTrueOf h w
+plain_true h history w plain = checkout_true h history w plain.revision plain.same
