@@ -1,6 +1,5 @@
 -- Nodes in path order: which come before which.
 use Rattle.std.proofs.Common.{◌≡◌, ℕ, Bool, true, false, cond, List, [], ◌∷◌, ◌++◌, refl, sym, ap, ◌∙◌, Option, Some, None, true≢false}
-use Rattle.std.specs.Prelude.{bytes_eq}
 use Rattle.std.specs.Option.{is_some, option_or}
 use Rattle.std.specs.declared.cmp.Ordering.{Ordering}
 use Rattle.std.specs.declared.cmp.Ordering.TheVariants.{Less, Equal, Greater}
@@ -104,6 +103,6 @@ before_behind [] ys order p k here there = absurd (true≢false (sym here))
 before_behind (x ∷ xs) ys order p k here there =
     first_or_other (path_cmp p k ≡ Less) x xs p here
     (λ same.
-        ap (λ z. path_cmp z k) same
-        ∙ after_all x.0 (xs ++ ys) (sorted_head path_cmp x.0 (keys_of (xs ++ ys)) order) k (ap is_some (get_in-append xs ys k) ∙ some_behind (get_in xs k) (get_in ys k) there))
+    ap (λ z. path_cmp z k) same
+    ∙ after_all x.0 (xs ++ ys) (sorted_head path_cmp x.0 (keys_of (xs ++ ys)) order) k (ap is_some (get_in-append xs ys k) ∙ some_behind (get_in xs k) (get_in ys k) there))
     (λ later. before_behind xs ys (sorted_tail path_cmp x.0 (keys_of (xs ++ ys)) order) p k later there)

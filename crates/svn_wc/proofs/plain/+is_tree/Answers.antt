@@ -1,9 +1,8 @@
-use Rattle.std.proofs.Common.{◌≡◌, ◌+◌, ℕ, List, ◌++◌, ◌∷◌, [], length, length-append, append_assoc, arith, refl, ap, sym, subst, ◌∙◌, true≢false}
+use Rattle.std.proofs.Common.{◌≡◌, ◌+◌, ℕ, List, ◌++◌, ◌∷◌, [], length, length-append, append_assoc, arith, refl, ap, sym, subst, ◌∙◌}
 use Rattle.svn_types.specs.Names.{Path}
 use Rattle.svn_types.specs.Pairs.{InNameOrder}
 use Rattle.svn_repo.specs.Readings.{entries_of}
 use Rattle.svn_wc.specs.declared.base_node.BaseNode.{BaseNode}
-use Rattle.svn_wc.specs.Nodes.{get_in}
 use Rattle.svn_wc.specs.Standing.{BeginsWithTree}
 use Rattle.svn_wc.proofs.Filling.{when_none}
 use Rattle.svn_wc.proofs.InStep.{tree_leaf, tree_begins, tree_ends, tree_next}
@@ -76,8 +75,8 @@ returns-then-not-is_child-clause-complete t c = λ tree.
     let next : c.loop-name.rest ≡ (c.in-Some-next.below.now, c.in-Some-next.found.now) ∷ c.next-in-loop-name.new.self = c.in-Some-next.ensures.steps in
     sym c.if-not-is_child.true
     ∙ c.is_child.ensures.child.1
-        (next_is c.args.repo.now c.args.rev c.args.path.now c.args.id c.args.node.now c.args.rest.now tree (c.in-Some-2.name.now, c.in-Some-2.child.now) c.next.new.self inv.0 c.loop-name.rest inv.1 inv.2 inv.3
-        c.in-Some-next.below.now c.in-Some-next.found.now c.next-in-loop-name.new.self next)
+    (next_is c.args.repo.now c.args.rev c.args.path.now c.args.id c.args.node.now c.args.rest.now tree (c.in-Some-2.name.now, c.in-Some-2.child.now) c.next.new.self inv.0 c.loop-name.rest inv.1 inv.2 inv.3
+    c.in-Some-next.below.now c.in-Some-next.found.now c.next-in-loop-name.new.self next)
 
 pub returns-then-not-is_tree-clause-complete : goal.returns-then-not-is_tree-clause-complete
 returns-then-not-is_tree-clause-complete t c = λ tree.
@@ -86,5 +85,5 @@ returns-then-not-is_tree-clause-complete t c = λ tree.
     let next : c.loop-name.rest ≡ (c.in-Some-next.below.now, c.in-Some-next.found.now) ∷ c.next-in-loop-name.new.self = c.in-Some-next.ensures.steps in
     sym c.if-not-is_tree.true
     ∙ c.is_tree.ensures.complete
-        (next_tree c.args.repo.now c.args.rev c.args.path.now c.args.id c.args.node.now c.args.rest.now tree (c.in-Some-2.name.now, c.in-Some-2.child.now) c.next.new.self inv.0 c.loop-name.rest inv.1 inv.2 inv.3
-        c.in-Some-next.below.now c.in-Some-next.found.now c.next-in-loop-name.new.self next)
+    (next_tree c.args.repo.now c.args.rev c.args.path.now c.args.id c.args.node.now c.args.rest.now tree (c.in-Some-2.name.now, c.in-Some-2.child.now) c.next.new.self inv.0 c.loop-name.rest inv.1 inv.2 inv.3
+    c.in-Some-next.below.now c.in-Some-next.found.now c.next-in-loop-name.new.self next)

@@ -1,4 +1,4 @@
-use Rattle.std.proofs.Common.{◌≡◌, ◌++◌, [], List, ℕ, true, is_some, sym, subst, ap, ◌∙◌, Some, true≢false, rules}
+use Rattle.std.proofs.Common.{◌≡◌, [], true, is_some, sym, subst, ap, ◌∙◌, Some, true≢false, rules}
 use Rattle.svn_types.specs.Names.{Path}
 use Rattle.svn_repo.specs.History.{look}
 use Rattle.svn_wc.specs.Nodes.{get_in}

@@ -1,4 +1,4 @@
-use Rattle.std.proofs.Common.{◌≡◌, subst}
+use Rattle.std.proofs.Common.{subst}
 use Rattle.svn_wc.specs.Nodes.{get_in, InPathOrder}
 use Rattle.svn_wc.proofs.PlainShape.{plain_shape, plain_true}
 use Rattle.svn_wc.proofs.working_copy.WorkingCopy.law.Goals as goal

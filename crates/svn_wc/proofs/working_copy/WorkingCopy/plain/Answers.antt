@@ -1,4 +1,4 @@
-use Rattle.std.proofs.Common.{◌≡◌, Some, List, ◌∷◌, ◌++◌, [], ap, sym, subst, ◌∙◌}
+use Rattle.std.proofs.Common.{◌≡◌, Some, List, ◌∷◌, [], ap, sym, subst, ◌∙◌}
 use Rattle.std.specs.Map.Iter.{deref_pair}
 use Rattle.svn_types.specs.Names.{Path}
 use Rattle.svn_wc.specs.declared.base_node.BaseNode.{BaseNode}
@@ -31,8 +31,8 @@ returns-then-not-is_tree-clause-complete c = λ plain.
     let root : c.in-Some.path.now ≡ [] = c.is_root.ensures.0 c.if-not-is_root.false in
     sym c.if-not-is_tree.true
     ∙ c.is_tree.ensures.complete
-        (plain_tree c.args.repo.now c.args.self.now c.next.new.self c.in-Some.path.now c.in-Some.node.now c.in-Dir.rev c.in-Some-lookup.id (subst InPathOrder c.self.view_is c.iter-rest.ensures.ordered) plain all root
-        (sym (ap (λ (n : BaseNode). directory_revision (Some n)) c.in-Dir.is)) c.in-Some-lookup.ensures)
+    (plain_tree c.args.repo.now c.args.self.now c.next.new.self c.in-Some.path.now c.in-Some.node.now c.in-Dir.rev c.in-Some-lookup.id (subst InPathOrder c.self.view_is c.iter-rest.ensures.ordered) plain all root
+    (sym (ap (λ (n : BaseNode). directory_revision (Some n)) c.in-Dir.is)) c.in-Some-lookup.ensures)
 
 pub returns-in-Some-next-clause-complete : goal.returns-in-Some-next-clause-complete
 returns-in-Some-next-clause-complete c = λ plain.

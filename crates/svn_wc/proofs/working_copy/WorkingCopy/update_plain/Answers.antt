@@ -1,4 +1,4 @@
-use Rattle.std.proofs.Common.{◌≡◌, ◌++◌, ℕ, List, [], ap, subst, sym, ◌∙◌, Some}
+use Rattle.std.proofs.Common.{◌≡◌, ◌++◌, List, [], ap, subst, sym, ◌∙◌, Some}
 use Rattle.svn_types.specs.Names.{Path}
 use Rattle.svn_repo.specs.History.{look}
 use Rattle.svn_wc.specs.declared.base_node.BaseNode.{BaseNode}
