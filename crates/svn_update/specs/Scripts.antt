@@ -12,9 +12,11 @@ use Rattle.svn_repo.specs.declared.change.CommitFault.TheVariants.{Memory as Com
 use Rattle.svn_wc.specs.declared.base_node.BaseNode.{BaseNode}
 use Rattle.svn_wc.specs.declared.fault.WcFault.TheVariants.{NoSuchRevision as NoRevision, Memory as CopyMemory}
 use Rattle.svn_wc.specs.Nodes.{get_in}
+use Rattle.svn_wc.specs.Standing.{IsPlain}
 use Rattle.svn_wc.specs.Builders.{checkout}
 use Rattle.svn_update.specs.declared.fault.ScriptFault.{ScriptFault}
 use Rattle.svn_update.specs.declared.fault.ScriptFault.TheVariants.{BadLine, TooLong, Read, Write, Memory}
+use Rattle.svn_update.specs.declared.outcome.Cause.TheVariants.{Memory as MemoryCause}
 use Rattle.svn_update.specs.declared.outcome.Outcome.TheVariants.{Closed, Aborted}
 use Rattle.svn_update.specs.declared.outcome.RunFault.TheVariants.{NoSuchRevision as NoTarget}
 use Rattle.svn_update.specs.declared.answer.Refusal.TheVariants.{NoCopy, Untrue, Memory as ListMemory, Commit as CommitRefused, Copy as CopyRefused, Run as RunRefused}
@@ -51,14 +53,15 @@ AnswersCheckout h rev old new Done = IsCheckout h rev new
 AnswersCheckout h rev old new (Refused (CopyRefused fault)) = (new ≡ old) × (fault ≡ (if is_some (look h rev []) then CopyMemory else NoRevision))
 AnswersCheckout h rev old new _ = ⊥
 
--- a closed update leaves what a checkout of the target gives; of an aborted one nothing is said
+-- a copy that isn't plain is refused, and no other is refused so; a closed update leaves what a checkout of the target gives; one is aborted only for
+-- want of memory, and of the copy that it leaves nothing is said
 abbrev pub AnswersUpdate : History → ℕ → Option (List (Path × BaseNode)) → Option (List (Path × BaseNode)) → Answer → Type 0
 AnswersUpdate h target None new (Refused NoCopy) = new ≡ None
 AnswersUpdate h target None new _ = ⊥
-AnswersUpdate h target (Some w) new (Refused Untrue) = new ≡ Some w
-AnswersUpdate h target (Some w) new (Refused (RunRefused NoTarget)) = (new ≡ Some w) × (look h target [] ≡ None)
-AnswersUpdate h target (Some w) new (Ended (Closed calls)) = IsCheckout h target new
-AnswersUpdate h target (Some w) new (Ended (Aborted made accepted late cause)) = look h target [] ≢ None
+AnswersUpdate h target (Some w) new (Refused Untrue) = (new ≡ Some w) × (IsPlain h (get_in w) → ⊥)
+AnswersUpdate h target (Some w) new (Refused (RunRefused NoTarget)) = (new ≡ Some w) × IsPlain h (get_in w) × (look h target [] ≡ None)
+AnswersUpdate h target (Some w) new (Ended (Closed calls)) = IsPlain h (get_in w) × IsCheckout h target new
+AnswersUpdate h target (Some w) new (Ended (Aborted made accepted late cause)) = (new ≢ None) × IsPlain h (get_in w) × (look h target [] ≢ None) × (late ≡ None) × (cause ≡ MemoryCause)
 AnswersUpdate h target (Some w) new _ = ⊥
 
 abbrev pub show_answer : Option (List (Path × BaseNode)) → Answer

@@ -2,10 +2,10 @@
 ghost use Rattle.std.specs.Prelude.{◌≡◌, ◌↔◌, [], None, Err, IfErr, OnErr};
 ghost use Rattle.svn_types.specs.Names.{Path};
 ghost use Rattle.svn_repo.specs.History.{look};
-ghost use Rattle.svn_wc.specs.Nodes.{get_in};
+ghost use Rattle.svn_wc.specs.Nodes.{get_in, IsTrueOf, IsWorkingCopy};
 ghost use Rattle.svn_wc.specs.Builders.{checkout};
 ghost use Rattle.svn_wc.specs.Standing.{IsPlain};
-ghost use Rattle.svn_update.specs.Outcomes.{IfClosed};
+ghost use Rattle.svn_update.specs.Outcomes.{IfClosed, IfAborted};
 
 use crate::outcome::{Cause, Outcome, RunFault};
 use std::alloc::Global;
@@ -15,7 +15,7 @@ use svn_wc::WorkingCopy;
 
 /// Updates a working copy to a revision of the repository, on one thread. The copy has to be plain, and no number of calls may be given to
 /// stop after. NoSuchRevision exactly where the repository has no such revision; the copy is then as it was. Where a growth is refused the
-/// answer is Aborted, and the copy's root stays incomplete.
+/// answer is Aborted with the cause Memory, and the copy's root stays incomplete.
 pub fn update_in_turn(
     alloc: Global,
     repo: &Repo,
@@ -27,6 +27,9 @@ pub fn update_in_turn(
     requires unlimited { _cancel_after ≡ None }
     // a closed update leaves what a checkout of the target gives
     ensures closed { IfClosed result ((p : Path) → get_in copy.new p ≡ checkout repo.now [] target p) }
+    ensures shape { IfClosed result (IsWorkingCopy (get_in copy.new)) }
+    ensures truth { IfClosed result (IsTrueOf repo.now (get_in copy.new)) }
+    ensures aborted { IfAborted result (λ late cause. (late ≡ None) × (cause ≡ Cause.Memory)) }
     ensures missing { (result ≡ Err RunFault.NoSuchRevision) ↔ (look repo.now target [] ≡ None) }
     ensures faults { IfErr result (λ e. e ≡ RunFault.NoSuchRevision) }
     ensures unchanged { OnErr result (copy.new ≡ copy.old) }

@@ -1,9 +1,9 @@
 -- A tree of the repository is added to a copy: its node first, and then the entries in order of their names.
-use Rattle.std.proofs.Common.{◌≡◌, ℕ, Bool, true, false, cond, List, [], ◌∷◌, ◌++◌, refl, sym, ap, subst, ◌∙◌, Option, Some, None, append_assoc}
+use Rattle.std.proofs.Common.{◌≡◌, ℕ, true, false, cond, List, [], ◌∷◌, ◌++◌, refl, sym, ap, ◌∙◌, Option, Some, None, append_assoc}
 use Rattle.std.proofs.lemmas.List.{append-nil}
 use Rattle.std.specs.Option.{is_some, IfNone}
 use Rattle.svn_types.specs.Names.{Path}
-use Rattle.svn_types.specs.Paths.{is_within, path_eq}
+use Rattle.svn_types.specs.Paths.{path_eq}
 use Rattle.svn_types.specs.Pairs.{InNameOrder, value_of}
 use Rattle.svn_repo.specs.History.{History}
 use Rattle.svn_repo.specs.Readings.{entries_of}

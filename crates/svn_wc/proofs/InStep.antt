@@ -1,10 +1,9 @@
 -- The nodes of a copy, taken in order, beside a tree of the repository.
-use Rattle.std.proofs.Common.{◌≡◌, ℕ, Bool, true, false, cond, List, [], ◌∷◌, ◌++◌, refl, sym, ap, subst, ◌∙◌, Option, Some, None, append_assoc}
+use Rattle.std.proofs.Common.{◌≡◌, ℕ, true, cond, List, [], ◌∷◌, ◌++◌, refl, sym, ap, subst, ◌∙◌, Option, Some, None}
 use Rattle.std.proofs.lemmas.List.{append-nil}
-use Rattle.std.specs.BTreeMap.{is_at}
 use Rattle.std.specs.Option.{option_or}
-use Rattle.svn_types.specs.Names.{Path, path_cmp}
-use Rattle.svn_types.specs.Paths.{is_within, path_eq}
+use Rattle.svn_types.specs.Names.{Path}
+use Rattle.svn_types.specs.Paths.{path_eq}
 use Rattle.svn_types.specs.Pairs.{InNameOrder, value_of}
 use Rattle.svn_repo.specs.History.{History, look}
 use Rattle.svn_repo.specs.Readings.{entries_of}
@@ -12,18 +11,9 @@ use Rattle.svn_wc.specs.declared.base_node.BaseNode.{BaseNode}
 use Rattle.svn_wc.specs.Nodes.{WorkingCopy, get_in, base_node, is_dir}
 use Rattle.svn_wc.specs.Standing.{standing, standing_at, nothing, Puts, IsSwept, AreAmong, BeginsWithTree, IsPlain}
 use Rattle.svn_wc.proofs.PathsBelow.{path_eq-sym}
-use Rattle.svn_wc.proofs.Lookups.{at_path}
+use Rattle.svn_wc.proofs.Lookups.{at_path, get_in-append}
 use Rattle.svn_wc.proofs.Filling.{fill_begins, fill_ends, fill_leaf, fill_free, fill_next}
 use Rattle.svn_wc.proofs.Roots.{checkout-standing}
-
--- what two lists have, one behind the other
-pub get_in-append : (xs ys : List (Path × BaseNode)) (p : Path) → get_in (xs ++ ys) p ≡ option_or (get_in xs p) (get_in ys p)
-get_in-append [] ys p = refl
-get_in-append (x ∷ xs) ys p = by (is_at (path_cmp p) x.0) (get_in-append xs ys p)
-  where
-    by : (b : Bool) → get_in (xs ++ ys) p ≡ option_or (get_in xs p) (get_in ys p) → cond b (Some x.1) (get_in (xs ++ ys) p) ≡ option_or (cond b (Some x.1) (get_in xs p)) (get_in ys p)
-    by true e = refl
-    by false e = e
 
 -- one node by itself
 pub get_in-one : (q : Path) (node : BaseNode) (p : Path) → get_in ((q, node) ∷ []) p ≡ cond (path_eq q p) (Some node) None

@@ -2,8 +2,11 @@ pub mod PathsBelow
 pub mod Lookups
 pub mod Trees
 pub mod Sweeps
+pub mod NodeOrder
 pub mod Filling
 pub mod Deleting
 pub mod Updating
 pub mod Roots
 pub mod InStep
+pub mod NextNode
+pub mod PlainShape

@@ -1,6 +1,7 @@
 -- A copy as a map, and as the function from paths.
-use Rattle.std.proofs.Common.{◌≡◌, ℕ, Bool, true, false, cond, List, [], ◌∷◌, ◌++◌, refl, sym, ap, ◌∙◌, Option, Some, None}
+use Rattle.std.proofs.Common.{◌≡◌, Bool, true, false, cond, List, [], ◌∷◌, ◌++◌, refl, sym, ap, ◌∙◌, Option, Some}
 use Rattle.std.specs.BTreeMap.{is_at}
+use Rattle.std.specs.Option.{option_or}
 use Rattle.std.specs.Cmp.Lexicographic.{texts_ties, lists_ties}
 use Rattle.svn_types.specs.Names.{Path, name_cmp, path_cmp}
 use Rattle.svn_types.specs.Paths.{path_eq}
@@ -14,3 +15,12 @@ at_path p q = sym (lists_ties name_cmp texts_ties p q)
 -- a map after one key was set or removed
 pub get_in-updated : (m n : List (Path × BaseNode)) (k : Path) (v : Option BaseNode) → ((q : Path) → get_in n q ≡ cond (is_at (path_cmp k) q) v (get_in m q)) → (p : Path) → get_in n p ≡ cond (path_eq k p) v (get_in m p)
 get_in-updated m n k v h p = h p ∙ ap (λ b. cond b v (get_in m p)) (at_path k p)
+
+-- what two lists have, one behind the other
+pub get_in-append : (xs ys : List (Path × BaseNode)) (p : Path) → get_in (xs ++ ys) p ≡ option_or (get_in xs p) (get_in ys p)
+get_in-append [] ys p = refl
+get_in-append (x ∷ xs) ys p = by (is_at (path_cmp p) x.0) (get_in-append xs ys p)
+  where
+    by : (b : Bool) → get_in (xs ++ ys) p ≡ option_or (get_in xs p) (get_in ys p) → cond b (Some x.1) (get_in (xs ++ ys) p) ≡ option_or (cond b (Some x.1) (get_in xs p)) (get_in ys p)
+    by true e = refl
+    by false e = e

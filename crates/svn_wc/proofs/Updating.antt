@@ -1,11 +1,11 @@
 -- A tree in a copy goes from one node of the repository to another.
-use Rattle.std.proofs.Common.{◌≡◌, ℕ, Bool, true, false, cond, List, [], ◌∷◌, ◌++◌, refl, sym, ap, subst, ◌∙◌, Option, Some, None, append_assoc}
+use Rattle.std.proofs.Common.{◌≡◌, ℕ, Bool, true, false, cond, List, [], ◌∷◌, ◌++◌, refl, sym, ap, ◌∙◌, Option, Some, None, append_assoc}
 use Rattle.std.proofs.lemmas.List.{append-nil}
-use Rattle.std.specs.Option.{is_some, option_map, option_and_then}
+use Rattle.std.specs.Option.{is_some, option_map}
 use Rattle.svn_types.specs.Names.{Path}
-use Rattle.svn_types.specs.Paths.{is_within, path_eq}
+use Rattle.svn_types.specs.Paths.{path_eq}
 use Rattle.svn_types.specs.Pairs.{InNameOrder, value_of}
-use Rattle.svn_repo.specs.History.{History, node_at, walk}
+use Rattle.svn_repo.specs.History.{History}
 use Rattle.svn_repo.specs.Readings.{entries_of}
 use Rattle.svn_wc.specs.declared.base_node.BaseNode.{BaseNode}
 use Rattle.svn_wc.specs.Nodes.{WorkingCopy, base_node}

@@ -2,14 +2,15 @@
 --     standing h rev q n      what stands below path q, where q has node n of revision rev
 --     Puts part q w w'     the part stands at q and below, and elsewhere nothing changed
 --     IsPlain h w      the copy is what a checkout of one revision gives
+--     HasTree h rev q n nodes      the nodes, in order, have at q and below what node n of the repository has
 use Rattle.std.specs.Prelude.{◌≡◌, ℕ, Bool, true, false, List, [], ◌∷◌, ◌++◌, nat_eq, Option, Some, None, option_map, option_and_then, is_some, if◌then◌else◌}
 use Rattle.svn_types.specs.Names.{Path}
 use Rattle.svn_types.specs.Paths.{is_within}
 use Rattle.svn_types.specs.Pairs.{InNameOrder, value_of}
-use Rattle.svn_repo.specs.History.{History, node_at, walk}
+use Rattle.svn_repo.specs.History.{History, node_at, walk, look}
 use Rattle.svn_wc.specs.declared.base_node.BaseNode.{BaseNode}
 use Rattle.svn_wc.specs.declared.base_node.BaseNode.TheVariants.{File as FileNode, Dir as DirNode, NotPresent}
-use Rattle.svn_wc.specs.Nodes.{WorkingCopy, get_in, base_node, is_dir}
+use Rattle.svn_wc.specs.Nodes.{WorkingCopy, get_in, InPathOrder, base_node, is_dir}
 use Rattle.svn_wc.specs.Builders.{checkout}
 
 abbrev pub standing : History → ℕ → Path → ℕ → WorkingCopy
@@ -104,3 +105,9 @@ pub record IsPlain (h : History) (w : WorkingCopy) : Type 0 where
 -- the nodes begin with those of the tree below a node, and the rest comes behind them
 abbrev pub BeginsWithTree : History → ℕ → Path → ℕ → List (Path × BaseNode) → List (Path × BaseNode) → Type 0
 BeginsWithTree h rev q n nodes rest = (tree : List (Path × BaseNode)) × (nodes ≡ tree ++ rest) × Puts (standing h rev q n) q nothing (get_in tree)
+
+-- the nodes, in path order, have at path q and below what stands there in the revision, whose node at q is n
+pub record HasTree (h : History) (rev : ℕ) (q : Path) (n : ℕ) (nodes : List (Path × BaseNode)) : Type 0 where
+  pub stands : look h rev q ≡ Some n
+  pub order : InPathOrder nodes
+  pub inside : (r : Path) → get_in nodes (q ++ r) ≡ standing h rev q n r

@@ -6,7 +6,7 @@ ghost use Rattle.svn_types.specs.Paths.{path_eq};
 ghost use Rattle.svn_types.specs.Pairs.{value_of};
 ghost use Rattle.svn_repo.specs.History.{node_at, walk, look};
 ghost use Rattle.svn_repo.specs.Readings.{entries_of};
-ghost use Rattle.svn_wc.specs.Nodes.{get_in};
+ghost use Rattle.svn_wc.specs.Nodes.{get_in, IsTrueOf, IsWorkingCopy};
 ghost use Rattle.svn_wc.specs.Standing.{standing, standing_at, nothing, at_revision, revised, lines_eq, line_at, kept_of, Puts, PutsRevised, PutsBelow, PutsBelowRevised, OnlyBelow, IsPlain, directory_revision};
 ghost use Rattle.svn_wc.specs.Builders.{checkout};
 
@@ -345,8 +345,11 @@ impl WorkingCopy {
     ) -> Result<u64, u64>
         requires plain { IsPlain repo.now (get_in self.old) }
         requires root { look repo.now target [] ≡ Some to }
-        ensures { OnOk result ((p : Path) → get_in self.new p ≡ checkout repo.now [] target p) }
+        ensures nodes { OnOk result ((p : Path) → get_in self.new p ≡ checkout repo.now [] target p) }
+        ensures shape { OnOk result (IsWorkingCopy (get_in self.new)) }
+        ensures truth { OnOk result (IsTrueOf repo.now (get_in self.new)) }
     {
+        repo.law();
         let root = RelPath::root(alloc);
         let mut calls = 1;
         let Some(base) = self.root_revision(&root) else {

@@ -3,8 +3,9 @@ ghost use Rattle.std.specs.Prelude.{◌≡◌, [], IfOk, IfErr, IsErr, None, is_
 ghost use Rattle.std.specs.Option.{option_copied};
 ghost use Rattle.svn_types.specs.Names.{Path};
 ghost use Rattle.svn_repo.specs.History.{look};
-ghost use Rattle.svn_wc.specs.Nodes.{get_in};
+ghost use Rattle.svn_wc.specs.Nodes.{get_in, InPathOrder, IsTrueOf, IsWorkingCopy};
 ghost use Rattle.svn_wc.specs.Builders.{checkout};
+ghost use Rattle.svn_wc.specs.Standing.{IsPlain};
 
 use crate::base_node::BaseNode;
 use crate::fault::WcFault;
@@ -36,9 +37,12 @@ impl WorkingCopy {
     /// no such revision, else Memory alone.
     pub fn checkout(alloc: Global, repo: &Repo, rev: Rev) -> Result<WorkingCopy, WcFault>
         ensures nodes { IfOk result (λ w. (p : Path) → get_in w p ≡ checkout repo.now [] rev p) }
+        ensures shape { IfOk result (λ w. IsWorkingCopy (get_in w)) }
+        ensures truth { IfOk result (λ w. IsTrueOf repo.now (get_in w)) }
         ensures missing { look repo.now rev [] ≡ None → IsErr result }
         ensures fault { IfErr result (λ e. e ≡ (if is_some (look repo.now rev []) then WcFault.Memory else WcFault.NoSuchRevision)) }
     {
+        repo.law();
         let root = RelPath::root(alloc);
         let Some(id) = repo.lookup(rev, &root) else {
             return Err(WcFault::NoSuchRevision);
@@ -47,6 +51,17 @@ impl WorkingCopy {
         let mut calls = 0;
         fill(alloc, repo, rev, &root, id, &mut nodes, &mut calls)?;
         Ok(WorkingCopy { nodes })
+    }
+
+    /// It does nothing. Its contract says what holds of every copy: the nodes stand in path order; and of one that `plain` accepts: it has the
+    /// shape of a working copy, and each node is what the repository has there.
+    pub fn law(&self, repo: &Repo)
+        ensures order { InPathOrder self.now }
+        ensures shape { IsPlain repo.now (get_in self.now) → IsWorkingCopy (get_in self.now) }
+        ensures truth { IsPlain repo.now (get_in self.now) → IsTrueOf repo.now (get_in self.now) }
+    {
+        repo.law();
+        let _nodes = self.nodes.iter();
     }
 
     /// What the copy has at a path. It takes no memory.

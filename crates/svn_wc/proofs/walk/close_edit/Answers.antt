@@ -1,4 +1,4 @@
-use Rattle.std.proofs.Common.{◌≡◌, List, ap, ◌∙◌, rules}
+use Rattle.std.proofs.Common.{List, ap, ◌∙◌, rules}
 use Rattle.std.specs.BTreeMap.{is_at}
 use Rattle.std.proofs.lemmas.Map.Made.{map_same_pairs, lookup-map_values}
 use Rattle.svn_types.specs.Names.{Path, path_cmp}

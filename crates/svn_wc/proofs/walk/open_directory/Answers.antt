@@ -1,5 +1,4 @@
-use Rattle.std.proofs.Common.{◌≡◌, cond, ap, ◌∙◌, Some, rules}
-use Rattle.std.specs.Prelude.{IsSome}
+use Rattle.std.proofs.Common.{cond, ap, ◌∙◌, Some, rules}
 use Rattle.svn_wc.specs.Nodes.{get_in}
 use Rattle.svn_wc.proofs.Lookups.{at_path}
 use Rattle.svn_wc.proofs.walk.open_directory.Goals as goal
