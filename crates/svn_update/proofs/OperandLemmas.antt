@@ -1,5 +1,5 @@
 -- The words behind the name of a command, one word and the others.
-use Rattle.std.proofs.Common.{◌≡◌, ℕ, List, [], ◌∷◌, Option, Some, None, option_map, refl}
+use Rattle.std.proofs.Common.{◌≡◌, ℕ, List, [], ◌∷◌, option_map, refl}
 use Rattle.svn_update.specs.Commands.{only_word, two_words, three_words}
 
 pub two_words_of : (v : List ℕ) (words : List (List ℕ)) → two_words (v ∷ words) ≡ option_map (λ (w : List ℕ). (v, w)) (only_word words)
