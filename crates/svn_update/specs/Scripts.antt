@@ -15,7 +15,7 @@ use Rattle.svn_wc.specs.Nodes.{get_in}
 use Rattle.svn_wc.specs.Standing.{IsPlain}
 use Rattle.svn_wc.specs.Builders.{checkout}
 use Rattle.svn_update.specs.declared.fault.ScriptFault.{ScriptFault}
-use Rattle.svn_update.specs.declared.fault.ScriptFault.TheVariants.{BadLine, TooLong, Read, Write, Memory}
+use Rattle.svn_update.specs.declared.fault.ScriptFault.TheVariants.{TooLong, Read}
 use Rattle.svn_update.specs.declared.outcome.Cause.TheVariants.{Memory as MemoryCause}
 use Rattle.svn_update.specs.declared.outcome.Outcome.TheVariants.{Closed, Aborted}
 use Rattle.svn_update.specs.declared.outcome.RunFault.TheVariants.{NoSuchRevision as NoTarget}
