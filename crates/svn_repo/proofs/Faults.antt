@@ -73,7 +73,7 @@ directory_by (Some p) h = by_bool (is_directory_place (Some p)) h
     by_bool true h = refl
     by_bool false h = cc
 
-some_directory : (o : Option Place) → is_directory_place o ≡ true → is_some o ≡ true
+pub some_directory : (o : Option Place) → is_directory_place o ≡ true → is_some o ≡ true
 some_directory None h = let bad : false ≡ true = h in cc
 some_directory (Some p) h = refl
 

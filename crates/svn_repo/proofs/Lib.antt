@@ -19,4 +19,5 @@ pub mod Lawful
 pub mod NeverFull
 pub mod Commits
 pub mod Meanings
+pub mod Staying
 pub mod Propping

@@ -1,93 +1,30 @@
 -- The laws of commits, from their definition.
-use Rattle.std.proofs.Common.{◌≡◌, ℕ, ◌<◌, Bool, true, false, cond, ◌||◌, List, [], ◌∷◌, ◌++◌, length, refl, arith, Option, Some, None, subst, sym, ap, ◌∙◌}
+use Rattle.std.proofs.Common.{◌≡◌, ℕ, zero, suc, ◌<◌, Bool, true, false, cond, ◌||◌, List, [], ◌∷◌, ◌++◌, length, refl, arith, Option, Some, None, subst, sym, ap, ◌∙◌, inl, inr}
 use Rattle.std.specs.Prelude.{nat_lt, IsSome}
 use Rattle.std.specs.List.{list_any, slice_get}
-use Rattle.std.specs.Option.{option_and_then, option_map, option_or, is_some}
-use Rattle.std.proofs.lemmas.Bool.{lt-ltb}
+use Rattle.std.specs.Option.{option_and_then, option_map, is_some}
+use Rattle.std.proofs.lemmas.Bool.{cases_lt, lt-ltb}
 use Rattle.std.proofs.lemmas.List.Folds.{list_any-append}
 use Rattle.std.proofs.lemmas.Option.{slice_get_within}
 use Rattle.svn_repo.specs.declared.change.Change.{Change}
 use Rattle.svn_repo.specs.declared.change.Change.TheVariants.{MakeDir, PutFile, SetProp, Remove, CopyFrom}
-use Rattle.svn_repo.specs.declared.change.CommitFault.TheVariants.{Exists}
 use Rattle.svn_types.specs.Names.{Path}
-use Rattle.svn_repo.specs.History.{History, NodeRow, node_at, look}
+use Rattle.svn_repo.specs.History.{History, NodeRow, node_at, look, walk}
 use Rattle.svn_repo.specs.Walks.{rest_below, led}
-use Rattle.svn_repo.specs.Trees.{Place, Tree, place_of, place_at, tree_at, touched, touch, graft, is_within, leaf, nothing, with_prop, place_with_prop}
-use Rattle.svn_repo.specs.Changes.{Pending, latest_pending, root_fault, above_fault, fault_if, depth_fault, directory_fault_at, copy_fault, copy_depth_fault, walk_fault, revision_fault, after_change, after_changes, with_text, IsCommit, IsRevision, StandsIn}
-use Rattle.svn_repo.specs.Laws.{CopiesKeepNodes, ChangesKeepLines, UntouchedPathsKeepNodes, IsRooted, touches, NodesExist, no_commit, one_more, latest_of}
-use Rattle.svn_repo.proofs.Walking.{rest_below_is}
+use Rattle.svn_repo.specs.Trees.{Place, Tree, place_of, place_at, tree_at, touched, touch, graft, is_within, with_prop}
+use Rattle.svn_repo.specs.Changes.{Pending, latest_pending, after_change, after_changes, IsCommit, IsRevision, StandsIn}
+use Rattle.svn_repo.specs.Laws.{RevisionsStay, CopiesKeepNodes, UntouchedPathsKeepNodes, touches, NodesExist, no_commit, one_more, latest_of}
+use Rattle.svn_repo.proofs.Walking.{and_then_parts, rest_below_is}
 use Rattle.svn_repo.proofs.Thawing.{append_nil, rest_below_self}
 use Rattle.std.proofs.lemmas.Slice.Eq.{bytes_eq-Decides}
-use Rattle.svn_repo.proofs.Faults.{or_none}
 
-rest_below_append : (p q : Path) → rest_below p (p ++ q) ≡ Some q
+pub rest_below_append : (p q : Path) → rest_below p (p ++ q) ≡ Some q
 rest_below_append [] q = refl
 rest_below_append (m ∷ p) q = rw ((bytes_eq-Decides m m).1 refl) (rest_below_append p q)
 
-pub copies : CopiesKeepNodes
-copies h s rev source path q = ap (λ o. led o (λ r. tree_at h rev (source ++ r)) (touch s.tree path (path ++ q))) (rest_below_append path q)
-
--- ---- lines
-
-touch_line : (b : Bool) (o : Option Place) (x y : Place) → o ≡ Some x → cond b (option_map touched o) o ≡ Some y → y.line ≡ x.line
-touch_line b None x y e f = cc
-touch_line true (Some z) x y e f = let s : z ≡ x = cc in let t : touched z ≡ y = cc in ap (λ p. p.line) (sym t) ∙ ap (λ p. p.line) s
-touch_line false (Some z) x y e f = let s : z ≡ x = cc in let t : z ≡ y = cc in ap (λ p. p.line) (sym t ∙ s)
-
-graft_line : (t : Tree) (p : Path) (part : Tree) (q : Path) (x y : Place) → ((r : Path) → q ≡ p ++ r → part r ≡ Some y → y.line ≡ x.line) → t q ≡ Some x → graft t p part q ≡ Some y → y.line ≡ x.line
-graft_line t p part q x y inner e = by (rest_below p q) refl
-  where
-    by : (o : Option Path) → rest_below p q ≡ o → led o part (touch t p q) ≡ Some y → y.line ≡ x.line
-    by None r f = touch_line (is_within q p) (t q) x y e f
-    by (Some rest) r f = inner rest (rest_below_is p q rest r) f
-
--- where nothing stands, nothing stands below
-nothing_below : (t : Tree) (p r : Path) (x : Place) → IsRooted t → fault_if (is_some (t p)) Exists ≡ None → t (p ++ r) ≡ Some x → ⊥
-nothing_below t p r x rooted free e = by (t p) refl
-  where
-    by : (o : Option Place) → t p ≡ o → ⊥
-    by None f = rooted p r (λ g. (let bad : Some x ≡ None = sym e ∙ g in cc)) f
-    by (Some z) f = let bad : Some Exists ≡ None = sym (ap (λ o. fault_if (is_some o) Exists) f) ∙ free in cc
-
-text_line : (lines : ℕ) (o : Option Place) (text : List ℕ) (x : Place) → o ≡ Some x → (with_text lines o text).line ≡ x.line
-text_line lines None text x e = cc
-text_line lines (Some z) text x e = let s : z ≡ x = cc in ap (λ p. p.line) s
-
-prop_line : (name : List ℕ) (value : Option (List ℕ)) (o : Option Place) (x y : Place) → o ≡ Some x → option_map (place_with_prop name value) o ≡ Some y → y.line ≡ x.line
-prop_line name value None x y e f = cc
-prop_line name value (Some z) x y e f = let s : z ≡ x = cc in let t : place_with_prop name value z ≡ y = cc in ap (λ p. p.line) (sym t) ∙ ap (λ p. p.line) s
-
-pub lines : ChangesKeepLines
-lines h s (MakeDir p) q x y rooted fault e f =
-    let a = or_none (root_fault p) (directory_fault_at s.tree p) fault in
-    let b = or_none (above_fault s.tree p) (option_or (fault_if (is_some (s.tree p)) Exists) (depth_fault p)) a.1 in
-    let free = (or_none (fault_if (is_some (s.tree p)) Exists) (depth_fault p) b.1).0 in
-    graft_line s.tree p _ q x y (λ r is g. absurd (nothing_below s.tree p r x rooted free (ap s.tree (sym is) ∙ e))) e f
-lines h s (PutFile p text) q x y rooted fault e f = graft_line s.tree p (leaf (with_text s.lines (s.tree p) text)) q x y at e f
-  where
-    at : (r : Path) → q ≡ p ++ r → leaf (with_text s.lines (s.tree p) text) r ≡ Some y → y.line ≡ x.line
-    at [] is g =
-        let z : with_text s.lines (s.tree p) text ≡ y = cc in
-        ap (λ o. o.line) (sym z) ∙ text_line s.lines (s.tree p) text x (ap s.tree (sym (append_nil p) ∙ sym is) ∙ e)
-    at (m ∷ r) is g = cc
-lines h s (SetProp p name value) q x y rooted fault e f = graft_line s.tree p (with_prop s.tree p name value) q x y at e f
-  where
-    at : (r : Path) → q ≡ p ++ r → with_prop s.tree p name value r ≡ Some y → y.line ≡ x.line
-    at [] is g = prop_line name value (s.tree p) x y (ap s.tree (sym (append_nil p) ∙ sym is) ∙ e) g
-    at (m ∷ r) is g = let z : Some y ≡ Some x = sym g ∙ ap s.tree (sym is) ∙ e in let t : y ≡ x = cc in ap (λ o. o.line) t
-lines h s (Remove p) q x y rooted fault e f = graft_line s.tree p nothing q x y (λ r is g. cc) e f
-lines h s (CopyFrom rev source p) q x y rooted fault e f =
-    let a = or_none (root_fault p) (copy_fault h s.tree rev source p) fault in
-    let rest : Option _ = option_or (fault_if (is_some (s.tree p)) Exists) (copy_depth_fault (node_at h) (look h rev source) p) in
-    let b = or_none (revision_fault h rev) (option_or (walk_fault (tree_at h rev) source) (option_or (above_fault s.tree p) rest)) a.1 in
-    let c = or_none (walk_fault (tree_at h rev) source) (option_or (above_fault s.tree p) rest) b.1 in
-    let d = or_none (above_fault s.tree p) rest c.1 in
-    let free = (or_none (fault_if (is_some (s.tree p)) Exists) (copy_depth_fault (node_at h) (look h rev source) p) d.1).0 in
-    graft_line s.tree p _ q x y (λ r is g. absurd (nothing_below s.tree p r x rooted free (ap s.tree (sym is) ∙ e))) e f
-
 -- ---- untouched paths
 
-neither : (a b : Bool) → (a || b) ≡ false → (a ≡ false) × (b ≡ false)
+pub neither : (a b : Bool) → (a || b) ≡ false → (a ≡ false) × (b ≡ false)
 neither true b e = cc
 neither false b e = (refl, e)
 
@@ -121,31 +58,104 @@ all_untouched h s (c ∷ cs) p e =
     let n = neither (touches p c) (list_any (touches p) cs) e in
     all_untouched h (after_change h s c) cs p n.1 ∙ untouched h s c p n.0
 
-number_kept : (h mid : History) (r : ℕ) (p : Path) (o : Option ℕ) → look h (latest_of h) p ≡ o → ((n : ℕ) → o ≡ Some n → IsSome (node_at h n)) → StandsIn h mid r p (option_and_then (place_at (node_at h) (length h.nodes)) o) → look mid r p ≡ o
-number_kept h mid r p None e exist stands = stands
-number_kept h mid r p (Some n) e exist stands = by (node_at h n) refl (exist n refl) stands
+-- ---- nodes
+
+none_some : IsSome {T = NodeRow} None → ⊥
+none_some e = let bad : false ≡ true = e in cc
+
+pub some_row : (o : Option NodeRow) → IsSome o → (row : NodeRow) × (o ≡ Some row)
+some_row None e = absurd (none_some e)
+some_row (Some row) e = (row, refl)
+
+is_some_by : (o : Option NodeRow) (row : NodeRow) → o ≡ Some row → IsSome o
+is_some_by None row e = cc
+is_some_by (Some x) row e = search
+
+within_some : {X : Type 0} (xs : List X) (n : ℕ) → n < length xs → (x : X) × (slice_get xs n ≡ Some x)
+within_some [] n h = absurd (omega arith)
+within_some (x ∷ xs) zero h = (x, refl)
+within_some (x ∷ xs) (suc n) h = within_some xs n (omega arith)
+
+pub latest_after : (h mid : History) (changes : List Change) → IsCommit h mid changes → latest_of mid ≡ length h.roots
+latest_after h mid changes commit = let revision : IsRevision h mid (after_changes h (latest_pending h) changes) = commit.1 in omega (arith, revision.revisions)
+
+grown : (h mid : History) (changes : List Change) → IsCommit h mid changes → (n : ℕ) → n < length h.nodes → n < length mid.nodes
+grown h mid changes commit n below =
+    let revision : IsRevision h mid (after_changes h (latest_pending h) changes) = commit.1 in
+    let row = within_some h.nodes n below in
+    slice_get_within mid.nodes n row.0 (revision.old_nodes n below ∙ row.1)
+
+pub stays : RevisionsStay
+stays h h' changes no_commit = ((λ r p b. refl), (λ n b. refl))
+stays h h' changes (one_more mid first rest commit commits) =
+    let revision : IsRevision h mid (after_changes h (latest_pending h) first) = commit.1 in
+    let later = stays mid h' rest commits in
+    ((λ r p b. later.0 r p (omega (arith, revision.revisions)) ∙ revision.old_revisions r p b), (λ n b. later.1 n (grown h mid first commit n b) ∙ revision.old_nodes n b))
+
+-- what stands anywhere after a commit is a node
+pub exist_after : (h mid : History) (changes : List Change) → NodesExist h → IsCommit h mid changes → NodesExist mid
+exist_after h mid changes exist commit r p n e = elim (cases_lt r (length h.roots)) [
+  | inl below ↦
+      let row = some_row (node_at h n) (exist r p n (sym (revision.old_revisions r p below) ∙ e)) in
+      is_some_by (node_at mid n) row.0 (revision.old_nodes n (slice_get_within h.nodes n row.0 row.1) ∙ row.1)
+  | inr past ↦
+      let top = and_then_parts (λ k. walk (node_at mid) k p) (slice_get mid.roots r) n e in
+      let last : r ≡ length h.roots = (let inside = slice_get_within mid.roots r top.0 top.1 in omega (arith, inside, past, revision.revisions)) in
+      by_place ((after_changes h (latest_pending h) changes).tree p) (revision.tree p) (ap (λ k. look mid k p) (sym last) ∙ e)
+]
   where
-    by : (row : Option NodeRow) → slice_get h.nodes n ≡ row → IsSome row → StandsIn h mid r p (option_map (place_of (cond (nat_lt n (length h.nodes)) (Some n) None)) row) → look mid r p ≡ Some n
-    by None is some stands = absurd (none_some some)
-      where
-        none_some : IsSome {T = NodeRow} None → ⊥
-        none_some e = let bad : false ≡ true = e in cc
-    by (Some row) is some stands =
-        let below : n < length h.nodes = slice_get_within h.nodes n row is in
-        let number : cond (nat_lt n (length h.nodes)) (Some n) None ≡ Some n = ap (λ b. cond b (Some n) None) (lt-ltb n (length h.nodes) below) in
-        let here : StandsIn h mid r p (Some (place_of (Some n) row)) = subst (λ (o : Option ℕ). StandsIn h mid r p (Some (place_of o row))) number stands in
-        let same : here.0 ≡ n = here.4 in
-        here.2 ∙ ap Some same
+    revision : IsRevision h mid (after_changes h (latest_pending h) changes)
+    revision = commit.1
+
+    by_place : (o : Option Place) → StandsIn h mid (length h.roots) p o → look mid (length h.roots) p ≡ Some n → IsSome (node_at mid n)
+    by_place None stands f = let bad : Some n ≡ None = sym f ∙ stands in cc
+    by_place (Some x) stands f =
+        let number : Some stands.0 ≡ Some n = sym stands.2 ∙ f in
+        let same : stands.0 ≡ n = cc in
+        is_some_by (node_at mid n) stands.1 (ap (node_at mid) (sym same) ∙ stands.3)
+
+-- ---- numbers
+
+number_kept : (h mid : History) (r : ℕ) (p : Path) (o : Option ℕ) → ((n : ℕ) → o ≡ Some n → IsSome (node_at h n)) → StandsIn h mid r p (option_and_then (place_at (node_at h) (length h.nodes)) o) → look mid r p ≡ o
+number_kept h mid r p None exist stands = stands
+number_kept h mid r p (Some n) exist stands =
+    let row = some_row (node_at h n) (exist n refl) in
+    let below : n < length h.nodes = slice_get_within h.nodes n row.0 row.1 in
+    let number : cond (nat_lt n (length h.nodes)) (Some n) None ≡ Some n = ap (λ b. cond b (Some n) None) (lt-ltb n (length h.nodes) below) in
+    let place : place_at (node_at h) (length h.nodes) n ≡ Some (place_of (Some n) row.0) = ap (option_map (place_of (cond (nat_lt n (length h.nodes)) (Some n) None))) row.1 ∙ ap (λ o. Some (place_of o row.0)) number in
+    let here : StandsIn h mid r p (Some (place_of (Some n) row.0)) = subst (StandsIn h mid r p) place stands in
+    let same : here.0 ≡ n = here.4 in
+    here.2 ∙ ap Some same
 
 one_commit : (h mid : History) (changes : List Change) (p : Path) → NodesExist h → IsCommit h mid changes → list_any (touches p) changes ≡ false → look mid (latest_of mid) p ≡ look h (latest_of h) p
 one_commit h mid changes p exist commit e =
     let revision : IsRevision h mid (after_changes h (latest_pending h) changes) = commit.1 in
-    let last : latest_of mid ≡ length h.roots = omega (arith, revision.revisions) in
     let stands : StandsIn h mid (length h.roots) p ((latest_pending h).tree p) = subst (StandsIn h mid (length h.roots) p) (all_untouched h (latest_pending h) changes p e) (revision.tree p) in
-    ap (λ r. look mid r p) last ∙ number_kept h mid (length h.roots) p (look h (latest_of h) p) refl (λ n f. exist (latest_of h) p n f) stands
+    ap (λ r. look mid r p) (latest_after h mid changes commit) ∙ number_kept h mid (length h.roots) p (look h (latest_of h) p) (λ n f. exist (latest_of h) p n f) stands
 
 pub keeps : UntouchedPathsKeepNodes
 keeps h h' changes p exist no_commit e = refl
-keeps h h' changes p exist (one_more mid first rest commit exist' commits) e =
+keeps h h' changes p exist (one_more mid first rest commit commits) e =
     let n = neither (list_any (touches p) first) (list_any (touches p) rest) (sym (list_any-append (touches p) first rest) ∙ e) in
-    keeps mid h' rest p exist' commits n.1 ∙ one_commit h mid first p exist commit n.0
+    keeps mid h' rest p (exist_after h mid first exist commit) commits n.1 ∙ one_commit h mid first p exist commit n.0
+
+-- ---- copies
+
+-- what a copy puts at its path
+copied : (h : History) (s : Pending) (rev : ℕ) (source path q : Path) → (after_change h s (CopyFrom rev source path)).tree (path ++ q) ≡ tree_at h rev (source ++ q)
+copied h s rev source path q = ap (λ o. led o (λ r. tree_at h rev (source ++ r)) (touch s.tree path (path ++ q))) (rest_below_append path q)
+
+after_append : (h : History) (s : Pending) (before : List Change) (c : Change) (after : List Change) → after_changes h s (before ++ c ∷ after) ≡ after_changes h (after_change h (after_changes h s before) c) after
+after_append h s [] c after = refl
+after_append h s (b ∷ before) c after = after_append h (after_change h s b) before c after
+
+pub copies : CopiesKeepNodes
+copies h h' before after rev source path q exist commit e =
+    let changes : List Change = before ++ CopyFrom rev source path ∷ after in
+    let mid : Pending = after_changes h (latest_pending h) before in
+    let revision : IsRevision h h' (after_changes h (latest_pending h) changes) = commit.1 in
+    let part : (after_changes h (latest_pending h) changes).tree (path ++ q) ≡ tree_at h rev (source ++ q) =
+    ap (λ (s : Pending). s.tree (path ++ q)) (after_append h (latest_pending h) before (CopyFrom rev source path) after)
+    ∙ all_untouched h (after_change h mid (CopyFrom rev source path)) after (path ++ q) e ∙ copied h mid rev source path q in
+    let stands : StandsIn h h' (length h.roots) (path ++ q) (tree_at h rev (source ++ q)) = subst (StandsIn h h' (length h.roots) (path ++ q)) part (revision.tree (path ++ q)) in
+    ap (λ r. look h' r (path ++ q)) (latest_after h h' changes commit) ∙ number_kept h h' (length h.roots) (path ++ q) (look h rev (source ++ q)) (λ n f. exist rev (source ++ q) n f) stands

@@ -1,29 +1,36 @@
--- What a commit means, in the field's words: laws of the definitions.
---     CopiesKeepNodes      a copy puts the source's own node revisions at its path
---     ChangesKeepLines      what stands at a path before a change and after it is of one line
+-- What commits mean, in the field's words: laws of the definitions.
+--     AreCommits h changes h'      commits one after another, with all these changes, lead from h to h'
+--     RevisionsStay      old revisions have the nodes that they had, and the nodes stay what they are
+--     CopiesKeepNodes      a copy and its source are one node revision
+--     ChangesKeepLines      what no change removes stands on, and is of the line that it was
 --     UntouchedPathsKeepNodes      where nothing at, above or below a path was changed, one node revision stands there
-use Rattle.std.specs.Prelude.{◌≡◌, ◌≢◌, ℕ, ◌-◌, Bool, false, ◌||◌, List, [], ◌++◌, length, Some, None, IsSome}
+use Rattle.std.specs.Prelude.{◌≡◌, ℕ, ◌-◌, ◌<◌, Bool, true, false, ◌||◌, List, [], ◌∷◌, ◌++◌, length, Some, IsSome}
 use Rattle.std.specs.List.{list_any}
 use Rattle.svn_repo.specs.declared.change.Change.{Change}
 use Rattle.svn_repo.specs.declared.change.Change.TheVariants.{MakeDir, PutFile, SetProp, Remove, CopyFrom}
 use Rattle.svn_types.specs.Names.{Path}
 use Rattle.svn_repo.specs.History.{History, node_at, look}
-use Rattle.svn_repo.specs.Trees.{Place, Tree, tree_at, is_within}
-use Rattle.svn_repo.specs.Changes.{Pending, change_fault, after_change, IsCommit}
+use Rattle.svn_repo.specs.Readings.{IsHistory, are_related}
+use Rattle.svn_repo.specs.Trees.{is_within}
+use Rattle.svn_repo.specs.Changes.{IsCommit}
 
-abbrev pub CopiesKeepNodes : Type 0
-CopiesKeepNodes = (h : History) (s : Pending) (rev : ℕ) (source path q : Path)
-    → (after_change h s (CopyFrom rev source path)).tree (path ++ q) ≡ tree_at h rev (source ++ q)
+-- commits one after another, and all their changes
+pub data AreCommits : History → List Change → History → Type 0 where
+  no_commit : {h : History} → AreCommits h [] h
+  one_more : {h h' : History} (mid : History) (changes rest : List Change) → IsCommit h mid changes → AreCommits mid rest h' → AreCommits h (changes ++ rest) h'
 
--- something stands only below what stands
-abbrev pub IsRooted : Tree → Type 0
-IsRooted t = (p q : Path) → t (p ++ q) ≢ None → t p ≢ None
+abbrev pub latest_of : History → ℕ
+latest_of h = length h.roots - 1
 
-abbrev pub ChangesKeepLines : Type 0
-ChangesKeepLines = (h : History) (s : Pending) (c : Change) (q : Path) (x y : Place) → IsRooted s.tree → change_fault h s c ≡ None
-    → s.tree q ≡ Some x → (after_change h s c).tree q ≡ Some y → y.line ≡ x.line
+-- what stands anywhere is a node
+abbrev pub NodesExist : History → Type 0
+NodesExist h = (r : ℕ) (p : Path) (n : ℕ) → look h r p ≡ Some n → IsSome (node_at h n)
 
--- the change makes, changes or removes the node at p, or a node below it
+abbrev pub RevisionsStay : Type 0
+RevisionsStay = (h h' : History) (changes : List Change) → AreCommits h changes h'
+    → ((r : ℕ) (p : Path) → r < length h.roots → look h' r p ≡ look h r p) × ((n : ℕ) → n < length h.nodes → node_at h' n ≡ node_at h n)
+
+-- the change makes, changes or removes the node at p, a node below it, or all from a node above it on
 abbrev pub touches : Path → Change → Bool
 touches p (MakeDir path) = is_within p path || is_within path p
 touches p (PutFile path text) = is_within p path || is_within path p
@@ -31,17 +38,23 @@ touches p (SetProp path name value) = is_within p path
 touches p (Remove path) = is_within p path || is_within path p
 touches p (CopyFrom rev source path) = is_within p path || is_within path p
 
--- what stands anywhere is a node
-abbrev pub NodesExist : History → Type 0
-NodesExist h = (r : ℕ) (p : Path) (n : ℕ) → look h r p ≡ Some n → IsSome (node_at h n)
+-- at the path of a copy and at each path below, save where a later change of the same commit touches it
+abbrev pub CopiesKeepNodes : Type 0
+CopiesKeepNodes = (h h' : History) (before after : List Change) (rev : ℕ) (source path q : Path) → NodesExist h
+    → IsCommit h h' (before ++ CopyFrom rev source path ∷ after) → list_any (touches (path ++ q)) after ≡ false
+    → look h' (latest_of h') (path ++ q) ≡ look h rev (source ++ q)
 
--- commits one after another, and all their changes
-pub data AreCommits : History → List Change → History → Type 0 where
-  no_commit : {h : History} → AreCommits h [] h
-  one_more : {h h' : History} (mid : History) (changes rest : List Change) → IsCommit h mid changes → NodesExist mid → AreCommits mid rest h' → AreCommits h (changes ++ rest) h'
+-- the change removes the node at q, or one above it
+abbrev pub removes : Path → Change → Bool
+removes q (MakeDir path) = false
+removes q (PutFile path text) = false
+removes q (SetProp path name value) = false
+removes q (Remove path) = is_within path q
+removes q (CopyFrom rev source path) = false
 
-abbrev pub latest_of : History → ℕ
-latest_of h = length h.roots - 1
+abbrev pub ChangesKeepLines : Type 0
+ChangesKeepLines = (h h' : History) (changes : List Change) (q : Path) (m : ℕ) → IsHistory h → NodesExist h → AreCommits h changes h'
+    → list_any (removes q) changes ≡ false → look h (latest_of h) q ≡ Some m → are_related h' (Some m) (look h' (latest_of h') q) ≡ true
 
 abbrev pub UntouchedPathsKeepNodes : Type 0
 UntouchedPathsKeepNodes = (h h' : History) (changes : List Change) (p : Path) → NodesExist h → AreCommits h changes h'

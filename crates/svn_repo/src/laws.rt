@@ -1,12 +1,19 @@
-//! What a commit means, in the field's words. These functions do nothing: each promises a law of the definitions.
-ghost use Rattle.svn_repo.specs.Laws.{CopiesKeepNodes, ChangesKeepLines, UntouchedPathsKeepNodes};
+//! What commits mean, in the field's words. These functions do nothing: each promises a law of the definitions.
+ghost use Rattle.svn_repo.specs.Laws.{RevisionsStay, CopiesKeepNodes, ChangesKeepLines, UntouchedPathsKeepNodes};
 
-/// A copy puts the source's own node revisions at its path, with their numbers and lines: at the path and at every path below it.
+/// Commits leave old revisions alone: at each path stands the node that stood there, and the node is what it was.
+pub fn revisions_stay()
+    ensures { RevisionsStay }
+{}
+
+/// A copy is its source: in the revision that a commit makes, the path of a copy, and each path below it, has the node number that the
+/// source has there, and so its line, save where a later change of the commit touches that path.
 pub fn copies_keep_nodes()
     ensures { CopiesKeepNodes }
 {}
 
-/// What stands at a path before a change and after it is of one line: changing a node keeps its line.
+/// Changing a node keeps its line: through commits that don't remove it, or a node above it, a node stands on at its path, and what
+/// stands there then is related to what stood there.
 pub fn changes_keep_lines()
     ensures { ChangesKeepLines }
 {}

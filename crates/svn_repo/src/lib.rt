@@ -12,7 +12,7 @@ mod store;
 
 pub use change::{Change, CommitFault};
 pub use entries::{Entries, NodeId};
-pub use laws::{changes_keep_lines, copies_keep_nodes, untouched_paths_keep_nodes};
+pub use laws::{changes_keep_lines, copies_keep_nodes, revisions_stay, untouched_paths_keep_nodes};
 pub use repo::Repo;
 pub use svn_types::{Kind, Name, PathFault, PropName, Props, RelPath, Rev, Text};
 

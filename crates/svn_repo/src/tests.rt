@@ -196,17 +196,94 @@ fn refuses_in_order(rt: HostRuntime) -> Result<(), Fail> {
 }
 
 #[test]
+fn refuses_the_root(rt: HostRuntime) -> Result<(), Fail> {
+    let alloc = rt.alloc();
+    let mut repo = Repo::new(alloc)?;
+    let steps = [
+        MakeDir(""),
+        Commit,
+        Put("", "a"),
+        Commit,
+        Remove(""),
+        Commit,
+        Copy(0, "", ""),
+        Commit,
+        Copy(9, "x", ""),
+        Commit,
+    ];
+    let answers = run(alloc, &mut repo, &steps)?;
+    assert_eq!(rt; answers.as_slice(), [105, 105, 105, 105, 105].as_slice());
+    Ok(())
+}
+
+#[test]
+fn refuses_ways_down(rt: HostRuntime) -> Result<(), Fail> {
+    let alloc = rt.alloc();
+    let mut repo = Repo::new(alloc)?;
+    run(alloc, &mut repo, &TWO_REVISIONS)?;
+    let steps = [
+        Put("f/x", "a"),
+        Commit,
+        Put("g/x", "a"),
+        Commit,
+        SetProp("f/x", Some("1")),
+        Commit,
+        SetProp("g/x", None),
+        Commit,
+        Remove("g"),
+        Commit,
+        Copy(1, "f", "f/x"),
+        Commit,
+        Copy(2, "g/x", "f/x"),
+        Commit,
+        MakeDir("g/f/x"),
+        Commit,
+        MakeDir("f/g/x"),
+        Commit,
+    ];
+    let answers = run(alloc, &mut repo, &steps)?;
+    let wanted = [103, 102, 103, 102, 102, 103, 102, 102, 103];
+    assert_eq!(rt; answers.as_slice(), wanted.as_slice());
+    Ok(())
+}
+
+fn long_text(alloc: Global, len: usize) -> Result<Text, AllocError> {
+    let mut bytes = Vec::new(alloc);
+    bytes.resize(len, 97)?;
+    Ok(Text::new(bytes))
+}
+
+fn put_long(alloc: Global, repo: &mut Repo, path: &str, len: usize) -> Result<u64, Fail> {
+    let path = path_at(alloc, path)?;
+    let text = long_text(alloc, len)?;
+    Ok(commit(repo, &[Change::PutFile { path, text }]))
+}
+
+fn set_long(alloc: Global, repo: &mut Repo, path: &str, len: usize) -> Result<u64, Fail> {
+    let path = path_at(alloc, path)?;
+    let name = prop_name(alloc)?;
+    let value = Some(long_text(alloc, len)?);
+    Ok(commit(repo, &[Change::SetProp { path, name, value }]))
+}
+
+#[test]
 fn refuses_long_texts(rt: HostRuntime) -> Result<(), Fail> {
     let alloc = rt.alloc();
     let mut repo = Repo::new(alloc)?;
-    let path = path_at(alloc, "g")?;
-    let mut text = Vec::new(alloc);
-    text.resize(1048577, 97)?;
-    let put = [Change::PutFile {
-        path,
-        text: Text::new(text),
-    }];
-    assert_eq!(rt; commit(&mut repo, &put), 108);
+    assert_eq!(rt; put_long(alloc, &mut repo, "g", 1048577)?, 108);
+    assert_eq!(rt; put_long(alloc, &mut repo, "", 1048577)?, 105);
+    assert_eq!(rt; put_long(alloc, &mut repo, "x/y", 1048577)?, 108);
+    assert_eq!(rt; put_long(alloc, &mut repo, "g", 1048576)?, 1);
+    Ok(())
+}
+
+#[test]
+fn refuses_long_values(rt: HostRuntime) -> Result<(), Fail> {
+    let alloc = rt.alloc();
+    let mut repo = Repo::new(alloc)?;
+    assert_eq!(rt; set_long(alloc, &mut repo, "", 1048577)?, 108);
+    assert_eq!(rt; set_long(alloc, &mut repo, "x/y", 1048577)?, 108);
+    assert_eq!(rt; set_long(alloc, &mut repo, "", 1048576)?, 1);
     Ok(())
 }
 
@@ -228,6 +305,7 @@ fn changes_both_sides_of_a_copy(rt: HostRuntime) -> Result<(), Fail> {
     let answers = run(alloc, &mut repo, &steps)?;
     assert_eq!(rt; answers.as_slice(), [1, 2, 3, 4].as_slice());
     let source = node(alloc, &repo, 1, "d/x");
+    assert!(rt; has_text(alloc, &repo, 3, "d/x", "a"));
     assert_eq!(rt; node(alloc, &repo, 2, "d"), node(alloc, &repo, 2, "e"));
     assert_eq!(rt; node(alloc, &repo, 2, "e/x"), source);
     assert_eq!(rt; node(alloc, &repo, 3, "d/x"), source);
@@ -307,7 +385,16 @@ fn sets_and_removes_properties(rt: HostRuntime) -> Result<(), Fail> {
     Ok(())
 }
 
-// So many directories, each in the one before, and the last one's path.
+// A path of so many names.
+fn deep_path(alloc: Global, depth: usize) -> Result<RelPath, Fail> {
+    let mut text = String::from_str(alloc, "a")?;
+    for _ in 1..depth {
+        text.push_str("/a")?;
+    }
+    Ok(path_at(alloc, text.as_str())?)
+}
+
+// Commits so many directories, each in the one before.
 fn nested(alloc: Global, repo: &mut Repo, depth: usize) -> Result<u64, Fail> {
     let mut changes = Vec::new(alloc);
     let mut path = String::from_str(alloc, "a")?;
@@ -338,5 +425,32 @@ fn takes_sixty_four_names(rt: HostRuntime) -> Result<(), Fail> {
     ];
     let answers = run(alloc, &mut repo, &steps)?;
     assert_eq!(rt; answers.as_slice(), [106, 2, 102, 3].as_slice());
+    Ok(())
+}
+
+#[test]
+fn refuses_a_sixty_fifth_name(rt: HostRuntime) -> Result<(), Fail> {
+    let alloc = rt.alloc();
+    let mut repo = Repo::new(alloc)?;
+    assert_eq!(rt; nested(alloc, &mut repo, 64)?, 1);
+    let path = deep_path(alloc, 65)?;
+    assert_eq!(rt; commit(&mut repo, &[Change::MakeDir { path }]), 106);
+    let path = deep_path(alloc, 65)?;
+    let text = text_of(alloc, "a")?;
+    assert_eq!(rt; commit(&mut repo, &[Change::PutFile { path, text }]), 106);
+    let path = deep_path(alloc, 65)?;
+    assert_eq!(rt; commit(&mut repo, &[Change::Remove { path }]), 102);
+    Ok(())
+}
+
+#[test]
+fn commits_nothing(rt: HostRuntime) -> Result<(), Fail> {
+    let alloc = rt.alloc();
+    let mut repo = Repo::new(alloc)?;
+    let answers = run(alloc, &mut repo, &[Commit, Commit])?;
+    assert_eq!(rt; answers.as_slice(), [1, 2].as_slice());
+    assert_eq!(rt; repo.latest(), Rev(2));
+    assert!(rt; node(alloc, &repo, 2, "").is_some());
+    assert_eq!(rt; node(alloc, &repo, 2, ""), node(alloc, &repo, 0, ""));
     Ok(())
 }

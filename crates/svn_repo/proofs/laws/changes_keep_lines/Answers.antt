@@ -1,4 +1,4 @@
-use Rattle.svn_repo.proofs.Meanings.{lines}
+use Rattle.svn_repo.proofs.Staying.{lines}
 use Rattle.svn_repo.proofs.laws.changes_keep_lines.Goals as goal
 
 pub returns : goal.returns
