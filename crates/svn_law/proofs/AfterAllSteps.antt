@@ -24,8 +24,8 @@ use Rattle.svn_law.proofs.Maps.{sorted-nil}
 use Rattle.svn_law.proofs.PropChanges.{with_changes-between}
 use Rattle.svn_law.proofs.Children.{follow-here}
 use Rattle.svn_law.proofs.Classes.{Setting, kept_directory, source_looked, shown_source}
-use Rattle.svn_law.proofs.States.{act, acted, changes_in, texts_in}
-use Rattle.svn_law.proofs.NextStep.{acted-append}
+use Rattle.svn_law.proofs.Courses.{AllOf, all-append}
+use Rattle.svn_law.proofs.States.{act, acted, acted-append, changes_in, texts_in}
 use Rattle.svn_law.proofs.AfterSteps.{kept_present}
 
 -- ---- changes and texts leave a node as it is
@@ -36,41 +36,30 @@ is_quiet (Change k c) = true
 is_quiet (Text s t) = true
 is_quiet _ = false
 
-abbrev pub AllQuiet : List Action → Type 0
-AllQuiet [] = Unit {0}
-AllQuiet (a ∷ acts) = (is_quiet a ≡ true) × AllQuiet acts
-
 -- one of them does nothing until a close
 act_quiet : (d : Request) (p : Path) (before : List Action) (a : Action) (found : Option BaseNode) → is_quiet a ≡ true → act d p before a found ≡ found
-act_quiet d p before (Delete r) found q = absurd (true≢false (sym q))
-act_quiet d p before (Open k r) found q = absurd (true≢false (sym q))
-act_quiet d p before (Add k) found q = absurd (true≢false (sym q))
 act_quiet d p before (Change k c) found q = refl
 act_quiet d p before (Text s t) found q = refl
-act_quiet d p before (Close k c) found q = absurd (true≢false (sym q))
+act_quiet d p before a found q = absurd (true≢false (sym q))
 
 -- and neither do several
-pub acted_quiet : (d : Request) (p : Path) (before acts : List Action) (found : Option BaseNode) → AllQuiet acts → acted d p before found acts ≡ found
+pub acted_quiet : (d : Request) (p : Path) (before acts : List Action) (found : Option BaseNode) → AllOf is_quiet acts → acted d p before found acts ≡ found
 acted_quiet d p before [] found q = refl
 acted_quiet d p before (a ∷ acts) found q = acted_quiet d p (before ++ a ∷ []) acts (act d p before a found) q.1 ∙ act_quiet d p before a found q.0
 
 -- quiet actions and one more do what the one does
-pub acted_closed : (d : Request) (p : Path) (before acts : List Action) (found : Option BaseNode) (c : Action) → AllQuiet acts → acted d p before found (acts ++ c ∷ []) ≡ act d p (before ++ acts) c found
+pub acted_closed : (d : Request) (p : Path) (before acts : List Action) (found : Option BaseNode) (c : Action) → AllOf is_quiet acts → acted d p before found (acts ++ c ∷ []) ≡ act d p (before ++ acts) c found
 acted_closed d p before acts found c q = acted-append d p before acts (c ∷ []) found ∙ ap (act d p (before ++ acts) c) (acted_quiet d p before acts found q)
 
--- which actions are quiet: two lists of them, changes, and a text that may be sent
-pub quiet-append : (xs ys : List Action) → AllQuiet xs → AllQuiet ys → AllQuiet (xs ++ ys)
-quiet-append [] ys h k = k
-quiet-append (x ∷ xs) ys h k = (h.0, quiet-append xs ys h.1 k)
-
-pub quiet_changes : (k : Kind) (cs : List PropChange) → AllQuiet (map (Change k) cs)
+-- changes are quiet, and changes and a text that may be sent
+pub quiet_changes : (k : Kind) (cs : List PropChange) → AllOf is_quiet (map (Change k) cs)
 quiet_changes k [] = tt
 quiet_changes k (c ∷ cs) = (refl, quiet_changes k cs)
 
-pub quiet_texts : (d : Request) (old new : List ℕ) → AllQuiet (text_actions d old new)
-quiet_texts d old new = by (bytes_eq old new)
+pub quiet_texts : (d : Request) (k : Kind) (cs : List PropChange) (old new : List ℕ) → AllOf is_quiet (map (Change k) cs ++ text_actions d old new)
+quiet_texts d k cs old new = all-append is_quiet (map (Change k) cs) (text_actions d old new) (quiet_changes k cs) (by (bytes_eq old new))
   where
-    by : (b : Bool) → AllQuiet (cond b [] (Text (Some (d.checksum old)) new ∷ []))
+    by : (b : Bool) → AllOf is_quiet (cond b [] (Text (Some (d.checksum old)) new ∷ []))
     by true = tt
     by false = (refl, tt)
 
@@ -240,7 +229,7 @@ module _ (d : Request) (w : WorkingCopy) (setting : Setting d w) where
       cs = changes_between old (props_of h n)
   touched_all p n File t kept =
       acted_closed d p (Open File r ∷ []) (map (Change File) cs ++ text_actions d before (text_of h n)) (w p) (Close File (Some (d.checksum (text_of h n))))
-      (quiet-append (map (Change File) cs) (text_actions d before (text_of h n)) (quiet_changes File cs) (quiet_texts d before (text_of h n)))
+      (quiet_texts d File cs before (text_of h n))
       ∙ ap (act d p (Open File r ∷ (map (Change File) cs ++ text_actions d before (text_of h n))) (Close File (Some (d.checksum (text_of h n))))) kept.is
       ∙ (λ i. Some (FileNode d.target (target_path d p) (text_or (texts_in (map (Change File) cs ++ text_actions d before (text_of h n))) (kept.same_text i)) (with_changes (kept.same_props i) (changes_in-texts d File cs before (text_of h n) i))))
       ∙ (λ i. Some (FileNode d.target (target_path d p) (text_or-texts d File cs before (text_of h n) i) (with_changes-between old (props_of h n) (source_in_order p) (target_in_order p n t) i)))
@@ -270,7 +259,7 @@ module _ (d : Request) (w : WorkingCopy) (setting : Setting d w) where
       cs = changes_between [] (props_of h n)
   new_all p n File before found t c x =
       ap (acted d p (before ++ Add File ∷ []) (Some NotPresent)) (sym (append_assoc (map (Change File) cs) (text ∷ []) (close ∷ [])))
-      ∙ acted_closed d p (before ++ Add File ∷ []) (map (Change File) cs ++ text ∷ []) (Some NotPresent) close (quiet-append (map (Change File) cs) (text ∷ []) (quiet_changes File cs) (refl, tt))
+      ∙ acted_closed d p (before ++ Add File ∷ []) (map (Change File) cs ++ text ∷ []) (Some NotPresent) close (all-append is_quiet (map (Change File) cs) (text ∷ []) (quiet_changes File cs) (refl, tt))
       ∙ (λ i. Some (FileNode d.target (target_path d p) (text_or (texts_are i) []) (with_changes [] (changes_are i))))
       ∙ ap (λ ps. Some (FileNode d.target (target_path d p) (text_of h n) ps)) (with_changes-between [] (props_of h n) (sorted-nil name_cmp) (target_in_order p n t))
     where

@@ -1,4 +1,4 @@
--- A true copy's crawl is checkable.
+-- What a true copy asks for can be served: its crawl is checkable, and a target has no fault where its root is of the copy's line.
 use Rattle.std.proofs.Common.{◌≡◌, ℕ, zero, suc, ◌+◌, ◌<◌, Bool, true, false, ◌&&◌, not, List, [], ◌∷◌, length, refl, sym, ◌∙◌, ap, subst, true≢false, arith}
 use Rattle.std.specs.Prelude.{Option, Some, None, is_some, is_none, cond, nat_lt, option_and_then, slice_get, filter_map, option_map}
 use Rattle.std.specs.List.{cons_option}
@@ -9,14 +9,17 @@ use Rattle.svn_law.proofs.Names.{Name, same_path}
 use Rattle.svn_types.specs.Names.{Path}
 use Rattle.svn_types.specs.Paths.{path_eq, child, parent, is_root}
 use Rattle.svn_repo.specs.History.{History, node_at, walk, look}
-use Rattle.svn_repo.specs.Readings.{is_directory, is_directory_at, kind_of}
+use Rattle.svn_repo.specs.Readings.{is_directory, is_directory_at, kind_of, are_related}
 use Rattle.svn_delta.specs.declared.entry.ReportEntry.{ReportEntry}
 use Rattle.svn_delta.specs.declared.entry.ReportEntry.TheVariants.{DeletePath}
 use Rattle.svn_delta.specs.Reports.{entry_at}
 use Rattle.svn_drive.specs.Sources.{reported, revision_of, is_set_or_link, source_at}
 use Rattle.svn_drive.specs.declared.fault.ReportFault.{ReportFault}
 use Rattle.svn_drive.specs.declared.fault.ReportFault.TheVariants.{NoSuchRevision, NoNode, RootNotDir, ParentNotDir}
-use Rattle.svn_drive.specs.Checks.{fault_of, first_fault_from, first_fault_in, IsCheckable}
+use Rattle.svn_drive.specs.declared.fault.DriveFault.{DriveFault}
+use Rattle.svn_drive.specs.declared.fault.DriveFault.TheVariants.{NoSuchTarget, NoRoot, OtherRoot}
+use Rattle.svn_drive.specs.Checks.{fault_of, first_fault_from, first_fault_in, IsCheckable, target_fault}
+use Rattle.svn_drive.specs.Follow.{Request, source_node, target_node, target_path}
 use Rattle.svn_wc.specs.declared.base_node.BaseNode.{BaseNode}
 use Rattle.svn_wc.specs.declared.base_node.BaseNode.TheVariants.{File as FileNode, Dir as DirNode, NotPresent}
 use Rattle.svn_wc.specs.Nodes.{get_in, InPathOrder, is_present, is_dir, is_incomplete, node_revision, node_path, IsTrueNode}
@@ -172,3 +175,38 @@ module _ (h : History) (nodes : List (Path × BaseNode)) (t : IsTrueCopy h nodes
 
 pub crawl_describes_holds : crawl_describes
 crawl_describes_holds h nodes t = (checkable h nodes t, describes h nodes t)
+
+-- ---- targets
+
+abbrev related_roots : Request → Bool
+related_roots d = are_related d.history (source_node d []) (target_node d [])
+
+-- the three tests of a target
+abbrev tested : Bool → Bool → Bool → Option DriveFault
+tested there none related = cond (not there) (Some NoSuchTarget) (cond none (Some NoRoot) (cond (not related) (Some OtherRoot) None))
+
+pub related_of : (d : Request) → target_fault d ≡ None → related_roots d ≡ true
+related_of d h = by (nat_lt d.target (length d.history.roots)) (is_none (target_node d [])) (related_roots d) h
+  where
+    by : (a b c : Bool) → tested a b c ≡ None → c ≡ true
+    by true false true k = refl
+    by false b c k = absurd (none k)
+      where
+        none : Some NoSuchTarget ≡ None → ⊥
+        none q = cc
+    by true true c k = absurd (none k)
+      where
+        none : Some NoRoot ≡ None → ⊥
+        none q = cc
+    by true false false k = absurd (none k)
+      where
+        none : Some OtherRoot ≡ None → ⊥
+        none q = cc
+
+pub no_target_fault : (d : Request) → related_roots d ≡ true → target_fault d ≡ None
+no_target_fault d h = by (source_node d []) (target_node d []) refl h
+  where
+    by : (s t : Option ℕ) → target_node d [] ≡ t → are_related d.history s t ≡ true → tested (nat_lt d.target (length d.history.roots)) (is_none t) (are_related d.history s t) ≡ None
+    by None t e k = absurd (true≢false (sym k))
+    by (Some m) None e k = absurd (true≢false (sym k))
+    by (Some m) (Some n) e k = (λ i. tested (revision_there d.history d.target (target_path d []) n e i) false (k i))

@@ -80,9 +80,6 @@ path_tie = slice_cmp-IsAntisymmetric same_name
 pub at_name : (m n : Name) → is_at (name_cmp m) n ≡ bytes_eq n m
 at_name m n = is_eq-slice_cmp m n ∙ eq_symm m n
 
-pub at_same_name : (m n : Name) → is_at (name_cmp m) n ≡ true → n ≡ m
-at_same_name m n h = same_bytes n m (sym (at_name m n) ∙ h)
-
 -- what is found in a list that begins with an entry
 pub value_of-first : {X : Type 0} (e : Name × X) (es : List (Name × X)) (m : Name) → value_of (e ∷ es) m ≡ cond (bytes_eq e.0 m) (Some e.1) (value_of es m)
 value_of-first e es m = ap (λ b. cond b (Some e.1) (value_of es m)) (at_name m e.0)

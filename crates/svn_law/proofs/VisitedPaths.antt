@@ -18,7 +18,7 @@ use Rattle.svn_drive.specs.Steps.{path_steps, path_actions}
 use Rattle.svn_law.specs.SlowDrive.{entry_names, names_in, names_below, flat_paths, paths_below, flat_steps}
 use Rattle.svn_law.proofs.Classes.{is_within-longer}
 use Rattle.svn_law.proofs.States.{is_at}
-use Rattle.svn_law.proofs.Gone.{is_within-same}
+use Rattle.svn_law.proofs.Deletes.{is_within-same}
 
 -- ---- names in order are apart
 
