@@ -18,13 +18,13 @@ use Rattle.svn_wc.specs.declared.base_node.BaseNode.{BaseNode}
 use Rattle.svn_wc.specs.declared.base_node.BaseNode.TheVariants.{File as FileNode, Dir as DirNode, NotPresent}
 use Rattle.svn_wc.specs.Nodes.{WorkingCopy, is_present, is_dir, is_incomplete, node_revision, node_path, IsTrueNode, base_node_by, base_node}
 use Rattle.svn_wc.specs.Effects.{change_in, text_in, text_or}
-use Rattle.svn_law.proofs.Tests.{and_true}
+use Rattle.svn_law.proofs.Tests.{and_true, some_same}
 use Rattle.svn_law.proofs.Names.{same_bytes}
 use Rattle.svn_law.proofs.Maps.{sorted-nil}
 use Rattle.svn_law.proofs.PropChanges.{with_changes-between}
 use Rattle.svn_law.proofs.Children.{follow-here}
 use Rattle.svn_law.proofs.Classes.{Setting, kept_directory, source_looked, shown_source}
-use Rattle.svn_law.proofs.Courses.{AllOf, all-append}
+use Rattle.svn_law.proofs.Courses.{AllOf, all-append, all_changes}
 use Rattle.svn_law.proofs.States.{act, acted, acted-append, changes_in, texts_in}
 use Rattle.svn_law.proofs.AfterSteps.{kept_present}
 
@@ -53,8 +53,7 @@ acted_closed d p before acts found c q = acted-append d p before acts (c ∷ [])
 
 -- changes are quiet, and changes and a text that may be sent
 pub quiet_changes : (k : Kind) (cs : List PropChange) → AllOf is_quiet (map (Change k) cs)
-quiet_changes k [] = tt
-quiet_changes k (c ∷ cs) = (refl, quiet_changes k cs)
+quiet_changes k = all_changes is_quiet k (λ c. refl)
 
 pub quiet_texts : (d : Request) (k : Kind) (cs : List PropChange) (old new : List ℕ) → AllOf is_quiet (map (Change k) cs ++ text_actions d old new)
 quiet_texts d k cs old new = all-append is_quiet (map (Change k) cs) (text_actions d old new) (quiet_changes k cs) (by (bytes_eq old new))
@@ -140,9 +139,6 @@ module _ (d : Request) (w : WorkingCopy) (setting : Setting d w) where
   KeptAs p File = KeptFile p
   KeptAs p Directory = KeptDirectory p
 
-  same_number : (a b : ℕ) → Some a ≡ Some b → a ≡ b
-  same_number a b e = cc
-
   -- what stands at a kept path, of the target's kind
   pub kept_as : (p : Path) (n : ℕ) → is_kept d p ≡ true → target_node d p ≡ Some n → KeptAs p (kind_of h n)
   kept_as p n k t = subst (KeptAs p) (sym (kept_directory d w setting p m.0 n k m.1 t)) (by (w p) refl (setting.true_of p))
@@ -160,7 +156,7 @@ module _ (d : Request) (w : WorkingCopy) (setting : Setting d w) where
       by None e tr = absurd (true≢false (sym present ∙ ap is_present e))
       by (Some NotPresent) e tr = absurd (true≢false (sym present ∙ ap is_present e))
       by (Some (FileNode r q x ps)) e tr =
-          let one = same_number tr.0 m.0 (sym tr.1 ∙ sym (ap (λ o. look h (node_revision o) (node_path o)) e) ∙ m.2) in
+          let one = some_same tr.0 m.0 (sym tr.1 ∙ sym (ap (λ o. look h (node_revision o) (node_path o)) e) ∙ m.2) in
           let kind : kind_of h m.0 ≡ File = sym (ap (kind_of h) one) ∙ tr.2.kind in
           subst (KeptAs p) (sym kind) (record {
             revision = r;
@@ -172,7 +168,7 @@ module _ (d : Request) (w : WorkingCopy) (setting : Setting d w) where
             same_props = tr.2.same_props ∙ ap (props_of h) one ∙ sym (ap (source_props d p) m.1 ∙ ap (λ b. cond b [] (props_of h m.0)) (empty_as File kind ∙ and-false (starts_empty (follow d p).here.own)));
           })
       by (Some (DirNode r q c ps)) e tr =
-          let one = same_number tr.0 m.0 (sym tr.1 ∙ sym (ap (λ o. look h (node_revision o) (node_path o)) e) ∙ m.2) in
+          let one = some_same tr.0 m.0 (sym tr.1 ∙ sym (ap (λ o. look h (node_revision o) (node_path o)) e) ∙ m.2) in
           let kind : kind_of h m.0 ≡ Directory = sym (ap (kind_of h) one) ∙ tr.2.kind in
           let empty : not c ≡ starts_empty_at d p =
           ap is_incomplete (sym e) ∙ (setting.describes p).incomplete (ap is_dir e) ∙ sym (ap (λ (s : Reported). starts_empty s.own) (follow-here d p))

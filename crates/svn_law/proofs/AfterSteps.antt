@@ -5,7 +5,7 @@ use Rattle.std.proofs.lemmas.Bool.{false_from_ne_true}
 use Rattle.std.proofs.lemmas.List.Folds.{list_any-append}
 use Rattle.std.specs.Prelude.{Option, Some, None, is_some, cond, map, filter}
 use Rattle.std.specs.List.{list_any}
-use Rattle.svn_law.proofs.Tests.{dir_present}
+use Rattle.svn_law.proofs.Tests.{dir_present, some_same}
 use Rattle.svn_law.proofs.Names.{Name, path_eq-same, same_path}
 use Rattle.svn_types.specs.Names.{Path}
 use Rattle.svn_types.specs.Paths.{path_eq, is_below, child, is_root, last_name}
@@ -22,7 +22,7 @@ use Rattle.svn_wc.specs.declared.base_node.BaseNode.TheVariants.{File as FileNod
 use Rattle.svn_wc.specs.Nodes.{WorkingCopy, is_present, is_dir, is_not_present, node_path}
 use Rattle.svn_wc.specs.Effects.{joined_path, moved_path, opened_directory, closed_directory, closed_file, added_node, stepped, step_effect, texts_at}
 use Rattle.svn_law.proofs.Children.{path_cases, parent-child, last_name-child, is_root-child, follow-here}
-use Rattle.svn_law.proofs.Classes.{Setting, EnteredDirectory, entered_below, is_below-child, target_path-child, own_path, kept_related, kept_dir, path_eq-child}
+use Rattle.svn_law.proofs.Classes.{Setting, switched_to, EnteredDirectory, entered_below, is_below-child, target_path-child, own_path, kept_related, kept_dir, path_eq-child}
 use Rattle.svn_law.proofs.Courses.{entered_entry, is_delete, is_entry, is_entry_of, entry_of_is_entry, any_implied, is_inner, inner_of, AllOf, TargetKind, Course, course_of, Begun, begun_open, begun_add, begun_whole, Place, deleting, entering, adding, inside, place_of}
 use Rattle.svn_law.proofs.States.{is_at, actions_at, changes_at-actions, texts_at-actions, acted, acted-append, act, changes_in, texts_in, base, state, state-more, FitsAt, path_cut, step_cut}
 use Rattle.svn_law.proofs.FirstSteps.{before_next, after_next, none_below_next, is_main, main_key, NoneMain, none_main_left, delete_is_main}
@@ -69,14 +69,9 @@ module _ (d : Request) (w : WorkingCopy) (setting : Setting d w) where
   kept_path_is m p k present = (setting.describes p).repos_path present ∙ sym (own_path d w setting m p k)
 
   -- the repository path that a switch gives
-  pub switched_path : (root : Path) → d.mode ≡ SwitchTo root → (q : Path) (name : Name) → target_path d (child q name) ≡ child (target_path d q) name
+  switched_path : (root : Path) → d.mode ≡ SwitchTo root → (q : Path) (name : Name) → target_path d (child q name) ≡ child (target_path d q) name
   switched_path root m q name =
-      target_path-child d q name ∙ ap (λ x. cond (is_kept d (child q name)) (candidate x (reported d.report (child q name)).repos_path (child (target_path d q) name)) (child (target_path d q) name)) m
-      ∙ same (is_kept d (child q name))
-    where
-      same : (b : Bool) → cond b (child (target_path d q) name) (child (target_path d q) name) ≡ child (target_path d q) name
-      same true = refl
-      same false = refl
+      switched_to d root m (child q name) ∙ sym (append_assoc root q (name ∷ [])) ∙ ap (λ x. child x name) (sym (switched_to d root m q))
 
   module _ (late : Bool) (done : List Step) (s : Step) (rest : List Step) (drive : IsDriveOf d late (done ++ s ∷ rest))
       (w' : WorkingCopy) (stands : (p : Path) → w' p ≡ state d w done p)
@@ -189,10 +184,7 @@ begun_before d p l c any xs (a ∷ ys) e n = by (place_of d p l c xs a ys e)
 
 module _ (d : Request) (w : WorkingCopy) (setting : Setting d w) where
   pub same_kind : (p : Path) (k : Kind) → TargetKind d p k → EnteredDirectory d w setting p → k ≡ Directory
-  same_kind p k z e = sym z.2 ∙ ap (kind_of d.history) (same z.0 e.node (sym z.1 ∙ e.target)) ∙ e.directory
-    where
-      same : (a b : ℕ) → Some a ≡ Some b → a ≡ b
-      same a b q = cc
+  same_kind p k z e = sym z.2 ∙ ap (kind_of d.history) (some_same z.0 e.node (sym z.1 ∙ e.target)) ∙ e.directory
 
   -- an entered directory is opened or added as one
   pub directory_entered : (p : Path) → EnteredDirectory d w setting p → list_any (is_entry_of Directory) (path_actions d p) ≡ true

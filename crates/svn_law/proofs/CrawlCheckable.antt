@@ -5,6 +5,7 @@ use Rattle.std.specs.List.{cons_option}
 use Rattle.std.specs.Option.{option_or}
 use Rattle.std.proofs.lemmas.Bool.{lt-ltb}
 use Rattle.std.proofs.Math.Bool.{and-false}
+use Rattle.svn_law.proofs.Tests.{some_same}
 use Rattle.svn_law.proofs.Names.{Name, same_path}
 use Rattle.svn_types.specs.Names.{Path}
 use Rattle.svn_types.specs.Paths.{path_eq, child, parent, is_root}
@@ -76,10 +77,7 @@ module _ (h : History) (nodes : List (Path × BaseNode)) (t : IsTrueCopy h nodes
   directory_there p (Some (FileNode r q x ps)) e tr k = absurd (true≢false (sym k))
   directory_there p (Some (DirNode r q c ps)) e tr k =
       let s = source_present h nodes t p (Some (DirNode r q c ps)) e tr refl in
-      ap (is_directory_at h) s.1 ∙ ap is_directory (ap (kind_of h) (same s.0 tr.0 (sym s.2 ∙ tr.1)) ∙ tr.2.kind)
-    where
-      same : (m n : ℕ) → Some m ≡ Some n → m ≡ n
-      same m n u = cc
+      ap (is_directory_at h) s.1 ∙ ap is_directory (ap (kind_of h) (some_same s.0 tr.0 (sym s.2 ∙ tr.1)) ∙ tr.2.kind)
 
   entry_fits : (p : Path) (b : BaseNode) (x : ReportEntry) → get_in nodes p ≡ Some b → (reported (crawl nodes) p).own ≡ Some x → is_set_or_link (Some x) ≡ true → is_present (Some b) ≡ true
       → (nat_lt (revision_of (Some x)) (length h.roots) ≡ true) × (is_none (source_at h (crawl nodes) p) ≡ false)

@@ -1,7 +1,7 @@
 -- The current file at a step of a drive: the step's own, where the step is inside a file and isn't late, and no other that has its text.
 use Rattle.std.proofs.Common.{◌≡◌, ℕ, Bool, true, false, ◌&&◌, ◌||◌, List, [], ◌∷◌, ◌++◌, refl, sym, ◌∙◌, ap, subst, true≢false, eq-eqb}
 use Rattle.std.specs.Prelude.{Option, Some, None, cond, map, nat_eq, fold}
-use Rattle.std.proofs.Math.Bool.{and-true}
+use Rattle.std.proofs.Math.Bool.{and-true, or-true}
 use Rattle.std.specs.List.{list_any}
 use Rattle.std.proofs.lemmas.List.Folds.{list_any-append}
 use Rattle.std.specs.Ordering.{is_gt}
@@ -254,16 +254,12 @@ module _ (d : Request) (w : WorkingCopy) (setting : Setting d w) (late : Bool) (
               next : Before d late f.here s
               next = (all_right (λ y. Before d late y s) f.front (f.here ∷ f.back) (subst (AllSteps (λ y. Before d late y s)) (sym f.cut) (before_step d late done s rest drive))).0
 
-              or_true : (a b : Bool) → (a || (true || b)) ≡ true
-              or_true true b = refl
-              or_true false b = refl
-
               has_one : list_any (has is_text f.here.path) (done ++ s ∷ rest) ≡ true
               has_one =
                   in_whole (has is_text f.here.path) done (s ∷ rest)
                   (ap (list_any (has is_text f.here.path)) (sym f.cut) ∙ list_any-append (has is_text f.here.path) f.front (f.here ∷ f.back)
                   ∙ ap (λ b. list_any (has is_text f.here.path) f.front || (b || list_any (has is_text f.here.path) f.back)) (ap (λ b. b && is_text f.here.action) (path_eq-same f.here.path) ∙ text.1)
-                  ∙ or_true (list_any (has is_text f.here.path) f.front) (list_any (has is_text f.here.path) f.back))
+                  ∙ or-true (list_any (has is_text f.here.path) f.front))
 
               open_yet : list_any (has (is_close_of File) f.here.path) done ≡ false
               open_yet =

@@ -26,11 +26,10 @@ use Rattle.svn_wc.specs.Effects.{settled, settled_path, effect, after, after_fro
 use Rattle.svn_law.specs.Result.{result}
 use Rattle.svn_law.proofs.CrawlCheckable.{related_of}
 use Rattle.svn_law.specs.Laws.{IsTrueCopy, request_of, HasTarget}
-use Rattle.svn_law.proofs.Tests.{or_false, or_first, not_false}
-use Rattle.svn_law.proofs.Classes.{switched_to}
+use Rattle.svn_law.proofs.Tests.{or_false, or_first, not_false, some_same}
 use Rattle.svn_law.proofs.Names.{same_path, path_eq-same}
 use Rattle.svn_law.proofs.CrawlCheckable.{crawl_describes_holds}
-use Rattle.svn_law.proofs.Classes.{Setting, both_nodes, kept_related}
+use Rattle.svn_law.proofs.Classes.{Setting, none_related, both_nodes, kept_related, switched_to}
 use Rattle.svn_law.proofs.Courses.{is_delete}
 use Rattle.svn_law.proofs.States.{is_at, actions_at, actions_at-drive, acted, is_deleted_above, base, state, path_cut}
 use Rattle.svn_law.proofs.FirstSteps.{after_next, none_main_left, none_left, delete_is_main}
@@ -179,29 +178,22 @@ module _ (d : Request) (w : WorkingCopy) (setting : Setting d w) where
       b : Option BaseNode
       b = cond (is_gone d p) None (base w steps p)
 
-      not_related : (o : Option ℕ) → are_related h o None ≡ true → ⊥
-      not_related None q = true≢false (sym q)
-      not_related (Some m) q = true≢false (sym q)
-
       put : (n : ℕ) (x : Bool) → x ≡ true → settled d.mode d.target p (cond x (Some (base_node h d.target (target_path d p) n)) b) ≡ Some (base_node h d.target (target_path d p) n)
       put n x e = ap (λ y. settled d.mode d.target p (cond y (Some (base_node h d.target (target_path d p) n)) b)) e ∙ settled_base p (kind_of h n) (text_of h n) (props_of h n)
 
       by : (o : Option ℕ) (k t : Bool) → target_node d p ≡ o → is_kept d p ≡ k → is_touched d p ≡ t
           → settled d.mode d.target p (entered_end d w setting p o b) ≡ option_map (base_node h d.target (target_path d p)) o
-      by None true t z u v = absurd (not_related (source_node d p) (sym (ap (are_related h (source_node d p)) z) ∙ kept_related d w setting p u))
+      by None true t z u v = absurd (none_related h (source_node d p) (sym (ap (are_related h (source_node d p)) z) ∙ kept_related d w setting p u))
       by None false t z u v = absent_settled d.mode d.target p b (nothing_left steps p (deleted_all late steps drive p) u)
       by (Some n) k true z u v = put n (is_touched d p || is_new d p) (ap (λ x. x || is_new d p) v)
       by (Some n) false false z u v = put n (is_touched d p || is_new d p) (ap (λ x. x || is_new d p) v ∙ ap (λ x. not x && is_some (target_node d p)) u ∙ ap is_some z)
       by (Some n) true false z u v =
           let one = untouched_same p u v in
-          let same : one.0 ≡ n = same_number one.0 n (sym one.2 ∙ z) in
+          let same : one.0 ≡ n = some_same one.0 n (sym one.2 ∙ z) in
           ap (λ x. settled d.mode d.target p (cond x (Some (base_node h d.target (target_path d p) n)) b)) (ap (λ x. x || is_new d p) v ∙ ap (λ x. not x && is_some (target_node d p)) u)
           ∙ ap (λ g. settled d.mode d.target p (cond g None (base w steps p))) (kept_not_gone d w setting p u)
           ∙ ap (settled d.mode d.target p) (kept_base d w late steps [] whole p u)
           ∙ settled_untouched p n (kind_of h n) (one.1 ∙ ap Some same) one.3 u (kept_as d w setting p n u z)
-        where
-          same_number : (x y : ℕ) → Some x ≡ Some y → x ≡ y
-          same_number x y e = cc
 
   -- ---- the calls
 

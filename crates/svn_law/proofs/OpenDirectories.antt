@@ -8,7 +8,7 @@ use Rattle.std.specs.declared.cmp.Ordering.TheVariants.{Less, Equal, Greater}
 use Rattle.std.specs.Ordering.{is_gt, ordering_then, ordering_reverse}
 use Rattle.std.specs.Cmp.Lexicographic.{slice_cmp, nat_list_cmp_total}
 use Rattle.std.proofs.lemmas.Cmp.{tied_itself}
-use Rattle.svn_law.proofs.Names.{Name, path_eq-same}
+use Rattle.svn_law.proofs.Names.{Name, path_eq-same, path_eq-symm}
 use Rattle.svn_types.specs.Names.{Path, name_cmp}
 use Rattle.svn_types.specs.Paths.{path_eq, is_within, is_below, child, is_root}
 use Rattle.svn_types.specs.declared.kind.Kind.{Kind}
@@ -21,7 +21,7 @@ use Rattle.svn_law.proofs.FirstSteps.{AllSteps, key_above, apart_keys, main_key,
 use Rattle.svn_law.proofs.Deletes.{within_child}
 use Rattle.svn_law.proofs.Courses.{is_entry, is_entry_of, entry_of_is_entry, is_close, is_close_of, precedes, fits_kind}
 use Rattle.svn_law.proofs.StepOrder.{never, has_not, all_map, all_both, all_left, all_right, none_any, Member, members, has, has_parts, in_front, in_whole, kinds_at, Before, before_step, after_step, is_closed_later}
-use Rattle.svn_law.proofs.TokenNumbers.{path_eq-flip, none_twice}
+use Rattle.svn_law.proofs.TokenNumbers.{none_twice}
 
 -- ---- the order of keys
 
@@ -201,5 +201,5 @@ module _ (d : Request) (late : Bool) (done : List Step) (s : Step) (rest : List 
                 above : is_within y.path s.path ≡ true → true ≡ false
                 above z =
                     let inside = within_child y.path e.path name (ap (is_within y.path) (sym child_of) ∙ z) (ap (path_eq y.path) (sym child_of) ∙ not_next) in
-                    let below : is_below y.path e.path ≡ true = ap (λ x. x && not (path_eq y.path e.path)) inside ∙ ap not (path_eq-flip y.path e.path ∙ not_above) in
+                    let below : is_below y.path e.path ≡ true = ap (λ x. x && not (path_eq y.path e.path)) inside ∙ ap not (path_eq-symm y.path e.path ∙ not_above) in
                     sym (sym b.0.0.0 ∙ ap (λ x. is_gt (slice_cmp mark_cmp (key_of d late e) x)) y_key ∙ key_above d late y.path e.path e.action below)

@@ -15,7 +15,7 @@ use Rattle.svn_delta.specs.Steps.{Action, Step}
 use Rattle.svn_drive.specs.Follow.{Request, source_node, target_node}
 use Rattle.svn_drive.specs.Steps.{IsDriveOf, is_text, path_actions, comes_after}
 use Rattle.svn_wc.specs.Nodes.{WorkingCopy, is_dir}
-use Rattle.svn_law.proofs.Classes.{Setting, EnteredDirectory, source_from_copy, kept_directory}
+use Rattle.svn_law.proofs.Classes.{Setting, none_related, EnteredDirectory, source_from_copy, kept_directory}
 use Rattle.svn_law.proofs.Courses.{is_entry_of, entry_of_is_entry, is_close_of, is_inner, inner_of, fits_kind, precedes, AllOf, InTurn, part_of, course_of, course_in_turn, course_closed, course_kind, text_closed, begun_entry, Place, deleting, entering, adding, inside, place_of}
 use Rattle.svn_law.proofs.States.{is_at, actions_at, actions_at-drive, path_cut, step_cut}
 use Rattle.svn_law.proofs.FirstSteps.{AllSteps, before_next, after_next, none_left, entry_is_main}
@@ -197,12 +197,8 @@ module _ (d : Request) (w : WorkingCopy) (setting : Setting d w) where
   pub root_entered : EnteredDirectory d w setting []
   root_entered = by (target_node d []) refl (source_from_copy d w setting [] (w []) refl (setting.true_of []) (dir_present (w []) setting.shape.root))
     where
-      none_related : (a : Option ℕ) → are_related d.history a None ≡ true → ⊥
-      none_related None q = true≢false (sym q)
-      none_related (Some m) q = true≢false (sym q)
-
       by : (o : Option ℕ) → target_node d [] ≡ o → (m : ℕ) × (source_node d [] ≡ Some m) × (is_dir (w []) ≡ true → kind_of d.history m ≡ Directory) → EnteredDirectory d w setting []
-      by None e s = absurd (none_related (source_node d []) (sym (ap (are_related d.history (source_node d [])) e) ∙ setting.has_target))
+      by None e s = absurd (none_related d.history (source_node d []) (sym (ap (are_related d.history (source_node d [])) e) ∙ setting.has_target))
       by (Some n) e s = record { node = n; target = e; directory = kept_directory d w setting [] s.0 n refl s.1 e ∙ s.2 setting.shape.root; entered = refl }
 
   -- the directory of a step's path has been opened or added before it

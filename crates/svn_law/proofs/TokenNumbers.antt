@@ -5,7 +5,7 @@ use Rattle.std.specs.List.{list_any}
 use Rattle.std.proofs.lemmas.Bool.{eqb-true}
 use Rattle.std.proofs.Math.Bool.{and-false, and-true, or-false}
 use Rattle.std.proofs.lemmas.List.Folds.{list_any-append}
-use Rattle.svn_law.proofs.Names.{Name, same_path, path_eq-same}
+use Rattle.svn_law.proofs.Names.{Name, same_path, path_eq-same, path_eq-symm}
 use Rattle.svn_types.specs.Names.{Path}
 use Rattle.svn_types.specs.Paths.{path_eq, child, parent, is_root}
 use Rattle.svn_types.specs.declared.kind.Kind.{Kind}
@@ -78,16 +78,6 @@ entered_entry s steps h = each s.action h
 
 -- ---- tokens
 
--- the test on two paths, either way round
-pub path_eq-flip : (p q : Path) → path_eq p q ≡ path_eq q p
-path_eq-flip p q = by (path_eq p q) (path_eq q p) refl refl
-  where
-    by : (a b : Bool) → path_eq p q ≡ a → path_eq q p ≡ b → a ≡ b
-    by true true e h = refl
-    by false false e h = refl
-    by true false e h = sym (path_eq-same p) ∙ ap (λ x. path_eq x p) (same_path p q e) ∙ h
-    by false true e h = sym e ∙ ap (λ x. path_eq x q) (sym (same_path q p h)) ∙ path_eq-same q
-
 -- a path is opened where it has an entry
 pub is_opened-entered : (steps : List Step) (p : Path) → is_opened (entered steps) p ≡ list_any (has is_entry p) steps
 is_opened-entered [] p = refl
@@ -95,7 +85,7 @@ is_opened-entered (s ∷ steps) p =
     list_any-append (path_eq p) (opened_after [] s.path s.action) (entered steps) ∙ each s.action ∙ ap (λ b. has is_entry p s || b) (is_opened-entered steps p)
   where
     opens : (path_eq p s.path || false) ≡ (path_eq s.path p && true)
-    opens = or-false (path_eq p s.path) ∙ path_eq-flip p s.path ∙ sym (and-true (path_eq s.path p))
+    opens = or-false (path_eq p s.path) ∙ path_eq-symm p s.path ∙ sym (and-true (path_eq s.path p))
 
     each : (a : Action) → (list_any (path_eq p) (opened_after [] s.path a) || is_opened (entered steps) p) ≡ ((path_eq s.path p && is_entry a) || is_opened (entered steps) p)
     each (Delete r) = ap (λ b. b || is_opened (entered steps) p) (sym (and-false (path_eq s.path p)))
@@ -157,7 +147,7 @@ tells_opened (o ∷ opened) p h q = by (path_eq p o) (path_eq q o) refl refl h (
         → nat_eq (cond b 0 (suc (token_of opened q))) (cond a 0 (suc (token_of opened p))) ≡ path_eq q p
     by true true e f h ih = sym (ap (λ x. path_eq x p) (same_path q o f ∙ sym (same_path p o e)) ∙ path_eq-same p)
     by true false e f h ih = next_not_zero (token_of opened q) ∙ sym (ap (path_eq q) (same_path p o e) ∙ f)
-    by false true e f h ih = zero_not_next (token_of opened p) ∙ sym (ap (λ x. path_eq x p) (same_path q o f) ∙ path_eq-flip o p ∙ e)
+    by false true e f h ih = zero_not_next (token_of opened p) ∙ sym (ap (λ x. path_eq x p) (same_path q o f) ∙ path_eq-symm o p ∙ e)
     by false false e f h ih = next_numbers (token_of opened q) (token_of opened p) ∙ ih h
 
 -- ---- the calls of a drive
