@@ -7,7 +7,7 @@ use Rattle.std.proofs.lemmas.Bool.{or_left, or_right}
 use Rattle.std.proofs.lemmas.List.Folds.{list_any-append}
 use Rattle.svn_types.specs.Names.{Path}
 use Rattle.svn_types.specs.Paths.{path_eq}
-use Rattle.svn_delta.specs.Steps.{Action, Delete, Open, Add, Change, Text, Close, Step}
+use Rattle.svn_delta.specs.Steps.{Action, Open, Add, Step}
 use Rattle.svn_delta.specs.declared.call.Call.TheVariants.{SetTargetRevision}
 use Rattle.svn_drive.specs.Follow.{Request}
 use Rattle.svn_drive.specs.Steps.{IsDriveOf, path_actions}

@@ -1,8 +1,6 @@
 -- After the first steps of a drive each path stands as its own actions say.
-use Rattle.std.proofs.Common.{◌≡◌, ◌≢◌, ℕ, Bool, true, false, ◌||◌, ◌⊎◌, List, [], ◌∷◌, ◌++◌, refl, sym, ◌∙◌, ap, subst, true≢false, append_assoc, append-nil, inl, inr}
-use Rattle.std.proofs.Math.Bool.{or-true}
+use Rattle.std.proofs.Common.{◌≡◌, ◌≢◌, ℕ, Bool, true, false, ◌⊎◌, List, [], ◌∷◌, ◌++◌, refl, sym, ◌∙◌, ap, subst, true≢false, append_assoc, append-nil, inl, inr}
 use Rattle.std.proofs.lemmas.Bool.{false_from_ne_true}
-use Rattle.std.proofs.lemmas.List.Folds.{list_any-append}
 use Rattle.std.specs.Prelude.{Option, Some, None, is_some, cond, map, filter}
 use Rattle.std.specs.List.{list_any}
 use Rattle.svn_law.proofs.Tests.{dir_present, some_same}
@@ -16,7 +14,7 @@ use Rattle.svn_repo.specs.Readings.{are_related, kind_of}
 use Rattle.svn_drive.specs.Sources.{source, reported}
 use Rattle.svn_delta.specs.Steps.{Mode, Update, SwitchTo, Action, Delete, Open, Add, Change, Text, Close, Step}
 use Rattle.svn_drive.specs.Follow.{Request, root_path, candidate, is_kept, target_path, source_node, target_node}
-use Rattle.svn_drive.specs.Steps.{IsDriveOf, is_touched, is_new, gone_actions, touched_actions, new_actions, entered_actions, path_actions}
+use Rattle.svn_drive.specs.Steps.{IsDriveOf, path_actions}
 use Rattle.svn_wc.specs.declared.base_node.BaseNode.{BaseNode}
 use Rattle.svn_wc.specs.declared.base_node.BaseNode.TheVariants.{File as FileNode, Dir as DirNode, NotPresent}
 use Rattle.svn_wc.specs.Nodes.{WorkingCopy, is_present, is_dir, is_not_present, node_path}

@@ -1,6 +1,6 @@
 -- What a drive deletes: never a kept path nor one with only kept paths above it; of what isn't kept, the path or one above.
 use Rattle.std.proofs.Common.{◌≡◌, Bool, true, false, ◌&&◌, ◌||◌, ◌⊎◌, not, List, [], ◌∷◌, ◌++◌, refl, sym, ◌∙◌, ap, true≢false, inl, inr}
-use Rattle.std.specs.Prelude.{Option, None, is_some, cond, map, filter, bytes_eq}
+use Rattle.std.specs.Prelude.{None, is_some, cond, map, filter, bytes_eq}
 use Rattle.std.specs.List.{list_any}
 use Rattle.std.proofs.lemmas.Bool.{or_left, or_right, false_from_ne_true}
 use Rattle.std.proofs.lemmas.List.Folds.{list_any-append}

@@ -1,5 +1,5 @@
 -- What the actions of a path leave as it is: its place in the target, a directory, a present node.
-use Rattle.std.proofs.Common.{◌≡◌, ℕ, Bool, true, false, List, [], ◌∷◌, ◌++◌, refl, sym, ◌∙◌, ap, subst, true≢false}
+use Rattle.std.proofs.Common.{◌≡◌, Bool, true, false, List, [], ◌∷◌, ◌++◌, refl, sym, ◌∙◌, subst, true≢false}
 use Rattle.std.specs.Prelude.{Option, Some, None, is_some}
 use Rattle.svn_types.specs.Names.{Path}
 use Rattle.svn_types.specs.declared.kind.Kind.{Kind}

@@ -11,9 +11,8 @@ use Rattle.std.proofs.lemmas.Cmp.{tied_itself}
 use Rattle.svn_law.proofs.Names.{Name, path_eq-same, path_eq-symm}
 use Rattle.svn_types.specs.Names.{Path, name_cmp}
 use Rattle.svn_types.specs.Paths.{path_eq, is_within, is_below, child, is_root}
-use Rattle.svn_types.specs.declared.kind.Kind.{Kind}
 use Rattle.svn_types.specs.declared.kind.Kind.TheVariants.{File, Directory}
-use Rattle.svn_delta.specs.Steps.{Action, Delete, Open, Add, Change, Text, Close, Step}
+use Rattle.svn_delta.specs.Steps.{Action, Close, Step}
 use Rattle.svn_drive.specs.Steps.{Mark, Named, End, mark_cmp, key_of, comes_after, IsDriveOf}
 use Rattle.svn_drive.specs.Follow.{Request}
 use Rattle.svn_law.proofs.Keys.{keys_total, tied_keys, path_in, path_in-map}

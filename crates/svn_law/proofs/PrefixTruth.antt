@@ -1,25 +1,22 @@
 -- After the first steps of a drive, and after the whole of it, the copy has the shape of a working copy and is true.
 use Rattle.std.proofs.Common.{◌≡◌, ◌≢◌, ℕ, ◌+◌, ◌≤◌, Bool, true, false, ◌&&◌, ◌||◌, not, List, [], ◌∷◌, ◌++◌, length, refl, sym, ◌∙◌, ap, subst, true≢false}
-use Rattle.std.specs.Prelude.{Option, Some, None, is_some, option_map, cond, map, bytes_eq}
+use Rattle.std.specs.Prelude.{Option, Some, None, is_some, option_map, cond, bytes_eq}
 use Rattle.std.specs.List.{list_any}
 use Rattle.std.proofs.lemmas.Bool.{or_right}
 use Rattle.std.specs.Map.{keys_of}
 use Rattle.svn_law.proofs.Tests.{and_true}
 use Rattle.svn_law.proofs.Names.{value_of-first, value_of_name, Name, same_bytes, bytes_eq-same, has_name}
 use Rattle.svn_types.specs.Names.{Path, IsName}
-use Rattle.svn_types.specs.Paths.{child, is_root}
-use Rattle.svn_types.specs.Props.{changes_between}
+use Rattle.svn_types.specs.Paths.{child}
 use Rattle.svn_types.specs.declared.kind.Kind.{Kind}
 use Rattle.svn_types.specs.declared.kind.Kind.TheVariants.{File, Directory}
 use Rattle.svn_types.specs.Pairs.{value_of}
 use Rattle.svn_repo.specs.Readings.{AllNames, are_related, kind_of, text_of, props_of, entries_of}
 use Rattle.svn_repo.specs.History.{History, look}
-use Rattle.svn_delta.specs.Reports.{has_entry_below}
-use Rattle.svn_drive.specs.Sources.{reported, governing_revision}
-use Rattle.svn_delta.specs.Steps.{Action, Open, Add, Change, Close, Step}
-use Rattle.svn_drive.specs.Steps.{IsDriveOf, is_touched, is_new, starts_empty_at, source_props, gone_actions, touched_actions, new_actions, entered_actions, path_actions}
-use Rattle.svn_delta.specs.Calls.{number_eq}
-use Rattle.svn_drive.specs.Follow.{Request, candidate, follow, is_kept, target_path, source_node, target_node}
+use Rattle.svn_drive.specs.Sources.{reported}
+use Rattle.svn_delta.specs.Steps.{Action, Step}
+use Rattle.svn_drive.specs.Steps.{IsDriveOf, is_touched, is_new, path_actions}
+use Rattle.svn_drive.specs.Follow.{Request, candidate, is_kept, target_path, source_node, target_node}
 use Rattle.svn_wc.specs.declared.base_node.BaseNode.{BaseNode}
 use Rattle.svn_wc.specs.declared.base_node.BaseNode.TheVariants.{File as FileNode, Dir as DirNode, NotPresent}
 use Rattle.svn_wc.specs.Nodes.{WorkingCopy, IsWorkingCopy, is_present, is_dir, node_path, HasEntries, IsTrueNode, IsTrueOf, base_node_by, base_node}

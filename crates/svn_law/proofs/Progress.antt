@@ -1,6 +1,6 @@
 -- How far the first steps of a drive have come at each path: what is done above a path that is done, and what is left of the old copy.
 use Rattle.std.proofs.Common.{◌≡◌, ◌≢◌, Bool, true, false, ◌&&◌, ◌||◌, ◌⊎◌, not, List, [], ◌∷◌, ◌++◌, refl, sym, ◌∙◌, ap, subst, true≢false, inl, inr}
-use Rattle.std.specs.Prelude.{Option, Some, None, is_some, cond, map, filter}
+use Rattle.std.specs.Prelude.{Some, None, is_some, cond, map, filter}
 use Rattle.std.specs.List.{list_any}
 use Rattle.std.proofs.lemmas.Bool.{false_from_ne_true}
 use Rattle.std.proofs.lemmas.List.Folds.{list_any-append}

@@ -1,6 +1,5 @@
 -- Copies as they are made without a drive: trees put at a path, and paths made not present.
-use Rattle.std.specs.Prelude.{◌≡◌, List, [], ◌∷◌, refl}
-use Rattle.svn_types.specs.Names.{Path}
+use Rattle.std.specs.Prelude.{◌≡◌, [], ◌∷◌, refl}
 use Rattle.svn_wc.specs.declared.base_node.BaseNode.TheVariants.{NotPresent}
 use Rattle.svn_wc.specs.Nodes.{WorkingCopy, listed}
 use Rattle.svn_wc.specs.Builders.{checkout, placed, forgotten}

@@ -1,14 +1,13 @@
 -- Which nodes make a working copy, and which copies are true.
-use Rattle.std.proofs.Common.{◌≡◌, ◌≢◌, ℕ, true, List, [], ◌∷◌, refl, sym, subst, true≢false}
-use Rattle.std.specs.Prelude.{Option, Some, None, ◌≤◌, nat_lt}
+use Rattle.std.proofs.Common.{◌≡◌, ◌≢◌, [], ◌∷◌, refl, sym, subst, true≢false}
+use Rattle.std.specs.Prelude.{Some, None}
 use Rattle.std.specs.declared.cmp.Ordering.TheVariants.{Less, Equal}
 use Rattle.std.specs.Map.{keys_of}
 use Rattle.std.proofs.lemmas.Bool.{le-ltb}
 use Rattle.std.proofs.lemmas.Map.Keys.{sorted_head}
-use Rattle.svn_types.specs.Names.{Path, path_cmp}
+use Rattle.svn_types.specs.Names.{path_cmp}
 use Rattle.svn_types.specs.declared.kind.Kind.TheVariants.{File, Directory}
 use Rattle.svn_repo.specs.Readings.{entries_of, kind_of, text_of}
-use Rattle.svn_wc.specs.declared.base_node.BaseNode.{BaseNode}
 use Rattle.svn_wc.specs.declared.base_node.BaseNode.TheVariants.{NotPresent}
 use Rattle.svn_wc.specs.Nodes.{get_in, InPathOrder, IsWorkingCopy, HasEntries, IsTrueAt}
 use Rattle.svn_law.proofs.Rows.Setting.{a, b, f, g, deep, abc, at, at2, whole, partial, plain}

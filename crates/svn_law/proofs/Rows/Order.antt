@@ -1,13 +1,13 @@
 -- Calls of an update with one left out or given twice. Examples of each rule stand with the definition of the order.
-use Rattle.std.specs.Prelude.{◌≡◌, List, [], ◌∷◌, ◌++◌, Option, Some, None, refl}
+use Rattle.std.specs.Prelude.{◌≡◌, List, [], ◌∷◌, ◌++◌, Option, Some, refl}
 use Rattle.svn_delta.specs.Steps.{Update}
 use Rattle.svn_delta.specs.declared.call.Call.{Call}
-use Rattle.svn_delta.specs.declared.call.Call.TheVariants.{SetTargetRevision, OpenRoot, DeleteEntry, AddDirectory, ChangeDirProp, CloseDirectory, AddFile, OpenFile, ChangeFileProp, ApplyText, CloseFile, CloseEdit, AbortEdit}
+use Rattle.svn_delta.specs.declared.call.Call.TheVariants.{SetTargetRevision, OpenRoot, CloseDirectory, OpenFile, ApplyText, CloseFile, CloseEdit}
 use Rattle.svn_delta.specs.declared.fault.OrderFault.{OrderFault}
-use Rattle.svn_delta.specs.declared.fault.OrderFault.TheVariants.{TargetFirst, UnknownToken, ClosedToken, EntryAgain, DeleteLate, NotInnermost, OpenBelow, PropLate, FileOpen, TextAgain, RootNotClosed, Ended, TokenOrder, WrongPath, TooEarly}
+use Rattle.svn_delta.specs.declared.fault.OrderFault.TheVariants.{TargetFirst, UnknownToken, ClosedToken, FileOpen, TextAgain, RootNotClosed, Ended, TokenOrder}
 use Rattle.svn_delta.specs.Order.{order_fault}
 use Rattle.svn_delta.specs.declared.fault.EditFault.TheVariants.{TextChecksum}
-use Rattle.svn_law.proofs.Rows.Setting.{a, b, f, g, abc, at, at2, refused}
+use Rattle.svn_law.proofs.Rows.Setting.{a, f, abc, at, refused}
 use Rattle.svn_law.proofs.Rows.Plain.{k_copy, k_calls}
 
 -- the seven calls of an update with one left out: the first that is refused
