@@ -18,14 +18,14 @@ use Rattle.svn_wc.specs.declared.base_node.BaseNode.{BaseNode}
 use Rattle.svn_wc.specs.declared.base_node.BaseNode.TheVariants.{File as FileNode, Dir as DirNode, NotPresent}
 use Rattle.svn_wc.specs.Nodes.{WorkingCopy, is_present, is_dir, is_incomplete, node_revision, node_path, IsTrueNode, base_node_by, base_node}
 use Rattle.svn_wc.specs.Effects.{change_in, text_in, text_or}
-use Rattle.svn_law.proofs.Tests.{and_true}
+use Rattle.svn_law.proofs.Tests.{and_true, some_same}
 use Rattle.svn_law.proofs.Names.{same_bytes}
 use Rattle.svn_law.proofs.Maps.{sorted-nil}
 use Rattle.svn_law.proofs.PropChanges.{with_changes-between}
 use Rattle.svn_law.proofs.Children.{follow-here}
 use Rattle.svn_law.proofs.Classes.{Setting, kept_directory, source_looked, shown_source}
-use Rattle.svn_law.proofs.States.{act, acted, changes_in, texts_in}
-use Rattle.svn_law.proofs.NextStep.{acted-append}
+use Rattle.svn_law.proofs.Courses.{AllOf, all-append, all_changes}
+use Rattle.svn_law.proofs.States.{act, acted, acted-append, changes_in, texts_in}
 use Rattle.svn_law.proofs.AfterSteps.{kept_present}
 
 -- ---- changes and texts leave a node as it is
@@ -36,41 +36,29 @@ is_quiet (Change k c) = true
 is_quiet (Text s t) = true
 is_quiet _ = false
 
-abbrev pub AllQuiet : List Action → Type 0
-AllQuiet [] = Unit {0}
-AllQuiet (a ∷ acts) = (is_quiet a ≡ true) × AllQuiet acts
-
 -- one of them does nothing until a close
 act_quiet : (d : Request) (p : Path) (before : List Action) (a : Action) (found : Option BaseNode) → is_quiet a ≡ true → act d p before a found ≡ found
-act_quiet d p before (Delete r) found q = absurd (true≢false (sym q))
-act_quiet d p before (Open k r) found q = absurd (true≢false (sym q))
-act_quiet d p before (Add k) found q = absurd (true≢false (sym q))
 act_quiet d p before (Change k c) found q = refl
 act_quiet d p before (Text s t) found q = refl
-act_quiet d p before (Close k c) found q = absurd (true≢false (sym q))
+act_quiet d p before a found q = absurd (true≢false (sym q))
 
 -- and neither do several
-pub acted_quiet : (d : Request) (p : Path) (before acts : List Action) (found : Option BaseNode) → AllQuiet acts → acted d p before found acts ≡ found
+pub acted_quiet : (d : Request) (p : Path) (before acts : List Action) (found : Option BaseNode) → AllOf is_quiet acts → acted d p before found acts ≡ found
 acted_quiet d p before [] found q = refl
 acted_quiet d p before (a ∷ acts) found q = acted_quiet d p (before ++ a ∷ []) acts (act d p before a found) q.1 ∙ act_quiet d p before a found q.0
 
 -- quiet actions and one more do what the one does
-pub acted_closed : (d : Request) (p : Path) (before acts : List Action) (found : Option BaseNode) (c : Action) → AllQuiet acts → acted d p before found (acts ++ c ∷ []) ≡ act d p (before ++ acts) c found
+pub acted_closed : (d : Request) (p : Path) (before acts : List Action) (found : Option BaseNode) (c : Action) → AllOf is_quiet acts → acted d p before found (acts ++ c ∷ []) ≡ act d p (before ++ acts) c found
 acted_closed d p before acts found c q = acted-append d p before acts (c ∷ []) found ∙ ap (act d p (before ++ acts) c) (acted_quiet d p before acts found q)
 
--- which actions are quiet: two lists of them, changes, and a text that may be sent
-pub quiet-append : (xs ys : List Action) → AllQuiet xs → AllQuiet ys → AllQuiet (xs ++ ys)
-quiet-append [] ys h k = k
-quiet-append (x ∷ xs) ys h k = (h.0, quiet-append xs ys h.1 k)
+-- changes are quiet, and changes and a text that may be sent
+pub quiet_changes : (k : Kind) (cs : List PropChange) → AllOf is_quiet (map (Change k) cs)
+quiet_changes k = all_changes is_quiet k (λ c. refl)
 
-pub quiet_changes : (k : Kind) (cs : List PropChange) → AllQuiet (map (Change k) cs)
-quiet_changes k [] = tt
-quiet_changes k (c ∷ cs) = (refl, quiet_changes k cs)
-
-pub quiet_texts : (d : Request) (old new : List ℕ) → AllQuiet (text_actions d old new)
-quiet_texts d old new = by (bytes_eq old new)
+pub quiet_texts : (d : Request) (k : Kind) (cs : List PropChange) (old new : List ℕ) → AllOf is_quiet (map (Change k) cs ++ text_actions d old new)
+quiet_texts d k cs old new = all-append is_quiet (map (Change k) cs) (text_actions d old new) (quiet_changes k cs) (by (bytes_eq old new))
   where
-    by : (b : Bool) → AllQuiet (cond b [] (Text (Some (d.checksum old)) new ∷ []))
+    by : (b : Bool) → AllOf is_quiet (cond b [] (Text (Some (d.checksum old)) new ∷ []))
     by true = tt
     by false = (refl, tt)
 
@@ -151,9 +139,6 @@ module _ (d : Request) (w : WorkingCopy) (setting : Setting d w) where
   KeptAs p File = KeptFile p
   KeptAs p Directory = KeptDirectory p
 
-  same_number : (a b : ℕ) → Some a ≡ Some b → a ≡ b
-  same_number a b e = cc
-
   -- what stands at a kept path, of the target's kind
   pub kept_as : (p : Path) (n : ℕ) → is_kept d p ≡ true → target_node d p ≡ Some n → KeptAs p (kind_of h n)
   kept_as p n k t = subst (KeptAs p) (sym (kept_directory d w setting p m.0 n k m.1 t)) (by (w p) refl (setting.true_of p))
@@ -171,7 +156,7 @@ module _ (d : Request) (w : WorkingCopy) (setting : Setting d w) where
       by None e tr = absurd (true≢false (sym present ∙ ap is_present e))
       by (Some NotPresent) e tr = absurd (true≢false (sym present ∙ ap is_present e))
       by (Some (FileNode r q x ps)) e tr =
-          let one = same_number tr.0 m.0 (sym tr.1 ∙ sym (ap (λ o. look h (node_revision o) (node_path o)) e) ∙ m.2) in
+          let one = some_same tr.0 m.0 (sym tr.1 ∙ sym (ap (λ o. look h (node_revision o) (node_path o)) e) ∙ m.2) in
           let kind : kind_of h m.0 ≡ File = sym (ap (kind_of h) one) ∙ tr.2.kind in
           subst (KeptAs p) (sym kind) (record {
             revision = r;
@@ -183,7 +168,7 @@ module _ (d : Request) (w : WorkingCopy) (setting : Setting d w) where
             same_props = tr.2.same_props ∙ ap (props_of h) one ∙ sym (ap (source_props d p) m.1 ∙ ap (λ b. cond b [] (props_of h m.0)) (empty_as File kind ∙ and-false (starts_empty (follow d p).here.own)));
           })
       by (Some (DirNode r q c ps)) e tr =
-          let one = same_number tr.0 m.0 (sym tr.1 ∙ sym (ap (λ o. look h (node_revision o) (node_path o)) e) ∙ m.2) in
+          let one = some_same tr.0 m.0 (sym tr.1 ∙ sym (ap (λ o. look h (node_revision o) (node_path o)) e) ∙ m.2) in
           let kind : kind_of h m.0 ≡ Directory = sym (ap (kind_of h) one) ∙ tr.2.kind in
           let empty : not c ≡ starts_empty_at d p =
           ap is_incomplete (sym e) ∙ (setting.describes p).incomplete (ap is_dir e) ∙ sym (ap (λ (s : Reported). starts_empty s.own) (follow-here d p))
@@ -240,7 +225,7 @@ module _ (d : Request) (w : WorkingCopy) (setting : Setting d w) where
       cs = changes_between old (props_of h n)
   touched_all p n File t kept =
       acted_closed d p (Open File r ∷ []) (map (Change File) cs ++ text_actions d before (text_of h n)) (w p) (Close File (Some (d.checksum (text_of h n))))
-      (quiet-append (map (Change File) cs) (text_actions d before (text_of h n)) (quiet_changes File cs) (quiet_texts d before (text_of h n)))
+      (quiet_texts d File cs before (text_of h n))
       ∙ ap (act d p (Open File r ∷ (map (Change File) cs ++ text_actions d before (text_of h n))) (Close File (Some (d.checksum (text_of h n))))) kept.is
       ∙ (λ i. Some (FileNode d.target (target_path d p) (text_or (texts_in (map (Change File) cs ++ text_actions d before (text_of h n))) (kept.same_text i)) (with_changes (kept.same_props i) (changes_in-texts d File cs before (text_of h n) i))))
       ∙ (λ i. Some (FileNode d.target (target_path d p) (text_or-texts d File cs before (text_of h n) i) (with_changes-between old (props_of h n) (source_in_order p) (target_in_order p n t) i)))
@@ -270,7 +255,7 @@ module _ (d : Request) (w : WorkingCopy) (setting : Setting d w) where
       cs = changes_between [] (props_of h n)
   new_all p n File before found t c x =
       ap (acted d p (before ++ Add File ∷ []) (Some NotPresent)) (sym (append_assoc (map (Change File) cs) (text ∷ []) (close ∷ [])))
-      ∙ acted_closed d p (before ++ Add File ∷ []) (map (Change File) cs ++ text ∷ []) (Some NotPresent) close (quiet-append (map (Change File) cs) (text ∷ []) (quiet_changes File cs) (refl, tt))
+      ∙ acted_closed d p (before ++ Add File ∷ []) (map (Change File) cs ++ text ∷ []) (Some NotPresent) close (all-append is_quiet (map (Change File) cs) (text ∷ []) (quiet_changes File cs) (refl, tt))
       ∙ (λ i. Some (FileNode d.target (target_path d p) (text_or (texts_are i) []) (with_changes [] (changes_are i))))
       ∙ ap (λ ps. Some (FileNode d.target (target_path d p) (text_of h n) ps)) (with_changes-between [] (props_of h n) (sorted-nil name_cmp) (target_in_order p n t))
     where

@@ -2,7 +2,8 @@
 use Rattle.std.proofs.Common.{◌≡◌, ℕ, suc, Bool, true, false, ◌&&◌, ◌||◌, not, List, [], ◌∷◌, ◌++◌, refl, sym, ◌∙◌, ap, true≢false}
 use Rattle.std.specs.Prelude.{Option, Some, None, cond, map, length, slice_get, nat_eq, filter_map, fold}
 use Rattle.std.specs.List.{list_any, cons_option}
-use Rattle.std.proofs.Math.Bool.{and-false}
+use Rattle.std.proofs.Math.Bool.{and-false, and-true}
+use Rattle.std.proofs.lemmas.Bool.{or_right}
 use Rattle.svn_types.specs.Names.{Path}
 use Rattle.svn_types.specs.Paths.{path_eq, parent, is_root}
 use Rattle.svn_types.specs.declared.kind.Kind.{Kind}
@@ -14,9 +15,7 @@ use Rattle.svn_delta.specs.declared.call.Call.TheVariants.{OpenRoot, OpenDirecto
 use Rattle.svn_drive.specs.Steps.{is_text}
 use Rattle.svn_law.proofs.Names.{same_path}
 use Rattle.svn_law.proofs.FirstSteps.{AllSteps}
-use Rattle.svn_law.proofs.States.{is_delete}
-use Rattle.svn_law.proofs.AfterSteps.{is_entry}
-use Rattle.svn_law.proofs.Courses.{is_entry_of, and_true_right}
+use Rattle.svn_law.proofs.Courses.{is_delete, is_entry, is_entry_of, is_close}
 use Rattle.svn_law.proofs.StepOrder.{has}
 use Rattle.svn_law.proofs.TokenNumbers.{call_by, call_at, entered, Tells, is_root_action}
 
@@ -24,10 +23,6 @@ use Rattle.svn_law.proofs.TokenNumbers.{call_by, call_at, entered, Tells, is_roo
 abbrev pub on_given : (Given → Bool) → Option Given → Bool
 on_given f None = false
 on_given f (Some g) = f g
-
-abbrev pub is_close : Action → Bool
-is_close (Close k c) = true
-is_close _ = false
 
 abbrev pub is_change_of : Kind → Action → Bool
 is_change_of k (Change l c) = kind_eq k l
@@ -54,10 +49,6 @@ module _ (T : Path → ℕ) where
   some_in f g e [] h = h
   some_in f g e (x ∷ xs) h = by (g x) refl h (some_in f g e xs)
     where
-      or_right : (a b : Bool) → b ≡ true → (a || b) ≡ true
-      or_right true b q = refl
-      or_right false b q = q
-
       by : (b : Bool) → g x ≡ b → (b || list_any g xs) ≡ true → (list_any g xs ≡ true → list_any f (map (call_at T) xs) ≡ true) → (f (call_at T x) || list_any f (map (call_at T) xs)) ≡ true
       by true q h ih = ap (λ b. b || list_any f (map (call_at T) xs)) (e x q)
       by false q h ih = or_right (f (call_at T x)) (list_any f (map (call_at T) xs)) (ih h)
@@ -199,8 +190,8 @@ module _ (T : Path → ℕ) where
         by (Change Directory c) = sym (and-false (path_eq x.path p))
         by (Change File c) = sym (and-false (path_eq x.path p))
         by (Text s t) = sym (and-false (path_eq x.path p))
-        by (Close Directory c) = tells x.path ∙ sym (and_true_right (path_eq x.path p))
-        by (Close File c) = tells x.path ∙ sym (and_true_right (path_eq x.path p))
+        by (Close Directory c) = tells x.path ∙ sym (and-true (path_eq x.path p))
+        by (Close File c) = tells x.path ∙ sym (and-true (path_eq x.path p))
 
     -- a text for the token is one for the path
     pub applies_text-call : (x : Step) → applies_text (T p) (call_at T x) ≡ has is_text p x
@@ -214,7 +205,7 @@ module _ (T : Path → ℕ) where
         by (Add File) = sym (and-false (path_eq x.path p))
         by (Change Directory c) = sym (and-false (path_eq x.path p))
         by (Change File c) = sym (and-false (path_eq x.path p))
-        by (Text s t) = tells x.path ∙ sym (and_true_right (path_eq x.path p))
+        by (Text s t) = tells x.path ∙ sym (and-true (path_eq x.path p))
         by (Close Directory c) = sym (and-false (path_eq x.path p))
         by (Close File c) = sym (and-false (path_eq x.path p))
 
@@ -228,7 +219,7 @@ module _ (T : Path → ℕ) where
         by (Open File r) = sym (and-false (path_eq x.path p))
         by (Add Directory) = sym (and-false (path_eq x.path p))
         by (Add File) = sym (and-false (path_eq x.path p))
-        by (Change Directory c) = tells x.path ∙ sym (and_true_right (path_eq x.path p))
+        by (Change Directory c) = tells x.path ∙ sym (and-true (path_eq x.path p))
         by (Change File c) = sym (and-false (path_eq x.path p))
         by (Text s t) = sym (and-false (path_eq x.path p))
         by (Close Directory c) = sym (and-false (path_eq x.path p))
@@ -285,7 +276,7 @@ module _ (T : Path → ℕ) where
   deletes-call p x = by x.action
     where
       by : (a : Action) → deletes p (call_by T x.path a) ≡ (path_eq x.path p && is_delete a)
-      by (Delete r) = sym (and_true_right (path_eq x.path p))
+      by (Delete r) = sym (and-true (path_eq x.path p))
       by (Open Directory r) = either_call (deletes p) false (is_root x.path) (OpenRoot r (T x.path)) (OpenDirectory x.path (T (parent x.path)) r (T x.path)) refl refl ∙ sym (and-false (path_eq x.path p))
       by (Open File r) = sym (and-false (path_eq x.path p))
       by (Add Directory) = sym (and-false (path_eq x.path p))
@@ -301,15 +292,15 @@ module _ (T : Path → ℕ) where
   opens_entry-call p x = by x.action
     where
       root : (q : Path) (r t : ℕ) → opens_entry p (cond (is_root q) (OpenRoot r t) (OpenDirectory q (T (parent q)) r t)) ≡ (path_eq q p && true)
-      root [] r t = sym (and_true_right (path_eq [] p))
-      root (n ∷ q) r t = sym (and_true_right (path_eq (n ∷ q) p))
+      root [] r t = sym (and-true (path_eq [] p))
+      root (n ∷ q) r t = sym (and-true (path_eq (n ∷ q) p))
 
       by : (a : Action) → opens_entry p (call_by T x.path a) ≡ (path_eq x.path p && is_entry a)
       by (Delete r) = sym (and-false (path_eq x.path p))
       by (Open Directory r) = root x.path r (T x.path)
-      by (Open File r) = sym (and_true_right (path_eq x.path p))
-      by (Add Directory) = sym (and_true_right (path_eq x.path p))
-      by (Add File) = sym (and_true_right (path_eq x.path p))
+      by (Open File r) = sym (and-true (path_eq x.path p))
+      by (Add Directory) = sym (and-true (path_eq x.path p))
+      by (Add File) = sym (and-true (path_eq x.path p))
       by (Change Directory c) = sym (and-false (path_eq x.path p))
       by (Change File c) = sym (and-false (path_eq x.path p))
       by (Text s t) = sym (and-false (path_eq x.path p))

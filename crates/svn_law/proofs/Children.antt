@@ -1,5 +1,5 @@
 -- What a path one name longer has: the look-up, the report, and what becomes of it.
-use Rattle.std.proofs.Common.{◌≡◌, ℕ, false, [], ◌∷◌, ◌++◌, refl, sym, ◌∙◌, ap, subst, append_assoc, append-nil}
+use Rattle.std.proofs.Common.{◌≡◌, ℕ, false, ◌⊎◌, [], ◌∷◌, ◌++◌, refl, sym, ◌∙◌, ap, subst, append_assoc, append-nil, inl, inr}
 use Rattle.std.specs.Prelude.{Option, Some, None, option_and_then, slice_get}
 use Rattle.svn_law.proofs.Names.{Name}
 use Rattle.svn_types.specs.Names.{Path}
@@ -19,6 +19,10 @@ module _ (P : Path → Type 0) (root : P []) (more : (p : Path) (name : Name) �
 
   pub path_ind : (p : Path) → P p
   path_ind p = go [] p root
+
+-- each path is the root or a child
+pub path_cases : (p : Path) → (p ≡ []) ⊎ ((q : Path) × (name : Name) × (p ≡ child q name))
+path_cases = path_ind (λ p. (p ≡ []) ⊎ ((q : Path) × (name : Name) × (p ≡ child q name))) (inl refl) (λ q name ih. inr (q, name, refl))
 
 pub parent-child : (p : Path) (name : Name) → parent (child p name) ≡ p
 parent-child [] name = refl

@@ -4,7 +4,7 @@ use Rattle.std.specs.Prelude.{Option, Some, None, is_some, cond, bytes_eq}
 use Rattle.std.specs.List.{list_any}
 use Rattle.std.specs.Option.{option_or}
 use Rattle.std.proofs.lemmas.Bool.{eqb-true}
-use Rattle.svn_law.proofs.Tests.{or_false, and_true, not_false, nat_eq-same, some_number, dir_present}
+use Rattle.svn_law.proofs.Tests.{or_false, and_true, not_false, nat_eq-same, some_number, some_same, dir_present}
 use Rattle.std.proofs.Math.Bool.{and-false}
 use Rattle.svn_law.proofs.Names.{Name, same_path, bytes_eq-same}
 use Rattle.svn_types.specs.Names.{Path}
@@ -117,6 +117,10 @@ pub record Setting (d : Request) (w : WorkingCopy) : Type 0 where
   pub true_of : IsTrueOf d.history w
   pub describes : Describes d.history d.report w
   pub has_target : are_related d.history (source_node d []) (target_node d []) ≡ true
+
+pub none_related : (h : History) (o : Option ℕ) → are_related h o None ≡ true → ⊥
+none_related h None q = true≢false (sym q)
+none_related h (Some m) q = true≢false (sym q)
 
 pub both_nodes : (h : History) (a b : Option ℕ) → are_related h a b ≡ true → number_eq a b ≡ true → (n : ℕ) × (a ≡ Some n) × (b ≡ Some n)
 both_nodes h None b r e = absurd (true≢false (sym r))
@@ -302,7 +306,7 @@ module _ (d : Request) (w : WorkingCopy) (setting : Setting d w) where
       (s.0, ap (source h) (follow-here d p) ∙ s.1, λ dir. absurd (true≢false (sym dir)))
   source_from_copy p (Some (DirNode r q c ps)) e tr k =
       let s = some_number (source h (says p)) (sym (sym (ap is_present e) ∙ (setting.describes p).present)) in
-      (s.0, ap (source h) (follow-here d p) ∙ s.1, λ dir. ap (kind_of h) (same s.0 tr.0 (sym (at_node s.0 s.1) ∙ tr.1)) ∙ tr.2.kind)
+      (s.0, ap (source h) (follow-here d p) ∙ s.1, λ dir. ap (kind_of h) (some_same s.0 tr.0 (sym (at_node s.0 s.1) ∙ tr.1)) ∙ tr.2.kind)
     where
       at_node : (m : ℕ) → source h (says p) ≡ Some m → look h r q ≡ Some m
       at_node m s =
@@ -310,9 +314,6 @@ module _ (d : Request) (w : WorkingCopy) (setting : Setting d w) where
           ap (λ x. look h x q) (ap node_revision (sym e) ∙ there.revision (ap is_present e))
           ∙ ap (look h (governing_revision (says p))) (ap node_path (sym e) ∙ there.repos_path (ap is_present e))
           ∙ (shown_source h (says p) m s).1
-
-      same : (m n : ℕ) → Some m ≡ Some n → m ≡ n
-      same m n u = cc
 
   -- where a child has a source, the path's is a directory
   pub source_is_directory : (p : Path) (name : Name) → is_some (source_node d (child p name)) ≡ true → (m : ℕ) × (source_node d p ≡ Some m) × (kind_of h m ≡ Directory)
@@ -335,9 +336,6 @@ module _ (d : Request) (w : WorkingCopy) (setting : Setting d w) where
       let r = related_source m (Some n) (sym (ap (λ o. are_related h o (Some n)) s) ∙ sym (ap (are_related h (source_node d p)) t) ∙ kept_related p k) in
       let same : r.0 ≡ n = some_same r.0 n (sym r.1) in
       sym (setting.history.one_line_one_kind (governing_revision (says p)) d.target (says p).repos_path (target_path d p) m n (standing p m s) t (r.2 ∙ ap (line_of h) same))
-    where
-      some_same : (a b : ℕ) → Some a ≡ Some b → a ≡ b
-      some_same a b e = cc
 
   -- nothing is done below a file
   file_child : (p : Path) (name : Name) (n : ℕ) → target_node d p ≡ Some n → kind_of h n ≡ File → path_actions d (child p name) ≡ []
@@ -383,13 +381,9 @@ module _ (d : Request) (w : WorkingCopy) (setting : Setting d w) where
   pub entered_below : (p : Path) (name : Name) → (path_actions d (child p name) ≢ []) → EnteredDirectory p
   entered_below p name some = by (target_node d p) (is_kept d p) (is_touched d p) refl refl refl
     where
-      related_target : (a : Option ℕ) → are_related h a None ≡ true → ⊥
-      related_target None q = true≢false (sym q)
-      related_target (Some m) q = true≢false (sym q)
-
       by : (o : Option ℕ) (k t : Bool) → target_node d p ≡ o → is_kept d p ≡ k → is_touched d p ≡ t → EnteredDirectory p
       by None false t q r u = absurd (some (outside_child p name r q))
-      by None true t q r u = absurd (related_target (source_node d p) (sym (ap (are_related h (source_node d p)) q) ∙ kept_related p r))
+      by None true t q r u = absurd (none_related h (source_node d p) (sym (ap (are_related h (source_node d p)) q) ∙ kept_related p r))
       by (Some n) true false q r u = absurd (some (untouched_child p name r u))
       by (Some n) k true q r u = by_kind (kind_of h n) refl
         where
@@ -423,15 +417,12 @@ module _ (d : Request) (w : WorkingCopy) (setting : Setting d w) where
       m : (m : ℕ) × (source_node d p ≡ Some m) × (look h (node_revision (w p)) (node_path (w p)) ≡ Some m)
       m = source_looked p present
 
-      same : (a b : ℕ) → Some a ≡ Some b → a ≡ b
-      same a b e = cc
-
       by : (node : Option BaseNode) → w p ≡ node → IsTrueNode h w p node → is_dir node ≡ true
       by None e tr = absurd (true≢false (sym present ∙ ap is_present e))
       by (Some NotPresent) e tr = absurd (true≢false (sym present ∙ ap is_present e))
       by (Some (DirNode r q c ps)) e tr = refl
       by (Some (FileNode r q x ps)) e tr =
-          let one = same tr.0 m.0 (sym tr.1 ∙ sym (ap (λ o. look h (node_revision o) (node_path o)) e) ∙ m.2) in
+          let one = some_same tr.0 m.0 (sym tr.1 ∙ sym (ap (λ o. look h (node_revision o) (node_path o)) e) ∙ m.2) in
           let two : File ≡ Directory = sym tr.2.kind ∙ ap (kind_of h) one ∙ sym (kept_directory p m.0 n k m.1 t) ∙ dir in
           absurd (differ two)
         where

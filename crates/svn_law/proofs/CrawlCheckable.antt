@@ -1,22 +1,26 @@
--- A true copy's crawl is checkable.
+-- What a true copy asks for can be served: its crawl is checkable, and a target has no fault where its root is of the copy's line.
 use Rattle.std.proofs.Common.{◌≡◌, ℕ, zero, suc, ◌+◌, ◌<◌, Bool, true, false, ◌&&◌, not, List, [], ◌∷◌, length, refl, sym, ◌∙◌, ap, subst, true≢false, arith}
 use Rattle.std.specs.Prelude.{Option, Some, None, is_some, is_none, cond, nat_lt, option_and_then, slice_get, filter_map, option_map}
 use Rattle.std.specs.List.{cons_option}
 use Rattle.std.specs.Option.{option_or}
 use Rattle.std.proofs.lemmas.Bool.{lt-ltb}
 use Rattle.std.proofs.Math.Bool.{and-false}
+use Rattle.svn_law.proofs.Tests.{some_same}
 use Rattle.svn_law.proofs.Names.{Name, same_path}
 use Rattle.svn_types.specs.Names.{Path}
 use Rattle.svn_types.specs.Paths.{path_eq, child, parent, is_root}
 use Rattle.svn_repo.specs.History.{History, node_at, walk, look}
-use Rattle.svn_repo.specs.Readings.{is_directory, is_directory_at, kind_of}
+use Rattle.svn_repo.specs.Readings.{is_directory, is_directory_at, kind_of, are_related}
 use Rattle.svn_delta.specs.declared.entry.ReportEntry.{ReportEntry}
 use Rattle.svn_delta.specs.declared.entry.ReportEntry.TheVariants.{DeletePath}
 use Rattle.svn_delta.specs.Reports.{entry_at}
 use Rattle.svn_drive.specs.Sources.{reported, revision_of, is_set_or_link, source_at}
 use Rattle.svn_drive.specs.declared.fault.ReportFault.{ReportFault}
 use Rattle.svn_drive.specs.declared.fault.ReportFault.TheVariants.{NoSuchRevision, NoNode, RootNotDir, ParentNotDir}
-use Rattle.svn_drive.specs.Checks.{fault_of, first_fault_from, first_fault_in, IsCheckable}
+use Rattle.svn_drive.specs.declared.fault.DriveFault.{DriveFault}
+use Rattle.svn_drive.specs.declared.fault.DriveFault.TheVariants.{NoSuchTarget, NoRoot, OtherRoot}
+use Rattle.svn_drive.specs.Checks.{fault_of, first_fault_from, first_fault_in, IsCheckable, target_fault}
+use Rattle.svn_drive.specs.Follow.{Request, source_node, target_node, target_path}
 use Rattle.svn_wc.specs.declared.base_node.BaseNode.{BaseNode}
 use Rattle.svn_wc.specs.declared.base_node.BaseNode.TheVariants.{File as FileNode, Dir as DirNode, NotPresent}
 use Rattle.svn_wc.specs.Nodes.{get_in, InPathOrder, is_present, is_dir, is_incomplete, node_revision, node_path, IsTrueNode}
@@ -73,10 +77,7 @@ module _ (h : History) (nodes : List (Path × BaseNode)) (t : IsTrueCopy h nodes
   directory_there p (Some (FileNode r q x ps)) e tr k = absurd (true≢false (sym k))
   directory_there p (Some (DirNode r q c ps)) e tr k =
       let s = source_present h nodes t p (Some (DirNode r q c ps)) e tr refl in
-      ap (is_directory_at h) s.1 ∙ ap is_directory (ap (kind_of h) (same s.0 tr.0 (sym s.2 ∙ tr.1)) ∙ tr.2.kind)
-    where
-      same : (m n : ℕ) → Some m ≡ Some n → m ≡ n
-      same m n u = cc
+      ap (is_directory_at h) s.1 ∙ ap is_directory (ap (kind_of h) (some_same s.0 tr.0 (sym s.2 ∙ tr.1)) ∙ tr.2.kind)
 
   entry_fits : (p : Path) (b : BaseNode) (x : ReportEntry) → get_in nodes p ≡ Some b → (reported (crawl nodes) p).own ≡ Some x → is_set_or_link (Some x) ≡ true → is_present (Some b) ≡ true
       → (nat_lt (revision_of (Some x)) (length h.roots) ≡ true) × (is_none (source_at h (crawl nodes) p) ≡ false)
@@ -172,3 +173,38 @@ module _ (h : History) (nodes : List (Path × BaseNode)) (t : IsTrueCopy h nodes
 
 pub crawl_describes_holds : crawl_describes
 crawl_describes_holds h nodes t = (checkable h nodes t, describes h nodes t)
+
+-- ---- targets
+
+abbrev related_roots : Request → Bool
+related_roots d = are_related d.history (source_node d []) (target_node d [])
+
+-- the three tests of a target
+abbrev tested : Bool → Bool → Bool → Option DriveFault
+tested there none related = cond (not there) (Some NoSuchTarget) (cond none (Some NoRoot) (cond (not related) (Some OtherRoot) None))
+
+pub related_of : (d : Request) → target_fault d ≡ None → related_roots d ≡ true
+related_of d h = by (nat_lt d.target (length d.history.roots)) (is_none (target_node d [])) (related_roots d) h
+  where
+    by : (a b c : Bool) → tested a b c ≡ None → c ≡ true
+    by true false true k = refl
+    by false b c k = absurd (none k)
+      where
+        none : Some NoSuchTarget ≡ None → ⊥
+        none q = cc
+    by true true c k = absurd (none k)
+      where
+        none : Some NoRoot ≡ None → ⊥
+        none q = cc
+    by true false false k = absurd (none k)
+      where
+        none : Some OtherRoot ≡ None → ⊥
+        none q = cc
+
+pub no_target_fault : (d : Request) → related_roots d ≡ true → target_fault d ≡ None
+no_target_fault d h = by (source_node d []) (target_node d []) refl h
+  where
+    by : (s t : Option ℕ) → target_node d [] ≡ t → are_related d.history s t ≡ true → tested (nat_lt d.target (length d.history.roots)) (is_none t) (are_related d.history s t) ≡ None
+    by None t e k = absurd (true≢false (sym k))
+    by (Some m) None e k = absurd (true≢false (sym k))
+    by (Some m) (Some n) e k = (λ i. tested (revision_there d.history d.target (target_path d []) n e i) false (k i))

@@ -4,7 +4,7 @@ use Rattle.std.specs.Prelude.{Option, Some, None, is_some, cond, nat_eq, bytes_e
 use Rattle.std.specs.Option.{option_or}
 use Rattle.std.proofs.lemmas.Bool.{eqb-true}
 use Rattle.std.specs.Map.{keys_of}
-use Rattle.svn_law.proofs.Tests.{or_false, not_false, dir_present}
+use Rattle.svn_law.proofs.Tests.{or_false, not_false, not_true, dir_present}
 use Rattle.svn_law.proofs.Names.{value_of-first, Name, same_path, same_bytes}
 use Rattle.svn_types.specs.Names.{Path}
 use Rattle.svn_types.specs.Paths.{path_eq, child, is_root, last_name}
@@ -72,12 +72,8 @@ shows_own s node e g o k r i q =
 pub open_above : (s : Reported) → OwnGoverns s → (is_some s.own || not (starts_empty s.governing)) ≡ true → starts_empty s.own ≡ false → starts_empty s.governing ≡ false
 open_above s g h e = by s.own refl
   where
-    flip : (b : Bool) → not b ≡ true → b ≡ false
-    flip true q = absurd (true≢false (sym q))
-    flip false q = refl
-
     by : (o : Option ReportEntry) → s.own ≡ o → starts_empty s.governing ≡ false
-    by None q = flip (starts_empty s.governing) (subst (λ o. (is_some o || not (starts_empty s.governing)) ≡ true) q h)
+    by None q = not_true (starts_empty s.governing) (subst (λ o. (is_some o || not (starts_empty s.governing)) ≡ true) q h)
     by (Some x) q = ap starts_empty (g x q) ∙ sym (ap starts_empty q) ∙ e
 
 shows_inherited : (above here : Reported) (name : Name) (up node : Option BaseNode) → IsChildOf above here name → OwnGoverns above → Shows above up → here.own ≡ None

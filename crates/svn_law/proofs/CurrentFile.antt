@@ -1,7 +1,9 @@
 -- The current file at a step of a drive: the step's own, where the step is inside a file and isn't late, and no other that has its text.
 use Rattle.std.proofs.Common.{◌≡◌, ℕ, Bool, true, false, ◌&&◌, ◌||◌, List, [], ◌∷◌, ◌++◌, refl, sym, ◌∙◌, ap, subst, true≢false, eq-eqb}
 use Rattle.std.specs.Prelude.{Option, Some, None, cond, map, nat_eq, fold}
+use Rattle.std.proofs.Math.Bool.{and-true, or-true}
 use Rattle.std.specs.List.{list_any}
+use Rattle.std.proofs.lemmas.List.Folds.{list_any-append}
 use Rattle.std.specs.Ordering.{is_gt}
 use Rattle.std.specs.Cmp.Lexicographic.{slice_cmp}
 use Rattle.std.proofs.lemmas.Bool.{eqb-true}
@@ -21,13 +23,12 @@ use Rattle.svn_wc.specs.Nodes.{WorkingCopy}
 use Rattle.svn_law.proofs.Names.{path_eq-same}
 use Rattle.svn_law.proofs.Keys.{keys_total, same_place}
 use Rattle.svn_law.proofs.Classes.{Setting}
-use Rattle.svn_law.proofs.FirstSteps.{AllSteps, main_key}
-use Rattle.svn_law.proofs.NextStep.{any-append2, is_inner}
-use Rattle.svn_law.proofs.Courses.{is_entry_of, is_close_of, inner_of, precedes, and_true_right}
+use Rattle.svn_law.proofs.FirstSteps.{AllSteps, main_key, entry_is_main}
+use Rattle.svn_law.proofs.Courses.{is_entry_of, entry_of_is_entry, is_close_of, is_inner, inner_of, precedes}
 use Rattle.svn_law.proofs.StepOrder.{never, has_not, all_map, all_right, has, has_parts, Found, find, in_whole, any_path_actions, Before, before_step, after_step, own_entry, Within, is_text_closed}
 use Rattle.svn_law.proofs.TokenNumbers.{call_by, call_at, entered, Tells, tells_done}
 use Rattle.svn_law.proofs.CallTests.{either_call}
-use Rattle.svn_law.proofs.OpenDirectories.{entry_main, drive_there, between}
+use Rattle.svn_law.proofs.OpenDirectories.{drive_there, between}
 
 -- ---- the fold over the steps' calls
 
@@ -83,7 +84,7 @@ module _ (T : Path → ℕ) where
   not_current q tells (y ∷ ys) h cur k = not_current q tells ys h.1 (current_after cur (call_at T y)) (by y.action h.0)
     where
       other : (path_eq y.path q && true) ≡ false → nat_eq (T y.path) (T q) ≡ false
-      other e = tells y.path ∙ sym (and_true_right (path_eq y.path q)) ∙ e
+      other e = tells y.path ∙ sym (and-true (path_eq y.path q)) ∙ e
 
       kept : (b : Bool) → number_eq (cond b cur None) (Some (T q)) ≡ false
       kept true = k
@@ -164,7 +165,7 @@ module _ (d : Request) (w : WorkingCopy) (setting : Setting d w) (late : Bool) (
           parts = has_parts (is_entry_of File) s.path f.here f.passes
 
           same_key : key_of d late f.here ≡ key_of d late s
-          same_key = main_key d late f.here.path f.here.action (entry_main File f.here.action parts.1).0 ∙ ap (map Named) parts.0 ∙ sym k
+          same_key = main_key d late f.here.path f.here.action (entry_is_main f.here.action (entry_of_is_entry File f.here.action parts.1)) ∙ ap (map Named) parts.0 ∙ sym k
 
           each : (y : Step) → Before d late f.here y × Before d late y s → (y.path ≡ s.path) × (keeps_file y.action ≡ true)
           each y b = (place, kept f.here.action y.action parts.1 (b.0.1 (parts.0 ∙ sym place)) (b.1.1 place))
@@ -253,16 +254,12 @@ module _ (d : Request) (w : WorkingCopy) (setting : Setting d w) (late : Bool) (
               next : Before d late f.here s
               next = (all_right (λ y. Before d late y s) f.front (f.here ∷ f.back) (subst (AllSteps (λ y. Before d late y s)) (sym f.cut) (before_step d late done s rest drive))).0
 
-              or_true : (a b : Bool) → (a || (true || b)) ≡ true
-              or_true true b = refl
-              or_true false b = refl
-
               has_one : list_any (has is_text f.here.path) (done ++ s ∷ rest) ≡ true
               has_one =
                   in_whole (has is_text f.here.path) done (s ∷ rest)
-                  (ap (list_any (has is_text f.here.path)) (sym f.cut) ∙ any-append2 (has is_text f.here.path) f.front (f.here ∷ f.back)
+                  (ap (list_any (has is_text f.here.path)) (sym f.cut) ∙ list_any-append (has is_text f.here.path) f.front (f.here ∷ f.back)
                   ∙ ap (λ b. list_any (has is_text f.here.path) f.front || (b || list_any (has is_text f.here.path) f.back)) (ap (λ b. b && is_text f.here.action) (path_eq-same f.here.path) ∙ text.1)
-                  ∙ or_true (list_any (has is_text f.here.path) f.front) (list_any (has is_text f.here.path) f.back))
+                  ∙ or-true (list_any (has is_text f.here.path) f.front))
 
               open_yet : list_any (has (is_close_of File) f.here.path) done ≡ false
               open_yet =
@@ -270,7 +267,7 @@ module _ (d : Request) (w : WorkingCopy) (setting : Setting d w) (late : Bool) (
                   (λ q. sym (sym (closed_not_current f.here.path tells q) ∙ ap (λ o. number_eq o (Some (T f.here.path))) e ∙ eq-eqb t (T f.here.path) (sym text.0)))
 
               in_back : (g : Step → Bool) (xs ys : List Step) → list_any g (xs ++ ys) ≡ true → list_any g xs ≡ false → list_any g ys ≡ true
-              in_back g xs ys m n = sym (any-append2 g xs ys ∙ ap (λ b. b || list_any g ys) n) ∙ m
+              in_back g xs ys m n = sym (list_any-append g xs ys ∙ ap (λ b. b || list_any g ys) n) ∙ m
 
               closing : Found (has (is_close_of File) f.here.path) (s ∷ rest)
               closing = find (has (is_close_of File) f.here.path) (s ∷ rest)

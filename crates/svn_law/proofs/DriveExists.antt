@@ -1,29 +1,31 @@
--- A drive exists: the slow steps of a true copy's request, as far down as 129 levels.
+-- A drive exists: the slow steps of a true copy's request, as far down as 129 levels. What is new in it stands in a directory that is entered.
 use Rattle.std.proofs.Common.{◌≡◌, ◌≢◌, ℕ, ◌+◌, ◌≤◌, Bool, true, false, ◌&&◌, ◌||◌, not, List, [], ◌∷◌, ◌++◌, length, refl, sym, ◌∙◌, ap, subst, true≢false, append_assoc, append-nil, length-append, arith}
 use Rattle.std.specs.Prelude.{Option, Some, None, is_some, cond, map, filter, bytes_eq}
 use Rattle.std.specs.List.{list_any}
+use Rattle.std.proofs.lemmas.List.Folds.{list_any-append}
 use Rattle.std.proofs.lemmas.Bool.{or_left, or_right, false_from_ne_true}
 use Rattle.svn_law.proofs.Classes.{switched_to}
+use Rattle.svn_law.proofs.Tests.{and_true}
 use Rattle.svn_law.proofs.Names.{named_value, Name, same_path, bytes_eq-same, has_name, has_name-fold}
 use Rattle.svn_types.specs.Names.{Path}
 use Rattle.svn_types.specs.Paths.{path_eq, child}
 use Rattle.svn_repo.specs.History.{look}
-use Rattle.svn_repo.specs.Readings.{are_related, entries_of}
+use Rattle.svn_repo.specs.Readings.{are_related, kind_of, entries_of}
 use Rattle.svn_delta.specs.declared.entry.ReportEntry.{ReportEntry}
 use Rattle.svn_delta.specs.Reports.{entry_at}
 use Rattle.svn_drive.specs.Sources.{Reported, source, starts_empty, reported, governing_revision}
 use Rattle.svn_delta.specs.Steps.{Mode, Update, SwitchTo, Action, Delete}
 use Rattle.svn_drive.specs.Follow.{Request, candidate, follow, is_kept, target_path, source_node, target_node}
-use Rattle.svn_drive.specs.Steps.{InKeyOrder, IsDriveOf, entered_actions, path_actions, path_steps}
+use Rattle.svn_drive.specs.Steps.{InKeyOrder, IsDriveOf, is_touched, is_new, entered_actions, path_actions, path_steps}
 use Rattle.svn_wc.specs.Nodes.{WorkingCopy, get_in, is_present, node_path}
 use Rattle.svn_law.specs.SlowDrive.{entry_names, next_name, names_in, names_below, paths_below, slow_steps, slow_drive}
-use Rattle.svn_law.specs.Laws.{request_of, a_drive}
+use Rattle.svn_law.specs.Laws.{request_of, a_drive, new_below}
 use Rattle.svn_law.proofs.Children.{path_ind, entry_below, look-child, follow-here}
 use Rattle.svn_law.proofs.CrawlDescribes.{is_child, own-is, hidden_below, source_inherits}
 use Rattle.svn_law.proofs.Classes.{Setting, entered_below, kept_related, target_path-child, own_path, source-open}
 use Rattle.svn_law.proofs.States.{is_at}
-use Rattle.svn_law.proofs.NextStep.{any-append2}
-use Rattle.svn_law.proofs.AfterSteps.{is_entry, has_entry}
+use Rattle.svn_law.proofs.Courses.{is_entry, is_entry_of, entered_entry}
+use Rattle.svn_law.proofs.AfterSteps.{has_entry}
 use Rattle.svn_law.proofs.EndsAsResult.{setting_of}
 use Rattle.svn_law.proofs.SortedSteps.{sort_in_order, filter-sort, path_in_order}
 use Rattle.svn_law.proofs.VisitedPaths.{steps_of_paths, no_steps, inside, Named}
@@ -47,7 +49,7 @@ named_in p name [] x h = absurd (none h)
     none : None ≡ Some x → ⊥
     none q = cc
 named_in p name (e ∷ es) x h =
-    any-append2 (λ n. bytes_eq n name) (next_name p e.0) (names_in p es) ∙ by (path_eq e.0 (child p name)) refl h (named_in p name es x)
+    list_any-append (λ n. bytes_eq n name) (next_name p e.0) (names_in p es) ∙ by (path_eq e.0 (child p name)) refl h (named_in p name es x)
   where
     by : (b : Bool) → path_eq e.0 (child p name) ≡ b → cond b (Some e.1) (entry_at es (child p name)) ≡ Some x
         → (entry_at es (child p name) ≡ Some x → has_name (names_in p es) name ≡ true) → (has_name (next_name p e.0) name || has_name (names_in p es) name) ≡ true
@@ -72,8 +74,8 @@ module _ (d : Request) (w : WorkingCopy) (setting : Setting d w) where
   found : (q : Path) (name : Name) → (in_source q name || in_target q name || in_report q name) ≡ true → has_name (names_below d q) name ≡ true
   found q name h =
       has_name-fold (entry_names d (source_node d q) ++ entry_names d (target_node d q) ++ names_in q d.report.entries) [] name
-      ∙ any-append2 (λ n. bytes_eq n name) (entry_names d (source_node d q) ++ entry_names d (target_node d q)) (names_in q d.report.entries)
-      ∙ ap (λ b. b || in_report q name) (any-append2 (λ n. bytes_eq n name) (entry_names d (source_node d q)) (entry_names d (target_node d q)))
+      ∙ list_any-append (λ n. bytes_eq n name) (entry_names d (source_node d q) ++ entry_names d (target_node d q)) (names_in q d.report.entries)
+      ∙ ap (λ b. b || in_report q name) (list_any-append (λ n. bytes_eq n name) (entry_names d (source_node d q)) (entry_names d (target_node d q)))
       ∙ h
 
   -- the source of a child is an entry of the source above, or the report names it
@@ -247,3 +249,16 @@ a_drive_holds h nodes target mode checksum late t has =
     let d = request_of h nodes target mode checksum in
     let steps = drive_exists d (get_in nodes) (setting_of h nodes target mode checksum t has) late 129 (omega arith) in
     (slow_drive d late 129, record { steps = slow_steps d late 129; of_each_path = steps; numbered_calls = refl })
+
+-- a new path stands below one that is touched or new
+pub new_below_holds : new_below
+new_below_holds h nodes target mode checksum t has p name m = by (target_node d (child p name)) refl (and_true (not (is_kept d (child p name))) (is_some (target_node d (child p name))) m).1
+  where
+    d : Request
+    d = request_of h nodes target mode checksum
+
+    by : (o : Option ℕ) → target_node d (child p name) ≡ o → is_some o ≡ true → (is_touched d p || is_new d p) ≡ true
+    by None e s = absurd (true≢false (sym s))
+    by (Some n) e s =
+        let entry = entered_entry d (child p name) n (kind_of h n) e refl (or_right (is_touched d (child p name)) (is_new d (child p name)) m) in
+        (entered_below d (get_in nodes) (setting_of h nodes target mode checksum t has) p name (λ z. true≢false (sym entry ∙ ap (list_any (is_entry_of (kind_of h n))) z))).entered

@@ -1,6 +1,8 @@
 -- After all steps of a drive and the last call the copy is the result.
 use Rattle.std.proofs.Common.{◌≡◌, ℕ, Bool, true, false, ◌&&◌, ◌||◌, not, List, [], ◌∷◌, ◌++◌, refl, sym, ◌∙◌, ap, subst, true≢false, append_assoc, append-nil}
-use Rattle.std.proofs.Math.Bool.{and-false, or-true}
+use Rattle.std.proofs.Math.Bool.{and-false}
+use Rattle.std.proofs.lemmas.Bool.{false_from_ne_true}
+use Rattle.std.proofs.lemmas.List.Folds.{list_any-append}
 use Rattle.std.specs.Prelude.{Option, Some, None, is_some, option_map, cond, map, filter}
 use Rattle.std.specs.List.{list_any}
 use Rattle.svn_types.specs.Names.{Path}
@@ -10,65 +12,31 @@ use Rattle.svn_types.specs.declared.kind.Kind.TheVariants.{File, Directory}
 use Rattle.svn_repo.specs.History.{History}
 use Rattle.svn_repo.specs.Readings.{are_related, kind_of, text_of, props_of}
 use Rattle.svn_delta.specs.Reports.{has_entry_below}
-use Rattle.svn_drive.specs.Sources.{governing_revision}
-use Rattle.svn_delta.specs.Steps.{Mode, Update, SwitchTo, Action, Delete, Open, Add, Change, Text, Close, Step}
+use Rattle.svn_delta.specs.Steps.{Mode, Update, SwitchTo, Step}
 use Rattle.svn_delta.specs.declared.call.Call.{Call}
 use Rattle.svn_delta.specs.declared.call.Call.TheVariants.{SetTargetRevision, CloseEdit}
-use Rattle.svn_drive.specs.Steps.{IsDriveOf, is_touched, is_new, is_gone, starts_empty_at, source_props, source_text, entered_actions, path_actions}
+use Rattle.svn_drive.specs.Steps.{IsDriveOf, is_touched, is_new, is_gone, starts_empty_at, source_props, source_text, path_actions}
 use Rattle.svn_delta.specs.Calls.{number_eq}
-use Rattle.svn_drive.specs.Follow.{Request, follow, is_kept, target_path, source_node, target_node}
+use Rattle.svn_drive.specs.Follow.{Request, is_kept, target_path, source_node, target_node}
 use Rattle.svn_drive.specs.Drive.{numbered, IsDrive}
 use Rattle.svn_wc.specs.declared.base_node.BaseNode.{BaseNode}
 use Rattle.svn_wc.specs.declared.base_node.BaseNode.TheVariants.{File as FileNode, Dir as DirNode, NotPresent}
 use Rattle.svn_wc.specs.Nodes.{WorkingCopy, get_in, is_present, node_path, base_node_by, base_node}
 use Rattle.svn_wc.specs.Effects.{settled, settled_path, effect, after, after_from}
 use Rattle.svn_law.specs.Result.{result}
-use Rattle.svn_law.proofs.Targets.{related_of}
+use Rattle.svn_law.proofs.CrawlCheckable.{related_of}
 use Rattle.svn_law.specs.Laws.{IsTrueCopy, request_of, HasTarget}
-use Rattle.svn_law.proofs.Tests.{or_false, or_first, not_false}
-use Rattle.svn_law.proofs.Classes.{switched_to}
+use Rattle.svn_law.proofs.Tests.{or_false, or_first, not_false, some_same}
 use Rattle.svn_law.proofs.Names.{same_path, path_eq-same}
 use Rattle.svn_law.proofs.CrawlCheckable.{crawl_describes_holds}
-use Rattle.svn_law.proofs.Classes.{Setting, both_nodes, kept_related}
-use Rattle.svn_law.proofs.States.{is_at, actions_at, actions_at-append, actions_at-drive, acted, is_delete, is_deleted_above, base, state}
-use Rattle.svn_law.proofs.FirstSteps.{NoneMain, after_next, none_main_left}
-use Rattle.svn_law.proofs.NextStep.{any-append2, not_deleted_above}
+use Rattle.svn_law.proofs.Classes.{Setting, none_related, both_nodes, kept_related, switched_to}
+use Rattle.svn_law.proofs.Courses.{is_delete}
+use Rattle.svn_law.proofs.States.{is_at, actions_at, actions_at-drive, acted, is_deleted_above, base, state, path_cut}
+use Rattle.svn_law.proofs.FirstSteps.{after_next, none_main_left, none_left, delete_is_main}
+use Rattle.svn_law.proofs.Deletes.{deleted_by, gone_deletes, kept_base, gone_above}
 use Rattle.svn_law.proofs.AfterSteps.{kept_path_is}
 use Rattle.svn_law.proofs.AfterCalls.{after-first}
-use Rattle.svn_law.proofs.Gone.{gone_above}
 use Rattle.svn_law.proofs.AfterAllSteps.{KeptAs, kept_as, entered_end, ended, acted_all, kept_not_gone}
-
--- ---- deletes above
-
--- a delete among the steps of a path above takes the path away
-pub deleted_by : (q p : Path) (steps : List Step) → list_any is_delete (actions_at q steps) ≡ true → is_below q p ≡ true → is_deleted_above steps p ≡ true
-deleted_by q p [] h b = absurd (true≢false (sym h))
-deleted_by q p (s ∷ steps) h b = by (is_at q s) (is_delete s.action) refl refl h (λ k. deleted_by q p steps k b)
-  where
-    or_right : (x y : Bool) → y ≡ true → (x || y) ≡ true
-    or_right x y e = ap (λ z. x || z) e ∙ or-true x
-
-    by : (a x : Bool) → is_at q s ≡ a → is_delete s.action ≡ x
-        → list_any is_delete (map (λ (t : Step). t.action) (cond a (s ∷ filter (is_at q) steps) (filter (is_at q) steps))) ≡ true
-        → (list_any is_delete (actions_at q steps) ≡ true → is_deleted_above steps p ≡ true)
-        → ((is_delete s.action && is_below s.path p) || is_deleted_above steps p) ≡ true
-    by true true e u k ih = ap (λ z. (z && is_below s.path p) || is_deleted_above steps p) u ∙ ap (λ z. z || is_deleted_above steps p) (ap (λ z. is_below z p) (same_path s.path q e) ∙ b)
-    by true false e u k ih = or_right (is_delete s.action && is_below s.path p) (is_deleted_above steps p) (ih (sym (ap (λ z. z || list_any is_delete (actions_at q steps)) u) ∙ k))
-    by false x e u k ih = or_right (is_delete s.action && is_below s.path p) (is_deleted_above steps p) (ih k)
-
--- a path that is gone has a delete
-pub gone_deletes : (d : Request) (q : Path) → is_gone d q ≡ true → list_any is_delete (path_actions d q) ≡ true
-gone_deletes d q g = ap (λ b. list_any is_delete (cond b (Delete (governing_revision (follow d q).here) ∷ []) [] ++ entered_actions d q (target_node d q))) g
-
--- a delete is a main action
-pub no_main_no_delete : (acts : List Action) → NoneMain acts → list_any is_delete acts ≡ false
-no_main_no_delete [] n = refl
-no_main_no_delete (Delete r ∷ acts) n = absurd (true≢false n.0)
-no_main_no_delete (Open k r ∷ acts) n = absurd (true≢false n.0)
-no_main_no_delete (Add k ∷ acts) n = absurd (true≢false n.0)
-no_main_no_delete (Change k c ∷ acts) n = absurd (true≢false n.0)
-no_main_no_delete (Text b t ∷ acts) n = no_main_no_delete acts n.1
-no_main_no_delete (Close k c ∷ acts) n = no_main_no_delete acts n.1
 
 -- ---- what the last call leaves
 
@@ -178,31 +146,25 @@ module _ (d : Request) (w : WorkingCopy) (setting : Setting d w) where
 
   -- and at the next step those above its path
   pub deleted_next : (late : Bool) (done : List Step) (s : Step) (rest : List Step) → IsDriveOf d late (done ++ s ∷ rest) → (q : Path) → is_below q s.path ≡ true → is_gone d q ≡ true → is_deleted_above done s.path ≡ true
-  deleted_next late done s rest drive q b g = deleted_by q s.path done (or_first (list_any is_delete (actions_at q done)) (list_any is_delete (actions_at q rest)) any (no_main_no_delete (actions_at q rest) none)) b
+  deleted_next late done s rest drive q b g =
+      deleted_by q s.path done
+      (or_first (list_any is_delete (actions_at q done)) (list_any is_delete (actions_at q rest)) any
+      (none_left is_delete delete_is_main (actions_at q rest) (none_main_left d late s rest q b (after_next d late done s rest drive.in_order)))) b
     where
-      none : NoneMain (actions_at q rest)
-      none = none_main_left d late s rest q b (after_next d late done s rest drive.in_order)
-
       elsewhere : path_eq s.path q ≡ false
-      elsewhere = by (path_eq s.path q) refl
-        where
-          by : (x : Bool) → path_eq s.path q ≡ x → x ≡ false
-          by false e = refl
-          by true e = absurd (true≢false (sym b ∙ ap (λ x. is_below q x) (same_path s.path q e) ∙ ap (λ x. is_within q q && not x) (path_eq-same q) ∙ and-false (is_within q q)))
+      elsewhere =
+          false_from_ne_true (path_eq s.path q)
+          (λ e. true≢false (sym b ∙ ap (λ x. is_below q x) (same_path s.path q e) ∙ ap (λ x. is_within q q && not x) (path_eq-same q) ∙ and-false (is_within q q)))
 
       any : (list_any is_delete (actions_at q done) || list_any is_delete (actions_at q rest)) ≡ true
       any =
           ap (λ x. list_any is_delete (actions_at q done) || list_any is_delete (map (λ (t : Step). t.action) (cond x (s ∷ filter (is_at q) rest) (filter (is_at q) rest)))) (sym elsewhere)
-          ∙ sym (any-append2 is_delete (actions_at q done) (actions_at q (s ∷ rest)))
-          ∙ ap (list_any is_delete) (sym (actions_at-append q done (s ∷ rest)) ∙ actions_at-drive d late (done ++ s ∷ rest) drive q) ∙ gone_deletes d q g
-
-  -- a kept path keeps what it had until its own actions
-  pub kept_base : (late : Bool) (done rest : List Step) → IsDriveOf d late (done ++ rest) → (p : Path) → is_kept d p ≡ true → base w done p ≡ w p
-  kept_base late done rest drive p k = ap (λ b. cond b None (w p)) (not_deleted_above d late done rest drive p k)
+          ∙ sym (list_any-append is_delete (actions_at q done) (actions_at q (s ∷ rest)))
+          ∙ ap (list_any is_delete) (path_cut d late done (s ∷ rest) drive q) ∙ gone_deletes d q g
 
   -- where all actions of a path are done it stands as they end
   pub state_all : (late : Bool) (done rest : List Step) → IsDriveOf d late (done ++ rest) → (p : Path) → actions_at p done ≡ path_actions d p → state d w done p ≡ ended d w setting p (base w done p)
-  state_all late done rest drive p e = ap (acted d p [] (base w done p)) e ∙ acted_all d w setting p (base w done p) (kept_base late done rest drive p)
+  state_all late done rest drive p e = ap (acted d p [] (base w done p)) e ∙ acted_all d w setting p (base w done p) (kept_base d w late done rest drive p)
 
   -- after all steps and the last call a path is as in the result
   pub ends_at : (late : Bool) (steps : List Step) → IsDriveOf d late steps → (p : Path) → settled d.mode d.target p (state d w steps p) ≡ result d p
@@ -216,29 +178,22 @@ module _ (d : Request) (w : WorkingCopy) (setting : Setting d w) where
       b : Option BaseNode
       b = cond (is_gone d p) None (base w steps p)
 
-      not_related : (o : Option ℕ) → are_related h o None ≡ true → ⊥
-      not_related None q = true≢false (sym q)
-      not_related (Some m) q = true≢false (sym q)
-
       put : (n : ℕ) (x : Bool) → x ≡ true → settled d.mode d.target p (cond x (Some (base_node h d.target (target_path d p) n)) b) ≡ Some (base_node h d.target (target_path d p) n)
       put n x e = ap (λ y. settled d.mode d.target p (cond y (Some (base_node h d.target (target_path d p) n)) b)) e ∙ settled_base p (kind_of h n) (text_of h n) (props_of h n)
 
       by : (o : Option ℕ) (k t : Bool) → target_node d p ≡ o → is_kept d p ≡ k → is_touched d p ≡ t
           → settled d.mode d.target p (entered_end d w setting p o b) ≡ option_map (base_node h d.target (target_path d p)) o
-      by None true t z u v = absurd (not_related (source_node d p) (sym (ap (are_related h (source_node d p)) z) ∙ kept_related d w setting p u))
+      by None true t z u v = absurd (none_related h (source_node d p) (sym (ap (are_related h (source_node d p)) z) ∙ kept_related d w setting p u))
       by None false t z u v = absent_settled d.mode d.target p b (nothing_left steps p (deleted_all late steps drive p) u)
       by (Some n) k true z u v = put n (is_touched d p || is_new d p) (ap (λ x. x || is_new d p) v)
       by (Some n) false false z u v = put n (is_touched d p || is_new d p) (ap (λ x. x || is_new d p) v ∙ ap (λ x. not x && is_some (target_node d p)) u ∙ ap is_some z)
       by (Some n) true false z u v =
           let one = untouched_same p u v in
-          let same : one.0 ≡ n = same_number one.0 n (sym one.2 ∙ z) in
+          let same : one.0 ≡ n = some_same one.0 n (sym one.2 ∙ z) in
           ap (λ x. settled d.mode d.target p (cond x (Some (base_node h d.target (target_path d p) n)) b)) (ap (λ x. x || is_new d p) v ∙ ap (λ x. not x && is_some (target_node d p)) u)
           ∙ ap (λ g. settled d.mode d.target p (cond g None (base w steps p))) (kept_not_gone d w setting p u)
-          ∙ ap (settled d.mode d.target p) (kept_base late steps [] whole p u)
+          ∙ ap (settled d.mode d.target p) (kept_base d w late steps [] whole p u)
           ∙ settled_untouched p n (kind_of h n) (one.1 ∙ ap Some same) one.3 u (kept_as d w setting p n u z)
-        where
-          same_number : (x y : ℕ) → Some x ≡ Some y → x ≡ y
-          same_number x y e = cc
 
   -- ---- the calls
 

@@ -1,5 +1,5 @@
 -- The first steps of a drive, up to some step: which steps of other paths are among them.
-use Rattle.std.proofs.Common.{◌≡◌, Bool, true, false, ◌&&◌, ◌⊎◌, not, List, [], ◌∷◌, ◌++◌, refl, sym, ◌∙◌, ap, true≢false, append-nil, inl, inr}
+use Rattle.std.proofs.Common.{◌≡◌, Bool, true, false, ◌&&◌, ◌||◌, not, List, [], ◌∷◌, ◌++◌, refl, sym, ◌∙◌, ap, true≢false, append-nil}
 use Rattle.std.specs.Prelude.{cond, map, filter, bytes_eq}
 use Rattle.std.specs.List.{list_any}
 use Rattle.std.specs.declared.cmp.Ordering.{Ordering}
@@ -7,6 +7,7 @@ use Rattle.std.specs.declared.cmp.Ordering.TheVariants.{Less, Equal, Greater}
 use Rattle.std.specs.Ordering.{is_gt, ordering_then}
 use Rattle.std.specs.Cmp.Lexicographic.{slice_cmp, nat_list_cmp_total}
 use Rattle.std.specs.FinMap.{slice_cmp-IsAntisymmetric, nat_cmp-IsAntisymmetric}
+use Rattle.std.proofs.lemmas.Bool.{false_from_ne_true}
 use Rattle.std.proofs.lemmas.Cmp.{tied_itself}
 use Rattle.svn_types.specs.Names.{Path, name_cmp}
 use Rattle.svn_types.specs.Paths.{path_eq, is_within, is_below}
@@ -14,8 +15,9 @@ use Rattle.svn_types.specs.declared.kind.Kind.TheVariants.{File, Directory}
 use Rattle.svn_delta.specs.Steps.{Action, Delete, Open, Add, Change, Text, Close, Step}
 use Rattle.svn_drive.specs.Follow.{Request}
 use Rattle.svn_drive.specs.Steps.{Mark, Named, End, mark_cmp, key, key_of, comes_after, has_text, InKeyOrder}
-use Rattle.svn_law.proofs.Tests.{or_false, and_true}
+use Rattle.svn_law.proofs.Tests.{or_false, and_true, not_true}
 use Rattle.svn_law.proofs.Names.{same_path, same_bytes, bytes_eq-same}
+use Rattle.svn_law.proofs.Courses.{is_delete, is_entry}
 use Rattle.svn_law.proofs.States.{is_at, actions_at}
 
 -- ---- keys of paths that stand below one another
@@ -41,11 +43,7 @@ key_above d late p q a b = by_action a
     parts = and_true (is_within p q) (not (path_eq p q)) b
 
     apart : path_eq p q ≡ false
-    apart = flip (path_eq p q) parts.1
-      where
-        flip : (x : Bool) → not x ≡ true → x ≡ false
-        flip true e = absurd (true≢false (sym e))
-        flip false e = refl
+    apart = not_true (path_eq p q) parts.1
 
     plain : is_gt (slice_cmp mark_cmp (map Named q) (map Named p)) ≡ true
     plain = ap (λ k. is_gt (slice_cmp mark_cmp k (map Named p))) (sym (append-nil (map Named q))) ∙ longer_key p q [] parts.0 apart
@@ -135,40 +133,19 @@ none_main_left d late s (u ∷ rest) p b h = by (is_at p u) refl (none_main_left
     by true e ih = (by_main (is_main u.action) e refl, ih)
     by false e ih = ih
 
--- a list of actions that is cut behind its main ones
-abbrev pub AllMain : List Action → Type 0
-AllMain [] = Unit {0}
-AllMain (a ∷ acts) = (is_main a ≡ true) × AllMain acts
+-- where no main action is left there is none of a kind of main actions
+pub none_left : (f : Action → Bool) → ((a : Action) → f a ≡ true → is_main a ≡ true) → (acts : List Action) → NoneMain acts → list_any f acts ≡ false
+none_left f main [] n = refl
+none_left f main (a ∷ acts) n = ap (λ b. b || list_any f acts) (false_from_ne_true (f a) (λ e. true≢false (sym (main a e) ∙ n.0))) ∙ none_left f main acts n.1
 
-pub cut_behind : (xs ys mains : List Action) (last : Action) → xs ++ ys ≡ mains ++ last ∷ [] → AllMain mains → NoneMain ys → (xs ≡ mains) ⊎ (xs ≡ mains ++ last ∷ [])
-cut_behind [] ys [] last e m n = inl refl
-cut_behind [] [] (a ∷ mains) last e m n = absurd (nil e)
-  where
-    nil : [] ≡ a ∷ (mains ++ last ∷ []) → ⊥
-    nil q = cc
-cut_behind [] (y ∷ ys) (a ∷ mains) last e m n = absurd (true≢false (sym m.0 ∙ ap is_main (sym (heads e)) ∙ n.0))
-  where
-    heads : y ∷ ys ≡ a ∷ (mains ++ last ∷ []) → y ≡ a
-    heads q = cc
-cut_behind (x ∷ []) ys [] last e m n = inr (ap (λ (z : Action). z ∷ []) (heads e))
-  where
-    heads : x ∷ ys ≡ last ∷ [] → x ≡ last
-    heads q = cc
-cut_behind (x ∷ z ∷ xs) ys [] last e m n = absurd (tails e)
-  where
-    tails : x ∷ z ∷ (xs ++ ys) ≡ last ∷ [] → ⊥
-    tails q = cc
-cut_behind (x ∷ xs) ys (a ∷ mains) last e m n = more (cut_behind xs ys mains last (tails e) m.1 n) (heads e)
-  where
-    heads : x ∷ (xs ++ ys) ≡ a ∷ (mains ++ last ∷ []) → x ≡ a
-    heads q = cc
+pub delete_is_main : (a : Action) → is_delete a ≡ true → is_main a ≡ true
+delete_is_main (Delete r) e = refl
+delete_is_main a e = absurd (true≢false (sym e))
 
-    tails : x ∷ (xs ++ ys) ≡ a ∷ (mains ++ last ∷ []) → xs ++ ys ≡ mains ++ last ∷ []
-    tails q = cc
-
-    more : (xs ≡ mains) ⊎ (xs ≡ mains ++ last ∷ []) → x ≡ a → (x ∷ xs ≡ a ∷ mains) ⊎ (x ∷ xs ≡ a ∷ (mains ++ last ∷ []))
-    more (inl q) h = inl (λ i. h i ∷ q i)
-    more (inr q) h = inr (λ i. h i ∷ q i)
+pub entry_is_main : (a : Action) → is_entry a ≡ true → is_main a ≡ true
+entry_is_main (Open k r) e = refl
+entry_is_main (Add k) e = refl
+entry_is_main a e = absurd (true≢false (sym e))
 
 -- where one path comes before another and isn't above it, all that begins with the one comes before all that begins with the other
 pub apart_keys : (p q : Path) (x y : List Mark) → slice_cmp name_cmp p q ≡ Less → is_within p q ≡ false → slice_cmp mark_cmp (map Named p ++ x) (map Named q ++ y) ≡ Less

@@ -10,6 +10,7 @@ use Rattle.std.specs.Map.{keys_of, lookup, remove_entry}
 use Rattle.std.specs.BTreeMap.{is_at, insert_entry}
 use Rattle.std.specs.Cmp.{IsTotalOrder, Equal-is}
 use Rattle.std.proofs.lemmas.Cmp.{tied_itself, eq_by_cmp_equiv}
+use Rattle.svn_law.proofs.Tests.{some_same}
 use Rattle.std.proofs.lemmas.Map.{lookup-none, lookup-remove_entry}
 use Rattle.std.proofs.lemmas.Map.Entries.{lookup_head, none_past_head, none_below_head}
 use Rattle.std.proofs.lemmas.Map.Keys.{sorted_head, sorted_tail, IsDistinct-from_sorted}
@@ -63,16 +64,13 @@ module _ {K X : Type 0} {R : K → K → Ordering} (total : IsTotalOrder R) (exa
       none_f : None ≡ Some f.1 → ⊥
       none_f q = cc
 
-      inside : (a b : X) → Some a ≡ Some b → a ≡ b
-      inside a b q = cc
-
       by : (o : Ordering) → R e.0 f.0 ≡ o → (((q : K) → lookup (is_at (R q)) es ≡ lookup (is_at (R q)) fs) → es ≡ fs) → e ∷ es ≡ f ∷ fs
       by Less c ih = absurd (none_e (sym (lookup-none (is_at (R e.0)) (f ∷ fs) (none_below_head total e.0 f fs t c)) ∙ sym (h e.0) ∙ found_first e es))
       by Greater c ih =
           absurd (none_f (sym (lookup-none (is_at (R f.0)) (e ∷ es) (none_below_head total f.0 e es s (total.antisymm f.0 e.0 ∙ ap ordering_reverse c))) ∙ h f.0 ∙ found_first f fs))
       by Equal c ih =
           let key = exact e.0 f.0 c in
-          let value = inside e.1 f.1 (sym (found_first e es) ∙ h e.0 ∙ ap (λ k. lookup (is_at (R k)) (f ∷ fs)) key ∙ found_first f fs) in
+          let value = some_same e.1 f.1 (sym (found_first e es) ∙ h e.0 ∙ ap (λ k. lookup (is_at (R k)) (f ∷ fs)) key ∙ found_first f fs) in
           λ i. (key i, value i) ∷ ih rests i
         where
           rests : (q : K) → lookup (is_at (R q)) es ≡ lookup (is_at (R q)) fs

@@ -1,5 +1,6 @@
 -- Names and paths: the tests on them and what they mean, and names in their order.
 use Rattle.std.proofs.Common.{◌≡◌, ℕ, Bool, true, false, ◌||◌, List, [], ◌∷◌, refl, sym, ◌∙◌, ap, subst, true≢false}
+use Rattle.std.proofs.Math.Bool.{or-false}
 use Rattle.std.specs.Prelude.{Some, None, cond, bytes_eq, fold}
 use Rattle.std.specs.List.{list_any}
 use Rattle.std.specs.declared.cmp.Ordering.{Ordering}
@@ -57,14 +58,21 @@ lt_apart m n h = by (bytes_eq m n) refl
 pub flipped : (m n : Name) → name_cmp m n ≡ Greater → is_lt (name_cmp n m) ≡ true
 flipped m n e = ap is_lt (nat_list_cmp_total.antisymm n m) ∙ ap (λ o. is_lt (ordering_reverse o)) e
 
-pub eq_symm : (m n : Name) → bytes_eq m n ≡ bytes_eq n m
-eq_symm m n = by (bytes_eq m n) (bytes_eq n m) refl refl
+-- a test that holds of what is the same alone holds either way round
+eq-symm : {X : Type 0} (eq : X → X → Bool) → ((m n : X) → eq m n ≡ true → m ≡ n) → ((m : X) → eq m m ≡ true) → (m n : X) → eq m n ≡ eq n m
+eq-symm eq same own m n = by (eq m n) (eq n m) refl refl
   where
-    by : (a b : Bool) → bytes_eq m n ≡ a → bytes_eq n m ≡ b → a ≡ b
+    by : (a b : Bool) → eq m n ≡ a → eq n m ≡ b → a ≡ b
     by true true p q = refl
     by false false p q = refl
-    by true false p q = sym (bytes_eq-same n) ∙ ap (λ x. bytes_eq n x) (sym (same_bytes m n p)) ∙ q
-    by false true p q = sym (sym (bytes_eq-same m) ∙ ap (λ x. bytes_eq m x) (sym (same_bytes n m q)) ∙ p)
+    by true false p q = sym (own n) ∙ ap (λ x. eq n x) (sym (same m n p)) ∙ q
+    by false true p q = sym (sym (own m) ∙ ap (λ x. eq m x) (sym (same n m q)) ∙ p)
+
+pub bytes_eq-symm : (m n : Name) → bytes_eq m n ≡ bytes_eq n m
+bytes_eq-symm = eq-symm bytes_eq same_bytes bytes_eq-same
+
+pub path_eq-symm : (p q : Path) → path_eq p q ≡ path_eq q p
+path_eq-symm = eq-symm path_eq same_path path_eq-same
 
 -- ---- paths in their order
 
@@ -78,10 +86,7 @@ path_tie = slice_cmp-IsAntisymmetric same_name
 
 -- the test by which a name is looked up
 pub at_name : (m n : Name) → is_at (name_cmp m) n ≡ bytes_eq n m
-at_name m n = is_eq-slice_cmp m n ∙ eq_symm m n
-
-pub at_same_name : (m n : Name) → is_at (name_cmp m) n ≡ true → n ≡ m
-at_same_name m n h = same_bytes n m (sym (at_name m n) ∙ h)
+at_name m n = is_eq-slice_cmp m n ∙ bytes_eq-symm m n
 
 -- what is found in a list that begins with an entry
 pub value_of-first : {X : Type 0} (e : Name × X) (es : List (Name × X)) (m : Name) → value_of (e ∷ es) m ≡ cond (bytes_eq e.0 m) (Some e.1) (value_of es m)
@@ -143,11 +148,7 @@ has_name-insert_key (k ∷ ms) n m = by (name_cmp n k) refl (has_name-insert_key
     by Greater c ih = ap (λ x. bytes_eq k m || x) ih ∙ swap (bytes_eq k m) (bytes_eq n m) (has_name ms m)
 
 pub has_name-fold : (xs ms : List (List ℕ)) (m : Name) → has_name (fold (insert_key name_cmp) ms xs) m ≡ (has_name ms m || has_name xs m)
-has_name-fold [] ms m = or_false (has_name ms m)
-  where
-    or_false : (b : Bool) → b ≡ (b || false)
-    or_false true = refl
-    or_false false = refl
+has_name-fold [] ms m = sym (or-false (has_name ms m))
 has_name-fold (x ∷ xs) ms m =
     has_name-fold xs (insert_key name_cmp ms x) m ∙ ap (λ b. b || has_name xs m) (has_name-insert_key ms x m) ∙ swap (bytes_eq x m) (has_name ms m) (has_name xs m)
   where

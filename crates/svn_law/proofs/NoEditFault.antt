@@ -23,13 +23,14 @@ use Rattle.svn_wc.specs.declared.base_node.BaseNode.{BaseNode}
 use Rattle.svn_wc.specs.declared.base_node.BaseNode.TheVariants.{Dir as DirNode, NotPresent}
 use Rattle.svn_wc.specs.Nodes.{WorkingCopy, is_present, node_revision, node_path, node_text}
 use Rattle.svn_wc.specs.Effects.{is_too_long, is_wrong_sum, has_kind, text_or, moved_path, joined_path, step_fault}
-use Rattle.svn_law.proofs.Children.{follow-here, parent_is_kept-child}
+use Rattle.svn_law.proofs.Children.{path_cases, follow-here, parent_is_kept-child}
 use Rattle.svn_law.proofs.Classes.{Setting}
-use Rattle.svn_law.proofs.States.{actions_at, texts_at-actions, acted, act, texts_in, base, state}
-use Rattle.svn_law.proofs.NextStep.{adds_not_kept, kept_above_child, none_deleted_above}
-use Rattle.svn_law.proofs.AfterSteps.{kept_present, path_cases, own_actions, here, moved_is, joined_new, entered_path, joined_next}
-use Rattle.svn_law.proofs.AfterAllSteps.{AllQuiet, acted_quiet, quiet-append, quiet_changes, quiet_texts, texts_in-append, texts_in-changes, text_or-texts, KeptAs, kept_as, touched_kept, new_not_kept, kept_not_gone}
-use Rattle.svn_law.proofs.EndsAsResult.{nothing_left, deleted_next, kept_base}
+use Rattle.svn_law.proofs.Courses.{AllOf}
+use Rattle.svn_law.proofs.States.{actions_at, texts_at-actions, acted, act, texts_in, base, state, step_cut}
+use Rattle.svn_law.proofs.Deletes.{kept_above_child, none_deleted_above, kept_base}
+use Rattle.svn_law.proofs.AfterSteps.{kept_present, here, moved_is, joined_new, adds_new, entered_path, joined_next}
+use Rattle.svn_law.proofs.AfterAllSteps.{is_quiet, acted_quiet, quiet_changes, quiet_texts, texts_in-append, texts_in-changes, text_or-texts, KeptAs, kept_as, touched_kept, new_not_kept, kept_not_gone}
+use Rattle.svn_law.proofs.EndsAsResult.{nothing_left, deleted_next}
 
 -- ---- the refusal of an action, by its path's own actions alone
 
@@ -68,7 +69,7 @@ fit-append d p before (x ∷ xs) ys found h k = (
 )
 
 -- behind quiet actions the node is the same
-fit-quiet : (d : Request) (p : Path) (before xs ys : List Action) (found : Option BaseNode) → AllQuiet xs → AllFit d p before found xs → AllFit d p (before ++ xs) found ys → AllFit d p before found (xs ++ ys)
+fit-quiet : (d : Request) (p : Path) (before xs ys : List Action) (found : Option BaseNode) → AllOf is_quiet xs → AllFit d p before found xs → AllFit d p (before ++ xs) found ys → AllFit d p before found (xs ++ ys)
 fit-quiet d p before xs ys found q h k = fit-append d p before xs ys found h (subst (λ o. AllFit d p (before ++ xs) o ys) (sym (acted_quiet d p before xs found q)) k)
 
 -- the refusal of one of the actions
@@ -173,7 +174,7 @@ module _ (d : Request) (w : WorkingCopy) (setting : Setting d w) where
   touched_fits p n File kept t is = (
     open_fits p n File kept t (ap (has_kind File) is.is),
     fit-quiet d p first (map (Change File) cs ++ texts) (Close File (Some (d.checksum (text_of h n))) ∷ []) (w p)
-        (quiet-append (map (Change File) cs) texts (quiet_changes File cs) (quiet_texts d old (text_of h n)))
+        (quiet_texts d File cs old (text_of h n))
         (fit-quiet d p first (map (Change File) cs) texts (w p) (quiet_changes File cs) (changes_fit p first (w p) File (source_props d p (source_node d p)) n t) (text_fits (bytes_eq old (text_of h n))))
         (ap (λ b. cond b (Some TextChecksum) None) (same_sum d (text_of h n) (text_or (texts_in (map (Change File) cs ++ texts)) (node_text (w p))) (sym closed)), tt),
   )
@@ -307,12 +308,12 @@ module _ (d : Request) (w : WorkingCopy) (setting : Setting d w) where
 
     next_fits : AllFit d s.path [] (base w done s.path) (path_actions d s.path)
     next_fits =
-        all_fit s.path (base w done s.path) (kept_base d w setting late done (s ∷ rest) drive s.path) (gone_base s.path)
+        all_fit s.path (base w done s.path) (kept_base d w late done (s ∷ rest) drive s.path) (gone_base s.path)
         (nothing_left d w setting done s.path (deleted_next d w setting late done s rest drive))
 
     module _ (w' : WorkingCopy) (stands : (p : Path) → w' p ≡ state d w done p) where
       joined : (q : Path) (name : Name) → s.path ≡ child q name → joined_path w' s.path ≡ child (target_path d q) name
-      joined = joined_next d w setting late done s rest drive w' stands
+      joined q name e = joined_next d w setting late done s rest drive q name e w' stands
 
       abbrev mine : List Action
       mine = actions_at s.path done
@@ -326,7 +327,7 @@ module _ (d : Request) (w : WorkingCopy) (setting : Setting d w) where
       fault_action (Close File c) e = ap (λ ts. cond (is_wrong_sum c (d.checksum (text_or ts (node_text (w' s.path))))) (Some TextChecksum) None) (texts_at-actions s.path done)
       fault_action (Add k) e =
           ap (λ q. cond (is_present (w' s.path)) (Some EntryExists) (cond (nat_lt path_limit (length q)) (Some TooDeep) None))
-          (joined_new d w setting late done s rest drive w' stands joined (adds_not_kept d s.path mine s.action k (here d w setting late done s rest drive w' stands joined) e))
+          (joined_new d w setting late done s rest drive w' stands joined (adds_new d w setting late done s rest drive w' stands joined (here d w setting late done s rest drive w' stands joined) k e))
       fault_action (Open k r) e = by (is_present (w' s.path)) refl
         where
           after : Path → Option EditFault
@@ -348,4 +349,4 @@ module _ (d : Request) (w : WorkingCopy) (setting : Setting d w) where
           fault_action s.action refl
           ∙ ap (λ o. own_fault d s.path mine o s.action) (stands s.path)
           ∙ fit_at d s.path [] mine s.action (actions_at s.path rest) (base w done s.path)
-          (subst (AllFit d s.path [] (base w done s.path)) (sym (own_actions d w setting late done s rest drive w' stands joined)) next_fits)
+          (subst (AllFit d s.path [] (base w done s.path)) (sym (step_cut d late done s rest drive)) next_fits)

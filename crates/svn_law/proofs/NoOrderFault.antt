@@ -22,14 +22,13 @@ use Rattle.svn_wc.specs.Nodes.{WorkingCopy}
 use Rattle.svn_law.proofs.Children.{parent-child}
 use Rattle.svn_law.proofs.Classes.{Setting, is_below-child}
 use Rattle.svn_law.proofs.FirstSteps.{AllSteps, is_main}
-use Rattle.svn_law.proofs.NextStep.{is_inner}
-use Rattle.svn_law.proofs.States.{is_delete}
-use Rattle.svn_law.proofs.AfterSteps.{is_entry, path_cases}
-use Rattle.svn_law.proofs.Courses.{is_entry_of, is_close_of, inner_of, precedes, same_kinds, kind_eq-same, fits_kind}
-use Rattle.svn_law.proofs.StepOrder.{never, has_not, all_map, all_both, all_left, all_right, Member, members, has, has_parts, Found, find, in_whole, Before, before_step, own_entry, Within, any_path_actions, is_closed_later, kinds_at, root_entered, directory_entered}
+use Rattle.svn_law.proofs.Children.{path_cases}
+use Rattle.svn_law.proofs.Courses.{is_delete, is_entry, is_entry_of, entry_of_is_entry, is_inner, inner_of, is_close, is_close_of, precedes, same_kinds, kind_eq-same, fits_kind}
+use Rattle.svn_law.proofs.StepOrder.{never, has_not, all_map, all_both, all_left, all_right, Member, members, has, has_parts, Found, find, in_whole, Before, before_step, own_entry, Within, any_path_actions, is_closed_later, kinds_at, root_entered}
+use Rattle.svn_law.proofs.AfterSteps.{directory_entered}
 use Rattle.svn_law.proofs.TokenNumbers.{call_by, call_at, entered, Tells, is_root_action, none_twice, root_actions, at_root, above_done, tells_done, token_next, calls_apart}
-use Rattle.svn_law.proofs.CallTests.{on_given, is_close, none_in, gives, gives-append, none_given, length-gives, gives_at, GivesAt, given_here, open-call, closes-call, applies_text-call, open_below-call, deletes-call, opens_entry-call, is_last-call, last_pick}
-use Rattle.svn_law.proofs.OpenDirectories.{before_end, before_late, entry_main, closed_before, none_below, own_open, above_open, longer, drive_there, closed_between}
+use Rattle.svn_law.proofs.CallTests.{on_given, none_in, gives, gives-append, none_given, length-gives, gives_at, GivesAt, given_here, open-call, closes-call, applies_text-call, open_below-call, deletes-call, opens_entry-call, is_last-call, last_pick}
+use Rattle.svn_law.proofs.OpenDirectories.{before_end, before_late, closed_before, none_below, own_open, above_open, longer, drive_there, closed_between}
 use Rattle.svn_law.proofs.CurrentFile.{current_here, text_open}
 use Rattle.svn_law.proofs.OrderTests.{passes, or_false_both, is_first, nothing_first, sub_child, shows_closed, none_changed_late, front_in_order}
 
@@ -63,7 +62,7 @@ module _ (d : Request) (w : WorkingCopy) (setting : Setting d w) (late : Bool) (
           let g = gives_at T k f.here parts.1 in
           let number : T f.here.path ≡ length (entered f.front) =
           ap (λ l. token_of (entered l) f.here.path) (sym (longer d late done s rest drive f.front f.here f.back f.cut))
-          ∙ token_next d w setting late f.front f.here (f.back ++ s ∷ rest) (drive_there d late done s rest drive f.front f.here f.back f.cut) (entry_main k f.here.action parts.1).1 in
+          ∙ token_next d w setting late f.front f.here (f.back ++ s ∷ rest) (drive_there d late done s rest drive f.front f.here f.back f.cut) (entry_of_is_entry k f.here.action parts.1) in
           record {
             found = g.found;
             is_found = ap (λ q. slice_get (gives T done) (T q)) (sym parts.0) ∙ ap (slice_get (gives T done)) number
@@ -140,7 +139,7 @@ module _ (d : Request) (w : WorkingCopy) (setting : Setting d w) (late : Bool) (
                 none_given T (is_open_directory earlier) f.back
                 (all_map (λ y. is_entry_of Directory y.action ≡ true → list_any (has (is_close_of Directory) y.path) done ≡ true) (λ y. on_given (is_open_directory earlier) (given_by (call_at T y)) ≡ false)
                 (λ y c. open-call T Directory earlier y (λ e. shows_closed T Directory y.path done (c e))) f.back
-                (closed_between d late done s rest drive f.front f.here f.back f.cut named.0 (named.1 ∙ ap (λ q. child q named.0) (sym parts.0)) i (entry_main Directory f.here.action parts.1).1))
+                (closed_between d late done s rest drive f.front f.here f.back f.cut named.0 (named.1 ∙ ap (λ q. child q named.0) (sym parts.0)) i (entry_of_is_entry Directory f.here.action parts.1)))
 
     -- its properties weren't changed after a subdirectory was entered
     above_unchanged : changed_late earlier (T (parent s.path)) ≡ false

@@ -2,27 +2,25 @@
 use Rattle.std.proofs.Common.{◌≡◌, Bool, true, false, ◌&&◌, ◌||◌, not, List, [], ◌∷◌, ◌++◌, refl, sym, ◌∙◌, ap, subst, true≢false, append_assoc, append-nil}
 use Rattle.std.specs.Prelude.{map}
 use Rattle.std.specs.List.{list_any}
+use Rattle.std.proofs.lemmas.List.Folds.{list_any-append}
 use Rattle.std.specs.declared.cmp.Ordering.{Ordering}
 use Rattle.std.specs.declared.cmp.Ordering.TheVariants.{Less, Equal, Greater}
 use Rattle.std.specs.Ordering.{is_gt, ordering_then, ordering_reverse}
 use Rattle.std.specs.Cmp.Lexicographic.{slice_cmp, nat_list_cmp_total}
 use Rattle.std.proofs.lemmas.Cmp.{tied_itself}
-use Rattle.svn_law.proofs.Names.{Name, path_eq-same}
+use Rattle.svn_law.proofs.Names.{Name, path_eq-same, path_eq-symm}
 use Rattle.svn_types.specs.Names.{Path, name_cmp}
 use Rattle.svn_types.specs.Paths.{path_eq, is_within, is_below, child, is_root}
-use Rattle.svn_types.specs.declared.kind.Kind.{Kind}
 use Rattle.svn_types.specs.declared.kind.Kind.TheVariants.{File, Directory}
-use Rattle.svn_delta.specs.Steps.{Action, Delete, Open, Add, Change, Text, Close, Step}
+use Rattle.svn_delta.specs.Steps.{Action, Close, Step}
 use Rattle.svn_drive.specs.Steps.{Mark, Named, End, mark_cmp, key_of, comes_after, IsDriveOf}
 use Rattle.svn_drive.specs.Follow.{Request}
 use Rattle.svn_law.proofs.Keys.{keys_total, tied_keys, path_in, path_in-map}
-use Rattle.svn_law.proofs.FirstSteps.{AllSteps, key_above, apart_keys, main_key, is_main}
-use Rattle.svn_law.proofs.NextStep.{any-append2, below_child}
-use Rattle.svn_law.proofs.AfterSteps.{is_entry}
-use Rattle.svn_law.proofs.Courses.{is_entry_of, is_close_of, precedes, fits_kind}
+use Rattle.svn_law.proofs.FirstSteps.{AllSteps, key_above, apart_keys, main_key, is_main, entry_is_main}
+use Rattle.svn_law.proofs.Deletes.{within_child}
+use Rattle.svn_law.proofs.Courses.{is_entry, is_entry_of, entry_of_is_entry, is_close, is_close_of, precedes, fits_kind}
 use Rattle.svn_law.proofs.StepOrder.{never, has_not, all_map, all_both, all_left, all_right, none_any, Member, members, has, has_parts, in_front, in_whole, kinds_at, Before, before_step, after_step, is_closed_later}
-use Rattle.svn_law.proofs.TokenNumbers.{path_eq-flip, none_twice}
-use Rattle.svn_law.proofs.CallTests.{is_close}
+use Rattle.svn_law.proofs.TokenNumbers.{none_twice}
 
 -- ---- the order of keys
 
@@ -49,6 +47,11 @@ before_late (m ∷ r) p h = refl
 less_not_after : (j k : List Mark) → slice_cmp mark_cmp j k ≡ Less → is_gt (slice_cmp mark_cmp k j) ≡ true
 less_not_after j k h = let o = keys_total in ap is_gt (o.antisymm k j ∙ ap ordering_reverse h)
 
+pub end_after : (p : Path) (name : Name) → is_gt (slice_cmp mark_cmp (map Named p ++ (End ∷ [])) (map Named (child p name))) ≡ true
+end_after p name =
+    ap (λ x. is_gt (slice_cmp mark_cmp (map Named p ++ (End ∷ [])) x)) (sym (append-nil (map Named (child p name))))
+    ∙ less_not_after (map Named (child p name) ++ []) (map Named p ++ (End ∷ [])) (before_end p name [])
+
 -- a smaller path, where it isn't the same
 smaller_path : (p q : Path) → is_gt (slice_cmp mark_cmp (map Named p) (map Named q)) ≡ false → path_eq p q ≡ false → slice_cmp name_cmp p q ≡ Less
 smaller_path p q h k = by (slice_cmp mark_cmp (map Named p) (map Named q)) refl h
@@ -60,19 +63,13 @@ smaller_path p q h k = by (slice_cmp mark_cmp (map Named p) (map Named q)) refl 
         let same : p ≡ q = sym (path_in-map p) ∙ ap path_in (tied_keys (map Named p) (map Named q) e) ∙ path_in-map q in
         absurd (true≢false (sym (ap (λ x. path_eq x q) same ∙ path_eq-same q) ∙ k))
 
--- an entry has its path for its key
-pub entry_main : (k : Kind) (a : Action) → is_entry_of k a ≡ true → (is_main a ≡ true) × (is_entry a ≡ true)
-entry_main k (Open l r) h = (refl, refl)
-entry_main k (Add l) h = (refl, refl)
-entry_main k a h = absurd (true≢false (sym h))
-
 -- a directory's close has the end of its path for its key
-close_key : (d : Request) (late : Bool) (u : Step) (r : Path) → has (is_close_of Directory) r u ≡ true → key_of d late u ≡ map Named r ++ (End ∷ [])
-close_key d late u r h = let parts = has_parts (is_close_of Directory) r u h in each u.action refl parts.0 parts.1
+pub close_key : (d : Request) (late : Bool) (u : Step) (r : Path) → u.path ≡ r → is_close_of Directory u.action ≡ true → key_of d late u ≡ map Named r ++ (End ∷ [])
+close_key d late u r q = each u.action refl
   where
-    each : (a : Action) → u.action ≡ a → u.path ≡ r → is_close_of Directory a ≡ true → key_of d late u ≡ map Named r ++ (End ∷ [])
-    each (Close Directory v) e q c = ap (λ a. key_of d late (record { path = u.path; action = a })) e ∙ ap (λ p. map Named p ++ (End ∷ [])) q
-    each a e q c = absurd (true≢false (sym c))
+    each : (a : Action) → u.action ≡ a → is_close_of Directory a ≡ true → key_of d late u ≡ map Named r ++ (End ∷ [])
+    each (Close Directory v) e c = ap (λ a. key_of d late (record { path = u.path; action = a })) e ∙ ap (λ p. map Named p ++ (End ∷ [])) q
+    each a e c = absurd (true≢false (sym c))
 
 module _ (d : Request) (late : Bool) (done : List Step) (s : Step) (rest : List Step) (drive : IsDriveOf d late (done ++ s ∷ rest)) where
   -- a directory whose end comes before the step has been closed
@@ -83,7 +80,8 @@ module _ (d : Request) (late : Bool) (done : List Step) (s : Step) (rest : List 
       not_here : (u : Step) → comes_after d late s u ≡ false → has (is_close_of Directory) r u ≡ false
       not_here u k =
           never (has (is_close_of Directory) r u)
-          (λ e. sym (sym k ∙ ap (λ x. is_gt (slice_cmp mark_cmp (key_of d late s) x)) (close_key d late u r e) ∙ less_not_after (map Named r ++ (End ∷ [])) (key_of d late s) less))
+          (λ e. let parts = has_parts (is_close_of Directory) r u e in
+          sym (sym k ∙ ap (λ x. is_gt (slice_cmp mark_cmp (key_of d late s) x)) (close_key d late u r parts.0 parts.1) ∙ less_not_after (map Named r ++ (End ∷ [])) (key_of d late s) less))
 
       none : list_any (has (is_close_of Directory) r) (s ∷ rest) ≡ false
       none =
@@ -96,11 +94,9 @@ module _ (d : Request) (late : Bool) (done : List Step) (s : Step) (rest : List 
   pub open_above : (q : Path) (name : Name) → s.path ≡ child q name → is_main s.action ≡ true → (u : Step) → Before d late u s → has (is_close_of Directory) q u ≡ false
   open_above q name e m u b =
       never (has (is_close_of Directory) q u)
-      (λ h. sym (sym b.0 ∙ ap (λ x. is_gt (slice_cmp mark_cmp x (key_of d late s))) (close_key d late u q h) ∙ ap (λ x. is_gt (slice_cmp mark_cmp (map Named q ++ (End ∷ [])) x)) here
-      ∙ less_not_after (map Named (child q name) ++ []) (map Named q ++ (End ∷ [])) (before_end q name [])))
-    where
-      here : key_of d late s ≡ map Named (child q name) ++ []
-      here = main_key d late s.path s.action m ∙ ap (map Named) e ∙ sym (append-nil (map Named (child q name)))
+      (λ h. let parts = has_parts (is_close_of Directory) q u h in
+      sym (sym b.0 ∙ ap (λ x. is_gt (slice_cmp mark_cmp x (key_of d late s))) (close_key d late u q parts.0 parts.1)
+      ∙ ap (λ x. is_gt (slice_cmp mark_cmp (map Named q ++ (End ∷ [])) x)) (main_key d late s.path s.action m ∙ ap (map Named) e) ∙ end_after q name))
 
   -- no step below the path has been taken before one whose key is the path
   pub none_below : is_main s.action ≡ true → (u : Step) → Before d late u s → is_below s.path u.path ≡ true → ⊥
@@ -113,11 +109,7 @@ module _ (d : Request) (late : Bool) (done : List Step) (s : Step) (rest : List 
     where
       last : (a : Action) → precedes a s.action ≡ true → is_close a ≡ false
       last (Close l c) h = absurd (true≢false (sym h))
-      last (Delete r) h = refl
-      last (Open l r) h = refl
-      last (Add l) h = refl
-      last (Change l c) h = refl
-      last (Text y t) h = refl
+      last a h = refl
 
       each : (u : Step) → Before d late u s → has is_close s.path u ≡ false
       each u b = has_not is_close s.path u (λ e. last u.action (b.1 e))
@@ -136,11 +128,7 @@ module _ (d : Request) (late : Bool) (done : List Step) (s : Step) (rest : List 
           by : (a : Action) → is_close_of Directory a ≡ false → fits_kind Directory a ≡ true → is_close a ≡ false
           by (Close Directory c) k f = absurd (true≢false k)
           by (Close File c) k f = absurd (true≢false (sym f))
-          by (Delete r) k f = refl
-          by (Open l r) k f = refl
-          by (Add l) k f = refl
-          by (Change l c) k f = refl
-          by (Text y t) k f = refl
+          by a k f = refl
 
   -- ---- what stands between a step and the next
 
@@ -166,25 +154,17 @@ module _ (d : Request) (late : Bool) (done : List Step) (s : Step) (rest : List 
         all_map (λ y. (Before d late e y × Before d late y s) × Member back y) (λ y. is_entry_of Directory y.action ≡ true → list_any (has (is_close_of Directory) y.path) done ≡ true)
         each back (all_both (λ y. Before d late e y × Before d late y s) (Member back) back between (members back))
       where
-        main : (a : Action) → is_entry a ≡ true → is_main a ≡ true
-        main (Delete r) h = refl
-        main (Open l r) h = refl
-        main (Add l) h = refl
-        main (Change l c) h = refl
-        main (Text x t) h = absurd (true≢false (sym h))
-        main (Close l c) h = absurd (true≢false (sym h))
-
         here : key_of d late s ≡ map Named s.path
-        here = main_key d late s.path s.action (main s.action s_entry)
+        here = main_key d late s.path s.action (entry_is_main s.action s_entry)
 
         each : (y : Step) → (Before d late e y × Before d late y s) × Member back y → is_entry_of Directory y.action ≡ true → list_any (has (is_close_of Directory) y.path) done ≡ true
         each y b h = closed_before y.path somewhere (ap (slice_cmp mark_cmp (map Named y.path ++ (End ∷ []))) (here ∙ sym (append-nil (map Named s.path))) ∙ apart_keys y.path s.path (End ∷ []) [] smaller outside)
           where
-            there : (is_main y.action ≡ true) × (is_entry y.action ≡ true)
-            there = entry_main Directory y.action h
+            there : is_entry y.action ≡ true
+            there = entry_of_is_entry Directory y.action h
 
             y_key : key_of d late y ≡ map Named y.path
-            y_key = main_key d late y.path y.action there.0
+            y_key = main_key d late y.path y.action (entry_is_main y.action there)
 
             itself : has (is_entry_of Directory) y.path y ≡ true
             itself = ap (λ x. x && is_entry_of Directory y.action) (path_eq-same y.path) ∙ h
@@ -192,7 +172,7 @@ module _ (d : Request) (late : Bool) (done : List Step) (s : Step) (rest : List 
             somewhere : list_any (has (is_entry_of Directory) y.path) (done ++ s ∷ rest) ≡ true
             somewhere =
                 in_whole (has (is_entry_of Directory) y.path) done (s ∷ rest)
-                (ap (list_any (has (is_entry_of Directory) y.path)) (sym cut) ∙ any-append2 (has (is_entry_of Directory) y.path) front (e ∷ back)
+                (ap (list_any (has (is_entry_of Directory) y.path)) (sym cut) ∙ list_any-append (has (is_entry_of Directory) y.path) front (e ∷ back)
                 ∙ ap (λ x. list_any (has (is_entry_of Directory) y.path) front || (has (is_entry_of Directory) y.path e || x)) (b.1 (has (is_entry_of Directory) y.path) itself)
                 ∙ both (list_any (has (is_entry_of Directory) y.path) front) (has (is_entry_of Directory) y.path e))
               where
@@ -206,10 +186,10 @@ module _ (d : Request) (late : Bool) (done : List Step) (s : Step) (rest : List 
             with_entry false a i k = refl
 
             not_next : path_eq y.path s.path ≡ false
-            not_next = with_entry (path_eq y.path s.path) y.action there.1 (none_twice d late y s s_entry b.0.1)
+            not_next = with_entry (path_eq y.path s.path) y.action there (none_twice d late y s s_entry b.0.1)
 
             not_above : path_eq e.path y.path ≡ false
-            not_above = with_entry (path_eq e.path y.path) e.action e_entry (none_twice d late e y there.1 b.0.0)
+            not_above = with_entry (path_eq e.path y.path) e.action e_entry (none_twice d late e y there b.0.0)
 
             smaller : slice_cmp name_cmp y.path s.path ≡ Less
             smaller = smaller_path y.path s.path (ap is_gt (λ i. slice_cmp mark_cmp (sym y_key i) (sym here i)) ∙ b.0.1.0) not_next
@@ -219,6 +199,6 @@ module _ (d : Request) (late : Bool) (done : List Step) (s : Step) (rest : List 
               where
                 above : is_within y.path s.path ≡ true → true ≡ false
                 above z =
-                    let inside = below_child y.path e.path name (ap (is_within y.path) (sym child_of) ∙ z) (ap (path_eq y.path) (sym child_of) ∙ not_next) in
-                    let below : is_below y.path e.path ≡ true = ap (λ x. x && not (path_eq y.path e.path)) inside ∙ ap not (path_eq-flip y.path e.path ∙ not_above) in
+                    let inside = within_child y.path e.path name (ap (is_within y.path) (sym child_of) ∙ z) (ap (path_eq y.path) (sym child_of) ∙ not_next) in
+                    let below : is_below y.path e.path ≡ true = ap (λ x. x && not (path_eq y.path e.path)) inside ∙ ap not (path_eq-symm y.path e.path ∙ not_above) in
                     sym (sym b.0.0.0 ∙ ap (λ x. is_gt (slice_cmp mark_cmp (key_of d late e) x)) y_key ∙ key_above d late y.path e.path e.action below)

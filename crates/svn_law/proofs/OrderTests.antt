@@ -2,6 +2,7 @@
 use Rattle.std.proofs.Common.{◌≡◌, ℕ, Bool, true, false, ◌&&◌, ◌||◌, ◌⊎◌, List, [], ◌∷◌, ◌++◌, refl, sym, ◌∙◌, ap, true≢false, eq-eqb, inl, inr}
 use Rattle.std.specs.Prelude.{Option, None, cond, map}
 use Rattle.std.specs.List.{list_any}
+use Rattle.std.proofs.lemmas.List.Folds.{list_any-append}
 use Rattle.std.specs.Ordering.{is_gt}
 use Rattle.std.specs.Cmp.Lexicographic.{slice_cmp}
 use Rattle.svn_law.proofs.Names.{Name}
@@ -20,8 +21,7 @@ use Rattle.svn_drive.specs.Follow.{Request}
 use Rattle.svn_law.proofs.Children.{parent-child}
 use Rattle.svn_law.proofs.Classes.{is_below-child}
 use Rattle.svn_law.proofs.FirstSteps.{AllSteps, main_key, is_main, key_above, all_of_any}
-use Rattle.svn_law.proofs.NextStep.{any-append2}
-use Rattle.svn_law.proofs.AfterSteps.{path_cases}
+use Rattle.svn_law.proofs.Children.{path_cases}
 use Rattle.svn_law.proofs.Courses.{is_close_of, precedes}
 use Rattle.svn_law.proofs.StepOrder.{never, all_map, has, has_parts}
 use Rattle.svn_law.proofs.TokenNumbers.{call_by, call_at, Tells, is_root_action}
@@ -129,7 +129,7 @@ module _ (T : Path → ℕ) where
 -- the first steps stand in order
 pub front_in_order : (d : Request) (late : Bool) (xs ys : List Step) → InKeyOrder d late (xs ++ ys) → InKeyOrder d late xs
 front_in_order d late [] ys o = tt
-front_in_order d late (x ∷ xs) ys o = (left (list_any (comes_after d late x) xs) (list_any (comes_after d late x) ys) (sym (any-append2 (comes_after d late x) xs ys) ∙ o.0), front_in_order d late xs ys o.1)
+front_in_order d late (x ∷ xs) ys o = (left (list_any (comes_after d late x) xs) (list_any (comes_after d late x) ys) (sym (list_any-append (comes_after d late x) xs ys) ∙ o.0), front_in_order d late xs ys o.1)
   where
     left : (a b : Bool) → (a || b) ≡ false → a ≡ false
     left true b e = e

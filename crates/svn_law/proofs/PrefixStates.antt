@@ -1,144 +1,54 @@
 -- What stands at each path after the first steps of a drive: what stood there before, a node that is begun, or the target's node.
 use Rattle.std.proofs.Common.{◌≡◌, ℕ, Bool, true, false, ◌||◌, List, [], ◌∷◌, ◌++◌, refl, sym, ◌∙◌, ap, subst, true≢false, append-nil}
-use Rattle.std.specs.Prelude.{Option, Some, None, cond, map, filter, bytes_eq}
+use Rattle.std.specs.Prelude.{Option, Some, None, cond, map, filter}
 use Rattle.std.specs.List.{list_any}
-use Rattle.std.specs.Ordering.{is_gt, ordering_then}
-use Rattle.std.specs.Cmp.Lexicographic.{slice_cmp, nat_list_cmp_total}
-use Rattle.std.proofs.lemmas.Cmp.{tied_itself}
-use Rattle.std.proofs.lemmas.Bool.{or_from}
+use Rattle.std.specs.Ordering.{is_gt}
+use Rattle.std.specs.Cmp.Lexicographic.{slice_cmp}
+use Rattle.std.proofs.lemmas.List.Folds.{list_any-append}
 use Rattle.svn_law.proofs.Tests.{or_false}
 use Rattle.svn_law.proofs.Names.{Name, same_path}
 use Rattle.svn_types.specs.Names.{Path}
 use Rattle.svn_types.specs.Paths.{child}
-use Rattle.svn_types.specs.Props.{PropChange, changes_between}
 use Rattle.svn_types.specs.declared.kind.Kind.{Kind}
 use Rattle.svn_types.specs.declared.kind.Kind.TheVariants.{File, Directory}
-use Rattle.svn_repo.specs.Readings.{kind_of, text_of, props_of}
+use Rattle.svn_repo.specs.Readings.{kind_of}
 use Rattle.svn_drive.specs.Sources.{governing_revision}
 use Rattle.svn_delta.specs.Steps.{Action, Delete, Open, Add, Change, Text, Close, Step}
-use Rattle.svn_drive.specs.Follow.{Request, follow, is_kept, target_path, source_node, target_node}
-use Rattle.svn_drive.specs.Steps.{Named, End, mark_cmp, key, comes_after, IsDriveOf, is_touched, is_new, is_gone, source_props, source_text, text_actions, gone_actions, touched_actions, new_actions, entered_actions, path_actions}
+use Rattle.svn_drive.specs.Follow.{Request, follow, is_kept, target_path, target_node}
+use Rattle.svn_drive.specs.Steps.{Named, End, mark_cmp, comes_after, IsDriveOf, is_touched, is_new, is_gone, touched_actions, new_actions, entered_actions, path_actions}
 use Rattle.svn_wc.specs.declared.base_node.BaseNode.{BaseNode}
 use Rattle.svn_wc.specs.declared.base_node.BaseNode.TheVariants.{File as FileNode, Dir as DirNode, NotPresent}
 use Rattle.svn_wc.specs.Nodes.{WorkingCopy, base_node}
+use Rattle.svn_wc.specs.Effects.{added_node}
 use Rattle.svn_law.proofs.Classes.{Setting}
-use Rattle.svn_law.proofs.States.{is_at, actions_at, acted, act, is_deleted_above, base, state}
+use Rattle.svn_law.proofs.Courses.{is_delete, is_close, is_close_of, inner_of, AllOf, InTurn, none_closed, TargetKind, course_of, course_in_turn, begun_open, begun_add, Place, deleting, entering, adding, inside, place_of}
+use Rattle.svn_law.proofs.States.{is_at, actions_at, acted, acted-append, act, is_deleted_above, base, state, path_cut}
 use Rattle.svn_law.proofs.FirstSteps.{AllSteps, is_main, main_key, NoneMain}
-use Rattle.svn_law.proofs.NextStep.{TargetKind, any-append2, AllInner, Shape, nothing, gone_only, touched, added, replaced, shape_of}
-use Rattle.svn_law.proofs.AfterSteps.{inner-front}
-use Rattle.svn_law.proofs.AfterAllSteps.{AllQuiet, acted_quiet, KeptAs, kept_as, entered_end}
-use Rattle.svn_law.proofs.EndsAsResult.{kept_base, state_all}
-use Rattle.svn_law.proofs.Progress.{taken_at, cut}
+use Rattle.svn_law.proofs.Deletes.{kept_base}
+use Rattle.svn_law.proofs.AfterAllSteps.{is_quiet, acted_quiet, KeptAs, kept_as, entered_end}
+use Rattle.svn_law.proofs.EndsAsResult.{state_all}
+use Rattle.svn_law.proofs.OpenDirectories.{close_key, end_after}
+use Rattle.svn_law.proofs.Progress.{taken_at}
 
--- ---- a close comes last
-
-abbrev pub is_close : Action → Bool
-is_close (Close k c) = true
-is_close _ = false
-
--- nothing comes after a close
-abbrev pub ClosesLast : List Action → Type 0
-ClosesLast [] = Unit {0}
-ClosesLast (a ∷ acts) = (is_close a ≡ true → acts ≡ []) × ClosesLast acts
-
-closes_behind : (front last : List Action) → list_any is_close front ≡ false → ClosesLast last → ClosesLast (front ++ last)
-closes_behind [] last h k = k
-closes_behind (a ∷ front) last h k =
-    let parts = or_false (is_close a) (list_any is_close front) h in
-    (λ c. absurd (true≢false (sym c ∙ parts.0)), closes_behind front last parts.1 k)
-
--- where something is left there was no close
-pub no_close_front : (xs : List Action) (y : Action) (ys : List Action) → ClosesLast (xs ++ y ∷ ys) → list_any is_close xs ≡ false
-no_close_front [] y ys h = refl
-no_close_front (x ∷ xs) y ys h = by (is_close x) refl (no_close_front xs y ys h.1)
-  where
-    none : (l : List Action) → l ++ y ∷ ys ≡ [] → ⊥
-    none [] e = cc
-    none (a ∷ l) e = cc
-
-    by : (b : Bool) → is_close x ≡ b → list_any is_close xs ≡ false → (b || list_any is_close xs) ≡ false
-    by true e ih = absurd (none xs (h.0 e))
-    by false e ih = ih
-
-no_close_changes : (k : Kind) (cs : List PropChange) → list_any is_close (map (Change k) cs) ≡ false
-no_close_changes k [] = refl
-no_close_changes k (c ∷ cs) = no_close_changes k cs
-
-pub closes_last : (d : Request) (p : Path) → ClosesLast (path_actions d p)
-closes_last d p = closes_behind (gone_actions d p) (entered_actions d p (target_node d p)) (gone (is_gone d p)) (entered (target_node d p))
-  where
-    one : (k : Kind) (c : Option (List ℕ)) → ClosesLast (Close k c ∷ [])
-    one k c = (λ e. refl, tt)
-
-    gone : (b : Bool) → list_any is_close (cond b (Delete (governing_revision (follow d p).here) ∷ []) []) ≡ false
-    gone true = refl
-    gone false = refl
-
-    texts : (old new : List ℕ) → list_any is_close (text_actions d old new) ≡ false
-    texts old new = by (bytes_eq old new)
-      where
-        by : (b : Bool) → list_any is_close (cond b [] (Text (Some (d.checksum old)) new ∷ [])) ≡ false
-        by true = refl
-        by false = refl
-
-    opens : (n : ℕ) (k : Kind) → ClosesLast (touched_actions d p n k)
-    opens n Directory =
-        closes_behind (Open Directory (governing_revision (follow d p).here) ∷ map (Change Directory) (changes_between (source_props d p (source_node d p)) (props_of d.history n))) (Close Directory None ∷ [])
-        (no_close_changes Directory (changes_between (source_props d p (source_node d p)) (props_of d.history n))) (one Directory None)
-    opens n File =
-        closes_behind
-        (Open File (governing_revision (follow d p).here) ∷ map (Change File) (changes_between (source_props d p (source_node d p)) (props_of d.history n)) ++ text_actions d (source_text d (source_node d p)) (text_of d.history n))
-        (Close File (Some (d.checksum (text_of d.history n))) ∷ [])
-        (any-append2 is_close (map (Change File) (changes_between (source_props d p (source_node d p)) (props_of d.history n))) (text_actions d (source_text d (source_node d p)) (text_of d.history n))
-        ∙ or_from _ _ (no_close_changes File (changes_between (source_props d p (source_node d p)) (props_of d.history n))) (texts (source_text d (source_node d p)) (text_of d.history n)))
-        (one File (Some (d.checksum (text_of d.history n))))
-
-    adds : (n : ℕ) (k : Kind) → ClosesLast (new_actions d n k)
-    adds n Directory =
-        closes_behind (Add Directory ∷ map (Change Directory) (changes_between [] (props_of d.history n))) (Close Directory None ∷ []) (no_close_changes Directory (changes_between [] (props_of d.history n))) (one Directory None)
-    adds n File =
-        closes_behind (Add File ∷ map (Change File) (changes_between [] (props_of d.history n))) (Text None (text_of d.history n) ∷ Close File (Some (d.checksum (text_of d.history n))) ∷ [])
-        (no_close_changes File (changes_between [] (props_of d.history n))) (λ e. absurd (true≢false (sym e)), one File (Some (d.checksum (text_of d.history n))))
-
-    entered : (o : Option ℕ) → ClosesLast (entered_actions d p o)
-    entered None = tt
-    entered (Some n) = by (is_touched d p) (is_new d p)
-      where
-        by : (x y : Bool) → ClosesLast (cond x (touched_actions d p n (kind_of d.history n)) (cond y (new_actions d n (kind_of d.history n)) []))
-        by true y = opens n (kind_of d.history n)
-        by false true = adds n (kind_of d.history n)
-        by false false = tt
+-- ---- without a close
 
 -- inner actions without a close are quiet
-quiet_inner : (acts : List Action) → AllInner acts → list_any is_close acts ≡ false → AllQuiet acts
-quiet_inner [] i h = tt
-quiet_inner (Delete r ∷ acts) i h = absurd (true≢false (sym i.0))
-quiet_inner (Open k r ∷ acts) i h = absurd (true≢false (sym i.0))
-quiet_inner (Add k ∷ acts) i h = absurd (true≢false (sym i.0))
-quiet_inner (Change k c ∷ acts) i h = (refl, quiet_inner acts i.1 h)
-quiet_inner (Text s t ∷ acts) i h = (refl, quiet_inner acts i.1 h)
-quiet_inner (Close k c ∷ acts) i h = absurd (true≢false h)
+quiet_inner : (k : Kind) (acts : List Action) → AllOf (inner_of k) acts → list_any is_close acts ≡ false → AllOf is_quiet acts
+quiet_inner k [] h c = tt
+quiet_inner k (Change l x ∷ acts) h c = (refl, quiet_inner k acts h.1 c)
+quiet_inner k (Text s t ∷ acts) h c = (refl, quiet_inner k acts h.1 c)
+quiet_inner k (Close l x ∷ acts) h c = absurd (true≢false c)
+quiet_inner k (a ∷ acts) h c = absurd (true≢false (sym h.0))
+
+-- deletes leave nothing
+all_deleted : (d : Request) (p : Path) (before : List Action) (a : Action) (acts : List Action) (found : Option BaseNode) → AllOf is_delete (a ∷ acts) → acted d p before found (a ∷ acts) ≡ None
+all_deleted d p before (Delete r) [] found h = refl
+all_deleted d p before (Delete r) (b ∷ acts) found h = all_deleted d p (before ++ Delete r ∷ []) b acts None h.1
+all_deleted d p before a acts found h = absurd (true≢false (sym h.0))
 
 -- ---- the close of a directory comes after the main steps of its children
 
-abbrev pub closes_dir : Action → Bool
-closes_dir (Close Directory c) = true
-closes_dir _ = false
-
-closing_key : (p : Path) (name : Name) → is_gt (slice_cmp mark_cmp (map Named p ++ (End ∷ [])) (map Named (child p name))) ≡ true
-closing_key [] name = refl
-closing_key (m ∷ p) name = ap (λ o. is_gt (ordering_then o (slice_cmp mark_cmp (map Named p ++ (End ∷ [])) (map Named (child p name))))) (tied_itself nat_list_cmp_total m) ∙ closing_key p name
-
-close_key : (d : Request) (late : Bool) (p : Path) (a : Action) → closes_dir a ≡ true → key d late p a ≡ map Named p ++ (End ∷ [])
-close_key d late p (Delete r) h = absurd (true≢false (sym h))
-close_key d late p (Open k r) h = absurd (true≢false (sym h))
-close_key d late p (Add k) h = absurd (true≢false (sym h))
-close_key d late p (Change k c) h = absurd (true≢false (sym h))
-close_key d late p (Text s t) h = absurd (true≢false (sym h))
-close_key d late p (Close Directory c) h = refl
-close_key d late p (Close File c) h = absurd (true≢false (sym h))
-
-none_main_after : (d : Request) (late : Bool) (s : Step) (rest : List Step) (p : Path) (name : Name) → s.path ≡ p → closes_dir s.action ≡ true
+none_main_after : (d : Request) (late : Bool) (s : Step) (rest : List Step) (p : Path) (name : Name) → s.path ≡ p → is_close_of Directory s.action ≡ true
     → AllSteps (λ u. comes_after d late s u ≡ false) rest → NoneMain (actions_at (child p name) rest)
 none_main_after d late s [] p name at c h = tt
 none_main_after d late s (u ∷ rest) p name at c h = by (is_at (child p name) u) refl (none_main_after d late s rest p name at c h.1)
@@ -146,9 +56,9 @@ none_main_after d late s (u ∷ rest) p name at c h = by (is_at (child p name) u
     by_main : (x : Bool) → is_at (child p name) u ≡ true → is_main u.action ≡ x → is_main u.action ≡ false
     by_main true e m =
         let after : comes_after d late s u ≡ true =
-        (λ i. is_gt (slice_cmp mark_cmp (close_key d late s.path s.action c i) (main_key d late u.path u.action m i)))
-        ∙ (λ i. is_gt (slice_cmp mark_cmp (map Named (at i) ++ (End ∷ [])) (map Named (same_path u.path (child p name) e i))))
-        ∙ closing_key p name in
+        (λ i. is_gt (slice_cmp mark_cmp (close_key d late s p at c i) (main_key d late u.path u.action m i)))
+        ∙ ap (λ q. is_gt (slice_cmp mark_cmp (map Named p ++ (End ∷ [])) (map Named q))) (same_path u.path (child p name) e)
+        ∙ end_after p name in
         absurd (true≢false (sym after ∙ h.0))
     by_main false e m = m
 
@@ -216,82 +126,49 @@ module _ (d : Request) (w : WorkingCopy) (setting : Setting d w) (late : Bool) (
       by File z f = subst (Stands p) (sym f.is) (opened_file f.is kept)
       by Directory z f = subst (λ o. Stands p (act d p [] (Open Directory r) o)) (sym f.is) (open_directory z)
 
-  begun : (p : Path) (before : List Action) (k : Kind) (found : Option BaseNode) → TargetKind d p k → Stands p (act d p before (Add k) found)
-  begun p before File found z = not_present
-  begun p before Directory found z = open_directory z
+  begun : (p : Path) (k : Kind) → TargetKind d p k → Stands p (Some (added_node k d.target (target_path d p)))
+  begun p File z = not_present
+  begun p Directory z = open_directory z
 
-  some_left : (p : Path) (l : List Action) → Shape d p l → (x : Action) (xs : List Action) (y : Action) (ys : List Action) → x ∷ xs ++ y ∷ ys ≡ l → list_any is_close (x ∷ xs) ≡ false
+  -- what stands before an action of the path
+  some_left : (p : Path) (x : Action) (xs : List Action) (y : Action) → Place d p (x ∷ xs) y → list_any is_close (x ∷ xs) ≡ false
       → (found : Option BaseNode) → (is_kept d p ≡ true → found ≡ w p) → Stands p (acted d p [] found (x ∷ xs))
-  some_left p l nothing x xs y ys q c found b = absurd (none q)
+  some_left p x xs y place c found b = by place
     where
-      none : x ∷ (xs ++ y ∷ ys) ≡ [] → ⊥
-      none z = cc
-  some_left p l (gone_only {r = r} f) x [] y ys q c found b = absurd (none q)
-    where
-      none : x ∷ y ∷ ys ≡ Delete r ∷ [] → ⊥
-      none z = cc
-  some_left p l (gone_only {r = r} f) x (v ∷ xs) y ys q c found b = absurd (none q)
-    where
-      none : x ∷ v ∷ (xs ++ y ∷ ys) ≡ Delete r ∷ [] → ⊥
-      none z = cc
-  some_left p l (touched {k = k} {r = r} {inner = inner} z f h) x xs y ys q c found b =
-      subst (Stands p)
-      (sym (ap (λ v. acted d p [] found (v ∷ xs)) (heads q)
-      ∙ acted_quiet d p (Open k r ∷ []) xs (act d p [] (Open k r) found) (quiet_inner xs (inner-front xs (y ∷ ys) inner (tails q) h) (or_false (is_close x) (list_any is_close xs) c).1)
-      ∙ ap (act d p [] (Open k r)) (b f)))
-      (opened p k r z f)
-    where
-      heads : x ∷ (xs ++ y ∷ ys) ≡ Open k r ∷ inner → x ≡ Open k r
-      heads q = cc
+      none : x ∷ xs ≡ [] → ⊥
+      none q = cc
 
-      tails : x ∷ (xs ++ y ∷ ys) ≡ Open k r ∷ inner → xs ++ y ∷ ys ≡ inner
-      tails q = cc
-  some_left p l (added {k = k} {inner = inner} z f h) x xs y ys q c found b =
-      subst (Stands p)
-      (sym (ap (λ v. acted d p [] found (v ∷ xs)) (heads q)
-      ∙ acted_quiet d p (Add k ∷ []) xs (act d p [] (Add k) found) (quiet_inner xs (inner-front xs (y ∷ ys) inner (tails q) h) (or_false (is_close x) (list_any is_close xs) c).1)))
-      (begun p [] k found z)
-    where
-      heads : x ∷ (xs ++ y ∷ ys) ≡ Add k ∷ inner → x ≡ Add k
-      heads q = cc
-
-      tails : x ∷ (xs ++ y ∷ ys) ≡ Add k ∷ inner → xs ++ y ∷ ys ≡ inner
-      tails q = cc
-  some_left p l (replaced {r = r} {k = k} {inner = inner} z f h) x [] y ys q c found b =
-      subst (Stands p) (sym (ap (λ v. acted d p [] found (v ∷ [])) (heads q))) absent
-    where
-      heads : x ∷ y ∷ ys ≡ Delete r ∷ Add k ∷ inner → x ≡ Delete r
-      heads q = cc
-  some_left p l (replaced {r = r} {k = k} {inner = inner} z f h) x (v ∷ xs) y ys q c found b =
-      subst (Stands p)
-      (sym (ap (λ u. acted d p [] found (u ∷ v ∷ xs)) (heads q)
-      ∙ ap (λ u. acted d p [] found (Delete r ∷ u ∷ xs)) (seconds q)
-      ∙ acted_quiet d p (Delete r ∷ Add k ∷ []) xs (act d p (Delete r ∷ []) (Add k) None)
-      (quiet_inner xs (inner-front xs (y ∷ ys) inner (tails q) h) (or_false (is_close v) (list_any is_close xs) (or_false (is_close x) (list_any is_close (v ∷ xs)) c).1).1)))
-      (begun p (Delete r ∷ []) k None z)
-    where
-      heads : x ∷ v ∷ (xs ++ y ∷ ys) ≡ Delete r ∷ Add k ∷ inner → x ≡ Delete r
-      heads q = cc
-
-      seconds : x ∷ v ∷ (xs ++ y ∷ ys) ≡ Delete r ∷ Add k ∷ inner → v ≡ Add k
-      seconds q = cc
-
-      tails : x ∷ v ∷ (xs ++ y ∷ ys) ≡ Delete r ∷ Add k ∷ inner → xs ++ y ∷ ys ≡ inner
-      tails q = cc
+      by : Place d p (x ∷ xs) y → Stands p (acted d p [] found (x ∷ xs))
+      by (deleting r f e q) = absurd (none e)
+      by (entering k r f e q) = absurd (none e)
+      by (adding k f o q) = subst (Stands p) (sym (all_deleted d p [] x xs found o)) absent
+      by (inside k z (begun_open r inner f e h) q) =
+          subst (Stands p)
+          (sym (ap (acted d p [] found) e
+          ∙ acted_quiet d p (Open k r ∷ []) inner (act d p [] (Open k r) found) (quiet_inner k inner h (sym (ap (list_any is_close) e) ∙ c))
+          ∙ ap (act d p [] (Open k r)) (b f)))
+          (opened p k r z f)
+      by (inside k z (begun_add before inner f e h) q) =
+          let quiet = (or_false (list_any is_close before) (list_any is_close inner) (sym (ap (list_any is_close) e ∙ list_any-append is_close before (Add k ∷ inner)) ∙ c)).1 in
+          subst (Stands p)
+          (sym (ap (acted d p [] found) e ∙ acted-append d p [] before (Add k ∷ inner) found
+          ∙ acted_quiet d p (before ++ Add k ∷ []) inner (Some (added_node k d.target (target_path d p))) (quiet_inner k inner h quiet)))
+          (begun p k z)
 
   pub stands : (p : Path) → Stands p (state d w steps p)
   stands p = by (actions_at p steps) (actions_at p rest) refl refl
     where
       by : (xs ys : List Action) → actions_at p steps ≡ xs → actions_at p rest ≡ ys → Stands p (state d w steps p)
       by [] ys e u = nothing_done p e
-      by (x ∷ xs) [] e u = all_done p x xs e (sym (append-nil (actions_at p steps)) ∙ ap (λ l. actions_at p steps ++ l) (sym u) ∙ cut d w setting late steps rest drive p)
+      by (x ∷ xs) [] e u = all_done p x xs e (sym (append-nil (actions_at p steps)) ∙ ap (λ l. actions_at p steps ++ l) (sym u) ∙ path_cut d late steps rest drive p)
       by (x ∷ xs) (y ∷ ys) e u =
-          let whole : x ∷ xs ++ y ∷ ys ≡ path_actions d p = (λ i. sym e i ++ sym u i) ∙ cut d w setting late steps rest drive p in
+          let whole : x ∷ xs ++ y ∷ ys ≡ path_actions d p = (λ i. sym e i ++ sym u i) ∙ path_cut d late steps rest drive p in
           subst (Stands p) (sym (ap (acted d p [] (base w steps p)) e))
-          (some_left p (path_actions d p) (shape_of d p) x xs y ys whole (no_close_front (x ∷ xs) y ys (subst ClosesLast (sym whole) (closes_last d p))) (base w steps p) (kept_base d w setting late steps rest drive p))
+          (some_left p x xs y (place_of d p (path_actions d p) (course_of d p) (x ∷ xs) y ys whole)
+          (none_closed (x ∷ xs) y ys (subst InTurn (sym whole) (course_in_turn d p (path_actions d p) (course_of d p)))) (base w steps p) (kept_base d w late steps rest drive p))
 
   -- once a directory is closed the main actions of its children are done
-  pub children_done : (p : Path) (name : Name) → list_any closes_dir (actions_at p steps) ≡ true → NoneMain (actions_at (child p name) rest)
+  pub children_done : (p : Path) (name : Name) → list_any (is_close_of Directory) (actions_at p steps) ≡ true → NoneMain (actions_at (child p name) rest)
   children_done p name h =
-      let t = taken_at d late closes_dir p steps rest drive.in_order h in
+      let t = taken_at d late (is_close_of Directory) p steps rest drive.in_order h in
       none_main_after d late t.taken rest p name t.at_path t.passes t.not_before

@@ -1,40 +1,36 @@
 -- After the first steps of a drive, and after the whole of it, the copy has the shape of a working copy and is true.
 use Rattle.std.proofs.Common.{◌≡◌, ◌≢◌, ℕ, ◌+◌, ◌≤◌, Bool, true, false, ◌&&◌, ◌||◌, not, List, [], ◌∷◌, ◌++◌, length, refl, sym, ◌∙◌, ap, subst, true≢false}
-use Rattle.std.specs.Prelude.{Option, Some, None, is_some, option_map, cond, map, bytes_eq}
+use Rattle.std.specs.Prelude.{Option, Some, None, is_some, option_map, cond, bytes_eq}
 use Rattle.std.specs.List.{list_any}
-use Rattle.std.proofs.Math.Bool.{or-true}
 use Rattle.std.proofs.lemmas.Bool.{or_right}
 use Rattle.std.specs.Map.{keys_of}
 use Rattle.svn_law.proofs.Tests.{and_true}
 use Rattle.svn_law.proofs.Names.{value_of-first, value_of_name, Name, same_bytes, bytes_eq-same, has_name}
 use Rattle.svn_types.specs.Names.{Path, IsName}
-use Rattle.svn_types.specs.Paths.{child, is_root}
-use Rattle.svn_types.specs.Props.{changes_between}
+use Rattle.svn_types.specs.Paths.{child}
 use Rattle.svn_types.specs.declared.kind.Kind.{Kind}
 use Rattle.svn_types.specs.declared.kind.Kind.TheVariants.{File, Directory}
 use Rattle.svn_types.specs.Pairs.{value_of}
 use Rattle.svn_repo.specs.Readings.{AllNames, are_related, kind_of, text_of, props_of, entries_of}
 use Rattle.svn_repo.specs.History.{History, look}
-use Rattle.svn_delta.specs.Reports.{has_entry_below}
-use Rattle.svn_drive.specs.Sources.{reported, governing_revision}
-use Rattle.svn_delta.specs.Steps.{Action, Open, Add, Change, Close, Step}
-use Rattle.svn_drive.specs.Steps.{IsDriveOf, is_touched, is_new, starts_empty_at, source_props, gone_actions, touched_actions, new_actions, entered_actions, path_actions}
-use Rattle.svn_delta.specs.Calls.{number_eq}
-use Rattle.svn_drive.specs.Follow.{Request, candidate, follow, is_kept, target_path, source_node, target_node}
+use Rattle.svn_drive.specs.Sources.{reported}
+use Rattle.svn_delta.specs.Steps.{Action, Step}
+use Rattle.svn_drive.specs.Steps.{IsDriveOf, is_touched, is_new, path_actions}
+use Rattle.svn_drive.specs.Follow.{Request, candidate, is_kept, target_path, source_node, target_node}
 use Rattle.svn_wc.specs.declared.base_node.BaseNode.{BaseNode}
 use Rattle.svn_wc.specs.declared.base_node.BaseNode.TheVariants.{File as FileNode, Dir as DirNode, NotPresent}
 use Rattle.svn_wc.specs.Nodes.{WorkingCopy, IsWorkingCopy, is_present, is_dir, node_path, HasEntries, IsTrueNode, IsTrueOf, base_node_by, base_node}
 use Rattle.svn_law.specs.Result.{result}
 use Rattle.svn_law.proofs.Children.{entry_below, look-child}
 use Rattle.svn_law.proofs.Classes.{Setting, is_kept-child, kept_related, target_path-child}
+use Rattle.svn_law.proofs.Courses.{is_entry, is_entry_of, entry_of_is_entry, any_implied, is_close_of, course_of, course_closed, entered_entry}
 use Rattle.svn_law.proofs.States.{actions_at, acted, is_deleted_above, base, state}
 use Rattle.svn_law.proofs.FirstSteps.{NoneMain}
-use Rattle.svn_law.proofs.NextStep.{any-append2}
-use Rattle.svn_law.proofs.AfterSteps.{is_entry, kept_present}
+use Rattle.svn_law.proofs.AfterSteps.{kept_present}
 use Rattle.svn_law.proofs.DriveExists.{new_path, has_either, is_source_present, near_target}
 use Rattle.svn_law.proofs.AfterAllSteps.{KeptAs, kept_as}
 use Rattle.svn_law.proofs.Progress.{has_actions, kept_is_dir, kept_stays, entered_some, old_below, stands_below}
-use Rattle.svn_law.proofs.PrefixStates.{closes_dir, children_done, Stands, absent, not_present, old, opened_file, open_directory, finished, stands}
+use Rattle.svn_law.proofs.PrefixStates.{children_done, Stands, absent, not_present, old, opened_file, open_directory, finished, stands}
 
 -- ---- names and entries
 
@@ -232,24 +228,6 @@ module _ (d : Request) (w : WorkingCopy) (setting : Setting d w) where
     abbrev standing : (p : Path) → Stands d w setting late steps rest drive p (now p)
     standing p = stands d w setting late steps rest drive p
 
-    -- a directory whose actions are all done is closed
-    closed_dir : (p : Path) (n : ℕ) → target_node d p ≡ Some n → kind_of h n ≡ Directory → (is_touched d p || is_new d p) ≡ true → list_any closes_dir (path_actions d p) ≡ true
-    closed_dir p n t k entered =
-        any-append2 closes_dir (gone_actions d p) (entered_actions d p (target_node d p))
-        ∙ ap (λ b. list_any closes_dir (gone_actions d p) || b) (ap (λ o. list_any closes_dir (entered_actions d p o)) t ∙ by (is_touched d p) (is_new d p) entered)
-        ∙ or-true (list_any closes_dir (gone_actions d p))
-      where
-        closing : (l : List Action) → list_any closes_dir (l ++ (Close Directory None ∷ [])) ≡ true
-        closing l = any-append2 closes_dir l (Close Directory None ∷ []) ∙ or-true (list_any closes_dir l)
-
-        by : (x y : Bool) → (x || y) ≡ true → list_any closes_dir (cond x (touched_actions d p n (kind_of h n)) (cond y (new_actions d n (kind_of h n)) [])) ≡ true
-        by true y q = ap (λ z. list_any closes_dir (touched_actions d p n z)) k ∙ closing (opening ∷ map (Change Directory) (changes_between (source_props d p (source_node d p)) (props_of h n)))
-          where
-            opening : Action
-            opening = Open Directory (governing_revision (follow d p).here)
-        by false true q = ap (λ z. list_any closes_dir (new_actions d n z)) k ∙ closing (Add Directory ∷ map (Change Directory) (changes_between [] (props_of h n)))
-        by false false q = absurd (true≢false (sym q))
-
     -- each entry of a closed directory stands
     closed_below : (p : Path) (n : ℕ) → target_node d p ≡ Some n → (is_touched d p || is_new d p) ≡ true → actions_at p steps ≡ path_actions d p
         → (name : Name) (m : ℕ) → kind_of h n ≡ Directory → value_of (entries_of h n) name ≡ Some m → now (child p name) ≢ None
@@ -258,8 +236,11 @@ module _ (d : Request) (w : WorkingCopy) (setting : Setting d w) where
         c : Path
         c = child p name
 
+        closed : list_any (is_close_of Directory) (actions_at p steps) ≡ true
+        closed = ap (list_any (is_close_of Directory)) whole ∙ (course_closed d p (path_actions d p) (course_of d p) Directory (entered_entry d p n Directory t k entered)).0
+
         main : NoneMain (actions_at (child p name) rest)
-        main = children_done d w setting late steps rest drive p name (ap (list_any closes_dir) whole ∙ closed_dir p n t k entered)
+        main = children_done d w setting late steps rest drive p name closed
 
         by : (b : Bool) → is_kept d (child p name) ≡ b → now (child p name) ≢ None
         by true q = present_not_none (now c) (kept_stays d w setting late steps rest drive c q)
@@ -267,24 +248,11 @@ module _ (d : Request) (w : WorkingCopy) (setting : Setting d w) where
             let there : target_node d c ≡ Some m = placed_below p name q ∙ ap (λ o. entry_below h o name) t ∙ e in
             some_not_none (now c) (entered_some d w setting late steps rest drive c (added_entry there) main)
           where
-            adds : (kind : Kind) → list_any is_entry (new_actions d m kind) ≡ true
-            adds File = refl
-            adds Directory = refl
-
-            not_touched : is_touched d c ≡ false
-            not_touched = ap (λ b. b && (is_root c || not (number_eq (source_node d c) (target_node d c)) || starts_empty_at d c || has_entry_below d.report.entries c)) q
-
-            new : target_node d c ≡ Some m → is_new d c ≡ true
-            new z = ap (λ b. not b && is_some (target_node d c)) q ∙ ap is_some z
-
             added_entry : target_node d c ≡ Some m → list_any is_entry (path_actions d c) ≡ true
             added_entry z =
-                any-append2 is_entry (gone_actions d c) (entered_actions d c (target_node d c))
-                ∙ ap (λ b. list_any is_entry (gone_actions d c) || b)
-                (ap (λ o. list_any is_entry (entered_actions d c o)) z
-                ∙ ap (λ b. list_any is_entry (cond b (touched_actions d c m (kind_of h m)) (cond (is_new d c) (new_actions d m (kind_of h m)) []))) not_touched
-                ∙ ap (λ b. list_any is_entry (cond b (new_actions d m (kind_of h m)) [])) (new z) ∙ adds (kind_of h m))
-                ∙ or-true (list_any is_entry (gone_actions d c))
+                let new = ap (λ b. not b && is_some (target_node d c)) q ∙ ap is_some z in
+                any_implied (is_entry_of (kind_of h m)) is_entry (entry_of_is_entry (kind_of h m)) (path_actions d c)
+                (entered_entry d c m (kind_of h m) z refl (or_right (is_touched d c) (is_new d c) new))
 
     -- what was true and is untouched is true
     still_true : (p : Path) → actions_at p steps ≡ [] → is_deleted_above steps p ≡ false → (found : Option BaseNode) → IsTrueNode h w p found → IsTrueNode h now p found

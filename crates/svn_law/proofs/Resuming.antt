@@ -25,12 +25,13 @@ use Rattle.svn_wc.specs.Crawl.{crawl}
 use Rattle.svn_law.specs.Describes.{Describes}
 use Rattle.svn_wc.specs.Effects.{after}
 use Rattle.svn_law.specs.Result.{result}
-use Rattle.svn_law.proofs.Targets.{no_target_fault}
+use Rattle.svn_law.proofs.CrawlCheckable.{no_target_fault}
 use Rattle.svn_law.specs.Laws.{IsTrueCopy, request_of, HasTarget, resuming}
 use Rattle.svn_law.proofs.Children.{path_ind, follow-here}
 use Rattle.svn_law.proofs.CrawlCheckable.{crawl_describes_holds}
 use Rattle.svn_law.proofs.Classes.{Setting, shown_source, is_kept-child, target_path-child, kept_related, source_looked}
-use Rattle.svn_law.proofs.States.{actions_at, acted, is_delete, is_deleted_above, state}
+use Rattle.svn_law.proofs.Courses.{is_delete}
+use Rattle.svn_law.proofs.States.{actions_at, acted, is_deleted_above, state}
 use Rattle.svn_law.proofs.AfterSteps.{kept_path_is}
 use Rattle.svn_law.proofs.EndsAsResult.{ends, setting_of}
 use Rattle.svn_law.proofs.Progress.{kept_or_old, none_deleted, kept_stays}

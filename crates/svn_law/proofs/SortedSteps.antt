@@ -1,6 +1,6 @@
 -- Steps sorted by their keys: each path keeps its steps where they stand in order of their keys, and the whole is in order.
-use Rattle.std.proofs.Common.{◌≡◌, ℕ, Bool, true, false, ◌&&◌, ◌||◌, List, [], ◌∷◌, ◌++◌, refl, sym, ◌∙◌, ap, subst, true≢false, append_assoc}
-use Rattle.std.specs.Prelude.{Option, Some, None, cond, map, filter, bytes_eq}
+use Rattle.std.proofs.Common.{◌≡◌, Bool, true, false, ◌&&◌, ◌||◌, List, [], ◌∷◌, ◌++◌, refl, sym, ◌∙◌, ap, subst, true≢false}
+use Rattle.std.specs.Prelude.{cond, map, filter}
 use Rattle.std.specs.List.{list_any}
 use Rattle.std.specs.declared.cmp.Ordering.{Ordering}
 use Rattle.std.specs.declared.cmp.Ordering.TheVariants.{Less, Equal, Greater}
@@ -10,21 +10,16 @@ use Rattle.std.proofs.lemmas.Cmp.{tied_itself, upto}
 use Rattle.std.proofs.lemmas.Bool.{or_left, or_right}
 use Rattle.svn_types.specs.Names.{Path}
 use Rattle.svn_types.specs.Paths.{path_eq}
-use Rattle.svn_types.specs.Props.{PropChange, changes_between}
-use Rattle.svn_types.specs.declared.kind.Kind.{Kind}
 use Rattle.svn_types.specs.declared.kind.Kind.TheVariants.{File, Directory}
-use Rattle.svn_repo.specs.Readings.{kind_of, text_of, props_of}
-use Rattle.svn_drive.specs.Sources.{governing_revision}
 use Rattle.svn_delta.specs.Steps.{Action, Delete, Open, Add, Change, Text, Close, Step, steps_at}
-use Rattle.svn_drive.specs.Follow.{Request, follow, source_node, target_node}
-use Rattle.svn_drive.specs.Steps.{Mark, Named, End, mark_cmp, key, key_of, comes_after, has_text, is_text, InKeyOrder, path_steps, is_gone, is_touched, is_new, gone_actions, entered_actions, touched_actions, new_actions, text_actions, source_props, source_text}
+use Rattle.svn_drive.specs.Follow.{Request}
+use Rattle.svn_drive.specs.Steps.{Mark, Named, End, mark_cmp, key, key_of, comes_after, has_text, is_text, InKeyOrder, path_actions, path_steps}
 use Rattle.svn_law.specs.SlowDrive.{insert_step, sort_steps}
 use Rattle.svn_law.proofs.Tests.{or_false}
 use Rattle.svn_law.proofs.Names.{same_path, path_eq-same}
 use Rattle.svn_law.proofs.Keys.{keys_total}
+use Rattle.svn_law.proofs.Courses.{precedes, AllOf, InTurn, course_of, course_in_turn}
 use Rattle.svn_law.proofs.States.{is_at}
-use Rattle.svn_law.proofs.NextStep.{any-append2}
-use Rattle.svn_law.proofs.FirstSteps.{is_main, main_key, AllMain}
 
 -- ---- what sorting keeps
 
@@ -32,9 +27,6 @@ module _ (d : Request) (late : Bool) where
   -- the first step comes after the second
   abbrev behind : Step → Step → Bool
   behind = comes_after d late
-
-  no_self : (s : Step) → behind s s ≡ false
-  no_self s = ap is_gt (tied_itself keys_total (key_of d late s))
 
   behind_back : (s t : Step) → behind s t ≡ true → behind t s ≡ false
   behind_back s t h = ap is_gt (keys_total.antisymm (key_of d late t) (key_of d late s)) ∙ by (slice_cmp mark_cmp (key_of d late s) (key_of d late t)) h
@@ -142,82 +134,34 @@ least_key d late p a = by_action a
     by_action (Close File c) = either (late && has_text d p)
 
 module _ (d : Request) (late : Bool) (p : Path) where
-  main_not_behind : (a : Action) (acts : List Action) → is_main a ≡ true → list_any (comes_after d late (record { path = p; action = a })) (steps_at p acts) ≡ false
-  main_not_behind a [] m = refl
-  main_not_behind a (b ∷ acts) m =
-      ap (λ x. x || list_any (comes_after d late (record { path = p; action = a })) (steps_at p acts))
-      (ap (λ k. is_gt (slice_cmp mark_cmp k (key d late p b))) (main_key d late p a m) ∙ least_key d late p b)
-      ∙ main_not_behind a acts m
+  abbrev at : Action → Step
+  at a = record { path = p; action = a }
 
-  mains_first : (mains lasts : List Action) → AllMain mains → InKeyOrder d late (steps_at p lasts) → InKeyOrder d late (steps_at p (mains ++ lasts))
-  mains_first [] lasts m h = h
-  mains_first (a ∷ mains) lasts m h = (main_not_behind a (mains ++ lasts) m.0, mains_first mains lasts m.1 h)
-
-  main_changes : (k : Kind) (cs : List PropChange) → AllMain (map (Change k) cs)
-  main_changes k [] = tt
-  main_changes k (c ∷ cs) = (refl, main_changes k cs)
-
-  -- a text and the close after it
-  text_then_close : (base : Option (List ℕ)) (text : List ℕ) (c : Option (List ℕ)) → has_text d p ≡ true → InKeyOrder d late (steps_at p (Text base text ∷ Close File c ∷ []))
-  text_then_close base text c h = (
-    ap (λ b. b || false)
-        (ap (λ b. is_gt (slice_cmp mark_cmp (cond late (End ∷ map Named p) (map Named p)) (cond (late && b) (End ∷ map Named p) (map Named p)))) h ∙ by late),
-    (refl, tt),
-  )
+  -- what comes first at a path has no greater key
+  not_behind : (a b : Action) → precedes a b ≡ true → (is_text a ≡ true → has_text d p ≡ true) → comes_after d late (at a) (at b) ≡ false
+  not_behind (Delete r) b e t = least_key d late p b
+  not_behind (Open k r) b e t = least_key d late p b
+  not_behind (Add k) b e t = least_key d late p b
+  not_behind (Change k c) b e t = least_key d late p b
+  not_behind (Text s x) (Close File c) e t =
+      ap (λ y. is_gt (slice_cmp mark_cmp (cond late (End ∷ map Named p) (map Named p)) (cond (late && y) (End ∷ map Named p) (map Named p)))) (t refl) ∙ by late
     where
       by : (l : Bool) → is_gt (slice_cmp mark_cmp (cond l (End ∷ map Named p) (map Named p)) (cond (l && true) (End ∷ map Named p) (map Named p))) ≡ false
       by true = ap is_gt (tied_itself keys_total (End ∷ map Named p))
       by false = ap is_gt (tied_itself keys_total (map Named p))
+  not_behind (Text s x) b e t = absurd (true≢false (sym e))
+  not_behind (Close k c) b e t = absurd (true≢false (sym e))
 
-  last_texts : (old new : List ℕ) (c : Option (List ℕ)) → (list_any is_text (text_actions d old new) ≡ true → has_text d p ≡ true)
-      → InKeyOrder d late (steps_at p (text_actions d old new ++ (Close File c ∷ [])))
-  last_texts old new c h = by (bytes_eq old new) h
-    where
-      by : (b : Bool) → (list_any is_text (cond b [] (Text (Some (d.checksum old)) new ∷ [])) ≡ true → has_text d p ≡ true)
-          → InKeyOrder d late (steps_at p (cond b [] (Text (Some (d.checksum old)) new ∷ []) ++ (Close File c ∷ [])))
-      by true k = (refl, tt)
-      by false k = text_then_close (Some (d.checksum old)) new c (k refl)
+  none_later : (a : Action) (acts : List Action) → AllOf (precedes a) acts → (is_text a ≡ true → has_text d p ≡ true) → list_any (comes_after d late (at a)) (steps_at p acts) ≡ false
+  none_later a [] h t = refl
+  none_later a (b ∷ acts) h t = ap (λ x. x || list_any (comes_after d late (at a)) (steps_at p acts)) (not_behind a b h.0 t) ∙ none_later a acts h.1 t
 
-  -- the list has a text only where the path has one
-  abbrev SaysText : List Action → Type 0
-  SaysText acts = list_any is_text acts ≡ true → has_text d p ≡ true
+  turns_in_order : (acts : List Action) → InTurn acts → (list_any is_text acts ≡ true → has_text d p ≡ true) → InKeyOrder d late (steps_at p acts)
+  turns_in_order [] h t = tt
+  turns_in_order (a ∷ acts) h t = (
+    none_later a acts h.0 (λ e. t (or_left (is_text a) (list_any is_text acts) e)),
+    turns_in_order acts h.1 (λ e. t (or_right (is_text a) (list_any is_text acts) e)),
+  )
 
   pub path_in_order : InKeyOrder d late (path_steps d p)
-  path_in_order = mains_first (gone_actions d p) (entered_actions d p (target_node d p)) (gone (is_gone d p)) (entered (target_node d p) (λ t. any-append2 is_text (gone_actions d p) (entered_actions d p (target_node d p)) ∙ or_right (list_any is_text (gone_actions d p)) _ t))
-    where
-      gone : (b : Bool) → AllMain (cond b (Delete (governing_revision (follow d p).here) ∷ []) [])
-      gone true = (refl, tt)
-      gone false = tt
-
-      opens : (n : ℕ) (k : Kind) → SaysText (touched_actions d p n k) → InKeyOrder d late (steps_at p (touched_actions d p n k))
-      opens n Directory t =
-          mains_first (Open Directory (governing_revision (follow d p).here) ∷ map (Change Directory) (changes_between (source_props d p (source_node d p)) (props_of d.history n))) (Close Directory None ∷ [])
-          (refl, main_changes Directory (changes_between (source_props d p (source_node d p)) (props_of d.history n))) (refl, tt)
-      opens n File t =
-          let mains = Open File (governing_revision (follow d p).here) ∷ map (Change File) (changes_between (source_props d p (source_node d p)) (props_of d.history n)) in
-          let texts = text_actions d (source_text d (source_node d p)) (text_of d.history n) in
-          let close = Close File (Some (d.checksum (text_of d.history n))) ∷ [] in
-          subst (λ l. InKeyOrder d late (steps_at p l)) (sym (append_assoc mains texts close))
-          (mains_first mains (texts ++ close)
-          (refl, main_changes File (changes_between (source_props d p (source_node d p)) (props_of d.history n)))
-          (last_texts (source_text d (source_node d p)) (text_of d.history n) (Some (d.checksum (text_of d.history n)))
-          (λ e. t (any-append2 is_text (mains ++ texts) close ∙ or_left (list_any is_text (mains ++ texts)) _ (any-append2 is_text mains texts ∙ or_right (list_any is_text mains) _ e)))))
-
-      adds : (n : ℕ) (k : Kind) → SaysText (new_actions d n k) → InKeyOrder d late (steps_at p (new_actions d n k))
-      adds n Directory t =
-          mains_first (Add Directory ∷ map (Change Directory) (changes_between [] (props_of d.history n))) (Close Directory None ∷ []) (refl, main_changes Directory (changes_between [] (props_of d.history n))) (refl, tt)
-      adds n File t =
-          let mains = Add File ∷ map (Change File) (changes_between [] (props_of d.history n)) in
-          let lasts = Text None (text_of d.history n) ∷ Close File (Some (d.checksum (text_of d.history n))) ∷ [] in
-          mains_first mains lasts (refl, main_changes File (changes_between [] (props_of d.history n)))
-          (text_then_close None (text_of d.history n) (Some (d.checksum (text_of d.history n))) (t (any-append2 is_text mains lasts ∙ or_right (list_any is_text mains) _ refl)))
-
-      entered : (o : Option ℕ) → SaysText (entered_actions d p o) → InKeyOrder d late (steps_at p (entered_actions d p o))
-      entered None t = tt
-      entered (Some n) t = by (is_touched d p) (is_new d p) t
-        where
-          by : (x y : Bool) → SaysText (cond x (touched_actions d p n (kind_of d.history n)) (cond y (new_actions d n (kind_of d.history n)) []))
-              → InKeyOrder d late (steps_at p (cond x (touched_actions d p n (kind_of d.history n)) (cond y (new_actions d n (kind_of d.history n)) [])))
-          by true y k = opens n (kind_of d.history n) k
-          by false true k = adds n (kind_of d.history n) k
-          by false false k = tt
+  path_in_order = turns_in_order (path_actions d p) (course_in_turn d p (path_actions d p) (course_of d p)) (λ e. e)

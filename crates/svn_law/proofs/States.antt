@@ -1,8 +1,10 @@
 -- What stands at each path after the first steps of a drive, path by path.
 use Rattle.std.proofs.Common.{ℕ, ◌≡◌, Bool, true, false, ◌&&◌, ◌||◌, not, List, [], ◌∷◌, ◌++◌, refl, sym, ◌∙◌, ap, true≢false, append_assoc, append-nil}
+use Rattle.std.proofs.Math.Bool.{and-false, or-false, or-true}
 use Rattle.std.specs.Prelude.{Option, Some, None, cond, map, filter}
 use Rattle.std.specs.List.{list_any, cons_option}
 use Rattle.std.proofs.lemmas.List.Elements.{filter-append}
+use Rattle.std.proofs.lemmas.List.Folds.{list_any-append}
 use Rattle.svn_types.specs.Names.{Path}
 use Rattle.svn_types.specs.Paths.{path_eq, is_within, is_below}
 use Rattle.svn_types.specs.Props.{PropChange}
@@ -14,6 +16,7 @@ use Rattle.svn_wc.specs.declared.base_node.BaseNode.{BaseNode}
 use Rattle.svn_wc.specs.Nodes.{WorkingCopy}
 use Rattle.svn_wc.specs.Effects.{change_in, text_in, changes_at, texts_at, opened_directory, closed_directory, closed_file, added_node, stepped, below_after, step_effect}
 use Rattle.svn_law.proofs.Names.{same_path, path_eq-same}
+use Rattle.svn_law.proofs.Courses.{is_delete}
 
 abbrev pub is_at : Path → Step → Bool
 is_at p s = path_eq s.path p
@@ -43,10 +46,6 @@ abbrev pub acted : Request → Path → List Action → Option BaseNode → List
 acted d p before node [] = node
 acted d p before node (a ∷ acts) = acted d p (before ++ a ∷ []) (act d p before a node) acts
 
-abbrev pub is_delete : Action → Bool
-is_delete (Delete r) = true
-is_delete _ = false
-
 -- a step above the path takes it away
 abbrev pub is_deleted_above : List Step → Path → Bool
 is_deleted_above steps p = list_any (λ s. is_delete s.action && is_below s.path p) steps
@@ -57,12 +56,12 @@ base w steps p = cond (is_deleted_above steps p) None (w p)
 abbrev pub state : Request → WorkingCopy → List Step → Path → Option BaseNode
 state d w steps p = acted d p [] (base w steps p) (actions_at p steps)
 
-acted-more : (d : Request) (p : Path) (before acts : List Action) (node : Option BaseNode) (a : Action)
-    → acted d p before node (acts ++ a ∷ []) ≡ act d p (before ++ acts) a (acted d p before node acts)
-acted-more d p before [] node a = ap (λ b. act d p b a node) (sym (append-nil before))
-acted-more d p before (x ∷ acts) node a =
-    acted-more d p (before ++ x ∷ []) acts (act d p before x node) a
-    ∙ ap (λ b. act d p b a (acted d p (before ++ x ∷ []) (act d p before x node) acts)) (append_assoc before (x ∷ []) acts)
+pub acted-append : (d : Request) (p : Path) (before xs ys : List Action) (node : Option BaseNode)
+    → acted d p before node (xs ++ ys) ≡ acted d p (before ++ xs) (acted d p before node xs) ys
+acted-append d p before [] ys node = ap (λ b. acted d p b node ys) (sym (append-nil before))
+acted-append d p before (x ∷ xs) ys node =
+    acted-append d p (before ++ x ∷ []) xs ys (act d p before x node)
+    ∙ ap (λ b. acted d p b (acted d p (before ++ x ∷ []) (act d p before x node) xs) ys) (append_assoc before (x ∷ []) xs)
 
 -- ---- the steps of one path
 
@@ -98,17 +97,16 @@ texts_at-actions p (s ∷ steps) = by (path_eq s.path p) (texts_at-actions p ste
     by true ih = ap (cons_option (text_in s.action)) ih
     by false ih = ih
 
-any-append : (f : Step → Bool) (xs : List Step) (s : Step) → list_any f (xs ++ s ∷ []) ≡ (list_any f xs || f s)
-any-append f [] s = by (f s)
-  where
-    by : (b : Bool) → (b || false) ≡ b
-    by true = refl
-    by false = refl
-any-append f (x ∷ xs) s = ap (λ b. f x || b) (any-append f xs s) ∙ by (f x) (list_any f xs)
-  where
-    by : (a b : Bool) → (a || (b || f s)) ≡ ((a || b) || f s)
-    by true b = refl
-    by false b = refl
+-- the actions of a path, cut behind the first steps of a drive
+pub path_cut : (d : Request) (late : Bool) (steps rest : List Step) → IsDriveOf d late (steps ++ rest) → (p : Path) → actions_at p steps ++ actions_at p rest ≡ path_actions d p
+path_cut d late steps rest drive p = sym (actions_at-append p steps rest) ∙ actions_at-drive d late (steps ++ rest) drive p
+
+-- and those of the path of a step, cut at the step
+pub step_cut : (d : Request) (late : Bool) (done : List Step) (s : Step) (rest : List Step) → IsDriveOf d late (done ++ s ∷ rest)
+    → actions_at s.path done ++ s.action ∷ actions_at s.path rest ≡ path_actions d s.path
+step_cut d late done s rest drive =
+    ap (λ b. actions_at s.path done ++ map (λ (t : Step). t.action) (cond b (s ∷ filter (is_at s.path) rest) (filter (is_at s.path) rest))) (sym (path_eq-same s.path))
+    ∙ path_cut d late done (s ∷ rest) drive s.path
 
 -- ---- one more step
 
@@ -117,11 +115,7 @@ abbrev pub FitsAt : Request → WorkingCopy → List Step → Step → Type 0
 FitsAt d w' done s = stepped d.mode d.target done w' s.path s.action ≡ act d s.path (actions_at s.path done) s.action (w' s.path)
 
 own_path_not_below : (p : Path) → is_below p p ≡ false
-own_path_not_below p = ap (λ b. is_within p p && not b) (path_eq-same p) ∙ and_false (is_within p p)
-  where
-    and_false : (k : Bool) → (k && false) ≡ false
-    and_false true = refl
-    and_false false = refl
+own_path_not_below p = ap (λ b. is_within p p && not b) (path_eq-same p) ∙ and-false (is_within p p)
 
 pub state-more : (d : Request) (w w' : WorkingCopy) (done : List Step) (s : Step)
     → ((p : Path) → w' p ≡ state d w done p)
@@ -131,27 +125,17 @@ pub state-more : (d : Request) (w w' : WorkingCopy) (done : List Step) (s : Step
 state-more d w w' done s stands fits below p = by (path_eq s.path p) (is_within s.path p) refl refl
   where
     longer : state d w (done ++ s ∷ []) p ≡ acted d p [] (cond (is_deleted_above done p || (is_delete s.action && is_below s.path p)) None (w p)) (actions_at p done ++ actions_at p (s ∷ []))
-    longer = ap (λ b. acted d p [] (cond b None (w p)) (actions_at p (done ++ s ∷ []))) (any-append (λ t. is_delete t.action && is_below t.path p) done s)
+    longer =
+        ap (λ b. acted d p [] (cond b None (w p)) (actions_at p (done ++ s ∷ [])))
+        (list_any-append (λ t. is_delete t.action && is_below t.path p) done (s ∷ []) ∙ ap (λ b. is_deleted_above done p || b) (or-false (is_delete s.action && is_below s.path p)))
         ∙ ap (acted d p [] (cond (is_deleted_above done p || (is_delete s.action && is_below s.path p)) None (w p))) (actions_at-append p done (s ∷ []))
-
-    or_false_right : (b : Bool) → (b || false) ≡ b
-    or_false_right true = refl
-    or_false_right false = refl
-
-    or_true_right : (b : Bool) → (b || true) ≡ true
-    or_true_right true = refl
-    or_true_right false = refl
-
-    and_false : (k : Bool) → (k && false) ≡ false
-    and_false true = refl
-    and_false false = refl
 
     -- elsewhere nothing changes
     elsewhere : path_eq s.path p ≡ false → (is_delete s.action && is_below s.path p) ≡ false → state d w (done ++ s ∷ []) p ≡ w' p
     elsewhere e b =
         longer
         ∙ ap (λ x. acted d p [] (cond (is_deleted_above done p || x) None (w p)) (actions_at p done ++ actions_at p (s ∷ []))) b
-        ∙ ap (λ x. acted d p [] (cond x None (w p)) (actions_at p done ++ actions_at p (s ∷ []))) (or_false_right (is_deleted_above done p))
+        ∙ ap (λ x. acted d p [] (cond x None (w p)) (actions_at p done ++ actions_at p (s ∷ []))) (or-false (is_deleted_above done p))
         ∙ ap (λ x. acted d p [] (base w done p) (actions_at p done ++ map (λ (s : Step). s.action) (cond x (s ∷ []) []))) e
         ∙ ap (acted d p [] (base w done p)) (append-nil (actions_at p done))
         ∙ sym (stands p)
@@ -161,16 +145,16 @@ state-more d w w' done s stands fits below p = by (path_eq s.path p) (is_within 
     by true b e i =
         let at = same_path s.path p e in
         let below_own : (is_delete s.action && is_below s.path p) ≡ false =
-        ap (λ q. is_delete s.action && is_below s.path q) (sym at) ∙ ap (λ x. is_delete s.action && x) (own_path_not_below s.path) ∙ and_false (is_delete s.action) in
+        ap (λ q. is_delete s.action && is_below s.path q) (sym at) ∙ ap (λ x. is_delete s.action && x) (own_path_not_below s.path) ∙ and-false (is_delete s.action) in
         fits ∙ ap (λ q. act d q (actions_at q done) s.action (w' q)) at
         ∙ ap (act d p (actions_at p done) s.action) (stands p)
-        ∙ sym (acted-more d p [] (actions_at p done) (base w done p) s.action)
+        ∙ sym (acted-append d p [] (actions_at p done) (s.action ∷ []) (base w done p))
         ∙ ap (λ x. acted d p [] (base w done p) (actions_at p done ++ map (λ (s : Step). s.action) (cond x (s ∷ []) []))) (sym e)
-        ∙ ap (λ x. acted d p [] (cond x None (w p)) (actions_at p done ++ actions_at p (s ∷ []))) (sym (or_false_right (is_deleted_above done p)))
+        ∙ ap (λ x. acted d p [] (cond x None (w p)) (actions_at p done ++ actions_at p (s ∷ []))) (sym (or-false (is_deleted_above done p)))
         ∙ ap (λ x. acted d p [] (cond (is_deleted_above done p || x) None (w p)) (actions_at p done ++ actions_at p (s ∷ []))) (sym below_own)
         ∙ sym longer
     by false false e i =
-        sym (elsewhere e (ap (λ x. is_delete s.action && (x && not (path_eq s.path p))) i ∙ and_false (is_delete s.action)))
+        sym (elsewhere e (ap (λ x. is_delete s.action && (x && not (path_eq s.path p))) i ∙ and-false (is_delete s.action)))
     by false true e i = by_delete (is_delete s.action) refl
       where
         is_lower : is_below s.path p ≡ true
@@ -199,6 +183,6 @@ state-more d w w' done s stands fits below p = by (path_eq s.path p) (is_within 
             ∙ sym (longer
             ∙ ap (λ x. acted d p [] (cond (is_deleted_above done p || (x && is_below s.path p)) None (w p)) (actions_at p done ++ actions_at p (s ∷ []))) q
             ∙ ap (λ x. acted d p [] (cond (is_deleted_above done p || x) None (w p)) (actions_at p done ++ actions_at p (s ∷ []))) is_lower
-            ∙ ap (λ x. acted d p [] (cond x None (w p)) (actions_at p done ++ actions_at p (s ∷ []))) (or_true_right (is_deleted_above done p))
+            ∙ ap (λ x. acted d p [] (cond x None (w p)) (actions_at p done ++ actions_at p (s ∷ []))) (or-true (is_deleted_above done p))
             ∙ ap (λ x. acted d p [] None (x ++ actions_at p (s ∷ []))) (below p is_lower q)
             ∙ ap (λ x. acted d p [] None (map (λ (s : Step). s.action) (cond x (s ∷ []) []))) e)

@@ -1,23 +1,25 @@
 -- The steps of a drive: which come before and after one of them, and which there are.
-use Rattle.std.proofs.Common.{◌≡◌, ◌≢◌, ℕ, Bool, true, false, ◌&&◌, ◌||◌, List, [], ◌∷◌, ◌++◌, refl, sym, ◌∙◌, ap, subst, true≢false}
+use Rattle.std.proofs.Common.{◌≡◌, ℕ, Bool, true, false, ◌&&◌, ◌||◌, List, [], ◌∷◌, ◌++◌, refl, sym, ◌∙◌, ap, subst, true≢false}
+use Rattle.std.proofs.Math.Bool.{or-true}
 use Rattle.std.specs.Prelude.{Option, Some, None, cond, map, filter}
 use Rattle.std.specs.List.{list_any}
-use Rattle.svn_law.proofs.Tests.{dir_present}
+use Rattle.std.proofs.lemmas.List.Folds.{list_any-append}
+use Rattle.svn_law.proofs.Tests.{or_first, dir_present}
 use Rattle.svn_law.proofs.Names.{Name, same_path, path_eq-same}
 use Rattle.svn_types.specs.Names.{Path}
-use Rattle.svn_types.specs.Paths.{path_eq, is_below, child}
+use Rattle.svn_types.specs.Paths.{path_eq, child}
 use Rattle.svn_types.specs.declared.kind.Kind.{Kind}
 use Rattle.svn_types.specs.declared.kind.Kind.TheVariants.{File, Directory}
 use Rattle.svn_repo.specs.Readings.{are_related, kind_of}
-use Rattle.svn_delta.specs.Steps.{Action, Delete, Open, Add, Change, Text, Close, Step}
+use Rattle.svn_delta.specs.Steps.{Action, Step}
 use Rattle.svn_drive.specs.Follow.{Request, source_node, target_node}
-use Rattle.svn_drive.specs.Steps.{IsDriveOf, is_text, is_touched, is_new, gone_actions, touched_actions, new_actions, entered_actions, path_actions, comes_after}
+use Rattle.svn_drive.specs.Steps.{IsDriveOf, is_text, path_actions, comes_after}
 use Rattle.svn_wc.specs.Nodes.{WorkingCopy, is_dir}
-use Rattle.svn_law.proofs.Classes.{Setting, EnteredDirectory, entered_below, is_below-child, path_eq-child, source_from_copy, kept_directory}
-use Rattle.svn_law.proofs.States.{is_at, actions_at, actions_at-append, actions_at-drive}
-use Rattle.svn_law.proofs.FirstSteps.{AllSteps, before_next, after_next, is_main, NoneMain, none_main_left}
-use Rattle.svn_law.proofs.NextStep.{any-append2, is_inner}
-use Rattle.svn_law.proofs.Courses.{inner_of, precedes, is_entry_of, is_close_of, AllOf, InTurn, or_true, course_of, course_in_turn, inside, course_closed, course_kind, fits_kind, text_closed, part_of}
+use Rattle.svn_law.proofs.Classes.{Setting, none_related, EnteredDirectory, source_from_copy, kept_directory}
+use Rattle.svn_law.proofs.Courses.{is_entry_of, entry_of_is_entry, is_close_of, is_inner, inner_of, fits_kind, precedes, AllOf, InTurn, part_of, course_of, course_in_turn, course_closed, course_kind, text_closed, begun_entry, Place, deleting, entering, adding, inside, place_of}
+use Rattle.svn_law.proofs.States.{is_at, actions_at, actions_at-drive, path_cut, step_cut}
+use Rattle.svn_law.proofs.FirstSteps.{AllSteps, before_next, after_next, none_left, entry_is_main}
+use Rattle.svn_law.proofs.AfterSteps.{directory_entered, entered_above, none_left_above}
 
 -- ---- lists of steps
 
@@ -95,15 +97,11 @@ any-actions f p (t ∷ steps) = by (is_at p t) (any-actions f p steps)
 
 -- what is in the whole and not in the second part is in the first
 pub in_front : {X : Type 0} (f : X → Bool) (xs ys : List X) → list_any f (xs ++ ys) ≡ true → list_any f ys ≡ false → list_any f xs ≡ true
-in_front f xs ys h k = by (list_any f xs) (sym (any-append2 f xs ys ∙ ap (λ b. list_any f xs || b) k) ∙ h)
-  where
-    by : (b : Bool) → (b || false) ≡ true → b ≡ true
-    by true e = refl
-    by false e = e
+in_front f xs ys h k = or_first (list_any f xs) (list_any f ys) (sym (list_any-append f xs ys) ∙ h) k
 
 -- what is in a part is in the whole
 pub in_whole : {X : Type 0} (f : X → Bool) (xs ys : List X) → list_any f xs ≡ true → list_any f (xs ++ ys) ≡ true
-in_whole f xs ys h = any-append2 f xs ys ∙ ap (λ b. b || list_any f ys) h
+in_whole f xs ys h = list_any-append f xs ys ∙ ap (λ b. b || list_any f ys) h
 
 -- each step of a list is a member of it
 abbrev pub Member : List Step → Step → Type 0
@@ -112,7 +110,7 @@ Member l x = (f : Step → Bool) → f x ≡ true → list_any f l ≡ true
 -- the steps of a list are members of it
 pub members : (xs : List Step) → AllSteps (Member xs) xs
 members [] = tt
-members (x ∷ xs) = (λ f e. ap (λ b. b || list_any f xs) e, all_map (Member xs) (Member (x ∷ xs)) (λ y m f e. ap (λ b. f x || b) (m f e) ∙ or_true (f x)) xs (members xs))
+members (x ∷ xs) = (λ f e. ap (λ b. b || list_any f xs) e, all_map (Member xs) (Member (x ∷ xs)) (λ y m f e. ap (λ b. f x || b) (m f e) ∙ or-true (f x)) xs (members xs))
 
 -- ---- before and after a step of a drive
 
@@ -137,15 +135,9 @@ at_steps f p (t ∷ steps) h = by (is_at p t) refl h (at_steps f p steps)
     by false e h ih = (λ q. absurd (true≢false (sym (ap (λ x. path_eq x p) q ∙ path_eq-same p) ∙ e)), ih h)
 
 module _ (d : Request) (late : Bool) (done : List Step) (s : Step) (rest : List Step) (drive : IsDriveOf d late (done ++ s ∷ rest)) where
-  -- the actions of the path of a step, cut at the step
-  pub cut_actions : actions_at s.path done ++ s.action ∷ actions_at s.path rest ≡ path_actions d s.path
-  cut_actions =
-      ap (λ b. actions_at s.path done ++ map (λ (t : Step). t.action) (cond b (s ∷ filter (is_at s.path) rest) (filter (is_at s.path) rest))) (sym (path_eq-same s.path))
-      ∙ sym (actions_at-append s.path done (s ∷ rest)) ∙ actions_at-drive d late (done ++ s ∷ rest) drive s.path
-
   -- which have had their turn, and which have not
   turns : AllOf (λ x. precedes x s.action) (actions_at s.path done) × AllOf (precedes s.action) (actions_at s.path rest)
-  turns = turn_split (actions_at s.path done) s.action (actions_at s.path rest) (subst InTurn (sym cut_actions) (course_in_turn d s.path (path_actions d s.path) (course_of d s.path)))
+  turns = turn_split (actions_at s.path done) s.action (actions_at s.path rest) (subst InTurn (sym (step_cut d late done s rest drive)) (course_in_turn d s.path (path_actions d s.path) (course_of d s.path)))
 
   -- each step before the step is before it by key and by turn
   pub before_step : AllSteps (λ t. Before d late t s) done
@@ -169,9 +161,13 @@ module _ (d : Request) (late : Bool) (done : List Step) (s : Step) (rest : List 
 
   -- that opening, with its kind
   pub own_entry : is_inner s.action ≡ true → Within
-  own_entry i =
-      let e = inside d s.path (path_actions d s.path) (course_of d s.path) (actions_at s.path done) s.action (actions_at s.path rest) cut_actions i in
-      record { kind = e.kind; entered = sym (any-actions (is_entry_of e.kind) s.path done) ∙ e.entered; of_kind = e.of_kind }
+  own_entry i = by (place_of d s.path (path_actions d s.path) (course_of d s.path) (actions_at s.path done) s.action (actions_at s.path rest) (step_cut d late done s rest drive))
+    where
+      by : Place d s.path (actions_at s.path done) s.action → Within
+      by (deleting r f e q) = absurd (true≢false (sym i ∙ ap is_inner q))
+      by (entering k r f e q) = absurd (true≢false (sym i ∙ ap is_inner q))
+      by (adding k f e q) = absurd (true≢false (sym i ∙ ap is_inner q))
+      by (inside k z b q) = record { kind = k; entered = sym (any-actions (is_entry_of k) s.path done) ∙ begun_entry d s.path k (actions_at s.path done) b; of_kind = q }
 
 -- ---- which steps a drive has
 
@@ -196,67 +192,20 @@ module _ (d : Request) (late : Bool) (all : List Step) (drive : IsDriveOf d late
 
 -- ---- the directory above
 
--- where no main action is left, no entry is
-no_entry_main : (k : Kind) (acts : List Action) → NoneMain acts → list_any (is_entry_of k) acts ≡ false
-no_entry_main k [] h = refl
-no_entry_main k (a ∷ acts) h = each a h.0 (no_entry_main k acts h.1)
-  where
-    each : (a : Action) → is_main a ≡ false → list_any (is_entry_of k) acts ≡ false → (is_entry_of k a || list_any (is_entry_of k) acts) ≡ false
-    each (Delete r) e ih = ih
-    each (Open l r) e ih = absurd (true≢false e)
-    each (Add l) e ih = absurd (true≢false e)
-    each (Change l c) e ih = ih
-    each (Text x t) e ih = ih
-    each (Close l c) e ih = ih
-
 module _ (d : Request) (w : WorkingCopy) (setting : Setting d w) where
   -- the root is a directory that is opened
   pub root_entered : EnteredDirectory d w setting []
   root_entered = by (target_node d []) refl (source_from_copy d w setting [] (w []) refl (setting.true_of []) (dir_present (w []) setting.shape.root))
     where
-      none_related : (a : Option ℕ) → are_related d.history a None ≡ true → ⊥
-      none_related None q = true≢false (sym q)
-      none_related (Some m) q = true≢false (sym q)
-
       by : (o : Option ℕ) → target_node d [] ≡ o → (m : ℕ) × (source_node d [] ≡ Some m) × (is_dir (w []) ≡ true → kind_of d.history m ≡ Directory) → EnteredDirectory d w setting []
-      by None e s = absurd (none_related (source_node d []) (sym (ap (are_related d.history (source_node d [])) e) ∙ setting.has_target))
+      by None e s = absurd (none_related d.history (source_node d []) (sym (ap (are_related d.history (source_node d [])) e) ∙ setting.has_target))
       by (Some n) e s = record { node = n; target = e; directory = kept_directory d w setting [] s.0 n refl s.1 e ∙ s.2 setting.shape.root; entered = refl }
 
-  -- a directory below which something is done is opened or added as one
-  pub directory_entered : (p : Path) → EnteredDirectory d w setting p → list_any (is_entry_of Directory) (path_actions d p) ≡ true
-  directory_entered p e =
-      any-append2 (is_entry_of Directory) (gone_actions d p) (entered_actions d p (target_node d p))
-      ∙ ap (λ b. list_any (is_entry_of Directory) (gone_actions d p) || b) (ap (λ o. list_any (is_entry_of Directory) (entered_actions d p o)) e.target ∙ by (is_touched d p) (is_new d p) e.entered)
-      ∙ or_true (list_any (is_entry_of Directory) (gone_actions d p))
-    where
-      by : (t n : Bool) → (t || n) ≡ true → list_any (is_entry_of Directory) (cond t (touched_actions d p e.node (kind_of d.history e.node)) (cond n (new_actions d e.node (kind_of d.history e.node)) [])) ≡ true
-      by true n q = ap (λ k. list_any (is_entry_of Directory) (touched_actions d p e.node k)) e.directory
-      by false true q = ap (λ k. list_any (is_entry_of Directory) (new_actions d e.node k)) e.directory
-      by false false q = absurd (true≢false (sym q))
-
-  module _ (late : Bool) (done : List Step) (s : Step) (rest : List Step) (drive : IsDriveOf d late (done ++ s ∷ rest)) (q : Path) (name : Name) (e : s.path ≡ child q name) where
-    -- the path of a step has actions
-    some_actions : path_actions d (child q name) ≢ []
-    some_actions z = none (actions_at s.path done) (actions_at s.path rest) (cut_actions d late done s rest drive ∙ ap (path_actions d) e ∙ z)
-      where
-        none : (xs ys : List Action) → xs ++ s.action ∷ ys ≡ [] → ⊥
-        none [] ys z = cc
-        none (x ∷ xs) ys z = cc
-
-    -- a path is not the one above it
-    elsewhere : path_eq s.path q ≡ false
-    elsewhere = never (path_eq s.path q) (λ z. sym (sym (path_eq-child q name) ∙ ap (λ x. path_eq q x) (sym e ∙ same_path s.path q z) ∙ path_eq-same q))
-
-    -- the main actions of the path above have been taken
-    none_left : NoneMain (actions_at q (s ∷ rest))
-    none_left = subst NoneMain (ap (λ b. map (λ (t : Step). t.action) (cond b (s ∷ filter (is_at q) rest) (filter (is_at q) rest))) (sym elsewhere))
-        (none_main_left d late s rest q (ap (is_below q) e ∙ is_below-child q name) (after_next d late done s rest drive.in_order))
-
-    -- the directory of a step's path has been opened or added before it
-    pub parent_done : list_any (has (is_entry_of Directory) q) done ≡ true
-    parent_done =
-        sym (any-actions (is_entry_of Directory) q done)
-        ∙ in_front (is_entry_of Directory) (actions_at q done) (actions_at q (s ∷ rest))
-        (ap (list_any (is_entry_of Directory)) (sym (actions_at-append q done (s ∷ rest)) ∙ actions_at-drive d late (done ++ s ∷ rest) drive q)
-        ∙ directory_entered q (entered_below d w setting q name some_actions))
-        (no_entry_main Directory (actions_at q (s ∷ rest)) none_left)
+  -- the directory of a step's path has been opened or added before it
+  pub parent_done : (late : Bool) (done : List Step) (s : Step) (rest : List Step) → IsDriveOf d late (done ++ s ∷ rest) → (q : Path) (name : Name) → s.path ≡ child q name
+      → list_any (has (is_entry_of Directory) q) done ≡ true
+  parent_done late done s rest drive q name e =
+      sym (any-actions (is_entry_of Directory) q done)
+      ∙ in_front (is_entry_of Directory) (actions_at q done) (actions_at q (s ∷ rest))
+      (ap (list_any (is_entry_of Directory)) (path_cut d late done (s ∷ rest) drive q) ∙ directory_entered d w setting q (entered_above d w setting late done s rest drive q name e))
+      (none_left (is_entry_of Directory) (λ a h. entry_is_main a (entry_of_is_entry Directory a h)) (actions_at q (s ∷ rest)) (none_left_above d w setting late done s rest drive q name e))

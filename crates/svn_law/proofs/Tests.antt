@@ -28,6 +28,9 @@ not_true false e = refl
 pub nat_eq-same : (n : ℕ) → nat_eq n n ≡ true
 nat_eq-same n = eq-eqb n n refl
 
+pub some_same : {X : Type 0} (a b : X) → Some a ≡ Some b → a ≡ b
+some_same a b e = cc
+
 pub some_number : (o : Option ℕ) → is_some o ≡ true → (m : ℕ) × (o ≡ Some m)
 some_number None q = absurd (true≢false (sym q))
 some_number (Some m) q = (m, refl)

@@ -3,8 +3,9 @@ use Rattle.std.proofs.Common.{◌≡◌, ℕ, suc, Bool, true, false, ◌&&◌, 
 use Rattle.std.specs.Prelude.{cond, map, length, nat_eq, if◌then◌else◌}
 use Rattle.std.specs.List.{list_any}
 use Rattle.std.proofs.lemmas.Bool.{eqb-true}
-use Rattle.std.proofs.Math.Bool.{and-false}
-use Rattle.svn_law.proofs.Names.{Name, same_path, path_eq-same}
+use Rattle.std.proofs.Math.Bool.{and-false, and-true, or-false}
+use Rattle.std.proofs.lemmas.List.Folds.{list_any-append}
+use Rattle.svn_law.proofs.Names.{Name, same_path, path_eq-same, path_eq-symm}
 use Rattle.svn_types.specs.Names.{Path}
 use Rattle.svn_types.specs.Paths.{path_eq, child, parent, is_root}
 use Rattle.svn_types.specs.declared.kind.Kind.{Kind}
@@ -16,14 +17,14 @@ use Rattle.svn_drive.specs.Follow.{Request}
 use Rattle.svn_drive.specs.Steps.{IsDriveOf, path_actions}
 use Rattle.svn_drive.specs.Drive.{token_of, call_of, opened_after, numbered}
 use Rattle.svn_wc.specs.Nodes.{WorkingCopy}
-use Rattle.svn_law.proofs.Children.{parent-child}
+use Rattle.svn_law.proofs.Tests.{and_true}
+use Rattle.svn_law.proofs.Children.{path_cases, parent-child}
 use Rattle.svn_law.proofs.Classes.{Setting}
-use Rattle.svn_law.proofs.NextStep.{any-append2, is_inner}
-use Rattle.svn_law.proofs.AfterSteps.{is_entry, path_cases, same_kind}
+use Rattle.svn_law.proofs.AfterSteps.{same_kind}
 use Rattle.svn_law.proofs.Tokens.{is_opened}
 use Rattle.svn_law.proofs.FirstSteps.{AllSteps}
 use Rattle.svn_law.proofs.States.{actions_at-drive}
-use Rattle.svn_law.proofs.Courses.{inner_of, is_entry_of, precedes, AllOf, Course, left_alone, taken_away, entered_open, entered_new, entered_again, course_of, and_true_right}
+use Rattle.svn_law.proofs.Courses.{is_entry, is_entry_of, entry_of_is_entry, is_inner, inner_of, precedes, AllOf, all_implied, any_implied, Course, nothing, gone_only, touched, added, replaced, course_of}
 use Rattle.svn_law.proofs.StepOrder.{has_not, all_map, at_steps, none_any, has, in_whole, Before, before_step, own_entry, root_entered, parent_done, all_right}
 
 -- ---- calls with tokens for paths
@@ -77,28 +78,14 @@ entered_entry s steps h = each s.action h
 
 -- ---- tokens
 
--- the test on two paths, either way round
-pub path_eq-flip : (p q : Path) → path_eq p q ≡ path_eq q p
-path_eq-flip p q = by (path_eq p q) (path_eq q p) refl refl
-  where
-    by : (a b : Bool) → path_eq p q ≡ a → path_eq q p ≡ b → a ≡ b
-    by true true e h = refl
-    by false false e h = refl
-    by true false e h = sym (path_eq-same p) ∙ ap (λ x. path_eq x p) (same_path p q e) ∙ h
-    by false true e h = sym e ∙ ap (λ x. path_eq x q) (sym (same_path q p h)) ∙ path_eq-same q
-
 -- a path is opened where it has an entry
 pub is_opened-entered : (steps : List Step) (p : Path) → is_opened (entered steps) p ≡ list_any (has is_entry p) steps
 is_opened-entered [] p = refl
 is_opened-entered (s ∷ steps) p =
-    any-append2 (path_eq p) (opened_after [] s.path s.action) (entered steps) ∙ each s.action ∙ ap (λ b. has is_entry p s || b) (is_opened-entered steps p)
+    list_any-append (path_eq p) (opened_after [] s.path s.action) (entered steps) ∙ each s.action ∙ ap (λ b. has is_entry p s || b) (is_opened-entered steps p)
   where
-    or_false_right : (b : Bool) → (b || false) ≡ b
-    or_false_right true = refl
-    or_false_right false = refl
-
     opens : (path_eq p s.path || false) ≡ (path_eq s.path p && true)
-    opens = or_false_right (path_eq p s.path) ∙ path_eq-flip p s.path ∙ sym (and_true_right (path_eq s.path p))
+    opens = or-false (path_eq p s.path) ∙ path_eq-symm p s.path ∙ sym (and-true (path_eq s.path p))
 
     each : (a : Action) → (list_any (path_eq p) (opened_after [] s.path a) || is_opened (entered steps) p) ≡ ((path_eq s.path p && is_entry a) || is_opened (entered steps) p)
     each (Delete r) = ap (λ b. b || is_opened (entered steps) p) (sym (and-false (path_eq s.path p)))
@@ -160,10 +147,8 @@ tells_opened (o ∷ opened) p h q = by (path_eq p o) (path_eq q o) refl refl h (
         → nat_eq (cond b 0 (suc (token_of opened q))) (cond a 0 (suc (token_of opened p))) ≡ path_eq q p
     by true true e f h ih = sym (ap (λ x. path_eq x p) (same_path q o f ∙ sym (same_path p o e)) ∙ path_eq-same p)
     by true false e f h ih = next_not_zero (token_of opened q) ∙ sym (ap (path_eq q) (same_path p o e) ∙ f)
-    by false true e f h ih = zero_not_next (token_of opened p) ∙ sym (ap (λ x. path_eq x p) (same_path q o f) ∙ path_eq-flip o p ∙ e)
+    by false true e f h ih = zero_not_next (token_of opened p) ∙ sym (ap (λ x. path_eq x p) (same_path q o f) ∙ path_eq-symm o p ∙ e)
     by false false e f h ih = next_numbers (token_of opened q) (token_of opened p) ∙ ih h
-
--- ---- the calls of a drive
 
 -- ---- the calls of a drive
 
@@ -176,30 +161,17 @@ is_root_action (Add k) = false
 is_root_action a = true
 
 -- inner actions may stand at the root
-inner_at_root : (k : Kind) (inner : List Action) → AllOf (inner_of k) inner → AllOf is_root_action inner
-inner_at_root k [] h = tt
-inner_at_root k (a ∷ inner) h = (each a h.0, inner_at_root k inner h.1)
-  where
-    each : (a : Action) → inner_of k a ≡ true → is_root_action a ≡ true
-    each (Change l c) e = refl
-    each (Text s t) e = refl
-    each (Close l c) e = refl
-    each a e = absurd (true≢false (sym e))
+inner_at_root : (k : Kind) (a : Action) → inner_of k a ≡ true → is_root_action a ≡ true
+inner_at_root k (Change l c) e = refl
+inner_at_root k (Text s t) e = refl
+inner_at_root k (Close l c) e = refl
+inner_at_root k a e = absurd (true≢false (sym e))
 
 -- steps whose entry is earlier come with that entry's token
 any_entry : (k : Kind) (p : Path) (steps : List Step) → list_any (has (is_entry_of k) p) steps ≡ true → list_any (has is_entry p) steps ≡ true
-any_entry k p [] h = h
-any_entry k p (s ∷ steps) h = by (path_eq s.path p) s.action h (any_entry k p steps)
-  where
-    by : (b : Bool) (a : Action) → ((b && is_entry_of k a) || list_any (has (is_entry_of k) p) steps) ≡ true
-        → (list_any (has (is_entry_of k) p) steps ≡ true → list_any (has is_entry p) steps ≡ true) → ((b && is_entry a) || list_any (has is_entry p) steps) ≡ true
-    by false a h ih = ih h
-    by true (Delete r) h ih = ih h
-    by true (Open l r) h ih = refl
-    by true (Add l) h ih = refl
-    by true (Change l c) h ih = ih h
-    by true (Text x t) h ih = ih h
-    by true (Close l c) h ih = ih h
+any_entry k p =
+    any_implied (has (is_entry_of k) p) (has is_entry p)
+    (λ s h. let parts = and_true (path_eq s.path p) (is_entry_of k s.action) h in ap (λ b. b && is_entry s.action) parts.0 ∙ entry_of_is_entry k s.action parts.1)
 
 -- before an open or an add at a path there is none
 pub none_twice : (d : Request) (late : Bool) (t s : Step) → is_entry s.action ≡ true → Before d late t s → has is_entry s.path t ≡ false
@@ -223,9 +195,9 @@ none_twice d late t s h b = has_not is_entry s.path t (λ e. each t.action s.act
 module _ (d : Request) (w : WorkingCopy) (setting : Setting d w) (late : Bool) where
   -- at the root no other stands
   root_course : (l : List Action) → Course d [] l → AllOf is_root_action l
-  root_course l left_alone = tt
-  root_course l (taken_away r f) = absurd (true≢false f)
-  root_course l (entered_open k r {inner} z e b) = (by k (same_kind d w setting [] k z (root_entered d w setting)), inner_at_root k inner b.of_kind)
+  root_course l nothing = tt
+  root_course l (gone_only r f) = absurd (true≢false f)
+  root_course l (touched k r {inner} z e b) = (by k (same_kind d w setting [] k z (root_entered d w setting)), all_implied (inner_of k) is_root_action (inner_at_root k) inner b.of_kind)
     where
       by : (k : Kind) → k ≡ Directory → is_root_action (Open k r) ≡ true
       by Directory q = refl
@@ -233,8 +205,8 @@ module _ (d : Request) (w : WorkingCopy) (setting : Setting d w) (late : Bool) w
         where
           differ : File ≡ Directory → ⊥
           differ z = cc
-  root_course l (entered_new k z e b) = absurd (true≢false e)
-  root_course l (entered_again r k z e b) = absurd (true≢false e)
+  root_course l (added k z e b) = absurd (true≢false e)
+  root_course l (replaced r k z e b) = absurd (true≢false e)
 
   -- so at each step of a drive
   pub root_actions : (all : List Step) → IsDriveOf d late all → AllSteps (λ x. is_root x.path ≡ true → is_root_action x.action ≡ true) all

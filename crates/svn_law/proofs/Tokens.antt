@@ -15,7 +15,7 @@ use Rattle.svn_drive.specs.Drive.{token_of, call_of, opened_after, numbered}
 use Rattle.svn_wc.specs.Nodes.{WorkingCopy}
 use Rattle.svn_wc.specs.Effects.{step_effect, read_effect, effect, after_from}
 use Rattle.svn_law.proofs.Names.{same_path}
-use Rattle.svn_law.proofs.NextStep.{is_inner}
+use Rattle.svn_law.proofs.Courses.{is_inner, is_plain}
 use Rattle.svn_law.proofs.AfterSteps.{after_steps}
 
 -- ---- the paths that stand for the tokens
@@ -98,12 +98,7 @@ gives_call earlier opened p a g = gives_more earlier opened (call_of opened p a)
     given_path_is (Close Directory x) = refl
     given_path_is (Close File x) = refl
 
--- what an action says when its call is read: a directory's close has no checksum
-abbrev pub IsPlain : Action → Type 0
-IsPlain (Close Directory c) = c ≡ None
-IsPlain _ = Unit {0}
-
-pub step_of-call : (earlier : List Call) (opened : List Path) (p : Path) (a : Action) → GivesPaths earlier opened → IsPlain a → (is_inner a ≡ true → is_opened opened p ≡ true)
+pub step_of-call : (earlier : List Call) (opened : List Path) (p : Path) (a : Action) → GivesPaths earlier opened → is_plain a ≡ true → (is_inner a ≡ true → is_opened opened p ≡ true)
     → step_of earlier (call_of opened p a) ≡ Some (record { path = p; action = a })
 step_of-call earlier opened p (Delete r) g i o = refl
 step_of-call earlier opened [] (Open Directory r) g i o = refl
@@ -114,8 +109,8 @@ step_of-call earlier opened p (Add File) g i o = refl
 step_of-call earlier opened p (Change Directory x) g i o = ap (λ q. Some (record { path = q; action = Change Directory x })) (path_of-token earlier opened g p (o refl))
 step_of-call earlier opened p (Change File x) g i o = ap (λ q. Some (record { path = q; action = Change File x })) (path_of-token earlier opened g p (o refl))
 step_of-call earlier opened p (Text s t) g i o = ap (λ q. Some (record { path = q; action = Text s t })) (path_of-token earlier opened g p (o refl))
-step_of-call earlier opened p (Close Directory x) g i o =
-    ap (λ q. Some (record { path = q; action = Close Directory None })) (path_of-token earlier opened g p (o refl)) ∙ ap (λ c. Some (record { path = p; action = Close Directory c })) (sym i)
+step_of-call earlier opened p (Close Directory (Some c)) g i o = absurd (true≢false (sym i))
+step_of-call earlier opened p (Close Directory None) g i o = ap (λ q. Some (record { path = q; action = Close Directory None })) (path_of-token earlier opened g p (o refl))
 step_of-call earlier opened p (Close File x) g i o = ap (λ q. Some (record { path = q; action = Close File x })) (path_of-token earlier opened g p (o refl))
 
 -- ---- a list of calls read
@@ -123,7 +118,7 @@ step_of-call earlier opened p (Close File x) g i o = ap (λ q. Some (record { pa
 -- each step on an opened path comes after its opening
 abbrev pub Ready : List Path → List Step → Type 0
 Ready opened [] = Unit {0}
-Ready opened (s ∷ steps) = IsPlain s.action × (is_inner s.action ≡ true → is_opened opened s.path ≡ true) × Ready (opened_after opened s.path s.action) steps
+Ready opened (s ∷ steps) = (is_plain s.action ≡ true) × (is_inner s.action ≡ true → is_opened opened s.path ≡ true) × Ready (opened_after opened s.path s.action) steps
 
 pub steps_after-append : (earlier xs ys : List Call) → steps_after earlier (xs ++ ys) ≡ steps_after earlier xs ++ steps_after (earlier ++ xs) ys
 steps_after-append earlier [] ys = ap (λ e. steps_after e ys) (sym (append-nil earlier))

@@ -9,7 +9,7 @@ use Rattle.std.specs.Ordering.{is_lt, match_ordering}
 use Rattle.std.proofs.lemmas.List.Elements.{filter-append}
 use Rattle.std.proofs.lemmas.Bool.{or_right, false_from_ne_true}
 use Rattle.svn_law.proofs.Tests.{or_false, not_false}
-use Rattle.svn_law.proofs.Names.{Name, same_path, same_bytes, path_eq-same, bytes_eq-same, has_name, lt_chain, lt_apart, flipped, eq_symm}
+use Rattle.svn_law.proofs.Names.{Name, same_path, same_bytes, path_eq-same, bytes_eq-same, has_name, lt_chain, lt_apart, flipped, bytes_eq-symm}
 use Rattle.svn_types.specs.Names.{Path, name_cmp}
 use Rattle.svn_types.specs.Paths.{path_eq, is_within, child}
 use Rattle.svn_delta.specs.Steps.{Action, Step, steps_at}
@@ -18,7 +18,7 @@ use Rattle.svn_drive.specs.Steps.{path_steps, path_actions}
 use Rattle.svn_law.specs.SlowDrive.{entry_names, names_in, names_below, flat_paths, paths_below, flat_steps}
 use Rattle.svn_law.proofs.Classes.{is_within-longer}
 use Rattle.svn_law.proofs.States.{is_at}
-use Rattle.svn_law.proofs.Gone.{is_within-same}
+use Rattle.svn_law.proofs.Deletes.{is_within-same}
 
 -- ---- names in order are apart
 
@@ -63,7 +63,7 @@ ordered_apart : (n : Name) (ns : List (List ℕ)) → list_any (not_before n) ns
 ordered_apart n [] h = refl
 ordered_apart n (m ∷ ns) h =
     let parts = or_false (not_before n m) (list_any (not_before n) ns) h in
-    ap (λ b. b || has_name ns n) (eq_symm m n ∙ lt_apart n m (not_false (is_lt (name_cmp n m)) parts.0)) ∙ ordered_apart n ns parts.1
+    ap (λ b. b || has_name ns n) (bytes_eq-symm m n ∙ lt_apart n m (not_false (is_lt (name_cmp n m)) parts.0)) ∙ ordered_apart n ns parts.1
 
 -- ---- the steps of some paths
 

@@ -1,5 +1,5 @@
 -- Texts after the directories.
-use Rattle.std.specs.Prelude.{◌≡◌, true, false, List, [], ◌∷◌, Some, None, refl}
+use Rattle.std.specs.Prelude.{◌≡◌, true, false, List, [], ◌∷◌, length, Some, None, refl}
 use Rattle.svn_delta.specs.declared.entry.ReportEntry.TheVariants.{SetPath, DeletePath}
 use Rattle.svn_delta.specs.Steps.{Update}
 use Rattle.svn_delta.specs.declared.call.Call.{Call}
@@ -39,6 +39,10 @@ late_report = refl
 late_resumed : listed mixed_paths (after Update late_stopped (drive false Update grown mixed_paths late_stopped 4)) ≡ listed mixed_paths (after Update mixed late_calls)
 late_resumed = refl
 
+-- the texts of a drive in time come with the files again: twelve calls
+late_resumed_calls : length (drive false Update grown mixed_paths late_stopped 4) ≡ 12
+late_resumed_calls = refl
+
 -- an empty file added
 abbrev empty_calls : List Call
 empty_calls = SetTargetRevision 1 ∷ OpenRoot 0 0 ∷ AddFile (at f) 0 1 ∷ CloseDirectory 0 ∷ ApplyText 1 None [] ∷ CloseFile 1 (Some []) ∷ CloseEdit ∷ []
@@ -51,3 +55,7 @@ empty_stopped = refl
 
 empty_report : (crawl (listed ([] ∷ at f ∷ []) (stopped Update (checkout empty [] 0) 4 empty_calls))).entries ≡ ([], SetPath 1 false) ∷ (at f, DeletePath) ∷ []
 empty_report = refl
+
+empty_late_resumed : drive false Update empty ([] ∷ at f ∷ []) (stopped Update (checkout empty [] 0) 4 empty_calls) 1
+    ≡ SetTargetRevision 1 ∷ OpenRoot 1 0 ∷ AddFile (at f) 0 1 ∷ ApplyText 1 None [] ∷ CloseFile 1 (Some []) ∷ CloseDirectory 0 ∷ CloseEdit ∷ []
+empty_late_resumed = refl

@@ -1,5 +1,5 @@
 -- Updates of copies of several revisions, and of copies that an earlier run left in part.
-use Rattle.std.specs.Prelude.{◌≡◌, true, false, List, [], ◌∷◌, Some, refl}
+use Rattle.std.specs.Prelude.{◌≡◌, true, false, List, [], ◌∷◌, Some, None, refl}
 use Rattle.svn_types.specs.Names.{Path}
 use Rattle.svn_repo.specs.History.{History}
 use Rattle.svn_delta.specs.declared.entry.ReportEntry.TheVariants.{SetPath}
@@ -63,8 +63,16 @@ prop_paths = [] ∷ at d ∷ []
 abbrev prop_stopped : WorkingCopy
 prop_stopped = stopped Update (checkout prop_moved [] 1) 5 (drive false Update prop_moved prop_paths (checkout prop_moved [] 1) 2)
 
+prop_drive : drive false Update prop_moved prop_paths (checkout prop_moved [] 1) 2
+    ≡ SetTargetRevision 2 ∷ OpenRoot 1 0 ∷ OpenDirectory (at d) 0 1 1 ∷ ChangeDirProp 1 (112 ∷ []) None ∷ ChangeDirProp 1 (113 ∷ []) (Some (50 ∷ [])) ∷ CloseDirectory 1
+    ∷ CloseDirectory 0 ∷ CloseEdit ∷ []
+prop_drive = refl
+
 prop_stopped_nodes : listed prop_paths prop_stopped ≡ ([], partial 2 []) ∷ (at d, DirNode 2 (at d) false ((112 ∷ [], 49 ∷ []) ∷ [])) ∷ []
 prop_stopped_nodes = refl
+
+prop_report : (crawl (listed prop_paths prop_stopped)).entries ≡ ([], SetPath 2 true) ∷ (at d, SetPath 2 true) ∷ []
+prop_report = refl
 
 prop_resumed : drive false Update prop_moved prop_paths prop_stopped 2
     ≡ SetTargetRevision 2 ∷ OpenRoot 2 0 ∷ OpenDirectory (at d) 0 2 1 ∷ ChangeDirProp 1 (113 ∷ []) (Some (50 ∷ [])) ∷ CloseDirectory 1 ∷ CloseDirectory 0 ∷ CloseEdit ∷ []

@@ -1,11 +1,12 @@
 -- Updates of copies of one revision.
-use Rattle.std.specs.Prelude.{◌≡◌, false, List, [], ◌∷◌, Some, None, refl}
+use Rattle.std.specs.Prelude.{◌≡◌, true, false, List, [], ◌∷◌, Some, None, refl}
 use Rattle.svn_types.specs.Names.{Path}
 use Rattle.svn_repo.specs.History.{History}
 use Rattle.svn_delta.specs.declared.entry.ReportEntry.TheVariants.{SetPath, DeletePath}
 use Rattle.svn_delta.specs.Steps.{Update}
 use Rattle.svn_delta.specs.declared.call.Call.{Call}
 use Rattle.svn_delta.specs.declared.call.Call.TheVariants.{SetTargetRevision, OpenRoot, DeleteEntry, AddDirectory, OpenDirectory, ChangeDirProp, CloseDirectory, AddFile, OpenFile, ApplyText, CloseFile, CloseEdit}
+use Rattle.svn_wc.specs.declared.base_node.BaseNode.TheVariants.{Dir as DirNode}
 use Rattle.svn_wc.specs.Nodes.{WorkingCopy, listed}
 use Rattle.svn_wc.specs.Crawl.{crawl}
 use Rattle.svn_wc.specs.Builders.{checkout, forgotten}
@@ -46,9 +47,16 @@ nested_added : drive false Update nested nested_paths (checkout nested [] 0) 1
     ∷ CloseDirectory 2 ∷ CloseDirectory 1 ∷ CloseDirectory 0 ∷ CloseEdit ∷ []
 nested_added = refl
 
+nested_added_after : listed nested_paths (after Update (checkout nested [] 0) (drive false Update nested nested_paths (checkout nested [] 0) 1))
+    ≡ ([], whole 1 []) ∷ (at d, whole 1 (at d)) ∷ (at2 d e, whole 1 (at2 d e)) ∷ (d ∷ e ∷ x ∷ [], plain 1 (d ∷ e ∷ x ∷ []) a) ∷ []
+nested_added_after = refl
+
 nested_gone : drive false Update nested nested_paths (checkout nested [] 1) 0
     ≡ SetTargetRevision 0 ∷ OpenRoot 1 0 ∷ DeleteEntry (at d) 1 0 ∷ CloseDirectory 0 ∷ CloseEdit ∷ []
 nested_gone = refl
+
+nested_gone_after : listed nested_paths (after Update (checkout nested [] 1) (drive false Update nested nested_paths (checkout nested [] 1) 0)) ≡ ([], whole 0 []) ∷ []
+nested_gone_after = refl
 
 -- properties removed, changed and set
 abbrev with_props : History
@@ -60,14 +68,18 @@ props_drive : drive false Update with_props ([] ∷ at d ∷ []) (checkout with_
     ∷ CloseDirectory 1 ∷ CloseDirectory 0 ∷ CloseEdit ∷ []
 props_drive = refl
 
+props_after : listed ([] ∷ at d ∷ []) (after Update (checkout with_props [] 1) (drive false Update with_props ([] ∷ at d ∷ []) (checkout with_props [] 1) 2))
+    ≡ ([], whole 2 []) ∷ (at d, DirNode 2 (at d) true ((b, 57 ∷ []) ∷ (c, 51 ∷ []) ∷ (d, 52 ∷ []) ∷ [])) ∷ []
+props_after = refl
+
 -- a file that the copy was made to forget
-abbrev one_file : History
+abbrev pub one_file : History
 one_file = history_of (0 ∷ 1 ∷ []) (dir 0 [] ∷ dir 0 ((d, 2) ∷ []) ∷ dir 1 ((x, 3) ∷ []) ∷ file 2 abc ∷ [])
 
-abbrev without_x : WorkingCopy
+abbrev pub without_x : WorkingCopy
 without_x = forgotten (checkout one_file [] 1) (at2 d x)
 
-abbrev one_paths : List Path
+abbrev pub one_paths : List Path
 one_paths = [] ∷ at d ∷ at2 d x ∷ []
 
 forgotten_report : (crawl (listed one_paths without_x)).entries ≡ ([], SetPath 1 false) ∷ (at2 d x, DeletePath) ∷ []
@@ -77,6 +89,10 @@ forgotten_drive : drive false Update one_file one_paths without_x 1
     ≡ SetTargetRevision 1 ∷ OpenRoot 1 0 ∷ OpenDirectory (at d) 0 1 1 ∷ AddFile (at2 d x) 1 2 ∷ ApplyText 2 None abc ∷ CloseFile 2 (Some abc) ∷ CloseDirectory 1
     ∷ CloseDirectory 0 ∷ CloseEdit ∷ []
 forgotten_drive = refl
+
+forgotten_after : listed one_paths (after Update without_x (drive false Update one_file one_paths without_x 1))
+    ≡ ([], whole 1 []) ∷ (at d, whole 1 (at d)) ∷ (at2 d x, plain 1 (at2 d x) abc) ∷ []
+forgotten_after = refl
 
 -- a file replaced by a directory of its name
 abbrev replaced : History
@@ -89,8 +105,8 @@ replaced_drive = refl
 replaced_after : listed k_paths (after Update (checkout replaced [] 1) (drive false Update replaced k_paths (checkout replaced [] 1) 2)) ≡ ([], whole 2 []) ∷ (at f, whole 2 (at f)) ∷ []
 replaced_after = refl
 
--- nothing to do
-again_drive : drive false Update k k_paths (checkout k [] 2) 2 ≡ SetTargetRevision 2 ∷ OpenRoot 2 0 ∷ CloseDirectory 0 ∷ CloseEdit ∷ []
+-- nothing to do, after the update of the first file
+again_drive : drive false Update k k_paths (after Update k_copy k_calls) 2 ≡ SetTargetRevision 2 ∷ OpenRoot 2 0 ∷ CloseDirectory 0 ∷ CloseEdit ∷ []
 again_drive = refl
 
 -- a directory removed and copied back in one commit, with a changed file: of its own line, so kept
@@ -101,6 +117,10 @@ copied_drive : drive false Update copied one_paths (checkout copied [] 1) 2
     ≡ SetTargetRevision 2 ∷ OpenRoot 1 0 ∷ OpenDirectory (at d) 0 1 1 ∷ OpenFile (at2 d x) 1 1 2 ∷ ApplyText 2 (Some a) abc ∷ CloseFile 2 (Some abc) ∷ CloseDirectory 1
     ∷ CloseDirectory 0 ∷ CloseEdit ∷ []
 copied_drive = refl
+
+copied_after : listed one_paths (after Update (checkout copied [] 1) (drive false Update copied one_paths (checkout copied [] 1) 2))
+    ≡ ([], whole 2 []) ∷ (at d, whole 2 (at d)) ∷ (at2 d x, plain 2 (at2 d x) abc) ∷ []
+copied_after = refl
 
 -- an empty file added: its text is sent
 abbrev pub empty : History

@@ -31,6 +31,9 @@ two_resumed = refl
 abbrev lapsed_stopped : WorkingCopy
 lapsed_stopped = stopped Update a_at_b 3 lapsed_calls
 
+lapsed_nodes : listed two_paths lapsed_stopped ≡ ([], partial 2 []) ∷ (at b, whole 1 (at b)) ∷ (at2 b y, plain 1 (at2 b y) a) ∷ []
+lapsed_nodes = refl
+
 lapsed_report : (crawl (listed two_paths lapsed_stopped)).entries ≡ ([], SetPath 2 true) ∷ (at b, SetPath 1 false) ∷ []
 lapsed_report = refl
 
@@ -41,6 +44,9 @@ lapsed_resumed = refl
 -- after an add, and driven forth and back
 abbrev renewed_stopped : WorkingCopy
 renewed_stopped = stopped Update s_at_b 4 renewed_calls
+
+renewed_nodes : listed renewed_paths renewed_stopped ≡ ([], partial 2 []) ∷ (at b, whole 1 (at b)) ∷ (at2 b y, plain 1 (at2 b y) a) ∷ (at d, partial 2 (at d)) ∷ []
+renewed_nodes = refl
 
 renewed_report : (crawl (listed renewed_paths renewed_stopped)).entries ≡ ([], SetPath 2 true) ∷ (at b, SetPath 1 false) ∷ (at d, SetPath 2 true) ∷ []
 renewed_report = refl
@@ -67,6 +73,9 @@ empty_report = refl
 empty_resumed : drive false Update empty k_paths empty_stopped 1
     ≡ SetTargetRevision 1 ∷ OpenRoot 1 0 ∷ AddFile (at f) 0 1 ∷ ApplyText 1 None [] ∷ CloseFile 1 (Some []) ∷ CloseDirectory 0 ∷ CloseEdit ∷ []
 empty_resumed = refl
+
+empty_resumed_after : listed k_paths (after Update empty_stopped (drive false Update empty k_paths empty_stopped 1)) ≡ ([], whole 1 []) ∷ (at f, plain 1 (at f) []) ∷ []
+empty_resumed_after = refl
 
 -- before the first call nothing is changed
 not_begun : listed k_paths (stopped Update k_copy 0 k_calls) ≡ listed k_paths k_copy

@@ -60,6 +60,9 @@ lapsed_drive = refl
 lapsed_accepted : refused Update a_at_b lapsed_calls ≡ []
 lapsed_accepted = refl
 
+lapsed_after : listed two_paths (after Update a_at_b lapsed_calls) ≡ ([], whole 2 []) ∷ (at a, whole 2 (at a)) ∷ (at2 a x, plain 2 (at2 a x) a) ∷ []
+lapsed_after = refl
+
 -- a switch below a directory that is replaced
 abbrev pub renewed : History
 renewed = history_of (0 ∷ 1 ∷ 6 ∷ []) (dir 0 [] ∷ dir 0 ((b, 2) ∷ (d, 4) ∷ []) ∷ dir 1 ((y, 3) ∷ []) ∷ file 2 a ∷ dir 3 ((s, 5) ∷ []) ∷ dir 4 []
@@ -78,14 +81,18 @@ renewed_calls = SetTargetRevision 2 ∷ OpenRoot 1 0 ∷ DeleteEntry (at d) 1 0 
 renewed_drive : drive false Update renewed renewed_paths s_at_b 2 ≡ renewed_calls
 renewed_drive = refl
 
+renewed_after : listed renewed_paths (after Update s_at_b renewed_calls)
+    ≡ ([], whole 2 []) ∷ (at b, whole 2 (at b)) ∷ (at2 b y, plain 2 (at2 b y) a) ∷ (at d, whole 2 (at d)) ∷ (at2 d s, whole 2 (at2 d s)) ∷ []
+renewed_after = refl
+
 -- a directory switched to the root
-abbrev outer : History
+abbrev pub outer : History
 outer = history_of (0 ∷ 1 ∷ 4 ∷ []) (dir 0 [] ∷ dir 0 ((a, 2) ∷ (f, 3) ∷ []) ∷ dir 1 [] ∷ file 2 a ∷ dir 0 ((a, 2) ∷ (f, 5) ∷ []) ∷ file 2 abc ∷ [])
 
-abbrev outer_paths : List Path
+abbrev pub outer_paths : List Path
 outer_paths = [] ∷ at a ∷ at2 a a ∷ at2 a f ∷ at f ∷ []
 
-abbrev a_at_root : WorkingCopy
+abbrev pub a_at_root : WorkingCopy
 a_at_root = placed outer (checkout outer [] 1) (at a) [] 1
 
 abbrev outer_calls : List Call
@@ -100,7 +107,7 @@ outer_after : listed outer_paths (after Update a_at_root outer_calls)
 outer_after = refl
 
 -- a file switched to a newer one of its line: kept, and not touched
-abbrev g_at_f : WorkingCopy
+abbrev pub g_at_f : WorkingCopy
 g_at_f = placed k k_copy (at g) (at f) 2
 
 g_at_f_report : (crawl (listed ([] ∷ at f ∷ at g ∷ []) g_at_f)).entries ≡ ([], SetPath 1 false) ∷ (at g, LinkPath (at f) 2 false) ∷ []
@@ -109,6 +116,10 @@ g_at_f_report = refl
 g_at_f_drive : drive false Update k ([] ∷ at f ∷ at g ∷ []) g_at_f 2
     ≡ SetTargetRevision 2 ∷ OpenRoot 1 0 ∷ OpenFile (at f) 0 1 1 ∷ ApplyText 1 (Some a) abc ∷ CloseFile 1 (Some abc) ∷ CloseDirectory 0 ∷ CloseEdit ∷ []
 g_at_f_drive = refl
+
+g_at_f_after : listed ([] ∷ at f ∷ at g ∷ []) (after Update g_at_f (drive false Update k ([] ∷ at f ∷ at g ∷ []) g_at_f 2))
+    ≡ ([], whole 2 []) ∷ (at f, plain 2 (at f) abc) ∷ (at g, plain 2 (at f) abc) ∷ []
+g_at_f_after = refl
 
 -- what isn't present, and isn't in the target either, is gone after the last call
 abbrev g_forgotten : WorkingCopy

@@ -18,10 +18,10 @@ abbrev pub branched : History
 branched = history_of (0 ∷ 1 ∷ 7 ∷ 8 ∷ []) (dir 0 [] ∷ dir 0 ((e, 2) ∷ (t, 3) ∷ []) ∷ dir 1 [] ∷ dir 2 ((d, 4) ∷ (f, 6) ∷ []) ∷ dir 3 ((x, 5) ∷ []) ∷ file 4 a ∷ file 5 a
     ∷ dir 0 ((b, 3) ∷ (e, 2) ∷ (t, 3) ∷ []) ∷ dir 0 ((b, 9) ∷ (e, 2) ∷ (t, 3) ∷ []) ∷ dir 2 ((d, 4) ∷ (f, 10) ∷ []) ∷ file 5 abc ∷ [])
 
-abbrev paths : List Path
+abbrev pub paths : List Path
 paths = [] ∷ at d ∷ at2 d x ∷ at f ∷ []
 
-abbrev trunk : WorkingCopy
+abbrev pub trunk : WorkingCopy
 trunk = checkout branched (at t) 1
 
 abbrev to_b : Mode
@@ -71,7 +71,7 @@ updated_after : listed paths (after Update half_way (drive false Update branched
 updated_after = refl
 
 -- a switched directory is none in a switch of the whole copy
-abbrev d_at_e : WorkingCopy
+abbrev pub d_at_e : WorkingCopy
 d_at_e = placed branched trunk (at d) (at e) 1
 
 unlinked_drive : drive false to_b branched paths d_at_e 3

@@ -1,4 +1,4 @@
-use Rattle.svn_law.proofs.NewPaths.{new_below_holds}
+use Rattle.svn_law.proofs.DriveExists.{new_below_holds}
 use Rattle.svn_law.proofs.new_paths_have_parents.Goals as goal
 
 pub returns : goal.returns

@@ -1,0 +1,67 @@
+-- Copies as they are made without a drive: trees put at a path, and paths made not present.
+use Rattle.std.specs.Prelude.{◌≡◌, [], ◌∷◌, refl}
+use Rattle.svn_wc.specs.declared.base_node.BaseNode.TheVariants.{NotPresent}
+use Rattle.svn_wc.specs.Nodes.{WorkingCopy, listed}
+use Rattle.svn_wc.specs.Builders.{checkout, placed, forgotten}
+use Rattle.svn_law.proofs.Rows.Setting.{a, b, d, e, f, g, s, t, x, y, abc, at, at2, whole, plain}
+use Rattle.svn_law.proofs.Rows.Plain.{k, k_copy, k_paths, one_file, one_paths, without_x}
+use Rattle.svn_law.proofs.Rows.Mixed.{mixed, mixed_paths}
+use Rattle.svn_law.proofs.Rows.Switched.{two, two_paths, a_at_b, renewed_paths, s_at_b, outer_paths, a_at_root, g_at_f}
+use Rattle.svn_law.proofs.Rows.Whole.{paths, d_at_e}
+
+checked_out : listed k_paths k_copy ≡ ([], whole 1 []) ∷ (at f, plain 1 (at f) a) ∷ []
+checked_out = refl
+
+-- revision 0, and a revision that isn't there
+first_revision : listed k_paths (checkout k [] 0) ≡ ([], whole 0 []) ∷ []
+first_revision = refl
+
+no_revision : listed k_paths (checkout k [] 3) ≡ []
+no_revision = refl
+
+-- a file at an older revision
+older_file : listed mixed_paths mixed ≡ ([], whole 3 []) ∷ (at d, whole 3 (at d)) ∷ (at2 d x, plain 1 (at2 d x) a) ∷ (at y, plain 3 (at y) a) ∷ []
+older_file = refl
+
+-- a directory switched to another: what stood below it is gone
+switched_directory : listed two_paths a_at_b
+    ≡ ([], whole 1 []) ∷ (at a, whole 1 (at b)) ∷ (at2 a y, plain 1 (at2 b y) a) ∷ (at b, whole 1 (at b)) ∷ (at2 b y, plain 1 (at2 b y) a) ∷ []
+switched_directory = refl
+
+-- in a switched directory a tree is put from the parent's repository path
+below_switched : listed two_paths (placed two a_at_b (at2 a y) (at2 b y) 2)
+    ≡ ([], whole 1 []) ∷ (at a, whole 1 (at b)) ∷ (at2 a y, plain 2 (at2 b y) abc) ∷ (at b, whole 1 (at b)) ∷ (at2 b y, plain 1 (at2 b y) a) ∷ []
+below_switched = refl
+
+-- and the directory put back
+switched_back : listed two_paths (placed two a_at_b (at a) (at a) 1) ≡ listed two_paths (checkout two [] 1)
+switched_back = refl
+
+switched_below : listed renewed_paths s_at_b
+    ≡ ([], whole 1 []) ∷ (at b, whole 1 (at b)) ∷ (at2 b y, plain 1 (at2 b y) a) ∷ (at d, whole 1 (at d)) ∷ (at2 d s, whole 1 (at b)) ∷ (d ∷ s ∷ y ∷ [], plain 1 (at2 b y) a) ∷ []
+switched_below = refl
+
+switched_to_root : listed outer_paths a_at_root
+    ≡ ([], whole 1 []) ∷ (at a, whole 1 []) ∷ (at2 a a, whole 1 (at a)) ∷ (at2 a f, plain 1 (at f) a) ∷ (at f, plain 1 (at f) a) ∷ []
+switched_to_root = refl
+
+-- a path that had nothing
+new_path : listed ([] ∷ at f ∷ at g ∷ []) g_at_f ≡ ([], whole 1 []) ∷ (at f, plain 1 (at f) a) ∷ (at g, plain 2 (at f) abc) ∷ []
+new_path = refl
+
+-- in a copy whose root is elsewhere
+in_trunk : listed paths d_at_e ≡ ([], whole 1 (at t)) ∷ (at d, whole 1 (at e)) ∷ (at f, plain 1 (at2 t f) a) ∷ []
+in_trunk = refl
+
+-- a file made not present, a directory with all beneath, and both put back
+file_forgotten : listed one_paths without_x ≡ ([], whole 1 []) ∷ (at d, whole 1 (at d)) ∷ (at2 d x, NotPresent) ∷ []
+file_forgotten = refl
+
+abbrev without_d : WorkingCopy
+without_d = forgotten (checkout one_file [] 1) (at d)
+
+directory_forgotten : listed one_paths without_d ≡ ([], whole 1 []) ∷ (at d, NotPresent) ∷ []
+directory_forgotten = refl
+
+put_back : listed one_paths (placed one_file without_d (at d) (at d) 1) ≡ listed one_paths (checkout one_file [] 1)
+put_back = refl
