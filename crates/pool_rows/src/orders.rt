@@ -1,0 +1,110 @@
+// All trees of four pools beneath the root, emptied in all orders, beside the plain model.
+use crate::model::{POOLS, Plain, clear, destroy, is_live, planted};
+use std::alloc::Global;
+use std::test::Fail;
+use svn_pool::{PoolFault, PoolId, PoolTree};
+
+// The parents that a number from 0 to 23 stands for: one for the first pool, one of two for the second, and so on.
+fn parents(shape: usize) -> [usize; POOLS] {
+    [0, 0, shape % 2, shape / 2 % 3, shape / 6 % 4]
+}
+
+// The order that a number from 0 to 23 stands for: one of four places, one of the three that are left, and so on.
+fn order(number: usize) -> [usize; 4] {
+    let mut places = [1usize, 2, 3, 4];
+    places.swap(0, number % 4);
+    places.swap(1, 1 + number / 4 % 3);
+    places.swap(2, 2 + number / 12 % 2);
+    places
+}
+
+// A tree with those parents, a string in each pool.
+fn grown(alloc: Global, parents: [usize; POOLS]) -> Result<PoolTree<Global>, PoolFault> {
+    let mut tree = PoolTree::new(alloc)?;
+    tree.push(PoolId(0), b"x")?;
+    for at in 1..POOLS {
+        let pool = tree.create(PoolId(parents[at] as u64))?;
+        tree.push(pool, b"x")?;
+    }
+    Ok(tree)
+}
+
+// Whether the pool of a serial is as the model has it.
+fn pool_agrees(tree: &PoolTree<Global>, serial: u64, plain: Plain) -> bool {
+    let count = if plain.live { Some(u32::from(plain.filled)) } else { None };
+    if tree.count(PoolId(serial)) != count {
+        return false;
+    }
+    match tree.get(PoolId(serial), 0) {
+        Some(string) => plain.live && plain.filled && string == b"x".as_slice(),
+        None => !plain.live || !plain.filled,
+    }
+}
+
+// Whether all pools are, and the counts: each block was taken for one pool's string.
+fn agrees(tree: &PoolTree<Global>, model: &[Plain; POOLS]) -> bool {
+    let mut live = 0u64;
+    let mut blocks = 0u64;
+    for (plain, serial) in model.iter().zip(0u64..) {
+        if !pool_agrees(tree, serial, *plain) {
+            return false;
+        }
+        live = live.wrapping_add(u64::from(plain.live));
+        blocks = blocks.wrapping_add(u64::from(plain.live && plain.filled));
+    }
+    counts(tree) == (live, blocks, (POOLS as u64).wrapping_sub(blocks))
+}
+
+fn counts(tree: &PoolTree<Global>) -> (u64, u64, u64) {
+    (tree.live(), tree.blocks(), tree.spare())
+}
+
+// Clears a pool in both, and tells whether the answer is right.
+fn clears(tree: &mut PoolTree<Global>, model: &mut [Plain; POOLS], at: usize) -> bool {
+    let live = is_live(model, at);
+    if live {
+        clear(model, at);
+    }
+    tree.clear(PoolId(at as u64)) == if live { Ok(()) } else { Err(PoolFault::Gone) }
+}
+
+fn destroys(tree: &mut PoolTree<Global>, model: &mut [Plain; POOLS], at: usize) -> bool {
+    let live = is_live(model, at);
+    if live {
+        destroy(model, at);
+    }
+    tree.destroy(PoolId(at as u64)) == if live { Ok(()) } else { Err(PoolFault::Gone) }
+}
+
+// The pools in that order, each destroyed where the next bit of `destroyed` is set, and else cleared; then the root
+// is cleared.
+fn holds(alloc: Global, shape: usize, number: usize, destroyed: usize) -> Result<bool, Fail> {
+    let mut tree = grown(alloc, parents(shape))?;
+    let mut model = planted(parents(shape));
+    let mut bits = destroyed;
+    for at in order(number) {
+        let right = if bits % 2 == 1 {
+            destroys(&mut tree, &mut model, at)
+        } else {
+            clears(&mut tree, &mut model, at)
+        };
+        if !right || !agrees(&tree, &model) {
+            return Ok(false);
+        }
+        bits /= 2;
+    }
+    Ok(clears(&mut tree, &mut model, 0) && agrees(&tree, &model))
+}
+
+#[test]
+fn agrees_with_the_plain_model(rt: HostRuntime) -> Result<(), Fail> {
+    for shape in 0..24usize {
+        for number in 0..24usize {
+            for destroyed in 0..16usize {
+                let right = holds(rt.alloc(), shape, number, destroyed)?;
+                assert!(rt; right, "shape {shape}, order {number}, destroyed {destroyed}");
+            }
+        }
+    }
+    Ok(())
+}

@@ -1,0 +1,139 @@
+// Heaps that run out: a refused call changes nothing, and gives its answer once there is memory.
+use crate::call::{Answer, Call, answer_of, run};
+use crate::rows::{BRANCH, EXHAUSTED, LENGTHS};
+use linked_list_allocator::LocalHeap;
+use std::alloc::{AllocError, Global};
+use std::process::Abort;
+use std::test::Fail;
+use svn_pool::{PoolFault, PoolTree};
+
+// More than a row needs.
+const HEAP: usize = 65_536;
+
+// The heap gives memory in units of so many bytes.
+const UNIT: usize = 16;
+
+// Memory that is kept from a tree until it is refused some.
+type Held<'a> = Option<Vec<u8, &'a LocalHeap>>;
+
+// A tree on a heap of which a part is held.
+#[derive(Drop)]
+struct Scarce<'a> {
+    tree: PoolTree<&'a LocalHeap>,
+    held: Held<'a>,
+}
+
+impl<'a> Scarce<'a> {
+    fn new(heap: &'a LocalHeap, held: Vec<u8, &'a LocalHeap>) -> Result<Scarce<'a>, PoolFault> {
+        if let Ok(tree) = PoolTree::new(heap) {
+            return Ok(Scarce {
+                tree,
+                held: Some(held),
+            });
+        }
+        drop(held);
+        let tree = PoolTree::new(heap)?;
+        Ok(Scarce { tree, held: None })
+    }
+
+    fn counts(&self) -> (u64, u64, u64) {
+        (self.tree.live(), self.tree.blocks(), self.tree.spare())
+    }
+
+    // Makes a call, and where memory is wanting gives the held part back and makes it again.
+    fn answer<R: Abort>(&mut self, rt: &R, alloc: Global, call: Call) -> Result<Answer, AllocError> {
+        let before = self.counts();
+        let first = answer_of(alloc, &mut self.tree, call)?;
+        if first != Answer::Fault(PoolFault::Memory) {
+            return Ok(first);
+        }
+        assert_eq!(rt; self.counts(), before, "{call:?}");
+        self.held = None;
+        answer_of(alloc, &mut self.tree, call)
+    }
+}
+
+// Runs a row with so many units of the heap at first, and tells whether a call was refused.
+fn is_refused<R: Abort>(
+    rt: &R,
+    alloc: Global,
+    units: usize,
+    row: &[(Call, Answer)],
+) -> Result<bool, Fail>
+{
+    let heap = LocalHeap::new(alloc, HEAP)?;
+    let held = Vec::with_capacity(&heap, HEAP - (UNIT * units).min(HEAP))?;
+    let mut scarce = Scarce::new(&heap, held)?;
+    for (call, want) in row {
+        let got = scarce.answer(rt, alloc, *call)?;
+        assert_eq!(rt; got, *want, "{call:?} with {units} units");
+    }
+    Ok(scarce.held.is_none())
+}
+
+// Runs a row with ever more memory, so that each allocation is the first to be refused, until none is.
+fn sweep<R: Abort>(rt: &R, alloc: Global, row: &[(Call, Answer)]) -> Result<(), Fail> {
+    for units in 0..HEAP / UNIT {
+        if !is_refused(rt, alloc, units, row)? {
+            assert!(rt; units > 0);
+            return Ok(());
+        }
+    }
+    Err(Fail::new("the heap is too small"))
+}
+
+#[test]
+fn branch_goes_on_after_refusals(rt: HostRuntime) -> Result<(), Fail> {
+    sweep(&rt, rt.alloc(), &BRANCH)
+}
+
+#[test]
+fn lengths_go_on_after_refusals(rt: HostRuntime) -> Result<(), Fail> {
+    sweep(&rt, rt.alloc(), &LENGTHS)
+}
+
+// Sixty pools, each with three children, and their end.
+fn forest(alloc: Global) -> Result<Vec<(Call, Answer)>, AllocError> {
+    let mut row = Vec::new(alloc);
+    for parent in 0..20u64 {
+        for child in 1..4u64 {
+            row.push((Call::Create(parent), Answer::Serial(3 * parent + child)))?;
+        }
+    }
+    row.push((Call::Counts, Answer::Counted(61, 0, 0)))?;
+    row.push((Call::Clear(0), Answer::Done))?;
+    row.push((Call::Counts, Answer::Counted(1, 0, 0)))?;
+    Ok(row)
+}
+
+#[test]
+fn forest_goes_on_after_refusals(rt: HostRuntime) -> Result<(), Fail> {
+    let row = forest(rt.alloc())?;
+    sweep(&rt, rt.alloc(), &row)
+}
+
+// Takes what is left of a heap, down to the last unit.
+fn take_rest<'a>(alloc: Global, heap: &'a LocalHeap) -> Result<Vec<Vec<u8, &'a LocalHeap>>, AllocError> {
+    let mut pieces = Vec::new(alloc);
+    for size in [4096usize, 256, UNIT] {
+        for _ in 0..HEAP {
+            let Ok(piece) = Vec::from_elem(heap, 0u8, size) else {
+                break;
+            };
+            pieces.push(piece)?;
+        }
+    }
+    Ok(pieces)
+}
+
+#[test]
+fn goes_on_without_memory(rt: HostRuntime) -> Result<(), Fail> {
+    let heap = LocalHeap::new(rt.alloc(), HEAP)?;
+    let mut tree = PoolTree::new(&heap)?;
+    run(&rt, rt.alloc(), &mut tree, &BRANCH)?;
+    let pieces = take_rest(rt.alloc(), &heap)?;
+    assert_eq!(rt; heap.free(), 0);
+    run(&rt, rt.alloc(), &mut tree, &EXHAUSTED)?;
+    drop(pieces);
+    Ok(())
+}

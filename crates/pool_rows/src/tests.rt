@@ -1,0 +1,58 @@
+// The rows with ample memory.
+use crate::call::{Answer, Call, run};
+use crate::rows::{BRANCH, HALVES, HALVES_AND_EMPTY, LAST_SERIAL, LENGTHS, LONG_AND_SHORT, REFUSALS};
+use std::alloc::Global;
+use std::process::Abort;
+use std::test::Fail;
+use svn_pool::{PoolFault, PoolTree};
+
+fn from_new<R: Abort>(rt: &R, alloc: Global, row: &[(Call, Answer)]) -> Result<(), Fail> {
+    let mut tree = PoolTree::new(alloc)?;
+    run(rt, alloc, &mut tree, row)?;
+    Ok(())
+}
+
+#[test]
+fn clears_a_branch(rt: HostRuntime) -> Result<(), Fail> {
+    from_new(&rt, rt.alloc(), &BRANCH)
+}
+
+#[test]
+fn holds_strings_of_all_lengths(rt: HostRuntime) -> Result<(), Fail> {
+    let mut tree = PoolTree::new(rt.alloc())?;
+    run(&rt, rt.alloc(), &mut tree, &LENGTHS)?;
+    run(&rt, rt.alloc(), &mut tree, &REFUSALS)?;
+    Ok(())
+}
+
+#[test]
+fn fills_blocks(rt: HostRuntime) -> Result<(), Fail> {
+    from_new(&rt, rt.alloc(), &HALVES)?;
+    from_new(&rt, rt.alloc(), &HALVES_AND_EMPTY)?;
+    from_new(&rt, rt.alloc(), &LONG_AND_SHORT)
+}
+
+#[test]
+fn runs_out_of_serials(rt: HostRuntime) -> Result<(), Fail> {
+    let mut tree = PoolTree::new_from(rt.alloc(), u64::MAX)?;
+    run(&rt, rt.alloc(), &mut tree, &LAST_SERIAL)?;
+    Ok(())
+}
+
+const FAULTS: [(PoolFault, u32, &str); 5] = [
+    (PoolFault::Gone, 1, "the pool is gone"),
+    (PoolFault::Memory, 2, "out of memory"),
+    (PoolFault::TooLong, 3, "the string has over 1,048,576 bytes"),
+    (PoolFault::IsRoot, 4, "the root pool cannot be destroyed"),
+    (PoolFault::Full, 5, "no serial, place or block is left"),
+];
+
+#[test]
+fn faults_have_numbers_and_texts(rt: HostRuntime) -> Result<(), Fail> {
+    for (fault, number, text) in FAULTS {
+        assert_eq!(rt; fault.number(), number);
+        let printed = format!(in rt.alloc(); "{fault}")?;
+        assert_eq!(rt; printed.as_str(), text);
+    }
+    Ok(())
+}
