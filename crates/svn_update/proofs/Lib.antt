@@ -1,3 +1,4 @@
+pub mod OperandLemmas
 pub mod Printing
 pub mod ScriptLemmas
 pub mod Splits

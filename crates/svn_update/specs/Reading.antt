@@ -1,12 +1,12 @@
 -- A script as bytes: its lines, their words, and what a word stands for.
 --     lines_of script      its lines
 --     words_of line      the words of a line, those that stand between spaces
---     number_of word, bytes_of word, path_of word      what a word stands for, or nothing where it has not this form
-use Rattle.std.specs.Prelude.{ℕ, ◌+◌, ◌-◌, ◌*◌, ◌^◌, Bool, true, false, ◌&&◌, not, List, [], ◌∷◌, length, nat_lt, nat_le, nat_eq, bytes_eq, filter, Option, Some, None, option_map, option_and_then, is_some, if◌then◌else◌}
+--     number_of word, bytes_of word, path_of word, prop_name_of word      what a word stands for, or nothing where it has not this form
+use Rattle.std.specs.Prelude.{ℕ, ◌+◌, ◌-◌, ◌*◌, ◌^◌, Bool, ◌&&◌, not, List, [], ◌∷◌, length, nat_lt, nat_le, nat_eq, bytes_eq, filter, Option, Some, None, option_map, option_and_then, is_some, if◌then◌else◌}
 use Rattle.std.specs.List.{slice_split, list_all}
 use Rattle.std.specs.Str.{is_utf8}
 use Rattle.svn_types.specs.Names.{Path, is_between, path_of_text}
-use Rattle.svn_types.specs.NameFaults.{path_fault}
+use Rattle.svn_types.specs.NameFaults.{path_fault, prop_name_fault}
 
 -- ---- lines
 
@@ -105,3 +105,11 @@ path_of_bytes bytes =
 
 abbrev pub path_of : List ℕ → Option Path
 path_of word = option_and_then path_of_bytes (bytes_of word)
+
+-- ---- names of properties
+
+abbrev pub prop_name_of_bytes : List ℕ → Option (List ℕ)
+prop_name_of_bytes bytes = if is_some (prop_name_fault bytes) then None else Some bytes
+
+abbrev pub prop_name_of : List ℕ → Option (List ℕ)
+prop_name_of word = option_and_then prop_name_of_bytes (bytes_of word)

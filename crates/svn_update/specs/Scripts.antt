@@ -14,7 +14,7 @@ use Rattle.svn_wc.specs.declared.fault.WcFault.TheVariants.{NoSuchRevision as No
 use Rattle.svn_wc.specs.Nodes.{get_in}
 use Rattle.svn_wc.specs.Builders.{checkout}
 use Rattle.svn_update.specs.declared.fault.ScriptFault.{ScriptFault}
-use Rattle.svn_update.specs.declared.fault.ScriptFault.TheVariants.{BadLine, TooLong, Read, Write, Memory}
+use Rattle.svn_update.specs.declared.fault.ScriptFault.TheVariants.{TooLong, Read}
 use Rattle.svn_update.specs.declared.outcome.Outcome.TheVariants.{Closed, Aborted}
 use Rattle.svn_update.specs.declared.outcome.RunFault.TheVariants.{NoSuchRevision as NoTarget}
 use Rattle.svn_update.specs.declared.answer.Refusal.TheVariants.{NoCopy, Untrue, Memory as ListMemory, Commit as CommitRefused, Copy as CopyRefused, Run as RunRefused}

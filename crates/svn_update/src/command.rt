@@ -1,21 +1,23 @@
 //! The commands of a script, read from its lines.
-ghost use Rattle.std.specs.Prelude.{◌≡◌, ◌∷◌, [], MatchOption, Some, None};
+ghost use Rattle.std.specs.Prelude.{◌≡◌, option_and_then};
 ghost use Rattle.svn_update.specs.Reading.{words_of};
 ghost use Rattle.svn_update.specs.Gives.{Gives};
-ghost use Rattle.svn_update.specs.Commands.{no_words, only_word, only_path, only_number, put_of, verb_of, when_no_word, with_words, is_comment, command_of};
+ghost use Rattle.svn_update.specs.Commands.{two_words, three_words, put_of, prop_of, unprop_of, copy_of, verb_of, when_no_word, with_words, is_comment, command_of};
 
 use crate::lines::next_word;
-use crate::words::{LineFault, read_bytes, read_number, read_path};
+use crate::operands::{is_blank, last_path, last_rev, last_three_words, last_two_words, read_rev};
+use crate::words::{LineFault, read_bytes, read_path, read_prop_name};
 use std::alloc::Global;
 use svn_repo::Change;
-use svn_types::{RelPath, Rev};
+use svn_types::Rev;
 
 /// One line of a script.
 #[derive(Debug, Drop)]
 pub(crate) enum Command {
     /// A line without words, or a comment.
     Nothing,
-    /// `mkdir PATH`, `put PATH TEXT` or `remove PATH`: one more change for the next commit.
+    /// `mkdir PATH`, `put PATH TEXT`, `prop PATH NAME VALUE`, `unprop PATH NAME`, `remove PATH` or `copy REV SOURCE PATH`: one more change
+    /// for the next commit.
     Change(Change),
     /// `commit`
     Commit,
@@ -27,66 +29,58 @@ pub(crate) enum Command {
     Show,
 }
 
-// Whether a line has no word.
-fn is_blank(line: &[u8]) -> bool
-    ensures { result ≡ no_words (words_of line.now) }
+// The file that what is left of a line puts: a path and a text.
+fn read_put(alloc: Global, line: &[u8]) -> Result<Command, LineFault>
+    ensures { Gives (λ c. c) result (option_and_then put_of (two_words (words_of line.now))) }
 {
-    next_word(line).is_none()
-}
-
-// The one word that is left of a line.
-fn last_word(line: &[u8]) -> Option<&[u8]>
-    ensures { MatchOption result (only_word (words_of line.now) ≡ None) (λ w. only_word (words_of line.now) ≡ Some w.now) }
-{
-    match next_word(line) {
-        Some((word, rest)) => { if is_blank(rest) { Some(word) } else { None } }
-        None => None,
-    }
-}
-
-// The path that is left of a line.
-fn last_path(alloc: Global, line: &[u8]) -> Result<RelPath, LineFault>
-    ensures { Gives (λ p. p) result (only_path (words_of line.now)) }
-{
-    match last_word(line) {
-        Some(word) => read_path(alloc, word),
-        None => Err(LineFault::Bad),
-    }
-}
-
-// The revision that is left of a line.
-fn last_rev(line: &[u8]) -> Result<Rev, LineFault>
-    ensures { Gives (λ r. r) result (only_number (words_of line.now)) }
-{
-    match last_word(line) {
-        Some(word) => match read_number(word) {
-            Some(number) => Ok(Rev(number)),
-            None => Err(LineFault::Bad),
-        },
-        None => Err(LineFault::Bad),
-    }
-}
-
-// The file that a path and a text put.
-fn put_file(alloc: Global, path: &[u8], text: &[u8]) -> Result<Command, LineFault>
-    ensures { Gives (λ c. c) result (put_of (path.now ∷ text.now ∷ [])) }
-{
+    let Some((path, text)) = last_two_words(line) else {
+        return Err(LineFault::Bad);
+    };
     let path = read_path(alloc, path)?;
     let text = read_bytes(alloc, text)?;
     Ok(Command::Change(Change::PutFile { path, text }))
 }
 
-// The file that is put by what is left of a line, a path and a text.
-fn read_put(alloc: Global, line: &[u8]) -> Result<Command, LineFault>
-    ensures { Gives (λ c. c) result (put_of (words_of line.now)) }
+// The property that what is left of a line sets: a path, a name and a value.
+fn read_prop(alloc: Global, line: &[u8]) -> Result<Command, LineFault>
+    ensures { Gives (λ c. c) result (option_and_then prop_of (three_words (words_of line.now))) }
 {
-    match next_word(line) {
-        Some((path, rest)) => match last_word(rest) {
-            Some(text) => put_file(alloc, path, text),
-            None => Err(LineFault::Bad),
-        },
-        None => Err(LineFault::Bad),
-    }
+    let Some((path, name, value)) = last_three_words(line) else {
+        return Err(LineFault::Bad);
+    };
+    let path = read_path(alloc, path)?;
+    let name = read_prop_name(alloc, name)?;
+    let value = Some(read_bytes(alloc, value)?);
+    Ok(Command::Change(Change::SetProp { path, name, value }))
+}
+
+// The property that what is left of a line removes: a path and a name.
+fn read_unprop(alloc: Global, line: &[u8]) -> Result<Command, LineFault>
+    ensures { Gives (λ c. c) result (option_and_then unprop_of (two_words (words_of line.now))) }
+{
+    let Some((path, name)) = last_two_words(line) else {
+        return Err(LineFault::Bad);
+    };
+    let path = read_path(alloc, path)?;
+    let name = read_prop_name(alloc, name)?;
+    Ok(Command::Change(Change::SetProp {
+        path,
+        name,
+        value: None,
+    }))
+}
+
+// The copy that what is left of a line makes: a revision, the path of the source in it, and a path.
+fn read_copy(alloc: Global, line: &[u8]) -> Result<Command, LineFault>
+    ensures { Gives (λ c. c) result (option_and_then copy_of (three_words (words_of line.now))) }
+{
+    let Some((rev, source, path)) = last_three_words(line) else {
+        return Err(LineFault::Bad);
+    };
+    let rev = read_rev(rev)?;
+    let source = read_path(alloc, source)?;
+    let path = read_path(alloc, path)?;
+    Ok(Command::Change(Change::CopyFrom { rev, source, path }))
 }
 
 // The names of the commands.
@@ -94,7 +88,10 @@ fn read_put(alloc: Global, line: &[u8]) -> Result<Command, LineFault>
 enum Verb {
     Mkdir,
     Put,
+    Prop,
+    Unprop,
     Remove,
+    Copy,
     Commit,
     Checkout,
     Update,
@@ -108,8 +105,14 @@ fn read_verb(name: &[u8]) -> Option<Verb>
         Some(Verb::Mkdir)
     } else if name == b"put".as_slice() {
         Some(Verb::Put)
+    } else if name == b"prop".as_slice() {
+        Some(Verb::Prop)
+    } else if name == b"unprop".as_slice() {
+        Some(Verb::Unprop)
     } else if name == b"remove".as_slice() {
         Some(Verb::Remove)
+    } else if name == b"copy".as_slice() {
+        Some(Verb::Copy)
     } else if name == b"commit".as_slice() {
         Some(Verb::Commit)
     } else if name == b"checkout".as_slice() {
@@ -144,10 +147,13 @@ fn read_rest(alloc: Global, verb: Verb, line: &[u8]) -> Result<Command, LineFaul
             Ok(Command::Change(Change::MakeDir { path }))
         }
         Verb::Put => read_put(alloc, line),
+        Verb::Prop => read_prop(alloc, line),
+        Verb::Unprop => read_unprop(alloc, line),
         Verb::Remove => {
             let path = last_path(alloc, line)?;
             Ok(Command::Change(Change::Remove { path }))
         }
+        Verb::Copy => read_copy(alloc, line),
         Verb::Commit => alone(Command::Commit, line),
         Verb::Checkout => Ok(Command::Checkout(last_rev(line)?)),
         Verb::Update => Ok(Command::Update(last_rev(line)?)),

@@ -5,6 +5,7 @@ mod answer;
 mod command;
 mod fault;
 mod lines;
+mod operands;
 mod outcome;
 mod script;
 mod state;

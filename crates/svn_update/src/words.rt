@@ -3,11 +3,11 @@ ghost use Rattle.std.specs.Prelude.{◌≡◌, ◌+◌, ◌-◌, ◌*◌, ◌≤
 ghost use Rattle.std.specs.List.{list_all};
 ghost use Rattle.svn_types.specs.Names.{path_of_text};
 ghost use Rattle.svn_update.specs.declared.words.LineFault.TheVariants.{Memory};
-ghost use Rattle.svn_update.specs.Reading.{is_digit, fitting, decimal_value, number_of, hex_value, hex_byte, onto, unescaped, bytes_of, path_of, path_of_bytes, path_of_names};
+ghost use Rattle.svn_update.specs.Reading.{is_digit, fitting, decimal_value, number_of, hex_value, hex_byte, onto, unescaped, bytes_of, path_of, path_of_bytes, path_of_names, prop_name_of, prop_name_of_bytes};
 ghost use Rattle.svn_update.specs.Gives.{Gives};
 
 use std::alloc::{AllocError, Global};
-use svn_types::{PathFault, RelPath, Text};
+use svn_types::{PathFault, PropName, RelPath, Text};
 
 /// Why a line was not read.
 #[derive(Clone, Copy, Debug, PartialEq, Eq)]
@@ -178,4 +178,33 @@ pub(crate) fn read_path(alloc: Global, word: &[u8]) -> Result<RelPath, LineFault
 {
     let bytes = read_bytes(alloc, word)?;
     parse_bytes(alloc, bytes.as_slice())
+}
+
+// The property name that a text is.
+fn parse_prop_name(alloc: Global, text: &str) -> Result<PropName, LineFault>
+    ensures { Gives (λ n. n) result (prop_name_of_bytes text.now) }
+{
+    match PropName::parse(alloc, text) {
+        Ok(name) => Ok(name),
+        Err(PathFault::Memory) => Err(LineFault::Memory),
+        Err(_) => Err(LineFault::Bad),
+    }
+}
+
+// The property name that bytes are.
+fn parse_prop_name_bytes(alloc: Global, bytes: &[u8]) -> Result<PropName, LineFault>
+    ensures { Gives (λ n. n) result (prop_name_of_bytes bytes.now) }
+{
+    match str::from_utf8(bytes) {
+        Ok(text) => parse_prop_name(alloc, text),
+        Err(_) => Err(LineFault::Bad),
+    }
+}
+
+/// Reads the name of a property.
+pub(crate) fn read_prop_name(alloc: Global, word: &[u8]) -> Result<PropName, LineFault>
+    ensures { Gives (λ n. n) result (prop_name_of word.now) }
+{
+    let bytes = read_bytes(alloc, word)?;
+    parse_prop_name_bytes(alloc, bytes.as_slice())
 }

@@ -1,4 +1,4 @@
-use Rattle.std.proofs.Common.{◌≡◌, ℕ, ◌+◌, ◌∷◌, Bool, List, nat_eq, take, sym, ap, ◌∙◌}
+use Rattle.std.proofs.Common.{ℕ, ◌+◌, ◌∷◌, Bool, List, nat_eq, take, sym, ap, ◌∙◌}
 use Rattle.std.specs.List.{slice_split}
 use Rattle.std.proofs.lemmas.List.{take_rest}
 use Rattle.svn_update.proofs.Splits.{split_at_position, split_nowhere}

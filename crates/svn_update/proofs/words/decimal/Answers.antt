@@ -1,4 +1,4 @@
-use Rattle.std.proofs.Common.{◌≡◌, ℕ, List, sym, ap, ◌∙◌}
+use Rattle.std.proofs.Common.{sym, ap, ◌∙◌}
 use Rattle.svn_update.specs.Reading.{decimal_from, decimal_value}
 use Rattle.svn_update.proofs.WordLemmas.{no_digit_fits}
 use Rattle.svn_update.proofs.words.decimal.Goals as goal

@@ -1,5 +1,5 @@
-use Rattle.std.proofs.Common.{◌≡◌, ℕ, List, Option, Some, ◌++◌, ◌∷◌, [], option_map, sym, ap, ◌∙◌}
-use Rattle.svn_update.specs.Reading.{unescaped, onto}
+use Rattle.std.proofs.Common.{◌≡◌, ℕ, List, ◌++◌, ◌∷◌, [], option_map, sym, ap, ◌∙◌}
+use Rattle.svn_update.specs.Reading.{unescaped}
 use Rattle.svn_update.proofs.WordLemmas.{onto_end}
 use Rattle.svn_update.proofs.words.unescape.Goals as goal
 
