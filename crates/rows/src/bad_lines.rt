@@ -12,7 +12,10 @@ fn script_of(alloc: Global, line: &[u8]) -> Result<Vec<u8>, AllocError> {
     Ok(script)
 }
 
-fn each_is_bad(rt: &(impl Abort + AllocGlobal), lines: &[&[u8]]) -> Result<(), AllocError> {
+pub(crate) fn each_is_bad(
+    rt: &(impl Abort + AllocGlobal),
+    lines: &[&[u8]],
+) -> Result<(), AllocError> {
     for line in lines {
         let script = script_of(rt.alloc(), line)?;
         ends(rt, &script, Err(ScriptFault::BadLine(3)), "committed 1\n");

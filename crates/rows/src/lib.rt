@@ -10,6 +10,8 @@ mod calls_made;
 #[cfg(test)]
 mod commits;
 #[cfg(test)]
+mod copies;
+#[cfg(test)]
 mod cut_scripts;
 #[cfg(test)]
 mod failing_streams;
@@ -21,6 +23,8 @@ mod line_forms;
 mod long_scripts;
 #[cfg(test)]
 mod parsing;
+#[cfg(test)]
+mod properties;
 #[cfg(test)]
 mod refusals;
 #[cfg(test)]

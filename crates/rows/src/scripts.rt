@@ -1,5 +1,5 @@
 // Scripts, and what a run of one gives.
-use std::alloc::Global;
+use std::alloc::{AllocError, Global};
 use std::process::Abort;
 use std::str;
 use svn_update::{ScriptFault, Settings, run_script};
@@ -62,4 +62,18 @@ pub(crate) fn each_prints(rt: &(impl Abort + AllocGlobal), rows: &[(&str, &str)]
     for (script, output) in rows {
         ends(rt, script.as_bytes(), Ok(()), output);
     }
+}
+
+// Changes that are refused so, each as the whole of a second commit behind the first one's lines. The next commit has no changes.
+pub(crate) fn each_change_is_refused(
+    rt: &(impl Abort + AllocGlobal),
+    first: &str,
+    rows: &[(&str, &str)],
+) -> Result<(), AllocError> {
+    for (line, name) in rows {
+        let script = format!(in rt.alloc(); "{first}commit\n{line}\ncommit\ncommit\n")?;
+        let output = format!(in rt.alloc(); "committed 1\nrefused {name}\ncommitted 2\n")?;
+        ends(rt, script.as_str().as_bytes(), Ok(()), output.as_str());
+    }
+    Ok(())
 }
