@@ -16,9 +16,9 @@ use Rattle.svn_wc.specs.Standing.{IsPlain}
 use Rattle.svn_wc.specs.Builders.{checkout}
 use Rattle.svn_update.specs.declared.fault.ScriptFault.{ScriptFault}
 use Rattle.svn_update.specs.declared.fault.ScriptFault.TheVariants.{TooLong, Read}
-use Rattle.svn_update.specs.declared.outcome.Cause.TheVariants.{Memory as MemoryCause}
 use Rattle.svn_update.specs.declared.outcome.Outcome.TheVariants.{Closed, Aborted}
 use Rattle.svn_update.specs.declared.outcome.RunFault.TheVariants.{NoSuchRevision as NoTarget}
+use Rattle.svn_update.specs.declared.outcome.Cause.TheVariants.{Memory as MemoryCause}
 use Rattle.svn_update.specs.declared.answer.Refusal.TheVariants.{NoCopy, Untrue, Memory as ListMemory, Commit as CommitRefused, Copy as CopyRefused, Run as RunRefused}
 use Rattle.svn_update.specs.declared.answer.Answer.{Answer}
 use Rattle.svn_update.specs.declared.answer.Answer.TheVariants.{Silent, Committed, Done, Ended, Nodes, Refused}

@@ -61,6 +61,7 @@ impl WorkingCopy {
         ensures truth { IsPlain repo.now (get_in self.now) → IsTrueOf repo.now (get_in self.now) }
     {
         repo.law();
+        // an iterator's contract has the order
         let _nodes = self.nodes.iter();
     }
 
