@@ -1,25 +1,166 @@
--- After the first calls of a drive each path stands as its own actions say.
-use Rattle.std.proofs.Common.{◌≡◌, Bool, true, false, ◌||◌, List, [], ◌∷◌, ◌++◌, refl, sym, ◌∙◌, ap, subst, true≢false, append_assoc}
+-- Calls and steps: a drive's calls, read with paths in the place of tokens, are its steps. So after its first calls each path stands as its own actions say.
+use Rattle.std.proofs.Common.{◌≡◌, ℕ, zero, suc, Bool, true, false, ◌||◌, List, [], ◌∷◌, ◌++◌, refl, sym, ◌∙◌, ap, true≢false, append_assoc, append-nil, subst}
+use Rattle.std.specs.Prelude.{Option, Some, None, cond, map, slice_get, option_map, length, filter}
+use Rattle.std.specs.List.{list_any, cons_option}
+use Rattle.std.proofs.lemmas.List.Elements.{filter_map-append}
+use Rattle.svn_types.specs.Names.{Path}
+use Rattle.svn_types.specs.Paths.{path_eq, parent, is_root}
+use Rattle.svn_types.specs.declared.kind.Kind.TheVariants.{File, Directory}
+use Rattle.svn_delta.specs.Steps.{Mode, Action, Delete, Open, Add, Change, Text, Close, Step, step_of, steps_after, steps_of, target_of}
+use Rattle.svn_delta.specs.declared.call.Call.{Call}
+use Rattle.svn_delta.specs.Calls.{Given, given_by, all_given, given, given_path, path_of}
+use Rattle.svn_delta.specs.declared.call.Call.TheVariants.{OpenRoot, OpenDirectory, CloseEdit, SetTargetRevision}
+use Rattle.svn_drive.specs.Follow.{Request}
+use Rattle.svn_drive.specs.Drive.{token_of, call_of, opened_after, numbered}
+use Rattle.svn_wc.specs.Nodes.{WorkingCopy}
+use Rattle.svn_wc.specs.Effects.{step_effect, read_effect, effect, after_from, after}
+use Rattle.svn_law.proofs.Names.{same_path, path_eq-same}
+use Rattle.svn_law.proofs.Courses.{is_inner, is_plain, is_entry, is_entry_of, entry_of_is_entry, any_implied, AllOf, part_of, course_of, course_plain, begun_entry, Place, deleting, entering, adding, inside, place_of}
+use Rattle.svn_law.proofs.AfterSteps.{after_steps, stands_after}
 use Rattle.std.proofs.Math.Bool.{or-false, or-true}
-use Rattle.std.specs.Prelude.{cond, map, filter}
-use Rattle.std.specs.List.{list_any}
 use Rattle.std.proofs.lemmas.Bool.{or_left, or_right}
 use Rattle.std.proofs.lemmas.List.Folds.{list_any-append}
-use Rattle.svn_types.specs.Names.{Path}
-use Rattle.svn_types.specs.Paths.{path_eq}
-use Rattle.svn_delta.specs.Steps.{Action, Open, Add, Step}
-use Rattle.svn_delta.specs.declared.call.Call.TheVariants.{SetTargetRevision}
-use Rattle.svn_drive.specs.Follow.{Request}
 use Rattle.svn_drive.specs.Steps.{IsDriveOf, path_actions}
-use Rattle.svn_drive.specs.Drive.{opened_after, numbered}
-use Rattle.svn_wc.specs.Nodes.{WorkingCopy}
-use Rattle.svn_wc.specs.Effects.{after}
-use Rattle.svn_law.proofs.Names.{same_path, path_eq-same}
 use Rattle.svn_law.proofs.Classes.{Setting}
-use Rattle.svn_law.proofs.Courses.{is_entry, is_entry_of, entry_of_is_entry, any_implied, is_inner, is_plain, AllOf, part_of, course_of, course_plain, begun_entry, Place, deleting, entering, adding, inside, place_of}
 use Rattle.svn_law.proofs.States.{is_at, actions_at, state, step_cut}
-use Rattle.svn_law.proofs.AfterSteps.{stands_after}
-use Rattle.svn_law.proofs.Tokens.{opened_from, is_opened, Ready, after-numbered}
+
+-- ---- the paths that stand for the tokens
+
+abbrev pub opened_from : List Path → List Step → List Path
+opened_from opened [] = opened
+opened_from opened (s ∷ steps) = opened_from (opened_after opened s.path s.action) steps
+
+abbrev pub is_opened : List Path → Path → Bool
+is_opened opened p = list_any (path_eq p) opened
+
+-- the earlier calls have given the tokens of these paths
+abbrev pub GivesPaths : List Call → List Path → Type 0
+GivesPaths earlier opened = map (λ (g : Given). g.path) (all_given earlier) ≡ opened
+
+find_path : (opened : List Path) (p : Path) → is_opened opened p ≡ true → slice_get opened (token_of opened p) ≡ Some p
+find_path [] p h = absurd (true≢false (sym h))
+find_path (q ∷ opened) p h = by (path_eq p q) refl h (find_path opened p)
+  where
+    by : (b : Bool) → path_eq p q ≡ b → (b || is_opened opened p) ≡ true → (is_opened opened p ≡ true → slice_get opened (token_of opened p) ≡ Some p)
+        → slice_get (q ∷ opened) (cond b 0 (suc (token_of opened p))) ≡ Some p
+    by true e h ih = ap Some (sym (same_path p q e))
+    by false e h ih = ih h
+
+get-map : (gs : List Given) (t : ℕ) → slice_get (map (λ (g : Given). g.path) gs) t ≡ option_map (λ (g : Given). g.path) (slice_get gs t)
+get-map [] t = refl
+get-map (g ∷ gs) zero = refl
+get-map (g ∷ gs) (suc t) = get-map gs t
+
+-- the path of a token
+pub path_of-token : (earlier : List Call) (opened : List Path) → GivesPaths earlier opened → (p : Path) → is_opened opened p ≡ true → path_of earlier (token_of opened p) ≡ p
+path_of-token earlier opened g p h = by (given earlier (token_of opened p)) (sym (get-map (all_given earlier) (token_of opened p)) ∙ ap (λ l. slice_get l (token_of opened p)) g ∙ find_path opened p h)
+  where
+    by : (o : Option Given) → option_map (λ (g : Given). g.path) o ≡ Some p → given_path o ≡ p
+    by None e = absurd (none e)
+      where
+        none : None ≡ Some p → ⊥
+        none q = cc
+    by (Some k) e = some e
+      where
+        some : Some k.path ≡ Some p → k.path ≡ p
+        some q = cc
+
+-- ---- one call read
+
+gives_more : (earlier : List Call) (opened : List Path) (c : Call) (p : Path) (a : Action) → GivesPaths earlier opened
+    → map (λ (g : Given). g.path) (cons_option (given_by c) []) ≡ opened_after [] p a → GivesPaths (earlier ++ c ∷ []) (opened_after opened p a)
+gives_more earlier opened c p a g e =
+    ap (map (λ (x : Given). x.path)) (filter_map-append given_by earlier (c ∷ [])) ∙ map-both (all_given earlier) (cons_option (given_by c) [])
+    ∙ (λ i. g i ++ e i) ∙ after a
+  where
+    map-both : (xs ys : List Given) → map (λ (x : Given). x.path) (xs ++ ys) ≡ map (λ (x : Given). x.path) xs ++ map (λ (x : Given). x.path) ys
+    map-both [] ys = refl
+    map-both (x ∷ xs) ys = ap (λ (l : List Path). x.path ∷ l) (map-both xs ys)
+
+    after : (a : Action) → opened ++ opened_after [] p a ≡ opened_after opened p a
+    after (Delete r) = append-nil opened
+    after (Open k r) = refl
+    after (Add k) = refl
+    after (Change k x) = append-nil opened
+    after (Text s t) = append-nil opened
+    after (Close k x) = append-nil opened
+
+pub gives_call : (earlier : List Call) (opened : List Path) (p : Path) (a : Action) → GivesPaths earlier opened → GivesPaths (earlier ++ call_of opened p a ∷ []) (opened_after opened p a)
+gives_call earlier opened p a g = gives_more earlier opened (call_of opened p a) p a g (given_path_is a)
+  where
+    root : (p : Path) (n : ℕ) → map (λ (g : Given). g.path) (cons_option (given_by (cond (is_root p) (OpenRoot n (length opened)) (OpenDirectory p (token_of opened (parent p)) n (length opened)))) []) ≡ p ∷ []
+    root [] n = refl
+    root (m ∷ p) n = refl
+
+    given_path_is : (a : Action) → map (λ (g : Given). g.path) (cons_option (given_by (call_of opened p a)) []) ≡ opened_after [] p a
+    given_path_is (Delete r) = refl
+    given_path_is (Open Directory r) = root p r
+    given_path_is (Open File r) = refl
+    given_path_is (Add Directory) = refl
+    given_path_is (Add File) = refl
+    given_path_is (Change Directory x) = refl
+    given_path_is (Change File x) = refl
+    given_path_is (Text s t) = refl
+    given_path_is (Close Directory x) = refl
+    given_path_is (Close File x) = refl
+
+pub step_of-call : (earlier : List Call) (opened : List Path) (p : Path) (a : Action) → GivesPaths earlier opened → is_plain a ≡ true → (is_inner a ≡ true → is_opened opened p ≡ true)
+    → step_of earlier (call_of opened p a) ≡ Some (record { path = p; action = a })
+step_of-call earlier opened p (Delete r) g i o = refl
+step_of-call earlier opened [] (Open Directory r) g i o = refl
+step_of-call earlier opened (m ∷ p) (Open Directory r) g i o = refl
+step_of-call earlier opened p (Open File r) g i o = refl
+step_of-call earlier opened p (Add Directory) g i o = refl
+step_of-call earlier opened p (Add File) g i o = refl
+step_of-call earlier opened p (Change Directory x) g i o = ap (λ q. Some (record { path = q; action = Change Directory x })) (path_of-token earlier opened g p (o refl))
+step_of-call earlier opened p (Change File x) g i o = ap (λ q. Some (record { path = q; action = Change File x })) (path_of-token earlier opened g p (o refl))
+step_of-call earlier opened p (Text s t) g i o = ap (λ q. Some (record { path = q; action = Text s t })) (path_of-token earlier opened g p (o refl))
+step_of-call earlier opened p (Close Directory (Some c)) g i o = absurd (true≢false (sym i))
+step_of-call earlier opened p (Close Directory None) g i o = ap (λ q. Some (record { path = q; action = Close Directory None })) (path_of-token earlier opened g p (o refl))
+step_of-call earlier opened p (Close File x) g i o = ap (λ q. Some (record { path = q; action = Close File x })) (path_of-token earlier opened g p (o refl))
+
+-- ---- a list of calls read
+
+-- each step on an opened path comes after its opening
+abbrev pub Ready : List Path → List Step → Type 0
+Ready opened [] = Unit {0}
+Ready opened (s ∷ steps) = (is_plain s.action ≡ true) × (is_inner s.action ≡ true → is_opened opened s.path ≡ true) × Ready (opened_after opened s.path s.action) steps
+
+pub steps_after-append : (earlier xs ys : List Call) → steps_after earlier (xs ++ ys) ≡ steps_after earlier xs ++ steps_after (earlier ++ xs) ys
+steps_after-append earlier [] ys = ap (λ e. steps_after e ys) (sym (append-nil earlier))
+steps_after-append earlier (c ∷ xs) ys = by (step_of earlier c) (steps_after-append (earlier ++ c ∷ []) xs ys ∙ ap (λ e. steps_after (earlier ++ c ∷ []) xs ++ steps_after e ys) (append_assoc earlier (c ∷ []) xs))
+  where
+    by : (o : Option Step) → steps_after (earlier ++ c ∷ []) (xs ++ ys) ≡ steps_after (earlier ++ c ∷ []) xs ++ steps_after (earlier ++ c ∷ xs) ys
+        → cons_option o (steps_after (earlier ++ c ∷ []) (xs ++ ys)) ≡ cons_option o (steps_after (earlier ++ c ∷ []) xs) ++ steps_after (earlier ++ c ∷ xs) ys
+    by None e = e
+    by (Some s) e = ap (λ (l : List Step). s ∷ l) e
+
+pub effect-read : (mode : Mode) (earlier : List Call) (c : Call) (w : WorkingCopy) (x : Step) → step_of earlier c ≡ Some x → effect mode earlier c w ≡ step_effect mode (target_of earlier) (steps_of earlier) x w
+effect-read mode earlier CloseEdit w x e = absurd (none e)
+  where
+    none : None ≡ Some x → ⊥
+    none q = cc
+effect-read mode earlier c w x e = ap (λ o. read_effect mode (target_of earlier) (steps_of earlier) o w) e
+
+-- the copy after the calls of some steps is the copy after the steps
+pub after-numbered : (d : Request) (earlier : List Call) (opened : List Path) (done steps : List Step) (w : WorkingCopy) → GivesPaths earlier opened → target_of earlier ≡ d.target
+    → ((more : List Call) → target_of (earlier ++ more) ≡ d.target) → steps_of earlier ≡ done → Ready opened steps
+    → after_from d.mode earlier w (numbered opened steps) ≡ after_steps d done w steps
+after-numbered d earlier opened done [] w g t m s r = refl
+after-numbered d earlier opened done (x ∷ steps) w g t m s r =
+    ap (λ v. after_from d.mode (earlier ++ c ∷ []) v (numbered (opened_after opened x.path x.action) steps)) one
+    ∙ after-numbered d (earlier ++ c ∷ []) (opened_after opened x.path x.action) (done ++ x ∷ []) steps (step_effect d.mode d.target done x w)
+    (gives_call earlier opened x.path x.action g) (m (c ∷ [])) (λ more. ap target_of (append_assoc earlier (c ∷ []) more) ∙ m (c ∷ more))
+    (steps_after-append [] earlier (c ∷ []) ∙ (λ i. s i ++ cons_option (read i) [])) r.2
+  where
+    c : Call
+    c = call_of opened x.path x.action
+
+    read : step_of earlier c ≡ Some x
+    read = step_of-call earlier opened x.path x.action g r.0 r.1
+
+    one : effect d.mode earlier c w ≡ step_effect d.mode d.target done x w
+    one = effect-read d.mode earlier c w x read ∙ ap (λ n. step_effect d.mode n (steps_of earlier) x w) t ∙ ap (λ e. step_effect d.mode d.target e x w) s
 
 -- ---- what is opened
 

@@ -22,8 +22,7 @@ use Rattle.svn_law.proofs.Classes.{switched_to}
 use Rattle.svn_law.proofs.Classes.{Setting}
 use Rattle.svn_law.proofs.States.{state}
 use Rattle.svn_law.proofs.AfterSteps.{stands_after}
-use Rattle.svn_law.proofs.Tokens.{GivesPaths, gives_call, step_of-call, Ready, steps_after-append, effect-read}
-use Rattle.svn_law.proofs.AfterCalls.{ready}
+use Rattle.svn_law.proofs.AfterCalls.{GivesPaths, gives_call, step_of-call, Ready, steps_after-append, effect-read, ready}
 use Rattle.svn_law.proofs.EndsAsResult.{ends_at, ends, setting_of}
 use Rattle.svn_law.proofs.NoEditFault.{fits_next}
 use Rattle.svn_law.proofs.NoOrderFault.{drive_is_lawful}

@@ -27,8 +27,7 @@ use Rattle.svn_wc.specs.Nodes.{get_in, InPathOrder, is_present, is_dir, is_incom
 use Rattle.svn_wc.specs.Crawl.{entry_for, reported_at, crawl}
 use Rattle.svn_law.specs.Laws.{IsTrueCopy, crawl_describes}
 use Rattle.svn_law.proofs.Children.{path_ind, parent-child, is_root-child}
-use Rattle.svn_law.proofs.CrawlEntries.{get_in-first, found_first, absent_after, rest_in_order, entry_at-crawl, crawled}
-use Rattle.svn_law.proofs.CrawlDescribes.{own_governs, covers, source_present, own-crawled, not_present_own, describes}
+use Rattle.svn_law.proofs.CrawlDescribes.{get_in-first, found_first, absent_after, rest_in_order, entry_at-crawl, crawled, own_governs, covers, source_present, own-crawled, not_present_own, describes}
 
 -- each element of the list is what the function gives at its path
 abbrev AllIn : (Path → Option BaseNode) → List (Path × BaseNode) → Type 0

@@ -4,7 +4,6 @@ pub mod Names
 pub mod Keys
 pub mod Children
 pub mod PropChanges
-pub mod CrawlEntries
 pub mod CrawlDescribes
 pub mod CrawlCheckable
 pub mod Classes
@@ -15,7 +14,6 @@ pub mod FirstSteps
 pub mod Deletes
 pub mod Keeping
 pub mod AfterSteps
-pub mod Tokens
 pub mod AfterCalls
 pub mod AfterAllSteps
 pub mod EndsAsResult
@@ -34,6 +32,5 @@ pub mod DriveExists
 pub mod Progress
 pub mod PrefixStates
 pub mod PrefixTruth
-pub mod PrefixesTrue
 pub mod Resuming
 pub mod Rows

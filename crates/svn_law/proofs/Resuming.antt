@@ -36,8 +36,7 @@ use Rattle.svn_law.proofs.AfterSteps.{kept_path_is}
 use Rattle.svn_law.proofs.EndsAsResult.{ends, setting_of}
 use Rattle.svn_law.proofs.Progress.{kept_or_old, none_deleted, kept_stays}
 use Rattle.svn_law.proofs.PrefixStates.{Stands, absent, not_present, old, opened_file, open_directory, finished, stands}
-use Rattle.svn_law.proofs.PrefixTruth.{present_not_none, kept_target}
-use Rattle.svn_law.proofs.PrefixesTrue.{Reached, under_way, at_end, reached, true_when}
+use Rattle.svn_law.proofs.PrefixTruth.{present_not_none, kept_target, Reached, under_way, at_end, reached, true_when}
 
 -- ---- a copy that a report describes
 

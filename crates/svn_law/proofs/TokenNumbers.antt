@@ -21,7 +21,7 @@ use Rattle.svn_law.proofs.Tests.{and_true}
 use Rattle.svn_law.proofs.Children.{path_cases, parent-child}
 use Rattle.svn_law.proofs.Classes.{Setting}
 use Rattle.svn_law.proofs.AfterSteps.{same_kind}
-use Rattle.svn_law.proofs.Tokens.{is_opened}
+use Rattle.svn_law.proofs.AfterCalls.{is_opened}
 use Rattle.svn_law.proofs.FirstSteps.{AllSteps}
 use Rattle.svn_law.proofs.States.{actions_at-drive}
 use Rattle.svn_law.proofs.Courses.{is_entry, is_entry_of, entry_of_is_entry, is_inner, inner_of, precedes, AllOf, all_implied, any_implied, Course, nothing, gone_only, touched, added, replaced, course_of}
