@@ -62,7 +62,7 @@ fn is_refused<R: Abort>(
 ) -> Result<bool, Fail>
 {
     let heap = LocalHeap::new(alloc, HEAP)?;
-    let held = Vec::with_capacity(&heap, HEAP - (UNIT * units).min(HEAP))?;
+    let held = Vec::with_capacity(&heap, HEAP.saturating_sub(units.saturating_mul(UNIT)))?;
     let mut scarce = Scarce::new(&heap, held)?;
     for (call, want) in row {
         let got = scarce.answer(rt, alloc, *call)?;
