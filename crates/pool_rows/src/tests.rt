@@ -1,6 +1,8 @@
 // The rows with ample memory.
 use crate::call::{Answer, Call, run};
-use crate::rows::{BRANCH, HALVES, HALVES_AND_EMPTY, LAST_SERIAL, LENGTHS, LONG_AND_SHORT, REFUSALS};
+use crate::rows::{
+    BRANCH, HALVES, HALVES_AND_EMPTY, LAST_SERIAL, LENGTHS, LONG_AND_SHORT, REFUSALS,
+};
 use std::alloc::Global;
 use std::process::Abort;
 use std::test::Fail;
