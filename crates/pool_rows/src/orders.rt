@@ -31,7 +31,11 @@ fn grown(alloc: Global, parents: [usize; POOLS]) -> Result<PoolTree<Global>, Poo
 
 // Whether the pool of a serial is as the model has it.
 fn pool_agrees(tree: &PoolTree<Global>, serial: u64, plain: Plain) -> bool {
-    let count = if plain.live { Some(u32::from(plain.filled)) } else { None };
+    let count = if plain.live {
+        Some(u32::from(plain.filled))
+    } else {
+        None
+    };
     if tree.count(PoolId(serial)) != count {
         return false;
     }
@@ -102,7 +106,10 @@ fn agrees_with_the_plain_model(rt: HostRuntime) -> Result<(), Fail> {
         for number in 0..24usize {
             for destroyed in 0..16usize {
                 let right = holds(rt.alloc(), shape, number, destroyed)?;
-                assert!(rt; right, "shape {shape}, order {number}, destroyed {destroyed}");
+                assert!(rt;
+                    right,
+                    "shape {shape}, order {number}, destroyed {destroyed}"
+                );
             }
         }
     }

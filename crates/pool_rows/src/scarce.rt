@@ -41,7 +41,12 @@ impl<'a> Scarce<'a> {
     }
 
     // Makes a call, and where memory is wanting gives the held part back and makes it again.
-    fn answer<R: Abort>(&mut self, rt: &R, alloc: Global, call: Call) -> Result<Answer, AllocError> {
+    fn answer<R: Abort>(
+        &mut self,
+        rt: &R,
+        alloc: Global,
+        call: Call,
+    ) -> Result<Answer, AllocError> {
         let before = self.counts();
         let first = answer_of(alloc, &mut self.tree, call)?;
         if first != Answer::Fault(PoolFault::Memory) {
@@ -59,10 +64,9 @@ fn is_refused<R: Abort>(
     alloc: Global,
     units: usize,
     row: &[(Call, Answer)],
-) -> Result<bool, Fail>
-{
+) -> Result<bool, Fail> {
     let heap = LocalHeap::new(alloc, HEAP)?;
-    let held = Vec::with_capacity(&heap, HEAP - (UNIT * units).min(HEAP))?;
+    let held = Vec::with_capacity(&heap, HEAP.saturating_sub(units.saturating_mul(UNIT)))?;
     let mut scarce = Scarce::new(&heap, held)?;
     for (call, want) in row {
         let got = scarce.answer(rt, alloc, *call)?;
@@ -113,7 +117,10 @@ fn forest_goes_on_after_refusals(rt: HostRuntime) -> Result<(), Fail> {
 }
 
 // Takes what is left of a heap, down to the last unit.
-fn take_rest<'a>(alloc: Global, heap: &'a LocalHeap) -> Result<Vec<Vec<u8, &'a LocalHeap>>, AllocError> {
+fn take_rest<'a>(
+    alloc: Global,
+    heap: &'a LocalHeap,
+) -> Result<Vec<Vec<u8, &'a LocalHeap>>, AllocError> {
     let mut pieces = Vec::new(alloc);
     for size in [4096usize, 256, UNIT] {
         for _ in 0..HEAP {
