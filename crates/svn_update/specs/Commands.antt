@@ -27,6 +27,7 @@ abbrev pub no_words : List (List ℕ) → Bool
 no_words [] = true
 no_words (w ∷ ws) = false
 
+-- the words, where there are just one, two or three
 abbrev pub only_word : List (List ℕ) → Option (List ℕ)
 only_word (w ∷ []) = Some w
 only_word _ = None

@@ -3,7 +3,8 @@
 --     DoesLines lines old new text      the same of lines, done one after the other, which print the text
 --     Prints script text      the text is one that the whole script prints
 --     StopsAt script n text      line n is no command, and the lines before it print the text
-use Rattle.std.specs.Prelude.{◌≡◌, ◌≢◌, ℕ, ◌+◌, Bool, true, false, List, [], ◌∷◌, ◌++◌, length, Option, Some, None, is_some, ◌⊎◌, if◌then◌else◌}
+use Rattle.std.specs.Prelude.{◌≡◌, ◌≢◌, ℕ, ◌+◌, ◌≤◌, Bool, true, false, List, [], ◌∷◌, ◌++◌, length, Option, Some, None, IfSome, is_some, ◌⊎◌, if◌then◌else◌}
+use Rattle.std.specs.Io.KnownBytes.{IsAtEnd}
 use Rattle.svn_types.specs.Names.{Path}
 use Rattle.svn_repo.specs.History.{History, look}
 use Rattle.svn_repo.specs.Changes.{IsCommit, commit_fault}
@@ -15,7 +16,7 @@ use Rattle.svn_wc.specs.Nodes.{get_in}
 use Rattle.svn_wc.specs.Standing.{IsPlain}
 use Rattle.svn_wc.specs.Builders.{checkout}
 use Rattle.svn_update.specs.declared.fault.ScriptFault.{ScriptFault}
-use Rattle.svn_update.specs.declared.fault.ScriptFault.TheVariants.{TooLong, Read}
+use Rattle.svn_update.specs.declared.fault.ScriptFault.TheVariants.{BadLine, TooLong, Read, Write}
 use Rattle.svn_update.specs.declared.outcome.Outcome.TheVariants.{Closed, Aborted}
 use Rattle.svn_update.specs.declared.outcome.RunFault.TheVariants.{NoSuchRevision as NoTarget}
 use Rattle.svn_update.specs.declared.outcome.Cause.TheVariants.{Memory as MemoryCause}
@@ -89,6 +90,9 @@ DoesLines (line ∷ lines) old new text =
 
 -- ---- whole scripts
 
+abbrev pub longest_script : ℕ
+longest_script = 16777216
+
 abbrev pub Prints : List ℕ → List ℕ → Type 0
 Prints script text = (end : ScriptState) × DoesLines (lines_of script) new_state end text
 
@@ -101,6 +105,16 @@ pub record StopsAt (script : List ℕ) (n : ℕ) (text : List ℕ) : Type 0 wher
   pub bad : command_of line ≡ None
   pub end : ScriptState
   pub done : DoesLines before new_state end text
+
+-- a reader was read to its end, and gave no script that is too long
+abbrev pub IsReadWhole : Option (List ℕ) → Option (List ℕ) → Type 0
+IsReadWhole old new = IsAtEnd new × IfSome old (λ script. length script ≤ longest_script)
+
+-- the fault is of a line or of the output, so the script was read before
+abbrev pub is_of_a_line : ScriptFault → Bool
+is_of_a_line (BadLine n) = true
+is_of_a_line Write = true
+is_of_a_line _ = false
 
 -- the script was refused before its first line ran
 abbrev pub is_refused_whole : ScriptFault → Bool

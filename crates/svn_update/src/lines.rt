@@ -1,6 +1,7 @@
 //! A script as bytes, and where its lines and words end.
 ghost use Rattle.std.specs.Prelude.{◌≡◌, ℕ, ◌<◌, ◌≤◌, ◌≢◌, ◌∷◌, [], length, nat_eq, position, Some, IfSome, IfOk, IfErr, MatchOption};
 ghost use Rattle.std.specs.List.{slice_split};
+ghost use Rattle.std.specs.Io.KnownBytes.{IsAtEnd};
 ghost use Rattle.svn_update.specs.Reading.{without_return, words_of};
 
 use crate::fault::ScriptFault;
@@ -17,8 +18,10 @@ const BLOCK: usize = 8192;
 pub(crate) fn read_script<R: Read>(alloc: Global, reader: &mut R) -> Result<Vec<u8>, ScriptFault>
     ensures bounded { IfOk result (λ v. length v.items ≤ MAX_SCRIPT) }
     ensures bytes { IfOk result (λ v. IfSome (R.remaining reader.old) (λ bytes. v.items ≡ bytes)) }
+    ensures end { IfOk result (λ _. IsAtEnd (R.remaining reader.new)) }
     ensures too_long { IfErr result (λ e. e ≡ ScriptFault.TooLong → IfSome (R.remaining reader.old) (λ bytes. MAX_SCRIPT < length bytes)) }
     ensures no_line { IfErr result (λ e. (n : ℕ) → e ≢ ScriptFault.BadLine n) }
+    ensures no_write { IfErr result (λ e. e ≢ ScriptFault.Write) }
 {
     let mut script = Vec::new(alloc);
     let mut block = [0u8; BLOCK];

@@ -2,7 +2,7 @@
 ghost use Rattle.std.specs.Prelude.{◌≡◌, ℕ, ◌≤◌, ◌<◌, List, length, IfErr, IfSome, OnOk, None, true, false};
 ghost use Rattle.std.specs.Io.KnownBytes.{Appends};
 ghost use Rattle.svn_update.specs.Commands.{command_of};
-ghost use Rattle.svn_update.specs.Scripts.{DoesLine, Prints, StopsAt, is_refused_whole};
+ghost use Rattle.svn_update.specs.Scripts.{DoesLine, IsReadWhole, Prints, StopsAt, is_of_a_line, is_refused_whole};
 
 use crate::command::read_command;
 use crate::fault::ScriptFault;
@@ -70,8 +70,8 @@ fn run_lines<W: Write>(alloc: Global, script: &[u8], writer: &mut W) -> Result<(
 
 /// Runs a script: reads it to its end, then does its lines one after the other and writes what they print, and flushes the writer at the end.
 /// BadLine where a line is no command: what the lines before it printed is written. TooLong over 16,777,216 bytes, and Read where the reader
-/// fails: no line was done. Write where the writer fails. Memory where a growth is refused while a line is read; where one is refused to a
-/// command, that command prints its refusal.
+/// fails: no line was done. Write where the writer fails, once the script was read. Memory where a growth is refused while the script or a
+/// line of it is read; where one is refused to a command, that command prints its refusal.
 ///
 /// The settings are without effect as long as driver and working copy run in turn alone.
 pub fn run_script<R: Read, W: Write>(
@@ -84,6 +84,9 @@ pub fn run_script<R: Read, W: Write>(
     ensures ok { OnOk result (IfSome (R.remaining reader.old) (λ script. (text : List ℕ) × Prints script text × Appends (W.contents writer.old) (W.contents writer.new) text)) }
     // at a bad line it is that of the lines before
     ensures bad_line { IfErr result (λ e. (n : ℕ) → e ≡ ScriptFault.BadLine n → IfSome (R.remaining reader.old) (λ script. (text : List ℕ) × StopsAt script n text × Appends (W.contents writer.old) (W.contents writer.new) text)) }
+    // lines are done only of a script that was read to its end and isn't too long
+    ensures ok_read { OnOk result (IsReadWhole (R.remaining reader.old) (R.remaining reader.new)) }
+    ensures err_read { IfErr result (λ e. is_of_a_line e ≡ true → IsReadWhole (R.remaining reader.old) (R.remaining reader.new)) }
     ensures refused_whole { IfErr result (λ e. is_refused_whole e ≡ true → writer.new ≡ writer.old) }
     ensures too_long { IfErr result (λ e. e ≡ ScriptFault.TooLong → IfSome (R.remaining reader.old) (λ script. MAX_SCRIPT < length script)) }
 {
