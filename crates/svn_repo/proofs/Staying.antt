@@ -1,6 +1,6 @@
 -- What no change removes stands on, and keeps its line: the law of lines.
-use Rattle.std.proofs.Common.{◌≡◌, ℕ, ◌-◌, ◌<◌, Bool, true, false, cond, List, [], ◌∷◌, ◌++◌, append_assoc, length, refl, arith, Option, Some, None, subst, sym, ap, ◌∙◌}
-use Rattle.std.specs.Prelude.{nat_lt, IsSome}
+use Rattle.std.proofs.Common.{◌≡◌, ℕ, Bool, true, false, cond, List, [], ◌∷◌, ◌++◌, append_assoc, length, refl, Option, Some, None, subst, sym, ap, ◌∙◌}
+use Rattle.std.specs.Prelude.{nat_lt}
 use Rattle.std.specs.List.{list_any, slice_get}
 use Rattle.std.specs.Option.{option_and_then, option_map, option_or, is_some}
 use Rattle.std.proofs.lemmas.Bool.{eq-eqb}
@@ -14,7 +14,7 @@ use Rattle.svn_repo.specs.declared.change.CommitFault.{CommitFault}
 use Rattle.svn_repo.specs.declared.change.CommitFault.TheVariants.{Exists, NotFile}
 use Rattle.svn_types.specs.Names.{Path}
 use Rattle.svn_repo.specs.History.{History, NodeRow, Nodes, node_at, child_in, walk, look}
-use Rattle.svn_repo.specs.Readings.{IsHistory, row_or_empty, line_of, kind_of, entries_of, are_related}
+use Rattle.svn_repo.specs.Readings.{IsHistory, row_or_empty, line_of, kind_of, are_related}
 use Rattle.svn_repo.specs.Walks.{rest_below, led}
 use Rattle.svn_repo.specs.Trees.{Place, Tree, place_of, place_at, tree_at, touched, touch, graft, is_within, leaf, nothing, with_prop, place_with_prop, is_directory_place}
 use Rattle.svn_repo.specs.Changes.{Pending, latest_pending, root_fault, above_fault, fault_if, depth_fault, size_fault, file_fault_at, directory_fault_at, copy_fault, copy_depth_fault, walk_fault, revision_fault, change_fault, changes_fault, after_change, after_changes, with_text, IsCommit, IsRevision, StandsIn}
