@@ -1,6 +1,7 @@
 -- What a path has after all of its actions: the node of the target where it is entered, nothing where it is gone, else what it had.
 use Rattle.std.proofs.Common.{◌≡◌, ℕ, Bool, true, false, ◌&&◌, ◌||◌, not, List, [], ◌∷◌, ◌++◌, refl, sym, ◌∙◌, ap, subst, true≢false, append_assoc, append-nil}
 use Rattle.std.proofs.Math.Bool.{and-false, and-true, not-not}
+use Rattle.std.proofs.lemmas.Bool.{and_parts}
 use Rattle.std.specs.Prelude.{Option, Some, None, is_some, cond, map, bytes_eq}
 use Rattle.std.specs.List.{cons_option}
 use Rattle.svn_types.specs.Names.{name_cmp, Path}
@@ -18,7 +19,7 @@ use Rattle.svn_wc.specs.declared.base_node.BaseNode.{BaseNode}
 use Rattle.svn_wc.specs.declared.base_node.BaseNode.TheVariants.{File as FileNode, Dir as DirNode, NotPresent}
 use Rattle.svn_wc.specs.Nodes.{WorkingCopy, is_present, is_dir, is_incomplete, node_revision, node_path, IsTrueNode, base_node_by, base_node}
 use Rattle.svn_wc.specs.Effects.{change_in, text_in, text_or}
-use Rattle.svn_law.proofs.Tests.{and_true, some_same}
+use Rattle.svn_law.proofs.Tests.{some_same}
 use Rattle.svn_law.proofs.Names.{same_bytes}
 use Rattle.svn_law.proofs.Maps.{sorted-nil}
 use Rattle.svn_law.proofs.PropChanges.{with_changes-between}
@@ -297,10 +298,10 @@ module _ (d : Request) (w : WorkingCopy) (setting : Setting d w) where
       by false = refl
 
   pub touched_kept : (p : Path) → is_touched d p ≡ true → is_kept d p ≡ true
-  touched_kept p t = (and_true (is_kept d p) _ t).0
+  touched_kept p t = (and_parts (is_kept d p) _ t).0
 
   pub new_not_kept : (p : Path) → is_new d p ≡ true → is_kept d p ≡ false
-  new_not_kept p v = sym (not-not (is_kept d p)) ∙ ap not (and_true (not (is_kept d p)) (is_some (target_node d p)) v).0
+  new_not_kept p v = sym (not-not (is_kept d p)) ∙ ap not (and_parts (not (is_kept d p)) (is_some (target_node d p)) v).0
 
   -- the final state of a path
   pub acted_all : (p : Path) (found : Option BaseNode) → (is_kept d p ≡ true → found ≡ w p) → acted d p [] found (path_actions d p) ≡ ended p found

@@ -3,7 +3,7 @@ use Rattle.std.proofs.Common.{◌≡◌, ℕ, Bool, true, false, ◌&&◌, ◌||
 use Rattle.std.proofs.Math.Bool.{or-true}
 use Rattle.std.specs.Prelude.{Option, Some, None, is_some, cond, map, bytes_eq}
 use Rattle.std.specs.List.{list_any}
-use Rattle.std.proofs.lemmas.Bool.{or_left, or_right}
+use Rattle.std.proofs.lemmas.Bool.{or_left, or_right, and_parts, not-true}
 use Rattle.std.proofs.lemmas.List.Folds.{list_any-append}
 use Rattle.svn_types.specs.Names.{Path}
 use Rattle.svn_types.specs.Props.{PropChange, changes_between}
@@ -15,7 +15,6 @@ use Rattle.svn_drive.specs.Sources.{governing_revision}
 use Rattle.svn_delta.specs.Steps.{Action, Delete, Open, Add, Change, Text, Close}
 use Rattle.svn_drive.specs.Follow.{Request, follow, is_kept, source_node, target_node}
 use Rattle.svn_drive.specs.Steps.{is_text, is_touched, is_new, is_gone, gone_actions, touched_actions, new_actions, entered_actions, text_actions, path_actions, source_props, source_text}
-use Rattle.svn_law.proofs.Tests.{and_true, not_true}
 
 -- ---- tests on actions
 
@@ -227,13 +226,13 @@ pub course_of : (d : Request) (p : Path) → Course d p (path_actions d p)
 course_of d p = as_written (target_node d p) (by (is_gone d p) (target_node d p) (is_touched d p) (is_new d p) refl refl refl refl)
   where
     kept_touched : is_touched d p ≡ true → is_kept d p ≡ true
-    kept_touched t = (and_true (is_kept d p) _ t).0
+    kept_touched t = (and_parts (is_kept d p) _ t).0
 
     not_kept_new : is_new d p ≡ true → is_kept d p ≡ false
-    not_kept_new n = not_true (is_kept d p) (and_true (not (is_kept d p)) (is_some (target_node d p)) n).0
+    not_kept_new n = not-true (is_kept d p) (and_parts (not (is_kept d p)) (is_some (target_node d p)) n).0
 
     not_kept_gone : is_gone d p ≡ true → is_kept d p ≡ false
-    not_kept_gone g = not_true (is_kept d p) (and_true (is_some (source_node d p)) (not (is_kept d p)) (and_true (is_some (source_node d p) && not (is_kept d p)) (follow d p).parent_is_kept g).0).1
+    not_kept_gone g = not-true (is_kept d p) (and_parts (is_some (source_node d p)) (not (is_kept d p)) (and_parts (is_some (source_node d p) && not (is_kept d p)) (follow d p).parent_is_kept g).0).1
 
     entered : Option ℕ → Bool → Bool → List Action
     entered None t n = []

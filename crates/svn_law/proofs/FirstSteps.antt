@@ -7,7 +7,7 @@ use Rattle.std.specs.declared.cmp.Ordering.TheVariants.{Less, Equal, Greater}
 use Rattle.std.specs.Ordering.{is_gt, ordering_then}
 use Rattle.std.specs.Cmp.Lexicographic.{slice_cmp, nat_list_cmp_total}
 use Rattle.std.specs.FinMap.{slice_cmp-IsAntisymmetric, nat_cmp-IsAntisymmetric}
-use Rattle.std.proofs.lemmas.Bool.{false_from_ne_true}
+use Rattle.std.proofs.lemmas.Bool.{false_from_ne_true, or_parts, and_parts, not-true}
 use Rattle.std.proofs.lemmas.Cmp.{tied_itself}
 use Rattle.svn_types.specs.Names.{Path, name_cmp}
 use Rattle.svn_types.specs.Paths.{path_eq, is_within, is_below}
@@ -15,7 +15,6 @@ use Rattle.svn_types.specs.declared.kind.Kind.TheVariants.{File, Directory}
 use Rattle.svn_delta.specs.Steps.{Action, Delete, Open, Add, Change, Text, Close, Step}
 use Rattle.svn_drive.specs.Follow.{Request}
 use Rattle.svn_drive.specs.Steps.{Mark, Named, End, mark_cmp, key, key_of, comes_after, has_text, InKeyOrder}
-use Rattle.svn_law.proofs.Tests.{or_false, and_true, not_true}
 use Rattle.svn_law.proofs.Names.{same_path, same_bytes, bytes_eq-same}
 use Rattle.svn_law.proofs.Courses.{is_delete, is_entry}
 use Rattle.svn_law.proofs.States.{is_at, actions_at}
@@ -27,7 +26,7 @@ longer_key [] [] x h k = absurd (true≢false k)
 longer_key [] (n ∷ q) x h k = refl
 longer_key (m ∷ p) [] x h k = absurd (true≢false (sym h))
 longer_key (m ∷ p) (n ∷ q) x h k =
-    let parts = and_true (bytes_eq m n) (is_within p q) h in
+    let parts = and_parts (bytes_eq m n) (is_within p q) h in
     let same : name_cmp n m ≡ Equal = ap (λ y. name_cmp y m) (sym (same_bytes m n parts.0)) ∙ tied_itself nat_list_cmp_total m in
     ap (λ o. is_gt (ordering_then o (slice_cmp mark_cmp (map Named q ++ x) (map Named p)))) same
     ∙ longer_key p q x parts.1 (sym (ap (λ b. b && path_eq p q) parts.0) ∙ k)
@@ -40,10 +39,10 @@ pub key_above : (d : Request) (late : Bool) (p q : Path) (a : Action) → is_bel
 key_above d late p q a b = by_action a
   where
     parts : (is_within p q ≡ true) × (not (path_eq p q) ≡ true)
-    parts = and_true (is_within p q) (not (path_eq p q)) b
+    parts = and_parts (is_within p q) (not (path_eq p q)) b
 
     apart : path_eq p q ≡ false
-    apart = not_true (path_eq p q) parts.1
+    apart = not-true (path_eq p q) parts.1
 
     plain : is_gt (slice_cmp mark_cmp (map Named q) (map Named p)) ≡ true
     plain = ap (λ k. is_gt (slice_cmp mark_cmp k (map Named p))) (sym (append-nil (map Named q))) ∙ longer_key p q [] parts.0 apart
@@ -69,11 +68,11 @@ AllSteps P (s ∷ steps) = P s × AllSteps P steps
 
 pub all_of_any : (f : Step → Bool) (steps : List Step) → list_any f steps ≡ false → AllSteps (λ t. f t ≡ false) steps
 all_of_any f [] h = tt
-all_of_any f (s ∷ steps) h = let parts = or_false (f s) (list_any f steps) h in (parts.0, all_of_any f steps parts.1)
+all_of_any f (s ∷ steps) h = let parts = or_parts (f s) (list_any f steps) h in (parts.0, all_of_any f steps parts.1)
 
 any_part : (f : Step → Bool) (xs : List Step) (s : Step) (ys : List Step) → list_any f (xs ++ s ∷ ys) ≡ false → f s ≡ false
-any_part f [] s ys h = (or_false (f s) (list_any f ys) h).0
-any_part f (x ∷ xs) s ys h = any_part f xs s ys (or_false (f x) (list_any f (xs ++ s ∷ ys)) h).1
+any_part f [] s ys h = (or_parts (f s) (list_any f ys) h).0
+any_part f (x ∷ xs) s ys h = any_part f xs s ys (or_parts (f x) (list_any f (xs ++ s ∷ ys)) h).1
 
 pub before_next : (d : Request) (late : Bool) (done : List Step) (s : Step) (rest : List Step) → InKeyOrder d late (done ++ s ∷ rest) → AllSteps (λ t. comes_after d late t s ≡ false) done
 before_next d late [] s rest h = tt

@@ -1,11 +1,11 @@
 -- What stands at each path after the first steps of a drive: what stood there before, a node that is begun, or the target's node.
 use Rattle.std.proofs.Common.{◌≡◌, ℕ, Bool, true, false, ◌||◌, List, [], ◌∷◌, ◌++◌, refl, sym, ◌∙◌, ap, subst, true≢false, append-nil}
+use Rattle.std.proofs.lemmas.Bool.{or_parts}
 use Rattle.std.specs.Prelude.{Option, Some, None, cond, map, filter}
 use Rattle.std.specs.List.{list_any}
 use Rattle.std.specs.Ordering.{is_gt}
 use Rattle.std.specs.Cmp.Lexicographic.{slice_cmp}
 use Rattle.std.proofs.lemmas.List.Folds.{list_any-append}
-use Rattle.svn_law.proofs.Tests.{or_false}
 use Rattle.svn_law.proofs.Names.{Name, same_path}
 use Rattle.svn_types.specs.Names.{Path}
 use Rattle.svn_types.specs.Paths.{child}
@@ -149,7 +149,7 @@ module _ (d : Request) (w : WorkingCopy) (setting : Setting d w) (late : Bool) (
           ∙ ap (act d p [] (Open k r)) (b f)))
           (opened p k r z f)
       by (inside k z (begun_add before inner f e h) q) =
-          let quiet = (or_false (list_any is_close before) (list_any is_close inner) (sym (ap (list_any is_close) e ∙ list_any-append is_close before (Add k ∷ inner)) ∙ c)).1 in
+          let quiet = (or_parts (list_any is_close before) (list_any is_close inner) (sym (ap (list_any is_close) e ∙ list_any-append is_close before (Add k ∷ inner)) ∙ c)).1 in
           subst (Stands p)
           (sym (ap (acted d p [] found) e ∙ acted-append d p [] before (Add k ∷ inner) found
           ∙ acted_quiet d p (before ++ Add k ∷ []) inner (Some (added_node k d.target (target_path d p))) (quiet_inner k inner h quiet)))

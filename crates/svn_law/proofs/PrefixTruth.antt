@@ -2,9 +2,8 @@
 use Rattle.std.proofs.Common.{◌≡◌, ◌≢◌, ℕ, ◌+◌, ◌≤◌, Bool, true, false, ◌&&◌, ◌||◌, not, List, [], ◌∷◌, ◌++◌, length, refl, sym, ◌∙◌, ap, subst, true≢false, zero, suc, take}
 use Rattle.std.specs.Prelude.{Option, Some, None, is_some, option_map, cond, bytes_eq}
 use Rattle.std.specs.List.{list_any}
-use Rattle.std.proofs.lemmas.Bool.{or_right}
+use Rattle.std.proofs.lemmas.Bool.{or_right, and_parts}
 use Rattle.std.specs.Map.{keys_of}
-use Rattle.svn_law.proofs.Tests.{and_true}
 use Rattle.svn_law.proofs.Names.{value_of-first, value_of_name, Name, same_bytes, bytes_eq-same, has_name}
 use Rattle.svn_types.specs.Names.{Path, IsName}
 use Rattle.svn_types.specs.Paths.{child}
@@ -224,7 +223,7 @@ module _ (d : Request) (w : WorkingCopy) (setting : Setting d w) where
               result_dir p t.0 t.1 (kept_dir_target p t.0 kept t.1 dir)
             where
               kept_up : is_kept d (child p name) ≡ true → is_kept d p ≡ true
-              kept_up e = (and_true (is_kept d p) _ (sym (is_kept-child d p name) ∙ e)).0
+              kept_up e = (and_parts (is_kept d p) _ (sym (is_kept-child d p name) ∙ e)).0
 
   -- ---- the first steps
 

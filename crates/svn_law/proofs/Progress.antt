@@ -2,9 +2,9 @@
 use Rattle.std.proofs.Common.{◌≡◌, ◌≢◌, Bool, true, false, ◌&&◌, ◌||◌, ◌⊎◌, not, List, [], ◌∷◌, ◌++◌, refl, sym, ◌∙◌, ap, subst, true≢false, inl, inr}
 use Rattle.std.specs.Prelude.{Some, None, is_some, cond, map, filter}
 use Rattle.std.specs.List.{list_any}
-use Rattle.std.proofs.lemmas.Bool.{false_from_ne_true}
+use Rattle.std.proofs.lemmas.Bool.{false_from_ne_true, or_parts, and_parts}
 use Rattle.std.proofs.lemmas.List.Folds.{list_any-append}
-use Rattle.svn_law.proofs.Tests.{or_false, or_first, and_true, dir_present}
+use Rattle.svn_law.proofs.Tests.{or_first, dir_present}
 use Rattle.svn_law.proofs.Names.{Name, same_path}
 use Rattle.svn_types.specs.Names.{Path}
 use Rattle.svn_types.specs.Paths.{path_eq, is_within, is_below, child}
@@ -44,14 +44,14 @@ taken_at d late f q (s ∷ steps) rest o h = by (is_at q s) (f s.action) refl re
       taken = s;
       at_path = same_path s.path q e;
       passes = u;
-      not_before = all_of_any (comes_after d late s) rest (or_false (list_any (comes_after d late s) steps) (list_any (comes_after d late s) rest) (sym (list_any-append (comes_after d late s) steps rest) ∙ o.0)).1;
+      not_before = all_of_any (comes_after d late s) rest (or_parts (list_any (comes_after d late s) steps) (list_any (comes_after d late s) rest) (sym (list_any-append (comes_after d late s) steps rest) ∙ o.0)).1;
     }
     by true false e u k ih = ih (sym (ap (λ b. b || list_any f (actions_at q steps)) u) ∙ k)
     by false b e u k ih = ih k
 
 pub below_deeper : (q p : Path) (name : Name) → is_below q p ≡ true → is_below q (child p name) ≡ true
 below_deeper q p name h =
-    let parts = and_true (is_within q p) (not (path_eq q p)) h in
+    let parts = and_parts (is_within q p) (not (path_eq q p)) h in
     ap (λ b. b && not (path_eq q (child p name))) (is_within-longer q p name parts.0) ∙ ap not (other parts.0)
   where
     other : is_within q p ≡ true → path_eq q (child p name) ≡ false
@@ -115,7 +115,7 @@ module _ (d : Request) (w : WorkingCopy) (setting : Setting d w) (late : Bool) (
       delete_first g e = ap (λ b. cond b (Delete (governing_revision (follow d g).here) ∷ []) [] ++ entered_actions d g (target_node d g)) e
 
       by_gone : (a : Action) (l : List Action) → actions_at p steps ≡ a ∷ l → (g : Path) → is_within g p ≡ true → is_gone d g ≡ true → (b : Bool) → path_eq g p ≡ b → ⊥
-      by_gone a l e g i u true q = true≢false (ap is_delete (heads whole) ∙ (or_false (is_delete a) (list_any is_delete l) (sym (ap (list_any is_delete) e) ∙ k)).0)
+      by_gone a l e g i u true q = true≢false (ap is_delete (heads whole) ∙ (or_parts (is_delete a) (list_any is_delete l) (sym (ap (list_any is_delete) e) ∙ k)).0)
         where
           whole : Delete (governing_revision (follow d p).here) ∷ entered_actions d p (target_node d p) ≡ a ∷ (l ++ actions_at p rest)
           whole = sym (delete_first p (ap (is_gone d) (sym (same_path g p q)) ∙ u)) ∙ sym (cut p) ∙ ap (λ x. x ++ actions_at p rest) e

@@ -2,7 +2,7 @@
 use Rattle.std.proofs.Common.{◌≡◌, ℕ, suc, Bool, true, false, ◌&&◌, ◌||◌, ◌⊎◌, List, [], ◌∷◌, ◌++◌, refl, sym, ◌∙◌, ap, subst, true≢false, append_assoc, append-nil, inl, inr, eq-eqb, ne_eqb, arith}
 use Rattle.std.specs.Prelude.{cond, map, length, nat_eq, if◌then◌else◌}
 use Rattle.std.specs.List.{list_any}
-use Rattle.std.proofs.lemmas.Bool.{eqb-true}
+use Rattle.std.proofs.lemmas.Bool.{eqb-true, and_parts}
 use Rattle.std.proofs.Math.Bool.{and-false, and-true, or-false}
 use Rattle.std.proofs.lemmas.List.Folds.{list_any-append}
 use Rattle.svn_law.proofs.Names.{Name, same_path, path_eq-same, path_eq-symm}
@@ -17,7 +17,6 @@ use Rattle.svn_drive.specs.Follow.{Request}
 use Rattle.svn_drive.specs.Steps.{IsDriveOf, path_actions}
 use Rattle.svn_drive.specs.Drive.{token_of, call_of, opened_after, numbered}
 use Rattle.svn_wc.specs.Nodes.{WorkingCopy}
-use Rattle.svn_law.proofs.Tests.{and_true}
 use Rattle.svn_law.proofs.Children.{path_cases, parent-child}
 use Rattle.svn_law.proofs.Classes.{Setting}
 use Rattle.svn_law.proofs.AfterSteps.{same_kind}
@@ -171,7 +170,7 @@ inner_at_root k a e = absurd (true≢false (sym e))
 any_entry : (k : Kind) (p : Path) (steps : List Step) → list_any (has (is_entry_of k) p) steps ≡ true → list_any (has is_entry p) steps ≡ true
 any_entry k p =
     any_implied (has (is_entry_of k) p) (has is_entry p)
-    (λ s h. let parts = and_true (path_eq s.path p) (is_entry_of k s.action) h in ap (λ b. b && is_entry s.action) parts.0 ∙ entry_of_is_entry k s.action parts.1)
+    (λ s h. let parts = and_parts (path_eq s.path p) (is_entry_of k s.action) h in ap (λ b. b && is_entry s.action) parts.0 ∙ entry_of_is_entry k s.action parts.1)
 
 -- before an open or an add at a path there is none
 pub none_twice : (d : Request) (late : Bool) (t s : Step) → is_entry s.action ≡ true → Before d late t s → has is_entry s.path t ≡ false
