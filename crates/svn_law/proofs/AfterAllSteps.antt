@@ -25,9 +25,10 @@ use Rattle.svn_law.proofs.Maps.{sorted-nil}
 use Rattle.svn_law.proofs.PropChanges.{with_changes-between}
 use Rattle.svn_law.proofs.Children.{follow-here}
 use Rattle.svn_law.proofs.Classes.{Setting, kept_directory, source_looked, shown_source}
-use Rattle.svn_law.proofs.Courses.{AllOf, all-append, all_changes}
+use Rattle.svn_law.proofs.Courses.{AllOf, all_changes}
 use Rattle.svn_law.proofs.States.{act, acted, acted-append, changes_in, texts_in}
 use Rattle.svn_law.proofs.AfterSteps.{kept_present}
+use Rattle.svn_law.proofs.Lists.{all-append}
 
 -- ---- changes and texts leave a node as it is
 
@@ -57,7 +58,7 @@ pub quiet_changes : (k : Kind) (cs : List PropChange) → AllOf is_quiet (map (C
 quiet_changes k = all_changes is_quiet k (λ c. refl)
 
 pub quiet_texts : (d : Request) (k : Kind) (cs : List PropChange) (old new : List ℕ) → AllOf is_quiet (map (Change k) cs ++ text_actions d old new)
-quiet_texts d k cs old new = all-append is_quiet (map (Change k) cs) (text_actions d old new) (quiet_changes k cs) (by (bytes_eq old new))
+quiet_texts d k cs old new = all-append (λ a. is_quiet a ≡ true) (map (Change k) cs) (text_actions d old new) (quiet_changes k cs) (by (bytes_eq old new))
   where
     by : (b : Bool) → AllOf is_quiet (cond b [] (Text (Some (d.checksum old)) new ∷ []))
     by true = tt
@@ -256,7 +257,7 @@ module _ (d : Request) (w : WorkingCopy) (setting : Setting d w) where
       cs = changes_between [] (props_of h n)
   new_all p n File before found t c x =
       ap (acted d p (before ++ Add File ∷ []) (Some NotPresent)) (sym (append_assoc (map (Change File) cs) (text ∷ []) (close ∷ [])))
-      ∙ acted_closed d p (before ++ Add File ∷ []) (map (Change File) cs ++ text ∷ []) (Some NotPresent) close (all-append is_quiet (map (Change File) cs) (text ∷ []) (quiet_changes File cs) (refl, tt))
+      ∙ acted_closed d p (before ++ Add File ∷ []) (map (Change File) cs ++ text ∷ []) (Some NotPresent) close (all-append (λ a. is_quiet a ≡ true) (map (Change File) cs) (text ∷ []) (quiet_changes File cs) (refl, tt))
       ∙ (λ i. Some (FileNode d.target (target_path d p) (text_or (texts_are i) []) (with_changes [] (changes_are i))))
       ∙ ap (λ ps. Some (FileNode d.target (target_path d p) (text_of h n) ps)) (with_changes-between [] (props_of h n) (sorted-nil name_cmp) (target_in_order p n t))
     where

@@ -15,7 +15,7 @@ use Rattle.svn_drive.specs.Drive.{token_of, call_of, opened_after, numbered}
 use Rattle.svn_wc.specs.Nodes.{WorkingCopy}
 use Rattle.svn_wc.specs.Effects.{step_effect, read_effect, effect, after_from, after}
 use Rattle.svn_law.proofs.Names.{same_path, path_eq-same}
-use Rattle.svn_law.proofs.Courses.{is_inner, is_plain, is_entry, is_entry_of, entry_of_is_entry, any_implied, AllOf, part_of, course_of, course_plain, begun_entry, Place, deleting, entering, adding, inside, place_of}
+use Rattle.svn_law.proofs.Courses.{is_inner, is_plain, is_entry, is_entry_of, entry_of_is_entry, AllOf, course_of, course_plain, begun_entry, Place, deleting, entering, adding, inside, place_of}
 use Rattle.svn_law.proofs.AfterSteps.{after_steps, stands_after}
 use Rattle.std.proofs.Math.Bool.{or-false, or-true}
 use Rattle.std.proofs.lemmas.Bool.{or_left, or_right}
@@ -23,6 +23,7 @@ use Rattle.std.proofs.lemmas.List.Folds.{list_any-append}
 use Rattle.svn_drive.specs.Steps.{IsDriveOf, path_actions}
 use Rattle.svn_law.proofs.Classes.{Setting}
 use Rattle.svn_law.proofs.States.{is_at, actions_at, state, step_cut}
+use Rattle.svn_law.proofs.Lists.{all_part, any_implied}
 
 -- ---- the paths that stand for the tokens
 
@@ -230,7 +231,7 @@ module _ (d : Request) (w : WorkingCopy) (setting : Setting d w) (late : Bool) w
   pub ready : (done steps rest : List Step) → IsDriveOf d late (done ++ (steps ++ rest)) → Ready (opened_from [] done) steps
   ready done [] rest drive = tt
   ready done (s ∷ steps) rest drive = (
-    part_of is_plain (actions_at s.path done) s.action (actions_at s.path (steps ++ rest)) (subst (AllOf is_plain) (sym own) (course_plain d s.path (path_actions d s.path) (course_of d s.path))),
+    all_part (λ a. is_plain a ≡ true) (actions_at s.path done) s.action (actions_at s.path (steps ++ rest)) (subst (AllOf is_plain) (sym own) (course_plain d s.path (path_actions d s.path) (course_of d s.path))),
     λ i. opened_done [] done s.path (opened_before s.path (actions_at s.path done) s.action (place_of d s.path (path_actions d s.path) (course_of d s.path) (actions_at s.path done) s.action (actions_at s.path (steps ++ rest)) own) i),
     subst (λ o. Ready o steps) (opened_from-append [] done (s ∷ [])) (ready (done ++ s ∷ []) steps rest (subst (IsDriveOf d late) (sym (append_assoc done (s ∷ []) (steps ++ rest))) drive)),
   )

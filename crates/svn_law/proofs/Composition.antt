@@ -1,11 +1,10 @@
 -- The calls of a drive are accepted where they are in order, and after all of them the copy is the result.
 use Rattle.std.proofs.Common.{◌≡◌, ℕ, ◌≤◌, Bool, true, List, [], ◌∷◌, ◌++◌, length, refl, sym, ◌∙◌, ap, subst, true≢false, append_assoc, append-nil, length-append}
 use Rattle.std.specs.Prelude.{Option, Some, None, option_map}
-use Rattle.std.specs.List.{cons_option}
 use Rattle.std.specs.Option.{option_or}
 use Rattle.svn_types.specs.Names.{Path}
 use Rattle.svn_repo.specs.Readings.{path_limit}
-use Rattle.svn_delta.specs.Steps.{Mode, Update, SwitchTo, Step, step_of, steps_of, target_of}
+use Rattle.svn_delta.specs.Steps.{Mode, Update, SwitchTo, Step, step_of}
 use Rattle.svn_delta.specs.declared.call.Call.{Call}
 use Rattle.svn_delta.specs.declared.fault.EditFault.TheVariants.{Order}
 use Rattle.svn_delta.specs.declared.call.Call.TheVariants.{SetTargetRevision, CloseEdit}
@@ -16,8 +15,8 @@ use Rattle.svn_drive.specs.Drive.{call_of, opened_after, numbered, calls_of, IsD
 use Rattle.svn_wc.specs.declared.base_node.BaseNode.{BaseNode}
 use Rattle.svn_wc.specs.declared.base_node.BaseNode.TheVariants.{File as FileNode, Dir as DirNode, NotPresent}
 use Rattle.svn_wc.specs.Nodes.{WorkingCopy, get_in, is_present, base_node}
-use Rattle.svn_wc.specs.Effects.{settled, effect, read_fault, edit_fault, refusal, step_effect, PathsFit, AllAcceptedFrom, AllAccepted}
-use Rattle.svn_law.specs.Laws.{request_of, Composes, composition}
+use Rattle.svn_wc.specs.Effects.{settled, effect, read_fault, edit_fault, refusal, PathsFit, AllAcceptedFrom, AllAccepted}
+use Rattle.svn_law.specs.Laws.{request_of, composition}
 use Rattle.svn_law.proofs.Classes.{Setting, switched_to}
 use Rattle.svn_law.proofs.States.{state}
 use Rattle.svn_law.proofs.AfterSteps.{stands_after}

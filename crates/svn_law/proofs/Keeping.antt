@@ -11,8 +11,9 @@ use Rattle.svn_wc.specs.declared.base_node.BaseNode.TheVariants.{File as FileNod
 use Rattle.svn_wc.specs.Nodes.{is_present, is_dir, node_path}
 use Rattle.svn_wc.specs.Effects.{added_node}
 use Rattle.svn_law.proofs.Tests.{dir_present}
-use Rattle.svn_law.proofs.Courses.{inner_of, AllOf, all_implied, Course, nothing, gone_only, touched, added, replaced}
+use Rattle.svn_law.proofs.Courses.{inner_of, AllOf, Course, nothing, gone_only, touched, added, replaced}
 use Rattle.svn_law.proofs.States.{acted, acted-append, act}
+use Rattle.svn_law.proofs.Lists.{all_map}
 
 -- ---- the place in the target
 
@@ -60,7 +61,7 @@ leaves (Add k) = false
 leaves _ = true
 
 pub inner_leaves : (k : Kind) (acts : List Action) → AllOf (inner_of k) acts → AllOf leaves acts
-inner_leaves k = all_implied (inner_of k) leaves each
+inner_leaves k = all_map (λ a. inner_of k a ≡ true) (λ a. leaves a ≡ true) each
   where
     each : (a : Action) → inner_of k a ≡ true → leaves a ≡ true
     each (Delete r) e = e

@@ -22,7 +22,7 @@ use Rattle.svn_wc.specs.Nodes.{WorkingCopy, IsWorkingCopy, is_present, is_dir, n
 use Rattle.svn_law.specs.Result.{result}
 use Rattle.svn_law.proofs.Children.{entry_below, look-child}
 use Rattle.svn_law.proofs.Classes.{Setting, is_kept-child, kept_related, target_path-child}
-use Rattle.svn_law.proofs.Courses.{is_entry, is_entry_of, entry_of_is_entry, any_implied, is_close_of, course_of, course_closed, entered_entry}
+use Rattle.svn_law.proofs.Courses.{is_entry, is_entry_of, entry_of_is_entry, is_close_of, course_of, course_closed, entered_entry}
 use Rattle.svn_law.proofs.States.{actions_at, acted, is_deleted_above, base, state}
 use Rattle.svn_law.proofs.FirstSteps.{NoneMain}
 use Rattle.svn_law.proofs.AfterSteps.{kept_present}
@@ -37,6 +37,7 @@ use Rattle.svn_wc.specs.Effects.{after}
 use Rattle.svn_law.specs.Laws.{prefixes_true, request_of}
 use Rattle.svn_law.proofs.AfterCalls.{after-first}
 use Rattle.svn_law.proofs.EndsAsResult.{ends, setting_of}
+use Rattle.svn_law.proofs.Lists.{any_implied}
 
 -- ---- names and entries
 

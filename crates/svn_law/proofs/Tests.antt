@@ -1,5 +1,5 @@
 -- Tests that pass or fail, and what their parts do then.
-use Rattle.std.proofs.Common.{◌≡◌, ℕ, Bool, true, false, ◌&&◌, ◌||◌, not, refl, sym, ◌∙◌, true≢false, eq-eqb}
+use Rattle.std.proofs.Common.{◌≡◌, ℕ, Bool, true, false, ◌||◌, refl, sym, ◌∙◌, true≢false, eq-eqb}
 use Rattle.std.specs.Prelude.{Option, Some, None, is_some, nat_eq}
 use Rattle.svn_wc.specs.declared.base_node.BaseNode.{BaseNode}
 use Rattle.svn_wc.specs.declared.base_node.BaseNode.TheVariants.{File as FileNode, Dir as DirNode, NotPresent}
