@@ -149,6 +149,7 @@ pub record ReadAs (d : Request) (earlier : List Call) (opened : List Path) (done
   pub target : (more : List Call) → target_of (earlier ++ more) ≡ d.target
   pub steps : steps_of earlier ≡ done
 
+-- the first call is no step's
 pub read_begun : (d : Request) → ReadAs d (SetTargetRevision d.target ∷ []) [] []
 read_begun d = record { gives = refl; target = λ more. refl; steps = refl }
 

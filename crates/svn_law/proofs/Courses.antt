@@ -89,6 +89,7 @@ same_kinds File Directory h = absurd (true≢false (sym h))
 same_kinds Directory File h = absurd (true≢false (sym h))
 same_kinds Directory Directory h = refl
 
+-- what is inside a node of one kind is inside, and an entry of one kind is an entry
 pub inner_is_inner : (k : Kind) (a : Action) → inner_of k a ≡ true → is_inner a ≡ true
 inner_is_inner k (Change l c) e = refl
 inner_is_inner k (Text s t) e = refl
@@ -109,6 +110,7 @@ AllOf f acts = AllByRecursion (λ a. f a ≡ true) acts
 none_excluded : (f g : Action → Bool) → ((a : Action) → f a ≡ true → g a ≡ false) → (acts : List Action) → AllOf f acts → list_any g acts ≡ false
 none_excluded f g e acts h = none_any g acts (all_map (λ a. f a ≡ true) (λ a. g a ≡ false) e acts h)
 
+-- property changes pass a test that each change passes
 pub all_changes : (f : Action → Bool) (k : Kind) → ((c : PropChange) → f (Change k c) ≡ true) → (cs : List PropChange) → AllOf f (map (Change k) cs)
 all_changes f k e [] = tt
 all_changes f k e (c ∷ cs) = (e c, all_changes f k e cs)

@@ -139,7 +139,6 @@ kept_base d w late done rest drive p k = ap (λ b. cond b None (w p)) (none_dele
 
 -- ---- what isn't kept is
 
--- of a present node that isn't kept, the path or one above is gone
 module _ (d : Request) (w : WorkingCopy) (setting : Setting d w) where
   abbrev GoneAbove : Path → Type 0
   GoneAbove p = is_present (w p) ≡ true → is_kept d p ≡ false → (q : Path) × (is_within q p ≡ true) × (is_gone d q ≡ true)
@@ -162,5 +161,6 @@ module _ (d : Request) (w : WorkingCopy) (setting : Setting d w) where
       )
       by false e = let r = ih above e in (r.0, is_within-longer r.0 p name r.1, r.2)
 
+  -- of a present node that isn't kept, the path or one above is gone
   pub gone_above : (p : Path) → GoneAbove p
   gone_above = path_ind GoneAbove (λ present k. absurd (true≢false k)) gone_child

@@ -50,6 +50,7 @@ taken_at d late f q (s ∷ steps) rest o h = by (is_at q s) (f s.action) refl re
     by true false e u k ih = ih (sym (ap (λ b. b || list_any f (actions_at q steps)) u) ∙ k)
     by false b e u k ih = ih k
 
+-- what stands above a path stands above its children
 pub below_deeper : (q p : Path) (name : Name) → is_below q p ≡ true → is_below q (child p name) ≡ true
 below_deeper q p name h =
     let parts = and_parts (is_within q p) (not (path_eq q p)) h in
@@ -58,6 +59,7 @@ below_deeper q p name h =
     other : is_within q p ≡ true → path_eq q (child p name) ≡ false
     other i = false_from_ne_true (path_eq q (child p name)) (λ e. true≢false (sym i ∙ ap (λ x. is_within x p) (same_path q (child p name) e) ∙ within_shorter p name))
 
+-- where a path is taken away its children are
 still_deleted : (p : Path) (name : Name) (steps : List Step) → is_deleted_above steps p ≡ true → is_deleted_above steps (child p name) ≡ true
 still_deleted p name steps h = let x = deleter p steps h in deleted_by x.path (child p name) steps x.deletes (below_deeper x.path p name x.above)
 

@@ -1,4 +1,4 @@
--- Tests that pass or fail, and what their parts do then.
+-- Small facts of tests, options and nodes.
 use Rattle.std.proofs.Common.{◌≡◌, ℕ, Bool, true, false, ◌||◌, refl, sym, ◌∙◌, true≢false, eq-eqb}
 use Rattle.std.specs.Prelude.{Option, Some, None, is_some, nat_eq}
 use Rattle.svn_wc.specs.declared.base_node.BaseNode.{BaseNode}
