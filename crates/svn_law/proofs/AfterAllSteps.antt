@@ -1,6 +1,7 @@
 -- What a path has after all of its actions: the node of the target where it is entered, nothing where it is gone, else what it had.
 use Rattle.std.proofs.Common.{◌≡◌, ℕ, Bool, true, false, ◌&&◌, ◌||◌, not, List, [], ◌∷◌, ◌++◌, refl, sym, ◌∙◌, ap, subst, true≢false, append_assoc, append-nil}
 use Rattle.std.proofs.Math.Bool.{and-false, and-true, not-not}
+use Rattle.std.proofs.lemmas.Bool.{and_parts}
 use Rattle.std.specs.Prelude.{Option, Some, None, is_some, cond, map, bytes_eq}
 use Rattle.std.specs.List.{cons_option}
 use Rattle.svn_types.specs.Names.{name_cmp, Path}
@@ -18,15 +19,16 @@ use Rattle.svn_wc.specs.declared.base_node.BaseNode.{BaseNode}
 use Rattle.svn_wc.specs.declared.base_node.BaseNode.TheVariants.{File as FileNode, Dir as DirNode, NotPresent}
 use Rattle.svn_wc.specs.Nodes.{WorkingCopy, is_present, is_dir, is_incomplete, node_revision, node_path, IsTrueNode, base_node_by, base_node}
 use Rattle.svn_wc.specs.Effects.{change_in, text_in, text_or}
-use Rattle.svn_law.proofs.Tests.{and_true, some_same}
+use Rattle.svn_law.proofs.Tests.{some_same}
 use Rattle.svn_law.proofs.Names.{same_bytes}
 use Rattle.svn_law.proofs.Maps.{sorted-nil}
 use Rattle.svn_law.proofs.PropChanges.{with_changes-between}
 use Rattle.svn_law.proofs.Children.{follow-here}
 use Rattle.svn_law.proofs.Classes.{Setting, kept_directory, source_looked, shown_source}
-use Rattle.svn_law.proofs.Courses.{AllOf, all-append, all_changes}
+use Rattle.svn_law.proofs.Courses.{AllOf, all_changes}
 use Rattle.svn_law.proofs.States.{act, acted, acted-append, changes_in, texts_in}
 use Rattle.svn_law.proofs.AfterSteps.{kept_present}
+use Rattle.svn_law.proofs.Lists.{all-append}
 
 -- ---- changes and texts leave a node as it is
 
@@ -56,7 +58,7 @@ pub quiet_changes : (k : Kind) (cs : List PropChange) → AllOf is_quiet (map (C
 quiet_changes k = all_changes is_quiet k (λ c. refl)
 
 pub quiet_texts : (d : Request) (k : Kind) (cs : List PropChange) (old new : List ℕ) → AllOf is_quiet (map (Change k) cs ++ text_actions d old new)
-quiet_texts d k cs old new = all-append is_quiet (map (Change k) cs) (text_actions d old new) (quiet_changes k cs) (by (bytes_eq old new))
+quiet_texts d k cs old new = all-append (λ a. is_quiet a ≡ true) (map (Change k) cs) (text_actions d old new) (quiet_changes k cs) (by (bytes_eq old new))
   where
     by : (b : Bool) → AllOf is_quiet (cond b [] (Text (Some (d.checksum old)) new ∷ []))
     by true = tt
@@ -255,7 +257,7 @@ module _ (d : Request) (w : WorkingCopy) (setting : Setting d w) where
       cs = changes_between [] (props_of h n)
   new_all p n File before found t c x =
       ap (acted d p (before ++ Add File ∷ []) (Some NotPresent)) (sym (append_assoc (map (Change File) cs) (text ∷ []) (close ∷ [])))
-      ∙ acted_closed d p (before ++ Add File ∷ []) (map (Change File) cs ++ text ∷ []) (Some NotPresent) close (all-append is_quiet (map (Change File) cs) (text ∷ []) (quiet_changes File cs) (refl, tt))
+      ∙ acted_closed d p (before ++ Add File ∷ []) (map (Change File) cs ++ text ∷ []) (Some NotPresent) close (all-append (λ a. is_quiet a ≡ true) (map (Change File) cs) (text ∷ []) (quiet_changes File cs) (refl, tt))
       ∙ (λ i. Some (FileNode d.target (target_path d p) (text_or (texts_are i) []) (with_changes [] (changes_are i))))
       ∙ ap (λ ps. Some (FileNode d.target (target_path d p) (text_of h n) ps)) (with_changes-between [] (props_of h n) (sorted-nil name_cmp) (target_in_order p n t))
     where
@@ -297,10 +299,10 @@ module _ (d : Request) (w : WorkingCopy) (setting : Setting d w) where
       by false = refl
 
   pub touched_kept : (p : Path) → is_touched d p ≡ true → is_kept d p ≡ true
-  touched_kept p t = (and_true (is_kept d p) _ t).0
+  touched_kept p t = (and_parts (is_kept d p) _ t).0
 
   pub new_not_kept : (p : Path) → is_new d p ≡ true → is_kept d p ≡ false
-  new_not_kept p v = sym (not-not (is_kept d p)) ∙ ap not (and_true (not (is_kept d p)) (is_some (target_node d p)) v).0
+  new_not_kept p v = sym (not-not (is_kept d p)) ∙ ap not (and_parts (not (is_kept d p)) (is_some (target_node d p)) v).0
 
   -- the final state of a path
   pub acted_all : (p : Path) (found : Option BaseNode) → (is_kept d p ≡ true → found ≡ w p) → acted d p [] found (path_actions d p) ≡ ended p found

@@ -15,7 +15,7 @@ use Rattle.svn_drive.specs.Drive.{token_of, call_of, opened_after, numbered}
 use Rattle.svn_wc.specs.Nodes.{WorkingCopy}
 use Rattle.svn_wc.specs.Effects.{step_effect, read_effect, effect, after_from, after}
 use Rattle.svn_law.proofs.Names.{same_path, path_eq-same}
-use Rattle.svn_law.proofs.Courses.{is_inner, is_plain, is_entry, is_entry_of, entry_of_is_entry, any_implied, AllOf, part_of, course_of, course_plain, begun_entry, Place, deleting, entering, adding, inside, place_of}
+use Rattle.svn_law.proofs.Courses.{is_inner, is_plain, is_entry, is_entry_of, entry_of_is_entry, AllOf, course_of, course_plain, begun_entry, Place, deleting, entering, adding, inside, place_of}
 use Rattle.svn_law.proofs.AfterSteps.{after_steps, stands_after}
 use Rattle.std.proofs.Math.Bool.{or-false, or-true}
 use Rattle.std.proofs.lemmas.Bool.{or_left, or_right}
@@ -23,6 +23,7 @@ use Rattle.std.proofs.lemmas.List.Folds.{list_any-append}
 use Rattle.svn_drive.specs.Steps.{IsDriveOf, path_actions}
 use Rattle.svn_law.proofs.Classes.{Setting}
 use Rattle.svn_law.proofs.States.{is_at, actions_at, state, step_cut}
+use Rattle.svn_law.proofs.Lists.{all_part, any_implied}
 
 -- ---- the paths that stand for the tokens
 
@@ -142,25 +143,45 @@ effect-read mode earlier CloseEdit w x e = absurd (none e)
     none q = cc
 effect-read mode earlier c w x e = ap (λ o. read_effect mode (target_of earlier) (steps_of earlier) o w) e
 
+-- the earlier calls are those of the steps done, and have given the tokens of the opened paths
+pub record ReadAs (d : Request) (earlier : List Call) (opened : List Path) (done : List Step) : Type 0 where
+  pub gives : GivesPaths earlier opened
+  pub target : (more : List Call) → target_of (earlier ++ more) ≡ d.target
+  pub steps : steps_of earlier ≡ done
+
+-- the first call is no step's
+pub read_begun : (d : Request) → ReadAs d (SetTargetRevision d.target ∷ []) [] []
+read_begun d = record { gives = refl; target = λ more. refl; steps = refl }
+
+module _ (d : Request) (earlier : List Call) (opened : List Path) (done : List Step) (x : Step) (steps : List Step) (r : ReadAs d earlier opened done) (ready : Ready opened (x ∷ steps)) where
+  abbrev pub next_call : Call
+  next_call = call_of opened x.path x.action
+
+  -- the call of the next step is read as that step, does what it does, and may be added
+  pub next_read : step_of earlier next_call ≡ Some x
+  next_read = step_of-call earlier opened x.path x.action r.gives ready.0 ready.1
+
+  pub next_effect : (w : WorkingCopy) → effect d.mode earlier next_call w ≡ step_effect d.mode d.target done x w
+  next_effect w =
+      effect-read d.mode earlier next_call w x next_read
+      ∙ ap (λ n. step_effect d.mode n (steps_of earlier) x w) (sym (ap target_of (append-nil earlier)) ∙ r.target []) ∙ ap (λ e. step_effect d.mode d.target e x w) r.steps
+
+  pub next_added : ReadAs d (earlier ++ next_call ∷ []) (opened_after opened x.path x.action) (done ++ x ∷ [])
+  next_added = record {
+    gives = gives_call earlier opened x.path x.action r.gives;
+    target = λ more. ap target_of (append_assoc earlier (next_call ∷ []) more) ∙ r.target (next_call ∷ more);
+    steps = steps_after-append [] earlier (next_call ∷ []) ∙ (λ i. r.steps i ++ cons_option (next_read i) []);
+  }
+
 -- the copy after the calls of some steps is the copy after the steps
-pub after-numbered : (d : Request) (earlier : List Call) (opened : List Path) (done steps : List Step) (w : WorkingCopy) → GivesPaths earlier opened → target_of earlier ≡ d.target
-    → ((more : List Call) → target_of (earlier ++ more) ≡ d.target) → steps_of earlier ≡ done → Ready opened steps
+pub after-numbered : (d : Request) (earlier : List Call) (opened : List Path) (done steps : List Step) (w : WorkingCopy) → ReadAs d earlier opened done → Ready opened steps
     → after_from d.mode earlier w (numbered opened steps) ≡ after_steps d done w steps
-after-numbered d earlier opened done [] w g t m s r = refl
-after-numbered d earlier opened done (x ∷ steps) w g t m s r =
-    ap (λ v. after_from d.mode (earlier ++ c ∷ []) v (numbered (opened_after opened x.path x.action) steps)) one
+after-numbered d earlier opened done [] w r ready = refl
+after-numbered d earlier opened done (x ∷ steps) w r ready =
+    let c = call_of opened x.path x.action in
+    ap (λ v. after_from d.mode (earlier ++ c ∷ []) v (numbered (opened_after opened x.path x.action) steps)) (next_effect d earlier opened done x steps r ready w)
     ∙ after-numbered d (earlier ++ c ∷ []) (opened_after opened x.path x.action) (done ++ x ∷ []) steps (step_effect d.mode d.target done x w)
-    (gives_call earlier opened x.path x.action g) (m (c ∷ [])) (λ more. ap target_of (append_assoc earlier (c ∷ []) more) ∙ m (c ∷ more))
-    (steps_after-append [] earlier (c ∷ []) ∙ (λ i. s i ++ cons_option (read i) [])) r.2
-  where
-    c : Call
-    c = call_of opened x.path x.action
-
-    read : step_of earlier c ≡ Some x
-    read = step_of-call earlier opened x.path x.action g r.0 r.1
-
-    one : effect d.mode earlier c w ≡ step_effect d.mode d.target done x w
-    one = effect-read d.mode earlier c w x read ∙ ap (λ n. step_effect d.mode n (steps_of earlier) x w) t ∙ ap (λ e. step_effect d.mode d.target e x w) s
+    (next_added d earlier opened done x steps r ready) ready.2
 
 -- ---- what is opened
 
@@ -211,7 +232,7 @@ module _ (d : Request) (w : WorkingCopy) (setting : Setting d w) (late : Bool) w
   pub ready : (done steps rest : List Step) → IsDriveOf d late (done ++ (steps ++ rest)) → Ready (opened_from [] done) steps
   ready done [] rest drive = tt
   ready done (s ∷ steps) rest drive = (
-    part_of is_plain (actions_at s.path done) s.action (actions_at s.path (steps ++ rest)) (subst (AllOf is_plain) (sym own) (course_plain d s.path (path_actions d s.path) (course_of d s.path))),
+    all_part (λ a. is_plain a ≡ true) (actions_at s.path done) s.action (actions_at s.path (steps ++ rest)) (subst (AllOf is_plain) (sym own) (course_plain d s.path (path_actions d s.path) (course_of d s.path))),
     λ i. opened_done [] done s.path (opened_before s.path (actions_at s.path done) s.action (place_of d s.path (path_actions d s.path) (course_of d s.path) (actions_at s.path done) s.action (actions_at s.path (steps ++ rest)) own) i),
     subst (λ o. Ready o steps) (opened_from-append [] done (s ∷ [])) (ready (done ++ s ∷ []) steps rest (subst (IsDriveOf d late) (sym (append_assoc done (s ∷ []) (steps ++ rest))) drive)),
   )
@@ -223,5 +244,5 @@ module _ (d : Request) (w : WorkingCopy) (setting : Setting d w) (late : Bool) w
   pub after-first : (steps rest : List Step) → IsDriveOf d late (steps ++ rest) → (p : Path)
       → after d.mode w (SetTargetRevision d.target ∷ numbered [] steps) p ≡ state d w steps p
   after-first steps rest drive p =
-      ap (λ v. v p) (after-numbered d (SetTargetRevision d.target ∷ []) [] [] steps w refl refl (λ more. refl) refl (ready [] steps rest drive))
+      ap (λ v. v p) (after-numbered d (SetTargetRevision d.target ∷ []) [] [] steps w (read_begun d) (ready [] steps rest drive))
       ∙ stands_after d w setting late [] steps rest drive w (λ q. refl) p

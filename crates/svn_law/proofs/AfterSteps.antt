@@ -21,11 +21,12 @@ use Rattle.svn_wc.specs.Nodes.{WorkingCopy, is_present, is_dir, is_not_present, 
 use Rattle.svn_wc.specs.Effects.{joined_path, moved_path, opened_directory, closed_directory, closed_file, added_node, stepped, step_effect, texts_at}
 use Rattle.svn_law.proofs.Children.{path_cases, parent-child, last_name-child, is_root-child, follow-here}
 use Rattle.svn_law.proofs.Classes.{Setting, switched_to, EnteredDirectory, entered_below, is_below-child, target_path-child, own_path, kept_related, kept_dir, path_eq-child}
-use Rattle.svn_law.proofs.Courses.{entered_entry, is_delete, is_entry, is_entry_of, entry_of_is_entry, any_implied, is_inner, inner_of, AllOf, TargetKind, Course, course_of, Begun, begun_open, begun_add, begun_whole, Place, deleting, entering, adding, inside, place_of}
+use Rattle.svn_law.proofs.Courses.{entered_entry, is_delete, is_entry, is_entry_of, entry_of_is_entry, is_inner, inner_of, AllOf, TargetKind, Course, course_of, Begun, begun_open, begun_add, begun_whole, Place, deleting, entering, adding, inside, place_of}
 use Rattle.svn_law.proofs.States.{is_at, actions_at, changes_at-actions, texts_at-actions, acted, acted-append, act, changes_in, texts_in, base, state, state-more, FitsAt, path_cut, step_cut}
 use Rattle.svn_law.proofs.FirstSteps.{before_next, after_next, none_below_next, is_main, main_key, NoneMain, none_main_left, delete_is_main}
 use Rattle.svn_law.proofs.Deletes.{kept_base}
 use Rattle.svn_law.proofs.Keeping.{PathIs, acted_path, added_path, inner_leaves, keep_dir, keep_present}
+use Rattle.svn_law.proofs.Lists.{any_implied}
 
 -- ---- the step at its own path
 

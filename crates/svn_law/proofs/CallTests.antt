@@ -1,7 +1,7 @@
 -- What the calls of some steps say: each test on earlier calls as a test on the steps.
 use Rattle.std.proofs.Common.{◌≡◌, ℕ, suc, Bool, true, false, ◌&&◌, ◌||◌, not, List, [], ◌∷◌, ◌++◌, refl, sym, ◌∙◌, ap, true≢false}
 use Rattle.std.specs.Prelude.{Option, Some, None, cond, map, length, slice_get, nat_eq, filter_map, fold}
-use Rattle.std.specs.List.{list_any, cons_option}
+use Rattle.std.specs.List.{list_any, cons_option, AllByRecursion}
 use Rattle.std.proofs.Math.Bool.{and-false, and-true}
 use Rattle.std.proofs.lemmas.Bool.{or_right}
 use Rattle.svn_types.specs.Names.{Path}
@@ -14,7 +14,6 @@ use Rattle.svn_delta.specs.declared.call.Call.{Call}
 use Rattle.svn_delta.specs.declared.call.Call.TheVariants.{OpenRoot, OpenDirectory}
 use Rattle.svn_drive.specs.Steps.{is_text}
 use Rattle.svn_law.proofs.Names.{same_path}
-use Rattle.svn_law.proofs.FirstSteps.{AllSteps}
 use Rattle.svn_law.proofs.Courses.{is_delete, is_entry, is_entry_of, is_close}
 use Rattle.svn_law.proofs.StepOrder.{has}
 use Rattle.svn_law.proofs.TokenNumbers.{call_by, call_at, entered, Tells, is_root_action}
@@ -41,7 +40,7 @@ either_call f x false c e h k = k
 
 module _ (T : Path → ℕ) where
   -- a test that no call of the steps passes, and one that some call passes
-  pub none_in : (f : Call → Bool) (xs : List Step) → AllSteps (λ x. f (call_at T x) ≡ false) xs → list_any f (map (call_at T) xs) ≡ false
+  pub none_in : (f : Call → Bool) (xs : List Step) → AllByRecursion (λ x. f (call_at T x) ≡ false) xs → list_any f (map (call_at T) xs) ≡ false
   none_in f [] h = refl
   none_in f (x ∷ xs) h = ap (λ b. b || list_any f (map (call_at T) xs)) h.0 ∙ none_in f xs h.1
 
@@ -66,7 +65,7 @@ module _ (T : Path → ℕ) where
       by (Some g) ih = ap (λ (l : List Given). g ∷ l) ih
 
   -- a test that nothing given passes
-  pub none_given : (f : Given → Bool) (xs : List Step) → AllSteps (λ x. on_given f (given_by (call_at T x)) ≡ false) xs → list_any f (gives xs) ≡ false
+  pub none_given : (f : Given → Bool) (xs : List Step) → AllByRecursion (λ x. on_given f (given_by (call_at T x)) ≡ false) xs → list_any f (gives xs) ≡ false
   none_given f [] h = refl
   none_given f (x ∷ xs) h = by (given_by (call_at T x)) h.0 (none_given f xs h.1)
     where

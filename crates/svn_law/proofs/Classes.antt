@@ -3,8 +3,8 @@ use Rattle.std.proofs.Common.{append_assoc, append-nil, ◌≡◌, ◌≢◌, �
 use Rattle.std.specs.Prelude.{Option, Some, None, is_some, cond, bytes_eq}
 use Rattle.std.specs.List.{list_any}
 use Rattle.std.specs.Option.{option_or}
-use Rattle.std.proofs.lemmas.Bool.{eqb-true}
-use Rattle.svn_law.proofs.Tests.{or_false, and_true, not_false, nat_eq-same, some_number, some_same, dir_present}
+use Rattle.std.proofs.lemmas.Bool.{eqb-true, or_parts, and_parts, not-false}
+use Rattle.svn_law.proofs.Tests.{nat_eq-same, some_number, some_same, dir_present}
 use Rattle.std.proofs.Math.Bool.{and-false}
 use Rattle.svn_law.proofs.Names.{Name, same_path, bytes_eq-same}
 use Rattle.svn_types.specs.Names.{Path}
@@ -47,19 +47,19 @@ is_within-longer [] [] name h = absurd (true≢false (sym h))
 is_within-longer [] (n ∷ q) name h = (refl, refl)
 is_within-longer (m ∷ p) [] name h = absurd (true≢false (sym h))
 is_within-longer (m ∷ p) (n ∷ q) name h =
-    let parts = and_true (bytes_eq m n) (is_within (child p name) q) h in
+    let parts = and_parts (bytes_eq m n) (is_within (child p name) q) h in
     let ih = is_within-longer p q name parts.1 in
     (ap (λ b. b && is_within p q) parts.0 ∙ ih.0, ap (λ b. b && path_eq p q) parts.0 ∙ ih.1)
 
 is_below-longer : (p q : Path) (name : Name) → is_below (child p name) q ≡ true → is_below p q ≡ true
 is_below-longer p q name h =
-    let w = is_within-longer p q name (and_true (is_within (child p name) q) (not (path_eq (child p name) q)) h).0 in
+    let w = is_within-longer p q name (and_parts (is_within (child p name) q) (not (path_eq (child p name) q)) h).0 in
     ap (λ b. b && not (path_eq p q)) w.0 ∙ ap not w.1
 
 none_below-child : (es : List (Path × ReportEntry)) (p : Path) (name : Name) → list_any (λ e. is_below p e.0) es ≡ false → list_any (λ e. is_below (child p name) e.0) es ≡ false
 none_below-child [] p name h = refl
 none_below-child (e ∷ es) p name h =
-    let parts = or_false (is_below p e.0) (list_any (λ f. is_below p f.0) es) h in
+    let parts = or_parts (is_below p e.0) (list_any (λ f. is_below p f.0) es) h in
     by (is_below (child p name) e.0) refl parts.0 (none_below-child es p name parts.1)
   where
     by : (b : Bool) → is_below (child p name) e.0 ≡ b → is_below p e.0 ≡ false → list_any (λ f. is_below (child p name) f.0) es ≡ false → (b || list_any (λ f. is_below (child p name) f.0) es) ≡ false
@@ -69,7 +69,7 @@ none_below-child (e ∷ es) p name h =
 none_at-child : (es : List (Path × ReportEntry)) (p : Path) (name : Name) → list_any (λ e. is_below p e.0) es ≡ false → entry_at es (child p name) ≡ None
 none_at-child [] p name h = refl
 none_at-child (e ∷ es) p name h =
-    let parts = or_false (is_below p e.0) (list_any (λ f. is_below p f.0) es) h in
+    let parts = or_parts (is_below p e.0) (list_any (λ f. is_below p f.0) es) h in
     by (path_eq e.0 (child p name)) refl parts.0 (none_at-child es p name parts.1)
   where
     by : (b : Bool) → path_eq e.0 (child p name) ≡ b → is_below p e.0 ≡ false → entry_at es (child p name) ≡ None → cond b (Some e.1) (entry_at es (child p name)) ≡ None
@@ -167,7 +167,7 @@ module _ (d : Request) (w : WorkingCopy) (setting : Setting d w) where
       child_case : (p : Path) (name : Name) → (is_kept d p ≡ true → are_related h (source_node d p) (target_node d p) ≡ true)
           → is_kept d (child p name) ≡ true → are_related h (source_node d (child p name)) (target_node d (child p name)) ≡ true
       child_case p name ih k =
-          let parts = and_true (is_kept d p) (are_related h (source_node d (child p name)) (look h d.target (candidate_at d p name))) (sym (is_kept-child d p name) ∙ k) in
+          let parts = and_parts (is_kept d p) (are_related h (source_node d (child p name)) (look h d.target (candidate_at d p name))) (sym (is_kept-child d p name) ∙ k) in
           ap (λ q. are_related h (source_node d (child p name)) (look h d.target q))
           (target_path-child d p name ∙ ap (λ b. cond b (candidate_at d p name) (child (target_path d p) name)) k) ∙ parts.1
 
@@ -193,11 +193,11 @@ module _ (d : Request) (w : WorkingCopy) (setting : Setting d w) where
 
   same_below : (p : Path) (name : Name) → is_kept d p ≡ true → is_touched d p ≡ false → SameBelow p name
   same_below p name k t =
-      let or1 = or_false (is_root p || not (number_eq (source_node d p) (target_node d p)) || starts_empty_at d p) (has_entry_below d.report.entries p)
+      let or1 = or_parts (is_root p || not (number_eq (source_node d p) (target_node d p)) || starts_empty_at d p) (has_entry_below d.report.entries p)
       (sym (ap (λ b. b && (is_root p || not (number_eq (source_node d p) (target_node d p)) || starts_empty_at d p || has_entry_below d.report.entries p)) k) ∙ t) in
-      let or2 = or_false (is_root p || not (number_eq (source_node d p) (target_node d p))) (starts_empty_at d p) or1.0 in
-      let or3 = or_false (is_root p) (not (number_eq (source_node d p) (target_node d p))) or2.0 in
-      let both = both_nodes h (source_node d p) (target_node d p) (kept_related p k) (not_false _ or3.1) in
+      let or2 = or_parts (is_root p || not (number_eq (source_node d p) (target_node d p))) (starts_empty_at d p) or1.0 in
+      let or3 = or_parts (is_root p) (not (number_eq (source_node d p) (target_node d p))) or2.0 in
+      let both = both_nodes h (source_node d p) (target_node d p) (kept_related p k) (not-false _ or3.1) in
       let n = both.0 in
       let own : (says (child p name)).own ≡ None = own-is d.report (child p name) ∙ none_at-child d.report.entries p name or1.1 in
       let src : source h (says p) ≡ Some n = sym (ap (source h) (follow-here d p)) ∙ both.1 in

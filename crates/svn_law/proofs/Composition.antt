@@ -1,11 +1,10 @@
 -- The calls of a drive are accepted where they are in order, and after all of them the copy is the result.
 use Rattle.std.proofs.Common.{◌≡◌, ℕ, ◌≤◌, Bool, true, List, [], ◌∷◌, ◌++◌, length, refl, sym, ◌∙◌, ap, subst, true≢false, append_assoc, append-nil, length-append}
 use Rattle.std.specs.Prelude.{Option, Some, None, option_map}
-use Rattle.std.specs.List.{cons_option}
 use Rattle.std.specs.Option.{option_or}
 use Rattle.svn_types.specs.Names.{Path}
 use Rattle.svn_repo.specs.Readings.{path_limit}
-use Rattle.svn_delta.specs.Steps.{Mode, Update, SwitchTo, Step, step_of, steps_of, target_of}
+use Rattle.svn_delta.specs.Steps.{Mode, Update, SwitchTo, Step, step_of}
 use Rattle.svn_delta.specs.declared.call.Call.{Call}
 use Rattle.svn_delta.specs.declared.fault.EditFault.TheVariants.{Order}
 use Rattle.svn_delta.specs.declared.call.Call.TheVariants.{SetTargetRevision, CloseEdit}
@@ -16,13 +15,12 @@ use Rattle.svn_drive.specs.Drive.{call_of, opened_after, numbered, calls_of, IsD
 use Rattle.svn_wc.specs.declared.base_node.BaseNode.{BaseNode}
 use Rattle.svn_wc.specs.declared.base_node.BaseNode.TheVariants.{File as FileNode, Dir as DirNode, NotPresent}
 use Rattle.svn_wc.specs.Nodes.{WorkingCopy, get_in, is_present, base_node}
-use Rattle.svn_wc.specs.Effects.{settled, effect, read_fault, edit_fault, refusal, step_effect, PathsFit, AllAcceptedFrom, AllAccepted}
-use Rattle.svn_law.specs.Laws.{request_of, Composes, composition}
-use Rattle.svn_law.proofs.Classes.{switched_to}
-use Rattle.svn_law.proofs.Classes.{Setting}
+use Rattle.svn_wc.specs.Effects.{settled, effect, read_fault, edit_fault, refusal, PathsFit, AllAcceptedFrom, AllAccepted}
+use Rattle.svn_law.specs.Laws.{request_of, composition}
+use Rattle.svn_law.proofs.Classes.{Setting, switched_to}
 use Rattle.svn_law.proofs.States.{state}
 use Rattle.svn_law.proofs.AfterSteps.{stands_after}
-use Rattle.svn_law.proofs.AfterCalls.{GivesPaths, gives_call, step_of-call, Ready, steps_after-append, effect-read, ready}
+use Rattle.svn_law.proofs.AfterCalls.{Ready, ReadAs, read_begun, next_read, next_effect, next_added, ready}
 use Rattle.svn_law.proofs.EndsAsResult.{ends_at, ends, setting_of}
 use Rattle.svn_law.proofs.NoEditFault.{fits_next}
 use Rattle.svn_law.proofs.NoOrderFault.{drive_is_lawful}
@@ -55,27 +53,25 @@ module _ (d : Request) (w : WorkingCopy) (setting : Setting d w) (late : Bool) w
       by (SwitchTo root) e = λ p present. subst (λ n. n ≤ path_limit) (ap length (switched_to d root e p) ∙ length-append root p) (in_target p present)
 
   -- calls that are in order are accepted, from any point of a drive on
-  accepted_from : (earlier : List Call) (opened : List Path) (done steps : List Step) (w' : WorkingCopy) → GivesPaths earlier opened → target_of earlier ≡ d.target
-      → ((more : List Call) → target_of (earlier ++ more) ≡ d.target) → steps_of earlier ≡ done → Ready opened steps → IsDriveOf d late (done ++ steps)
+  accepted_from : (earlier : List Call) (opened : List Path) (done steps : List Step) (w' : WorkingCopy) → ReadAs d earlier opened done → Ready opened steps → IsDriveOf d late (done ++ steps)
       → ((p : Path) → w' p ≡ state d w done p) → IsLawfulAfter earlier (numbered opened steps ++ CloseEdit ∷ [])
       → AllAcceptedFrom d.checksum d.mode earlier w' (numbered opened steps ++ CloseEdit ∷ [])
-  accepted_from earlier opened done [] w' g t m s r drive stands lawful = (
+  accepted_from earlier opened done [] w' r ready drive stands lawful = (
     record {
       no_refusal = no_faults d earlier CloseEdit w' lawful.0 refl;
       paths_fit = λ e. paths_fit_all done (subst (IsDriveOf d late) (append-nil done) drive) w' stands;
     },
     tt,
   )
-  accepted_from earlier opened done (x ∷ steps) w' g t m s r drive stands lawful = (
+  accepted_from earlier opened done (x ∷ steps) w' r ready drive stands lawful = (
     record {
       no_refusal = no_faults d earlier c w' lawful.0 fits;
       paths_fit = λ e. absurd (not_last e);
     },
     accepted_from (earlier ++ c ∷ []) (opened_after opened x.path x.action) (done ++ x ∷ []) steps (effect d.mode earlier c w')
-        (gives_call earlier opened x.path x.action g) (m (c ∷ [])) (λ more. ap target_of (append_assoc earlier (c ∷ []) more) ∙ m (c ∷ more))
-        (steps_after-append [] earlier (c ∷ []) ∙ (λ i. s i ++ cons_option (read i) [])) r.2
+        (next_added d earlier opened done x steps r ready) ready.2
         (subst (IsDriveOf d late) (sym (append_assoc done (x ∷ []) steps)) drive)
-        (λ p. ap (λ v. v p) one ∙ stands_after d w setting late done (x ∷ []) steps drive w' stands p)
+        (λ p. ap (λ v. v p) (next_effect d earlier opened done x steps r ready w') ∙ stands_after d w setting late done (x ∷ []) steps drive w' stands p)
         lawful.1,
   )
     where
@@ -83,13 +79,10 @@ module _ (d : Request) (w : WorkingCopy) (setting : Setting d w) (late : Bool) w
       c = call_of opened x.path x.action
 
       read : step_of earlier c ≡ Some x
-      read = step_of-call earlier opened x.path x.action g r.0 r.1
-
-      one : effect d.mode earlier c w' ≡ step_effect d.mode d.target done x w'
-      one = effect-read d.mode earlier c w' x read ∙ ap (λ n. step_effect d.mode n (steps_of earlier) x w') t ∙ ap (λ e. step_effect d.mode d.target e x w') s
+      read = next_read d earlier opened done x steps r ready
 
       fits : edit_fault d.checksum d.mode earlier c w' ≡ None
-      fits = (λ i. read_fault d.checksum d.mode (s i) w' (read i)) ∙ fits_next d w setting late done x steps drive w' stands
+      fits = (λ i. read_fault d.checksum d.mode (r.steps i) w' (read i)) ∙ fits_next d w setting late done x steps drive w' stands
 
       none_some : None ≡ Some x → ⊥
       none_some q = cc
@@ -107,23 +100,18 @@ module _ (d : Request) (w : WorkingCopy) (setting : Setting d w) (late : Bool) w
           no_refusal = no_faults d [] (SetTargetRevision d.target) w l.0 refl;
           paths_fit = λ e. absurd (other e);
         },
-        accepted_from (SetTargetRevision d.target ∷ []) [] [] drive.steps w refl refl (λ more. refl) refl
+        accepted_from (SetTargetRevision d.target ∷ []) [] [] drive.steps w (read_begun d)
             (ready d w setting late [] drive.steps [] (subst (IsDriveOf d late) (sym (append-nil drive.steps)) drive.of_each_path)) drive.of_each_path (λ p. refl) l.1,
       )
         where
           other : SetTargetRevision d.target ≡ CloseEdit → ⊥
           other q = cc
 
-  -- composition, but for the order
-  pub composes : (calls : List Call) → IsDrive d late calls → IsLawful calls → Composes d w calls
-  composes calls drive lawful = record { accepted = accepted calls drive lawful; ends = ends d w setting late calls drive }
-
--- composition, where every drive is in order
-pub composition_from : ((d : Request) (w : WorkingCopy) → Setting d w → (late : Bool) (calls : List Call) → IsDrive d late calls → IsLawful calls) → composition
-composition_from lawful h nodes target mode checksum late calls copy has drive =
-    let setting = setting_of h nodes target mode checksum copy has in
-    composes (request_of h nodes target mode checksum) (get_in nodes) setting late calls drive
-    (lawful (request_of h nodes target mode checksum) (get_in nodes) setting late calls drive)
-
 pub composition_holds : composition
-composition_holds = composition_from drive_is_lawful
+composition_holds h nodes target mode checksum late calls copy has drive =
+    let d = request_of h nodes target mode checksum in
+    let setting = setting_of h nodes target mode checksum copy has in
+    record {
+      accepted = accepted d (get_in nodes) setting late calls drive (drive_is_lawful d (get_in nodes) setting late calls drive);
+      ends = ends d (get_in nodes) setting late calls drive;
+    }

@@ -2,8 +2,8 @@
 use Rattle.std.proofs.Common.{◌≡◌, ℕ, Bool, true, false, ◌&&◌, ◌||◌, not, List, [], ◌∷◌, ◌++◌, refl, sym, ◌∙◌, ap, subst, true≢false, append_assoc}
 use Rattle.std.proofs.Math.Bool.{or-true}
 use Rattle.std.specs.Prelude.{Option, Some, None, is_some, cond, map, bytes_eq}
-use Rattle.std.specs.List.{list_any}
-use Rattle.std.proofs.lemmas.Bool.{or_left, or_right}
+use Rattle.std.specs.List.{list_any, AllByRecursion}
+use Rattle.std.proofs.lemmas.Bool.{and_parts, not-true}
 use Rattle.std.proofs.lemmas.List.Folds.{list_any-append}
 use Rattle.svn_types.specs.Names.{Path}
 use Rattle.svn_types.specs.Props.{PropChange, changes_between}
@@ -15,7 +15,7 @@ use Rattle.svn_drive.specs.Sources.{governing_revision}
 use Rattle.svn_delta.specs.Steps.{Action, Delete, Open, Add, Change, Text, Close}
 use Rattle.svn_drive.specs.Follow.{Request, follow, is_kept, source_node, target_node}
 use Rattle.svn_drive.specs.Steps.{is_text, is_touched, is_new, is_gone, gone_actions, touched_actions, new_actions, entered_actions, text_actions, path_actions, source_props, source_text}
-use Rattle.svn_law.proofs.Tests.{and_true, not_true}
+use Rattle.svn_law.proofs.Lists.{all_map, all-append, all_left, all_part, none_any}
 
 -- ---- tests on actions
 
@@ -89,6 +89,7 @@ same_kinds File Directory h = absurd (true≢false (sym h))
 same_kinds Directory File h = absurd (true≢false (sym h))
 same_kinds Directory Directory h = refl
 
+-- what is inside a node of one kind is inside, and an entry of one kind is an entry
 pub inner_is_inner : (k : Kind) (a : Action) → inner_of k a ≡ true → is_inner a ≡ true
 inner_is_inner k (Change l c) e = refl
 inner_is_inner k (Text s t) e = refl
@@ -102,41 +103,14 @@ entry_of_is_entry k a e = absurd (true≢false (sym e))
 
 -- ---- lists of actions
 
--- where one passes a test that implies another, one passes that
-pub any_implied : {X : Type 0} (f g : X → Bool) → ((x : X) → f x ≡ true → g x ≡ true) → (xs : List X) → list_any f xs ≡ true → list_any g xs ≡ true
-any_implied f g e [] h = h
-any_implied f g e (x ∷ xs) h = by (f x) refl h (any_implied f g e xs)
-  where
-    by : (b : Bool) → f x ≡ b → (b || list_any f xs) ≡ true → (list_any f xs ≡ true → list_any g xs ≡ true) → (g x || list_any g xs) ≡ true
-    by true q h ih = or_left (g x) (list_any g xs) (e x q)
-    by false q h ih = or_right (g x) (list_any g xs) (ih h)
-
 abbrev pub AllOf : (Action → Bool) → List Action → Type 0
-AllOf f [] = Unit {0}
-AllOf f (a ∷ acts) = (f a ≡ true) × AllOf f acts
+AllOf f acts = AllByRecursion (λ a. f a ≡ true) acts
 
-pub all-append : (f : Action → Bool) (xs ys : List Action) → AllOf f xs → AllOf f ys → AllOf f (xs ++ ys)
-all-append f [] ys h k = k
-all-append f (x ∷ xs) ys h k = (h.0, all-append f xs ys h.1 k)
+-- where all pass a test that excludes another, none passes that
+none_excluded : (f g : Action → Bool) → ((a : Action) → f a ≡ true → g a ≡ false) → (acts : List Action) → AllOf f acts → list_any g acts ≡ false
+none_excluded f g e acts h = none_any g acts (all_map (λ a. f a ≡ true) (λ a. g a ≡ false) e acts h)
 
--- what holds of all holds of the first ones, and of each
-pub all_first : (f : Action → Bool) (xs ys : List Action) → AllOf f (xs ++ ys) → AllOf f xs
-all_first f [] ys h = tt
-all_first f (x ∷ xs) ys h = (h.0, all_first f xs ys h.1)
-
-pub part_of : (f : Action → Bool) (xs : List Action) (a : Action) (ys : List Action) → AllOf f (xs ++ a ∷ ys) → f a ≡ true
-part_of f [] a ys h = h.0
-part_of f (x ∷ xs) a ys h = part_of f xs a ys h.1
-
--- where all pass a test that implies another, all pass that; where it excludes another, none does
-pub all_implied : (f g : Action → Bool) → ((a : Action) → f a ≡ true → g a ≡ true) → (acts : List Action) → AllOf f acts → AllOf g acts
-all_implied f g e [] h = tt
-all_implied f g e (a ∷ acts) h = (e a h.0, all_implied f g e acts h.1)
-
-pub none_excluded : (f g : Action → Bool) → ((a : Action) → f a ≡ true → g a ≡ false) → (acts : List Action) → AllOf f acts → list_any g acts ≡ false
-none_excluded f g e [] h = refl
-none_excluded f g e (a ∷ acts) h = ap (λ b. b || list_any g acts) (e a h.0) ∙ none_excluded f g e acts h.1
-
+-- property changes pass a test that each change passes
 pub all_changes : (f : Action → Bool) (k : Kind) → ((c : PropChange) → f (Change k c) ≡ true) → (cs : List PropChange) → AllOf f (map (Change k) cs)
 all_changes f k e [] = tt
 all_changes f k e (c ∷ cs) = (e c, all_changes f k e cs)
@@ -148,7 +122,7 @@ InTurn (a ∷ acts) = AllOf (precedes a) acts × InTurn acts
 -- before an action that stands in turn there was no close
 pub none_closed : (xs : List Action) (a : Action) (ys : List Action) → InTurn (xs ++ a ∷ ys) → list_any is_close xs ≡ false
 none_closed [] a ys h = refl
-none_closed (x ∷ xs) a ys h = by x (part_of (precedes x) xs a ys h.0) (none_closed xs a ys h.1)
+none_closed (x ∷ xs) a ys h = by x (all_part (λ a. precedes x a ≡ true) xs a ys h.0) (none_closed xs a ys h.1)
   where
     by : (x : Action) → precedes x a ≡ true → list_any is_close xs ≡ false → (is_close x || list_any is_close xs) ≡ false
     by (Close k c) e ih = absurd (true≢false (sym e))
@@ -227,13 +201,13 @@ pub course_of : (d : Request) (p : Path) → Course d p (path_actions d p)
 course_of d p = as_written (target_node d p) (by (is_gone d p) (target_node d p) (is_touched d p) (is_new d p) refl refl refl refl)
   where
     kept_touched : is_touched d p ≡ true → is_kept d p ≡ true
-    kept_touched t = (and_true (is_kept d p) _ t).0
+    kept_touched t = (and_parts (is_kept d p) _ t).0
 
     not_kept_new : is_new d p ≡ true → is_kept d p ≡ false
-    not_kept_new n = not_true (is_kept d p) (and_true (not (is_kept d p)) (is_some (target_node d p)) n).0
+    not_kept_new n = not-true (is_kept d p) (and_parts (not (is_kept d p)) (is_some (target_node d p)) n).0
 
     not_kept_gone : is_gone d p ≡ true → is_kept d p ≡ false
-    not_kept_gone g = not_true (is_kept d p) (and_true (is_some (source_node d p)) (not (is_kept d p)) (and_true (is_some (source_node d p) && not (is_kept d p)) (follow d p).parent_is_kept g).0).1
+    not_kept_gone g = not-true (is_kept d p) (and_parts (is_some (source_node d p)) (not (is_kept d p)) (and_parts (is_some (source_node d p) && not (is_kept d p)) (follow d p).parent_is_kept g).0).1
 
     entered : Option ℕ → Bool → Bool → List Action
     entered None t n = []
@@ -276,13 +250,13 @@ module _ (d : Request) (p : Path) where
 
   place_after_add : (k : Kind) (inner before : List Action) → TargetKind d p k → is_kept d p ≡ false → AllOf (inner_of k) inner → AllOf is_delete before
       → (xs : List Action) (a : Action) (ys : List Action) → xs ++ a ∷ ys ≡ Add k ∷ inner → Place (before ++ xs) a
-  place_after_add k inner before z f h o [] a ys e = adding k f (all-append is_delete before [] o tt) (heads e)
+  place_after_add k inner before z f h o [] a ys e = adding k f (all-append (λ a. is_delete a ≡ true) before [] o tt) (heads e)
     where
       heads : a ∷ ys ≡ Add k ∷ inner → a ≡ Add k
       heads q = cc
   place_after_add k inner before z f h o (x ∷ xs) a ys e =
       let rest = subst (AllOf (inner_of k)) (sym (tails e)) h in
-      inside k z (begun_add before xs f (ap (λ y. before ++ y ∷ xs) (heads e)) (all_first (inner_of k) xs (a ∷ ys) rest)) (part_of (inner_of k) xs a ys rest)
+      inside k z (begun_add before xs f (ap (λ y. before ++ y ∷ xs) (heads e)) (all_left (λ a. inner_of k a ≡ true) xs (a ∷ ys) rest)) (all_part (λ a. inner_of k a ≡ true) xs a ys rest)
     where
       heads : x ∷ (xs ++ a ∷ ys) ≡ Add k ∷ inner → x ≡ Add k
       heads q = cc
@@ -317,7 +291,7 @@ module _ (d : Request) (p : Path) where
       heads q = cc
   place_of l (touched k r {inner} z f b) (x ∷ xs) a ys e =
       let rest = subst (AllOf (inner_of k)) (sym (tails e)) b.of_kind in
-      inside k z (begun_open r xs f (ap (λ y. y ∷ xs) (heads e)) (all_first (inner_of k) xs (a ∷ ys) rest)) (part_of (inner_of k) xs a ys rest)
+      inside k z (begun_open r xs f (ap (λ y. y ∷ xs) (heads e)) (all_left (λ a. inner_of k a ≡ true) xs (a ∷ ys) rest)) (all_part (λ a. inner_of k a ≡ true) xs a ys rest)
     where
       heads : x ∷ (xs ++ a ∷ ys) ≡ Open k r ∷ inner → x ≡ Open k r
       heads q = cc
@@ -381,7 +355,7 @@ module _ (d : Request) (p : Path) where
   course_in_turn l (gone_only r f) = (tt, tt)
   course_in_turn l (touched k r z e b) = (b.of_kind, b.in_turn)
   course_in_turn l (added k z e b) = (b.of_kind, b.in_turn)
-  course_in_turn l (replaced r k {inner} z e b) = ((refl, all_implied (inner_of k) (precedes (Delete r)) after inner b.of_kind), (b.of_kind, b.in_turn))
+  course_in_turn l (replaced r k {inner} z e b) = ((refl, all_map (λ a. inner_of k a ≡ true) (λ a. precedes (Delete r) a ≡ true) after inner b.of_kind), (b.of_kind, b.in_turn))
     where
       after : (a : Action) → inner_of k a ≡ true → precedes (Delete r) a ≡ true
       after (Add l) q = refl
@@ -428,7 +402,7 @@ module _ (d : Request) (p : Path) where
 
   -- a body fits its kind
   body_fits : (k n : Kind) (inner : List Action) → k ≡ n → AllOf (inner_of n) inner → AllOf (fits_kind k) inner
-  body_fits k n inner e = all_implied (inner_of n) (fits_kind k) each inner
+  body_fits k n inner e = all_map (λ a. inner_of n a ≡ true) (λ a. fits_kind k a ≡ true) each inner
     where
       each : (a : Action) → inner_of n a ≡ true → fits_kind k a ≡ true
       each (Change l c) q = ap (λ m. kind_eq m l) e ∙ q

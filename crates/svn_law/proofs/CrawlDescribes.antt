@@ -15,8 +15,8 @@ use Rattle.svn_wc.specs.Crawl.{entry_for, reported_at, crawl, is_switched}
 use Rattle.svn_law.proofs.Maps.{at_own, at_same, found_first as map_found_first, absent_after as map_absent_after}
 use Rattle.svn_law.proofs.Names.{same_path, path_eq-same, paths_total, path_tie, value_of-first, Name, same_bytes}
 use Rattle.std.specs.Option.{option_or}
-use Rattle.std.proofs.lemmas.Bool.{eqb-true}
-use Rattle.svn_law.proofs.Tests.{or_false, not_false, not_true, dir_present}
+use Rattle.std.proofs.lemmas.Bool.{eqb-true, or_parts, not-false, not-true}
+use Rattle.svn_law.proofs.Tests.{dir_present}
 use Rattle.svn_types.specs.Pairs.{value_of}
 use Rattle.svn_repo.specs.History.{History, look}
 use Rattle.svn_repo.specs.Readings.{entries_of}
@@ -131,7 +131,7 @@ pub open_above : (s : Reported) → OwnGoverns s → (is_some s.own || not (star
 open_above s g h e = by s.own refl
   where
     by : (o : Option ReportEntry) → s.own ≡ o → starts_empty s.governing ≡ false
-    by None q = not_true (starts_empty s.governing) (subst (λ o. (is_some o || not (starts_empty s.governing)) ≡ true) q h)
+    by None q = not-true (starts_empty s.governing) (subst (λ o. (is_some o || not (starts_empty s.governing)) ≡ true) q h)
     by (Some x) q = ap starts_empty (g x q) ∙ sym (ap starts_empty q) ∙ e
 
 shows_inherited : (above here : Reported) (name : Name) (up node : Option BaseNode) → IsChildOf above here name → OwnGoverns above → Shows above up → here.own ≡ None
@@ -171,7 +171,7 @@ shows_child above here name p up node c g s o root last present =
 
     straight : is_switched p up node ≡ false → node_path node ≡ child (node_path up) name
     straight e = same_path (node_path node) (child (node_path up) name)
-        (ap (λ l. path_eq (node_path node) (node_path up ++ l)) (sym last) ∙ not_false (path_eq (node_path node) (node_path up ++ last_name p)) e)
+        (ap (λ l. path_eq (node_path node) (node_path up ++ l)) (sym last) ∙ not-false (path_eq (node_path node) (node_path up ++ last_name p)) e)
 
     by : (sw t : Bool) → is_switched p up node ≡ sw → (is_incomplete up || is_incomplete node || not (nat_eq (node_revision node) (node_revision up))) ≡ t
         → here.own ≡ cond sw (Some (LinkPath (node_path node) (node_revision node) (is_incomplete node))) (cond t (Some (SetPath (node_revision node) (is_incomplete node))) None)
@@ -181,9 +181,9 @@ shows_child above here name p up node c g s o root last present =
     by false true e f q = shows_own here node (SetPath (node_revision node) (is_incomplete node)) gh q refl refl refl
         (c.repos_path ∙ ap (λ x. linked_or x (child above.repos_path name)) q ∙ ap (λ x. child x name) s.repos_path ∙ sym (straight e))
     by false false e f q =
-        let parts = or_false (is_incomplete up || is_incomplete node) (not (nat_eq (node_revision node) (node_revision up))) f in
-        let two = or_false (is_incomplete up) (is_incomplete node) parts.0 in
-        shows_inherited above here name up node c g s q two.0 two.1 (eqb-true (node_revision node) (node_revision up) (not_false _ parts.1)) (straight e)
+        let parts = or_parts (is_incomplete up || is_incomplete node) (not (nat_eq (node_revision node) (node_revision up))) f in
+        let two = or_parts (is_incomplete up) (is_incomplete node) parts.0 in
+        shows_inherited above here name up node c g s q two.0 two.1 (eqb-true (node_revision node) (node_revision up) (not-false _ parts.1)) (straight e)
 
 -- ---- where nothing is present, the report shows nothing
 

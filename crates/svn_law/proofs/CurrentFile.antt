@@ -2,7 +2,7 @@
 use Rattle.std.proofs.Common.{◌≡◌, ℕ, Bool, true, false, ◌&&◌, ◌||◌, List, [], ◌∷◌, ◌++◌, refl, sym, ◌∙◌, ap, subst, true≢false, eq-eqb}
 use Rattle.std.specs.Prelude.{Option, Some, None, cond, map, nat_eq, fold}
 use Rattle.std.proofs.Math.Bool.{and-true, or-true}
-use Rattle.std.specs.List.{list_any}
+use Rattle.std.specs.List.{list_any, AllByRecursion}
 use Rattle.std.proofs.lemmas.List.Folds.{list_any-append}
 use Rattle.std.specs.Ordering.{is_gt}
 use Rattle.std.specs.Cmp.Lexicographic.{slice_cmp}
@@ -23,12 +23,13 @@ use Rattle.svn_wc.specs.Nodes.{WorkingCopy}
 use Rattle.svn_law.proofs.Names.{path_eq-same}
 use Rattle.svn_law.proofs.Keys.{keys_total, same_place}
 use Rattle.svn_law.proofs.Classes.{Setting}
-use Rattle.svn_law.proofs.FirstSteps.{AllSteps, main_key, entry_is_main}
+use Rattle.svn_law.proofs.FirstSteps.{main_key, entry_is_main}
 use Rattle.svn_law.proofs.Courses.{is_entry_of, entry_of_is_entry, is_close_of, is_inner, inner_of, precedes}
-use Rattle.svn_law.proofs.StepOrder.{never, has_not, all_map, all_right, has, has_parts, Found, find, in_whole, any_path_actions, Before, before_step, after_step, own_entry, Within, is_text_closed}
+use Rattle.svn_law.proofs.StepOrder.{never, has_not, has, has_parts, Found, find, any_path_actions, Before, before_step, after_step, own_entry, Within, is_text_closed}
 use Rattle.svn_law.proofs.TokenNumbers.{call_by, call_at, entered, Tells, tells_done}
 use Rattle.svn_law.proofs.CallTests.{either_call}
 use Rattle.svn_law.proofs.OpenDirectories.{drive_there, between}
+use Rattle.svn_law.proofs.Lists.{all_map, all_right, in_whole}
 
 -- ---- the fold over the steps' calls
 
@@ -65,7 +66,7 @@ module _ (T : Path → ℕ) where
       by a h = absurd (true≢false (sym h))
 
   -- changes and the text of the current file leave it current
-  stays_current : (p : Path) (ys : List Step) → AllSteps (λ y. (y.path ≡ p) × (keeps_file y.action ≡ true)) ys → current_by (Some (T p)) ys ≡ Some (T p)
+  stays_current : (p : Path) (ys : List Step) → AllByRecursion (λ y. (y.path ≡ p) × (keeps_file y.action ≡ true)) ys → current_by (Some (T p)) ys ≡ Some (T p)
   stays_current p [] h = refl
   stays_current p (y ∷ ys) h = ap (λ c. current_by c ys) (by y.action h.0.1) ∙ stays_current p ys h.1
     where
@@ -78,7 +79,7 @@ module _ (T : Path → ℕ) where
       by a k = absurd (true≢false (sym k))
 
   -- a file that isn't current becomes so by its opening alone
-  not_current : (q : Path) → Tells T q → (ys : List Step) → AllSteps (λ y. has (is_entry_of File) q y ≡ false) ys → (cur : Option ℕ) → number_eq cur (Some (T q)) ≡ false
+  not_current : (q : Path) → Tells T q → (ys : List Step) → AllByRecursion (λ y. has (is_entry_of File) q y ≡ false) ys → (cur : Option ℕ) → number_eq cur (Some (T q)) ≡ false
       → number_eq (current_by cur ys) (Some (T q)) ≡ false
   not_current q tells [] h cur k = k
   not_current q tells (y ∷ ys) h cur k = not_current q tells ys h.1 (current_after cur (call_at T y)) (by y.action h.0)
@@ -159,7 +160,7 @@ module _ (d : Request) (w : WorkingCopy) (setting : Setting d w) (late : Bool) (
           ap (current_by T None) (sym f.cut) ∙ current_from T (Some (T f.here.path)) f.here f.back (entry_current T f.here parts.1) f.front None
           ∙ ap (λ p. current_by T (Some (T p)) f.back) parts.0
           ∙ stays_current T s.path f.back
-          (all_map (λ y. Before d late f.here y × Before d late y s) (λ y. (y.path ≡ s.path) × (keeps_file y.action ≡ true)) each f.back (between d late done s rest drive f.front f.here f.back f.cut))
+          (all_map (λ (y : Step). Before d late f.here y × Before d late y s) (λ y. (y.path ≡ s.path) × (keeps_file y.action ≡ true)) each f.back (between d late done s rest drive f.front f.here f.back f.cut))
         where
           parts : (f.here.path ≡ s.path) × (is_entry_of File f.here.action ≡ true)
           parts = has_parts (is_entry_of File) s.path f.here f.passes
@@ -192,7 +193,7 @@ module _ (d : Request) (w : WorkingCopy) (setting : Setting d w) (late : Bool) (
       by f =
           ap (λ c. number_eq c (Some (T q))) (ap (current_by T None) (sym f.cut) ∙ current_from T None f.here f.back (close_current T f.here parts.1) f.front None)
           ∙ not_current T q tells f.back
-          (all_map (λ y. Before d late f.here y × Before d late y s) (λ y. has (is_entry_of File) q y ≡ false) each f.back (between d late done s rest drive f.front f.here f.back f.cut)) None refl
+          (all_map (λ (y : Step). Before d late f.here y × Before d late y s) (λ y. has (is_entry_of File) q y ≡ false) each f.back (between d late done s rest drive f.front f.here f.back f.cut)) None refl
         where
           parts : (f.here.path ≡ q) × (is_close_of File f.here.action ≡ true)
           parts = has_parts (is_close_of File) q f.here f.passes
@@ -252,7 +253,7 @@ module _ (d : Request) (w : WorkingCopy) (setting : Setting d w) (late : Bool) (
               tells = tells_done d w setting late done s rest drive entry.kind f.here.path entry_done
 
               next : Before d late f.here s
-              next = (all_right (λ y. Before d late y s) f.front (f.here ∷ f.back) (subst (AllSteps (λ y. Before d late y s)) (sym f.cut) (before_step d late done s rest drive))).0
+              next = (all_right (λ y. Before d late y s) f.front (f.here ∷ f.back) (subst (AllByRecursion (λ y. Before d late y s)) (sym f.cut) (before_step d late done s rest drive))).0
 
               has_one : list_any (has is_text f.here.path) (done ++ s ∷ rest) ≡ true
               has_one =
@@ -273,11 +274,11 @@ module _ (d : Request) (w : WorkingCopy) (setting : Setting d w) (late : Bool) (
               closing = find (has (is_close_of File) f.here.path) (s ∷ rest)
                   (in_back (has (is_close_of File) f.here.path) done (s ∷ rest) (is_text_closed d late (done ++ s ∷ rest) drive f.here.path has_one) open_yet)
 
-              later : AllSteps (λ u. comes_after d late s u ≡ false) (s ∷ rest)
-              later = (ap is_gt (tied_itself keys_total (key_of d late s)), all_map (λ u. Before d late s u) (λ u. comes_after d late s u ≡ false) (λ u b. b.0) rest (after_step d late done s rest drive))
+              later : AllByRecursion (λ u. comes_after d late s u ≡ false) (s ∷ rest)
+              later = (ap is_gt (tied_itself keys_total (key_of d late s)), all_map (λ (u : Step). Before d late s u) (λ u. comes_after d late s u ≡ false) (λ u b. b.0) rest (after_step d late done s rest drive))
 
               ends : comes_after d late s closing.here ≡ false
-              ends = (all_right (λ u. comes_after d late s u ≡ false) closing.front (closing.here ∷ closing.back) (subst (AllSteps (λ u. comes_after d late s u ≡ false)) (sym closing.cut) later)).0
+              ends = (all_right (λ u. comes_after d late s u ≡ false) closing.front (closing.here ∷ closing.back) (subst (AllByRecursion (λ u. comes_after d late s u ≡ false)) (sym closing.cut) later)).0
 
               close_parts : (closing.here.path ≡ f.here.path) × (is_close_of File closing.here.action ≡ true)
               close_parts = has_parts (is_close_of File) f.here.path closing.here closing.passes

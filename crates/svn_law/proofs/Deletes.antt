@@ -2,9 +2,9 @@
 use Rattle.std.proofs.Common.{◌≡◌, Bool, true, false, ◌&&◌, ◌||◌, ◌⊎◌, not, List, [], ◌∷◌, ◌++◌, refl, sym, ◌∙◌, ap, true≢false, inl, inr}
 use Rattle.std.specs.Prelude.{None, is_some, cond, map, filter, bytes_eq}
 use Rattle.std.specs.List.{list_any}
-use Rattle.std.proofs.lemmas.Bool.{or_left, or_right, false_from_ne_true}
+use Rattle.std.proofs.lemmas.Bool.{or_left, or_right, false_from_ne_true, and_parts, not-true}
 use Rattle.std.proofs.lemmas.List.Folds.{list_any-append}
-use Rattle.svn_law.proofs.Tests.{and_true, not_true, dir_present}
+use Rattle.svn_law.proofs.Tests.{dir_present}
 use Rattle.svn_law.proofs.Names.{Name, bytes_eq-same, same_path, path_eq-same}
 use Rattle.svn_types.specs.Names.{Path}
 use Rattle.svn_types.specs.Paths.{path_eq, is_within, is_below, child}
@@ -28,27 +28,27 @@ pub is_within-longer : (q p : Path) (name : Name) → is_within q p ≡ true →
 is_within-longer [] p name h = refl
 is_within-longer (m ∷ q) [] name h = absurd (true≢false (sym h))
 is_within-longer (m ∷ q) (n ∷ p) name h =
-    let parts = and_true (bytes_eq m n) (is_within q p) h in
+    let parts = and_parts (bytes_eq m n) (is_within q p) h in
     ap (λ b. b && is_within q (child p name)) parts.0 ∙ is_within-longer q p name parts.1
 
 -- what is above a child is the path or above it
 pub within_child : (q p : Path) (name : Name) → is_within q (child p name) ≡ true → path_eq q (child p name) ≡ false → is_within q p ≡ true
 within_child [] p name h k = refl
 within_child (m ∷ []) [] name h k = absurd (true≢false (sym h ∙ k))
-within_child (m ∷ n ∷ q) [] name h k = absurd (true≢false (sym (and_true (bytes_eq m name) false h).1))
+within_child (m ∷ n ∷ q) [] name h k = absurd (true≢false (sym (and_parts (bytes_eq m name) false h).1))
 within_child (m ∷ q) (n ∷ p) name h k =
-    let parts = and_true (bytes_eq m n) (is_within q (child p name)) h in
+    let parts = and_parts (bytes_eq m n) (is_within q (child p name)) h in
     ap (λ b. b && is_within q p) parts.0 ∙ within_child q p name parts.1 (sym (ap (λ b. b && path_eq q (child p name)) parts.0) ∙ k)
 
 pub below_child : (q p : Path) (name : Name) → is_below q (child p name) ≡ true → (q ≡ p) ⊎ (is_below q p ≡ true)
 below_child q p name h = by (path_eq q p) refl
   where
     parts : (is_within q (child p name) ≡ true) × (not (path_eq q (child p name)) ≡ true)
-    parts = and_true (is_within q (child p name)) (not (path_eq q (child p name))) h
+    parts = and_parts (is_within q (child p name)) (not (path_eq q (child p name))) h
 
     by : (b : Bool) → path_eq q p ≡ b → (q ≡ p) ⊎ (is_below q p ≡ true)
     by true e = inl (same_path q p e)
-    by false e = inr (ap (λ b. b && not (path_eq q p)) (within_child q p name parts.0 (not_true (path_eq q (child p name)) parts.1)) ∙ ap not e)
+    by false e = inr (ap (λ b. b && not (path_eq q p)) (within_child q p name parts.0 (not-true (path_eq q (child p name)) parts.1)) ∙ ap not e)
 
 -- ---- deletes above
 
@@ -110,7 +110,7 @@ kept_above d q = path_ind (λ p. is_below q p ≡ true → is_kept d p ≡ true 
     more p name ih h k = by (below_child q p name h)
       where
         up : is_kept d p ≡ true
-        up = (and_true (is_kept d p) _ (sym (is_kept-child d p name) ∙ k)).0
+        up = (and_parts (is_kept d p) _ (sym (is_kept-child d p name) ∙ k)).0
 
         by : (q ≡ p) ⊎ (is_below q p ≡ true) → is_kept d q ≡ true
         by (inl e) = ap (is_kept d) e ∙ up
@@ -139,7 +139,6 @@ kept_base d w late done rest drive p k = ap (λ b. cond b None (w p)) (none_dele
 
 -- ---- what isn't kept is
 
--- of a present node that isn't kept, the path or one above is gone
 module _ (d : Request) (w : WorkingCopy) (setting : Setting d w) where
   abbrev GoneAbove : Path → Type 0
   GoneAbove p = is_present (w p) ≡ true → is_kept d p ≡ false → (q : Path) × (is_within q p ≡ true) × (is_gone d q ≡ true)
@@ -162,5 +161,6 @@ module _ (d : Request) (w : WorkingCopy) (setting : Setting d w) where
       )
       by false e = let r = ih above e in (r.0, is_within-longer r.0 p name r.1, r.2)
 
+  -- of a present node that isn't kept, the path or one above is gone
   pub gone_above : (p : Path) → GoneAbove p
   gone_above = path_ind GoneAbove (λ present k. absurd (true≢false k)) gone_child

@@ -3,9 +3,8 @@ use Rattle.std.proofs.Common.{◌≡◌, ◌≢◌, ℕ, ◌+◌, ◌≤◌, Boo
 use Rattle.std.specs.Prelude.{Option, Some, None, is_some, cond, map, filter, bytes_eq}
 use Rattle.std.specs.List.{list_any}
 use Rattle.std.proofs.lemmas.List.Folds.{list_any-append}
-use Rattle.std.proofs.lemmas.Bool.{or_left, or_right, false_from_ne_true}
+use Rattle.std.proofs.lemmas.Bool.{or_left, or_right, false_from_ne_true, and_parts}
 use Rattle.svn_law.proofs.Classes.{switched_to}
-use Rattle.svn_law.proofs.Tests.{and_true}
 use Rattle.svn_law.proofs.Names.{named_value, Name, same_path, bytes_eq-same, has_name, has_name-fold}
 use Rattle.svn_types.specs.Names.{Path}
 use Rattle.svn_types.specs.Paths.{path_eq, child}
@@ -252,7 +251,7 @@ a_drive_holds h nodes target mode checksum late t has =
 
 -- a new path stands below one that is touched or new
 pub new_below_holds : new_below
-new_below_holds h nodes target mode checksum t has p name m = by (target_node d (child p name)) refl (and_true (not (is_kept d (child p name))) (is_some (target_node d (child p name))) m).1
+new_below_holds h nodes target mode checksum t has p name m = by (target_node d (child p name)) refl (and_parts (not (is_kept d (child p name))) (is_some (target_node d (child p name))) m).1
   where
     d : Request
     d = request_of h nodes target mode checksum

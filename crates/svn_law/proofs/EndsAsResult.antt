@@ -1,7 +1,7 @@
 -- After all steps of a drive and the last call the copy is the result.
 use Rattle.std.proofs.Common.{◌≡◌, ℕ, Bool, true, false, ◌&&◌, ◌||◌, not, List, [], ◌∷◌, ◌++◌, refl, sym, ◌∙◌, ap, subst, true≢false, append_assoc, append-nil}
 use Rattle.std.proofs.Math.Bool.{and-false}
-use Rattle.std.proofs.lemmas.Bool.{false_from_ne_true}
+use Rattle.std.proofs.lemmas.Bool.{false_from_ne_true, or_parts, not-false}
 use Rattle.std.proofs.lemmas.List.Folds.{list_any-append}
 use Rattle.std.specs.Prelude.{Option, Some, None, is_some, option_map, cond, map, filter}
 use Rattle.std.specs.List.{list_any}
@@ -26,7 +26,7 @@ use Rattle.svn_wc.specs.Effects.{settled, settled_path, effect, after, after_fro
 use Rattle.svn_law.specs.Result.{result}
 use Rattle.svn_law.proofs.CrawlCheckable.{related_of}
 use Rattle.svn_law.specs.Laws.{IsTrueCopy, request_of, HasTarget}
-use Rattle.svn_law.proofs.Tests.{or_false, or_first, not_false, some_same}
+use Rattle.svn_law.proofs.Tests.{or_first, some_same}
 use Rattle.svn_law.proofs.Names.{same_path, path_eq-same}
 use Rattle.svn_law.proofs.CrawlCheckable.{crawl_describes_holds}
 use Rattle.svn_law.proofs.Classes.{Setting, none_related, both_nodes, kept_related, switched_to}
@@ -76,11 +76,11 @@ module _ (d : Request) (w : WorkingCopy) (setting : Setting d w) where
   -- a kept path that isn't touched has one node in source and target, and is complete
   pub untouched_same : (p : Path) → is_kept d p ≡ true → is_touched d p ≡ false → (n : ℕ) × (source_node d p ≡ Some n) × (target_node d p ≡ Some n) × (starts_empty_at d p ≡ false)
   untouched_same p k t =
-      let or1 = or_false (is_root p || not (number_eq (source_node d p) (target_node d p)) || starts_empty_at d p) (has_entry_below d.report.entries p)
+      let or1 = or_parts (is_root p || not (number_eq (source_node d p) (target_node d p)) || starts_empty_at d p) (has_entry_below d.report.entries p)
       (sym (ap (λ b. b && (is_root p || not (number_eq (source_node d p) (target_node d p)) || starts_empty_at d p || has_entry_below d.report.entries p)) k) ∙ t) in
-      let or2 = or_false (is_root p || not (number_eq (source_node d p) (target_node d p))) (starts_empty_at d p) or1.0 in
-      let or3 = or_false (is_root p) (not (number_eq (source_node d p) (target_node d p))) or2.0 in
-      let both = both_nodes h (source_node d p) (target_node d p) (kept_related d w setting p k) (not_false _ or3.1) in
+      let or2 = or_parts (is_root p || not (number_eq (source_node d p) (target_node d p))) (starts_empty_at d p) or1.0 in
+      let or3 = or_parts (is_root p) (not (number_eq (source_node d p) (target_node d p))) or2.0 in
+      let both = both_nodes h (source_node d p) (target_node d p) (kept_related d w setting p k) (not-false _ or3.1) in
       (both.0, both.1, both.2, or2.1)
 
   -- what stands there is what the result has, but for its revision and path

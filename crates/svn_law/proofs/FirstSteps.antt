@@ -1,13 +1,13 @@
 -- The first steps of a drive, up to some step: which steps of other paths are among them.
-use Rattle.std.proofs.Common.{◌≡◌, Bool, true, false, ◌&&◌, ◌||◌, not, List, [], ◌∷◌, ◌++◌, refl, sym, ◌∙◌, ap, true≢false, append-nil}
+use Rattle.std.proofs.Common.{◌≡◌, Bool, true, false, ◌&&◌, not, List, [], ◌∷◌, ◌++◌, refl, sym, ◌∙◌, ap, true≢false, append-nil}
 use Rattle.std.specs.Prelude.{cond, map, filter, bytes_eq}
-use Rattle.std.specs.List.{list_any}
+use Rattle.std.specs.List.{list_any, AllByRecursion}
 use Rattle.std.specs.declared.cmp.Ordering.{Ordering}
 use Rattle.std.specs.declared.cmp.Ordering.TheVariants.{Less, Equal, Greater}
 use Rattle.std.specs.Ordering.{is_gt, ordering_then}
 use Rattle.std.specs.Cmp.Lexicographic.{slice_cmp, nat_list_cmp_total}
 use Rattle.std.specs.FinMap.{slice_cmp-IsAntisymmetric, nat_cmp-IsAntisymmetric}
-use Rattle.std.proofs.lemmas.Bool.{false_from_ne_true}
+use Rattle.std.proofs.lemmas.Bool.{false_from_ne_true, and_parts, not-true}
 use Rattle.std.proofs.lemmas.Cmp.{tied_itself}
 use Rattle.svn_types.specs.Names.{Path, name_cmp}
 use Rattle.svn_types.specs.Paths.{path_eq, is_within, is_below}
@@ -15,10 +15,10 @@ use Rattle.svn_types.specs.declared.kind.Kind.TheVariants.{File, Directory}
 use Rattle.svn_delta.specs.Steps.{Action, Delete, Open, Add, Change, Text, Close, Step}
 use Rattle.svn_drive.specs.Follow.{Request}
 use Rattle.svn_drive.specs.Steps.{Mark, Named, End, mark_cmp, key, key_of, comes_after, has_text, InKeyOrder}
-use Rattle.svn_law.proofs.Tests.{or_false, and_true, not_true}
 use Rattle.svn_law.proofs.Names.{same_path, same_bytes, bytes_eq-same}
 use Rattle.svn_law.proofs.Courses.{is_delete, is_entry}
 use Rattle.svn_law.proofs.States.{is_at, actions_at}
+use Rattle.svn_law.proofs.Lists.{all_map, all_part, none_any, each_fails}
 
 -- ---- keys of paths that stand below one another
 
@@ -27,7 +27,7 @@ longer_key [] [] x h k = absurd (true≢false k)
 longer_key [] (n ∷ q) x h k = refl
 longer_key (m ∷ p) [] x h k = absurd (true≢false (sym h))
 longer_key (m ∷ p) (n ∷ q) x h k =
-    let parts = and_true (bytes_eq m n) (is_within p q) h in
+    let parts = and_parts (bytes_eq m n) (is_within p q) h in
     let same : name_cmp n m ≡ Equal = ap (λ y. name_cmp y m) (sym (same_bytes m n parts.0)) ∙ tied_itself nat_list_cmp_total m in
     ap (λ o. is_gt (ordering_then o (slice_cmp mark_cmp (map Named q ++ x) (map Named p)))) same
     ∙ longer_key p q x parts.1 (sym (ap (λ b. b && path_eq p q) parts.0) ∙ k)
@@ -40,10 +40,10 @@ pub key_above : (d : Request) (late : Bool) (p q : Path) (a : Action) → is_bel
 key_above d late p q a b = by_action a
   where
     parts : (is_within p q ≡ true) × (not (path_eq p q) ≡ true)
-    parts = and_true (is_within p q) (not (path_eq p q)) b
+    parts = and_parts (is_within p q) (not (path_eq p q)) b
 
     apart : path_eq p q ≡ false
-    apart = not_true (path_eq p q) parts.1
+    apart = not-true (path_eq p q) parts.1
 
     plain : is_gt (slice_cmp mark_cmp (map Named q) (map Named p)) ≡ true
     plain = ap (λ k. is_gt (slice_cmp mark_cmp k (map Named p))) (sym (append-nil (map Named q))) ∙ longer_key p q [] parts.0 apart
@@ -63,28 +63,16 @@ key_above d late p q a b = by_action a
 
 -- ---- what stands before and after the next step
 
-abbrev pub AllSteps : (Step → Type 0) → List Step → Type 0
-AllSteps P [] = Unit {0}
-AllSteps P (s ∷ steps) = P s × AllSteps P steps
-
-pub all_of_any : (f : Step → Bool) (steps : List Step) → list_any f steps ≡ false → AllSteps (λ t. f t ≡ false) steps
-all_of_any f [] h = tt
-all_of_any f (s ∷ steps) h = let parts = or_false (f s) (list_any f steps) h in (parts.0, all_of_any f steps parts.1)
-
-any_part : (f : Step → Bool) (xs : List Step) (s : Step) (ys : List Step) → list_any f (xs ++ s ∷ ys) ≡ false → f s ≡ false
-any_part f [] s ys h = (or_false (f s) (list_any f ys) h).0
-any_part f (x ∷ xs) s ys h = any_part f xs s ys (or_false (f x) (list_any f (xs ++ s ∷ ys)) h).1
-
-pub before_next : (d : Request) (late : Bool) (done : List Step) (s : Step) (rest : List Step) → InKeyOrder d late (done ++ s ∷ rest) → AllSteps (λ t. comes_after d late t s ≡ false) done
+pub before_next : (d : Request) (late : Bool) (done : List Step) (s : Step) (rest : List Step) → InKeyOrder d late (done ++ s ∷ rest) → AllByRecursion (λ t. comes_after d late t s ≡ false) done
 before_next d late [] s rest h = tt
-before_next d late (t ∷ done) s rest h = (any_part (comes_after d late t) done s rest h.0, before_next d late done s rest h.1)
+before_next d late (t ∷ done) s rest h = (all_part (λ u. comes_after d late t u ≡ false) done s rest (each_fails (comes_after d late t) (done ++ s ∷ rest) h.0), before_next d late done s rest h.1)
 
-pub after_next : (d : Request) (late : Bool) (done : List Step) (s : Step) (rest : List Step) → InKeyOrder d late (done ++ s ∷ rest) → AllSteps (λ u. comes_after d late s u ≡ false) rest
-after_next d late [] s rest h = all_of_any (comes_after d late s) rest h.0
+pub after_next : (d : Request) (late : Bool) (done : List Step) (s : Step) (rest : List Step) → InKeyOrder d late (done ++ s ∷ rest) → AllByRecursion (λ u. comes_after d late s u ≡ false) rest
+after_next d late [] s rest h = each_fails (comes_after d late s) rest h.0
 after_next d late (t ∷ done) s rest h = after_next d late done s rest h.1
 
 -- no step below the path of a step whose key is its path has been taken
-pub none_below_next : (d : Request) (late : Bool) (done : List Step) (s : Step) (q : Path) → AllSteps (λ t. comes_after d late t s ≡ false) done
+pub none_below_next : (d : Request) (late : Bool) (done : List Step) (s : Step) (q : Path) → AllByRecursion (λ t. comes_after d late t s ≡ false) done
     → key_of d late s ≡ map Named s.path → is_below s.path q ≡ true → filter (is_at q) done ≡ []
 none_below_next d late [] s q h k b = refl
 none_below_next d late (t ∷ done) s q h k b = by (is_at q t) refl (none_below_next d late done s q h.1 k b)
@@ -113,11 +101,10 @@ main_key d late p (Text s t) h = absurd (true≢false (sym h))
 main_key d late p (Close k c) h = absurd (true≢false (sym h))
 
 abbrev pub NoneMain : List Action → Type 0
-NoneMain [] = Unit {0}
-NoneMain (a ∷ acts) = (is_main a ≡ false) × NoneMain acts
+NoneMain acts = AllByRecursion (λ a. is_main a ≡ false) acts
 
 -- of the steps above the next one's path those with the path as key have all been taken
-pub none_main_left : (d : Request) (late : Bool) (s : Step) (rest : List Step) (p : Path) → is_below p s.path ≡ true → AllSteps (λ u. comes_after d late s u ≡ false) rest → NoneMain (actions_at p rest)
+pub none_main_left : (d : Request) (late : Bool) (s : Step) (rest : List Step) (p : Path) → is_below p s.path ≡ true → AllByRecursion (λ u. comes_after d late s u ≡ false) rest → NoneMain (actions_at p rest)
 none_main_left d late s [] p b h = tt
 none_main_left d late s (u ∷ rest) p b h = by (is_at p u) refl (none_main_left d late s rest p b h.1)
   where
@@ -135,8 +122,7 @@ none_main_left d late s (u ∷ rest) p b h = by (is_at p u) refl (none_main_left
 
 -- where no main action is left there is none of a kind of main actions
 pub none_left : (f : Action → Bool) → ((a : Action) → f a ≡ true → is_main a ≡ true) → (acts : List Action) → NoneMain acts → list_any f acts ≡ false
-none_left f main [] n = refl
-none_left f main (a ∷ acts) n = ap (λ b. b || list_any f acts) (false_from_ne_true (f a) (λ e. true≢false (sym (main a e) ∙ n.0))) ∙ none_left f main acts n.1
+none_left f main acts n = none_any f acts (all_map (λ a. is_main a ≡ false) (λ a. f a ≡ false) (λ a e. false_from_ne_true (f a) (λ q. true≢false (sym (main a q) ∙ e))) acts n)
 
 pub delete_is_main : (a : Action) → is_delete a ≡ true → is_main a ≡ true
 delete_is_main (Delete r) e = refl

@@ -11,8 +11,9 @@ use Rattle.svn_wc.specs.declared.base_node.BaseNode.TheVariants.{File as FileNod
 use Rattle.svn_wc.specs.Nodes.{is_present, is_dir, node_path}
 use Rattle.svn_wc.specs.Effects.{added_node}
 use Rattle.svn_law.proofs.Tests.{dir_present}
-use Rattle.svn_law.proofs.Courses.{inner_of, AllOf, all_implied, Course, nothing, gone_only, touched, added, replaced}
+use Rattle.svn_law.proofs.Courses.{inner_of, AllOf, Course, nothing, gone_only, touched, added, replaced}
 use Rattle.svn_law.proofs.States.{acted, acted-append, act}
+use Rattle.svn_law.proofs.Lists.{all_map}
 
 -- ---- the place in the target
 
@@ -20,6 +21,7 @@ use Rattle.svn_law.proofs.States.{acted, acted-append, act}
 abbrev pub PathIs : Path → Option BaseNode → Type 0
 PathIs q node = is_present node ≡ true → node_path node ≡ q
 
+-- each action leaves it at the path's place, or puts it there
 act_path : (d : Request) (p : Path) (before : List Action) (a : Action) (node : Option BaseNode) → PathIs (target_path d p) node → PathIs (target_path d p) (act d p before a node)
 act_path d p before (Delete r) node h = λ k. absurd (true≢false (sym k))
 act_path d p before (Open Directory r) (Some (DirNode v q c ps)) h = λ k. refl
@@ -60,7 +62,7 @@ leaves (Add k) = false
 leaves _ = true
 
 pub inner_leaves : (k : Kind) (acts : List Action) → AllOf (inner_of k) acts → AllOf leaves acts
-inner_leaves k = all_implied (inner_of k) leaves each
+inner_leaves k = all_map (λ a. inner_of k a ≡ true) (λ a. leaves a ≡ true) each
   where
     each : (a : Action) → inner_of k a ≡ true → leaves a ≡ true
     each (Delete r) e = e
@@ -82,6 +84,7 @@ module _ (d : Request) (p : Path) where
   all_keep P each before [] found l k = k
   all_keep P each before (a ∷ acts) found l k = all_keep P each (before ++ a ∷ []) acts (act d p before a found) l.1 (each before a found l.0 k)
 
+  -- each leaves a directory one, a present node present, and some entry some entry
   dir_kept : (before : List Action) (a : Action) (found : Option BaseNode) → leaves a ≡ true → is_dir found ≡ true → is_dir (act d p before a found) ≡ true
   dir_kept before (Delete r) found l k = absurd (true≢false (sym l))
   dir_kept before (Add n) found l k = absurd (true≢false (sym l))

@@ -1,4 +1,5 @@
 pub mod Tests
+pub mod Lists
 pub mod Maps
 pub mod Names
 pub mod Keys

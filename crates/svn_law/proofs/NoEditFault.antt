@@ -2,8 +2,7 @@
 use Rattle.std.proofs.Common.{◌≡◌, ℕ, Bool, true, false, ◌&&◌, ◌⊎◌, not, List, [], ◌∷◌, ◌++◌, length, refl, sym, ◌∙◌, ap, subst, true≢false, append_assoc, append-nil, eq-eqb, inl, inr}
 use Rattle.std.specs.Prelude.{Option, Some, None, is_some, cond, map, nat_eq, nat_lt, bytes_eq, filter_map}
 use Rattle.std.specs.List.{cons_option}
-use Rattle.std.proofs.lemmas.Bool.{le-ltb}
-use Rattle.svn_law.proofs.Tests.{and_true}
+use Rattle.std.proofs.lemmas.Bool.{le-ltb, and_parts}
 use Rattle.svn_law.proofs.Names.{value_of-first, Name, bytes_eq-same}
 use Rattle.svn_types.specs.Names.{Path}
 use Rattle.svn_types.specs.Paths.{is_below, child}
@@ -264,7 +263,7 @@ module _ (d : Request) (w : WorkingCopy) (setting : Setting d w) where
       gone_fits : (g : Bool) → is_gone d p ≡ g → AllFit d p [] found (cond g (Delete r ∷ []) [])
       gone_fits false e = tt
       gone_fits true e =
-          let present = source_present p (and_true (is_some (source_node d p)) (not (is_kept d p)) (and_true (is_some (source_node d p) && not (is_kept d p)) (follow d p).parent_is_kept e).0).0 in (
+          let present = source_present p (and_parts (is_some (source_node d p)) (not (is_kept d p)) (and_parts (is_some (source_node d p) && not (is_kept d p)) (follow d p).parent_is_kept e).0).0 in (
             ap (λ o. own_fault d p [] o (Delete r)) (gone e)
                 ∙ ap (λ b. cond (not b) (Some NoEntry) (cond (not (nat_eq (node_revision (w p)) r)) (Some WrongRevision) None)) present
                 ∙ ap (λ b. cond (not b) (Some WrongRevision) None) (right_revision p present),
@@ -304,7 +303,7 @@ module _ (d : Request) (w : WorkingCopy) (setting : Setting d w) where
         above (inl e) x b = absurd (true≢false (sym (sym (ap (is_gone d) e) ∙ g) ∙ kept_not_gone d w setting [] refl))
         above (inr c) x b =
             kept_above_child d x c.0 c.1 (sym (ap (is_below x) c.2) ∙ b)
-            (sym (parent_is_kept-child d c.0 c.1) ∙ sym (ap (λ y. (follow d y).parent_is_kept) c.2) ∙ (and_true (is_some (source_node d p) && not (is_kept d p)) (follow d p).parent_is_kept g).1)
+            (sym (parent_is_kept-child d c.0 c.1) ∙ sym (ap (λ y. (follow d y).parent_is_kept) c.2) ∙ (and_parts (is_some (source_node d p) && not (is_kept d p)) (follow d p).parent_is_kept g).1)
 
     next_fits : AllFit d s.path [] (base w done s.path) (path_actions d s.path)
     next_fits =

@@ -1,7 +1,8 @@
 -- No call of a drive is out of order.
 use Rattle.std.proofs.Common.{◌≡◌, ℕ, Bool, true, false, ◌&&◌, ◌||◌, ◌⊎◌, not, List, [], ◌∷◌, ◌++◌, refl, sym, ◌∙◌, ap, subst, true≢false, append_assoc, append-nil, eq-eqb, inl, inr}
+use Rattle.std.proofs.lemmas.Bool.{or_from}
 use Rattle.std.specs.Prelude.{Option, Some, None, is_some, cond, map, length, slice_get, nat_eq, fold}
-use Rattle.std.specs.List.{list_any, cons_option}
+use Rattle.std.specs.List.{list_any, cons_option, AllByRecursion}
 use Rattle.std.specs.Cmp.Lexicographic.{slice_cmp}
 use Rattle.std.proofs.Math.Bool.{and-false}
 use Rattle.svn_law.proofs.Names.{Name, path_eq-same}
@@ -21,16 +22,17 @@ use Rattle.svn_drive.specs.Drive.{token_of, IsDrive}
 use Rattle.svn_wc.specs.Nodes.{WorkingCopy}
 use Rattle.svn_law.proofs.Children.{parent-child}
 use Rattle.svn_law.proofs.Classes.{Setting, is_below-child}
-use Rattle.svn_law.proofs.FirstSteps.{AllSteps, is_main}
+use Rattle.svn_law.proofs.FirstSteps.{is_main}
 use Rattle.svn_law.proofs.Children.{path_cases}
 use Rattle.svn_law.proofs.Courses.{is_delete, is_entry, is_entry_of, entry_of_is_entry, is_inner, inner_of, is_close, is_close_of, precedes, same_kinds, kind_eq-same, fits_kind}
-use Rattle.svn_law.proofs.StepOrder.{never, has_not, all_map, all_both, all_left, all_right, Member, members, has, has_parts, Found, find, in_whole, Before, before_step, own_entry, Within, any_path_actions, is_closed_later, kinds_at, root_entered}
+use Rattle.svn_law.proofs.StepOrder.{never, has_not, Member, members, has, has_parts, Found, find, Before, before_step, own_entry, Within, any_path_actions, is_closed_later, kinds_at, root_entered}
 use Rattle.svn_law.proofs.AfterSteps.{directory_entered}
 use Rattle.svn_law.proofs.TokenNumbers.{call_by, call_at, entered, Tells, is_root_action, none_twice, root_actions, at_root, above_done, tells_done, token_next, calls_apart}
 use Rattle.svn_law.proofs.CallTests.{on_given, none_in, gives, gives-append, none_given, length-gives, gives_at, GivesAt, given_here, open-call, closes-call, applies_text-call, open_below-call, deletes-call, opens_entry-call, is_last-call, last_pick}
 use Rattle.svn_law.proofs.OpenDirectories.{before_end, before_late, closed_before, none_below, own_open, above_open, longer, drive_there, closed_between}
 use Rattle.svn_law.proofs.CurrentFile.{current_here, text_open}
-use Rattle.svn_law.proofs.OrderTests.{passes, or_false_both, is_first, nothing_first, sub_child, shows_closed, none_changed_late, front_in_order}
+use Rattle.svn_law.proofs.OrderTests.{passes, is_first, nothing_first, sub_child, shows_closed, none_changed_late, front_in_order}
+use Rattle.svn_law.proofs.Lists.{all_map, all_both, all_left, all_right, in_whole}
 
 -- ---- at a step of a drive
 
@@ -99,7 +101,7 @@ module _ (d : Request) (w : WorkingCopy) (setting : Setting d w) (late : Bool) (
     above_unclosed : is_main s.action ≡ true → is_closed earlier (T (parent s.path)) ≡ false
     above_unclosed m =
         none_in T (closes (T (parent s.path))) done
-        (all_map (λ u. has is_close (parent s.path) u ≡ false) (λ u. closes (T (parent s.path)) (call_at T u) ≡ false) (λ u h. closes-call T (parent s.path) above_tells u ∙ h) done
+        (all_map (λ (u : Step). has is_close (parent s.path) u ≡ false) (λ u. closes (T (parent s.path)) (call_at T u) ≡ false) (λ u h. closes-call T (parent s.path) above_tells u ∙ h) done
         (above_open d late done s rest drive (parent s.path) named.0 named.1 m above_entered))
 
     -- the call names the right path
@@ -137,7 +139,7 @@ module _ (d : Request) (w : WorkingCopy) (setting : Setting d w) (late : Bool) (
             closed_behind : list_any (is_open_directory earlier) (gives T f.back) ≡ false
             closed_behind =
                 none_given T (is_open_directory earlier) f.back
-                (all_map (λ y. is_entry_of Directory y.action ≡ true → list_any (has (is_close_of Directory) y.path) done ≡ true) (λ y. on_given (is_open_directory earlier) (given_by (call_at T y)) ≡ false)
+                (all_map (λ (y : Step). is_entry_of Directory y.action ≡ true → list_any (has (is_close_of Directory) y.path) done ≡ true) (λ y. on_given (is_open_directory earlier) (given_by (call_at T y)) ≡ false)
                 (λ y c. open-call T Directory earlier y (λ e. shows_closed T Directory y.path done (c e))) f.back
                 (closed_between d late done s rest drive f.front f.here f.back f.cut named.0 (named.1 ∙ ap (λ q. child q named.0) (sym parts.0)) i (entry_of_is_entry Directory f.here.action parts.1)))
 
@@ -160,7 +162,7 @@ module _ (d : Request) (w : WorkingCopy) (setting : Setting d w) (late : Bool) (
     own_unclosed : is_closed earlier (T s.path) ≡ false
     own_unclosed =
         none_in T (closes (T s.path)) done
-        (all_map (λ u. has is_close s.path u ≡ false) (λ u. closes (T s.path) (call_at T u) ≡ false) (λ u h. closes-call T s.path own_tells u ∙ h) done (own_open d late done s rest drive))
+        (all_map (λ (u : Step). has is_close s.path u ≡ false) (λ u. closes (T s.path) (call_at T u) ≡ false) (λ u h. closes-call T s.path own_tells u ∙ h) done (own_open d late done s rest drive))
 
     -- its entry is for the kind of the action
     own_of_kind : (k : Kind) → kind_eq own.kind k ≡ true → list_any (has (is_entry_of k) s.path) done ≡ true
@@ -175,7 +177,7 @@ module _ (d : Request) (w : WorkingCopy) (setting : Setting d w) (late : Bool) (
         → a_subdirectory_is_open earlier (T s.path) ≡ false
     none_open_below c =
         none_given T (λ g. opens_below (T s.path) g && is_open_directory earlier g) done
-        (all_map (λ y. (Before d late y s × (is_root y.path ≡ true → is_root_action y.action ≡ true)) × Member done y)
+        (all_map (λ (y : Step). (Before d late y s × (is_root y.path ≡ true → is_root_action y.action ≡ true)) × Member done y)
         (λ y. on_given (λ g. opens_below (T s.path) g && is_open_directory earlier g) (given_by (call_at T y)) ≡ false) each done
         (all_both (λ y. Before d late y s × (is_root y.path ≡ true → is_root_action y.action ≡ true)) (Member done) done
         (all_both (λ y. Before d late y s) (λ y. is_root y.path ≡ true → is_root_action y.action ≡ true) done (before_step d late done s rest drive)
@@ -200,11 +202,11 @@ module _ (d : Request) (w : WorkingCopy) (setting : Setting d w) (late : Bool) (
   none_entered : is_entry s.action ≡ true → list_any (opens_entry s.path) earlier ≡ false
   none_entered h =
       none_in T (opens_entry s.path) done
-      (all_map (λ t. Before d late t s) (λ t. opens_entry s.path (call_at T t) ≡ false) (λ t b. opens_entry-call T s.path t ∙ none_twice d late t s h b) done (before_step d late done s rest drive))
+      (all_map (λ (t : Step). Before d late t s) (λ t. opens_entry s.path (call_at T t) ≡ false) (λ t b. opens_entry-call T s.path t ∙ none_twice d late t s h b) done (before_step d late done s rest drive))
 
   -- nothing has been done at a path that is deleted or opened
-  nothing_here : is_first s.action ≡ true → (f : Action → Bool) → AllSteps (λ t. has f s.path t ≡ false) done
-  nothing_here h f = all_map (λ t. Before d late t s) (λ t. has f s.path t ≡ false) each done (before_step d late done s rest drive)
+  nothing_here : is_first s.action ≡ true → (f : Action → Bool) → AllByRecursion (λ t. has f s.path t ≡ false) done
+  nothing_here h f = all_map (λ (t : Step). Before d late t s) (λ t. has f s.path t ≡ false) each done (before_step d late done s rest drive)
     where
       each : (t : Step) → Before d late t s → has f s.path t ≡ false
       each t b = has_not f s.path t (λ e. absurd (true≢false (sym (b.1 e) ∙ nothing_first t.action s.action h)))
@@ -213,13 +215,13 @@ module _ (d : Request) (w : WorkingCopy) (setting : Setting d w) (late : Bool) (
   none_deleted : is_first s.action ≡ true → list_any (deletes s.path) earlier ≡ false
   none_deleted h =
       none_in T (deletes s.path) done
-      (all_map (λ t. has is_delete s.path t ≡ false) (λ t. deletes s.path (call_at T t) ≡ false) (λ t e. deletes-call T s.path t ∙ e) done (nothing_here h is_delete))
+      (all_map (λ (t : Step). has is_delete s.path t ≡ false) (λ t. deletes s.path (call_at T t) ≡ false) (λ t e. deletes-call T s.path t ∙ e) done (nothing_here h is_delete))
 
   -- and not opened
   none_opened : is_first s.action ≡ true → list_any (opens_entry s.path) earlier ≡ false
   none_opened h =
       none_in T (opens_entry s.path) done
-      (all_map (λ t. has is_entry s.path t ≡ false) (λ t. opens_entry s.path (call_at T t) ≡ false) (λ t e. opens_entry-call T s.path t ∙ e) done (nothing_here h is_entry))
+      (all_map (λ (t : Step). has is_entry s.path t ≡ false) (λ t. opens_entry s.path (call_at T t) ≡ false) (λ t e. opens_entry-call T s.path t ∙ e) done (nothing_here h is_entry))
 
   -- what is deleted or added is below the root, and a file that is opened
   below_root : is_root_action s.action ≡ false → is_root s.path ≡ false
@@ -291,7 +293,7 @@ module _ (d : Request) (w : WorkingCopy) (setting : Setting d w) (late : Bool) (
   none_texted : (i : is_inner s.action ≡ true) → is_text s.action ≡ true → list_any (applies_text (T s.path)) earlier ≡ false
   none_texted i h =
       none_in T (applies_text (T s.path)) done
-      (all_map (λ t. Before d late t s) (λ t. applies_text (T s.path) (call_at T t) ≡ false) (λ t b. applies_text-call T s.path (own_tells i) t ∙ each t b) done (before_step d late done s rest drive))
+      (all_map (λ (t : Step). Before d late t s) (λ t. applies_text (T s.path) (call_at T t) ≡ false) (λ t b. applies_text-call T s.path (own_tells i) t ∙ each t b) done (before_step d late done s rest drive))
     where
       twice : (x a : Action) → is_text a ≡ true → precedes x a ≡ true → is_text x ≡ false
       twice (Text y t) (Text z u) e q = absurd (true≢false (sym q))
@@ -329,7 +331,7 @@ module _ (d : Request) (w : WorkingCopy) (setting : Setting d w) (late : Bool) (
   open_directory r e false q =
       passes earlier (OpenDirectory s.path (T (parent s.path)) r (T s.path)) not_ended refl (above_known q) (above_unclosed q (ap is_main e)) (right_number (ap is_entry e)) (right_path q)
       (finished true (ap (is_close_of File) e)) refl (innermost_above q (ap is_entry e) (ap is_main e)) refl (above_unchanged q) refl
-      (or_false_both _ _ (none_opened (ap is_first e)) (none_deleted (ap is_first e))) refl refl
+      (or_from _ _ (none_opened (ap is_first e)) (none_deleted (ap is_first e))) refl refl
 
   change_directory : (name : Name) (value : Option (List ℕ)) → s.action ≡ Change Directory (name, value) → order_fault earlier (ChangeDirProp (T s.path) name value) ≡ None
   change_directory name value e =
@@ -386,7 +388,7 @@ module _ (d : Request) (w : WorkingCopy) (setting : Setting d w) (late : Bool) (
       by (Open File r) e =
           let n = below_root (ap is_root_action e) in
           passes earlier (OpenFile s.path (T (parent s.path)) r (T s.path)) not_ended refl (above_known n) (above_unclosed n (ap is_main e)) (right_number (ap is_entry e)) (right_path n)
-          (finished true (ap (is_close_of File) e)) refl refl refl refl refl (or_false_both _ _ (none_opened (ap is_first e)) (none_deleted (ap is_first e))) refl refl
+          (finished true (ap (is_close_of File) e)) refl refl refl refl refl (or_from _ _ (none_opened (ap is_first e)) (none_deleted (ap is_first e))) refl refl
       by (Add Directory) e =
           let n = below_root (ap is_root_action e) in
           passes earlier (AddDirectory s.path (T (parent s.path)) (T s.path)) not_ended refl (above_known n) (above_unclosed n (ap is_main e)) (right_number (ap is_entry e)) (right_path n)
@@ -457,7 +459,7 @@ module _ (d : Request) (w : WorkingCopy) (setting : Setting d w) (late : Bool) (
       passes (begun all) CloseEdit
       (none_in number is_last all (all_map (Member all) (λ x. is_last (call_at number x) ≡ false) (λ x m. is_last-call number x) all (members all)))
       refl refl refl refl refl (and-false (has_its_text (begun all) (current_file (begun all)))) refl refl refl refl refl refl refl
-      (or_false_both _ _ (or_false_both _ _ root_given (none_left_open Directory)) (none_left_open File))
+      (or_from _ _ (or_from _ _ root_given (none_left_open Directory)) (none_left_open File))
 
   -- from any point of a drive on the calls are lawful
   lawful_from : (done steps : List Step) → done ++ steps ≡ all → IsLawfulAfter (begun done) (map (call_at number) steps ++ (CloseEdit ∷ []))

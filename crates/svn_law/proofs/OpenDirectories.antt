@@ -1,7 +1,7 @@
 -- Which directories are open at a step of a drive: those above its path.
 use Rattle.std.proofs.Common.{◌≡◌, Bool, true, false, ◌&&◌, ◌||◌, not, List, [], ◌∷◌, ◌++◌, refl, sym, ◌∙◌, ap, subst, true≢false, append_assoc, append-nil}
 use Rattle.std.specs.Prelude.{map}
-use Rattle.std.specs.List.{list_any}
+use Rattle.std.specs.List.{list_any, AllByRecursion}
 use Rattle.std.proofs.lemmas.List.Folds.{list_any-append}
 use Rattle.std.specs.declared.cmp.Ordering.{Ordering}
 use Rattle.std.specs.declared.cmp.Ordering.TheVariants.{Less, Equal, Greater}
@@ -16,11 +16,12 @@ use Rattle.svn_delta.specs.Steps.{Action, Close, Step}
 use Rattle.svn_drive.specs.Steps.{Mark, Named, End, mark_cmp, key_of, comes_after, IsDriveOf}
 use Rattle.svn_drive.specs.Follow.{Request}
 use Rattle.svn_law.proofs.Keys.{keys_total, tied_keys, path_in, path_in-map}
-use Rattle.svn_law.proofs.FirstSteps.{AllSteps, key_above, apart_keys, main_key, is_main, entry_is_main}
+use Rattle.svn_law.proofs.FirstSteps.{key_above, apart_keys, main_key, is_main, entry_is_main}
 use Rattle.svn_law.proofs.Deletes.{within_child}
 use Rattle.svn_law.proofs.Courses.{is_entry, is_entry_of, entry_of_is_entry, is_close, is_close_of, precedes, fits_kind}
-use Rattle.svn_law.proofs.StepOrder.{never, has_not, all_map, all_both, all_left, all_right, none_any, Member, members, has, has_parts, in_front, in_whole, kinds_at, Before, before_step, after_step, is_closed_later}
+use Rattle.svn_law.proofs.StepOrder.{never, has_not, Member, members, has, has_parts, kinds_at, Before, before_step, after_step, is_closed_later}
 use Rattle.svn_law.proofs.TokenNumbers.{none_twice}
+use Rattle.svn_law.proofs.Lists.{all_map, all_both, all_left, all_right, none_any, in_front, in_whole}
 
 -- ---- the order of keys
 
@@ -87,7 +88,7 @@ module _ (d : Request) (late : Bool) (done : List Step) (s : Step) (rest : List 
       none =
           none_any (has (is_close_of Directory) r) (s ∷ rest) (
             not_here s (ap is_gt (tied_itself keys_total (key_of d late s))),
-            all_map (λ u. Before d late s u) (λ u. has (is_close_of Directory) r u ≡ false) (λ u b. not_here u b.0) rest (after_step d late done s rest drive),
+            all_map (λ (u : Step). Before d late s u) (λ u. has (is_close_of Directory) r u ≡ false) (λ u b. not_here u b.0) rest (after_step d late done s rest drive),
           )
 
   -- the directory above a step that isn't late hasn't been closed
@@ -104,8 +105,8 @@ module _ (d : Request) (late : Bool) (done : List Step) (s : Step) (rest : List 
       true≢false (sym (ap (λ x. is_gt (slice_cmp mark_cmp (key_of d late u) x)) (main_key d late s.path s.action m) ∙ key_above d late s.path u.path u.action h) ∙ b.0)
 
   -- what is closed isn't entered again, and nothing is done there any more
-  pub own_open : AllSteps (λ u. has is_close s.path u ≡ false) done
-  own_open = all_map (λ u. Before d late u s) (λ u. has is_close s.path u ≡ false) each done (before_step d late done s rest drive)
+  pub own_open : AllByRecursion (λ u. has is_close s.path u ≡ false) done
+  own_open = all_map (λ (u : Step). Before d late u s) (λ u. has is_close s.path u ≡ false) each done (before_step d late done s rest drive)
     where
       last : (a : Action) → precedes a s.action ≡ true → is_close a ≡ false
       last (Close l c) h = absurd (true≢false (sym h))
@@ -115,9 +116,9 @@ module _ (d : Request) (late : Bool) (done : List Step) (s : Step) (rest : List 
       each u b = has_not is_close s.path u (λ e. last u.action (b.1 e))
 
   -- the directory above is still open
-  pub above_open : (q : Path) (name : Name) → s.path ≡ child q name → is_main s.action ≡ true → list_any (has (is_entry_of Directory) q) done ≡ true → AllSteps (λ u. has is_close q u ≡ false) done
+  pub above_open : (q : Path) (name : Name) → s.path ≡ child q name → is_main s.action ≡ true → list_any (has (is_entry_of Directory) q) done ≡ true → AllByRecursion (λ u. has is_close q u ≡ false) done
   above_open q name e m h =
-      all_map (λ u. Before d late u s × (u.path ≡ q → fits_kind Directory u.action ≡ true)) (λ u. has is_close q u ≡ false) each done
+      all_map (λ (u : Step). Before d late u s × (u.path ≡ q → fits_kind Directory u.action ≡ true)) (λ u. has is_close q u ≡ false) each done
       (all_both (λ u. Before d late u s) (λ u. u.path ≡ q → fits_kind Directory u.action ≡ true) done (before_step d late done s rest drive)
       (all_left (λ u. u.path ≡ q → fits_kind Directory u.action ≡ true) done (s ∷ rest)
       (kinds_at d late (done ++ s ∷ rest) drive Directory q (in_whole (has (is_entry_of Directory) q) done (s ∷ rest) h))))
@@ -141,17 +142,17 @@ module _ (d : Request) (late : Bool) (done : List Step) (s : Step) (rest : List 
     drive_there = subst (IsDriveOf d late) (sym longer) drive
 
     -- the steps between come after the one and before the other
-    pub between : AllSteps (λ y. Before d late e y × Before d late y s) back
+    pub between : AllByRecursion (λ y. Before d late e y × Before d late y s) back
     between =
         all_both (λ y. Before d late e y) (λ y. Before d late y s) back
         (all_left (λ y. Before d late e y) back (s ∷ rest) (after_step d late front e (back ++ s ∷ rest) drive_there))
-        (all_right (λ y. Before d late y s) front (e ∷ back) (subst (AllSteps (λ y. Before d late y s)) (sym cut) (before_step d late done s rest drive))).1
+        (all_right (λ y. Before d late y s) front (e ∷ back) (subst (AllByRecursion (λ y. Before d late y s)) (sym cut) (before_step d late done s rest drive))).1
 
     -- the directories opened behind the one above have been closed
     pub closed_between : (name : Name) → s.path ≡ child e.path name → is_entry s.action ≡ true → is_entry e.action ≡ true
-        → AllSteps (λ y. is_entry_of Directory y.action ≡ true → list_any (has (is_close_of Directory) y.path) done ≡ true) back
+        → AllByRecursion (λ y. is_entry_of Directory y.action ≡ true → list_any (has (is_close_of Directory) y.path) done ≡ true) back
     closed_between name child_of s_entry e_entry =
-        all_map (λ y. (Before d late e y × Before d late y s) × Member back y) (λ y. is_entry_of Directory y.action ≡ true → list_any (has (is_close_of Directory) y.path) done ≡ true)
+        all_map (λ (y : Step). (Before d late e y × Before d late y s) × Member back y) (λ y. is_entry_of Directory y.action ≡ true → list_any (has (is_close_of Directory) y.path) done ≡ true)
         each back (all_both (λ y. Before d late e y × Before d late y s) (Member back) back between (members back))
       where
         here : key_of d late s ≡ map Named s.path

@@ -1,7 +1,8 @@
 -- The tests of the order check, all together, and what passes them.
 use Rattle.std.proofs.Common.{◌≡◌, ℕ, Bool, true, false, ◌&&◌, ◌||◌, ◌⊎◌, List, [], ◌∷◌, ◌++◌, refl, sym, ◌∙◌, ap, true≢false, eq-eqb, inl, inr}
+use Rattle.std.proofs.lemmas.Bool.{or_from}
 use Rattle.std.specs.Prelude.{Option, None, cond, map}
-use Rattle.std.specs.List.{list_any}
+use Rattle.std.specs.List.{list_any, AllByRecursion}
 use Rattle.std.proofs.lemmas.List.Folds.{list_any-append}
 use Rattle.std.specs.Ordering.{is_gt}
 use Rattle.std.specs.Cmp.Lexicographic.{slice_cmp}
@@ -20,12 +21,13 @@ use Rattle.svn_drive.specs.Steps.{Named, mark_cmp, key_of, comes_after, InKeyOrd
 use Rattle.svn_drive.specs.Follow.{Request}
 use Rattle.svn_law.proofs.Children.{parent-child}
 use Rattle.svn_law.proofs.Classes.{is_below-child}
-use Rattle.svn_law.proofs.FirstSteps.{AllSteps, main_key, is_main, key_above, all_of_any}
+use Rattle.svn_law.proofs.FirstSteps.{main_key, is_main, key_above}
 use Rattle.svn_law.proofs.Children.{path_cases}
 use Rattle.svn_law.proofs.Courses.{is_close_of, precedes}
-use Rattle.svn_law.proofs.StepOrder.{never, all_map, has, has_parts}
+use Rattle.svn_law.proofs.StepOrder.{never, has, has_parts}
 use Rattle.svn_law.proofs.TokenNumbers.{call_by, call_at, Tells, is_root_action}
 use Rattle.svn_law.proofs.CallTests.{on_given, is_change_of, IsSubdirectory, none_in, some_in, changes_dir-call, sub-given, opens_subdirectory-call}
+use Rattle.svn_law.proofs.Lists.{all_map, each_fails}
 
 -- ---- all tests together
 
@@ -52,9 +54,6 @@ passes earlier c ended h1 h2 h3 h4 h5 h6 h7 h8 h9 h10 h11 h12 h13 h14 = by c all
     by c h = skip (list_any is_last earlier) _ _ ended h
 
 -- two tests that fail
-pub or_false_both : (a b : Bool) → a ≡ false → b ≡ false → (a || b) ≡ false
-or_false_both a b e h = ap (λ x. x || b) e ∙ h
-
 -- nothing is done at a path before it is deleted or opened
 abbrev pub is_first : Action → Bool
 is_first (Delete r) = true
@@ -99,16 +98,16 @@ module _ (T : Path → ℕ) where
           by a e q = absurd (true≢false (sym q))
 
   -- where steps stand in order, no directory's property is changed after a directory below it was entered
-  pub none_changed_late : (d : Request) (late : Bool) (q : Path) → Tells T q → (xs : List Step) → InKeyOrder d late xs → AllSteps (λ x. is_root x.path ≡ true → is_root_action x.action ≡ true) xs
+  pub none_changed_late : (d : Request) (late : Bool) (q : Path) → Tells T q → (xs : List Step) → InKeyOrder d late xs → AllByRecursion (λ x. is_root x.path ≡ true → is_root_action x.action ≡ true) xs
       → changed_late (map (call_at T) xs) (T q) ≡ false
   none_changed_late d late q tells [] o r = refl
   none_changed_late d late q tells (y ∷ ys) o r =
-      or_false_both _ _ (ap (λ b. b && list_any (changes_dir (T q)) (map (call_at T) ys)) (opens_subdirectory-call T q tells y) ∙ by (on_given (opens_below (T q)) (given_by (call_at T y))) refl)
+      or_from _ _ (ap (λ b. b && list_any (changes_dir (T q)) (map (call_at T) ys)) (opens_subdirectory-call T q tells y) ∙ by (on_given (opens_below (T q)) (given_by (call_at T y))) refl)
       (none_changed_late d late q tells ys o.1 r.1)
     where
       by : (b : Bool) → on_given (opens_below (T q)) (given_by (call_at T y)) ≡ b → (b && list_any (changes_dir (T q)) (map (call_at T) ys)) ≡ false
       by false e = refl
-      by true e = none_in T (changes_dir (T q)) ys (all_map (λ u. comes_after d late y u ≡ false) (λ u. changes_dir (T q) (call_at T u) ≡ false) each ys (all_of_any (comes_after d late y) ys o.0))
+      by true e = none_in T (changes_dir (T q)) ys (all_map (λ (u : Step). comes_after d late y u ≡ false) (λ u. changes_dir (T q) (call_at T u) ≡ false) each ys (each_fails (comes_after d late y) ys o.0))
         where
           sub : (name : Name) × (y.path ≡ child q name)
           sub = sub_child q y (sub-given T q tells y e) r.0

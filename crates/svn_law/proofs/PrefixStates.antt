@@ -1,11 +1,11 @@
 -- What stands at each path after the first steps of a drive: what stood there before, a node that is begun, or the target's node.
 use Rattle.std.proofs.Common.{◌≡◌, ℕ, Bool, true, false, ◌||◌, List, [], ◌∷◌, ◌++◌, refl, sym, ◌∙◌, ap, subst, true≢false, append-nil}
+use Rattle.std.proofs.lemmas.Bool.{or_parts}
 use Rattle.std.specs.Prelude.{Option, Some, None, cond, map, filter}
-use Rattle.std.specs.List.{list_any}
+use Rattle.std.specs.List.{list_any, AllByRecursion}
 use Rattle.std.specs.Ordering.{is_gt}
 use Rattle.std.specs.Cmp.Lexicographic.{slice_cmp}
 use Rattle.std.proofs.lemmas.List.Folds.{list_any-append}
-use Rattle.svn_law.proofs.Tests.{or_false}
 use Rattle.svn_law.proofs.Names.{Name, same_path}
 use Rattle.svn_types.specs.Names.{Path}
 use Rattle.svn_types.specs.Paths.{child}
@@ -23,7 +23,7 @@ use Rattle.svn_wc.specs.Effects.{added_node}
 use Rattle.svn_law.proofs.Classes.{Setting}
 use Rattle.svn_law.proofs.Courses.{is_delete, is_close, is_close_of, inner_of, AllOf, InTurn, none_closed, TargetKind, course_of, course_in_turn, begun_open, begun_add, Place, deleting, entering, adding, inside, place_of}
 use Rattle.svn_law.proofs.States.{is_at, actions_at, acted, acted-append, act, is_deleted_above, base, state, path_cut}
-use Rattle.svn_law.proofs.FirstSteps.{AllSteps, is_main, main_key, NoneMain}
+use Rattle.svn_law.proofs.FirstSteps.{is_main, main_key, NoneMain}
 use Rattle.svn_law.proofs.Deletes.{kept_base}
 use Rattle.svn_law.proofs.AfterAllSteps.{is_quiet, acted_quiet, KeptAs, kept_as, entered_end}
 use Rattle.svn_law.proofs.EndsAsResult.{state_all}
@@ -49,7 +49,7 @@ all_deleted d p before a acts found h = absurd (true≢false (sym h.0))
 -- ---- the close of a directory comes after the main steps of its children
 
 none_main_after : (d : Request) (late : Bool) (s : Step) (rest : List Step) (p : Path) (name : Name) → s.path ≡ p → is_close_of Directory s.action ≡ true
-    → AllSteps (λ u. comes_after d late s u ≡ false) rest → NoneMain (actions_at (child p name) rest)
+    → AllByRecursion (λ u. comes_after d late s u ≡ false) rest → NoneMain (actions_at (child p name) rest)
 none_main_after d late s [] p name at c h = tt
 none_main_after d late s (u ∷ rest) p name at c h = by (is_at (child p name) u) refl (none_main_after d late s rest p name at c h.1)
   where
@@ -149,7 +149,7 @@ module _ (d : Request) (w : WorkingCopy) (setting : Setting d w) (late : Bool) (
           ∙ ap (act d p [] (Open k r)) (b f)))
           (opened p k r z f)
       by (inside k z (begun_add before inner f e h) q) =
-          let quiet = (or_false (list_any is_close before) (list_any is_close inner) (sym (ap (list_any is_close) e ∙ list_any-append is_close before (Add k ∷ inner)) ∙ c)).1 in
+          let quiet = (or_parts (list_any is_close before) (list_any is_close inner) (sym (ap (list_any is_close) e ∙ list_any-append is_close before (Add k ∷ inner)) ∙ c)).1 in
           subst (Stands p)
           (sym (ap (acted d p [] found) e ∙ acted-append d p [] before (Add k ∷ inner) found
           ∙ acted_quiet d p (before ++ Add k ∷ []) inner (Some (added_node k d.target (target_path d p))) (quiet_inner k inner h quiet)))

@@ -2,9 +2,8 @@
 use Rattle.std.proofs.Common.{◌≡◌, ◌≢◌, ℕ, ◌+◌, ◌≤◌, Bool, true, false, ◌&&◌, ◌||◌, not, List, [], ◌∷◌, ◌++◌, length, refl, sym, ◌∙◌, ap, subst, true≢false, zero, suc, take}
 use Rattle.std.specs.Prelude.{Option, Some, None, is_some, option_map, cond, bytes_eq}
 use Rattle.std.specs.List.{list_any}
-use Rattle.std.proofs.lemmas.Bool.{or_right}
+use Rattle.std.proofs.lemmas.Bool.{or_right, and_parts}
 use Rattle.std.specs.Map.{keys_of}
-use Rattle.svn_law.proofs.Tests.{and_true}
 use Rattle.svn_law.proofs.Names.{value_of-first, value_of_name, Name, same_bytes, bytes_eq-same, has_name}
 use Rattle.svn_types.specs.Names.{Path, IsName}
 use Rattle.svn_types.specs.Paths.{child}
@@ -23,7 +22,7 @@ use Rattle.svn_wc.specs.Nodes.{WorkingCopy, IsWorkingCopy, is_present, is_dir, n
 use Rattle.svn_law.specs.Result.{result}
 use Rattle.svn_law.proofs.Children.{entry_below, look-child}
 use Rattle.svn_law.proofs.Classes.{Setting, is_kept-child, kept_related, target_path-child}
-use Rattle.svn_law.proofs.Courses.{is_entry, is_entry_of, entry_of_is_entry, any_implied, is_close_of, course_of, course_closed, entered_entry}
+use Rattle.svn_law.proofs.Courses.{is_entry, is_entry_of, entry_of_is_entry, is_close_of, course_of, course_closed, entered_entry}
 use Rattle.svn_law.proofs.States.{actions_at, acted, is_deleted_above, base, state}
 use Rattle.svn_law.proofs.FirstSteps.{NoneMain}
 use Rattle.svn_law.proofs.AfterSteps.{kept_present}
@@ -38,6 +37,7 @@ use Rattle.svn_wc.specs.Effects.{after}
 use Rattle.svn_law.specs.Laws.{prefixes_true, request_of}
 use Rattle.svn_law.proofs.AfterCalls.{after-first}
 use Rattle.svn_law.proofs.EndsAsResult.{ends, setting_of}
+use Rattle.svn_law.proofs.Lists.{any_implied}
 
 -- ---- names and entries
 
@@ -224,7 +224,7 @@ module _ (d : Request) (w : WorkingCopy) (setting : Setting d w) where
               result_dir p t.0 t.1 (kept_dir_target p t.0 kept t.1 dir)
             where
               kept_up : is_kept d (child p name) ≡ true → is_kept d p ≡ true
-              kept_up e = (and_true (is_kept d p) _ (sym (is_kept-child d p name) ∙ e)).0
+              kept_up e = (and_parts (is_kept d p) _ (sym (is_kept-child d p name) ∙ e)).0
 
   -- ---- the first steps
 

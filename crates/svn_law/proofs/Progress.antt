@@ -1,10 +1,10 @@
 -- How far the first steps of a drive have come at each path: what is done above a path that is done, and what is left of the old copy.
 use Rattle.std.proofs.Common.{◌≡◌, ◌≢◌, Bool, true, false, ◌&&◌, ◌||◌, ◌⊎◌, not, List, [], ◌∷◌, ◌++◌, refl, sym, ◌∙◌, ap, subst, true≢false, inl, inr}
 use Rattle.std.specs.Prelude.{Some, None, is_some, cond, map, filter}
-use Rattle.std.specs.List.{list_any}
-use Rattle.std.proofs.lemmas.Bool.{false_from_ne_true}
+use Rattle.std.specs.List.{list_any, AllByRecursion}
+use Rattle.std.proofs.lemmas.Bool.{false_from_ne_true, or_parts, and_parts}
 use Rattle.std.proofs.lemmas.List.Folds.{list_any-append}
-use Rattle.svn_law.proofs.Tests.{or_false, or_first, and_true, dir_present}
+use Rattle.svn_law.proofs.Tests.{or_first, dir_present}
 use Rattle.svn_law.proofs.Names.{Name, same_path}
 use Rattle.svn_types.specs.Names.{Path}
 use Rattle.svn_types.specs.Paths.{path_eq, is_within, is_below, child}
@@ -16,13 +16,14 @@ use Rattle.svn_drive.specs.Steps.{InKeyOrder, IsDriveOf, comes_after, is_gone, e
 use Rattle.svn_wc.specs.Nodes.{WorkingCopy, is_present, is_dir}
 use Rattle.svn_wc.specs.Effects.{added_node}
 use Rattle.svn_law.proofs.Classes.{Setting, EnteredDirectory, entered_below, is_below-child}
-use Rattle.svn_law.proofs.Courses.{is_delete, is_entry, AllOf, all_first, course_of, Begun, begun_open, begun_add}
+use Rattle.svn_law.proofs.Courses.{is_delete, is_entry, AllOf, course_of, Begun, begun_open, begun_add}
 use Rattle.svn_law.proofs.States.{is_at, actions_at, acted, acted-append, is_deleted_above, base, state, path_cut}
-use Rattle.svn_law.proofs.FirstSteps.{AllSteps, all_of_any, NoneMain, none_main_left, none_left, delete_is_main, entry_is_main}
+use Rattle.svn_law.proofs.FirstSteps.{NoneMain, none_main_left, none_left, delete_is_main, entry_is_main}
 use Rattle.svn_law.proofs.Deletes.{is_within-longer, below_child, deleted_by, deleter, gone_above, kept_base}
 use Rattle.svn_law.proofs.Keeping.{leaves, inner_leaves, kept_leaves, keep_dir, keep_present, keep_some, present_some}
 use Rattle.svn_law.proofs.AfterSteps.{has_entry, kept_present, begun_before, begun_directory}
 use Rattle.svn_law.proofs.VisitedPaths.{within_shorter}
+use Rattle.svn_law.proofs.Lists.{all_left, each_fails}
 
 -- ---- tests on lists of steps
 
@@ -31,7 +32,7 @@ pub record Taken (d : Request) (late : Bool) (f : Action → Bool) (q : Path) (r
   pub taken : Step
   pub at_path : taken.path ≡ q
   pub passes : f taken.action ≡ true
-  pub not_before : AllSteps (λ u. comes_after d late taken u ≡ false) rest
+  pub not_before : AllByRecursion (λ u. comes_after d late taken u ≡ false) rest
 
 pub taken_at : (d : Request) (late : Bool) (f : Action → Bool) (q : Path) (steps rest : List Step) → InKeyOrder d late (steps ++ rest)
     → list_any f (actions_at q steps) ≡ true → Taken d late f q rest
@@ -44,19 +45,21 @@ taken_at d late f q (s ∷ steps) rest o h = by (is_at q s) (f s.action) refl re
       taken = s;
       at_path = same_path s.path q e;
       passes = u;
-      not_before = all_of_any (comes_after d late s) rest (or_false (list_any (comes_after d late s) steps) (list_any (comes_after d late s) rest) (sym (list_any-append (comes_after d late s) steps rest) ∙ o.0)).1;
+      not_before = each_fails (comes_after d late s) rest (or_parts (list_any (comes_after d late s) steps) (list_any (comes_after d late s) rest) (sym (list_any-append (comes_after d late s) steps rest) ∙ o.0)).1;
     }
     by true false e u k ih = ih (sym (ap (λ b. b || list_any f (actions_at q steps)) u) ∙ k)
     by false b e u k ih = ih k
 
+-- what stands above a path stands above its children
 pub below_deeper : (q p : Path) (name : Name) → is_below q p ≡ true → is_below q (child p name) ≡ true
 below_deeper q p name h =
-    let parts = and_true (is_within q p) (not (path_eq q p)) h in
+    let parts = and_parts (is_within q p) (not (path_eq q p)) h in
     ap (λ b. b && not (path_eq q (child p name))) (is_within-longer q p name parts.0) ∙ ap not (other parts.0)
   where
     other : is_within q p ≡ true → path_eq q (child p name) ≡ false
     other i = false_from_ne_true (path_eq q (child p name)) (λ e. true≢false (sym i ∙ ap (λ x. is_within x p) (same_path q (child p name) e) ∙ within_shorter p name))
 
+-- where a path is taken away its children are
 still_deleted : (p : Path) (name : Name) (steps : List Step) → is_deleted_above steps p ≡ true → is_deleted_above steps (child p name) ≡ true
 still_deleted p name steps h = let x = deleter p steps h in deleted_by x.path (child p name) steps x.deletes (below_deeper x.path p name x.above)
 
@@ -115,7 +118,7 @@ module _ (d : Request) (w : WorkingCopy) (setting : Setting d w) (late : Bool) (
       delete_first g e = ap (λ b. cond b (Delete (governing_revision (follow d g).here) ∷ []) [] ++ entered_actions d g (target_node d g)) e
 
       by_gone : (a : Action) (l : List Action) → actions_at p steps ≡ a ∷ l → (g : Path) → is_within g p ≡ true → is_gone d g ≡ true → (b : Bool) → path_eq g p ≡ b → ⊥
-      by_gone a l e g i u true q = true≢false (ap is_delete (heads whole) ∙ (or_false (is_delete a) (list_any is_delete l) (sym (ap (list_any is_delete) e) ∙ k)).0)
+      by_gone a l e g i u true q = true≢false (ap is_delete (heads whole) ∙ (or_parts (is_delete a) (list_any is_delete l) (sym (ap (list_any is_delete) e) ∙ k)).0)
         where
           whole : Delete (governing_revision (follow d p).here) ∷ entered_actions d p (target_node d p) ≡ a ∷ (l ++ actions_at p rest)
           whole = sym (delete_first p (ap (is_gone d) (sym (same_path g p q)) ∙ u)) ∙ sym (cut p) ∙ ap (λ x. x ++ actions_at p rest) e
@@ -145,7 +148,7 @@ module _ (d : Request) (w : WorkingCopy) (setting : Setting d w) (late : Bool) (
 
   -- nothing that was done at a kept path takes its node away
   kept_done : (p : Path) → is_kept d p ≡ true → AllOf leaves (actions_at p steps)
-  kept_done p k = all_first leaves (actions_at p steps) (actions_at p rest) (subst (AllOf leaves) (sym (cut p)) (kept_leaves d p (path_actions d p) (course_of d p) k))
+  kept_done p k = all_left (λ a. leaves a ≡ true) (actions_at p steps) (actions_at p rest) (subst (AllOf leaves) (sym (cut p)) (kept_leaves d p (path_actions d p) (course_of d p) k))
 
   -- a kept directory stands
   pub kept_is_dir : (p : Path) → is_kept d p ≡ true → is_dir (w p) ≡ true → is_dir (state d w steps p) ≡ true

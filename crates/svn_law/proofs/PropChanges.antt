@@ -1,5 +1,6 @@
 -- Changing properties by the changes between two lists gives the second.
 use Rattle.std.proofs.Common.{◌≡◌, ℕ, Bool, true, false, ◌||◌, List, [], ◌∷◌, refl, sym, ◌∙◌, ap, true≢false, ◌⊎◌, inl, inr}
+use Rattle.std.proofs.lemmas.Bool.{or_parts}
 use Rattle.std.specs.Prelude.{Option, Some, None, cond, bytes_eq, filter_map}
 use Rattle.std.specs.List.{cons_option}
 use Rattle.std.specs.declared.cmp.Ordering.{Ordering}
@@ -12,7 +13,6 @@ use Rattle.std.proofs.lemmas.Map.Text.{is_eq-slice_cmp}
 use Rattle.svn_types.specs.Names.{name_cmp}
 use Rattle.svn_types.specs.Pairs.{value_of, with_value, InNameOrder}
 use Rattle.svn_types.specs.Props.{is_same_value, with_changes, names_of_both, change_between, changes_between}
-use Rattle.svn_law.proofs.Tests.{or_false}
 use Rattle.svn_law.proofs.Maps.{lookup-remove, sorted-insert, sorted-remove, same_entries}
 use Rattle.svn_law.proofs.Names.{Name, same_bytes, bytes_eq-same, same_name, flipped, lt_apart, value_of-first, has_name, has_name-fold, no_name_no_value}
 
@@ -120,5 +120,5 @@ with_changes-between old new h k =
     at : (m : Name) (x : Bool) → has_name names m ≡ x → cond x (value_of new m) (value_of old m) ≡ value_of new m
     at m true q = refl
     at m false q =
-        let parts = or_false (has_name (keys_of old) m) (has_name (keys_of new) m) (sym (has_name-fold (keys_of new) (keys_of old) m) ∙ q) in
+        let parts = or_parts (has_name (keys_of old) m) (has_name (keys_of new) m) (sym (has_name-fold (keys_of new) (keys_of old) m) ∙ q) in
         no_name_no_value old m parts.0 ∙ sym (no_name_no_value new m parts.1)

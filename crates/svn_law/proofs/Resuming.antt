@@ -2,8 +2,8 @@
 use Rattle.std.proofs.Common.{◌≡◌, ℕ, Bool, true, false, ◌&&◌, ◌⊎◌, List, [], ◌++◌, refl, sym, ◌∙◌, ap, subst, true≢false, take, inl, inr}
 use Rattle.std.specs.Prelude.{Option, Some, None, is_some, option_map, cond}
 use Rattle.std.specs.List.{list_any}
-use Rattle.std.proofs.lemmas.Bool.{false_from_ne_true}
-use Rattle.svn_law.proofs.Tests.{and_true, nat_eq-same, some_number, dir_present}
+use Rattle.std.proofs.lemmas.Bool.{false_from_ne_true, and_parts}
+use Rattle.svn_law.proofs.Tests.{nat_eq-same, some_number, dir_present}
 use Rattle.svn_law.proofs.Classes.{switched_to}
 use Rattle.svn_law.proofs.Names.{Name}
 use Rattle.svn_types.specs.Names.{Path}
@@ -113,7 +113,7 @@ module _ (d : Request) (w : WorkingCopy) (setting : Setting d w) (update : d.mod
 
       kept : is_kept d (child p name) ≡ true → is_kept again (child p name) ≡ true
       kept k =
-          let up : is_kept again p ≡ true = ih.still_kept (and_true (is_kept d p) _ (sym (is_kept-child d p name) ∙ k)).0 in
+          let up : is_kept again p ≡ true = ih.still_kept (and_parts (is_kept d p) _ (sym (is_kept-child d p name) ∙ k)).0 in
           let z = placed c k l in
           is_kept-child again p name
           ∙ ap (λ b. b && are_related h (source_node again c) (look h d.target (candidate d.mode (reported r c).repos_path (child (target_path again p) name)))) up
@@ -125,7 +125,7 @@ module _ (d : Request) (w : WorkingCopy) (setting : Setting d w) (update : d.mod
       present_again : is_kept again c ≡ true → is_present (v c) ≡ true
       present_again k =
           (describes c).present ∙ sym (ap (λ s. is_some (source h s)) (follow-here again c))
-          ∙ related_some h (source_node again c) _ (and_true (is_kept again p) _ (sym (is_kept-child again p name) ∙ k)).1
+          ∙ related_some h (source_node again c) _ (and_parts (is_kept again p) _ (sym (is_kept-child again p name) ∙ k)).1
 
       again_placed : is_kept again c ≡ true → Leads d w r c (v c) → node_path (v c) ≡ target_path d c
       again_placed k (not_there e f) = absurd (true≢false (sym (present_again k) ∙ e))
@@ -226,7 +226,7 @@ module _ (d : Request) (w : WorkingCopy) (setting : Setting d w) (r : ReportView
 
           parts : (is_kept resumed p ≡ true)
               × (are_related d.history (source_node resumed (child p name)) (look d.history d.target (candidate d.mode (reported r (child p name)).repos_path (child (target_path resumed p) name))) ≡ true)
-          parts = and_true (is_kept resumed p) (are_related d.history (source_node resumed c) (look d.history d.target (candidate d.mode (reported r c).repos_path (child (target_path resumed p) name)))) (sym (is_kept-child resumed p name) ∙ k)
+          parts = and_parts (is_kept resumed p) (are_related d.history (source_node resumed c) (look d.history d.target (candidate d.mode (reported r c).repos_path (child (target_path resumed p) name)))) (sym (is_kept-child resumed p name) ∙ k)
 
           up : is_kept d p ≡ true
           up = by (kept_or_old d w setting late steps rest drive p old_present deleted.0 deleted.1)

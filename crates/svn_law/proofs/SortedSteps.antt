@@ -7,7 +7,7 @@ use Rattle.std.specs.declared.cmp.Ordering.TheVariants.{Less, Equal, Greater}
 use Rattle.std.specs.Ordering.{is_gt, ordering_reverse, ordering_then}
 use Rattle.std.specs.Cmp.Lexicographic.{slice_cmp, nat_list_cmp_total}
 use Rattle.std.proofs.lemmas.Cmp.{tied_itself, upto}
-use Rattle.std.proofs.lemmas.Bool.{or_left, or_right}
+use Rattle.std.proofs.lemmas.Bool.{or_left, or_right, or_parts}
 use Rattle.svn_types.specs.Names.{Path}
 use Rattle.svn_types.specs.Paths.{path_eq}
 use Rattle.svn_types.specs.declared.kind.Kind.TheVariants.{File, Directory}
@@ -15,7 +15,6 @@ use Rattle.svn_delta.specs.Steps.{Action, Delete, Open, Add, Change, Text, Close
 use Rattle.svn_drive.specs.Follow.{Request}
 use Rattle.svn_drive.specs.Steps.{Mark, Named, End, mark_cmp, key, key_of, comes_after, has_text, is_text, InKeyOrder, path_actions, path_steps}
 use Rattle.svn_law.specs.SlowDrive.{insert_step, sort_steps}
-use Rattle.svn_law.proofs.Tests.{or_false}
 use Rattle.svn_law.proofs.Names.{same_path, path_eq-same}
 use Rattle.svn_law.proofs.Keys.{keys_total}
 use Rattle.svn_law.proofs.Courses.{precedes, AllOf, InTurn, course_of, course_in_turn}
@@ -40,13 +39,13 @@ module _ (d : Request) (late : Bool) where
   none_behind : (s t : Step) (us : List Step) → behind s t ≡ false → list_any (behind t) us ≡ false → list_any (behind s) us ≡ false
   none_behind s t [] h k = refl
   none_behind s t (u ∷ us) h k =
-      let parts = or_false (behind t u) (list_any (behind t) us) k in
+      let parts = or_parts (behind t u) (list_any (behind t) us) k in
       ap (λ b. b || list_any (behind s) us) (upto keys_total (key_of d late s) (key_of d late t) (key_of d late u) h parts.0) ∙ none_behind s t us h parts.1
 
   -- an insert puts no other step among those that are tested
   any-insert : (f : Step → Bool) (s : Step) (ts : List Step) → f s ≡ false → list_any f ts ≡ false → list_any f (insert_step d late s ts) ≡ false
   any-insert f s [] h k = ap (λ b. b || false) h
-  any-insert f s (t ∷ ts) h k = by (behind s t) (or_false (f t) (list_any f ts) k) (any-insert f s ts h)
+  any-insert f s (t ∷ ts) h k = by (behind s t) (or_parts (f t) (list_any f ts) k) (any-insert f s ts h)
     where
       by : (b : Bool) → (f t ≡ false) × (list_any f ts ≡ false) → (list_any f ts ≡ false → list_any f (insert_step d late s ts) ≡ false)
           → list_any f (cond b (t ∷ insert_step d late s ts) (s ∷ t ∷ ts)) ≡ false
@@ -74,7 +73,7 @@ module _ (d : Request) (late : Bool) where
           → (list_any (behind s) (filter (is_at s.path) ts) ≡ false → filter (is_at p) (insert_step d late s ts) ≡ filter (is_at p) (s ∷ ts))
           → filter (is_at p) (cond b (t ∷ insert_step d late s ts) (s ∷ t ∷ ts)) ≡ filter (is_at p) (s ∷ t ∷ ts)
       by false a e q k ih = refl
-      by true true e q k ih = absurd (true≢false (sym e ∙ (or_false (behind s t) _ k).0))
+      by true true e q k ih = absurd (true≢false (sym e ∙ (or_parts (behind s t) _ k).0))
       by true false e q k ih = ap (λ l. cond (is_at p t) (t ∷ l) l) (ih k) ∙ swap (is_at p s) (is_at p t) refl refl
         where
           swap : (x y : Bool) → is_at p s ≡ x → is_at p t ≡ y

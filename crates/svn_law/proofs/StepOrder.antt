@@ -2,9 +2,8 @@
 use Rattle.std.proofs.Common.{◌≡◌, ℕ, Bool, true, false, ◌&&◌, ◌||◌, List, [], ◌∷◌, ◌++◌, refl, sym, ◌∙◌, ap, subst, true≢false}
 use Rattle.std.proofs.Math.Bool.{or-true}
 use Rattle.std.specs.Prelude.{Option, Some, None, cond, map, filter}
-use Rattle.std.specs.List.{list_any}
-use Rattle.std.proofs.lemmas.List.Folds.{list_any-append}
-use Rattle.svn_law.proofs.Tests.{or_first, dir_present}
+use Rattle.std.specs.List.{list_any, AllByRecursion}
+use Rattle.svn_law.proofs.Tests.{dir_present}
 use Rattle.svn_law.proofs.Names.{Name, same_path, path_eq-same}
 use Rattle.svn_types.specs.Names.{Path}
 use Rattle.svn_types.specs.Paths.{path_eq, child}
@@ -16,34 +15,13 @@ use Rattle.svn_drive.specs.Follow.{Request, source_node, target_node}
 use Rattle.svn_drive.specs.Steps.{IsDriveOf, is_text, path_actions, comes_after}
 use Rattle.svn_wc.specs.Nodes.{WorkingCopy, is_dir}
 use Rattle.svn_law.proofs.Classes.{Setting, none_related, EnteredDirectory, source_from_copy, kept_directory}
-use Rattle.svn_law.proofs.Courses.{is_entry_of, entry_of_is_entry, is_close_of, is_inner, inner_of, fits_kind, precedes, AllOf, InTurn, part_of, course_of, course_in_turn, course_closed, course_kind, text_closed, begun_entry, Place, deleting, entering, adding, inside, place_of}
+use Rattle.svn_law.proofs.Courses.{is_entry_of, entry_of_is_entry, is_close_of, is_inner, inner_of, fits_kind, precedes, AllOf, InTurn, course_of, course_in_turn, course_closed, course_kind, text_closed, begun_entry, Place, deleting, entering, adding, inside, place_of}
 use Rattle.svn_law.proofs.States.{is_at, actions_at, actions_at-drive, path_cut, step_cut}
-use Rattle.svn_law.proofs.FirstSteps.{AllSteps, before_next, after_next, none_left, entry_is_main}
+use Rattle.svn_law.proofs.FirstSteps.{before_next, after_next, none_left, entry_is_main}
 use Rattle.svn_law.proofs.AfterSteps.{directory_entered, entered_above, none_left_above}
+use Rattle.svn_law.proofs.Lists.{all_map, all_both, all_part, in_front}
 
 -- ---- lists of steps
-
--- what holds of all steps of a list
-pub all_map : (P Q : Step → Type 0) → ((x : Step) → P x → Q x) → (xs : List Step) → AllSteps P xs → AllSteps Q xs
-all_map P Q f [] h = tt
-all_map P Q f (x ∷ xs) h = (f x h.0, all_map P Q f xs h.1)
-
-pub all_both : (P Q : Step → Type 0) (xs : List Step) → AllSteps P xs → AllSteps Q xs → AllSteps (λ x. P x × Q x) xs
-all_both P Q [] h k = tt
-all_both P Q (x ∷ xs) h k = ((h.0, k.0), all_both P Q xs h.1 k.1)
-
-pub all_left : (P : Step → Type 0) (xs ys : List Step) → AllSteps P (xs ++ ys) → AllSteps P xs
-all_left P [] ys h = tt
-all_left P (x ∷ xs) ys h = (h.0, all_left P xs ys h.1)
-
-pub all_right : (P : Step → Type 0) (xs ys : List Step) → AllSteps P (xs ++ ys) → AllSteps P ys
-all_right P [] ys h = h
-all_right P (x ∷ xs) ys h = all_right P xs ys h.1
-
--- a test that no step passes
-pub none_any : (f : Step → Bool) (xs : List Step) → AllSteps (λ x. f x ≡ false) xs → list_any f xs ≡ false
-none_any f [] h = refl
-none_any f (x ∷ xs) h = ap (λ b. b || list_any f xs) h.0 ∙ none_any f xs h.1
 
 -- a step of the list that passes the test, with what is before it and behind it
 pub record Found (f : Step → Bool) (l : List Step) : Type 0 where
@@ -95,20 +73,12 @@ any-actions f p (t ∷ steps) = by (is_at p t) (any-actions f p steps)
     by true ih = ap (λ b. f t.action || b) ih
     by false ih = ih
 
--- what is in the whole and not in the second part is in the first
-pub in_front : {X : Type 0} (f : X → Bool) (xs ys : List X) → list_any f (xs ++ ys) ≡ true → list_any f ys ≡ false → list_any f xs ≡ true
-in_front f xs ys h k = or_first (list_any f xs) (list_any f ys) (sym (list_any-append f xs ys) ∙ h) k
-
--- what is in a part is in the whole
-pub in_whole : {X : Type 0} (f : X → Bool) (xs ys : List X) → list_any f xs ≡ true → list_any f (xs ++ ys) ≡ true
-in_whole f xs ys h = list_any-append f xs ys ∙ ap (λ b. b || list_any f ys) h
-
 -- each step of a list is a member of it
 abbrev pub Member : List Step → Step → Type 0
 Member l x = (f : Step → Bool) → f x ≡ true → list_any f l ≡ true
 
 -- the steps of a list are members of it
-pub members : (xs : List Step) → AllSteps (Member xs) xs
+pub members : (xs : List Step) → AllByRecursion (Member xs) xs
 members [] = tt
 members (x ∷ xs) = (λ f e. ap (λ b. b || list_any f xs) e, all_map (Member xs) (Member (x ∷ xs)) (λ y m f e. ap (λ b. f x || b) (m f e) ∙ or-true (f x)) xs (members xs))
 
@@ -121,16 +91,16 @@ Before d late t s = (comes_after d late t s ≡ false) × (t.path ≡ s.path →
 -- in a list in turn, each action has its turn after those before it
 turn_split : (xs : List Action) (a : Action) (ys : List Action) → InTurn (xs ++ a ∷ ys) → AllOf (λ x. precedes x a) xs × AllOf (precedes a) ys
 turn_split [] a ys h = (tt, h.0)
-turn_split (x ∷ xs) a ys h = let r = turn_split xs a ys h.1 in ((part_of (precedes x) xs a ys h.0, r.0), r.1)
+turn_split (x ∷ xs) a ys h = let r = turn_split xs a ys h.1 in ((all_part (λ a. precedes x a ≡ true) xs a ys h.0, r.0), r.1)
 
 -- what holds of the actions of a path holds of its steps
-pub at_steps : (f : Action → Bool) (p : Path) (steps : List Step) → AllOf f (actions_at p steps) → AllSteps (λ t. t.path ≡ p → f t.action ≡ true) steps
+pub at_steps : (f : Action → Bool) (p : Path) (steps : List Step) → AllOf f (actions_at p steps) → AllByRecursion (λ t. t.path ≡ p → f t.action ≡ true) steps
 at_steps f p [] h = tt
 at_steps f p (t ∷ steps) h = by (is_at p t) refl h (at_steps f p steps)
   where
     by : (b : Bool) → is_at p t ≡ b → AllOf f (map (λ (s : Step). s.action) (cond b (t ∷ filter (is_at p) steps) (filter (is_at p) steps)))
-        → (AllOf f (actions_at p steps) → AllSteps (λ t. t.path ≡ p → f t.action ≡ true) steps)
-        → (t.path ≡ p → f t.action ≡ true) × AllSteps (λ t. t.path ≡ p → f t.action ≡ true) steps
+        → (AllOf f (actions_at p steps) → AllByRecursion (λ t. t.path ≡ p → f t.action ≡ true) steps)
+        → (t.path ≡ p → f t.action ≡ true) × AllByRecursion (λ t. t.path ≡ p → f t.action ≡ true) steps
     by true e h ih = (λ q. h.0, ih h.1)
     by false e h ih = (λ q. absurd (true≢false (sym (ap (λ x. path_eq x p) q ∙ path_eq-same p) ∙ e)), ih h)
 
@@ -140,17 +110,17 @@ module _ (d : Request) (late : Bool) (done : List Step) (s : Step) (rest : List 
   turns = turn_split (actions_at s.path done) s.action (actions_at s.path rest) (subst InTurn (sym (step_cut d late done s rest drive)) (course_in_turn d s.path (path_actions d s.path) (course_of d s.path)))
 
   -- each step before the step is before it by key and by turn
-  pub before_step : AllSteps (λ t. Before d late t s) done
+  pub before_step : AllByRecursion (λ t. Before d late t s) done
   before_step =
       all_both (λ t. comes_after d late t s ≡ false) (λ t. t.path ≡ s.path → precedes t.action s.action ≡ true) done
       (before_next d late done s rest drive.in_order) (at_steps (λ x. precedes x s.action) s.path done turns.0)
 
   -- and each one behind it behind it
-  pub after_step : AllSteps (λ u. Before d late s u) rest
+  pub after_step : AllByRecursion (λ u. Before d late s u) rest
   after_step =
       all_both (λ u. comes_after d late s u ≡ false) (λ u. s.path ≡ u.path → precedes s.action u.action ≡ true) rest
       (after_next d late done s rest drive.in_order)
-      (all_map (λ u. u.path ≡ s.path → precedes s.action u.action ≡ true) (λ u. s.path ≡ u.path → precedes s.action u.action ≡ true) (λ u h e. h (sym e)) rest
+      (all_map (λ (u : Step). u.path ≡ s.path → precedes s.action u.action ≡ true) (λ u. s.path ≡ u.path → precedes s.action u.action ≡ true) (λ u h e. h (sym e)) rest
       (at_steps (precedes s.action) s.path rest turns.1))
 
   -- an inner step comes after the opening of its path
@@ -177,7 +147,7 @@ module _ (d : Request) (late : Bool) (all : List Step) (drive : IsDriveOf d late
   any_path_actions f p = sym (any-actions f p all) ∙ ap (list_any f) (actions_at-drive d late all drive p)
 
   -- what is done inside a path is for the kind of node that it is
-  pub kinds_at : (k : Kind) (p : Path) → list_any (has (is_entry_of k) p) all ≡ true → AllSteps (λ t. t.path ≡ p → fits_kind k t.action ≡ true) all
+  pub kinds_at : (k : Kind) (p : Path) → list_any (has (is_entry_of k) p) all ≡ true → AllByRecursion (λ t. t.path ≡ p → fits_kind k t.action ≡ true) all
   kinds_at k p h =
       at_steps (fits_kind k) p all (subst (AllOf (fits_kind k)) (sym (actions_at-drive d late all drive p)) (course_kind d p (path_actions d p) (course_of d p) k (sym (any_path_actions (is_entry_of k) p) ∙ h)))
 

@@ -1,29 +1,13 @@
--- Tests that pass or fail, and what their parts do then.
-use Rattle.std.proofs.Common.{◌≡◌, ℕ, Bool, true, false, ◌&&◌, ◌||◌, not, refl, sym, ◌∙◌, true≢false, eq-eqb}
+-- Small facts of tests, options and nodes.
+use Rattle.std.proofs.Common.{◌≡◌, ℕ, Bool, true, false, ◌||◌, refl, sym, ◌∙◌, true≢false, eq-eqb}
 use Rattle.std.specs.Prelude.{Option, Some, None, is_some, nat_eq}
 use Rattle.svn_wc.specs.declared.base_node.BaseNode.{BaseNode}
 use Rattle.svn_wc.specs.declared.base_node.BaseNode.TheVariants.{File as FileNode, Dir as DirNode, NotPresent}
 use Rattle.svn_wc.specs.Nodes.{is_present, is_dir}
 
-pub or_false : (x y : Bool) → (x || y) ≡ false → (x ≡ false) × (y ≡ false)
-or_false true y h = absurd (true≢false h)
-or_false false y h = (refl, h)
-
 pub or_first : (x y : Bool) → (x || y) ≡ true → y ≡ false → x ≡ true
 or_first true y e f = refl
 or_first false y e f = absurd (true≢false (sym e ∙ f))
-
-pub and_true : (x y : Bool) → (x && y) ≡ true → (x ≡ true) × (y ≡ true)
-and_true true y h = (refl, h)
-and_true false y h = absurd (true≢false (sym h))
-
-pub not_false : (x : Bool) → not x ≡ false → x ≡ true
-not_false true h = refl
-not_false false h = absurd (true≢false h)
-
-pub not_true : (x : Bool) → not x ≡ true → x ≡ false
-not_true true e = absurd (true≢false (sym e))
-not_true false e = refl
 
 pub nat_eq-same : (n : ℕ) → nat_eq n n ≡ true
 nat_eq-same n = eq-eqb n n refl

@@ -1,8 +1,8 @@
 -- The calls of a drive, each by itself: a path's token is its place among all paths that the drive opens.
 use Rattle.std.proofs.Common.{◌≡◌, ℕ, suc, Bool, true, false, ◌&&◌, ◌||◌, ◌⊎◌, List, [], ◌∷◌, ◌++◌, refl, sym, ◌∙◌, ap, subst, true≢false, append_assoc, append-nil, inl, inr, eq-eqb, ne_eqb, arith}
 use Rattle.std.specs.Prelude.{cond, map, length, nat_eq, if◌then◌else◌}
-use Rattle.std.specs.List.{list_any}
-use Rattle.std.proofs.lemmas.Bool.{eqb-true}
+use Rattle.std.specs.List.{list_any, AllByRecursion}
+use Rattle.std.proofs.lemmas.Bool.{eqb-true, and_parts}
 use Rattle.std.proofs.Math.Bool.{and-false, and-true, or-false}
 use Rattle.std.proofs.lemmas.List.Folds.{list_any-append}
 use Rattle.svn_law.proofs.Names.{Name, same_path, path_eq-same, path_eq-symm}
@@ -17,15 +17,14 @@ use Rattle.svn_drive.specs.Follow.{Request}
 use Rattle.svn_drive.specs.Steps.{IsDriveOf, path_actions}
 use Rattle.svn_drive.specs.Drive.{token_of, call_of, opened_after, numbered}
 use Rattle.svn_wc.specs.Nodes.{WorkingCopy}
-use Rattle.svn_law.proofs.Tests.{and_true}
 use Rattle.svn_law.proofs.Children.{path_cases, parent-child}
 use Rattle.svn_law.proofs.Classes.{Setting}
 use Rattle.svn_law.proofs.AfterSteps.{same_kind}
 use Rattle.svn_law.proofs.AfterCalls.{is_opened}
-use Rattle.svn_law.proofs.FirstSteps.{AllSteps}
 use Rattle.svn_law.proofs.States.{actions_at-drive}
-use Rattle.svn_law.proofs.Courses.{is_entry, is_entry_of, entry_of_is_entry, is_inner, inner_of, precedes, AllOf, all_implied, any_implied, Course, nothing, gone_only, touched, added, replaced, course_of}
-use Rattle.svn_law.proofs.StepOrder.{has_not, all_map, at_steps, none_any, has, in_whole, Before, before_step, own_entry, root_entered, parent_done, all_right}
+use Rattle.svn_law.proofs.Courses.{is_entry, is_entry_of, entry_of_is_entry, is_inner, inner_of, precedes, AllOf, Course, nothing, gone_only, touched, added, replaced, course_of}
+use Rattle.svn_law.proofs.StepOrder.{has_not, at_steps, has, Before, before_step, own_entry, root_entered, parent_done}
+use Rattle.svn_law.proofs.Lists.{all_map, all_right, none_any, any_implied, in_whole}
 
 -- ---- calls with tokens for paths
 
@@ -171,7 +170,7 @@ inner_at_root k a e = absurd (true≢false (sym e))
 any_entry : (k : Kind) (p : Path) (steps : List Step) → list_any (has (is_entry_of k) p) steps ≡ true → list_any (has is_entry p) steps ≡ true
 any_entry k p =
     any_implied (has (is_entry_of k) p) (has is_entry p)
-    (λ s h. let parts = and_true (path_eq s.path p) (is_entry_of k s.action) h in ap (λ b. b && is_entry s.action) parts.0 ∙ entry_of_is_entry k s.action parts.1)
+    (λ s h. let parts = and_parts (path_eq s.path p) (is_entry_of k s.action) h in ap (λ b. b && is_entry s.action) parts.0 ∙ entry_of_is_entry k s.action parts.1)
 
 -- before an open or an add at a path there is none
 pub none_twice : (d : Request) (late : Bool) (t s : Step) → is_entry s.action ≡ true → Before d late t s → has is_entry s.path t ≡ false
@@ -197,7 +196,7 @@ module _ (d : Request) (w : WorkingCopy) (setting : Setting d w) (late : Bool) w
   root_course : (l : List Action) → Course d [] l → AllOf is_root_action l
   root_course l nothing = tt
   root_course l (gone_only r f) = absurd (true≢false f)
-  root_course l (touched k r {inner} z e b) = (by k (same_kind d w setting [] k z (root_entered d w setting)), all_implied (inner_of k) is_root_action (inner_at_root k) inner b.of_kind)
+  root_course l (touched k r {inner} z e b) = (by k (same_kind d w setting [] k z (root_entered d w setting)), all_map (λ a. inner_of k a ≡ true) (λ a. is_root_action a ≡ true) (inner_at_root k) inner b.of_kind)
     where
       by : (k : Kind) → k ≡ Directory → is_root_action (Open k r) ≡ true
       by Directory q = refl
@@ -209,9 +208,9 @@ module _ (d : Request) (w : WorkingCopy) (setting : Setting d w) (late : Bool) w
   root_course l (replaced r k z e b) = absurd (true≢false e)
 
   -- so at each step of a drive
-  pub root_actions : (all : List Step) → IsDriveOf d late all → AllSteps (λ x. is_root x.path ≡ true → is_root_action x.action ≡ true) all
+  pub root_actions : (all : List Step) → IsDriveOf d late all → AllByRecursion (λ x. is_root x.path ≡ true → is_root_action x.action ≡ true) all
   root_actions all drive =
-      all_map (λ x. x.path ≡ [] → is_root_action x.action ≡ true) (λ x. is_root x.path ≡ true → is_root_action x.action ≡ true) (λ x h e. h (no_names x.path e)) all
+      all_map (λ (x : Step). x.path ≡ [] → is_root_action x.action ≡ true) (λ x. is_root x.path ≡ true → is_root_action x.action ≡ true) (λ x h e. h (no_names x.path e)) all
       (at_steps is_root_action [] all (subst (AllOf is_root_action) (sym (actions_at-drive d late all drive [])) (root_course (path_actions d []) (course_of d []))))
     where
       no_names : (p : Path) → is_root p ≡ true → p ≡ []
@@ -255,7 +254,7 @@ module _ (d : Request) (w : WorkingCopy) (setting : Setting d w) (late : Bool) w
         ap (λ l. token_of l s.path) (entered-append done (s ∷ rest) ∙ ap (λ l. entered done ++ l) (entered_entry s rest h))
         ∙ token_first (entered done) s.path (entered rest)
         (is_opened-entered done s.path
-        ∙ none_any (has is_entry s.path) done (all_map (λ t. Before d late t s) (λ t. has is_entry s.path t ≡ false) (λ t. none_twice d late t s h) done (before_step d late done s rest drive)))
+        ∙ none_any (has is_entry s.path) done (all_map (λ (t : Step). Before d late t s) (λ t. has is_entry s.path t ≡ false) (λ t. none_twice d late t s h) done (before_step d late done s rest drive)))
 
     -- the token of the own path, and of the path above
     own_token : is_inner s.action ≡ true → token_of (entered done) s.path ≡ T s.path

@@ -7,8 +7,7 @@ use Rattle.std.specs.declared.cmp.Ordering.{Ordering}
 use Rattle.std.specs.declared.cmp.Ordering.TheVariants.{Less, Equal, Greater}
 use Rattle.std.specs.Ordering.{is_lt, match_ordering}
 use Rattle.std.proofs.lemmas.List.Elements.{filter-append}
-use Rattle.std.proofs.lemmas.Bool.{or_right, false_from_ne_true}
-use Rattle.svn_law.proofs.Tests.{or_false, not_false}
+use Rattle.std.proofs.lemmas.Bool.{or_right, false_from_ne_true, or_parts, not-false}
 use Rattle.svn_law.proofs.Names.{Name, same_path, same_bytes, path_eq-same, bytes_eq-same, has_name, lt_chain, lt_apart, flipped, bytes_eq-symm}
 use Rattle.svn_types.specs.Names.{Path, name_cmp}
 use Rattle.svn_types.specs.Paths.{path_eq, is_within, child}
@@ -33,12 +32,12 @@ Ordered (n ∷ ns) = (list_any (not_before n) ns ≡ false) × Ordered ns
 none_before : (n k : Name) (ms : List (List ℕ)) → is_lt (name_cmp n k) ≡ true → list_any (not_before k) ms ≡ false → list_any (not_before n) ms ≡ false
 none_before n k [] h e = refl
 none_before n k (m ∷ ms) h e =
-    let parts = or_false (not_before k m) (list_any (not_before k) ms) e in
-    ap (λ b. not b || list_any (not_before n) ms) (lt_chain n k m h (not_false (is_lt (name_cmp k m)) parts.0)) ∙ none_before n k ms h parts.1
+    let parts = or_parts (not_before k m) (list_any (not_before k) ms) e in
+    ap (λ b. not b || list_any (not_before n) ms) (lt_chain n k m h (not-false (is_lt (name_cmp k m)) parts.0)) ∙ none_before n k ms h parts.1
 
 any-insert_key : (f : Name → Bool) (ms : List (List ℕ)) (n : Name) → f n ≡ false → list_any f ms ≡ false → list_any f (insert_key name_cmp ms n) ≡ false
 any-insert_key f [] n h e = ap (λ b. b || false) h
-any-insert_key f (k ∷ ms) n h e = by (name_cmp n k) (or_false (f k) (list_any f ms) e) (any-insert_key f ms n h)
+any-insert_key f (k ∷ ms) n h e = by (name_cmp n k) (or_parts (f k) (list_any f ms) e) (any-insert_key f ms n h)
   where
     by : (o : Ordering) → (f k ≡ false) × (list_any f ms ≡ false) → (list_any f ms ≡ false → list_any f (insert_key name_cmp ms n) ≡ false)
         → list_any f (match_ordering o (n ∷ k ∷ ms) (k ∷ ms) (k ∷ insert_key name_cmp ms n)) ≡ false
@@ -62,8 +61,8 @@ ordered-fold (x ∷ xs) ms h = ordered-fold xs (insert_key name_cmp ms x) (order
 ordered_apart : (n : Name) (ns : List (List ℕ)) → list_any (not_before n) ns ≡ false → has_name ns n ≡ false
 ordered_apart n [] h = refl
 ordered_apart n (m ∷ ns) h =
-    let parts = or_false (not_before n m) (list_any (not_before n) ns) h in
-    ap (λ b. b || has_name ns n) (bytes_eq-symm m n ∙ lt_apart n m (not_false (is_lt (name_cmp n m)) parts.0)) ∙ ordered_apart n ns parts.1
+    let parts = or_parts (not_before n m) (list_any (not_before n) ns) h in
+    ap (λ b. b || has_name ns n) (bytes_eq-symm m n ∙ lt_apart n m (not-false (is_lt (name_cmp n m)) parts.0)) ∙ ordered_apart n ns parts.1
 
 -- ---- the steps of some paths
 

@@ -1,9 +1,11 @@
--- Copies as they are made without a drive: trees put at a path, and paths made not present.
-use Rattle.std.specs.Prelude.{◌≡◌, [], ◌∷◌, refl}
+-- Copies as they are made without a drive: trees put at a path, paths made not present, and what is refused.
+use Rattle.std.specs.Prelude.{◌≡◌, [], ◌∷◌, Some, None, refl}
 use Rattle.svn_wc.specs.declared.base_node.BaseNode.TheVariants.{NotPresent}
 use Rattle.svn_wc.specs.Nodes.{WorkingCopy, listed}
+use Rattle.svn_wc.specs.declared.fault.WcFault.TheVariants.{NoSuchRevision, Missing, NoParent, IsRoot, TooDeep, Twice, BadRoot}
 use Rattle.svn_wc.specs.Builders.{checkout, placed, forgotten}
-use Rattle.svn_law.proofs.Rows.Setting.{a, b, d, e, f, g, s, t, x, y, abc, at, at2, whole, plain}
+use Rattle.svn_wc.specs.Refusals.{checkout_fault, place_fault, switch_fault, forget_fault, nodes_fault}
+use Rattle.svn_law.proofs.Rows.Setting.{a, b, d, e, f, g, s, t, x, y, deep, abc, at, at2, whole, plain}
 use Rattle.svn_law.proofs.Rows.Plain.{k, k_copy, k_paths, one_file, one_paths, without_x}
 use Rattle.svn_law.proofs.Rows.Mixed.{mixed, mixed_paths}
 use Rattle.svn_law.proofs.Rows.Switched.{two, two_paths, a_at_b, renewed_paths, s_at_b, outer_paths, a_at_root, g_at_f}
@@ -65,3 +67,71 @@ directory_forgotten = refl
 
 put_back : listed one_paths (placed one_file without_d (at d) (at d) 1) ≡ listed one_paths (checkout one_file [] 1)
 put_back = refl
+
+-- ---- what is refused
+
+no_revision_refused : checkout_fault k [] 3 ≡ Some NoSuchRevision
+no_revision_refused = refl
+
+root_accepted : checkout_fault k [] 1 ≡ None
+root_accepted = refl
+
+-- a root that isn't there, and one that is a file
+nothing_checked_out : checkout_fault k (at g) 1 ≡ Some Missing
+nothing_checked_out = refl
+
+file_checked_out : checkout_fault k (at f) 1 ≡ Some BadRoot
+file_checked_out = refl
+
+root_placed : place_fault k k_copy [] 1 ≡ Some IsRoot
+root_placed = refl
+
+placed_at_no_revision : place_fault k k_copy (at f) 3 ≡ Some NoSuchRevision
+placed_at_no_revision = refl
+
+placed_below_nothing : place_fault k k_copy (at2 g s) 1 ≡ Some NoParent
+placed_below_nothing = refl
+
+placed_below_a_file : place_fault k k_copy (at2 f s) 1 ≡ Some NoParent
+placed_below_a_file = refl
+
+nothing_placed : place_fault k k_copy (at g) 1 ≡ Some Missing
+nothing_placed = refl
+
+file_placed : place_fault k k_copy (at f) 2 ≡ None
+file_placed = refl
+
+switched_to_nothing : switch_fault k k_copy (at f) (at g) 1 ≡ Some Missing
+switched_to_nothing = refl
+
+-- a path of over 64 names is too deep before anything is looked for there
+switched_too_deep : switch_fault k k_copy (at f) (deep 65) 1 ≡ Some TooDeep
+switched_too_deep = refl
+
+switched_accepted : switch_fault k k_copy (at g) (at f) 2 ≡ None
+switched_accepted = refl
+
+nothing_forgotten : forget_fault k_copy (at g) ≡ Some Missing
+nothing_forgotten = refl
+
+root_forgotten : forget_fault k_copy [] ≡ Some IsRoot
+root_forgotten = refl
+
+no_nodes : nodes_fault [] ≡ Some BadRoot
+no_nodes = refl
+
+root_given_twice : nodes_fault (([], whole 1 []) ∷ ([], whole 1 []) ∷ []) ≡ Some Twice
+root_given_twice = refl
+
+file_for_a_root : nodes_fault (([], plain 1 [] a) ∷ []) ≡ Some BadRoot
+file_for_a_root = refl
+
+parent_left_out : nodes_fault (([], whole 1 []) ∷ (at2 a b, whole 1 (at2 a b)) ∷ []) ≡ Some NoParent
+parent_left_out = refl
+
+repos_path_too_deep : nodes_fault (([], whole 1 []) ∷ (at f, plain 1 (deep 65) a) ∷ []) ≡ Some TooDeep
+repos_path_too_deep = refl
+
+-- the order of the list doesn't matter
+nodes_accepted : nodes_fault ((at f, plain 1 (at f) a) ∷ ([], whole 1 []) ∷ []) ≡ None
+nodes_accepted = refl

@@ -1,15 +1,18 @@
--- Calls that a copy refuses, and calls whose later ones count.
+-- Calls that a copy refuses, calls whose later ones count, and the calls of an update with one left out or given twice.
 use Rattle.std.specs.Prelude.{◌≡◌, ℕ, List, [], ◌∷◌, ◌++◌, Option, Some, None, refl}
 use Rattle.svn_delta.specs.declared.call.Call.{Call}
-use Rattle.svn_delta.specs.declared.call.Call.TheVariants.{SetTargetRevision, OpenRoot, DeleteEntry, OpenDirectory, AddFile, OpenFile, ChangeFileProp, ApplyText, CloseFile}
+use Rattle.svn_delta.specs.declared.call.Call.TheVariants.{SetTargetRevision, OpenRoot, DeleteEntry, OpenDirectory, AddFile, OpenFile, ChangeFileProp, ApplyText, CloseFile, CloseDirectory, CloseEdit}
 use Rattle.svn_delta.specs.declared.fault.EditFault.{EditFault}
 use Rattle.svn_delta.specs.declared.fault.EditFault.TheVariants.{NoEntry, WrongKind, WrongRevision, BaseChecksum, TextChecksum, EntryExists, TooDeep}
 use Rattle.svn_delta.specs.Steps.{Mode, Update, SwitchTo}
 use Rattle.svn_wc.specs.declared.base_node.BaseNode.TheVariants.{File as FileNode}
 use Rattle.svn_wc.specs.Nodes.{WorkingCopy, get_in, listed}
 use Rattle.svn_wc.specs.Effects.{after, refusal}
-use Rattle.svn_law.proofs.Rows.Setting.{a, f, g, deep, abc, at, sum, stopped, whole, partial, plain}
+use Rattle.svn_law.proofs.Rows.Setting.{a, f, g, deep, abc, at, sum, stopped, whole, partial, plain, refused}
 use Rattle.svn_law.proofs.Rows.Plain.{k_copy, k_paths, k_calls}
+use Rattle.svn_delta.specs.declared.fault.OrderFault.{OrderFault}
+use Rattle.svn_delta.specs.declared.fault.OrderFault.TheVariants.{TargetFirst, UnknownToken, ClosedToken, FileOpen, TextAgain, RootNotClosed, Ended, TokenOrder}
+use Rattle.svn_delta.specs.Order.{order_fault}
 
 abbrev begun : List Call
 begun = SetTargetRevision 2 ∷ OpenRoot 1 0 ∷ []
@@ -78,3 +81,32 @@ untrue_base = refl
 
 untrue_left : listed k_paths (stopped Update untrue 3 k_calls) ≡ ([], partial 2 []) ∷ (at f, plain 1 (at f) abc) ∷ []
 untrue_left = refl
+
+-- ---- out of order
+
+-- the seven calls of an update with one left out: the first that is refused
+without_target : order_fault [] (OpenRoot 1 0) ≡ Some TargetFirst
+without_target = refl
+
+without_root : order_fault (SetTargetRevision 2 ∷ []) (OpenFile (at f) 0 1 1) ≡ Some UnknownToken
+without_root = refl
+
+without_open : order_fault (SetTargetRevision 2 ∷ OpenRoot 1 0 ∷ []) (ApplyText 1 (Some a) abc) ≡ Some UnknownToken
+without_open = refl
+
+without_text : refused Update k_copy (SetTargetRevision 2 ∷ OpenRoot 1 0 ∷ OpenFile (at f) 0 1 1 ∷ CloseFile 1 (Some abc) ∷ []) ≡ (CloseFile 1 (Some abc), TextChecksum) ∷ []
+without_text = refl
+
+without_close : order_fault (SetTargetRevision 2 ∷ OpenRoot 1 0 ∷ OpenFile (at f) 0 1 1 ∷ ApplyText 1 (Some a) abc ∷ []) (CloseDirectory 0) ≡ Some FileOpen
+without_close = refl
+
+without_root_close : order_fault (SetTargetRevision 2 ∷ OpenRoot 1 0 ∷ OpenFile (at f) 0 1 1 ∷ ApplyText 1 (Some a) abc ∷ CloseFile 1 (Some abc) ∷ []) CloseEdit ≡ Some RootNotClosed
+without_root_close = refl
+
+-- the seven calls with one given twice: why the second is refused
+abbrev second_faults : List Call → List Call → List (Option OrderFault)
+second_faults earlier [] = []
+second_faults earlier (c ∷ calls) = order_fault (earlier ++ c ∷ []) c ∷ second_faults (earlier ++ c ∷ []) calls
+
+given_twice : second_faults [] k_calls ≡ Some TargetFirst ∷ Some TokenOrder ∷ Some TokenOrder ∷ Some TextAgain ∷ Some ClosedToken ∷ Some ClosedToken ∷ Some Ended ∷ []
+given_twice = refl
