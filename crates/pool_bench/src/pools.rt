@@ -87,12 +87,7 @@ fn grown(alloc: Global, number: u64, children: u64) -> Result<PoolTree<Global>> 
     Ok(tree)
 }
 
-pub(crate) fn tree<C: Clock>(
-    clock: &C,
-    alloc: Global,
-    number: u64,
-    children: u64,
-) -> Result<u128> {
+pub(crate) fn tree<C: Clock>(clock: &C, alloc: Global, number: u64, children: u64) -> Result<u128> {
     let mut tree = grown(alloc, number, children)?;
     let start = Instant::now(clock)?;
     tree.clear(PoolId(0))?;
