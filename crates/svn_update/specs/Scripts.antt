@@ -12,7 +12,7 @@ use Rattle.svn_repo.specs.declared.change.Change.{Change}
 use Rattle.svn_repo.specs.declared.change.CommitFault.TheVariants.{Memory as CommitMemory}
 use Rattle.svn_wc.specs.declared.base_node.BaseNode.{BaseNode}
 use Rattle.svn_wc.specs.declared.fault.WcFault.TheVariants.{NoSuchRevision as NoRevision, Memory as CopyMemory}
-use Rattle.svn_wc.specs.Nodes.{get_in}
+use Rattle.svn_wc.specs.Nodes.{get_in, InPathOrder}
 use Rattle.svn_wc.specs.Standing.{IsPlain}
 use Rattle.svn_wc.specs.Builders.{checkout}
 use Rattle.svn_update.specs.declared.fault.ScriptFault.{ScriptFault}
@@ -44,10 +44,15 @@ AnswersCommit h changes h' (Committed rev) = (rev ≡ length h.roots) × IsCommi
 AnswersCommit h changes h' (Refused (CommitRefused fault)) = (h' ≡ h) × ((fault ≡ CommitMemory) ⊎ (commit_fault h changes ≡ Some fault))
 AnswersCommit h changes h' _ = ⊥
 
+-- there is a copy, and its nodes stand in path order, in which `show` prints them
+abbrev pub IsInOrder : Option (List (Path × BaseNode)) → Type 0
+IsInOrder None = ⊥
+IsInOrder (Some nodes) = InPathOrder nodes
+
 -- the copy is the tree of the revision
 abbrev pub IsCheckout : History → ℕ → Option (List (Path × BaseNode)) → Type 0
 IsCheckout h rev None = ⊥
-IsCheckout h rev (Some nodes) = (p : Path) → get_in nodes p ≡ checkout h [] rev p
+IsCheckout h rev (Some nodes) = InPathOrder nodes × ((p : Path) → get_in nodes p ≡ checkout h [] rev p)
 
 abbrev pub AnswersCheckout : History → ℕ → Option (List (Path × BaseNode)) → Option (List (Path × BaseNode)) → Answer → Type 0
 AnswersCheckout h rev old new Done = IsCheckout h rev new
@@ -55,14 +60,14 @@ AnswersCheckout h rev old new (Refused (CopyRefused fault)) = (new ≡ old) × (
 AnswersCheckout h rev old new _ = ⊥
 
 -- a copy that isn't plain is refused, and no other is refused so; a closed update leaves what a checkout of the target gives; one is aborted only for
--- want of memory, and of the copy that it leaves nothing is said
+-- want of memory, and of the copy that it leaves no more is said
 abbrev pub AnswersUpdate : History → ℕ → Option (List (Path × BaseNode)) → Option (List (Path × BaseNode)) → Answer → Type 0
 AnswersUpdate h target None new (Refused NoCopy) = new ≡ None
 AnswersUpdate h target None new _ = ⊥
 AnswersUpdate h target (Some w) new (Refused Untrue) = (new ≡ Some w) × (IsPlain h (get_in w) → ⊥)
 AnswersUpdate h target (Some w) new (Refused (RunRefused NoTarget)) = (new ≡ Some w) × IsPlain h (get_in w) × (look h target [] ≡ None)
 AnswersUpdate h target (Some w) new (Ended (Closed calls)) = IsPlain h (get_in w) × IsCheckout h target new
-AnswersUpdate h target (Some w) new (Ended (Aborted made accepted late cause)) = (new ≢ None) × IsPlain h (get_in w) × (look h target [] ≢ None) × (late ≡ None) × (cause ≡ MemoryCause)
+AnswersUpdate h target (Some w) new (Ended (Aborted made accepted late cause)) = IsInOrder new × IsPlain h (get_in w) × (look h target [] ≢ None) × (late ≡ None) × (cause ≡ MemoryCause)
 AnswersUpdate h target (Some w) new _ = ⊥
 
 abbrev pub show_answer : Option (List (Path × BaseNode)) → Answer

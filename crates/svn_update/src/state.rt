@@ -71,6 +71,8 @@ impl State {
     {
         match WorkingCopy::checkout(self.alloc, &self.repo, rev) {
             Ok(copy) => {
+                // its nodes stand in path order
+                copy.law(&self.repo);
                 self.copy = Some(copy);
                 Answer::Done
             }
@@ -87,7 +89,10 @@ impl State {
         if !copy.plain(&self.repo) {
             return Answer::Refused(Refusal::Untrue);
         }
-        match update_in_turn(self.alloc, &self.repo, copy, target, None) {
+        let updated = update_in_turn(self.alloc, &self.repo, copy, target, None);
+        // its nodes stand in path order
+        copy.law(&self.repo);
+        match updated {
             Ok(outcome) => Answer::Ended(outcome),
             Err(fault) => Answer::Refused(Refusal::Run(fault)),
         }
