@@ -14,6 +14,8 @@ pub(crate) enum Call {
     // The pool and the place.
     Get(u64, u32),
     Count(u64),
+    // All strings of the pool are read.
+    Strings(u64),
     Clear(u64),
     Destroy(u64),
     Counts,
@@ -31,6 +33,8 @@ pub(crate) enum Answer {
     Mixed,
     // How many strings there are.
     Number(u32),
+    // How many strings were read, and their bytes in all.
+    Read(u32, usize),
     // Live pools, blocks in use, spare blocks.
     Counted(u64, u64, u64),
     Done,
@@ -52,6 +56,7 @@ pub(crate) fn answer_of<A: Allocator + Copy>(
         }
         Call::Get(pool, place) => get(tree, pool, place),
         Call::Count(pool) => count(tree, pool),
+        Call::Strings(pool) => strings(tree, pool),
         Call::Clear(pool) => done(tree.clear(PoolId(pool))),
         Call::Destroy(pool) => done(tree.destroy(PoolId(pool))),
         Call::Counts => Answer::Counted(tree.live(), tree.blocks(), tree.spare()),
@@ -103,6 +108,21 @@ fn count<A: Allocator + Copy>(tree: &PoolTree<A>, pool: u64) -> Answer {
         Some(number) => Answer::Number(number),
         None => Answer::Nothing,
     }
+}
+
+fn strings<A: Allocator + Copy>(tree: &PoolTree<A>, pool: u64) -> Answer {
+    let mut reader = match tree.strings(PoolId(pool)) {
+        Ok(reader) => reader,
+        Err(fault) => return Answer::Fault(fault),
+    };
+    let mut bytes = 0usize;
+    for read in 0..u32::MAX {
+        let Some(string) = reader.next() else {
+            return Answer::Read(read, bytes);
+        };
+        bytes = bytes.wrapping_add(string.len());
+    }
+    Answer::Read(u32::MAX, bytes)
 }
 
 // Makes the calls of a row and compares their answers.

@@ -1,11 +1,11 @@
 // The worked rows.
-use crate::call::Answer::{Counted, Done, Fault, Nothing, Number, Place, Serial, Text};
-use crate::call::Call::{Clear, Count, Counts, Create, Destroy, Get, Push, Root};
+use crate::call::Answer::{Counted, Done, Fault, Nothing, Number, Place, Read, Serial, Text};
+use crate::call::Call::{Clear, Count, Counts, Create, Destroy, Get, Push, Root, Strings};
 use crate::call::{Answer, Call};
 use svn_pool::PoolFault::{Full, Gone, IsRoot, Memory, TooLong};
 
 // A chain of three pools with a string each. The uppermost is cleared, and gets a child that takes a spare block.
-pub(crate) const BRANCH: [(Call, Answer); 19] = [
+pub(crate) const BRANCH: [(Call, Answer); 20] = [
     (Root, Serial(0)),
     (Create(0), Serial(1)),
     (Create(1), Serial(2)),
@@ -20,6 +20,7 @@ pub(crate) const BRANCH: [(Call, Answer); 19] = [
     (Get(2, 0), Nothing),
     (Count(2), Nothing),
     (Push(3, b'c', 1), Fault(Gone)),
+    (Strings(3), Fault(Gone)),
     (Create(1), Serial(4)),
     (Push(4, b'd', 1), Place(0)),
     (Get(4, 0), Text(b'd', 1)),
@@ -28,8 +29,8 @@ pub(crate) const BRANCH: [(Call, Answer); 19] = [
 ];
 
 // What a tree still does after `BRANCH` when each allocation is refused: a string goes into the newest block or a
-// spare one, and pools are emptied and destroyed.
-pub(crate) const EXHAUSTED: [(Call, Answer); 16] = [
+// spare one, and pools are emptied and destroyed. To read all strings of a pool takes memory.
+pub(crate) const EXHAUSTED: [(Call, Answer); 17] = [
     (Push(1, b'e', 8188), Place(0)),
     (Counts, Counted(3, 2, 1)),
     (Get(1, 0), Text(b'e', 8188)),
@@ -40,6 +41,7 @@ pub(crate) const EXHAUSTED: [(Call, Answer); 16] = [
     (Counts, Counted(3, 3, 0)),
     (Push(1, b'i', 1), Fault(Memory)),
     (Count(1), Number(1)),
+    (Strings(1), Fault(Memory)),
     (Get(4, 1), Text(b'g', 8183)),
     (Destroy(4), Done),
     (Push(1, b'i', 1), Place(1)),
@@ -49,7 +51,7 @@ pub(crate) const EXHAUSTED: [(Call, Answer); 16] = [
 ];
 
 // A short string, the longest that a fixed block holds, and one that has a block of its own.
-pub(crate) const LENGTHS: [(Call, Answer); 11] = [
+pub(crate) const LENGTHS: [(Call, Answer); 12] = [
     (Push(0, b'a', 1), Place(0)),
     (Push(0, b'b', 8188), Place(1)),
     (Push(0, b'c', 8189), Place(2)),
@@ -59,6 +61,7 @@ pub(crate) const LENGTHS: [(Call, Answer); 11] = [
     (Get(0, 2), Text(b'c', 8189)),
     (Get(0, 3), Nothing),
     (Count(0), Number(3)),
+    (Strings(0), Read(3, 16_378)),
     (Clear(0), Done),
     (Counts, Counted(1, 0, 2)),
 ];
@@ -83,7 +86,7 @@ pub(crate) const HALVES: [(Call, Answer); 6] = [
     (Counts, Counted(1, 2, 0)),
 ];
 
-pub(crate) const HALVES_AND_EMPTY: [(Call, Answer); 7] = [
+pub(crate) const HALVES_AND_EMPTY: [(Call, Answer); 8] = [
     (Push(0, b'a', 4092), Place(0)),
     (Counts, Counted(1, 1, 0)),
     (Push(0, b'b', 4092), Place(1)),
@@ -91,6 +94,7 @@ pub(crate) const HALVES_AND_EMPTY: [(Call, Answer); 7] = [
     (Push(0, b'c', 0), Place(2)),
     (Counts, Counted(1, 2, 0)),
     (Get(0, 2), Text(0, 0)),
+    (Strings(0), Read(3, 8184)),
 ];
 
 // Nothing follows a long string in its block, and that block is given back.

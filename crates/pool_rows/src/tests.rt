@@ -6,7 +6,7 @@ use crate::rows::{
 use std::alloc::Global;
 use std::process::Abort;
 use std::test::Fail;
-use svn_pool::{PoolFault, PoolId, PoolTree};
+use svn_pool::{PoolFault, PoolTree};
 
 fn from_new<R: Abort>(rt: &R, alloc: Global, row: &[(Call, Answer)]) -> Result<(), Fail> {
     let mut tree = PoolTree::new(alloc)?;
@@ -38,26 +38,6 @@ fn fills_blocks(rt: HostRuntime) -> Result<(), Fail> {
 fn runs_out_of_serials(rt: HostRuntime) -> Result<(), Fail> {
     let mut tree = PoolTree::new_from(rt.alloc(), u64::MAX)?;
     run(&rt, rt.alloc(), &mut tree, &LAST_SERIAL)?;
-    Ok(())
-}
-
-// How many strings are read, and their bytes in all.
-fn read(tree: &PoolTree<Global>, pool: u64) -> Result<(u32, usize), PoolFault> {
-    let mut number = 0u32;
-    let mut bytes = 0usize;
-    for string in tree.strings(PoolId(pool))? {
-        number = number.wrapping_add(1);
-        bytes = bytes.wrapping_add(string.len());
-    }
-    Ok((number, bytes))
-}
-
-#[test]
-fn reads_the_strings_of_a_pool(rt: HostRuntime) -> Result<(), Fail> {
-    let mut tree = PoolTree::new(rt.alloc())?;
-    run(&rt, rt.alloc(), &mut tree, &HALVES_AND_EMPTY)?;
-    assert_eq!(rt; read(&tree, 0), Ok((3, 8184)));
-    assert_eq!(rt; read(&tree, 1), Err(PoolFault::Gone));
     Ok(())
 }
 
