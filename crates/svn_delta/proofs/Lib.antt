@@ -3,3 +3,4 @@ pub mod PathOrder
 pub mod Places
 pub mod Listings
 pub mod OrderRows
+pub mod Changes

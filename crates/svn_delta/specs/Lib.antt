@@ -7,3 +7,5 @@ pub mod Reports
 pub mod ReportOrder
 pub mod Lines
 pub mod Steps
+pub mod Tokens
+pub mod Directories

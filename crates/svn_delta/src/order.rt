@@ -1,0 +1,179 @@
+//! The order of the calls of an edit.
+ghost use Rattle.std.specs.Prelude.{◌≡◌};
+
+use crate::call::Call;
+use crate::directories::OpenDirectory;
+use crate::fault::OrderFault;
+use crate::token::Token;
+use crate::tokens::GivenToken;
+use crate::{directories, tokens};
+use std::alloc::{AllocError, Global};
+use std::collections::BTreeSet;
+use svn_types::{Kind, RelPath};
+
+/// How far an edit is.
+#[derive(Clone, Copy, Debug)]
+pub enum Stage {
+    /// No call was taken.
+    Before,
+    /// The calls so far are in order, and none is the last.
+    During,
+    /// The edit was ended or given up.
+    Ended,
+    /// A call was refused: only giving up is left.
+    Dead,
+}
+
+/// Tells which calls of an edit are in order, by the rules of `svn_delta.h`.
+///
+/// It remembers a few bytes of each token, and of the directories that are open their paths and the names of the entries that calls were
+/// about. The cost of a step grows with the length of the path that the call has, and with the logarithm of the entries of its directory.
+#[derive(Debug, Drop)]
+pub struct OrderCheck {
+    pub(crate) stage: Stage,
+    pub(crate) tokens: Vec<GivenToken>,
+    pub(crate) directories: Vec<OpenDirectory>,
+    pub(crate) open_files: BTreeSet<u64>,
+    pub(crate) current: Option<Token>,
+    pub(crate) alloc: Global,
+}
+
+impl OrderCheck {
+    /// A check that no call was given to. Takes no memory.
+    pub fn new(alloc: Global) -> OrderCheck {
+        OrderCheck {
+            stage: Stage::Before,
+            tokens: Vec::new(alloc),
+            directories: Vec::new(alloc),
+            open_files: BTreeSet::new(alloc),
+            current: None,
+            alloc,
+        }
+    }
+
+    /// Looks at the next call, and takes it if it is in order.
+    ///
+    /// The first fault in this order is answered: Ended, Dead, TargetFirst, UnknownToken, ClosedToken, TokenOrder, WrongPath, FileOpen,
+    /// TooEarly, NotInnermost, OpenBelow, PropLate, DeleteLate, EntryAgain, TextAgain, RootNotClosed, Memory. After a fault other than Ended
+    /// the edit is dead: every call but `AbortEdit` is answered Dead. `AbortEdit` is in order at any time before the end, and neither it nor
+    /// `CloseEdit` takes memory.
+    pub fn step(&mut self, call: &Call) -> Result<(), OrderFault> {
+        match self.stage {
+            Stage::Ended => return Err(OrderFault::Ended),
+            Stage::Dead => {
+                if !matches!(call, Call::AbortEdit) {
+                    return Err(OrderFault::Dead);
+                }
+            }
+            Stage::Before | Stage::During => {}
+        }
+        let answer = self.take(call);
+        if answer.is_err() {
+            self.stage = Stage::Dead;
+        }
+        answer
+    }
+
+    // Takes the next call if it is in order, while the edit goes on.
+    fn take(&mut self, call: &Call) -> Result<(), OrderFault> {
+        if matches!(call, Call::AbortEdit) {
+            self.stage = Stage::Ended;
+            return Ok(());
+        }
+        if let Some(fault) = self.fault_of(call) {
+            return Err(fault);
+        }
+        self.note(call).map_err(|_| OrderFault::Memory)
+    }
+
+    // Takes note of a call that is in order.
+    fn note(&mut self, call: &Call) -> Result<(), AllocError> {
+        match call {
+            Call::SetTargetRevision { .. } => {
+                self.stage = Stage::During;
+                Ok(())
+            }
+            Call::OpenRoot { token, .. } => self.open_directory(&RelPath::root(self.alloc), *token),
+            Call::DeleteEntry { path, .. } => self.delete_entry(path),
+            Call::AddDirectory { path, token, .. } | Call::OpenDirectory { path, token, .. } => {
+                self.open_subdirectory(path, *token)
+            }
+            Call::ChangeDirProp { .. } => {
+                self.change_directory();
+                Ok(())
+            }
+            Call::CloseDirectory { token } => {
+                self.close_directory(*token);
+                Ok(())
+            }
+            Call::AddFile { path, token, .. } | Call::OpenFile { path, token, .. } => {
+                self.open_file(path, *token)
+            }
+            Call::ChangeFileProp { .. } => Ok(()),
+            Call::ApplyText { token, .. } => {
+                self.apply_text(*token);
+                Ok(())
+            }
+            Call::CloseFile { token, .. } => {
+                self.close_file(*token);
+                Ok(())
+            }
+            Call::CloseEdit | Call::AbortEdit => {
+                self.stage = Stage::Ended;
+                Ok(())
+            }
+        }
+    }
+
+    fn open_directory(&mut self, path: &RelPath, token: Token) -> Result<(), AllocError> {
+        let path = path.clone()?;
+        tokens::give(&mut self.tokens, Kind::Directory)?;
+        directories::open(&mut self.directories, self.alloc, path, token)?;
+        self.current = None;
+        Ok(())
+    }
+
+    fn open_subdirectory(&mut self, path: &RelPath, token: Token) -> Result<(), AllocError> {
+        directories::open_entry(&mut self.directories, path)?;
+        directories::open_subdirectory(&mut self.directories);
+        self.open_directory(path, token)
+    }
+
+    fn delete_entry(&mut self, path: &RelPath) -> Result<(), AllocError> {
+        directories::delete_entry(&mut self.directories, path)?;
+        self.current = None;
+        Ok(())
+    }
+
+    fn change_directory(&mut self) {
+        directories::change_prop(&mut self.directories);
+        self.current = None;
+    }
+
+    fn close_directory(&mut self, token: Token) {
+        tokens::close(&mut self.tokens, token);
+        directories::close_innermost(&mut self.directories);
+        self.current = None;
+    }
+
+    fn open_file(&mut self, path: &RelPath, token: Token) -> Result<(), AllocError> {
+        directories::open_entry(&mut self.directories, path)?;
+        tokens::give(&mut self.tokens, Kind::File)?;
+        self.open_files.insert(token.0)?;
+        self.current = Some(token);
+        Ok(())
+    }
+
+    fn apply_text(&mut self, token: Token) {
+        tokens::add_text(&mut self.tokens, token);
+        if self.current != Some(token) {
+            self.current = None;
+        }
+    }
+
+    fn close_file(&mut self, token: Token) {
+        tokens::close(&mut self.tokens, token);
+        self.open_files.remove(&token.0);
+        self.current = None;
+    }
+}
