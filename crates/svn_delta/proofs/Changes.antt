@@ -7,7 +7,7 @@ use Rattle.std.specs.Cmp.Lexicographic.{texts_ties}
 use Rattle.std.proofs.lemmas.Option.{same_Some}
 use Rattle.svn_types.specs.Names.{Path, name_cmp}
 use Rattle.svn_types.specs.Paths.{parent, is_root}
-use Rattle.svn_delta.specs.declared.directories.OpenDirectory.{OpenDirectory}
+use Rattle.svn_delta.specs.declared.directories.OpenedDirectory.{OpenedDirectory}
 use Rattle.svn_delta.specs.declared.tokens.GivenToken.{GivenToken}
 use Rattle.svn_delta.specs.Directories.{shown, ChangesAt, Inserts, with_change, IsEntry, entry_name}
 use Rattle.svn_delta.specs.Tokens.{changed_at}
@@ -59,64 +59,64 @@ changed_past f (m ∷ ns) (suc i) h = ap (λ xs. m ∷ xs) (changed_past f ns i 
 
 -- ---- directories
 
-shown-set : (ds : List OpenDirectory) (i : ℕ) (b d : OpenDirectory) → slice_get ds i ≡ Some b → shown d ≡ shown b → map shown (set ds i d) ≡ map shown ds
+shown-set : (ds : List OpenedDirectory) (i : ℕ) (b d : OpenedDirectory) → slice_get ds i ≡ Some b → shown d ≡ shown b → map shown (set ds i d) ≡ map shown ds
 shown-set [] i b d at s = refl
 shown-set (x ∷ ds) zero b d at s = ap (λ y. y ∷ map shown ds) (s ∙ ap shown (sym (same_Some x b at)))
 shown-set (x ∷ ds) (suc i) b d at s = ap (λ ys. shown x ∷ ys) (shown-set ds i b d at s)
 
-ChangesAt-here : (Change : OpenDirectory → OpenDirectory → Type 0) (ds : List OpenDirectory) (i : ℕ) (b d : OpenDirectory)
+ChangesAt-here : (Change : OpenedDirectory → OpenedDirectory → Type 0) (ds : List OpenedDirectory) (i : ℕ) (b d : OpenedDirectory)
     → i < length ds → b ≡ get_or ds i b → shown d ≡ shown b → Change b d → ChangesAt i Change ds (set ds i d)
 ChangesAt-here Change ds i b d h e s r = record {
   shown = shown-set ds i b d at s;
   others = λ j x k n. sym (get-set_other ds i j d n) ∙ k;
-  changed = λ x k. (b, at, subst (λ (y : OpenDirectory). Change b y) (same_Some d x (sym (get-set_same ds i d h) ∙ k)) r);
+  changed = λ x k. (b, at, subst (λ (y : OpenedDirectory). Change b y) (same_Some d x (sym (get-set_same ds i d h) ∙ k)) r);
 }
   where
     at : slice_get ds i ≡ Some b
     at = get_read ds i b h e
 
-pub ChangesAt-set : (Change : OpenDirectory → OpenDirectory → Type 0) (ds : List OpenDirectory) (i j : ℕ) (b d : OpenDirectory)
+pub ChangesAt-set : (Change : OpenedDirectory → OpenedDirectory → Type 0) (ds : List OpenedDirectory) (i j : ℕ) (b d : OpenedDirectory)
     → j ≡ i → j < length ds → b ≡ get_or ds j b → shown d ≡ shown b → Change b d → ChangesAt i Change ds (set ds j d)
 ChangesAt-set Change ds i j b d p h e s r = subst (λ (k : ℕ). ChangesAt k Change ds (set ds j d)) p (ChangesAt-here Change ds j b d h e s r)
 
 -- the element is as the change wants it already
-pub ChangesAt-same : (Change : OpenDirectory → OpenDirectory → Type 0) (ds : List OpenDirectory) (i j : ℕ) (b : OpenDirectory)
+pub ChangesAt-same : (Change : OpenedDirectory → OpenedDirectory → Type 0) (ds : List OpenedDirectory) (i j : ℕ) (b : OpenedDirectory)
     → j ≡ i → j < length ds → b ≡ get_or ds j b → Change b b → ChangesAt i Change ds ds
 ChangesAt-same Change ds i j b p h e r = subst (λ (k : ℕ). ChangesAt k Change ds ds) p record {
   shown = refl;
   others = λ k x l n. l;
-  changed = λ x k. let same : b ≡ x = same_Some b x (sym (get_read ds j b h e) ∙ k) in (x, k, subst (λ (y : OpenDirectory). Change y y) same r);
+  changed = λ x k. let same : b ≡ x = same_Some b x (sym (get_read ds j b h e) ∙ k) in (x, k, subst (λ (y : OpenedDirectory). Change y y) same r);
 }
 
-pub changed_now : (ds : List OpenDirectory) (i : ℕ) (b d : OpenDirectory) → slice_get ds i ≡ Some b → slice_get ds i ≡ Some d → b.has_subdirectory ≡ true
+pub changed_now : (ds : List OpenedDirectory) (i : ℕ) (b d : OpenedDirectory) → slice_get ds i ≡ Some b → slice_get ds i ≡ Some d → b.has_subdirectory ≡ true
     → record d { is_changed_late = true } ≡ with_change d
 changed_now ds i b d h k s =
     let same : b ≡ d = same_Some b d (sym h ∙ k) in
-    let there : d.has_subdirectory ≡ true = sym (ap (λ (x : OpenDirectory). x.has_subdirectory) same) ∙ s in
+    let there : d.has_subdirectory ≡ true = sym (ap (λ (x : OpenedDirectory). x.has_subdirectory) same) ∙ s in
     ap (λ (f : Bool). record d { is_changed_late = f }) (sym (by d.is_changed_late d.has_subdirectory there))
   where
     by : (a c : Bool) → c ≡ true → (a || c) ≡ true
     by true c e = refl
     by false c e = e
 
-pub not_changed : (d : OpenDirectory) → d.has_subdirectory ≡ false → d ≡ with_change d
+pub not_changed : (d : OpenedDirectory) → d.has_subdirectory ≡ false → d ≡ with_change d
 not_changed d s = ap (λ (f : Bool). record d { is_changed_late = f }) (sym (by d.is_changed_late d.has_subdirectory s))
   where
     by : (a c : Bool) → c ≡ false → (a || c) ≡ a
     by true c e = refl
     by false c e = e
 
-ChangesAt-past : (Change : OpenDirectory → OpenDirectory → Type 0) (ds : List OpenDirectory) (i : ℕ) → length ds ≤ i → ChangesAt i Change ds ds
+ChangesAt-past : (Change : OpenedDirectory → OpenedDirectory → Type 0) (ds : List OpenedDirectory) (i : ℕ) → length ds ≤ i → ChangesAt i Change ds ds
 ChangesAt-past Change ds i h = record {
   shown = refl;
   others = λ j x k n. k;
   changed = λ x k. absurd (none (sym (get_past ds i h) ∙ k));
 }
   where
-    none : {x : OpenDirectory} → None ≡ Some x → ⊥
+    none : {x : OpenedDirectory} → None ≡ Some x → ⊥
     none e = cc
 
-pub ChangesAt-beyond : (Change : OpenDirectory → OpenDirectory → Type 0) (ds : List OpenDirectory) (i j : ℕ) → j ≡ i → length ds ≤ j → ChangesAt i Change ds ds
+pub ChangesAt-beyond : (Change : OpenedDirectory → OpenedDirectory → Type 0) (ds : List OpenedDirectory) (i j : ℕ) → j ≡ i → length ds ≤ j → ChangesAt i Change ds ds
 ChangesAt-beyond Change ds i j p h = subst (λ (k : ℕ). ChangesAt k Change ds ds) p (ChangesAt-past Change ds j h)
 
 -- ---- names

@@ -9,3 +9,5 @@ pub mod Lines
 pub mod Steps
 pub mod Tokens
 pub mod Directories
+pub mod OrderState
+pub mod StandsAfter

@@ -10,7 +10,7 @@ use svn_types::{Name, RelPath};
 
 /// An open directory.
 #[derive(Debug, Drop)]
-pub struct OpenDirectory {
+pub struct OpenedDirectory {
     pub token: Token,
     pub path: RelPath,
     /// The entries that were opened or added.
@@ -22,11 +22,11 @@ pub struct OpenDirectory {
     pub is_changed_late: bool,
 }
 
-impl OpenDirectory {
-    fn new(alloc: Global, path: RelPath, token: Token) -> OpenDirectory
+impl OpenedDirectory {
+    fn new(alloc: Global, path: RelPath, token: Token) -> OpenedDirectory
         ensures { IsNew path token result }
     {
-        OpenDirectory {
+        OpenedDirectory {
             token,
             path,
             opened: BTreeSet::new(alloc),
@@ -37,7 +37,7 @@ impl OpenDirectory {
     }
 }
 
-pub fn innermost(directories: &[OpenDirectory]) -> Option<Token>
+pub fn innermost(directories: &[OpenedDirectory]) -> Option<Token>
     ensures { result ≡ innermost_of directories.now }
 {
     match directories.last() {
@@ -54,7 +54,7 @@ fn split_entry(path: &RelPath) -> Option<(&Name, &[Name])>
 }
 
 // Whether the token is that of an open directory that the path is an entry of.
-pub fn holds_entry(directories: &[OpenDirectory], token: Token, path: &RelPath) -> bool
+pub fn holds_entry(directories: &[OpenedDirectory], token: Token, path: &RelPath) -> bool
     ensures { result ≡ holds_entry directories.now token path.now }
 {
     let Some((_, above)) = split_entry(path) else {
@@ -67,7 +67,7 @@ pub fn holds_entry(directories: &[OpenDirectory], token: Token, path: &RelPath) 
 }
 
 // Whether the entry was opened or added, of a path whose parent is open.
-pub fn is_opened(directories: &[OpenDirectory], path: &RelPath) -> bool
+pub fn is_opened(directories: &[OpenedDirectory], path: &RelPath) -> bool
     ensures { result ≡ is_opened_in directories.now path.now }
 {
     let Some((name, above)) = split_entry(path) else {
@@ -79,7 +79,7 @@ pub fn is_opened(directories: &[OpenDirectory], path: &RelPath) -> bool
     }
 }
 
-pub fn is_deleted(directories: &[OpenDirectory], path: &RelPath) -> bool
+pub fn is_deleted(directories: &[OpenedDirectory], path: &RelPath) -> bool
     ensures { result ≡ is_deleted_in directories.now path.now }
 {
     let Some((name, above)) = split_entry(path) else {
@@ -92,7 +92,7 @@ pub fn is_deleted(directories: &[OpenDirectory], path: &RelPath) -> bool
 }
 
 // Whether a property change of the innermost directory came after a subdirectory of it.
-pub fn is_changed_late(directories: &[OpenDirectory]) -> bool
+pub fn is_changed_late(directories: &[OpenedDirectory]) -> bool
     ensures { result ≡ changed_late_in directories.now }
 {
     match directories.last() {
@@ -101,14 +101,14 @@ pub fn is_changed_late(directories: &[OpenDirectory]) -> bool
     }
 }
 
-fn insert_opened(directory: &mut OpenDirectory, name: &Name) -> Result<(), AllocError>
+fn insert_opened(directory: &mut OpenedDirectory, name: &Name) -> Result<(), AllocError>
     ensures { OnOk result (InsertsOpened name.now directory.old directory.new) }
 {
     directory.opened.insert(name.clone()?)?;
     Ok(())
 }
 
-fn insert_deleted(directory: &mut OpenDirectory, name: &Name) -> Result<(), AllocError>
+fn insert_deleted(directory: &mut OpenedDirectory, name: &Name) -> Result<(), AllocError>
     ensures { OnOk result (InsertsDeleted name.now directory.old directory.new) }
 {
     directory.deleted.insert(name.clone()?)?;
@@ -116,7 +116,7 @@ fn insert_deleted(directory: &mut OpenDirectory, name: &Name) -> Result<(), Allo
 }
 
 pub fn open_entry(
-    directories: &mut Vec<OpenDirectory>,
+    directories: &mut Vec<OpenedDirectory>,
     path: &RelPath,
 ) -> Result<(), AllocError>
     ensures { OnOk result (OpensEntry directories.old.items path.now directories.new.items) }
@@ -131,7 +131,7 @@ pub fn open_entry(
 }
 
 pub fn delete_entry(
-    directories: &mut Vec<OpenDirectory>,
+    directories: &mut Vec<OpenedDirectory>,
     path: &RelPath,
 ) -> Result<(), AllocError>
     ensures { OnOk result (DeletesEntry directories.old.items path.now directories.new.items) }
@@ -145,7 +145,7 @@ pub fn delete_entry(
     Ok(())
 }
 
-pub fn open_subdirectory(directories: &mut Vec<OpenDirectory>)
+pub fn open_subdirectory(directories: &mut Vec<OpenedDirectory>)
     ensures { OpensSubdirectory directories.old.items directories.new.items }
 {
     if !directories.is_empty() {
@@ -154,7 +154,7 @@ pub fn open_subdirectory(directories: &mut Vec<OpenDirectory>)
     }
 }
 
-pub fn change_prop(directories: &mut Vec<OpenDirectory>)
+pub fn change_prop(directories: &mut Vec<OpenedDirectory>)
     ensures { ChangesProp directories.old.items directories.new.items }
 {
     if !directories.is_empty() {
@@ -166,18 +166,18 @@ pub fn change_prop(directories: &mut Vec<OpenDirectory>)
 }
 
 pub fn open(
-    directories: &mut Vec<OpenDirectory>,
+    directories: &mut Vec<OpenedDirectory>,
     alloc: Global,
     path: RelPath,
     token: Token,
 ) -> Result<(), AllocError>
     ensures { OnOk result (Opens directories.old.items path token directories.new.items) }
 {
-    directories.push(OpenDirectory::new(alloc, path, token))?;
+    directories.push(OpenedDirectory::new(alloc, path, token))?;
     Ok(())
 }
 
-pub fn close_innermost(directories: &mut Vec<OpenDirectory>)
+pub fn close_innermost(directories: &mut Vec<OpenedDirectory>)
     ensures { directories.new.items ≡ without_last directories.old.items }
 {
     directories.pop();

@@ -2,7 +2,7 @@
 ghost use Rattle.std.specs.Prelude.{◌≡◌};
 
 use crate::call::Call;
-use crate::directories::OpenDirectory;
+use crate::directories::OpenedDirectory;
 use crate::fault::OrderFault;
 use crate::token::Token;
 use crate::tokens::GivenToken;
@@ -32,7 +32,7 @@ pub enum Stage {
 pub struct OrderCheck {
     pub(crate) stage: Stage,
     pub(crate) tokens: Vec<GivenToken>,
-    pub(crate) directories: Vec<OpenDirectory>,
+    pub(crate) directories: Vec<OpenedDirectory>,
     pub(crate) open_files: BTreeSet<u64>,
     pub(crate) current: Option<Token>,
     pub(crate) alloc: Global,

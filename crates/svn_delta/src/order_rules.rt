@@ -1,4 +1,9 @@
 //! The rules of `svn_delta.h`, each a test of the next call.
+ghost use Rattle.std.specs.Prelude.{◌≡◌, ◌&&◌, Some};
+ghost use Rattle.std.specs.Option.{option_copied};
+ghost use Rattle.svn_delta.specs.Calls.{named_by, entry_of, number_eq};
+ghost use Rattle.svn_delta.specs.Directories.{innermost_of};
+ghost use Rattle.svn_delta.specs.OrderState.{target_late, unknown_in, closed_in, given_token, misnumbered_in, outside_in, current_text, elsewhere, too_early, not_innermost, open_below, prop_late, delete_late, entry_again, text_again, root_unclosed, naming_fault, nesting_fault, repeating_fault, fault_in};
 
 use crate::call::Call;
 use crate::fault::OrderFault;
@@ -8,7 +13,9 @@ use crate::{directories, tokens};
 use svn_types::{Kind, RelPath};
 
 // The token that a call is about, and of which kind of node it has to be: its own or, of an open, an add or a delete, the parent's.
-fn named_by(call: &Call) -> Option<(Token, Kind)> {
+fn named_by(call: &Call) -> Option<(Token, Kind)>
+    ensures { result ≡ named_by call.now }
+{
     match call {
         Call::DeleteEntry { parent, .. }
         | Call::AddDirectory { parent, .. }
@@ -26,7 +33,9 @@ fn named_by(call: &Call) -> Option<(Token, Kind)> {
 }
 
 // The token that an open or an add gives.
-fn given_by(call: &Call) -> Option<Token> {
+fn given_by(call: &Call) -> Option<Token>
+    ensures { result ≡ given_token call.now }
+{
     match call {
         Call::OpenRoot { token, .. }
         | Call::AddDirectory { token, .. }
@@ -38,7 +47,9 @@ fn given_by(call: &Call) -> Option<Token> {
 }
 
 // The entry of its parent that a call opens, adds or deletes.
-fn entry_of(call: &Call) -> Option<&RelPath> {
+fn entry_of(call: &Call) -> Option<&RelPath>
+    ensures { option_copied result ≡ entry_of call.now }
+{
     match call {
         Call::DeleteEntry { path, .. }
         | Call::AddDirectory { path, .. }
@@ -51,7 +62,9 @@ fn entry_of(call: &Call) -> Option<&RelPath> {
 
 impl OrderCheck {
     // The first fault that the call has, want of memory aside.
-    pub(crate) fn fault_of(&self, call: &Call) -> Option<OrderFault> {
+    pub(crate) fn fault_of(&self, call: &Call) -> Option<OrderFault>
+        ensures { result ≡ fault_in self.now call.now }
+    {
         if let Some(fault) = self.naming_fault(call) {
             return Some(fault);
         }
@@ -62,7 +75,9 @@ impl OrderCheck {
     }
 
     // Of what the call names.
-    fn naming_fault(&self, call: &Call) -> Option<OrderFault> {
+    fn naming_fault(&self, call: &Call) -> Option<OrderFault>
+        ensures { result ≡ naming_fault self.now call.now }
+    {
         if self.is_target_late(call) {
             Some(OrderFault::TargetFirst)
         } else if self.is_token_unknown(call) {
@@ -79,7 +94,9 @@ impl OrderCheck {
     }
 
     // Of what is open.
-    fn nesting_fault(&self, call: &Call) -> Option<OrderFault> {
+    fn nesting_fault(&self, call: &Call) -> Option<OrderFault>
+        ensures { result ≡ nesting_fault self.now call.now }
+    {
         if self.is_file_unfinished(call) {
             Some(OrderFault::FileOpen)
         } else if self.is_too_early(call) {
@@ -96,7 +113,9 @@ impl OrderCheck {
     }
 
     // Of what was done before.
-    fn repeating_fault(&self, call: &Call) -> Option<OrderFault> {
+    fn repeating_fault(&self, call: &Call) -> Option<OrderFault>
+        ensures { result ≡ repeating_fault self.now call.now }
+    {
         if self.is_delete_late(call) {
             Some(OrderFault::DeleteLate)
         } else if self.is_entry_again(call) {
@@ -110,7 +129,9 @@ impl OrderCheck {
         }
     }
 
-    fn is_target_late(&self, call: &Call) -> bool {
+    fn is_target_late(&self, call: &Call) -> bool
+        ensures { result ≡ target_late self.now.stage call.now }
+    {
         let is_target = matches!(call, Call::SetTargetRevision { .. });
         match self.stage {
             Stage::Before => !is_target,
@@ -118,28 +139,36 @@ impl OrderCheck {
         }
     }
 
-    fn is_token_unknown(&self, call: &Call) -> bool {
+    fn is_token_unknown(&self, call: &Call) -> bool
+        ensures { result ≡ unknown_in self.now.tokens.items (named_by call.now) }
+    {
         match named_by(call) {
             Some((token, kind)) => !tokens::is_of_kind(&self.tokens, token, kind),
             None => false,
         }
     }
 
-    fn is_token_closed(&self, call: &Call) -> bool {
+    fn is_token_closed(&self, call: &Call) -> bool
+        ensures { result ≡ closed_in self.now.tokens.items (named_by call.now) }
+    {
         match named_by(call) {
             Some((token, _)) => tokens::is_closed(&self.tokens, token),
             None => false,
         }
     }
 
-    fn is_token_misnumbered(&self, call: &Call) -> bool {
+    fn is_token_misnumbered(&self, call: &Call) -> bool
+        ensures { result ≡ misnumbered_in self.now.tokens.items (given_token call.now) }
+    {
         match given_by(call) {
             Some(token) => token.0 != self.tokens.len() as u64,
             None => false,
         }
     }
 
-    fn is_path_wrong(&self, call: &Call) -> bool {
+    fn is_path_wrong(&self, call: &Call) -> bool
+        ensures { result ≡ outside_in self.now.directories.items (named_by call.now) (entry_of call.now) }
+    {
         match (named_by(call), entry_of(call)) {
             (Some((parent, _)), Some(path)) => {
                 !directories::holds_entry(&self.directories, parent, path)
@@ -148,7 +177,9 @@ impl OrderCheck {
         }
     }
 
-    fn is_current(&self, token: Token) -> bool {
+    fn is_current(&self, token: Token) -> bool
+        ensures { result ≡ number_eq self.now.current (Some token) }
+    {
         match self.current {
             Some(current) => current == token,
             None => false,
@@ -156,7 +187,9 @@ impl OrderCheck {
     }
 
     // A call on another file or on a directory.
-    fn is_elsewhere(&self, call: &Call) -> bool {
+    fn is_elsewhere(&self, call: &Call) -> bool
+        ensures { result ≡ elsewhere self.now.current call.now }
+    {
         match call {
             Call::ChangeFileProp { token, .. }
             | Call::ApplyText { token, .. }
@@ -166,14 +199,18 @@ impl OrderCheck {
         }
     }
 
-    fn is_file_unfinished(&self, call: &Call) -> bool {
+    fn is_file_unfinished(&self, call: &Call) -> bool
+        ensures { result ≡ (current_text self.now.tokens.items self.now.current && elsewhere self.now.current call.now) }
+    {
         match self.current {
             Some(current) => tokens::has_text(&self.tokens, current) && self.is_elsewhere(call),
             None => false,
         }
     }
 
-    fn is_too_early(&self, call: &Call) -> bool {
+    fn is_too_early(&self, call: &Call) -> bool
+        ensures { result ≡ too_early self.now call.now }
+    {
         match call {
             Call::ApplyText { token, .. } | Call::CloseFile { token, .. } => {
                 !self.is_current(*token) && !self.directories.is_empty()
@@ -182,14 +219,18 @@ impl OrderCheck {
         }
     }
 
-    fn is_innermost(&self, token: Token) -> bool {
+    fn is_innermost(&self, token: Token) -> bool
+        ensures { result ≡ number_eq (innermost_of self.now.directories.items) (Some token) }
+    {
         match directories::innermost(&self.directories) {
             Some(innermost) => innermost == token,
             None => false,
         }
     }
 
-    fn is_not_innermost(&self, call: &Call) -> bool {
+    fn is_not_innermost(&self, call: &Call) -> bool
+        ensures { result ≡ not_innermost self.now.directories.items call.now }
+    {
         match call {
             Call::AddDirectory { parent, .. } | Call::OpenDirectory { parent, .. } => {
                 !self.is_innermost(*parent)
@@ -198,14 +239,18 @@ impl OrderCheck {
         }
     }
 
-    fn is_open_below(&self, call: &Call) -> bool {
+    fn is_open_below(&self, call: &Call) -> bool
+        ensures { result ≡ open_below self.now.directories.items call.now }
+    {
         match call {
             Call::CloseDirectory { token } => !self.is_innermost(*token),
             _ => false,
         }
     }
 
-    fn is_prop_late(&self, call: &Call) -> bool {
+    fn is_prop_late(&self, call: &Call) -> bool
+        ensures { result ≡ prop_late self.now call.now }
+    {
         match call {
             Call::ChangeDirProp { token, .. } => !self.is_innermost(*token),
             Call::ChangeFileProp { token, .. } => !self.is_current(*token),
@@ -216,14 +261,18 @@ impl OrderCheck {
         }
     }
 
-    fn is_delete_late(&self, call: &Call) -> bool {
+    fn is_delete_late(&self, call: &Call) -> bool
+        ensures { result ≡ delete_late self.now.directories.items call.now }
+    {
         match call {
             Call::DeleteEntry { path, .. } => directories::is_opened(&self.directories, path),
             _ => false,
         }
     }
 
-    fn is_entry_again(&self, call: &Call) -> bool {
+    fn is_entry_again(&self, call: &Call) -> bool
+        ensures { result ≡ entry_again self.now call.now }
+    {
         match call {
             Call::OpenRoot { .. } => !self.tokens.is_empty(),
             Call::DeleteEntry { path, .. } => directories::is_deleted(&self.directories, path),
@@ -238,14 +287,18 @@ impl OrderCheck {
         }
     }
 
-    fn is_text_again(&self, call: &Call) -> bool {
+    fn is_text_again(&self, call: &Call) -> bool
+        ensures { result ≡ text_again self.now.tokens.items call.now }
+    {
         match call {
             Call::ApplyText { token, .. } => tokens::has_text(&self.tokens, *token),
             _ => false,
         }
     }
 
-    fn is_root_unclosed(&self, call: &Call) -> bool {
+    fn is_root_unclosed(&self, call: &Call) -> bool
+        ensures { result ≡ root_unclosed self.now call.now }
+    {
         match call {
             Call::CloseEdit => {
                 self.tokens.is_empty()
