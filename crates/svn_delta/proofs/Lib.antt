@@ -12,3 +12,5 @@ pub mod OpenDirectories
 pub mod Lawful
 pub mod Looking
 pub mod Answering
+pub mod HoldingTokens
+pub mod HoldingDirectories

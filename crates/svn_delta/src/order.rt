@@ -1,5 +1,9 @@
 //! The order of the calls of an edit.
-ghost use Rattle.std.specs.Prelude.{◌≡◌};
+ghost use Rattle.std.specs.Prelude.{◌≡◌, [], ◌∷◌, ◌++◌, None, OnOk};
+ghost use Rattle.svn_types.specs.declared.kind.Kind.TheVariants.{Directory};
+ghost use Rattle.svn_delta.specs.Tokens.{token_of};
+ghost use Rattle.svn_delta.specs.Directories.{Opens};
+ghost use Rattle.svn_delta.specs.OrderChanges.{Becomes, Stays, Notes, NotesDirectory, NotesDelete, NotesChange, NotesDirectoryClose, NotesFile, NotesText, NotesFileClose};
 
 use crate::call::Call;
 use crate::directories::OpenedDirectory;
@@ -87,7 +91,9 @@ impl OrderCheck {
     }
 
     // Takes note of a call that is in order.
-    fn note(&mut self, call: &Call) -> Result<(), AllocError> {
+    fn note(&mut self, call: &Call) -> Result<(), AllocError>
+        ensures { OnOk result (Notes self.old call.now self.new) }
+    {
         match call {
             Call::SetTargetRevision { .. } => {
                 self.stage = Stage::During;
@@ -125,7 +131,9 @@ impl OrderCheck {
         }
     }
 
-    fn open_directory(&mut self, path: &RelPath, token: Token) -> Result<(), AllocError> {
+    fn open_directory(&mut self, path: &RelPath, token: Token) -> Result<(), AllocError>
+        ensures { OnOk result (Becomes (self.old.tokens.items ++ token_of Directory ∷ []) (λ ds es. Opens ds path.now token es) Stays None self.old self.new) }
+    {
         let path = path.clone()?;
         tokens::give(&mut self.tokens, Kind::Directory)?;
         directories::open(&mut self.directories, self.alloc, path, token)?;
@@ -133,30 +141,40 @@ impl OrderCheck {
         Ok(())
     }
 
-    fn open_subdirectory(&mut self, path: &RelPath, token: Token) -> Result<(), AllocError> {
+    fn open_subdirectory(&mut self, path: &RelPath, token: Token) -> Result<(), AllocError>
+        ensures { OnOk result (NotesDirectory path.now token self.old self.new) }
+    {
         directories::open_entry(&mut self.directories, path)?;
         directories::open_subdirectory(&mut self.directories);
         self.open_directory(path, token)
     }
 
-    fn delete_entry(&mut self, path: &RelPath) -> Result<(), AllocError> {
+    fn delete_entry(&mut self, path: &RelPath) -> Result<(), AllocError>
+        ensures { OnOk result (NotesDelete path.now self.old self.new) }
+    {
         directories::delete_entry(&mut self.directories, path)?;
         self.current = None;
         Ok(())
     }
 
-    fn change_directory(&mut self) {
+    fn change_directory(&mut self)
+        ensures { NotesChange self.old self.new }
+    {
         directories::change_prop(&mut self.directories);
         self.current = None;
     }
 
-    fn close_directory(&mut self, token: Token) {
+    fn close_directory(&mut self, token: Token)
+        ensures { NotesDirectoryClose token self.old self.new }
+    {
         tokens::close(&mut self.tokens, token);
         directories::close_innermost(&mut self.directories);
         self.current = None;
     }
 
-    fn open_file(&mut self, path: &RelPath, token: Token) -> Result<(), AllocError> {
+    fn open_file(&mut self, path: &RelPath, token: Token) -> Result<(), AllocError>
+        ensures { OnOk result (NotesFile path.now token self.old self.new) }
+    {
         directories::open_entry(&mut self.directories, path)?;
         tokens::give(&mut self.tokens, Kind::File)?;
         self.open_files.insert(token.0)?;
@@ -164,14 +182,18 @@ impl OrderCheck {
         Ok(())
     }
 
-    fn apply_text(&mut self, token: Token) {
+    fn apply_text(&mut self, token: Token)
+        ensures { NotesText token self.old self.new }
+    {
         tokens::add_text(&mut self.tokens, token);
-        if self.current != Some(token) {
+        if !self.is_current(token) {
             self.current = None;
         }
     }
 
-    fn close_file(&mut self, token: Token) {
+    fn close_file(&mut self, token: Token)
+        ensures { NotesFileClose token self.old self.new }
+    {
         tokens::close(&mut self.tokens, token);
         self.open_files.remove(&token.0);
         self.current = None;

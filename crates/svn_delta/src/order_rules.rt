@@ -177,7 +177,7 @@ impl OrderCheck {
         }
     }
 
-    fn is_current(&self, token: Token) -> bool
+    pub(crate) fn is_current(&self, token: Token) -> bool
         ensures { result ≡ number_eq self.now.current (Some token) }
     {
         match self.current {

@@ -7,6 +7,8 @@ use Rattle.svn_delta.proofs.OpenDirectories.{open_closed}
 use Rattle.svn_delta.proofs.Lawful.{sound}
 use Rattle.svn_delta.proofs.Looking.{late_at}
 use Rattle.svn_delta.proofs.Answering.{in_order}
+use Rattle.svn_delta.proofs.HoldingTokens.{during}
+use Rattle.svn_delta.proofs.HoldingDirectories.{shown_less}
 use Rattle.svn_delta.proofs.probe.probed.Goals as goal
 
 pub returns : goal.returns
