@@ -14,3 +14,4 @@ pub mod Looking
 pub mod Answering
 pub mod HoldingTokens
 pub mod HoldingDirectories
+pub mod Holding

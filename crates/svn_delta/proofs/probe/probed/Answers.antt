@@ -9,6 +9,7 @@ use Rattle.svn_delta.proofs.Looking.{late_at}
 use Rattle.svn_delta.proofs.Answering.{in_order}
 use Rattle.svn_delta.proofs.HoldingTokens.{during}
 use Rattle.svn_delta.proofs.HoldingDirectories.{shown_less}
+use Rattle.svn_delta.proofs.Holding.{holds_more}
 use Rattle.svn_delta.proofs.probe.probed.Goals as goal
 
 pub returns : goal.returns
