@@ -72,7 +72,7 @@ root_held s t calls base token h sound a n = record {
     none =
         same_length s.directories.items (open_directories calls) h.nesting
         ∙ ap (λ gs. length (filter (is_open_directory calls) gs))
-          (nil_from_length (all_given calls) (true_eq (length (all_given calls)) 0 (not_false (nat_eq (length (all_given calls)) 0) (sym sound.root ∙ a.entry))))
+        (nil_from_length (all_given calls) (true_eq (length (all_given calls)) 0 (not_false (nat_eq (length (all_given calls)) 0) (sym sound.root ∙ a.entry))))
 
 delete_held : (s t : OrderCheck) (calls : List Call) (path : Path) (rev parent : ℕ) → Holds s calls → IsSound calls → IsAccepted calls (DeleteEntry path rev parent)
     → Notes s (DeleteEntry path rev parent) t → Holds t (calls ++ DeleteEntry path rev parent ∷ [])
@@ -141,7 +141,7 @@ change_held : (s t : OrderCheck) (calls : List Call) (token : ℕ) (name : List 
 change_held s t calls token name value h sound a n =
     let k = known calls (ChangeDirProp token name value) token Directory a refl in
     let inner : number_eq (innermost calls) (Some token) ≡ true =
-        ap (λ o. number_eq o (Some token)) (sym (innermost_at s calls h)) ∙ not_false (number_eq (innermost_of s.directories.items) (Some token)) (open_below_at s calls token h sound k ∙ a.prop) in
+    ap (λ o. number_eq o (Some token)) (sym (innermost_at s calls h)) ∙ not_false (number_eq (innermost_of s.directories.items) (Some token)) (open_below_at s calls token h sound k ∙ a.prop) in
     record {
       stage = begun_stage s t calls (ChangeDirProp token name value) h refl a.target n.stage;
       count = ap length n.tokens_are ∙ count_still calls (ChangeDirProp token name value) (length s.tokens.items) refl h.count;

@@ -118,8 +118,8 @@ opened_names calls c q b d o e change was n =
     ∙ ap (λ (p : Path). list_any (opens_entry (child p n)) calls || opens_entry (child p n) c) same
     ∙ ap (λ x. x || opens_entry (child b.path n) c) (was.opened n)
     ∙ ap (λ x. contains name_cmp b.opened n || x)
-      (o.opens (child b.path n) ∙ ap (λ (p : Path). path_eq p (child b.path n)) (sym e.entry) ∙ ap (λ (p : Path). path_eq (child (parent q) (entry_name q)) (child p n)) e.path
-      ∙ same_entry (parent q) (entry_name q) n)
+    (o.opens (child b.path n) ∙ ap (λ (p : Path). path_eq p (child b.path n)) (sym e.entry) ∙ ap (λ (p : Path). path_eq (child (parent q) (entry_name q)) (child p n)) e.path
+    ∙ same_entry (parent q) (entry_name q) n)
     ∙ sym (change.opened n)
 
 still_deleted : (calls : List Call) (c : Call) (q : Path) (b d : OpenedDirectory) → IsOpenOf c q → InsertsOpened (entry_name q) b d
@@ -202,7 +202,7 @@ entry_deleted s es calls q rev t h sound p change =
               ∙ ap (λ (r : Path). list_any (deletes (child r n)) calls || path_eq q (child r n)) same
               ∙ ap (λ x. x || path_eq q (child b.path n)) (was.deleted n)
               ∙ ap (λ x. contains name_cmp b.deleted n || x)
-                (ap (λ (r : Path). path_eq r (child b.path n)) (sym e.entry) ∙ ap (λ (r : Path). path_eq (child (parent q) (entry_name q)) (child r n)) e.path ∙ same_entry (parent q) (entry_name q) n)
+              (ap (λ (r : Path). path_eq r (child b.path n)) (sym e.entry) ∙ ap (λ (r : Path). path_eq (child (parent q) (entry_name q)) (child r n)) e.path ∙ same_entry (parent q) (entry_name q) n)
               ∙ sym (inserts.deleted n);
         }
 
@@ -315,7 +315,7 @@ directory_opened s es calls c m t q h sound p k inner o below fresh number enter
     last =
         let place = innermost_place s calls m h sound k inner in
         let depth : length (parent q) ≡ length (path_of calls m) =
-            ap length (sym p.path ∙ path_held s calls (length (parent q)) p.directory h sound p.is ∙ ap (path_of calls) p.token) in
+        ap length (sym p.path ∙ path_held s calls (length (parent q)) p.directory h sound p.is ∙ ap (path_of calls) p.token) in
         omega (arith, same_count)
 
     known_before : m < length (all_given calls)
@@ -335,7 +335,7 @@ directory_opened s es calls c m t q h sound p k inner o below fresh number enter
         let depth = depth_held s calls i d h sound before in
         let path = path_held s calls i d h sound before in
         let other : nat_eq m d.token ≡ false = false_from (nat_eq m d.token)
-            (λ x. far (sym depth ∙ ap length (path ∙ ap (path_of calls) (sym (true_eq m d.token x))) ∙ innermost_place s calls m h sound k inner ∙ ap (λ y. y - 1) (sym same_count) ∙ sym last)) in
+        (λ x. far (sym depth ∙ ap length (path ∙ ap (path_of calls) (sym (true_eq m d.token x))) ∙ innermost_place s calls m h sound k inner ∙ ap (λ y. y - 1) (sym same_count) ∙ sym last)) in
         directory_still calls c d (apart_open c q d o (below d.token ∙ other) (λ x. far (sym depth ∙ x))) (h.directories i d before)
 
     by : (slice_get enters.marked i ≡ Some d) ⊎ ((i ≡ length enters.marked) × (enters.opened.0 ≡ d)) → IsDirectoryOf (calls ++ c ∷ []) d

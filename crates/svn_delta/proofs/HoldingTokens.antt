@@ -221,7 +221,7 @@ files_removed fs gs calls c t e close removes h q =
     removes q ∙ ap (λ b. cond b false (contains nat_cmp fs q)) (tied_number t q) ∙ ap (λ b. cond (nat_eq t q) false b) (h q)
     ∙ by (nat_eq t q) (is_of_kind File (given calls q)) (is_closed calls q)
     ∙ sym (ap (λ o. is_of_kind File o && not (is_closed (calls ++ c ∷ []) q)) (given_still calls c q e)
-      ∙ ap (λ b. is_of_kind File (given calls q) && not b) (any_more (closes q) calls c ∙ ap (λ b. is_closed calls q || b) (close q)))
+    ∙ ap (λ b. is_of_kind File (given calls q) && not b) (any_more (closes q) calls c ∙ ap (λ b. is_closed calls q || b) (close q)))
   where
     by : (b k d : Bool) → cond b false (k && not d) ≡ (k && not (d || b))
     by true k d = sym (ap (λ x. k && not x) (or_true d) ∙ and_false k)
@@ -233,7 +233,7 @@ pub files_closed : (fs : BTreeSet ℕ) (calls : List Call) (c : Call) (t : ℕ) 
 files_closed fs calls c t e known close h q =
     h q ∙ by (nat_eq t q) refl
     ∙ sym (ap (λ o. is_of_kind File o && not (is_closed (calls ++ c ∷ []) q)) (given_still calls c q e)
-      ∙ ap (λ b. is_of_kind File (given calls q) && not b) (any_more (closes q) calls c ∙ ap (λ b. is_closed calls q || b) (close q)))
+    ∙ ap (λ b. is_of_kind File (given calls q) && not b) (any_more (closes q) calls c ∙ ap (λ b. is_closed calls q || b) (close q)))
   where
     not_both : (x : Kind) → kind_eq x Directory ≡ true → kind_eq x File ≡ false
     not_both Directory h = refl

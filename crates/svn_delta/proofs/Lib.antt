@@ -15,3 +15,4 @@ pub mod Answering
 pub mod HoldingTokens
 pub mod HoldingDirectories
 pub mod Holding
+pub mod Stepping

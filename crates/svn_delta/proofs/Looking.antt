@@ -291,8 +291,8 @@ files_at s calls h sound = same_truth _ _ (λ e. first s.open_files.keys refl e)
         let m = any_found (is_open_file calls) (all_given calls) e in
         let parts = and_parts (kind_eq m.1.kind File) (not (is_closed calls m.1.token)) m.3 in
         let is : contains nat_cmp s.open_files m.0 ≡ true =
-            h.files m.0 ∙ ap (λ o. is_of_kind File o && not (is_closed calls m.0)) m.2 ∙ ap (λ b. b && not (is_closed calls m.0)) parts.0
-            ∙ ap (λ n. not (is_closed calls n)) (sym (sound.numbered m.0 m.1 m.2)) ∙ parts.1 in
+        h.files m.0 ∙ ap (λ o. is_of_kind File o && not (is_closed calls m.0)) m.2 ∙ ap (λ b. b && not (is_closed calls m.0)) parts.0
+        ∙ ap (λ n. not (is_closed calls n)) (sym (sound.numbered m.0 m.1 m.2)) ∙ parts.1 in
         some s.open_files.keys m.0 is
       where
         some : (ks : List ℕ) (t : ℕ) → list_any (is_at (nat_cmp t)) ks ≡ true → not (nat_eq (length ks) 0) ≡ true

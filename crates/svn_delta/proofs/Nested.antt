@@ -97,7 +97,7 @@ under (y ∷ gs) g t k e h =
     ap (λ b. b || list_any (opens_below g.token) gs)
     (ap (λ b. b && number_eq y.parent (Some g.token)) h.3 ∙ number_same y.parent g.token (h.2 ∙ ap Some e))
     ∙ sym (ap not (false_from (number_eq (last_token (Some t) (y ∷ gs)) (Some g.token))
-      (λ q. let l : suc t ≤ g.token = last_above y gs (suc t) k (Some t) (Some t) g.token h (same_number (last_token (Some t) (y ∷ gs)) g.token q) in omega arith)))
+    (λ q. let l : suc t ≤ g.token = last_above y gs (suc t) k (Some t) (Some t) g.token h (same_number (last_token (Some t) (y ∷ gs)) g.token q) in omega arith)))
 
 -- a directory is open in one of them exactly where that isn't the last
 pub open_below_last : (gs : List Given) (n k : ℕ) (above : Option ℕ) (i : ℕ) (g : Given) → IsNested n k above gs → (above ≡ Some g.token → ⊥)

@@ -1,6 +1,7 @@
 -- What an order check does with a call that it accepts.
 --     Notes old c new      the check before, the call, and the check after
-use Rattle.std.specs.Prelude.{◌≡◌, ℕ, Bool, true, false, ◌||◌, cond, List, [], ◌∷◌, ◌++◌, length, Option, Some, None, if◌then◌else◌}
+--     Takes old c answer new      the same of any call while the edit goes on, with its answer
+use Rattle.std.specs.Prelude.{◌≡◌, ℕ, Bool, true, false, ◌||◌, cond, List, [], ◌∷◌, ◌++◌, length, Option, Some, None, if◌then◌else◌, Result, Ok, Err, MatchResult}
 use Rattle.std.specs.Ordering.{nat_cmp}
 use Rattle.std.specs.BTreeMap.{is_at}
 use Rattle.std.specs.BTreeSet.{BTreeSet, contains}
@@ -14,7 +15,11 @@ use Rattle.svn_delta.specs.declared.tokens.GivenToken.{GivenToken}
 use Rattle.svn_delta.specs.declared.order.OrderCheck.{OrderCheck}
 use Rattle.svn_delta.specs.declared.order.Stage.{Stage}
 use Rattle.svn_delta.specs.declared.order.Stage.TheVariants.{During, Ended}
-use Rattle.svn_delta.specs.Calls.{number_eq}
+use Rattle.svn_delta.specs.declared.fault.OrderFault.{OrderFault}
+use Rattle.svn_delta.specs.declared.fault.OrderFault.TheVariants.{Memory}
+use Rattle.svn_delta.specs.Calls.{number_eq, is_last}
+use Rattle.svn_delta.specs.OrderState.{fault_in}
+use Rattle.svn_delta.specs.StandsAfter.{IsDead, HasEnded}
 use Rattle.svn_delta.specs.Tokens.{token_of, with_closed, with_text}
 use Rattle.svn_delta.specs.Directories.{OpensEntry, DeletesEntry, OpensSubdirectory, ChangesProp, Opens, without_last}
 
@@ -83,3 +88,11 @@ Notes old (ApplyText token base_md5 text) new = NotesText token old new
 Notes old (CloseFile token text_md5) new = NotesFileClose token old new
 Notes old CloseEdit new = new ≡ record old { stage = Ended }
 Notes old AbortEdit new = new ≡ record old { stage = Ended }
+
+abbrev pub Taken : Option OrderFault → OrderCheck → Call → Result (Unit {0}) OrderFault → OrderCheck → Type 0
+Taken (Some fault) old c answer new = (answer ≡ Err fault) × IsDead new
+Taken None old c answer new = MatchResult answer (λ _. Notes old c new) (λ e. (e ≡ Memory) × (is_last c ≡ false) × IsDead new)
+
+abbrev pub Takes : OrderCheck → Call → Result (Unit {0}) OrderFault → OrderCheck → Type 0
+Takes old AbortEdit answer new = (answer ≡ Ok tt) × HasEnded new
+Takes old c answer new = Taken (fault_in old c) old c answer new

@@ -2,7 +2,7 @@
 --     open_directories calls      the directories that are open, in the order in which they were opened
 --     StandsAfter check calls      the check was given these calls, and accepted each
 --     IsDead check, HasEnded check      a call was refused; the edit was ended or given up
-use Rattle.std.specs.Prelude.{◌≡◌, ℕ, Bool, true, false, ◌&&◌, not, List, [], ◌∷◌, ◌++◌, length, map, filter, Option, Some, None, slice_get}
+use Rattle.std.specs.Prelude.{◌≡◌, ℕ, Bool, true, false, ◌&&◌, not, List, [], ◌∷◌, ◌++◌, length, map, filter, Option, Some, None, slice_get, Result, Ok, Err}
 use Rattle.std.specs.List.{list_any}
 use Rattle.std.specs.Ordering.{nat_cmp}
 use Rattle.std.specs.BTreeSet.{contains}
@@ -11,6 +11,9 @@ use Rattle.svn_types.specs.declared.kind.Kind.TheVariants.{File, Directory}
 use Rattle.svn_types.specs.Names.{Path, name_cmp}
 use Rattle.svn_types.specs.Paths.{child}
 use Rattle.svn_delta.specs.declared.call.Call.{Call}
+use Rattle.svn_delta.specs.declared.call.Call.TheVariants.{AbortEdit}
+use Rattle.svn_delta.specs.declared.fault.OrderFault.{OrderFault}
+use Rattle.svn_delta.specs.declared.fault.OrderFault.TheVariants as fault
 use Rattle.svn_delta.specs.declared.directories.OpenedDirectory.{OpenedDirectory}
 use Rattle.svn_delta.specs.declared.tokens.GivenToken.{GivenToken}
 use Rattle.svn_delta.specs.declared.order.OrderCheck.{OrderCheck}
@@ -64,3 +67,20 @@ pub record StandsAfter (check : OrderCheck) (calls : List Call) : Type 0 where
   pub lawful : IsLawful calls
   pub going : list_any is_last calls ≡ false → Holds check calls
   pub ended : list_any is_last calls ≡ true → HasEnded check
+
+-- ---- answers that are the same whatever came before
+
+-- after the end
+abbrev pub StaysEnded : OrderCheck → Result (Unit {0}) OrderFault → OrderCheck → Type 0
+StaysEnded old answer new = (answer ≡ Err fault.Ended) × (new ≡ old)
+
+-- after a refusal giving up alone is left
+abbrev pub StaysDead : Call → Result (Unit {0}) OrderFault → OrderCheck → Type 0
+StaysDead AbortEdit answer new = (answer ≡ Ok tt) × HasEnded new
+StaysDead _ answer new = (answer ≡ Err fault.Dead) × IsDead new
+
+-- what an answer leaves where it is a refusal: nothing is in order any more, unless the edit has ended
+abbrev pub LeavesDead : Result (Unit {0}) OrderFault → OrderCheck → Type 0
+LeavesDead (Ok done) new = Unit {0}
+LeavesDead (Err fault.Ended) new = Unit {0}
+LeavesDead (Err _) new = IsDead new

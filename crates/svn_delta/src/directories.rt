@@ -115,10 +115,7 @@ fn insert_deleted(directory: &mut OpenedDirectory, name: &Name) -> Result<(), Al
     Ok(())
 }
 
-pub fn open_entry(
-    directories: &mut Vec<OpenedDirectory>,
-    path: &RelPath,
-) -> Result<(), AllocError>
+pub fn open_entry(directories: &mut Vec<OpenedDirectory>, path: &RelPath) -> Result<(), AllocError>
     ensures { OnOk result (OpensEntry directories.old.items path.now directories.new.items) }
 {
     if let Some((name, above)) = split_entry(path) {

@@ -1,9 +1,14 @@
 //! The order of the calls of an edit.
-ghost use Rattle.std.specs.Prelude.{◌≡◌, [], ◌∷◌, ◌++◌, None, OnOk};
+ghost use Rattle.std.specs.Prelude.{◌≡◌, ◌≢◌, true, false, List, [], ◌∷◌, ◌++◌, None, OnOk, OnErr, IfErr};
 ghost use Rattle.svn_types.specs.declared.kind.Kind.TheVariants.{Directory};
 ghost use Rattle.svn_delta.specs.Tokens.{token_of};
 ghost use Rattle.svn_delta.specs.Directories.{Opens};
-ghost use Rattle.svn_delta.specs.OrderChanges.{Becomes, Stays, Notes, NotesDirectory, NotesDelete, NotesChange, NotesDirectoryClose, NotesFile, NotesText, NotesFileClose};
+ghost use Rattle.svn_delta.specs.OrderChanges.{Becomes, Stays, Notes, NotesDirectory, NotesDelete, NotesChange, NotesDirectoryClose, NotesFile, NotesText, NotesFileClose, Takes};
+ghost use Rattle.svn_delta.specs.Calls.{is_last};
+ghost use Rattle.svn_delta.specs.Order.{order_fault, Answers};
+ghost use Rattle.svn_delta.specs.StandsAfter.{StandsAfter, IsDead, HasEnded, StaysDead, StaysEnded, LeavesDead};
+ghost use Rattle.svn_delta.specs.declared.call.Call.{Call};
+ghost use Rattle.svn_delta.specs.declared.fault.OrderFault.TheVariants.{Memory};
 
 use crate::call::Call;
 use crate::directories::OpenedDirectory;
@@ -44,7 +49,9 @@ pub struct OrderCheck {
 
 impl OrderCheck {
     /// A check that no call was given to. Takes no memory.
-    pub fn new(alloc: Global) -> OrderCheck {
+    pub fn new(alloc: Global) -> OrderCheck
+        ensures { StandsAfter result [] }
+    {
         OrderCheck {
             stage: Stage::Before,
             tokens: Vec::new(alloc),
@@ -61,38 +68,59 @@ impl OrderCheck {
     /// TooEarly, NotInnermost, OpenBelow, PropLate, DeleteLate, EntryAgain, TextAgain, RootNotClosed, Memory. After a fault other than Ended
     /// the edit is dead: every call but `AbortEdit` is answered Dead. `AbortEdit` is in order at any time before the end, and neither it nor
     /// `CloseEdit` takes memory.
-    pub fn step(&mut self, call: &Call) -> Result<(), OrderFault> {
+    pub fn step(&mut self, call: &Call) -> Result<(), OrderFault>
+        ensures answers { (calls : List Call) → StandsAfter self.old calls → Answers (order_fault calls call.now) result }
+        ensures accepted { OnOk result ((calls : List Call) → StandsAfter self.old calls → StandsAfter self.new (calls ++ call.now ∷ [])) }
+        ensures refused { LeavesDead result self.new }
+        ensures dead { IsDead self.old → StaysDead call.now result self.new }
+        ensures ended { HasEnded self.old → StaysEnded self.old result self.new }
+        ensures last { is_last call.now ≡ true → IfErr result (λ fault. fault ≢ Memory) }
+    {
         match self.stage {
-            Stage::Ended => return Err(OrderFault::Ended),
-            Stage::Dead => {
-                if !matches!(call, Call::AbortEdit) {
-                    return Err(OrderFault::Dead);
-                }
-            }
-            Stage::Before | Stage::During => {}
+            Stage::Ended => Err(OrderFault::Ended),
+            Stage::Dead => self.give_up(call),
+            Stage::Before | Stage::During => self.take(call),
         }
-        let answer = self.take(call);
-        if answer.is_err() {
-            self.stage = Stage::Dead;
-        }
-        answer
     }
 
-    // Takes the next call if it is in order, while the edit goes on.
-    fn take(&mut self, call: &Call) -> Result<(), OrderFault> {
+    // Takes the next call after a refusal.
+    fn give_up(&mut self, call: &Call) -> Result<(), OrderFault>
+        requires { IsDead self.old }
+        ensures { StaysDead call.now result self.new }
+    {
+        if matches!(call, Call::AbortEdit) {
+            self.stage = Stage::Ended;
+            Ok(())
+        } else {
+            Err(OrderFault::Dead)
+        }
+    }
+
+    // Takes the next call while the edit goes on.
+    fn take(&mut self, call: &Call) -> Result<(), OrderFault>
+        ensures { Takes self.old call.now result self.new }
+    {
         if matches!(call, Call::AbortEdit) {
             self.stage = Stage::Ended;
             return Ok(());
         }
         if let Some(fault) = self.fault_of(call) {
+            self.stage = Stage::Dead;
             return Err(fault);
         }
-        self.note(call).map_err(|_| OrderFault::Memory)
+        match self.note(call) {
+            Ok(()) => Ok(()),
+            Err(_) => {
+                self.stage = Stage::Dead;
+                Err(OrderFault::Memory)
+            }
+        }
     }
 
     // Takes note of a call that is in order.
     fn note(&mut self, call: &Call) -> Result<(), AllocError>
-        ensures { OnOk result (Notes self.old call.now self.new) }
+        ensures noted { OnOk result (Notes self.old call.now self.new) }
+        ensures last { OnErr result (is_last call.now ≡ false) }
     {
         match call {
             Call::SetTargetRevision { .. } => {
