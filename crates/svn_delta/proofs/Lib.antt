@@ -3,3 +3,16 @@ pub mod PathOrder
 pub mod Places
 pub mod Listings
 pub mod OrderRows
+pub mod Changes
+pub mod OneMore
+pub mod Nested
+pub mod Accepted
+pub mod Sound
+pub mod OpenDirectories
+pub mod Lawful
+pub mod Looking
+pub mod Answering
+pub mod HoldingTokens
+pub mod HoldingDirectories
+pub mod Holding
+pub mod Stepping

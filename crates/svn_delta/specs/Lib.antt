@@ -7,3 +7,8 @@ pub mod Reports
 pub mod ReportOrder
 pub mod Lines
 pub mod Steps
+pub mod Tokens
+pub mod Directories
+pub mod OrderState
+pub mod StandsAfter
+pub mod OrderChanges

@@ -3,14 +3,18 @@
 
 mod call;
 mod digest;
+mod directories;
 mod editor;
 mod entry;
 mod fault;
 mod lines;
 mod listing;
+mod order;
+mod order_rules;
 mod recorder;
 mod report;
 mod token;
+mod tokens;
 mod words;
 
 pub use call::Call;
@@ -19,6 +23,7 @@ pub use editor::Editor;
 pub use entry::{ReportEntry, ReporterFault};
 pub use fault::{EditFault, OrderFault};
 pub use lines::EntryLine;
+pub use order::OrderCheck;
 pub use recorder::Recorder;
 pub use report::{Report, Reporter};
 pub use token::Token;

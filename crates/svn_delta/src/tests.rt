@@ -4,6 +4,10 @@ use std::process::Abort;
 use std::test::Fail;
 use svn_types::{RelPath, Rev};
 
+mod order;
+mod printing;
+mod reporting;
+
 fn path(alloc: Global, text: &str) -> Result<RelPath, Fail> {
     Ok(RelPath::parse(alloc, text)?)
 }
