@@ -1,6 +1,6 @@
 // Heaps that run out: a refused call changes nothing, and gives its answer once there is memory.
 use crate::call::{Answer, Call, answer_of, run};
-use crate::rows::{BRANCH, EXHAUSTED, LENGTHS};
+use crate::rows::{BRANCH, EXHAUSTED, HALVES, HALVES_AND_EMPTY, LENGTHS, LONG_AND_SHORT};
 use linked_list_allocator::LocalHeap;
 use std::alloc::{AllocError, Global};
 use std::process::Abort;
@@ -96,7 +96,14 @@ fn lengths_go_on_after_refusals(rt: HostRuntime) -> Result<(), Fail> {
     sweep(&rt, rt.alloc(), &LENGTHS)
 }
 
-// Sixty pools, each with three children, and their end.
+#[test]
+fn blocks_go_on_after_refusals(rt: HostRuntime) -> Result<(), Fail> {
+    sweep(&rt, rt.alloc(), &HALVES)?;
+    sweep(&rt, rt.alloc(), &HALVES_AND_EMPTY)?;
+    sweep(&rt, rt.alloc(), &LONG_AND_SHORT)
+}
+
+// Sixty pools beneath the root, three beneath each of the first twenty, and their end.
 fn forest(alloc: Global) -> Result<Vec<(Call, Answer)>, AllocError> {
     let mut row = Vec::new(alloc);
     for parent in 0..20u64 {
