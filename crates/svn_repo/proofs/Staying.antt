@@ -123,20 +123,20 @@ not_within : (p q r : Path) → q ≡ p ++ r → is_within p q ≡ false → ⊥
 not_within p q r is e = let bad : true ≡ false = sym (within_append p r) ∙ ap (is_within p) (sym is) ∙ e in cc
 
 kept_at : (h : History) (s : Pending) (c : Change) (q : Path) (x : Place) → change_fault h s c ≡ None → removes q c ≡ false → AreDirectories s.tree q → s.tree q ≡ Some x → Keeps ((after_change h s c).tree q) x
-kept_at h s (MakeDir p) q x none stays above e =
+kept_at h s (MakeDir p) q x none left above e =
     graft_keeps s.tree p _ q x (λ r is. absurd (not_free (s.tree p) (occupied s.tree q p r x above e is) (free_for_directory h s p none))) e
-kept_at h s (PutFile p text) q x none stays above e = graft_keeps s.tree p (leaf (with_text s.lines (s.tree p) text)) q x at e
+kept_at h s (PutFile p text) q x none left above e = graft_keeps s.tree p (leaf (with_text s.lines (s.tree p) text)) q x at e
   where
     at : (r : Path) → q ≡ p ++ r → Keeps (leaf (with_text s.lines (s.tree p) text) r) x
     at [] is = text_keeps s.lines (s.tree p) text x (at_end s.tree q p x e is) (free_for_text h s p text none)
     at (m ∷ r) is = absurd (not_directory (s.tree p) (above p m r is) (free_for_text h s p text none))
-kept_at h s (SetProp p name value) q x none stays above e = graft_keeps s.tree p (with_prop s.tree p name value) q x at e
+kept_at h s (SetProp p name value) q x none left above e = graft_keeps s.tree p (with_prop s.tree p name value) q x at e
   where
     at : (r : Path) → q ≡ p ++ r → Keeps (with_prop s.tree p name value r) x
     at [] is = prop_keeps name value (s.tree p) x (at_end s.tree q p x e is)
     at (m ∷ r) is = (x, ap s.tree (sym is) ∙ e, refl, refl)
-kept_at h s (Remove p) q x none stays above e = graft_keeps s.tree p nothing q x (λ r is. absurd (not_within p q r is stays)) e
-kept_at h s (CopyFrom rev source p) q x none stays above e =
+kept_at h s (Remove p) q x none left above e = graft_keeps s.tree p nothing q x (λ r is. absurd (not_within p q r is left)) e
+kept_at h s (CopyFrom rev source p) q x none left above e =
     graft_keeps s.tree p _ q x (λ r is. absurd (not_free (s.tree p) (occupied s.tree q p r x above e is) (free_for_copy h s rev source p none))) e
 
 -- what removes no node at or above a path removes none at or above a path above it
@@ -152,9 +152,9 @@ removes_above p r (Remove path) e = by (rest_below path p) refl
 removes_above p r (CopyFrom rev source path) e = refl
 
 above_kept : (h : History) (s : Pending) (c : Change) (q : Path) → change_fault h s c ≡ None → removes q c ≡ false → AreDirectories s.tree q → AreDirectories (after_change h s c).tree q
-above_kept h s c q none stays above p name r is =
+above_kept h s c q none left above p name r is =
     let z = directory_stands (s.tree p) (above p name r is) in
-    let aside : removes p c ≡ false = removes_above p (name ∷ r) c (subst (λ (v : Path). removes v c ≡ false) is stays) in
+    let aside : removes p c ≡ false = removes_above p (name ∷ r) c (subst (λ (v : Path). removes v c ≡ false) is left) in
     let upper : AreDirectories s.tree p = λ a n b e. above a n (b ++ name ∷ r) (is ∙ ap (λ (v : Path). v ++ name ∷ r) e ∙ append_assoc a (n ∷ b) (name ∷ r)) in
     let k = kept_at h s c p z.0 none aside upper z.1 in
     ap is_directory_place k.1 ∙ same_kind k.0 z.0 k.3 ∙ ap is_directory_place (sym z.1) ∙ above p name r is
@@ -162,10 +162,10 @@ above_kept h s c q none stays above p name r is =
 -- ---- the changes of a commit
 
 all_kept : (h : History) (s : Pending) (cs : List Change) (q : Path) (line : ℕ) → changes_fault h s cs ≡ None → list_any (removes q) cs ≡ false → Stands s.tree q line → Stands (after_changes h s cs).tree q line
-all_kept h s [] q line none stays stands = stands
-all_kept h s (c ∷ cs) q line none stays stands =
+all_kept h s [] q line none left stands = stands
+all_kept h s (c ∷ cs) q line none left stands =
     let f = or_none (change_fault h s c) (changes_fault h (after_change h s c) cs) none in
-    let n = neither (removes q c) (list_any (removes q) cs) stays in
+    let n = neither (removes q c) (list_any (removes q) cs) left in
     let x = stands.1 in
     let k = kept_at h s c q x.0 f.0 n.0 stands.0 x.1 in
     all_kept h (after_change h s c) cs q line f.1 n.1 (above_kept h s c q f.0 n.0 stands.0, (k.0, k.1, k.2 ∙ x.2))
@@ -179,14 +179,14 @@ place_in h mid r q y stands =
     (place_of number row, ap (option_and_then (place_at (node_at mid) (length mid.nodes))) stands.2 ∙ ap (option_map (place_of number)) stands.3, stands.5.0, stands.5.1)
 
 stands_after : (h mid : History) (changes : List Change) (q : Path) (line : ℕ) → IsCommit h mid changes → list_any (removes q) changes ≡ false → Stands (tree_at h (latest_of h)) q line → Stands (tree_at mid (latest_of mid)) q line
-stands_after h mid changes q line commit stays stands =
+stands_after h mid changes q line commit left stands =
     subst (λ (r : ℕ). Stands (tree_at mid r) q line) (sym (latest_after h mid changes commit)) (above, (here.0, here.1, here.2 ∙ x.2))
   where
     revision : IsRevision h mid (after_changes h (latest_pending h) changes)
     revision = commit.1
 
     made : Stands (after_changes h (latest_pending h) changes).tree q line
-    made = all_kept h (latest_pending h) changes q line commit.0 stays stands
+    made = all_kept h (latest_pending h) changes q line commit.0 left stands
 
     in_revision : (p : Path) (y : Place) → (after_changes h (latest_pending h) changes).tree p ≡ Some y → Keeps (tree_at mid (length h.roots) p) y
     in_revision p y e = place_in h mid (length h.roots) p y (subst (StandsIn h mid (length h.roots) p) e (revision.tree p))
@@ -205,9 +205,9 @@ stands_after h mid changes q line commit stays stands =
         ap is_directory_place k.1 ∙ same_kind k.0 z.0 k.3 ∙ ap is_directory_place (sym z.1) ∙ d
 
 all_commits : (h h' : History) (changes : List Change) (q : Path) (line : ℕ) → AreCommits h changes h' → list_any (removes q) changes ≡ false → Stands (tree_at h (latest_of h)) q line → Stands (tree_at h' (latest_of h')) q line
-all_commits h h' changes q line no_commit stays stands = stands
-all_commits h h' changes q line (one_more mid first rest commit commits) stays stands =
-    let n = neither (list_any (removes q) first) (list_any (removes q) rest) (sym (list_any-append (removes q) first rest) ∙ stays) in
+all_commits h h' changes q line no_commit left stands = stands
+all_commits h h' changes q line (one_more mid first rest commit commits) left stands =
+    let n = neither (list_any (removes q) first) (list_any (removes q) rest) (sym (list_any-append (removes q) first rest) ∙ left) in
     all_commits mid h' rest q line commits n.1 (stands_after h mid first q line commit n.0 stands)
 
 -- ---- what stands in a repository
