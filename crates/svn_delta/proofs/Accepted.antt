@@ -1,10 +1,9 @@
 -- What a call that is in order keeps to.
-use Rattle.std.proofs.Common.{◌≡◌, ℕ, Bool, true, false, not, cond, List, [], ◌∷◌, ◌++◌, refl, sym, ◌∙◌, ap, true≢false}
+use Rattle.std.proofs.Common.{◌≡◌, Bool, true, false, cond, List, refl, ◌∙◌, true≢false}
 use Rattle.std.specs.Prelude.{Option, Some, None}
 use Rattle.std.specs.List.{list_any}
 use Rattle.svn_delta.specs.declared.call.Call.{Call}
 use Rattle.svn_delta.specs.declared.call.Call.TheVariants.{AbortEdit}
-use Rattle.svn_delta.specs.declared.fault.OrderFault.{OrderFault}
 use Rattle.svn_delta.specs.Calls.{is_abort, is_last}
 use Rattle.svn_delta.specs.Order.{is_target_late, is_token_unknown, is_token_closed, is_token_misnumbered, is_path_wrong, is_file_unfinished, is_too_early, is_not_innermost, is_open_below, is_prop_late, is_delete_late, is_entry_again, is_text_again, is_root_unclosed, fault_in_order, but_abort, order_fault}
 

@@ -1,24 +1,22 @@
 -- The tests of an order check are those of the calls before.
-use Rattle.std.proofs.Common.{◌≡◌, ℕ, suc, zero, ◌<◌, ◌≤◌, Bool, true, false, ◌&&◌, ◌||◌, not, cond, List, [], ◌∷◌, length, refl, sym, ◌∙◌, ap, subst, true≢false, arith}
+use Rattle.std.proofs.Common.{◌≡◌, ℕ, Bool, true, false, ◌&&◌, ◌||◌, not, cond, List, [], ◌∷◌, length, refl, sym, ◌∙◌, ap, arith}
 use Rattle.std.specs.Prelude.{Option, Some, None, is_some, slice_get, nat_eq}
 use Rattle.std.specs.List.{list_any}
 use Rattle.std.specs.BTreeSet.{btree_set_len}
 use Rattle.std.proofs.lemmas.Bool.Decides.{nat_tests}
 use Rattle.std.specs.Option.{option_or, option_map}
 use Rattle.svn_types.specs.declared.kind.Kind.{Kind}
-use Rattle.svn_types.specs.declared.kind.Kind.TheVariants.{File, Directory}
+use Rattle.svn_types.specs.declared.kind.Kind.TheVariants.{Directory}
 use Rattle.svn_types.specs.Names.{Path}
-use Rattle.svn_types.specs.Paths.{is_root, path_eq, parent}
+use Rattle.svn_types.specs.Paths.{parent}
 use Rattle.svn_delta.specs.declared.call.Call.{Call}
 use Rattle.svn_delta.specs.declared.call.Call.TheVariants.{SetTargetRevision, OpenRoot, DeleteEntry, AddDirectory, OpenDirectory, ChangeDirProp, CloseDirectory, AddFile, OpenFile, ChangeFileProp, ApplyText, CloseFile, CloseEdit, AbortEdit}
-use Rattle.svn_delta.specs.declared.fault.OrderFault.{OrderFault}
 use Rattle.svn_delta.specs.declared.order.OrderCheck.{OrderCheck}
 use Rattle.svn_delta.specs.declared.order.Stage.{Stage}
-use Rattle.svn_delta.specs.declared.order.Stage.TheVariants.{Before, During}
-use Rattle.svn_delta.specs.Calls.{Given, is_abort, is_last, number_eq, given_by, named_by, entry_of, opens_entry, deletes, all_given, given, is_closed, is_of_kind, innermost, current_file, is_current, has_its_text, a_directory_is_open, a_file_is_open}
-use Rattle.svn_delta.specs.Order.{is_target_late, is_token_unknown, is_unknown, is_token_closed, is_named_closed, is_token_misnumbered, is_misnumbered, is_path_wrong, is_outside, is_elsewhere, is_file_unfinished, is_too_early, is_not_innermost, is_open_below, is_prop_late, is_delete_late, is_entry_again, is_text_again, is_root_unclosed, fault_in_order, but_abort, order_fault}
-use Rattle.svn_delta.specs.Directories.{is_opened_in, is_deleted_in}
-use Rattle.svn_delta.specs.OrderState.{is_before, target_late, unknown_in, closed_in, given_token, misnumbered_in, outside_in, current_text, elsewhere, none_open, too_early, not_innermost, open_below, prop_late, delete_late, entry_again, text_again, root_unclosed, fault_in}
+use Rattle.svn_delta.specs.Calls.{Given, number_eq, given_by, named_by, entry_of, opens_entry, all_given, given, innermost, current_file, is_current, has_its_text, a_directory_is_open}
+use Rattle.svn_delta.specs.Order.{is_target_late, is_token_unknown, is_unknown, is_token_closed, is_named_closed, is_misnumbered, is_path_wrong, is_outside, is_elsewhere, is_file_unfinished, is_too_early, is_not_innermost, is_open_below, is_prop_late, is_delete_late, is_entry_again, is_text_again, is_root_unclosed, fault_in_order}
+use Rattle.svn_delta.specs.Directories.{is_deleted_in}
+use Rattle.svn_delta.specs.OrderState.{target_late, unknown_in, closed_in, misnumbered_in, outside_in, current_text, elsewhere, none_open, too_early, not_innermost, open_below, prop_late, delete_late, entry_again, text_again, root_unclosed, fault_in}
 use Rattle.svn_delta.specs.StandsAfter.{stage_after, Holds}
 use Rattle.svn_delta.proofs.OneMore.{not_false}
 use Rattle.svn_delta.proofs.Sound.{IsSound, IsKnown, entry_named, known_open}

@@ -1,31 +1,28 @@
 -- An order check holds what one more call that is in order says.
-use Rattle.std.proofs.Common.{◌≡◌, ℕ, suc, zero, ◌+◌, ◌-◌, ◌<◌, ◌≤◌, Bool, true, false, ◌&&◌, ◌||◌, not, cond, List, [], ◌∷◌, ◌++◌, length, map, refl, sym, ◌∙◌, ap, subst, true≢false, arith}
-use Rattle.std.specs.Prelude.{Option, Some, None, slice_get, nat_eq, filter}
+use Rattle.std.proofs.Common.{◌≡◌, ℕ, ◌+◌, true, false, cond, List, [], ◌∷◌, ◌++◌, length, map, refl, sym, ◌∙◌, ap, subst, true≢false, arith}
+use Rattle.std.specs.Prelude.{Option, Some, None, nat_eq, filter}
 use Rattle.std.specs.List.{list_any}
-use Rattle.std.specs.Ordering.{nat_cmp}
-use Rattle.std.specs.BTreeSet.{contains}
 use Rattle.std.proofs.lemmas.List.{length-append, nil_from_length}
-use Rattle.svn_types.specs.declared.kind.Kind.{Kind}
 use Rattle.svn_types.specs.declared.kind.Kind.TheVariants.{File, Directory}
 use Rattle.svn_types.specs.Names.{Path}
-use Rattle.svn_types.specs.Paths.{path_eq, child}
+use Rattle.svn_types.specs.Paths.{child}
 use Rattle.svn_delta.specs.declared.call.Call.{Call}
 use Rattle.svn_delta.specs.declared.call.Call.TheVariants.{SetTargetRevision, OpenRoot, DeleteEntry, AddDirectory, OpenDirectory, ChangeDirProp, CloseDirectory, AddFile, OpenFile, ChangeFileProp, ApplyText, CloseFile, CloseEdit, AbortEdit}
 use Rattle.svn_delta.specs.declared.directories.OpenedDirectory.{OpenedDirectory}
 use Rattle.svn_delta.specs.declared.order.OrderCheck.{OrderCheck}
 use Rattle.svn_delta.specs.declared.order.Stage.TheVariants.{During}
-use Rattle.svn_delta.specs.Calls.{Given, kind_eq, is_last, number_eq, applies_text, changes_dir, is_open_directory, given_by, named_by, entry_of, opens_entry, deletes, closes, all_given, given, innermost, current_file, current_after, opens_subdirectory}
+use Rattle.svn_delta.specs.Calls.{Given, kind_eq, is_last, number_eq, applies_text, changes_dir, is_open_directory, given_by, named_by, opens_entry, deletes, closes, all_given, innermost, current_file, current_after, opens_subdirectory}
 use Rattle.svn_delta.specs.Order.{is_target_late, is_outside}
 use Rattle.svn_delta.specs.Tokens.{token_of}
 use Rattle.svn_delta.specs.Directories.{shown, innermost_of}
 use Rattle.svn_delta.specs.OrderChanges.{Notes, NotesDirectory, NotesFile}
-use Rattle.svn_delta.specs.StandsAfter.{open_directories, token_and_path, stage_after, is_open_file_at, Holds}
+use Rattle.svn_delta.specs.StandsAfter.{open_directories, token_and_path, stage_after, Holds}
 use Rattle.svn_delta.proofs.OneMore.{not_false, or_parts, given_none, given_one, current_more}
 use Rattle.svn_delta.proofs.Nested.{true_eq}
 use Rattle.svn_delta.proofs.Accepted.{IsAccepted}
-use Rattle.svn_delta.proofs.Sound.{IsSound, IsKnown, known, numbered_next}
-use Rattle.svn_delta.proofs.OpenDirectories.{IsClosedLast, open_still, open_given, open_closed, open_file_closed}
-use Rattle.svn_delta.proofs.Looking.{IsParent, parent_of, open_below_at, same_length, innermost_at}
+use Rattle.svn_delta.proofs.Sound.{IsSound, known, numbered_next}
+use Rattle.svn_delta.proofs.OpenDirectories.{open_still, open_given, open_closed, open_file_closed}
+use Rattle.svn_delta.proofs.Looking.{parent_of, open_below_at, same_length, innermost_at}
 use Rattle.svn_delta.proofs.HoldingTokens.{during, begun, length-changed, AreTokens, AreFiles, tokens_still, tokens_given, tokens_closed, tokens_text, files_still, files_directory, files_added, files_removed, files_closed}
 use Rattle.svn_delta.proofs.HoldingDirectories.{AreDirectories, IsApart, IsOpenOf, directories_still, file_opened, entry_deleted, prop_changed, root_opened, directory_opened, directory_closed, shown_more, shown_less}
 

@@ -1,30 +1,29 @@
 -- The open directories of an order check after one more call.
-use Rattle.std.proofs.Common.{◌≡◌, ℕ, suc, zero, ◌+◌, ◌-◌, ◌<◌, ◌≤◌, Bool, true, false, ◌&&◌, ◌||◌, not, cond, List, [], ◌∷◌, ◌++◌, length, map, take, refl, sym, ◌∙◌, ap, subst, inl, inr, true≢false, arith}
+use Rattle.std.proofs.Common.{◌≡◌, ℕ, suc, zero, ◌-◌, ◌<◌, Bool, true, false, ◌&&◌, ◌||◌, List, [], ◌∷◌, ◌++◌, length, map, take, refl, sym, ◌∙◌, ap, subst, inl, inr, true≢false, arith}
 use Rattle.std.specs.Prelude.{Option, Some, None, ◌⊎◌, slice_get, nat_eq, bytes_eq}
 use Rattle.std.specs.List.{list_any}
 use Rattle.std.specs.BTreeSet.{BTreeSet, contains}
 use Rattle.std.proofs.lemmas.List.{length-append, length-map, map-append, take-map, take_at}
 use Rattle.std.proofs.lemmas.Option.{same_Some}
-use Rattle.svn_types.specs.declared.kind.Kind.{Kind}
-use Rattle.svn_types.specs.declared.kind.Kind.TheVariants.{File, Directory}
+use Rattle.svn_types.specs.declared.kind.Kind.TheVariants.{Directory}
 use Rattle.svn_types.specs.Names.{Path, name_cmp}
-use Rattle.svn_types.specs.Paths.{path_eq, parent, is_root, child}
+use Rattle.svn_types.specs.Paths.{path_eq, parent, child}
 use Rattle.svn_delta.specs.declared.call.Call.{Call}
 use Rattle.svn_delta.specs.declared.call.Call.TheVariants.{OpenRoot, DeleteEntry, AddDirectory, OpenDirectory, ChangeDirProp, CloseDirectory, AddFile, OpenFile}
 use Rattle.svn_delta.specs.declared.directories.OpenedDirectory.{OpenedDirectory}
 use Rattle.svn_delta.specs.declared.order.OrderCheck.{OrderCheck}
-use Rattle.svn_delta.specs.Calls.{Given, kind_eq, number_eq, given_by, named_by, entry_of, opens_entry, deletes, changes_dir, opens_subdirectory, is_given_at, all_given, given, path_of, innermost, changed_late}
+use Rattle.svn_delta.specs.Calls.{Given, number_eq, opens_entry, deletes, changes_dir, opens_subdirectory, all_given, path_of, innermost, changed_late}
 use Rattle.svn_delta.specs.Directories.{entry_name, shown, IsNew, InsertsOpened, InsertsDeleted, ChangesAt, with_subdirectory, with_change, without_last, Opens}
 use Rattle.svn_delta.specs.StandsAfter.{open_directories, token_and_path, IsDirectoryOf, Holds}
 use Rattle.svn_delta.specs.OrderChanges.{Enters}
-use Rattle.svn_delta.proofs.PathOrder.{same_path, path_eq-same, bytes_eq-same}
+use Rattle.svn_delta.proofs.PathOrder.{same_path, bytes_eq-same}
 use Rattle.svn_delta.proofs.Places.{get_cases}
 use Rattle.svn_delta.proofs.Changes.{get_within}
-use Rattle.svn_delta.proofs.OneMore.{or_false, or_true, and_false, or_parts, false_from, any_more, any_still, any_weaker, late_more, late_none}
+use Rattle.svn_delta.proofs.OneMore.{or_false, or_true, and_false, false_from, any_more, any_still, any_weaker, late_more, late_none}
 use Rattle.svn_delta.proofs.Nested.{true_eq, eq_true, nested_depth}
 use Rattle.svn_delta.proofs.Sound.{IsSound, IsKnown, touches}
-use Rattle.svn_delta.proofs.OpenDirectories.{IsClosedLast, new_childless}
-use Rattle.svn_delta.proofs.Looking.{IsGivenAt, given_at, same_length, IsParent, held, path_held, innermost_place}
+use Rattle.svn_delta.proofs.OpenDirectories.{new_childless}
+use Rattle.svn_delta.proofs.Looking.{given_at, same_length, IsParent, held, path_held, innermost_place}
 
 some_none : {X : Type 0} (x : X) → Some x ≡ None → ⊥
 some_none x e = cc

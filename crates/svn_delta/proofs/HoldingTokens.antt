@@ -2,8 +2,7 @@
 use Rattle.std.proofs.Common.{◌≡◌, ℕ, suc, zero, ◌+◌, ◌<◌, ◌≤◌, Bool, true, false, ◌&&◌, ◌||◌, not, cond, List, [], ◌∷◌, ◌++◌, length, refl, sym, ◌∙◌, ap, subst, inl, inr, true≢false, arith}
 use Rattle.std.specs.Prelude.{Option, Some, None, ◌⊎◌, slice_get, nat_eq}
 use Rattle.std.specs.List.{list_any}
-use Rattle.std.specs.Option.{option_map}
-use Rattle.std.specs.Ordering.{nat_cmp, is_eq}
+use Rattle.std.specs.Ordering.{nat_cmp}
 use Rattle.std.specs.BTreeMap.{is_at}
 use Rattle.std.specs.BTreeSet.{BTreeSet, contains}
 use Rattle.std.specs.Cmp.{unsigned_ties}
@@ -12,22 +11,19 @@ use Rattle.std.proofs.lemmas.Option.{same_Some}
 use Rattle.svn_types.specs.declared.kind.Kind.{Kind}
 use Rattle.svn_types.specs.declared.kind.Kind.TheVariants.{File, Directory}
 use Rattle.svn_delta.specs.declared.call.Call.{Call}
-use Rattle.svn_delta.specs.declared.call.Call.TheVariants.{SetTargetRevision, CloseDirectory, ApplyText, CloseFile}
 use Rattle.svn_delta.specs.declared.tokens.GivenToken.{GivenToken}
-use Rattle.svn_delta.specs.declared.order.OrderCheck.{OrderCheck}
-use Rattle.svn_delta.specs.declared.order.Stage.{Stage}
-use Rattle.svn_delta.specs.declared.order.Stage.TheVariants.{Before, During}
+use Rattle.svn_delta.specs.declared.order.Stage.TheVariants.{During}
 use Rattle.svn_delta.specs.Calls.{Given, kind_eq, given_by, closes, applies_text, all_given, given, is_closed, is_of_kind}
 use Rattle.svn_delta.specs.Order.{is_target_late}
 use Rattle.svn_delta.specs.Tokens.{token_of, changed_at, with_closed, with_text}
 use Rattle.svn_delta.specs.OrderChanges.{AddsFile, RemovesFile}
-use Rattle.svn_delta.specs.StandsAfter.{stage_after, is_open_file_at, IsTokenOf, Holds}
+use Rattle.svn_delta.specs.StandsAfter.{stage_after, is_open_file_at, IsTokenOf}
 use Rattle.svn_delta.proofs.Places.{get_cases}
 use Rattle.svn_delta.proofs.Changes.{get_within, get_past}
-use Rattle.svn_delta.proofs.OneMore.{or_false, or_true, and_false, false_from, any_more, any_still, given_none, given_one}
+use Rattle.svn_delta.proofs.OneMore.{or_false, or_true, and_false, any_more, any_still, given_none, given_one}
 use Rattle.svn_delta.proofs.Nested.{true_eq, eq_true}
 use Rattle.svn_delta.proofs.Sound.{IsSound, IsKnown}
-use Rattle.svn_delta.proofs.OpenDirectories.{closed_still, new_unclosed, new_textless, beyond}
+use Rattle.svn_delta.proofs.OpenDirectories.{new_unclosed, new_textless, beyond}
 
 some_none : {X : Type 0} (x : X) → Some x ≡ None → ⊥
 some_none x e = cc

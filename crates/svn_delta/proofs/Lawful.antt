@@ -1,17 +1,14 @@
 -- Lists of calls that are in order, and one more.
-use Rattle.std.proofs.Common.{◌≡◌, ℕ, suc, zero, ◌<◌, ◌≤◌, Bool, true, false, ◌||◌, not, List, [], ◌∷◌, ◌++◌, length, refl, sym, ◌∙◌, ap, subst, true≢false, arith}
-use Rattle.std.specs.Prelude.{Option, Some, None, slice_get, nat_eq}
-use Rattle.std.specs.List.{list_any}
+use Rattle.std.proofs.Common.{◌≡◌, ◌≤◌, not, List, [], ◌∷◌, ◌++◌, length, refl, sym, ◌∙◌, ap, subst}
+use Rattle.std.specs.Prelude.{Some, None, slice_get, nat_eq}
 use Rattle.std.proofs.lemmas.List.{append-nil, append_assoc}
-use Rattle.svn_types.specs.declared.kind.Kind.TheVariants.{File, Directory}
-use Rattle.svn_types.specs.Names.{Path}
 use Rattle.svn_types.specs.Paths.{child}
 use Rattle.svn_delta.specs.declared.call.Call.{Call}
 use Rattle.svn_delta.specs.declared.call.Call.TheVariants.{OpenRoot, AddDirectory, OpenDirectory, CloseDirectory, AddFile, OpenFile, CloseFile, AbortEdit}
-use Rattle.svn_delta.specs.Calls.{Given, number_eq, is_abort, opens_entry, all_given, given, innermost}
+use Rattle.svn_delta.specs.Calls.{Given, number_eq, opens_entry, all_given, innermost}
 use Rattle.svn_delta.specs.Order.{order_fault, IsLawfulAfter, IsLawful}
 use Rattle.svn_delta.specs.StandsAfter.{open_directories}
-use Rattle.svn_delta.proofs.OneMore.{or_false, not_false, any_still, given_none}
+use Rattle.svn_delta.proofs.OneMore.{not_false, any_still, given_none}
 use Rattle.svn_delta.proofs.Accepted.{IsAccepted, accepted}
 use Rattle.svn_delta.proofs.Nested.{IsNested, nested_front}
 use Rattle.svn_delta.proofs.Sound.{IsSound, names, touches, numbered_more, named_more, entries_more, root_more}

@@ -1,37 +1,36 @@
 -- What an order check finds in its parts, as the calls before say it.
-use Rattle.std.proofs.Common.{◌≡◌, ℕ, suc, zero, ◌+◌, ◌-◌, ◌<◌, ◌≤◌, Bool, true, false, ◌&&◌, ◌||◌, not, cond, List, [], ◌∷◌, ◌++◌, length, map, refl, sym, ◌∙◌, ap, subst, inl, inr, true≢false, arith}
-use Rattle.std.specs.Prelude.{Option, Some, None, is_some, slice_get, nat_eq}
+use Rattle.std.proofs.Common.{◌≡◌, ℕ, suc, zero, ◌-◌, ◌<◌, Bool, true, false, ◌&&◌, ◌||◌, not, List, [], ◌∷◌, length, map, refl, sym, ◌∙◌, ap, subst, true≢false, arith}
+use Rattle.std.specs.Prelude.{Option, Some, None, slice_get, nat_eq}
 use Rattle.std.specs.List.{list_any}
 use Rattle.std.specs.Option.{option_map}
 use Rattle.std.specs.Ordering.{nat_cmp}
 use Rattle.std.specs.Ordering.{is_eq}
 use Rattle.std.specs.BTreeMap.{is_at}
 use Rattle.std.proofs.lemmas.Cmp.{tied_itself, nat_cmp_total}
-use Rattle.std.specs.BTreeSet.{BTreeSet, contains, btree_set_len}
+use Rattle.std.specs.BTreeSet.{contains, btree_set_len}
 use Rattle.std.proofs.lemmas.List.{length-map}
 use Rattle.std.proofs.lemmas.Option.{same_Some}
 use Rattle.std.proofs.lemmas.Bool.Decides.{nat_tests}
 use Rattle.svn_types.specs.declared.kind.Kind.{Kind}
 use Rattle.svn_types.specs.declared.kind.Kind.TheVariants.{File, Directory}
-use Rattle.svn_types.specs.Names.{Path, name_cmp}
+use Rattle.svn_types.specs.Names.{Path}
 use Rattle.svn_types.specs.Paths.{path_eq, parent, is_root, child}
 use Rattle.svn_delta.specs.declared.call.Call.{Call}
 use Rattle.svn_delta.specs.declared.directories.OpenedDirectory.{OpenedDirectory}
 use Rattle.svn_delta.specs.declared.tokens.GivenToken.{GivenToken}
 use Rattle.svn_delta.specs.declared.order.OrderCheck.{OrderCheck}
-use Rattle.svn_delta.specs.Calls.{Given, kind_eq, number_eq, named_by, entry_of, opens_entry, deletes, applies_text, all_given, given, is_closed, given_path, path_of, is_of_kind, innermost, is_open_directory, is_open_file, opens_below, a_directory_is_open, a_file_is_open, a_subdirectory_is_open, changed_late}
+use Rattle.svn_delta.specs.Calls.{Given, kind_eq, number_eq, opens_entry, deletes, applies_text, all_given, given, is_closed, given_path, path_of, is_of_kind, innermost, is_open_directory, is_open_file, opens_below, a_directory_is_open, a_file_is_open, a_subdirectory_is_open, changed_late}
 use Rattle.svn_delta.specs.Order.{is_outside}
 use Rattle.svn_delta.specs.Tokens.{is_of_kind_in, is_closed_in, has_text_in, is_of_kind_at, is_closed_at, has_text_at}
 use Rattle.svn_delta.specs.Directories.{entry_name, shown, innermost_of, changed_late_of, changed_late_in, is_directory, holds_entry, opened_of, deleted_of, is_opened_in, is_deleted_in}
 use Rattle.svn_delta.specs.OrderState.{none_open}
-use Rattle.svn_delta.specs.StandsAfter.{open_directories, token_and_path, is_open_file_at, IsTokenOf, IsDirectoryOf, Holds}
+use Rattle.svn_delta.specs.StandsAfter.{open_directories, token_and_path, Holds}
 use Rattle.svn_delta.proofs.PathOrder.{same_path, path_eq-same}
-use Rattle.svn_delta.proofs.Changes.{get_within, get_past}
-use Rattle.svn_delta.proofs.OneMore.{or_false, or_parts, not_true, not_false, false_from, same_truth, and_parts, any_found, any_at, filter_member, any_both, any_kept}
-use Rattle.svn_delta.proofs.Nested.{last_token, true_eq, eq_true, same_number, number_same, nested_depth, nested_last, open_below_last, innermost_last}
-use Rattle.svn_delta.proofs.Accepted.{IsAccepted}
-use Rattle.svn_delta.proofs.Sound.{IsSound, IsKnown, known, parent_is}
-use Rattle.svn_delta.proofs.OpenDirectories.{IsPlaced, placed, innermost_is, new_unclosed, new_textless, beyond}
+use Rattle.svn_delta.proofs.Changes.{get_within}
+use Rattle.svn_delta.proofs.OneMore.{or_parts, not_false, same_truth, and_parts, any_found, any_at, filter_member, any_both, any_kept}
+use Rattle.svn_delta.proofs.Nested.{last_token, true_eq, eq_true, same_number, nested_last, open_below_last}
+use Rattle.svn_delta.proofs.Sound.{IsSound, IsKnown}
+use Rattle.svn_delta.proofs.OpenDirectories.{placed, innermost_is, new_unclosed, new_textless, beyond}
 
 some_none : {X : Type 0} (x : X) → Some x ≡ None → ⊥
 some_none x e = cc

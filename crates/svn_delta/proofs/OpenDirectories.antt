@@ -1,8 +1,8 @@
 -- The directories that are open after one more call.
-use Rattle.std.proofs.Common.{◌≡◌, ℕ, suc, zero, ◌+◌, ◌-◌, ◌<◌, ◌≤◌, Bool, true, false, ◌&&◌, ◌||◌, not, cond, List, [], ◌∷◌, ◌++◌, length, map, refl, sym, ◌∙◌, ap, subst, inl, inr, true≢false, arith}
-use Rattle.std.specs.Prelude.{Option, Some, None, ◌⊎◌, slice_get, nat_eq, filter, filter_map}
+use Rattle.std.proofs.Common.{◌≡◌, ℕ, suc, zero, ◌+◌, ◌<◌, ◌≤◌, Bool, true, false, ◌&&◌, ◌||◌, not, cond, List, [], ◌∷◌, ◌++◌, length, refl, sym, ◌∙◌, ap, subst, true≢false, arith}
+use Rattle.std.specs.Prelude.{Option, Some, None, slice_get, nat_eq, filter}
 use Rattle.std.specs.List.{list_any}
-use Rattle.std.proofs.lemmas.List.{length-append, append-nil, nil_from_length}
+use Rattle.std.proofs.lemmas.List.{append-nil, nil_from_length}
 use Rattle.std.proofs.lemmas.List.Elements.{filter-append}
 use Rattle.std.proofs.lemmas.Option.{same_Some}
 use Rattle.svn_types.specs.declared.kind.Kind.{Kind}
@@ -10,14 +10,13 @@ use Rattle.svn_types.specs.declared.kind.Kind.TheVariants.{File, Directory}
 use Rattle.svn_types.specs.Names.{Path}
 use Rattle.svn_types.specs.Paths.{parent, is_root}
 use Rattle.svn_delta.specs.declared.call.Call.{Call}
-use Rattle.svn_delta.specs.declared.call.Call.TheVariants.{OpenRoot, AddDirectory, OpenDirectory, CloseDirectory, ApplyText, CloseFile}
-use Rattle.svn_delta.specs.Calls.{Given, kind_eq, number_eq, given_by, named_by, entry_of, opens_entry, closes, applies_text, opens_subdirectory, all_given, given, is_closed, given_path, path_of, innermost, is_open_directory, opens_below, a_subdirectory_is_open}
-use Rattle.svn_delta.specs.Order.{order_fault, is_not_innermost, is_open_below}
+use Rattle.svn_delta.specs.declared.call.Call.TheVariants.{AddDirectory, OpenDirectory, CloseDirectory, ApplyText, CloseFile}
+use Rattle.svn_delta.specs.Calls.{Given, kind_eq, number_eq, given_by, named_by, entry_of, opens_entry, closes, applies_text, opens_subdirectory, all_given, given, is_closed, given_path, innermost, is_open_directory, opens_below, a_subdirectory_is_open}
 use Rattle.svn_delta.specs.StandsAfter.{open_directories}
 use Rattle.svn_delta.proofs.Changes.{get_within}
 use Rattle.svn_delta.proofs.Accepted.{IsAccepted}
-use Rattle.svn_delta.proofs.OneMore.{or_false, or_true, and_false, and_parts, or_parts, not_true, not_false, false_from, any_more, any_still, any_weaker, filter_same, filter_member, filter_keeps, any_both, given_none, given_one}
-use Rattle.svn_delta.proofs.Nested.{last_token, IsNested, true_eq, eq_true, same_number, number_same, nested_above, nested_depth, nested_last, nested_more, nested_front, open_below_last, innermost_last}
+use Rattle.svn_delta.proofs.OneMore.{or_false, not_false, false_from, any_more, any_still, any_weaker, filter_same, filter_member, filter_keeps, any_both, given_none, given_one}
+use Rattle.svn_delta.proofs.Nested.{last_token, IsNested, true_eq, eq_true, same_number, nested_above, nested_depth, nested_last, nested_more, open_below_last, innermost_last}
 use Rattle.svn_delta.proofs.Sound.{IsSound, IsKnown, names, closes_named, given_closes, known, parent_is, numbered_next}
 
 some_none : {X : Type 0} (x : X) → Some x ≡ None → ⊥

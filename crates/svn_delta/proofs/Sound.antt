@@ -1,26 +1,25 @@
 -- What holds of each list of calls that are in order.
-use Rattle.std.proofs.Common.{◌≡◌, ℕ, suc, zero, ◌+◌, ◌-◌, ◌<◌, ◌≤◌, Bool, true, false, ◌&&◌, ◌||◌, not, cond, List, [], ◌∷◌, ◌++◌, length, map, refl, sym, ◌∙◌, ap, subst, inl, inr, true≢false, arith}
-use Rattle.std.specs.Prelude.{Option, Some, None, ◌⊎◌, slice_get, nat_eq, filter, filter_map}
+use Rattle.std.proofs.Common.{◌≡◌, ℕ, suc, zero, ◌<◌, ◌≤◌, Bool, true, false, ◌||◌, not, List, [], ◌∷◌, ◌++◌, length, refl, sym, ◌∙◌, ap, inl, inr, true≢false, arith}
+use Rattle.std.specs.Prelude.{Option, Some, None, ◌⊎◌, slice_get, nat_eq}
 use Rattle.std.specs.List.{list_any, cons_option}
-use Rattle.std.proofs.lemmas.List.{length-append, append-nil}
-use Rattle.std.proofs.lemmas.List.Elements.{filter-append}
+use Rattle.std.proofs.lemmas.List.{length-append}
 use Rattle.std.proofs.lemmas.Option.{same_Some}
 use Rattle.std.proofs.lemmas.Bool.Decides.{nat_tests}
 use Rattle.svn_types.specs.declared.kind.Kind.{Kind}
-use Rattle.svn_types.specs.declared.kind.Kind.TheVariants.{File, Directory}
+use Rattle.svn_types.specs.declared.kind.Kind.TheVariants.{Directory}
 use Rattle.svn_types.specs.Names.{Path}
 use Rattle.svn_types.specs.Paths.{path_eq, parent, is_root, child}
 use Rattle.svn_delta.specs.declared.call.Call.{Call}
-use Rattle.svn_delta.specs.declared.call.Call.TheVariants.{SetTargetRevision, OpenRoot, DeleteEntry, AddDirectory, OpenDirectory, ChangeDirProp, CloseDirectory, AddFile, OpenFile, ChangeFileProp, ApplyText, CloseFile, CloseEdit, AbortEdit}
-use Rattle.svn_delta.specs.Calls.{Given, kind_eq, number_eq, given_by, named_by, entry_of, is_given_at, opens_entry, closes, all_given, given, is_closed, given_path, path_of, is_of_kind, is_open_directory, opens_below, a_subdirectory_is_open, is_open_in}
+use Rattle.svn_delta.specs.declared.call.Call.TheVariants.{OpenRoot, DeleteEntry, AddDirectory, OpenDirectory, CloseDirectory, AddFile, OpenFile, CloseFile}
+use Rattle.svn_delta.specs.Calls.{Given, kind_eq, given_by, named_by, entry_of, is_given_at, opens_entry, closes, all_given, given, is_closed, given_path, path_of, is_of_kind}
 use Rattle.svn_delta.specs.Order.{is_unknown, is_named_closed, is_misnumbered, is_outside}
 use Rattle.svn_delta.specs.StandsAfter.{open_directories}
 use Rattle.svn_delta.proofs.PathOrder.{same_path, path_eq-same}
 use Rattle.svn_delta.proofs.Places.{get_cases}
 use Rattle.svn_delta.proofs.Changes.{get_within}
 use Rattle.svn_delta.proofs.Accepted.{IsAccepted}
-use Rattle.svn_delta.proofs.OneMore.{or_false, or_true, and_false, and_parts, or_parts, not_true, not_false, false_from, same_truth, any_more, any_still, any_weaker, any_at, filter_same, filter_member, filter_keeps, any_both, given_none, given_one}
-use Rattle.svn_delta.proofs.Nested.{last_token, IsNested, true_eq, eq_true, same_number, number_same, nested_above, nested_depth, nested_last, nested_more, nested_front, open_below_last, innermost_last}
+use Rattle.svn_delta.proofs.OneMore.{or_true, or_parts, not_false, false_from, any_more, any_still, given_none, given_one}
+use Rattle.svn_delta.proofs.Nested.{IsNested, true_eq}
 
 abbrev pub is_named : ℕ → Option (ℕ × Kind) → Bool
 is_named t None = false

@@ -1,11 +1,10 @@
 -- What an order check does with a call that it accepts.
 --     Notes old c new      the check before, the call, and the check after
 --     Takes old c answer new      the same of any call while the edit goes on, with its answer
-use Rattle.std.specs.Prelude.{◌≡◌, ℕ, Bool, true, false, ◌||◌, cond, List, [], ◌∷◌, ◌++◌, length, Option, Some, None, if◌then◌else◌, Result, Ok, Err, MatchResult}
+use Rattle.std.specs.Prelude.{◌≡◌, ℕ, true, false, cond, List, [], ◌∷◌, ◌++◌, Option, Some, None, if◌then◌else◌, Result, Ok, Err, MatchResult}
 use Rattle.std.specs.Ordering.{nat_cmp}
 use Rattle.std.specs.BTreeMap.{is_at}
 use Rattle.std.specs.BTreeSet.{BTreeSet, contains}
-use Rattle.svn_types.specs.declared.kind.Kind.{Kind}
 use Rattle.svn_types.specs.declared.kind.Kind.TheVariants.{File, Directory}
 use Rattle.svn_types.specs.Names.{Path}
 use Rattle.svn_delta.specs.declared.call.Call.{Call}
@@ -13,7 +12,6 @@ use Rattle.svn_delta.specs.declared.call.Call.TheVariants.{SetTargetRevision, Op
 use Rattle.svn_delta.specs.declared.directories.OpenedDirectory.{OpenedDirectory}
 use Rattle.svn_delta.specs.declared.tokens.GivenToken.{GivenToken}
 use Rattle.svn_delta.specs.declared.order.OrderCheck.{OrderCheck}
-use Rattle.svn_delta.specs.declared.order.Stage.{Stage}
 use Rattle.svn_delta.specs.declared.order.Stage.TheVariants.{During, Ended}
 use Rattle.svn_delta.specs.declared.fault.OrderFault.{OrderFault}
 use Rattle.svn_delta.specs.declared.fault.OrderFault.TheVariants.{Memory}

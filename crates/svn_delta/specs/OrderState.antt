@@ -1,7 +1,7 @@
 -- The test of each rule, asked of what an order check holds in the place of the calls before.
-use Rattle.std.specs.Prelude.{ℕ, ◌==◌, Bool, true, false, ◌&&◌, ◌||◌, not, List, [], ◌∷◌, length, nat_eq, Option, Some, None, if◌then◌else◌}
+use Rattle.std.specs.Prelude.{ℕ, Bool, true, false, ◌&&◌, ◌||◌, not, List, length, nat_eq, Option, Some, None, if◌then◌else◌}
 use Rattle.std.specs.Option.{option_map, option_or}
-use Rattle.std.specs.BTreeSet.{BTreeSet, btree_set_len}
+use Rattle.std.specs.BTreeSet.{btree_set_len}
 use Rattle.svn_types.specs.declared.kind.Kind.{Kind}
 use Rattle.svn_types.specs.Names.{Path}
 use Rattle.svn_delta.specs.declared.call.Call.{Call}
@@ -12,8 +12,8 @@ use Rattle.svn_delta.specs.declared.directories.OpenedDirectory.{OpenedDirectory
 use Rattle.svn_delta.specs.declared.tokens.GivenToken.{GivenToken}
 use Rattle.svn_delta.specs.declared.order.OrderCheck.{OrderCheck}
 use Rattle.svn_delta.specs.declared.order.Stage.{Stage}
-use Rattle.svn_delta.specs.declared.order.Stage.TheVariants.{Before, During, Ended, Dead}
-use Rattle.svn_delta.specs.Calls.{Given, given_by, named_by, entry_of, number_eq}
+use Rattle.svn_delta.specs.declared.order.Stage.TheVariants.{Before}
+use Rattle.svn_delta.specs.Calls.{given_by, named_by, entry_of, number_eq}
 use Rattle.svn_delta.specs.Tokens.{is_of_kind_at, is_closed_at, has_text_at}
 use Rattle.svn_delta.specs.Directories.{innermost_of, changed_late_in, holds_entry, is_opened_in, is_deleted_in}
 

@@ -129,6 +129,7 @@ impl OrderCheck {
         }
     }
 
+    // The target revision is set once, by the first call.
     fn is_target_late(&self, call: &Call) -> bool
         ensures { result ≡ target_late self.now.stage call.now }
     {
@@ -139,6 +140,7 @@ impl OrderCheck {
         }
     }
 
+    // The token was never given, or was given to a node of the other kind.
     fn is_token_unknown(&self, call: &Call) -> bool
         ensures { result ≡ unknown_in self.now.tokens.items (named_by call.now) }
     {
@@ -148,6 +150,7 @@ impl OrderCheck {
         }
     }
 
+    // The file or the directory was closed.
     fn is_token_closed(&self, call: &Call) -> bool
         ensures { result ≡ closed_in self.now.tokens.items (named_by call.now) }
     {
@@ -157,6 +160,7 @@ impl OrderCheck {
         }
     }
 
+    // A new token isn't the number of tokens given so far.
     fn is_token_misnumbered(&self, call: &Call) -> bool
         ensures { result ≡ misnumbered_in self.now.tokens.items (given_token call.now) }
     {
@@ -166,6 +170,7 @@ impl OrderCheck {
         }
     }
 
+    // The path isn't that of an entry of the parent.
     fn is_path_wrong(&self, call: &Call) -> bool
         ensures { result ≡ outside_in self.now.directories.items (named_by call.now) (entry_of call.now) }
     {
@@ -199,6 +204,7 @@ impl OrderCheck {
         }
     }
 
+    // The current file has its text and isn't closed, and the call is about something else.
     fn is_file_unfinished(&self, call: &Call) -> bool
         ensures { result ≡ (current_text self.now.tokens.items self.now.current && elsewhere self.now.current call.now) }
     {
@@ -208,6 +214,7 @@ impl OrderCheck {
         }
     }
 
+    // The text or the close of a postponed file comes while a directory is open.
     fn is_too_early(&self, call: &Call) -> bool
         ensures { result ≡ too_early self.now call.now }
     {
@@ -228,6 +235,7 @@ impl OrderCheck {
         }
     }
 
+    // The parent of an opened or added directory isn't the innermost one. Files and deletes may name any open directory.
     fn is_not_innermost(&self, call: &Call) -> bool
         ensures { result ≡ not_innermost self.now.directories.items call.now }
     {
@@ -239,6 +247,7 @@ impl OrderCheck {
         }
     }
 
+    // A directory is closed before one in it: the open directories are nested, so each but the innermost has one.
     fn is_open_below(&self, call: &Call) -> bool
         ensures { result ≡ open_below self.now.directories.items call.now }
     {
@@ -248,6 +257,7 @@ impl OrderCheck {
         }
     }
 
+    // A property change comes while a subdirectory is open or on a postponed file, or a subdirectory after a change that came after one.
     fn is_prop_late(&self, call: &Call) -> bool
         ensures { result ≡ prop_late self.now call.now }
     {
@@ -261,6 +271,7 @@ impl OrderCheck {
         }
     }
 
+    // A delete comes after an open or an add of the entry.
     fn is_delete_late(&self, call: &Call) -> bool
         ensures { result ≡ delete_late self.now.directories.items call.now }
     {
@@ -270,6 +281,7 @@ impl OrderCheck {
         }
     }
 
+    // An entry is opened or added twice, deleted twice, or opened after its delete. A deleted entry may be added.
     fn is_entry_again(&self, call: &Call) -> bool
         ensures { result ≡ entry_again self.now call.now }
     {
@@ -287,6 +299,7 @@ impl OrderCheck {
         }
     }
 
+    // A file has its text.
     fn is_text_again(&self, call: &Call) -> bool
         ensures { result ≡ text_again self.now.tokens.items call.now }
     {
@@ -296,6 +309,7 @@ impl OrderCheck {
         }
     }
 
+    // The edit ends before the root was opened, or while a directory or a file is open.
     fn is_root_unclosed(&self, call: &Call) -> bool
         ensures { result ≡ root_unclosed self.now call.now }
     {

@@ -1,7 +1,5 @@
-use Rattle.std.proofs.Common.{◌≡◌, ◌<◌, ◌-◌, ◌||◌, Bool, true, false, length, refl, ap, sym, ◌∙◌, arith}
-use Rattle.std.specs.Prelude.{slice_get, Some}
+use Rattle.std.proofs.Common.{◌≡◌, ◌<◌, ◌-◌, true, length, refl, arith}
 use Rattle.std.proofs.lemmas.Bool.Decides.{nat_tests}
-use Rattle.svn_delta.specs.declared.directories.OpenedDirectory.{OpenedDirectory}
 use Rattle.svn_delta.specs.Directories.{with_change}
 use Rattle.svn_delta.proofs.Changes.{ChangesAt-set, ChangesAt-same, get_read, changed_now, not_changed}
 use Rattle.svn_delta.proofs.directories.change_prop.Goals as goal

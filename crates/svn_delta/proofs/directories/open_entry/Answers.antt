@@ -1,4 +1,4 @@
-use Rattle.std.proofs.Common.{◌≡◌, true, false, List, ℕ, length, sym, ◌∙◌, ap, subst, true≢false, arith}
+use Rattle.std.proofs.Common.{List, ℕ, length, sym, ◌∙◌, ap, subst, true≢false, arith}
 use Rattle.svn_delta.specs.Directories.{InsertsOpened}
 use Rattle.svn_delta.proofs.Changes.{ChangesAt-set, ChangesAt-beyond}
 use Rattle.svn_delta.proofs.directories.open_entry.Goals as goal
