@@ -28,6 +28,3 @@ pub use recorder::Recorder;
 pub use report::{Report, Reporter};
 pub use token::Token;
 pub use words::{ChecksumWord, PathWord, Word};
-
-#[cfg(test)]
-mod tests;

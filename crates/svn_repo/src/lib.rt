@@ -15,6 +15,3 @@ pub use entries::{Entries, NodeId};
 pub use laws::{changes_keep_lines, copies_keep_nodes, revisions_stay, untouched_paths_keep_nodes};
 pub use repo::Repo;
 pub use svn_types::{Kind, Name, PathFault, PropName, Props, RelPath, Rev, Text};
-
-#[cfg(test)]
-mod tests;

@@ -1,9 +1,9 @@
-//! The printed lines of calls about entries, and of a report's entries.
-use super::{path, prints};
-use crate::{Call, Digest, EntryLine, ReportEntry, Token};
+//! The printed lines of calls, and of a report's entries.
+use crate::paths::path;
 use std::alloc::Global;
 use std::process::Abort;
 use std::test::Fail;
+use svn_delta::{Call, Digest, EntryLine, ReportEntry, Token};
 use svn_types::{PropName, Rev, Text};
 
 // The checksums of `a` and of `abc` (RFC 1321, appendix A.5).
@@ -14,6 +14,29 @@ const OF_A: Digest = Digest([
 const OF_ABC: Digest = Digest([
     0x90, 0x01, 0x50, 0x98, 0x3c, 0xd2, 0x4f, 0xb0, 0xd6, 0x96, 0x3f, 0x7d, 0x28, 0xe1, 0x7f, 0x72,
 ]);
+
+fn prints(rt: &impl Abort, alloc: Global, call: Call, line: &str) -> Result<(), Fail> {
+    let printed = format!(in alloc; "{call}")?;
+    assert_eq!(rt; printed.as_str(), line);
+    Ok(())
+}
+
+#[test]
+fn calls_that_begin_and_end_are_printed(rt: HostRuntime) -> Result<(), Fail> {
+    let alloc = rt.alloc();
+    let call = Call::SetTargetRevision { rev: Rev(2) };
+    prints(&rt, alloc, call, "set_target_revision 2")?;
+    let (base, token) = (Rev(1), Token(0));
+    prints(&rt, alloc, Call::OpenRoot { base, token }, "open_root 1 #0")?;
+    prints(
+        &rt,
+        alloc,
+        Call::CloseDirectory { token },
+        "close_directory #0",
+    )?;
+    prints(&rt, alloc, Call::CloseEdit, "close_edit")?;
+    prints(&rt, alloc, Call::AbortEdit, "abort_edit")
+}
 
 fn entry_prints(
     rt: &impl Abort,

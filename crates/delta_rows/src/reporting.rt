@@ -1,8 +1,8 @@
 //! Reports whose calls come in an order that is refused, and links that are too deep.
-use super::path;
-use crate::{Reporter, ReporterFault};
+use crate::paths::path;
 use std::alloc::Global;
 use std::test::Fail;
+use svn_delta::{Reporter, ReporterFault};
 use svn_types::{RelPath, Rev};
 
 fn with_root(alloc: Global) -> Result<Reporter, Fail> {
@@ -59,5 +59,21 @@ fn a_link_goes_at_most_64_names_deeper(rt: HostRuntime) -> Result<(), Fail> {
     reporter.link_path(&deep(alloc, 64)?, path(alloc, "a")?, Rev(1), false)?;
     let report = reporter.finish_report();
     assert_eq!(rt; report.len(), 2);
+    Ok(())
+}
+
+#[test]
+fn the_root_comes_first(rt: HostRuntime) -> Result<(), Fail> {
+    let alloc = rt.alloc();
+    let root = RelPath::root(alloc);
+    let mut reporter = Reporter::new(alloc);
+    let answer = reporter.set_path(&path(alloc, "a")?, Rev(1), false);
+    assert_eq!(rt; answer, Err(ReporterFault::NotRootFirst));
+    assert_eq!(rt;
+        reporter.delete_path(&root),
+        Err(ReporterFault::NotRootFirst)
+    );
+    reporter.set_path(&root, Rev(1), false)?;
+    assert_eq!(rt; reporter.delete_path(&root), Err(ReporterFault::Repeated));
     Ok(())
 }

@@ -1,9 +1,9 @@
 //! Calls that are out of order. Each edit begins with the calls of `begun`, unless its test says otherwise.
-use super::path;
-use crate::{Call, OrderCheck, OrderFault, Token};
+use crate::paths::path;
 use std::alloc::Global;
 use std::process::Abort;
 use std::test::Fail;
+use svn_delta::{Call, OrderCheck, OrderFault, Token};
 use svn_types::{PropName, Rev, Text};
 
 const ROOT: Token = Token(0);
