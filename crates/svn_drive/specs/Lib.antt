@@ -1,6 +1,4 @@
-pub mod FaultNumbers
-pub mod Sources
-pub mod Checks
-pub mod Follow
-pub mod Steps
-pub mod Drive
+pub mod Counts
+pub mod Walking
+pub mod Waiting
+pub mod Checking

@@ -1,5 +1,6 @@
 -- What a path has after all of its actions: the node of the target where it is entered, nothing where it is gone, else what it had.
-use Rattle.std.proofs.Common.{◌≡◌, ℕ, Bool, true, false, ◌&&◌, ◌||◌, not, List, [], ◌∷◌, ◌++◌, refl, sym, ◌∙◌, ap, subst, true≢false, append_assoc, append-nil}
+use Rattle.std.proofs.Common.{◌≡◌, ℕ, Bool, true, false, ◌&&◌, ◌||◌, not, List, [], ◌∷◌, ◌++◌, refl, sym, ◌∙◌, ap, subst, true≢false}
+use Rattle.std.proofs.Common.{append_assoc, append-nil}
 use Rattle.std.proofs.Math.Bool.{and-false, and-true, not-not}
 use Rattle.std.proofs.lemmas.Bool.{and_parts}
 use Rattle.std.specs.Prelude.{Option, Some, None, is_some, cond, map, bytes_eq}
@@ -9,26 +10,30 @@ use Rattle.svn_types.specs.Props.{PropChange, changes_between, with_changes}
 use Rattle.svn_types.specs.Pairs.{InNameOrder}
 use Rattle.svn_types.specs.declared.kind.Kind.{Kind}
 use Rattle.svn_types.specs.declared.kind.Kind.TheVariants.{File, Directory}
+use Rattle.svn_types.proofs.NameLemmas.{same_bytes}
 use Rattle.svn_repo.specs.Readings.{is_directory, is_directory_at, kind_of, text_of, props_of}
 use Rattle.svn_repo.specs.History.{History, look}
-use Rattle.svn_drive.specs.Sources.{Reported, reported, source, governing_revision, starts_empty}
-use Rattle.svn_delta.specs.Steps.{Action, Delete, Open, Add, Change, Text, Close}
-use Rattle.svn_drive.specs.Follow.{Request, follow, is_kept, target_path, source_node, target_node}
-use Rattle.svn_drive.specs.Steps.{is_touched, is_new, is_gone, starts_empty_at, source_props, source_text, text_actions, gone_actions, touched_actions, new_actions, entered_actions, path_actions}
-use Rattle.svn_wc.specs.declared.base_node.BaseNode.{BaseNode}
-use Rattle.svn_wc.specs.declared.base_node.BaseNode.TheVariants.{File as FileNode, Dir as DirNode, NotPresent}
-use Rattle.svn_wc.specs.Nodes.{WorkingCopy, is_present, is_dir, is_incomplete, node_revision, node_path, IsTrueNode, base_node_by, base_node}
-use Rattle.svn_wc.specs.Effects.{change_in, text_in, text_or}
-use Rattle.svn_law.proofs.Tests.{some_same}
-use Rattle.svn_law.proofs.Names.{same_bytes}
+use Rattle.svn_model.specs.Sources.{Reported, reported, source, governing_revision, starts_empty}
+use Rattle.svn_editor.specs.Steps.{Action, Delete, Open, Add, Change, Text, Close}
+use Rattle.svn_model.specs.Follow.{Request, follow, is_kept, target_path, source_node, target_node}
+use Rattle.svn_model.specs.Steps.{is_touched, is_new, is_gone, starts_empty_at, source_props, source_text, text_actions, gone_actions}
+use Rattle.svn_model.specs.Steps.{touched_actions, new_actions, entered_actions, path_actions}
+use Rattle.svn_model.specs.declared.base_node.BaseNode.{BaseNode}
+use Rattle.svn_model.specs.declared.base_node.BaseNode.TheVariants.{File as FileNode, Dir as DirNode, NotPresent}
+use Rattle.svn_model.specs.Nodes.{WorkingCopy, is_present, is_dir, is_incomplete, node_revision, node_path, IsTrueNode, base_node_by}
+use Rattle.svn_model.specs.Nodes.{base_node}
+use Rattle.svn_model.specs.Effects.{change_in, text_in, text_or}
+use Rattle.svn_model.proofs.Names.{some_same}
 use Rattle.svn_law.proofs.Maps.{sorted-nil}
 use Rattle.svn_law.proofs.PropChanges.{with_changes-between}
-use Rattle.svn_law.proofs.Children.{follow-here}
-use Rattle.svn_law.proofs.Classes.{Setting, kept_directory, source_looked, shown_source}
-use Rattle.svn_law.proofs.Courses.{AllOf, all_changes}
+use Rattle.svn_model.proofs.Children.{follow-here}
+use Rattle.svn_law.proofs.Described.{Setting, source_looked}
+use Rattle.svn_drive_law.proofs.Classes.{kept_directory}
+use Rattle.svn_drive_law.proofs.Reporting.{shown_source}
+use Rattle.svn_drive_law.proofs.Courses.{AllOf, all_changes}
 use Rattle.svn_law.proofs.States.{act, acted, acted-append, changes_in, texts_in}
 use Rattle.svn_law.proofs.AfterSteps.{kept_present}
-use Rattle.svn_law.proofs.Lists.{all-append}
+use Rattle.svn_drive_law.proofs.Lists.{all-append}
 
 -- ---- changes and texts leave a node as it is
 
@@ -39,26 +44,33 @@ is_quiet (Text s t) = true
 is_quiet _ = false
 
 -- one of them does nothing until a close
-act_quiet : (d : Request) (p : Path) (before : List Action) (a : Action) (found : Option BaseNode) → is_quiet a ≡ true → act d p before a found ≡ found
+act_quiet : (d : Request) (p : Path) (before : List Action) (a : Action) (found : Option BaseNode) → is_quiet a ≡ true
+    → act d p before a found ≡ found
 act_quiet d p before (Change k c) found q = refl
 act_quiet d p before (Text s t) found q = refl
 act_quiet d p before a found q = absurd (true≢false (sym q))
 
 -- and neither do several
-pub acted_quiet : (d : Request) (p : Path) (before acts : List Action) (found : Option BaseNode) → AllOf is_quiet acts → acted d p before found acts ≡ found
+pub acted_quiet : (d : Request) (p : Path) (before acts : List Action) (found : Option BaseNode) → AllOf is_quiet acts
+    → acted d p before found acts ≡ found
 acted_quiet d p before [] found q = refl
-acted_quiet d p before (a ∷ acts) found q = acted_quiet d p (before ++ a ∷ []) acts (act d p before a found) q.1 ∙ act_quiet d p before a found q.0
+acted_quiet d p before (a ∷ acts) found q =
+    acted_quiet d p (before ++ a ∷ []) acts (act d p before a found) q.1 ∙ act_quiet d p before a found q.0
 
 -- quiet actions and one more do what the one does
-pub acted_closed : (d : Request) (p : Path) (before acts : List Action) (found : Option BaseNode) (c : Action) → AllOf is_quiet acts → acted d p before found (acts ++ c ∷ []) ≡ act d p (before ++ acts) c found
-acted_closed d p before acts found c q = acted-append d p before acts (c ∷ []) found ∙ ap (act d p (before ++ acts) c) (acted_quiet d p before acts found q)
+pub acted_closed : (d : Request) (p : Path) (before acts : List Action) (found : Option BaseNode) (c : Action) → AllOf is_quiet acts
+    → acted d p before found (acts ++ c ∷ []) ≡ act d p (before ++ acts) c found
+acted_closed d p before acts found c q =
+    acted-append d p before acts (c ∷ []) found ∙ ap (act d p (before ++ acts) c) (acted_quiet d p before acts found q)
 
 -- changes are quiet, and changes and a text that may be sent
 pub quiet_changes : (k : Kind) (cs : List PropChange) → AllOf is_quiet (map (Change k) cs)
 quiet_changes k = all_changes is_quiet k (λ c. refl)
 
-pub quiet_texts : (d : Request) (k : Kind) (cs : List PropChange) (old new : List ℕ) → AllOf is_quiet (map (Change k) cs ++ text_actions d old new)
-quiet_texts d k cs old new = all-append (λ a. is_quiet a ≡ true) (map (Change k) cs) (text_actions d old new) (quiet_changes k cs) (by (bytes_eq old new))
+pub quiet_texts : (d : Request) (k : Kind) (cs : List PropChange) (old new : List ℕ)
+    → AllOf is_quiet (map (Change k) cs ++ text_actions d old new)
+quiet_texts d k cs old new =
+    all-append (λ a. is_quiet a ≡ true) (map (Change k) cs) (text_actions d old new) (quiet_changes k cs) (by (bytes_eq old new))
   where
     by : (b : Bool) → AllOf is_quiet (cond b [] (Text (Some (d.checksum old)) new ∷ []))
     by true = tt
@@ -71,7 +83,8 @@ pub changes_in-append : (xs ys : List Action) → changes_in (xs ++ ys) ≡ chan
 changes_in-append [] ys = refl
 changes_in-append (x ∷ xs) ys = by (change_in x) (changes_in-append xs ys)
   where
-    by : (o : Option PropChange) → changes_in (xs ++ ys) ≡ changes_in xs ++ changes_in ys → cons_option o (changes_in (xs ++ ys)) ≡ cons_option o (changes_in xs) ++ changes_in ys
+    by : (o : Option PropChange) → changes_in (xs ++ ys) ≡ changes_in xs ++ changes_in ys
+        → cons_option o (changes_in (xs ++ ys)) ≡ cons_option o (changes_in xs) ++ changes_in ys
     by None e = e
     by (Some c) e = ap (λ (l : List PropChange). c ∷ l) e
 
@@ -79,7 +92,8 @@ pub texts_in-append : (xs ys : List Action) → texts_in (xs ++ ys) ≡ texts_in
 texts_in-append [] ys = refl
 texts_in-append (x ∷ xs) ys = by (text_in x) (texts_in-append xs ys)
   where
-    by : (o : Option (List ℕ)) → texts_in (xs ++ ys) ≡ texts_in xs ++ texts_in ys → cons_option o (texts_in (xs ++ ys)) ≡ cons_option o (texts_in xs) ++ texts_in ys
+    by : (o : Option (List ℕ)) → texts_in (xs ++ ys) ≡ texts_in xs ++ texts_in ys
+        → cons_option o (texts_in (xs ++ ys)) ≡ cons_option o (texts_in xs) ++ texts_in ys
     by None e = e
     by (Some t) e = ap (λ (l : List (List ℕ)). t ∷ l) e
 
@@ -93,9 +107,11 @@ texts_in-changes k [] = refl
 texts_in-changes k (c ∷ cs) = texts_in-changes k cs
 
 -- a touched file's changes and its text
-pub changes_in-texts : (d : Request) (k : Kind) (cs : List PropChange) (old new : List ℕ) → changes_in (map (Change k) cs ++ text_actions d old new) ≡ cs
+pub changes_in-texts : (d : Request) (k : Kind) (cs : List PropChange) (old new : List ℕ)
+    → changes_in (map (Change k) cs ++ text_actions d old new) ≡ cs
 changes_in-texts d k cs old new =
-    changes_in-append (map (Change k) cs) (text_actions d old new) ∙ ap (λ l. l ++ changes_in (text_actions d old new)) (changes_in-changes k cs)
+    changes_in-append (map (Change k) cs) (text_actions d old new)
+    ∙ ap (λ l. l ++ changes_in (text_actions d old new)) (changes_in-changes k cs)
     ∙ ap (λ l. cs ++ l) (by (bytes_eq old new)) ∙ append-nil cs
   where
     by : (b : Bool) → changes_in (cond b [] (Text (Some (d.checksum old)) new ∷ [])) ≡ []
@@ -103,9 +119,12 @@ changes_in-texts d k cs old new =
     by false = refl
 
 -- a text is sent where it differs
-pub text_or-texts : (d : Request) (k : Kind) (cs : List PropChange) (old new : List ℕ) → text_or (texts_in (map (Change k) cs ++ text_actions d old new)) old ≡ new
+pub text_or-texts : (d : Request) (k : Kind) (cs : List PropChange) (old new : List ℕ)
+    → text_or (texts_in (map (Change k) cs ++ text_actions d old new)) old ≡ new
 text_or-texts d k cs old new =
-    ap (λ ts. text_or ts old) (texts_in-append (map (Change k) cs) (text_actions d old new) ∙ ap (λ l. l ++ texts_in (text_actions d old new)) (texts_in-changes k cs))
+    ap (λ ts. text_or ts old)
+    (texts_in-append (map (Change k) cs) (text_actions d old new)
+    ∙ ap (λ l. l ++ texts_in (text_actions d old new)) (texts_in-changes k cs))
     ∙ by (bytes_eq old new) refl
   where
     by : (b : Bool) → bytes_eq old new ≡ b → text_or (texts_in (cond b [] (Text (Some (d.checksum old)) new ∷ []))) old ≡ new
@@ -143,7 +162,7 @@ module _ (d : Request) (w : WorkingCopy) (setting : Setting d w) where
 
   -- what stands at a kept path, of the target's kind
   pub kept_as : (p : Path) (n : ℕ) → is_kept d p ≡ true → target_node d p ≡ Some n → KeptAs p (kind_of h n)
-  kept_as p n k t = subst (KeptAs p) (sym (kept_directory d w setting p m.0 n k m.1 t)) (by (w p) refl (setting.true_of p))
+  kept_as p n k t = subst (KeptAs p) (sym (kept_directory d setting.served p m.0 n k m.1 t)) (by (w p) refl (setting.true_of p))
     where
       present : is_present (w p) ≡ true
       present = kept_present d w setting p k
@@ -152,7 +171,9 @@ module _ (d : Request) (w : WorkingCopy) (setting : Setting d w) where
       m = source_looked d w setting p present
 
       empty_as : (kind : Kind) → kind_of h m.0 ≡ kind → starts_empty_at d p ≡ (starts_empty (follow d p).here.own && is_directory kind)
-      empty_as kind e = ap (λ o. starts_empty (follow d p).here.own && is_directory_at h o) m.1 ∙ ap (λ x. starts_empty (follow d p).here.own && is_directory x) e
+      empty_as kind e =
+          ap (λ o. starts_empty (follow d p).here.own && is_directory_at h o) m.1
+          ∙ ap (λ x. starts_empty (follow d p).here.own && is_directory x) e
 
       by : (found : Option BaseNode) → w p ≡ found → IsTrueNode h w p found → KeptAs p (kind_of h m.0)
       by None e tr = absurd (true≢false (sym present ∙ ap is_present e))
@@ -167,13 +188,17 @@ module _ (d : Request) (w : WorkingCopy) (setting : Setting d w) where
             props = ps;
             is = e;
             same_text = tr.2.same_text ∙ ap (text_of h) one ∙ sym (ap (source_text d) m.1);
-            same_props = tr.2.same_props ∙ ap (props_of h) one ∙ sym (ap (source_props d p) m.1 ∙ ap (λ b. cond b [] (props_of h m.0)) (empty_as File kind ∙ and-false (starts_empty (follow d p).here.own)));
+            same_props =
+                tr.2.same_props ∙ ap (props_of h) one
+                ∙ sym (ap (source_props d p) m.1
+                ∙ ap (λ b. cond b [] (props_of h m.0)) (empty_as File kind ∙ and-false (starts_empty (follow d p).here.own)));
           })
       by (Some (DirNode r q c ps)) e tr =
           let one = some_same tr.0 m.0 (sym tr.1 ∙ sym (ap (λ o. look h (node_revision o) (node_path o)) e) ∙ m.2) in
           let kind : kind_of h m.0 ≡ Directory = sym (ap (kind_of h) one) ∙ tr.2.kind in
           let empty : not c ≡ starts_empty_at d p =
-          ap is_incomplete (sym e) ∙ (setting.describes p).incomplete (ap is_dir e) ∙ sym (ap (λ (s : Reported). starts_empty s.own) (follow-here d p))
+          ap is_incomplete (sym e) ∙ (setting.describes p).incomplete (ap is_dir e)
+          ∙ sym (ap (λ (s : Reported). starts_empty s.own) (follow-here d p))
           ∙ sym (and-true (starts_empty (follow d p).here.own)) ∙ sym (empty_as Directory kind) in
           subst (KeptAs p) (sym kind) (record {
             revision = r;
@@ -185,7 +210,8 @@ module _ (d : Request) (w : WorkingCopy) (setting : Setting d w) where
             same_props = by_complete c refl empty (λ z. tr.2.same_props z ∙ ap (props_of h) one) ∙ sym (ap (source_props d p) m.1);
           })
         where
-          by_complete : (b : Bool) → c ≡ b → not b ≡ starts_empty_at d p → (b ≡ true → ps ≡ props_of h m.0) → cond b ps [] ≡ cond (starts_empty_at d p) [] (props_of h m.0)
+          by_complete : (b : Bool) → c ≡ b → not b ≡ starts_empty_at d p → (b ≡ true → ps ≡ props_of h m.0)
+              → cond b ps [] ≡ cond (starts_empty_at d p) [] (props_of h m.0)
           by_complete true z u v = v refl ∙ ap (λ b. cond b [] (props_of h m.0)) u
           by_complete false z u v = ap (λ b. cond b [] (props_of h m.0)) u
 
@@ -200,11 +226,11 @@ module _ (d : Request) (w : WorkingCopy) (setting : Setting d w) where
           shown : (b : Bool) → InNameOrder (cond b [] (props_of h m))
           shown true = sorted-nil name_cmp
           shown false =
-              setting.history.props_in_order (governing_revision (reported d.report p)) (reported d.report p).repos_path m
+              setting.served.history.props_in_order (governing_revision (reported d.report p)) (reported d.report p).repos_path m
               (shown_source h (reported d.report p) m (sym (ap (source h) (follow-here d p)) ∙ e)).1
 
   target_in_order : (p : Path) (n : ℕ) → target_node d p ≡ Some n → InNameOrder (props_of h n)
-  target_in_order p n t = setting.history.props_in_order d.target (target_path d p) n t
+  target_in_order p n t = setting.served.history.props_in_order d.target (target_path d p) n t
 
   -- ---- all of a path's actions
 
@@ -212,10 +238,12 @@ module _ (d : Request) (w : WorkingCopy) (setting : Setting d w) where
   touched_all : (p : Path) (n : ℕ) (k : Kind) → target_node d p ≡ Some n → KeptAs p k
       → acted d p [] (w p) (touched_actions d p n k) ≡ Some (base_node_by k d.target (target_path d p) (text_of h n) (props_of h n))
   touched_all p n Directory t kept =
-      acted_closed d p (Open Directory r ∷ []) (map (Change Directory) cs) (act d p [] (Open Directory r) (w p)) (Close Directory None) (quiet_changes Directory cs)
+      acted_closed d p (Open Directory r ∷ []) (map (Change Directory) cs) (act d p [] (Open Directory r) (w p)) (Close Directory None)
+      (quiet_changes Directory cs)
       ∙ ap (λ o. act d p (Open Directory r ∷ map (Change Directory) cs) (Close Directory None) (act d p [] (Open Directory r) o)) kept.is
       ∙ (λ i. Some (DirNode d.target (target_path d p) true (with_changes (kept.same_props i) (changes_in-changes Directory cs i))))
-      ∙ ap (λ ps. Some (DirNode d.target (target_path d p) true ps)) (with_changes-between old (props_of h n) (source_in_order p) (target_in_order p n t))
+      ∙ ap (λ ps. Some (DirNode d.target (target_path d p) true ps))
+      (with_changes-between old (props_of h n) (source_in_order p) (target_in_order p n t))
     where
       r : ℕ
       r = governing_revision (follow d p).here
@@ -226,11 +254,18 @@ module _ (d : Request) (w : WorkingCopy) (setting : Setting d w) where
       cs : List PropChange
       cs = changes_between old (props_of h n)
   touched_all p n File t kept =
-      acted_closed d p (Open File r ∷ []) (map (Change File) cs ++ text_actions d before (text_of h n)) (w p) (Close File (Some (d.checksum (text_of h n))))
+      acted_closed d p (Open File r ∷ []) (map (Change File) cs ++ text_actions d before (text_of h n)) (w p)
+      (Close File (Some (d.checksum (text_of h n))))
       (quiet_texts d File cs before (text_of h n))
-      ∙ ap (act d p (Open File r ∷ (map (Change File) cs ++ text_actions d before (text_of h n))) (Close File (Some (d.checksum (text_of h n))))) kept.is
-      ∙ (λ i. Some (FileNode d.target (target_path d p) (text_or (texts_in (map (Change File) cs ++ text_actions d before (text_of h n))) (kept.same_text i)) (with_changes (kept.same_props i) (changes_in-texts d File cs before (text_of h n) i))))
-      ∙ (λ i. Some (FileNode d.target (target_path d p) (text_or-texts d File cs before (text_of h n) i) (with_changes-between old (props_of h n) (source_in_order p) (target_in_order p n t) i)))
+      ∙ ap
+      (act d p (Open File r ∷ (map (Change File) cs ++ text_actions d before (text_of h n)))
+      (Close File (Some (d.checksum (text_of h n)))))
+      kept.is
+      ∙ (λ i. Some (FileNode d.target (target_path d p)
+      (text_or (texts_in (map (Change File) cs ++ text_actions d before (text_of h n))) (kept.same_text i))
+      (with_changes (kept.same_props i) (changes_in-texts d File cs before (text_of h n) i))))
+      ∙ (λ i. Some (FileNode d.target (target_path d p) (text_or-texts d File cs before (text_of h n) i)
+      (with_changes-between old (props_of h n) (source_in_order p) (target_in_order p n t) i)))
     where
       r : ℕ
       r = governing_revision (follow d p).here
@@ -245,21 +280,28 @@ module _ (d : Request) (w : WorkingCopy) (setting : Setting d w) where
       cs = changes_between old (props_of h n)
 
   -- and so does a new one, whatever stood there before
-  new_all : (p : Path) (n : ℕ) (k : Kind) (before : List Action) (found : Option BaseNode) → target_node d p ≡ Some n → changes_in before ≡ [] → texts_in before ≡ []
+  new_all : (p : Path) (n : ℕ) (k : Kind) (before : List Action) (found : Option BaseNode) → target_node d p ≡ Some n
+      → changes_in before ≡ [] → texts_in before ≡ []
       → acted d p before found (new_actions d n k) ≡ Some (base_node_by k d.target (target_path d p) (text_of h n) (props_of h n))
   new_all p n Directory before found t c x =
-      acted_closed d p (before ++ Add Directory ∷ []) (map (Change Directory) cs) (Some (DirNode d.target (target_path d p) false [])) (Close Directory None) (quiet_changes Directory cs)
+      acted_closed d p (before ++ Add Directory ∷ []) (map (Change Directory) cs) (Some (DirNode d.target (target_path d p) false []))
+      (Close Directory None) (quiet_changes Directory cs)
       ∙ ap (λ l. Some (DirNode d.target (target_path d p) true (with_changes [] l)))
-      (changes_in-append (before ++ Add Directory ∷ []) (map (Change Directory) cs) ∙ ap (λ l. l ++ changes_in (map (Change Directory) cs)) (changes_in-append before (Add Directory ∷ []) ∙ ap (λ l. l ++ []) c) ∙ changes_in-changes Directory cs)
-      ∙ ap (λ ps. Some (DirNode d.target (target_path d p) true ps)) (with_changes-between [] (props_of h n) (sorted-nil name_cmp) (target_in_order p n t))
+      (changes_in-append (before ++ Add Directory ∷ []) (map (Change Directory) cs)
+      ∙ ap (λ l. l ++ changes_in (map (Change Directory) cs)) (changes_in-append before (Add Directory ∷ []) ∙ ap (λ l. l ++ []) c)
+      ∙ changes_in-changes Directory cs)
+      ∙ ap (λ ps. Some (DirNode d.target (target_path d p) true ps))
+      (with_changes-between [] (props_of h n) (sorted-nil name_cmp) (target_in_order p n t))
     where
       cs : List PropChange
       cs = changes_between [] (props_of h n)
   new_all p n File before found t c x =
       ap (acted d p (before ++ Add File ∷ []) (Some NotPresent)) (sym (append_assoc (map (Change File) cs) (text ∷ []) (close ∷ [])))
-      ∙ acted_closed d p (before ++ Add File ∷ []) (map (Change File) cs ++ text ∷ []) (Some NotPresent) close (all-append (λ a. is_quiet a ≡ true) (map (Change File) cs) (text ∷ []) (quiet_changes File cs) (refl, tt))
+      ∙ acted_closed d p (before ++ Add File ∷ []) (map (Change File) cs ++ text ∷ []) (Some NotPresent) close
+      (all-append (λ a. is_quiet a ≡ true) (map (Change File) cs) (text ∷ []) (quiet_changes File cs) (refl, tt))
       ∙ (λ i. Some (FileNode d.target (target_path d p) (text_or (texts_are i) []) (with_changes [] (changes_are i))))
-      ∙ ap (λ ps. Some (FileNode d.target (target_path d p) (text_of h n) ps)) (with_changes-between [] (props_of h n) (sorted-nil name_cmp) (target_in_order p n t))
+      ∙ ap (λ ps. Some (FileNode d.target (target_path d p) (text_of h n) ps))
+      (with_changes-between [] (props_of h n) (sorted-nil name_cmp) (target_in_order p n t))
     where
       cs : List PropChange
       cs = changes_between [] (props_of h n)
@@ -274,7 +316,8 @@ module _ (d : Request) (w : WorkingCopy) (setting : Setting d w) where
       changes_are =
           changes_in-append (before ++ Add File ∷ []) (map (Change File) cs ++ text ∷ [])
           ∙ ap (λ l. l ++ changes_in (map (Change File) cs ++ text ∷ [])) (changes_in-append before (Add File ∷ []) ∙ ap (λ l. l ++ []) c)
-          ∙ changes_in-append (map (Change File) cs) (text ∷ []) ∙ append-nil (changes_in (map (Change File) cs)) ∙ changes_in-changes File cs
+          ∙ changes_in-append (map (Change File) cs) (text ∷ []) ∙ append-nil (changes_in (map (Change File) cs))
+          ∙ changes_in-changes File cs
 
       texts_are : texts_in ((before ++ Add File ∷ []) ++ (map (Change File) cs ++ text ∷ [])) ≡ text_of h n ∷ []
       texts_are =
@@ -305,7 +348,8 @@ module _ (d : Request) (w : WorkingCopy) (setting : Setting d w) where
   new_not_kept p v = sym (not-not (is_kept d p)) ∙ ap not (and_parts (not (is_kept d p)) (is_some (target_node d p)) v).0
 
   -- the final state of a path
-  pub acted_all : (p : Path) (found : Option BaseNode) → (is_kept d p ≡ true → found ≡ w p) → acted d p [] found (path_actions d p) ≡ ended p found
+  pub acted_all : (p : Path) (found : Option BaseNode) → (is_kept d p ≡ true → found ≡ w p)
+      → acted d p [] found (path_actions d p) ≡ ended p found
   acted_all p found b =
       acted-append d p [] (gone_actions d p) (entered_actions d p (target_node d p)) found
       ∙ ap (λ o. acted d p (gone_actions d p) o (entered_actions d p (target_node d p))) (gone (is_gone d p))
@@ -323,7 +367,9 @@ module _ (d : Request) (w : WorkingCopy) (setting : Setting d w) where
       end_by None t v = cond (is_gone d p) None found
       end_by (Some n) t v = cond (t || v) (Some (base_node h d.target (target_path d p) n)) (cond (is_gone d p) None found)
 
-      silent : (g : Bool) → (changes_in (cond g (Delete (governing_revision (follow d p).here) ∷ []) []) ≡ []) × (texts_in (cond g (Delete (governing_revision (follow d p).here) ∷ []) []) ≡ [])
+      silent : (g : Bool)
+          → (changes_in (cond g (Delete (governing_revision (follow d p).here) ∷ []) []) ≡ [])
+          × (texts_in (cond g (Delete (governing_revision (follow d p).here) ∷ []) []) ≡ [])
       silent true = (refl, refl)
       silent false = (refl, refl)
 
@@ -332,13 +378,20 @@ module _ (d : Request) (w : WorkingCopy) (setting : Setting d w) where
       by None t v z u = refl
       by (Some n) true v z u =
           let k = touched_kept p u in
-          ap (λ g. acted d p (cond g (Delete (governing_revision (follow d p).here) ∷ []) []) (cond g None found) (touched_actions d p n (kind_of h n))) (kept_not_gone p k)
+          ap
+          (λ g. acted d p (cond g (Delete (governing_revision (follow d p).here) ∷ []) []) (cond g None found)
+          (touched_actions d p n (kind_of h n)))
+          (kept_not_gone p k)
           ∙ ap (λ o. acted d p [] o (touched_actions d p n (kind_of h n))) (b k)
           ∙ touched_all p n (kind_of h n) z (kept_as p n k z)
-      by (Some n) false true z u = let s = silent (is_gone d p) in new_all p n (kind_of h n) (gone_actions d p) (cond (is_gone d p) None found) z s.0 s.1
+      by (Some n) false true z u =
+          let s = silent (is_gone d p) in new_all p n (kind_of h n) (gone_actions d p) (cond (is_gone d p) None found) z s.0 s.1
       by (Some n) false false z u = refl
 
-      as_written : (o : Option ℕ) → acted d p (gone_actions d p) (cond (is_gone d p) None found) (entered_by o (is_touched d p) (is_new d p)) ≡ end_by o (is_touched d p) (is_new d p)
-          → acted d p (gone_actions d p) (cond (is_gone d p) None found) (entered_actions d p o) ≡ entered_end p o (cond (is_gone d p) None found)
+      as_written : (o : Option ℕ)
+          → acted d p (gone_actions d p) (cond (is_gone d p) None found) (entered_by o (is_touched d p) (is_new d p))
+          ≡ end_by o (is_touched d p) (is_new d p)
+          → acted d p (gone_actions d p) (cond (is_gone d p) None found) (entered_actions d p o)
+          ≡ entered_end p o (cond (is_gone d p) None found)
       as_written None e = e
       as_written (Some n) e = e

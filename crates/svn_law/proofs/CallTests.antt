@@ -8,15 +8,17 @@ use Rattle.svn_types.specs.Names.{Path}
 use Rattle.svn_types.specs.Paths.{path_eq, parent, is_root}
 use Rattle.svn_types.specs.declared.kind.Kind.{Kind}
 use Rattle.svn_types.specs.declared.kind.Kind.TheVariants.{File, Directory}
-use Rattle.svn_delta.specs.Calls.{kind_eq, Given, given_by, closes, is_closed, deletes, opens_below, applies_text, changes_dir, opens_entry, opens_subdirectory, is_last}
-use Rattle.svn_delta.specs.Steps.{Action, Delete, Open, Add, Change, Text, Close, Step}
-use Rattle.svn_delta.specs.declared.call.Call.{Call}
-use Rattle.svn_delta.specs.declared.call.Call.TheVariants.{OpenRoot, OpenDirectory}
-use Rattle.svn_drive.specs.Steps.{is_text}
-use Rattle.svn_law.proofs.Names.{same_path}
-use Rattle.svn_law.proofs.Courses.{is_delete, is_entry, is_entry_of, is_close}
+use Rattle.svn_types.proofs.PathLemmas.{same_path}
+use Rattle.svn_editor.specs.Calls.{kind_eq, Given, given_by, closes, is_closed, deletes, opens_below, applies_text, changes_dir}
+use Rattle.svn_editor.specs.Calls.{opens_entry, opens_subdirectory, is_last}
+use Rattle.svn_editor.specs.Steps.{Action, Delete, Open, Add, Change, Text, Close, Step}
+use Rattle.svn_editor.specs.declared.call.Call.{Call}
+use Rattle.svn_editor.specs.declared.call.Call.TheVariants.{OpenRoot, OpenDirectory}
+use Rattle.svn_model.specs.Steps.{is_text}
+use Rattle.svn_drive_law.proofs.Courses.{is_delete, is_entry, is_entry_of, is_close}
+use Rattle.svn_drive_law.proofs.Tokens.{entered}
 use Rattle.svn_law.proofs.StepOrder.{has}
-use Rattle.svn_law.proofs.TokenNumbers.{call_by, call_at, entered, Tells, is_root_action}
+use Rattle.svn_law.proofs.TokenNumbers.{call_by, call_at, Tells, is_root_action}
 
 -- the test on what a call gives, if it gives a token
 abbrev pub on_given : (Given → Bool) → Option Given → Bool
@@ -40,15 +42,18 @@ either_call f x false c e h k = k
 
 module _ (T : Path → ℕ) where
   -- a test that no call of the steps passes, and one that some call passes
-  pub none_in : (f : Call → Bool) (xs : List Step) → AllByRecursion (λ x. f (call_at T x) ≡ false) xs → list_any f (map (call_at T) xs) ≡ false
+  pub none_in : (f : Call → Bool) (xs : List Step) → AllByRecursion (λ x. f (call_at T x) ≡ false) xs
+      → list_any f (map (call_at T) xs) ≡ false
   none_in f [] h = refl
   none_in f (x ∷ xs) h = ap (λ b. b || list_any f (map (call_at T) xs)) h.0 ∙ none_in f xs h.1
 
-  pub some_in : (f : Call → Bool) (g : Step → Bool) → ((x : Step) → g x ≡ true → f (call_at T x) ≡ true) → (xs : List Step) → list_any g xs ≡ true → list_any f (map (call_at T) xs) ≡ true
+  pub some_in : (f : Call → Bool) (g : Step → Bool) → ((x : Step) → g x ≡ true → f (call_at T x) ≡ true) → (xs : List Step)
+      → list_any g xs ≡ true → list_any f (map (call_at T) xs) ≡ true
   some_in f g e [] h = h
   some_in f g e (x ∷ xs) h = by (g x) refl h (some_in f g e xs)
     where
-      by : (b : Bool) → g x ≡ b → (b || list_any g xs) ≡ true → (list_any g xs ≡ true → list_any f (map (call_at T) xs) ≡ true) → (f (call_at T x) || list_any f (map (call_at T) xs)) ≡ true
+      by : (b : Bool) → g x ≡ b → (b || list_any g xs) ≡ true → (list_any g xs ≡ true → list_any f (map (call_at T) xs) ≡ true)
+          → (f (call_at T x) || list_any f (map (call_at T) xs)) ≡ true
       by true q h ih = ap (λ b. b || list_any f (map (call_at T) xs)) (e x q)
       by false q h ih = or_right (f (call_at T x)) (list_any f (map (call_at T) xs)) (ih h)
 
@@ -60,12 +65,14 @@ module _ (T : Path → ℕ) where
   gives-append [] ys = refl
   gives-append (x ∷ xs) ys = by (given_by (call_at T x)) (gives-append xs ys)
     where
-      by : (o : Option Given) → gives (xs ++ ys) ≡ gives xs ++ gives ys → cons_option o (gives (xs ++ ys)) ≡ cons_option o (gives xs) ++ gives ys
+      by : (o : Option Given) → gives (xs ++ ys) ≡ gives xs ++ gives ys
+          → cons_option o (gives (xs ++ ys)) ≡ cons_option o (gives xs) ++ gives ys
       by None ih = ih
       by (Some g) ih = ap (λ (l : List Given). g ∷ l) ih
 
   -- a test that nothing given passes
-  pub none_given : (f : Given → Bool) (xs : List Step) → AllByRecursion (λ x. on_given f (given_by (call_at T x)) ≡ false) xs → list_any f (gives xs) ≡ false
+  pub none_given : (f : Given → Bool) (xs : List Step) → AllByRecursion (λ x. on_given f (given_by (call_at T x)) ≡ false) xs
+      → list_any f (gives xs) ≡ false
   none_given f [] h = refl
   none_given f (x ∷ xs) h = by (given_by (call_at T x)) h.0 (none_given f xs h.1)
     where
@@ -78,11 +85,14 @@ module _ (T : Path → ℕ) where
   length-gives [] = refl
   length-gives (x ∷ xs) = by x.action (length-gives xs)
     where
-      root : (b : Bool) (r t : ℕ) → length (cons_option (given_by (cond b (OpenRoot r t) (OpenDirectory x.path (T (parent x.path)) r t))) (gives xs)) ≡ suc (length (gives xs))
+      root : (b : Bool) (r t : ℕ)
+          → length (cons_option (given_by (cond b (OpenRoot r t) (OpenDirectory x.path (T (parent x.path)) r t))) (gives xs))
+          ≡ suc (length (gives xs))
       root true r t = refl
       root false r t = refl
 
-      by : (a : Action) → length (gives xs) ≡ length (entered xs) → length (cons_option (given_by (call_by T x.path a)) (gives xs)) ≡ length (entered (record { path = x.path; action = a } ∷ xs))
+      by : (a : Action) → length (gives xs) ≡ length (entered xs)
+          → length (cons_option (given_by (call_by T x.path a)) (gives xs)) ≡ length (entered (record { path = x.path; action = a } ∷ xs))
       by (Delete r) ih = ih
       by (Open Directory r) ih = root (is_root x.path) r (T x.path) ∙ ap suc ih
       by (Open File r) ih = ap suc ih
@@ -128,7 +138,8 @@ module _ (T : Path → ℕ) where
       by a e = absurd (true≢false (sym e))
 
   -- the token with that number is the one given there
-  pub given_here : (front : List Step) (x : Step) (back : List Step) (g : Given) → given_by (call_at T x) ≡ Some g → slice_get (gives (front ++ x ∷ back)) (length (entered front)) ≡ Some g
+  pub given_here : (front : List Step) (x : Step) (back : List Step) (g : Given) → given_by (call_at T x) ≡ Some g
+      → slice_get (gives (front ++ x ∷ back)) (length (entered front)) ≡ Some g
   given_here front x back g e =
       ap (λ l. slice_get l (length (entered front))) (gives-append front (x ∷ back) ∙ ap (λ o. gives front ++ cons_option o (gives back)) e)
       ∙ ap (slice_get (gives front ++ g ∷ gives back)) (sym (length-gives front)) ∙ past (gives front)
@@ -142,7 +153,9 @@ module _ (T : Path → ℕ) where
       → on_given (λ g. kind_eq g.kind k && not (is_closed earlier g.token)) (given_by (call_at T x)) ≡ false
   open-call k earlier x h = by (is_entry_of k x.action) refl
     where
-      root : (k : Kind) (b : Bool) (r t : ℕ) → kind_eq k Directory ≡ false → on_given (λ g. kind_eq g.kind k && not (is_closed earlier g.token)) (given_by (cond b (OpenRoot r t) (OpenDirectory x.path (T (parent x.path)) r t))) ≡ false
+      root : (k : Kind) (b : Bool) (r t : ℕ) → kind_eq k Directory ≡ false
+          → on_given (λ g. kind_eq g.kind k && not (is_closed earlier g.token))
+          (given_by (cond b (OpenRoot r t) (OpenDirectory x.path (T (parent x.path)) r t))) ≡ false
       root File true r t e = refl
       root File false r t e = refl
       root Directory b r t e = absurd (true≢false e)
@@ -153,7 +166,8 @@ module _ (T : Path → ℕ) where
       other Directory File e = refl
       other Directory Directory e = e
 
-      none : (a : Action) → is_entry_of k a ≡ false → on_given (λ g. kind_eq g.kind k && not (is_closed earlier g.token)) (given_by (call_by T x.path a)) ≡ false
+      none : (a : Action) → is_entry_of k a ≡ false
+          → on_given (λ g. kind_eq g.kind k && not (is_closed earlier g.token)) (given_by (call_by T x.path a)) ≡ false
       none (Delete r) e = refl
       none (Open Directory r) e = root k (is_root x.path) r (T x.path) e
       none (Open File r) e = ap (λ b. b && not (is_closed earlier (T x.path))) (other k File e)
@@ -165,7 +179,8 @@ module _ (T : Path → ℕ) where
       none (Close Directory c) e = refl
       none (Close File c) e = refl
 
-      by : (b : Bool) → is_entry_of k x.action ≡ b → on_given (λ g. kind_eq g.kind k && not (is_closed earlier g.token)) (given_by (call_at T x)) ≡ false
+      by : (b : Bool) → is_entry_of k x.action ≡ b
+          → on_given (λ g. kind_eq g.kind k && not (is_closed earlier g.token)) (given_by (call_at T x)) ≡ false
       by true e =
           let g = gives_at k x e in
           ap (on_given (λ g. kind_eq g.kind k && not (is_closed earlier g.token))) g.is_found
@@ -182,7 +197,10 @@ module _ (T : Path → ℕ) where
       where
         by : (a : Action) → closes (T p) (call_by T x.path a) ≡ (path_eq x.path p && is_close a)
         by (Delete r) = sym (and-false (path_eq x.path p))
-        by (Open Directory r) = either_call (closes (T p)) false (is_root x.path) (OpenRoot r (T x.path)) (OpenDirectory x.path (T (parent x.path)) r (T x.path)) refl refl ∙ sym (and-false (path_eq x.path p))
+        by (Open Directory r) =
+            either_call (closes (T p)) false (is_root x.path) (OpenRoot r (T x.path))
+            (OpenDirectory x.path (T (parent x.path)) r (T x.path)) refl refl
+            ∙ sym (and-false (path_eq x.path p))
         by (Open File r) = sym (and-false (path_eq x.path p))
         by (Add Directory) = sym (and-false (path_eq x.path p))
         by (Add File) = sym (and-false (path_eq x.path p))
@@ -198,7 +216,10 @@ module _ (T : Path → ℕ) where
       where
         by : (a : Action) → applies_text (T p) (call_by T x.path a) ≡ (path_eq x.path p && is_text a)
         by (Delete r) = sym (and-false (path_eq x.path p))
-        by (Open Directory r) = either_call (applies_text (T p)) false (is_root x.path) (OpenRoot r (T x.path)) (OpenDirectory x.path (T (parent x.path)) r (T x.path)) refl refl ∙ sym (and-false (path_eq x.path p))
+        by (Open Directory r) =
+            either_call (applies_text (T p)) false (is_root x.path) (OpenRoot r (T x.path))
+            (OpenDirectory x.path (T (parent x.path)) r (T x.path)) refl refl
+            ∙ sym (and-false (path_eq x.path p))
         by (Open File r) = sym (and-false (path_eq x.path p))
         by (Add Directory) = sym (and-false (path_eq x.path p))
         by (Add File) = sym (and-false (path_eq x.path p))
@@ -214,7 +235,10 @@ module _ (T : Path → ℕ) where
       where
         by : (a : Action) → changes_dir (T p) (call_by T x.path a) ≡ (path_eq x.path p && is_change_of Directory a)
         by (Delete r) = sym (and-false (path_eq x.path p))
-        by (Open Directory r) = either_call (changes_dir (T p)) false (is_root x.path) (OpenRoot r (T x.path)) (OpenDirectory x.path (T (parent x.path)) r (T x.path)) refl refl ∙ sym (and-false (path_eq x.path p))
+        by (Open Directory r) =
+            either_call (changes_dir (T p)) false (is_root x.path) (OpenRoot r (T x.path))
+            (OpenDirectory x.path (T (parent x.path)) r (T x.path)) refl refl
+            ∙ sym (and-false (path_eq x.path p))
         by (Open File r) = sym (and-false (path_eq x.path p))
         by (Add Directory) = sym (and-false (path_eq x.path p))
         by (Add File) = sym (and-false (path_eq x.path p))
@@ -235,12 +259,16 @@ module _ (T : Path → ℕ) where
         by (Delete r) e h = absurd (true≢false (sym h))
         by (Open Directory r) e h = root (is_root x.path) refl h
           where
-            root : (b : Bool) → is_root x.path ≡ b → on_given (opens_below (T p)) (given_by (cond b (OpenRoot r (T x.path)) (OpenDirectory x.path (T (parent x.path)) r (T x.path)))) ≡ true
+            root : (b : Bool) → is_root x.path ≡ b
+                → on_given (opens_below (T p))
+                (given_by (cond b (OpenRoot r (T x.path)) (OpenDirectory x.path (T (parent x.path)) r (T x.path)))) ≡ true
                 → IsSubdirectory p x
             root true q h = absurd (true≢false (sym h))
             root false q h = record { entry = ap (is_entry_of Directory) e; above = above h; not_root = λ z. q }
         by (Open File r) e h = absurd (true≢false (sym h))
-        by (Add Directory) e h = record { entry = ap (is_entry_of Directory) e; above = above h; not_root = λ z. absurd (true≢false (sym z ∙ ap is_root_action e)) }
+        by (Add Directory) e h =
+            record
+            { entry = ap (is_entry_of Directory) e; above = above h; not_root = λ z. absurd (true≢false (sym z ∙ ap is_root_action e)) }
         by (Add File) e h = absurd (true≢false (sym h))
         by (Change Directory c) e h = absurd (true≢false (sym h))
         by (Change File c) e h = absurd (true≢false (sym h))
@@ -249,10 +277,12 @@ module _ (T : Path → ℕ) where
         by (Close File c) e h = absurd (true≢false (sym h))
 
     -- the test on a given, and a second one where it holds
-    pub open_below-call : (f : Given → Bool) (x : Step) → (IsSubdirectory p x → on_given f (given_by (call_at T x)) ≡ false) → on_given (λ g. opens_below (T p) g && f g) (given_by (call_at T x)) ≡ false
+    pub open_below-call : (f : Given → Bool) (x : Step) → (IsSubdirectory p x → on_given f (given_by (call_at T x)) ≡ false)
+        → on_given (λ g. opens_below (T p) g && f g) (given_by (call_at T x)) ≡ false
     open_below-call f x n = by (given_by (call_at T x)) (λ e. n (sub-given x e))
       where
-        by : (o : Option Given) → (on_given (opens_below (T p)) o ≡ true → on_given f o ≡ false) → on_given (λ g. opens_below (T p) g && f g) o ≡ false
+        by : (o : Option Given) → (on_given (opens_below (T p)) o ≡ true → on_given f o ≡ false)
+            → on_given (λ g. opens_below (T p) g && f g) o ≡ false
         by None k = refl
         by (Some g) k = each (opens_below (T p) g) (f g) k
           where
@@ -261,7 +291,8 @@ module _ (T : Path → ℕ) where
             each false b k = refl
 
     -- so says the other test of it
-    pub opens_subdirectory-call : (x : Step) → opens_subdirectory (T p) (call_at T x) ≡ on_given (opens_below (T p)) (given_by (call_at T x))
+    pub opens_subdirectory-call : (x : Step)
+        → opens_subdirectory (T p) (call_at T x) ≡ on_given (opens_below (T p)) (given_by (call_at T x))
     opens_subdirectory-call x = by (call_at T x)
       where
         by : (c : Call) → opens_subdirectory (T p) c ≡ on_given (opens_below (T p)) (given_by c)
@@ -276,7 +307,10 @@ module _ (T : Path → ℕ) where
     where
       by : (a : Action) → deletes p (call_by T x.path a) ≡ (path_eq x.path p && is_delete a)
       by (Delete r) = sym (and-true (path_eq x.path p))
-      by (Open Directory r) = either_call (deletes p) false (is_root x.path) (OpenRoot r (T x.path)) (OpenDirectory x.path (T (parent x.path)) r (T x.path)) refl refl ∙ sym (and-false (path_eq x.path p))
+      by (Open Directory r) =
+          either_call (deletes p) false (is_root x.path) (OpenRoot r (T x.path))
+          (OpenDirectory x.path (T (parent x.path)) r (T x.path)) refl refl
+          ∙ sym (and-false (path_eq x.path p))
       by (Open File r) = sym (and-false (path_eq x.path p))
       by (Add Directory) = sym (and-false (path_eq x.path p))
       by (Add File) = sym (and-false (path_eq x.path p))
@@ -290,7 +324,8 @@ module _ (T : Path → ℕ) where
   pub opens_entry-call : (p : Path) (x : Step) → opens_entry p (call_at T x) ≡ has is_entry p x
   opens_entry-call p x = by x.action
     where
-      root : (q : Path) (r t : ℕ) → opens_entry p (cond (is_root q) (OpenRoot r t) (OpenDirectory q (T (parent q)) r t)) ≡ (path_eq q p && true)
+      root : (q : Path) (r t : ℕ)
+          → opens_entry p (cond (is_root q) (OpenRoot r t) (OpenDirectory q (T (parent q)) r t)) ≡ (path_eq q p && true)
       root [] r t = sym (and-true (path_eq [] p))
       root (n ∷ q) r t = sym (and-true (path_eq (n ∷ q) p))
 
@@ -312,7 +347,9 @@ module _ (T : Path → ℕ) where
     where
       by : (a : Action) → is_last (call_by T x.path a) ≡ false
       by (Delete r) = refl
-      by (Open Directory r) = either_call is_last false (is_root x.path) (OpenRoot r (T x.path)) (OpenDirectory x.path (T (parent x.path)) r (T x.path)) refl refl
+      by (Open Directory r) =
+          either_call is_last false (is_root x.path) (OpenRoot r (T x.path))
+          (OpenDirectory x.path (T (parent x.path)) r (T x.path)) refl refl
       by (Open File r) = refl
       by (Add Directory) = refl
       by (Add File) = refl
@@ -326,13 +363,15 @@ module _ (T : Path → ℕ) where
 pub last_pick : (f : Given → Bool) (acc : Option ℕ) (xs : List Given) (g : Given) (ys : List Given) → f g ≡ true → list_any f ys ≡ false
     → fold (λ t x. cond (f x) (Some x.token) t) acc (xs ++ g ∷ ys) ≡ Some g.token
 last_pick f acc (x ∷ xs) g ys h k = last_pick f (cond (f x) (Some x.token) acc) xs g ys h k
-last_pick f acc [] g ys h k = ap (λ b. fold (λ t x. cond (f x) (Some x.token) t) (cond b (Some g.token) acc) ys) h ∙ rest ys (Some g.token) k
+last_pick f acc [] g ys h k =
+    ap (λ b. fold (λ t x. cond (f x) (Some x.token) t) (cond b (Some g.token) acc) ys) h ∙ rest ys (Some g.token) k
   where
     rest : (ys : List Given) (o : Option ℕ) → list_any f ys ≡ false → fold (λ t x. cond (f x) (Some x.token) t) o ys ≡ o
     rest [] o k = refl
     rest (y ∷ ys) o k = by (f y) refl k (rest ys o)
       where
-        by : (b : Bool) → f y ≡ b → (b || list_any f ys) ≡ false → (list_any f ys ≡ false → fold (λ t x. cond (f x) (Some x.token) t) o ys ≡ o)
+        by : (b : Bool) → f y ≡ b → (b || list_any f ys) ≡ false
+            → (list_any f ys ≡ false → fold (λ t x. cond (f x) (Some x.token) t) o ys ≡ o)
             → fold (λ t x. cond (f x) (Some x.token) t) (cond b (Some y.token) o) ys ≡ o
         by true e k ih = absurd (true≢false k)
         by false e k ih = ih k

@@ -1,122 +1,47 @@
 -- What a crawl has at each path, and that the crawl of a true copy describes it.
 use Rattle.std.proofs.Common.{◌≡◌, Bool, true, false, List, [], ◌∷◌, refl, sym, ◌∙◌, ap, subst, ◌≢◌, ℕ, ◌&&◌, ◌||◌, not, ◌++◌, true≢false}
-use Rattle.std.specs.Prelude.{Option, Some, None, cond, filter_map, option_map, is_some, nat_eq, bytes_eq}
-use Rattle.std.specs.List.{cons_option}
-use Rattle.std.specs.BTreeMap.{is_at}
+use Rattle.std.specs.Prelude.{Option, Some, None, cond, is_some, nat_eq, bytes_eq}
 use Rattle.std.specs.Map.{keys_of}
-use Rattle.std.proofs.lemmas.Map.Keys.{sorted_tail}
-use Rattle.svn_types.specs.Names.{Path, path_cmp}
-use Rattle.svn_types.specs.Paths.{path_eq, parent, child, is_root, last_name}
-use Rattle.svn_delta.specs.declared.entry.ReportEntry.{ReportEntry}
-use Rattle.svn_delta.specs.Reports.{entry_at, ReportView}
-use Rattle.svn_wc.specs.declared.base_node.BaseNode.{BaseNode}
-use Rattle.svn_wc.specs.Nodes.{get_in, InPathOrder, WorkingCopy, is_present, is_dir, is_incomplete, is_not_present, node_revision, node_path, HasEntries, IsTrueNode}
-use Rattle.svn_wc.specs.Crawl.{entry_for, reported_at, crawl, is_switched}
-use Rattle.svn_law.proofs.Maps.{at_own, at_same, found_first as map_found_first, absent_after as map_absent_after}
-use Rattle.svn_law.proofs.Names.{same_path, path_eq-same, paths_total, path_tie, value_of-first, Name, same_bytes}
+use Rattle.svn_types.specs.Names.{Path}
+use Rattle.svn_types.specs.Paths.{path_eq, child, is_root, last_name}
+use Rattle.svn_report.specs.declared.entry.ReportEntry.{ReportEntry}
+use Rattle.svn_model.specs.declared.base_node.BaseNode.{BaseNode}
+use Rattle.svn_model.specs.Nodes.{get_in, WorkingCopy, is_present, is_dir, is_incomplete, is_not_present, node_revision, node_path}
+use Rattle.svn_model.specs.Nodes.{HasEntries, IsTrueNode}
+use Rattle.svn_model.specs.Crawl.{entry_for, crawl, is_switched}
+use Rattle.svn_edit_law.proofs.Crawls.{crawled, entry_at-crawl}
 use Rattle.std.specs.Option.{option_or}
-use Rattle.std.proofs.lemmas.Bool.{eqb-true, or_parts, not-false, not-true}
-use Rattle.svn_law.proofs.Tests.{dir_present}
+use Rattle.std.proofs.lemmas.Bool.{eqb-true, or_parts, not-false}
+use Rattle.svn_edit_law.proofs.OneNode.{dir_present}
 use Rattle.svn_types.specs.Pairs.{value_of}
+use Rattle.svn_types.proofs.PathLemmas.{same_path, path_ind, parent-child, last_name-child, is_root-child}
+use Rattle.svn_types.proofs.NameLemmas.{value_of-first, Name, same_bytes}
 use Rattle.svn_repo.specs.History.{History, look}
 use Rattle.svn_repo.specs.Readings.{entries_of}
-use Rattle.svn_delta.specs.declared.entry.ReportEntry.TheVariants.{SetPath, LinkPath, DeletePath}
-use Rattle.svn_drive.specs.Sources.{Reported, reported, revision_of, starts_empty, is_set_or_link, linked_or, is_hidden, source, governing_revision}
-use Rattle.svn_wc.specs.declared.base_node.BaseNode.TheVariants.{File as FileNode, Dir as DirNode, NotPresent}
-use Rattle.svn_law.specs.Describes.{Describes}
+use Rattle.svn_report.specs.declared.entry.ReportEntry.TheVariants.{SetPath, LinkPath, DeletePath}
+use Rattle.svn_model.specs.Sources.{Reported, reported, revision_of, starts_empty, is_set_or_link, linked_or, is_hidden, source}
+use Rattle.svn_model.specs.Sources.{governing_revision}
+use Rattle.svn_model.specs.declared.base_node.BaseNode.TheVariants.{File as FileNode, Dir as DirNode, NotPresent}
+use Rattle.svn_model.specs.Describes.{Describes}
 use Rattle.svn_law.specs.Laws.{IsTrueCopy}
-use Rattle.svn_law.proofs.Children.{path_ind, parent-child, last_name-child, is_root-child, entry_below, look-child, reported-child, reported-path}
-
--- ---- the entry at a path
-
-pub found_first : (e : Path × BaseNode) (es : List (Path × BaseNode)) → get_in (e ∷ es) e.0 ≡ Some e.1
-found_first = map_found_first paths_total path_tie
-
-pub absent_after : (e : Path × BaseNode) (es : List (Path × BaseNode)) → InPathOrder (e ∷ es) → get_in es e.0 ≡ None
-absent_after = map_absent_after paths_total path_tie
-
-pub rest_in_order : (e : Path × BaseNode) (es : List (Path × BaseNode)) → InPathOrder (e ∷ es) → InPathOrder es
-rest_in_order e es h = sorted_tail path_cmp e.0 (keys_of es) h
-
--- the test by which a path is looked up
-at_path : (p q : Path) → is_at (path_cmp p) q ≡ path_eq q p
-at_path p q = by (is_at (path_cmp p) q) (path_eq q p) refl refl
-  where
-    by : (a b : Bool) → is_at (path_cmp p) q ≡ a → path_eq q p ≡ b → a ≡ b
-    by true true u v = refl
-    by false false u v = refl
-    by true false u v = sym (sym v ∙ ap (λ x. path_eq x p) (sym (at_same paths_total path_tie p q u)) ∙ path_eq-same p)
-    by false true u v = sym (sym (at_own paths_total path_tie p) ∙ ap (λ x. is_at (path_cmp p) x) (sym (same_path q p v)) ∙ u)
-
--- what is found in a list that begins with a node
-pub get_in-first : (e : Path × BaseNode) (es : List (Path × BaseNode)) (p : Path) → get_in (e ∷ es) p ≡ cond (path_eq e.0 p) (Some e.1) (get_in es p)
-get_in-first e es p = ap (λ b. cond b (Some e.1) (get_in es p)) (at_path p e.0)
-
-abbrev pub crawled : List (Path × BaseNode) → Path → Option BaseNode → Option ReportEntry
-crawled all p None = None
-crawled all p (Some b) = entry_for p (get_in all (parent p)) (Some b)
-
-entry_at-crawled : (all es : List (Path × BaseNode)) → InPathOrder es → (p : Path) → entry_at (filter_map (reported_at all) es) p ≡ crawled all p (get_in es p)
-entry_at-crawled all [] h p = refl
-entry_at-crawled all (e ∷ es) h p =
-    by (entry_for e.0 (get_in all (parent e.0)) (Some e.1)) (path_eq e.0 p) refl refl (entry_at-crawled all es (rest_in_order e es h) p)
-    ∙ ap (crawled all p) (sym (get_in-first e es p))
-  where
-    rest : List (Path × ReportEntry)
-    rest = filter_map (reported_at all) es
-
-    here : path_eq e.0 p ≡ true → crawled all p (Some e.1) ≡ entry_for e.0 (get_in all (parent e.0)) (Some e.1)
-    here q = ap (λ x. entry_for x (get_in all (parent x)) (Some e.1)) (sym (same_path e.0 p q))
-
-    none : path_eq e.0 p ≡ true → crawled all p (get_in es p) ≡ None
-    none q = ap (crawled all p) (subst (λ x. get_in es x ≡ None) (same_path e.0 p q) (absent_after e es h))
-
-    by : (o : Option ReportEntry) (b : Bool) → entry_for e.0 (get_in all (parent e.0)) (Some e.1) ≡ o → path_eq e.0 p ≡ b
-        → entry_at rest p ≡ crawled all p (get_in es p)
-        → entry_at (cons_option (option_map (λ entry. (e.0, entry)) o) rest) p ≡ crawled all p (cond b (Some e.1) (get_in es p))
-    by (Some x) true q c ih = ap (λ b. cond b (Some x) (entry_at rest p)) c ∙ sym q ∙ sym (here c)
-    by (Some x) false q c ih = ap (λ b. cond b (Some x) (entry_at rest p)) c ∙ ih
-    by None true q c ih = ih ∙ none c ∙ sym q ∙ sym (here c)
-    by None false q c ih = ih
-
-pub entry_at-crawl : (nodes : List (Path × BaseNode)) → InPathOrder nodes → (p : Path) → entry_at (crawl nodes).entries p ≡ crawled nodes p (get_in nodes p)
-entry_at-crawl nodes h p = entry_at-crawled nodes nodes h p
-
--- what the report says of a child, by what it says of the parent
-pub record IsChildOf (above here : Reported) (name : Name) : Type 0 where
-  pub governing : here.governing ≡ option_or here.own above.governing
-  pub repos_path : here.repos_path ≡ linked_or here.own (child above.repos_path name)
-
--- an entry at the path itself governs it
-abbrev pub OwnGoverns : Reported → Type 0
-OwnGoverns s = (e : ReportEntry) → s.own ≡ Some e → s.governing ≡ Some e
-
-pub is_child : (r : ReportView) (p : Path) (name : Name) → IsChildOf (reported r p) (reported r (child p name)) name
-is_child r p name = subst (λ s. IsChildOf (reported r p) s name) (sym (reported-child r p name)) (record { governing = refl; repos_path = refl })
-
-own_governs_child : (above here : Reported) (name : Name) → IsChildOf above here name → OwnGoverns here
-own_governs_child above here name c e h = c.governing ∙ ap (λ o. option_or o above.governing) h
-
-pub own_governs : (r : ReportView) (p : Path) → OwnGoverns (reported r p)
-own_governs r = path_ind (λ p. OwnGoverns (reported r p)) (λ e h. h) (λ p name ih. own_governs_child (reported r p) (reported r (child p name)) name (is_child r p name))
-
-pub own-is : (r : ReportView) (p : Path) → (reported r p).own ≡ entry_at r.entries p
-own-is r = path_ind (λ p. (reported r p).own ≡ entry_at r.entries p) refl
-    (λ p name ih. ap (λ (s : Reported). s.own) (reported-child r p name) ∙ ap (λ q. entry_at r.entries (child q name)) (reported-path r p))
+use Rattle.svn_drive_law.proofs.Reporting.{IsChildOf, OwnGoverns, is_child, own_governs, own-is, open_above, source_below, hidden_below}
+use Rattle.svn_drive_law.proofs.Reporting.{source_inherits}
+use Rattle.svn_model.proofs.Children.{entry_below}
 
 -- ---- what the report says of a present node
 
-pub record Shows (s : Reported) (node : Option BaseNode) : Type 0 where
+pub record Shows (s : Reported) (found : Option BaseNode) : Type 0 where
   pub set : is_set_or_link s.governing ≡ true
   pub shown : (is_some s.own || not (starts_empty s.governing)) ≡ true
-  pub revision : revision_of s.governing ≡ node_revision node
-  pub repos_path : s.repos_path ≡ node_path node
-  pub empty : starts_empty s.own ≡ is_incomplete node
+  pub revision : revision_of s.governing ≡ node_revision found
+  pub repos_path : s.repos_path ≡ node_path found
+  pub empty : starts_empty s.own ≡ is_incomplete found
 
 -- where a set or a link stands at the path
-shows_own : (s : Reported) (node : Option BaseNode) (e : ReportEntry) → OwnGoverns s → s.own ≡ Some e → is_set_or_link (Some e) ≡ true
-    → revision_of (Some e) ≡ node_revision node → starts_empty (Some e) ≡ is_incomplete node → s.repos_path ≡ node_path node → Shows s node
-shows_own s node e g o k r i q =
+shows_own : (s : Reported) (found : Option BaseNode) (e : ReportEntry) → OwnGoverns s → s.own ≡ Some e → is_set_or_link (Some e) ≡ true
+    → revision_of (Some e) ≡ node_revision found → starts_empty (Some e) ≡ is_incomplete found → s.repos_path ≡ node_path found
+    → Shows s found
+shows_own s found e g o k r i q =
     let ge = g e o in
     record {
       set = ap is_set_or_link ge ∙ k;
@@ -126,21 +51,17 @@ shows_own s node e g o k r i q =
       empty = ap starts_empty o ∙ i;
     }
 
--- where no entry stands at the path, and the parent's entry isn't one that starts empty
-pub open_above : (s : Reported) → OwnGoverns s → (is_some s.own || not (starts_empty s.governing)) ≡ true → starts_empty s.own ≡ false → starts_empty s.governing ≡ false
-open_above s g h e = by s.own refl
-  where
-    by : (o : Option ReportEntry) → s.own ≡ o → starts_empty s.governing ≡ false
-    by None q = not-true (starts_empty s.governing) (subst (λ o. (is_some o || not (starts_empty s.governing)) ≡ true) q h)
-    by (Some x) q = ap starts_empty (g x q) ∙ sym (ap starts_empty q) ∙ e
-
-shows_inherited : (above here : Reported) (name : Name) (up node : Option BaseNode) → IsChildOf above here name → OwnGoverns above → Shows above up → here.own ≡ None
-    → is_incomplete up ≡ false → is_incomplete node ≡ false → node_revision node ≡ node_revision up → node_path node ≡ child (node_path up) name → Shows here node
-shows_inherited above here name up node c g s o iu i r q =
+shows_inherited : (above here : Reported) (name : Name) (up found : Option BaseNode) → IsChildOf above here name → OwnGoverns above
+    → Shows above up → here.own ≡ None
+    → is_incomplete up ≡ false → is_incomplete found ≡ false → node_revision found ≡ node_revision up
+    → node_path found ≡ child (node_path up) name → Shows here found
+shows_inherited above here name up found c g s o iu i r q =
     let ge : here.governing ≡ above.governing = c.governing ∙ ap (λ x. option_or x above.governing) o in
     record {
       set = ap is_set_or_link ge ∙ s.set;
-      shown = ap (λ x. is_some x || not (starts_empty here.governing)) o ∙ ap (λ x. not (starts_empty x)) ge ∙ ap not (open_above above g s.shown (s.empty ∙ iu));
+      shown =
+          ap (λ x. is_some x || not (starts_empty here.governing)) o ∙ ap (λ x. not (starts_empty x)) ge
+          ∙ ap not (open_above above g s.shown (s.empty ∙ iu));
       revision = ap revision_of ge ∙ s.revision ∙ sym r;
       repos_path = c.repos_path ∙ ap (λ x. linked_or x (child above.repos_path name)) o ∙ ap (λ x. child x name) s.repos_path ∙ sym q;
       empty = ap starts_empty o ∙ sym i;
@@ -153,97 +74,59 @@ chosen true b sw t deleted link set h k = absurd (true≢false h)
 chosen false true sw t deleted link set h k = absurd (true≢false k)
 chosen false false sw t deleted link set h k = refl
 
-present_is_not_deleted : (node : Option BaseNode) → is_present node ≡ true → is_not_present node ≡ false
+present_is_not_deleted : (found : Option BaseNode) → is_present found ≡ true → is_not_present found ≡ false
 present_is_not_deleted None h = absurd (true≢false (sym h))
 present_is_not_deleted (Some (FileNode r q t ps)) h = refl
 present_is_not_deleted (Some (DirNode r q c ps)) h = refl
 present_is_not_deleted (Some NotPresent) h = absurd (true≢false (sym h))
 
-pub shows_child : (above here : Reported) (name : Name) (p : Path) (up node : Option BaseNode) → IsChildOf above here name → OwnGoverns above → Shows above up
-    → here.own ≡ entry_for p up node → is_root p ≡ false → last_name p ≡ name ∷ [] → is_present node ≡ true → Shows here node
-shows_child above here name p up node c g s o root last present =
-    by (is_switched p up node) (is_incomplete up || is_incomplete node || not (nat_eq (node_revision node) (node_revision up))) refl refl
-    (o ∙ chosen (is_root p) (is_not_present node) (is_switched p up node) (is_incomplete up || is_incomplete node || not (nat_eq (node_revision node) (node_revision up)))
-    _ (Some (LinkPath (node_path node) (node_revision node) (is_incomplete node))) (Some (SetPath (node_revision node) (is_incomplete node))) root (present_is_not_deleted node present))
+pub shows_child : (above here : Reported) (name : Name) (p : Path) (up found : Option BaseNode) → IsChildOf above here name
+    → OwnGoverns above → Shows above up
+    → here.own ≡ entry_for p up found → is_root p ≡ false → last_name p ≡ name ∷ [] → is_present found ≡ true → Shows here found
+shows_child above here name p up found c g s o root last present =
+    by (is_switched p up found) (is_incomplete up || is_incomplete found || not (nat_eq (node_revision found) (node_revision up))) refl refl
+    (o ∙ chosen (is_root p) (is_not_present found) (is_switched p up found)
+    (is_incomplete up || is_incomplete found || not (nat_eq (node_revision found) (node_revision up)))
+    _ (Some (LinkPath (node_path found) (node_revision found) (is_incomplete found)))
+    (Some (SetPath (node_revision found) (is_incomplete found))) root (present_is_not_deleted found present))
   where
     gh : OwnGoverns here
-    gh = own_governs_child above here name c
+    gh = (λ e h. c.governing ∙ ap (λ o. option_or o above.governing) h)
 
-    straight : is_switched p up node ≡ false → node_path node ≡ child (node_path up) name
-    straight e = same_path (node_path node) (child (node_path up) name)
-        (ap (λ l. path_eq (node_path node) (node_path up ++ l)) (sym last) ∙ not-false (path_eq (node_path node) (node_path up ++ last_name p)) e)
+    straight : is_switched p up found ≡ false → node_path found ≡ child (node_path up) name
+    straight e = same_path (node_path found) (child (node_path up) name)
+        (ap (λ l. path_eq (node_path found) (node_path up ++ l)) (sym last)
+        ∙ not-false (path_eq (node_path found) (node_path up ++ last_name p)) e)
 
-    by : (sw t : Bool) → is_switched p up node ≡ sw → (is_incomplete up || is_incomplete node || not (nat_eq (node_revision node) (node_revision up))) ≡ t
-        → here.own ≡ cond sw (Some (LinkPath (node_path node) (node_revision node) (is_incomplete node))) (cond t (Some (SetPath (node_revision node) (is_incomplete node))) None)
-        → Shows here node
-    by true t e f q = shows_own here node (LinkPath (node_path node) (node_revision node) (is_incomplete node)) gh q refl refl refl
+    by : (sw t : Bool) → is_switched p up found ≡ sw
+        → (is_incomplete up || is_incomplete found || not (nat_eq (node_revision found) (node_revision up))) ≡ t
+        → here.own ≡ cond sw (Some (LinkPath (node_path found) (node_revision found) (is_incomplete found)))
+        (cond t (Some (SetPath (node_revision found) (is_incomplete found))) None)
+        → Shows here found
+    by true t e f q = shows_own here found (LinkPath (node_path found) (node_revision found) (is_incomplete found)) gh q refl refl refl
         (c.repos_path ∙ ap (λ x. linked_or x (child above.repos_path name)) q)
-    by false true e f q = shows_own here node (SetPath (node_revision node) (is_incomplete node)) gh q refl refl refl
+    by false true e f q = shows_own here found (SetPath (node_revision found) (is_incomplete found)) gh q refl refl refl
         (c.repos_path ∙ ap (λ x. linked_or x (child above.repos_path name)) q ∙ ap (λ x. child x name) s.repos_path ∙ sym (straight e))
     by false false e f q =
-        let parts = or_parts (is_incomplete up || is_incomplete node) (not (nat_eq (node_revision node) (node_revision up))) f in
-        let two = or_parts (is_incomplete up) (is_incomplete node) parts.0 in
-        shows_inherited above here name up node c g s q two.0 two.1 (eqb-true (node_revision node) (node_revision up) (not-false _ parts.1)) (straight e)
+        let parts = or_parts (is_incomplete up || is_incomplete found) (not (nat_eq (node_revision found) (node_revision up))) f in
+        let two = or_parts (is_incomplete up) (is_incomplete found) parts.0 in
+        shows_inherited above here name up found c g s q two.0 two.1
+        (eqb-true (node_revision found) (node_revision up) (not-false _ parts.1))
+        (straight e)
 
 -- ---- where nothing is present, the report shows nothing
 
--- nothing is below a node that isn't there, or that is hidden
-pub source_below : (h : History) (above here : Reported) (name : Name) → IsChildOf above here name → here.own ≡ None
-    → entry_below h (look h (revision_of above.governing) above.repos_path) name ≡ None → source h here ≡ None
-source_below h above here name c o n = by (is_hidden here)
-  where
-    ge : here.governing ≡ above.governing
-    ge = c.governing ∙ ap (λ x. option_or x above.governing) o
-
-    at_path : look h (governing_revision here) here.repos_path ≡ None
-    at_path = ap (λ r. look h r here.repos_path) (ap revision_of ge)
-        ∙ ap (look h (revision_of above.governing)) (c.repos_path ∙ ap (λ x. linked_or x (child above.repos_path name)) o)
-        ∙ look-child h (revision_of above.governing) above.repos_path name ∙ n
-
-    by : (b : Bool) → cond b None (look h (governing_revision here) here.repos_path) ≡ None
-    by true = refl
-    by false = at_path
-
--- an entry above that starts empty hides the path
-pub hidden_below : (h : History) (above here : Reported) (name : Name) → IsChildOf above here name → here.own ≡ None → starts_empty above.governing ≡ true → source h here ≡ None
-hidden_below h above here name c o e = ap (λ b. cond b None (look h (governing_revision here) here.repos_path)) (by (is_set_or_link here.governing))
-  where
-    ge : here.governing ≡ above.governing
-    ge = c.governing ∙ ap (λ x. option_or x above.governing) o
-
-    shut : (is_some here.own || not (starts_empty here.governing)) ≡ false
-    shut = ap (λ x. is_some x || not (starts_empty here.governing)) o ∙ ap (λ x. not (starts_empty x)) ge ∙ ap not e
-
-    by : (k : Bool) → not (k && (is_some here.own || not (starts_empty here.governing))) ≡ true
-    by true = ap not shut
-    by false = refl
-
 -- an entry that deletes hides the path
 deleted_here : (h : History) (here : Reported) → OwnGoverns here → here.own ≡ Some DeletePath → source h here ≡ None
-deleted_here h here g o = ap (λ k. cond (not (is_set_or_link k && (is_some here.own || not (starts_empty here.governing)))) None (look h (governing_revision here) here.repos_path)) (g DeletePath o)
-
--- nothing at the parent, nothing at a child without an entry of its own
-pub source_inherits : (h : History) (above here : Reported) (name : Name) → IsChildOf above here name → here.own ≡ None → source h above ≡ None → source h here ≡ None
-source_inherits h above here name c o n = by (is_set_or_link above.governing) (starts_empty above.governing) refl refl
-  where
-    ge : here.governing ≡ above.governing
-    ge = c.governing ∙ ap (λ x. option_or x above.governing) o
-
-    open_one : (x : Bool) → not (true && (x || true)) ≡ false
-    open_one true = refl
-    open_one false = refl
-
-    by : (k e : Bool) → is_set_or_link above.governing ≡ k → starts_empty above.governing ≡ e → source h here ≡ None
-    by k true p q = hidden_below h above here name c o q
-    by false false p q = ap (λ x. cond (not (x && (is_some here.own || not (starts_empty here.governing)))) None (look h (governing_revision here) here.repos_path)) (ap is_set_or_link ge ∙ p)
-    by true false p q =
-        let up : is_hidden above ≡ false =
-        ap (λ x. not (x && (is_some above.own || not (starts_empty above.governing)))) p ∙ ap (λ x. not (true && (is_some above.own || not x))) q ∙ open_one (is_some above.own) in
-        let none : look h (governing_revision above) above.repos_path ≡ None = sym (ap (λ b. cond b None (look h (governing_revision above) above.repos_path)) up) ∙ n in
-        source_below h above here name c o (ap (λ x. entry_below h x name) none)
+deleted_here h here g o =
+    ap
+    (λ k. cond (not (is_set_or_link k && (is_some here.own || not (starts_empty here.governing)))) None
+    (look h (governing_revision here) here.repos_path))
+    (g DeletePath o)
 
 -- a name without an entry in the copy is none of the node's
-not_named : (w : WorkingCopy) (p : Path) (name : Name) (es : List (List ℕ × ℕ)) → HasEntries w p (keys_of es) → w (child p name) ≡ None → value_of es name ≡ None
+not_named : (w : WorkingCopy) (p : Path) (name : Name) (es : List (List ℕ × ℕ)) → HasEntries w p (keys_of es) → w (child p name) ≡ None
+    → value_of es name ≡ None
 not_named w p name [] h n = refl
 not_named w p name (e ∷ es) h n = value_of-first e es name ∙ by (bytes_eq e.0 name) refl (not_named w p name es h.1 n)
   where
@@ -260,9 +143,9 @@ empty_governs s g h = by s.own refl
 
 -- ---- every path
 
-pub record Covers (h : History) (s : Reported) (node : Option BaseNode) : Type 0 where
-  pub present : is_present node ≡ true → Shows s node
-  pub absent : is_present node ≡ false → source h s ≡ None
+pub record Covers (h : History) (s : Reported) (found : Option BaseNode) : Type 0 where
+  pub present : is_present found ≡ true → Shows s found
+  pub absent : is_present found ≡ false → source h s ≡ None
 
 module _ (h : History) (nodes : List (Path × BaseNode)) (t : IsTrueCopy h nodes) where
   abbrev w : WorkingCopy
@@ -274,18 +157,23 @@ module _ (h : History) (nodes : List (Path × BaseNode)) (t : IsTrueCopy h nodes
   pub own-crawled : (p : Path) → (says p).own ≡ crawled nodes p (w p)
   own-crawled p = own-is (crawl nodes) p ∙ entry_at-crawl nodes t.in_order p
 
-  own-present : (p : Path) (name : Name) (b : BaseNode) → w (child p name) ≡ Some b → (says (child p name)).own ≡ entry_for (child p name) (w p) (Some b)
-  own-present p name b e = own-crawled (child p name) ∙ ap (crawled nodes (child p name)) e ∙ ap (λ q. entry_for (child p name) (w q) (Some b)) (parent-child p name)
+  own-present : (p : Path) (name : Name) (b : BaseNode) → w (child p name) ≡ Some b
+      → (says (child p name)).own ≡ entry_for (child p name) (w p) (Some b)
+  own-present p name b e =
+      own-crawled (child p name) ∙ ap (crawled nodes (child p name)) e
+      ∙ ap (λ q. entry_for (child p name) (w q) (Some b)) (parent-child p name)
 
   covers_root : Covers h (says []) (w [])
   covers_root = by (w []) refl
     where
-      by : (node : Option BaseNode) → w [] ≡ node → Covers h (says []) node
+      by : (found : Option BaseNode) → w [] ≡ found → Covers h (says []) found
       by None e = absurd (true≢false (sym t.shape.root ∙ ap is_dir e))
       by (Some NotPresent) e = absurd (true≢false (sym t.shape.root ∙ ap is_dir e))
       by (Some (FileNode r q x ps)) e = absurd (true≢false (sym t.shape.root ∙ ap is_dir e))
       by (Some (DirNode r q c ps)) e = record {
-        present = λ k. shows_own (says []) (Some (DirNode r q c ps)) (SetPath r (not c)) (λ x o. o) (own-crawled [] ∙ ap (crawled nodes []) e) refl refl refl (ap node_path e);
+        present =
+            λ k. shows_own (says []) (Some (DirNode r q c ps)) (SetPath r (not c)) (λ x o. o)
+            (own-crawled [] ∙ ap (crawled nodes []) e) refl refl refl (ap node_path e);
         absent = λ k. absurd (true≢false k);
       }
 
@@ -296,8 +184,8 @@ module _ (h : History) (nodes : List (Path × BaseNode)) (t : IsTrueCopy h nodes
     governs : OwnGoverns (says p)
     governs = own_governs (crawl nodes) p
 
-    pub is_parent : (node : Option BaseNode) → w (child p name) ≡ node → (node ≢ None) → is_dir (w p) ≡ true
-    is_parent node e n = t.shape.parents p name (λ q. n (sym e ∙ q))
+    pub is_parent : (found : Option BaseNode) → w (child p name) ≡ found → (found ≢ None) → is_dir (w p) ≡ true
+    is_parent found e n = t.shape.parents p name (λ q. n (sym e ∙ q))
 
     present_child : (b : BaseNode) → w (child p name) ≡ Some b → is_present (Some b) ≡ true → Shows (says (child p name)) (Some b)
     present_child b e k =
@@ -310,7 +198,8 @@ module _ (h : History) (nodes : List (Path × BaseNode)) (t : IsTrueCopy h nodes
         → look h (revision_of (says p).governing) (says p).repos_path ≡ Some n
     looked up e k n l =
         let s = ih.present (ap is_present e ∙ k) in
-        ap (λ r. look h r (says p).repos_path) (s.revision ∙ ap node_revision e) ∙ ap (look h (node_revision up)) (s.repos_path ∙ ap node_path e) ∙ l
+        ap (λ r. look h r (says p).repos_path) (s.revision ∙ ap node_revision e)
+        ∙ ap (look h (node_revision up)) (s.repos_path ∙ ap node_path e) ∙ l
 
     no_entry : w (child p name) ≡ None → (says (child p name)).own ≡ None
     no_entry e = own-crawled (child p name) ∙ ap (crawled nodes (child p name)) e
@@ -318,23 +207,30 @@ module _ (h : History) (nodes : List (Path × BaseNode)) (t : IsTrueCopy h nodes
     hides : (r : ℕ) (q : Path) (ps : List (Name × List ℕ)) → w p ≡ Some (DirNode r q false ps) → starts_empty (says p).governing ≡ true
     hides r q ps e = empty_governs (says p) governs ((ih.present (ap is_present e)).empty ∙ ap is_incomplete e)
 
-    nothing_child : (up : Option BaseNode) → w p ≡ up → IsTrueNode h w p up → w (child p name) ≡ None → source h (says (child p name)) ≡ None
+    nothing_child : (up : Option BaseNode) → w p ≡ up → IsTrueNode h w p up → w (child p name) ≡ None
+        → source h (says (child p name)) ≡ None
     nothing_child None u tr e = source_inherits h (says p) (says (child p name)) name child_of (no_entry e) (ih.absent (ap is_present u))
-    nothing_child (Some NotPresent) u tr e = source_inherits h (says p) (says (child p name)) name child_of (no_entry e) (ih.absent (ap is_present u))
+    nothing_child (Some NotPresent) u tr e =
+        source_inherits h (says p) (says (child p name)) name child_of (no_entry e) (ih.absent (ap is_present u))
     nothing_child (Some (FileNode r q x ps)) u tr e =
         source_below h (says p) (says (child p name)) name child_of (no_entry e)
-        (ap (λ o. entry_below h o name) (looked (Some (FileNode r q x ps)) u refl tr.0 tr.1) ∙ ap (λ es. value_of es name) (t.history.files_are_leaves r q tr.0 tr.1 tr.2.kind))
+        (ap (λ o. entry_below h o name) (looked (Some (FileNode r q x ps)) u refl tr.0 tr.1)
+        ∙ ap (λ es. value_of es name) (t.history.files_are_leaves r q tr.0 tr.1 tr.2.kind))
     nothing_child (Some (DirNode r q true ps)) u tr e =
         source_below h (says p) (says (child p name)) name child_of (no_entry e)
-        (ap (λ o. entry_below h o name) (looked (Some (DirNode r q true ps)) u refl tr.0 tr.1) ∙ not_named w p name (entries_of h tr.0) (tr.2.has_entries refl) e)
-    nothing_child (Some (DirNode r q false ps)) u tr e = hidden_below h (says p) (says (child p name)) name child_of (no_entry e) (hides r q ps u)
+        (ap (λ o. entry_below h o name) (looked (Some (DirNode r q true ps)) u refl tr.0 tr.1)
+        ∙ not_named w p name (entries_of h tr.0) (tr.2.has_entries refl) e)
+    nothing_child (Some (DirNode r q false ps)) u tr e =
+        hidden_below h (says p) (says (child p name)) name child_of (no_entry e) (hides r q ps u)
 
     -- the entry of a path that is not present
-    deleted_entry : (a i : Bool) (set : Option ReportEntry) → a ≡ false → cond a set (cond i None (Some DeletePath)) ≡ cond i None (Some DeletePath)
+    deleted_entry : (a i : Bool) (set : Option ReportEntry) → a ≡ false
+        → cond a set (cond i None (Some DeletePath)) ≡ cond i None (Some DeletePath)
     deleted_entry true i set k = absurd (true≢false k)
     deleted_entry false i set k = refl
 
-    pub not_present_own : (up : Option BaseNode) → w p ≡ up → w (child p name) ≡ Some NotPresent → (says (child p name)).own ≡ cond (is_incomplete up) None (Some DeletePath)
+    pub not_present_own : (up : Option BaseNode) → w p ≡ up → w (child p name) ≡ Some NotPresent
+        → (says (child p name)).own ≡ cond (is_incomplete up) None (Some DeletePath)
     not_present_own up u e =
         own-present p name NotPresent e ∙ ap (λ x. entry_for (child p name) x (Some NotPresent)) u
         ∙ deleted_entry (is_root (child p name)) (is_incomplete up) (Some (SetPath 0 false)) (is_root-child p name)
@@ -351,26 +247,38 @@ module _ (h : History) (nodes : List (Path × BaseNode)) (t : IsTrueCopy h nodes
     covers_child : Covers h (says (child p name)) (w (child p name))
     covers_child = by (w (child p name)) refl
       where
-        by : (node : Option BaseNode) → w (child p name) ≡ node → Covers h (says (child p name)) node
+        by : (found : Option BaseNode) → w (child p name) ≡ found → Covers h (says (child p name)) found
         by None e = record { present = λ k. absurd (true≢false (sym k)); absent = λ k. nothing_child (w p) refl (t.true_of p) e }
         by (Some NotPresent) e = record { present = λ k. absurd (true≢false (sym k)); absent = λ k. deleted_child (w p) refl e }
-        by (Some (FileNode r q x ps)) e = record { present = λ k. present_child (FileNode r q x ps) e k; absent = λ k. absurd (true≢false k) }
+        by (Some (FileNode r q x ps)) e =
+            record { present = λ k. present_child (FileNode r q x ps) e k; absent = λ k. absurd (true≢false k) }
         by (Some (DirNode r q c ps)) e = record { present = λ k. present_child (DirNode r q c ps) e k; absent = λ k. absurd (true≢false k) }
 
   pub covers : (p : Path) → Covers h (says p) (w p)
   covers = path_ind (λ p. Covers h (says p) (w p)) covers_root (λ p name ih. covers_child p name ih)
 
   -- the source of a present node is the node that it is true of
-  source_shown : (s : Reported) (node : Option BaseNode) → Shows s node → (n : ℕ) → look h (node_revision node) (node_path node) ≡ Some n → source h s ≡ Some n
-  source_shown s node k n l =
+  source_shown : (s : Reported) (found : Option BaseNode) → Shows s found → (n : ℕ)
+      → look h (node_revision found) (node_path found) ≡ Some n → source h s ≡ Some n
+  source_shown s found k n l =
       let seen : is_hidden s ≡ false = ap (λ x. not (x && (is_some s.own || not (starts_empty s.governing)))) k.set ∙ ap not k.shown in
-      ap (λ b. cond b None (look h (governing_revision s) s.repos_path)) seen ∙ ap (λ r. look h r s.repos_path) k.revision ∙ ap (look h (node_revision node)) k.repos_path ∙ l
+      ap (λ b. cond b None (look h (governing_revision s) s.repos_path)) seen ∙ ap (λ r. look h r s.repos_path) k.revision
+      ∙ ap (look h (node_revision found)) k.repos_path ∙ l
 
-  pub source_present : (p : Path) (node : Option BaseNode) → w p ≡ node → IsTrueNode h w p node → is_present node ≡ true → (n : ℕ) × (source h (says p) ≡ Some n) × (look h (node_revision node) (node_path node) ≡ Some n)
+  pub source_present : (p : Path) (found : Option BaseNode) → w p ≡ found → IsTrueNode h w p found → is_present found ≡ true
+      → (n : ℕ) × (source h (says p) ≡ Some n) × (look h (node_revision found) (node_path found) ≡ Some n)
   source_present p None e tr k = absurd (true≢false (sym k))
   source_present p (Some NotPresent) e tr k = absurd (true≢false (sym k))
-  source_present p (Some (FileNode r q x ps)) e tr k = (tr.0, source_shown (says p) (w p) ((covers p).present (ap is_present e)) tr.0 (ap (λ o. look h (node_revision o) (node_path o)) e ∙ tr.1), tr.1)
-  source_present p (Some (DirNode r q c ps)) e tr k = (tr.0, source_shown (says p) (w p) ((covers p).present (ap is_present e)) tr.0 (ap (λ o. look h (node_revision o) (node_path o)) e ∙ tr.1), tr.1)
+  source_present p (Some (FileNode r q x ps)) e tr k = (
+    tr.0,
+    source_shown (says p) (w p) ((covers p).present (ap is_present e)) tr.0 (ap (λ o. look h (node_revision o) (node_path o)) e ∙ tr.1),
+    tr.1,
+  )
+  source_present p (Some (DirNode r q c ps)) e tr k = (
+    tr.0,
+    source_shown (says p) (w p) ((covers p).present (ap is_present e)) tr.0 (ap (λ o. look h (node_revision o) (node_path o)) e ∙ tr.1),
+    tr.1,
+  )
 
   pub describes : Describes h (crawl nodes) w
   describes p = record {

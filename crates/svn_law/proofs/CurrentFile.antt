@@ -11,25 +11,27 @@ use Rattle.std.proofs.lemmas.Cmp.{tied_itself}
 use Rattle.svn_types.specs.Names.{Path}
 use Rattle.svn_types.specs.Paths.{path_eq, parent, is_root}
 use Rattle.svn_types.specs.declared.kind.Kind.TheVariants.{File, Directory}
-use Rattle.svn_delta.specs.Steps.{Action, Delete, Open, Add, Change, Text, Close, Step}
-use Rattle.svn_delta.specs.declared.call.Call.{Call}
-use Rattle.svn_delta.specs.declared.call.Call.TheVariants.{SetTargetRevision, OpenRoot, OpenDirectory}
-use Rattle.svn_delta.specs.Calls.{current_after, current_file, applies_text, has_its_text}
-use Rattle.svn_drive.specs.Steps.{Named, End, mark_cmp, key_of, comes_after, has_text, is_text, IsDriveOf}
-use Rattle.svn_delta.specs.Calls.{number_eq}
-use Rattle.svn_drive.specs.Follow.{Request}
-use Rattle.svn_drive.specs.Drive.{token_of}
-use Rattle.svn_wc.specs.Nodes.{WorkingCopy}
-use Rattle.svn_law.proofs.Names.{path_eq-same}
-use Rattle.svn_law.proofs.Keys.{keys_total, same_place}
-use Rattle.svn_law.proofs.Classes.{Setting}
+use Rattle.svn_types.proofs.PathLemmas.{path_eq-same}
+use Rattle.svn_editor.specs.Steps.{Action, Delete, Open, Add, Change, Text, Close, Step}
+use Rattle.svn_editor.specs.declared.call.Call.{Call}
+use Rattle.svn_editor.specs.declared.call.Call.TheVariants.{SetTargetRevision, OpenRoot, OpenDirectory}
+use Rattle.svn_editor.specs.Calls.{current_after, current_file, applies_text, has_its_text}
+use Rattle.svn_model.specs.Steps.{Named, End, mark_cmp, key_of, comes_after, has_text, is_text, IsDriveOf}
+use Rattle.svn_editor.specs.Calls.{number_eq}
+use Rattle.svn_model.specs.Follow.{Request}
+use Rattle.svn_model.specs.Drive.{token_of}
+use Rattle.svn_model.specs.Nodes.{WorkingCopy}
+use Rattle.svn_drive_law.proofs.Keys.{keys_total, same_place}
+use Rattle.svn_law.proofs.Described.{Setting}
 use Rattle.svn_law.proofs.FirstSteps.{main_key, entry_is_main}
-use Rattle.svn_law.proofs.Courses.{is_entry_of, entry_of_is_entry, is_close_of, is_inner, inner_of, precedes}
-use Rattle.svn_law.proofs.StepOrder.{never, has_not, has, has_parts, Found, find, any_path_actions, Before, before_step, after_step, own_entry, Within, is_text_closed}
-use Rattle.svn_law.proofs.TokenNumbers.{call_by, call_at, entered, Tells, tells_done}
+use Rattle.svn_drive_law.proofs.Courses.{is_entry_of, entry_of_is_entry, is_close_of, is_inner, inner_of, precedes}
+use Rattle.svn_law.proofs.StepOrder.{never, has_not, has, has_parts, Found, find, any_path_actions, Before, before_step, after_step}
+use Rattle.svn_law.proofs.StepOrder.{own_entry, Within, is_text_closed}
+use Rattle.svn_law.proofs.TokenNumbers.{call_by, call_at, Tells, tells_done}
 use Rattle.svn_law.proofs.CallTests.{either_call}
 use Rattle.svn_law.proofs.OpenDirectories.{drive_there, between}
-use Rattle.svn_law.proofs.Lists.{all_map, all_right, in_whole}
+use Rattle.svn_drive_law.proofs.Lists.{all_map, all_right, in_whole}
+use Rattle.svn_drive_law.proofs.Tokens.{entered}
 
 -- ---- the fold over the steps' calls
 
@@ -66,7 +68,8 @@ module _ (T : Path → ℕ) where
       by a h = absurd (true≢false (sym h))
 
   -- changes and the text of the current file leave it current
-  stays_current : (p : Path) (ys : List Step) → AllByRecursion (λ y. (y.path ≡ p) × (keeps_file y.action ≡ true)) ys → current_by (Some (T p)) ys ≡ Some (T p)
+  stays_current : (p : Path) (ys : List Step) → AllByRecursion (λ y. (y.path ≡ p) × (keeps_file y.action ≡ true)) ys
+      → current_by (Some (T p)) ys ≡ Some (T p)
   stays_current p [] h = refl
   stays_current p (y ∷ ys) h = ap (λ c. current_by c ys) (by y.action h.0.1) ∙ stays_current p ys h.1
     where
@@ -79,7 +82,8 @@ module _ (T : Path → ℕ) where
       by a k = absurd (true≢false (sym k))
 
   -- a file that isn't current becomes so by its opening alone
-  not_current : (q : Path) → Tells T q → (ys : List Step) → AllByRecursion (λ y. has (is_entry_of File) q y ≡ false) ys → (cur : Option ℕ) → number_eq cur (Some (T q)) ≡ false
+  not_current : (q : Path) → Tells T q → (ys : List Step) → AllByRecursion (λ y. has (is_entry_of File) q y ≡ false) ys → (cur : Option ℕ)
+      → number_eq cur (Some (T q)) ≡ false
       → number_eq (current_by cur ys) (Some (T q)) ≡ false
   not_current q tells [] h cur k = k
   not_current q tells (y ∷ ys) h cur k = not_current q tells ys h.1 (current_after cur (call_at T y)) (by y.action h.0)
@@ -91,9 +95,12 @@ module _ (T : Path → ℕ) where
       kept true = k
       kept false = refl
 
-      by : (a : Action) → (path_eq y.path q && is_entry_of File a) ≡ false → number_eq (current_after cur (call_by T y.path a)) (Some (T q)) ≡ false
+      by : (a : Action) → (path_eq y.path q && is_entry_of File a) ≡ false
+          → number_eq (current_after cur (call_by T y.path a)) (Some (T q)) ≡ false
       by (Delete r) e = refl
-      by (Open Directory r) e = either_call (λ c. number_eq (current_after cur c) (Some (T q))) false (is_root y.path) (OpenRoot r (T y.path)) (OpenDirectory y.path (T (parent y.path)) r (T y.path)) refl refl
+      by (Open Directory r) e =
+          either_call (λ c. number_eq (current_after cur c) (Some (T q))) false (is_root y.path) (OpenRoot r (T y.path))
+          (OpenDirectory y.path (T (parent y.path)) r (T y.path)) refl refl
       by (Open File r) e = other e
       by (Add Directory) e = refl
       by (Add File) e = other e
@@ -114,7 +121,10 @@ module _ (T : Path → ℕ) where
     where
       by : (a : Action) → applies_text t (call_by T x.path a) ≡ true → (T x.path ≡ t) × (is_text a ≡ true)
       by (Text s y) h = (eqb-true (T x.path) t h, refl)
-      by (Open Directory r) h = absurd (true≢false (sym h ∙ either_call (applies_text t) false (is_root x.path) (OpenRoot r (T x.path)) (OpenDirectory x.path (T (parent x.path)) r (T x.path)) refl refl))
+      by (Open Directory r) h =
+          absurd (true≢false
+          (sym h ∙ either_call (applies_text t) false (is_root x.path) (OpenRoot r (T x.path))
+          (OpenDirectory x.path (T (parent x.path)) r (T x.path)) refl refl))
       by (Delete r) h = absurd (true≢false (sym h))
       by (Open File r) h = absurd (true≢false (sym h))
       by (Add Directory) h = absurd (true≢false (sym h))
@@ -127,9 +137,11 @@ module _ (T : Path → ℕ) where
 -- ---- at a step of a drive
 
 -- the close of a file that has a text stands where the text does
-text_key : (d : Request) (late : Bool) (x u : Step) → is_text x.action ≡ true → is_close_of File u.action ≡ true → u.path ≡ x.path → has_text d x.path ≡ true → key_of d late u ≡ key_of d late x
+text_key : (d : Request) (late : Bool) (x u : Step) → is_text x.action ≡ true → is_close_of File u.action ≡ true → u.path ≡ x.path
+    → has_text d x.path ≡ true → key_of d late u ≡ key_of d late x
 text_key d late x u h k e t =
-    ap (λ a. key_of d late (record { path = u.path; action = a })) (close_is u.action k).1 ∙ ap (λ p. cond (late && has_text d p) (End ∷ map Named p) (map Named p)) e
+    ap (λ a. key_of d late (record { path = u.path; action = a })) (close_is u.action k).1
+    ∙ ap (λ p. cond (late && has_text d p) (End ∷ map Named p) (map Named p)) e
     ∙ ap (λ b. cond (late && b) (End ∷ map Named x.path) (map Named x.path)) t ∙ both late ∙ sym (text_is x.action h)
   where
     close_is : (a : Action) → is_close_of File a ≡ true → (c : Option (List ℕ)) × (a ≡ Close File c)
@@ -140,11 +152,13 @@ text_key d late x u h k e t =
     both true = refl
     both false = refl
 
-    text_is : (a : Action) → is_text a ≡ true → key_of d late (record { path = x.path; action = a }) ≡ cond late (End ∷ map Named x.path) (map Named x.path)
+    text_is : (a : Action) → is_text a ≡ true
+        → key_of d late (record { path = x.path; action = a }) ≡ cond late (End ∷ map Named x.path) (map Named x.path)
     text_is (Text s y) q = refl
     text_is a q = absurd (true≢false (sym q))
 
-module _ (d : Request) (w : WorkingCopy) (setting : Setting d w) (late : Bool) (done : List Step) (s : Step) (rest : List Step) (drive : IsDriveOf d late (done ++ s ∷ rest)) where
+module _ (d : Request) (w : WorkingCopy) (setting : Setting d w) (late : Bool) (done : List Step) (s : Step) (rest : List Step)
+    (drive : IsDriveOf d late (done ++ s ∷ rest)) where
   abbrev T : Path → ℕ
   T = token_of (entered (done ++ s ∷ rest))
 
@@ -152,21 +166,27 @@ module _ (d : Request) (w : WorkingCopy) (setting : Setting d w) (late : Bool) (
   earlier = SetTargetRevision d.target ∷ map (call_at T) done
 
   -- the file of a step that isn't late is the current one
-  pub current_here : is_inner s.action ≡ true → key_of d late s ≡ map Named s.path → list_any (has (is_entry_of File) s.path) done ≡ true → current_file earlier ≡ Some (T s.path)
+  pub current_here : is_inner s.action ≡ true → key_of d late s ≡ map Named s.path → list_any (has (is_entry_of File) s.path) done ≡ true
+      → current_file earlier ≡ Some (T s.path)
   current_here i k h = by (find (has (is_entry_of File) s.path) done h)
     where
       by : Found (has (is_entry_of File) s.path) done → current_file earlier ≡ Some (T s.path)
       by f =
-          ap (current_by T None) (sym f.cut) ∙ current_from T (Some (T f.here.path)) f.here f.back (entry_current T f.here parts.1) f.front None
+          ap (current_by T None) (sym f.cut)
+          ∙ current_from T (Some (T f.here.path)) f.here f.back (entry_current T f.here parts.1) f.front None
           ∙ ap (λ p. current_by T (Some (T p)) f.back) parts.0
           ∙ stays_current T s.path f.back
-          (all_map (λ (y : Step). Before d late f.here y × Before d late y s) (λ y. (y.path ≡ s.path) × (keeps_file y.action ≡ true)) each f.back (between d late done s rest drive f.front f.here f.back f.cut))
+          (all_map (λ (y : Step). Before d late f.here y × Before d late y s)
+          (λ y. (y.path ≡ s.path) × (keeps_file y.action ≡ true)) each f.back
+          (between d late done s rest drive f.front f.here f.back f.cut))
         where
           parts : (f.here.path ≡ s.path) × (is_entry_of File f.here.action ≡ true)
           parts = has_parts (is_entry_of File) s.path f.here f.passes
 
           same_key : key_of d late f.here ≡ key_of d late s
-          same_key = main_key d late f.here.path f.here.action (entry_is_main f.here.action (entry_of_is_entry File f.here.action parts.1)) ∙ ap (map Named) parts.0 ∙ sym k
+          same_key =
+              main_key d late f.here.path f.here.action (entry_is_main f.here.action (entry_of_is_entry File f.here.action parts.1))
+              ∙ ap (map Named) parts.0 ∙ sym k
 
           each : (y : Step) → Before d late f.here y × Before d late y s → (y.path ≡ s.path) × (keeps_file y.action ≡ true)
           each y b = (place, kept f.here.action y.action parts.1 (b.0.1 (parts.0 ∙ sym place)) (b.1.1 place))
@@ -186,14 +206,17 @@ module _ (d : Request) (w : WorkingCopy) (setting : Setting d w) (late : Bool) (
               kept b a q r t = absurd (true≢false (sym q))
 
   -- a file that is closed isn't current
-  closed_not_current : (q : Path) → Tells T q → list_any (has (is_close_of File) q) done ≡ true → number_eq (current_file earlier) (Some (T q)) ≡ false
+  closed_not_current : (q : Path) → Tells T q → list_any (has (is_close_of File) q) done ≡ true
+      → number_eq (current_file earlier) (Some (T q)) ≡ false
   closed_not_current q tells h = by (find (has (is_close_of File) q) done h)
     where
       by : Found (has (is_close_of File) q) done → number_eq (current_file earlier) (Some (T q)) ≡ false
       by f =
-          ap (λ c. number_eq c (Some (T q))) (ap (current_by T None) (sym f.cut) ∙ current_from T None f.here f.back (close_current T f.here parts.1) f.front None)
+          ap (λ c. number_eq c (Some (T q)))
+          (ap (current_by T None) (sym f.cut) ∙ current_from T None f.here f.back (close_current T f.here parts.1) f.front None)
           ∙ not_current T q tells f.back
-          (all_map (λ (y : Step). Before d late f.here y × Before d late y s) (λ y. has (is_entry_of File) q y ≡ false) each f.back (between d late done s rest drive f.front f.here f.back f.cut)) None refl
+          (all_map (λ (y : Step). Before d late f.here y × Before d late y s) (λ y. has (is_entry_of File) q y ≡ false) each f.back
+          (between d late done s rest drive f.front f.here f.back f.cut)) None refl
         where
           parts : (f.here.path ≡ q) × (is_close_of File f.here.action ≡ true)
           parts = has_parts (is_close_of File) q f.here f.passes
@@ -244,47 +267,64 @@ module _ (d : Request) (w : WorkingCopy) (setting : Setting d w) (late : Bool) (
               after_text (Text y z) a q r = absurd (true≢false (sym r))
 
               entry : Within d late f.front f.here (f.back ++ s ∷ rest) (drive_there d late done s rest drive f.front f.here f.back f.cut)
-              entry = own_entry d late f.front f.here (f.back ++ s ∷ rest) (drive_there d late done s rest drive f.front f.here f.back f.cut) (inner f.here.action text.1)
+              entry =
+                  own_entry d late f.front f.here (f.back ++ s ∷ rest) (drive_there d late done s rest drive f.front f.here f.back f.cut)
+                  (inner f.here.action text.1)
 
               entry_done : list_any (has (is_entry_of entry.kind) f.here.path) done ≡ true
-              entry_done = ap (list_any (has (is_entry_of entry.kind) f.here.path)) (sym f.cut) ∙ in_whole (has (is_entry_of entry.kind) f.here.path) f.front (f.here ∷ f.back) entry.entered
+              entry_done =
+                  ap (list_any (has (is_entry_of entry.kind) f.here.path)) (sym f.cut)
+                  ∙ in_whole (has (is_entry_of entry.kind) f.here.path) f.front (f.here ∷ f.back) entry.entered
 
               tells : Tells T f.here.path
               tells = tells_done d w setting late done s rest drive entry.kind f.here.path entry_done
 
               next : Before d late f.here s
-              next = (all_right (λ y. Before d late y s) f.front (f.here ∷ f.back) (subst (AllByRecursion (λ y. Before d late y s)) (sym f.cut) (before_step d late done s rest drive))).0
+              next =
+                  (all_right (λ y. Before d late y s) f.front (f.here ∷ f.back)
+                  (subst (AllByRecursion (λ y. Before d late y s)) (sym f.cut) (before_step d late done s rest drive))).0
 
               has_one : list_any (has is_text f.here.path) (done ++ s ∷ rest) ≡ true
               has_one =
                   in_whole (has is_text f.here.path) done (s ∷ rest)
                   (ap (list_any (has is_text f.here.path)) (sym f.cut) ∙ list_any-append (has is_text f.here.path) f.front (f.here ∷ f.back)
-                  ∙ ap (λ b. list_any (has is_text f.here.path) f.front || (b || list_any (has is_text f.here.path) f.back)) (ap (λ b. b && is_text f.here.action) (path_eq-same f.here.path) ∙ text.1)
+                  ∙ ap (λ b. list_any (has is_text f.here.path) f.front || (b || list_any (has is_text f.here.path) f.back))
+                  (ap (λ b. b && is_text f.here.action) (path_eq-same f.here.path) ∙ text.1)
                   ∙ or-true (list_any (has is_text f.here.path) f.front))
 
               open_yet : list_any (has (is_close_of File) f.here.path) done ≡ false
               open_yet =
                   never (list_any (has (is_close_of File) f.here.path) done)
-                  (λ q. sym (sym (closed_not_current f.here.path tells q) ∙ ap (λ o. number_eq o (Some (T f.here.path))) e ∙ eq-eqb t (T f.here.path) (sym text.0)))
+                  (λ q. sym (sym (closed_not_current f.here.path tells q) ∙ ap (λ o. number_eq o (Some (T f.here.path))) e
+                  ∙ eq-eqb t (T f.here.path) (sym text.0)))
 
               in_back : (g : Step → Bool) (xs ys : List Step) → list_any g (xs ++ ys) ≡ true → list_any g xs ≡ false → list_any g ys ≡ true
               in_back g xs ys m n = sym (list_any-append g xs ys ∙ ap (λ b. b || list_any g ys) n) ∙ m
 
               closing : Found (has (is_close_of File) f.here.path) (s ∷ rest)
               closing = find (has (is_close_of File) f.here.path) (s ∷ rest)
-                  (in_back (has (is_close_of File) f.here.path) done (s ∷ rest) (is_text_closed d late (done ++ s ∷ rest) drive f.here.path has_one) open_yet)
+                  (in_back (has (is_close_of File) f.here.path) done (s ∷ rest)
+                  (is_text_closed d late (done ++ s ∷ rest) drive f.here.path has_one) open_yet)
 
               later : AllByRecursion (λ u. comes_after d late s u ≡ false) (s ∷ rest)
-              later = (ap is_gt (tied_itself keys_total (key_of d late s)), all_map (λ (u : Step). Before d late s u) (λ u. comes_after d late s u ≡ false) (λ u b. b.0) rest (after_step d late done s rest drive))
+              later = (
+                ap is_gt (tied_itself keys_total (key_of d late s)),
+                all_map (λ (u : Step). Before d late s u) (λ u. comes_after d late s u ≡ false) (λ u b. b.0) rest
+                    (after_step d late done s rest drive),
+              )
 
               ends : comes_after d late s closing.here ≡ false
-              ends = (all_right (λ u. comes_after d late s u ≡ false) closing.front (closing.here ∷ closing.back) (subst (AllByRecursion (λ u. comes_after d late s u ≡ false)) (sym closing.cut) later)).0
+              ends =
+                  (all_right (λ u. comes_after d late s u ≡ false) closing.front (closing.here ∷ closing.back)
+                  (subst (AllByRecursion (λ u. comes_after d late s u ≡ false)) (sym closing.cut) later)).0
 
               close_parts : (closing.here.path ≡ f.here.path) × (is_close_of File closing.here.action ≡ true)
               close_parts = has_parts (is_close_of File) f.here.path closing.here closing.passes
 
               same_key : key_of d late closing.here ≡ key_of d late f.here
-              same_key = text_key d late f.here closing.here text.1 close_parts.1 close_parts.0 (sym (any_path_actions d late (done ++ s ∷ rest) drive is_text f.here.path) ∙ has_one)
+              same_key =
+                  text_key d late f.here closing.here text.1 close_parts.1 close_parts.0
+                  (sym (any_path_actions d late (done ++ s ∷ rest) drive is_text f.here.path) ∙ has_one)
 
               place : f.here.path ≡ s.path
               place = same_place d late f.here s next.0 (ap (λ k. is_gt (slice_cmp mark_cmp (key_of d late s) k)) (sym same_key) ∙ ends)

@@ -1,59 +1,30 @@
 -- What a drive deletes: never a kept path nor one with only kept paths above it; of what isn't kept, the path or one above.
 use Rattle.std.proofs.Common.{◌≡◌, Bool, true, false, ◌&&◌, ◌||◌, ◌⊎◌, not, List, [], ◌∷◌, ◌++◌, refl, sym, ◌∙◌, ap, true≢false, inl, inr}
-use Rattle.std.specs.Prelude.{None, is_some, cond, map, filter, bytes_eq}
+use Rattle.std.specs.Prelude.{None, is_some, cond, map, filter}
 use Rattle.std.specs.List.{list_any}
-use Rattle.std.proofs.lemmas.Bool.{or_left, or_right, false_from_ne_true, and_parts, not-true}
+use Rattle.std.proofs.lemmas.Bool.{or_left, or_right, false_from_ne_true, and_parts}
 use Rattle.std.proofs.lemmas.List.Folds.{list_any-append}
-use Rattle.svn_law.proofs.Tests.{dir_present}
-use Rattle.svn_law.proofs.Names.{Name, bytes_eq-same, same_path, path_eq-same}
+use Rattle.svn_edit_law.proofs.OneNode.{dir_present}
+use Rattle.svn_law.proofs.Described.{Setting}
 use Rattle.svn_types.specs.Names.{Path}
-use Rattle.svn_types.specs.Paths.{path_eq, is_within, is_below, child}
-use Rattle.svn_delta.specs.Steps.{Delete, Step}
-use Rattle.svn_drive.specs.Sources.{source, governing_revision}
-use Rattle.svn_drive.specs.Follow.{Request, follow, is_kept, source_node, target_node}
-use Rattle.svn_drive.specs.Steps.{IsDriveOf, is_gone, entered_actions, path_actions}
-use Rattle.svn_wc.specs.Nodes.{WorkingCopy, is_present}
-use Rattle.svn_law.proofs.Children.{path_ind, follow-here, parent_is_kept-child}
-use Rattle.svn_law.proofs.Classes.{Setting, is_kept-child}
-use Rattle.svn_law.proofs.Courses.{is_delete, course_of, course_kept}
+use Rattle.svn_types.specs.Paths.{is_within, is_below, child}
+use Rattle.svn_types.proofs.NameLemmas.{Name}
+use Rattle.svn_types.proofs.PathLemmas.{same_path, path_eq-same, path_ind, is_within-same, is_within-longer, below_child}
+use Rattle.svn_editor.specs.Steps.{Delete, Step}
+use Rattle.svn_model.specs.Sources.{source, governing_revision}
+use Rattle.svn_model.specs.Follow.{Request, follow, is_kept, source_node, target_node}
+use Rattle.svn_model.specs.Steps.{IsDriveOf, is_gone, entered_actions, path_actions}
+use Rattle.svn_model.specs.Nodes.{WorkingCopy, is_present}
+use Rattle.svn_model.proofs.Children.{follow-here, parent_is_kept-child}
+use Rattle.svn_drive_law.proofs.Classes.{is_kept-child}
+use Rattle.svn_drive_law.proofs.Courses.{is_delete, course_of, course_kept}
 use Rattle.svn_law.proofs.States.{is_at, actions_at, is_deleted_above, base, path_cut}
-
--- ---- paths above
-
-pub is_within-same : (p : Path) → is_within p p ≡ true
-is_within-same [] = refl
-is_within-same (n ∷ p) = ap (λ b. b && is_within p p) (bytes_eq-same n) ∙ is_within-same p
-
-pub is_within-longer : (q p : Path) (name : Name) → is_within q p ≡ true → is_within q (child p name) ≡ true
-is_within-longer [] p name h = refl
-is_within-longer (m ∷ q) [] name h = absurd (true≢false (sym h))
-is_within-longer (m ∷ q) (n ∷ p) name h =
-    let parts = and_parts (bytes_eq m n) (is_within q p) h in
-    ap (λ b. b && is_within q (child p name)) parts.0 ∙ is_within-longer q p name parts.1
-
--- what is above a child is the path or above it
-pub within_child : (q p : Path) (name : Name) → is_within q (child p name) ≡ true → path_eq q (child p name) ≡ false → is_within q p ≡ true
-within_child [] p name h k = refl
-within_child (m ∷ []) [] name h k = absurd (true≢false (sym h ∙ k))
-within_child (m ∷ n ∷ q) [] name h k = absurd (true≢false (sym (and_parts (bytes_eq m name) false h).1))
-within_child (m ∷ q) (n ∷ p) name h k =
-    let parts = and_parts (bytes_eq m n) (is_within q (child p name)) h in
-    ap (λ b. b && is_within q p) parts.0 ∙ within_child q p name parts.1 (sym (ap (λ b. b && path_eq q (child p name)) parts.0) ∙ k)
-
-pub below_child : (q p : Path) (name : Name) → is_below q (child p name) ≡ true → (q ≡ p) ⊎ (is_below q p ≡ true)
-below_child q p name h = by (path_eq q p) refl
-  where
-    parts : (is_within q (child p name) ≡ true) × (not (path_eq q (child p name)) ≡ true)
-    parts = and_parts (is_within q (child p name)) (not (path_eq q (child p name))) h
-
-    by : (b : Bool) → path_eq q p ≡ b → (q ≡ p) ⊎ (is_below q p ≡ true)
-    by true e = inl (same_path q p e)
-    by false e = inr (ap (λ b. b && not (path_eq q p)) (within_child q p name parts.0 (not-true (path_eq q (child p name)) parts.1)) ∙ ap not e)
 
 -- ---- deletes above
 
 -- a delete among the steps of a path above takes the path away
-pub deleted_by : (q p : Path) (steps : List Step) → list_any is_delete (actions_at q steps) ≡ true → is_below q p ≡ true → is_deleted_above steps p ≡ true
+pub deleted_by : (q p : Path) (steps : List Step) → list_any is_delete (actions_at q steps) ≡ true → is_below q p ≡ true
+    → is_deleted_above steps p ≡ true
 deleted_by q p [] h b = absurd (true≢false (sym h))
 deleted_by q p (s ∷ steps) h b = by (is_at q s) (is_delete s.action) refl refl h (λ k. deleted_by q p steps k b)
   where
@@ -61,8 +32,12 @@ deleted_by q p (s ∷ steps) h b = by (is_at q s) (is_delete s.action) refl refl
         → list_any is_delete (map (λ (t : Step). t.action) (cond a (s ∷ filter (is_at q) steps) (filter (is_at q) steps))) ≡ true
         → (list_any is_delete (actions_at q steps) ≡ true → is_deleted_above steps p ≡ true)
         → ((is_delete s.action && is_below s.path p) || is_deleted_above steps p) ≡ true
-    by true true e u k ih = ap (λ z. (z && is_below s.path p) || is_deleted_above steps p) u ∙ ap (λ z. z || is_deleted_above steps p) (ap (λ z. is_below z p) (same_path s.path q e) ∙ b)
-    by true false e u k ih = or_right (is_delete s.action && is_below s.path p) (is_deleted_above steps p) (ih (sym (ap (λ z. z || list_any is_delete (actions_at q steps)) u) ∙ k))
+    by true true e u k ih =
+        ap (λ z. (z && is_below s.path p) || is_deleted_above steps p) u
+        ∙ ap (λ z. z || is_deleted_above steps p) (ap (λ z. is_below z p) (same_path s.path q e) ∙ b)
+    by true false e u k ih =
+        or_right (is_delete s.action && is_below s.path p) (is_deleted_above steps p)
+        (ih (sym (ap (λ z. z || list_any is_delete (actions_at q steps)) u) ∙ k))
     by false x e u k ih = or_right (is_delete s.action && is_below s.path p) (is_deleted_above steps p) (ih k)
 
 -- and what is taken away is so by one
@@ -75,18 +50,23 @@ pub deleter : (p : Path) (steps : List Step) → is_deleted_above steps p ≡ tr
 deleter p [] h = absurd (true≢false (sym h))
 deleter p (s ∷ steps) h = by (is_delete s.action) (is_below s.path p) refl refl h (deleter p steps)
   where
-    longer : (q : Path) (b : Bool) → list_any is_delete (actions_at q steps) ≡ true → list_any is_delete (map (λ (t : Step). t.action) (cond b (s ∷ filter (is_at q) steps) (filter (is_at q) steps))) ≡ true
+    longer : (q : Path) (b : Bool) → list_any is_delete (actions_at q steps) ≡ true
+        → list_any is_delete (map (λ (t : Step). t.action) (cond b (s ∷ filter (is_at q) steps) (filter (is_at q) steps))) ≡ true
     longer q true k = or_right (is_delete s.action) (list_any is_delete (actions_at q steps)) k
     longer q false k = k
 
     later : Deleter p steps → Deleter p (s ∷ steps)
     later r = record { path = r.path; above = r.above; deletes = longer r.path (is_at r.path s) r.deletes }
 
-    by : (a b : Bool) → is_delete s.action ≡ a → is_below s.path p ≡ b → ((a && b) || is_deleted_above steps p) ≡ true → (is_deleted_above steps p ≡ true → Deleter p steps) → Deleter p (s ∷ steps)
+    by : (a b : Bool) → is_delete s.action ≡ a → is_below s.path p ≡ b → ((a && b) || is_deleted_above steps p) ≡ true
+        → (is_deleted_above steps p ≡ true → Deleter p steps) → Deleter p (s ∷ steps)
     by true true e u k ih = record {
       path = s.path;
       above = u;
-      deletes = ap (λ b. list_any is_delete (map (λ (t : Step). t.action) (cond b (s ∷ filter (is_at s.path) steps) (filter (is_at s.path) steps)))) (path_eq-same s.path)
+      deletes =
+          ap
+          (λ b. list_any is_delete (map (λ (t : Step). t.action) (cond b (s ∷ filter (is_at s.path) steps) (filter (is_at s.path) steps))))
+          (path_eq-same s.path)
           ∙ ap (λ b. b || list_any is_delete (actions_at s.path steps)) e;
     }
     by true false e u k ih = later (ih k)
@@ -94,7 +74,8 @@ deleter p (s ∷ steps) h = by (is_delete s.action) (is_below s.path p) refl ref
 
 -- a path that is gone has a delete
 pub gone_deletes : (d : Request) (q : Path) → is_gone d q ≡ true → list_any is_delete (path_actions d q) ≡ true
-gone_deletes d q g = ap (λ b. list_any is_delete (cond b (Delete (governing_revision (follow d q).here) ∷ []) [] ++ entered_actions d q (target_node d q))) g
+gone_deletes d q g =
+    ap (λ b. list_any is_delete (cond b (Delete (governing_revision (follow d q).here) ∷ []) [] ++ entered_actions d q (target_node d q))) g
 
 -- ---- what is kept is never deleted
 
@@ -106,7 +87,8 @@ kept_above d q = path_ind (λ p. is_below q p ≡ true → is_kept d p ≡ true 
     root_case [] h = absurd (true≢false (sym h))
     root_case (m ∷ q) h = absurd (true≢false (sym h))
 
-    more : (p : Path) (name : Name) → (is_below q p ≡ true → is_kept d p ≡ true → is_kept d q ≡ true) → is_below q (child p name) ≡ true → is_kept d (child p name) ≡ true → is_kept d q ≡ true
+    more : (p : Path) (name : Name) → (is_below q p ≡ true → is_kept d p ≡ true → is_kept d q ≡ true) → is_below q (child p name) ≡ true
+        → is_kept d (child p name) ≡ true → is_kept d q ≡ true
     more p name ih h k = by (below_child q p name h)
       where
         up : is_kept d p ≡ true
@@ -125,17 +107,22 @@ kept_above_child d q p name h k = by (below_child q p name h)
     by (inr b) = kept_above d q p b k
 
 -- no step of a drive takes away what has only kept paths above
-pub none_deleted_above : (d : Request) (late : Bool) (done rest : List Step) → IsDriveOf d late (done ++ rest) → (p : Path) → ((q : Path) → is_below q p ≡ true → is_kept d q ≡ true) → is_deleted_above done p ≡ false
+pub none_deleted_above : (d : Request) (late : Bool) (done rest : List Step) → IsDriveOf d late (done ++ rest) → (p : Path)
+    → ((q : Path) → is_below q p ≡ true → is_kept d q ≡ true) → is_deleted_above done p ≡ false
 none_deleted_above d late done rest drive p kept =
     false_from_ne_true (is_deleted_above done p)
     (λ e. let x = deleter p done e in
-    let deletes = sym (ap (list_any is_delete) (path_cut d late done rest drive x.path)) ∙ list_any-append is_delete (actions_at x.path done) (actions_at x.path rest)
+    let deletes =
+    sym (ap (list_any is_delete) (path_cut d late done rest drive x.path))
+    ∙ list_any-append is_delete (actions_at x.path done) (actions_at x.path rest)
     ∙ or_left (list_any is_delete (actions_at x.path done)) (list_any is_delete (actions_at x.path rest)) x.deletes in
     true≢false (sym deletes ∙ course_kept d x.path (path_actions d x.path) (course_of d x.path) (kept x.path x.above)))
 
 -- so a kept path keeps what it had until its own actions
-pub kept_base : (d : Request) (w : WorkingCopy) (late : Bool) (done rest : List Step) → IsDriveOf d late (done ++ rest) → (p : Path) → is_kept d p ≡ true → base w done p ≡ w p
-kept_base d w late done rest drive p k = ap (λ b. cond b None (w p)) (none_deleted_above d late done rest drive p (λ q b. kept_above d q p b k))
+pub kept_base : (d : Request) (w : WorkingCopy) (late : Bool) (done rest : List Step) → IsDriveOf d late (done ++ rest) → (p : Path)
+    → is_kept d p ≡ true → base w done p ≡ w p
+kept_base d w late done rest drive p k =
+    ap (λ b. cond b None (w p)) (none_deleted_above d late done rest drive p (λ q b. kept_above d q p b k))
 
 -- ---- what isn't kept is
 
@@ -147,7 +134,8 @@ module _ (d : Request) (w : WorkingCopy) (setting : Setting d w) where
   gone_child p name ih present k = by (is_kept d p) refl
     where
       here : is_some (source_node d (child p name)) ≡ true
-      here = ap (λ s. is_some (source d.history s)) (follow-here d (child p name)) ∙ sym (setting.describes (child p name)).present ∙ present
+      here =
+          ap (λ s. is_some (source d.history s)) (follow-here d (child p name)) ∙ sym (setting.describes (child p name)).present ∙ present
 
       above : is_present (w p) ≡ true
       above = dir_present (w p) (setting.shape.parents p name (λ q. true≢false (sym present ∙ ap is_present q)))

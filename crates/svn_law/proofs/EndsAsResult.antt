@@ -1,5 +1,6 @@
 -- After all steps of a drive and the last call the copy is the result.
-use Rattle.std.proofs.Common.{◌≡◌, ℕ, Bool, true, false, ◌&&◌, ◌||◌, not, List, [], ◌∷◌, ◌++◌, refl, sym, ◌∙◌, ap, subst, true≢false, append_assoc, append-nil}
+use Rattle.std.proofs.Common.{◌≡◌, ℕ, Bool, true, false, ◌&&◌, ◌||◌, not, List, [], ◌∷◌, ◌++◌, refl, sym, ◌∙◌, ap, subst, true≢false}
+use Rattle.std.proofs.Common.{append-nil}
 use Rattle.std.proofs.Math.Bool.{and-false}
 use Rattle.std.proofs.lemmas.Bool.{false_from_ne_true, or_parts, not-false}
 use Rattle.std.proofs.lemmas.List.Folds.{list_any-append}
@@ -9,28 +10,27 @@ use Rattle.svn_types.specs.Names.{Path}
 use Rattle.svn_types.specs.Paths.{path_eq, is_within, is_below, is_root}
 use Rattle.svn_types.specs.declared.kind.Kind.{Kind}
 use Rattle.svn_types.specs.declared.kind.Kind.TheVariants.{File, Directory}
+use Rattle.svn_types.proofs.PathLemmas.{same_path, path_eq-same}
 use Rattle.svn_repo.specs.History.{History}
 use Rattle.svn_repo.specs.Readings.{are_related, kind_of, text_of, props_of}
-use Rattle.svn_delta.specs.Reports.{has_entry_below}
-use Rattle.svn_delta.specs.Steps.{Mode, Update, SwitchTo, Step}
-use Rattle.svn_delta.specs.declared.call.Call.{Call}
-use Rattle.svn_delta.specs.declared.call.Call.TheVariants.{SetTargetRevision, CloseEdit}
-use Rattle.svn_drive.specs.Steps.{IsDriveOf, is_touched, is_new, is_gone, starts_empty_at, source_props, source_text, path_actions}
-use Rattle.svn_delta.specs.Calls.{number_eq}
-use Rattle.svn_drive.specs.Follow.{Request, is_kept, target_path, source_node, target_node}
-use Rattle.svn_drive.specs.Drive.{numbered, IsDrive}
-use Rattle.svn_wc.specs.declared.base_node.BaseNode.{BaseNode}
-use Rattle.svn_wc.specs.declared.base_node.BaseNode.TheVariants.{File as FileNode, Dir as DirNode, NotPresent}
-use Rattle.svn_wc.specs.Nodes.{WorkingCopy, get_in, is_present, node_path, base_node_by, base_node}
-use Rattle.svn_wc.specs.Effects.{settled, settled_path, effect, after, after_from}
-use Rattle.svn_law.specs.Result.{result}
-use Rattle.svn_law.proofs.CrawlCheckable.{related_of}
-use Rattle.svn_law.specs.Laws.{IsTrueCopy, request_of, HasTarget}
-use Rattle.svn_law.proofs.Tests.{or_first, some_same}
-use Rattle.svn_law.proofs.Names.{same_path, path_eq-same}
-use Rattle.svn_law.proofs.CrawlCheckable.{crawl_describes_holds}
-use Rattle.svn_law.proofs.Classes.{Setting, none_related, both_nodes, kept_related, switched_to}
-use Rattle.svn_law.proofs.Courses.{is_delete}
+use Rattle.svn_report.specs.Reports.{has_entry_below}
+use Rattle.svn_editor.specs.Steps.{Mode, Update, SwitchTo, Step}
+use Rattle.svn_editor.specs.declared.call.Call.{Call}
+use Rattle.svn_editor.specs.declared.call.Call.TheVariants.{SetTargetRevision, CloseEdit}
+use Rattle.svn_model.specs.Steps.{IsDriveOf, is_touched, is_new, is_gone, starts_empty_at, source_props, source_text, path_actions}
+use Rattle.svn_editor.specs.Calls.{number_eq}
+use Rattle.svn_model.specs.Follow.{Request, is_kept, target_path, source_node, target_node}
+use Rattle.svn_model.specs.Drive.{numbered, IsDrive}
+use Rattle.svn_model.specs.declared.base_node.BaseNode.{BaseNode}
+use Rattle.svn_model.specs.declared.base_node.BaseNode.TheVariants.{File as FileNode, Dir as DirNode, NotPresent}
+use Rattle.svn_model.specs.Nodes.{WorkingCopy, is_present, node_path, base_node_by, base_node}
+use Rattle.svn_model.specs.Effects.{settled, settled_path, after}
+use Rattle.svn_model.specs.Result.{result}
+use Rattle.svn_model.proofs.Names.{or_first, some_same}
+use Rattle.svn_law.proofs.Described.{Setting}
+use Rattle.svn_drive_law.proofs.Classes.{none_related, both_nodes, kept_related, switched_to}
+use Rattle.svn_drive_law.proofs.Courses.{is_delete}
+use Rattle.svn_edit_law.proofs.Appending.{after_from-more}
 use Rattle.svn_law.proofs.States.{is_at, actions_at, actions_at-drive, acted, is_deleted_above, base, state, path_cut}
 use Rattle.svn_law.proofs.FirstSteps.{after_next, none_main_left, none_left, delete_is_main}
 use Rattle.svn_law.proofs.Deletes.{deleted_by, gone_deletes, kept_base, gone_above}
@@ -41,7 +41,8 @@ use Rattle.svn_law.proofs.AfterAllSteps.{KeptAs, kept_as, entered_end, ended, ac
 -- ---- what the last call leaves
 
 -- what isn't present goes
-absent_settled : (mode : Mode) (target : ℕ) (p : Path) (found : Option BaseNode) → is_present found ≡ false → settled mode target p found ≡ None
+absent_settled : (mode : Mode) (target : ℕ) (p : Path) (found : Option BaseNode) → is_present found ≡ false
+    → settled mode target p found ≡ None
 absent_settled mode target p None k = refl
 absent_settled mode target p (Some NotPresent) k = refl
 absent_settled mode target p (Some (FileNode r q t ps)) k = absurd (true≢false k)
@@ -69,22 +70,30 @@ module _ (d : Request) (w : WorkingCopy) (setting : Setting d w) where
 
   -- and what is in the target stays as it is
   settled_base : (p : Path) (k : Kind) (text : List ℕ) (props : List (List ℕ × List ℕ))
-      → settled d.mode d.target p (Some (base_node_by k d.target (target_path d p) text props)) ≡ Some (base_node_by k d.target (target_path d p) text props)
+      → settled d.mode d.target p (Some (base_node_by k d.target (target_path d p) text props))
+      ≡ Some (base_node_by k d.target (target_path d p) text props)
   settled_base p File text props = ap (λ q. Some (FileNode d.target q text props)) (settled_at p)
   settled_base p Directory text props = ap (λ q. Some (DirNode d.target q true props)) (settled_at p)
 
   -- a kept path that isn't touched has one node in source and target, and is complete
-  pub untouched_same : (p : Path) → is_kept d p ≡ true → is_touched d p ≡ false → (n : ℕ) × (source_node d p ≡ Some n) × (target_node d p ≡ Some n) × (starts_empty_at d p ≡ false)
+  pub untouched_same : (p : Path) → is_kept d p ≡ true → is_touched d p ≡ false
+      → (n : ℕ) × (source_node d p ≡ Some n) × (target_node d p ≡ Some n) × (starts_empty_at d p ≡ false)
   untouched_same p k t =
-      let or1 = or_parts (is_root p || not (number_eq (source_node d p) (target_node d p)) || starts_empty_at d p) (has_entry_below d.report.entries p)
-      (sym (ap (λ b. b && (is_root p || not (number_eq (source_node d p) (target_node d p)) || starts_empty_at d p || has_entry_below d.report.entries p)) k) ∙ t) in
+      let or1 =
+      or_parts (is_root p || not (number_eq (source_node d p) (target_node d p)) || starts_empty_at d p)
+      (has_entry_below d.report.entries p)
+      (sym (ap
+      (λ b. b && (is_root p || not (number_eq (source_node d p) (target_node d p)) || starts_empty_at d p
+      || has_entry_below d.report.entries p))
+      k) ∙ t) in
       let or2 = or_parts (is_root p || not (number_eq (source_node d p) (target_node d p))) (starts_empty_at d p) or1.0 in
       let or3 = or_parts (is_root p) (not (number_eq (source_node d p) (target_node d p))) or2.0 in
-      let both = both_nodes h (source_node d p) (target_node d p) (kept_related d w setting p k) (not-false _ or3.1) in
+      let both = both_nodes h (source_node d p) (target_node d p) (kept_related d setting.served p k) (not-false _ or3.1) in
       (both.0, both.1, both.2, or2.1)
 
   -- what stands there is what the result has, but for its revision and path
-  settled_untouched : (p : Path) (n : ℕ) (k : Kind) → source_node d p ≡ Some n → starts_empty_at d p ≡ false → is_kept d p ≡ true → KeptAs d w setting p k
+  settled_untouched : (p : Path) (n : ℕ) (k : Kind) → source_node d p ≡ Some n → starts_empty_at d p ≡ false → is_kept d p ≡ true
+      → KeptAs d w setting p k
       → settled d.mode d.target p (w p) ≡ Some (base_node_by k d.target (target_path d p) (text_of h n) (props_of h n))
   settled_untouched p n File s e k kept =
       ap (settled d.mode d.target p) kept.is
@@ -109,12 +118,14 @@ module _ (d : Request) (w : WorkingCopy) (setting : Setting d w) where
       complete = kept.same_complete ∙ ap not e
 
       same_props : kept.props ≡ props_of h n
-      same_props = sym (ap (λ b. cond b kept.props []) complete) ∙ kept.same_props ∙ ap (source_props d p) s ∙ ap (λ b. cond b [] (props_of h n)) e
+      same_props =
+          sym (ap (λ b. cond b kept.props []) complete) ∙ kept.same_props ∙ ap (source_props d p) s ∙ ap (λ b. cond b [] (props_of h n)) e
 
   -- ---- the whole of a drive
 
   -- of what isn't kept nothing is left once all deletes at it and above are done
-  pub nothing_left : (done : List Step) (p : Path) → ((q : Path) → is_below q p ≡ true → is_gone d q ≡ true → is_deleted_above done p ≡ true)
+  pub nothing_left : (done : List Step) (p : Path)
+      → ((q : Path) → is_below q p ≡ true → is_gone d q ≡ true → is_deleted_above done p ≡ true)
       → is_kept d p ≡ false → is_present (cond (is_gone d p) None (base w done p)) ≡ false
   nothing_left done p deleted k = by (is_present (w p)) refl
     where
@@ -137,37 +148,50 @@ module _ (d : Request) (w : WorkingCopy) (setting : Setting d w) where
               split : (b : Bool) → path_eq found.0 p ≡ b → is_present (cond (is_gone d p) None (base w done p)) ≡ false
               split true z = ap (λ g. is_present (cond g None (base w done p))) (sym (ap (is_gone d) (same_path found.0 p z)) ∙ found.2)
               split false z =
-                  ap (λ x. is_present (cond (is_gone d p) None (cond x None (w p)))) (deleted found.0 (ap (λ b. b && not (path_eq found.0 p)) found.1 ∙ ap not z) found.2)
+                  ap (λ x. is_present (cond (is_gone d p) None (cond x None (w p))))
+                  (deleted found.0 (ap (λ b. b && not (path_eq found.0 p)) found.1 ∙ ap not z) found.2)
                   ∙ gone (is_gone d p)
 
   -- in a whole drive they are
-  pub deleted_all : (late : Bool) (steps : List Step) → IsDriveOf d late steps → (p q : Path) → is_below q p ≡ true → is_gone d q ≡ true → is_deleted_above steps p ≡ true
-  deleted_all late steps drive p q b g = deleted_by q p steps (ap (list_any is_delete) (actions_at-drive d late steps drive q) ∙ gone_deletes d q g) b
+  pub deleted_all : (late : Bool) (steps : List Step) → IsDriveOf d late steps → (p q : Path) → is_below q p ≡ true → is_gone d q ≡ true
+      → is_deleted_above steps p ≡ true
+  deleted_all late steps drive p q b g =
+      deleted_by q p steps (ap (list_any is_delete) (actions_at-drive d late steps drive q) ∙ gone_deletes d q g) b
 
   -- and at the next step those above its path
-  pub deleted_next : (late : Bool) (done : List Step) (s : Step) (rest : List Step) → IsDriveOf d late (done ++ s ∷ rest) → (q : Path) → is_below q s.path ≡ true → is_gone d q ≡ true → is_deleted_above done s.path ≡ true
+  pub deleted_next : (late : Bool) (done : List Step) (s : Step) (rest : List Step) → IsDriveOf d late (done ++ s ∷ rest) → (q : Path)
+      → is_below q s.path ≡ true → is_gone d q ≡ true → is_deleted_above done s.path ≡ true
   deleted_next late done s rest drive q b g =
       deleted_by q s.path done
       (or_first (list_any is_delete (actions_at q done)) (list_any is_delete (actions_at q rest)) any
-      (none_left is_delete delete_is_main (actions_at q rest) (none_main_left d late s rest q b (after_next d late done s rest drive.in_order)))) b
+      (none_left is_delete delete_is_main (actions_at q rest)
+      (none_main_left d late s rest q b (after_next d late done s rest drive.in_order)))) b
     where
       elsewhere : path_eq s.path q ≡ false
       elsewhere =
           false_from_ne_true (path_eq s.path q)
-          (λ e. true≢false (sym b ∙ ap (λ x. is_below q x) (same_path s.path q e) ∙ ap (λ x. is_within q q && not x) (path_eq-same q) ∙ and-false (is_within q q)))
+          (λ e. true≢false
+          (sym b ∙ ap (λ x. is_below q x) (same_path s.path q e) ∙ ap (λ x. is_within q q && not x) (path_eq-same q)
+          ∙ and-false (is_within q q)))
 
       any : (list_any is_delete (actions_at q done) || list_any is_delete (actions_at q rest)) ≡ true
       any =
-          ap (λ x. list_any is_delete (actions_at q done) || list_any is_delete (map (λ (t : Step). t.action) (cond x (s ∷ filter (is_at q) rest) (filter (is_at q) rest)))) (sym elsewhere)
+          ap
+          (λ x. list_any is_delete (actions_at q done)
+          || list_any is_delete (map (λ (t : Step). t.action) (cond x (s ∷ filter (is_at q) rest) (filter (is_at q) rest))))
+          (sym elsewhere)
           ∙ sym (list_any-append is_delete (actions_at q done) (actions_at q (s ∷ rest)))
           ∙ ap (list_any is_delete) (path_cut d late done (s ∷ rest) drive q) ∙ gone_deletes d q g
 
   -- where all actions of a path are done it stands as they end
-  pub state_all : (late : Bool) (done rest : List Step) → IsDriveOf d late (done ++ rest) → (p : Path) → actions_at p done ≡ path_actions d p → state d w done p ≡ ended d w setting p (base w done p)
-  state_all late done rest drive p e = ap (acted d p [] (base w done p)) e ∙ acted_all d w setting p (base w done p) (kept_base d w late done rest drive p)
+  pub state_all : (late : Bool) (done rest : List Step) → IsDriveOf d late (done ++ rest) → (p : Path)
+      → actions_at p done ≡ path_actions d p → state d w done p ≡ ended d w setting p (base w done p)
+  state_all late done rest drive p e =
+      ap (acted d p [] (base w done p)) e ∙ acted_all d w setting p (base w done p) (kept_base d w late done rest drive p)
 
   -- after all steps and the last call a path is as in the result
-  pub ends_at : (late : Bool) (steps : List Step) → IsDriveOf d late steps → (p : Path) → settled d.mode d.target p (state d w steps p) ≡ result d p
+  pub ends_at : (late : Bool) (steps : List Step) → IsDriveOf d late steps → (p : Path)
+      → settled d.mode d.target p (state d w steps p) ≡ result d p
   ends_at late steps drive p =
       ap (settled d.mode d.target p) (state_all late steps [] whole p (actions_at-drive d late steps drive p))
       ∙ by (target_node d p) (is_kept d p) (is_touched d p) refl refl refl
@@ -178,47 +202,37 @@ module _ (d : Request) (w : WorkingCopy) (setting : Setting d w) where
       b : Option BaseNode
       b = cond (is_gone d p) None (base w steps p)
 
-      put : (n : ℕ) (x : Bool) → x ≡ true → settled d.mode d.target p (cond x (Some (base_node h d.target (target_path d p) n)) b) ≡ Some (base_node h d.target (target_path d p) n)
-      put n x e = ap (λ y. settled d.mode d.target p (cond y (Some (base_node h d.target (target_path d p) n)) b)) e ∙ settled_base p (kind_of h n) (text_of h n) (props_of h n)
+      put : (n : ℕ) (x : Bool) → x ≡ true
+          → settled d.mode d.target p (cond x (Some (base_node h d.target (target_path d p) n)) b)
+          ≡ Some (base_node h d.target (target_path d p) n)
+      put n x e =
+          ap (λ y. settled d.mode d.target p (cond y (Some (base_node h d.target (target_path d p) n)) b)) e
+          ∙ settled_base p (kind_of h n) (text_of h n) (props_of h n)
 
       by : (o : Option ℕ) (k t : Bool) → target_node d p ≡ o → is_kept d p ≡ k → is_touched d p ≡ t
           → settled d.mode d.target p (entered_end d w setting p o b) ≡ option_map (base_node h d.target (target_path d p)) o
-      by None true t z u v = absurd (none_related h (source_node d p) (sym (ap (are_related h (source_node d p)) z) ∙ kept_related d w setting p u))
+      by None true t z u v =
+          absurd (none_related h (source_node d p) (sym (ap (are_related h (source_node d p)) z) ∙ kept_related d setting.served p u))
       by None false t z u v = absent_settled d.mode d.target p b (nothing_left steps p (deleted_all late steps drive p) u)
       by (Some n) k true z u v = put n (is_touched d p || is_new d p) (ap (λ x. x || is_new d p) v)
-      by (Some n) false false z u v = put n (is_touched d p || is_new d p) (ap (λ x. x || is_new d p) v ∙ ap (λ x. not x && is_some (target_node d p)) u ∙ ap is_some z)
+      by (Some n) false false z u v =
+          put n (is_touched d p || is_new d p) (ap (λ x. x || is_new d p) v ∙ ap (λ x. not x && is_some (target_node d p)) u ∙ ap is_some z)
       by (Some n) true false z u v =
           let one = untouched_same p u v in
           let same : one.0 ≡ n = some_same one.0 n (sym one.2 ∙ z) in
-          ap (λ x. settled d.mode d.target p (cond x (Some (base_node h d.target (target_path d p) n)) b)) (ap (λ x. x || is_new d p) v ∙ ap (λ x. not x && is_some (target_node d p)) u)
+          ap (λ x. settled d.mode d.target p (cond x (Some (base_node h d.target (target_path d p) n)) b))
+          (ap (λ x. x || is_new d p) v ∙ ap (λ x. not x && is_some (target_node d p)) u)
           ∙ ap (λ g. settled d.mode d.target p (cond g None (base w steps p))) (kept_not_gone d w setting p u)
           ∙ ap (settled d.mode d.target p) (kept_base d w late steps [] whole p u)
           ∙ settled_untouched p n (kind_of h n) (one.1 ∙ ap Some same) one.3 u (kept_as d w setting p n u z)
 
   -- ---- the calls
 
-  -- the copy after one more call
-  after-last : (mode : Mode) (earlier : List Call) (w : WorkingCopy) (xs : List Call) (c : Call) → after_from mode earlier w (xs ++ c ∷ []) ≡ effect mode (earlier ++ xs) c (after_from mode earlier w xs)
-  after-last mode earlier w [] c = ap (λ e. effect mode e c w) (sym (append-nil earlier))
-  after-last mode earlier w (x ∷ xs) c =
-      after-last mode (earlier ++ x ∷ []) (effect mode earlier x w) xs c
-      ∙ ap (λ e. effect mode e c (after_from mode (earlier ++ x ∷ []) (effect mode earlier x w) xs)) (append_assoc earlier (x ∷ []) xs)
-
   -- after all calls of a drive the copy is the result
   pub ends : (late : Bool) (calls : List Call) → IsDrive d late calls → (p : Path) → after d.mode w calls p ≡ result d p
   ends late calls drive p =
       ap (λ c. after d.mode w c p) drive.numbered_calls
-      ∙ ap (λ v. v p) (after-last d.mode [] w (SetTargetRevision d.target ∷ numbered [] drive.steps) CloseEdit)
-      ∙ ap (settled d.mode d.target p) (after-first d w setting late drive.steps [] (subst (IsDriveOf d late) (sym (append-nil drive.steps)) drive.of_each_path) p)
+      ∙ ap (λ v. v p) (after_from-more d.mode [] w (SetTargetRevision d.target ∷ numbered [] drive.steps) CloseEdit)
+      ∙ ap (settled d.mode d.target p)
+      (after-first d w setting late drive.steps [] (subst (IsDriveOf d late) (sym (append-nil drive.steps)) drive.of_each_path) p)
       ∙ ends_at late drive.steps drive.of_each_path p
-
--- a true copy that is driven to a target
-pub setting_of : (h : History) (nodes : List (Path × BaseNode)) (target : ℕ) (mode : Mode) (checksum : List ℕ → List ℕ) → IsTrueCopy h nodes → HasTarget (request_of h nodes target mode checksum)
-    → Setting (request_of h nodes target mode checksum) (get_in nodes)
-setting_of h nodes target mode checksum t has = record {
-  history = t.history;
-  shape = t.shape;
-  true_of = t.true_of;
-  describes = (crawl_describes_holds h nodes t).1;
-  has_target = related_of (request_of h nodes target mode checksum) has;
-}

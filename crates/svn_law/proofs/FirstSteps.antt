@@ -12,17 +12,19 @@ use Rattle.std.proofs.lemmas.Cmp.{tied_itself}
 use Rattle.svn_types.specs.Names.{Path, name_cmp}
 use Rattle.svn_types.specs.Paths.{path_eq, is_within, is_below}
 use Rattle.svn_types.specs.declared.kind.Kind.TheVariants.{File, Directory}
-use Rattle.svn_delta.specs.Steps.{Action, Delete, Open, Add, Change, Text, Close, Step}
-use Rattle.svn_drive.specs.Follow.{Request}
-use Rattle.svn_drive.specs.Steps.{Mark, Named, End, mark_cmp, key, key_of, comes_after, has_text, InKeyOrder}
-use Rattle.svn_law.proofs.Names.{same_path, same_bytes, bytes_eq-same}
-use Rattle.svn_law.proofs.Courses.{is_delete, is_entry}
+use Rattle.svn_types.proofs.PathLemmas.{same_path}
+use Rattle.svn_types.proofs.NameLemmas.{same_bytes, bytes_eq-same}
+use Rattle.svn_editor.specs.Steps.{Action, Delete, Open, Add, Change, Text, Close, Step}
+use Rattle.svn_model.specs.Follow.{Request}
+use Rattle.svn_model.specs.Steps.{Mark, Named, End, mark_cmp, key, key_of, comes_after, has_text, InKeyOrder}
+use Rattle.svn_drive_law.proofs.Courses.{is_delete, is_entry}
 use Rattle.svn_law.proofs.States.{is_at, actions_at}
-use Rattle.svn_law.proofs.Lists.{all_map, all_part, none_any, each_fails}
+use Rattle.svn_drive_law.proofs.Lists.{all_map, all_part, none_any, each_fails}
 
 -- ---- keys of paths that stand below one another
 
-longer_key : (p q : Path) (x : List Mark) → is_within p q ≡ true → path_eq p q ≡ false → is_gt (slice_cmp mark_cmp (map Named q ++ x) (map Named p)) ≡ true
+longer_key : (p q : Path) (x : List Mark) → is_within p q ≡ true → path_eq p q ≡ false
+    → is_gt (slice_cmp mark_cmp (map Named q ++ x) (map Named p)) ≡ true
 longer_key [] [] x h k = absurd (true≢false k)
 longer_key [] (n ∷ q) x h k = refl
 longer_key (m ∷ p) [] x h k = absurd (true≢false (sym h))
@@ -36,7 +38,8 @@ late_key : (p : Path) (k : List Mark) → is_gt (slice_cmp mark_cmp (End ∷ k) 
 late_key [] k = refl
 late_key (m ∷ p) k = refl
 
-pub key_above : (d : Request) (late : Bool) (p q : Path) (a : Action) → is_below p q ≡ true → is_gt (slice_cmp mark_cmp (key d late q a) (map Named p)) ≡ true
+pub key_above : (d : Request) (late : Bool) (p q : Path) (a : Action) → is_below p q ≡ true
+    → is_gt (slice_cmp mark_cmp (key d late q a) (map Named p)) ≡ true
 key_above d late p q a b = by_action a
   where
     parts : (is_within p q ≡ true) × (not (path_eq p q) ≡ true)
@@ -63,16 +66,22 @@ key_above d late p q a b = by_action a
 
 -- ---- what stands before and after the next step
 
-pub before_next : (d : Request) (late : Bool) (done : List Step) (s : Step) (rest : List Step) → InKeyOrder d late (done ++ s ∷ rest) → AllByRecursion (λ t. comes_after d late t s ≡ false) done
+pub before_next : (d : Request) (late : Bool) (done : List Step) (s : Step) (rest : List Step) → InKeyOrder d late (done ++ s ∷ rest)
+    → AllByRecursion (λ t. comes_after d late t s ≡ false) done
 before_next d late [] s rest h = tt
-before_next d late (t ∷ done) s rest h = (all_part (λ u. comes_after d late t u ≡ false) done s rest (each_fails (comes_after d late t) (done ++ s ∷ rest) h.0), before_next d late done s rest h.1)
+before_next d late (t ∷ done) s rest h = (
+  all_part (λ u. comes_after d late t u ≡ false) done s rest (each_fails (comes_after d late t) (done ++ s ∷ rest) h.0),
+  before_next d late done s rest h.1,
+)
 
-pub after_next : (d : Request) (late : Bool) (done : List Step) (s : Step) (rest : List Step) → InKeyOrder d late (done ++ s ∷ rest) → AllByRecursion (λ u. comes_after d late s u ≡ false) rest
+pub after_next : (d : Request) (late : Bool) (done : List Step) (s : Step) (rest : List Step) → InKeyOrder d late (done ++ s ∷ rest)
+    → AllByRecursion (λ u. comes_after d late s u ≡ false) rest
 after_next d late [] s rest h = each_fails (comes_after d late s) rest h.0
 after_next d late (t ∷ done) s rest h = after_next d late done s rest h.1
 
 -- no step below the path of a step whose key is its path has been taken
-pub none_below_next : (d : Request) (late : Bool) (done : List Step) (s : Step) (q : Path) → AllByRecursion (λ t. comes_after d late t s ≡ false) done
+pub none_below_next : (d : Request) (late : Bool) (done : List Step) (s : Step) (q : Path)
+    → AllByRecursion (λ t. comes_after d late t s ≡ false) done
     → key_of d late s ≡ map Named s.path → is_below s.path q ≡ true → filter (is_at q) done ≡ []
 none_below_next d late [] s q h k b = refl
 none_below_next d late (t ∷ done) s q h k b = by (is_at q t) refl (none_below_next d late done s q h.1 k b)
@@ -80,7 +89,8 @@ none_below_next d late (t ∷ done) s q h k b = by (is_at q t) refl (none_below_
     by : (x : Bool) → is_at q t ≡ x → filter (is_at q) done ≡ [] → cond x (t ∷ filter (is_at q) done) (filter (is_at q) done) ≡ []
     by true e ih =
         let after : comes_after d late t s ≡ true =
-        ap (λ y. is_gt (slice_cmp mark_cmp (key_of d late t) y)) k ∙ key_above d late s.path t.path t.action (ap (is_below s.path) (same_path t.path q e) ∙ b) in
+        ap (λ y. is_gt (slice_cmp mark_cmp (key_of d late t) y)) k
+        ∙ key_above d late s.path t.path t.action (ap (is_below s.path) (same_path t.path q e) ∙ b) in
         absurd (true≢false (sym after ∙ h.0))
     by false e ih = ih
 
@@ -104,7 +114,8 @@ abbrev pub NoneMain : List Action → Type 0
 NoneMain acts = AllByRecursion (λ a. is_main a ≡ false) acts
 
 -- of the steps above the next one's path those with the path as key have all been taken
-pub none_main_left : (d : Request) (late : Bool) (s : Step) (rest : List Step) (p : Path) → is_below p s.path ≡ true → AllByRecursion (λ u. comes_after d late s u ≡ false) rest → NoneMain (actions_at p rest)
+pub none_main_left : (d : Request) (late : Bool) (s : Step) (rest : List Step) (p : Path) → is_below p s.path ≡ true
+    → AllByRecursion (λ u. comes_after d late s u ≡ false) rest → NoneMain (actions_at p rest)
 none_main_left d late s [] p b h = tt
 none_main_left d late s (u ∷ rest) p b h = by (is_at p u) refl (none_main_left d late s rest p b h.1)
   where
@@ -116,13 +127,17 @@ none_main_left d late s (u ∷ rest) p b h = by (is_at p u) refl (none_main_left
         absurd (true≢false (sym after ∙ h.0))
     by_main false e m = m
 
-    by : (x : Bool) → is_at p u ≡ x → NoneMain (actions_at p rest) → NoneMain (map (λ (s : Step). s.action) (cond x (u ∷ filter (is_at p) rest) (filter (is_at p) rest)))
+    by : (x : Bool) → is_at p u ≡ x → NoneMain (actions_at p rest)
+        → NoneMain (map (λ (s : Step). s.action) (cond x (u ∷ filter (is_at p) rest) (filter (is_at p) rest)))
     by true e ih = (by_main (is_main u.action) e refl, ih)
     by false e ih = ih
 
 -- where no main action is left there is none of a kind of main actions
-pub none_left : (f : Action → Bool) → ((a : Action) → f a ≡ true → is_main a ≡ true) → (acts : List Action) → NoneMain acts → list_any f acts ≡ false
-none_left f main acts n = none_any f acts (all_map (λ a. is_main a ≡ false) (λ a. f a ≡ false) (λ a e. false_from_ne_true (f a) (λ q. true≢false (sym (main a q) ∙ e))) acts n)
+pub none_left : (f : Action → Bool) → ((a : Action) → f a ≡ true → is_main a ≡ true) → (acts : List Action) → NoneMain acts
+    → list_any f acts ≡ false
+none_left f main acts n =
+    none_any f acts
+    (all_map (λ a. is_main a ≡ false) (λ a. f a ≡ false) (λ a e. false_from_ne_true (f a) (λ q. true≢false (sym (main a q) ∙ e))) acts n)
 
 pub delete_is_main : (a : Action) → is_delete a ≡ true → is_main a ≡ true
 delete_is_main (Delete r) e = refl
@@ -134,7 +149,8 @@ entry_is_main (Add k) e = refl
 entry_is_main a e = absurd (true≢false (sym e))
 
 -- where one path comes before another and isn't above it, all that begins with the one comes before all that begins with the other
-pub apart_keys : (p q : Path) (x y : List Mark) → slice_cmp name_cmp p q ≡ Less → is_within p q ≡ false → slice_cmp mark_cmp (map Named p ++ x) (map Named q ++ y) ≡ Less
+pub apart_keys : (p q : Path) (x y : List Mark) → slice_cmp name_cmp p q ≡ Less → is_within p q ≡ false
+    → slice_cmp mark_cmp (map Named p ++ x) (map Named q ++ y) ≡ Less
 apart_keys [] q x y h k = absurd (true≢false k)
 apart_keys (m ∷ p) [] x y h k = cc
 apart_keys (m ∷ p) (n ∷ q) x y h k = by (name_cmp m n) refl h (apart_keys p q x y)

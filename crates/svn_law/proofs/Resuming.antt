@@ -3,45 +3,51 @@ use Rattle.std.proofs.Common.{◌≡◌, ℕ, Bool, true, false, ◌&&◌, ◌�
 use Rattle.std.specs.Prelude.{Option, Some, None, is_some, option_map, cond}
 use Rattle.std.specs.List.{list_any}
 use Rattle.std.proofs.lemmas.Bool.{false_from_ne_true, and_parts}
-use Rattle.svn_law.proofs.Tests.{nat_eq-same, some_number, dir_present}
-use Rattle.svn_law.proofs.Classes.{switched_to}
-use Rattle.svn_law.proofs.Names.{Name}
+use Rattle.svn_model.proofs.Names.{nat_eq-same, some_number}
+use Rattle.svn_edit_law.proofs.OneNode.{dir_present, present_stands}
+use Rattle.svn_law.proofs.Described.{Setting, setting_of, source_looked}
+use Rattle.svn_drive_law.proofs.Classes.{switched_to, is_kept-child, target_path-child, kept_related}
 use Rattle.svn_types.specs.Names.{Path}
 use Rattle.svn_types.specs.Paths.{child}
 use Rattle.svn_types.specs.declared.kind.Kind.{Kind}
 use Rattle.svn_types.specs.declared.kind.Kind.TheVariants.{File, Directory}
+use Rattle.svn_types.proofs.NameLemmas.{Name}
+use Rattle.svn_types.proofs.PathLemmas.{path_ind}
 use Rattle.svn_repo.specs.History.{History, look}
 use Rattle.svn_repo.specs.Readings.{are_related, line_of, kind_of, text_of, props_of}
-use Rattle.svn_delta.specs.Reports.{ReportView}
-use Rattle.svn_drive.specs.Sources.{reported, source}
-use Rattle.svn_delta.specs.Steps.{Mode, Update, SwitchTo, Step}
-use Rattle.svn_delta.specs.declared.call.Call.{Call}
-use Rattle.svn_drive.specs.Follow.{Request, root_path, candidate, is_kept, target_path, source_node, target_node}
-use Rattle.svn_drive.specs.Steps.{IsDriveOf}
-use Rattle.svn_drive.specs.Drive.{IsDrive}
-use Rattle.svn_wc.specs.declared.base_node.BaseNode.{BaseNode}
-use Rattle.svn_wc.specs.Nodes.{WorkingCopy, IsWorkingCopy, IsTrueOf, get_in, InPathOrder, is_present, node_revision, node_path, base_node_by, base_node}
-use Rattle.svn_wc.specs.Crawl.{crawl}
-use Rattle.svn_law.specs.Describes.{Describes}
-use Rattle.svn_wc.specs.Effects.{after}
-use Rattle.svn_law.specs.Result.{result}
-use Rattle.svn_law.proofs.CrawlCheckable.{no_target_fault}
-use Rattle.svn_law.specs.Laws.{IsTrueCopy, request_of, HasTarget, resuming}
-use Rattle.svn_law.proofs.Children.{path_ind, follow-here}
-use Rattle.svn_law.proofs.CrawlCheckable.{crawl_describes_holds}
-use Rattle.svn_law.proofs.Classes.{Setting, shown_source, is_kept-child, target_path-child, kept_related, source_looked}
-use Rattle.svn_law.proofs.Courses.{is_delete}
+use Rattle.svn_report.specs.Reports.{ReportView}
+use Rattle.svn_model.specs.Sources.{reported, source}
+use Rattle.svn_editor.specs.Steps.{Mode, Update, SwitchTo, Step}
+use Rattle.svn_editor.specs.declared.call.Call.{Call}
+use Rattle.svn_report.specs.LawfulReports.{IsReport}
+use Rattle.svn_model.specs.Checks.{IsCheckable}
+use Rattle.svn_model.specs.Follow.{Request, root_path, candidate, is_kept, target_path, source_node, target_node}
+use Rattle.svn_model.specs.Steps.{IsDriveOf}
+use Rattle.svn_model.specs.Drive.{IsDrive}
+use Rattle.svn_model.specs.declared.base_node.BaseNode.{BaseNode}
+use Rattle.svn_model.specs.Nodes.{WorkingCopy, IsWorkingCopy, IsTrueOf, get_in, is_present, node_revision, node_path, base_node_by}
+use Rattle.svn_model.specs.Nodes.{base_node}
+use Rattle.svn_model.specs.Crawl.{crawl}
+use Rattle.svn_model.specs.Describes.{Describes}
+use Rattle.svn_model.specs.Effects.{after}
+use Rattle.svn_model.specs.Result.{result}
+use Rattle.svn_law.proofs.CrawlCheckable.{no_target_fault, crawl_says}
+use Rattle.svn_law.specs.Laws.{IsTrueCopy, IsRequestOf, reported_again, Resumes, stopped_run_resumes}
+use Rattle.svn_model.proofs.Children.{follow-here}
+use Rattle.svn_drive_law.proofs.Reporting.{shown_source}
+use Rattle.svn_drive_law.proofs.Courses.{is_delete}
 use Rattle.svn_law.proofs.States.{actions_at, acted, is_deleted_above, state}
 use Rattle.svn_law.proofs.AfterSteps.{kept_path_is}
-use Rattle.svn_law.proofs.EndsAsResult.{ends, setting_of}
+use Rattle.svn_law.proofs.EndsAsResult.{ends}
 use Rattle.svn_law.proofs.Progress.{kept_or_old, none_deleted, kept_stays}
 use Rattle.svn_law.proofs.PrefixStates.{Stands, absent, not_present, old, opened_file, open_directory, finished, stands}
-use Rattle.svn_law.proofs.PrefixTruth.{present_not_none, kept_target, Reached, under_way, at_end, reached, true_when}
+use Rattle.svn_law.proofs.PrefixTruth.{kept_target, Reached, under_way, at_end, reached, true_when, prefixes_are_true}
 
 -- ---- a copy that a report describes
 
 -- the source of a present node is the node at its repository path
-described_source : (h : History) (r : ReportView) (v : WorkingCopy) → Describes h r v → (p : Path) → is_present (v p) ≡ true → source h (reported r p) ≡ look h (node_revision (v p)) (node_path (v p))
+described_source : (h : History) (r : ReportView) (v : WorkingCopy) → Describes h r v → (p : Path) → is_present (v p) ≡ true
+    → source h (reported r p) ≡ look h (node_revision (v p)) (node_path (v p))
 described_source h r v d p k =
     let s = some_number (source h (reported r p)) (sym (d p).present ∙ k) in
     s.1 ∙ sym (shown_source h (reported r p) s.0 s.1).1
@@ -53,28 +59,28 @@ related_some h (Some m) t e = refl
 
 -- ---- another report, of a copy whose nodes are old ones or the target's
 
--- the request, with another report
-abbrev pub reported_again : Request → ReportView → Request
-reported_again d r = record { history = d.history; report = r; target = d.target; mode = d.mode; checksum = d.checksum }
-
 -- what may stand at a path of the copy that is left, for the path to lead to the same place
 pub data Leads (d : Request) (w : WorkingCopy) (r : ReportView) (p : Path) (found : Option BaseNode) : Type 0 where
   not_there : is_present found ≡ false → is_kept d p ≡ false → Leads d w r p found
   as_before : w p ≡ found → is_present found ≡ true → (is_kept (reported_again d r) p ≡ true → is_kept d p ≡ true) → Leads d w r p found
-  at_target : (n : ℕ) → target_node d p ≡ Some n → is_present found ≡ true → node_revision found ≡ d.target → node_path found ≡ target_path d p → Leads d w r p found
+  at_target : (n : ℕ) → target_node d p ≡ Some n → is_present found ≡ true → node_revision found ≡ d.target
+      → node_path found ≡ target_path d p → Leads d w r p found
 
 -- what is kept stays related to its target
-still_related : (d : Request) (w : WorkingCopy) → Setting d w → (r : ReportView) (p : Path) (found : Option BaseNode) → is_kept d p ≡ true → Leads d w r p found
+still_related : (d : Request) (w : WorkingCopy) → Setting d w → (r : ReportView) (p : Path) (found : Option BaseNode) → is_kept d p ≡ true
+    → Leads d w r p found
     → are_related d.history (look d.history (node_revision found) (node_path found)) (target_node d p) ≡ true
 still_related d w setting r p found k (not_there e f) = absurd (true≢false (sym k ∙ f))
 still_related d w setting r p found k (as_before e present f) =
     let s = source_looked d w setting p (ap is_present e ∙ present) in
     ap (λ o. are_related d.history (look d.history (node_revision o) (node_path o)) (target_node d p)) (sym e)
-    ∙ ap (λ o. are_related d.history o (target_node d p)) (s.2 ∙ sym s.1) ∙ kept_related d w setting p k
+    ∙ ap (λ o. are_related d.history o (target_node d p)) (s.2 ∙ sym s.1) ∙ kept_related d setting.served p k
 still_related d w setting r p found k (at_target n t present e f) =
-    (λ i. are_related d.history (look d.history (e i) (f i)) (target_node d p)) ∙ (λ i. are_related d.history (t i) (t i)) ∙ nat_eq-same (line_of d.history n)
+    (λ i. are_related d.history (look d.history (e i) (f i)) (target_node d p)) ∙ (λ i. are_related d.history (t i) (t i))
+    ∙ nat_eq-same (line_of d.history n)
 
-module _ (d : Request) (w : WorkingCopy) (setting : Setting d w) (update : d.mode ≡ Update) (r : ReportView) (v : WorkingCopy) (describes : Describes d.history r v) where
+module _ (d : Request) (w : WorkingCopy) (setting : Setting d w) (update : d.mode ≡ Update) (r : ReportView) (v : WorkingCopy)
+    (describes : Describes d.history r v) where
   abbrev h : History
   h = d.history
 
@@ -92,7 +98,8 @@ module _ (d : Request) (w : WorkingCopy) (setting : Setting d w) (update : d.mod
   pub candidate_is : (p : Path) (name : Name) → is_present (v (child p name)) ≡ true
       → candidate d.mode (reported r (child p name)).repos_path (child (target_path again p) name) ≡ node_path (v (child p name))
   candidate_is p name k =
-      ap (λ m. candidate m (reported r (child p name)).repos_path (child (target_path again p) name)) update ∙ sym ((describes (child p name)).repos_path k)
+      ap (λ m. candidate m (reported r (child p name)).repos_path (child (target_path again p) name)) update
+      ∙ sym ((describes (child p name)).repos_path k)
 
   -- what is kept is present, and stands at its place in the target
   placed : (p : Path) → is_kept d p ≡ true → Leads d w r p (v p) → (is_present (v p) ≡ true) × (node_path (v p) ≡ target_path d p)
@@ -116,7 +123,9 @@ module _ (d : Request) (w : WorkingCopy) (setting : Setting d w) (update : d.mod
           let up : is_kept again p ≡ true = ih.still_kept (and_parts (is_kept d p) _ (sym (is_kept-child d p name) ∙ k)).0 in
           let z = placed c k l in
           is_kept-child again p name
-          ∙ ap (λ b. b && are_related h (source_node again c) (look h d.target (candidate d.mode (reported r c).repos_path (child (target_path again p) name)))) up
+          ∙ ap (λ b. b
+          && are_related h (source_node again c)
+          (look h d.target (candidate d.mode (reported r c).repos_path (child (target_path again p) name)))) up
           ∙ (λ i. are_related h (source_again c z.0 i) (look h d.target (candidate_is p name z.0 i)))
           ∙ ap (λ q. are_related h (look h (node_revision (v c)) (node_path (v c))) (look h d.target q)) z.1
           ∙ still_related d w setting r c (v c) k l
@@ -135,14 +144,18 @@ module _ (d : Request) (w : WorkingCopy) (setting : Setting d w) (update : d.mod
       by : (b k : Bool) → is_kept again c ≡ b → is_kept d c ≡ k → target_path again c ≡ target_path d c
       by true k e u =
           target_path-child again p name
-          ∙ ap (λ x. cond x (candidate d.mode (reported r c).repos_path (child (target_path again p) name)) (child (target_path again p) name)) e
+          ∙ ap (λ x. cond x (candidate d.mode (reported r c).repos_path (child (target_path again p) name))
+          (child (target_path again p) name)) e
           ∙ candidate_is p name (present_again e) ∙ again_placed e l
       by false true e u = absurd (true≢false (sym (kept u) ∙ e))
       by false false e u =
           target_path-child again p name
-          ∙ ap (λ x. cond x (candidate d.mode (reported r c).repos_path (child (target_path again p) name)) (child (target_path again p) name)) e
+          ∙ ap (λ x. cond x (candidate d.mode (reported r c).repos_path (child (target_path again p) name))
+          (child (target_path again p) name)) e
           ∙ ap (λ q. child q name) ih.same_path
-          ∙ sym (target_path-child d p name ∙ ap (λ x. cond x (candidate d.mode (reported d.report c).repos_path (child (target_path d p) name)) (child (target_path d p) name)) u)
+          ∙ sym (target_path-child d p name
+          ∙ ap (λ x. cond x (candidate d.mode (reported d.report c).repos_path (child (target_path d p) name))
+          (child (target_path d p) name)) u)
 
   -- where each node leads its path to the same place, each path leads there
   pub all_resumed : ((p : Path) → Leads d w r p (v p)) → (p : Path) → Resumed p
@@ -150,7 +163,8 @@ module _ (d : Request) (w : WorkingCopy) (setting : Setting d w) (update : d.mod
 
 -- ---- the copies that a drive leaves
 
-base_leads : (d : Request) (w : WorkingCopy) (r : ReportView) (p : Path) (n : ℕ) → target_node d p ≡ Some n → Leads d w r p (Some (base_node d.history d.target (target_path d p) n))
+base_leads : (d : Request) (w : WorkingCopy) (r : ReportView) (p : Path) (n : ℕ) → target_node d p ≡ Some n
+    → Leads d w r p (Some (base_node d.history d.target (target_path d p) n))
 base_leads d w r p n t = by (kind_of d.history n)
   where
     by : (k : Kind) → Leads d w r p (Some (base_node_by k d.target (target_path d p) (text_of d.history n) (props_of d.history n)))
@@ -184,7 +198,8 @@ module _ (d : Request) (w : WorkingCopy) (setting : Setting d w) (r : ReportView
 
     -- an old node at which nothing is done is kept only where it was before
     abbrev IsOld : Path → Type 0
-    IsOld p = is_present (w p) ≡ true → is_deleted_above steps p ≡ false → actions_at p steps ≡ [] → is_kept resumed p ≡ true → is_kept d p ≡ true
+    IsOld p =
+        is_present (w p) ≡ true → is_deleted_above steps p ≡ false → actions_at p steps ≡ [] → is_kept resumed p ≡ true → is_kept d p ≡ true
 
     not_kept_absent : (p : Path) → is_present (now p) ≡ false → is_kept d p ≡ false
     not_kept_absent p e = false_from_ne_true (is_kept d p) (λ k. true≢false (sym (kept_stays d w setting late steps rest drive p k) ∙ e))
@@ -193,7 +208,8 @@ module _ (d : Request) (w : WorkingCopy) (setting : Setting d w) (r : ReportView
     leads_by : (p : Path) → IsOld p → Leads d w r p (now p)
     leads_by p old_kept = by (now p) refl (stands d w setting late steps rest drive p)
       where
-        by_old : (found : Option BaseNode) → now p ≡ found → w p ≡ found → is_deleted_above steps p ≡ false → actions_at p steps ≡ [] → (b : Bool) → is_present found ≡ b → Leads d w r p found
+        by_old : (found : Option BaseNode) → now p ≡ found → w p ≡ found → is_deleted_above steps p ≡ false → actions_at p steps ≡ []
+            → (b : Bool) → is_present found ≡ b → Leads d w r p found
         by_old found q e above none false k = not_there k (not_kept_absent p (ap is_present q ∙ k))
         by_old found q e above none true k = as_before e k (old_kept (ap is_present e ∙ k) above none)
 
@@ -225,8 +241,14 @@ module _ (d : Request) (w : WorkingCopy) (setting : Setting d w) (r : ReportView
           present_now = ap is_present stands_now ∙ present
 
           parts : (is_kept resumed p ≡ true)
-              × (are_related d.history (source_node resumed (child p name)) (look d.history d.target (candidate d.mode (reported r (child p name)).repos_path (child (target_path resumed p) name))) ≡ true)
-          parts = and_parts (is_kept resumed p) (are_related d.history (source_node resumed c) (look d.history d.target (candidate d.mode (reported r c).repos_path (child (target_path resumed p) name)))) (sym (is_kept-child resumed p name) ∙ k)
+              × (are_related d.history (source_node resumed (child p name))
+              (look d.history d.target (candidate d.mode (reported r (child p name)).repos_path (child (target_path resumed p) name)))
+              ≡ true)
+          parts =
+              and_parts (is_kept resumed p)
+              (are_related d.history (source_node resumed c)
+              (look d.history d.target (candidate d.mode (reported r c).repos_path (child (target_path resumed p) name))))
+              (sym (is_kept-child resumed p name) ∙ k)
 
           up : is_kept d p ≡ true
           up = by (kept_or_old d w setting late steps rest drive p old_present deleted.0 deleted.1)
@@ -235,7 +257,7 @@ module _ (d : Request) (w : WorkingCopy) (setting : Setting d w) (r : ReportView
               deleted = none_deleted d w setting late steps rest drive p name above
 
               old_present : is_present (w p) ≡ true
-              old_present = dir_present (w p) (setting.shape.parents p name (present_not_none (w (child p name)) present))
+              old_present = dir_present (w p) (setting.shape.parents p name (present_stands (w (child p name)) present))
 
               by : (is_kept d p ≡ true) ⊎ (actions_at p steps ≡ []) → is_kept d p ≡ true
               by (inl kept) = kept
@@ -244,12 +266,15 @@ module _ (d : Request) (w : WorkingCopy) (setting : Setting d w) (r : ReportView
           same_source : source_node d (child p name) ≡ source_node resumed (child p name)
           same_source =
               let s = source_looked d w setting c present in
-              s.1 ∙ sym s.2 ∙ ap (λ o. look d.history (node_revision o) (node_path o)) (sym stands_now) ∙ sym (source_again d w setting update r now describes c present_now)
+              s.1 ∙ sym s.2 ∙ ap (λ o. look d.history (node_revision o) (node_path o)) (sym stands_now)
+              ∙ sym (source_again d w setting update r now describes c present_now)
 
-          same_candidate : candidate d.mode (reported d.report (child p name)).repos_path (child (target_path d p) name) ≡ candidate d.mode (reported r (child p name)).repos_path (child (target_path resumed p) name)
+          same_candidate : candidate d.mode (reported d.report (child p name)).repos_path (child (target_path d p) name)
+              ≡ candidate d.mode (reported r (child p name)).repos_path (child (target_path resumed p) name)
           same_candidate =
               ap (λ m. candidate m (reported d.report c).repos_path (child (target_path d p) name)) update
-              ∙ sym ((setting.describes c).repos_path present) ∙ ap node_path (sym stands_now) ∙ sym (candidate_is d w setting update r now describes p name present_now)
+              ∙ sym ((setting.describes c).repos_path present) ∙ ap node_path (sym stands_now)
+              ∙ sym (candidate_is d w setting update r now describes p name present_now)
 
       old_kept : (p : Path) → IsOld p
       old_kept = path_ind IsOld (λ present above none k. refl) old_child
@@ -258,24 +283,29 @@ module _ (d : Request) (w : WorkingCopy) (setting : Setting d w) (r : ReportView
       prefix_leads p = leads_by p (old_kept p)
 
 -- the copy that is left leads each path to the same place
-pub same_target_path : (d : Request) (w : WorkingCopy) → Setting d w → (late : Bool) (r : ReportView) (v : WorkingCopy) → Reached d w late v → Describes d.history r v → (p : Path) → target_path (reported_again d r) p ≡ target_path d p
+pub same_target_path : (d : Request) (w : WorkingCopy) → Setting d w → (late : Bool) (r : ReportView) (v : WorkingCopy) → Reached d w late v
+    → Describes d.history r v → (p : Path) → target_path (reported_again d r) p ≡ target_path d p
 same_target_path d w setting late r v where_now describes = by d.mode refl
   where
     in_update : d.mode ≡ Update → Reached d w late v → (p : Path) → target_path (reported_again d r) p ≡ target_path d p
     in_update m (under_way xs ys drive e) p =
         let now = subst (Describes d.history r) e describes in
         (all_resumed d w setting m r (state d w xs) now (prefix_leads d w setting r late xs ys drive m now) p).same_path
-    in_update m (at_end e) p = (all_resumed d w setting m r (result d) (subst (Describes d.history r) e describes) (result_leads d w setting r) p).same_path
+    in_update m (at_end e) p =
+        (all_resumed d w setting m r (result d) (subst (Describes d.history r) e describes) (result_leads d w setting r) p).same_path
 
     by : (m : Mode) → d.mode ≡ m → (p : Path) → target_path (reported_again d r) p ≡ target_path d p
     by Update m p = in_update m where_now p
     by (SwitchTo root) m p = switched_to (reported_again d r) root m p ∙ sym (switched_to d root m p)
 
 -- and its root is the target's
-pub same_root : (d : Request) (w : WorkingCopy) → Setting d w → (late : Bool) (r : ReportView) (v : WorkingCopy) → Reached d w late v → Describes d.history r v → are_related d.history (source_node (reported_again d r) []) (target_node (reported_again d r) []) ≡ true
+pub same_root : (d : Request) (w : WorkingCopy) → Setting d w → (late : Bool) (r : ReportView) (v : WorkingCopy) → Reached d w late v
+    → Describes d.history r v → are_related d.history (source_node (reported_again d r) []) (target_node (reported_again d r) []) ≡ true
 same_root d w setting late r v where_now describes =
-    ap (λ o. are_related d.history o (target_node (reported_again d r) [])) (described_source d.history r v describes [] (present where_now))
-    ∙ ap (λ q. are_related d.history (look d.history (node_revision (v [])) (node_path (v []))) (look d.history d.target q)) (same_target_path d w setting late r v where_now describes [])
+    ap (λ o. are_related d.history o (target_node (reported_again d r) []))
+    (described_source d.history r v describes [] (present where_now))
+    ∙ ap (λ q. are_related d.history (look d.history (node_revision (v [])) (node_path (v []))) (look d.history d.target q))
+    (same_target_path d w setting late r v where_now describes [])
     ∙ still_related d w setting r [] (v []) refl (root where_now)
   where
     root : Reached d w late v → Leads d w r [] (v [])
@@ -285,55 +315,57 @@ same_root d w setting late r v where_now describes =
     present : Reached d w late v → is_present (v []) ≡ true
     present k = dir_present (v []) (true_when d w setting late v k).0.root
 
--- ---- the law
+-- ---- the laws
 
-module _ (h : History) (nodes stopped : List (Path × BaseNode)) (target : ℕ) (mode : Mode) (checksum : List ℕ → List ℕ) (late : Bool) (calls : List Call) (n : ℕ) (t : IsTrueCopy h nodes)
-    (has : HasTarget (request_of h nodes target mode checksum)) (drive : IsDrive (request_of h nodes target mode checksum) late calls) (ordered : InPathOrder stopped)
-    (same : (p : Path) → get_in stopped p ≡ after mode (get_in nodes) (take n calls) p) where
-  abbrev d : Request
-  d = request_of h nodes target mode checksum
+module _ (d : Request) (w left : WorkingCopy) (late : Bool) (calls : List Call) (n : ℕ) (r : ReportView) (asked : IsRequestOf d w)
+    (drive : IsDrive d late calls)
+    (same : (p : Path) → left p ≡ after d.mode w (take n calls) p) (report : IsReport r) (checkable : IsCheckable d.history r)
+    (describes : Describes d.history r left) where
+  setting : Setting d w
+  setting = setting_of d w asked
 
-  abbrev left : WorkingCopy
-  left = after mode (get_in nodes) (take n calls)
+  where_left : Reached d w late left
+  where_left = subst (Reached d w late) (λ i p. sym (same p) i) (reached d w setting late calls drive n)
 
-  setting : Setting d (get_in nodes)
-  setting = setting_of h nodes target mode checksum t has
+  again_path : (p : Path) → target_path (reported_again d r) p ≡ target_path d p
+  again_path = same_target_path d w setting late r left where_left describes
 
-  where_left : Reached d (get_in nodes) late left
-  where_left = reached d (get_in nodes) setting late calls drive n
+  -- the second request is one of the copy that is left
+  again_asked : IsRequestOf (reported_again d r) left
+  again_asked =
+      let holds = true_when d w setting late left where_left in
+      record {
+        history = asked.history;
+        shape = holds.0;
+        true_of = holds.1;
+        report = report;
+        checkable = checkable;
+        describes = describes;
+        has_target = no_target_fault (reported_again d r) (same_root d w setting late r left where_left describes);
+      }
 
-  left_is : left ≡ get_in stopped
-  left_is = λ i p. sym (same p) i
+  again_result : (p : Path) → result (reported_again d r) p ≡ result d p
+  again_result p = ap (λ q. option_map (base_node d.history d.target q) (look d.history d.target q)) (again_path p)
 
-  -- the copy that is left is true
-  pub stopped_true : IsTrueCopy h stopped
-  stopped_true =
-      let holds = true_when d (get_in nodes) setting late left where_left in
-      record { history = t.history; in_order = ordered; shape = subst IsWorkingCopy left_is holds.0; true_of = subst (IsTrueOf h) left_is holds.1 }
+  pub resumes : Resumes d (reported_again d r) left
+  resumes = record {
+    asked = again_asked;
+    same_paths = again_path;
+    same_result = again_result;
+    ends =
+        λ late' calls' drive' p. ends (reported_again d r) left (setting_of (reported_again d r) left again_asked) late' calls' drive' p
+        ∙ again_result p;
+  }
 
-  stopped_described : Describes h (crawl stopped) left
-  stopped_described = subst (Describes h (crawl stopped)) (sym left_is) (crawl_describes_holds h stopped stopped_true).1
-
-  pub stopped_path : (p : Path) → target_path (request_of h stopped target mode checksum) p ≡ target_path d p
-  stopped_path = same_target_path d (get_in nodes) setting late (crawl stopped) left where_left stopped_described
-
-  -- it has a target
-  pub stopped_target : HasTarget (request_of h stopped target mode checksum)
-  stopped_target = no_target_fault (request_of h stopped target mode checksum) (same_root d (get_in nodes) setting late (crawl stopped) left where_left stopped_described)
-
-  -- and its result is the same
-  pub stopped_result : (p : Path) → result (request_of h stopped target mode checksum) p ≡ result d p
-  stopped_result p = ap (λ q. option_map (base_node h target q) (look h target q)) (stopped_path p)
-
-  -- so a drive of it, with texts early or late, ends with that
-  pub stopped_ends : (late' : Bool) (calls' : List Call) → IsDrive (request_of h stopped target mode checksum) late' calls' → (p : Path) → after mode (get_in stopped) calls' p ≡ result d p
-  stopped_ends late' calls' drive' p =
-      ends (request_of h stopped target mode checksum) (get_in stopped) (setting_of h stopped target mode checksum stopped_true stopped_target) late' calls' drive' p ∙ stopped_result p
-
-pub resuming_holds : resuming
-resuming_holds h nodes stopped target mode checksum late calls n t has drive ordered same = record {
-  has_target = stopped_target h nodes stopped target mode checksum late calls n t has drive ordered same;
-  same_paths = stopped_path h nodes stopped target mode checksum late calls n t has drive ordered same;
-  same_result = stopped_result h nodes stopped target mode checksum late calls n t has drive ordered same;
-  ends = stopped_ends h nodes stopped target mode checksum late calls n t has drive ordered same;
-}
+pub run_resumes : stopped_run_resumes
+run_resumes d w late calls n nodes asked drive order same =
+    let holds = prefixes_are_true d w late calls n asked drive in
+    let left_is : after d.mode w (take n calls) ≡ get_in nodes = (λ i p. sym (same p) i) in
+    let copy : IsTrueCopy d.history nodes = record {
+      history = asked.history;
+      in_order = order;
+      shape = subst IsWorkingCopy left_is holds.0;
+      true_of = subst (IsTrueOf d.history) left_is holds.1;
+    } in
+    let says = crawl_says d.history nodes copy in
+    resumes d w (get_in nodes) late calls n (crawl nodes) asked drive same says.report says.checkable says.describes

@@ -1,5 +1,6 @@
 -- What stands at each path after the first steps of a drive, path by path.
-use Rattle.std.proofs.Common.{ℕ, ◌≡◌, Bool, true, false, ◌&&◌, ◌||◌, not, List, [], ◌∷◌, ◌++◌, refl, sym, ◌∙◌, ap, true≢false, append_assoc, append-nil}
+use Rattle.std.proofs.Common.{ℕ, ◌≡◌, Bool, true, false, ◌&&◌, ◌||◌, not, List, [], ◌∷◌, ◌++◌, refl, sym, ◌∙◌, ap, true≢false}
+use Rattle.std.proofs.Common.{append_assoc, append-nil}
 use Rattle.std.proofs.Math.Bool.{and-false, or-false, or-true}
 use Rattle.std.specs.Prelude.{Option, Some, None, cond, map, filter}
 use Rattle.std.specs.List.{list_any, cons_option}
@@ -9,14 +10,15 @@ use Rattle.svn_types.specs.Names.{Path}
 use Rattle.svn_types.specs.Paths.{path_eq, is_within, is_below}
 use Rattle.svn_types.specs.Props.{PropChange}
 use Rattle.svn_types.specs.declared.kind.Kind.TheVariants.{File, Directory}
-use Rattle.svn_delta.specs.Steps.{Action, Delete, Open, Add, Change, Text, Close, Step, steps_at}
-use Rattle.svn_drive.specs.Follow.{Request, target_path}
-use Rattle.svn_drive.specs.Steps.{IsDriveOf, path_actions}
-use Rattle.svn_wc.specs.declared.base_node.BaseNode.{BaseNode}
-use Rattle.svn_wc.specs.Nodes.{WorkingCopy}
-use Rattle.svn_wc.specs.Effects.{change_in, text_in, changes_at, texts_at, opened_directory, closed_directory, closed_file, added_node, stepped, below_after, step_effect}
-use Rattle.svn_law.proofs.Names.{same_path, path_eq-same}
-use Rattle.svn_law.proofs.Courses.{is_delete}
+use Rattle.svn_types.proofs.PathLemmas.{same_path, path_eq-same}
+use Rattle.svn_editor.specs.Steps.{Action, Delete, Open, Add, Change, Text, Close, Step, steps_at}
+use Rattle.svn_model.specs.Follow.{Request, target_path}
+use Rattle.svn_model.specs.Steps.{IsDriveOf, path_actions}
+use Rattle.svn_model.specs.declared.base_node.BaseNode.{BaseNode}
+use Rattle.svn_model.specs.Nodes.{WorkingCopy}
+use Rattle.svn_model.specs.Effects.{change_in, text_in, changes_at, texts_at, opened_directory, closed_directory, closed_file, added_node}
+use Rattle.svn_model.specs.Effects.{stepped, below_after, step_effect}
+use Rattle.svn_drive_law.proofs.Courses.{is_delete}
 
 abbrev pub is_at : Path → Step → Bool
 is_at p s = path_eq s.path p
@@ -35,16 +37,17 @@ texts_in [] = []
 texts_in (a ∷ acts) = cons_option (text_in a) (texts_in acts)
 
 abbrev pub act : Request → Path → List Action → Action → Option BaseNode → Option BaseNode
-act d p before (Delete r) node = None
-act d p before (Open Directory r) node = opened_directory d.target (λ q. target_path d p) node
-act d p before (Add k) node = Some (added_node k d.target (target_path d p))
-act d p before (Close Directory c) node = closed_directory (changes_in before) node
-act d p before (Close File c) node = closed_file d.target (λ q. target_path d p) (target_path d p) (changes_in before) (texts_in before) node
-act d p before _ node = node
+act d p before (Delete r) found = None
+act d p before (Open Directory r) found = opened_directory d.target (λ q. target_path d p) found
+act d p before (Add k) found = Some (added_node k d.target (target_path d p))
+act d p before (Close Directory c) found = closed_directory (changes_in before) found
+act d p before (Close File c) found =
+    closed_file d.target (λ q. target_path d p) (target_path d p) (changes_in before) (texts_in before) found
+act d p before _ found = found
 
 abbrev pub acted : Request → Path → List Action → Option BaseNode → List Action → Option BaseNode
-acted d p before node [] = node
-acted d p before node (a ∷ acts) = acted d p (before ++ a ∷ []) (act d p before a node) acts
+acted d p before found [] = found
+acted d p before found (a ∷ acts) = acted d p (before ++ a ∷ []) (act d p before a found) acts
 
 -- a step above the path takes it away
 abbrev pub is_deleted_above : List Step → Path → Bool
@@ -56,27 +59,30 @@ base w steps p = cond (is_deleted_above steps p) None (w p)
 abbrev pub state : Request → WorkingCopy → List Step → Path → Option BaseNode
 state d w steps p = acted d p [] (base w steps p) (actions_at p steps)
 
-pub acted-append : (d : Request) (p : Path) (before xs ys : List Action) (node : Option BaseNode)
-    → acted d p before node (xs ++ ys) ≡ acted d p (before ++ xs) (acted d p before node xs) ys
-acted-append d p before [] ys node = ap (λ b. acted d p b node ys) (sym (append-nil before))
-acted-append d p before (x ∷ xs) ys node =
-    acted-append d p (before ++ x ∷ []) xs ys (act d p before x node)
-    ∙ ap (λ b. acted d p b (acted d p (before ++ x ∷ []) (act d p before x node) xs) ys) (append_assoc before (x ∷ []) xs)
+pub acted-append : (d : Request) (p : Path) (before xs ys : List Action) (found : Option BaseNode)
+    → acted d p before found (xs ++ ys) ≡ acted d p (before ++ xs) (acted d p before found xs) ys
+acted-append d p before [] ys found = ap (λ b. acted d p b found ys) (sym (append-nil before))
+acted-append d p before (x ∷ xs) ys found =
+    acted-append d p (before ++ x ∷ []) xs ys (act d p before x found)
+    ∙ ap (λ b. acted d p b (acted d p (before ++ x ∷ []) (act d p before x found) xs) ys) (append_assoc before (x ∷ []) xs)
 
 -- ---- the steps of one path
 
-map-append : (xs ys : List Step) → map (λ (s : Step). s.action) (xs ++ ys) ≡ map (λ (s : Step). s.action) xs ++ map (λ (s : Step). s.action) ys
+map-append : (xs ys : List Step)
+    → map (λ (s : Step). s.action) (xs ++ ys) ≡ map (λ (s : Step). s.action) xs ++ map (λ (s : Step). s.action) ys
 map-append [] ys = refl
 map-append (x ∷ xs) ys = ap (λ (l : List Action). x.action ∷ l) (map-append xs ys)
 
 pub actions_at-append : (p : Path) (xs ys : List Step) → actions_at p (xs ++ ys) ≡ actions_at p xs ++ actions_at p ys
-actions_at-append p xs ys = ap (map (λ (s : Step). s.action)) (filter-append (is_at p) xs ys) ∙ map-append (filter (is_at p) xs) (filter (is_at p) ys)
+actions_at-append p xs ys =
+    ap (map (λ (s : Step). s.action)) (filter-append (is_at p) xs ys) ∙ map-append (filter (is_at p) xs) (filter (is_at p) ys)
 
 actions-steps_at : (p : Path) (acts : List Action) → map (λ (s : Step). s.action) (steps_at p acts) ≡ acts
 actions-steps_at p [] = refl
 actions-steps_at p (a ∷ acts) = ap (λ (l : List Action). a ∷ l) (actions-steps_at p acts)
 
-pub actions_at-drive : (d : Request) (late : Bool) (steps : List Step) → IsDriveOf d late steps → (p : Path) → actions_at p steps ≡ path_actions d p
+pub actions_at-drive : (d : Request) (late : Bool) (steps : List Step) → IsDriveOf d late steps → (p : Path)
+    → actions_at p steps ≡ path_actions d p
 actions_at-drive d late steps k p = ap (map (λ (s : Step). s.action)) (k.at_each_path p) ∙ actions-steps_at p (path_actions d p)
 
 pub changes_at-actions : (p : Path) (steps : List Step) → changes_at p steps ≡ changes_in (actions_at p steps)
@@ -84,7 +90,8 @@ changes_at-actions p [] = refl
 changes_at-actions p (s ∷ steps) = by (path_eq s.path p) (changes_at-actions p steps)
   where
     by : (b : Bool) → changes_at p steps ≡ changes_in (actions_at p steps)
-        → cond b (cons_option (change_in s.action) (changes_at p steps)) (changes_at p steps) ≡ changes_in (map (λ (s : Step). s.action) (cond b (s ∷ filter (is_at p) steps) (filter (is_at p) steps)))
+        → cond b (cons_option (change_in s.action) (changes_at p steps)) (changes_at p steps)
+        ≡ changes_in (map (λ (s : Step). s.action) (cond b (s ∷ filter (is_at p) steps) (filter (is_at p) steps)))
     by true ih = ap (cons_option (change_in s.action)) ih
     by false ih = ih
 
@@ -93,19 +100,22 @@ texts_at-actions p [] = refl
 texts_at-actions p (s ∷ steps) = by (path_eq s.path p) (texts_at-actions p steps)
   where
     by : (b : Bool) → texts_at p steps ≡ texts_in (actions_at p steps)
-        → cond b (cons_option (text_in s.action) (texts_at p steps)) (texts_at p steps) ≡ texts_in (map (λ (s : Step). s.action) (cond b (s ∷ filter (is_at p) steps) (filter (is_at p) steps)))
+        → cond b (cons_option (text_in s.action) (texts_at p steps)) (texts_at p steps)
+        ≡ texts_in (map (λ (s : Step). s.action) (cond b (s ∷ filter (is_at p) steps) (filter (is_at p) steps)))
     by true ih = ap (cons_option (text_in s.action)) ih
     by false ih = ih
 
 -- the actions of a path, cut behind the first steps of a drive
-pub path_cut : (d : Request) (late : Bool) (steps rest : List Step) → IsDriveOf d late (steps ++ rest) → (p : Path) → actions_at p steps ++ actions_at p rest ≡ path_actions d p
+pub path_cut : (d : Request) (late : Bool) (steps rest : List Step) → IsDriveOf d late (steps ++ rest) → (p : Path)
+    → actions_at p steps ++ actions_at p rest ≡ path_actions d p
 path_cut d late steps rest drive p = sym (actions_at-append p steps rest) ∙ actions_at-drive d late (steps ++ rest) drive p
 
 -- and those of the path of a step, cut at the step
 pub step_cut : (d : Request) (late : Bool) (done : List Step) (s : Step) (rest : List Step) → IsDriveOf d late (done ++ s ∷ rest)
     → actions_at s.path done ++ s.action ∷ actions_at s.path rest ≡ path_actions d s.path
 step_cut d late done s rest drive =
-    ap (λ b. actions_at s.path done ++ map (λ (t : Step). t.action) (cond b (s ∷ filter (is_at s.path) rest) (filter (is_at s.path) rest))) (sym (path_eq-same s.path))
+    ap (λ b. actions_at s.path done ++ map (λ (t : Step). t.action) (cond b (s ∷ filter (is_at s.path) rest) (filter (is_at s.path) rest)))
+    (sym (path_eq-same s.path))
     ∙ path_cut d late done (s ∷ rest) drive s.path
 
 -- ---- one more step
@@ -124,11 +134,15 @@ pub state-more : (d : Request) (w w' : WorkingCopy) (done : List Step) (s : Step
     → (p : Path) → step_effect d.mode d.target done s w' p ≡ state d w (done ++ s ∷ []) p
 state-more d w w' done s stands fits below p = by (path_eq s.path p) (is_within s.path p) refl refl
   where
-    longer : state d w (done ++ s ∷ []) p ≡ acted d p [] (cond (is_deleted_above done p || (is_delete s.action && is_below s.path p)) None (w p)) (actions_at p done ++ actions_at p (s ∷ []))
+    longer : state d w (done ++ s ∷ []) p
+        ≡ acted d p [] (cond (is_deleted_above done p || (is_delete s.action && is_below s.path p)) None (w p))
+        (actions_at p done ++ actions_at p (s ∷ []))
     longer =
         ap (λ b. acted d p [] (cond b None (w p)) (actions_at p (done ++ s ∷ [])))
-        (list_any-append (λ t. is_delete t.action && is_below t.path p) done (s ∷ []) ∙ ap (λ b. is_deleted_above done p || b) (or-false (is_delete s.action && is_below s.path p)))
-        ∙ ap (acted d p [] (cond (is_deleted_above done p || (is_delete s.action && is_below s.path p)) None (w p))) (actions_at-append p done (s ∷ []))
+        (list_any-append (λ t. is_delete t.action && is_below t.path p) done (s ∷ [])
+        ∙ ap (λ b. is_deleted_above done p || b) (or-false (is_delete s.action && is_below s.path p)))
+        ∙ ap (acted d p [] (cond (is_deleted_above done p || (is_delete s.action && is_below s.path p)) None (w p)))
+        (actions_at-append p done (s ∷ []))
 
     -- elsewhere nothing changes
     elsewhere : path_eq s.path p ≡ false → (is_delete s.action && is_below s.path p) ≡ false → state d w (done ++ s ∷ []) p ≡ w' p
@@ -141,17 +155,20 @@ state-more d w w' done s stands fits below p = by (path_eq s.path p) (is_within 
         ∙ sym (stands p)
 
     by : (a b : Bool) → path_eq s.path p ≡ a → is_within s.path p ≡ b
-        → cond a (stepped d.mode d.target done w' s.path s.action) (cond b (below_after s.action (w' p)) (w' p)) ≡ state d w (done ++ s ∷ []) p
+        → cond a (stepped d.mode d.target done w' s.path s.action) (cond b (below_after s.action (w' p)) (w' p))
+        ≡ state d w (done ++ s ∷ []) p
     by true b e i =
         let at = same_path s.path p e in
         let below_own : (is_delete s.action && is_below s.path p) ≡ false =
-        ap (λ q. is_delete s.action && is_below s.path q) (sym at) ∙ ap (λ x. is_delete s.action && x) (own_path_not_below s.path) ∙ and-false (is_delete s.action) in
+        ap (λ q. is_delete s.action && is_below s.path q) (sym at) ∙ ap (λ x. is_delete s.action && x) (own_path_not_below s.path)
+        ∙ and-false (is_delete s.action) in
         fits ∙ ap (λ q. act d q (actions_at q done) s.action (w' q)) at
         ∙ ap (act d p (actions_at p done) s.action) (stands p)
         ∙ sym (acted-append d p [] (actions_at p done) (s.action ∷ []) (base w done p))
         ∙ ap (λ x. acted d p [] (base w done p) (actions_at p done ++ map (λ (s : Step). s.action) (cond x (s ∷ []) []))) (sym e)
         ∙ ap (λ x. acted d p [] (cond x None (w p)) (actions_at p done ++ actions_at p (s ∷ []))) (sym (or-false (is_deleted_above done p)))
-        ∙ ap (λ x. acted d p [] (cond (is_deleted_above done p || x) None (w p)) (actions_at p done ++ actions_at p (s ∷ []))) (sym below_own)
+        ∙ ap (λ x. acted d p [] (cond (is_deleted_above done p || x) None (w p)) (actions_at p done ++ actions_at p (s ∷ [])))
+        (sym below_own)
         ∙ sym longer
     by false false e i =
         sym (elsewhere e (ap (λ x. is_delete s.action && (x && not (path_eq s.path p))) i ∙ and-false (is_delete s.action)))
@@ -181,7 +198,8 @@ state-more d w w' done s stands fits below p = by (path_eq s.path p) (is_within 
         by_delete true q =
             gone_below s.action q
             ∙ sym (longer
-            ∙ ap (λ x. acted d p [] (cond (is_deleted_above done p || (x && is_below s.path p)) None (w p)) (actions_at p done ++ actions_at p (s ∷ []))) q
+            ∙ ap (λ x. acted d p [] (cond (is_deleted_above done p || (x && is_below s.path p)) None (w p))
+            (actions_at p done ++ actions_at p (s ∷ []))) q
             ∙ ap (λ x. acted d p [] (cond (is_deleted_above done p || x) None (w p)) (actions_at p done ++ actions_at p (s ∷ []))) is_lower
             ∙ ap (λ x. acted d p [] (cond x None (w p)) (actions_at p done ++ actions_at p (s ∷ []))) (or-true (is_deleted_above done p))
             ∙ ap (λ x. acted d p [] None (x ++ actions_at p (s ∷ []))) (below p is_lower q)

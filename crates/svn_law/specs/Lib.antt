@@ -1,4 +1,1 @@
-pub mod Describes
-pub mod Result
-pub mod SlowDrive
 pub mod Laws

@@ -1,40 +1,37 @@
-//! The laws that join the driver and the working copy, over their definitions alone. Each law is the contract of a function that does nothing: who calls
-//! the function has the law.
+//! The laws that join the driver and the working copy, over their definitions alone. Each law is the contract of a function that
+//! does nothing: who calls the function has the law.
 #![tactic(auto)]
 
-ghost use Rattle.svn_law.specs.Laws.{a_drive, composition, crawl_describes, new_below, one_drive, prefixes_true, resuming};
+ghost use Rattle.svn_law.specs.Laws.{crawl_says_what_stands, drive_composes, each_call_is_accepted, prefixes_stay_true};
+ghost use Rattle.svn_law.specs.Laws.{stopped_drive_resumes, stopped_run_resumes};
 
 /// What a true working copy reports can be served, and says what the copy has.
 pub fn crawl_says_what_stands()
-    ensures { crawl_describes }
+    ensures { crawl_says_what_stands }
 {}
 
-/// A true working copy whose root is in the target has a drive.
-pub fn drive_exists()
-    ensures { a_drive }
-{}
-
-/// In a drive of a true working copy what is added stands in a directory that is opened or added.
-pub fn new_paths_have_parents()
-    ensures { new_below }
-{}
-
-/// There is at most one drive.
-pub fn drive_is_determined()
-    ensures { one_drive }
-{}
-
-/// No call of the drive of a true working copy is refused, and after all of them the copy is the result.
+/// No call of the drive of a true working copy is refused, and after all of them the copy is the result: for every report that
+/// describes the copy.
 pub fn drive_composes()
-    ensures { composition }
+    ensures { drive_composes }
+{}
+
+/// Each call of the drive of a true working copy is accepted after those before it.
+pub fn each_call_is_accepted()
+    ensures { each_call_is_accepted }
 {}
 
 /// However many calls of its drive are made, a true working copy stays one.
 pub fn prefixes_stay_true()
-    ensures { prefixes_true }
+    ensures { prefixes_stay_true }
 {}
 
-/// Wherever its drive is stopped, a true working copy is driven on to the same result.
+/// Wherever its drive is stopped, every report that describes what is left leads to the same result.
+pub fn stopped_drive_resumes()
+    ensures { stopped_drive_resumes }
+{}
+
+/// Wherever its drive is stopped, a true working copy is driven on to the same result by what it then reports.
 pub fn stopped_run_resumes()
-    ensures { resuming }
+    ensures { stopped_run_resumes }
 {}

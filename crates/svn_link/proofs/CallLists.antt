@@ -1,7 +1,8 @@
 -- Lists of calls that end at a last call.
-use Rattle.std.proofs.Common.{◌≡◌, ◌⊎◌, true, false, true≢false, List, [], ◌∷◌, ◌++◌, append-nil, append_assoc, refl, sym, ap, ◌∙◌, inl, inr, ⊎_elim}
-use Rattle.svn_delta.specs.declared.call.Call.{Call}
-use Rattle.svn_delta.specs.Calls.{is_last}
+use Rattle.std.proofs.Common.{◌≡◌, ◌⊎◌, true, false, true≢false, List, [], ◌∷◌, ◌++◌, append-nil, append_assoc, refl, sym, ap, ◌∙◌, inl}
+use Rattle.std.proofs.Common.{inr, ⊎_elim}
+use Rattle.svn_editor.specs.declared.call.Call.{Call}
+use Rattle.svn_editor.specs.Calls.{is_last}
 use Rattle.svn_link.specs.Calls.{is_over, EndsAtLast}
 
 pub is_over-snoc : (calls : List Call) (c : Call) → is_over (calls ++ c ∷ []) ≡ is_last c
@@ -10,13 +11,15 @@ is_over-snoc (d ∷ []) c = refl
 is_over-snoc (d ∷ e ∷ calls) c = is_over-snoc (e ∷ calls) c
 
 -- a list that is over ends with a last call
-pub over_ends : (calls : List Call) → is_over calls ≡ true → (before : List Call) × (c : Call) × (calls ≡ before ++ c ∷ []) × (is_last c ≡ true)
+pub over_ends : (calls : List Call) → is_over calls ≡ true
+    → (before : List Call) × (c : Call) × (calls ≡ before ++ c ∷ []) × (is_last c ≡ true)
 over_ends [] over = absurd (true≢false (sym over))
 over_ends (c ∷ []) over = ([], c, refl, over)
 over_ends (c ∷ d ∷ calls) over = let r = over_ends (d ∷ calls) over in (c ∷ r.0, r.1, ap (λ l. c ∷ l) r.2, r.3)
 
 -- a call of a longer list is the new one, or stands in the shorter list
-splits_snoc : (calls before after : List Call) (c d : Call) → calls ++ c ∷ [] ≡ before ++ d ∷ after → (after ≡ []) ⊎ ((rest : List Call) × (calls ≡ before ++ d ∷ rest))
+splits_snoc : (calls before after : List Call) (c d : Call) → calls ++ c ∷ [] ≡ before ++ d ∷ after
+    → (after ≡ []) ⊎ ((rest : List Call) × (calls ≡ before ++ d ∷ rest))
 splits_snoc [] [] after c d e = inl cc
 splits_snoc (x ∷ xs) [] after c d e = inr (xs, cc)
 splits_snoc [] (b ∷ []) after c d e = absurd cc

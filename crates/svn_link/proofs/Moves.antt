@@ -1,9 +1,10 @@
 -- Each move of the queue keeps its rule.
-use Rattle.std.proofs.Common.{◌≡◌, ◌≢◌, ℕ, zero, suc, ◌+◌, ◌<◌, ◌^◌, true, false, List, [], ◌∷◌, ◌++◌, length, set, sym, refl, ap, ◌∙◌, subst, ⊎_elim, append_assoc, arith, length-append}
+use Rattle.std.proofs.Common.{◌≡◌, ◌≢◌, ℕ, zero, suc, ◌+◌, ◌<◌, ◌^◌, true, false, List, [], ◌∷◌, ◌++◌, length, set, sym, refl, ap, ◌∙◌}
+use Rattle.std.proofs.Common.{subst, ⊎_elim, append_assoc, arith, length-append}
 use mathlib.Core.Option.{some, some-ne-none, some-injective}
 use lib.ListN.{get_elem?}
 use Rattle.crossbeam_channel.specs.Fifo.{Pushes, Pops, Forks, Merges, Learns}
-use Rattle.svn_delta.specs.declared.call.Call.{Call}
+use Rattle.svn_editor.specs.declared.call.Call.{Call}
 use Rattle.svn_link.specs.declared.queue.Hand.{Hand}
 use Rattle.svn_link.specs.Queue.{hand, sent_more, taken_more, IsTake, Fits, IsInOrder}
 use Rattle.svn_link.proofs.Views.{off, each_set, at_end, was_there}
@@ -21,12 +22,14 @@ begins = record { sender = 0; taker = 0; sent = []; taken = []; in_order = refl;
     one (suc j) h e = absurd (some-ne-none h (sym e))
 
 -- a send
-pub sends : (n pass : ℕ) (h : Hand) (c : Call) → h.sends ≡ true → length h.sent + 1 < 2 ^ 64 → Pushes IsInOrder n pass h c (λ k. k ≡ sent_more h c)
+pub sends : (n pass : ℕ) (h : Hand) (c : Call) → h.sends ≡ true → length h.sent + 1 < 2 ^ 64
+    → Pushes IsInOrder n pass h c (λ k. k ≡ sent_more h c)
 sends n pass h c may room items hands _ rule at =
     let mine = rule.each pass h at in
     let known = mine.sends may in
     let sent = rule.sent ++ c ∷ [] in
-    let few : length sent < 2 ^ 64 = let same = ap (λ (l : List Call). length l) known.1 in omega (arith, length-append rule.sent (c ∷ [])) in (
+    let few : length sent < 2 ^ 64 =
+    let same = ap (λ (l : List Call). length l) known.1 in omega (arith, length-append rule.sent (c ∷ [])) in (
       sent_more h c,
       record {
         sender = rule.sender;
@@ -37,7 +40,10 @@ sends n pass h c may room items hands _ rule at =
         few = few;
         each = each_set (Fits rule.sender rule.taker sent rule.taken) hands pass (sent_more h c)
             (record { sends = λ _. (known.0, ap (λ l. l ++ c ∷ []) known.1); takes = mine.takes })
-            (λ j k other e. record { sends = λ s. absurd (other (((rule.each j k e).sends s).0 ∙ sym known.0)); takes = (rule.each j k e).takes });
+            (λ j k other e. record {
+              sends = λ s. absurd (other (((rule.each j k e).sends s).0 ∙ sym known.0));
+              takes = (rule.each j k e).takes;
+            });
       },
       refl,
     )
@@ -64,13 +70,17 @@ takes pass h may c items hands rule at =
         few = rule.few;
         each = each_set (Fits rule.sender rule.taker rule.sent taken) hands pass (taken_more h c)
             (record { sends = mine.sends; takes = λ _. (known.0, ap (λ l. l ++ c ∷ []) known.1) })
-            (λ j k other e. record { sends = (rule.each j k e).sends; takes = λ t. absurd (other (((rule.each j k e).takes t).0 ∙ sym known.0)) });
+            (λ j k other e. record {
+              sends = (rule.each j k e).sends;
+              takes = λ t. absurd (other (((rule.each j k e).takes t).0 ∙ sym known.0));
+            });
       },
       (refl, few),
     )
 
 -- splitting the pass
-pub splits : (pass : ℕ) (h : Hand) → h.sends ≡ true → h.takes ≡ true → Forks IsInOrder pass h (hand true false h.sent []) (hand false true [] h.taken)
+pub splits : (pass : ℕ) (h : Hand) → h.sends ≡ true → h.takes ≡ true
+    → Forks IsInOrder pass h (hand true false h.sent []) (hand false true [] h.taken)
 splits pass h may_send may_take items hands rule at =
     let left = hand true false h.sent [] in
     let right = hand false true [] h.taken in
@@ -89,14 +99,21 @@ splits pass h may_send may_take items hands rule at =
       in_order = rule.in_order;
       few = rule.few;
       each = λ j k e. ⊎_elim
-          (λ (was : get_elem? (set hands pass left) j ≡ some k). record { sends = (front j k was).0; takes = λ t. absurd ((front j k was).1 t) })
+          (λ (was : get_elem? (set hands pass left) j ≡ some k). record {
+            sends = (front j k was).0;
+            takes = λ t. absurd ((front j k was).1 t);
+          })
           (λ (new : (j ≡ length (set hands pass left)) × (right ≡ k)).
-          record { sends = λ s. absurd (off (ap (λ (y : Hand). y.sends) new.1 ∙ s)); takes = λ _. (new.0, ap (λ (y : Hand). y.taken) (sym new.1) ∙ taker.1) })
+          record {
+            sends = λ s. absurd (off (ap (λ (y : Hand). y.sends) new.1 ∙ s));
+            takes = λ _. (new.0, ap (λ (y : Hand). y.taken) (sym new.1) ∙ taker.1);
+          })
           (at_end (set hands pass left) right k j e);
     }
 
 -- joining the passes
-pub joins : (pass : ℕ) (h : Hand) (other : ℕ) (k : Hand) → h.sends ≡ true → k.takes ≡ true → Merges IsInOrder pass h other k (hand true true h.sent k.taken) (hand false false [] [])
+pub joins : (pass : ℕ) (h : Hand) (other : ℕ) (k : Hand) → h.sends ≡ true → k.takes ≡ true
+    → Merges IsInOrder pass h other k (hand true true h.sent k.taken) (hand false false [] [])
 joins pass h other k may_send may_take items hands rule at apart there =
     let both = hand true true h.sent k.taken in
     let sender = (rule.each pass h at).sends may_send in
@@ -105,7 +122,10 @@ joins pass h other k may_send may_take items hands rule at apart there =
     let Rest : ℕ → Hand → Type 0 = λ j y. j ≢ other → Fits rule.sender pass rule.sent rule.taken j y in
     let rest = each_set Rest hands pass both
     (λ _. record { sends = λ _. sender; takes = λ _. (refl, taker.1) })
-    (λ j y _ e away. record { sends = (rule.each j y e).sends; takes = λ t. absurd (away (((rule.each j y e).takes t).0 ∙ sym taker.0)) }) in
+    (λ j y _ e away. record {
+      sends = (rule.each j y e).sends;
+      takes = λ t. absurd (away (((rule.each j y e).takes t).0 ∙ sym taker.0));
+    }) in
     record {
       sender = rule.sender;
       taker = pass;

@@ -1,5 +1,6 @@
 -- Each step of the notice keeps its rule.
-use Rattle.std.proofs.Common.{◌≡◌, ℕ, zero, suc, ◌<◌, true, false, List, [], ◌∷◌, Option, Some, None, set, sym, refl, ◌∙◌, subst, ⊎_elim, arith}
+use Rattle.std.proofs.Common.{◌≡◌, ℕ, zero, suc, ◌<◌, true, false, List, [], ◌∷◌, Option, Some, None, set, sym, refl, ◌∙◌, subst, ⊎_elim}
+use Rattle.std.proofs.Common.{arith}
 use mathlib.Core.Option.{some}
 use lib.ListN.{get_elem?}
 use Rattle.atomic_table.proofs.Lists.{at_snoc}
@@ -26,7 +27,13 @@ same_refl (Some n) = refl
 
 -- making the notice
 pub starts : (words : List ℕ) → number_in words ≡ None → IsNoticed words (news true None None ∷ [])
-starts words none = record { teller = 0; each = λ j w e. ⊎_elim (λ was. absurd (nowhere j w was)) (λ same. subst (Knows 0 (number_in words) j) same (mine j (at_zero j w e))) (at_snoc [] (news true None None) w j e) }
+starts words none =
+    record {
+      teller = 0;
+      each =
+          λ j w e. ⊎_elim (λ was. absurd (nowhere j w was)) (λ same. subst (Knows 0 (number_in words) j) same (mine j (at_zero j w e)))
+          (at_snoc [] (news true None None) w j e);
+    }
   where
     nowhere : (j : ℕ) (w : News) → get_elem? [] j ≡ some w → ⊥
     nowhere j w e = cc
@@ -50,7 +57,10 @@ tells pass v n may none words views rule at =
         teller = rule.teller;
         each = each_set (Knows rule.teller (number_of n)) views pass w
             (record { tells = λ _. (known.0, refl); sees = nothing_seen v.seen (number_in words) mine.sees nothing (number_of n) })
-            (λ j u other e. record { tells = λ t. absurd (other (((rule.each j u e).tells t).0 ∙ sym known.0)); sees = nothing_seen u.seen (number_in words) (rule.each j u e).sees nothing (number_of n) });
+            (λ j u other e. record {
+              tells = λ t. absurd (other (((rule.each j u e).tells t).0 ∙ sym known.0));
+              sees = nothing_seen u.seen (number_in words) (rule.each j u e).sees nothing (number_of n);
+            });
       },
       refl,
     )
@@ -76,26 +86,37 @@ agrees pass v may words views rule at =
     let mine = rule.each pass v at in
     let known = mine.tells may in (
       v,
-      record { teller = rule.teller; each = each_set (Knows rule.teller (number_in words)) views pass v mine (λ j u other e. rule.each j u e) },
+      record {
+        teller = rule.teller;
+        each = each_set (Knows rule.teller (number_in words)) views pass v mine (λ j u other e. rule.each j u e);
+      },
       (known.1, subst (λ o. IsNoneOrSame v.seen o) (sym known.1) mine.sees),
     )
 
 -- a pass is cut so that the new one may not tell
-pub cuts : (pass : ℕ) (v left right : News) → left.tells ≡ v.tells → left.told ≡ v.told → left.seen ≡ None → right.tells ≡ false → right.seen ≡ v.seen → Forks IsNoticed pass v left right
+pub cuts : (pass : ℕ) (v left right : News) → left.tells ≡ v.tells → left.told ≡ v.told → left.seen ≡ None → right.tells ≡ false
+    → right.seen ≡ v.seen → Forks IsNoticed pass v left right
 cuts pass v left right tells told blind quiet seen words views rule at =
     let mine = rule.each pass v at in
     record {
       teller = rule.teller;
       each = λ j u e. ⊎_elim
           (λ was. each_set (Knows rule.teller (number_in words)) views pass left
-          (record { tells = λ t. let known = mine.tells (sym tells ∙ t) in (known.0, told ∙ known.1); sees = subst (λ o. IsNoneOrSame o (number_in words)) (sym blind) tt })
+          (record {
+            tells = λ t. let known = mine.tells (sym tells ∙ t) in (known.0, told ∙ known.1);
+            sees = subst (λ o. IsNoneOrSame o (number_in words)) (sym blind) tt;
+          })
           (λ i w other at_i. rule.each i w at_i) j u was)
-          (λ (same : right ≡ u). subst (Knows rule.teller (number_in words) j) same (record { tells = λ t. absurd (off (sym quiet ∙ t)); sees = subst (λ o. IsNoneOrSame o (number_in words)) (sym seen) mine.sees }))
+          (λ (same : right ≡ u). subst (Knows rule.teller (number_in words) j) same (record {
+            tells = λ t. absurd (off (sym quiet ∙ t));
+            sees = subst (λ o. IsNoneOrSame o (number_in words)) (sym seen) mine.sees;
+          }))
           (at_snoc (set views pass left) right u j e);
     }
 
 -- joining the passes
-pub joins : (pass : ℕ) (v : News) (other : ℕ) (w : News) → v.tells ≡ true → Merges IsNoticed pass v other w (news true v.told w.seen) (news false None None)
+pub joins : (pass : ℕ) (v : News) (other : ℕ) (w : News) → v.tells ≡ true
+    → Merges IsNoticed pass v other w (news true v.told w.seen) (news false None None)
 joins pass v other w may words views rule at apart there =
     let both = news true v.told w.seen in
     let mine = (rule.each pass v at).tells may in
@@ -105,5 +126,6 @@ joins pass v other w may words views rule at apart there =
       teller = rule.teller;
       each = each_set (Knows rule.teller (number_in words)) (set views pass both) other (news false None None)
           (record { tells = λ t. absurd (off t); sees = tt })
-          (λ j u _ e. each_set (Knows rule.teller (number_in words)) views pass both (record { tells = λ _. mine; sees = theirs }) (λ i y _ at_i. rule.each i y at_i) j u e);
+          (λ j u _ e. each_set (Knows rule.teller (number_in words)) views pass both (record { tells = λ _. mine; sees = theirs })
+          (λ i y _ at_i. rule.each i y at_i) j u e);
     }

@@ -3,8 +3,8 @@
 --     EndsAtLast calls      nothing stands behind a `CloseEdit` or an `AbortEdit`
 --     BeginsWith calls first      the list begins with those
 use Rattle.std.specs.Prelude.{◌≡◌, Bool, true, false, List, [], ◌∷◌, ◌++◌}
-use Rattle.svn_delta.specs.declared.call.Call.{Call}
-use Rattle.svn_delta.specs.Calls.{is_last}
+use Rattle.svn_editor.specs.declared.call.Call.{Call}
+use Rattle.svn_editor.specs.Calls.{is_last}
 
 abbrev pub is_over : List Call → Bool
 is_over [] = false

@@ -1,13 +1,14 @@
 -- What a contract sees of the ends of a link and of a notice.
 use Rattle.std.specs.Prelude.{◌≤◌, List, ℕ, Option}
-use Rattle.svn_delta.specs.declared.call.Call.{Call}
+use Rattle.svn_types.specs.Limits.{capacity_limit}
+use Rattle.svn_editor.specs.declared.call.Call.{Call}
 use Rattle.atomic_table.specs.Seated.{TableId}
 use Rattle.atomic_table.specs.declared.badge.Badge.{Badge}
 use Rattle.crossbeam_channel.specs.declared.flavors.array.Key.{Key}
 
 -- how many calls the queue of a link may hold
 abbrev pub IsCapacity : ℕ → Type 0
-IsCapacity n = (1 ≤ n) × (n ≤ 4096)
+IsCapacity n = (1 ≤ n) × (n ≤ capacity_limit)
 
 -- which link it is
 pub record LinkId : Type 0 where

@@ -1,10 +1,11 @@
 -- The queue of a link: the calls that were sent, those that it holds, and those that were taken.
--- A send puts a call at the back of what it holds, a take removes the one at the front. What was taken, and then what it holds, is what was sent.
+-- A send puts a call at the back of what it holds, a take removes the one at the front.
+-- What was taken, and then what it holds, is what was sent.
 -- One pass may send, and has the list of what was sent. One may take, and has the list of what was taken.
 use Rattle.std.specs.Prelude.{◌≡◌, ℕ, ◌<◌, ◌^◌, Bool, true, List, [], ◌∷◌, ◌++◌, length}
 use mathlib.Core.Option.{some}
 use lib.ListN.{get_elem?}
-use Rattle.svn_delta.specs.declared.call.Call.{Call}
+use Rattle.svn_editor.specs.declared.call.Call.{Call}
 use Rattle.svn_link.specs.declared.queue.Hand.{Hand}
 
 -- whether a pass may send and take, and what was sent and taken by it

@@ -8,10 +8,8 @@ use crate::outbox::Outbox;
 use crate::queue::{Hand, InOrder, Roles};
 use crossbeam_channel::bounded_with;
 use std::alloc::Global;
-use svn_delta::Call;
-
-/// The greatest capacity of a link, in calls.
-pub const MAX_CAPACITY: usize = 4096;
+use svn_editor::Call;
+use svn_types::MAX_CAPACITY;
 
 /// The two ends of a new link, whose queue holds up to `capacity` calls.
 ///

@@ -9,7 +9,7 @@ use crate::queue::{Pass, Receiver, Takes};
 use std::marker::Model;
 use std::sync::Wait;
 use std::{fmt, thread};
-use svn_delta::Call;
+use svn_editor::Call;
 
 /// The end of a link that takes calls. Contracts see its link and the list of the calls that it took.
 ///

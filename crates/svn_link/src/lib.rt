@@ -25,11 +25,12 @@ mod watcher;
 mod word;
 
 pub use early_stop::{notice, settle_notice};
-pub use ends::{MAX_CAPACITY, link};
+pub use ends::link;
 pub use fault::LinkFault;
 pub use inbox::Inbox;
 pub use outbox::Outbox;
 pub use settled::{Settled, settle};
+pub use svn_types::MAX_CAPACITY;
 pub use teller::Teller;
 pub use watcher::Watcher;
 

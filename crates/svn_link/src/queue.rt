@@ -3,7 +3,7 @@
 use crossbeam_channel::protocol::{Join, Lesson, Outcome, Protocol, Split};
 use crossbeam_channel::{RuledReceiver, RuledSender};
 use std::collections::LinkedList;
-use svn_delta::Call;
+use svn_editor::Call;
 
 // What a pass may do, and what it has sent and taken. It exists in proofs alone: no value of it is made.
 pub struct Hand {

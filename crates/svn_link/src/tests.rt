@@ -10,7 +10,7 @@ use std::sync::Wait;
 use std::test::Fail;
 use std::thread;
 use std::thread::{Promise, Threads};
-use svn_delta::{Call, Token};
+use svn_editor::{Call, Token};
 use svn_types::{Rev, Text};
 
 #[test]

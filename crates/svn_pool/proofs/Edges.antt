@@ -20,7 +20,8 @@ not_true true h = absurd (h refl)
 not_true false h = refl
 
 pub edge_itself : (e : ℕ × ℕ) → is_at (edge_cmp e) e ≡ true
-edge_itself e = ap is_eq (ap (λ (o : Ordering). ordering_then o (nat_cmp e.1 e.1)) (tied_itself nat_cmp_total e.0) ∙ tied_itself nat_cmp_total e.1)
+edge_itself e =
+    ap is_eq (ap (λ (o : Ordering). ordering_then o (nat_cmp e.1 e.1)) (tied_itself nat_cmp_total e.0) ∙ tied_itself nat_cmp_total e.1)
 
 pub edge_same : (e f : ℕ × ℕ) → is_at (edge_cmp e) f ≡ true → e ≡ f
 edge_same e f is = exact_pairs nat_cmp nat_cmp exact_unsigned exact_unsigned e f (is_eq_gives (edge_cmp e f) is)
@@ -48,18 +49,22 @@ module _ (s t : set.BTreeSet (ℕ × ℕ)) (e : ℕ × ℕ) (b : Bool) (h : set.
   edge_away f apart = h.2 f (edge_apart e f apart)
 
 -- what a set has after a key was taken out, it had before
-pub edge_before : (s t : set.BTreeSet (ℕ × ℕ)) (e : ℕ × ℕ) → set.Updates edge_cmp s t e false → (f : ℕ × ℕ) → set.contains edge_cmp t f ≡ true → set.contains edge_cmp s f ≡ true
+pub edge_before : (s t : set.BTreeSet (ℕ × ℕ)) (e : ℕ × ℕ) → set.Updates edge_cmp s t e false → (f : ℕ × ℕ)
+    → set.contains edge_cmp t f ≡ true → set.contains edge_cmp s f ≡ true
 edge_before s t e h f is =
-    elim (is_at (edge_cmp e) f) as (λ (b : Bool). set.contains edge_cmp t f ≡ cond b false (set.contains edge_cmp s f) → set.contains edge_cmp s f ≡ true) [
+    elim (is_at (edge_cmp e) f) as
+    (λ (b : Bool). set.contains edge_cmp t f ≡ cond b false (set.contains edge_cmp s f) → set.contains edge_cmp s f ≡ true) [
       | true ↦ λ no. absurd (let clash : true ≡ false = sym is ∙ no in let none : ⊥ = cc in none)
       | false ↦ λ same. sym same ∙ is
     ] (h.0 f)
 
 -- a new key that is put in and taken out again
-pub edge_taken_back : (s t u : set.BTreeSet (ℕ × ℕ)) (e : ℕ × ℕ) → set.Updates edge_cmp s t e true → set.Updates edge_cmp t u e false → set.contains edge_cmp s e ≡ false → (f : ℕ × ℕ) → set.contains edge_cmp u f ≡ set.contains edge_cmp s f
+pub edge_taken_back : (s t u : set.BTreeSet (ℕ × ℕ)) (e : ℕ × ℕ) → set.Updates edge_cmp s t e true → set.Updates edge_cmp t u e false
+    → set.contains edge_cmp s e ≡ false → (f : ℕ × ℕ) → set.contains edge_cmp u f ≡ set.contains edge_cmp s f
 edge_taken_back s t u e put out none f =
     elim (is_at (edge_cmp e) f) as (λ (b : Bool). is_at (edge_cmp e) f ≡ b → set.contains edge_cmp u f ≡ set.contains edge_cmp s f) [
-      | true ↦ λ is. ap (set.contains edge_cmp u) (sym (edge_same e f is)) ∙ out.1 ∙ sym none ∙ ap (set.contains edge_cmp s) (edge_same e f is)
+      | true ↦
+          λ is. ap (set.contains edge_cmp u) (sym (edge_same e f is)) ∙ out.1 ∙ sym none ∙ ap (set.contains edge_cmp s) (edge_same e f is)
       | false ↦ λ is. out.2 f is ∙ put.2 f is
     ] refl
 
@@ -73,7 +78,9 @@ then_equal : (a b o : Ordering) → a ≡ Equal → ordering_then a o ≡ o
 then_equal a b o e = ap (λ (r : Ordering). ordering_then r o) e
 
 number_le : (a b : ℕ) → a ≤ b → is_gt (nat_cmp a b) ≡ false
-number_le a b le = by_ranked (a < b) (a ≡ b) (b < a) (nat_cmp a b) (ranked a b (nat_cmp a b) refl) (λ is _. ap is_gt is) (λ is _. ap is_gt is) (λ is lt. absurd (omega arith))
+number_le a b le =
+    by_ranked (a < b) (a ≡ b) (b < a) (nat_cmp a b) (ranked a b (nat_cmp a b) refl) (λ is _. ap is_gt is) (λ is _. ap is_gt is)
+    (λ is lt. absurd (omega arith))
 
 -- pairs with the same first part
 pub edge_le : (p a b : ℕ) → a ≤ b → is_gt (edge_cmp (p, a) (p, b)) ≡ false
@@ -83,6 +90,11 @@ edge_le p a b le = ap is_gt (then_equal (nat_cmp p p) Equal (nat_cmp a b) (tied_
 pub edge_between : (p a b : ℕ) (e : ℕ × ℕ) → is_gt (edge_cmp (p, a) e) ≡ false → is_gt (edge_cmp e (p, b)) ≡ false → e.0 ≡ p
 edge_between p a b e low high =
     by_ranked (p < e.0) (p ≡ e.0) (e.0 < p) (nat_cmp p e.0) (ranked p e.0 (nat_cmp p e.0) refl)
-    (λ is lt. absurd (let above : nat_cmp e.0 p ≡ Greater = sym (nat_cmp_is e.0 p Greater lt) in let clash : true ≡ false = sym (ap (λ (o : Ordering). is_gt (ordering_then o (nat_cmp e.1 b))) above) ∙ high in let none : ⊥ = cc in none))
+    (λ is lt. absurd (let above : nat_cmp e.0 p ≡ Greater = sym (nat_cmp_is e.0 p Greater lt) in
+    let clash : true ≡ false = sym (ap (λ (o : Ordering). is_gt (ordering_then o (nat_cmp e.1 b))) above) ∙ high in
+    let none : ⊥ = cc in
+    none))
     (λ is same. sym same)
-    (λ is lt. absurd (let clash : true ≡ false = sym (ap (λ (o : Ordering). is_gt (ordering_then o (nat_cmp a e.1))) is) ∙ low in let none : ⊥ = cc in none))
+    (λ is lt. absurd (let clash : true ≡ false = sym (ap (λ (o : Ordering). is_gt (ordering_then o (nat_cmp a e.1))) is) ∙ low in
+    let none : ⊥ = cc in
+    none))

@@ -1,5 +1,6 @@
 -- The pairs of parents and children stay true of the pools.
-use Rattle.std.proofs.Common.{◌≡◌, ◌≢◌, ℕ, ◌<◌, Bool, true, false, [], Option, None, Some, IsSome, is_some, refl, sym, ap, subst, ◌∙◌, inl, inr, arith}
+use Rattle.std.proofs.Common.{◌≡◌, ◌≢◌, ℕ, ◌<◌, Bool, true, false, [], Option, None, Some, IsSome, is_some, refl, sym, ap, subst, ◌∙◌, inl}
+use Rattle.std.proofs.Common.{inr, arith}
 use Rattle.std.proofs.lemmas.Bool.{cases_eq}
 use Rattle.std.specs.BTreeMap.{BTreeMap, get, Updates, IsOrdered}
 use Rattle.std.specs.BTreeSet as set
@@ -17,7 +18,8 @@ live_child None p e = absurd (let no : ⊥ = cc in no)
 live_child (Some x) p e = refl
 
 -- a serial above all live ones has no edge
-pub no_edge : (pools : BTreeMap ℕ Entry) (children : set.BTreeSet (ℕ × ℕ)) → IsLinked pools children → (s : ℕ) → ((c : ℕ) → IsSome (get nat_cmp pools c) → c < s) → (q : ℕ) → has_edge children q s ≡ false
+pub no_edge : (pools : BTreeMap ℕ Entry) (children : set.BTreeSet (ℕ × ℕ)) → IsLinked pools children → (s : ℕ)
+    → ((c : ℕ) → IsSome (get nat_cmp pools c) → c < s) → (q : ℕ) → has_edge children q s ≡ false
 no_edge pools children linked s fresh q =
     elim (has_edge children q s) as (λ (b : Bool). has_edge children q s ≡ b → b ≡ false) [
       | true ↦ λ is. let lt : s < s = fresh s (live_child (get nat_cmp pools s) q (linked.down q s is)) in absurd (omega arith)
@@ -36,8 +38,10 @@ pub none_is_gone : (o : Option Entry) → o ≡ None → IsSome o → ⊥
 none_is_gone o e live = let no : false ≡ true = sym (ap is_some e) ∙ live in let none : ⊥ = cc in none
 
 module _ (pools new : BTreeMap ℕ Entry) (children after : set.BTreeSet (ℕ × ℕ)) (linked : IsLinked pools children) (s : ℕ) where
-  module _ (p : ℕ) (live : IsSome (get nat_cmp pools p)) (fresh : (c : ℕ) → IsSome (get nat_cmp pools c) → c < s) (small : s < 18446744073709551616)
-      (put : Updates nat_cmp pools new s (Some (record { parent = Some p; strings = [] }))) (more : set.Updates edge_cmp children after (p, s) true) (ordered : IsOrdered nat_cmp new) where
+  module _ (p : ℕ) (live : IsSome (get nat_cmp pools p)) (fresh : (c : ℕ) → IsSome (get nat_cmp pools c) → c < s)
+      (small : s < 18446744073709551616)
+      (put : Updates nat_cmp pools new s (Some (record { parent = Some p; strings = [] })))
+      (more : set.Updates edge_cmp children after (p, s) true) (ordered : IsOrdered nat_cmp new) where
     here : get nat_cmp new s ≡ Some (record { parent = Some p; strings = [] })
     here = updated_here pools new s _ put
 
@@ -55,7 +59,8 @@ module _ (pools new : BTreeMap ℕ Entry) (children after : set.BTreeSet (ℕ ×
     edge_to q e = elim (cases_eq q p) [
       | inl is ↦ is
       | inr apart ↦
-          let old : has_edge children q s ≡ true = sym (edge_away children after (p, s) true more (q, s) (λ f. apart (sym (ap (λ (x : ℕ × ℕ). x.0) f)))) ∙ e in
+          let old : has_edge children q s ≡ true =
+          sym (edge_away children after (p, s) true more (q, s) (λ f. apart (sym (ap (λ (x : ℕ × ℕ). x.0) f)))) ∙ e in
           let lt : s < s = fresh s (live_child (get nat_cmp pools s) q (linked.down q s old)) in
           absurd (omega arith)
     ]
@@ -90,7 +95,9 @@ module _ (pools new : BTreeMap ℕ Entry) (children after : set.BTreeSet (ℕ ×
       ordered = ordered;
     }
 
-  module _ (leaf : IsLeaf pools s) (gone : Updates nat_cmp pools new s None) (others : (q c : ℕ) → c ≢ s → has_edge after q c ≡ has_edge children q c) (none : (q : ℕ) → has_edge after q s ≡ true → ⊥) (ordered : IsOrdered nat_cmp new) where
+  module _ (leaf : IsLeaf pools s) (gone : Updates nat_cmp pools new s None)
+      (others : (q c : ℕ) → c ≢ s → has_edge after q c ≡ has_edge children q c) (none : (q : ℕ) → has_edge after q s ≡ true → ⊥)
+      (ordered : IsOrdered nat_cmp new) where
     left : (c : ℕ) → c ≢ s → get nat_cmp new c ≡ get nat_cmp pools c
     left = updated_away pools new s None gone
 
@@ -118,7 +125,8 @@ module _ (pools new : BTreeMap ℕ Entry) (children after : set.BTreeSet (ℕ ×
     }
 
   -- the same pools, and pairs that are the same ones
-  pub linked-again : ((c : ℕ) → get nat_cmp new c ≡ get nat_cmp pools c) → ((q c : ℕ) → has_edge after q c ≡ has_edge children q c) → IsOrdered nat_cmp new → IsLinked new after
+  pub linked-again : ((c : ℕ) → get nat_cmp new c ≡ get nat_cmp pools c) → ((q c : ℕ) → has_edge after q c ≡ has_edge children q c)
+      → IsOrdered nat_cmp new → IsLinked new after
   linked-again pool edge ordered = record {
     down = λ q c e. ap parent_of (pool c) ∙ linked.down q c (sym (edge q c) ∙ e);
     up = λ q c e. edge q c ∙ linked.up q c (sym (ap parent_of (pool c)) ∙ e);
@@ -128,8 +136,9 @@ module _ (pools new : BTreeMap ℕ Entry) (children after : set.BTreeSet (ℕ ×
   }
 
   -- the same pools with the same parents
-  pub linked-same : ((c : ℕ) → parent_of (get nat_cmp new c) ≡ parent_of (get nat_cmp pools c)) → ((c : ℕ) → IsSome (get nat_cmp new c) → IsSome (get nat_cmp pools c)) → ((c : ℕ) → IsSome (get nat_cmp pools c) → IsSome (get nat_cmp new c))
-      → IsOrdered nat_cmp new → IsLinked new children
+  pub linked-same : ((c : ℕ) → parent_of (get nat_cmp new c) ≡ parent_of (get nat_cmp pools c))
+      → ((c : ℕ) → IsSome (get nat_cmp new c) → IsSome (get nat_cmp pools c))
+      → ((c : ℕ) → IsSome (get nat_cmp pools c) → IsSome (get nat_cmp new c)) → IsOrdered nat_cmp new → IsLinked new children
   linked-same parents back forth ordered = record {
     down = λ q c e. parents c ∙ linked.down q c e;
     up = λ q c e. linked.up q c (sym (parents c) ∙ e);
@@ -139,13 +148,16 @@ module _ (pools new : BTreeMap ℕ Entry) (children after : set.BTreeSet (ℕ ×
   }
 
 -- one pool has other strings
-pub linked-written : (pools new : BTreeMap ℕ Entry) (children : set.BTreeSet (ℕ × ℕ)) → IsLinked pools children → (s : ℕ) (d e : Entry) → get nat_cmp pools s ≡ Some d → e.parent ≡ d.parent
-    → Updates nat_cmp pools new s (Some e) → IsOrdered nat_cmp new → IsLinked new children
+pub linked-written : (pools new : BTreeMap ℕ Entry) (children : set.BTreeSet (ℕ × ℕ)) → IsLinked pools children → (s : ℕ) (d e : Entry)
+    → get nat_cmp pools s ≡ Some d → e.parent ≡ d.parent → Updates nat_cmp pools new s (Some e) → IsOrdered nat_cmp new
+    → IsLinked new children
 linked-written pools new children linked s d e found same put ordered =
     let here : get nat_cmp new s ≡ Some e = updated_here pools new s (Some e) put in
     linked-same pools new children children linked s
     (λ c. elim (cases_eq c s) [
-      | inl is ↦ ap (λ (k : ℕ). parent_of (get nat_cmp new k)) is ∙ ap parent_of here ∙ same ∙ sym (ap parent_of found) ∙ ap (λ (k : ℕ). parent_of (get nat_cmp pools k)) (sym is)
+      | inl is ↦
+          ap (λ (k : ℕ). parent_of (get nat_cmp new k)) is ∙ ap parent_of here ∙ same ∙ sym (ap parent_of found)
+          ∙ ap (λ (k : ℕ). parent_of (get nat_cmp pools k)) (sym is)
       | inr apart ↦ ap parent_of (updated_away pools new s (Some e) put c apart)
     ])
     (λ c h. elim (cases_eq c s) [

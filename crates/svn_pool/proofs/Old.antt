@@ -31,10 +31,22 @@ module _ (t : Pools) (s : ℕ) (old : IsOld t s) where
 
 pub old_stays_old : OldStaysOld
 old_stays_old t s old = record {
-  create = λ p. (omega arith, inserted_away t.live t.next (record { parent = Some p; strings = [] }) s (λ is. let lt = old.0 in omega (arith, is, lt)) ∙ old.1);
+  create =
+      λ p. (
+        omega arith,
+        inserted_away t.live t.next (record { parent = Some p; strings = [] }) s (λ is. let lt = old.0 in omega (arith, is, lt)) ∙ old.1,
+      );
   push = λ r bs live. (old.0, inserted_away t.live r _ s (not_live t s old r live) ∙ old.1);
-  clear = λ r u live done. (subst (λ (n : ℕ). s < n) (sym done.rest.next) old.0, done.rest.others s (not_live t s old r live) (not_beneath t s old r) ∙ old.1);
-  destroy = λ r u live done. (subst (λ (n : ℕ). s < n) (sym done.rest.next) old.0, done.rest.others s (not_live t s old r live) (not_beneath t s old r) ∙ old.1);
+  clear =
+      λ r u live done. (
+        subst (λ (n : ℕ). s < n) (sym done.rest.next) old.0,
+        done.rest.others s (not_live t s old r live) (not_beneath t s old r) ∙ old.1,
+      );
+  destroy =
+      λ r u live done. (
+        subst (λ (n : ℕ). s < n) (sym done.rest.next) old.0,
+        done.rest.others s (not_live t s old r live) (not_beneath t s old r) ∙ old.1,
+      );
 }
 
 -- where s has no child, nothing is beneath it

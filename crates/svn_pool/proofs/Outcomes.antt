@@ -1,5 +1,6 @@
 -- What a clear and a destroy leave, and when a call is refused.
-use Rattle.std.proofs.Common.{◌≡◌, ◌≢◌, ℕ, zero, suc, ◌+◌, ◌<◌, ◌≤◌, Bool, true, false, cond, nat_le, nat_eq, [], Option, None, Some, IsSome, is_some, refl, sym, ap, subst, ◌∙◌, inl, inr, arith}
+use Rattle.std.proofs.Common.{◌≡◌, ◌≢◌, ℕ, zero, suc, ◌+◌, ◌<◌, ◌≤◌, Bool, true, false, cond, nat_le, nat_eq, [], Option, None, Some}
+use Rattle.std.proofs.Common.{IsSome, is_some, refl, sym, ap, subst, ◌∙◌, inl, inr, arith}
 use Rattle.std.proofs.lemmas.Bool.{cases_eq, le-leb, eq-eqb, ne_eqb}
 use Rattle.std.proofs.lemmas.Bool.Decides.{leb_tells}
 use Rattle.std.specs.BTreeMap.{BTreeMap, get, Updates}
@@ -24,18 +25,25 @@ fault_if_some (Some e) f h = refl
 
 pub create_full : (t : Pools) (p : ℕ) → IsSome (pool_at t p) → 18446744073709551616 ≤ t.next → create_fault t p ≡ Some Full
 create_full t p live last =
-    fault_if_some (pool_at t p) (cond (nat_le 18446744073709551616 t.next) (Some Full) None) live ∙ ap (λ (b : Bool). cond b (Some Full) None) (le-leb 18446744073709551616 t.next last)
+    fault_if_some (pool_at t p) (cond (nat_le 18446744073709551616 t.next) (Some Full) None) live
+    ∙ ap (λ (b : Bool). cond b (Some Full) None) (le-leb 18446744073709551616 t.next last)
 
 pub create_may : (t : Pools) (p : ℕ) → IsSome (pool_at t p) → t.next < 18446744073709551616 → create_fault t p ≡ None
 create_may t p live left =
-    let more : nat_le 18446744073709551616 t.next ≡ false = elim (leb_tells 18446744073709551616 t.next) [ inl h ↦ absurd (let le = h.1 in omega (arith, le, left)) | inr h ↦ h.0 ] in
-    fault_if_some (pool_at t p) (cond (nat_le 18446744073709551616 t.next) (Some Full) None) live ∙ ap (λ (b : Bool). cond b (Some Full) None) more
+    let more : nat_le 18446744073709551616 t.next ≡ false =
+    elim (leb_tells 18446744073709551616 t.next) [ inl h ↦ absurd (let le = h.1 in omega (arith, le, left)) | inr h ↦ h.0 ] in
+    fault_if_some (pool_at t p) (cond (nat_le 18446744073709551616 t.next) (Some Full) None) live
+    ∙ ap (λ (b : Bool). cond b (Some Full) None) more
 
 pub destroy_root : (t : Pools) (s : ℕ) → IsSome (pool_at t s) → s ≡ t.root → destroy_fault t s ≡ Some IsRoot
-destroy_root t s live is = fault_if_some (pool_at t s) (cond (nat_eq s t.root) (Some IsRoot) None) live ∙ ap (λ (b : Bool). cond b (Some IsRoot) None) (eq-eqb s t.root is)
+destroy_root t s live is =
+    fault_if_some (pool_at t s) (cond (nat_eq s t.root) (Some IsRoot) None) live
+    ∙ ap (λ (b : Bool). cond b (Some IsRoot) None) (eq-eqb s t.root is)
 
 pub destroy_may : (t : Pools) (s : ℕ) → IsSome (pool_at t s) → s ≢ t.root → destroy_fault t s ≡ None
-destroy_may t s live apart = fault_if_some (pool_at t s) (cond (nat_eq s t.root) (Some IsRoot) None) live ∙ ap (λ (b : Bool). cond b (Some IsRoot) None) (ne_eqb s t.root apart)
+destroy_may t s live apart =
+    fault_if_some (pool_at t s) (cond (nat_eq s t.root) (Some IsRoot) None) live
+    ∙ ap (λ (b : Bool). cond b (Some IsRoot) None) (ne_eqb s t.root apart)
 
 -- the steps up depend on the parents alone
 pub above_same : (f g : ℕ → Option Entry) → ((q : ℕ) → parent_of (f q) ≡ parent_of (g q)) → (s n q : ℕ) → IsAbove f s n q → IsAbove g s n q
@@ -48,7 +56,8 @@ beneath_same f g same s q b = (b.0, above_same f g same s b.0 q b.1)
 module _ (pools : BTreeMap ℕ Entry) (children : BTreeSet (ℕ × ℕ)) (linked : IsLinked pools children) where
   above_older : (s n q : ℕ) → IsAbove (get nat_cmp pools) s n q → s < q
   above_older s zero q above = (linked.older s q above).1
-  above_older s (suc n) q above = let first = above_older s n above.0 above.2 in let then = (linked.older above.0 q above.1).1 in omega (arith, first, then)
+  above_older s (suc n) q above =
+      let first = above_older s n above.0 above.2 in let then = (linked.older above.0 q above.1).1 in omega (arith, first, then)
 
   pub not_beneath_itself : (s : ℕ) → IsBeneath (get nat_cmp pools) s s → ⊥
   not_beneath_itself s b = let lt = above_older s b.0 s b.1 in omega (arith, lt)
@@ -69,28 +78,38 @@ root_from : (o : Option Entry) → IsSome o → parent_of o ≡ None → IsSomeA
 root_from None h none = let no : ⊥ = cc in absurd no
 root_from (Some e) h none = none
 
-module _ (old new : Pools) (s : ℕ) (roots : new.root ≡ old.root) (nexts : new.next ≡ old.next) (blocks : new.spare + fixed_in new ≡ old.spare + fixed_in old) where
-  module _ (pools mid end : BTreeMap ℕ Entry) (children : BTreeSet (ℕ × ℕ)) (linked : IsLinked mid children) (at_old : (q : ℕ) → pool_at old q ≡ get nat_cmp pools q) (at_new : (q : ℕ) → pool_at new q ≡ get nat_cmp end q)
-      (put : Updates nat_cmp pools mid s (Some (record { parent = parent_of (get nat_cmp pools s); strings = [] }))) (pruned : IsPruned mid end s) where
+module _ (old new : Pools) (s : ℕ) (roots : new.root ≡ old.root) (nexts : new.next ≡ old.next)
+    (blocks : new.spare + fixed_in new ≡ old.spare + fixed_in old) where
+  module _ (pools mid end : BTreeMap ℕ Entry) (children : BTreeSet (ℕ × ℕ)) (linked : IsLinked mid children)
+      (at_old : (q : ℕ) → pool_at old q ≡ get nat_cmp pools q) (at_new : (q : ℕ) → pool_at new q ≡ get nat_cmp end q)
+      (put : Updates nat_cmp pools mid s (Some (record { parent = parent_of (get nat_cmp pools s); strings = [] })))
+      (pruned : IsPruned mid end s) where
     parents : (q : ℕ) → parent_of (pool_at old q) ≡ parent_of (get nat_cmp mid q)
     parents q = ap parent_of (at_old q) ∙ elim (cases_eq q s) [
-      | inl is ↦ ap (λ (k : ℕ). parent_of (get nat_cmp pools k)) is ∙ sym (ap (λ (k : ℕ). parent_of (get nat_cmp mid k)) is ∙ ap parent_of (updated_here pools mid s _ put))
+      | inl is ↦
+          ap (λ (k : ℕ). parent_of (get nat_cmp pools k)) is
+          ∙ sym (ap (λ (k : ℕ). parent_of (get nat_cmp mid k)) is ∙ ap parent_of (updated_here pools mid s _ put))
       | inr apart ↦ sym (ap parent_of (updated_away pools mid s _ put q apart))
     ]
 
     pub cleared : IsCleared old new s
     cleared = record {
-      emptied = at_new s ∙ pruned.others s (not_beneath_itself mid children linked s) ∙ updated_here pools mid s _ put ∙ ap (λ (o : Option Entry). Some (record { parent = parent_of o; strings = [] })) (sym (at_old s));
+      emptied =
+          at_new s ∙ pruned.others s (not_beneath_itself mid children linked s) ∙ updated_here pools mid s _ put
+          ∙ ap (λ (o : Option Entry). Some (record { parent = parent_of o; strings = [] })) (sym (at_old s));
       beneath = λ q b. at_new q ∙ pruned.beneath q (beneath_same (pool_at old) (get nat_cmp mid) parents s q b);
       rest = record {
-        others = λ q apart not. at_new q ∙ pruned.others q (λ b. not (beneath_same (get nat_cmp mid) (pool_at old) (λ k. sym (parents k)) s q b)) ∙ updated_away pools mid s _ put q apart ∙ sym (at_old q);
+        others =
+            λ q apart not. at_new q ∙ pruned.others q (λ b. not (beneath_same (get nat_cmp mid) (pool_at old) (λ k. sym (parents k)) s q b))
+            ∙ updated_away pools mid s _ put q apart ∙ sym (at_old q);
         root = roots;
         next = nexts;
         blocks = blocks;
       };
     }
 
-  module _ (pools mid end : BTreeMap ℕ Entry) (at_old : (q : ℕ) → pool_at old q ≡ get nat_cmp pools q) (at_new : (q : ℕ) → pool_at new q ≡ get nat_cmp end q) (pruned : IsPruned pools mid s) (gone : Updates nat_cmp mid end s None) where
+  module _ (pools mid end : BTreeMap ℕ Entry) (at_old : (q : ℕ) → pool_at old q ≡ get nat_cmp pools q)
+      (at_new : (q : ℕ) → pool_at new q ≡ get nat_cmp end q) (pruned : IsPruned pools mid s) (gone : Updates nat_cmp mid end s None) where
     same_old : (q : ℕ) → parent_of (pool_at old q) ≡ parent_of (get nat_cmp pools q)
     same_old q = ap parent_of (at_old q)
 
@@ -99,10 +118,14 @@ module _ (old new : Pools) (s : ℕ) (roots : new.root ≡ old.root) (nexts : ne
       gone = at_new s ∙ updated_here mid end s None gone;
       beneath = λ q b. at_new q ∙ elim (cases_eq q s) [
         | inl is ↦ ap (get nat_cmp end) is ∙ updated_here mid end s None gone
-        | inr apart ↦ updated_away mid end s None gone q apart ∙ pruned.beneath q (beneath_same (pool_at old) (get nat_cmp pools) same_old s q b)
+        | inr apart ↦
+            updated_away mid end s None gone q apart ∙ pruned.beneath q (beneath_same (pool_at old) (get nat_cmp pools) same_old s q b)
       ];
       rest = record {
-        others = λ q apart not. at_new q ∙ updated_away mid end s None gone q apart ∙ pruned.others q (λ b. not (beneath_same (get nat_cmp pools) (pool_at old) (λ k. sym (same_old k)) s q b)) ∙ sym (at_old q);
+        others =
+            λ q apart not. at_new q ∙ updated_away mid end s None gone q apart
+            ∙ pruned.others q (λ b. not (beneath_same (get nat_cmp pools) (pool_at old) (λ k. sym (same_old k)) s q b))
+            ∙ sym (at_old q);
         root = roots;
         next = nexts;
         blocks = blocks;
@@ -110,23 +133,31 @@ module _ (old new : Pools) (s : ℕ) (roots : new.root ≡ old.root) (nexts : ne
     }
 
 -- the tree's invariant after all beneath a pool are gone
-module _ (pools end : BTreeMap ℕ Entry) (s root last : ℕ) (pruned : IsPruned pools end s) (live : (q : ℕ) → IsSome (get nat_cmp pools q) → q ≤ last) where
+module _ (pools end : BTreeMap ℕ Entry) (s root last : ℕ) (pruned : IsPruned pools end s)
+    (live : (q : ℕ) → IsSome (get nat_cmp pools q) → q ≤ last) where
   still_live : (q : ℕ) → IsSome (get nat_cmp end q) → IsSome (get nat_cmp pools q)
-  still_live q h = elim (is_some (get nat_cmp pools q)) as (λ (b : Bool). is_some (get nat_cmp pools q) ≡ b → is_some (get nat_cmp pools q) ≡ true) [
-    | true ↦ λ is. is
-    | false ↦ λ is. absurd (none_is_gone (get nat_cmp end q) (pruned.fewer q (gone_is_none (get nat_cmp pools q) (λ live. let clash : false ≡ true = sym is ∙ live in let no : ⊥ = cc in no))) h)
-  ] refl
+  still_live q h =
+      elim (is_some (get nat_cmp pools q)) as (λ (b : Bool). is_some (get nat_cmp pools q) ≡ b → is_some (get nat_cmp pools q) ≡ true) [
+        | true ↦ λ is. is
+        | false ↦
+            λ is. absurd (none_is_gone (get nat_cmp end q)
+            (pruned.fewer q
+            (gone_is_none (get nat_cmp pools q) (λ live. let clash : false ≡ true = sym is ∙ live in let no : ⊥ = cc in no)))
+            h)
+      ] refl
 
   pub below-pruned : (q : ℕ) → IsSome (get nat_cmp end q) → q ≤ last
   below-pruned q h = live q (still_live q h)
 
   pub rooted-pruned : IsSomeAnd (get nat_cmp pools root) (λ e. e.parent ≡ None) → IsSomeAnd (get nat_cmp end root) (λ e. e.parent ≡ None)
   rooted-pruned rooted =
-      let same : get nat_cmp end root ≡ get nat_cmp pools root = pruned.others root (λ b. parentless (get nat_cmp pools) s b.0 root (lone_root (get nat_cmp pools root) rooted) b.1) in
+      let same : get nat_cmp end root ≡ get nat_cmp pools root =
+      pruned.others root (λ b. parentless (get nat_cmp pools) s b.0 root (lone_root (get nat_cmp pools root) rooted) b.1) in
       subst (λ (o : Option Entry). IsSomeAnd o (λ e. e.parent ≡ None)) (sym same) rooted
 
 -- and after one pool was emptied
-module _ (pools new : BTreeMap ℕ Entry) (s root last : ℕ) (was : IsSome (get nat_cmp pools s)) (put : Updates nat_cmp pools new s (Some (record { parent = parent_of (get nat_cmp pools s); strings = [] }))) where
+module _ (pools new : BTreeMap ℕ Entry) (s root last : ℕ) (was : IsSome (get nat_cmp pools s))
+    (put : Updates nat_cmp pools new s (Some (record { parent = parent_of (get nat_cmp pools s); strings = [] }))) where
   pub below-emptied : ((q : ℕ) → IsSome (get nat_cmp pools q) → q ≤ last) → (q : ℕ) → IsSome (get nat_cmp new q) → q ≤ last
   below-emptied live q h = elim (cases_eq q s) [
     | inl is ↦ live q (ap (λ (k : ℕ). is_some (get nat_cmp pools k)) is ∙ was)
@@ -136,8 +167,10 @@ module _ (pools new : BTreeMap ℕ Entry) (s root last : ℕ) (was : IsSome (get
   pub rooted-emptied : IsSomeAnd (get nat_cmp pools root) (λ e. e.parent ≡ None) → IsSomeAnd (get nat_cmp new root) (λ e. e.parent ≡ None)
   rooted-emptied rooted = elim (cases_eq root s) [
     | inl is ↦
-        let here : get nat_cmp new root ≡ Some (record { parent = parent_of (get nat_cmp pools s); strings = [] }) = ap (get nat_cmp new) is ∙ updated_here pools new s _ put in
-        subst (λ (o : Option Entry). IsSomeAnd o (λ e. e.parent ≡ None)) (sym here) (ap (λ (k : ℕ). parent_of (get nat_cmp pools k)) (sym is) ∙ lone_root (get nat_cmp pools root) rooted)
+        let here : get nat_cmp new root ≡ Some (record { parent = parent_of (get nat_cmp pools s); strings = [] }) =
+        ap (get nat_cmp new) is ∙ updated_here pools new s _ put in
+        subst (λ (o : Option Entry). IsSomeAnd o (λ e. e.parent ≡ None)) (sym here)
+        (ap (λ (k : ℕ). parent_of (get nat_cmp pools k)) (sym is) ∙ lone_root (get nat_cmp pools root) rooted)
     | inr apart ↦ subst (λ (o : Option Entry). IsSomeAnd o (λ e. e.parent ≡ None)) (sym (updated_away pools new s _ put root apart)) rooted
   ]
 
@@ -149,5 +182,8 @@ module _ (pools new : BTreeMap ℕ Entry) (s root last : ℕ) (gone : Updates na
     | inr apart ↦ live q (subst IsSome (updated_away pools new s None gone q apart) h)
   ]
 
-  pub rooted-removed : s ≢ root → IsSomeAnd (get nat_cmp pools root) (λ e. e.parent ≡ None) → IsSomeAnd (get nat_cmp new root) (λ e. e.parent ≡ None)
-  rooted-removed apart rooted = subst (λ (o : Option Entry). IsSomeAnd o (λ e. e.parent ≡ None)) (sym (updated_away pools new s None gone root (λ e. apart (sym e)))) rooted
+  pub rooted-removed : s ≢ root → IsSomeAnd (get nat_cmp pools root) (λ e. e.parent ≡ None)
+      → IsSomeAnd (get nat_cmp new root) (λ e. e.parent ≡ None)
+  rooted-removed apart rooted =
+      subst (λ (o : Option Entry). IsSomeAnd o (λ e. e.parent ≡ None))
+      (sym (updated_away pools new s None gone root (λ e. apart (sym e)))) rooted

@@ -1,5 +1,6 @@
 -- The removal of the pools beneath one, step by step.
-use Rattle.std.proofs.Common.{◌≡◌, ◌≢◌, ◌⊎◌, ℕ, zero, suc, ◌+◌, ◌<◌, true, false, None, Some, IsSome, refl, sym, ap, subst, ◌∙◌, inl, inr, arith}
+use Rattle.std.proofs.Common.{◌≡◌, ◌≢◌, ◌⊎◌, ℕ, zero, suc, ◌+◌, ◌<◌, true, false, None, Some, IsSome, refl, sym, ap, subst, ◌∙◌, inl, inr}
+use Rattle.std.proofs.Common.{arith}
 use Rattle.std.proofs.lemmas.Bool.{cases_eq}
 use Rattle.std.specs.BTreeMap.{BTreeMap, get, Updates}
 use Rattle.std.specs.BTreeSet.{BTreeSet}
@@ -59,18 +60,21 @@ module _ (old : BTreeMap ℕ Entry) (top : ℕ) where
           | inr gone ↦ none_is_gone (get nat_cmp now at) gone.0 way.here
         ]
 
-    up_to : (p : ℕ) → parent_of (get nat_cmp old at) ≡ Some p → (n : ℕ) → IsAbove (get nat_cmp old) top n at → (p ≡ top) ⊎ IsBeneath (get nat_cmp old) top p
+    up_to : (p : ℕ) → parent_of (get nat_cmp old at) ≡ Some p → (n : ℕ) → IsAbove (get nat_cmp old) top n at
+        → (p ≡ top) ⊎ IsBeneath (get nat_cmp old) top p
     up_to p e zero above = inl (Some_is p top (sym e ∙ above))
     up_to p e (suc n) above = inr (n, subst (λ (k : ℕ). IsAbove (get nat_cmp old) top n k) (Some_is above.0 p (sym above.1 ∙ e)) above.2)
 
-    pub way_up : (new : BTreeMap ℕ Entry) (children : BTreeSet (ℕ × ℕ)) (p : ℕ) → IsLinked now children → at ≢ top → Updates nat_cmp now new at None → parent_of (get nat_cmp now at) ≡ Some p → IsOnWay old new top p
+    pub way_up : (new : BTreeMap ℕ Entry) (children : BTreeSet (ℕ × ℕ)) (p : ℕ) → IsLinked now children → at ≢ top
+        → Updates nat_cmp now new at None → parent_of (get nat_cmp now at) ≡ Some p → IsOnWay old new top p
     way_up new children p linked apart gone e =
         let beneath : IsBeneath (get nat_cmp old) top at = elim way.place [ inl is ↦ absurd (apart is) | inr b ↦ b ] in
         let parent = linked.older p at e in
         let not_at : p ≢ at = λ is. let lt : p < at = parent.1 in omega (arith, is, lt) in
         record {
           either = λ q. elim (cases_eq q at) [
-            | inl is ↦ inr (ap (get nat_cmp new) is ∙ updated_here now new at None gone, subst (IsBeneath (get nat_cmp old) top) (sym is) beneath)
+            | inl is ↦
+                inr (ap (get nat_cmp new) is ∙ updated_here now new at None gone, subst (IsBeneath (get nat_cmp old) top) (sym is) beneath)
             | inr other ↦ elim (way.either q) [
               | inl same ↦ inl (updated_away now new at None gone q other ∙ same)
               | inr was ↦ inr (updated_away now new at None gone q other ∙ was.0, was.1)
@@ -80,7 +84,8 @@ module _ (old : BTreeMap ℕ Entry) (top : ℕ) where
           place = up_to p (unchanged at p e) beneath.0 beneath.1;
         }
 
-  module _ (now : BTreeMap ℕ Entry) (children : BTreeSet (ℕ × ℕ)) (linked : IsLinked now children) (way : IsOnWay old now top top) (leaf : IsLeaf now top) where
+  module _ (now : BTreeMap ℕ Entry) (children : BTreeSet (ℕ × ℕ)) (linked : IsLinked now children) (way : IsOnWay old now top top)
+      (leaf : IsLeaf now top) where
     all_gone : (n q : ℕ) → IsAbove (get nat_cmp old) top n q → get nat_cmp now q ≡ None
     all_gone zero q above = elim (way.either q) [
       | inl same ↦ absurd (leaf q (ap parent_of same ∙ above))
@@ -102,7 +107,8 @@ module _ (old : BTreeMap ℕ Entry) (top : ℕ) where
     }
 
 -- where no child is kept, there is none
-pub leaf_from_none : (pools : BTreeMap ℕ Entry) (children : BTreeSet (ℕ × ℕ)) → IsLinked pools children → (s : ℕ) → ((c : ℕ) → c < 18446744073709551616 → has_edge children s c ≡ false) → IsLeaf pools s
+pub leaf_from_none : (pools : BTreeMap ℕ Entry) (children : BTreeSet (ℕ × ℕ)) → IsLinked pools children → (s : ℕ)
+    → ((c : ℕ) → c < 18446744073709551616 → has_edge children s c ≡ false) → IsLeaf pools s
 leaf_from_none pools children linked s none c e =
     let small : c < 18446744073709551616 = linked.small c (live_child (get nat_cmp pools c) s e) in
     let clash : true ≡ false = sym (linked.up s c e) ∙ none c small in

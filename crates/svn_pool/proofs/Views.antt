@@ -1,5 +1,6 @@
 -- The pool object that the tree's fields mean.
-use Rattle.std.proofs.Common.{◌≡◌, ◌≢◌, ℕ, ◌+◌, Bool, true, false, cond, ◌&&◌, List, [], ◌∷◌, ◌++◌, map, length, None, Some, refl, sym, ap, ◌∙◌, inl, inr}
+use Rattle.std.proofs.Common.{◌≡◌, ◌≢◌, ℕ, ◌+◌, Bool, true, false, cond, ◌&&◌, List, [], ◌∷◌, ◌++◌, map, length, None, Some, refl, sym, ap}
+use Rattle.std.proofs.Common.{◌∙◌, inl, inr}
 use Rattle.std.proofs.lemmas.Bool.{cases_eq}
 use Rattle.std.proofs.lemmas.Cmp.{nat_cmp_total, tied_itself}
 use Rattle.std.proofs.lemmas.Map.Keys.{sorted_head, sorted_tail}
@@ -13,7 +14,8 @@ use Rattle.std.specs.Ordering.{is_lt, is_eq, nat_cmp, eq_by_cmp}
 use Rattle.std.specs.Prelude.{T}
 use Rattle.std.specs.declared.cmp.Ordering.TheVariants.{Less}
 use Rattle.svn_pool.specs.Linked.{blocks_held, fixed_held}
-use Rattle.svn_pool.specs.Pools.{Entry, Pools, pool_at, parent_of, strings_of_pool, strings_at, blocks_of, fixed_of, blocks_in, fixed_in, store_of, created, pushed, root_alone}
+use Rattle.svn_pool.specs.Pools.{Entry, Pools, pool_at, parent_of, strings_of_pool, strings_at, blocks_of, fixed_of, blocks_in, fixed_in}
+use Rattle.svn_pool.specs.Pools.{store_of, created, pushed, root_alone}
 use Rattle.svn_pool.specs.Refusals.{fault_if_live, push_fault}
 use Rattle.svn_pool.specs.Stores.{Store, stored, string_fault}
 use Rattle.svn_pool.specs.Views.{contents, seen}
@@ -33,7 +35,9 @@ sorted_both false b p q = p
 
 sorted_from : (es : List (ℕ × Entry)) → IsStrictlySortedBy nat_cmp (keys_of es) → T (is_sorted nat_cmp es)
 sorted_from [] h = tt
-sorted_from (e ∷ es) h = sorted_both (below_all nat_cmp e.0 es) (is_sorted nat_cmp es) (below_all_from e.0 es (sorted_head nat_cmp e.0 (keys_of es) h)) (sorted_from es (sorted_tail nat_cmp e.0 (keys_of es) h))
+sorted_from (e ∷ es) h =
+    sorted_both (below_all nat_cmp e.0 es) (is_sorted nat_cmp es) (below_all_from e.0 es (sorted_head nat_cmp e.0 (keys_of es) h))
+    (sorted_from es (sorted_tail nat_cmp e.0 (keys_of es) h))
 
 find-lookup : (q : ℕ) (es : List (ℕ × Entry)) → find nat_cmp q es ≡ lookup (is_at (nat_cmp q)) es
 find-lookup q [] = refl
@@ -73,18 +77,24 @@ module _ (t : fin.FinMap nat_cmp Entry) (s : ℕ) where
   removed_away q apart = fin.get-remove nat_cmp_total t s q ∙ ap (λ (b : Bool). cond b None (fin.get t q)) (not_same q s apart)
 
 -- maps with the same pools are the same
-pub same_contents : (m : BTreeMap ℕ Entry) → IsOrdered nat_cmp m → (t : fin.FinMap nat_cmp Entry) → ((q : ℕ) → get nat_cmp m q ≡ fin.get t q) → contents m ≡ t
-same_contents m ordered t same = fin.same_map nat_cmp_total fin.nat_cmp-IsAntisymmetric (contents m) t (λ q. get-contents m ordered q ∙ same q)
+pub same_contents : (m : BTreeMap ℕ Entry) → IsOrdered nat_cmp m → (t : fin.FinMap nat_cmp Entry)
+    → ((q : ℕ) → get nat_cmp m q ≡ fin.get t q) → contents m ≡ t
+same_contents m ordered t same =
+    fin.same_map nat_cmp_total fin.nat_cmp-IsAntisymmetric (contents m) t (λ q. get-contents m ordered q ∙ same q)
 
 -- one pool was put in
-pub contents-put : (m n : BTreeMap ℕ Entry) → IsOrdered nat_cmp m → IsOrdered nat_cmp n → (s : ℕ) (e : Entry) → Updates nat_cmp m n s (Some e) → contents n ≡ fin.insert (contents m) s e
+pub contents-put : (m n : BTreeMap ℕ Entry) → IsOrdered nat_cmp m → IsOrdered nat_cmp n → (s : ℕ) (e : Entry)
+    → Updates nat_cmp m n s (Some e) → contents n ≡ fin.insert (contents m) s e
 contents-put m n before after s e put =
     same_contents n after (fin.insert (contents m) s e) (λ q. elim (cases_eq q s) [
-      | inl is ↦ ap (get nat_cmp n) is ∙ updated_here m n s (Some e) put ∙ sym (ap (fin.get (fin.insert (contents m) s e)) is ∙ inserted_here (contents m) s e)
+      | inl is ↦
+          ap (get nat_cmp n) is ∙ updated_here m n s (Some e) put
+          ∙ sym (ap (fin.get (fin.insert (contents m) s e)) is ∙ inserted_here (contents m) s e)
       | inr apart ↦ updated_away m n s (Some e) put q apart ∙ sym (get-contents m before q) ∙ sym (inserted_away (contents m) s e q apart)
     ])
 
-module _ (root last : ℕ) (pools : BTreeMap ℕ Entry) (spare : ℕ) (t : Pools) (view : seen root last pools spare ≡ t) (ordered : IsOrdered nat_cmp pools) where
+module _ (root last : ℕ) (pools : BTreeMap ℕ Entry) (spare : ℕ) (t : Pools) (view : seen root last pools spare ≡ t)
+    (ordered : IsOrdered nat_cmp pools) where
   pub pool_is : (q : ℕ) → pool_at t q ≡ get nat_cmp pools q
   pool_is q = sym (ap (λ (u : Pools). pool_at u q) view) ∙ get-contents pools ordered q
 
@@ -100,12 +110,15 @@ module _ (root last : ℕ) (pools : BTreeMap ℕ Entry) (spare : ℕ) (t : Pools
   pub live_is : fin.len t.live ≡ btree_map_len pools
   live_is = sym (ap (λ (u : Pools). fin.len u.live) view) ∙ len-contents pools ordered
 
-  pub created-view : (new : BTreeMap ℕ Entry) (p : ℕ) → IsOrdered nat_cmp new → Updates nat_cmp pools new (last + 1) (Some (record { parent = Some p; strings = [] })) → seen root (last + 1) new spare ≡ created t p
+  pub created-view : (new : BTreeMap ℕ Entry) (p : ℕ) → IsOrdered nat_cmp new
+      → Updates nat_cmp pools new (last + 1) (Some (record { parent = Some p; strings = [] }))
+      → seen root (last + 1) new spare ≡ created t p
   created-view new p after put =
       let live = contents-put pools new ordered after (last + 1) (record { parent = Some p; strings = [] }) put in
       (λ i. record { root = root; next = last + 1 + 1; live = live i; spare = spare }) ∙ ap (λ (u : Pools). created u p) view
 
-module _ (root last : ℕ) (pools : BTreeMap ℕ Entry) (stock : Store) (t : Pools) (view : seen root last pools stock.spare ≡ t) (ordered : IsOrdered nat_cmp pools) (counted : stock.used ≡ blocks_held pools) where
+module _ (root last : ℕ) (pools : BTreeMap ℕ Entry) (stock : Store) (t : Pools) (view : seen root last pools stock.spare ≡ t)
+    (ordered : IsOrdered nat_cmp pools) (counted : stock.used ≡ blocks_held pools) where
   pub store_is : store_of t ≡ stock
   store_is =
       let used : blocks_in t ≡ stock.used = blocks_are root last pools stock.spare t view ordered ∙ sym counted in
@@ -113,14 +126,19 @@ module _ (root last : ℕ) (pools : BTreeMap ℕ Entry) (stock : Store) (t : Poo
       (λ i. record { used = used i; spare = spare i })
 
   pub push_fault_is : (s n : ℕ) → push_fault t s n ≡ fault_if_live (get nat_cmp pools s) (λ e. string_fault stock e.strings n)
-  push_fault_is s n = (λ i. fault_if_live (pool_is root last pools stock.spare t view ordered s i) (λ e. string_fault (store_is i) e.strings n))
+  push_fault_is s n =
+      (λ i. fault_if_live (pool_is root last pools stock.spare t view ordered s i) (λ e. string_fault (store_is i) e.strings n))
 
   pub pushed-view : (new : BTreeMap ℕ Entry) (after : Store) (s : ℕ) (bs : List ℕ) → IsOrdered nat_cmp new
-      → Updates nat_cmp pools new s (Some (record { parent = parent_of (get nat_cmp pools s); strings = strings_of_pool (get nat_cmp pools s) ++ bs ∷ [] }))
-      → after.spare ≡ (stored stock (strings_of_pool (get nat_cmp pools s)) (length bs)).spare → seen root last new after.spare ≡ pushed t s bs
+      → Updates nat_cmp pools new s
+      (Some (record { parent = parent_of (get nat_cmp pools s); strings = strings_of_pool (get nat_cmp pools s) ++ bs ∷ [] }))
+      → after.spare ≡ (stored stock (strings_of_pool (get nat_cmp pools s)) (length bs)).spare
+      → seen root last new after.spare ≡ pushed t s bs
   pushed-view new after s bs late put spare =
       let o : get nat_cmp pools s ≡ pool_at t s = sym (pool_is root last pools stock.spare t view ordered s) in
-      let put_in = contents-put pools new ordered late s (record { parent = parent_of (get nat_cmp pools s); strings = strings_of_pool (get nat_cmp pools s) ++ bs ∷ [] }) put in
+      let put_in =
+      contents-put pools new ordered late s
+      (record { parent = parent_of (get nat_cmp pools s); strings = strings_of_pool (get nat_cmp pools s) ++ bs ∷ [] }) put in
       let at_t : contents pools ≡ t.live = ap (λ (u : Pools). u.live) view in
       let roots : root ≡ t.root = ap (λ (u : Pools). u.root) view in
       let nexts : last + 1 ≡ t.next = ap (λ (u : Pools). u.next) view in
@@ -134,11 +152,18 @@ module _ (root last : ℕ) (pools : BTreeMap ℕ Entry) (stock : Store) (t : Poo
       })
 
 -- the root alone
-pub root_alone-view : (first spare : ℕ) (none new : BTreeMap ℕ Entry) → none.entries ≡ [] → IsOrdered nat_cmp new → Updates nat_cmp none new first (Some (record { parent = None; strings = [] })) → spare ≡ 0 → seen first first new spare ≡ root_alone first
+pub root_alone-view : (first spare : ℕ) (none new : BTreeMap ℕ Entry) → none.entries ≡ [] → IsOrdered nat_cmp new
+    → Updates nat_cmp none new first (Some (record { parent = None; strings = [] })) → spare ≡ 0
+    → seen first first new spare ≡ root_alone first
 root_alone-view first spare none new empty after put zero =
     let e : Entry = record { parent = None; strings = [] } in
-    let live : contents new ≡ fin.insert fin.empty first e = same_contents new after (fin.insert fin.empty first e) (λ q. elim (cases_eq q first) [
-      | inl is ↦ ap (get nat_cmp new) is ∙ updated_here none new first (Some e) put ∙ sym (ap (fin.get (fin.insert fin.empty first e)) is ∙ inserted_here fin.empty first e)
-      | inr apart ↦ updated_away none new first (Some e) put q apart ∙ ap (lookup (is_at (nat_cmp q))) empty ∙ sym (inserted_away fin.empty first e q apart ∙ fin.get-empty nat_cmp q)
+    let live : contents new ≡ fin.insert fin.empty first e =
+    same_contents new after (fin.insert fin.empty first e) (λ q. elim (cases_eq q first) [
+      | inl is ↦
+          ap (get nat_cmp new) is ∙ updated_here none new first (Some e) put
+          ∙ sym (ap (fin.get (fin.insert fin.empty first e)) is ∙ inserted_here fin.empty first e)
+      | inr apart ↦
+          updated_away none new first (Some e) put q apart ∙ ap (lookup (is_at (nat_cmp q))) empty
+          ∙ sym (inserted_away fin.empty first e q apart ∙ fin.get-empty nat_cmp q)
     ]) in
     (λ i. record { root = first; next = first + 1; live = live i; spare = zero i })

@@ -11,7 +11,8 @@ IsAbove pools s (suc n) q = (p : ℕ) × (parent_of (pools q) ≡ Some p) × IsA
 abbrev pub IsBeneath : (ℕ → Option Entry) → ℕ → ℕ → Type 0
 IsBeneath pools s q = (n : ℕ) × IsAbove pools s n q
 
--- what a clear or a destroy of s leaves alone: the pools that are neither s nor beneath it, the root, the serial that comes next, and the fixed blocks
+-- what a clear or a destroy of s leaves alone: the pools that are neither s nor beneath it, the root, the serial that comes next,
+-- and the fixed blocks
 pub record KeepsRest (old new : Pools) (s : ℕ) : Type 0 where
   pub others : (q : ℕ) → q ≢ s → (IsBeneath (pool_at old) s q → ⊥) → pool_at new q ≡ pool_at old q
   pub root : new.root ≡ old.root

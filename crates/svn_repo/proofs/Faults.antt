@@ -1,5 +1,6 @@
 -- The first fault on a way down, and what it means that there is none.
-use Rattle.std.proofs.Common.{◌≡◌, ℕ, zero, suc, ◌+◌, ◌<◌, ◌≤◌, Bool, true, false, cond, List, [], ◌∷◌, ◌++◌, length, take, drop, get_or, refl, arith, Option, Some, None, sym, ap, ◌∙◌, drop-cons, add-one}
+use Rattle.std.proofs.Common.{◌≡◌, ℕ, zero, suc, ◌+◌, ◌<◌, ◌≤◌, Bool, true, false, cond, List, [], ◌∷◌, ◌++◌, length, take, drop, get_or}
+use Rattle.std.proofs.Common.{refl, arith, Option, Some, None, sym, ap, ◌∙◌, drop-cons, add-one}
 use Rattle.std.specs.Prelude.{nat_lt}
 use Rattle.std.specs.List.{slice_get}
 use Rattle.std.specs.Option.{option_and_then, option_map, option_or, is_some}
@@ -8,7 +9,7 @@ use Rattle.svn_repo.specs.declared.store.Node.{Node}
 use Rattle.svn_repo.specs.declared.change.CommitFault.{CommitFault}
 use Rattle.svn_repo.specs.declared.change.CommitFault.TheVariants.{NotDir}
 use Rattle.svn_types.specs.Names.{Path}
-use Rattle.svn_repo.specs.History.{child_in, walk}
+use Rattle.svn_repo.specs.History.{Nodes, child_in, walk}
 use Rattle.svn_repo.specs.Stored.{row_of, rows, kind_of}
 use Rattle.svn_repo.specs.Trees.{Place, Tree, place_of, place_at, IsWay, is_directory_place}
 use Rattle.svn_repo.specs.Drafts.{tree_in, old_part}
@@ -20,11 +21,13 @@ above_same t u (name ∷ p) h =
     ap (λ o. option_or (directory_fault o) (above_fault (λ q. t (name ∷ q)) p)) (h [])
     ∙ ap (option_or (directory_fault (u []))) (above_same (λ q. t (name ∷ q)) (λ q. u (name ∷ q)) p (λ q. h (name ∷ q)))
 
-below_child : (base : ℕ) (nodes : List Node) (o : Option ℕ) (q : Path) → option_and_then (place_at (rows nodes) base) (option_and_then (λ m. walk (rows nodes) m q) o) ≡ old_part base nodes o q
+below_child : (base : ℕ) (nodes : List Node) (o : Option ℕ) (q : Path)
+    → option_and_then (place_at (rows nodes) base) (option_and_then (λ m. walk (rows nodes) m q) o) ≡ old_part base nodes o q
 below_child base nodes None q = refl
 below_child base nodes (Some m) q = refl
 
-place_here : (base : ℕ) (nodes : List Node) (n : ℕ) (node : Node) → slice_get nodes n ≡ Some node → tree_in base nodes n [] ≡ Some (place_of (cond (nat_lt n base) (Some n) None) (row_of node))
+place_here : (base : ℕ) (nodes : List Node) (n : ℕ) (node : Node) → slice_get nodes n ≡ Some node
+    → tree_in base nodes n [] ≡ Some (place_of (cond (nat_lt n base) (Some n) None) (row_of node))
 place_here base nodes n node e = ap (λ o. option_map (place_of (cond (nat_lt n base) (Some n) None)) (option_map row_of o)) e
 
 directory_fault_file : (p : Place) → p.kind ≡ File → directory_fault (Some p) ≡ Some NotDir
@@ -33,31 +36,50 @@ directory_fault_file p e = rw e refl
 directory_fault_directory : (p : Place) → p.kind ≡ Directory → directory_fault (Some p) ≡ None
 directory_fault_directory p e = rw e refl
 
-pub above_file : (base : ℕ) (nodes : List Node) (n : ℕ) (node : Node) (name : List ℕ) (p : Path) → slice_get nodes n ≡ Some node → kind_of node.content ≡ File → above_fault (tree_in base nodes n) (name ∷ p) ≡ Some NotDir
+pub above_file : (base : ℕ) (nodes : List Node) (n : ℕ) (node : Node) (name : List ℕ) (p : Path) → slice_get nodes n ≡ Some node
+    → kind_of node.content ≡ File → above_fault (tree_in base nodes n) (name ∷ p) ≡ Some NotDir
 above_file base nodes n node name p e k =
-    ap (λ o. option_or o (above_fault (λ q. tree_in base nodes n (name ∷ q)) p)) (ap directory_fault (place_here base nodes n node e) ∙ directory_fault_file (place_of (cond (nat_lt n base) (Some n) None) (row_of node)) k)
+    ap (λ o. option_or o (above_fault (λ q. tree_in base nodes n (name ∷ q)) p)) (ap directory_fault (place_here base nodes n node e)
+    ∙ directory_fault_file (place_of (cond (nat_lt n base) (Some n) None) (row_of node)) k)
 
-pub above_directory : (base : ℕ) (nodes : List Node) (n : ℕ) (node : Node) (name : List ℕ) (p : Path) → slice_get nodes n ≡ Some node → kind_of node.content ≡ Directory → above_fault (tree_in base nodes n) (name ∷ p) ≡ above_fault (old_part base nodes (child_in (rows nodes n) name)) p
+pub above_directory : (base : ℕ) (nodes : List Node) (n : ℕ) (node : Node) (name : List ℕ) (p : Path) → slice_get nodes n ≡ Some node
+    → kind_of node.content ≡ Directory → above_fault (tree_in base nodes n) (name ∷ p) ≡ above_fault
+    (old_part base nodes (child_in (rows nodes n) name)) p
 above_directory base nodes n node name p e k =
-    ap (λ o. option_or o (above_fault (λ q. tree_in base nodes n (name ∷ q)) p)) (ap directory_fault (place_here base nodes n node e) ∙ directory_fault_directory (place_of (cond (nat_lt n base) (Some n) None) (row_of node)) k)
-    ∙ above_same (λ q. tree_in base nodes n (name ∷ q)) (old_part base nodes (child_in (rows nodes n) name)) p (below_child base nodes (child_in (rows nodes n) name))
+    ap (λ o. option_or o (above_fault (λ q. tree_in base nodes n (name ∷ q)) p)) (ap directory_fault (place_here base nodes n node e)
+    ∙ directory_fault_directory (place_of (cond (nat_lt n base) (Some n) None) (row_of node)) k)
+    ∙ above_same (λ q. tree_in base nodes n (name ∷ q)) (old_part base nodes (child_in (rows nodes n) name)) p
+    (below_child base nodes (child_in (rows nodes n) name))
 
 -- ---- the loop over the names
 
-module _ (base : ℕ) (nodes : List Node) (at : Option ℕ) (id : ℕ) (node : Node) (names : Path) (i : ℕ) (name : List ℕ) (whole : Option CommitFault)
+module _ (base : ℕ) (nodes : List Node) (at : Option ℕ) (id : ℕ) (node : Node) (names : Path) (i : ℕ) (name : List ℕ)
+    (whole : Option CommitFault)
     (led : above_fault (old_part base nodes at) (drop i names) ≡ whole) (at_is : at ≡ Some id) (here : slice_get nodes id ≡ Some node)
     (name_is : name ≡ get_or names i name) (below : i < length names) where
   rest : drop i names ≡ name ∷ drop (i + 1) names
   rest = drop-cons names i name below ∙ ap (λ x. x ∷ drop (suc i) names) (sym name_is) ∙ ap (λ k. name ∷ drop k names) (sym (add-one i))
 
   from_here : above_fault (tree_in base nodes id) (name ∷ drop (i + 1) names) ≡ whole
-  from_here = sym (ap (above_fault (tree_in base nodes id)) rest) ∙ sym (ap (λ o. above_fault (old_part base nodes o) (drop i names)) at_is) ∙ led
+  from_here = sym (ap (above_fault (tree_in base nodes id)) rest) ∙ sym (ap (λ o. above_fault (old_part base nodes o) (drop i names)) at_is)
+      ∙ led
 
   pub led_file : kind_of node.content ≡ File → Some NotDir ≡ whole
   led_file k = sym (above_file base nodes id node name (drop (i + 1) names) here k) ∙ from_here
 
-  pub led_directory : kind_of node.content ≡ Directory → above_fault (old_part base nodes (child_in (rows nodes id) name)) (drop (i + 1) names) ≡ whole
+  pub led_directory : kind_of node.content ≡ Directory
+      → above_fault (old_part base nodes (child_in (rows nodes id) name)) (drop (i + 1) names) ≡ whole
   led_directory k = sym (above_directory base nodes id node name (drop (i + 1) names) here k) ∙ from_here
+
+-- the way goes on from the next node
+pub leads_on : (f : Nodes) (at : Option ℕ) (id : ℕ) (names : Path) (i : ℕ) (name : List ℕ) (whole : Option ℕ)
+    → option_and_then (λ n. walk f n (drop i names)) at ≡ whole → at ≡ Some id → name ≡ get_or names i name → i < length names
+    → option_and_then (λ n. walk f n (drop (i + 1) names)) (child_in (f id) name) ≡ whole
+leads_on f at id names i name whole led at_is name_is below =
+    sym (ap (walk f id) rest) ∙ sym (ap (option_and_then (λ n. walk f n (drop i names))) at_is) ∙ led
+  where
+    rest : drop i names ≡ name ∷ drop (i + 1) names
+    rest = drop-cons names i name below ∙ ap (λ x. x ∷ drop (suc i) names) (sym name_is) ∙ ap (λ k. name ∷ drop k names) (sym (add-one i))
 
 -- ---- no fault above the last name
 
@@ -77,7 +99,8 @@ pub some_directory : (o : Option Place) → is_directory_place o ≡ true → is
 some_directory None h = let bad : false ≡ true = h in cc
 some_directory (Some p) h = refl
 
-pub way_from_fault : (t : Tree) (p : Path) (name : List ℕ) → above_fault t (p ++ name ∷ []) ≡ None → IsWay t p × (is_directory_place (t p) ≡ true)
+pub way_from_fault : (t : Tree) (p : Path) (name : List ℕ) → above_fault t (p ++ name ∷ []) ≡ None
+    → IsWay t p × (is_directory_place (t p) ≡ true)
 way_from_fault t [] name h =
     let d = directory_by (t []) (or_none (directory_fault (t [])) None h).0 in
     let w : IsWay t [] = record { directories = λ i b. absurd (omega arith); present = at_root } in
@@ -93,7 +116,8 @@ way_from_fault t (m ∷ p) name h =
     let w : IsWay t (m ∷ p) = record { directories = dirs d below.0; present = here d below.0 } in
     (w, below.1)
   where
-    dirs : is_directory_place (t []) ≡ true → IsWay (λ q. t (m ∷ q)) p → (i : ℕ) → i < length (m ∷ p) → is_directory_place (t (take i (m ∷ p))) ≡ true
+    dirs : is_directory_place (t []) ≡ true → IsWay (λ q. t (m ∷ q)) p → (i : ℕ) → i < length (m ∷ p)
+        → is_directory_place (t (take i (m ∷ p))) ≡ true
     dirs d w zero b = d
     dirs d w (suc i) b = w.directories i (omega arith)
 
@@ -114,7 +138,8 @@ way_whole t (m ∷ p) h stands =
     let d : is_directory_place (t []) ≡ true = directory_by (t []) parts.0 in
     record { directories = dirs d below; present = here d below }
   where
-    dirs : is_directory_place (t []) ≡ true → IsWay (λ q. t (m ∷ q)) p → (i : ℕ) → i < length (m ∷ p) → is_directory_place (t (take i (m ∷ p))) ≡ true
+    dirs : is_directory_place (t []) ≡ true → IsWay (λ q. t (m ∷ q)) p → (i : ℕ) → i < length (m ∷ p)
+        → is_directory_place (t (take i (m ∷ p))) ≡ true
     dirs d w zero b = d
     dirs d w (suc i) b = w.directories i (omega arith)
 

@@ -1,23 +1,47 @@
+-- The lemmas of this crate, from lists and paths up to whole repositories.
+-- The first repository, and what every repository tells its readers.
 pub mod Soundness
+-- Pairs after a change of one name: they stay in order, and their names and values are those that were there or the new one.
 pub mod Pairs
+-- What holds of the entries of each node of a draft, after a node is added and after a child is put.
 pub mod Entering
+-- Where paths lead after one node is changed in place: the node is reached by one path alone.
 pub mod Walking
+-- What a map from names has at a name after a change.
 pub mod Lookups
-pub mod Puts
+-- What writing the entries of one directory does to the nodes.
+pub mod EntryWrites
+-- One node made afresh: the tree stays as it was but for the number there, and the nodes still are a draft.
 pub mod Thawing
+-- The way down: what a thawed way still has of the way that stood.
 pub mod Ways
-pub mod Putting
+-- Another child put into a fresh directory of a draft: the tree has the child's part there, and nothing else changes.
+pub mod ChildPut
+-- A draft with the root made afresh, with a new node put in, and with an old node put in.
 pub mod Making
-pub mod Past
+-- The revisions that a draft is made over, read from the nodes that have the draft's behind them.
+pub mod OldRevisions
+-- The height of a node from those of its children.
 pub mod Tallest
+-- What leaves the old nodes as they were.
 pub mod Keeping
+-- The first fault on a way down, and what it means that there is none.
 pub mod Faults
+-- What stands at a path of a draft.
 pub mod Standing
+-- A change that is made by one graft.
 pub mod Pendings
+-- One more change of a list of changes.
 pub mod Runs
+-- What a commit makes is within the limits, and of its line's kind: a law of the definitions alone.
 pub mod Lawful
-pub mod NeverFull
+-- No change is refused for want of a number, or of memory.
+pub mod UnansweredFaults
+-- A draft on which all changes were made is one more revision.
 pub mod Commits
+-- The laws of commits, from their definition.
 pub mod Meanings
+-- What no change removes stands on, and keeps its line: the law of lines.
 pub mod Staying
-pub mod Propping
+-- A property of one fresh node of a draft is set: the tree changes there alone.
+pub mod PropertySet

@@ -6,5 +6,6 @@ use Rattle.svn_types.specs.Names.{name_cmp}
 use Rattle.svn_types.specs.Pairs.{value_of, ChangesOnly}
 
 -- a test by the order is the test of equal bytes
-pub changes_only : {V : Type 0} (old new : List (List ℕ × V)) (name : List ℕ) (value : Option V) → ((x : List ℕ) → value_of new x ≡ cond (is_at (name_cmp name) x) value (value_of old x)) → ChangesOnly old new name value
+pub changes_only : {V : Type 0} (old new : List (List ℕ × V)) (name : List ℕ) (value : Option V)
+    → ((x : List ℕ) → value_of new x ≡ cond (is_at (name_cmp name) x) value (value_of old x)) → ChangesOnly old new name value
 changes_only old new name value h x = h x ∙ ap (λ b. cond b value (value_of old x)) (sym (texts_ties name x))

@@ -1,5 +1,6 @@
 -- A change that is made by one graft.
-use Rattle.std.proofs.Common.{◌≡◌, ℕ, ◌≤◌, ◌+◌, Bool, false, cond, arith, Option, true, List, [], ◌∷◌, length, refl, None, Some, sym, ap, ◌∙◌}
+use Rattle.std.proofs.Common.{◌≡◌, ℕ, ◌≤◌, ◌+◌, Bool, false, cond, arith, Option, true, List, [], ◌∷◌, length, refl, None, Some, sym, ap}
+use Rattle.std.proofs.Common.{◌∙◌}
 use Rattle.svn_repo.specs.declared.store.Node.{Node}
 use Rattle.svn_repo.specs.declared.change.Change.{Change}
 use Rattle.svn_types.specs.Names.{Path}
@@ -8,7 +9,9 @@ use Rattle.svn_repo.specs.Trees.{Place, Tree, tree_at, graft, touch, is_director
 use Rattle.svn_repo.specs.Drafts.{IsGrafted, past_in, tree_in}
 use Rattle.std.specs.Option.{option_or, option_map, is_some}
 use Rattle.svn_repo.specs.declared.change.Change.TheVariants.{MakeDir, PutFile, SetProp, Remove, CopyFrom}
-use Rattle.svn_repo.specs.Changes.{Pending, pending_in, after_change, IsMade, root_fault, above_fault, change_fault, fault_if, depth_fault, size_fault, missing_fault, value_fault, lines_after, revision_fault, walk_fault, copy_fault, copy_depth_fault}
+use Rattle.svn_repo.specs.Changes.{Pending, pending_in, after_change, IsMade, root_fault, above_fault, change_fault, fault_if, depth_fault}
+use Rattle.svn_repo.specs.Changes.{size_fault, missing_fault, value_fault, lines_after, revision_fault, walk_fault, copy_fault}
+use Rattle.svn_repo.specs.Changes.{copy_depth_fault}
 use Rattle.svn_repo.specs.declared.change.CommitFault.TheVariants.{Exists, NotFile}
 use Rattle.svn_repo.proofs.Faults.{or_none, way_whole}
 use Rattle.svn_repo.proofs.Ways.{is_directory_place-touch}
@@ -17,11 +20,16 @@ grafted_root : (t part : Tree) (p : Path) → root_fault p ≡ None → graft t 
 grafted_root t part [] h = cc
 grafted_root t part (m ∷ p) h = refl
 
-pub made_by_graft : (base : ℕ) (old new : List Node) (from root lines next : ℕ) (p : Path) (part : Tree) (change : Change) (roots : List ℕ) → IsGrafted base old new from root p part → root_fault p ≡ None → next ≤ length new → ((l : ℕ) → after_change (past_in base roots old l) (pending_in base old from lines) change ≡ record { tree = graft (tree_in base old from) p part; lines = next }) → IsMade base roots old new from lines root next change
+pub made_by_graft : (base : ℕ) (old new : List Node) (from root lines next : ℕ) (p : Path) (part : Tree) (change : Change) (roots : List ℕ)
+    → IsGrafted base old new from root p part → root_fault p ≡ None → next ≤ length new
+    → ((l : ℕ) → after_change (past_in base roots old l)
+    (pending_in base old from lines) change ≡ record { tree = graft (tree_in base old from) p part; lines = next })
+    → IsMade base roots old new from lines root next change
 made_by_graft base old new from root lines next p part change roots g not_root bounded is = record {
   draft = g.draft;
   bounded = bounded;
-  directory = λ d. ap is_directory_place (g.tree [] ∙ grafted_root (tree_in base old from) part p not_root) ∙ is_directory_place-touch (tree_in base old from) p [] ∙ d;
+  directory = λ d. ap is_directory_place (g.tree [] ∙ grafted_root (tree_in base old from) part p not_root)
+      ∙ is_directory_place-touch (tree_in base old from) p [] ∙ d;
   pending = λ h.
       (let same : tree_in base new root ≡ graft (tree_in base old from) p part = λ i q. g.tree q i in
       let P : Tree → Pending = λ t. record { tree = t; lines = next } in
@@ -34,13 +42,16 @@ CanPut t p = (root_fault p ≡ None) × (above_fault t p ≡ None)
 
 pub can_make_dir : (h : History) (s : Pending) (p : Path) → change_fault h s (MakeDir p) ≡ None → CanPut s.tree p
 can_make_dir h s p e =
-    let a = or_none (root_fault p) (option_or (above_fault s.tree p) (option_or (fault_if (is_some (s.tree p)) Exists) (depth_fault p))) e in
+    let a = or_none (root_fault p) (option_or (above_fault s.tree p) (option_or (fault_if (is_some (s.tree p)) Exists) (depth_fault p))) e
+    in
     (a.0, (or_none (above_fault s.tree p) (option_or (fault_if (is_some (s.tree p)) Exists) (depth_fault p)) a.1).0)
 
 pub can_put_file : (h : History) (s : Pending) (p : Path) (text : List ℕ) → change_fault h s (PutFile p text) ≡ None → CanPut s.tree p
 can_put_file h s p text e =
-    let a = or_none (root_fault p) (option_or (size_fault text) (option_or (above_fault s.tree p) (option_or (fault_if (is_directory_place (s.tree p)) NotFile) (depth_fault p)))) e in
-    let b = or_none (size_fault text) (option_or (above_fault s.tree p) (option_or (fault_if (is_directory_place (s.tree p)) NotFile) (depth_fault p))) a.1 in
+    let a = or_none (root_fault p) (option_or (size_fault text)
+    (option_or (above_fault s.tree p) (option_or (fault_if (is_directory_place (s.tree p)) NotFile) (depth_fault p)))) e in
+    let b = or_none (size_fault text) (option_or (above_fault s.tree p)
+    (option_or (fault_if (is_directory_place (s.tree p)) NotFile) (depth_fault p))) a.1 in
     (a.0, (or_none (above_fault s.tree p) (option_or (fault_if (is_directory_place (s.tree p)) NotFile) (depth_fault p)) b.1).0)
 
 pub can_remove : (h : History) (s : Pending) (p : Path) → change_fault h s (Remove p) ≡ None → CanPut s.tree p
@@ -61,27 +72,33 @@ some_by None h = cc
 some_by (Some p) h = refl
 
 -- the way of a change of a property that has no fault
-pub can_set_prop : (h : History) (s : Pending) (p : Path) (name : List ℕ) (value : Option (List ℕ)) → change_fault h s (SetProp p name value) ≡ None → IsWay s.tree p
+pub can_set_prop : (h : History) (s : Pending) (p : Path) (name : List ℕ) (value : Option (List ℕ))
+    → change_fault h s (SetProp p name value) ≡ None → IsWay s.tree p
 can_set_prop h s p name value e =
     let a = or_none (value_fault value) (option_or (above_fault s.tree p) (missing_fault (s.tree p))) e in
     let b = or_none (above_fault s.tree p) (missing_fault (s.tree p)) a.1 in
     way_whole s.tree p b.0 (some_by (s.tree p) b.1)
 
-kind_with_prop : (name : List ℕ) (value : Option (List ℕ)) (o : Option Place) → is_directory_place (option_map (place_with_prop name value) o) ≡ is_directory_place o
+kind_with_prop : (name : List ℕ) (value : Option (List ℕ)) (o : Option Place)
+    → is_directory_place (option_map (place_with_prop name value) o) ≡ is_directory_place o
 kind_with_prop name value None = refl
 kind_with_prop name value (Some p) = refl
 
-prop_root : (t : Tree) (p : Path) (name : List ℕ) (value : Option (List ℕ)) → is_directory_place (graft t p (with_prop t p name value) []) ≡ is_directory_place (t [])
+prop_root : (t : Tree) (p : Path) (name : List ℕ) (value : Option (List ℕ))
+    → is_directory_place (graft t p (with_prop t p name value) []) ≡ is_directory_place (t [])
 prop_root t [] name value = kind_with_prop name value (t [])
 prop_root t (m ∷ p) name value = is_directory_place-touch t (m ∷ p) []
 
-pub made_by_prop : (base : ℕ) (old new : List Node) (from root lines : ℕ) (p : Path) (name : List ℕ) (value : Option (List ℕ)) (change : Change) (roots : List ℕ) → IsGrafted base old new from root p (with_prop (tree_in base old from) p name value) → lines ≤ length new → change ≡ SetProp p name value → IsMade base roots old new from lines root lines change
+pub made_by_prop : (base : ℕ) (old new : List Node) (from root lines : ℕ) (p : Path) (name : List ℕ) (value : Option (List ℕ))
+    (change : Change) (roots : List ℕ) → IsGrafted base old new from root p (with_prop (tree_in base old from) p name value)
+    → lines ≤ length new → change ≡ SetProp p name value → IsMade base roots old new from lines root lines change
 made_by_prop base old new from root lines p name value change roots g bounded is = record {
   draft = g.draft;
   bounded = bounded;
   directory = λ d. ap is_directory_place (g.tree []) ∙ prop_root (tree_in base old from) p name value ∙ d;
   pending = λ h.
-      (let same : tree_in base new root ≡ graft (tree_in base old from) p (with_prop (tree_in base old from) p name value) = λ i q. g.tree q i in
+      (let same : tree_in base new root ≡ graft (tree_in base old from) p (with_prop (tree_in base old from) p name value) =
+      λ i q. g.tree q i in
       let P : Tree → Pending = λ t. record { tree = t; lines = lines } in
       ap P same ∙ sym (ap (after_change (past_in base roots old h) (pending_in base old from lines)) is));
 }
@@ -96,7 +113,8 @@ pub record CanCopy (h : History) (t : Tree) (rev : ℕ) (source path : Path) : T
   pub above : above_fault t path ≡ None
   pub depth : copy_depth_fault (node_at h) (look h rev source) path ≡ None
 
-pub can_copy : (h : History) (s : Pending) (rev : ℕ) (source path : Path) → change_fault h s (CopyFrom rev source path) ≡ None → CanCopy h s.tree rev source path
+pub can_copy : (h : History) (s : Pending) (rev : ℕ) (source path : Path) → change_fault h s (CopyFrom rev source path) ≡ None
+    → CanCopy h s.tree rev source path
 can_copy h s rev source path e =
     let depth : Option _ = copy_depth_fault (node_at h) (look h rev source) path in
     let exists : Option _ = fault_if (is_some (s.tree path)) Exists in

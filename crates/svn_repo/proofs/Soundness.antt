@@ -1,5 +1,6 @@
 -- The first repository, and what every repository tells its readers.
-use Rattle.std.proofs.Common.{◌≡◌, ℕ, zero, suc, ◌<◌, ◌≤◌, cond, List, [], ◌∷◌, length, map, refl, arith, Option, Some, None, subst, sym, ap, ◌∙◌}
+use Rattle.std.proofs.Common.{◌≡◌, ℕ, zero, suc, ◌<◌, ◌≤◌, cond, List, [], ◌∷◌, length, map, refl, arith, Option, Some, None, subst, sym}
+use Rattle.std.proofs.Common.{ap, ◌∙◌}
 use Rattle.std.specs.Prelude.{nat_lt, nat_le, IsSome}
 use Rattle.std.specs.List.{All, slice_get}
 use Rattle.std.specs.Option.{option_and_then, option_map}
@@ -10,14 +11,16 @@ use Rattle.std.proofs.lemmas.Option.{slice_get_within}
 use Rattle.svn_types.specs.declared.kind.Kind.TheVariants.{Directory}
 use Rattle.svn_types.specs.Names.{Path, IsName}
 use Rattle.svn_repo.specs.declared.store.Node.{Node}
-use Rattle.svn_repo.specs.History.{NodeRow, Nodes, History, node_at, child_in, walk, look, empty_directory, new_history, IsDirectoryIn, reaches}
-use Rattle.svn_repo.specs.Readings.{IsHistory, StandsAt, AllNames, SmallValues, row_or_empty, path_limit, size_limit}
+use Rattle.svn_repo.specs.History.{NodeRow, Nodes, History, node_at, child_in, walk, look, empty_directory, new_history, IsDirectoryIn}
+use Rattle.svn_repo.specs.History.{reaches}
+use Rattle.svn_repo.specs.Readings.{IsHistory, StandsAt, AllNames, SmallValues, row_or_empty}
+use Rattle.svn_types.specs.Limits.{path_limit, size_limit}
 use Rattle.svn_repo.specs.Trees.{Place, place_of, place_at, tree_at}
 use Rattle.svn_repo.specs.Stored.{row_of, rows, IsRepository, IsLawfulRow, IsLawfulPlace, IsHeight, AreHeights}
 use Rattle.svn_repo.proofs.Pairs.{in_order-nil}
 use Rattle.svn_repo.proofs.Walking.{and_then_parts}
 use Rattle.svn_repo.proofs.Thawing.{walk_stays}
-use Rattle.svn_repo.proofs.Past.{nodes_are}
+use Rattle.svn_repo.proofs.OldRevisions.{nodes_are}
 
 -- ---- revision 0 alone
 
@@ -30,7 +33,8 @@ new_closed zero m name e = let bad : None ≡ Some m = e in cc
 new_closed (suc n) m name e = let bad : None ≡ Some m = e in cc
 
 new_rows : (n : ℕ) (row : NodeRow) → slice_get (empty_directory 0 ∷ []) n ≡ Some row → IsLawfulRow row
-new_rows zero row e = let s : empty_directory 0 ≡ row = cc in subst IsLawfulRow s (record { leaf = λ k. refl; no_text = λ k. refl; in_order = in_order-nil ℕ; named = All-nil IsName })
+new_rows zero row e = let s : empty_directory 0 ≡ row = cc in
+    subst IsLawfulRow s (record { leaf = λ k. refl; no_text = λ k. refl; in_order = in_order-nil ℕ; named = All-nil IsName })
 new_rows (suc n) row e = cc
 
 new_trees : (r : ℕ) (q : Path) (x : Place) → tree_at new_history r q ≡ Some x → IsLawfulPlace (λ l. Directory) 1 q x
@@ -43,11 +47,13 @@ new_trees zero [] x e =
       text_small = omega arith;
       line = omega arith;
       kind = refl;
+      root_line = λ at_root. refl;
     })
 new_trees zero (m ∷ q) x e = let bad : None ≡ Some x = e in cc
 new_trees (suc r) q x e = let bad : None ≡ Some x = e in cc
 
-pub new_sound : (roots : List ℕ) (nodes : List NodeRow) → roots ≡ 0 ∷ [] → nodes ≡ empty_directory 0 ∷ [] → IsRepository (record { roots = roots; nodes = nodes; lines = 1 })
+pub new_sound : (roots : List ℕ) (nodes : List NodeRow) → roots ≡ 0 ∷ [] → nodes ≡ empty_directory 0 ∷ []
+    → IsRepository (record { roots = roots; nodes = nodes; lines = 1 })
 new_sound roots nodes rs ns = rw (rs, ns) (record {
   some_revision = omega arith;
   roots = new_roots;
@@ -65,7 +71,8 @@ leaf_height f n line e = record { bounded = omega arith; exact = by }
     by zero h = sym (leb-zero 0)
     by (suc j) h = rw e (sym (leb-suc-zero j))
 
-pub first_heights : (nodes : List Node) (heights : List ℕ) → map row_of nodes ≡ empty_directory 0 ∷ [] → heights ≡ 0 ∷ [] → AreHeights nodes heights
+pub first_heights : (nodes : List Node) (heights : List ℕ) → map row_of nodes ≡ empty_directory 0 ∷ [] → heights ≡ 0 ∷ []
+    → AreHeights nodes heights
 first_heights nodes heights e h = rw h (record { size = sym (one nodes e); each = at })
   where
     one : (ns : List Node) → map row_of ns ≡ empty_directory 0 ∷ [] → length ns ≡ 1
@@ -74,7 +81,8 @@ first_heights nodes heights e h = rw h (record { size = sym (one nodes e); each 
     one (x ∷ y ∷ ns) e = cc
 
     at : (n k : ℕ) → slice_get (0 ∷ []) n ≡ Some k → IsHeight (rows nodes) n k
-    at zero k f = let s : 0 ≡ k = cc in subst (IsHeight (rows nodes) 0) s (leaf_height (rows nodes) 0 0 (sym (nodes_are nodes 0) ∙ ap (λ (ns : List NodeRow). slice_get ns 0) e))
+    at zero k f = let s : 0 ≡ k = cc in subst (IsHeight (rows nodes) 0) s
+        (leaf_height (rows nodes) 0 0 (sym (nodes_are nodes 0) ∙ ap (λ (ns : List NodeRow). slice_get ns 0) e))
     at (suc n) k f = cc
 
 -- ---- what readers know
@@ -85,7 +93,11 @@ names_all (e ∷ es) all = (All-head IsName e.0 (keys_of es) all, names_all es (
 
 values_all : (ps : List (List ℕ × List ℕ)) → All (λ v. length v ≤ size_limit) (values_of ps) → SmallValues ps
 values_all [] all = tt
-values_all (e ∷ ps) all = (All-head (λ v. length v ≤ size_limit) e.1 (values_of ps) all, values_all ps (All-tail (λ v. length v ≤ size_limit) e.1 (values_of ps) all))
+values_all (e ∷ ps) all = (
+  All-head (λ v. length v ≤ size_limit) e.1 (values_of ps) all,
+  values_all ps
+      (All-tail (λ v. length v ≤ size_limit) e.1 (values_of ps) all),
+)
 
 some_is : (row : NodeRow) → IsSome (Some row)
 some_is row = search
@@ -95,7 +107,8 @@ module _ (h : History) (sound : IsRepository h) where
   standing_in r n p e =
       let s = and_then_parts (λ m. walk (node_at h) m p) (slice_get h.roots r) n e in
       let d = sound.roots r s.0 s.1 in
-      walk_stays (λ k. k < length h.nodes) (node_at h) (λ k m x b f. sound.closed k m x f) s.0 n p (slice_get_within h.nodes s.0 d.0 d.1) s.2
+      walk_stays (λ k. k < length h.nodes) (node_at h) (λ k m x b f. sound.closed k m x f) s.0 n p
+      (slice_get_within h.nodes s.0 d.0 d.1) s.2
 
   row_is : (o : Option NodeRow) (n : ℕ) → slice_get h.nodes n ≡ o → n < length h.nodes → o ≡ Some (row_or_empty o)
   row_is None n e b = let bad : length h.nodes ≤ n = none_past h.nodes n e in absurd (omega arith)
@@ -115,11 +128,15 @@ module _ (h : History) (sound : IsRepository h) where
   number : ℕ → Option ℕ
   number n = cond (nat_lt n (length h.nodes)) (Some n) None
 
-  place_there : (r n : ℕ) (p : Path) → StandsAt h r p n → tree_at h r p ≡ Some (place_of (cond (nat_lt n (length h.nodes)) (Some n) None) (row_or_empty (node_at h n)))
-  place_there r n p e = ap (option_and_then (place_at (node_at h) (length h.nodes))) e ∙ ap (option_map (place_of (cond (nat_lt n (length h.nodes)) (Some n) None))) (row_there r n p e)
+  place_there : (r n : ℕ) (p : Path) → StandsAt h r p n
+      → tree_at h r p ≡ Some (place_of (cond (nat_lt n (length h.nodes)) (Some n) None) (row_or_empty (node_at h n)))
+  place_there r n p e = ap (option_and_then (place_at (node_at h) (length h.nodes))) e
+      ∙ ap (option_map (place_of (cond (nat_lt n (length h.nodes)) (Some n) None))) (row_there r n p e)
 
-  place_lawful : (r n : ℕ) (p : Path) → StandsAt h r p n → IsLawfulPlace sound.kinds h.lines p (place_of (cond (nat_lt n (length h.nodes)) (Some n) None) (row_or_empty (node_at h n)))
-  place_lawful r n p e = sound.trees r p (place_of (cond (nat_lt n (length h.nodes)) (Some n) None) (row_or_empty (node_at h n))) (place_there r n p e)
+  place_lawful : (r n : ℕ) (p : Path) → StandsAt h r p n
+      → IsLawfulPlace sound.kinds h.lines p (place_of (cond (nat_lt n (length h.nodes)) (Some n) None) (row_or_empty (node_at h n)))
+  place_lawful r n p e = sound.trees r p (place_of (cond (nat_lt n (length h.nodes)) (Some n) None) (row_or_empty (node_at h n)))
+      (place_there r n p e)
 
   root_kind : (r n : ℕ) → StandsAt h r [] n → (row_or_empty (node_at h n)).kind ≡ Directory
   root_kind r n e =
@@ -133,10 +150,12 @@ module _ (h : History) (sound : IsRepository h) where
 
   pub is_history : IsHistory h
   is_history = record {
+    root_line = λ r n e. (place_lawful r n [] e).root_line refl;
     root_is_directory = root_kind;
     files_are_leaves = λ r p n e. (row_lawful r n p e).leaf;
     directories_without_text = λ r p n e. (row_lawful r n p e).no_text;
     one_line_one_kind = λ r s p q m n e f l. (place_lawful r m p e).kind ∙ ap sound.kinds l ∙ sym (place_lawful s n q f).kind;
+    lines_below_next = λ r p n e. (place_lawful r n p e).line;
     entries_in_order = λ r p n e. (row_lawful r n p e).in_order;
     entries_named = λ r p n e. names_all (row_or_empty (node_at h n)).entries (row_lawful r n p e).named;
     props_in_order = λ r p n e. (place_lawful r n p e).props_in_order;

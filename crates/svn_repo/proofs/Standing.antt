@@ -23,9 +23,12 @@ is_some-maps number (Some x) = refl
 pub is_some-place_at : (base : ℕ) (nodes : List Node) (n : ℕ) → n < length nodes → is_some (place_at (rows nodes) base n) ≡ true
 is_some-place_at base nodes n h = is_some-maps (cond (nat_lt n base) (Some n) None) (slice_get nodes n) ∙ slice_get_inside nodes n h
 
-by_walk : (base : ℕ) (nodes : List Node) (o : Option ℕ) → ((n : ℕ) → o ≡ Some n → n < length nodes) → is_some o ≡ is_some (option_and_then (place_at (rows nodes) base) o)
+by_walk : (base : ℕ) (nodes : List Node) (o : Option ℕ) → ((n : ℕ) → o ≡ Some n → n < length nodes)
+    → is_some o ≡ is_some (option_and_then (place_at (rows nodes) base) o)
 by_walk base nodes None h = refl
 by_walk base nodes (Some n) h = sym (is_some-place_at base nodes n (h n refl))
 
-pub is_some-tree_in : (base : ℕ) (nodes : List Node) (root : ℕ) (q : Path) → root < length nodes → IsClosedIn nodes → is_some (walk (rows nodes) root q) ≡ is_some (tree_in base nodes root q)
-is_some-tree_in base nodes root q inside closed = by_walk base nodes (walk (rows nodes) root q) (λ n e. in_range nodes closed root n q inside e)
+pub is_some-tree_in : (base : ℕ) (nodes : List Node) (root : ℕ) (q : Path) → root < length nodes → IsClosedIn nodes
+    → is_some (walk (rows nodes) root q) ≡ is_some (tree_in base nodes root q)
+is_some-tree_in base nodes root q inside closed = by_walk base nodes (walk (rows nodes) root q)
+    (λ n e. in_range nodes closed root n q inside e)

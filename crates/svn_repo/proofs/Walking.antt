@@ -1,5 +1,6 @@
 -- Where paths lead after one node is changed in place: the node is reached by one path alone.
-use Rattle.std.proofs.Common.{◌≡◌, ◌≢◌, ℕ, true, false, cond, List, [], ◌∷◌, ◌++◌, length, refl, arith, Option, Some, None, sym, ap, ◌∙◌, length-append, inl, inr}
+use Rattle.std.proofs.Common.{◌≡◌, ◌≢◌, ℕ, true, false, cond, List, [], ◌∷◌, ◌++◌, length, refl, arith, Option, Some, None, sym, ap, ◌∙◌}
+use Rattle.std.proofs.Common.{length-append, inl, inr}
 use Rattle.std.specs.Prelude.{bytes_eq}
 use Rattle.std.specs.Option.{option_and_then}
 use Rattle.std.proofs.lemmas.Bool.{cases_Bool}
@@ -21,11 +22,13 @@ pub record IsOnlyWay (f : Nodes) (n : ℕ) (p : Path) (k : ℕ) : Type 0 where
   pub leads : walk f n p ≡ Some k
   pub only : (r : Path) → walk f n r ≡ Some k → r ≡ p
 
-pub and_then_same : {A B : Type 0} (u v : A → Option B) (o : Option A) → ((x : A) → o ≡ Some x → u x ≡ v x) → option_and_then u o ≡ option_and_then v o
+pub and_then_same : {A B : Type 0} (u v : A → Option B) (o : Option A) → ((x : A) → o ≡ Some x → u x ≡ v x)
+    → option_and_then u o ≡ option_and_then v o
 and_then_same u v None h = refl
 and_then_same u v (Some x) h = h x refl
 
-pub and_then_parts : {A B : Type 0} (u : A → Option B) (o : Option A) (y : B) → option_and_then u o ≡ Some y → (x : A) × (o ≡ Some x) × (u x ≡ Some y)
+pub and_then_parts : {A B : Type 0} (u : A → Option B) (o : Option A) (y : B) → option_and_then u o ≡ Some y
+    → (x : A) × (o ≡ Some x) × (u x ≡ Some y)
 and_then_parts u None y h = cc
 and_then_parts u (Some x) y h = (x, refl, h)
 
@@ -46,7 +49,8 @@ pub walk_avoiding : (f g : Nodes) (k : ℕ) → SameBut f g k → (n : ℕ) (q :
 walk_avoiding f g k same n [] apart = refl
 walk_avoiding f g k same n (name ∷ q) apart =
     ap (λ o. option_and_then (λ c. walk g c q) (child_in o name)) (same n (λ e. apart [] (ap Some e)))
-    ∙ and_then_same (λ c. walk g c q) (λ c. walk f c q) (child_in (f n) name) (λ c e. walk_avoiding f g k same c q (child_apart f n k c name apart e))
+    ∙ and_then_same (λ c. walk g c q) (λ c. walk f c q) (child_in (f n) name)
+    (λ c e. walk_avoiding f g k same c q (child_apart f n k c name apart e))
 
 tail_only : (f : Nodes) (n c k : ℕ) (m : List ℕ) (p : Path) → IsOnlyWay f n (m ∷ p) k → child_in (f n) m ≡ Some c → IsOnlyWay f c p k
 tail_only f n c k m p way e = record {
@@ -54,7 +58,8 @@ tail_only f n c k m p way e = record {
   only = λ r h. let s : m ∷ r ≡ m ∷ p = way.only (m ∷ r) (walk_step f n c m r e ∙ h) in cc;
 }
 
-side_apart : (f : Nodes) (n c k : ℕ) (m x : List ℕ) (p : Path) → IsOnlyWay f n (m ∷ p) k → bytes_eq m x ≡ false → child_in (f n) x ≡ Some c → IsApart f c k
+side_apart : (f : Nodes) (n c k : ℕ) (m x : List ℕ) (p : Path) → IsOnlyWay f n (m ∷ p) k → bytes_eq m x ≡ false → child_in (f n) x ≡ Some c
+    → IsApart f c k
 side_apart f n c k m x p way ne e = λ r h.
     let s : x ∷ r ≡ m ∷ p = way.only (x ∷ r) (walk_step f n c x r e ∙ h) in
     let t : m ≡ x = cc in
@@ -62,25 +67,30 @@ side_apart f n c k m x p way ne e = λ r h.
     cc
 
 -- a walk that goes through k goes on as g does there, and any other is as before
-pub walk_through : (f g : Nodes) (k : ℕ) → SameBut f g k → (n : ℕ) (p q : Path) → IsOnlyWay f n p k → walk g n q ≡ led (rest_below p q) (walk g k) (walk f n q)
+pub walk_through : (f g : Nodes) (k : ℕ) → SameBut f g k → (n : ℕ) (p q : Path) → IsOnlyWay f n p k
+    → walk g n q ≡ led (rest_below p q) (walk g k) (walk f n q)
 walk_through f g k same n [] q way = let l : Some n ≡ Some k = way.leads in let e : n ≡ k = cc in ap (λ x. walk g x q) e
 walk_through f g k same n (m ∷ p) [] way = refl
 walk_through f g k same n (m ∷ p) (x ∷ q) way =
     let ne : n ≢ k = λ e. (let s : [] ≡ m ∷ p = way.only [] (ap Some e) in cc) in
     let s = and_then_parts (λ c. walk f c p) (child_in (f n) m) k way.leads in
-    let first : walk g n (x ∷ q) ≡ option_and_then (λ c. walk g c q) (child_in (f n) x) = ap (λ o. option_and_then (λ c. walk g c q) (child_in o x)) (same n ne) in
+    let first : walk g n (x ∷ q) ≡ option_and_then (λ c. walk g c q) (child_in (f n) x) =
+    ap (λ o. option_and_then (λ c. walk g c q) (child_in o x)) (same n ne) in
     elim (cases_Bool (bytes_eq m x)) [
       | inl t ↦
           let e : m ≡ x = (bytes_eq-Decides m x).0 t in
           let at : child_in (f n) x ≡ Some s.0 = ap (child_in (f n)) (sym e) ∙ s.1 in
-          let on : walk g s.0 q ≡ led (rest_below p q) (walk g k) (walk f s.0 q) = walk_through f g k same s.0 p q (tail_only f n s.0 k m p way s.1) in
+          let on : walk g s.0 q ≡ led (rest_below p q) (walk g k) (walk f s.0 q) =
+          walk_through f g k same s.0 p q (tail_only f n s.0 k m p way s.1) in
           let old : walk f s.0 q ≡ walk f n (x ∷ q) = sym (walk_step f n s.0 x q at) in
           rw t (first ∙ ap (option_and_then (λ c. walk g c q)) at ∙ on ∙ ap (led (rest_below p q) (walk g k)) old)
       | inr t ↦
-          rw t (first ∙ and_then_same (λ c. walk g c q) (λ c. walk f c q) (child_in (f n) x) (λ c e. walk_avoiding f g k same c q (side_apart f n c k m x p way t e)))
+          rw t (first ∙ and_then_same (λ c. walk g c q) (λ c. walk f c q) (child_in (f n) x)
+          (λ c e. walk_avoiding f g k same c q (side_apart f n c k m x p way t e)))
     ]
 
-pub rest_below_child : (p : Path) (name : List ℕ) (q : Path) → rest_below (p ++ name ∷ []) q ≡ option_and_then (rest_below (name ∷ [])) (rest_below p q)
+pub rest_below_child : (p : Path) (name : List ℕ) (q : Path)
+    → rest_below (p ++ name ∷ []) q ≡ option_and_then (rest_below (name ∷ [])) (rest_below p q)
 rest_below_child [] name q = refl
 rest_below_child (m ∷ p) name [] = refl
 rest_below_child (m ∷ p) name (x ∷ q) = elim (cases_Bool (bytes_eq m x)) [ inl t ↦ rw t (rest_below_child p name q) | inr t ↦ rw t refl ]
@@ -94,7 +104,10 @@ rest_below_is (m ∷ p) (x ∷ q) r h = elim (cases_Bool (bytes_eq m x)) [
 ]
 
 -- the new way below p and a name: what stood at the name is replaced by w
-pub walk_after_put : (f g : Nodes) (k n : ℕ) (p : Path) (name : List ℕ) (w : Option ℕ) → SameBut f g k → ((x : List ℕ) → child_in (g k) x ≡ cond (bytes_eq name x) w (child_in (f k) x)) → IsOnlyWay f n p k → ((c : ℕ) → w ≡ Some c → IsApart f c k) → (q : Path) → walk g n q ≡ led (rest_below (p ++ name ∷ []) q) (λ r. option_and_then (λ c. walk f c r) w) (walk f n q)
+pub walk_after_put : (f g : Nodes) (k n : ℕ) (p : Path) (name : List ℕ) (w : Option ℕ) → SameBut f g k
+    → ((x : List ℕ) → child_in (g k) x ≡ cond (bytes_eq name x) w (child_in (f k) x)) → IsOnlyWay f n p k
+    → ((c : ℕ) → w ≡ Some c → IsApart f c k) → (q : Path)
+    → walk g n q ≡ led (rest_below (p ++ name ∷ []) q) (λ r. option_and_then (λ c. walk f c r) w) (walk f n q)
 walk_after_put f g k n p name w same put way aside q =
     walk_through f g k same n p q way ∙ by_rest (rest_below p q) refl
   where
@@ -121,5 +134,6 @@ walk_after_put f g k n p name w same put way aside q =
         let at : walk f n q ≡ walk f k (x ∷ r) = ap (walk f n) q_is ∙ walk_append f n k p (x ∷ r) way.leads in
         rw (rest_below_child p name q, ← e) (elim (cases_Bool (bytes_eq name x)) [
           | inl t ↦ rw (put x, t) (and_then_same (λ c. walk g c r) (λ c. walk f c r) w (λ c h. walk_avoiding f g k same c r (aside c h)))
-          | inr t ↦ rw (put x, t) (and_then_same (λ c. walk g c r) (λ c. walk f c r) (child_in (f k) x) (λ c h. walk_avoiding f g k same c r (below_apart c x h)) ∙ sym at)
+          | inr t ↦ rw (put x, t) (and_then_same (λ c. walk g c r) (λ c. walk f c r) (child_in (f k) x)
+              (λ c h. walk_avoiding f g k same c r (below_apart c x h)) ∙ sym at)
         ])

@@ -1,5 +1,6 @@
 -- The way down: what a thawed way still has of the way that stood.
-use Rattle.std.proofs.Common.{◌≡◌, ℕ, ◌+◌, ◌<◌, Bool, true, false, cond, List, [], ◌∷◌, ◌++◌, length, take, get_or, refl, arith, Option, Some, None, sym, ap, ◌∙◌}
+use Rattle.std.proofs.Common.{◌≡◌, ℕ, ◌+◌, ◌<◌, Bool, true, false, cond, List, [], ◌∷◌, ◌++◌, length, take, get_or, refl, arith, Option}
+use Rattle.std.proofs.Common.{Some, None, sym, ap, ◌∙◌}
 use Rattle.std.specs.Prelude.{IsSome, nat_lt}
 use Rattle.std.specs.List.{slice_get}
 use Rattle.std.specs.Option.{option_and_then, option_map, is_some}
@@ -31,18 +32,23 @@ is_some-touch t p q = some_of_touched (is_within q p) (t q)
 pub is_directory_place-touch : (t : Tree) (p q : Path) → is_directory_place (touch t p q) ≡ is_directory_place (t q)
 is_directory_place-touch t p q = kind_of_touched (is_within q p) (t q)
 
-listing_by : (c : Content) (number : Option ℕ) (node : Node) → c ≡ node.content → is_directory_place (Some (place_of number (row_of (record node { content = c })))) ≡ true → (entries : List (List ℕ × ℕ)) × (node.content ≡ Listing entries)
+listing_by : (c : Content) (number : Option ℕ) (node : Node) → c ≡ node.content
+    → is_directory_place (Some (place_of number (row_of (record node { content = c })))) ≡ true
+    → (entries : List (List ℕ × ℕ)) × (node.content ≡ Listing entries)
 listing_by (Text text) number node e h = let bad : false ≡ true = h in cc
 listing_by (Listing entries) number node e h = (entries, sym e)
 
-listing_from : (nodes : List Node) (n : ℕ) (number : Option ℕ) (o : Option Node) → slice_get nodes n ≡ o → is_directory_place (option_map (place_of number) (option_map row_of o)) ≡ true → IsListing nodes n
+listing_from : (nodes : List Node) (n : ℕ) (number : Option ℕ) (o : Option Node) → slice_get nodes n ≡ o
+    → is_directory_place (option_map (place_of number) (option_map row_of o)) ≡ true → IsListing nodes n
 listing_from nodes n number None e h = let bad : false ≡ true = h in cc
 listing_from nodes n number (Some node) e h = let l = listing_by node.content number node refl h in (node, l.0, e, l.1)
 
 -- a place that is a directory is that of a directory
-pub listing_at : (base : ℕ) (nodes : List Node) (root n : ℕ) (q : Path) → walk (rows nodes) root q ≡ Some n → is_directory_place (tree_in base nodes root q) ≡ true → IsListing nodes n
+pub listing_at : (base : ℕ) (nodes : List Node) (root n : ℕ) (q : Path) → walk (rows nodes) root q ≡ Some n
+    → is_directory_place (tree_in base nodes root q) ≡ true → IsListing nodes n
 listing_at base nodes root n q here h =
-    listing_from nodes n (cond (nat_lt n base) (Some n) None) (slice_get nodes n) refl (sym (ap (λ o. is_directory_place (option_and_then (place_at (rows nodes) base) o)) here) ∙ h)
+    listing_from nodes n (cond (nat_lt n base) (Some n) None) (slice_get nodes n) refl
+    (sym (ap (λ o. is_directory_place (option_and_then (place_at (rows nodes) base) o)) here) ∙ h)
 
 some_parts : {A B : Type 0} (u : A → Option B) (o : Option A) → is_some (option_and_then u o) ≡ true → is_some o ≡ true
 some_parts u None h = h
@@ -52,10 +58,12 @@ some_is : {A : Type 0} (o : Option A) → is_some o ≡ true → IsSome o
 some_is None h = let bad : false ≡ true = h in cc
 some_is (Some x) h = search
 
-pub child_present : (base : ℕ) (nodes : List Node) (root n : ℕ) (p : Path) (name : List ℕ) → walk (rows nodes) root p ≡ Some n → is_some (tree_in base nodes root (p ++ name ∷ [])) ≡ true → IsSome (child_in (rows nodes n) name)
+pub child_present : (base : ℕ) (nodes : List Node) (root n : ℕ) (p : Path) (name : List ℕ) → walk (rows nodes) root p ≡ Some n
+    → is_some (tree_in base nodes root (p ++ name ∷ [])) ≡ true → IsSome (child_in (rows nodes n) name)
 child_present base nodes root n p name here h =
     let walked : is_some (walk (rows nodes) root (p ++ name ∷ [])) ≡ true = some_parts (place_at (rows nodes) base) _ h in
-    let step : is_some (walk (rows nodes) n (name ∷ [])) ≡ true = sym (ap is_some (walk_append (rows nodes) root n p (name ∷ []) here)) ∙ walked in
+    let step : is_some (walk (rows nodes) n (name ∷ [])) ≡ true = sym (ap is_some (walk_append (rows nodes) root n p (name ∷ []) here))
+    ∙ walked in
     some_is (child_in (rows nodes n) name) (some_parts (λ m. walk (rows nodes) m []) (child_in (rows nodes n) name) step)
 
 -- one more name of the way
@@ -66,13 +74,16 @@ module _ (base : ℕ) (old between : List Node) (root at : ℕ) (names : Path) (
   longer = take_more names i name below ∙ ap (λ x. take i names ++ x ∷ []) (sym name_is)
 
   pub way_listing : IsListing between at
-  way_listing = listing_at base between root at (take i names) thawed.here (ap is_directory_place (thawed.tree (take i names)) ∙ is_directory_place-touch (tree_in base old root) (take i names) (take i names) ∙ way.directories i below)
+  way_listing = listing_at base between root at (take i names) thawed.here (ap is_directory_place (thawed.tree (take i names))
+      ∙ is_directory_place-touch (tree_in base old root) (take i names) (take i names) ∙ way.directories i below)
 
   pub way_child : IsSome (child_in (rows between at) name)
   way_child =
       child_present base between root at (take i names) name thawed.here
-      (ap is_some (thawed.tree (take i names ++ name ∷ [])) ∙ is_some-touch (tree_in base old root) (take i names) (take i names ++ name ∷ [])
+      (ap is_some (thawed.tree (take i names ++ name ∷ []))
+      ∙ is_some-touch (tree_in base old root) (take i names) (take i names ++ name ∷ [])
       ∙ ap (λ q. is_some (tree_in base old root q)) (sym longer) ∙ way.present (i + 1) (omega arith))
 
-  pub way_more : (new : List Node) (result : ℕ) → ThawsChild base between new at name result → IsThawed base old new root root (take (i + 1) names) result
+  pub way_more : (new : List Node) (result : ℕ) → ThawsChild base between new at name result
+      → IsThawed base old new root root (take (i + 1) names) result
   way_more new result thaws = rw longer (thaw_more base old between new root root at (take i names) name result thawed thaws)

@@ -2,19 +2,21 @@
 --     change_fault h s change      why the change can't be made, if it can't
 --     after_change h s change      the tree and the next line after it
 --     IsCommit h h' changes      h' is h with one more revision, made by the changes
-use Rattle.std.specs.Prelude.{◌≡◌, ℕ, ◌+◌, ◌-◌, ◌≤◌, ◌<◌, Bool, true, List, [], ◌∷◌, ◌++◌, length, nat_lt, nat_le, Option, Some, None, MatchOption, is_some, if◌then◌else◌, ◌⊎◌}
+use Rattle.std.specs.Prelude.{◌≡◌, ℕ, ◌+◌, ◌-◌, ◌≤◌, ◌<◌, Bool, true, List, [], ◌∷◌, ◌++◌, length, take, nat_lt, nat_le, Option, Some, None}
+use Rattle.std.specs.Prelude.{MatchOption, is_some, if◌then◌else◌, ◌⊎◌}
 use Rattle.std.specs.Option.{option_or}
 use Rattle.svn_types.specs.declared.kind.Kind.TheVariants.{File, Directory}
 use Rattle.svn_repo.specs.declared.change.Change.{Change}
 use Rattle.svn_repo.specs.declared.change.Change.TheVariants.{MakeDir, PutFile, SetProp, Remove, CopyFrom}
 use Rattle.svn_repo.specs.declared.change.CommitFault.{CommitFault}
-use Rattle.svn_repo.specs.declared.change.CommitFault.TheVariants.{Exists, Missing, NotDir, NotFile, IsRoot, TooDeep, NoSuchRevision, TooLong, Full, Memory}
+use Rattle.svn_repo.specs.declared.change.CommitFault.TheVariants.{Exists, Missing, NotDir, NotFile, IsRoot, TooDeep, NoSuchRevision}
+use Rattle.svn_repo.specs.declared.change.CommitFault.TheVariants.{TooLong, Full, Memory}
 use Rattle.svn_repo.specs.declared.store.Node.{Node}
 use Rattle.svn_repo.specs.Drafts.{IsDraft, tree_in, past_in}
-use Rattle.svn_repo.specs.Stored.{history_of}
+use Rattle.svn_repo.specs.Stored.{history_of, IsStored}
 use Rattle.svn_types.specs.Names.{Path}
 use Rattle.svn_repo.specs.History.{NodeRow, History, Nodes, node_at, look, reaches}
-use Rattle.svn_repo.specs.Readings.{path_limit, size_limit}
+use Rattle.svn_types.specs.Limits.{path_limit, size_limit}
 use Rattle.svn_repo.specs.Trees.{Place, Tree, tree_at, graft, leaf, nothing, with_prop, is_directory_place}
 
 -- the tree that the changes so far have made, and the next line
@@ -105,7 +107,11 @@ lines_after lines (Some old) = lines
 
 abbrev pub after_change : History → Pending → Change → Pending
 after_change h s (MakeDir path) = record { tree = graft s.tree path (leaf (new_directory s.lines)); lines = s.lines + 1 }
-after_change h s (PutFile path text) = record { tree = graft s.tree path (leaf (with_text s.lines (s.tree path) text)); lines = lines_after s.lines (s.tree path) }
+after_change h s (PutFile path text) = record {
+  tree = graft s.tree path (leaf (with_text s.lines (s.tree path) text));
+  lines =
+      lines_after s.lines (s.tree path);
+}
 after_change h s (SetProp path name value) = record { tree = graft s.tree path (with_prop s.tree path name value); lines = s.lines }
 after_change h s (Remove path) = record { tree = graft s.tree path nothing; lines = s.lines }
 after_change h s (CopyFrom rev source path) = record { tree = graft s.tree path (λ q. tree_at h rev (source ++ q)); lines = s.lines }
@@ -139,7 +145,8 @@ IsNodeOf p row = (row.line ≡ p.line) × (row.kind ≡ p.kind) × (row.text ≡
 -- at the path of revision r stands what the tree has there
 abbrev pub StandsIn : History → History → ℕ → Path → Option Place → Type 0
 StandsIn h h' r q None = look h' r q ≡ None
-StandsIn h h' r q (Some p) = (n : ℕ) × (row : NodeRow) × (look h' r q ≡ Some n) × (node_at h' n ≡ Some row) × IsNumbered h p n × IsNodeOf p row
+StandsIn h h' r q (Some p) = (n : ℕ) × (row : NodeRow) × (look h' r q ≡ Some n) × (node_at h' n ≡ Some row) × IsNumbered h p n
+    × IsNodeOf p row
 
 -- s is what the changes made of the last revision of h
 pub record IsRevision (h h' : History) (s : Pending) : Type 0 where
@@ -148,7 +155,8 @@ pub record IsRevision (h h' : History) (s : Pending) : Type 0 where
   -- it has what the changes made of the last one
   pub tree : (q : Path) → StandsIn h h' (length h.roots) q (s.tree q)
   -- no fresh node stands twice
-  pub distinct : (p q : Path) (n : ℕ) → length h.nodes ≤ n → look h' (length h.roots) p ≡ Some n → look h' (length h.roots) q ≡ Some n → p ≡ q
+  pub distinct : (p q : Path) (n : ℕ) → length h.nodes ≤ n → look h' (length h.roots) p ≡ Some n → look h' (length h.roots) q ≡ Some n
+      → p ≡ q
   -- the old revisions and the old nodes stay
   pub old_revisions : (r : ℕ) (q : Path) → r < length h.roots → look h' r q ≡ look h r q
   pub old_nodes : (n : ℕ) → n < length h.nodes → node_at h' n ≡ node_at h n
@@ -157,6 +165,11 @@ pub record IsRevision (h h' : History) (s : Pending) : Type 0 where
 -- h' is h with one more revision, made by the changes
 abbrev pub IsCommit : History → History → List Change → Type 0
 IsCommit h h' changes = (commit_fault h changes ≡ None) × IsRevision h h' (after_changes h (latest_pending h) changes)
+
+-- the stored lists have one more revision, made by the changes
+abbrev pub IsExtended : List ℕ → List Node → ℕ → List ℕ → List Node → List ℕ → List Change → ℕ → Type 0
+IsExtended roots old lines roots' new heights' changes next =
+    IsStored roots' new next heights' × IsCommit (history_of roots old lines) (history_of roots' new next) changes
 
 -- ---- changes on a draft
 
@@ -171,13 +184,18 @@ pub record IsMade (base : ℕ) (roots : List ℕ) (old new : List Node) (from li
 pub record AllMade (roots : List ℕ) (old new : List Node) (from lines root next : ℕ) (changes : List Change) : Type 0 where
   pub draft : IsDraft (length old) new root
   pub bounded : next ≤ length new
-  pub directory : is_directory_place (tree_in (length old) old from []) ≡ true → is_directory_place (tree_in (length old) new root []) ≡ true
+  pub directory : is_directory_place (tree_in (length old) old from []) ≡ true
+      → is_directory_place (tree_in (length old) new root []) ≡ true
   pub no_fault : changes_fault (history_of roots old lines) (pending_in (length old) old from lines) changes ≡ None
-  pub pending : pending_in (length old) new root next ≡ after_changes (history_of roots old lines) (pending_in (length old) old from lines) changes
+  pub pending : pending_in (length old) new root next ≡ after_changes (history_of roots old lines)
+      (pending_in (length old) old from lines) changes
 
--- the fault is that of the first change which can't be made, or want of memory
-abbrev pub IsFaultOf : List ℕ → List Node → ℕ → ℕ → List Change → CommitFault → Type 0
-IsFaultOf roots old from lines changes e = (e ≡ Memory) ⊎ (changes_fault (history_of roots old lines) (pending_in (length old) old from lines) changes ≡ Some e)
+-- the changes are refused: the first of them that can't be made has the fault, or memory is wanted, where the first can be made
+abbrev pub AreRefused : History → Pending → List Change → CommitFault → Type 0
+AreRefused h s changes e = ((e ≡ Memory) × (changes_fault h s (take 1 changes) ≡ None)) ⊎ (changes_fault h s changes ≡ Some e)
+
+abbrev pub IsRefused : History → List Change → CommitFault → Type 0
+IsRefused h changes e = AreRefused h (latest_pending h) changes e
 
 abbrev pub commit_fault_number : CommitFault → ℕ
 commit_fault_number Exists = 1

@@ -1,5 +1,6 @@
 -- The stored nodes while a commit is made. Those from the base on are made by it, and stand at one path at most.
-use Rattle.std.specs.Prelude.{◌≡◌, ◌≢◌, ℕ, ◌<◌, ◌≤◌, List, [], ◌∷◌, ◌++◌, length, bytes_eq, slice_get, Option, Some, None, option_map, option_and_then, if◌then◌else◌, take, ◌⊎◌}
+use Rattle.std.specs.Prelude.{◌≡◌, ◌≢◌, ℕ, ◌<◌, ◌≤◌, List, [], ◌∷◌, ◌++◌, length, bytes_eq, slice_get, Option, Some, None, option_map}
+use Rattle.std.specs.Prelude.{option_and_then, if◌then◌else◌, take, ◌⊎◌}
 use Rattle.std.specs.List.{All}
 use Rattle.std.specs.Map.{keys_of, values_of}
 use Rattle.svn_repo.specs.declared.store.Node.{Node}
@@ -52,7 +53,8 @@ CopiesNode old new n = (node : Node) × (new ≡ old ++ node ∷ []) × (rows ol
 -- the child of a directory is made afresh, where it isn't yet, and the name leads to it
 pub data ThawsChild (base : ℕ) (old new : List Node) (at : ℕ) (name : List ℕ) (result : ℕ) : Type 0 where
   already : child_in (rows old at) name ≡ Some result → base ≤ result → new ≡ old → ThawsChild base old new at name result
-  copied : (n : ℕ) (between : List Node) → child_in (rows old at) name ≡ Some n → n < base → result ≡ length old → CopiesNode old between n → PutsChild between new at name (Some result) → ThawsChild base old new at name result
+  copied : (n : ℕ) (between : List Node) → child_in (rows old at) name ≡ Some n → n < base → result ≡ length old → CopiesNode old between n
+      → PutsChild between new at name (Some result) → ThawsChild base old new at name result
 
 abbrev pub tree_in : ℕ → List Node → ℕ → Tree
 tree_in base nodes root = tree_below (rows nodes) base root

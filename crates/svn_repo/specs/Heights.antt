@@ -4,7 +4,7 @@ use Rattle.std.specs.List.{All}
 use Rattle.std.specs.Map.{values_of}
 use Rattle.svn_repo.specs.declared.store.Node.{Node}
 use Rattle.svn_repo.specs.History.{entries_at}
-use Rattle.svn_repo.specs.Readings.{path_limit}
+use Rattle.svn_types.specs.Limits.{path_limit}
 use Rattle.svn_repo.specs.Stored.{rows}
 
 -- the height of a directory that has one child

@@ -17,7 +17,8 @@ use Rattle.svn_repo.specs.Changes.{IsCommit}
 -- commits one after another, and all their changes
 pub data AreCommits : History → List Change → History → Type 0 where
   no_commit : {h : History} → AreCommits h [] h
-  one_more : {h h' : History} (mid : History) (changes rest : List Change) → IsCommit h mid changes → AreCommits mid rest h' → AreCommits h (changes ++ rest) h'
+  one_more : {h h' : History} (mid : History) (changes rest : List Change) → IsCommit h mid changes → AreCommits mid rest h'
+      → AreCommits h (changes ++ rest) h'
 
 abbrev pub latest_of : History → ℕ
 latest_of h = length h.roots - 1

@@ -2,9 +2,10 @@
 --     line_of h n, kind_of h n, text_of h n, props_of h n, entries_of h n      of a node that isn't there, those of an empty file of line 0
 --     are_related h m n      both nodes are there, and of one line
 --     IsHistory h      the laws of every repository
-use Rattle.std.specs.Prelude.{◌≡◌, ℕ, ◌≤◌, Bool, true, false, List, [], ◌∷◌, length, nat_eq, Option, Some, None}
+use Rattle.std.specs.Prelude.{◌≡◌, ℕ, ◌<◌, ◌≤◌, Bool, true, false, List, [], ◌∷◌, length, nat_eq, Option, Some, None}
 use Rattle.svn_types.specs.declared.kind.Kind.{Kind}
 use Rattle.svn_types.specs.declared.kind.Kind.TheVariants.{File, Directory}
+use Rattle.svn_types.specs.Limits.{path_limit, size_limit}
 use Rattle.svn_types.specs.Names.{Path, IsName}
 use Rattle.svn_types.specs.Pairs.{InNameOrder}
 use Rattle.svn_repo.specs.History.{NodeRow, History, node_at, look}
@@ -43,13 +44,6 @@ are_related h _ _ = false
 
 -- ---- the laws
 
--- the most names in a path of a repository, and the most bytes in a text or a value
-abbrev pub path_limit : ℕ
-path_limit = 64
-
-abbrev pub size_limit : ℕ
-size_limit = 1048576
-
 abbrev pub SmallValues : List (List ℕ × List ℕ) → Type 0
 SmallValues [] = Unit {0}
 SmallValues (e ∷ es) = (length e.1 ≤ size_limit) × SmallValues es
@@ -62,11 +56,15 @@ AllNames (e ∷ es) = IsName e.0 × AllNames es
 abbrev pub StandsAt : History → ℕ → Path → ℕ → Type 0
 StandsAt h r p n = look h r p ≡ Some n
 
+-- the root is a directory of line 0 in every revision; what stands has a line that was given, of one kind, and is within the limits
 pub record IsHistory (h : History) : Type 0 where
+  pub root_line : (r n : ℕ) → StandsAt h r [] n → line_of h n ≡ 0
   pub root_is_directory : (r n : ℕ) → StandsAt h r [] n → kind_of h n ≡ Directory
   pub files_are_leaves : (r : ℕ) (p : Path) (n : ℕ) → StandsAt h r p n → kind_of h n ≡ File → entries_of h n ≡ []
   pub directories_without_text : (r : ℕ) (p : Path) (n : ℕ) → StandsAt h r p n → kind_of h n ≡ Directory → text_of h n ≡ []
-  pub one_line_one_kind : (r s : ℕ) (p q : Path) (m n : ℕ) → StandsAt h r p m → StandsAt h s q n → line_of h m ≡ line_of h n → kind_of h m ≡ kind_of h n
+  pub one_line_one_kind : (r s : ℕ) (p q : Path) (m n : ℕ) → StandsAt h r p m → StandsAt h s q n → line_of h m ≡ line_of h n
+      → kind_of h m ≡ kind_of h n
+  pub lines_below_next : (r : ℕ) (p : Path) (n : ℕ) → StandsAt h r p n → line_of h n < h.lines
   pub entries_in_order : (r : ℕ) (p : Path) (n : ℕ) → StandsAt h r p n → InNameOrder (entries_of h n)
   pub entries_named : (r : ℕ) (p : Path) (n : ℕ) → StandsAt h r p n → AllNames (entries_of h n)
   pub props_in_order : (r : ℕ) (p : Path) (n : ℕ) → StandsAt h r p n → InNameOrder (props_of h n)

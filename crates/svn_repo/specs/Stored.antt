@@ -10,7 +10,7 @@ use Rattle.svn_repo.specs.declared.store.Content.TheVariants.{Text, Listing}
 use Rattle.svn_types.specs.Names.{Path, IsName}
 use Rattle.svn_types.specs.Pairs.{InNameOrder}
 use Rattle.svn_repo.specs.History.{NodeRow, History, Nodes, node_at, child_in, IsDirectoryIn, reaches}
-use Rattle.svn_repo.specs.Readings.{path_limit, size_limit}
+use Rattle.svn_types.specs.Limits.{path_limit, size_limit}
 use Rattle.svn_repo.specs.Trees.{Place, Tree, tree_at}
 
 abbrev pub kind_of : Content → Kind
@@ -50,7 +50,7 @@ pub record IsLawfulRow (row : NodeRow) : Type 0 where
   pub in_order : InNameOrder row.entries
   pub named : All IsName (keys_of row.entries)
 
--- what stands at the path is within the limits, and is of its line's kind
+-- what stands at the path is within the limits, and is of its line's kind; the root is of line 0
 pub record IsLawfulPlace (kinds : ℕ → Kind) (lines : ℕ) (q : Path) (x : Place) : Type 0 where
   pub short : length q ≤ path_limit
   pub props_in_order : InNameOrder x.props
@@ -58,6 +58,7 @@ pub record IsLawfulPlace (kinds : ℕ → Kind) (lines : ℕ) (q : Path) (x : Pl
   pub text_small : length x.text ≤ size_limit
   pub line : x.line < lines
   pub kind : x.kind ≡ kinds x.line
+  pub root_line : q ≡ [] → x.line ≡ 0
 
 -- all that stands in the tree is lawful
 abbrev pub IsLawfulTree : (ℕ → Kind) → ℕ → Tree → Type 0

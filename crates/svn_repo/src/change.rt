@@ -12,27 +12,37 @@ use thiserror::Error;
 pub enum Change {
     /// Makes a directory of a new line, without entries and properties, where nothing stands.
     MakeDir {
+        /// Of at most 64 names, and not the root.
         path: RelPath,
     },
     /// Gives the file at the path this text; it keeps its line and its properties. Where nothing stands it makes a file of a new line.
     PutFile {
+        /// Of at most 64 names, and not the root.
         path: RelPath,
+        /// Of at most 1,048,576 bytes.
         text: Text,
     },
     /// Sets a property of the node at the path, or removes it where there is no value. To remove what isn't set is no fault.
     SetProp {
+        /// Where a node stands; the root too.
         path: RelPath,
+        /// Of 1 to 255 bytes, as every name of a property.
         name: PropName,
+        /// Of at most 1,048,576 bytes.
         value: Option<Text>,
     },
     /// Removes the node at the path, with all beneath it.
     Remove {
+        /// Where a node stands that isn't the root.
         path: RelPath,
     },
     /// Puts the source's own node revision, of an existing revision, at a path where nothing stands (`svn_fs_copy` of `svn_fs.h`).
     CopyFrom {
+        /// An existing revision, so not the one that the commit makes.
         rev: Rev,
+        /// Where the source stands in that revision; the root too.
         source: RelPath,
+        /// Not the root, and such that what is beneath the source has paths of at most 64 names here.
         path: RelPath,
     },
 }

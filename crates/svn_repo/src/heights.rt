@@ -4,9 +4,9 @@ ghost use Rattle.svn_repo.specs.Stored.{rows, entries_of, IsHeight, AreHeights};
 ghost use Rattle.svn_repo.specs.Heights.{height_above, height_from, IsOrdered};
 
 use crate::entries::{Entries, NodeId};
-use crate::fault::MAX_DEPTH;
 use crate::store::{Content, Node};
 use std::alloc::AllocError;
+use svn_types::MAX_DEPTH;
 
 // The height of a directory with one child. What is deeper than a path may be counts as the longest path.
 fn height_above_child(heights: &[u8], child: NodeId) -> u8

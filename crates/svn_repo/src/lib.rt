@@ -4,9 +4,9 @@
 mod change;
 mod commit;
 mod entries;
-mod fault;
 mod heights;
 mod laws;
+mod refusal;
 mod repo;
 mod store;
 

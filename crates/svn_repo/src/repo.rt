@@ -1,10 +1,10 @@
 //! A repository: its revisions, and the nodes that they share.
-ghost use Rattle.std.specs.Prelude.{◌≡◌, ◌≢◌, ℕ, ◌+◌, length, map, option_map, IfOk, Some, None, option_and_then, ◌∷◌, [], ◌⊎◌, IfErr, OnErr, IfNone, IfSome, IsSome};
+ghost use Rattle.std.specs.Prelude.{◌≡◌, ◌≢◌, ℕ, ◌+◌, length, take, map, option_map, IfOk, Some, None, option_and_then, ◌∷◌, [], ◌⊎◌, IfErr, OnErr, IfNone, IfSome, IsSome};
 ghost use Rattle.std.specs.Option.{option_copied};
 ghost use Rattle.svn_types.specs.Names.{Path};
 ghost use Rattle.svn_repo.specs.Changes.{IsCommit, commit_fault};
 ghost use Rattle.svn_repo.specs.History.{look, node_at, text_in, entries_in, empty_directory, new_history};
-ghost use Rattle.svn_repo.specs.Readings.{IsHistory, entries_of};
+ghost use Rattle.svn_repo.specs.Readings.{IsHistory, are_related, entries_of, text_of};
 ghost use Rattle.svn_repo.specs.Stored.{row_of};
 
 use crate::change::{Change, CommitFault};
@@ -13,15 +13,21 @@ use crate::entries::{Entries, NodeId};
 use crate::store::{Content, Node, lookup_in};
 use std::alloc::{AllocError, Global};
 use std::marker::Model;
-use svn_types::{Kind, Props, RelPath, Rev};
+use svn_types::{Kind, Props, RelPath, Rev, Text};
 
-/// A repository. A contract sees it as its history.
+/// A repository: revisions, each a tree of files and directories with properties (after the filesystem of `svn_fs.h`, which a
+/// repository of `svn_repos.h` holds). Revision 0 is an empty root, and each commit makes one more. Revisions share the nodes that
+/// didn't change: one node number is one node revision, wherever it stands. It is kept in memory. A contract sees it as its history.
 #[derive(Debug, Drop)]
 pub struct Repo {
     alloc: Global,
+    // The root node of each revision.
     roots: Vec<NodeId>,
+    // The nodes of all revisions, each named by its place.
     nodes: Vec<Node>,
+    // How deep the tree below each node is, in names.
     heights: Vec<u8>,
+    // The line of the next new node.
     lines: u64,
 }
 
@@ -78,7 +84,10 @@ impl Repo {
         })
     }
 
-    /// What holds of every repository, for the proofs of its callers. It does nothing.
+    /// What holds of every repository, for the proofs of its callers; it does nothing. The root of each revision is a directory of
+    /// line 0. What stands has a line that was given, and one line has one kind. Files have no entries, directories no text; entries
+    /// and properties are in order of their names, which are lawful. Paths have at most 64 names, texts and values at most 1,048,576
+    /// bytes.
     pub fn law(&self)
         ensures history { IsHistory self.now }
         // what stands anywhere is a node, which the readers know
@@ -109,6 +118,14 @@ impl Repo {
         Some(node.line)
     }
 
+    /// Whether two nodes are of one line, and so the same thing at two times or two places (`svn_fs_check_related` of `svn_fs.h`).
+    /// A node that the repository doesn't have counts as one of line 0. It takes no memory.
+    pub fn are_related(&self, a: NodeId, b: NodeId) -> bool
+        ensures { result ≡ are_related self.now (Some a) (Some b) }
+    {
+        self.line(a).unwrap_or(0) == self.line(b).unwrap_or(0)
+    }
+
     /// Whether a node is a file or a directory; None where there is no such node.
     pub fn kind(&self, id: NodeId) -> Option<Kind>
         ensures { result ≡ option_map (λ row. row.kind) (node_at self.now id) }
@@ -119,11 +136,25 @@ impl Repo {
 
     /// The text of a file; None at a directory, and where there is no such node.
     pub fn text(&self, id: NodeId) -> Option<&[u8]>
-        ensures { option_copied result ≡ option_and_then text_in (node_at self.now id) }
+        ensures value { option_copied result ≡ option_and_then text_in (node_at self.now id) }
+        // what is no file has no text
+        ensures no_text { IfNone result (text_of self.now id ≡ []) }
+        ensures text { IfSome result (λ text. text.now ≡ text_of self.now id) }
+    {
+        let text = self.shared_text(id)?;
+        Some(text.as_slice())
+    }
+
+    /// The text of a file as it is stored, whose clones share its bytes; None at a directory, and where there is no such node.
+    pub fn shared_text(&self, id: NodeId) -> Option<&Text>
+        ensures value { option_copied result ≡ option_and_then text_in (node_at self.now id) }
+        // what is no file has no text
+        ensures no_text { IfNone result (text_of self.now id ≡ []) }
+        ensures text { IfSome result (λ text. text.now ≡ text_of self.now id) }
     {
         let node = self.nodes.get(id.index)?;
         match &node.content {
-            Content::Text(text) => Some(text.as_slice()),
+            Content::Text(text) => Some(text),
             Content::Listing(_) => None,
         }
     }
@@ -151,12 +182,15 @@ impl Repo {
     }
 
     /// Makes the changes in order, as one more revision, which is answered. The first change that can't be made decides
-    /// the fault, and then nothing has changed. No changes make a revision with the same root node.
+    /// the fault, and then nothing has changed; Memory comes only where the first change can be made. No changes make a revision with
+    /// the same root node.
     ///
     /// It costs what the nodes cost that the changes make: those at their paths and the directories above, each once.
     pub fn commit(&mut self, changes: &[Change]) -> Result<Rev, CommitFault>
         ensures ok { IfOk result (λ r. (r ≡ length self.old.roots) × IsCommit self.old self.new changes.now) }
         ensures fault { IfErr result (λ e. (e ≡ CommitFault.Memory) ⊎ (commit_fault self.old changes.now ≡ Some e)) }
+        // want of memory comes last: where the first change can't be made, its fault is answered
+        ensures memory { IfErr result (λ e. e ≡ CommitFault.Memory → commit_fault self.old (take 1 changes.now) ≡ None) }
         ensures never_full { IfErr result (λ e. e ≢ CommitFault.Full) }
         ensures unchanged { OnErr result (self.new ≡ self.old) }
     {

@@ -5,6 +5,7 @@ ghost use Rattle.svn_types.specs.Pairs.{with_value, ChangesOnly};
 ghost use Rattle.svn_repo.specs.History.{child_in, walk};
 ghost use Rattle.svn_repo.specs.Stored.{row_of, rows, kind_of, entries_of};
 ghost use Rattle.svn_repo.specs.Trees.{IsWay, is_directory_place, leaf, place_of, place_at, with_prop};
+ghost use Rattle.svn_repo.specs.Changes.{above_fault, root_fault};
 ghost use Rattle.svn_repo.specs.Drafts.{IsListing, PutsChild, SetsProp, CopiesNode, IsClosedIn, ThawsChild, IsDraft, IsThawed, KeepsOld, IsGrafted, IsOld, look_in, old_part, tree_in};
 
 use crate::entries::{Entries, NodeId};
@@ -15,6 +16,15 @@ use svn_types::{Kind, Name, PropName, Props, Rev, Text};
 pub(crate) enum Content {
     Text(Text),
     Listing(Entries),
+}
+
+/// How far a commit has come: the stored nodes from `base` on are made by it, `root` is the root of its revision, and `lines` is the
+/// next line.
+#[derive(Clone, Copy, Debug)]
+pub(crate) struct Draft {
+    pub(crate) base: usize,
+    pub(crate) root: NodeId,
+    pub(crate) lines: u64,
 }
 
 #[derive(Debug, Drop)]
@@ -184,76 +194,85 @@ fn thaw(
 }
 
 // Makes the root afresh, where it isn't yet.
-fn thaw_root(nodes: &mut Vec<Node>, base: usize, root: NodeId) -> Result<NodeId, AllocError>
-    requires { IsDraft base nodes.old.items root }
-    ensures ok { IfOk result (λ n. IsThawed base nodes.old.items nodes.new.items root n [] n) }
-    ensures kept { KeepsOld base nodes.old.items nodes.new.items }
+fn thaw_root(nodes: &mut Vec<Node>, draft: Draft) -> Result<NodeId, AllocError>
+    requires { IsDraft draft.base nodes.old.items draft.root }
+    ensures ok { IfOk result (λ n. IsThawed draft.base nodes.old.items nodes.new.items draft.root n [] n) }
+    ensures kept { KeepsOld draft.base nodes.old.items nodes.new.items }
 {
-    if root.index >= base {
-        return Ok(root);
+    if draft.root.index >= draft.base {
+        return Ok(draft.root);
     }
-    copy_node(nodes, root)
+    copy_node(nodes, draft.root)
 }
 
 // Makes afresh every node from the root to a path, and answers the new root and the last of these nodes.
 fn thaw_path(
     nodes: &mut Vec<Node>,
-    base: usize,
-    root: NodeId,
+    draft: Draft,
     names: &[Name],
 ) -> Result<(NodeId, NodeId), AllocError>
-    requires draft { IsDraft base nodes.old.items root }
-    requires way { IsWay (tree_in base nodes.old.items root) names.now }
-    ensures ok { IfOk result (λ r. (base ≤ r.0) × IsThawed base nodes.old.items nodes.new.items root r.0 names.now r.1) }
-    ensures kept { KeepsOld base nodes.old.items nodes.new.items }
+    requires draft { IsDraft draft.base nodes.old.items draft.root }
+    requires way { IsWay (tree_in draft.base nodes.old.items draft.root) names.now }
+    ensures ok { IfOk result (λ r. (draft.base ≤ r.0) × IsThawed draft.base nodes.old.items nodes.new.items draft.root r.0 names.now r.1) }
+    ensures kept { KeepsOld draft.base nodes.old.items nodes.new.items }
 {
-    let top = thaw_root(nodes, base, root)?;
+    let base = draft.base;
+    let top = thaw_root(nodes, draft)?;
     let at = thaw(nodes, base, top, names)?;
     Ok((top, at))
 }
 
-/// Puts a new node under a name of a directory of a draft, and answers the new root.
+// The last name of a path that isn't the root, and the names above.
+fn split_path(names: &[Name]) -> (&Name, &[Name])
+    requires { root_fault names.now ≡ None }
+    ensures { names.now ≡ result.1.now ++ result.0.now ∷ [] }
+{
+    let Some((last, above)) = names.split_last() else {
+        unreachable!()
+    };
+    (last, above)
+}
+
+/// Puts a new node at a path of a draft, and answers the new root.
 pub(crate) fn put_made(
     nodes: &mut Vec<Node>,
-    base: usize,
-    root: NodeId,
-    above: &[Name],
-    name: &Name,
+    draft: Draft,
+    names: &[Name],
     node: Node,
 ) -> Result<NodeId, AllocError>
-    requires draft { IsDraft base nodes.old.items root }
-    requires way { IsWay (tree_in base nodes.old.items root) above.now }
-    requires directory { is_directory_place (tree_in base nodes.old.items root above.now) ≡ true }
+    requires draft { IsDraft draft.base nodes.old.items draft.root }
+    requires not_root { root_fault names.now ≡ None }
+    requires above { above_fault (tree_in draft.base nodes.old.items draft.root) names.now ≡ None }
     requires childless { entries_of node.content ≡ [] }
-    ensures ok { IfOk result (λ n. IsGrafted base nodes.old.items nodes.new.items root n (above.now ++ name.now ∷ []) (leaf (place_of None (row_of node)))) }
-    ensures kept { KeepsOld base nodes.old.items nodes.new.items }
+    ensures ok { IfOk result (λ n. IsGrafted draft.base nodes.old.items nodes.new.items draft.root n names.now (leaf (place_of None (row_of node)))) }
+    ensures kept { KeepsOld draft.base nodes.old.items nodes.new.items }
     ensures grown { OnOk result (length nodes.old.items < length nodes.new.items) }
 {
-    let (top, at) = thaw_path(nodes, base, root, above)?;
+    let (last, above) = split_path(names);
+    let (top, at) = thaw_path(nodes, draft, above)?;
     let index = nodes.len();
     nodes.push(node)?;
-    put_child(nodes, at, name, Some(NodeId { index }))?;
+    put_child(nodes, at, last, Some(NodeId { index }))?;
     Ok(top)
 }
 
-/// Puts an old node under a name of a directory of a draft, or takes away what is there, and answers the new root.
+/// Puts an old node at a path of a draft, or takes away what is there, and answers the new root.
 pub(crate) fn put_old(
     nodes: &mut Vec<Node>,
-    base: usize,
-    root: NodeId,
-    above: &[Name],
-    name: &Name,
+    draft: Draft,
+    names: &[Name],
     child: Option<NodeId>,
 ) -> Result<NodeId, AllocError>
-    requires draft { IsDraft base nodes.old.items root }
-    requires way { IsWay (tree_in base nodes.old.items root) above.now }
-    requires directory { is_directory_place (tree_in base nodes.old.items root above.now) ≡ true }
-    requires old { IsOld base child }
-    ensures ok { IfOk result (λ n. IsGrafted base nodes.old.items nodes.new.items root n (above.now ++ name.now ∷ []) (old_part base nodes.old.items child)) }
-    ensures kept { KeepsOld base nodes.old.items nodes.new.items }
+    requires draft { IsDraft draft.base nodes.old.items draft.root }
+    requires not_root { root_fault names.now ≡ None }
+    requires above { above_fault (tree_in draft.base nodes.old.items draft.root) names.now ≡ None }
+    requires old { IsOld draft.base child }
+    ensures ok { IfOk result (λ n. IsGrafted draft.base nodes.old.items nodes.new.items draft.root n names.now (old_part draft.base nodes.old.items child)) }
+    ensures kept { KeepsOld draft.base nodes.old.items nodes.new.items }
 {
-    let (top, at) = thaw_path(nodes, base, root, above)?;
-    put_child(nodes, at, name, child)?;
+    let (last, above) = split_path(names);
+    let (top, at) = thaw_path(nodes, draft, above)?;
+    put_child(nodes, at, last, child)?;
     Ok(top)
 }
 
@@ -299,18 +318,17 @@ fn set_value(
 /// Sets or removes a property of the node at a path of a draft, and answers the new root.
 pub(crate) fn put_prop(
     nodes: &mut Vec<Node>,
-    base: usize,
-    root: NodeId,
+    draft: Draft,
     names: &[Name],
     name: &PropName,
     value: &Option<Text>,
 ) -> Result<NodeId, AllocError>
-    requires draft { IsDraft base nodes.old.items root }
-    requires way { IsWay (tree_in base nodes.old.items root) names.now }
-    ensures ok { IfOk result (λ n. IsGrafted base nodes.old.items nodes.new.items root n names.now (with_prop (tree_in base nodes.old.items root) names.now name.now value.now)) }
-    ensures kept { KeepsOld base nodes.old.items nodes.new.items }
+    requires draft { IsDraft draft.base nodes.old.items draft.root }
+    requires way { IsWay (tree_in draft.base nodes.old.items draft.root) names.now }
+    ensures ok { IfOk result (λ n. IsGrafted draft.base nodes.old.items nodes.new.items draft.root n names.now (with_prop (tree_in draft.base nodes.old.items draft.root) names.now name.now value.now)) }
+    ensures kept { KeepsOld draft.base nodes.old.items nodes.new.items }
 {
-    let (top, at) = thaw_path(nodes, base, root, names)?;
+    let (top, at) = thaw_path(nodes, draft, names)?;
     set_value(nodes, at, name, value)?;
     Ok(top)
 }

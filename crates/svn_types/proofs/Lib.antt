@@ -1,1 +1,16 @@
+-- a text that is cut at its first slash
 pub mod Splits
+-- names: tests on them, their order, and what is found under them
+pub mod NameLemmas
+-- names put one by one into a set
+pub mod NameSets
+-- paths: their parts, and paths above and below one another
+pub mod PathLemmas
+-- paths in their order
+pub mod PathsInOrder
+-- paths in their order, as the reporter and the order check need them
+pub mod PathOrder
+-- places in a list
+pub mod Places
+-- keys of paths, whose order is that of the paths
+pub mod PathKeys

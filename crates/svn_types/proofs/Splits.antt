@@ -1,6 +1,6 @@
 -- A text that is cut at its first slash.
 use Rattle.std.proofs.Common.{◌≡◌, ℕ, ◌<◌, suc, Bool, true, false, cond, not, List, [], ◌∷◌, length, refl, arith, Option, Some, None, MatchOption, ◌+◌, length-drop, ap, sym, ◌∙◌}
-use Rattle.std.specs.List.{slice_split, onto_first, position_or_len, before_first, after_first, prefix_len}
+use Rattle.std.specs.List.{slice_split, onto_first, position_or_len, before_first, after_first}
 use Rattle.std.proofs.lemmas.List.Splits.{slice_split_first}
 use denote.Ref.{Bor}
 use Rattle.svn_types.specs.Names.{is_slash}

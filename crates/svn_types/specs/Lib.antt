@@ -1,3 +1,4 @@
+pub mod Limits
 pub mod Names
 pub mod NameFaults
 pub mod NameSplits
@@ -5,3 +6,5 @@ pub mod Paths
 pub mod Pairs
 pub mod Props
 pub mod PathHash
+pub mod PathKeys
+pub mod Forms

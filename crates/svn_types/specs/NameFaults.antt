@@ -1,11 +1,11 @@
 -- Which texts are refused as names and paths, and why. The first fault in this order is answered, and want of memory comes last.
 --     AnswersPath fault value result      the result is that fault, or the value where there is none
-use Rattle.std.specs.Prelude.{◌≡◌, ℕ, Bool, true, false, List, [], ◌∷◌, length, nat_lt, nat_eq, Option, Some, None, Result, Ok, Err, if◌then◌else◌}
+use Rattle.std.specs.Prelude.{◌≡◌, ℕ, List, [], ◌∷◌, length, nat_lt, nat_eq, Option, Some, None, Result, Ok, Err, if◌then◌else◌}
 use Rattle.std.specs.List.{list_all}
 use Rattle.std.specs.Option.{option_or}
 use Rattle.svn_types.specs.declared.fault.PathFault.{PathFault}
 use Rattle.svn_types.specs.declared.fault.PathFault.TheVariants.{EmptyComponent, Dots, BadCharacter, NameTooLong, TooManyComponents, Memory}
-use Rattle.svn_types.specs.Names.{Path, name_limit, depth_limit, is_plain, is_dots, is_prop_text, path_of_text}
+use Rattle.svn_types.specs.Names.{Path, name_limit, depth_limit, is_plain, is_dots, is_prop_text}
 
 abbrev pub name_fault : List ℕ → Option PathFault
 name_fault n =

@@ -1,7 +1,8 @@
 -- Paths above and below one another.
 --     path_eq p q, is_within p q, is_below p q      the same path; q is p or stands below it; q stands strictly below p
 --     child p name, parent p, last_name p      a path one name longer, and one name shorter; its last name, as a path
-use Rattle.std.specs.Prelude.{ℕ, Bool, true, false, ◌&&◌, not, List, [], ◌∷◌, ◌++◌, bytes_eq}
+--     parent_path p      the path one name shorter, none for the root
+use Rattle.std.specs.Prelude.{ℕ, Bool, true, false, ◌&&◌, not, List, [], ◌∷◌, ◌++◌, bytes_eq, Option, Some, None, if◌then◌else◌}
 use Rattle.std.specs.Cmp.Lexicographic.{pointwise}
 use Rattle.svn_types.specs.Names.{Path}
 
@@ -30,6 +31,9 @@ abbrev pub parent : Path → Path
 parent [] = []
 parent (m ∷ []) = []
 parent (m ∷ n ∷ p) = m ∷ parent (n ∷ p)
+
+abbrev pub parent_path : Path → Option Path
+parent_path p = if is_root p then None else Some (parent p)
 
 -- the last name of a path, as a path
 abbrev pub last_name : Path → Path

@@ -1,7 +1,7 @@
 -- Changes of properties.
 --     with_changes props changes      the properties after the changes, made in order
 --     changes_between old new      one change for each name whose value differs, in byte order of the names
-use Rattle.std.specs.Prelude.{ℕ, Bool, true, false, List, [], ◌∷◌, bytes_eq, Option, Some, None, if◌then◌else◌, fold, filter_map}
+use Rattle.std.specs.Prelude.{ℕ, Bool, true, false, List, bytes_eq, Option, Some, None, if◌then◌else◌, fold, filter_map}
 use Rattle.std.specs.Map.{keys_of}
 use Rattle.std.specs.BTreeSet.{insert_key}
 use Rattle.svn_types.specs.Names.{name_cmp}

@@ -1,7 +1,9 @@
 //! Why a text is no name or no path.
 ghost use Rattle.std.specs.Prelude.{◌≡◌};
+ghost use Rattle.svn_types.specs.declared.fault.PathFault.TheVariants.{Memory};
 ghost use Rattle.svn_types.specs.NameFaults.{path_fault_number};
 
+use std::alloc::AllocError;
 use thiserror::Error;
 
 /// Why a text is no name, no path or no name of a property.
@@ -28,7 +30,7 @@ pub enum PathFault {
 }
 
 impl PathFault {
-    /// The fault's number, 1 to 6.
+    /// The fault's number, from 1, EmptyComponent, to 6, Memory, in the order of the variants.
     pub fn number(self) -> u32
         ensures { result ≡ path_fault_number self }
     {
@@ -40,5 +42,13 @@ impl PathFault {
             PathFault::TooManyComponents => 5,
             PathFault::Memory => 6,
         }
+    }
+}
+
+impl From<AllocError> for PathFault {
+    ghost from_gives = { λ _ e. e ≡ Memory };
+
+    fn from(_error: AllocError) -> PathFault {
+        PathFault::Memory
     }
 }

@@ -11,6 +11,8 @@ ghost use Rattle.svn_types.specs.Names.{IsName, is_plain};
 ghost use Rattle.svn_types.specs.NameFaults.{name_fault, AnswersPath};
 
 use crate::fault::PathFault;
+use crate::limits::MAX_NAME_LEN;
+use crate::small_text::SmallText;
 use std::alloc::{AllocError, Global};
 use std::cmp::Ordering;
 use std::convert::AsStr;
@@ -18,26 +20,22 @@ use std::fmt;
 use std::hash::{Hash, Hasher};
 use std::marker::Model;
 
-/// The longest name of a node or a property, in bytes.
-pub const MAX_NAME_LEN: usize = 255;
-
 /// The name of a file or a directory: 1 to 255 bytes of UTF-8 without `/` and control characters, and neither `.` nor `..`.
 /// A contract sees it as its bytes.
 #[derive(Debug, Drop)]
 pub struct Name {
-    text: String,
+    text: SmallText,
 }
 
 impl Model for Name {
     ghost use Rattle.std.specs.Prelude.{ℕ, List};
-    ghost use Rattle.std.specs.String.{string_bytes};
     ghost use Rattle.svn_types.specs.Names.{IsName};
 
     ghost Value = { List ℕ };
 
-    ghost view = { λ n. string_bytes n.text };
+    ghost view = { λ n. n.text };
 
-    ghost invariant = { λ n. IsName (string_bytes n.text) };
+    ghost invariant = { λ n. IsName n.text };
 }
 
 fn is_plain_byte(byte: u8) -> bool
@@ -76,7 +74,7 @@ impl Name {
     {
         match fault_of_name(text) {
             Some(fault) => Err(fault),
-            None => Name::from_checked(alloc, text).map_err(|_| PathFault::Memory),
+            None => Ok(Name::from_checked(alloc, text)?),
         }
     }
 
@@ -85,7 +83,7 @@ impl Name {
         ensures { IfOk result (λ n. n ≡ text.now) }
     {
         Ok(Name {
-            text: String::from_str(alloc, text)?,
+            text: SmallText::from_str(alloc, text)?,
         })
     }
 

@@ -8,7 +8,8 @@ ghost use Rattle.svn_types.specs.Names.{IsPropName, starts_prop_name, continues_
 ghost use Rattle.svn_types.specs.NameFaults.{prop_name_fault, AnswersPath};
 
 use crate::fault::PathFault;
-use crate::name::MAX_NAME_LEN;
+use crate::limits::MAX_NAME_LEN;
+use crate::small_text::SmallText;
 use std::alloc::{AllocError, Global};
 use std::cmp::Ordering;
 use std::convert::AsStr;
@@ -19,19 +20,18 @@ use std::marker::Model;
 /// A contract sees it as its bytes.
 #[derive(Debug, Drop)]
 pub struct PropName {
-    text: String,
+    text: SmallText,
 }
 
 impl Model for PropName {
     ghost use Rattle.std.specs.Prelude.{ℕ, List};
-    ghost use Rattle.std.specs.String.{string_bytes};
     ghost use Rattle.svn_types.specs.Names.{IsPropName};
 
     ghost Value = { List ℕ };
 
-    ghost view = { λ n. string_bytes n.text };
+    ghost view = { λ n. n.text };
 
-    ghost invariant = { λ n. IsPropName (string_bytes n.text) };
+    ghost invariant = { λ n. IsPropName n.text };
 }
 
 fn starts_name(byte: u8) -> bool
@@ -82,7 +82,7 @@ impl PropName {
     {
         match fault_of_prop_name(text) {
             Some(fault) => Err(fault),
-            None => PropName::from_checked(alloc, text).map_err(|_| PathFault::Memory),
+            None => Ok(PropName::from_checked(alloc, text)?),
         }
     }
 
@@ -91,7 +91,7 @@ impl PropName {
         ensures { IfOk result (λ n. n ≡ text.now) }
     {
         Ok(PropName {
-            text: String::from_str(alloc, text)?,
+            text: SmallText::from_str(alloc, text)?,
         })
     }
 

@@ -38,7 +38,7 @@ impl Props {
         }
     }
 
-    /// How many there are.
+    /// How many there are. Nothing but memory limits it.
     pub fn len(&self) -> usize
         ensures { result ≡ length self.now }
     {

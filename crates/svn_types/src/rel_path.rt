@@ -1,5 +1,6 @@
 //! Paths, as lists of names.
-ghost use Rattle.std.specs.Prelude.{◌≡◌, ℕ, ◌+◌, ◌≤◌, ◌∷◌, ◌++◌, [], length, refl, nat_eq, IfOk, Some, None, count_by, ◌↔◌, IsTrue};
+ghost use Rattle.std.specs.Prelude.{◌≡◌, ℕ, ◌+◌, ◌<◌, ◌≤◌, ◌∷◌, ◌++◌, [], length, refl, nat_eq, true, IfOk, Some, None, count_by, ◌↔◌, IsTrue, List, MatchOption};
+ghost use Rattle.std.specs.Arc.{arc_value};
 ghost use Rattle.std.specs.List.{slice_split};
 ghost use Rattle.std.specs.Ordering.{nat_cmp};
 ghost use Rattle.std.specs.Cmp.Lexicographic.{pointwise, slice_cmp, nat_list_eq_equiv, nat_list_cmp_total, texts_ties, lists_per, lists_equiv, lists_total, lists_ties};
@@ -8,34 +9,70 @@ ghost use Rattle.std.specs.Hash as fed;
 ghost use Rattle.svn_types.specs.Names.{depth_limit, is_slash, path_of_text};
 ghost use Rattle.svn_types.specs.NameSplits.{IsNameSplit};
 ghost use Rattle.svn_types.specs.PathHash.{same_path_hash};
+ghost use Rattle.svn_types.specs.PathKeys.{path_key, is_plain_path};
 ghost use Rattle.svn_types.specs.NameFaults.{path_fault, names_fault, count_fault, AnswersPath};
 
 use crate::fault::PathFault;
+use crate::limits::MAX_COMPONENTS;
 use crate::name::{Name, fault_of_name};
+use crate::path_key::PathKey;
 use std::alloc::{AllocError, Global};
 use std::cmp::Ordering;
+use std::fmt;
 use std::hash::{Hash, Hasher};
 use std::marker::Model;
+use std::sync::Arc;
 
-/// The most names in a path.
-pub const MAX_COMPONENTS: usize = 128;
-
-/// A path below some root: at most 128 names, of which the root has none. Paths are ordered name by name, names by their bytes, a prefix first,
-/// so a directory stands directly before what is beneath it. A contract sees a path as the list of its names.
-#[derive(Debug, Drop)]
-pub struct RelPath {
+// What the clones of a path share: its names, and beside them its key, by which paths are compared, however deep they are.
+#[derive(Drop)]
+struct PathParts {
     names: Vec<Name>,
+    key: PathKey,
 }
 
-impl Model for RelPath {
-    ghost use Rattle.std.specs.Prelude.{ℕ, List, length, ◌≤◌};
-    ghost use Rattle.svn_types.specs.Names.{depth_limit};
+impl Model for PathParts {
+    ghost use Rattle.std.specs.Prelude.{◌≡◌, ℕ, List, true};
+    ghost use Rattle.svn_types.specs.PathKeys.{path_key, is_plain_path};
 
     ghost Value = { List (List ℕ) };
 
     ghost view = { λ p. p.names.items };
 
-    ghost invariant = { λ p. length p.names.items ≤ depth_limit };
+    ghost invariant = { λ p. (is_plain_path p.names.items ≡ true) × (p.key ≡ path_key p.names.items) };
+}
+
+impl PathParts {
+    fn names(&self) -> &[Name]
+        ensures { result.now ≡ self.now }
+    {
+        &self.names
+    }
+
+    fn key(&self) -> &[u8]
+        ensures key { result.now ≡ path_key self.now }
+        ensures plain { is_plain_path self.now ≡ true }
+    {
+        self.key.as_slice()
+    }
+}
+
+/// A path below some root: at most 128 names, of which the root has none. Paths are ordered name by name, names by their bytes, a prefix first,
+/// so a directory stands directly before what is beneath it. A contract sees a path as the list of its names. A clone shares them.
+pub struct RelPath {
+    // the root has none
+    parts: Option<Arc<PathParts>>,
+}
+
+impl Model for RelPath {
+    ghost use Rattle.std.specs.Prelude.{ℕ, List, [], length, ◌≤◌, unwrap_or, option_map};
+    ghost use Rattle.std.specs.Arc.{arc_value};
+    ghost use Rattle.svn_types.specs.Names.{depth_limit};
+
+    ghost Value = { List (List ℕ) };
+
+    ghost view = { λ p. unwrap_or (option_map arc_value p.parts) [] };
+
+    ghost invariant = { λ p. length (unwrap_or (option_map arc_value p.parts) []) ≤ depth_limit };
 }
 
 // The text before the first slash and that after it, if there is one.
@@ -74,7 +111,7 @@ fn names_of(alloc: Global, text: &str) -> Result<Vec<Name>, AllocError>
     requires { names_fault (slice_split is_slash text.now) ≡ None }
     ensures { IfOk result (λ v. v.items ≡ slice_split is_slash text.now) }
 {
-    let mut names = Vec::new(alloc);
+    let mut names = Vec::with_capacity(alloc, name_count(text))?;
     let mut rest = text;
     'names: while let Some((first, after)) = split_name(rest) {
         names.push(Name::from_checked(alloc, first)?)?;
@@ -84,22 +121,67 @@ fn names_of(alloc: Global, text: &str) -> Result<Vec<Name>, AllocError>
     Ok(names)
 }
 
+// What the clones of the path of these names share. Its key has room in that many bytes.
+fn shared_parts(alloc: Global, names: Vec<Name>, len: usize) -> Result<Arc<PathParts>, AllocError>
+    ensures { IfOk result (λ p. arc_value p ≡ names.items) }
+{
+    let key = PathKey::of(alloc, &names, len)?;
+    Ok(Arc::new(alloc, PathParts { names, key })?)
+}
+
+fn parts_of(alloc: Global, text: &str) -> Result<Arc<PathParts>, AllocError>
+    requires { names_fault (slice_split is_slash text.now) ≡ None }
+    ensures { IfOk result (λ p. arc_value p ≡ slice_split is_slash text.now) }
+{
+    shared_parts(alloc, names_of(alloc, text)?, text.len().saturating_add(1))
+}
+
+// The names with one more.
 fn with_last(alloc: Global, names: &[Name], last: &Name) -> Result<Vec<Name>, AllocError>
+    requires { length names.now < depth_limit }
     ensures { IfOk result (λ v. v.items ≡ names.now ++ last.now ∷ []) }
 {
-    let mut all = Vec::from_clones(alloc, names)?;
+    let mut all = Vec::with_capacity(alloc, names.len() + 1)?;
+    all.extend_with_clones(names)?;
     all.push(last.clone()?)?;
     Ok(all)
 }
 
+fn joined(alloc: Global, path: &RelPath, last: &Name) -> Result<Arc<PathParts>, AllocError>
+    requires { length path.now < depth_limit }
+    ensures { IfOk result (λ p. arc_value p ≡ path.now ++ last.now ∷ []) }
+{
+    let names = with_last(alloc, path.components(), last)?;
+    let key = PathKey::with_last(alloc, path.key(), last.as_str().as_bytes())?;
+    Ok(Arc::new(alloc, PathParts { names, key })?)
+}
+
+// What stands behind the first bytes, if they are these.
+fn after_bytes<'a>(bytes: &'a [u8], first: &[u8]) -> Option<&'a [u8]>
+    ensures { MatchOption result ((rest : List ℕ) → bytes.now ≡ first.now ++ rest → ⊥) (λ rest. bytes.now ≡ first.now ++ rest.now) }
+{
+    bytes.strip_prefix(first)
+}
+
+// Whether a key is another one with a name more.
+fn is_one_more(key: &[u8], above: &[u8], last: &[u8]) -> bool
+    ensures { IsTrue result ↔ (key.now ≡ above.now ++ last.now ++ 1 ∷ []) }
+{
+    let Some(below) = after_bytes(key, above) else {
+        return false;
+    };
+    let Some(end) = after_bytes(below, last) else {
+        return false;
+    };
+    end.len() == 1 && end[0] == 1
+}
+
 impl RelPath {
     /// The path of no name. It takes no memory.
-    pub fn root(alloc: Global) -> RelPath
+    pub fn root(_alloc: Global) -> RelPath
         ensures { result ≡ [] }
     {
-        RelPath {
-            names: Vec::new(alloc),
-        }
+        RelPath { parts: None }
     }
 
     /// Reads names with slashes between them. The empty text is the root. The fault of the first faulty name is answered, else
@@ -116,38 +198,90 @@ impl RelPath {
         if name_count(text) > MAX_COMPONENTS {
             return Err(PathFault::TooManyComponents);
         }
-        match names_of(alloc, text) {
-            Ok(names) => Ok(RelPath { names }),
-            Err(_) => Err(PathFault::Memory),
+        Ok(RelPath {
+            parts: Some(parts_of(alloc, text)?),
+        })
+    }
+
+    // The path of these names, whose key has room in that many bytes.
+    pub(crate) fn from_names(
+        alloc: Global,
+        names: Vec<Name>,
+        len: usize,
+    ) -> Result<RelPath, AllocError>
+        requires { length names.items ≤ depth_limit }
+        ensures { IfOk result (λ p. p ≡ names.items) }
+    {
+        if names.is_empty() {
+            return Ok(RelPath::root(alloc));
         }
+        Ok(RelPath {
+            parts: Some(shared_parts(alloc, names, len)?),
+        })
     }
 
     /// The path with one more name: TooManyComponents at a path of 128 names, else Memory alone.
     pub fn join(&self, alloc: Global, name: &Name) -> Result<RelPath, PathFault>
         ensures { AnswersPath (count_fault (length self.now + 1)) (self.now ++ name.now ∷ []) result }
     {
-        if self.names.len() >= MAX_COMPONENTS {
+        if self.components().len() >= MAX_COMPONENTS {
             return Err(PathFault::TooManyComponents);
         }
-        match with_last(alloc, &self.names, name) {
-            Ok(names) => Ok(RelPath { names }),
-            Err(_) => Err(PathFault::Memory),
-        }
+        Ok(RelPath {
+            parts: Some(joined(alloc, self, name)?),
+        })
     }
 
-    /// Its names, from the root down.
+    /// Its names, from the root down: 0 to 128.
     pub fn components(&self) -> &[Name]
         ensures names { result.now ≡ self.now }
         ensures bounded { length self.now ≤ depth_limit }
     {
-        &self.names
+        match &self.parts {
+            Some(parts) => parts.names(),
+            None => &[],
+        }
+    }
+
+    // By which it is compared.
+    pub(crate) fn key(&self) -> &[u8]
+        ensures key { result.now ≡ path_key self.now }
+        ensures plain { is_plain_path self.now ≡ true }
+        ensures bounded { length self.now ≤ depth_limit }
+    {
+        match &self.parts {
+            Some(parts) => parts.key(),
+            None => &[],
+        }
+    }
+
+    /// Whether it is that path with this name more. It takes no memory.
+    pub fn is_child_of(&self, path: &RelPath, name: &Name) -> bool
+        ensures child { IsTrue result ↔ (self.now ≡ path.now ++ name.now ∷ []) }
+        ensures bounded { length self.now ≤ depth_limit }
+    {
+        is_one_more(self.key(), path.key(), name.as_str().as_bytes())
     }
 
     /// Whether it is the root.
     pub fn is_root(&self) -> bool
         ensures { IsTrue result ↔ (self.now ≡ []) }
     {
-        self.names.is_empty()
+        self.components().is_empty()
+    }
+}
+
+// So that a caller's proof sees a call, and no case of whether there are names.
+impl Drop for RelPath {
+    fn drop(self) {
+        let RelPath { parts } = self;
+        drop(parts);
+    }
+}
+
+impl fmt::Debug for RelPath {
+    fn fmt<W: fmt::Write>(&self, f: &mut fmt::Formatter<W>) -> fmt::Result {
+        fmt::Debug::fmt(&self.components(), f)
     }
 }
 
@@ -156,7 +290,7 @@ impl Clone for RelPath {
 
     fn clone(&self) -> Result<RelPath, AllocError> {
         Ok(RelPath {
-            names: self.names.clone()?,
+            parts: self.parts.clone()?,
         })
     }
 }
@@ -167,7 +301,7 @@ impl PartialEq for RelPath {
     ghost laws = { lists_per (partial_equiv_from_equiv nat_list_eq_equiv) };
 
     fn eq(&self, other: &RelPath) -> bool {
-        self.names.as_slice() == other.names.as_slice()
+        self.key() == other.key()
     }
 }
 
@@ -195,7 +329,7 @@ impl Ord for RelPath {
     ghost matches_eq = { λ x y. lists_ties (slice_cmp nat_cmp) texts_ties x y };
 
     fn cmp(&self, other: &RelPath) -> Ordering {
-        self.names.as_slice().cmp(other.names.as_slice())
+        self.key().cmp(other.key())
     }
 }
 
@@ -205,6 +339,6 @@ impl Hash for RelPath {
     ghost respects_eq = { same_path_hash };
 
     fn hash<H: Hasher>(&self, state: &mut H) {
-        self.names.as_slice().hash(state);
+        self.components().hash(state);
     }
 }

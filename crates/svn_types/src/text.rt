@@ -1,23 +1,38 @@
 //! Texts of files and values of properties.
-ghost use Rattle.std.specs.Prelude.{◌≡◌, ◌↔◌, IsTrue, [], length, nat_eq};
+ghost use Rattle.std.specs.Prelude.{◌≡◌, ◌↔◌, IsTrue, [], length, nat_eq, IfOk};
 ghost use Rattle.std.specs.Cmp.Lexicographic.{pointwise, nat_list_eq_equiv};
 ghost use Rattle.std.specs.Cmp.{partial_equiv_from_equiv};
 
-use std::alloc::AllocError;
+use crate::short_bytes::ShortBytes;
+use std::alloc::{AllocError, Global};
+use std::fmt;
 use std::marker::Model;
+use std::sync::Arc;
+
+// The longest text that lies in the value itself. With it a `Text` has 32 bytes.
+const MAX_SHORT: usize = 30;
+
+// A short text lies in the value itself, and takes no memory. A long one stays in the vector that it came in; its first clone makes a copy,
+// which all further clones share.
+#[derive(Drop)]
+enum TextForm {
+    Short(ShortBytes<30>),
+    Own(Vec<u8>),
+    Shared(Arc<Vec<u8>>),
+}
 
 /// The text of a file, or the value of a property: any bytes. A contract sees it as their list.
-#[derive(Debug, Drop)]
 pub struct Text {
-    bytes: Vec<u8>,
+    form: TextForm,
 }
 
 impl Model for Text {
     ghost use Rattle.std.specs.Prelude.{ℕ, List};
+    ghost use Rattle.svn_types.specs.Forms.{text_bytes};
 
     ghost Value = { List ℕ };
 
-    ghost view = { λ t. t.bytes.items };
+    ghost view = { λ t. text_bytes t.form };
 }
 
 impl Text {
@@ -25,35 +40,60 @@ impl Text {
     pub fn new(bytes: Vec<u8>) -> Text
         ensures { result ≡ bytes.items }
     {
-        Text { bytes }
+        if bytes.len() <= MAX_SHORT {
+            return Text {
+                form: TextForm::Short(ShortBytes::of(&bytes)),
+            };
+        }
+        Text {
+            form: TextForm::Own(bytes),
+        }
     }
 
-    /// Its bytes, moved out.
-    pub fn into_vec(self) -> Vec<u8>
-        ensures { result.items ≡ self }
+    /// Its bytes in a vector of their own.
+    pub fn to_vec(&self, alloc: Global) -> Result<Vec<u8>, AllocError>
+        ensures { IfOk result (λ v. v.items ≡ self.now) }
     {
-        self.bytes
+        Vec::from_slice(alloc, self.as_slice())
     }
 
     /// Its bytes.
     pub fn as_slice(&self) -> &[u8]
         ensures { result.now ≡ self.now }
     {
-        &self.bytes
+        match &self.form {
+            TextForm::Short(bytes) => bytes.as_slice(),
+            TextForm::Own(bytes) => bytes,
+            TextForm::Shared(bytes) => bytes,
+        }
     }
 
     /// How many bytes it has.
     pub fn len(&self) -> usize
         ensures { result ≡ length self.now }
     {
-        self.bytes.len()
+        self.as_slice().len()
     }
 
     /// Whether it has no byte.
     pub fn is_empty(&self) -> bool
         ensures { IsTrue result ↔ (self.now ≡ []) }
     {
-        self.bytes.is_empty()
+        self.as_slice().is_empty()
+    }
+}
+
+// So that a caller's proof sees a call, and no case of where the bytes lie.
+impl Drop for Text {
+    fn drop(self) {
+        let Text { form } = self;
+        drop(form);
+    }
+}
+
+impl fmt::Debug for Text {
+    fn fmt<W: fmt::Write>(&self, f: &mut fmt::Formatter<W>) -> fmt::Result {
+        fmt::Debug::fmt(&self.as_slice(), f)
     }
 }
 
@@ -61,9 +101,12 @@ impl Clone for Text {
     ghost is_clone = { λ text copy. copy ≡ text };
 
     fn clone(&self) -> Result<Text, AllocError> {
-        Ok(Text {
-            bytes: self.bytes.clone()?,
-        })
+        let form = match &self.form {
+            TextForm::Short(bytes) => TextForm::Short(bytes.copy()),
+            TextForm::Own(bytes) => TextForm::Shared(Arc::new(*bytes.allocator(), bytes.clone()?)?),
+            TextForm::Shared(bytes) => TextForm::Shared(bytes.clone()?),
+        };
+        Ok(Text { form })
     }
 }
 

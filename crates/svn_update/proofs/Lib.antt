@@ -1,5 +1,5 @@
-pub mod OperandLemmas
+pub mod CopyLemmas
+pub mod DriveLemmas
 pub mod Printing
+pub mod RunLemmas
 pub mod ScriptLemmas
-pub mod Splits
-pub mod WordLemmas

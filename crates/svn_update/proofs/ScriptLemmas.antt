@@ -1,19 +1,34 @@
 -- Lines that are done one after the other.
-use Rattle.std.proofs.Common.{◌≡◌, ℕ, ◌<◌, Bool, List, [], ◌∷◌, ◌++◌, length, append_assoc, refl, ap, sym, subst, ◌∙◌, arith, nat_eq, Option, Some, None, IfSome, Result, Ok, Err, OnOk, IfErr}
+use Rattle.std.proofs.Common.{◌≡◌, ℕ, ◌<◌, Bool, List, [], ◌∷◌, ◌++◌, length, append_assoc, refl, ap, sym, subst, ◌∙◌, arith, nat_eq}
+use Rattle.std.proofs.Common.{Option, Some, None, IfSome, Result, Ok, Err, OnOk, IfErr}
 use Rattle.std.specs.List.{slice_split}
 use Rattle.std.proofs.lemmas.List.{append-nil}
 use Rattle.std.proofs.lemmas.List.Splits.{length-slice_split}
-use Rattle.svn_update.specs.Reading.{lines_of, without_return, without_returns}
+use Rattle.svn_script.specs.declared.command_line.Settings.{Settings}
+use Rattle.svn_script.specs.Reading.{lines_of, without_return, without_returns}
 use Rattle.svn_update.specs.ScriptStates.{ScriptState, new_state}
 use Rattle.svn_update.specs.Scripts.{DoesLine, DoesLines, Prints}
 
 -- ---- one more line
 
-pub one_more_line : (before : List (List ℕ)) (line : List ℕ) (old mid new : ScriptState) (front back : List ℕ) → DoesLines before old mid front → DoesLine line mid new back → DoesLines (before ++ line ∷ []) old new (front ++ back)
-one_more_line [] line old mid new front back h d =
-    (new, back, [], subst (λ (s : ScriptState). DoesLine line s new back) h.0 d, (refl, refl), ap (λ (t : List ℕ). t ++ back) h.1 ∙ sym (append-nil back))
-one_more_line (x ∷ before) line old mid new front back h d =
-    (h.0, h.1, h.2 ++ back, h.3, one_more_line before line h.0 mid new h.2 back h.4 d, ap (λ (t : List ℕ). t ++ back) h.5 ∙ append_assoc h.1 h.2 back)
+pub one_more_line : (s : Settings) (before : List (List ℕ)) (line : List ℕ) (old mid new : ScriptState) (front back : List ℕ)
+    → DoesLines s before old mid front → DoesLine s line mid new back → DoesLines s (before ++ line ∷ []) old new (front ++ back)
+one_more_line s [] line old mid new front back h d = (
+  new,
+  back,
+  [],
+  subst (λ (t : ScriptState). DoesLine s line t new back) h.0 d,
+  (refl, refl),
+  ap (λ (t : List ℕ). t ++ back) h.1 ∙ sym (append-nil back),
+)
+one_more_line s (x ∷ before) line old mid new front back h d = (
+  h.0,
+  h.1,
+  h.2 ++ back,
+  h.3,
+  one_more_line s before line h.0 mid new h.2 back h.4 d,
+  ap (λ (t : List ℕ). t ++ back) h.5 ∙ append_assoc h.1 h.2 back,
+)
 
 -- ---- the lines of what is left
 
@@ -21,7 +36,8 @@ not_last : (l : List ℕ) (ls : List (List ℕ)) → 0 < length ls → without_r
 not_last l [] h = absurd (omega (arith, h))
 not_last l (m ∷ ls) h = refl
 
-pub next_line : (rest line after : List ℕ) → slice_split (λ b. nat_eq b 10) rest ≡ line ∷ slice_split (λ b. nat_eq b 10) after → lines_of rest ≡ without_return line ∷ lines_of after
+pub next_line : (rest line after : List ℕ) → slice_split (λ b. nat_eq b 10) rest ≡ line ∷ slice_split (λ b. nat_eq b 10) after
+    → lines_of rest ≡ without_return line ∷ lines_of after
 next_line rest line after e =
     let p : ℕ → Bool = λ b. nat_eq b 10 in
     let some : 0 < length (slice_split p after) = omega (arith, length-slice_split p after) in
@@ -29,10 +45,15 @@ next_line rest line after e =
 
 -- ---- the end
 
-pub script_ends : (script : List ℕ) (before : List (List ℕ)) (rest : List ℕ) (mid end : ScriptState) (front back : List ℕ) → lines_of script ≡ before ++ lines_of rest → slice_split (λ b. nat_eq b 10) rest ≡ rest ∷ [] → DoesLines before new_state mid front → DoesLine rest mid end back → Prints script (front ++ back)
-script_ends script before rest mid end front back lines last h d =
-    let all : before ++ rest ∷ [] ≡ lines_of script = sym (lines ∙ ap (λ (ls : List (List ℕ)). before ++ ls) (ap without_returns last)) in
-    (end, subst (λ (ls : List (List ℕ)). DoesLines ls new_state end (front ++ back)) all (one_more_line before rest new_state mid end front back h d))
+pub script_ends : (s : Settings) (script : List ℕ) (before : List (List ℕ)) (rest : List ℕ) (mid end : ScriptState) (front back : List ℕ)
+    → lines_of script ≡ before ++ lines_of rest → slice_split (λ b. nat_eq b 10) rest ≡ rest ∷ [] → DoesLines s before new_state mid front
+    → DoesLine s rest mid end back → Prints s script (front ++ back)
+script_ends s script before rest mid end front back lines last h d =
+    let all : before ++ rest ∷ [] ≡ lines_of script = sym (lines ∙ ap (λ (ls : List (List ℕ)). before ++ ls) (ap without_returns last)) in (
+      end,
+      subst (λ (ls : List (List ℕ)). DoesLines s ls new_state end (front ++ back)) all
+          (one_more_line s before rest new_state mid end front back h d),
+    )
 
 -- ---- facts of one variant
 

@@ -4,61 +4,19 @@ use Rattle.std.specs.Prelude.{ℕ, Bool, true, false, List, [], ◌∷◌, ◌++
 use Rattle.std.specs.List.{flat_map}
 use Rattle.std.specs.Fmt.{decimal}
 use Rattle.svn_types.specs.Names.{Path}
-use Rattle.svn_delta.specs.Words.{word, path_word, spaced}
-use Rattle.svn_repo.specs.declared.change.CommitFault.{CommitFault}
-use Rattle.svn_repo.specs.declared.change.CommitFault.TheVariants.{Exists, Missing, NotDir, NotFile, IsRoot, TooDeep, NoSuchRevision, TooLong, Full, Memory}
-use Rattle.svn_wc.specs.declared.fault.WcFault.{WcFault}
-use Rattle.svn_wc.specs.declared.fault.WcFault.TheVariants.{NoSuchRevision as NoRevision, Missing as NothingThere, NoParent, IsRoot as RootStays, TooDeep as TooManyNames, Memory as NoMemory, Twice, BadRoot}
-use Rattle.svn_wc.specs.declared.base_node.BaseNode.{BaseNode}
-use Rattle.svn_wc.specs.declared.base_node.BaseNode.TheVariants.{File, Dir, NotPresent}
-use Rattle.svn_update.specs.declared.outcome.Cause.{Cause}
-use Rattle.svn_update.specs.declared.outcome.Cause.TheVariants.{Cancelled, Memory as MemoryCause}
-use Rattle.svn_update.specs.declared.outcome.Outcome.{Outcome}
-use Rattle.svn_update.specs.declared.outcome.Outcome.TheVariants.{Closed, Aborted}
-use Rattle.svn_update.specs.declared.outcome.RunFault.{RunFault}
-use Rattle.svn_update.specs.declared.outcome.RunFault.TheVariants.{NoSuchRevision as NoTarget, Capacity, Memory as MemoryFault, NoThread}
-use Rattle.svn_update.specs.declared.answer.Refusal.{Refusal}
-use Rattle.svn_update.specs.declared.answer.Refusal.TheVariants.{NoCopy, Untrue, Memory as ListMemory, Commit, Copy, Run}
+use Rattle.svn_editor.specs.declared.call.Call.{Call}
+use Rattle.svn_editor.specs.Lines.{call_line}
+use Rattle.svn_editor.specs.Words.{word, path_word, spaced}
+use Rattle.svn_report.specs.Lines.{report_text}
+use Rattle.svn_model.specs.declared.base_node.BaseNode.{BaseNode}
+use Rattle.svn_model.specs.declared.base_node.BaseNode.TheVariants.{File, Dir, NotPresent}
+use Rattle.svn_run.specs.declared.outcome.Cause.{Cause}
+use Rattle.svn_run.specs.declared.outcome.Cause.TheVariants.{Cancelled, Memory as MemoryCause}
+use Rattle.svn_run.specs.declared.outcome.Outcome.{Outcome}
+use Rattle.svn_run.specs.declared.outcome.Outcome.TheVariants.{Closed, Aborted}
 use Rattle.svn_update.specs.declared.answer.Answer.{Answer}
-use Rattle.svn_update.specs.declared.answer.Answer.TheVariants.{Silent, Committed, Done, Ended, Nodes, Refused}
-
--- ---- the names of faults
-
-abbrev pub commit_fault_name : CommitFault → List ℕ
-commit_fault_name Exists = codes "Exists"
-commit_fault_name Missing = codes "Missing"
-commit_fault_name NotDir = codes "NotDir"
-commit_fault_name NotFile = codes "NotFile"
-commit_fault_name IsRoot = codes "IsRoot"
-commit_fault_name TooDeep = codes "TooDeep"
-commit_fault_name NoSuchRevision = codes "NoSuchRevision"
-commit_fault_name TooLong = codes "TooLong"
-commit_fault_name Full = codes "Full"
-commit_fault_name Memory = codes "Memory"
-
-abbrev pub wc_fault_name : WcFault → List ℕ
-wc_fault_name NoRevision = codes "NoSuchRevision"
-wc_fault_name NothingThere = codes "Missing"
-wc_fault_name NoParent = codes "NoParent"
-wc_fault_name RootStays = codes "IsRoot"
-wc_fault_name TooManyNames = codes "TooDeep"
-wc_fault_name NoMemory = codes "Memory"
-wc_fault_name Twice = codes "Twice"
-wc_fault_name BadRoot = codes "BadRoot"
-
-abbrev pub run_fault_name : RunFault → List ℕ
-run_fault_name NoTarget = codes "NoSuchRevision"
-run_fault_name Capacity = codes "Capacity"
-run_fault_name MemoryFault = codes "Memory"
-run_fault_name NoThread = codes "NoThread"
-
-abbrev pub refusal_name : Refusal → List ℕ
-refusal_name NoCopy = codes "NoCopy"
-refusal_name Untrue = codes "Untrue"
-refusal_name ListMemory = codes "Memory"
-refusal_name (Commit fault) = commit_fault_name fault
-refusal_name (Copy fault) = wc_fault_name fault
-refusal_name (Run fault) = run_fault_name fault
+use Rattle.svn_update.specs.declared.answer.Answer.TheVariants.{Silent, Committed, Done, Reported, Driven, Ended, Nodes, Refused}
+use Rattle.svn_update.specs.FaultNames.{refusal_name}
 
 abbrev pub cause_name : Cause → List ℕ
 cause_name Cancelled = codes "Cancelled"
@@ -95,6 +53,9 @@ lines_of_node p NotPresent = line (node_words p NotPresent)
 abbrev pub node_lines : Path × BaseNode → List ℕ
 node_lines e = lines_of_node e.0 e.1
 
+abbrev pub call_text : Call → List ℕ
+call_text c = call_line c ++ 10 ∷ []
+
 abbrev pub copy_lines : Option (List (Path × BaseNode)) → List ℕ
 copy_lines None = []
 copy_lines (Some nodes) = flat_map node_lines nodes
@@ -103,6 +64,8 @@ abbrev pub answer_text : Option (List (Path × BaseNode)) → Answer → List �
 answer_text copy Silent = []
 answer_text copy (Committed rev) = line (codes "committed" ∷ decimal rev ∷ [])
 answer_text copy Done = line (codes "ok" ∷ [])
+answer_text copy (Reported report) = report_text report
+answer_text copy (Driven calls) = flat_map call_text calls
 answer_text copy (Ended outcome) = line (outcome_words outcome)
 answer_text copy Nodes = copy_lines copy
 answer_text copy (Refused refusal) = line (codes "refused" ∷ refusal_name refusal ∷ [])

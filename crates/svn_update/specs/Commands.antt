@@ -1,98 +1,166 @@
--- The commands of a script, as their lines spell them.
---     command_of line      the command, or nothing where the line is none
-use Rattle.std.specs.Prelude.{ℕ, Bool, true, false, List, [], ◌∷◌, nat_eq, bytes_eq, codes, Option, Some, None, option_map, option_and_then, if◌then◌else◌}
+-- What each command of a script does and answers.
+--     Does s c old new a      the command takes the old state to the new one, with the answer a, the script being run by the settings s
+use Rattle.std.specs.Prelude.{◌≡◌, ℕ, Bool, List, [], ◌++◌, ◌∷◌, length, Option, Some, None, Result, Ok, Err, ◌⊎◌, ◌≤◌}
+use Rattle.md5.specs.Md5.{md5}
 use Rattle.svn_types.specs.Names.{Path}
-use Rattle.svn_repo.specs.declared.change.Change.TheVariants.{MakeDir, PutFile, SetProp, Remove, CopyFrom}
-use Rattle.svn_update.specs.declared.command.Verb.{Verb}
-use Rattle.svn_update.specs.declared.command.Verb.TheVariants.{Mkdir as MkdirVerb, Put as PutVerb, Prop as PropVerb, Unprop as UnpropVerb, Remove as RemoveVerb, Copy as CopyVerb, Commit as CommitVerb, Checkout as CheckoutVerb, Update as UpdateVerb, Show as ShowVerb}
-use Rattle.svn_update.specs.declared.command.Command.{Command}
-use Rattle.svn_update.specs.declared.command.Command.TheVariants.{Nothing, Change, Commit, Checkout, Update, Show}
-use Rattle.svn_update.specs.Reading.{words_of, number_of, bytes_of, path_of, prop_name_of}
+use Rattle.svn_repo.specs.History.{History}
+use Rattle.svn_repo.specs.Changes.{IsCommit, commit_fault}
+use Rattle.svn_repo.specs.declared.change.Change.{Change}
+use Rattle.svn_repo.specs.declared.change.CommitFault.TheVariants.{Memory as CommitMemory}
+use Rattle.svn_editor.specs.declared.call.Call.{Call}
+use Rattle.svn_editor.specs.declared.fault.EditFault.TheVariants.{Memory as EditMemory}
+use Rattle.svn_editor.specs.Steps.{Update as UpdateMode, SwitchTo as SwitchMode}
+use Rattle.svn_model.specs.declared.drive_fault.DriveFault.{DriveFault}
+use Rattle.svn_model.specs.declared.drive_fault.DriveFault.TheVariants.{Memory as DriveMemory, Editor as EditorRefused, Full as DriveFull}
+use Rattle.svn_model.specs.declared.wc_fault.WcFault.{WcFault}
+use Rattle.svn_model.specs.declared.wc_fault.WcFault.TheVariants.{Memory as CopyMemory}
+use Rattle.svn_model.specs.Builders.{checkout, placed, forgotten}
+use Rattle.svn_model.specs.Checks.{target_fault}
+use Rattle.svn_model.specs.Crawl.{crawl}
+use Rattle.svn_model.specs.Drive.{IsDrive}
+use Rattle.svn_model.specs.Effects.{joined_path}
+use Rattle.svn_model.specs.Ends.{call_limit}
+use Rattle.svn_model.specs.Follow.{Request}
+use Rattle.svn_model.specs.Nodes.{WorkingCopy, get_in, InPathOrder, IsTrueOf}
+use Rattle.svn_model.specs.Refusals.{checkout_fault, place_fault, switch_fault, forget_fault}
+use Rattle.svn_wc.specs.Building.{Refuses}
+use Rattle.svn_law.specs.Laws.{request_of}
+use Rattle.svn_run.specs.declared.outcome.Outcome.{Outcome}
+use Rattle.svn_run.specs.UpdateTheorem.{Asked, Nodes, asked, IsRefusal, Ran}
+use Rattle.svn_script.specs.declared.command_line.Settings.{Settings}
+use Rattle.svn_script.specs.declared.command.Command.{Command}
+use Rattle.svn_script.specs.declared.command.Command.TheVariants as command
+use Rattle.svn_update.specs.declared.answer.Refusal.TheVariants.{NoCopy, Untrue, Memory as ListMemory, Commit as CommitRefused}
+use Rattle.svn_update.specs.declared.answer.Refusal.TheVariants.{Copy as CopyRefused, Drive as DriveRefused, Run as RunRefused}
+use Rattle.svn_update.specs.declared.answer.Answer.{Answer}
+use Rattle.svn_update.specs.declared.answer.Answer.TheVariants.{Silent, Committed, Done, Reported, Driven, Ended, Nodes as NodesShown}
+use Rattle.svn_update.specs.declared.answer.Answer.TheVariants.{Refused}
+use Rattle.svn_update.specs.Runs.{run_fault, IsRunWant}
+use Rattle.svn_update.specs.ScriptStates.{ScriptState}
 
-abbrev pub verb_of : List ℕ → Option Verb
-verb_of name =
-    if bytes_eq name (codes "mkdir") then Some MkdirVerb
-    else if bytes_eq name (codes "put") then Some PutVerb
-    else if bytes_eq name (codes "prop") then Some PropVerb
-    else if bytes_eq name (codes "unprop") then Some UnpropVerb
-    else if bytes_eq name (codes "remove") then Some RemoveVerb
-    else if bytes_eq name (codes "copy") then Some CopyVerb
-    else if bytes_eq name (codes "commit") then Some CommitVerb
-    else if bytes_eq name (codes "checkout") then Some CheckoutVerb
-    else if bytes_eq name (codes "update") then Some UpdateVerb
-    else if bytes_eq name (codes "show") then Some ShowVerb
-    else None
+-- ---- changes and commits
 
-abbrev pub no_words : List (List ℕ) → Bool
-no_words [] = true
-no_words (w ∷ ws) = false
+-- one more change, unless memory was refused
+abbrev pub AddsChange : Change → ScriptState → ScriptState → Answer → Type 0
+AddsChange change old new Silent = new ≡ record old { pending = old.pending ++ change ∷ [] }
+AddsChange change old new (Refused ListMemory) = new ≡ old
+AddsChange change old new _ = ⊥
 
--- the words, where there are just one, two or three
-abbrev pub only_word : List (List ℕ) → Option (List ℕ)
-only_word (w ∷ []) = Some w
-only_word _ = None
+-- the changes become a revision, or are refused by the first that can't be made
+abbrev pub AnswersCommit : History → List Change → History → Answer → Type 0
+AnswersCommit h changes h' (Committed rev) = (rev ≡ length h.roots) × IsCommit h h' changes
+AnswersCommit h changes h' (Refused (CommitRefused fault)) = (h' ≡ h) × ((fault ≡ CommitMemory) ⊎ (commit_fault h changes ≡ Some fault))
+AnswersCommit h changes h' _ = ⊥
 
-abbrev pub two_words : List (List ℕ) → Option (List ℕ × List ℕ)
-two_words (v ∷ w ∷ []) = Some (v, w)
-two_words _ = None
+-- ---- copies that are made and changed without a drive
 
-abbrev pub three_words : List (List ℕ) → Option (List ℕ × List ℕ × List ℕ)
-three_words (u ∷ v ∷ w ∷ []) = Some (u, v, w)
-three_words _ = None
+-- the copy is this one, and its nodes stand in path order, in which `show` prints them
+abbrev pub IsBuilt : WorkingCopy → Option Nodes → Type 0
+IsBuilt made None = ⊥
+IsBuilt made (Some nodes) = InPathOrder nodes × ((p : Path) → get_in nodes p ≡ made p)
 
-abbrev pub only_path : List (List ℕ) → Option Path
-only_path words = option_and_then path_of (only_word words)
+-- the copy is made where there is no fault; else the fault is the first, or want of memory where a copy can want it
+abbrev pub AnswersBuilder : Option WcFault → (WcFault → Type 0) → WorkingCopy → Option Nodes → Option Nodes → Answer → Type 0
+AnswersBuilder fault IsFault made old new Done = (fault ≡ None) × IsBuilt made new
+AnswersBuilder fault IsFault made old new (Refused (CopyRefused e)) = (new ≡ old) × IsFault e
+AnswersBuilder fault IsFault made old new _ = ⊥
 
-abbrev pub only_number : List (List ℕ) → Option ℕ
-only_number words = option_and_then number_of (only_word words)
+abbrev pub AnswersCheckout : History → Path → ℕ → Option Nodes → Option Nodes → Answer → Type 0
+AnswersCheckout h q r = AnswersBuilder (checkout_fault h q r) (Refuses (checkout_fault h q r)) (checkout h q r)
 
--- a path, and the bytes of a text
-abbrev pub put_of : List ℕ × List ℕ → Option Command
-put_of w = option_and_then (λ path. option_map (λ text. Change (PutFile path text)) (bytes_of w.1)) (path_of w.0)
+abbrev pub AnswersPlace : History → Nodes → Path → ℕ → Option Nodes → Answer → Type 0
+AnswersPlace h w p r =
+    let fault = place_fault h (get_in w) p r in
+    AnswersBuilder fault (Refuses fault) (placed h (get_in w) p (joined_path (get_in w) p) r) (Some w)
 
--- a path, the name of a property, and the bytes of its value
-abbrev pub prop_of : List ℕ × List ℕ × List ℕ → Option Command
-prop_of w =
-    option_and_then (λ path.
-    option_and_then (λ name.
-    option_map (λ value. Change (SetProp path name (Some value))) (bytes_of w.2)) (prop_name_of w.1)) (path_of w.0)
+abbrev pub AnswersSwitch : History → Nodes → Path → Path → ℕ → Option Nodes → Answer → Type 0
+AnswersSwitch h w p q r =
+    let fault = switch_fault h (get_in w) p q r in
+    AnswersBuilder fault (Refuses fault) (placed h (get_in w) p q r) (Some w)
 
--- a path, and the name of a property: it is set to no value
-abbrev pub unprop_of : List ℕ × List ℕ → Option Command
-unprop_of w = option_and_then (λ path. option_map (λ name. Change (SetProp path name None)) (prop_name_of w.1)) (path_of w.0)
+-- nothing is wanted to forget
+abbrev pub AnswersForget : Nodes → Path → Option Nodes → Answer → Type 0
+AnswersForget w p =
+    let fault = forget_fault (get_in w) p in
+    AnswersBuilder fault (λ e. fault ≡ Some e) (forgotten (get_in w) p) (Some w)
 
--- a revision, the path of a node in it, and the path where it is put
-abbrev pub copy_of : List ℕ × List ℕ × List ℕ → Option Command
-copy_of w =
-    option_and_then (λ rev.
-    option_and_then (λ source.
-    option_map (λ path. Change (CopyFrom rev source path)) (path_of w.2)) (path_of w.1)) (number_of w.0)
+-- what is said of a copy that was to be changed
+abbrev pub answer_built : Result (Unit {0}) WcFault → Answer
+answer_built (Ok x) = Done
+answer_built (Err fault) = Refused (CopyRefused fault)
 
-abbrev pub when_no_word : Command → List (List ℕ) → Option Command
-when_no_word c [] = Some c
-when_no_word c (w ∷ ws) = None
+-- ---- reports and drives, which leave the copy as it is
 
--- what a command is with the words behind its name
-abbrev pub with_words : Verb → List (List ℕ) → Option Command
-with_words MkdirVerb words = option_map (λ path. Change (MakeDir path)) (only_path words)
-with_words PutVerb words = option_and_then put_of (two_words words)
-with_words PropVerb words = option_and_then prop_of (three_words words)
-with_words UnpropVerb words = option_and_then unprop_of (two_words words)
-with_words RemoveVerb words = option_map (λ path. Change (Remove path)) (only_path words)
-with_words CopyVerb words = option_and_then copy_of (three_words words)
-with_words CommitVerb words = when_no_word Commit words
-with_words CheckoutVerb words = option_map Checkout (only_number words)
-with_words UpdateVerb words = option_map Update (only_number words)
-with_words ShowVerb words = when_no_word Show words
+abbrev pub AnswersReport : Nodes → Answer → Type 0
+AnswersReport w (Reported r) = r ≡ crawl w
+AnswersReport w (Refused (CopyRefused e)) = e ≡ CopyMemory
+AnswersReport w _ = ⊥
 
-abbrev pub command_of_words : List (List ℕ) → Option Command
-command_of_words [] = Some Nothing
-command_of_words (name ∷ words) = option_and_then (λ verb. with_words verb words) (verb_of name)
+-- what is wanting to make and record a drive: memory, or numbers for its calls
+abbrev pub IsDriveWant : Request → Bool → DriveFault → Type 0
+IsDriveWant d late DriveMemory = Unit {0}
+IsDriveWant d late (EditorRefused fault) = fault ≡ EditMemory
+IsDriveWant d late DriveFull = (calls : List Call) × IsDrive d late calls × (call_limit ≤ length calls)
+IsDriveWant d late _ = ⊥
 
--- a line whose first byte is `#`
-abbrev pub is_comment : List ℕ → Bool
-is_comment [] = false
-is_comment (b ∷ bs) = nat_eq b 35
+-- the answer of a drive: its calls, or why it wasn't made
+abbrev pub IsRecorded : Request → Bool → Answer → Type 0
+IsRecorded d late (Refused (DriveRefused e)) = (target_fault d ≡ Some e) ⊎ IsDriveWant d late e
+IsRecorded d late (Driven calls) = (target_fault d ≡ None) × IsDrive d late calls
+IsRecorded d late _ = ⊥
 
-abbrev pub command_of : List ℕ → Option Command
-command_of line = if is_comment line then Some Nothing else command_of_words (words_of line)
+-- the drive of what the copy reports
+abbrev pub AnswersDrive : History → Nodes → Request → Bool → Answer → Type 0
+AnswersDrive h w d late (Refused Untrue) = IsTrueOf h (get_in w) → ⊥
+AnswersDrive h w d late (Refused (CopyRefused e)) = IsTrueOf h (get_in w) × (e ≡ CopyMemory)
+AnswersDrive h w d late (Refused (DriveRefused e)) = IsTrueOf h (get_in w) × ((target_fault d ≡ Some e) ⊎ IsDriveWant d late e)
+AnswersDrive h w d late (Driven calls) = IsTrueOf h (get_in w) × (target_fault d ≡ None) × IsDrive d late calls
+AnswersDrive h w d late _ = ⊥
+
+-- ---- runs
+
+abbrev pub LeavesRan : Asked → Option Nodes → Outcome → Type 0
+LeavesRan a None o = ⊥
+LeavesRan a (Some left) o = InPathOrder left × Ran a left o
+
+-- a copy that isn't true is refused, and no other is refused so; else the run ends as the update theorem says
+abbrev pub AnswersRun : Settings → Asked → Option Nodes → Answer → Type 0
+AnswersRun s a new (Refused Untrue) = (new ≡ Some a.copy) × (IsTrueOf a.history (get_in a.copy) → ⊥)
+AnswersRun s a new (Refused (RunRefused fault)) =
+    (new ≡ Some a.copy) × IsTrueOf a.history (get_in a.copy) × IsRefusal (run_fault s a) (IsRunWant s.in_turn) fault
+AnswersRun s a new (Ended o) = IsTrueOf a.history (get_in a.copy) × (run_fault s a ≡ None) × LeavesRan a new o
+AnswersRun s a new _ = ⊥
+
+-- ---- commands
+
+abbrev pub show_answer : Option Nodes → Answer
+show_answer None = Refused NoCopy
+show_answer (Some nodes) = NodesShown
+
+-- a command on the working copy is refused where there is none
+abbrev pub OnCopy : (Nodes → Type 0) → Option Nodes → Option Nodes → Answer → Type 0
+OnCopy AnswersFor None new a = (new ≡ None) × (a ≡ Refused NoCopy)
+OnCopy AnswersFor (Some w) new a = AnswersFor w
+
+-- the repository and the changes for its next commit are as before
+abbrev pub KeepsRepo : ScriptState → ScriptState → Type 0
+KeepsRepo old new = (new.repo ≡ old.repo) × (new.pending ≡ old.pending)
+
+abbrev pub Does : Settings → Command → ScriptState → ScriptState → Answer → Type 0
+Does s command.Nothing old new a = (new ≡ old) × (a ≡ Silent)
+Does s (command.Change change) old new a = AddsChange change old new a
+Does s command.Commit old new a = (new.pending ≡ []) × (new.copy ≡ old.copy) × AnswersCommit old.repo old.pending new.repo a
+Does s (command.Checkout rev path) old new a = KeepsRepo old new × AnswersCheckout old.repo path rev old.copy new.copy a
+Does s (command.Place path rev) old new a =
+    KeepsRepo old new × OnCopy (λ w. AnswersPlace old.repo w path rev new.copy a) old.copy new.copy a
+Does s (command.Switch path repos_path rev) old new a =
+    KeepsRepo old new × OnCopy (λ w. AnswersSwitch old.repo w path repos_path rev new.copy a) old.copy new.copy a
+Does s (command.Forget path) old new a = KeepsRepo old new × OnCopy (λ w. AnswersForget w path new.copy a) old.copy new.copy a
+Does s command.Report old new a = (new ≡ old) × OnCopy (λ w. AnswersReport w a) old.copy new.copy a
+Does s (command.Drive rev late) old new a =
+    (new ≡ old) × OnCopy (λ w. AnswersDrive old.repo w (request_of old.repo w rev UpdateMode md5) late a) old.copy new.copy a
+Does s (command.Update rev cancel late) old new a =
+    KeepsRepo old new × OnCopy (λ w. AnswersRun s (asked old.repo w rev UpdateMode late cancel) new.copy a) old.copy new.copy a
+Does s (command.SwitchTo to rev cancel late) old new a =
+    KeepsRepo old new × OnCopy (λ w. AnswersRun s (asked old.repo w rev (SwitchMode to) late cancel) new.copy a) old.copy new.copy a
+Does s command.Show old new a = (new ≡ old) × (a ≡ show_answer old.copy)

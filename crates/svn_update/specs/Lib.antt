@@ -1,8 +1,6 @@
-pub mod FaultNumbers
-pub mod Reading
-pub mod Gives
-pub mod Commands
+pub mod FaultNames
 pub mod Answers
-pub mod Outcomes
 pub mod ScriptStates
+pub mod Runs
+pub mod Commands
 pub mod Scripts

@@ -3,7 +3,7 @@ use Rattle.std.specs.Prelude.{List, [], Option, None}
 use Rattle.svn_types.specs.Names.{Path}
 use Rattle.svn_repo.specs.History.{History, new_history}
 use Rattle.svn_repo.specs.declared.change.Change.{Change}
-use Rattle.svn_wc.specs.declared.base_node.BaseNode.{BaseNode}
+use Rattle.svn_model.specs.declared.base_node.BaseNode.{BaseNode}
 
 -- a repository, the changes for its next commit, and the nodes of the working copy, if there is one
 pub record ScriptState : Type 0 where

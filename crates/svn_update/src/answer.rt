@@ -2,15 +2,18 @@
 ghost use Rattle.std.specs.Prelude.{◌≡◌, Some};
 ghost use Rattle.std.specs.List.{flat_map};
 ghost use Rattle.std.specs.Fmt.{DisplaysOnOk};
-ghost use Rattle.svn_update.specs.Answers.{answer_text, cause_name, commit_fault_name, line, node_lines, outcome_words, prop_line, refusal_name, run_fault_name, wc_fault_name};
+ghost use Rattle.svn_update.specs.Answers.{answer_text, call_text, cause_name, line, node_lines, outcome_words, prop_line};
 
-use crate::outcome::{Cause, Outcome, RunFault};
+use crate::fault_names::refusal_name;
 use std::fmt;
 use std::fmt::Display;
-use svn_delta::{PathWord, Word};
+use svn_editor::{Call, PathWord, Recorder, Word};
+use svn_model::{BaseNode, DriveFault, WcFault};
 use svn_repo::CommitFault;
+use svn_report::Report;
+use svn_run::{Cause, Outcome, RunFault};
 use svn_types::{PropName, Props, RelPath, Rev, Text};
-use svn_wc::{BaseNode, WcFault, WorkingCopy};
+use svn_wc::WorkingCopy;
 
 /// Why a command did nothing.
 #[derive(Clone, Copy, Debug, PartialEq, Eq)]
@@ -23,14 +26,16 @@ pub(crate) enum Refusal {
     Memory,
     /// `commit` was refused.
     Commit(CommitFault),
-    /// `checkout` was refused.
+    /// `checkout`, `place`, `switch` or `forget` was refused, or memory for the report of the copy.
     Copy(WcFault),
-    /// `update` was refused.
+    /// `drive` was refused.
+    Drive(DriveFault),
+    /// `update` or `switch-to` was refused.
     Run(RunFault),
 }
 
 /// What a command has to say.
-#[derive(Clone, Copy, Debug, PartialEq, Eq)]
+#[derive(Debug, Drop)]
 pub(crate) enum Answer {
     /// Nothing is printed.
     Silent,
@@ -38,68 +43,16 @@ pub(crate) enum Answer {
     Committed(Rev),
     /// `ok`
     Done,
-    /// How an update ended.
+    /// What the working copy reports.
+    Reported(Report),
+    /// The calls of a drive.
+    Driven(Recorder),
+    /// How an update or a switch of the whole copy ended.
     Ended(Outcome),
     /// The nodes of the working copy.
     Nodes,
     /// `refused NAME`
     Refused(Refusal),
-}
-
-fn commit_fault_name(fault: CommitFault) -> &'static str
-    ensures { result.now ≡ commit_fault_name fault }
-{
-    match fault {
-        CommitFault::Exists => "Exists",
-        CommitFault::Missing => "Missing",
-        CommitFault::NotDir => "NotDir",
-        CommitFault::NotFile => "NotFile",
-        CommitFault::IsRoot => "IsRoot",
-        CommitFault::TooDeep => "TooDeep",
-        CommitFault::NoSuchRevision => "NoSuchRevision",
-        CommitFault::TooLong => "TooLong",
-        CommitFault::Full => "Full",
-        CommitFault::Memory => "Memory",
-    }
-}
-
-fn wc_fault_name(fault: WcFault) -> &'static str
-    ensures { result.now ≡ wc_fault_name fault }
-{
-    match fault {
-        WcFault::NoSuchRevision => "NoSuchRevision",
-        WcFault::Missing => "Missing",
-        WcFault::NoParent => "NoParent",
-        WcFault::IsRoot => "IsRoot",
-        WcFault::TooDeep => "TooDeep",
-        WcFault::Memory => "Memory",
-        WcFault::Twice => "Twice",
-        WcFault::BadRoot => "BadRoot",
-    }
-}
-
-fn run_fault_name(fault: RunFault) -> &'static str
-    ensures { result.now ≡ run_fault_name fault }
-{
-    match fault {
-        RunFault::NoSuchRevision => "NoSuchRevision",
-        RunFault::Capacity => "Capacity",
-        RunFault::Memory => "Memory",
-        RunFault::NoThread => "NoThread",
-    }
-}
-
-fn refusal_name(refusal: Refusal) -> &'static str
-    ensures { result.now ≡ refusal_name refusal }
-{
-    match refusal {
-        Refusal::NoCopy => "NoCopy",
-        Refusal::Untrue => "Untrue",
-        Refusal::Memory => "Memory",
-        Refusal::Commit(fault) => commit_fault_name(fault),
-        Refusal::Copy(fault) => wc_fault_name(fault),
-        Refusal::Run(fault) => run_fault_name(fault),
-    }
 }
 
 fn cause_name(cause: Cause) -> &'static str
@@ -114,11 +67,11 @@ fn cause_name(cause: Cause) -> &'static str
 /// Prints what a command has to say, each line ended by a line feed.
 #[derive(Clone, Copy)]
 pub(crate) struct AnswerLines<'a> {
-    pub(crate) answer: Answer,
+    pub(crate) answer: &'a Answer,
     pub(crate) copy: &'a Option<WorkingCopy>,
 }
 
-// An update that ended is printed as its line.
+// A run that ended is printed as its line.
 fn write_outcome<W: fmt::Write>(outcome: Outcome, f: &mut fmt::Formatter<W>) -> fmt::Result
     ensures { DisplaysOnOk W.write_str_gives f.old result (Some (line (outcome_words outcome))) f.new }
 {
@@ -214,20 +167,39 @@ fn write_copy<W: fmt::Write>(copy: &WorkingCopy, f: &mut fmt::Formatter<W>) -> f
     Ok(())
 }
 
+// A call, and a line feed.
+fn write_call<W: fmt::Write>(call: &Call, f: &mut fmt::Formatter<W>) -> fmt::Result
+    ensures { DisplaysOnOk W.write_str_gives f.old result (Some (call_text call.now)) f.new }
+{
+    writeln!(f, "{call}")
+}
+
+// The calls of a drive.
+fn write_calls<W: fmt::Write>(calls: &[Call], f: &mut fmt::Formatter<W>) -> fmt::Result
+    ensures { DisplaysOnOk W.write_str_gives f.old result (Some (flat_map call_text calls.now)) f.new }
+{
+    for call in calls {
+        write_call(call, f)?;
+    }
+    Ok(())
+}
+
 impl fmt::Display for AnswerLines<'_> {
-    ghost output = { λ l. Some (answer_text l.copy.now l.answer) };
+    ghost output = { λ l. Some (answer_text l.copy.now l.answer.now) };
 
     fn fmt<W: fmt::Write>(&self, f: &mut fmt::Formatter<W>) -> fmt::Result {
         match self.answer {
             Answer::Silent => Ok(()),
             Answer::Committed(rev) => writeln!(f, "committed {}", rev.0),
             Answer::Done => writeln!(f, "ok"),
-            Answer::Ended(outcome) => write_outcome(outcome, f),
+            Answer::Reported(report) => write!(f, "{report}"),
+            Answer::Driven(recorder) => write_calls(recorder.calls(), f),
+            Answer::Ended(outcome) => write_outcome(*outcome, f),
             Answer::Nodes => match self.copy {
                 Some(copy) => write_copy(copy, f),
                 None => Ok(()),
             },
-            Answer::Refused(refusal) => writeln!(f, "refused {}", refusal_name(refusal)),
+            Answer::Refused(refusal) => writeln!(f, "refused {}", refusal_name(*refusal)),
         }
     }
 }

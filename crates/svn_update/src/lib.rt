@@ -1,19 +1,20 @@
-//! Updates of a working copy, and the script language that drives them.
+//! The script language that makes repositories and working copies and updates them. This crate hands on what a user of the
+//! library needs: repository, working copy and runs.
 #![tactic(auto)]
 
 mod answer;
-mod command;
-mod fault;
-mod lines;
-mod operands;
-mod outcome;
+mod copies;
+mod fault_names;
+mod runs;
 mod script;
 mod state;
-mod update;
-mod words;
 
-pub use fault::ScriptFault;
-pub use lines::MAX_SCRIPT;
-pub use outcome::{Cause, Outcome, RunFault};
-pub use script::{Settings, run_script};
-pub use update::update_in_turn;
+pub use script::run_script;
+pub use svn_repo::{Change, CommitFault, Entries, NodeId, Repo};
+pub use svn_run::{
+    Cause, Gate, NoGate, Options, Outcome, RunFault, switch_to, switch_to_in_turn, update,
+    update_in_turn,
+};
+pub use svn_script::{MAX_SCRIPT, ScriptFault, Settings, WordsFault, read_words};
+pub use svn_types::{Kind, Name, PathFault, PropName, Props, RelPath, Rev, Text};
+pub use svn_wc::{BaseNode, WcFault, WorkingCopy};

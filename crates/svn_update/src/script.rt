@@ -1,42 +1,43 @@
 //! Scripts.
 ghost use Rattle.std.specs.Prelude.{◌≡◌, ℕ, ◌≤◌, ◌<◌, List, length, IfErr, IfSome, OnOk, None, true, false};
 ghost use Rattle.std.specs.Io.KnownBytes.{Appends};
-ghost use Rattle.svn_update.specs.Commands.{command_of};
+ghost use Rattle.svn_script.specs.Commands.{command_of};
 ghost use Rattle.svn_update.specs.Scripts.{DoesLine, IsReadWhole, Prints, StopsAt, is_of_a_line, is_refused_whole};
 
-use crate::command::read_command;
-use crate::fault::ScriptFault;
-use crate::lines::{MAX_SCRIPT, read_script, split_once, without_return};
 use crate::state::State;
-use crate::words::LineFault;
 use std::alloc::Global;
 use std::io::{Read, Write};
+use std::sync::Wait;
+use std::thread::Threads;
+use svn_script::{
+    LineFault, MAX_SCRIPT, ScriptFault, Settings, read_command, read_script, split_once,
+    without_return,
+};
 
-/// How a script is to be run.
-#[derive(Clone, Copy, Debug, PartialEq, Eq)]
-pub struct Settings {
-    /// how many calls the queue between driver and working copy holds, 1 to 4096
-    pub capacity: usize,
-    /// whether driver and working copy run in turn, on one thread
-    pub in_turn: bool,
+// What the commands of a script are done with.
+#[derive(Drop)]
+struct Host<'a, T> {
+    rt: &'a T,
+    alloc: Global,
+    settings: Settings,
 }
 
 // Does one line, and prints what it has to say.
-fn run_line<W: Write>(
-    alloc: Global,
+fn run_line<T: Threads + Wait + Sync, W: Write>(
+    host: &Host<'_, T>,
     state: &mut State,
     line: &[u8],
     number: u64,
     writer: &mut W,
 ) -> Result<(), ScriptFault>
-    ensures ok { OnOk result ((text : List ℕ) × DoesLine line.now state.old state.new text × Appends (W.contents writer.old) (W.contents writer.new) text) }
+    ensures ok { OnOk result ((text : List ℕ) × DoesLine host.now.settings line.now state.old state.new text × Appends (W.contents writer.old) (W.contents writer.new) text) }
     ensures bad { IfErr result (λ e. (n : ℕ) → e ≡ ScriptFault.BadLine n → (n ≡ number) × (command_of line.now ≡ None) × (writer.new ≡ writer.old)) }
     ensures begun { IfErr result (λ e. is_refused_whole e ≡ false) }
 {
-    match read_command(alloc, line) {
+    match read_command(host.alloc, line) {
         Ok(command) => {
-            let answer = state.run(command);
-            match state.print(answer, writer) {
+            let answer = state.run(host.rt, host.settings, command);
+            match state.print(&answer, writer) {
                 Ok(()) => Ok(()),
                 Err(_) => Err(ScriptFault::Write),
             }
@@ -47,25 +48,29 @@ fn run_line<W: Write>(
 }
 
 // Does the lines of a script one after the other.
-fn run_lines<W: Write>(alloc: Global, script: &[u8], writer: &mut W) -> Result<(), ScriptFault>
+fn run_lines<T: Threads + Wait + Sync, W: Write>(
+    host: &Host<'_, T>,
+    script: &[u8],
+    writer: &mut W,
+) -> Result<(), ScriptFault>
     requires { length script.now ≤ MAX_SCRIPT }
-    ensures ok { OnOk result ((text : List ℕ) × Prints script.now text × Appends (W.contents writer.old) (W.contents writer.new) text) }
-    ensures bad { IfErr result (λ e. (n : ℕ) → e ≡ ScriptFault.BadLine n → (text : List ℕ) × StopsAt script.now n text × Appends (W.contents writer.old) (W.contents writer.new) text) }
+    ensures ok { OnOk result ((text : List ℕ) × Prints host.now.settings script.now text × Appends (W.contents writer.old) (W.contents writer.new) text) }
+    ensures bad { IfErr result (λ e. (n : ℕ) → e ≡ ScriptFault.BadLine n → (text : List ℕ) × StopsAt host.now.settings script.now n text × Appends (W.contents writer.old) (W.contents writer.new) text) }
     ensures begun { IfErr result (λ e. is_refused_whole e ≡ false) }
 {
-    let Ok(mut state) = State::new(alloc) else {
+    let Ok(mut state) = State::new(host.alloc) else {
         return Err(ScriptFault::Memory);
     };
     let mut rest = script;
     let mut number = 1u64;
     'lines: while let Some((line, after)) = split_once(rest, b'\n') {
-        if let Err(fault) = run_line(alloc, &mut state, without_return(line), number, writer) {
+        if let Err(fault) = run_line(host, &mut state, without_return(line), number, writer) {
             return Err(fault);
         }
         rest = after;
         number += 1;
     }
-    run_line(alloc, &mut state, rest, number, writer)
+    run_line(host, &mut state, rest, number, writer)
 }
 
 /// Runs a script: reads it to its end, then does its lines one after the other and writes what they print, and flushes the writer at the end.
@@ -73,17 +78,19 @@ fn run_lines<W: Write>(alloc: Global, script: &[u8], writer: &mut W) -> Result<(
 /// fails: no line was done. Write where the writer fails, once the script was read. Memory where a growth is refused while the script or a
 /// line of it is read; where one is refused to a command, that command prints its refusal.
 ///
-/// The settings are without effect as long as driver and working copy run in turn alone.
-pub fn run_script<R: Read, W: Write>(
+/// The settings say how `update` and `switch-to` run: with `in_turn` on this thread, else with the driver in a thread of its own and at most
+/// `capacity` calls waiting, which refuses them by Capacity unless it is 1 to 4,096. The output is the same but for wants.
+pub fn run_script<T: Threads + Wait + Sync, R: Read, W: Write>(
+    rt: &T,
     alloc: Global,
     reader: &mut R,
     writer: &mut W,
-    _settings: &Settings,
+    settings: &Settings,
 ) -> Result<(), ScriptFault>
     // what is written is an output of the script that was read
-    ensures ok { OnOk result (IfSome (R.remaining reader.old) (λ script. (text : List ℕ) × Prints script text × Appends (W.contents writer.old) (W.contents writer.new) text)) }
+    ensures ok { OnOk result (IfSome (R.remaining reader.old) (λ script. (text : List ℕ) × Prints settings.now script text × Appends (W.contents writer.old) (W.contents writer.new) text)) }
     // at a bad line it is that of the lines before
-    ensures bad_line { IfErr result (λ e. (n : ℕ) → e ≡ ScriptFault.BadLine n → IfSome (R.remaining reader.old) (λ script. (text : List ℕ) × StopsAt script n text × Appends (W.contents writer.old) (W.contents writer.new) text)) }
+    ensures bad_line { IfErr result (λ e. (n : ℕ) → e ≡ ScriptFault.BadLine n → IfSome (R.remaining reader.old) (λ script. (text : List ℕ) × StopsAt settings.now script n text × Appends (W.contents writer.old) (W.contents writer.new) text)) }
     // lines are done only of a script that was read to its end and isn't too long
     ensures ok_read { OnOk result (IsReadWhole (R.remaining reader.old) (R.remaining reader.new)) }
     ensures err_read { IfErr result (λ e. is_of_a_line e ≡ true → IsReadWhole (R.remaining reader.old) (R.remaining reader.new)) }
@@ -94,7 +101,12 @@ pub fn run_script<R: Read, W: Write>(
         Ok(script) => script,
         Err(fault) => return Err(fault),
     };
-    let ended = run_lines(alloc, &script, writer);
+    let host = Host {
+        rt,
+        alloc,
+        settings: *settings,
+    };
+    let ended = run_lines(&host, &script, writer);
     match writer.flush() {
         Ok(()) => ended,
         Err(_) => Err(ScriptFault::Write),

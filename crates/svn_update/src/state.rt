@@ -3,26 +3,27 @@ ghost use Rattle.std.specs.Prelude.{◌≡◌, IfOk, OnOk};
 ghost use Rattle.std.specs.Io.KnownBytes.{Appends};
 ghost use Rattle.svn_update.specs.Answers.{answer_text};
 ghost use Rattle.svn_update.specs.ScriptStates.{new_state};
-ghost use Rattle.svn_update.specs.Scripts.{AddsChange, Does};
+ghost use Rattle.svn_update.specs.Commands.{AddsChange, Does};
 
 use crate::answer::{Answer, AnswerLines, Refusal};
-use crate::command::Command;
-use crate::update::update_in_turn;
+use crate::runs::Wanted;
 use std::alloc::Global;
 use std::io;
 use std::io::Write;
 use std::marker::Model;
+use std::sync::Wait;
+use std::thread::Threads;
 use svn_repo::{Change, CommitFault, Repo};
-use svn_types::Rev;
+use svn_script::{Command, Settings};
 use svn_wc::WorkingCopy;
 
 /// A repository, the changes for its next commit, and a working copy once one was checked out. A contract sees it as these three.
 #[derive(Drop)]
 pub(crate) struct State {
-    alloc: Global,
-    repo: Repo,
+    pub(crate) alloc: Global,
+    pub(crate) repo: Repo,
     pending: Vec<Change>,
-    copy: Option<WorkingCopy>,
+    pub(crate) copy: Option<WorkingCopy>,
 }
 
 impl Model for State {
@@ -55,8 +56,8 @@ impl State {
         }
     }
 
-    fn commit(&mut self) -> Answer
-        ensures { Does Command.Commit self.old self.new result }
+    fn commit(&mut self, settings: Settings) -> Answer
+        ensures { Does settings Command.Commit self.old self.new result }
     {
         let committed = self.repo.commit(&self.pending);
         self.pending.clear();
@@ -66,40 +67,8 @@ impl State {
         }
     }
 
-    fn checkout(&mut self, rev: Rev) -> Answer
-        ensures { Does (Command.Checkout rev) self.old self.new result }
-    {
-        match WorkingCopy::checkout(self.alloc, &self.repo, rev) {
-            Ok(copy) => {
-                // its nodes stand in path order
-                copy.law(&self.repo);
-                self.copy = Some(copy);
-                Answer::Done
-            }
-            Err(fault) => Answer::Refused(Refusal::Copy(fault)),
-        }
-    }
-
-    fn update(&mut self, target: Rev) -> Answer
-        ensures { Does (Command.Update target) self.old self.new result }
-    {
-        let Some(copy) = &mut self.copy else {
-            return Answer::Refused(Refusal::NoCopy);
-        };
-        if !copy.plain(&self.repo) {
-            return Answer::Refused(Refusal::Untrue);
-        }
-        let updated = update_in_turn(self.alloc, &self.repo, copy, target, None);
-        // its nodes stand in path order
-        copy.law(&self.repo);
-        match updated {
-            Ok(outcome) => Answer::Ended(outcome),
-            Err(fault) => Answer::Refused(Refusal::Run(fault)),
-        }
-    }
-
-    fn show(&self) -> Answer
-        ensures { Does Command.Show self.now self.now result }
+    fn show(&self, settings: Settings) -> Answer
+        ensures { Does settings Command.Show self.now self.now result }
     {
         match &self.copy {
             Some(_) => Answer::Nodes,
@@ -107,23 +76,63 @@ impl State {
         }
     }
 
-    /// Does what a command says.
-    pub(crate) fn run(&mut self, command: Command) -> Answer
-        ensures { Does command self.old self.new result }
+    /// Does what a command says, its runs as the settings say.
+    pub(crate) fn run<T: Threads + Wait + Sync>(
+        &mut self,
+        rt: &T,
+        settings: Settings,
+        command: Command,
+    ) -> Answer
+        ensures { Does settings command self.old self.new result }
     {
         match command {
             Command::Nothing => Answer::Silent,
             Command::Change(change) => self.add_change(change),
-            Command::Commit => self.commit(),
-            Command::Checkout(rev) => self.checkout(rev),
-            Command::Update(rev) => self.update(rev),
-            Command::Show => self.show(),
+            Command::Commit => self.commit(settings),
+            Command::Checkout { rev, path } => self.checkout(&path, rev),
+            Command::Place { path, rev } => self.place(&path, rev),
+            Command::Switch {
+                path,
+                repos_path,
+                rev,
+            } => self.switch(&path, &repos_path, rev),
+            Command::Forget { path } => self.forget(&path),
+            Command::Report => self.report(),
+            Command::Drive { rev, late } => self.drive(rev, late),
+            Command::Update {
+                rev,
+                cancel_after,
+                late,
+            } => {
+                let wanted = Wanted {
+                    to: None,
+                    rev,
+                    cancel_after,
+                    late,
+                };
+                self.run_to(rt, settings, &wanted)
+            }
+            Command::SwitchTo {
+                repos_path,
+                rev,
+                cancel_after,
+                late,
+            } => {
+                let wanted = Wanted {
+                    to: Some(&repos_path),
+                    rev,
+                    cancel_after,
+                    late,
+                };
+                self.run_to(rt, settings, &wanted)
+            }
+            Command::Show => self.show(settings),
         }
     }
 
     /// Prints what a command had to say.
-    pub(crate) fn print<W: Write>(&self, answer: Answer, writer: &mut W) -> io::Result<()>
-        ensures { OnOk result (Appends (W.contents writer.old) (W.contents writer.new) (answer_text self.now.copy answer)) }
+    pub(crate) fn print<W: Write>(&self, answer: &Answer, writer: &mut W) -> io::Result<()>
+        ensures { OnOk result (Appends (W.contents writer.old) (W.contents writer.new) (answer_text self.now.copy answer.now)) }
     {
         let lines = AnswerLines {
             answer,

@@ -6,21 +6,16 @@ use Rattle.std.specs.Ordering.{eq_by_cmp}
 use Rattle.std.specs.List.{AllByRecursion, IsDistinct}
 use Rattle.std.proofs.lemmas.Map.Keys.{IsDistinct-from_sorted, sorted_tail}
 use Rattle.std.specs.Map.{keys_of}
-use Rattle.std.specs.BTreeMap.{is_at}
-use Rattle.std.specs.Cmp.Lexicographic.{texts_ties}
 use Rattle.std.proofs.lemmas.Slice.Eq.{bytes_eq-Decides}
 use Rattle.svn_types.specs.Names.{Path, name_cmp}
 use Rattle.svn_types.specs.Pairs.{InNameOrder, value_of}
-use Rattle.svn_wc.specs.declared.base_node.BaseNode.{BaseNode}
-use Rattle.svn_wc.specs.Nodes.{WorkingCopy}
+use Rattle.svn_model.specs.declared.base_node.BaseNode.{BaseNode}
+use Rattle.svn_model.specs.Nodes.{WorkingCopy}
 use Rattle.svn_wc.specs.Standing.{IsSwept, SameOutside, AreAmong}
-use Rattle.svn_wc.proofs.PathsBelow.{outside_child, above_child, other_child, same_name}
+use Rattle.svn_edit_law.proofs.PathsBelow.{at_name, outside_child, above_child, other_child, same_name}
 
--- the test by the order is the test of equal bytes
-pub at_name : (name x : List ℕ) → is_at (name_cmp name) x ≡ bytes_eq name x
-at_name name x = sym (texts_ties name x)
-
-pub value_of-cons : {V : Type 0} (e : List ℕ × V) (es : List (List ℕ × V)) (name : List ℕ) → value_of (e ∷ es) name ≡ cond (bytes_eq name e.0) (Some e.1) (value_of es name)
+pub value_of-cons : {V : Type 0} (e : List ℕ × V) (es : List (List ℕ × V)) (name : List ℕ)
+    → value_of (e ∷ es) name ≡ cond (bytes_eq name e.0) (Some e.1) (value_of es name)
 value_of-cons e es name = ap (λ b. cond b (Some e.1) (value_of es name)) (at_name name e.0)
 
 pub value_of-first : {V : Type 0} (e : List ℕ × V) (es : List (List ℕ × V)) → value_of (e ∷ es) e.0 ≡ Some e.1
@@ -34,7 +29,8 @@ other_name a b h = by (bytes_eq b a) refl
     by false e = refl
 
 -- a name before all others isn't among them
-absent : {V : Type 0} (name : List ℕ) (es : List (List ℕ × V)) → AllByRecursion (λ x. eq_by_cmp name_cmp name x ≡ false) (keys_of es) → value_of es name ≡ None
+absent : {V : Type 0} (name : List ℕ) (es : List (List ℕ × V)) → AllByRecursion (λ x. eq_by_cmp name_cmp name x ≡ false) (keys_of es)
+    → value_of es name ≡ None
 absent name [] h = refl
 absent name (e ∷ es) h = ap (λ b. cond b (Some e.1) (value_of es name)) h.0 ∙ absent name es h.1
 
@@ -57,7 +53,9 @@ module _ (V : Type 0) (e : List ℕ × V) (left : List (List ℕ × V)) (order :
           cc
       by false f = among name v (later name f ∙ h)
 
-  pub swept_on : (q : Path) (before after : List ℕ → Path → Option BaseNode → Type 0) (w0 w w' : WorkingCopy) → IsSwept q (e ∷ left) before after w0 w → ((r : Path) → after e.0 r (w' (q ++ e.0 ∷ r))) → SameOutside (q ++ e.0 ∷ []) w w' → IsSwept q left before after w0 w'
+  pub swept_on : (q : Path) (before after : List ℕ → Path → Option BaseNode → Type 0) (w0 w w' : WorkingCopy)
+      → IsSwept q (e ∷ left) before after w0 w → ((r : Path) → after e.0 r (w' (q ++ e.0 ∷ r))) → SameOutside (q ++ e.0 ∷ []) w w'
+      → IsSwept q left before after w0 w'
   swept_on q before after w0 w w' swept inside outside = record {
     order = sorted_tail name_cmp e.0 (keys_of left) order;
     here = outside q (above_child q e.0) ∙ swept.here;
@@ -69,14 +67,16 @@ module _ (V : Type 0) (e : List ℕ × V) (left : List (List ℕ × V)) (order :
       moved : (name : List ℕ) (r : Path) → bytes_eq e.0 name ≡ false → w' (q ++ name ∷ r) ≡ w (q ++ name ∷ r)
       moved name r f = outside (q ++ name ∷ r) (other_child q e.0 name r f)
 
-      waits : (name : List ℕ) → is_some (value_of left name) ≡ true → (r : Path) (b : Bool) → bytes_eq e.0 name ≡ b → before name r (w' (q ++ name ∷ r))
+      waits : (name : List ℕ) → is_some (value_of left name) ≡ true → (r : Path) (b : Bool) → bytes_eq e.0 name ≡ b
+          → before name r (w' (q ++ name ∷ r))
       waits name h r true t =
           let s : e.0 ≡ name = (bytes_eq-Decides e.0 name).0 t in
           let none : is_some (value_of left name) ≡ false = ap (λ x. is_some (value_of left x)) (sym s) ∙ ap is_some not_again in
           cc
       waits name h r false f = subst (before name r) (sym (moved name r f)) (swept.waiting name (ap is_some (later name f) ∙ h) r)
 
-      is_done : (name : List ℕ) → is_some (value_of left name) ≡ false → (r : Path) (b : Bool) → bytes_eq e.0 name ≡ b → after name r (w' (q ++ name ∷ r))
+      is_done : (name : List ℕ) → is_some (value_of left name) ≡ false → (r : Path) (b : Bool) → bytes_eq e.0 name ≡ b
+          → after name r (w' (q ++ name ∷ r))
       is_done name h r true t =
           let s : e.0 ≡ name = (bytes_eq-Decides e.0 name).0 t in
           subst (λ (x : List ℕ). after x r (w' (q ++ x ∷ r))) s (inside r)

@@ -2,14 +2,12 @@
 use Rattle.std.proofs.Common.{◌≡◌, ℕ, List, [], ◌∷◌, ◌++◌, refl, sym, ap, ◌∙◌, append_assoc, Option, Some, None}
 use Rattle.std.proofs.lemmas.List.{append-nil}
 use Rattle.std.specs.Option.{option_map, option_and_then}
-use Rattle.svn_types.specs.declared.kind.Kind.{Kind}
-use Rattle.svn_types.specs.declared.kind.Kind.TheVariants.{File, Directory}
 use Rattle.svn_types.specs.Names.{Path}
 use Rattle.svn_types.specs.Pairs.{value_of}
 use Rattle.svn_repo.specs.History.{History, NodeRow, node_at, walk, child_in}
-use Rattle.svn_repo.specs.Readings.{row_or_empty, entries_of, kind_of, text_of, props_of}
-use Rattle.svn_wc.specs.Nodes.{base_node, base_node_by}
-use Rattle.svn_wc.specs.Standing.{standing, standing_at, revised}
+use Rattle.svn_repo.specs.Readings.{row_or_empty, entries_of}
+use Rattle.svn_model.specs.Nodes.{base_node}
+use Rattle.svn_wc.specs.Standing.{standing, standing_at}
 
 child_by : (o : Option NodeRow) (name : List ℕ) → child_in o name ≡ value_of (row_or_empty o).entries name
 child_by None name = refl
@@ -23,22 +21,13 @@ pub standing-here : (h : History) (rev : ℕ) (q : Path) (n : ℕ) → standing 
 standing-here h rev q n = ap (λ p. Some (base_node h rev p n)) (append-nil q)
 
 -- below a name
-pub standing-below : (h : History) (rev : ℕ) (q : Path) (n : ℕ) (name : List ℕ) (r : Path) → standing h rev q n (name ∷ r) ≡ standing_at h rev q name (value_of (entries_of h n) name) r
+pub standing-below : (h : History) (rev : ℕ) (q : Path) (n : ℕ) (name : List ℕ) (r : Path)
+    → standing h rev q n (name ∷ r) ≡ standing_at h rev q name (value_of (entries_of h n) name) r
 standing-below h rev q n name r =
     ap (λ o. option_map (base_node h rev (q ++ name ∷ r)) (option_and_then (λ m. walk (node_at h) m r) o)) (child_value h n name)
     ∙ by (value_of (entries_of h n) name)
   where
-    by : (o : Option ℕ) → option_map (base_node h rev (q ++ name ∷ r)) (option_and_then (λ m. walk (node_at h) m r) o) ≡ standing_at h rev q name o r
+    by : (o : Option ℕ)
+        → option_map (base_node h rev (q ++ name ∷ r)) (option_and_then (λ m. walk (node_at h) m r) o) ≡ standing_at h rev q name o r
     by None = refl
     by (Some m) = ap (λ p. option_map (base_node h rev p) (walk (node_at h) m r)) (sym (append_assoc q (name ∷ []) r))
-
-revised-base : (k : Kind) (rev rev' : ℕ) (q : Path) (text : List ℕ) (props : List (List ℕ × List ℕ)) → revised rev (Some (base_node_by k rev' q text props)) ≡ Some (base_node_by k rev q text props)
-revised-base File rev rev' q text props = refl
-revised-base Directory rev rev' q text props = refl
-
-pub revised-standing : (h : History) (rev rev' : ℕ) (q : Path) (n : ℕ) (r : Path) → revised rev (standing h rev' q n r) ≡ standing h rev q n r
-revised-standing h rev rev' q n r = by (walk (node_at h) n r)
-  where
-    by : (o : Option ℕ) → revised rev (option_map (base_node h rev' (q ++ r)) o) ≡ option_map (base_node h rev (q ++ r)) o
-    by None = refl
-    by (Some m) = revised-base (kind_of h m) rev rev' (q ++ r) (text_of h m) (props_of h m)

@@ -1,7 +1,6 @@
-pub mod FaultNumbers
-pub mod Nodes
-pub mod Crawl
-pub mod Builders
-pub mod Effects
-pub mod Refusals
+pub mod Crawling
 pub mod Standing
+pub mod Taking
+pub mod Truths
+pub mod Gathered
+pub mod Building

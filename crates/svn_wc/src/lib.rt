@@ -1,13 +1,17 @@
 //! Working copies: what stands at each path, whether it is true of a repository, what it reports, and what an edit does to it.
 #![tactic(auto)]
 
-mod base_node;
-mod fault;
-mod fill;
-mod plain;
-mod walk;
+mod applier;
+mod building;
+mod crawl;
+mod forget;
+mod gather;
+mod listed;
+mod paths;
+mod replace;
+mod truth;
 mod working_copy;
 
-pub use base_node::BaseNode;
-pub use fault::WcFault;
+pub use applier::Applier;
+pub use svn_model::{BaseNode, WcFault};
 pub use working_copy::WorkingCopy;

@@ -3,33 +3,36 @@ ghost use Rattle.std.specs.Prelude.{◌≡◌, [], IfOk, IfErr, IsErr, None, is_
 ghost use Rattle.std.specs.Option.{option_copied};
 ghost use Rattle.svn_types.specs.Names.{Path};
 ghost use Rattle.svn_repo.specs.History.{look};
-ghost use Rattle.svn_wc.specs.Nodes.{get_in, InPathOrder, IsTrueOf, IsWorkingCopy};
-ghost use Rattle.svn_wc.specs.Builders.{checkout};
-ghost use Rattle.svn_wc.specs.Standing.{IsPlain};
+ghost use Rattle.svn_model.specs.Nodes.{get_in, InPathOrder, IsTrueOf, IsWorkingCopy};
+ghost use Rattle.svn_model.specs.Builders.{checkout};
 
-use crate::base_node::BaseNode;
-use crate::fault::WcFault;
-use crate::fill::fill;
 use std::alloc::Global;
 use std::collections::BTreeMap;
 use std::marker::Model;
+use svn_model::{BaseNode, WcFault};
 use svn_repo::Repo;
 use svn_types::{RelPath, Rev};
 
-/// What a client has of a repository: a node for each path that it knows. A contract sees it as the pairs of a path and its node, in path order.
+/// What a client has of a repository: a node for each path that it knows, the root's being a directory, and each other's below one. A contract
+/// sees it as the pairs of a path and its node, in path order.
 #[derive(Debug, Drop)]
 pub struct WorkingCopy {
+    pub(crate) alloc: Global,
     pub(crate) nodes: BTreeMap<RelPath, BaseNode>,
 }
 
 impl Model for WorkingCopy {
     ghost use Rattle.std.specs.Prelude.{ℕ, List};
     ghost use Rattle.svn_types.specs.Names.{Path};
-    ghost use Rattle.svn_wc.specs.declared.base_node.BaseNode.{BaseNode};
+    ghost use Rattle.svn_model.specs.declared.base_node.BaseNode.{BaseNode};
 
     ghost Value = { List (Path × BaseNode) };
 
     ghost view = { λ w. w.nodes.entries };
+
+    ghost use Rattle.svn_model.specs.Nodes.{get_in, IsWorkingCopy};
+
+    ghost invariant = { λ w. IsWorkingCopy (get_in w.nodes.entries) };
 }
 
 impl WorkingCopy {
@@ -37,30 +40,23 @@ impl WorkingCopy {
     /// no such revision, else Memory alone.
     pub fn checkout(alloc: Global, repo: &Repo, rev: Rev) -> Result<WorkingCopy, WcFault>
         ensures nodes { IfOk result (λ w. (p : Path) → get_in w p ≡ checkout repo.now [] rev p) }
-        ensures shape { IfOk result (λ w. IsWorkingCopy (get_in w)) }
         ensures truth { IfOk result (λ w. IsTrueOf repo.now (get_in w)) }
         ensures missing { look repo.now rev [] ≡ None → IsErr result }
         ensures fault { IfErr result (λ e. e ≡ (if is_some (look repo.now rev []) then WcFault.Memory else WcFault.NoSuchRevision)) }
     {
         repo.law();
         let root = RelPath::root(alloc);
-        let Some(id) = repo.lookup(rev, &root) else {
+        if repo.lookup(rev, &root).is_none() {
             return Err(WcFault::NoSuchRevision);
-        };
-        let mut nodes = BTreeMap::new(alloc);
-        let mut calls = 0;
-        fill(alloc, repo, rev, &root, id, &mut nodes, &mut calls)?;
-        Ok(WorkingCopy { nodes })
+        }
+        WorkingCopy::checkout_at(alloc, repo, &root, rev)
     }
 
-    /// It does nothing. Its contract says what holds of every copy: the nodes stand in path order; and of one that `plain` accepts: it has the
-    /// shape of a working copy, and each node is what the repository has there.
-    pub fn law(&self, repo: &Repo)
+    /// It does nothing. Its contract says what holds of every copy: the nodes stand in path order, and have the shape of a working copy.
+    pub fn law(&self)
         ensures order { InPathOrder self.now }
-        ensures shape { IsPlain repo.now (get_in self.now) → IsWorkingCopy (get_in self.now) }
-        ensures truth { IsPlain repo.now (get_in self.now) → IsTrueOf repo.now (get_in self.now) }
+        ensures shape { IsWorkingCopy (get_in self.now) }
     {
-        repo.law();
         // an iterator's contract has the order
         let _nodes = self.nodes.iter();
     }

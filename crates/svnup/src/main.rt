@@ -1,31 +1,69 @@
 //! `svnup`: runs a script of repository and working copy commands from standard input, and prints what it did.
 #![tactic(auto)]
 
-use std::io;
+use std::alloc::Global;
+use std::env::Env;
 use std::io::BufWriter;
 use std::process::ExitCode;
-use svn_update::{ScriptFault, Settings, run_script};
+use std::sync::Wait;
+use std::thread::Threads;
+use std::{env, io};
+use svn_update::{ScriptFault, Settings, WordsFault, read_words, run_script};
 
-// How many calls the queue between driver and working copy holds.
-const CAPACITY: usize = 64;
-
-fn run(rt: &(impl Input + Print + AllocGlobal)) -> Result<(), ScriptFault> {
-    let settings = Settings {
-        capacity: CAPACITY,
-        in_turn: false,
+// The words of the command line, the first of which is the program's name.
+fn words(rt: &(impl Env + AllocGlobal)) -> Result<Vec<String>, ScriptFault> {
+    let Ok(words) = env::args(rt) else {
+        return Err(ScriptFault::Read);
     };
+    match words.collect(rt.alloc()) {
+        Ok(words) => Ok(words),
+        Err(_) => Err(ScriptFault::Memory),
+    }
+}
+
+fn settings(alloc: Global, words: &[String]) -> Result<Settings, WordsFault> {
+    let mut texts = Vec::new(alloc);
+    for word in words {
+        if texts.push(word.as_str()).is_err() {
+            return Err(WordsFault::Memory);
+        }
+    }
+    read_words(alloc, &texts)
+}
+
+fn run<T: Input + Print + AllocGlobal + Threads + Wait + Sync>(
+    rt: &T,
+    settings: &Settings,
+) -> Result<(), ScriptFault> {
     let Ok(mut writer) = BufWriter::new(rt.alloc(), io::writer(rt)) else {
         return Err(ScriptFault::Memory);
     };
-    run_script(rt.alloc(), &mut rt.reader(), &mut writer, &settings)
+    run_script(rt, rt.alloc(), &mut rt.reader(), &mut writer, settings)
+}
+
+// Words, or the system that didn't hand them out, and then the script.
+fn run_with_words<T: Env + Input + Print + AllocGlobal + Threads + Wait + Sync>(
+    rt: &T,
+) -> Result<Result<(), ScriptFault>, WordsFault> {
+    let words = match words(rt) {
+        Ok(words) => words,
+        Err(fault) => return Ok(Err(fault)),
+    };
+    let settings = settings(rt.alloc(), &words)?;
+    Ok(run(rt, &settings))
 }
 
 fn main(rt: HostRuntime) -> ExitCode {
-    match run(&rt) {
-        Ok(()) => ExitCode::SUCCESS,
-        Err(fault) => {
-            // where standard error can't be written either, the status alone tells
+    // where standard error can't be written either, the status alone tells
+    match run_with_words(&rt) {
+        Ok(Ok(())) => ExitCode::SUCCESS,
+        Ok(Err(fault)) => {
             let _ = eprintln!(rt; "{fault}");
+            ExitCode::from(fault.status())
+        }
+        Err(fault) => {
+            // its text ends with a line feed
+            let _ = eprint!(rt; "{fault}");
             ExitCode::from(fault.status())
         }
     }

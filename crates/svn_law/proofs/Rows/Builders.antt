@@ -1,10 +1,10 @@
 -- Copies as they are made without a drive: trees put at a path, paths made not present, and what is refused.
 use Rattle.std.specs.Prelude.{◌≡◌, [], ◌∷◌, Some, None, refl}
-use Rattle.svn_wc.specs.declared.base_node.BaseNode.TheVariants.{NotPresent}
-use Rattle.svn_wc.specs.Nodes.{WorkingCopy, listed}
-use Rattle.svn_wc.specs.declared.fault.WcFault.TheVariants.{NoSuchRevision, Missing, NoParent, IsRoot, TooDeep, Twice, BadRoot}
-use Rattle.svn_wc.specs.Builders.{checkout, placed, forgotten}
-use Rattle.svn_wc.specs.Refusals.{checkout_fault, place_fault, switch_fault, forget_fault, nodes_fault}
+use Rattle.svn_model.specs.declared.base_node.BaseNode.TheVariants.{NotPresent}
+use Rattle.svn_model.specs.Nodes.{WorkingCopy, listed}
+use Rattle.svn_model.specs.declared.wc_fault.WcFault.TheVariants.{NoSuchRevision, Missing, NoParent, IsRoot, TooDeep, Twice, BadRoot}
+use Rattle.svn_model.specs.Builders.{checkout, placed, forgotten}
+use Rattle.svn_model.specs.Refusals.{checkout_fault, place_fault, switch_fault, forget_fault, nodes_fault}
 use Rattle.svn_law.proofs.Rows.Setting.{a, b, d, e, f, g, s, t, x, y, deep, abc, at, at2, whole, plain}
 use Rattle.svn_law.proofs.Rows.Plain.{k, k_copy, k_paths, one_file, one_paths, without_x}
 use Rattle.svn_law.proofs.Rows.Mixed.{mixed, mixed_paths}
@@ -22,17 +22,20 @@ no_revision : listed k_paths (checkout k [] 3) ≡ []
 no_revision = refl
 
 -- a file at an older revision
-older_file : listed mixed_paths mixed ≡ ([], whole 3 []) ∷ (at d, whole 3 (at d)) ∷ (at2 d x, plain 1 (at2 d x) a) ∷ (at y, plain 3 (at y) a) ∷ []
+older_file : listed mixed_paths mixed ≡ ([], whole 3 []) ∷ (at d, whole 3 (at d)) ∷ (at2 d x, plain 1 (at2 d x) a)
+    ∷ (at y, plain 3 (at y) a) ∷ []
 older_file = refl
 
 -- a directory switched to another: what stood below it is gone
 switched_directory : listed two_paths a_at_b
-    ≡ ([], whole 1 []) ∷ (at a, whole 1 (at b)) ∷ (at2 a y, plain 1 (at2 b y) a) ∷ (at b, whole 1 (at b)) ∷ (at2 b y, plain 1 (at2 b y) a) ∷ []
+    ≡ ([], whole 1 []) ∷ (at a, whole 1 (at b)) ∷ (at2 a y, plain 1 (at2 b y) a) ∷ (at b, whole 1 (at b)) ∷ (at2 b y, plain 1 (at2 b y) a)
+    ∷ []
 switched_directory = refl
 
 -- in a switched directory a tree is put from the parent's repository path
 below_switched : listed two_paths (placed two a_at_b (at2 a y) (at2 b y) 2)
-    ≡ ([], whole 1 []) ∷ (at a, whole 1 (at b)) ∷ (at2 a y, plain 2 (at2 b y) abc) ∷ (at b, whole 1 (at b)) ∷ (at2 b y, plain 1 (at2 b y) a) ∷ []
+    ≡ ([], whole 1 []) ∷ (at a, whole 1 (at b)) ∷ (at2 a y, plain 2 (at2 b y) abc) ∷ (at b, whole 1 (at b)) ∷ (at2 b y, plain 1 (at2 b y) a)
+    ∷ []
 below_switched = refl
 
 -- and the directory put back
@@ -40,7 +43,8 @@ switched_back : listed two_paths (placed two a_at_b (at a) (at a) 1) ≡ listed 
 switched_back = refl
 
 switched_below : listed renewed_paths s_at_b
-    ≡ ([], whole 1 []) ∷ (at b, whole 1 (at b)) ∷ (at2 b y, plain 1 (at2 b y) a) ∷ (at d, whole 1 (at d)) ∷ (at2 d s, whole 1 (at b)) ∷ (d ∷ s ∷ y ∷ [], plain 1 (at2 b y) a) ∷ []
+    ≡ ([], whole 1 []) ∷ (at b, whole 1 (at b)) ∷ (at2 b y, plain 1 (at2 b y) a) ∷ (at d, whole 1 (at d)) ∷ (at2 d s, whole 1 (at b))
+    ∷ (d ∷ s ∷ y ∷ [], plain 1 (at2 b y) a) ∷ []
 switched_below = refl
 
 switched_to_root : listed outer_paths a_at_root

@@ -36,7 +36,8 @@ first_file = refl
 changed_file : standing k ([] ∷ at f ∷ []) (PutFile (at f) a ∷ []) ≡ made_dir 0 ∷ made_file 1 a ∷ []
 changed_file = refl
 
-other_file : standing k ([] ∷ at f ∷ at g ∷ []) (PutFile (at g) a ∷ []) ≡ made_dir 0 ∷ Some (record { number = Some 4; line = 1; kind = File; text = abc; props = [] }) ∷ made_file 5 a ∷ []
+other_file : standing k ([] ∷ at f ∷ at g ∷ []) (PutFile (at g) a ∷ []) ≡ made_dir 0
+    ∷ Some (record { number = Some 4; line = 1; kind = File; text = abc; props = [] }) ∷ made_file 5 a ∷ []
 other_file = refl
 
 nothing_changed : standing k ([] ∷ []) [] ≡ Some (record { number = Some 3; line = 0; kind = Directory; text = []; props = [] }) ∷ []
@@ -49,7 +50,8 @@ removed = refl
 replaced : standing k (at f ∷ []) (Remove (at f) ∷ PutFile (at f) abc ∷ []) ≡ made_file 5 abc ∷ []
 replaced = refl
 
-replaced_by_directory : standing k (at f ∷ at2 f x ∷ []) (Remove (at f) ∷ MakeDir (at f) ∷ PutFile (at2 f x) a ∷ []) ≡ made_dir 5 ∷ made_file 6 a ∷ []
+replaced_by_directory : standing k (at f ∷ at2 f x ∷ []) (Remove (at f) ∷ MakeDir (at f) ∷ PutFile (at2 f x) a ∷ []) ≡ made_dir 5
+    ∷ made_file 6 a ∷ []
 replaced_by_directory = refl
 
 -- a line that was given in a commit isn't given again in it
@@ -58,7 +60,8 @@ line_used_up = refl
 
 -- a copy is the node that it was copied from, also of an older revision
 copied : standing k (at f ∷ at g ∷ []) (CopyFrom 1 (at f) (at g) ∷ [])
-    ≡ Some (record { number = Some 4; line = 1; kind = File; text = abc; props = [] }) ∷ Some (record { number = Some 2; line = 1; kind = File; text = a; props = [] }) ∷ []
+    ≡ Some (record { number = Some 4; line = 1; kind = File; text = abc; props = [] })
+    ∷ Some (record { number = Some 2; line = 1; kind = File; text = a; props = [] }) ∷ []
 copied = refl
 
 -- a copy that is changed keeps the line
@@ -76,7 +79,8 @@ copied_inside : standing inner (at d ∷ at2 d x ∷ at2 d g ∷ (d ∷ g ∷ x 
 copied_inside = refl
 
 -- properties in byte order; one that is set again, and one that is removed without being set
-property_set : standing k (at f ∷ []) (SetProp (at f) b (Some (49 ∷ [])) ∷ SetProp (at f) a (Some (50 ∷ [])) ∷ SetProp (at f) b (Some (51 ∷ [])) ∷ SetProp (at f) s None ∷ [])
+property_set : standing k (at f ∷ [])
+    (SetProp (at f) b (Some (49 ∷ [])) ∷ SetProp (at f) a (Some (50 ∷ [])) ∷ SetProp (at f) b (Some (51 ∷ [])) ∷ SetProp (at f) s None ∷ [])
     ≡ Some (record { number = None; line = 1; kind = File; text = abc; props = (a, 50 ∷ []) ∷ (b, 51 ∷ []) ∷ [] }) ∷ []
 property_set = refl
 

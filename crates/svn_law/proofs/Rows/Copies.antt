@@ -8,9 +8,10 @@ use Rattle.std.proofs.lemmas.Map.Keys.{sorted_head}
 use Rattle.svn_types.specs.Names.{path_cmp}
 use Rattle.svn_types.specs.declared.kind.Kind.TheVariants.{File, Directory}
 use Rattle.svn_repo.specs.Readings.{entries_of, kind_of, text_of}
-use Rattle.svn_wc.specs.declared.base_node.BaseNode.TheVariants.{NotPresent}
-use Rattle.svn_wc.specs.Nodes.{get_in, InPathOrder, IsWorkingCopy, HasEntries, IsTrueAt}
+use Rattle.svn_model.specs.declared.base_node.BaseNode.TheVariants.{NotPresent}
+use Rattle.svn_model.specs.Nodes.{get_in, InPathOrder, IsWorkingCopy, HasEntries, IsTrueAt}
 use Rattle.svn_law.proofs.Rows.Setting.{a, b, f, g, deep, abc, at, at2, whole, partial, plain}
+use Rattle.svn_model.specs.Truth.{first_untrue}
 use Rattle.svn_law.proofs.Rows.Plain.{k}
 
 -- ---- the shape
@@ -41,14 +42,17 @@ too_deep c = true≢false (le-ltb 64 65 (c.repos_paths (at f) refl))
 
 -- the root alone, complete: the file has no entry
 entry_missing : IsTrueAt k (get_in (([], whole 1 []) ∷ [])) [] → ⊥
-entry_missing t = (subst (λ n. HasEntries (get_in (([], whole 1 []) ∷ [])) [] (keys_of (entries_of k n))) (sym (inside t.1)) (t.2.has_entries refl)).0 refl
+entry_missing t =
+    (subst (λ n. HasEntries (get_in (([], whole 1 []) ∷ [])) [] (keys_of (entries_of k n))) (sym (inside t.1)) (t.2.has_entries refl)).0
+    refl
   where
     inside : Some 1 ≡ Some t.0 → 1 ≡ t.0
     inside q = cc
 
 -- incomplete it needs none
 incomplete_root : IsTrueAt k (get_in (([], partial 1 []) ∷ [])) []
-incomplete_root = (1, refl, record { kind = refl; same_props = λ e. absurd (true≢false (sym e)); has_entries = λ e. absurd (true≢false (sym e)) })
+incomplete_root =
+    (1, refl, record { kind = refl; same_props = λ e. absurd (true≢false (sym e)); has_entries = λ e. absurd (true≢false (sym e)) })
 
 -- and an entry that isn't present is one
 not_present_entry : IsTrueAt k (get_in (([], whole 1 []) ∷ (at f, NotPresent) ∷ [])) []
@@ -91,3 +95,22 @@ no_such_revision t = none t.1
   where
     none : None ≡ Some t.0 → ⊥
     none q = cc
+
+-- the first path that isn't true; a missing entry is told at the directory
+true_copy : first_untrue k (([], whole 1 []) ∷ (at f, plain 1 (at f) a) ∷ []) ≡ None
+true_copy = refl
+
+text_told : first_untrue k (([], whole 1 []) ∷ (at f, plain 1 (at f) abc) ∷ []) ≡ Some (at f)
+text_told = refl
+
+kind_told : first_untrue k (([], whole 1 []) ∷ (at f, whole 1 (at f)) ∷ []) ≡ Some (at f)
+kind_told = refl
+
+missing_entry_told : first_untrue k (([], whole 1 []) ∷ []) ≡ Some []
+missing_entry_told = refl
+
+incomplete_passes : first_untrue k (([], partial 1 []) ∷ []) ≡ None
+incomplete_passes = refl
+
+absent_entry_passes : first_untrue k (([], whole 1 []) ∷ (at f, NotPresent) ∷ []) ≡ None
+absent_entry_passes = refl

@@ -2,20 +2,23 @@
 use Rattle.std.specs.Prelude.{◌≡◌, true, false, List, [], ◌∷◌, Some, None, refl}
 use Rattle.svn_types.specs.Names.{Path}
 use Rattle.svn_repo.specs.History.{History}
-use Rattle.svn_delta.specs.declared.entry.ReportEntry.TheVariants.{SetPath}
-use Rattle.svn_delta.specs.Steps.{Update}
-use Rattle.svn_delta.specs.declared.call.Call.TheVariants.{SetTargetRevision, OpenRoot, OpenDirectory, ChangeDirProp, CloseDirectory, OpenFile, ApplyText, CloseFile, CloseEdit}
-use Rattle.svn_wc.specs.declared.base_node.BaseNode.TheVariants.{Dir as DirNode}
-use Rattle.svn_wc.specs.Nodes.{WorkingCopy, listed}
-use Rattle.svn_wc.specs.Crawl.{crawl}
-use Rattle.svn_wc.specs.Builders.{checkout, placed}
-use Rattle.svn_wc.specs.Effects.{after}
+use Rattle.svn_report.specs.declared.entry.ReportEntry.TheVariants.{SetPath}
+use Rattle.svn_editor.specs.Steps.{Update}
+use Rattle.svn_editor.specs.declared.call.Call.TheVariants.{SetTargetRevision, OpenRoot, OpenDirectory, ChangeDirProp, CloseDirectory}
+use Rattle.svn_editor.specs.declared.call.Call.TheVariants.{OpenFile, ApplyText, CloseFile, CloseEdit}
+use Rattle.svn_model.specs.declared.base_node.BaseNode.TheVariants.{Dir as DirNode}
+use Rattle.svn_model.specs.Nodes.{WorkingCopy, listed}
+use Rattle.svn_model.specs.Crawl.{crawl}
+use Rattle.svn_model.specs.Builders.{checkout, placed}
+use Rattle.svn_model.specs.Effects.{after}
 use Rattle.svn_law.proofs.Rows.Setting.{history_of, a, d, f, x, y, abc, at, at2, dir, dir_with, file, drive, stopped, whole, partial, plain}
 use Rattle.svn_law.proofs.Rows.Plain.{k, k_paths, k_copy, k_calls}
 
 -- a file of an older revision
 abbrev pub grown : History
-grown = history_of (0 ∷ 1 ∷ 4 ∷ 7 ∷ 9 ∷ []) (dir 0 [] ∷ dir 0 ((d, 2) ∷ []) ∷ dir 1 ((x, 3) ∷ []) ∷ file 2 a ∷ dir 0 ((d, 5) ∷ []) ∷ dir 1 ((x, 6) ∷ []) ∷ file 2 abc
+grown =
+    history_of (0 ∷ 1 ∷ 4 ∷ 7 ∷ 9 ∷ [])
+    (dir 0 [] ∷ dir 0 ((d, 2) ∷ []) ∷ dir 1 ((x, 3) ∷ []) ∷ file 2 a ∷ dir 0 ((d, 5) ∷ []) ∷ dir 1 ((x, 6) ∷ []) ∷ file 2 abc
     ∷ dir 0 ((d, 5) ∷ (y, 8) ∷ []) ∷ file 3 a ∷ dir 0 ((d, 5) ∷ (y, 10) ∷ []) ∷ file 3 abc ∷ [])
 
 abbrev pub mixed : WorkingCopy
@@ -28,7 +31,8 @@ mixed_report : (crawl (listed mixed_paths mixed)).entries ≡ ([], SetPath 3 fal
 mixed_report = refl
 
 mixed_drive : drive false Update grown mixed_paths mixed 4
-    ≡ SetTargetRevision 4 ∷ OpenRoot 3 0 ∷ OpenDirectory (at d) 0 3 1 ∷ OpenFile (at2 d x) 1 1 2 ∷ ApplyText 2 (Some a) abc ∷ CloseFile 2 (Some abc) ∷ CloseDirectory 1
+    ≡ SetTargetRevision 4 ∷ OpenRoot 3 0 ∷ OpenDirectory (at d) 0 3 1 ∷ OpenFile (at2 d x) 1 1 2 ∷ ApplyText 2 (Some a) abc
+    ∷ CloseFile 2 (Some abc) ∷ CloseDirectory 1
     ∷ OpenFile (at y) 0 3 3 ∷ ApplyText 3 (Some a) abc ∷ CloseFile 3 (Some abc) ∷ CloseDirectory 0 ∷ CloseEdit ∷ []
 mixed_drive = refl
 
@@ -47,15 +51,20 @@ stopped_report : (crawl (listed k_paths k_stopped)).entries ≡ ([], SetPath 2 t
 stopped_report = refl
 
 resumed_drive : drive false Update k k_paths k_stopped 2
-    ≡ SetTargetRevision 2 ∷ OpenRoot 2 0 ∷ OpenFile (at f) 0 1 1 ∷ ApplyText 1 (Some a) abc ∷ CloseFile 1 (Some abc) ∷ CloseDirectory 0 ∷ CloseEdit ∷ []
+    ≡ SetTargetRevision 2 ∷ OpenRoot 2 0 ∷ OpenFile (at f) 0 1 1 ∷ ApplyText 1 (Some a) abc ∷ CloseFile 1 (Some abc) ∷ CloseDirectory 0
+    ∷ CloseEdit ∷ []
 resumed_drive = refl
 
-resumed_after : listed k_paths (after Update k_stopped (drive false Update k k_paths k_stopped 2)) ≡ ([], whole 2 []) ∷ (at f, plain 2 (at f) abc) ∷ []
+resumed_after : listed k_paths (after Update k_stopped (drive false Update k k_paths k_stopped 2)) ≡ ([], whole 2 [])
+    ∷ (at f, plain 2 (at f) abc) ∷ []
 resumed_after = refl
 
 -- a directory with a property, stopped between its changes and its close
 abbrev prop_moved : History
-prop_moved = history_of (0 ∷ 1 ∷ 3 ∷ []) (dir 0 [] ∷ dir 0 ((d, 2) ∷ []) ∷ dir_with 1 ((112 ∷ [], 49 ∷ []) ∷ []) ∷ dir 0 ((d, 4) ∷ []) ∷ dir_with 1 ((113 ∷ [], 50 ∷ []) ∷ []) ∷ [])
+prop_moved =
+    history_of (0 ∷ 1 ∷ 3 ∷ [])
+    (dir 0 [] ∷ dir 0 ((d, 2) ∷ []) ∷ dir_with 1 ((112 ∷ [], 49 ∷ []) ∷ []) ∷ dir 0 ((d, 4) ∷ []) ∷ dir_with 1 ((113 ∷ [], 50 ∷ []) ∷ [])
+    ∷ [])
 
 abbrev prop_paths : List Path
 prop_paths = [] ∷ at d ∷ []
@@ -64,7 +73,8 @@ abbrev prop_stopped : WorkingCopy
 prop_stopped = stopped Update (checkout prop_moved [] 1) 5 (drive false Update prop_moved prop_paths (checkout prop_moved [] 1) 2)
 
 prop_drive : drive false Update prop_moved prop_paths (checkout prop_moved [] 1) 2
-    ≡ SetTargetRevision 2 ∷ OpenRoot 1 0 ∷ OpenDirectory (at d) 0 1 1 ∷ ChangeDirProp 1 (112 ∷ []) None ∷ ChangeDirProp 1 (113 ∷ []) (Some (50 ∷ [])) ∷ CloseDirectory 1
+    ≡ SetTargetRevision 2 ∷ OpenRoot 1 0 ∷ OpenDirectory (at d) 0 1 1 ∷ ChangeDirProp 1 (112 ∷ []) None
+    ∷ ChangeDirProp 1 (113 ∷ []) (Some (50 ∷ [])) ∷ CloseDirectory 1
     ∷ CloseDirectory 0 ∷ CloseEdit ∷ []
 prop_drive = refl
 
@@ -75,7 +85,8 @@ prop_report : (crawl (listed prop_paths prop_stopped)).entries ≡ ([], SetPath 
 prop_report = refl
 
 prop_resumed : drive false Update prop_moved prop_paths prop_stopped 2
-    ≡ SetTargetRevision 2 ∷ OpenRoot 2 0 ∷ OpenDirectory (at d) 0 2 1 ∷ ChangeDirProp 1 (113 ∷ []) (Some (50 ∷ [])) ∷ CloseDirectory 1 ∷ CloseDirectory 0 ∷ CloseEdit ∷ []
+    ≡ SetTargetRevision 2 ∷ OpenRoot 2 0 ∷ OpenDirectory (at d) 0 2 1 ∷ ChangeDirProp 1 (113 ∷ []) (Some (50 ∷ [])) ∷ CloseDirectory 1
+    ∷ CloseDirectory 0 ∷ CloseEdit ∷ []
 prop_resumed = refl
 
 prop_after : listed prop_paths (after Update prop_stopped (drive false Update prop_moved prop_paths prop_stopped 2))

@@ -2,15 +2,17 @@
 use Rattle.std.specs.Prelude.{◌≡◌, true, false, List, [], ◌∷◌, Some, None, refl}
 use Rattle.svn_types.specs.Names.{Path}
 use Rattle.svn_repo.specs.History.{History}
-use Rattle.svn_delta.specs.declared.entry.ReportEntry.TheVariants.{SetPath, DeletePath}
-use Rattle.svn_delta.specs.Steps.{Update}
-use Rattle.svn_delta.specs.declared.call.Call.{Call}
-use Rattle.svn_delta.specs.declared.call.Call.TheVariants.{SetTargetRevision, OpenRoot, DeleteEntry, AddDirectory, OpenDirectory, ChangeDirProp, CloseDirectory, AddFile, OpenFile, ApplyText, CloseFile, CloseEdit}
-use Rattle.svn_wc.specs.declared.base_node.BaseNode.TheVariants.{Dir as DirNode}
-use Rattle.svn_wc.specs.Nodes.{WorkingCopy, listed}
-use Rattle.svn_wc.specs.Crawl.{crawl}
-use Rattle.svn_wc.specs.Builders.{checkout, forgotten}
-use Rattle.svn_wc.specs.Effects.{after}
+use Rattle.svn_report.specs.declared.entry.ReportEntry.TheVariants.{SetPath, DeletePath}
+use Rattle.svn_editor.specs.Steps.{Update}
+use Rattle.svn_editor.specs.declared.call.Call.{Call}
+use Rattle.svn_editor.specs.declared.call.Call.TheVariants.{SetTargetRevision, OpenRoot, DeleteEntry, AddDirectory, OpenDirectory}
+use Rattle.svn_editor.specs.declared.call.Call.TheVariants.{ChangeDirProp, CloseDirectory, AddFile, OpenFile, ApplyText, CloseFile}
+use Rattle.svn_editor.specs.declared.call.Call.TheVariants.{CloseEdit}
+use Rattle.svn_model.specs.declared.base_node.BaseNode.TheVariants.{Dir as DirNode}
+use Rattle.svn_model.specs.Nodes.{WorkingCopy, listed}
+use Rattle.svn_model.specs.Crawl.{crawl}
+use Rattle.svn_model.specs.Builders.{checkout, forgotten}
+use Rattle.svn_model.specs.Effects.{after}
 use Rattle.svn_law.proofs.Rows.Setting.{history_of, a, b, c, d, e, f, x, abc, at, at2, dir, dir_with, file, drive, refused, whole, plain}
 
 -- a file whose text changes
@@ -24,12 +26,14 @@ abbrev pub k_copy : WorkingCopy
 k_copy = checkout k [] 1
 
 abbrev pub k_calls : List Call
-k_calls = SetTargetRevision 2 ∷ OpenRoot 1 0 ∷ OpenFile (at f) 0 1 1 ∷ ApplyText 1 (Some a) abc ∷ CloseFile 1 (Some abc) ∷ CloseDirectory 0 ∷ CloseEdit ∷ []
+k_calls =
+    SetTargetRevision 2 ∷ OpenRoot 1 0 ∷ OpenFile (at f) 0 1 1 ∷ ApplyText 1 (Some a) abc ∷ CloseFile 1 (Some abc) ∷ CloseDirectory 0
+    ∷ CloseEdit ∷ []
 
 text_drive : drive false Update k k_paths k_copy 2 ≡ k_calls
 text_drive = refl
 
-text_accepted : refused Update k_copy k_calls ≡ []
+text_accepted : refused Update k_paths k_copy k_calls ≡ []
 text_accepted = refl
 
 text_after : listed k_paths (after Update k_copy k_calls) ≡ ([], whole 2 []) ∷ (at f, plain 2 (at f) abc) ∷ []
@@ -43,11 +47,13 @@ abbrev nested_paths : List Path
 nested_paths = [] ∷ at d ∷ at2 d e ∷ (d ∷ e ∷ x ∷ []) ∷ []
 
 nested_added : drive false Update nested nested_paths (checkout nested [] 0) 1
-    ≡ SetTargetRevision 1 ∷ OpenRoot 0 0 ∷ AddDirectory (at d) 0 1 ∷ AddDirectory (at2 d e) 1 2 ∷ AddFile (d ∷ e ∷ x ∷ []) 2 3 ∷ ApplyText 3 None a ∷ CloseFile 3 (Some a)
+    ≡ SetTargetRevision 1 ∷ OpenRoot 0 0 ∷ AddDirectory (at d) 0 1 ∷ AddDirectory (at2 d e) 1 2 ∷ AddFile (d ∷ e ∷ x ∷ []) 2 3
+    ∷ ApplyText 3 None a ∷ CloseFile 3 (Some a)
     ∷ CloseDirectory 2 ∷ CloseDirectory 1 ∷ CloseDirectory 0 ∷ CloseEdit ∷ []
 nested_added = refl
 
-nested_added_after : listed nested_paths (after Update (checkout nested [] 0) (drive false Update nested nested_paths (checkout nested [] 0) 1))
+nested_added_after : listed nested_paths
+    (after Update (checkout nested [] 0) (drive false Update nested nested_paths (checkout nested [] 0) 1))
     ≡ ([], whole 1 []) ∷ (at d, whole 1 (at d)) ∷ (at2 d e, whole 1 (at2 d e)) ∷ (d ∷ e ∷ x ∷ [], plain 1 (d ∷ e ∷ x ∷ []) a) ∷ []
 nested_added_after = refl
 
@@ -55,7 +61,9 @@ nested_gone : drive false Update nested nested_paths (checkout nested [] 1) 0
     ≡ SetTargetRevision 0 ∷ OpenRoot 1 0 ∷ DeleteEntry (at d) 1 0 ∷ CloseDirectory 0 ∷ CloseEdit ∷ []
 nested_gone = refl
 
-nested_gone_after : listed nested_paths (after Update (checkout nested [] 1) (drive false Update nested nested_paths (checkout nested [] 1) 0)) ≡ ([], whole 0 []) ∷ []
+nested_gone_after : listed nested_paths
+    (after Update (checkout nested [] 1) (drive false Update nested nested_paths (checkout nested [] 1) 0))
+    ≡ ([], whole 0 []) ∷ []
 nested_gone_after = refl
 
 -- properties removed, changed and set
@@ -64,11 +72,13 @@ with_props = history_of (0 ∷ 1 ∷ 3 ∷ []) (dir 0 [] ∷ dir 0 ((d, 2) ∷ [
     ∷ dir 0 ((d, 4) ∷ []) ∷ dir_with 1 ((b, 57 ∷ []) ∷ (c, 51 ∷ []) ∷ (d, 52 ∷ []) ∷ []) ∷ [])
 
 props_drive : drive false Update with_props ([] ∷ at d ∷ []) (checkout with_props [] 1) 2
-    ≡ SetTargetRevision 2 ∷ OpenRoot 1 0 ∷ OpenDirectory (at d) 0 1 1 ∷ ChangeDirProp 1 a None ∷ ChangeDirProp 1 b (Some (57 ∷ [])) ∷ ChangeDirProp 1 d (Some (52 ∷ []))
+    ≡ SetTargetRevision 2 ∷ OpenRoot 1 0 ∷ OpenDirectory (at d) 0 1 1 ∷ ChangeDirProp 1 a None ∷ ChangeDirProp 1 b (Some (57 ∷ []))
+    ∷ ChangeDirProp 1 d (Some (52 ∷ []))
     ∷ CloseDirectory 1 ∷ CloseDirectory 0 ∷ CloseEdit ∷ []
 props_drive = refl
 
-props_after : listed ([] ∷ at d ∷ []) (after Update (checkout with_props [] 1) (drive false Update with_props ([] ∷ at d ∷ []) (checkout with_props [] 1) 2))
+props_after : listed ([] ∷ at d ∷ [])
+    (after Update (checkout with_props [] 1) (drive false Update with_props ([] ∷ at d ∷ []) (checkout with_props [] 1) 2))
     ≡ ([], whole 2 []) ∷ (at d, DirNode 2 (at d) true ((b, 57 ∷ []) ∷ (c, 51 ∷ []) ∷ (d, 52 ∷ []) ∷ [])) ∷ []
 props_after = refl
 
@@ -86,7 +96,8 @@ forgotten_report : (crawl (listed one_paths without_x)).entries ≡ ([], SetPath
 forgotten_report = refl
 
 forgotten_drive : drive false Update one_file one_paths without_x 1
-    ≡ SetTargetRevision 1 ∷ OpenRoot 1 0 ∷ OpenDirectory (at d) 0 1 1 ∷ AddFile (at2 d x) 1 2 ∷ ApplyText 2 None abc ∷ CloseFile 2 (Some abc) ∷ CloseDirectory 1
+    ≡ SetTargetRevision 1 ∷ OpenRoot 1 0 ∷ OpenDirectory (at d) 0 1 1 ∷ AddFile (at2 d x) 1 2 ∷ ApplyText 2 None abc
+    ∷ CloseFile 2 (Some abc) ∷ CloseDirectory 1
     ∷ CloseDirectory 0 ∷ CloseEdit ∷ []
 forgotten_drive = refl
 
@@ -99,22 +110,29 @@ abbrev replaced : History
 replaced = history_of (0 ∷ 1 ∷ 3 ∷ []) (dir 0 [] ∷ dir 0 ((f, 2) ∷ []) ∷ file 1 a ∷ dir 0 ((f, 4) ∷ []) ∷ dir 2 [] ∷ [])
 
 replaced_drive : drive false Update replaced k_paths (checkout replaced [] 1) 2
-    ≡ SetTargetRevision 2 ∷ OpenRoot 1 0 ∷ DeleteEntry (at f) 1 0 ∷ AddDirectory (at f) 0 1 ∷ CloseDirectory 1 ∷ CloseDirectory 0 ∷ CloseEdit ∷ []
+    ≡ SetTargetRevision 2 ∷ OpenRoot 1 0 ∷ DeleteEntry (at f) 1 0 ∷ AddDirectory (at f) 0 1 ∷ CloseDirectory 1 ∷ CloseDirectory 0
+    ∷ CloseEdit ∷ []
 replaced_drive = refl
 
-replaced_after : listed k_paths (after Update (checkout replaced [] 1) (drive false Update replaced k_paths (checkout replaced [] 1) 2)) ≡ ([], whole 2 []) ∷ (at f, whole 2 (at f)) ∷ []
+replaced_after : listed k_paths (after Update (checkout replaced [] 1) (drive false Update replaced k_paths (checkout replaced [] 1) 2))
+    ≡ ([], whole 2 [])
+    ∷ (at f, whole 2 (at f)) ∷ []
 replaced_after = refl
 
 -- nothing to do, after the update of the first file
-again_drive : drive false Update k k_paths (after Update k_copy k_calls) 2 ≡ SetTargetRevision 2 ∷ OpenRoot 2 0 ∷ CloseDirectory 0 ∷ CloseEdit ∷ []
+again_drive : drive false Update k k_paths (after Update k_copy k_calls) 2 ≡ SetTargetRevision 2 ∷ OpenRoot 2 0 ∷ CloseDirectory 0
+    ∷ CloseEdit ∷ []
 again_drive = refl
 
 -- a directory removed and copied back in one commit, with a changed file: of its own line, so kept
 abbrev copied : History
-copied = history_of (0 ∷ 1 ∷ 4 ∷ []) (dir 0 [] ∷ dir 0 ((d, 2) ∷ []) ∷ dir 1 ((x, 3) ∷ []) ∷ file 2 a ∷ dir 0 ((d, 5) ∷ []) ∷ dir 1 ((x, 6) ∷ []) ∷ file 2 abc ∷ [])
+copied =
+    history_of (0 ∷ 1 ∷ 4 ∷ [])
+    (dir 0 [] ∷ dir 0 ((d, 2) ∷ []) ∷ dir 1 ((x, 3) ∷ []) ∷ file 2 a ∷ dir 0 ((d, 5) ∷ []) ∷ dir 1 ((x, 6) ∷ []) ∷ file 2 abc ∷ [])
 
 copied_drive : drive false Update copied one_paths (checkout copied [] 1) 2
-    ≡ SetTargetRevision 2 ∷ OpenRoot 1 0 ∷ OpenDirectory (at d) 0 1 1 ∷ OpenFile (at2 d x) 1 1 2 ∷ ApplyText 2 (Some a) abc ∷ CloseFile 2 (Some abc) ∷ CloseDirectory 1
+    ≡ SetTargetRevision 2 ∷ OpenRoot 1 0 ∷ OpenDirectory (at d) 0 1 1 ∷ OpenFile (at2 d x) 1 1 2 ∷ ApplyText 2 (Some a) abc
+    ∷ CloseFile 2 (Some abc) ∷ CloseDirectory 1
     ∷ CloseDirectory 0 ∷ CloseEdit ∷ []
 copied_drive = refl
 
@@ -127,7 +145,9 @@ abbrev pub empty : History
 empty = history_of (0 ∷ 1 ∷ []) (dir 0 [] ∷ dir 0 ((f, 2) ∷ []) ∷ file 1 [] ∷ [])
 
 abbrev pub empty_added : List Call
-empty_added = SetTargetRevision 1 ∷ OpenRoot 0 0 ∷ AddFile (at f) 0 1 ∷ ApplyText 1 None [] ∷ CloseFile 1 (Some []) ∷ CloseDirectory 0 ∷ CloseEdit ∷ []
+empty_added =
+    SetTargetRevision 1 ∷ OpenRoot 0 0 ∷ AddFile (at f) 0 1 ∷ ApplyText 1 None [] ∷ CloseFile 1 (Some []) ∷ CloseDirectory 0 ∷ CloseEdit
+    ∷ []
 
 empty_drive : drive false Update empty k_paths (checkout empty [] 0) 1 ≡ empty_added
 empty_drive = refl

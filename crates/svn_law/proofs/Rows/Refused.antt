@@ -1,25 +1,28 @@
 -- Calls that a copy refuses, calls whose later ones count, and the calls of an update with one left out or given twice.
 use Rattle.std.specs.Prelude.{◌≡◌, ℕ, List, [], ◌∷◌, ◌++◌, Option, Some, None, refl}
-use Rattle.svn_delta.specs.declared.call.Call.{Call}
-use Rattle.svn_delta.specs.declared.call.Call.TheVariants.{SetTargetRevision, OpenRoot, DeleteEntry, OpenDirectory, AddFile, OpenFile, ChangeFileProp, ApplyText, CloseFile, CloseDirectory, CloseEdit}
-use Rattle.svn_delta.specs.declared.fault.EditFault.{EditFault}
-use Rattle.svn_delta.specs.declared.fault.EditFault.TheVariants.{NoEntry, WrongKind, WrongRevision, BaseChecksum, TextChecksum, EntryExists, TooDeep}
-use Rattle.svn_delta.specs.Steps.{Mode, Update, SwitchTo}
-use Rattle.svn_wc.specs.declared.base_node.BaseNode.TheVariants.{File as FileNode}
-use Rattle.svn_wc.specs.Nodes.{WorkingCopy, get_in, listed}
-use Rattle.svn_wc.specs.Effects.{after, refusal}
+use Rattle.svn_editor.specs.declared.call.Call.{Call}
+use Rattle.svn_editor.specs.declared.call.Call.TheVariants.{SetTargetRevision, OpenRoot, DeleteEntry, OpenDirectory, AddFile, OpenFile}
+use Rattle.svn_editor.specs.declared.call.Call.TheVariants.{ChangeFileProp, ApplyText, CloseFile, CloseDirectory, CloseEdit}
+use Rattle.svn_editor.specs.declared.fault.EditFault.{EditFault}
+use Rattle.svn_editor.specs.declared.fault.EditFault.TheVariants.{NoEntry, WrongKind, WrongRevision, BaseChecksum, TextChecksum}
+use Rattle.svn_editor.specs.declared.fault.EditFault.TheVariants.{EntryExists, TooDeep}
+use Rattle.svn_editor.specs.Steps.{Mode, Update, SwitchTo}
+use Rattle.svn_model.specs.declared.base_node.BaseNode.TheVariants.{File as FileNode}
+use Rattle.svn_model.specs.Nodes.{WorkingCopy, get_in, listed}
+use Rattle.svn_model.specs.Effects.{after, refusal}
 use Rattle.svn_law.proofs.Rows.Setting.{a, f, g, deep, abc, at, sum, stopped, whole, partial, plain, refused}
 use Rattle.svn_law.proofs.Rows.Plain.{k_copy, k_paths, k_calls}
-use Rattle.svn_delta.specs.declared.fault.OrderFault.{OrderFault}
-use Rattle.svn_delta.specs.declared.fault.OrderFault.TheVariants.{TargetFirst, UnknownToken, ClosedToken, FileOpen, TextAgain, RootNotClosed, Ended, TokenOrder}
-use Rattle.svn_delta.specs.Order.{order_fault}
+use Rattle.svn_editor.specs.declared.fault.OrderFault.{OrderFault}
+use Rattle.svn_editor.specs.declared.fault.OrderFault.TheVariants.{TargetFirst, UnknownToken, ClosedToken, FileOpen, TextAgain}
+use Rattle.svn_editor.specs.declared.fault.OrderFault.TheVariants.{RootNotClosed, Ended, TokenOrder}
+use Rattle.svn_editor.specs.Order.{order_fault}
 
 abbrev begun : List Call
 begun = SetTargetRevision 2 ∷ OpenRoot 1 0 ∷ []
 
 -- the refusal of the call on the copy, after these calls
 abbrev answer_in : Mode → WorkingCopy → List Call → Call → Option EditFault
-answer_in mode w calls c = refusal sum mode calls c (after mode w calls)
+answer_in mode w calls c = refusal sum mode calls c (listed ([] ∷ at f ∷ at g ∷ []) (after mode w calls))
 
 abbrev answer : WorkingCopy → List Call → Call → Option EditFault
 answer = answer_in Update
@@ -65,9 +68,18 @@ deepest_switched = refl
 too_deep_switched : answer_in (SwitchTo (deep 64)) k_copy begun (OpenFile (at f) 0 1 1) ≡ Some TooDeep
 too_deep_switched = refl
 
+-- the last call of a switch looks at each present node
+deepest_settled : answer_in (SwitchTo (deep 63)) k_copy (begun ++ CloseDirectory 0 ∷ []) CloseEdit ≡ None
+deepest_settled = refl
+
+too_deep_settled : answer_in (SwitchTo (deep 64)) k_copy (begun ++ CloseDirectory 0 ∷ []) CloseEdit ≡ Some TooDeep
+too_deep_settled = refl
+
 -- of two changes of one property the later holds, and a file without a text is empty
 abbrev twice : List Call
-twice = begun ++ AddFile (at g) 0 1 ∷ ChangeFileProp 1 (112 ∷ []) (Some (49 ∷ [])) ∷ ChangeFileProp 1 (112 ∷ []) (Some (50 ∷ [])) ∷ CloseFile 1 None ∷ []
+twice =
+    begun ++ AddFile (at g) 0 1 ∷ ChangeFileProp 1 (112 ∷ []) (Some (49 ∷ [])) ∷ ChangeFileProp 1 (112 ∷ []) (Some (50 ∷ []))
+    ∷ CloseFile 1 None ∷ []
 
 later_holds : after Update k_copy twice (at g) ≡ Some (FileNode 2 (at g) [] ((112 ∷ [], 50 ∷ []) ∷ []))
 later_holds = refl
@@ -94,13 +106,17 @@ without_root = refl
 without_open : order_fault (SetTargetRevision 2 ∷ OpenRoot 1 0 ∷ []) (ApplyText 1 (Some a) abc) ≡ Some UnknownToken
 without_open = refl
 
-without_text : refused Update k_copy (SetTargetRevision 2 ∷ OpenRoot 1 0 ∷ OpenFile (at f) 0 1 1 ∷ CloseFile 1 (Some abc) ∷ []) ≡ (CloseFile 1 (Some abc), TextChecksum) ∷ []
+without_text : refused Update k_paths k_copy (SetTargetRevision 2 ∷ OpenRoot 1 0 ∷ OpenFile (at f) 0 1 1 ∷ CloseFile 1 (Some abc) ∷ [])
+    ≡ (CloseFile 1 (Some abc), TextChecksum) ∷ []
 without_text = refl
 
-without_close : order_fault (SetTargetRevision 2 ∷ OpenRoot 1 0 ∷ OpenFile (at f) 0 1 1 ∷ ApplyText 1 (Some a) abc ∷ []) (CloseDirectory 0) ≡ Some FileOpen
+without_close : order_fault (SetTargetRevision 2 ∷ OpenRoot 1 0 ∷ OpenFile (at f) 0 1 1 ∷ ApplyText 1 (Some a) abc ∷ []) (CloseDirectory 0)
+    ≡ Some FileOpen
 without_close = refl
 
-without_root_close : order_fault (SetTargetRevision 2 ∷ OpenRoot 1 0 ∷ OpenFile (at f) 0 1 1 ∷ ApplyText 1 (Some a) abc ∷ CloseFile 1 (Some abc) ∷ []) CloseEdit ≡ Some RootNotClosed
+without_root_close : order_fault
+    (SetTargetRevision 2 ∷ OpenRoot 1 0 ∷ OpenFile (at f) 0 1 1 ∷ ApplyText 1 (Some a) abc ∷ CloseFile 1 (Some abc) ∷ []) CloseEdit
+    ≡ Some RootNotClosed
 without_root_close = refl
 
 -- the seven calls with one given twice: why the second is refused
@@ -108,5 +124,6 @@ abbrev second_faults : List Call → List Call → List (Option OrderFault)
 second_faults earlier [] = []
 second_faults earlier (c ∷ calls) = order_fault (earlier ++ c ∷ []) c ∷ second_faults (earlier ++ c ∷ []) calls
 
-given_twice : second_faults [] k_calls ≡ Some TargetFirst ∷ Some TokenOrder ∷ Some TokenOrder ∷ Some TextAgain ∷ Some ClosedToken ∷ Some ClosedToken ∷ Some Ended ∷ []
+given_twice : second_faults [] k_calls ≡ Some TargetFirst ∷ Some TokenOrder ∷ Some TokenOrder ∷ Some TextAgain ∷ Some ClosedToken
+    ∷ Some ClosedToken ∷ Some Ended ∷ []
 given_twice = refl

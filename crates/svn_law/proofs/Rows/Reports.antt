@@ -2,18 +2,18 @@
 use Rattle.std.specs.Prelude.{◌≡◌, ℕ, true, false, List, [], ◌∷◌, ◌++◌, Option, Some, None, refl}
 use Rattle.svn_types.specs.Names.{Path}
 use Rattle.svn_repo.specs.History.{History}
-use Rattle.svn_delta.specs.declared.call.Call.TheVariants.{SetTargetRevision, OpenRoot, CloseDirectory, AddFile, OpenFile, ApplyText, CloseFile, CloseEdit}
-use Rattle.svn_delta.specs.declared.entry.ReportEntry.{ReportEntry}
-use Rattle.svn_delta.specs.declared.entry.ReportEntry.TheVariants.{SetPath, LinkPath, DeletePath}
-use Rattle.svn_delta.specs.Reports.{ReportView}
-use Rattle.svn_delta.specs.Steps.{Mode, Update, SwitchTo}
-use Rattle.svn_drive.specs.declared.fault.ReportFault.{ReportFault}
-use Rattle.svn_drive.specs.declared.fault.ReportFault.TheVariants.{NoEntries, NoSuchRevision, NoNode, ParentNotDir, RootNotDir}
-use Rattle.svn_drive.specs.declared.fault.DriveFault.{DriveFault}
-use Rattle.svn_drive.specs.declared.fault.DriveFault.TheVariants.{NoSuchTarget, NoRoot, OtherRoot}
-use Rattle.svn_drive.specs.Checks.{first_fault, target_fault}
-use Rattle.svn_law.specs.SlowDrive.{slow_drive}
-use Rattle.svn_law.proofs.Rows.Setting.{b, f, g, t, x, abc, a, at, at2, dir, file, history_of, ask}
+use Rattle.svn_editor.specs.declared.call.Call.TheVariants.{SetTargetRevision, OpenRoot, CloseDirectory, AddFile, OpenFile, ApplyText}
+use Rattle.svn_editor.specs.declared.call.Call.TheVariants.{CloseFile, CloseEdit}
+use Rattle.svn_report.specs.declared.entry.ReportEntry.{ReportEntry}
+use Rattle.svn_report.specs.declared.entry.ReportEntry.TheVariants.{SetPath, LinkPath, DeletePath}
+use Rattle.svn_report.specs.Reports.{ReportView}
+use Rattle.svn_editor.specs.Steps.{Mode, Update, SwitchTo}
+use Rattle.svn_model.specs.declared.report_fault.ReportFault.{ReportFault}
+use Rattle.svn_model.specs.declared.report_fault.ReportFault.TheVariants.{NoEntries, NoSuchRevision, NoNode, ParentNotDir, RootNotDir}
+use Rattle.svn_model.specs.declared.drive_fault.DriveFault.{DriveFault}
+use Rattle.svn_model.specs.declared.drive_fault.DriveFault.TheVariants.{NoSuchTarget, NoRoot, OtherRoot}
+use Rattle.svn_model.specs.Checks.{first_fault, target_fault}
+use Rattle.svn_law.proofs.Rows.Setting.{b, f, g, t, x, abc, a, at, at2, dir, file, history_of, ask, drive_within}
 use Rattle.svn_law.proofs.Rows.Plain.{k}
 use Rattle.svn_law.proofs.Rows.Whole.{branched}
 
@@ -40,7 +40,9 @@ nothing_deleted = refl
 
 -- a directory became a file: an entry below it has a node in its own revision, and no directory above
 abbrev turned : History
-turned = history_of (0 ∷ 1 ∷ 3 ∷ 5 ∷ []) (dir 0 [] ∷ dir 0 ((f, 2) ∷ []) ∷ file 1 a ∷ dir 0 ((f, 4) ∷ []) ∷ dir 2 [] ∷ dir 0 ((f, 6) ∷ []) ∷ dir 2 ((x, 7) ∷ []) ∷ file 3 a ∷ [])
+turned =
+    history_of (0 ∷ 1 ∷ 3 ∷ 5 ∷ [])
+    (dir 0 [] ∷ dir 0 ((f, 2) ∷ []) ∷ file 1 a ∷ dir 0 ((f, 4) ∷ []) ∷ dir 2 [] ∷ dir 0 ((f, 6) ∷ []) ∷ dir 2 ((x, 7) ∷ []) ∷ file 3 a ∷ [])
 
 parent_is_file : first_fault turned (reporting (([], SetPath 1 false) ∷ (at2 f x, SetPath 3 false) ∷ [])) ≡ Some (ParentNotDir 1)
 parent_is_file = refl
@@ -90,14 +92,18 @@ its_root = refl
 -- ---- drives
 
 -- the entries of a directory that starts empty are sent, but for those that are reported
-file_kept : slow_drive (ask Update k (reporting (([], SetPath 2 true) ∷ (at f, SetPath 1 false) ∷ [])) 2) false 3
-    ≡ SetTargetRevision 2 ∷ OpenRoot 2 0 ∷ OpenFile (at f) 0 1 1 ∷ ApplyText 1 (Some a) abc ∷ CloseFile 1 (Some abc) ∷ CloseDirectory 0 ∷ CloseEdit ∷ []
+file_kept : drive_within 3 false (ask Update k (reporting (([], SetPath 2 true) ∷ (at f, SetPath 1 false) ∷ [])) 2)
+    ≡ SetTargetRevision 2 ∷ OpenRoot 2 0 ∷ OpenFile (at f) 0 1 1 ∷ ApplyText 1 (Some a) abc ∷ CloseFile 1 (Some abc) ∷ CloseDirectory 0
+    ∷ CloseEdit ∷ []
 file_kept = refl
 
-file_sent : slow_drive (ask Update k (reporting (([], SetPath 2 true) ∷ [])) 2) false 3
-    ≡ SetTargetRevision 2 ∷ OpenRoot 2 0 ∷ AddFile (at f) 0 1 ∷ ApplyText 1 None abc ∷ CloseFile 1 (Some abc) ∷ CloseDirectory 0 ∷ CloseEdit ∷ []
+file_sent : drive_within 3 false (ask Update k (reporting (([], SetPath 2 true) ∷ [])) 2)
+    ≡ SetTargetRevision 2 ∷ OpenRoot 2 0 ∷ AddFile (at f) 0 1 ∷ ApplyText 1 None abc ∷ CloseFile 1 (Some abc) ∷ CloseDirectory 0 ∷ CloseEdit
+    ∷ []
 file_sent = refl
 
 -- at a file it changes nothing
-empty_file_start : slow_drive (ask Update k (reporting (([], SetPath 1 false) ∷ (at f, SetPath 1 true) ∷ [])) 1) false 3 ≡ SetTargetRevision 1 ∷ OpenRoot 1 0 ∷ CloseDirectory 0 ∷ CloseEdit ∷ []
+empty_file_start : drive_within 3 false (ask Update k (reporting (([], SetPath 1 false) ∷ (at f, SetPath 1 true) ∷ [])) 1)
+    ≡ SetTargetRevision 1
+    ∷ OpenRoot 1 0 ∷ CloseDirectory 0 ∷ CloseEdit ∷ []
 empty_file_start = refl

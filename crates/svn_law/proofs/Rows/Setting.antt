@@ -1,20 +1,21 @@
 -- What the worked examples share: short names, and histories as tables of nodes.
-use Rattle.std.specs.Prelude.{ℕ, zero, suc, Bool, true, false, List, [], ◌∷◌, length, take}
-use Rattle.svn_law.proofs.Names.{Name}
+use Rattle.std.specs.Prelude.{ℕ, zero, suc, Bool, true, false, List, [], ◌∷◌, ◌++◌, length, take}
 use Rattle.svn_types.specs.Names.{Path}
 use Rattle.svn_types.specs.declared.kind.Kind.TheVariants.{File, Directory}
+use Rattle.svn_types.proofs.NameLemmas.{Name}
 use Rattle.svn_repo.specs.History.{History, NodeRow}
-use Rattle.svn_delta.specs.Reports.{ReportView}
-use Rattle.svn_delta.specs.Steps.{Mode}
-use Rattle.svn_delta.specs.declared.call.Call.{Call}
-use Rattle.svn_delta.specs.declared.fault.EditFault.{EditFault}
-use Rattle.svn_drive.specs.Follow.{Request}
-use Rattle.svn_wc.specs.declared.base_node.BaseNode.{BaseNode}
-use Rattle.svn_wc.specs.declared.base_node.BaseNode.TheVariants.{File as FileNode, Dir as DirNode}
-use Rattle.svn_wc.specs.Nodes.{WorkingCopy, listed}
-use Rattle.svn_wc.specs.Crawl.{crawl}
-use Rattle.svn_wc.specs.Effects.{after, refusals}
-use Rattle.svn_law.specs.SlowDrive.{slow_drive}
+use Rattle.svn_report.specs.Reports.{ReportView}
+use Rattle.svn_editor.specs.Steps.{Mode}
+use Rattle.svn_editor.specs.declared.call.Call.{Call}
+use Rattle.svn_editor.specs.declared.fault.EditFault.{EditFault}
+use Rattle.svn_model.specs.Follow.{Request}
+use Rattle.svn_model.specs.declared.base_node.BaseNode.{BaseNode}
+use Rattle.svn_model.specs.declared.base_node.BaseNode.TheVariants.{File as FileNode, Dir as DirNode}
+use Rattle.svn_model.specs.Nodes.{WorkingCopy, listed}
+use Rattle.svn_model.specs.Crawl.{crawl}
+use Rattle.svn_model.specs.Effects.{after, refusals}
+use Rattle.svn_editor.specs.declared.call.Call.TheVariants.{SetTargetRevision, CloseEdit}
+use Rattle.svn_model.specs.TreeCalls.{tree_calls, late_calls}
 
 abbrev pub a : Name
 a = 97 ∷ []
@@ -83,16 +84,22 @@ sum text = text
 abbrev pub ask : Mode → History → ReportView → ℕ → Request
 ask mode h r target = record { history = h; report = r; target = target; mode = mode; checksum = sum }
 
+-- the calls of a drive, where no path has more names than the number says
+abbrev pub drive_within : ℕ → Bool → Request → List Call
+drive_within height late q =
+    SetTargetRevision q.target ∷ (tree_calls q late height [] 0 0 ++ (late_calls q late height [] 0 0 ++ (CloseEdit ∷ [])))
+
 -- the drive for what the copy has at these paths
 abbrev pub drive : Bool → Mode → History → List Path → WorkingCopy → ℕ → List Call
-drive late mode h paths w target = slow_drive (ask mode h (crawl (listed paths w)) target) late 5
+drive late mode h paths w target = drive_within 5 late (ask mode h (crawl (listed paths w)) target)
 
 -- the copy after the first n of the calls
 abbrev pub stopped : Mode → WorkingCopy → ℕ → List Call → WorkingCopy
 stopped mode w n calls = after mode w (take n calls)
 
-abbrev pub refused : Mode → WorkingCopy → List Call → List (Call × EditFault)
-refused mode w calls = refusals sum mode w calls
+-- the refusals of the calls, where something stands at these paths at most
+abbrev pub refused : Mode → List Path → WorkingCopy → List Call → List (Call × EditFault)
+refused mode paths w calls = refusals sum mode paths w calls
 
 abbrev pub whole : ℕ → Path → BaseNode
 whole r q = DirNode r q true []

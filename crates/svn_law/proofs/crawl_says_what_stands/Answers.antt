@@ -1,5 +1,5 @@
-use Rattle.svn_law.proofs.CrawlCheckable.{crawl_describes_holds}
+use Rattle.svn_law.proofs.CrawlCheckable.{crawl_says}
 use Rattle.svn_law.proofs.crawl_says_what_stands.Goals as goal
 
 pub returns : goal.returns
-returns c = crawl_describes_holds
+returns c = crawl_says

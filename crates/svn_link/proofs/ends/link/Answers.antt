@@ -13,4 +13,10 @@ another-takes-requires-clause-rule c = splits _ _ (search rules) (search rules)
 pub invariant_of-outbox : goal.invariant_of-outbox
 invariant_of-outbox c =
     let none = ap (λ h. h.sent) c.another-takes.ensures.rule.0 ∙ ap (λ h. h.sent) c.in_ok-sender.ensures.3 in
-    record { seat = search rules; sends = search rules; counted = search rules; over = search rules; last = subst EndsAtLast (sym none) ends-nil }
+    record {
+      seat = search rules;
+      sends = search rules;
+      counted = search rules;
+      over = search rules;
+      last = subst EndsAtLast (sym none) ends-nil;
+    }

@@ -8,8 +8,10 @@ pub returns-in_default-clause-none : goal.returns-in_default-clause-none
 returns-in_default-clause-none g c =
     let told = c.range-edges.ensures.in_range c.new.ensures.exhausted in
     λ k small. told.5 c.in_default.ensures.steps.0 (c.args.parent, k) (
-      subst (λ (e : ℕ × ℕ). is_gt (edge_cmp e (c.args.parent, k)) ≡ false) (sym c.new.ensures.start) (edge_le c.args.parent 0 k (omega arith)),
-      subst (λ (e : ℕ × ℕ). is_gt (edge_cmp (c.args.parent, k) e) ≡ false) (sym c.new.ensures.end) (edge_le c.args.parent k 18446744073709551615 (omega arith)),
+      subst (λ (e : ℕ × ℕ). is_gt (edge_cmp e (c.args.parent, k)) ≡ false) (sym c.new.ensures.start)
+          (edge_le c.args.parent 0 k (omega arith)),
+      subst (λ (e : ℕ × ℕ). is_gt (edge_cmp (c.args.parent, k) e) ≡ false) (sym c.new.ensures.end)
+          (edge_le c.args.parent k 18446744073709551615 (omega arith)),
     )
 
 pub returns-clause-found : goal.returns-clause-found

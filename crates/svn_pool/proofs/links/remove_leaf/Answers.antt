@@ -24,8 +24,10 @@ clear-requires g c =
 pub returns-clause-linked : goal.returns-clause-linked
 returns-clause-linked g c =
     let found : get nat_cmp c.args.pools.now c.args.serial ≡ Some c.in-Some.pool = sym c.remove.ensures.value ∙ c.in-Some.is in
-    let parent : c.parent-parent.result ≡ c.in-Some.pool.parent = c.parent-parent.ensures ∙ ap (λ (e : Entry). e.parent) c.clear.ensures.emptied in
-    linked-remove c.args.pools.now c.remove.new.self c.args.children.now c.unlink.new.children c.requires.linked c.args.serial c.requires.leaf c.remove.ensures.updates
+    let parent : c.parent-parent.result ≡ c.in-Some.pool.parent =
+    c.parent-parent.ensures ∙ ap (λ (e : Entry). e.parent) c.clear.ensures.emptied in
+    linked-remove c.args.pools.now c.remove.new.self c.args.children.now c.unlink.new.children c.requires.linked c.args.serial
+    c.requires.leaf c.remove.ensures.updates
     (λ q r apart. c.unlink.ensures.others q r apart)
     (λ q is.
     let was = c.requires.linked.down q c.args.serial (c.unlink.ensures.fewer q c.args.serial is) in
@@ -38,12 +40,14 @@ returns-clause-counted g c =
     let found : get nat_cmp c.args.pools.now c.args.serial ≡ Some c.in-Some.pool = sym c.remove.ensures.value ∙ c.in-Some.is in
     let sum = sum_without blocks_of c.args.pools.now c.remove.new.self c.args.serial c.in-Some.pool c.remove.ensures.entries found in
     let counted = c.requires.counted in
-    let used : c.clear.new.stock.used ≡ c.args.stock.now.used - blocks_of c.in-Some.pool = ap (λ (b : Store). b.used) c.clear.ensures.counts in
+    let used : c.clear.new.stock.used ≡ c.args.stock.now.used - blocks_of c.in-Some.pool =
+    ap (λ (b : Store). b.used) c.clear.ensures.counts in
     omega (arith, sum, counted, used)
 
 pub returns-clause-fixed : goal.returns-clause-fixed
 returns-clause-fixed g c =
     let found : get nat_cmp c.args.pools.now c.args.serial ≡ Some c.in-Some.pool = sym c.remove.ensures.value ∙ c.in-Some.is in
     let sum = sum_without fixed_of c.args.pools.now c.remove.new.self c.args.serial c.in-Some.pool c.remove.ensures.entries found in
-    let spare : c.clear.new.stock.spare ≡ c.args.stock.now.spare + fixed_of c.in-Some.pool = ap (λ (b : Store). b.spare) c.clear.ensures.counts in
+    let spare : c.clear.new.stock.spare ≡ c.args.stock.now.spare + fixed_of c.in-Some.pool =
+    ap (λ (b : Store). b.spare) c.clear.ensures.counts in
     omega (arith, sum, spare)

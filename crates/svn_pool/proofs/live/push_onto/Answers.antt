@@ -16,13 +16,16 @@ pub returns-clause-linked : goal.returns-clause-linked
 returns-clause-linked g c =
     let found : get nat_cmp c.args.pools.now c.args.serial ≡ Some c.in-Some.pool.now = sym c.in-Some.ensures.value in
     let end = c.get_mut.follows.holds c.push.new.self in
-    linked-written c.args.pools.now (c.get_mut.follows.lender c.push.new.self) c.args.children.now c.requires.linked c.args.serial c.in-Some.pool.now c.push.new.self found
+    linked-written c.args.pools.now (c.get_mut.follows.lender c.push.new.self) c.args.children.now c.requires.linked c.args.serial
+    c.in-Some.pool.now c.push.new.self found
     c.push.ensures.parent (end.3 (ap is_some found)) end.4
 
 pub returns-clause-counted : goal.returns-clause-counted
 returns-clause-counted g c =
     let found : get nat_cmp c.args.pools.now c.args.serial ≡ Some c.in-Some.pool.now = sym c.in-Some.ensures.value in
-    let sum = sum_changed blocks_of c.args.pools.now (c.get_mut.follows.lender c.push.new.self) c.args.serial c.push.new.self c.in-Some.pool.now (c.get_mut.follows.holds c.push.new.self).0 found in
+    let sum =
+    sum_changed blocks_of c.args.pools.now (c.get_mut.follows.lender c.push.new.self) c.args.serial c.push.new.self c.in-Some.pool.now
+    (c.get_mut.follows.holds c.push.new.self).0 found in
     let counted = c.requires.counted in
     let blocks = c.push.ensures.blocks in
     omega (arith, sum, counted, blocks)
@@ -31,5 +34,6 @@ pub returns-clause-refused : goal.returns-clause-refused
 returns-clause-refused g c =
     let found : get nat_cmp c.args.pools.now c.args.serial ≡ Some c.in-Some.pool.now = sym c.in-Some.ensures.value in
     on_err c.push.result
-    (λ same. (c.get_mut.follows.holds c.push.new.self).0 ∙ ap (set_value (is_at (nat_cmp c.args.serial)) c.args.pools.now.entries) same ∙ set_value_same (is_at (nat_cmp c.args.serial)) c.args.pools.now.entries c.in-Some.pool.now found)
+    (λ same. (c.get_mut.follows.holds c.push.new.self).0 ∙ ap (set_value (is_at (nat_cmp c.args.serial)) c.args.pools.now.entries) same
+    ∙ set_value_same (is_at (nat_cmp c.args.serial)) c.args.pools.now.entries c.in-Some.pool.now found)
     c.push.ensures.refused

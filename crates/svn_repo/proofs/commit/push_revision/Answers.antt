@@ -1,11 +1,13 @@
-use Rattle.std.proofs.Common.{rules, ◌≡◌, ℕ, ◌-◌, ◌<◌, Some, List, length, arith, subst, ap, ◌∙◌, inl, inr}
+use Rattle.std.proofs.Common.{rules, ◌≡◌, ℕ, ◌-◌, ◌<◌, Some, List, length, arith, refl, subst, sym, inl}
 use Rattle.std.specs.List.{slice_get}
 use Rattle.std.proofs.lemmas.Option.{slice_get_within}
 use Rattle.svn_repo.specs.declared.store.Node.{Node}
+use Rattle.svn_repo.specs.declared.change.CommitFault.TheVariants.{Memory}
 use Rattle.svn_repo.specs.Stored.{history_of, AreHeights}
 use Rattle.svn_repo.specs.Heights.{IsOrdered}
-use Rattle.svn_repo.specs.Changes.{AllMade, IsFaultOf, changes_fault}
-use Rattle.svn_repo.proofs.Past.{last_root}
+use Rattle.svn_repo.specs.Changes.{AllMade, AreRefused, IsRefused, Pending, latest_pending, pending_in}
+use Rattle.svn_repo.proofs.Runs.{handed_on, first_of}
+use Rattle.svn_repo.proofs.OldRevisions.{last_root}
 use Rattle.svn_repo.proofs.Tallest.{draft_ordered, heights_kept}
 use Rattle.svn_repo.proofs.Commits.{start_draft, start_past, start_pending, still_sound, no_fault, is_revision}
 use Rattle.svn_repo.proofs.commit.push_revision.Goals as goal
@@ -14,67 +16,121 @@ pub make_all-requires-clause-draft : goal.make_all-requires-clause-draft
 make_all-requires-clause-draft c =
     let roots = c.args.roots.now.items in
     let old = c.args.nodes.now.items in
-    let from : ℕ = c.index-last.result.now in
+    let from : ℕ = c.index-root.result.now in
     let count : c.len.result ≡ length roots = search rules in
     let sound = c.requires.repository in
-    let last : slice_get roots (length roots - 1) ≡ Some from = last_root roots c.len.result from count sound.some_revision c.index-last.ensures in
+    let last : slice_get roots (length roots - 1) ≡ Some from =
+    last_root roots c.len.result from count sound.some_revision c.index-root.ensures in
     start_draft roots old c.args.lines from sound last
 
 pub make_all-requires-clause-past : goal.make_all-requires-clause-past
 make_all-requires-clause-past c =
     let roots = c.args.roots.now.items in
     let old = c.args.nodes.now.items in
-    let from : ℕ = c.index-last.result.now in
+    let from : ℕ = c.index-root.result.now in
     let count : c.len.result ≡ length roots = search rules in
     let sound = c.requires.repository in
-    let last : slice_get roots (length roots - 1) ≡ Some from = last_root roots c.len.result from count sound.some_revision c.index-last.ensures in
-    rw (c.deref.ensures.value, c.deref-2.ensures.value) (start_past roots old c.args.lines from sound last c.args.heights.now.items c.requires.known)
+    let last : slice_get roots (length roots - 1) ≡ Some from =
+    last_root roots c.len.result from count sound.some_revision c.index-root.ensures in
+    rw (c.deref.ensures.value, c.deref-2.ensures.value)
+    (start_past roots old c.args.lines from sound last c.args.heights.now.items c.requires.known)
 
-pub returns-in-Err-clause-fault : goal.returns-in-Err-clause-fault
-returns-in-Err-clause-fault c =
+pub returns-in_err-made-clause-fault : goal.returns-in_err-made-clause-fault
+returns-in_err-made-clause-fault c =
     let roots = c.args.roots.now.items in
     let old = c.args.nodes.now.items in
-    let from : ℕ = c.index-last.result.now in
+    let from : ℕ = c.index-root.result.now in
     let count : c.len.result ≡ length roots = search rules in
     let sound = c.requires.repository in
-    let last : slice_get roots (length roots - 1) ≡ Some from = last_root roots c.len.result from count sound.some_revision c.index-last.ensures in
+    let last : slice_get roots (length roots - 1) ≡ Some from =
+    last_root roots c.len.result from count sound.some_revision c.index-root.ensures in
     let h = history_of roots old c.args.lines in
-    let told : IsFaultOf roots old from c.args.lines c.args.changes.now c.in-Err.fault = subst (λ (r : List ℕ). IsFaultOf r old from c.args.lines c.args.changes.now c.in-Err.fault) c.deref.ensures.value c.in-Err.ensures.err in
-    elim told [
-      | inl m ↦ inl m
-      | inr f ↦ inr (ap (λ s. changes_fault h s c.args.changes.now) (start_pending roots old c.args.lines from sound last) ∙ f)
-    ]
+    let told : AreRefused h (pending_in (length old) old from c.args.lines) c.args.changes.now c.in_err-made.field-0.0 =
+    subst (λ (r : List ℕ). AreRefused (history_of r old c.args.lines)
+    (pending_in (length old) old from c.args.lines) c.args.changes.now c.in_err-made.field-0.0) c.deref.ensures.value
+    c.in_err-made.ensures.err in
+    let refused : IsRefused h c.args.changes.now c.in_err-made.field-0.0 =
+    subst (λ (s : Pending). AreRefused h s c.args.changes.now c.in_err-made.field-0.0)
+    (sym (start_pending roots old c.args.lines from sound last)) told in
+    handed_on (λ e. e ≡ c.in_err-made.field-0.0) (IsRefused h c.args.changes.now) c.from_residual.result c.from_residual.ensures
+    (λ e is. subst (IsRefused h c.args.changes.now) (sym is) refused)
 
 pub add_heights-requires-clause-ordered : goal.add_heights-requires-clause-ordered
 add_heights-requires-clause-ordered c =
-    let ordered : IsOrdered c.make_all.new.nodes.items (length c.args.nodes.now.items) = draft_ordered (length c.args.nodes.now.items) c.make_all.new.nodes.items c.in-Ok.made.0 c.in-Ok.ensures.ok.draft in
+    let ordered : IsOrdered c.make_all.new.nodes.items (length c.args.nodes.now.items) =
+    draft_ordered (length c.args.nodes.now.items) c.make_all.new.nodes.items c.in_ok-made.made.root c.in_ok-made.ensures.ok.draft in
     rw (c.deref-3.ensures.value, c.requires.known.size) ordered
 
 pub add_heights-requires-clause-old : goal.add_heights-requires-clause-old
 add_heights-requires-clause-old c = λ n k e.
     let known = c.requires.known in
     let below : n < length c.args.heights.now.items = slice_get_within c.args.heights.now.items n k e in
-    rw c.deref-3.ensures.value (heights_kept c.args.nodes.now.items c.make_all.new.nodes.items c.args.heights.now.items c.in-Ok.made.0 known c.in-Ok.ensures.ok.draft c.make_all.ensures.kept n k e (omega (arith, known.size)))
+    rw c.deref-3.ensures.value (heights_kept c.args.nodes.now.items c.make_all.new.nodes.items c.args.heights.now.items
+    c.in_ok-made.made.root known c.in_ok-made.ensures.ok.draft c.make_all.ensures.kept n k e (omega (arith, known.size)))
 
-pub returns-in-Ok-push-clause-ok : goal.returns-in-Ok-push-clause-ok
-returns-in-Ok-push-clause-ok c =
+pub returns-in-Ok-clause-ok : goal.returns-in-Ok-clause-ok
+returns-in-Ok-clause-ok c =
     let roots = c.args.roots.now.items in
     let old = c.args.nodes.now.items in
-    let from : ℕ = c.index-last.result.now in
+    let from : ℕ = c.index-root.result.now in
     let count : c.len.result ≡ length roots = search rules in
     let sound = c.requires.repository in
-    let last : slice_get roots (length roots - 1) ≡ Some from = last_root roots c.len.result from count sound.some_revision c.index-last.ensures in
+    let last : slice_get roots (length roots - 1) ≡ Some from =
+    last_root roots c.len.result from count sound.some_revision c.index-root.ensures in
     let new = c.make_all.new.nodes.items in
-    let root = c.in-Ok.made.0 in
-    let next = c.in-Ok.made.1 in
+    let root = c.in_ok-made.made.root in
+    let next = c.in_ok-made.made.lines in
     let changes = c.args.changes.now in
     let kept = c.make_all.ensures.kept in
-    let made : AllMade roots old new from c.args.lines root next changes = subst (λ (r : List ℕ). AllMade r old new from c.args.lines root next changes) c.deref.ensures.value c.in-Ok.ensures.ok in
-    let known : AreHeights new c.add_heights.new.heights.items = subst (λ (nodes : List Node). AreHeights nodes c.add_heights.new.heights.items) c.deref-3.ensures.value c.in_ok-add_heights.ensures.ok in
-    rw c.in-Ok-push.ensures.items (
+    let made : AllMade roots old new from c.args.lines root next changes =
+    subst (λ (r : List ℕ). AllMade r old new from c.args.lines root next changes) c.deref.ensures.value c.in_ok-made.ensures.ok in
+    let known : AreHeights new c.add_heights.new.heights.items =
+    subst (λ (nodes : List Node). AreHeights nodes c.add_heights.new.heights.items) c.deref-3.ensures.value
+    c.in_ok-add_heights.ensures.ok in
+    rw c.in-Ok.ensures.items (
       record { repository = still_sound roots old new c.args.lines next from root changes sound last made kept; known = known },
       (
         no_fault roots old new c.args.lines next from root changes sound last made kept,
         is_revision roots old new c.args.lines next from root changes sound last made kept,
       ),
     )
+
+pub returns-in_err-add_heights-clause-fault : goal.returns-in_err-add_heights-clause-fault
+returns-in_err-add_heights-clause-fault c =
+    let roots = c.args.roots.now.items in
+    let old = c.args.nodes.now.items in
+    let from : ℕ = c.index-root.result.now in
+    let count : c.len.result ≡ length roots = search rules in
+    let sound = c.requires.repository in
+    let last : slice_get roots (length roots - 1) ≡ Some from =
+    last_root roots c.len.result from count sound.some_revision c.index-root.ensures in
+    let new = c.make_all.new.nodes.items in
+    let root = c.in_ok-made.made.root in
+    let next = c.in_ok-made.made.lines in
+    let changes = c.args.changes.now in
+    let kept = c.make_all.ensures.kept in
+    let made : AllMade roots old new from c.args.lines root next changes =
+    subst (λ (r : List ℕ). AllMade r old new from c.args.lines root next changes) c.deref.ensures.value c.in_ok-made.ensures.ok in
+    let h = history_of roots old c.args.lines in
+    let can = first_of h (latest_pending h) changes (no_fault roots old new c.args.lines next from root changes sound last made kept) in
+    handed_on (λ e. e ≡ Memory) (IsRefused h changes) c.from_residual-in_err-add_heights.result c.from_residual-in_err-add_heights.ensures
+    (λ e is. inl (is, can))
+
+pub returns-in-Err-clause-fault : goal.returns-in-Err-clause-fault
+returns-in-Err-clause-fault c =
+    let roots = c.args.roots.now.items in
+    let old = c.args.nodes.now.items in
+    let from : ℕ = c.index-root.result.now in
+    let count : c.len.result ≡ length roots = search rules in
+    let sound = c.requires.repository in
+    let last : slice_get roots (length roots - 1) ≡ Some from =
+    last_root roots c.len.result from count sound.some_revision c.index-root.ensures in
+    let new = c.make_all.new.nodes.items in
+    let root = c.in_ok-made.made.root in
+    let next = c.in_ok-made.made.lines in
+    let changes = c.args.changes.now in
+    let kept = c.make_all.ensures.kept in
+    let made : AllMade roots old new from c.args.lines root next changes =
+    subst (λ (r : List ℕ). AllMade r old new from c.args.lines root next changes) c.deref.ensures.value c.in_ok-made.ensures.ok in
+    let h = history_of roots old c.args.lines in
+    inl (refl, first_of h (latest_pending h) changes (no_fault roots old new c.args.lines next from root changes sound last made kept))

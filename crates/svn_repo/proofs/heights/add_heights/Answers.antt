@@ -6,8 +6,8 @@ use Rattle.std.proofs.lemmas.Option.{slice_get_read}
 use Rattle.svn_repo.specs.History.{entries_at}
 use Rattle.svn_repo.specs.Stored.{row_of, rows, entries_of}
 use Rattle.svn_repo.specs.Heights.{height_from, IsOrdered}
-use Rattle.svn_repo.proofs.Puts.{slice_get-set_other}
-use Rattle.svn_repo.proofs.Past.{kept_take}
+use Rattle.svn_repo.proofs.EntryWrites.{slice_get-set_other}
+use Rattle.svn_repo.proofs.OldRevisions.{kept_take}
 use Rattle.svn_repo.proofs.Tallest.{AreDone, done_more}
 use Rattle.svn_repo.proofs.heights.add_heights.Goals as goal
 
@@ -20,10 +20,13 @@ nodes-preserved c =
     let n : ℕ = c.nodes.n - 1 in
     let step : c.nodes.n ≡ n + 1 = omega arith in
     let inside : n < length nodes = omega arith in
-    let here : slice_get nodes n ≡ Some c.index-nodes-n.result = slice_get_read nodes (length nodes) n c.index-nodes-n.result refl inside c.index-nodes-n.is in
-    let entries : entries_of c.index-nodes-n.result.content ≡ entries_at (rows nodes n) = ap (λ o. entries_at (option_map row_of o)) (sym here) in
+    let here : slice_get nodes n ≡ Some c.index-nodes-n.result =
+    slice_get_read nodes (length nodes) n c.index-nodes-n.result refl inside c.index-nodes-n.is in
+    let entries : entries_of c.index-nodes-n.result.content ≡ entries_at (rows nodes n) =
+    ap (λ o. entries_at (option_map row_of o)) (sym here) in
     let value : c.height_of.result ≡ height_from hs 0 (entries_at (rows nodes n)) =
-    c.height_of.ensures ∙ ap (λ xs. height_from xs 0 (entries_of c.index-nodes-n.result.content)) c.deref.ensures.value ∙ ap (height_from hs 0) entries in
+    c.height_of.ensures ∙ ap (λ xs. height_from xs 0 (entries_of c.index-nodes-n.result.content)) c.deref.ensures.value
+    ∙ ap (height_from hs 0) entries in
     let ordered : IsOrdered nodes base = subst (IsOrdered nodes) (sym inv.base_is) c.requires.ordered in
     let done : AreDone base (n + 1) hs (rows nodes) = subst (λ k. AreDone base k hs (rows nodes)) step inv.done in
     record {

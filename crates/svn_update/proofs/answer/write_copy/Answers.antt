@@ -7,7 +7,8 @@ use Rattle.svn_update.proofs.answer.write_copy.Goals as goal
 
 pub loop-path-init : goal.loop-path-init
 loop-path-init g c =
-    let begins : c.into_iter-path-iterator.result ≡ c.nodes-path-items.result.now.entries = c.into_iter-path-iterator.ensures.into_iter_gives.0 in
+    let begins : c.into_iter-path-iterator.result ≡ c.nodes-path-items.result.now.entries =
+    c.into_iter-path-iterator.ensures.into_iter_gives.0 in
     ([], ap (flat_map node_lines) (begins ∙ c.nodes-path-items.ensures), λ plain. search rules)
 
 pub loop-path-preserved : goal.loop-path-preserved

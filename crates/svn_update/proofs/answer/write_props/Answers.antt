@@ -7,7 +7,8 @@ use Rattle.svn_update.proofs.answer.write_props.Goals as goal
 
 pub loop-name-init : goal.loop-name-init
 loop-name-init g c =
-    let begins : c.into_iter-name-iterator.result ≡ c.as_map-name-items.result.now.entries = c.into_iter-name-iterator.ensures.into_iter_gives.0 in
+    let begins : c.into_iter-name-iterator.result ≡ c.as_map-name-items.result.now.entries =
+    c.into_iter-name-iterator.ensures.into_iter_gives.0 in
     ([], ap (flat_map (prop_line c.args.path.now)) (begins ∙ c.as_map-name-items.ensures), λ plain. search rules)
 
 pub loop-name-preserved : goal.loop-name-preserved
@@ -24,5 +25,6 @@ pub returns : goal.returns
 returns g c = λ plain ok.
     let inv = c.loop-name.invariant in
     has_written_of_eq _ _ _ _ _
-    (no_item (prop_line c.args.path.now) inv.0 c.loop-name.name-iterator (flat_map (prop_line c.args.path.now) c.args.props.now) c.in-None.ensures.steps.0 inv.1)
+    (no_item (prop_line c.args.path.now) inv.0 c.loop-name.name-iterator
+    (flat_map (prop_line c.args.path.now) c.args.props.now) c.in-None.ensures.steps.0 inv.1)
     (inv.2 plain)

@@ -21,6 +21,7 @@ returns-clause-blocks g c =
     let s = c.self.inside.strings in
     let room : (layout s).room < length c.args.bytes.now + 4 = omega (arith, c.room.ensures, c.if-bytes-room.false) in
     let before : blocks_of c.args.self.now ≡ blocks s = ap blocks_of (sym c.self.view_is) in
-    let after : blocks c.write_new.new.self ≡ blocks s + 1 = ap blocks c.write_new.ensures ∙ full_blocks s c.args.bytes.now (λ h. omega (arith, h, room)) in
+    let after : blocks c.write_new.new.self ≡ blocks s + 1 =
+    ap blocks c.write_new.ensures ∙ full_blocks s c.args.bytes.now (λ h. omega (arith, h, room)) in
     let took : c.take.new.self.used ≡ c.args.stock.now.used + 1 = ap (λ (b : Store). b.used) c.in_ok-leaf.ensures.counts in
     omega (arith, before, after, took)

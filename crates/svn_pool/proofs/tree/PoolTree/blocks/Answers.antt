@@ -5,4 +5,5 @@ use Rattle.svn_pool.proofs.tree.PoolTree.blocks.Goals as goal
 pub returns : goal.returns
 returns g c =
     let s = c.self.inside in
-    c.used.ensures ∙ c.self.invariant.counted ∙ sym (blocks_are s.root s.last s.pools s.stock.spare c.args.self.now c.self.view_is c.self.invariant.linked.ordered)
+    c.used.ensures ∙ c.self.invariant.counted
+    ∙ sym (blocks_are s.root s.last s.pools s.stock.spare c.args.self.now c.self.view_is c.self.invariant.linked.ordered)

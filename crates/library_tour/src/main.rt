@@ -1,0 +1,42 @@
+//! The library in a few lines: two revisions of a file, a working copy of the first, an update to the second with the driver in a
+//! thread of its own, and a look at what came of it.
+#![tactic(auto)]
+
+use anyhow::Result;
+use std::alloc::Global;
+use std::sync::Wait;
+use std::thread::Threads;
+use svn_update::{
+    BaseNode, Change, NoGate, Options, RelPath, Repo, Rev, Text, WorkingCopy, update,
+};
+
+fn put(alloc: Global, path: &str, text: &str) -> Result<Change> {
+    Ok(Change::PutFile {
+        path: RelPath::parse(alloc, path)?,
+        text: Text::new(text.as_bytes().to_vec(alloc)?),
+    })
+}
+
+fn tour<R: Threads + Wait + Sync + Print>(rt: &R, alloc: Global) -> Result<()> {
+    let mut repo = Repo::new(alloc)?;
+    repo.commit(&[put(alloc, "f", "a")?])?;
+    let mut copy = WorkingCopy::checkout(alloc, &repo, Rev(1))?;
+    repo.commit(&[put(alloc, "f", "abc")?])?;
+    if copy.check_true(&repo).is_ok() {
+        let options = Options {
+            capacity: 64,
+            cancel_after: None,
+            late_texts: false,
+        };
+        let (outcome, _passed) = update(rt, alloc, &repo, &mut copy, Rev(2), options, &NoGate)?;
+        println!(rt; "{outcome:?}")?;
+    }
+    if let Some(BaseNode::File { rev, text, .. }) = copy.get(&RelPath::parse(alloc, "f")?) {
+        println!(rt; "f at revision {rev}: {} bytes", text.len())?;
+    }
+    Ok(())
+}
+
+fn main(rt: HostRuntime) -> Result<()> {
+    tour(&rt, rt.alloc())
+}

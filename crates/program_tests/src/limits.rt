@@ -1,0 +1,155 @@
+// What is too long, too deep or too many.
+use crate::scripts::{IN_TURN, ends};
+use std::alloc::{AllocError, Global};
+use std::process::Abort;
+use std::sync::Wait;
+use std::thread::Threads;
+use svn_update::Settings;
+
+// Lines that begin so, then this so many times, then the rest of them; and what they print.
+struct Long {
+    first: &'static str,
+    part: &'static str,
+    count: usize,
+    last: &'static str,
+    output: &'static str,
+}
+
+const LONG: &[Long] = &[
+    Long {
+        first: "put f ",
+        part: "a",
+        count: 1048576,
+        last: "\ncommit\n",
+        output: "committed 1\n",
+    },
+    Long {
+        first: "put f ",
+        part: "a",
+        count: 1048577,
+        last: "\ncommit\n",
+        output: "refused TooLong\n",
+    },
+    // the root comes first, then the length, then the way down
+    Long {
+        first: "put . ",
+        part: "a",
+        count: 1048577,
+        last: "\ncommit\n",
+        output: "refused IsRoot\n",
+    },
+    Long {
+        first: "put g/h ",
+        part: "a",
+        count: 1048577,
+        last: "\ncommit\n",
+        output: "refused TooLong\n",
+    },
+    Long {
+        first: "prop . p ",
+        part: "a",
+        count: 1048576,
+        last: "\ncommit\n",
+        output: "committed 1\n",
+    },
+    Long {
+        first: "prop g p ",
+        part: "a",
+        count: 1048577,
+        last: "\ncommit\n",
+        output: "refused TooLong\n",
+    },
+    // a repository path of 65 names, before it is looked for
+    Long {
+        first: "checkout 0\nswitch g ",
+        part: "a/",
+        count: 64,
+        last: "a 0\n",
+        output: "ok\nrefused TooDeep\n",
+    },
+    Long {
+        first: "checkout 0\nswitch g ",
+        part: "a/",
+        count: 63,
+        last: "a 0\n",
+        output: "ok\nrefused Missing\n",
+    },
+];
+
+#[test]
+fn long_and_deep_words(rt: HostRuntime) -> Result<(), AllocError> {
+    for row in LONG {
+        let (first, last) = (row.first, row.last);
+        let long = row.part.repeat(rt.alloc(), row.count)?;
+        let script = format!(in rt.alloc(); "{first}{long}{last}")?;
+        ends(
+            &rt,
+            &IN_TURN,
+            script.as_str().as_bytes(),
+            Ok(()),
+            row.output,
+        );
+    }
+    Ok(())
+}
+
+// A script that makes so many directories, each in the one before.
+fn nested_script(alloc: Global, depth: usize) -> Result<String, AllocError> {
+    let mut script = String::new(alloc);
+    let mut path = String::from_str(alloc, "a")?;
+    for _ in 0..depth {
+        script.push_str("mkdir ")?;
+        script.push_str(path.as_str())?;
+        script.push('\n')?;
+        path.push_str("/a")?;
+    }
+    script.push_str("commit\ncheckout 0\nupdate 1\nupdate 0\n")?;
+    Ok(script)
+}
+
+// The tree comes by the target's number, 65 directories opened or added, as many closed, and the end; it goes by the number, open, delete,
+// close and end. One directory more is refused, and so there is no revision 1.
+const NESTED: &[(usize, &str)] = &[
+    (64, "committed 1\nok\nclosed 132\nclosed 5\n"),
+    (
+        65,
+        "refused TooDeep\nok\nrefused NoSuchRevision\nclosed 4\n",
+    ),
+];
+
+#[test]
+fn trees_have_a_greatest_depth(rt: HostRuntime) -> Result<(), AllocError> {
+    for (depth, output) in NESTED {
+        let script = nested_script(rt.alloc(), *depth)?;
+        ends(&rt, &IN_TURN, script.as_str().as_bytes(), Ok(()), output);
+    }
+    Ok(())
+}
+
+const UPDATED: &str =
+    "put f a\ncommit\ncheckout 0\nupdate 1\nupdate 9\nswitch-to f 1\nswitch-to . 1\n";
+
+// A queue of so many calls. Where two threads run, its capacity is looked at behind the target.
+fn updates(
+    rt: &(impl Abort + AllocGlobal + Threads + Wait + Sync),
+    capacity: usize,
+    in_turn: bool,
+    output: &str,
+) {
+    let settings = Settings { capacity, in_turn };
+    ends(rt, &settings, UPDATED.as_bytes(), Ok(()), output);
+}
+
+#[test]
+fn queues_have_a_capacity(rt: HostRuntime) {
+    let runs = "committed 1\nok\nclosed 7\nrefused NoSuchRevision\nrefused OtherRoot\nclosed 4\n";
+    let refused =
+        "committed 1\nok\nrefused Capacity\nrefused NoSuchRevision\nrefused OtherRoot\nrefused Capacity\n";
+    for capacity in [1, 2, 4096] {
+        updates(&rt, capacity, false, runs);
+    }
+    for capacity in [0, 4097] {
+        updates(&rt, capacity, false, refused);
+        updates(&rt, capacity, true, runs);
+    }
+}

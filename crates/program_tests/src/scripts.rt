@@ -1,0 +1,54 @@
+// Scripts, run in memory.
+use std::process::Abort;
+use std::str;
+use std::sync::Wait;
+use std::thread::Threads;
+use svn_update::{ScriptFault, Settings, run_script};
+
+// On one thread, and on two with a queue of one call, and with one of many.
+pub(crate) const IN_TURN: Settings = Settings {
+    capacity: 64,
+    in_turn: true,
+};
+
+pub(crate) const ONE_CALL: Settings = Settings {
+    capacity: 1,
+    in_turn: false,
+};
+
+pub(crate) const MANY_CALLS: Settings = Settings {
+    capacity: 64,
+    in_turn: false,
+};
+
+// How a script ended, and what it wrote.
+#[derive(Debug, Drop)]
+pub(crate) struct ScriptRun {
+    pub(crate) ended: Result<(), ScriptFault>,
+    pub(crate) output: Vec<u8>,
+}
+
+pub(crate) fn run(
+    rt: &(impl AllocGlobal + Threads + Wait + Sync),
+    settings: &Settings,
+    script: &[u8],
+) -> ScriptRun {
+    let mut reader = script;
+    let mut output = Vec::new(rt.alloc());
+    let ended = run_script(rt, rt.alloc(), &mut reader, &mut output, settings);
+    ScriptRun { ended, output }
+}
+
+// A script that ends so, and writes just this.
+pub(crate) fn ends(
+    rt: &(impl Abort + AllocGlobal + Threads + Wait + Sync),
+    settings: &Settings,
+    script: &[u8],
+    ended: Result<(), ScriptFault>,
+    output: &str,
+) {
+    let run = run(rt, settings, script);
+    assert_eq!(rt; run.ended, ended);
+    let written = str::from_utf8(&run.output).unwrap_or("bytes that are no text");
+    assert_eq!(rt; written, output);
+}

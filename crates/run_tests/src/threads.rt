@@ -1,0 +1,128 @@
+// That the two threads of an update run side by side, and what a gate hears of the calls.
+use crate::histories::{copy_of, repository};
+use crate::rows::ONE_FILE;
+use std::process::Abort;
+use std::sync::atomic::{AtomicBool, AtomicU64, Ordering};
+use std::test::Fail;
+use svn_run::{Gate, Options, Outcome, update};
+use svn_types::Rev;
+
+// How often a thread looks for the other before it gives up.
+const TURNS: u64 = 10_000_000;
+
+pub(crate) const IN_PLACE: Options = Options {
+    capacity: 1,
+    cancel_after: None,
+    late_texts: false,
+};
+
+// The third call is held back until the first was taken, and that one until the third is to be sent.
+#[derive(Drop)]
+struct Meeting {
+    third_begun: AtomicBool,
+    first_taken: AtomicBool,
+    given_up: AtomicBool,
+}
+
+impl Meeting {
+    // Says that one side has come, and waits for the other.
+    fn meet(&self, here: &AtomicBool, there: &AtomicBool) {
+        here.store(true, Ordering::SeqCst);
+        for _ in 0..TURNS {
+            if there.load(Ordering::SeqCst) {
+                return;
+            }
+        }
+        self.given_up.store(true, Ordering::SeqCst);
+    }
+}
+
+impl Gate for Meeting {
+    fn before_send(&self, n: u64) {
+        if n == 3 {
+            self.meet(&self.third_begun, &self.first_taken);
+        }
+    }
+
+    fn after_take(&self, n: u64) {
+        if n == 1 {
+            self.meet(&self.first_taken, &self.third_begun);
+        }
+    }
+}
+
+#[test]
+fn the_two_threads_meet(rt: HostRuntime) -> Result<(), Fail> {
+    let alloc = rt.alloc();
+    let repo = repository(alloc, ONE_FILE.history)?;
+    for capacity in [1, 64] {
+        let mut copy = copy_of(alloc, &repo, ONE_FILE.copy)?;
+        assert!(rt; copy.check_true(&repo).is_ok());
+        let gate = Meeting {
+            third_begun: AtomicBool::new(false),
+            first_taken: AtomicBool::new(false),
+            given_up: AtomicBool::new(false),
+        };
+        let options = Options {
+            capacity,
+            ..IN_PLACE
+        };
+        let (outcome, settled) = update(&rt, alloc, &repo, &mut copy, Rev(2), options, &gate)?;
+        assert_eq!(rt; outcome, Outcome::Closed { calls: 7 }, "at {capacity}");
+        assert_eq!(rt; (settled.sent, settled.taken), (7, 7), "at {capacity}");
+        assert!(rt; !gate.given_up.load(Ordering::SeqCst), "at {capacity}");
+    }
+    Ok(())
+}
+
+// The last number that was heard at each side, and whether each came after the one before it.
+#[derive(Drop)]
+struct Counting {
+    sent: AtomicU64,
+    taken: AtomicU64,
+    other: AtomicBool,
+}
+
+impl Counting {
+    fn count(&self, last: &AtomicU64, n: u64) {
+        if last.load(Ordering::SeqCst).checked_add(1) != Some(n) {
+            self.other.store(true, Ordering::SeqCst);
+        }
+        last.store(n, Ordering::SeqCst);
+    }
+}
+
+impl Gate for Counting {
+    fn before_send(&self, n: u64) {
+        self.count(&self.sent, n);
+    }
+
+    fn after_take(&self, n: u64) {
+        self.count(&self.taken, n);
+    }
+}
+
+#[test]
+fn a_gate_hears_of_each_call_once(rt: HostRuntime) -> Result<(), Fail> {
+    let alloc = rt.alloc();
+    let repo = repository(alloc, ONE_FILE.history)?;
+    // all seven calls; two of them, and the abort
+    for (cancel_after, heard) in [(None, 7), (Some(2), 3)] {
+        let mut copy = copy_of(alloc, &repo, ONE_FILE.copy)?;
+        assert!(rt; copy.check_true(&repo).is_ok());
+        let gate = Counting {
+            sent: AtomicU64::new(0),
+            taken: AtomicU64::new(0),
+            other: AtomicBool::new(false),
+        };
+        let options = Options {
+            cancel_after,
+            ..IN_PLACE
+        };
+        update(&rt, alloc, &repo, &mut copy, Rev(2), options, &gate)?;
+        assert_eq!(rt; gate.sent.load(Ordering::SeqCst), heard);
+        assert_eq!(rt; gate.taken.load(Ordering::SeqCst), heard);
+        assert!(rt; !gate.other.load(Ordering::SeqCst));
+    }
+    Ok(())
+}

@@ -1,0 +1,11 @@
+//! Tests of what is read: names and paths, the commands that lines are, and the words of the command line.
+#![tactic(auto)]
+
+#[cfg(test)]
+mod command_line;
+#[cfg(test)]
+mod faults;
+#[cfg(test)]
+mod forms;
+#[cfg(test)]
+mod names;

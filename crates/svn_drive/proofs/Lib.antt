@@ -1,0 +1,10 @@
+pub mod RunLemmas
+pub mod Visits
+pub mod NextNames
+pub mod VisitRuns
+pub mod ChildPlaces
+pub mod FileEnds
+pub mod Waits
+pub mod WholeRuns
+pub mod Checks
+pub mod Idle

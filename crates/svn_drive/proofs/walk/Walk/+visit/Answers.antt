@@ -1,0 +1,316 @@
+use Rattle.std.proofs.Common.{rules, ◌≡◌, ℕ, ◌+◌, false, [], ◌∷◌, ◌++◌, append-nil, refl, sym, ◌∙◌, ap, subst, arith, None, Ok, Err, OnOk}
+use Rattle.svn_types.specs.Paths.{child}
+use Rattle.svn_types.proofs.NameSets.{names_read}
+use Rattle.svn_model.specs.declared.stop.Stop.TheVariants.{Memory}
+use Rattle.svn_model.specs.Follow.{target_node}
+use Rattle.svn_model.specs.Tree.{names_below, is_entered}
+use Rattle.svn_model.specs.TreeCalls.{in_turn, sizes, visit_calls, visit_size}
+use Rattle.svn_drive.specs.Waiting.{waiting, visit_late, entered_late}
+use Rattle.svn_drive.specs.Walking.{IsEntered, IsIdle, request_of, entered_size}
+use Rattle.svn_drive.proofs.Waits.{waits_on, late-not_entered, late-not_there, late-entered}
+use Rattle.svn_drive.proofs.Visits.{size-not_entered, size-not_there, size-entered}
+use Rattle.svn_drive.proofs.RunLemmas.{run_nothing, run_memory}
+use Rattle.svn_drive.proofs.NextNames.{within_reported}
+use Rattle.svn_drive.proofs.Idle.{idle_calls, idle_size, idle_late}
+use Rattle.svn_drive.proofs.VisitRuns.{run_as, visit_stopped, visit_left, visit_absent, visit_whole, name_stopped, names_memory, name_done}
+use Rattle.svn_drive.proofs.VisitRuns.{visit_at, entered_stopped_as, entered_file_as, entered_below_as, entered_directory_as}
+use Rattle.svn_drive.proofs.walk.Walk.+visit.Goals as goal
+
+-- ---- a place
+
+pub visit-returns-in_err-delete_gone-clause-runs : goal.visit-returns-in_err-delete_gone-clause-runs
+visit-returns-in_err-delete_gone-clause-runs g t c =
+    let same : c.from_residual.result ≡ Err c.in_err-delete_gone.field-0.0 = search rules in
+    rw same
+    (visit_stopped g.E.Editor.answers c.args.self.now.limit (request_of c.args.self.now) c.args.self.now.late c.args.place.now.here.path
+    c.args.place.now.parent c.args.progress.now.next c.requires.short
+    c.args.editor.now c.args.progress.now.made c.in_err-delete_gone.field-0.0 c.delete_gone.new.editor c.delete_gone.new.progress.made
+    c.in_err-delete_gone.ensures.runs)
+
+pub visit-returns-then-not-is_entered-clause-runs : goal.visit-returns-then-not-is_entered-clause-runs
+visit-returns-then-not-is_entered-clause-runs g t c =
+    let no : is_entered (request_of c.args.self.now) c.args.place.now.here.path ≡ false = sym c.if-not-is_entered.ensures in
+    visit_left g.E.Editor.answers c.args.self.now.limit (request_of c.args.self.now) c.args.self.now.late c.args.place.now.here.path
+    c.args.place.now.parent c.args.progress.now.next c.requires.short
+    c.args.editor.now c.args.progress.now.made c.delete_gone.new.editor c.delete_gone.new.progress.made no c.in_ok-delete_gone.ensures.runs
+
+pub visit-returns-then-not-is_entered-clause-tokens : goal.visit-returns-then-not-is_entered-clause-tokens
+visit-returns-then-not-is_entered-clause-tokens g t c =
+    let no : is_entered (request_of c.args.self.now) c.args.place.now.here.path ≡ false = sym c.if-not-is_entered.ensures in
+    let none = size-not_entered (request_of c.args.self.now) c.args.place.now.here.path c.requires.short no in
+    omega (arith, c.in_ok-delete_gone.ensures.tokens, none)
+
+pub visit-returns-in_default-clause-runs : goal.visit-returns-in_default-clause-runs
+visit-returns-in_default-clause-runs g t c =
+    let none : target_node (request_of c.args.self.now) c.args.place.now.here.path ≡ None = sym c.requires.at.target ∙ c.in_default.is in
+    visit_absent g.E.Editor.answers c.args.self.now.limit (request_of c.args.self.now) c.args.self.now.late c.args.place.now.here.path
+    c.args.place.now.parent c.args.progress.now.next c.requires.short
+    c.args.editor.now c.args.progress.now.made c.delete_gone.new.editor c.delete_gone.new.progress.made none
+    c.in_ok-delete_gone.ensures.runs
+
+pub visit-returns-in_default-clause-tokens : goal.visit-returns-in_default-clause-tokens
+visit-returns-in_default-clause-tokens g t c =
+    let none : target_node (request_of c.args.self.now) c.args.place.now.here.path ≡ None = sym c.requires.at.target ∙ c.in_default.is in
+    let nothing = size-not_there (request_of c.args.self.now) c.args.place.now.here.path c.requires.short none in
+    omega (arith, c.in_ok-delete_gone.ensures.tokens, nothing)
+
+pub visit-returns-clause-runs : goal.visit-returns-clause-runs
+visit-returns-clause-runs g t c =
+    let i : IsEntered (request_of c.args.self.now) c.args.place.now.here.path c.in-Some.node c.kind_of.result =
+    record { entered = search rules; target = search rules; kind = search rules } in
+    visit_whole g.E.Editor.answers c.args.self.now.limit (request_of c.args.self.now) c.args.self.now.late c.args.place.now.here.path
+    c.args.place.now.parent c.args.progress.now.next c.requires.short
+    c.args.editor.now c.args.progress.now.made c.in-Some.node c.kind_of.result i c.visit_entered.result c.delete_gone.new.editor
+    c.visit_entered.new.editor
+    c.delete_gone.new.progress.made c.visit_entered.new.progress.made c.delete_gone.new.progress.next c.in_ok-delete_gone.ensures.tokens
+    c.in_ok-delete_gone.ensures.runs c.visit_entered.ensures.runs
+
+pub visit-returns-clause-tokens : goal.visit-returns-clause-tokens
+visit-returns-clause-tokens g t c =
+    let i : IsEntered (request_of c.args.self.now) c.args.place.now.here.path c.in-Some.node c.kind_of.result =
+    record { entered = search rules; target = search rules; kind = search rules } in
+    let size = size-entered (request_of c.args.self.now) c.args.place.now.here.path c.in-Some.node c.kind_of.result c.requires.short i in
+    let before : c.delete_gone.new.progress.next ≡ c.args.progress.now.next = c.in_ok-delete_gone.ensures.tokens in
+    let same : c.delete_gone.new.progress.next + entered_size (request_of c.args.self.now) c.args.place.now.here.path c.kind_of.result ≡ c.args.progress.now.next + visit_size (request_of c.args.self.now) c.args.place.now.here.path =
+    omega (arith, size, before) in
+    subst (λ (n : ℕ). OnOk c.visit_entered.result (c.visit_entered.new.progress.next ≡ n)) same c.visit_entered.ensures.tokens
+
+-- ---- what waits of it
+
+pub visit-returns-then-not-is_entered-clause-waits : goal.visit-returns-then-not-is_entered-clause-waits
+visit-returns-then-not-is_entered-clause-waits g t c =
+    let none =
+    late-not_entered (request_of c.args.self.now) c.args.self.now.late c.args.place.now.here.path c.args.place.now.parent
+    c.args.progress.now.next c.requires.short (sym c.if-not-is_entered.ensures) in
+    sym (ap (λ l. waiting c.args.self.now.repo.now c.args.later.now.items ++ l) none
+    ∙ append-nil (waiting c.args.self.now.repo.now c.args.later.now.items))
+
+pub visit-returns-in_default-clause-waits : goal.visit-returns-in_default-clause-waits
+visit-returns-in_default-clause-waits g t c =
+    let none =
+    late-not_there (request_of c.args.self.now) c.args.self.now.late c.args.place.now.here.path c.args.place.now.parent
+    c.args.progress.now.next c.requires.short (sym c.requires.at.target ∙ c.in_default.is) in
+    sym (ap (λ l. waiting c.args.self.now.repo.now c.args.later.now.items ++ l) none
+    ∙ append-nil (waiting c.args.self.now.repo.now c.args.later.now.items))
+
+pub visit-returns-clause-waits : goal.visit-returns-clause-waits
+visit-returns-clause-waits g t c =
+    let i : IsEntered (request_of c.args.self.now) c.args.place.now.here.path c.in-Some.node c.kind_of.result =
+    record { entered = search rules; target = search rules; kind = search rules } in
+    let all =
+    late-entered (request_of c.args.self.now) c.args.self.now.late c.args.place.now.here.path c.args.place.now.parent
+    c.args.progress.now.next c.in-Some.node c.kind_of.result c.requires.short i in
+    let before : c.delete_gone.new.progress.next ≡ c.args.progress.now.next = c.in_ok-delete_gone.ensures.tokens in
+    let same =
+    ap
+    (λ n. entered_late (request_of c.args.self.now) c.args.self.now.late c.args.place.now.here.path c.args.place.now.parent n
+    c.in-Some.node c.kind_of.result)
+    before
+    ∙ sym all in
+    subst
+    (λ l. OnOk c.visit_entered.result (waiting c.args.self.now.repo.now c.visit_entered.new.later.items
+    ≡ waiting c.args.self.now.repo.now c.args.later.now.items ++ l))
+    same c.visit_entered.ensures.waits
+
+-- ---- the names below
+
+pub visit_below-returns-in_err-names-clause-runs : goal.visit_below-returns-in_err-names-clause-runs
+visit_below-returns-in_err-names-clause-runs g t c =
+    let same : c.from_residual-in_err-names.result ≡ Err Memory = search rules in
+    rw same (run_memory g.E.Editor.answers c.args.self.now.limit _ c.args.editor.now c.args.progress.now.made)
+
+pub visit_below-is_idle_child-requires-clause-unreported : goal.visit_below-is_idle_child-requires-clause-unreported
+visit_below-is_idle_child-requires-clause-unreported g t c = λ f.
+    sym
+    (within_reported c.args.place.now.here.path c.args.self.now.report.now.entries c.in-Some.name.now
+    (names_read c.in_ok-reported.reported.keys)
+    c.in_ok-reported.ensures)
+    ∙ sym c.has_name.ensures ∙ f
+
+pub visit_below-loop-name-init : goal.visit_below-loop-name-init
+visit_below-loop-name-init g t c =
+    let e : names_read c.into_iter-name-iterator.result ≡ names_below (request_of c.args.self.now) c.args.place.now.here.path =
+    search rules in (
+      [],
+      refl,
+      (omega arith, λ h. h),
+      ap
+          (λ l. in_turn (λ q n. visit_calls (request_of c.args.self.now) c.args.self.now.late q c.args.token n)
+          (visit_size (request_of c.args.self.now)) c.args.place.now.here.path c.args.progress.now.next l)
+          e,
+      ap (λ l. c.args.progress.now.next + sizes (visit_size (request_of c.args.self.now)) c.args.place.now.here.path l) e,
+      ap
+          (λ l. waiting c.args.self.now.repo.now c.args.later.now.items
+          ++ in_turn (λ q n. visit_late (request_of c.args.self.now) c.args.self.now.late q c.args.token n)
+          (visit_size (request_of c.args.self.now)) c.args.place.now.here.path c.args.progress.now.next l)
+          e,
+    )
+
+pub visit_below-returns-in_err-below-clause-runs : goal.visit_below-returns-in_err-below-clause-runs
+visit_below-returns-in_err-below-clause-runs g t c =
+    let same : c.from_residual-in_err-below.result ≡ Err Memory = search rules in
+    let inv = c.loop-name.invariant in
+    rw same
+    (names_memory g.E.Editor.answers c.args.self.now.limit
+    (λ q n. visit_calls (request_of c.args.self.now) c.args.self.now.late q c.args.token n) (visit_size (request_of c.args.self.now))
+    c.args.place.now.here.path
+    c.args.progress.now.next (names_below (request_of c.args.self.now) c.args.place.now.here.path) c.args.editor.now
+    c.args.progress.now.made
+    c.loop-name.progress.next (names_read c.loop-name.name-iterator) c.loop-name.editor c.loop-name.progress.made
+    (inv.0, inv.1, inv.2, inv.3, inv.4))
+
+pub visit_below-returns-in_err-visit-clause-runs : goal.visit_below-returns-in_err-visit-clause-runs
+visit_below-returns-in_err-visit-clause-runs g t c =
+    let same : c.from_residual-in_err-visit.result ≡ Err c.in_err-visit.field-0.0 = search rules in
+    let step : c.loop-name.name-iterator ≡ c.in-Some.name ∷ c.next.new.self = c.in-Some.ensures.steps in
+    let inv = rw step at c.loop-name.invariant in
+    rw same
+    (name_stopped g.E.Editor.answers c.args.self.now.limit
+    (λ q n. visit_calls (request_of c.args.self.now) c.args.self.now.late q c.args.token n) (visit_size (request_of c.args.self.now))
+    c.args.place.now.here.path
+    c.args.progress.now.next (names_below (request_of c.args.self.now) c.args.place.now.here.path) c.args.editor.now
+    c.args.progress.now.made
+    c.loop-name.progress.next c.in-Some.name.now (names_read c.next.new.self) c.loop-name.editor c.visit.new.editor
+    c.loop-name.progress.made c.visit.new.progress.made c.in_err-visit.field-0.0 (inv.0, inv.1, inv.2, inv.3, inv.4)
+    (visit_at g.E.Editor.answers c.args.self.now.limit (request_of c.args.self.now) c.args.self.now.late c.in_ok-below.below.here.path
+    (child c.args.place.now.here.path c.in-Some.name.now) c.in_ok-below.below.parent c.args.token
+    c.loop-name.progress.next (Err c.in_err-visit.field-0.0) c.loop-name.editor c.visit.new.editor c.loop-name.progress.made
+    c.visit.new.progress.made
+    c.in_ok-below.ensures.path.0 c.in_ok-below.ensures.parent c.in_err-visit.ensures.runs))
+
+pub visit_below-loop-name-preserved : goal.visit_below-loop-name-preserved
+visit_below-loop-name-preserved g t c =
+    let step : c.loop-name.name-iterator ≡ c.in-Some.name ∷ c.next.new.self = c.in-Some.ensures.steps in
+    let inv = rw step at c.loop-name.invariant in
+    let tokens : c.visit.new.progress.next ≡ c.loop-name.progress.next + visit_size (request_of c.args.self.now) (child c.args.place.now.here.path c.in-Some.name.now) =
+    c.in_ok-visit.ensures.tokens
+    ∙ ap (λ q. c.loop-name.progress.next + visit_size (request_of c.args.self.now) q) c.in_ok-below.ensures.path.0 in
+    let r =
+    name_done g.E.Editor.answers c.args.self.now.limit
+    (λ q n. visit_calls (request_of c.args.self.now) c.args.self.now.late q c.args.token n) (visit_size (request_of c.args.self.now))
+    c.args.place.now.here.path
+    c.args.progress.now.next (names_below (request_of c.args.self.now) c.args.place.now.here.path) c.args.editor.now
+    c.args.progress.now.made
+    c.loop-name.progress.next c.visit.new.progress.next c.in-Some.name.now (names_read c.next.new.self) c.loop-name.editor
+    c.visit.new.editor c.loop-name.progress.made c.visit.new.progress.made (inv.0, inv.1, inv.2, inv.3, inv.4)
+    (visit_at g.E.Editor.answers c.args.self.now.limit (request_of c.args.self.now) c.args.self.now.late c.in_ok-below.below.here.path
+    (child c.args.place.now.here.path c.in-Some.name.now) c.in_ok-below.below.parent c.args.token
+    c.loop-name.progress.next (Ok tt) c.loop-name.editor c.visit.new.editor c.loop-name.progress.made c.visit.new.progress.made
+    c.in_ok-below.ensures.path.0 c.in_ok-below.ensures.parent c.in_ok-visit.ensures.runs)
+    tokens in (
+      r.0,
+      r.1,
+      r.2,
+      r.3,
+      r.4,
+      waits_on (λ q n. visit_late (request_of c.args.self.now) c.args.self.now.late q c.args.token n)
+          (visit_size (request_of c.args.self.now)) c.args.place.now.here.path
+          c.loop-name.progress.next c.visit.new.progress.next c.in-Some.name.now (names_read c.next.new.self)
+          (waiting c.args.self.now.repo.now c.loop-name.later.items) (waiting c.args.self.now.repo.now c.visit.new.later.items) _ inv.5
+          (c.in_ok-visit.ensures.waits
+          ∙ ap
+          (λ q. waiting c.args.self.now.repo.now c.loop-name.later.items
+          ++ visit_late (request_of c.args.self.now) c.args.self.now.late q c.in_ok-below.below.parent c.loop-name.progress.next)
+          c.in_ok-below.ensures.path.0
+          ∙ ap
+          (λ x. waiting c.args.self.now.repo.now c.loop-name.later.items
+          ++ visit_late (request_of c.args.self.now) c.args.self.now.late
+          (child c.args.place.now.here.path c.in-Some.name.now) x c.loop-name.progress.next)
+          c.in_ok-below.ensures.parent)
+          tokens,
+    )
+
+-- a name that is passed over
+pub visit_below-loop-name-preserved-then-is_idle_child : goal.visit_below-loop-name-preserved-then-is_idle_child
+visit_below-loop-name-preserved-then-is_idle_child g t c =
+    let step : c.loop-name.name-iterator ≡ c.in-Some.name ∷ c.next.new.self = c.in-Some.ensures.steps in
+    let inv = rw step at c.loop-name.invariant in
+    let idle : IsIdle (request_of c.args.self.now) (child c.args.place.now.here.path c.in-Some.name.now) =
+    c.is_idle_child.ensures.idle c.if-is_idle_child.true in
+    let none =
+    idle_size (request_of c.args.self.now) c.args.self.now.late
+    (child c.args.place.now.here.path c.in-Some.name.now) c.args.token c.loop-name.progress.next idle in
+    let tokens :
+    c.loop-name.progress.next
+    ≡ c.loop-name.progress.next + visit_size (request_of c.args.self.now) (child c.args.place.now.here.path c.in-Some.name.now) =
+    omega (arith, none) in
+    let r =
+    name_done g.E.Editor.answers c.args.self.now.limit
+    (λ q n. visit_calls (request_of c.args.self.now) c.args.self.now.late q c.args.token n) (visit_size (request_of c.args.self.now))
+    c.args.place.now.here.path
+    c.args.progress.now.next (names_below (request_of c.args.self.now) c.args.place.now.here.path) c.args.editor.now
+    c.args.progress.now.made
+    c.loop-name.progress.next c.loop-name.progress.next c.in-Some.name.now (names_read c.next.new.self) c.loop-name.editor
+    c.loop-name.editor c.loop-name.progress.made c.loop-name.progress.made (inv.0, inv.1, inv.2, inv.3, inv.4)
+    (run_as g.E.Editor.answers c.args.self.now.limit []
+    (visit_calls (request_of c.args.self.now) c.args.self.now.late
+    (child c.args.place.now.here.path c.in-Some.name.now) c.args.token c.loop-name.progress.next)
+    (Ok tt)
+    c.loop-name.editor c.loop-name.editor c.loop-name.progress.made c.loop-name.progress.made
+    (idle_calls (request_of c.args.self.now) c.args.self.now.late
+    (child c.args.place.now.here.path c.in-Some.name.now) c.args.token c.loop-name.progress.next idle)
+    (run_nothing g.E.Editor.answers c.args.self.now.limit c.loop-name.editor c.loop-name.progress.made))
+    tokens in (
+      r.0,
+      r.1,
+      r.2,
+      r.3,
+      r.4,
+      waits_on (λ q n. visit_late (request_of c.args.self.now) c.args.self.now.late q c.args.token n)
+          (visit_size (request_of c.args.self.now)) c.args.place.now.here.path
+          c.loop-name.progress.next c.loop-name.progress.next c.in-Some.name.now (names_read c.next.new.self)
+          (waiting c.args.self.now.repo.now c.loop-name.later.items) (waiting c.args.self.now.repo.now c.loop-name.later.items) _ inv.5
+          (sym (ap (λ l. waiting c.args.self.now.repo.now c.loop-name.later.items ++ l) (idle_late (request_of c.args.self.now)
+          c.args.self.now.late (child c.args.place.now.here.path c.in-Some.name.now) c.args.token c.loop-name.progress.next idle)
+          ∙ append-nil (waiting c.args.self.now.repo.now c.loop-name.later.items)))
+          tokens,
+    )
+
+pub visit_below-returns-clause-waits : goal.visit_below-returns-clause-waits
+visit_below-returns-clause-waits g t c =
+    let none : c.loop-name.name-iterator ≡ [] = c.in-None.ensures.steps.0 in
+    let inv = rw none at c.loop-name.invariant in
+    sym (append-nil (waiting c.args.self.now.repo.now c.loop-name.later.items)) ∙ inv.5
+
+-- ---- what is entered
+
+pub visit_entered-returns-in_err-enter-clause-runs : goal.visit_entered-returns-in_err-enter-clause-runs
+visit_entered-returns-in_err-enter-clause-runs g t c =
+    let same : c.from_residual.result ≡ Err c.in_err-enter.field-0.0 = search rules in
+    rw same
+    (entered_stopped_as g.E.Editor.answers c.args.self.now.limit (request_of c.args.self.now) c.args.self.now.late
+    c.args.place.now.here.path c.args.place.now.parent c.args.progress.now.next c.args.opened.now.node
+    c.args.editor.now c.args.progress.now.made c.args.opened.now.token c.requires.token c.args.opened.now.kind c.in_err-enter.field-0.0
+    c.enter.new.editor c.enter.new.progress.made c.in_err-enter.ensures.runs)
+
+pub visit_entered-returns-in_err-visit_below-in-Directory-clause-runs :
+    goal.visit_entered-returns-in_err-visit_below-in-Directory-clause-runs
+visit_entered-returns-in_err-visit_below-in-Directory-clause-runs g t c =
+    let same : c.from_residual-in_err-visit_below-in-Directory.result ≡ Err c.in_err-visit_below-in-Directory.field-0.0 = search rules in
+    rw same
+    (entered_below_as g.E.Editor.answers c.args.self.now.limit (request_of c.args.self.now) c.args.self.now.late c.args.place.now.here.path
+    c.args.place.now.parent c.args.progress.now.next c.args.opened.now.node
+    c.args.editor.now c.args.progress.now.made c.args.opened.now.token c.requires.token c.args.opened.now.kind c.in-Directory.is
+    c.in_err-visit_below-in-Directory.field-0.0
+    c.enter.new.progress.next c.enter.new.editor c.visit_below.new.editor c.enter.new.progress.made c.visit_below.new.progress.made
+    c.in_ok-enter.ensures.tokens c.in_ok-enter.ensures.runs
+    c.in_err-visit_below-in-Directory.ensures.runs)
+
+pub visit_entered-returns-in-File-clause-runs : goal.visit_entered-returns-in-File-clause-runs
+visit_entered-returns-in-File-clause-runs g t c =
+    entered_file_as g.E.Editor.answers c.args.self.now.limit (request_of c.args.self.now) c.args.self.now.late c.args.place.now.here.path
+    c.args.place.now.parent c.args.progress.now.next c.args.opened.now.node
+    c.args.editor.now c.args.progress.now.made c.args.opened.now.token c.requires.token c.args.opened.now.kind c.in-File.is
+    c.end_file.result
+    c.enter.new.editor c.end_file.new.editor c.enter.new.progress.made c.end_file.new.progress.made c.in_ok-enter.ensures.runs
+    c.end_file.ensures.runs
+
+pub visit_entered-returns-in_ok-visit_below-in-Directory-clause-runs : goal.visit_entered-returns-in_ok-visit_below-in-Directory-clause-runs
+visit_entered-returns-in_ok-visit_below-in-Directory-clause-runs g t c =
+    entered_directory_as g.E.Editor.answers c.args.self.now.limit (request_of c.args.self.now) c.args.self.now.late
+    c.args.place.now.here.path c.args.place.now.parent c.args.progress.now.next c.args.opened.now.node
+    c.args.editor.now c.args.progress.now.made c.args.opened.now.token c.requires.token c.args.opened.now.kind c.in-Directory.is
+    c.make.result
+    c.enter.new.progress.next c.enter.new.editor c.visit_below.new.editor c.make.new.editor c.enter.new.progress.made
+    c.visit_below.new.progress.made c.make.new.progress.made
+    c.in_ok-enter.ensures.tokens c.in_ok-enter.ensures.runs c.in_ok-visit_below-in-Directory.ensures.runs c.make.ensures.runs

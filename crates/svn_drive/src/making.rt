@@ -1,0 +1,128 @@
+//! Calls, one by one, and their count.
+ghost use Rattle.std.specs.Prelude.{◌≡◌, ◌+◌, ◌∷◌, [], OnOk, OnErr, IfOk};
+ghost use Rattle.svn_model.specs.Ends.{Runs};
+
+use std::marker::Model;
+use svn_editor::{Call, Editor, Token};
+use svn_model::Stop;
+
+/// The most calls before the last.
+const MAX_CALLS: u64 = u64::MAX - 1;
+
+/// How many calls were made, and the next token.
+#[derive(Debug, Drop)]
+pub(crate) struct Progress {
+    made: u64,
+    next: u64,
+}
+
+impl Model for Progress {
+    ghost use Rattle.std.specs.Prelude.{◌≤◌};
+    ghost use Rattle.svn_drive.specs.Counts.{Counts};
+
+    ghost Value = { Counts };
+
+    ghost view = { λ p. record { made = p.made; next = p.next } };
+
+    ghost invariant = { λ p. p.next ≤ p.made };
+}
+
+impl Progress {
+    /// Before the first call.
+    pub(crate) fn new() -> Progress
+        ensures { result ≡ record { made = 0; next = 0 } }
+    {
+        Progress { made: 0, next: 0 }
+    }
+
+    /// How many calls were made.
+    pub(crate) fn made(&self) -> u64
+        ensures { result ≡ self.now.made }
+    {
+        self.made
+    }
+
+    /// The token that the next open or add gives.
+    pub(crate) fn next_token(&self) -> Token
+        ensures { result ≡ self.now.next }
+    {
+        Token(self.next)
+    }
+}
+
+/// Makes a call that isn't the last, if one more may be made.
+pub(crate) fn make<E: Editor>(
+    limit: Option<u64>,
+    editor: &mut E,
+    progress: &mut Progress,
+    call: Call,
+) -> Result<(), Stop>
+    ensures runs { Runs E.answers limit (call ∷ []) result editor.old editor.new progress.old.made progress.new.made }
+    ensures tokens { progress.new.next ≡ progress.old.next }
+{
+    if limit == Some(progress.made) {
+        return Err(Stop::Cancelled);
+    }
+    if progress.made >= MAX_CALLS {
+        return Err(Stop::Full);
+    }
+    match editor.call(call) {
+        Ok(()) => {
+            progress.made += 1;
+            Ok(())
+        }
+        Err(fault) => Err(Stop::Editor(fault)),
+    }
+}
+
+/// Makes a call that gives the next token.
+pub(crate) fn make_opening<E: Editor>(
+    limit: Option<u64>,
+    editor: &mut E,
+    progress: &mut Progress,
+    call: Call,
+) -> Result<(), Stop>
+    ensures runs { Runs E.answers limit (call ∷ []) result editor.old editor.new progress.old.made progress.new.made }
+    ensures tokens { OnOk result (progress.new.next ≡ progress.old.next + 1) }
+{
+    if limit == Some(progress.made) {
+        return Err(Stop::Cancelled);
+    }
+    if progress.made >= MAX_CALLS {
+        return Err(Stop::Full);
+    }
+    match editor.call(call) {
+        Ok(()) => {
+            *progress = Progress {
+                made: progress.made + 1,
+                next: progress.next + 1,
+            };
+            Ok(())
+        }
+        Err(fault) => Err(Stop::Editor(fault)),
+    }
+}
+
+/// Makes the last call of a drive, if it may be made.
+pub(crate) fn make_last<E: Editor>(
+    limit: Option<u64>,
+    editor: &mut E,
+    progress: &mut Progress,
+) -> Result<(), Stop>
+    ensures runs { Runs E.answers limit (Call.CloseEdit ∷ []) result editor.old editor.new progress.old.made progress.new.made }
+    ensures unmade { OnErr result (progress.new.made ≡ progress.old.made) }
+{
+    if limit == Some(progress.made) {
+        return Err(Stop::Cancelled);
+    }
+    if progress.made > MAX_CALLS {
+        return Err(Stop::Full);
+    }
+    match editor.call(Call::CloseEdit) {
+        Ok(()) => {
+            progress.made += 1;
+            Ok(())
+        }
+        Err(fault) => Err(Stop::Editor(fault)),
+    }
+}

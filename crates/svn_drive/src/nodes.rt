@@ -1,0 +1,96 @@
+//! What nodes of a repository have.
+ghost use Rattle.std.specs.Prelude.{◌≡◌, []};
+ghost use Rattle.svn_repo.specs.History.{node_at, child_in};
+ghost use Rattle.svn_repo.specs.Readings.{are_related, is_directory_at, text_of, kind_of, props_of};
+ghost use Rattle.svn_drive.specs.Walking.{entry_of, has_same_entry};
+
+use svn_repo::{NodeId, Repo};
+use svn_types::{Kind, Name, Props};
+
+/// Whether two nodes are there, and of one line.
+pub(crate) fn are_related(repo: &Repo, from: &Option<NodeId>, to: &Option<NodeId>) -> bool
+    ensures { result ≡ are_related repo.now from.now to.now }
+{
+    match (from, to) {
+        (Some(old), Some(new)) => repo.are_related(*old, *new),
+        _ => false,
+    }
+}
+
+/// Whether the node is a directory.
+pub(crate) fn is_directory(repo: &Repo, node: Option<NodeId>) -> bool
+    ensures { result ≡ is_directory_at repo.now node }
+{
+    match node {
+        Some(id) => repo.kind(id) == Some(Kind::Directory),
+        None => false,
+    }
+}
+
+/// The entry of a node under a name.
+pub(crate) fn node_under(repo: &Repo, node: NodeId, name: &Name) -> Option<NodeId>
+    ensures { result ≡ child_in (node_at repo.now node) name.now }
+{
+    match repo.entries(node) {
+        Some(entries) => entries.get(name),
+        None => None,
+    }
+}
+
+/// The same, where there is a node.
+pub(crate) fn entry_of(repo: &Repo, node: Option<NodeId>, name: &Name) -> Option<NodeId>
+    ensures { result ≡ entry_of repo.now node name.now }
+{
+    match node {
+        Some(id) => node_under(repo, id, name),
+        None => None,
+    }
+}
+
+/// Whether two nodes have one entry under a name.
+pub(crate) fn has_same_entry(
+    repo: &Repo,
+    old: Option<NodeId>,
+    new: Option<NodeId>,
+    name: &Name,
+) -> bool
+    ensures { result ≡ has_same_entry repo.now old new name.now }
+{
+    let entry = entry_of(repo, old, name);
+    if entry.is_some() {
+        entry == entry_of(repo, new, name)
+    } else {
+        false
+    }
+}
+
+/// The text of a file; of what is none, no byte.
+pub(crate) fn text_of(repo: &Repo, node: NodeId) -> &[u8]
+    ensures { result.now ≡ text_of repo.now node }
+{
+    match repo.text(node) {
+        Some(text) => text,
+        None => &[],
+    }
+}
+
+/// The properties of a node.
+pub(crate) fn props_of<'r>(repo: &'r Repo, node: NodeId, none: &'r Props) -> &'r Props
+    requires { none.now ≡ [] }
+    ensures { result.now ≡ props_of repo.now node }
+{
+    match repo.props(node) {
+        Some(props) => props,
+        None => none,
+    }
+}
+
+/// Whether a node is a file or a directory; what is none is a file.
+pub(crate) fn kind_of(repo: &Repo, node: NodeId) -> Kind
+    ensures { result ≡ kind_of repo.now node }
+{
+    match repo.kind(node) {
+        Some(kind) => kind,
+        None => Kind::File,
+    }
+}

@@ -1,0 +1,18 @@
+//! What a walk knows at a path.
+
+use crate::check::Seen;
+use svn_editor::Token;
+use svn_repo::NodeId;
+
+/// A path of the client: what the report says of it, whether it and its parent are kept, and the nodes on both sides.
+#[derive(Drop)]
+pub(crate) struct Place<'a> {
+    pub(crate) here: Seen<'a>,
+    pub(crate) is_kept: bool,
+    pub(crate) parent_is_kept: bool,
+    pub(crate) source: Option<NodeId>,
+    pub(crate) target: Option<NodeId>,
+    pub(crate) is_touched: bool,
+    // the token of the directory above
+    pub(crate) parent: Token,
+}

@@ -1,0 +1,448 @@
+//! The walk of a drive: at each place its calls, those of the places below it, and its close.
+ghost use Rattle.std.specs.Prelude.{◌≡◌, IsTrue, IsFalse, ◌+◌, ◌++◌, ◌∷◌, [], ◌≤◌, ◌<◌, length, map, Some, None, false, IfOk, OnOk, if◌then◌else◌};
+ghost use Rattle.std.specs.Option.{option_copied};
+ghost use Rattle.md5.specs.Md5.{md5};
+ghost use Rattle.svn_types.specs.Names.{depth_limit};
+ghost use Rattle.svn_types.specs.Props.{changes_between};
+ghost use Rattle.svn_types.specs.declared.kind.Kind.TheVariants.{File};
+ghost use Rattle.svn_editor.specs.Steps.{Action, Change};
+ghost use Rattle.svn_repo.specs.Readings.{text_of, kind_of, props_of};
+ghost use Rattle.svn_report.specs.ReportNames.{has_entry_within};
+ghost use Rattle.svn_model.specs.Ends.{Runs};
+ghost use Rattle.svn_model.specs.Steps.{gone_actions};
+ghost use Rattle.svn_model.specs.Tree.{names_below, is_entered, is_late, old_props, enter_action, entry_actions, file_end, last_of};
+ghost use Rattle.svn_model.specs.TreeCalls.{call_at, calls_at, in_turn, sizes, visit_calls, visit_size};
+ghost use Rattle.svn_drive.specs.Waiting.{waiting, visit_late, entered_late};
+ghost use Rattle.svn_drive.specs.Walking.{IsAt, IsEntered, IsIdle, IsTold, request_of, text_action, close_action, has_text_of, old_text, text_end, entered_calls, entered_size};
+
+use crate::child_names::{has_name, names_below, reported_below};
+use crate::entries::{revision_of, starts_empty};
+use crate::making::{Progress, make, make_opening};
+use crate::nodes::{entry_of, has_same_entry, is_directory, kind_of, props_of, text_of};
+use crate::place::Place;
+use crate::walk::Walk;
+use md5::{Digest as Hasher, Md5};
+use std::alloc::{AllocError, Global};
+use svn_editor::{Call, Digest, Editor, Token};
+use svn_model::Stop;
+use svn_repo::{NodeId, Repo};
+use svn_types::{Kind, MAX_COMPONENTS, Name, PropChange, Props, Text};
+
+/// What was opened or added: its token, its kind and its node in the target.
+#[derive(Clone, Copy)]
+pub(crate) struct Opened {
+    pub(crate) token: Token,
+    pub(crate) kind: Kind,
+    pub(crate) node: NodeId,
+}
+
+/// A file that gets a text: its token, its node in the target, whether it is opened, and the node whose text is replaced, if there is one.
+#[derive(Clone, Copy)]
+pub(crate) struct Texted {
+    pub(crate) token: Token,
+    pub(crate) node: NodeId,
+    pub(crate) is_opened: bool,
+    pub(crate) has_old: bool,
+    pub(crate) old: NodeId,
+}
+
+// The text that is replaced.
+fn old_text<'r>(repo: &'r Repo, file: &Texted) -> &'r [u8]
+    ensures { result.now ≡ old_text repo.now file.now }
+{
+    if file.has_old {
+        text_of(repo, file.old)
+    } else {
+        &[]
+    }
+}
+
+fn postpone(later: &mut Vec<Texted>, file: Texted) -> Result<(), AllocError>
+    ensures { OnOk result (later.new.items ≡ later.old.items ++ (file ∷ [])) }
+{
+    later.push(file)?;
+    Ok(())
+}
+
+fn checksum(text: &[u8]) -> Digest
+    ensures { result ≡ md5 text.now }
+{
+    Digest(Md5::digest(text))
+}
+
+fn change_call(opened: &Opened, change: PropChange) -> Call
+    ensures { result ≡ call_at [] 0 opened.now.token (Change opened.now.kind change) }
+{
+    let token = opened.token;
+    let (name, value) = change;
+    match opened.kind {
+        Kind::Directory => Call::ChangeDirProp { token, name, value },
+        Kind::File => Call::ChangeFileProp { token, name, value },
+    }
+}
+
+impl<'a> Walk<'a> {
+    // The call that opens or adds a place.
+    fn entry_call(&self, place: &Place<'a>, opened: &Opened) -> Result<Call, AllocError>
+        requires { IsAt (request_of self.now) place.now }
+        ensures { IfOk result (λ c. c ≡ call_at place.now.here.path place.now.parent opened.now.token (enter_action (request_of self.now) place.now.here.path opened.now.kind)) }
+    {
+        let path = place.here.path.clone()?;
+        let parent = place.parent;
+        let token = opened.token;
+        let base = revision_of(place.here.governing);
+        Ok(match (place.is_touched, opened.kind) {
+            (true, Kind::Directory) => {
+                if path.is_root() {
+                    Call::OpenRoot { base, token }
+                } else {
+                    Call::OpenDirectory {
+                        path,
+                        parent,
+                        base,
+                        token,
+                    }
+                }
+            }
+            (true, Kind::File) => Call::OpenFile {
+                path,
+                parent,
+                base,
+                token,
+            },
+            (false, Kind::Directory) => Call::AddDirectory {
+                path,
+                parent,
+                token,
+            },
+            (false, Kind::File) => Call::AddFile {
+                path,
+                parent,
+                token,
+            },
+        })
+    }
+
+    // The properties that the receiver has where the place is opened.
+    fn old_props<'r>(&self, place: &Place<'a>, none: &'r Props) -> &'r Props
+    where
+        'a: 'r,
+        requires at { IsAt (request_of self.now) place.now }
+        requires none { none.now ≡ [] }
+        ensures { result.now ≡ old_props (request_of self.now) place.now.here.path }
+    {
+        if !place.is_touched
+            || (starts_empty(place.here.own) && is_directory(self.repo, place.source))
+        {
+            return none;
+        }
+        match place.source {
+            Some(id) => props_of(self.repo, id, none),
+            None => none,
+        }
+    }
+
+    // The properties that the receiver has where the place is opened, as changes to those of the target.
+    fn changes(&self, place: &Place<'a>, node: NodeId) -> Result<Vec<PropChange>, AllocError>
+        requires { IsAt (request_of self.now) place.now }
+        ensures { IfOk result (λ v. v.items ≡ changes_between (old_props (request_of self.now) place.now.here.path) (props_of self.now.repo.now node)) }
+    {
+        let none = Props::new(self.alloc);
+        let old = self.old_props(place, &none);
+        old.changes_to(self.alloc, props_of(self.repo, node, &none))
+    }
+
+    // Makes changes of properties.
+    fn change_props<E: Editor>(
+        &self,
+        opened: &Opened,
+        changes: Vec<PropChange>,
+        editor: &mut E,
+        progress: &mut Progress,
+    ) -> Result<(), Stop>
+        ensures runs { Runs E.answers self.now.limit (calls_at [] 0 opened.now.token (map (Change opened.now.kind) changes.items)) result editor.old editor.new progress.old.made progress.new.made }
+        ensures tokens { OnOk result (progress.new.next ≡ progress.old.next) }
+    {
+        for change in changes {
+            let call = change_call(opened, change);
+            make(self.limit, editor, progress, call)?;
+        }
+        Ok(())
+    }
+
+    // Opens or adds a place, and changes its properties.
+    fn enter<E: Editor>(
+        &self,
+        place: &Place<'a>,
+        opened: &Opened,
+        editor: &mut E,
+        progress: &mut Progress,
+    ) -> Result<(), Stop>
+        requires at { IsAt (request_of self.now) place.now }
+        ensures runs { Runs E.answers self.now.limit (calls_at place.now.here.path place.now.parent opened.now.token (entry_actions (request_of self.now) place.now.here.path opened.now.node opened.now.kind)) result editor.old editor.new progress.old.made progress.new.made }
+        ensures tokens { OnOk result (progress.new.next ≡ progress.old.next + 1) }
+    {
+        let call = self.entry_call(place, opened)?;
+        make_opening(self.limit, editor, progress, call)?;
+        let changes = self.changes(place, opened.node)?;
+        self.change_props(opened, changes, editor, progress)
+    }
+
+    // Deletes what is gone.
+    fn delete_gone<E: Editor>(
+        &self,
+        place: &Place<'a>,
+        editor: &mut E,
+        progress: &mut Progress,
+    ) -> Result<(), Stop>
+        requires at { IsAt (request_of self.now) place.now }
+        ensures runs { Runs E.answers self.now.limit (calls_at place.now.here.path place.now.parent progress.old.next (gone_actions (request_of self.now) place.now.here.path)) result editor.old editor.new progress.old.made progress.new.made }
+        ensures tokens { OnOk result (progress.new.next ≡ progress.old.next) }
+    {
+        if !Walk::is_gone(place) {
+            return Ok(());
+        }
+        let call = Call::DeleteEntry {
+            path: place.here.path.clone()?,
+            rev: revision_of(place.here.governing),
+            parent: place.parent,
+        };
+        make(self.limit, editor, progress, call)
+    }
+
+    // Whether a file that is entered gets a text.
+    fn has_text(&self, file: &Texted) -> bool
+        ensures { result ≡ has_text_of self.now.repo.now file.now }
+    {
+        let new = text_of(self.repo, file.node);
+        !file.is_opened || old_text(self.repo, file) != new
+    }
+
+    // The checksum of the text that is replaced; of a new file none.
+    fn base_md5(&self, file: &Texted) -> Option<Digest>
+        ensures { result ≡ (if file.now.is_opened then Some (md5 (old_text self.now.repo.now file.now)) else None) }
+    {
+        if file.is_opened {
+            Some(checksum(old_text(self.repo, file)))
+        } else {
+            None
+        }
+    }
+
+    // Gives a file its text.
+    fn give_text<E: Editor>(
+        &self,
+        file: &Texted,
+        editor: &mut E,
+        progress: &mut Progress,
+    ) -> Result<(), Stop>
+        ensures runs { Runs E.answers self.now.limit (call_at [] 0 file.now.token (text_action self.now.repo.now file.now) ∷ []) result editor.old editor.new progress.old.made progress.new.made }
+        ensures tokens { OnOk result (progress.new.next ≡ progress.old.next) }
+    {
+        let text = Vec::from_slice(self.alloc, text_of(self.repo, file.node))?;
+        let call = Call::ApplyText {
+            token: file.token,
+            base_md5: self.base_md5(file),
+            text: Text::new(text),
+        };
+        make(self.limit, editor, progress, call)
+    }
+
+    fn close_file<E: Editor>(
+        &self,
+        file: &Texted,
+        editor: &mut E,
+        progress: &mut Progress,
+    ) -> Result<(), Stop>
+        ensures runs { Runs E.answers self.now.limit (call_at [] 0 file.now.token (close_action self.now.repo.now file.now) ∷ []) result editor.old editor.new progress.old.made progress.new.made }
+        ensures tokens { OnOk result (progress.new.next ≡ progress.old.next) }
+    {
+        let call = Call::CloseFile {
+            token: file.token,
+            text_md5: Some(checksum(text_of(self.repo, file.node))),
+        };
+        make(self.limit, editor, progress, call)
+    }
+
+    // What is to be known of a file for its text.
+    fn texted(&self, place: &Place<'a>, opened: &Opened) -> Texted
+        requires { IsAt (request_of self.now) place.now }
+        ensures told { IsTold self.now place.now.here.path opened.now.node result }
+        ensures token { result.token ≡ opened.now.token }
+    {
+        Texted {
+            token: opened.token,
+            node: opened.node,
+            is_opened: place.is_touched,
+            has_old: place.source.is_some(),
+            old: match place.source {
+                Some(id) => id,
+                None => opened.node,
+            },
+        }
+    }
+
+    // Ends a file: its text, where that differs, and its close, or both later.
+    fn end_file<E: Editor>(
+        &self,
+        place: &Place<'a>,
+        opened: &Opened,
+        editor: &mut E,
+        progress: &mut Progress,
+        later: &mut Vec<Texted>,
+    ) -> Result<(), Stop>
+        requires at { IsAt (request_of self.now) place.now }
+        requires entered { IsEntered (request_of self.now) place.now.here.path opened.now.node File }
+        ensures runs { Runs E.answers self.now.limit (calls_at place.now.here.path place.now.parent opened.now.token (if is_late (request_of self.now) self.now.late place.now.here.path then [] else file_end (request_of self.now) place.now.here.path opened.now.node)) result editor.old editor.new progress.old.made progress.new.made }
+        ensures tokens { OnOk result (progress.new.next ≡ progress.old.next) }
+        ensures waits { OnOk result (waiting self.now.repo.now later.new.items ≡ waiting self.now.repo.now later.old.items ++ calls_at place.now.here.path place.now.parent opened.now.token (if is_late (request_of self.now) self.now.late place.now.here.path then file_end (request_of self.now) place.now.here.path opened.now.node else [])) }
+    {
+        let file = self.texted(place, opened);
+        if !self.has_text(&file) {
+            return self.close_file(&file, editor, progress);
+        }
+        if self.late {
+            postpone(later, file)?;
+            return Ok(());
+        }
+        self.give_text(&file, editor, progress)?;
+        self.close_file(&file, editor, progress)
+    }
+
+    // Whether a child of a kept place is one node on both sides, with nothing reported there, so that nothing is done at it.
+    fn is_same_child(&self, place: &Place<'a>, name: &Name, is_reported: bool) -> bool
+        requires at { IsAt (request_of self.now) place.now }
+        requires kept { IsTrue place.now.is_kept }
+        requires unreported { IsFalse is_reported → has_entry_within self.now.report.now.entries (place.now.here.path ++ name.now ∷ []) ≡ false }
+        ensures { IsTrue result → IsIdle (request_of self.now) (place.now.here.path ++ name.now ∷ []) }
+    {
+        if is_reported {
+            false
+        } else if starts_empty(place.here.governing) {
+            false
+        } else {
+            has_same_entry(self.repo, place.source, place.target, name)
+        }
+    }
+
+    // Whether nothing is done at a child: it is the same, the target has nothing there below what isn't kept, or its path would be too long.
+    fn is_idle_child(&self, place: &Place<'a>, name: &Name, is_reported: bool) -> bool
+        requires at { IsAt (request_of self.now) place.now }
+        requires unreported { IsFalse is_reported → has_entry_within self.now.report.now.entries (place.now.here.path ++ name.now ∷ []) ≡ false }
+        ensures idle { IsTrue result → IsIdle (request_of self.now) (place.now.here.path ++ name.now ∷ []) }
+        ensures room { IsFalse result → length place.now.here.path < depth_limit }
+    {
+        if place.here.path.components().len() >= MAX_COMPONENTS {
+            true
+        } else if place.is_kept {
+            self.is_same_child(place, name, is_reported)
+        } else {
+            entry_of(self.repo, place.target, name).is_none()
+        }
+    }
+
+    // The places below a directory.
+    #[cycle(visit)]
+    fn visit_below<E: Editor>(
+        &self,
+        place: &Place<'a>,
+        token: Token,
+        editor: &mut E,
+        progress: &mut Progress,
+        later: &mut Vec<Texted>,
+    ) -> Result<(), Stop>
+        requires at { IsAt (request_of self.now) place.now }
+        requires short { length place.now.here.path ≤ depth_limit }
+        ensures runs { Runs E.answers self.now.limit (in_turn (λ q next. visit_calls (request_of self.now) self.now.late q token next) (visit_size (request_of self.now)) place.now.here.path progress.old.next (names_below (request_of self.now) place.now.here.path)) result editor.old editor.new progress.old.made progress.new.made }
+        ensures tokens { OnOk result (progress.new.next ≡ progress.old.next + sizes (visit_size (request_of self.now)) place.now.here.path (names_below (request_of self.now) place.now.here.path)) }
+        ensures waits { OnOk result (waiting self.now.repo.now later.new.items ≡ waiting self.now.repo.now later.old.items ++ in_turn (λ q next. visit_late (request_of self.now) self.now.late q token next) (visit_size (request_of self.now)) place.now.here.path progress.old.next (names_below (request_of self.now) place.now.here.path)) }
+    {
+        let reported = reported_below(self.alloc, self.report, &place.here.path)?;
+        let names = names_below(self.alloc, self, place)?;
+        for name in names {
+            if self.is_idle_child(place, name, has_name(&reported, name)) {
+                continue;
+            }
+            let below = self.child(place, name, token)?;
+            self.visit(&below, editor, progress, later)?;
+        }
+        Ok(())
+    }
+
+    // What was entered, from its opening to its close.
+    #[cycle(visit)]
+    fn visit_entered<E: Editor>(
+        &self,
+        place: &Place<'a>,
+        opened: &Opened,
+        editor: &mut E,
+        progress: &mut Progress,
+        later: &mut Vec<Texted>,
+    ) -> Result<(), Stop>
+        requires at { IsAt (request_of self.now) place.now }
+        requires short { length place.now.here.path ≤ depth_limit }
+        requires entered { IsEntered (request_of self.now) place.now.here.path opened.now.node opened.now.kind }
+        requires token { opened.now.token ≡ progress.old.next }
+        ensures runs { Runs E.answers self.now.limit (entered_calls (request_of self.now) self.now.late place.now.here.path place.now.parent progress.old.next opened.now.node opened.now.kind) result editor.old editor.new progress.old.made progress.new.made }
+        ensures tokens { OnOk result (progress.new.next ≡ progress.old.next + entered_size (request_of self.now) place.now.here.path opened.now.kind) }
+        ensures waits { OnOk result (waiting self.now.repo.now later.new.items ≡ waiting self.now.repo.now later.old.items ++ entered_late (request_of self.now) self.now.late place.now.here.path place.now.parent progress.old.next opened.now.node opened.now.kind) }
+    {
+        self.enter(place, opened, editor, progress)?;
+        match opened.kind {
+            Kind::File => self.end_file(place, opened, editor, progress, later),
+            Kind::Directory => {
+                self.visit_below(place, opened.token, editor, progress, later)?;
+                let call = Call::CloseDirectory {
+                    token: opened.token,
+                };
+                make(self.limit, editor, progress, call)
+            }
+        }
+    }
+
+    /// All calls at a place and below it, but for the texts that wait.
+    #[cycle(visit)]
+    pub(crate) fn visit<E: Editor>(
+        &self,
+        place: &Place<'a>,
+        editor: &mut E,
+        progress: &mut Progress,
+        later: &mut Vec<Texted>,
+    ) -> Result<(), Stop>
+        requires at { IsAt (request_of self.now) place.now }
+        requires short { length place.now.here.path ≤ depth_limit }
+        ensures runs { Runs E.answers self.now.limit (visit_calls (request_of self.now) self.now.late place.now.here.path place.now.parent progress.old.next) result editor.old editor.new progress.old.made progress.new.made }
+        ensures tokens { OnOk result (progress.new.next ≡ progress.old.next + visit_size (request_of self.now) place.now.here.path) }
+        ensures waits { OnOk result (waiting self.now.repo.now later.new.items ≡ waiting self.now.repo.now later.old.items ++ visit_late (request_of self.now) self.now.late place.now.here.path place.now.parent progress.old.next) }
+    {
+        self.delete_gone(place, editor, progress)?;
+        if !self.is_entered(place) {
+            return Ok(());
+        }
+        let Some(node) = place.target else {
+            return Ok(());
+        };
+        let opened = Opened {
+            token: progress.next_token(),
+            kind: kind_of(self.repo, node),
+            node,
+        };
+        self.visit_entered(place, &opened, editor, progress, later)
+    }
+
+    /// The texts that waited, in the order of their files.
+    pub(crate) fn give_late<E: Editor>(
+        &self,
+        later: &[Texted],
+        editor: &mut E,
+        progress: &mut Progress,
+    ) -> Result<(), Stop>
+        ensures runs { Runs E.answers self.now.limit (waiting self.now.repo.now later.now) result editor.old editor.new progress.old.made progress.new.made }
+    {
+        for file in later {
+            self.give_text(file, editor, progress)?;
+            self.close_file(file, editor, progress)?;
+        }
+        Ok(())
+    }
+}

@@ -1,0 +1,203 @@
+//! What a drive is made from, and the places that it walks over.
+ghost use Rattle.std.specs.Prelude.{◌≡◌, ◌&&◌, not, true, is_some, ◌<◌, ◌≤◌, length, if◌then◌else◌, IfOk, [], ◌∷◌, ◌++◌};
+ghost use Rattle.std.specs.Option.{option_copied};
+ghost use Rattle.svn_types.specs.Names.{depth_limit};
+ghost use Rattle.svn_model.specs.Sources.{source, reported_child};
+ghost use Rattle.svn_model.specs.Tree.{is_entered};
+ghost use Rattle.svn_model.specs.Follow.{root_path};
+ghost use Rattle.svn_drive.specs.Checking.{seen_as};
+ghost use Rattle.svn_drive.specs.Walking.{IsAt, IsNearlyAt, is_changed_at, linked_node, candidate_node, request_of, mode_of};
+
+use crate::check::{Check, Seen, both};
+use crate::entries::{is_hidden, starts_empty};
+use crate::nodes::{are_related, entry_of, is_directory};
+use crate::place::Place;
+use std::alloc::{AllocError, Global};
+use svn_editor::Token;
+use svn_repo::{NodeId, Repo};
+use svn_report::{Report, ReportEntry};
+use svn_types::{Name, RelPath, Rev};
+
+/// A drive: what it reads, the revision that it leads to, the new root of a switch, whether texts wait for the directories, and how many calls
+/// may be made.
+#[derive(Clone, Copy)]
+pub(crate) struct Walk<'a> {
+    pub(crate) alloc: Global,
+    pub(crate) repo: &'a Repo,
+    pub(crate) report: &'a Report,
+    pub(crate) target: Rev,
+    pub(crate) switch_to: Option<&'a RelPath>,
+    pub(crate) late: bool,
+    pub(crate) limit: Option<u64>,
+}
+
+// The node that a child has in the target: the one that keeps it, else the one beneath its parent's.
+fn target_of(is_kept: bool, there: &Option<NodeId>, beneath: &Option<NodeId>) -> Option<NodeId>
+    ensures { result ≡ (if is_kept then there.now else beneath.now) }
+{
+    if is_kept { *there } else { *beneath }
+}
+
+impl<'a> Walk<'a> {
+    // What reads the report.
+    fn reading(&self) -> Check<'a>
+        ensures repo { result.repo ≡ self.now.repo }
+        ensures report { result.report ≡ self.now.report }
+    {
+        Check {
+            alloc: self.alloc,
+            repo: self.repo,
+            report: self.report,
+        }
+    }
+
+    // Whether something is to be done at a kept path, or below it.
+    fn is_changed(&self, place: &Place<'a>) -> bool
+        ensures { result ≡ is_changed_at (request_of self.now) place.now }
+    {
+        place.here.path.is_root()
+            || place.source != place.target
+            || (starts_empty(place.here.own) && is_directory(self.repo, place.source))
+            || self.report.has_entry_below(&place.here.path)
+    }
+
+    // With the one test that is left.
+    fn with_test(&self, place: Place<'a>) -> Place<'a>
+        requires { IsNearlyAt (request_of self.now) place }
+        ensures at { IsAt (request_of self.now) result }
+        ensures path { result.here.path ≡ place.entry.here.path }
+        ensures parent { result.parent ≡ place.entry.parent }
+    {
+        let touched = place.is_kept && self.is_changed(&place);
+        Place {
+            is_touched: touched,
+            ..place
+        }
+    }
+
+    // The path of the root in the target.
+    fn root_path(&self) -> &'a RelPath
+        ensures { result.now ≡ root_path (mode_of (option_copied self.now.switch_to)) self.now.report.now.root }
+    {
+        match self.switch_to {
+            Some(root) => root,
+            None => self.report.root(),
+        }
+    }
+
+    /// The root. Takes no memory.
+    pub(crate) fn root(&self) -> Place<'a>
+        ensures at { IsAt (request_of self.now) result }
+        ensures path { result.here.path ≡ [] }
+        ensures parent { result.parent ≡ 0 }
+    {
+        let here = self.reading().seen_root();
+        let source = self.reading().source(&here);
+        let target = self.repo.lookup(self.target, self.root_path());
+        self.with_test(Place {
+            here,
+            is_kept: true,
+            parent_is_kept: true,
+            source,
+            target,
+            is_touched: true,
+            parent: Token(0),
+        })
+    }
+
+    // The node that the client has at a child: the entry of its parent's node, but where the report has an entry of its own.
+    fn child_source(&self, above: &Place<'a>, here: &Seen<'a>, name: &Name) -> Option<NodeId>
+        requires at { IsAt (request_of self.now) above.now }
+        requires here { seen_as here.now ≡ reported_child self.now.report.now (seen_as above.now.here) name.now }
+        requires start { here.now.start ≤ length here.now.path }
+        ensures { result ≡ source self.now.repo.now (seen_as here.now) }
+    {
+        if here.own.is_some() {
+            self.reading().source(here)
+        } else if is_hidden(None, here.governing) {
+            None
+        } else {
+            entry_of(self.repo, above.source, name)
+        }
+    }
+
+    // The node in the target where a link leads; without one the node given.
+    fn linked_node(&self, own: Option<&ReportEntry>, beneath: &Option<NodeId>) -> Option<NodeId>
+        ensures { result ≡ linked_node (request_of self.now) (option_copied own.entry) beneath.now }
+    {
+        match own {
+            Some(ReportEntry::LinkPath { repos_path, .. }) => {
+                self.repo.lookup(self.target, repos_path)
+            }
+            _ => *beneath,
+        }
+    }
+
+    // The node in the target that would keep a child of a kept place, by the one beneath its parent's: only an update follows links.
+    fn candidate(&self, here: &Seen<'a>, beneath: &Option<NodeId>) -> Option<NodeId>
+        ensures { result ≡ candidate_node (request_of self.now) (mode_of (option_copied self.now.switch_to)) (option_copied here.now.own) beneath.now }
+    {
+        match self.switch_to {
+            Some(_) => *beneath,
+            None => self.linked_node(here.own, beneath),
+        }
+    }
+
+    // The child of a place, by what the report says of it.
+    fn child_seen(&self, above: &Place<'a>, here: Seen<'a>, name: &Name, parent: Token) -> Place<'a>
+        requires at { IsAt (request_of self.now) above.now }
+        requires here { seen_as here ≡ reported_child self.now.report.now (seen_as above.now.here) name.now }
+        requires start { here.start ≤ length here.path }
+        ensures at { IsAt (request_of self.now) result }
+        ensures path { result.here.path ≡ here.entry.path }
+        ensures parent { result.parent ≡ parent }
+    {
+        let source = self.child_source(above, &here, name);
+        let beneath = entry_of(self.repo, above.target, name);
+        let there = self.candidate(&here, &beneath);
+        let related = are_related(self.repo, &source, &there);
+        let is_kept = both(above.is_kept, related);
+        let target = target_of(is_kept, &there, &beneath);
+        self.with_test(Place {
+            here,
+            is_kept,
+            parent_is_kept: above.is_kept,
+            source,
+            target,
+            is_touched: false,
+            parent,
+        })
+    }
+
+    /// The child of a place, by its name.
+    pub(crate) fn child(
+        &self,
+        above: &Place<'a>,
+        name: &Name,
+        parent: Token,
+    ) -> Result<Place<'a>, AllocError>
+        requires at { IsAt (request_of self.now) above.now }
+        requires short { length above.now.here.path < depth_limit }
+        ensures at { IfOk result (λ p. IsAt (request_of self.now) p) }
+        ensures path { IfOk result (λ p. (p.here.path ≡ above.now.here.path ++ name.now ∷ []) × (length p.here.path ≤ depth_limit)) }
+        ensures parent { IfOk result (λ p. p.parent ≡ parent) }
+    {
+        let here = self.reading().seen_child(&above.here, name)?;
+        Ok(self.child_seen(above, here, name, parent))
+    }
+
+    /// Whether the client has something there that goes.
+    pub(crate) fn is_gone(place: &Place<'a>) -> bool
+        ensures { result ≡ (is_some place.now.source && not place.now.is_kept && place.now.parent_is_kept) }
+    {
+        place.source.is_some() && !place.is_kept && place.parent_is_kept
+    }
+
+    /// Whether the path is opened or added.
+    pub(crate) fn is_entered(&self, place: &Place<'a>) -> bool
+        requires { IsAt (request_of self.now) place.now }
+        ensures { result ≡ is_entered (request_of self.now) place.now.here.path }
+    {
+        place.is_touched || (!place.is_kept && place.target.is_some())
+    }
+}

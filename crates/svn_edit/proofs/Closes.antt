@@ -1,0 +1,250 @@
+-- The close of a directory: what was said of it is done, and its baton goes.
+use Rattle.std.proofs.Common.{◌≡◌, ◌≢◌, ℕ, Bool, true, false, cond, ◌&&◌, not, List, [], ◌∷◌, ◌++◌, refl, sym, ◌∙◌, ap, subst, true≢false}
+use Rattle.std.specs.Prelude.{Option, Some, None, Result, Ok, Err, OnOk, IfOk, IfErr, is_some, nat_eq, filter_map}
+use Rattle.std.specs.List.{cons_option}
+use Rattle.svn_types.specs.declared.kind.Kind.{Kind}
+use Rattle.svn_types.specs.declared.kind.Kind.TheVariants.{File, Directory}
+use Rattle.svn_types.specs.Names.{Path}
+use Rattle.svn_types.specs.Paths.{path_eq}
+use Rattle.svn_types.specs.Props.{PropChange}
+use Rattle.svn_pool.specs.Pools.{Entry, Pools, pool_at, parent_of, strings_of_pool}
+use Rattle.svn_editor.specs.declared.call.Call.{Call}
+use Rattle.svn_editor.specs.declared.call.Call.TheVariants.{CloseDirectory, ApplyText}
+use Rattle.svn_editor.specs.declared.fault.EditFault.{EditFault}
+use Rattle.svn_editor.specs.declared.fault.EditFault.TheVariants.{Memory, TooLong}
+use Rattle.svn_editor.specs.Calls.{Given, kind_eq, number_eq, given_by, named_by, given, is_closed, all_given, path_of, is_abort}
+use Rattle.svn_editor.specs.Calls.{is_open_in, closes}
+use Rattle.svn_editor.specs.Steps.{Mode, Update, Action, Delete, Open, Add, Change, Text, Close, Step, steps_of, target_of}
+use Rattle.svn_editor.proofs.Accepted.{accepted}
+use Rattle.svn_editor.proofs.OneMore.{any_at, false_from}
+use Rattle.svn_editor.proofs.Nested.{eq_true, true_eq}
+use Rattle.svn_order.proofs.Sound.{known}
+use Rattle.svn_order.proofs.Lawful.{sound}
+use Rattle.svn_model.specs.declared.base_node.BaseNode.{BaseNode}
+use Rattle.svn_edit.specs.declared.baton.Baton.{Baton}
+use Rattle.svn_edit.specs.declared.edit.Edit.{Edit}
+use Rattle.std.specs.Ordering.{nat_cmp}
+use Rattle.std.specs.BTreeMap.{BTreeMap, Updates, get}
+use Rattle.svn_pool.proofs.Edges.{updated_here, updated_away}
+use Rattle.svn_edit.specs.declared.baton.Note.{Note}
+use Rattle.svn_edit_law.proofs.Appending.{next_target}
+use Rattle.svn_edit_law.proofs.OnePath.{noted, pathed}
+use Rattle.svn_model.specs.Nodes.{WorkingCopy, get_in}
+use Rattle.svn_model.specs.Effects.{change_in, changes_at, closed_directory, is_too_long, step_fault, step_effect, effect, edit_fault}
+use Rattle.svn_model.specs.Said.{says, said_at}
+use Rattle.svn_edit.specs.Noted.{slashed, note_of, strings_of}
+use Rattle.svn_edit.specs.Applying.{Applied, BatonSaid, BatonNoted, KeepsEdit, batons_of, is_open, IsBaton, BatonGone, IsLeaf, Says, Holds}
+use Rattle.svn_edit.specs.Applying.{IsNext}
+use Rattle.svn_model.specs.Answering.{AnswersCall}
+use Rattle.svn_edit_law.proofs.StepEffects.{effect_alone, effect_none}
+use Rattle.svn_edit.proofs.HeldBatons.{held_leaf, held_gone, held_noted}
+use Rattle.svn_edit.proofs.Holding.{holds_by, applied_some, ok_by, at_ok}
+
+-- the changes on a path are among what is said
+pub changes_are : (p : Path) (steps : List Step) → filter_map change_in (said_at p steps) ≡ changes_at p steps
+changes_are p [] = refl
+changes_are p (s ∷ steps) = by (path_eq s.path p) s.action (changes_are p steps)
+  where
+    by : (b : Bool) (a : Action) → filter_map change_in (said_at p steps) ≡ changes_at p steps
+        → filter_map change_in (cond (b && says a) (a ∷ said_at p steps) (said_at p steps)) ≡ cond b
+        (cons_option (change_in a) (changes_at p steps)) (changes_at p steps)
+    by false a ih = ih
+    by true (Change k x) ih = ap (λ (l : List PropChange). x ∷ l) ih
+    by true (Text s t) ih = ih
+    by true (Delete r) ih = ih
+    by true (Open k r) ih = ih
+    by true (Add k) ih = ih
+    by true (Close k x) ih = ih
+
+module _ (mode : Mode) (edit : Edit) (calls : List Call) (c : Call) (m : ℕ) (k : Kind) (next : IsNext mode edit calls c)
+    (going : is_abort c ≡ false) (named : named_by c ≡ Some (m, k)) where
+  named_open : is_open calls m ≡ true
+  named_open =
+      let x = known calls c m k (accepted calls c going next.in_order) named in
+      (λ i. is_some (x.is i) && not (x.unclosed i))
+
+  -- the token that a call names has a baton
+  pub named_baton : (b : Baton) × (batons_of edit m ≡ Some b) × IsBaton edit.pools (batons_of edit) calls m b
+  named_baton = by (batons_of edit m) refl
+    where
+      by : (o : Option Baton) → batons_of edit m ≡ o → (b : Baton) × (batons_of edit m ≡ Some b)
+          × IsBaton edit.pools (batons_of edit) calls m b
+      by None e = absurd (true≢false (sym named_open ∙ sym (next.holds.batons.opened m) ∙ ap is_some e))
+      by (Some b) e = (b, e, next.holds.batons.each m b e)
+
+pub says_of : (pools : Pools) (at : ℕ → Option Baton) (calls : List Call) (t : ℕ) (b : Baton) → IsBaton pools at calls t b
+    → Says b pools (said_at (path_of calls t) (steps_of calls))
+says_of pools at calls t b is = record {
+  notes = is.notes;
+  first = slashed (path_of calls t);
+  strings = ap strings_of_pool is.pool;
+  text =
+      is.text;
+}
+
+-- a call that closes a token, below which no directory is open
+pub gone_holds : (mode : Mode) (old new : Edit) (calls : List Call) (c d : Call) (t : ℕ) (k : Kind) → d ≡ c → IsNext mode old calls d
+    → is_abort c ≡ false → named_by c ≡ Some (t, k)
+    → next_target (target_of calls) c ≡ target_of calls → given_by c ≡ None → noted c ≡ None → closes t c ≡ true
+    → ((u : ℕ) → u ≢ t → closes u c ≡ false)
+    → ((u : ℕ) (g : Given) → is_open calls u ≡ true → given calls u ≡ Some g → g.kind ≡ Directory → g.parent ≡ Some t → ⊥)
+    → KeepsEdit old new
+    → ((b : Baton) (e : Entry) → batons_of old t ≡ Some b → pool_at old.pools b.pool.0 ≡ Some e → IsLeaf old.pools b.pool.0
+    → b.pool.0 ≢ old.pools.root → BatonGone t b old.pools (batons_of old) new.pools (batons_of new))
+    → Holds mode new (calls ++ d ∷ [])
+gone_holds mode old new calls c d t k is next going named still gives says shut others none_below keeps gone =
+    holds_by mode old new calls c d is next keeps still
+    (held_gone old.pools (batons_of old) calls c t baton.0 next.holds.batons none_below baton.1
+    (sound calls next.lawful) gives says shut others new.pools (batons_of new)
+    (gone baton.0 _ baton.1 baton.2.pool (held_leaf old.pools (batons_of old) calls c t baton.0 next.holds.batons none_below baton.1)
+    apart))
+  where
+    baton : (b : Baton) × (batons_of old t ≡ Some b) × IsBaton old.pools (batons_of old) calls t b
+    baton = named_baton mode old calls c t k (subst (λ (x : Call). IsNext mode old calls x) is next) going named
+
+    none_some : (a : ℕ) → None ≡ Some a → ⊥
+    none_some a e = cc
+
+    apart : baton.0.pool.0 ≢ old.pools.root
+    apart e = none_some _ (sym (ap parent_of next.holds.batons.root) ∙ ap (λ s. parent_of (pool_at old.pools s)) (sym e)
+        ∙ ap parent_of baton.2.pool)
+
+-- no other token is closed
+pub others_stay : (t u : ℕ) → u ≢ t → nat_eq t u ≡ false
+others_stay t u n = false_from (nat_eq t u) (λ e. n (sym (true_eq t u e)))
+
+module _ (mode : Mode) (old new : Edit) (calls : List Call) (t : ℕ) (d : Call) (is : d ≡ CloseDirectory t)
+    (next : IsNext mode old calls d) where
+  next_close : IsNext mode old calls (CloseDirectory t)
+  next_close = subst (λ (x : Call). IsNext mode old calls x) is next
+
+  baton : (b : Baton) × (batons_of old t ≡ Some b) × IsBaton old.pools (batons_of old) calls t b
+  baton = named_baton mode old calls (CloseDirectory t) t Directory next_close refl refl
+
+  -- what the close does to the copy
+  pub close_applied : (checksum : List ℕ → List ℕ) (nodes nodes2 : List (Path × BaseNode)) (r : Result (Unit {0}) EditFault)
+      → OnOk r ((b : Baton) (said : List Action) → batons_of old t ≡ Some b → Says b old.pools said
+      → (p : Path) → get_in nodes2 p ≡ cond (path_eq b.path p) (closed_directory (filter_map change_in said) (get_in nodes b.path))
+      (get_in nodes p))
+      → IfErr r (λ e. (e ≡ Memory) × (nodes2 ≡ nodes)) → Applied (edit_fault checksum mode calls d nodes)
+      (effect mode calls d (get_in nodes)) nodes r nodes2
+  close_applied checksum nodes nodes2 r closed bad =
+      subst (λ (x : Call). Applied (edit_fault checksum mode calls x nodes) (effect mode calls x (get_in nodes)) nodes r nodes2) (sym is)
+      (applied_some None (effect mode calls (CloseDirectory t) (get_in nodes)) nodes nodes2 r refl
+      (ok_by r (λ ok. done (at_ok r ok closed))) bad)
+    where
+      at : Path
+      at = path_of calls t
+
+      done : ((b : Baton) (said : List Action) → batons_of old t ≡ Some b → Says b old.pools said
+          → (p : Path) → get_in nodes2 p ≡ cond (path_eq b.path p) (closed_directory (filter_map change_in said) (get_in nodes b.path))
+          (get_in nodes p))
+          → (p : Path) → get_in nodes2 p ≡ effect mode calls (CloseDirectory t) (get_in nodes) p
+      done f p =
+          f baton.0 (said_at at (steps_of calls)) baton.1 (says_of old.pools (batons_of old) calls t baton.0 baton.2) p
+          ∙ (λ i. cond (path_eq (baton.2.path i) p) (closed_directory (changes_are at (steps_of calls) i) (get_in nodes (baton.2.path i)))
+          (get_in nodes p))
+          ∙ sym (effect_alone mode (target_of calls) (steps_of calls) at (Close Directory None) (get_in nodes) (λ o. refl) p)
+
+  -- no directory in it is open
+  none_below : (u : ℕ) (g : Given) → is_open calls u ≡ true → given calls u ≡ Some g → g.kind ≡ Directory → g.parent ≡ Some t → ⊥
+  none_below u g o e k p =
+      true≢false (sym (any_at (is_open_in t calls) (all_given calls) u g e below)
+      ∙ (accepted calls (CloseDirectory t) refl next_close.in_order).none_below)
+    where
+      number : g.token ≡ u
+      number = (sound calls next.lawful).numbered u g e
+
+      unclosed : is_closed calls g.token ≡ false
+      unclosed = ap (is_closed calls) number ∙ by (is_closed calls u) (given calls u) o
+        where
+          by : (b : Bool) (x : Option Given) → (is_some x && not b) ≡ true → b ≡ false
+          by true None h = absurd (true≢false (sym h))
+          by true (Some x) h = absurd (true≢false (sym h))
+          by false x h = refl
+
+      below : is_open_in t calls g ≡ true
+      below = (λ i. (kind_eq (k i) Directory && number_eq (p i) (Some t)) && (kind_eq (k i) Directory && not (unclosed i)))
+          ∙ (λ i. (eq_true t t refl i) && true)
+
+  -- and its baton
+  pub close_holds : KeepsEdit old new
+      → ((b : Baton) (e : Entry) → batons_of old t ≡ Some b → pool_at old.pools b.pool.0 ≡ Some e → IsLeaf old.pools b.pool.0
+      → b.pool.0 ≢ old.pools.root → BatonGone t b old.pools (batons_of old) new.pools (batons_of new))
+      → Holds mode new (calls ++ d ∷ [])
+  close_holds keeps gone =
+      gone_holds mode old new calls (CloseDirectory t) d t Directory is next refl refl refl refl refl (eq_true t t refl)
+      (others_stay t) none_below keeps gone
+
+-- ---- a call that is noted
+
+pub pass_ok : (A B : Type 0) (a : Result (Unit {0}) A) (r : Result (Unit {0}) EditFault) → IfOk r (λ v. a ≡ Ok v) → OnOk a B → OnOk r B
+pass_ok A B a (Ok v) ok h = subst (λ (x : Result (Unit {0}) A). OnOk x B) ok h
+pass_ok A B a (Err e) ok h = tt
+
+pub noted_of : (t : ℕ) (note : Note) (strings : List (List ℕ)) (b d : Baton) (pools pools2 : Pools) (m n : BTreeMap ℕ Baton)
+    → BatonSaid note strings b pools d pools2 → Updates nat_cmp m n t (Some d)
+    → BatonNoted t b note strings pools (get nat_cmp m) pools2 (get nat_cmp n)
+noted_of t note strings b d pools pools2 m n said written = record {
+  baton = d;
+  path = said.path;
+  same_pool = said.same_pool;
+  notes = said.notes;
+  text = said.text;
+  own = said.own;
+  others = said.others;
+  root = said.root;
+  count = said.count;
+  token = updated_here m n t (Some d) written;
+  tokens = updated_away m n t (Some d) written;
+}
+
+pub applied_same : (fault : Option EditFault) (w : WorkingCopy) (nodes : List (Path × BaseNode)) (r : Result (Unit {0}) EditFault)
+    → AnswersCall fault r → ((p : Path) → get_in nodes p ≡ w p) → Applied fault w nodes r nodes
+applied_same fault w nodes (Ok done) h same = (h, same)
+applied_same fault w nodes (Err e) h same = (h, refl)
+
+module _ (mode : Mode) (old new : Edit) (calls : List Call) (c d : Call) (m : ℕ) (k : Kind) (act : Action) (is : d ≡ c)
+    (next : IsNext mode old calls d) (going : is_abort c ≡ false) (named : named_by c ≡ Some (m, k)) where
+  next_note : IsNext mode old calls c
+  next_note = subst (λ (x : Call). IsNext mode old calls x) is next
+
+  pub note_baton : (b : Baton) × (batons_of old m ≡ Some b) × IsBaton old.pools (batons_of old) calls m b
+  note_baton = named_baton mode old calls c m k next_note going named
+
+  pub note_holds : next_target (target_of calls) c ≡ target_of calls → given_by c ≡ None → noted c ≡ Some (m, act)
+      → ((t : ℕ) → closes t c ≡ false) → KeepsEdit old new
+      → ((b : Baton) → batons_of old m ≡ Some b → BatonNoted m b (note_of act) (strings_of act) old.pools (batons_of old) new.pools
+      (batons_of new))
+      → Holds mode new (calls ++ d ∷ [])
+  note_holds still gives says shut keeps notes =
+      holds_by mode old new calls c d is next keeps still
+      (held_noted old.pools (batons_of old) calls c m act note_baton.0 next.holds.batons
+      (pathed calls next.lawful) gives says shut note_baton.1 new.pools (batons_of new) (notes note_baton.0 note_baton.1))
+
+-- a change of a property does nothing yet
+pub change_applied : (checksum : List ℕ → List ℕ) (mode : Mode) (edit : Edit) (calls : List Call) (c d : Call) (m : ℕ) (k : Kind)
+    (x : PropChange) (nodes : List (Path × BaseNode)) (r : Result (Unit {0}) EditFault) → d ≡ c
+    → edit_fault checksum mode calls c nodes ≡ step_fault checksum mode (steps_of calls) (get_in nodes) (path_of calls m) (Change k x)
+    → effect mode calls c (get_in nodes) ≡ step_effect mode (target_of calls) (steps_of calls)
+    (record { path = path_of calls m; action = Change k x }) (get_in nodes)
+    → AnswersCall (cond (is_too_long x.1) (Some TooLong) None) r → Applied (edit_fault checksum mode calls d nodes)
+    (effect mode calls d (get_in nodes)) nodes r nodes
+change_applied checksum mode edit calls c d m k x nodes r is faults effects answers =
+    subst (λ (y : Call). Applied (edit_fault checksum mode calls y nodes) (effect mode calls y (get_in nodes)) nodes r nodes) (sym is)
+    (applied_same (edit_fault checksum mode calls c nodes) (effect mode calls c (get_in nodes)) nodes r
+    (subst (λ (f : Option EditFault). AnswersCall f r) (sym faults) answers)
+    (λ p. effect_none mode (target_of calls) (steps_of calls) (path_of calls m) (Change k x) (get_in nodes) (λ o. refl) refl p
+    ∙ sym (ap (λ (v : WorkingCopy). v p) effects)))
+
+pub text_applied : (checksum : List ℕ → List ℕ) (mode : Mode) (edit : Edit) (calls : List Call) (t : ℕ) (sum : Option (List ℕ))
+    (text : List ℕ) (d : Call) (nodes : List (Path × BaseNode)) (r : Result (Unit {0}) EditFault)
+    → d ≡ ApplyText t sum text → IsNext mode edit calls d
+    → ((b : Baton) → batons_of edit t ≡ Some b → AnswersCall (step_fault checksum Update [] (get_in nodes) b.path (Text sum text)) r)
+    → Applied (edit_fault checksum mode calls d nodes) (effect mode calls d (get_in nodes)) nodes r nodes
+text_applied checksum mode edit calls t sum text d nodes r is next answers =
+    let b = named_baton mode edit calls (ApplyText t sum text) t File (subst (λ (x : Call). IsNext mode edit calls x) is next) refl refl in
+    subst (λ (y : Call). Applied (edit_fault checksum mode calls y nodes) (effect mode calls y (get_in nodes)) nodes r nodes) (sym is)
+    (applied_same _ (effect mode calls (ApplyText t sum text) (get_in nodes)) nodes r
+    (subst (λ (p : Path). AnswersCall (step_fault checksum Update [] (get_in nodes) p (Text sum text)) r) b.2.path (answers b.0 b.1))
+    (effect_none mode (target_of calls) (steps_of calls) (path_of calls t) (Text sum text) (get_in nodes) (λ o. refl) refl))

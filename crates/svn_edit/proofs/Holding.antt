@@ -1,0 +1,173 @@
+-- What an edit holds after one more call.
+use Rattle.std.proofs.Common.{◌≡◌, ℕ, false, List, [], ◌∷◌, ◌++◌, refl, sym, ◌∙◌, ap, subst}
+use Rattle.std.specs.Prelude.{Option, Some, None, Result, Ok, Err, OnOk, OnErr, IfErr}
+use Rattle.std.specs.Option.{option_or, option_map}
+use Rattle.svn_types.specs.Names.{Path}
+use Rattle.svn_editor.specs.declared.call.Call.{Call}
+use Rattle.svn_editor.specs.declared.fault.EditFault.{EditFault}
+use Rattle.svn_editor.specs.declared.fault.EditFault.TheVariants.{Memory, Order}
+use Rattle.svn_editor.specs.declared.fault.OrderFault.{OrderFault}
+use Rattle.svn_editor.specs.declared.fault.OrderFault.TheVariants.{Memory as NoMemory}
+use Rattle.svn_editor.specs.Calls.{Given, given_by, closes, is_abort}
+use Rattle.svn_editor.specs.Order.{order_fault, Answers}
+use Rattle.svn_editor.specs.Steps.{Mode, target_of}
+use Rattle.svn_editor.proofs.Accepted.{accepted, not_ended}
+use Rattle.svn_order.proofs.Lawful.{sound}
+use Rattle.svn_model.specs.declared.base_node.BaseNode.{BaseNode}
+use Rattle.svn_edit.specs.declared.edit.Edit.{Edit}
+use Rattle.svn_model.specs.Nodes.{WorkingCopy, get_in}
+use Rattle.svn_model.specs.Effects.{effect, after, edit_fault, refusal}
+use Rattle.svn_edit.specs.Applying.{RefusedAs, Applied, KeepsEdit, MakesBaton, batons_of, mode_of, pool_above, Holds, IsNext, StandsAfter}
+use Rattle.svn_edit.specs.Applying.{HoldsBatons}
+use Rattle.svn_model.specs.Answering.{IsAnswer, AnswersCall}
+use Rattle.svn_edit_law.proofs.Appending.{after-more, next_target, target-more}
+use Rattle.svn_edit_law.proofs.OnePath.{noted, pathed}
+use Rattle.svn_edit.proofs.HeldBatons.{held_still, held_made}
+
+pub map_ok : {T E : Type 0} {P Q : Type 0} (r : Result T E) → OnOk r P → (P → Q) → OnOk r Q
+map_ok (Ok v) h f = f h
+map_ok (Err e) h f = tt
+
+-- a call without effect and fault, whose only refusal is for memory
+pub applied_none : (fault : Option EditFault) (w : WorkingCopy) (nodes : List (Path × BaseNode)) (r : Result (Unit {0}) EditFault)
+    → fault ≡ None → ((p : Path) → get_in nodes p ≡ w p) → IfErr r (λ e. e ≡ Memory)
+    → Applied fault w nodes r nodes
+applied_none fault w nodes (Ok done) none same h = (none, same)
+applied_none fault w nodes (Err e) none same h = (subst (IsAnswer fault) (sym h) tt, refl)
+
+pub applied_some : (fault : Option EditFault) (w : WorkingCopy) (nodes nodes2 : List (Path × BaseNode)) (r : Result (Unit {0}) EditFault)
+    → fault ≡ None → OnOk r ((p : Path) → get_in nodes2 p ≡ w p)
+    → IfErr r (λ e. (e ≡ Memory) × (nodes2 ≡ nodes)) → Applied fault w nodes r nodes2
+applied_some fault w nodes nodes2 (Ok done) none same h = (none, same)
+applied_some fault w nodes nodes2 (Err e) none same h = (subst (IsAnswer fault) (sym h.0) tt, h.1)
+
+-- ---- what is held
+
+module _ (mode : Mode) (old new : Edit) (calls : List Call) (c d : Call) (is : d ≡ c) (next : IsNext mode old calls d)
+    (keeps : KeepsEdit old new) (still : next_target (target_of calls) c ≡ target_of calls) where
+  pub in_order : order_fault calls c ≡ None
+  in_order = ap (order_fault calls) (sym is) ∙ next.in_order
+
+  pub holds_by : HoldsBatons new.pools (batons_of new) (calls ++ c ∷ []) → Holds mode new (calls ++ d ∷ [])
+  holds_by h = record {
+    stage = keeps.stage ∙ next.holds.stage;
+    root = ap mode_of keeps.root ∙ next.holds.root;
+    target = keeps.target ∙ next.holds.target ∙ sym (ap (λ (x : Call). target_of (calls ++ x ∷ [])) is
+        ∙ target-more calls c next.lawful in_order ∙ still);
+    batons = subst (λ (x : Call). HoldsBatons new.pools (batons_of new) (calls ++ x ∷ [])) (sym is) h;
+  }
+
+  -- a call that gives a token
+  pub holds_made : (g : Given) → given_by c ≡ Some g → noted c ≡ None → is_abort c ≡ false → (beneath : ℕ)
+      → beneath ≡ pool_above old.pools.root (batons_of old) (Some g) → MakesBaton beneath g.path g.token old new
+      → Holds mode new (calls ++ d ∷ [])
+  holds_made g gives says going beneath place made =
+      holds_by (held_made old.pools (batons_of old) calls c g next.holds.batons (sound calls next.lawful) (pathed calls next.lawful)
+      (accepted calls c going in_order) gives says new.pools (batons_of new)
+      (subst (λ n. MakesBaton n g.path g.token old new) place made))
+
+-- a call that changes no baton
+pub holds_still : (mode : Mode) (old : Edit) (calls : List Call) (c d : Call) → d ≡ c → IsNext mode old calls d
+    → next_target (target_of calls) c ≡ target_of calls → given_by c ≡ None → noted c ≡ None → ((t : ℕ) → closes t c ≡ false)
+    → Holds mode old (calls ++ d ∷ [])
+holds_still mode old calls c d is next still none says shut =
+    holds_by mode old old calls c d is next (record { stage = refl; order = refl; target = refl; root = refl }) still
+    (held_still old.pools (batons_of old) calls c next.holds.batons none says shut)
+
+-- ---- answers
+
+pub order_none : (fault : Option OrderFault) → Answers fault (Ok tt) → fault ≡ None
+order_none None h = refl
+order_none (Some f) h = absurd h
+
+pub refusal_is : (checksum : List ℕ → List ℕ) (mode : Mode) (calls : List Call) (c : Call) (nodes : List (Path × BaseNode))
+    → order_fault calls c ≡ None → refusal checksum mode calls c nodes ≡ edit_fault checksum mode calls c nodes
+refusal_is checksum mode calls c nodes h = ap (λ (o : Option OrderFault). option_or (option_map Order o)
+    (edit_fault checksum mode calls c nodes)) h
+
+pub applied_answer : (fault : Option EditFault) (w : WorkingCopy) (nodes nodes2 : List (Path × BaseNode)) (r : Result (Unit {0}) EditFault)
+    → Applied fault w nodes r nodes2 → AnswersCall fault r
+applied_answer fault w nodes nodes2 (Ok done) h = h.0
+applied_answer fault w nodes nodes2 (Err e) h = h.0
+
+pub applied_copy : (fault : Option EditFault) (w : WorkingCopy) (nodes nodes2 : List (Path × BaseNode)) (r : Result (Unit {0}) EditFault)
+    → Applied fault w nodes r nodes2 → OnOk r ((p : Path) → get_in nodes2 p ≡ w p)
+applied_copy fault w nodes nodes2 (Ok done) h = h.1
+applied_copy fault w nodes nodes2 (Err e) h = tt
+
+-- the copy after one more call
+pub copy_more : (mode : Mode) (w0 : WorkingCopy) (calls : List Call) (c : Call) (nodes nodes2 : List (Path × BaseNode))
+    → ((p : Path) → get_in nodes p ≡ after mode w0 calls p)
+    → ((p : Path) → get_in nodes2 p ≡ effect mode calls c (get_in nodes) p) → (p : Path)
+    → get_in nodes2 p ≡ after mode w0 (calls ++ c ∷ []) p
+copy_more mode w0 calls c nodes nodes2 before same p =
+    let whole : get_in nodes ≡ after mode w0 calls = λ i q. before q i in
+    same p ∙ ap (λ (w : WorkingCopy). effect mode calls c w p) whole ∙ sym (ap (λ (w : WorkingCopy). w p) (after-more mode w0 calls c))
+
+-- an edit that goes on holds what it should, also once the order check took the call
+pub next_is : (mode : Mode) (w0 : WorkingCopy) (edit edit2 : Edit) (nodes : List (Path × BaseNode)) (calls : List Call) (c : Call)
+    → StandsAfter mode w0 edit nodes calls → order_fault calls c ≡ None
+    → (Holds mode edit calls → Holds mode edit2 calls) → IsNext mode edit2 calls c
+next_is mode w0 edit edit2 nodes calls c s h same = record {
+  holds = same (s.going (not_ended calls c h));
+  lawful = s.order.lawful;
+  in_order = h;
+}
+
+-- ---- results
+
+pub ok_by : {P : Type 0} (r : Result (Unit {0}) EditFault) → (r ≡ Ok tt → P) → OnOk r P
+ok_by (Ok done) f = f refl
+ok_by (Err e) f = tt
+
+pub at_ok : {P : Type 0} (r : Result (Unit {0}) EditFault) → r ≡ Ok tt → OnOk r P → P
+at_ok {P} r e h = subst (λ (x : Result (Unit {0}) EditFault). OnOk x P) e h
+
+pub err_by : {P : Type 0} (r : Result (Unit {0}) EditFault) → ((e : EditFault) → r ≡ Err e → P) → OnErr r P
+err_by (Ok done) f = tt
+err_by (Err e) f = f e refl
+
+pub applied_err : (fault : Option EditFault) (w : WorkingCopy) (nodes nodes2 : List (Path × BaseNode)) (r : Result (Unit {0}) EditFault)
+    (e : EditFault) → r ≡ Err e → Applied fault w nodes r nodes2 → nodes2 ≡ nodes
+applied_err fault w nodes nodes2 r e is h = (subst (λ (x : Result (Unit {0}) EditFault). Applied fault w nodes x nodes2) is h).1
+
+abbrev pub refused_by : OrderFault → Result (Unit {0}) OrderFault
+refused_by e = Err e
+
+pub refused_other : (e : OrderFault) → (e ≡ NoMemory → ⊥) → RefusedAs e (Order e)
+refused_other NoMemory n = absurd (n refl)
+refused_other e n = refl
+
+-- an order fault is the refusal
+pub order_refused : (fault : Option OrderFault) (e : OrderFault) (r : EditFault) (rest : Option EditFault) → Answers fault (refused_by e)
+    → RefusedAs e r → IsAnswer (option_or (option_map Order fault) rest) r
+order_refused fault NoMemory r rest h n = subst (IsAnswer (option_or (option_map Order fault) rest)) (sym n) tt
+order_refused None e r rest h n = cc
+order_refused (Some f) e r rest h n = subst (IsAnswer (Some (Order f))) (sym n) (ap (λ (x : OrderFault). Some (Order x)) (sym h))
+
+-- ---- one step read with the mode and the target of the edit
+
+pub applied_read : (checksum : List ℕ → List ℕ) (mode : Mode) (edit : Edit) (calls : List Call) (c d : Call)
+    (nodes nodes2 : List (Path × BaseNode)) (r : Result (Unit {0}) EditFault) → d ≡ c → IsNext mode edit calls d
+    → (F : Mode → Option EditFault) (W : Mode → ℕ → WorkingCopy) → edit_fault checksum mode calls c nodes ≡ F mode
+    → effect mode calls c (get_in nodes) ≡ W mode (target_of calls)
+    → Applied (F (mode_of edit.root)) (W (mode_of edit.root) edit.target) nodes r nodes2
+    → Applied (edit_fault checksum mode calls d nodes) (effect mode calls d (get_in nodes)) nodes r nodes2
+applied_read checksum mode edit calls c d nodes nodes2 r is next F W faults effects h =
+    let root = next.holds.root in
+    let target = next.holds.target in
+    let fault : F (mode_of edit.root) ≡ edit_fault checksum mode calls d nodes = ap F root ∙ sym faults
+    ∙ ap (λ (x : Call). edit_fault checksum mode calls x nodes) (sym is) in
+    let after : W (mode_of edit.root) edit.target ≡ effect mode calls d (get_in nodes) = (λ i. W (root i) (target i)) ∙ sym effects
+    ∙ ap (λ (x : Call). effect mode calls x (get_in nodes)) (sym is) in
+    subst (λ (x : Option EditFault). Applied x (effect mode calls d (get_in nodes)) nodes r nodes2) fault
+    (subst (λ (v : WorkingCopy). Applied (F (mode_of edit.root)) v nodes r nodes2) after h)
+
+pub map_err : {P Q : Type 0} (r : Result (Unit {0}) EditFault) → OnErr r P → (P → Q) → OnErr r Q
+map_err (Ok done) h f = tt
+map_err (Err e) h f = f h
+
+-- what isn't want of memory isn't answered as such
+pub not_memory : (e : OrderFault) (r : EditFault) → RefusedAs e r → (e ≡ NoMemory → ⊥) → r ≡ Memory → ⊥
+not_memory NoMemory r h n = absurd (n refl)
+not_memory e r h n = λ m. cc

@@ -1,0 +1,14 @@
+pub mod NodeOrder
+pub mod OpenFaults
+pub mod Ranges
+pub mod Settling
+pub mod PoolStrings
+pub mod Saying
+pub mod OpenCounts
+pub mod HeldBatons
+pub mod Holding
+pub mod Closes
+pub mod FileCloses
+pub mod Switching
+pub mod Beginning
+pub mod ShapedCalls

@@ -1,0 +1,250 @@
+-- What is said, read note by note.
+use Rattle.std.proofs.Common.{◌≡◌, ℕ, zero, suc, ◌<◌, ◌≤◌, true, arith, length, drop, get_or, List, [], ◌∷◌, ◌++◌, map, refl, sym, ◌∙◌, ap}
+use Rattle.std.proofs.Common.{subst, true≢false, append-nil, length-append}
+use Rattle.std.proofs.lemmas.List.{get_or_append_left, get_or_push}
+use Rattle.std.proofs.lemmas.List.Elements.{filter_map-append}
+use Rattle.std.specs.Prelude.{Option, Some, None, MatchOption, filter_map}
+use Rattle.std.specs.Option.{option_copied}
+use Rattle.std.specs.Borrow.{Bor}
+use Rattle.std.proofs.lemmas.Option.{same_Some}
+use Rattle.std.specs.List.{flat_map, cons_option}
+use Rattle.svn_types.specs.Pairs.{with_value}
+use Rattle.svn_types.specs.Props.{with_changes}
+use Rattle.svn_types.specs.declared.kind.Kind.TheVariants.{File, Directory}
+use Rattle.svn_editor.specs.declared.call.Call.{Call}
+use Rattle.svn_editor.specs.declared.call.Call.TheVariants.{ChangeDirProp, ChangeFileProp, ApplyText}
+use Rattle.svn_edit_law.proofs.OnePath.{noted}
+use Rattle.svn_editor.specs.Steps.{Action, Delete, Open, Add, Change, Text, Close}
+use Rattle.svn_edit.specs.declared.baton.Note.{Note}
+use Rattle.svn_edit.specs.declared.baton.Note.TheVariants.{Set, Remove, Text as NewText}
+use Rattle.svn_model.specs.Effects.{change_in, text_in}
+use Rattle.svn_model.specs.Said.{says}
+use Rattle.svn_edit.specs.NodeTests.{first_of}
+use Rattle.svn_edit.specs.Noted.{note_of, strings_of}
+use Rattle.svn_edit.specs.Applying.{IsTextAt, text_place, Properties, StillSaid}
+
+pub record AfterSet (before now : Properties) (said : List Action) (notes : List Note) (strings : List (List ℕ)) : Type 0 where
+  pub name : List ℕ
+  pub value : List ℕ
+  pub rest : List (List ℕ)
+  pub split : strings ≡ name ∷ value ∷ rest
+  pub still : StillSaid before (with_value now name (Some value)) said notes rest
+
+pub record AfterRemove (before now : Properties) (said : List Action) (notes : List Note) (strings : List (List ℕ)) : Type 0 where
+  pub name : List ℕ
+  pub rest : List (List ℕ)
+  pub split : strings ≡ name ∷ rest
+  pub still : StillSaid before (with_value now name None) said notes rest
+
+pub record AfterText (before now : Properties) (said : List Action) (notes : List Note) (strings : List (List ℕ)) : Type 0 where
+  pub text : List ℕ
+  pub rest : List (List ℕ)
+  pub split : strings ≡ text ∷ rest
+  pub still : StillSaid before now said notes rest
+
+rest_of : (n m : Note) (xs ys : List Note) → n ∷ xs ≡ m ∷ ys → xs ≡ ys
+rest_of n m xs ys e = cc
+
+module _ (before now : Properties) (said : List Action) (n : Note) (notes : List Note) (strings : List (List ℕ)) where
+  pub after_set : StillSaid before now said (n ∷ notes) strings → n ≡ Set → AfterSet before now said notes strings
+  after_set s is = by s.left s.notes_are s.strings_are s.props_are
+    where
+      by : (left : List Action) → n ∷ notes ≡ map note_of left → strings ≡ flat_map strings_of left
+          → with_changes before (filter_map change_in said) ≡ with_changes now (filter_map change_in left)
+          → AfterSet before now said notes strings
+      by [] h k p = cc
+      by (Change kind (name, Some v) ∷ left) h k p = record {
+        name = name;
+        value = v;
+        rest = flat_map strings_of left;
+        split = k;
+        still = record { left = left; notes_are = rest_of n Set notes (map note_of left) h; strings_are = refl; props_are = p };
+      }
+      by (Change kind (name, None) ∷ left) h k p = cc
+      by (Delete r ∷ left) h k p = cc
+      by (Open kind r ∷ left) h k p = cc
+      by (Add kind ∷ left) h k p = cc
+      by (Text sum text ∷ left) h k p = cc
+      by (Close kind sum ∷ left) h k p = cc
+
+  pub after_remove : StillSaid before now said (n ∷ notes) strings → n ≡ Remove → AfterRemove before now said notes strings
+  after_remove s is = by s.left s.notes_are s.strings_are s.props_are
+    where
+      by : (left : List Action) → n ∷ notes ≡ map note_of left → strings ≡ flat_map strings_of left
+          → with_changes before (filter_map change_in said) ≡ with_changes now (filter_map change_in left)
+          → AfterRemove before now said notes strings
+      by [] h k p = cc
+      by (Change kind (name, None) ∷ left) h k p = record {
+        name = name;
+        rest = flat_map strings_of left;
+        split = k;
+        still = record { left = left; notes_are = rest_of n Remove notes (map note_of left) h; strings_are = refl; props_are = p };
+      }
+      by (Change kind (name, Some v) ∷ left) h k p = cc
+      by (Delete r ∷ left) h k p = cc
+      by (Open kind r ∷ left) h k p = cc
+      by (Add kind ∷ left) h k p = cc
+      by (Text sum text ∷ left) h k p = cc
+      by (Close kind sum ∷ left) h k p = cc
+
+  pub after_text : StillSaid before now said (n ∷ notes) strings → n ≡ NewText → AfterText before now said notes strings
+  after_text s is = by s.left s.notes_are s.strings_are s.props_are
+    where
+      other : (a : Action) (left : List Action) (text : List ℕ) → n ∷ notes ≡ NewText ∷ map note_of left
+          → strings ≡ text ∷ flat_map strings_of left
+          → with_changes before (filter_map change_in said) ≡ with_changes now (filter_map change_in left)
+          → AfterText before now said notes strings
+      other a left text h k p = record {
+        text = text;
+        rest = flat_map strings_of left;
+        split = k;
+        still = record { left = left; notes_are = rest_of n NewText notes (map note_of left) h; strings_are = refl; props_are = p };
+      }
+
+      by : (left : List Action) → n ∷ notes ≡ map note_of left → strings ≡ flat_map strings_of left
+          → with_changes before (filter_map change_in said) ≡ with_changes now (filter_map change_in left)
+          → AfterText before now said notes strings
+      by [] h k p = cc
+      by (Change kind (name, Some v) ∷ left) h k p = cc
+      by (Change kind (name, None) ∷ left) h k p = cc
+      by (Delete r ∷ left) h k p = other (Delete r) left [] h k p
+      by (Open kind r ∷ left) h k p = other (Open kind r) left [] h k p
+      by (Add kind ∷ left) h k p = other (Add kind) left [] h k p
+      by (Text sum text ∷ left) h k p = other (Text sum text) left text h k p
+      by (Close kind sum ∷ left) h k p = other (Close kind sum) left [] h k p
+
+-- ---- with what was read of the strings
+
+pub taken : (r : Option (Bor (List ℕ))) (s t : List (List ℕ)) (n : List ℕ) → MatchOption r ((s ≡ []) × (t ≡ [])) (λ x. s ≡ x.now ∷ t)
+    → option_copied r ≡ Some n → s ≡ n ∷ t
+taken None s t n h e = absurd (none e)
+  where
+    none : None ≡ Some n → ⊥
+    none q = cc
+taken (Some x) s t n h e = h ∙ ap (λ (y : List ℕ). y ∷ t) (same_Some x.now n e)
+
+-- whatever came of it, the first goes
+pub passed : (r : Option (Bor (List ℕ))) (s t : List (List ℕ)) (n : List ℕ) (rest : List (List ℕ))
+    → MatchOption r ((s ≡ []) × (t ≡ [])) (λ x. s ≡ x.now ∷ t) → s ≡ n ∷ rest → rest ≡ t
+passed None s t n rest h e = absurd (none (sym h.0 ∙ e))
+  where
+    none : [] ≡ n ∷ rest → ⊥
+    none q = cc
+passed (Some x) s t n rest h e = same (sym e ∙ h)
+  where
+    same : n ∷ rest ≡ x.now ∷ t → rest ≡ t
+    same q = cc
+
+module _ (before now now2 : Properties) (said : List Action) (notes : List Note) (strings : List (List ℕ)) where
+  pub set_done : (a : AfterSet before now said notes strings) (n v : List ℕ) (s1 s2 : List (List ℕ)) → strings ≡ n ∷ s1 → s1 ≡ v ∷ s2
+      → now2 ≡ with_value now n (Some v) → StillSaid before now2 said notes s2
+  set_done a n v s1 s2 e1 e2 p =
+      let whole : a.name ∷ a.value ∷ a.rest ≡ n ∷ v ∷ s2 = sym a.split ∙ e1 ∙ ap (λ (l : List (List ℕ)). n ∷ l) e2 in
+      let en : a.name ≡ n = cc in
+      let ev : a.value ≡ v = cc in
+      let er : a.rest ≡ s2 = cc in
+      record {
+        left = a.still.left;
+        notes_are = a.still.notes_are;
+        strings_are = sym er ∙ a.still.strings_are;
+        props_are = a.still.props_are ∙ (λ i. with_changes (with_value now (en i) (Some (ev i))) (filter_map change_in a.still.left))
+            ∙ ap (λ (x : Properties). with_changes x (filter_map change_in a.still.left)) (sym p);
+      }
+
+  pub remove_done : (a : AfterRemove before now said notes strings) (n : List ℕ) (s1 : List (List ℕ)) → strings ≡ n ∷ s1
+      → now2 ≡ with_value now n None → StillSaid before now2 said notes s1
+  remove_done a n s1 e1 p =
+      let whole : a.name ∷ a.rest ≡ n ∷ s1 = sym a.split ∙ e1 in
+      let en : a.name ≡ n = cc in
+      let er : a.rest ≡ s1 = cc in
+      record {
+        left = a.still.left;
+        notes_are = a.still.notes_are;
+        strings_are = sym er ∙ a.still.strings_are;
+        props_are = a.still.props_are ∙ (λ i. with_changes (with_value now (en i) None) (filter_map change_in a.still.left))
+            ∙ ap (λ (x : Properties). with_changes x (filter_map change_in a.still.left)) (sym p);
+      }
+
+-- at the end nothing is left
+pub said_done : (before now : Properties) (said : List Action) (notes : List Note) (strings : List (List ℕ))
+    → StillSaid before now said notes strings → notes ≡ [] → now ≡ with_changes before (filter_map change_in said)
+said_done before now said notes strings s none = by s.left (sym none ∙ s.notes_are) s.props_are
+  where
+    by : (left : List Action) → [] ≡ map note_of left → with_changes before (filter_map change_in said) ≡ with_changes now
+        (filter_map change_in left) → now ≡ with_changes before (filter_map change_in said)
+    by [] e p = sym p
+    by (a ∷ left) e p = cc
+
+pub all_dropped : (xs : List Note) (i : ℕ) → length xs ≤ i → drop i xs ≡ []
+all_dropped [] zero h = refl
+all_dropped [] (suc i) h = refl
+all_dropped (x ∷ xs) zero h = absurd (omega arith)
+all_dropped (x ∷ xs) (suc i) h = all_dropped xs i (omega arith)
+
+-- ---- the text
+
+-- the string at the place
+pub text_read : (place : ℕ) (strings : List (List ℕ)) (text : Option (List ℕ)) (r : Option (Bor (List ℕ)))
+    → IsTextAt (Some place) strings text
+    → MatchOption r (length strings ≤ place) (λ s. (place < length strings) × (s.now ≡ get_or strings place [])) → option_copied r ≡ text
+text_read place strings text None is h = let within : place < length strings = is.0 in absurd (omega arith)
+text_read place strings text (Some s) is h = ap Some h.1 ∙ sym is.1
+
+-- it stays where it is when strings are pushed
+kept_place : (t : Option ℕ) (strings more : List (List ℕ)) (text : Option (List ℕ)) → IsTextAt t strings text
+    → IsTextAt t (strings ++ more) text
+kept_place None strings more text is = is
+kept_place (Some place) strings more text is =
+    let within : place < length strings = is.0 in
+    (omega (arith, length-append strings more), is.1 ∙ ap Some (sym (get_or_append_left strings more [] place within)))
+
+texts_quiet : (said : List Action) (a : Action) → text_in a ≡ None → filter_map text_in (said ++ a ∷ []) ≡ filter_map text_in said
+texts_quiet said a h = filter_map-append text_in said (a ∷ []) ∙ ap (λ (o : Option (List ℕ)). filter_map text_in said ++ cons_option o []) h
+    ∙ append-nil (filter_map text_in said)
+
+first_none : (texts : List (List ℕ)) → first_of texts ≡ None → texts ≡ []
+first_none [] h = refl
+first_none (x ∷ texts) h = cc
+
+first_some : (texts more : List (List ℕ)) (x : List ℕ) → first_of texts ≡ Some x → first_of (texts ++ more) ≡ Some x
+first_some [] more x h = cc
+first_some (y ∷ texts) more x h = h
+
+-- one more note
+pub text_more : (t : Option ℕ) (strings : List (List ℕ)) (said : List Action) (a : Action) → says a ≡ true
+    → IsTextAt t strings (first_of (filter_map text_in said))
+    → IsTextAt (text_place (note_of a) (length strings) t) (strings ++ strings_of a) (first_of (filter_map text_in (said ++ a ∷ [])))
+text_more t strings said (Change k (name, None)) h is =
+    subst (λ (l : List (List ℕ)). IsTextAt t (strings ++ name ∷ []) (first_of l)) (sym (texts_quiet said (Change k (name, None)) refl))
+    (kept_place t strings (name ∷ []) (first_of (filter_map text_in said)) is)
+text_more t strings said (Change k (name, Some v)) h is =
+    subst (λ (l : List (List ℕ)). IsTextAt t (strings ++ name ∷ v ∷ []) (first_of l))
+    (sym (texts_quiet said (Change k (name, Some v)) refl))
+    (kept_place t strings (name ∷ v ∷ []) (first_of (filter_map text_in said)) is)
+text_more None strings said (Text sum x) h is =
+    let texts : filter_map text_in (said ++ Text sum x ∷ []) ≡ x ∷ [] = filter_map-append text_in said (Text sum x ∷ [])
+    ∙ ap (λ (l : List (List ℕ)). l ++ x ∷ []) (first_none (filter_map text_in said) is) in
+    (omega (arith, length-append strings (x ∷ [])), ap first_of texts ∙ ap Some (sym (get_or_push strings x [] (length strings) refl)))
+text_more (Some place) strings said (Text sum x) h is =
+    let kept = kept_place (Some place) strings (x ∷ []) (first_of (filter_map text_in said)) is in
+    let first : first_of (filter_map text_in (said ++ Text sum x ∷ [])) ≡ Some (get_or strings place []) =
+    ap first_of (filter_map-append text_in said (Text sum x ∷ [])) ∙ first_some (filter_map text_in said) (x ∷ [])
+    (get_or strings place []) is.1 in
+    (kept.0, first ∙ sym is.1 ∙ kept.1)
+text_more t strings said (Delete r) h is = absurd (true≢false (sym h))
+text_more t strings said (Open k r) h is = absurd (true≢false (sym h))
+text_more t strings said (Add k) h is = absurd (true≢false (sym h))
+text_more t strings said (Close k sum) h is = absurd (true≢false (sym h))
+
+-- ---- the calls that say something
+
+none_some : {X : Type 0} (x : X) → None ≡ Some x → ⊥
+none_some x e = cc
+
+pub noted_says : (c : Call) (m : ℕ) (a : Action) → noted c ≡ Some (m, a) → says a ≡ true
+noted_says (ChangeDirProp token name value) m a h = ap (λ (x : ℕ × Action). says x.1)
+    (sym (same_Some (token, Change Directory (name, value)) (m, a) h))
+noted_says (ChangeFileProp token name value) m a h = ap (λ (x : ℕ × Action). says x.1)
+    (sym (same_Some (token, Change File (name, value)) (m, a) h))
+noted_says (ApplyText token base_md5 text) m a h = ap (λ (x : ℕ × Action). says x.1) (sym (same_Some (token, Text base_md5 text) (m, a) h))
+noted_says _ m a h = absurd (none_some (m, a) h)

@@ -1,0 +1,44 @@
+use Rattle.std.proofs.Common.{◌∷◌, List, ℕ, refl, sym, ap, subst, ◌∙◌, Option}
+use Rattle.std.specs.Option.{option_copied}
+use Rattle.std.specs.Borrow.{Bor}
+use Rattle.svn_pool.specs.Pools.{pushed}
+use Rattle.svn_edit.specs.declared.baton.Note.TheVariants.{Set, Remove}
+use Rattle.svn_edit.specs.Noted.{note_of_value, strings_of_value}
+use Rattle.svn_edit.specs.Applying.{BatonSaid}
+use Rattle.svn_edit.proofs.PoolStrings.{said_one, said_two}
+use Rattle.svn_edit.proofs.baton.Baton.note_change.Goals as goal
+
+pub returns-in_default : goal.returns-in_default
+returns-in_default c =
+    subst (λ (v : Option (Bor (List ℕ))). BatonSaid (note_of_value (option_copied v))
+    (c.args.name.now ∷ strings_of_value (option_copied v)) c.args.self.now c.args.pools.now
+    (record { path = c.args.self.now.path; pool = c.args.self.now.pool; notes = c.push-in_default.new.self; text = c.args.self.now.text })
+    c.push.new.pools) (sym c.in_default.is)
+    (said_one c.args.self.now (record {
+      path = c.args.self.now.path;
+      pool = c.args.self.now.pool;
+      notes = c.push-in_default.new.self;
+      text =
+          c.args.self.now.text;
+    }) c.args.pools.now c.push.new.pools Remove c.args.name.now refl refl
+    c.in_ok-push-2.ensures.items refl (c.in_ok-push.ensures.pushed ∙ ap (pushed c.args.pools.now c.args.self.now.pool.0)
+    (c.as_bytes.ensures.value ∙ c.as_str.ensures.value)))
+
+pub returns : goal.returns
+returns c =
+    subst (λ (v : Option (Bor (List ℕ))). BatonSaid (note_of_value (option_copied v))
+    (c.args.name.now ∷ strings_of_value (option_copied v)) c.args.self.now c.args.pools.now
+    (record { path = c.args.self.now.path; pool = c.args.self.now.pool; notes = c.push-3.new.self; text = c.args.self.now.text })
+    c.push-2.new.pools) (sym c.in-Some.is)
+    (said_two c.args.self.now (record {
+      path = c.args.self.now.path;
+      pool = c.args.self.now.pool;
+      notes = c.push-3.new.self;
+      text =
+          c.args.self.now.text;
+    }) c.args.pools.now c.push-2.new.pools Set c.args.name.now c.in-Some.value.now refl refl
+    c.in_ok-push-4.ensures.items refl
+    (c.in_ok-push-3.ensures.pushed
+    ∙ (λ i. pushed (c.in_ok-push.ensures.pushed i) c.args.self.now.pool.0 (c.as_slice.ensures i))
+    ∙ ap (λ (x : List ℕ). pushed (pushed c.args.pools.now c.args.self.now.pool.0 x) c.args.self.now.pool.0 c.in-Some.value.now)
+    (c.as_bytes.ensures.value ∙ c.as_str.ensures.value)))

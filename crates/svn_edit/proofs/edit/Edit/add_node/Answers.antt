@@ -1,0 +1,12 @@
+use Rattle.std.proofs.Common.{◌≡◌, Some, cond, ap, ◌∙◌, rules}
+use Rattle.svn_types.specs.Names.{Path}
+use Rattle.svn_types.specs.Paths.{path_eq}
+use Rattle.svn_model.specs.Nodes.{get_in}
+use Rattle.svn_edit_law.proofs.Lookups.{get_in-updated}
+use Rattle.svn_edit.proofs.edit.Edit.add_node.Goals as goal
+
+pub returns-clause-copy : goal.returns-clause-copy
+returns-clause-copy c =
+    let key : c.in_ok-at.at ≡ c.args.path.now = search rules in
+    λ p. get_in-updated c.args.copy.now.entries c.insert.new.self.entries c.in_ok-at.at (Some c.args.node) c.in-Ok.ensures.updates.0 p
+    ∙ ap (λ (q : Path). cond (path_eq q p) (Some c.args.node) (get_in c.args.copy.now.entries p)) key

@@ -1,0 +1,182 @@
+use Rattle.std.proofs.Common.{◌∷◌, [], ℕ, List, Option, cond, None, Some, refl, subst}
+use Rattle.md5.specs.Md5.{md5}
+use Rattle.svn_types.specs.declared.kind.Kind.TheVariants.{File, Directory}
+use Rattle.svn_editor.specs.declared.call.Call.TheVariants.{OpenRoot, DeleteEntry, AddDirectory, OpenDirectory, ChangeDirProp, AddFile}
+use Rattle.svn_editor.specs.declared.call.Call.TheVariants.{OpenFile, ChangeFileProp, ApplyText}
+use Rattle.svn_editor.specs.Steps.{Delete, Open, Add, Change, Text}
+use Rattle.svn_model.specs.Nodes.{get_in}
+use Rattle.svn_model.specs.Effects.{step_fault, step_effect, is_too_long}
+use Rattle.svn_edit.specs.Noted.{note_of_value, strings_of_value}
+use Rattle.svn_editor.specs.declared.fault.EditFault.TheVariants.{TooLong}
+use Rattle.svn_edit.specs.Applying.{BatonNoted, batons_of}
+use Rattle.svn_model.specs.Answering.{AnswersCall}
+use Rattle.svn_edit.proofs.Holding.{map_ok, ok_by, holds_made, holds_still, applied_read}
+use Rattle.svn_edit.proofs.PoolStrings.{one_left}
+use Rattle.svn_edit.proofs.Closes.{close_applied, close_holds, note_holds, change_applied, text_applied}
+use Rattle.svn_edit.proofs.FileCloses.{file_applied, file_holds}
+use Rattle.svn_edit.proofs.Switching.{end_applied, end_left}
+use Rattle.svn_edit.proofs.edit.Edit.apply.Goals as goal
+
+pub returns-in-OpenRoot-clause-holds : goal.returns-in-OpenRoot-clause-holds
+returns-in-OpenRoot-clause-holds c =
+    let old = c.args.self.now in
+    map_ok c.open_root.result c.open_root.ensures.opened (λ made mode calls next last.
+    holds_made mode old c.open_root.new.self calls (OpenRoot c.in-OpenRoot.base c.in-OpenRoot.token) c.args.call.now c.in-OpenRoot.is next
+    c.open_root.ensures.keeps refl
+    (record { kind = Directory; path = []; parent = None; token = c.in-OpenRoot.token }) refl refl refl _ (refl) made)
+
+pub returns-in-AddDirectory-clause-holds : goal.returns-in-AddDirectory-clause-holds
+returns-in-AddDirectory-clause-holds c =
+    let old = c.args.self.now in
+    map_ok c.add_directory.result c.add_directory.ensures.opened (λ made mode calls next last.
+    holds_made mode old c.add_directory.new.self calls (AddDirectory c.in-AddDirectory.path c.in-AddDirectory.parent
+    c.in-AddDirectory.token) c.args.call.now c.in-AddDirectory.is next c.add_directory.ensures.keeps refl
+    (record { kind = Directory; path = c.in-AddDirectory.path; parent = Some c.in-AddDirectory.parent; token = c.in-AddDirectory.token })
+    refl refl refl _ (c.pool_of.ensures) made)
+
+pub returns-in-OpenDirectory-clause-holds : goal.returns-in-OpenDirectory-clause-holds
+returns-in-OpenDirectory-clause-holds c =
+    let old = c.args.self.now in
+    map_ok c.open_directory.result c.open_directory.ensures.opened (λ made mode calls next last.
+    holds_made mode old c.open_directory.new.self calls (OpenDirectory c.in-OpenDirectory.path c.in-OpenDirectory.parent
+    c.in-OpenDirectory.base c.in-OpenDirectory.token) c.args.call.now c.in-OpenDirectory.is next c.open_directory.ensures.keeps refl
+    (record { kind = Directory; path = c.in-OpenDirectory.path; parent = Some c.in-OpenDirectory.parent; token = c.in-OpenDirectory.token })
+    refl refl refl _ (c.pool_of-in-OpenDirectory.ensures) made)
+
+pub returns-in-AddFile-clause-holds : goal.returns-in-AddFile-clause-holds
+returns-in-AddFile-clause-holds c =
+    let old = c.args.self.now in
+    map_ok c.add_file.result c.add_file.ensures.opened (λ made mode calls next last.
+    holds_made mode old c.add_file.new.self calls (AddFile c.in-AddFile.path c.in-AddFile.parent c.in-AddFile.token) c.args.call.now
+    c.in-AddFile.is next c.add_file.ensures.keeps refl
+    (record { kind = File; path = c.in-AddFile.path; parent = Some c.in-AddFile.parent; token = c.in-AddFile.token }) refl refl refl _
+    (refl) made)
+
+pub returns-in-OpenFile-clause-holds : goal.returns-in-OpenFile-clause-holds
+returns-in-OpenFile-clause-holds c =
+    let old = c.args.self.now in
+    map_ok c.open_file.result c.open_file.ensures.opened (λ made mode calls next last.
+    holds_made mode old c.open_file.new.self calls (OpenFile c.in-OpenFile.path c.in-OpenFile.parent c.in-OpenFile.base c.in-OpenFile.token)
+    c.args.call.now c.in-OpenFile.is next c.open_file.ensures.keeps refl
+    (record { kind = File; path = c.in-OpenFile.path; parent = Some c.in-OpenFile.parent; token = c.in-OpenFile.token }) refl refl refl _
+    (refl) made)
+
+pub returns-in-DeleteEntry-clause-holds : goal.returns-in-DeleteEntry-clause-holds
+returns-in-DeleteEntry-clause-holds c = ok_by c.delete_entry.result (λ ok mode calls next last.
+    holds_still mode c.args.self.now calls (DeleteEntry c.in-DeleteEntry.path c.in-DeleteEntry.rev c.in-DeleteEntry.parent) c.args.call.now
+    c.in-DeleteEntry.is next refl refl refl (λ t. refl))
+
+pub returns-in-DeleteEntry-clause-applied : goal.returns-in-DeleteEntry-clause-applied
+returns-in-DeleteEntry-clause-applied c = λ mode calls next.
+    let w = get_in c.args.copy.now.entries in
+    applied_read md5 mode c.args.self.now calls (DeleteEntry c.in-DeleteEntry.path c.in-DeleteEntry.rev c.in-DeleteEntry.parent)
+    c.args.call.now c.args.copy.now.entries c.delete_entry.new.copy.entries c.delete_entry.result c.in-DeleteEntry.is next
+    (λ m. step_fault md5 m [] w c.in-DeleteEntry.path (Delete c.in-DeleteEntry.rev))
+    (λ m t. step_effect m t [] (record { path = c.in-DeleteEntry.path; action = Delete c.in-DeleteEntry.rev }) w) refl refl
+    c.delete_entry.ensures
+
+pub returns-in-AddFile-clause-applied : goal.returns-in-AddFile-clause-applied
+returns-in-AddFile-clause-applied c = λ mode calls next.
+    let w = get_in c.args.copy.now.entries in
+    applied_read md5 mode c.args.self.now calls (AddFile c.in-AddFile.path c.in-AddFile.parent c.in-AddFile.token) c.args.call.now
+    c.args.copy.now.entries c.add_file.new.copy.entries c.add_file.result c.in-AddFile.is next
+    (λ m. step_fault md5 m [] w c.in-AddFile.path (Add File)) (λ m t. step_effect m t []
+    (record { path = c.in-AddFile.path; action = Add File }) w) refl refl c.add_file.ensures.applied
+
+pub returns-in-OpenFile-clause-applied : goal.returns-in-OpenFile-clause-applied
+returns-in-OpenFile-clause-applied c = λ mode calls next.
+    let w = get_in c.args.copy.now.entries in
+    applied_read md5 mode c.args.self.now calls (OpenFile c.in-OpenFile.path c.in-OpenFile.parent c.in-OpenFile.base c.in-OpenFile.token)
+    c.args.call.now c.args.copy.now.entries c.args.copy.now.entries c.open_file.result c.in-OpenFile.is next
+    (λ m. step_fault md5 m [] w c.in-OpenFile.path (Open File c.in-OpenFile.base))
+    (λ m t. step_effect m t [] (record { path = c.in-OpenFile.path; action = Open File c.in-OpenFile.base }) w) refl refl
+    c.open_file.ensures.applied
+
+pub returns-in-CloseDirectory-clause-applied : goal.returns-in-CloseDirectory-clause-applied
+returns-in-CloseDirectory-clause-applied c = λ mode calls next.
+    close_applied mode c.args.self.now c.close_directory.new.self calls c.in-CloseDirectory.token c.args.call.now c.in-CloseDirectory.is
+    next md5 c.args.copy.now.entries c.close_directory.new.copy.entries
+    c.close_directory.result c.close_directory.ensures.closed c.close_directory.ensures.refused
+
+pub returns-in-CloseDirectory-clause-holds : goal.returns-in-CloseDirectory-clause-holds
+returns-in-CloseDirectory-clause-holds c = map_ok c.close_directory.result c.close_directory.ensures.gone (λ gone mode calls next last.
+    close_holds mode c.args.self.now c.close_directory.new.self calls c.in-CloseDirectory.token c.args.call.now c.in-CloseDirectory.is next
+    c.close_directory.ensures.keeps gone)
+
+pub returns-in-ApplyText-clause-applied : goal.returns-in-ApplyText-clause-applied
+returns-in-ApplyText-clause-applied c = λ mode calls next.
+    text_applied md5 mode c.args.self.now calls c.in-ApplyText.token c.in-ApplyText.base_md5 c.in-ApplyText.text c.args.call.now
+    c.args.copy.now.entries c.apply_text.result c.in-ApplyText.is next c.apply_text.ensures.answers
+
+pub returns-in-ApplyText-clause-holds : goal.returns-in-ApplyText-clause-holds
+returns-in-ApplyText-clause-holds c = map_ok c.apply_text.result c.apply_text.ensures.noted (λ notes mode calls next last.
+    note_holds mode c.args.self.now c.apply_text.new.self calls (ApplyText c.in-ApplyText.token c.in-ApplyText.base_md5 c.in-ApplyText.text)
+    c.args.call.now c.in-ApplyText.token File
+    (Text c.in-ApplyText.base_md5 c.in-ApplyText.text) c.in-ApplyText.is next refl refl refl refl refl
+    (λ t. refl) c.apply_text.ensures.keeps notes)
+
+pub returns-in-CloseFile-clause-applied : goal.returns-in-CloseFile-clause-applied
+returns-in-CloseFile-clause-applied c = λ mode calls next.
+    file_applied mode c.args.self.now c.close_file.new.self calls c.in-CloseFile.token c.in-CloseFile.text_md5 c.args.call.now
+    c.in-CloseFile.is next md5 c.args.copy.now.entries c.close_file.new.copy.entries
+    c.close_file.result c.close_file.ensures.answers c.close_file.ensures.closed c.close_file.ensures.refused
+
+pub returns-in-CloseFile-clause-holds : goal.returns-in-CloseFile-clause-holds
+returns-in-CloseFile-clause-holds c = map_ok c.close_file.result c.close_file.ensures.gone (λ gone mode calls next last.
+    file_holds mode c.args.self.now c.close_file.new.self calls c.in-CloseFile.token c.in-CloseFile.text_md5 c.args.call.now
+    c.in-CloseFile.is next c.close_file.ensures.keeps gone)
+
+pub returns-in-CloseEdit-clause-applied : goal.returns-in-CloseEdit-clause-applied
+returns-in-CloseEdit-clause-applied c = λ mode calls next.
+    end_applied md5 mode c.args.self.now calls c.args.call.now c.args.copy.now.entries c.close_edit.new.copy.entries c.close_edit.result
+    c.in-CloseEdit.is next c.close_edit.ensures.applied
+
+pub returns-in-CloseEdit-clause-left : goal.returns-in-CloseEdit-clause-left
+returns-in-CloseEdit-clause-left c =
+    λ last. ok_by c.close_edit.result (λ ok mode calls next. end_left mode c.args.self.now calls c.args.call.now c.in-CloseEdit.is next)
+
+pub returns-in-AbortEdit-clause-left : goal.returns-in-AbortEdit-clause-left
+returns-in-AbortEdit-clause-left c = λ last mode calls next.
+    let held = next.holds.batons in
+    one_left c.args.self.now.pools c.drop_batons.new.self.pools _ held.root held.beneath c.drop_batons.ensures.cleared
+
+pub returns-in-ChangeDirProp-clause-applied : goal.returns-in-ChangeDirProp-clause-applied
+returns-in-ChangeDirProp-clause-applied c = λ mode calls next.
+    change_applied md5 mode c.args.self.now calls (ChangeDirProp c.in-ChangeDirProp.token c.in-ChangeDirProp.name c.in-ChangeDirProp.value)
+    c.args.call.now c.in-ChangeDirProp.token Directory (c.in-ChangeDirProp.name, c.in-ChangeDirProp.value) c.args.copy.now.entries
+    c.change_prop.result
+    c.in-ChangeDirProp.is refl refl
+    (subst (λ (v : Option (List ℕ)). AnswersCall (cond (is_too_long v) (Some TooLong) None) c.change_prop.result) c.as_ref.ensures.value
+    c.change_prop.ensures.answers)
+
+pub returns-in-ChangeDirProp-clause-holds : goal.returns-in-ChangeDirProp-clause-holds
+returns-in-ChangeDirProp-clause-holds c = map_ok c.change_prop.result c.change_prop.ensures.noted (λ notes mode calls next last.
+    note_holds mode c.args.self.now c.change_prop.new.self calls (ChangeDirProp c.in-ChangeDirProp.token c.in-ChangeDirProp.name
+    c.in-ChangeDirProp.value) c.args.call.now c.in-ChangeDirProp.token Directory
+    (Change Directory (c.in-ChangeDirProp.name, c.in-ChangeDirProp.value))
+    c.in-ChangeDirProp.is next refl refl refl refl refl (λ t. refl) c.change_prop.ensures.keeps
+    (λ b there. subst (λ (v : Option (List ℕ)). BatonNoted c.in-ChangeDirProp.token b (note_of_value v)
+    (c.in-ChangeDirProp.name ∷ strings_of_value v) c.args.self.now.pools (batons_of c.args.self.now) c.change_prop.new.self.pools
+    (batons_of c.change_prop.new.self))
+    c.as_ref.ensures.value (notes b there)))
+
+pub returns-in-ChangeFileProp-clause-applied : goal.returns-in-ChangeFileProp-clause-applied
+returns-in-ChangeFileProp-clause-applied c = λ mode calls next.
+    change_applied md5 mode c.args.self.now calls (ChangeFileProp c.in-ChangeFileProp.token c.in-ChangeFileProp.name
+    c.in-ChangeFileProp.value) c.args.call.now c.in-ChangeFileProp.token File
+    (c.in-ChangeFileProp.name, c.in-ChangeFileProp.value) c.args.copy.now.entries c.change_prop-in-ChangeFileProp.result
+    c.in-ChangeFileProp.is refl refl
+    (subst (λ (v : Option (List ℕ)). AnswersCall (cond (is_too_long v) (Some TooLong) None) c.change_prop-in-ChangeFileProp.result)
+    c.as_ref-in-ChangeFileProp.ensures.value c.change_prop-in-ChangeFileProp.ensures.answers)
+
+pub returns-in-ChangeFileProp-clause-holds : goal.returns-in-ChangeFileProp-clause-holds
+returns-in-ChangeFileProp-clause-holds c = map_ok c.change_prop-in-ChangeFileProp.result c.change_prop-in-ChangeFileProp.ensures.noted
+    (λ notes mode calls next last.
+    note_holds mode c.args.self.now c.change_prop-in-ChangeFileProp.new.self calls
+    (ChangeFileProp c.in-ChangeFileProp.token c.in-ChangeFileProp.name c.in-ChangeFileProp.value) c.args.call.now
+    c.in-ChangeFileProp.token File (Change File (c.in-ChangeFileProp.name, c.in-ChangeFileProp.value))
+    c.in-ChangeFileProp.is next refl refl refl refl refl (λ t. refl) c.change_prop-in-ChangeFileProp.ensures.keeps
+    (λ b there. subst (λ (v : Option (List ℕ)). BatonNoted c.in-ChangeFileProp.token b (note_of_value v)
+    (c.in-ChangeFileProp.name ∷ strings_of_value v) c.args.self.now.pools
+    (batons_of c.args.self.now) c.change_prop-in-ChangeFileProp.new.self.pools (batons_of c.change_prop-in-ChangeFileProp.new.self))
+    c.as_ref-in-ChangeFileProp.ensures.value (notes b there)))

@@ -1,0 +1,18 @@
+use Rattle.std.proofs.Common.{refl, sym, true≢false}
+use Rattle.svn_edit.proofs.Beginning.{begun_batons}
+use Rattle.svn_edit.proofs.edit.Edit.new.Goals as goal
+
+pub returns-clause-begun : goal.returns-clause-begun
+returns-clause-begun c = λ mode nodes is. record {
+  order = c.new-2.ensures;
+  copy = λ p. refl;
+  going = λ h. record {
+    stage = refl;
+    root = is;
+    target = refl;
+    batons = begun_batons c.in-Ok.pools c.new-3.result c.in-Ok.ensures.made
+        c.new-3.ensures.empty;
+  };
+  ended = λ h. absurd (true≢false (sym h));
+  left = λ h. absurd (true≢false (sym h));
+}

@@ -1,0 +1,59 @@
+use Rattle.std.proofs.Common.{◌≡◌, ◌++◌, ◌∷◌, [], None, refl, sym, subst}
+use Rattle.std.specs.Prelude.{Option}
+use Rattle.md5.specs.Md5.{md5}
+use Rattle.svn_editor.specs.declared.fault.EditFault.{EditFault}
+use Rattle.svn_order.specs.declared.order.OrderCheck.{OrderCheck}
+use Rattle.svn_editor.specs.Order.{order_fault}
+use Rattle.svn_order.specs.StandsAfter as order
+use Rattle.svn_editor.proofs.Accepted.{not_ended}
+use Rattle.svn_model.specs.Effects.{edit_fault}
+use Rattle.svn_model.specs.Answering.{AnswersCall}
+use Rattle.svn_edit.proofs.Holding.{ok_by, at_ok, err_by, order_none, order_refused, not_memory, refusal_is, applied_answer, applied_copy}
+use Rattle.svn_edit.proofs.Holding.{applied_err, copy_more, next_is}
+use Rattle.svn_edit.proofs.edit.Edit.take_in_order.Goals as goal
+
+pub returns-in-Ok-clause-answers : goal.returns-in-Ok-clause-answers
+returns-in-Ok-clause-answers c = λ mode w0 calls s.
+    let call = c.args.call.now in
+    let none : order_fault calls call ≡ None = order_none (order_fault calls call) (c.in-Ok.ensures.answers calls s.order) in
+    let next = next_is mode w0 c.args.self.now (record c.args.self.now { order = c.step.new.self }) c.args.copy.now.entries calls call s
+    none
+    (λ h. record { stage = h.stage; root = h.root; target = h.target; batons = h.batons }) in
+    subst (λ (f : Option EditFault). AnswersCall f c.apply.result) (sym (refusal_is md5 mode calls call c.args.copy.now.entries none))
+    (applied_answer _ _ _ _ c.apply.result (c.apply.ensures.applied mode calls next))
+
+pub returns-in-Ok-clause-accepted : goal.returns-in-Ok-clause-accepted
+returns-in-Ok-clause-accepted c = ok_by c.apply.result (λ ok mode w0 calls s.
+    let call = c.args.call.now in
+    let none : order_fault calls call ≡ None = order_none (order_fault calls call) (c.in-Ok.ensures.answers calls s.order) in
+    let next = next_is mode w0 c.args.self.now (record c.args.self.now { order = c.step.new.self }) c.args.copy.now.entries calls call s
+    none
+    (λ h. record { stage = h.stage; root = h.root; target = h.target; batons = h.batons }) in
+    record {
+      order = subst (λ (o : OrderCheck). order.StandsAfter o (calls ++ call ∷ [])) (sym c.apply.ensures.order)
+          (c.in-Ok.ensures.accepted calls s.order);
+      copy = copy_more mode w0 calls call c.args.copy.now.entries c.apply.new.copy.entries s.copy
+          (at_ok c.apply.result ok (applied_copy _ _ _ _ c.apply.result (c.apply.ensures.applied mode calls next)));
+      holds = λ going. at_ok c.apply.result ok c.apply.ensures.holds mode calls next going;
+      left = λ last. at_ok c.apply.result ok (c.apply.ensures.left last) mode calls next;
+      earlier = not_ended calls call none;
+    })
+
+pub returns-in-Ok-clause-refused : goal.returns-in-Ok-clause-refused
+returns-in-Ok-clause-refused c = err_by c.apply.result (λ e bad mode w0 calls s.
+    let call = c.args.call.now in
+    let none : order_fault calls call ≡ None = order_none (order_fault calls call) (c.in-Ok.ensures.answers calls s.order) in
+    let next = next_is mode w0 c.args.self.now (record c.args.self.now { order = c.step.new.self }) c.args.copy.now.entries calls call s
+    none
+    (λ h. record { stage = h.stage; root = h.root; target = h.target; batons = h.batons }) in
+    applied_err _ _ _ _ c.apply.result e bad (c.apply.ensures.applied mode calls next))
+
+pub returns-in-Err : goal.returns-in-Err
+returns-in-Err c = record {
+  answers = λ mode w0 calls s.
+      order_refused (order_fault calls c.args.call.now) c.in-Err.fault c.refused_as.result
+      (edit_fault md5 mode calls c.args.call.now c.args.copy.now.entries) (c.in-Err.ensures.answers calls s.order) c.refused_as.ensures;
+  accepted = tt;
+  last = λ h update. not_memory c.in-Err.fault c.refused_as.result c.refused_as.ensures (c.in-Err.ensures.last h);
+  refused = λ mode w0 calls s. refl;
+}

@@ -1,0 +1,21 @@
+use Rattle.std.proofs.Common.{cond, ap, ◌∙◌, Some, refl, rules}
+use Rattle.svn_types.specs.Paths.{path_eq}
+use Rattle.std.specs.Option.{option_map}
+use Rattle.svn_model.specs.Nodes.{get_in}
+use Rattle.svn_edit.specs.NodeTests.{closed_by}
+use Rattle.svn_edit_law.proofs.Lookups.{get_in-updated}
+use Rattle.svn_edit_law.proofs.PathParts.{none_changed}
+use Rattle.svn_edit.proofs.nodes.close_file_at.Goals as goal
+
+pub returns-in-Some : goal.returns-in-Some
+returns-in-Some c =
+    let written = c.get_mut.follows.holds c.close_file.new.node in
+    λ p. get_in-updated c.args.nodes.now.entries _ c.args.path.now (Some c.close_file.new.node)
+    (written.3 (rw (← c.in-Some.ensures.value) (search rules))).0 p
+    ∙ ap (λ v. cond (path_eq c.args.path.now p) v (get_in c.args.nodes.now.entries p)) (ap Some c.close_file.ensures
+    ∙ ap (option_map (closed_by c.args.closing)) c.in-Some.ensures.value)
+
+pub returns-in_default : goal.returns-in_default
+returns-in_default c = λ p.
+    ap (λ n. get_in n.entries p) c.get_mut.follows.holds-at-none
+    ∙ none_changed (get_in c.args.nodes.now.entries) c.args.path.now (option_map (closed_by c.args.closing)) (search rules) refl p

@@ -1,0 +1,21 @@
+use Rattle.std.proofs.Common.{cond, ap, ◌∙◌, Some, refl, rules}
+use Rattle.svn_types.specs.Paths.{path_eq}
+use Rattle.svn_model.specs.Nodes.{get_in}
+use Rattle.svn_model.specs.Effects.{opened_directory}
+use Rattle.svn_edit_law.proofs.Lookups.{get_in-updated}
+use Rattle.svn_edit_law.proofs.PathParts.{none_changed}
+use Rattle.svn_edit.proofs.nodes.open_directory_at.Goals as goal
+
+pub returns-in-Some : goal.returns-in-Some
+returns-in-Some c =
+    let written = c.get_mut.follows.holds c.open_directory.new.node in
+    λ p. get_in-updated c.args.nodes.now.entries _ c.args.path.now (Some c.open_directory.new.node)
+    (written.3 (rw (← c.in-Some.ensures.value) (search rules))).0 p
+    ∙ ap (λ v. cond (path_eq c.args.path.now p) v (get_in c.args.nodes.now.entries p)) (c.open_directory.ensures
+    ∙ ap (opened_directory c.args.target (λ q. c.args.moved)) c.in-Some.ensures.value)
+
+pub returns-in_default : goal.returns-in_default
+returns-in_default c = λ p.
+    ap (λ n. get_in n.entries p) c.get_mut.follows.holds-at-none
+    ∙ none_changed (get_in c.args.nodes.now.entries) c.args.path.now (opened_directory c.args.target (λ q. c.args.moved))
+    (search rules) refl p

@@ -1,0 +1,299 @@
+-- An applier with its copy, after a list of calls.
+--     StandsAfter mode w0 edit nodes calls      the edit began with the copy w0, and took these calls
+use Rattle.std.specs.Prelude.{◌≡◌, ◌≢◌, ℕ, ◌+◌, ◌<◌, Bool, true, false, ◌&&◌, not, List, [], ◌∷◌, ◌++◌, length, map, Option, Some, None}
+use Rattle.std.specs.Prelude.{is_some, filter_map, Result, Ok, Err, get_or, count_by, if◌then◌else◌}
+use Rattle.std.specs.List.{list_any, flat_map}
+use Rattle.std.specs.Option.{option_or}
+use Rattle.std.specs.Ordering.{nat_cmp}
+use Rattle.std.specs.BTreeMap.{get}
+use Rattle.std.specs.FinMap as map
+use Rattle.svn_types.specs.declared.kind.Kind.{Kind}
+use Rattle.svn_types.specs.declared.kind.Kind.TheVariants.{File, Directory}
+use Rattle.svn_types.specs.Names.{Path}
+use Rattle.svn_pool.specs.Pools.{Entry, Pools, pool_at, parent_of, strings_at}
+use Rattle.svn_pool.specs.Ancestry.{IsBeneath}
+use Rattle.svn_editor.specs.declared.call.Call.{Call}
+use Rattle.svn_editor.specs.declared.fault.EditFault.{EditFault}
+use Rattle.svn_editor.specs.declared.fault.EditFault.TheVariants.{Memory, Order}
+use Rattle.svn_editor.specs.declared.fault.OrderFault.{OrderFault}
+use Rattle.svn_editor.specs.declared.fault.OrderFault.TheVariants.{Dead, Ended as TooLate, Memory as NoMemory}
+use Rattle.svn_editor.specs.declared.call.Call.TheVariants.{AbortEdit}
+use Rattle.svn_editor.specs.Order.{IsLawful, order_fault}
+use Rattle.svn_edit.specs.declared.edit.Stage.{Stage}
+use Rattle.svn_editor.specs.Calls.{Given, given, all_given, is_closed, path_of, is_last}
+use Rattle.svn_editor.specs.Steps.{Mode, Update, SwitchTo, Action, steps_of, target_of}
+use Rattle.svn_order.specs.StandsAfter as order
+use Rattle.svn_model.specs.declared.base_node.BaseNode.{BaseNode}
+use Rattle.svn_edit.specs.declared.baton.Baton.{Baton}
+use Rattle.svn_edit.specs.declared.baton.Note.{Note}
+use Rattle.svn_edit.specs.declared.baton.Note.TheVariants.{Text as NewText}
+use Rattle.svn_edit.specs.declared.edit.Edit.{Edit}
+use Rattle.svn_edit.specs.declared.edit.Stage.TheVariants.{Going, Refused, Ended}
+use Rattle.svn_model.specs.Nodes.{WorkingCopy, get_in}
+use Rattle.svn_types.specs.Props.{with_changes}
+use Rattle.svn_model.specs.Effects.{after, change_in, text_in}
+use Rattle.svn_model.specs.Said.{said_at}
+use Rattle.svn_model.specs.Answering.{IsAnswer}
+use Rattle.svn_edit.specs.NodeTests.{first_of}
+use Rattle.svn_edit.specs.Noted.{slashed, note_of, strings_of}
+
+abbrev pub mode_of : Option Path → Mode
+mode_of None = Update
+mode_of (Some root) = SwitchTo root
+
+-- the fault of a call that is out of order, but for want of memory
+abbrev pub RefusedAs : OrderFault → EditFault → Type 0
+RefusedAs NoMemory r = r ≡ Memory
+RefusedAs e r = r ≡ Order e
+
+-- the same of a call that gives a value
+abbrev pub Gives : {T : Type 0} → Option EditFault → T → Result T EditFault → Type 0
+Gives fault value (Ok v) = (fault ≡ None) × (v ≡ value)
+Gives fault value (Err e) = IsAnswer fault e
+
+-- the same of the fault alone
+abbrev pub AnswersAs : {T : Type 0} → Option EditFault → Result T EditFault → Type 0
+AnswersAs fault (Ok v) = fault ≡ None
+AnswersAs fault (Err e) = IsAnswer fault e
+
+-- ---- batons
+
+abbrev pub Batons : Type 0
+Batons = ℕ → Option Baton
+
+-- the token was given, and was not closed
+abbrev pub is_open : List Call → ℕ → Bool
+is_open calls t = is_some (given calls t) && not (is_closed calls t)
+
+-- how many are
+abbrev pub open_count : List Call → ℕ
+open_count calls = count_by (λ g. not (is_closed calls g.token)) (all_given calls)
+
+abbrev pub pool_or : ℕ → Option Baton → ℕ
+pool_or root None = root
+pool_or root (Some b) = b.pool.0
+
+-- the pool beneath which a token's is made: for a directory that of its parent, else that of the edit
+abbrev pub pool_of_parent : ℕ → Batons → Option ℕ → ℕ
+pool_of_parent root at None = root
+pool_of_parent root at (Some m) = pool_or root (at m)
+
+abbrev pub pool_of_kind : ℕ → Batons → Option ℕ → Kind → ℕ
+pool_of_kind root at above File = root
+pool_of_kind root at above Directory = pool_of_parent root at above
+
+abbrev pub pool_above : ℕ → Batons → Option Given → ℕ
+pool_above root at None = root
+pool_above root at (Some g) = pool_of_kind root at g.parent g.kind
+
+abbrev pub pool_entry : ℕ → List (List ℕ) → Entry
+pool_entry above strings = record { parent = Some above; strings = strings }
+
+-- ---- where the text is among the strings of a pool
+
+-- the text, if there is one, is the string at that place
+abbrev pub IsTextAt : Option ℕ → List (List ℕ) → Option (List ℕ) → Type 0
+IsTextAt None strings text = text ≡ None
+IsTextAt (Some place) strings text = (place < length strings) × (text ≡ Some (get_or strings place []))
+
+-- where it is once a string with this note was pushed to that place
+abbrev pub text_place : Note → ℕ → Option ℕ → Option ℕ
+text_place NewText place found = option_or found (Some place)
+text_place note place found = found
+
+-- the baton of a token, and its pool
+pub record IsBaton (pools : Pools) (at : Batons) (calls : List Call) (t : ℕ) (b : Baton) : Type 0 where
+  pub path : b.path ≡ path_of calls t
+  pub notes : b.notes.items ≡ map note_of (said_at (path_of calls t) (steps_of calls))
+  pub pool : pool_at pools b.pool.0
+      ≡ Some (pool_entry (pool_above pools.root at (given calls t)) (slashed (path_of calls t) ∷ flat_map strings_of
+      (said_at (path_of calls t) (steps_of calls))))
+  pub text : IsTextAt b.text (slashed (path_of calls t) ∷ flat_map strings_of (said_at (path_of calls t) (steps_of calls)))
+      (first_of (filter_map text_in (said_at (path_of calls t) (steps_of calls))))
+
+-- the batons are those of the open tokens, each with a pool of its own, and there is no other pool but that of the edit
+pub record HoldsBatons (pools : Pools) (at : Batons) (calls : List Call) : Type 0 where
+  pub opened : (t : ℕ) → is_some (at t) ≡ is_open calls t
+  pub each : (t : ℕ) (b : Baton) → at t ≡ Some b → IsBaton pools at calls t b
+  pub apart : (t u : ℕ) (b c : Baton) → at t ≡ Some b → at u ≡ Some c → b.pool.0 ≡ c.pool.0 → t ≡ u
+  pub root : pool_at pools pools.root ≡ Some (record { parent = None; strings = [] })
+  pub only : (s : ℕ) (e : Entry) → pool_at pools s ≡ Some e → s ≢ pools.root → (t : ℕ) × (b : Baton) × (at t ≡ Some b) × (b.pool.0 ≡ s)
+  pub beneath : (s : ℕ) (e : Entry) → pool_at pools s ≡ Some e → s ≢ pools.root → IsBeneath (pool_at pools) pools.root s
+  pub count : map.len pools.live ≡ open_count calls + 1
+
+-- ---- one baton, its pool, and what is said there
+
+-- a baton of a path, with a new pool
+pub record BatonBegun (beneath : ℕ) (p : Path) (old : Pools) (b : Baton) (new : Pools) : Type 0 where
+  pub path : b.path ≡ p
+  pub notes : b.notes.items ≡ []
+  pub text : b.text ≡ None
+  pub fresh : pool_at old b.pool.0 ≡ None
+  pub made : pool_at new b.pool.0 ≡ Some (pool_entry beneath (slashed p ∷ []))
+  pub others : (s : ℕ) → s ≢ b.pool.0 → pool_at new s ≡ pool_at old s
+  pub root : new.root ≡ old.root
+  pub count : map.len new.live ≡ map.len old.live + 1
+
+-- a note more, and its strings
+pub record BatonSaid (note : Note) (strings : List (List ℕ)) (b : Baton) (old : Pools) (d : Baton) (new : Pools) : Type 0 where
+  pub path : d.path ≡ b.path
+  pub same_pool : d.pool.0 ≡ b.pool.0
+  pub notes : d.notes.items ≡ b.notes.items ++ note ∷ []
+  pub text : d.text ≡ text_place note (length (strings_at old b.pool.0)) b.text
+  pub own : pool_at new b.pool.0 ≡ Some (record { parent = parent_of (pool_at old b.pool.0); strings = strings_at old b.pool.0 ++ strings })
+  pub others : (s : ℕ) → s ≢ b.pool.0 → pool_at new s ≡ pool_at old s
+  pub root : new.root ≡ old.root
+  pub count : (e : Entry) → pool_at old b.pool.0 ≡ Some e → map.len new.live ≡ map.len old.live
+
+-- notes and strings are those of the actions
+pub record Says (b : Baton) (pools : Pools) (said : List Action) : Type 0 where
+  pub notes : b.notes.items ≡ map note_of said
+  pub first : List ℕ
+  pub strings : strings_at pools b.pool.0 ≡ first ∷ flat_map strings_of said
+  pub text : IsTextAt b.text (first ∷ flat_map strings_of said) (first_of (filter_map text_in said))
+
+abbrev pub Properties : Type 0
+Properties = List (List ℕ × List ℕ)
+
+-- the notes and strings that are left are those of some actions, and these are left to be done
+pub record StillSaid (before now : Properties) (said : List Action) (notes : List Note) (strings : List (List ℕ)) : Type 0 where
+  pub left : List Action
+  pub notes_are : notes ≡ map note_of left
+  pub strings_are : strings ≡ flat_map strings_of left
+  pub props_are : with_changes before (filter_map change_in said) ≡ with_changes now (filter_map change_in left)
+
+-- ---- one baton more, one that changed, one less
+
+pub record BatonMade (beneath : ℕ) (p : Path) (t : ℕ) (pools : Pools) (at : Batons) (pools2 : Pools) (at2 : Batons) : Type 0 where
+  pub baton : Baton
+  pub path : baton.path ≡ p
+  pub notes : baton.notes.items ≡ []
+  pub text : baton.text ≡ None
+  pub fresh : pool_at pools baton.pool.0 ≡ None
+  pub made : pool_at pools2 baton.pool.0 ≡ Some (pool_entry beneath (slashed p ∷ []))
+  pub others : (s : ℕ) → s ≢ baton.pool.0 → pool_at pools2 s ≡ pool_at pools s
+  pub root : pools2.root ≡ pools.root
+  pub count : map.len pools2.live ≡ map.len pools.live + 1
+  pub token : at2 t ≡ Some baton
+  pub tokens : (u : ℕ) → u ≢ t → at2 u ≡ at u
+
+pub record BatonNoted (t : ℕ) (b : Baton) (note : Note) (strings : List (List ℕ)) (pools : Pools) (at : Batons) (pools2 : Pools)
+    (at2 : Batons) : Type 0 where
+  pub baton : Baton
+  pub path : baton.path ≡ b.path
+  pub same_pool : baton.pool.0 ≡ b.pool.0
+  pub notes : baton.notes.items ≡ b.notes.items ++ note ∷ []
+  pub text : baton.text ≡ text_place note (length (strings_at pools b.pool.0)) b.text
+  pub own : pool_at pools2 b.pool.0 ≡ Some (record {
+    parent = parent_of (pool_at pools b.pool.0);
+    strings =
+        strings_at pools b.pool.0 ++ strings;
+  })
+  pub others : (s : ℕ) → s ≢ b.pool.0 → pool_at pools2 s ≡ pool_at pools s
+  pub root : pools2.root ≡ pools.root
+  pub count : (e : Entry) → pool_at pools b.pool.0 ≡ Some e → map.len pools2.live ≡ map.len pools.live
+  pub token : at2 t ≡ Some baton
+  pub tokens : (u : ℕ) → u ≢ t → at2 u ≡ at u
+
+pub record BatonGone (t : ℕ) (b : Baton) (pools : Pools) (at : Batons) (pools2 : Pools) (at2 : Batons) : Type 0 where
+  pub gone : pool_at pools2 b.pool.0 ≡ None
+  pub others : (s : ℕ) → s ≢ b.pool.0 → pool_at pools2 s ≡ pool_at pools s
+  pub root : pools2.root ≡ pools.root
+  pub count : map.len pools.live ≡ map.len pools2.live + 1
+  pub token : at2 t ≡ None
+  pub tokens : (u : ℕ) → u ≢ t → at2 u ≡ at u
+
+pub record PoolGone (s : ℕ) (old new : Pools) : Type 0 where
+  pub gone : pool_at new s ≡ None
+  pub others : (q : ℕ) → q ≢ s → pool_at new q ≡ pool_at old q
+  pub root : new.root ≡ old.root
+  pub count : map.len old.live ≡ map.len new.live + 1
+
+-- no pool lies beneath it
+abbrev pub IsLeaf : Pools → ℕ → Type 0
+IsLeaf pools s = (q : ℕ) → parent_of (pool_at pools q) ≢ Some s
+
+-- ---- one call
+
+-- what isn't of the batons is as before
+pub record KeepsEdit (old new : Edit) : Type 0 where
+  pub stage : new.stage ≡ old.stage
+  pub order : new.order ≡ old.order
+  pub target : new.target ≡ old.target
+  pub root : new.root ≡ old.root
+
+abbrev pub batons_of : Edit → Batons
+batons_of edit = get nat_cmp edit.batons
+
+-- a token's baton goes, and its pool, where none lies beneath that
+abbrev pub LetsGo : ℕ → Edit → Edit → Type 0
+LetsGo t old new =
+    (b : Baton) (e : Entry) → batons_of old t ≡ Some b → pool_at old.pools b.pool.0 ≡ Some e → IsLeaf old.pools b.pool.0
+    → b.pool.0 ≢ old.pools.root → BatonGone t b old.pools (batons_of old) new.pools (batons_of new)
+
+abbrev pub MakesBaton : ℕ → Path → ℕ → Edit → Edit → Type 0
+MakesBaton beneath p t old new = BatonMade beneath p t old.pools (batons_of old) new.pools (batons_of new)
+
+-- the answer is the fault, or there is none and the copy is as the effect says
+abbrev pub Applied : Option EditFault → WorkingCopy → List (Path × BaseNode) → Result (Unit {0}) EditFault → List (Path × BaseNode) → Type 0
+Applied fault w nodes (Ok done) nodes2 = (fault ≡ None) × ((p : Path) → get_in nodes2 p ≡ w p)
+Applied fault w nodes (Err e) nodes2 = IsAnswer fault e × (nodes2 ≡ nodes)
+
+-- ---- the whole
+
+pub record Holds (mode : Mode) (edit : Edit) (calls : List Call) : Type 0 where
+  pub stage : edit.stage ≡ Going
+  pub root : mode_of edit.root ≡ mode
+  pub target : edit.target ≡ target_of calls
+  pub batons : HoldsBatons edit.pools (batons_of edit) calls
+
+-- of the pools the first alone is live
+abbrev pub OneIsLeft : Edit → Type 0
+OneIsLeft edit = map.len edit.pools.live ≡ 1
+
+pub record StandsAfter (mode : Mode) (w0 : WorkingCopy) (edit : Edit) (nodes : List (Path × BaseNode)) (calls : List Call) : Type 0 where
+  pub order : order.StandsAfter edit.order calls
+  pub copy : (p : Path) → get_in nodes p ≡ after mode w0 calls p
+  pub going : list_any is_last calls ≡ false → Holds mode edit calls
+  pub ended : list_any is_last calls ≡ true → edit.stage ≡ Ended
+  pub left : list_any is_last calls ≡ true → OneIsLeft edit
+
+-- the call was taken, and the stage is not yet noted
+pub record TakenInOrder (mode : Mode) (w0 : WorkingCopy) (edit : Edit) (nodes : List (Path × BaseNode)) (calls : List Call)
+    (c : Call) : Type 0 where
+  pub order : order.StandsAfter edit.order (calls ++ c ∷ [])
+  pub copy : (p : Path) → get_in nodes p ≡ after mode w0 (calls ++ c ∷ []) p
+  pub holds : is_last c ≡ false → Holds mode edit (calls ++ c ∷ [])
+  pub left : is_last c ≡ true → OneIsLeft edit
+  pub earlier : list_any is_last calls ≡ false
+
+-- the calls so far are in order, and so is the next
+pub record IsNext (mode : Mode) (edit : Edit) (calls : List Call) (c : Call) : Type 0 where
+  pub holds : Holds mode edit calls
+  pub lawful : IsLawful calls
+  pub in_order : order_fault calls c ≡ None
+
+abbrev pub HasEnded : Edit → Type 0
+HasEnded edit = edit.stage ≡ Ended
+
+abbrev pub IsRefused : Edit → Type 0
+IsRefused edit = edit.stage ≡ Refused
+
+-- after a refusal giving up alone is left
+abbrev pub StaysRefused : Call → Result (Unit {0}) EditFault → Edit → Type 0
+StaysRefused AbortEdit answer new = (answer ≡ Ok tt) × HasEnded new
+StaysRefused _ answer new = (answer ≡ Err (Order Dead)) × IsRefused new
+
+-- after the end
+abbrev pub StaysEnded : Edit → Result (Unit {0}) EditFault → Edit → Type 0
+StaysEnded old answer new = (answer ≡ Err (Order TooLate)) × (new ≡ old)
+
+abbrev pub LeavesRefused : Stage → Result (Unit {0}) EditFault → Edit → Type 0
+LeavesRefused Going (Err e) new = IsRefused new
+LeavesRefused _ _ new = Unit {0}
+
+-- ---- how many pools are live
+
+-- one, and one for each file or directory that is open; none is after the last call
+abbrev pub live_count : List Call → ℕ
+live_count calls = if list_any is_last calls then 1 else open_count calls + 1

@@ -1,0 +1,99 @@
+-- The tests of an edit on one node.
+use Rattle.std.specs.Prelude.{ℕ, true, not, List, [], ◌∷◌, ◌++◌, length, nat_eq, nat_lt, Option, Some, None, if◌then◌else◌, ◌≡◌}
+use Rattle.std.specs.Option.{option_map}
+use Rattle.svn_types.specs.declared.kind.Kind.{Kind}
+use Rattle.svn_types.specs.Names.{Path}
+use Rattle.svn_types.specs.Paths.{path_eq}
+use Rattle.svn_types.specs.Limits.{path_limit}
+use Rattle.svn_editor.specs.Steps.{Mode}
+use Rattle.svn_editor.specs.declared.fault.EditFault.{EditFault}
+use Rattle.svn_editor.specs.declared.fault.EditFault.TheVariants.{NoEntry, WrongKind, WrongRevision, TextChecksum, TooDeep}
+use Rattle.svn_model.specs.declared.base_node.BaseNode.{BaseNode}
+use Rattle.svn_model.specs.declared.base_node.BaseNode.TheVariants.{File as FileNode, Dir as DirNode, NotPresent}
+use Rattle.svn_edit.specs.declared.nodes.Closing.{Closing}
+use Rattle.svn_model.specs.Nodes.{WorkingCopy, get_in, is_present, node_revision, node_path, node_text, node_props}
+use Rattle.svn_model.specs.Effects.{has_kind, joined_path, moved_path, closed_file, is_wrong_sum, text_or}
+use Rattle.svn_types.specs.Props.{PropChange, with_changes}
+
+abbrev pub delete_fault_of : Option BaseNode → ℕ → Option EditFault
+delete_fault_of node rev =
+    if not (is_present node) then Some NoEntry
+    else if not (nat_eq (node_revision node) rev) then Some WrongRevision
+    else None
+
+-- but for a path that is too deep
+abbrev pub open_fault_of : Kind → Option BaseNode → ℕ → Option EditFault
+open_fault_of kind node base =
+    if not (is_present node) then Some NoEntry
+    else if not (has_kind kind node) then Some WrongKind
+    else if not (nat_eq (node_revision node) base) then Some WrongRevision
+    else None
+
+abbrev pub deep_fault : Path → Option EditFault
+deep_fault p = if nat_lt path_limit (length p) then Some TooDeep else None
+
+-- the repository path that a file gets when it is closed
+abbrev pub closed_path_of : Mode → WorkingCopy → Path → Option BaseNode → Path
+closed_path_of mode w p (Some NotPresent) = joined_path w p
+closed_path_of mode w p node = moved_path mode w p (node_path node)
+
+abbrev pub closed_path : Mode → WorkingCopy → Path → Path
+closed_path mode w p = closed_path_of mode w p (w p)
+
+-- a directory with these properties, complete
+abbrev pub completed : List (List ℕ × List ℕ) → BaseNode → BaseNode
+completed new (DirNode r q complete props) = DirNode r q true new
+completed new node = node
+
+abbrev pub first_of : List (List ℕ) → Option (List ℕ)
+first_of [] = None
+first_of (text ∷ texts) = Some text
+
+abbrev pub new_text : Option (List ℕ) → List ℕ → List ℕ
+new_text None text = text
+new_text (Some new) text = new
+
+-- a file that is closed
+abbrev pub closed_by : Closing → BaseNode → BaseNode
+closed_by c (FileNode r q text props) = FileNode c.target c.moved (new_text c.text text) c.props
+closed_by c NotPresent = FileNode c.target c.moved (new_text c.text []) c.props
+closed_by c node = node
+
+-- why a file isn't closed
+abbrev pub sum_fault : (List ℕ → List ℕ) → Option (List ℕ) → List (List ℕ) → Option BaseNode → Option EditFault
+sum_fault checksum sum texts node = if is_wrong_sum sum (checksum (text_or texts (node_text node))) then Some TextChecksum else None
+
+-- what a file gets when it is closed, after these changes and texts
+pub record IsClosing (mode : Mode) (rev : ℕ) (w : WorkingCopy) (p : Path) (changes : List PropChange) (texts : List (List ℕ))
+    (c : Closing) : Type 0 where
+  pub target : c.target ≡ rev
+  pub moved : c.moved ≡ closed_path mode w p
+  pub text : c.text ≡ first_of texts
+  pub props : c.props ≡ with_changes (node_props (w p)) changes
+
+-- the file at the path is closed, and the other nodes are as before
+abbrev pub FileIsClosed : Mode → ℕ → Path → List PropChange → List (List ℕ) → List (Path × BaseNode) → List (Path × BaseNode) → Type 0
+FileIsClosed mode target p changes texts nodes nodes2 =
+    (q : Path) → get_in nodes2 q ≡ (if path_eq p q then closed_file target (moved_path mode (get_in nodes) p)
+    (joined_path (get_in nodes) p) changes texts (get_in nodes p) else get_in nodes q)
+
+-- ---- the end of a switch
+
+-- a present node with that repository path
+abbrev pub with_path : Path → BaseNode → BaseNode
+with_path q (FileNode r was text props) = FileNode r q text props
+with_path q (DirNode r was complete props) = DirNode r q complete props
+with_path q NotPresent = NotPresent
+
+-- the paths of the present nodes, each with its path under the root
+abbrev pub moves_of : Path → List (Path × BaseNode) → List (Path × Path)
+moves_of root [] = []
+moves_of root (e ∷ nodes) = if is_present (Some e.1) then (e.0, root ++ e.0) ∷ moves_of root nodes else moves_of root nodes
+
+abbrev pub moved_once : Path × Path → Path → Option BaseNode → Option BaseNode
+moved_once m p node = if path_eq m.0 p then option_map (with_path m.1) node else node
+
+-- what stands at a path once the moves were made, from the last to the first
+abbrev pub moved_by : List (Path × Path) → Path → Option BaseNode → Option BaseNode
+moved_by [] p node = node
+moved_by (m ∷ moves) p node = moved_once m p (moved_by moves p node)

@@ -1,0 +1,221 @@
+//! What an edit keeps of an open file or directory.
+ghost use Rattle.std.specs.Prelude.{◌≡◌, ◌≢◌, ◌+◌, ◌++◌, ◌∷◌, [], List, length, IfOk, OnOk, Some, None, filter_map};
+ghost use Rattle.std.specs.Option.{option_copied};
+ghost use Rattle.svn_types.specs.Props.{with_changes};
+ghost use Rattle.svn_types.specs.declared.kind.Kind.TheVariants.{Directory};
+ghost use Rattle.svn_pool.specs.Pools.{Entry, pool_at, strings_at, pushed};
+ghost use Rattle.svn_editor.specs.Steps.{Action, Change};
+ghost use Rattle.svn_edit.specs.declared.baton.Note.{Note as NoteOf};
+ghost use Rattle.svn_edit.specs.declared.baton.Note.TheVariants.{Text as NewText};
+ghost use Rattle.svn_model.specs.Effects.{change_in, text_in};
+ghost use Rattle.svn_edit.specs.Noted.{slashed, note_of_value, strings_of_value};
+ghost use Rattle.svn_edit.specs.NodeTests.{first_of};
+ghost use Rattle.svn_edit.specs.Applying.{BatonBegun, BatonSaid, Says, IsLeaf, PoolGone, Properties, StillSaid};
+
+use std::alloc::{AllocError, Global};
+use svn_pool::{PoolId, PoolTree, Reader};
+use svn_types::{Name, PropName, Props, RelPath, Text};
+
+/// What the strings of a baton's pool say, behind the first, which is the path.
+#[derive(Clone, Copy, Debug)]
+pub(crate) enum Note {
+    /// Two strings: the name of a property, and its new value.
+    Set,
+    /// One string: the name of a property that goes.
+    Remove,
+    /// One string: the text.
+    Text,
+}
+
+/// An open file or directory.
+#[derive(Drop)]
+pub(crate) struct Baton {
+    pub(crate) path: RelPath,
+    pub(crate) pool: PoolId,
+    pub(crate) notes: Vec<Note>,
+    /// The place of the text among the strings of the pool.
+    pub(crate) text: Option<u32>,
+}
+
+// The names of a path with a slash between them.
+fn slashed(alloc: Global, names: &[Name]) -> Result<Vec<u8>, AllocError>
+    ensures { IfOk result (λ v. v.items ≡ slashed names.now) }
+{
+    let mut bytes = Vec::new(alloc);
+    let Some((first, rest)) = names.split_first() else {
+        return Ok(bytes);
+    };
+    bytes.extend_from_slice(first.as_str().as_bytes())?;
+    for name in rest {
+        bytes.push(b'/')?;
+        bytes.extend_from_slice(name.as_str().as_bytes())?;
+    }
+    Ok(bytes)
+}
+
+// Pushes a string, and tells its place.
+fn push(pools: &mut PoolTree<Global>, pool: PoolId, bytes: &[u8]) -> Result<u32, AllocError>
+    ensures pushed { OnOk result (pools.new ≡ pushed pools.old pool.0 bytes.now) }
+    ensures place { IfOk result (λ place. place ≡ length (strings_at pools.old pool.0)) }
+{
+    match pools.push(pool, bytes) {
+        Ok(place) => Ok(place),
+        Err(_) => Err(AllocError),
+    }
+}
+
+/// Destroys a pool that has none beneath it.
+pub(crate) fn drop_pool(pools: &mut PoolTree<Global>, pool: PoolId)
+    ensures { (e : Entry) → pool_at pools.old pool.0 ≡ Some e → IsLeaf pools.old pool.0 → pool.0 ≢ pools.old.root → PoolGone pool.0 pools.old pools.new }
+{
+    match pools.destroy(pool) {
+        Ok(()) => (),
+        Err(_) => (),
+    }
+}
+
+impl Baton {
+    /// A baton whose pool is made beneath another, and holds the path. Where memory is refused, no pool is left.
+    pub(crate) fn open(
+        alloc: Global,
+        pools: &mut PoolTree<Global>,
+        beneath: PoolId,
+        path: &RelPath,
+    ) -> Result<Baton, AllocError>
+        ensures { IfOk result (λ b. BatonBegun beneath.0 path.now pools.old b pools.new) }
+    {
+        let path = path.clone()?;
+        let text = slashed(alloc, path.components())?;
+        let Ok(pool) = pools.create(beneath) else {
+            return Err(AllocError);
+        };
+        let Ok(_) = pools.push(pool, text.as_slice()) else {
+            let _ = pools.destroy(pool);
+            return Err(AllocError);
+        };
+        Ok(Baton {
+            path,
+            pool,
+            notes: Vec::new(alloc),
+            text: None,
+        })
+    }
+
+    /// Notes a change of a property.
+    pub(crate) fn note_change(
+        &mut self,
+        pools: &mut PoolTree<Global>,
+        name: &PropName,
+        value: Option<&Text>,
+    ) -> Result<(), AllocError>
+        ensures { OnOk result (let v = option_copied value.entry in BatonSaid (note_of_value v) (name.now ∷ strings_of_value v) self.old pools.old self.new pools.new) }
+    {
+        push(pools, self.pool, name.as_str().as_bytes())?;
+        let Some(value) = value else {
+            self.notes.push(Note::Remove)?;
+            return Ok(());
+        };
+        push(pools, self.pool, value.as_slice())?;
+        self.notes.push(Note::Set)?;
+        Ok(())
+    }
+
+    /// Notes the text. Where one was noted before, that one counts.
+    pub(crate) fn note_text(
+        &mut self,
+        pools: &mut PoolTree<Global>,
+        text: &Text,
+    ) -> Result<(), AllocError>
+        ensures { OnOk result (BatonSaid NewText (text.now ∷ []) self.old pools.old self.new pools.new) }
+    {
+        let place = push(pools, self.pool, text.as_slice())?;
+        self.notes.push(Note::Text)?;
+        self.text = self.text.or(Some(place));
+        Ok(())
+    }
+}
+
+// The name of a property that a string has.
+fn prop_name(alloc: Global, bytes: Option<&[u8]>) -> Result<PropName, AllocError>
+    ensures { IfOk result (λ n. option_copied bytes.entry ≡ Some n) }
+{
+    let Some(bytes) = bytes else {
+        return Err(AllocError);
+    };
+    let Ok(text) = std::str::from_utf8(bytes) else {
+        return Err(AllocError);
+    };
+    match PropName::parse(alloc, text) {
+        Ok(name) => Ok(name),
+        Err(_) => Err(AllocError),
+    }
+}
+
+// A text or a value that a string has.
+fn copied_text(alloc: Global, bytes: Option<&[u8]>) -> Result<Text, AllocError>
+    ensures { IfOk result (λ t. option_copied bytes.entry ≡ Some t) }
+{
+    let Some(bytes) = bytes else {
+        return Err(AllocError);
+    };
+    Ok(Text::new(Vec::from_slice(alloc, bytes)?))
+}
+
+// Makes what a note and the next strings say.
+fn make_change(
+    alloc: Global,
+    note: Note,
+    strings: &mut Reader<'_, Global>,
+    props: &mut Props,
+) -> Result<(), AllocError>
+    ensures { OnOk result ((before : Properties) (said : List Action) (notes : List NoteOf) → StillSaid before props.old said (note ∷ notes) strings.old → StillSaid before props.new said notes strings.new) }
+{
+    match note {
+        Note::Set => {
+            let name = prop_name(alloc, strings.next())?;
+            let value = copied_text(alloc, strings.next())?;
+            props.insert(name, value)?;
+            Ok(())
+        }
+        Note::Remove => {
+            let name = prop_name(alloc, strings.next())?;
+            props.remove(&name);
+            Ok(())
+        }
+        Note::Text => {
+            let _text = strings.next();
+            Ok(())
+        }
+    }
+}
+
+impl Baton {
+    /// The text that was noted.
+    pub(crate) fn text<'a>(&self, pools: &'a PoolTree<Global>) -> Option<&'a [u8]>
+        ensures { (said : List Action) → Says self.now pools.now said → option_copied result ≡ first_of (filter_map text_in said) }
+    {
+        match self.text {
+            Some(place) => pools.get(self.pool, place),
+            None => None,
+        }
+    }
+
+    /// Makes the changes that were noted.
+    pub(crate) fn change(
+        &self,
+        alloc: Global,
+        pools: &PoolTree<Global>,
+        props: &mut Props,
+    ) -> Result<(), AllocError>
+        ensures { OnOk result ((said : List Action) → Says self.now pools.now said → props.new ≡ with_changes props.old (filter_map change_in said)) }
+    {
+        let Ok(mut strings) = pools.strings(self.pool) else {
+            return Err(AllocError);
+        };
+        let _path = strings.next();
+        for note in &self.notes {
+            make_change(alloc, *note, &mut strings, props)?;
+        }
+        Ok(())
+    }
+}

@@ -1,0 +1,439 @@
+//! An edit of a copy, call by call.
+ghost use Rattle.std.specs.Prelude.{◌≡◌, ◌≢◌, [], ◌∷◌, ◌++◌, List, IfOk, IfErr, OnOk, OnErr, Ok, Some, None, true, false, if◌then◌else◌};
+ghost use Rattle.std.specs.Ordering.{nat_cmp};
+ghost use Rattle.std.specs.BTreeMap.{get};
+ghost use Rattle.md5.specs.Md5.{md5};
+ghost use Rattle.svn_types.specs.Names.{Path};
+ghost use Rattle.svn_types.specs.Paths.{path_eq};
+ghost use Rattle.svn_types.specs.declared.kind.Kind.TheVariants.{File, Directory};
+ghost use Rattle.svn_pool.specs.Pools.{Entry, pool_at};
+ghost use Rattle.svn_editor.specs.Calls.{is_last};
+ghost use Rattle.std.specs.Option.{option_copied};
+ghost use Rattle.svn_editor.specs.Steps.{Mode, Action, Delete, Open, Add, Text as TextOf, Update, SwitchTo};
+ghost use Rattle.svn_edit.specs.declared.baton.Note.TheVariants.{Text as NewText};
+ghost use Rattle.svn_edit.specs.Noted.{note_of_value, strings_of_value};
+ghost use Rattle.svn_edit.specs.declared.baton.Baton.{Baton};
+ghost use Rattle.svn_model.specs.declared.base_node.BaseNode.{BaseNode};
+ghost use Rattle.svn_model.specs.declared.base_node.BaseNode.TheVariants.{NotPresent as NoNode};
+ghost use Rattle.svn_model.specs.Nodes.{WorkingCopy, get_in};
+ghost use Rattle.svn_model.specs.Effects.{change_in, text_in, is_too_long, closed_directory, settled, settle_fault, step_effect, step_fault, effect, edit_fault, refusal};
+ghost use Rattle.svn_edit.specs.Applying.{mode_of, pool_or, Applied, KeepsEdit, MakesBaton, RefusedAs, BatonGone, BatonNoted, TakenInOrder, IsLeaf, Says, batons_of, Holds, IsNext, StandsAfter, AnswersAs, OneIsLeft, live_count, HasEnded, IsRefused, StaysRefused, StaysEnded, LeavesRefused};
+ghost use Rattle.svn_model.specs.Answering.{AnswersCall};
+ghost use Rattle.svn_edit.specs.NodeTests.{sum_fault, IsClosing, FileIsClosed};
+ghost use Rattle.std.specs.FinMap as map;
+ghost use Rattle.svn_pool.specs.Ancestry.{IsCleared};
+
+use crate::baton::{Baton, drop_pool};
+use crate::nodes::Nodes;
+use crate::{nodes, paths};
+use std::alloc::{AllocError, Global};
+use std::collections::BTreeMap;
+use svn_editor::{Call, Digest, EditFault, OrderFault, Token};
+use svn_model::BaseNode;
+use svn_order::OrderCheck;
+use svn_pool::{PoolId, PoolTree};
+use svn_types::{MAX_SIZE, PropName, Props, RelPath, Rev, Text};
+
+/// How far an edit is.
+#[derive(Clone, Copy, Debug)]
+pub(crate) enum Stage {
+    /// Every call so far was accepted, and none was the last.
+    Going,
+    /// A call was refused: only giving up is left.
+    Refused,
+    /// The edit was ended or given up.
+    Ended,
+}
+
+/// An edit: the calls that came so far, and what is to be done at the close of what is open.
+#[derive(Drop)]
+pub struct Edit {
+    pub(crate) stage: Stage,
+    pub(crate) order: OrderCheck,
+    pub(crate) target: Rev,
+    /// Where a switch brings the copy.
+    pub(crate) root: Option<RelPath>,
+    pub(crate) pools: PoolTree<Global>,
+    pub(crate) batons: BTreeMap<u64, Baton>,
+    pub(crate) alloc: Global,
+}
+
+fn is_too_long(value: Option<&Text>) -> bool
+    ensures { result ≡ is_too_long (option_copied value.entry) }
+{
+    match value {
+        Some(value) => value.len() > MAX_SIZE,
+        None => false,
+    }
+}
+
+pub(crate) fn or_memory<T>(answer: Result<T, AllocError>) -> Result<T, EditFault>
+    ensures ok { IfOk result (λ v. answer ≡ Ok v) }
+    ensures err { IfErr result (λ e. e ≡ EditFault.Memory) }
+{
+    match answer {
+        Ok(value) => Ok(value),
+        Err(_) => Err(EditFault::Memory),
+    }
+}
+
+// Want of memory is one fault, whoever met it.
+fn refused_as(fault: OrderFault) -> EditFault
+    ensures { RefusedAs fault result }
+{
+    match fault {
+        OrderFault::Memory => EditFault::Memory,
+        _ => EditFault::Order(fault),
+    }
+}
+
+impl Edit {
+    /// An edit that no call was given to: an update, or a switch to a root. The only fault is Memory.
+    pub fn new(alloc: Global, root: Option<RelPath>) -> Result<Edit, EditFault>
+        ensures begun { IfOk result (λ e. (mode : Mode) (nodes : List (Path × BaseNode)) → mode_of root ≡ mode → StandsAfter mode (get_in nodes) e nodes []) }
+        ensures memory { IfErr result (λ e. e ≡ EditFault.Memory) }
+    {
+        let Ok(pools) = PoolTree::new(alloc) else {
+            return Err(EditFault::Memory);
+        };
+        Ok(Edit {
+            stage: Stage::Going,
+            order: OrderCheck::new(alloc),
+            target: Rev(0),
+            root,
+            pools,
+            batons: BTreeMap::new(alloc),
+            alloc,
+        })
+    }
+
+    /// Takes the next call, and changes the copy as it says. The order check's faults come first, then those of the copy: DeleteEntry
+    /// NoEntry, WrongRevision; the adds EntryExists, TooDeep; the opens NoEntry, WrongKind, WrongRevision, TooDeep; property changes TooLong;
+    /// ApplyText TooLong, BaseChecksum; CloseFile TextChecksum; CloseEdit of a switch TooDeep. Memory comes last, but not at AbortEdit and
+    /// at CloseEdit of an update. After a refusal the copy is as it was, and every call but AbortEdit is refused.
+    pub fn call(&mut self, copy: &mut Nodes, call: &Call) -> Result<(), EditFault>
+        ensures answers { (mode : Mode) (w0 : WorkingCopy) (calls : List Call) → StandsAfter mode w0 self.old copy.old.entries calls → AnswersCall (refusal md5 mode calls call.now copy.old.entries) result }
+        ensures accepted { OnOk result ((mode : Mode) (w0 : WorkingCopy) (calls : List Call) → StandsAfter mode w0 self.old copy.old.entries calls → StandsAfter mode w0 self.new copy.new.entries (calls ++ call.now ∷ [])) }
+        ensures refused { OnErr result ((mode : Mode) (w0 : WorkingCopy) (calls : List Call) → StandsAfter mode w0 self.old copy.old.entries calls → copy.new.entries ≡ copy.old.entries) }
+        ensures dead { LeavesRefused self.old.stage result self.new }
+        ensures was_refused { IsRefused self.old → StaysRefused call.now result self.new × (copy.new ≡ copy.old) }
+        ensures last { is_last call.now ≡ true → mode_of self.old.root ≡ Update → IfErr result (λ e. e ≢ EditFault.Memory) }
+        ensures ended { HasEnded self.old → StaysEnded self.old result self.new × (copy.new ≡ copy.old) }
+    {
+        match self.stage {
+            Stage::Ended => Err(EditFault::Order(OrderFault::Ended)),
+            Stage::Refused => self.give_up(call),
+            Stage::Going => self.take(copy, call),
+        }
+    }
+
+    /// How many pools are live: one, and one for each file or directory that is open. It takes no memory.
+    pub fn live_pools(&self) -> u64
+        ensures live { result ≡ map.len self.now.pools.live }
+        ensures count { (mode : Mode) (w0 : WorkingCopy) (nodes : List (Path × BaseNode)) (calls : List Call) → StandsAfter mode w0 self.now nodes calls → result ≡ live_count calls }
+    {
+        self.pools.live()
+    }
+
+    // Takes the next call after a refusal.
+    fn give_up(&mut self, call: &Call) -> Result<(), EditFault>
+        requires { IsRefused self.old }
+        ensures { StaysRefused call.now result self.new }
+    {
+        if matches!(call, Call::AbortEdit) {
+            self.drop_batons();
+            self.stage = Stage::Ended;
+            Ok(())
+        } else {
+            Err(EditFault::Order(OrderFault::Dead))
+        }
+    }
+
+    // Takes the next call while the edit goes on.
+    fn take(&mut self, copy: &mut Nodes, call: &Call) -> Result<(), EditFault>
+        ensures answers { (mode : Mode) (w0 : WorkingCopy) (calls : List Call) → StandsAfter mode w0 self.old copy.old.entries calls → AnswersCall (refusal md5 mode calls call.now copy.old.entries) result }
+        ensures accepted { OnOk result ((mode : Mode) (w0 : WorkingCopy) (calls : List Call) → StandsAfter mode w0 self.old copy.old.entries calls → StandsAfter mode w0 self.new copy.new.entries (calls ++ call.now ∷ [])) }
+        ensures refused { OnErr result ((mode : Mode) (w0 : WorkingCopy) (calls : List Call) → StandsAfter mode w0 self.old copy.old.entries calls → copy.new.entries ≡ copy.old.entries) }
+        ensures last { is_last call.now ≡ true → mode_of self.old.root ≡ Update → IfErr result (λ e. e ≢ EditFault.Memory) }
+        ensures dead { OnErr result (IsRefused self.new) }
+    {
+        let answer = self.take_in_order(copy, call);
+        if answer.is_err() {
+            self.stage = Stage::Refused;
+        } else if call.is_last() {
+            self.stage = Stage::Ended;
+        }
+        answer
+    }
+
+    fn take_in_order(&mut self, copy: &mut Nodes, call: &Call) -> Result<(), EditFault>
+        ensures answers { (mode : Mode) (w0 : WorkingCopy) (calls : List Call) → StandsAfter mode w0 self.old copy.old.entries calls → AnswersCall (refusal md5 mode calls call.now copy.old.entries) result }
+        ensures accepted { OnOk result ((mode : Mode) (w0 : WorkingCopy) (calls : List Call) → StandsAfter mode w0 self.old copy.old.entries calls → TakenInOrder mode w0 self.new copy.new.entries calls call.now) }
+        ensures last { is_last call.now ≡ true → mode_of self.old.root ≡ Update → IfErr result (λ e. e ≢ EditFault.Memory) }
+        ensures refused { OnErr result ((mode : Mode) (w0 : WorkingCopy) (calls : List Call) → StandsAfter mode w0 self.old copy.old.entries calls → copy.new.entries ≡ copy.old.entries) }
+    {
+        match self.order.step(call) {
+            Ok(()) => self.apply(copy, call),
+            Err(fault) => Err(refused_as(fault)),
+        }
+    }
+
+    // Applies a call that is in order.
+    fn apply(&mut self, copy: &mut Nodes, call: &Call) -> Result<(), EditFault>
+        ensures applied { (mode : Mode) (calls : List Call) → IsNext mode self.old calls call.now → Applied (edit_fault md5 mode calls call.now copy.old.entries) (effect mode calls call.now (get_in copy.old.entries)) copy.old.entries result copy.new.entries }
+        ensures holds { OnOk result ((mode : Mode) (calls : List Call) → IsNext mode self.old calls call.now → is_last call.now ≡ false → Holds mode self.new (calls ++ call.now ∷ [])) }
+        ensures last { is_last call.now ≡ true → mode_of self.old.root ≡ Update → IfErr result (λ e. e ≢ EditFault.Memory) }
+        ensures left { is_last call.now ≡ true → OnOk result ((mode : Mode) (calls : List Call) → IsNext mode self.old calls call.now → OneIsLeft self.new) }
+        ensures order { self.new.order ≡ self.old.order }
+    {
+        match call {
+            Call::SetTargetRevision { rev } => {
+                self.target = *rev;
+                Ok(())
+            }
+            Call::OpenRoot { base, token } => self.open_root(copy, *base, *token),
+            Call::DeleteEntry { path, rev, .. } => self.delete_entry(copy, path, *rev),
+            Call::AddDirectory {
+                path,
+                parent,
+                token,
+            } => self.add_directory(copy, path, self.pool_of(*parent), *token),
+            Call::OpenDirectory {
+                path,
+                parent,
+                base,
+                token,
+            } => self.open_directory(copy, path, *base, self.pool_of(*parent), *token),
+            Call::CloseDirectory { token } => self.close_directory(copy, *token),
+            Call::AddFile { path, token, .. } => self.add_file(copy, path, *token),
+            Call::OpenFile {
+                path,
+                base,
+                token,
+                ..
+            } => self.open_file(copy, path, *base, *token),
+            Call::ChangeDirProp { token, name, value } => {
+                self.change_prop(*token, name, value.as_ref())
+            }
+            Call::ChangeFileProp { token, name, value } => {
+                self.change_prop(*token, name, value.as_ref())
+            }
+            Call::ApplyText {
+                token,
+                base_md5,
+                text,
+            } => self.apply_text(copy, *token, base_md5, text),
+            Call::CloseFile { token, text_md5 } => self.close_file(copy, *token, text_md5),
+            Call::CloseEdit => self.close_edit(copy),
+            Call::AbortEdit => {
+                self.drop_batons();
+                Ok(())
+            }
+        }
+    }
+
+    // Closes all that is open, and nothing is done for it.
+    fn drop_batons(&mut self)
+        ensures keeps { KeepsEdit self.old self.new }
+        ensures cleared { IsCleared self.old.pools self.new.pools self.old.pools.root }
+    {
+        self.batons.clear();
+        let root = self.pools.root();
+        match self.pools.clear(root) {
+            Ok(()) => (),
+            Err(_) => (),
+        }
+    }
+
+    // Opens a baton.
+    fn open_baton(&mut self, beneath: PoolId, path: &RelPath, token: Token) -> Result<(), EditFault>
+        ensures opened { OnOk result (MakesBaton beneath.0 path.now token self.old self.new) }
+        ensures keeps { KeepsEdit self.old self.new }
+        ensures fault { IfErr result (λ e. e ≡ EditFault.Memory) }
+    {
+        let baton = or_memory(Baton::open(self.alloc, &mut self.pools, beneath, path))?;
+        let pool = baton.pool;
+        let Ok(_) = self.batons.insert(token.0, baton) else {
+            drop_pool(&mut self.pools, pool);
+            return Err(EditFault::Memory);
+        };
+        Ok(())
+    }
+
+    // The pool of an open directory.
+    fn pool_of(&self, token: Token) -> PoolId
+        ensures { result.0 ≡ pool_or self.now.pools.root (batons_of self.now token) }
+    {
+        match self.batons.get(&token.0) {
+            Some(baton) => baton.pool,
+            None => self.pools.root(),
+        }
+    }
+
+    fn open_root(&mut self, copy: &mut Nodes, base: Rev, token: Token) -> Result<(), EditFault>
+        ensures opened { OnOk result (MakesBaton self.old.pools.root [] token self.old self.new) }
+        ensures keeps { KeepsEdit self.old self.new }
+        ensures applied { let a = Open Directory base in let w = get_in copy.old.entries in Applied (step_fault md5 (mode_of self.old.root) [] w [] a) (step_effect (mode_of self.old.root) self.old.target [] (record { path = []; action = a }) w) copy.old.entries result copy.new.entries }
+    {
+        let root = RelPath::root(self.alloc);
+        let pool = self.pools.root();
+        self.open_directory(copy, &root, base, pool, token)
+    }
+
+    fn open_directory(
+        &mut self,
+        copy: &mut Nodes,
+        path: &RelPath,
+        base: Rev,
+        beneath: PoolId,
+        token: Token,
+    ) -> Result<(), EditFault>
+        ensures opened { OnOk result (MakesBaton beneath.0 path.now token self.old self.new) }
+        ensures keeps { KeepsEdit self.old self.new }
+        ensures applied { let a = Open Directory base in let w = get_in copy.old.entries in Applied (step_fault md5 (mode_of self.old.root) [] w path.now a) (step_effect (mode_of self.old.root) self.old.target [] (record { path = path.now; action = a }) w) copy.old.entries result copy.new.entries }
+    {
+        if let Some(fault) = nodes::open_directory_fault(copy.get(path), base) {
+            return Err(fault);
+        }
+        let moved = paths::moved(self.alloc, &self.root, copy, path)?;
+        self.open_baton(beneath, path, token)?;
+        nodes::open_directory_at(self.alloc, copy, path, self.target, moved);
+        Ok(())
+    }
+
+    fn open_file(
+        &mut self,
+        copy: &Nodes,
+        path: &RelPath,
+        base: Rev,
+        token: Token,
+    ) -> Result<(), EditFault>
+        ensures opened { OnOk result (MakesBaton self.old.pools.root path.now token self.old self.new) }
+        ensures keeps { KeepsEdit self.old self.new }
+        ensures applied { let a = Open File base in let w = get_in copy.now.entries in Applied (step_fault md5 (mode_of self.old.root) [] w path.now a) (step_effect (mode_of self.old.root) self.old.target [] (record { path = path.now; action = a }) w) copy.now.entries result copy.now.entries }
+    {
+        if let Some(fault) = nodes::open_file_fault(copy.get(path), base) {
+            return Err(fault);
+        }
+        let _moved = paths::moved(self.alloc, &self.root, copy, path)?;
+        let root = self.pools.root();
+        self.open_baton(root, path, token)
+    }
+
+    // Puts a new node where none is present, once its baton is open.
+    fn add_node(
+        &mut self,
+        copy: &mut Nodes,
+        path: &RelPath,
+        node: BaseNode,
+        beneath: PoolId,
+        token: Token,
+    ) -> Result<(), EditFault>
+        ensures opened { OnOk result (MakesBaton beneath.0 path.now token self.old self.new) }
+        ensures keeps { KeepsEdit self.old self.new }
+        ensures copy { OnOk result ((p : Path) → get_in copy.new.entries p ≡ (if path_eq path.now p then Some node else get_in copy.old.entries p)) }
+        ensures refused { OnErr result (copy.new.entries ≡ copy.old.entries) }
+        ensures fault { IfErr result (λ e. e ≡ EditFault.Memory) }
+    {
+        let at = or_memory(path.clone())?;
+        self.open_baton(beneath, path, token)?;
+        let Ok(_) = copy.insert(at, node) else {
+            self.close_baton(token);
+            return Err(EditFault::Memory);
+        };
+        Ok(())
+    }
+
+    fn add_directory(
+        &mut self,
+        copy: &mut Nodes,
+        path: &RelPath,
+        beneath: PoolId,
+        token: Token,
+    ) -> Result<(), EditFault>
+        ensures opened { OnOk result (MakesBaton beneath.0 path.now token self.old self.new) }
+        ensures keeps { KeepsEdit self.old self.new }
+        ensures applied { let a = Add Directory in let w = get_in copy.old.entries in Applied (step_fault md5 (mode_of self.old.root) [] w path.now a) (step_effect (mode_of self.old.root) self.old.target [] (record { path = path.now; action = a }) w) copy.old.entries result copy.new.entries }
+    {
+        if nodes::is_present(copy.get(path)) {
+            return Err(EditFault::EntryExists);
+        }
+        let joined = paths::joined(self.alloc, copy, path)?;
+        let node = BaseNode::Dir {
+            rev: self.target,
+            repos_path: joined,
+            complete: false,
+            props: Props::new(self.alloc),
+        };
+        self.add_node(copy, path, node, beneath, token)
+    }
+
+    fn add_file(&mut self, copy: &mut Nodes, path: &RelPath, token: Token) -> Result<(), EditFault>
+        ensures opened { OnOk result (MakesBaton self.old.pools.root path.now token self.old self.new) }
+        ensures keeps { KeepsEdit self.old self.new }
+        ensures applied { let a = Add File in let w = get_in copy.old.entries in Applied (step_fault md5 (mode_of self.old.root) [] w path.now a) (step_effect (mode_of self.old.root) self.old.target [] (record { path = path.now; action = a }) w) copy.old.entries result copy.new.entries }
+    {
+        if nodes::is_present(copy.get(path)) {
+            return Err(EditFault::EntryExists);
+        }
+        let _joined = paths::joined(self.alloc, copy, path)?;
+        let root = self.pools.root();
+        self.add_node(copy, path, BaseNode::NotPresent, root, token)
+    }
+
+    fn delete_entry(&self, copy: &mut Nodes, path: &RelPath, rev: Rev) -> Result<(), EditFault>
+        ensures { let a = Delete rev in let w = get_in copy.old.entries in Applied (step_fault md5 (mode_of self.now.root) [] w path.now a) (step_effect (mode_of self.now.root) self.now.target [] (record { path = path.now; action = a }) w) copy.old.entries result copy.new.entries }
+    {
+        if let Some(fault) = nodes::delete_fault(copy.get(path), rev) {
+            return Err(fault);
+        }
+        match nodes::delete_within(self.alloc, copy, path) {
+            Ok(()) => Ok(()),
+            Err(_) => Err(EditFault::Memory),
+        }
+    }
+
+    fn change_prop(
+        &mut self,
+        token: Token,
+        name: &PropName,
+        value: Option<&Text>,
+    ) -> Result<(), EditFault>
+        ensures keeps { KeepsEdit self.old self.new }
+        ensures answers { AnswersCall (if is_too_long (option_copied value.entry) then Some EditFault.TooLong else None) result }
+        ensures noted { OnOk result ((b : Baton) → batons_of self.old token ≡ Some b → let v = option_copied value.entry in BatonNoted token b (note_of_value v) (name.now ∷ strings_of_value v) self.old.pools (batons_of self.old) self.new.pools (batons_of self.new)) }
+    {
+        if is_too_long(value) {
+            return Err(EditFault::TooLong);
+        }
+        match self.batons.get_mut(&token.0) {
+            Some(baton) => or_memory(baton.note_change(&mut self.pools, name, value)),
+            None => Err(EditFault::Memory),
+        }
+    }
+
+    fn apply_text(
+        &mut self,
+        copy: &Nodes,
+        token: Token,
+        base_md5: &Option<Digest>,
+        text: &Text,
+    ) -> Result<(), EditFault>
+        ensures keeps { KeepsEdit self.old self.new }
+        ensures answers { (b : Baton) → batons_of self.old token ≡ Some b → AnswersCall (step_fault md5 Update [] (get_in copy.now.entries) b.path (TextOf base_md5.now text.now)) result }
+        ensures noted { OnOk result ((b : Baton) → batons_of self.old token ≡ Some b → BatonNoted token b NewText (text.now ∷ []) self.old.pools (batons_of self.old) self.new.pools (batons_of self.new)) }
+    {
+        if is_too_long(Some(text)) {
+            return Err(EditFault::TooLong);
+        }
+        match self.batons.get_mut(&token.0) {
+            Some(baton) => {
+                if nodes::is_wrong_sum(base_md5, nodes::text_of(copy.get(&baton.path))) {
+                    return Err(EditFault::BaseChecksum);
+                }
+                or_memory(baton.note_text(&mut self.pools, text))
+            }
+            None => Err(EditFault::Memory),
+        }
+    }
+}

@@ -1,0 +1,276 @@
+//! What an edit asks of the nodes of a copy, and what it does to them.
+ghost use Rattle.std.specs.Prelude.{◌≡◌, nat_eq, IfOk, OnOk, OnErr, Some, None, is_some, if◌then◌else◌, ◌&&◌};
+ghost use Rattle.std.specs.Option.{option_copied, option_map};
+ghost use Rattle.std.specs.List.{list_any};
+ghost use Rattle.md5.specs.Md5.{md5};
+ghost use Rattle.svn_types.specs.Names.{Path};
+ghost use Rattle.svn_types.specs.Paths.{path_eq, is_within};
+ghost use Rattle.svn_model.specs.Nodes.{get_in, is_present, node_text, node_props};
+ghost use Rattle.svn_model.specs.Effects.{opened_directory, is_wrong_sum};
+ghost use Rattle.svn_edit.specs.NodeTests.{delete_fault_of, open_fault_of, completed, closed_by};
+
+use md5::{Digest as Hasher, Md5};
+use std::alloc::{AllocError, Global};
+use std::collections::BTreeMap;
+use svn_editor::{Digest, EditFault};
+use svn_model::BaseNode;
+use svn_types::{Kind, Props, RelPath, Rev, Text};
+
+/// The nodes of a copy, by their paths.
+pub type Nodes = BTreeMap<RelPath, BaseNode>;
+
+/// Whether a node is present.
+pub(crate) fn is_present(node: Option<&BaseNode>) -> bool
+    ensures { result ≡ is_present (option_copied node.entry) }
+{
+    match node {
+        Some(BaseNode::File { .. } | BaseNode::Dir { .. }) => true,
+        Some(BaseNode::NotPresent) | None => false,
+    }
+}
+
+fn revision_fault(at: Rev, rev: Rev) -> Option<EditFault>
+    ensures { result ≡ (if nat_eq at rev then None else Some EditFault.WrongRevision) }
+{
+    if at == rev {
+        None
+    } else {
+        Some(EditFault::WrongRevision)
+    }
+}
+
+/// Why an entry isn't deleted.
+pub(crate) fn delete_fault(node: Option<&BaseNode>, rev: Rev) -> Option<EditFault>
+    ensures { result ≡ delete_fault_of (option_copied node.entry) rev }
+{
+    match node {
+        Some(BaseNode::File { rev: at, .. }) => revision_fault(*at, rev),
+        Some(BaseNode::Dir { rev: at, .. }) => revision_fault(*at, rev),
+        Some(BaseNode::NotPresent) | None => Some(EditFault::NoEntry),
+    }
+}
+
+/// Why a node isn't opened as a directory, but for a path that is too deep.
+pub(crate) fn open_directory_fault(node: Option<&BaseNode>, base: Rev) -> Option<EditFault>
+    ensures { result ≡ open_fault_of Kind.Directory (option_copied node.entry) base }
+{
+    match node {
+        Some(BaseNode::File { .. }) => Some(EditFault::WrongKind),
+        Some(BaseNode::Dir { rev, .. }) => revision_fault(*rev, base),
+        Some(BaseNode::NotPresent) | None => Some(EditFault::NoEntry),
+    }
+}
+
+/// Why a node isn't opened as a file, but for a path that is too deep.
+pub(crate) fn open_file_fault(node: Option<&BaseNode>, base: Rev) -> Option<EditFault>
+    ensures { result ≡ open_fault_of Kind.File (option_copied node.entry) base }
+{
+    match node {
+        Some(BaseNode::File { rev, .. }) => revision_fault(*rev, base),
+        Some(BaseNode::Dir { .. }) => Some(EditFault::WrongKind),
+        Some(BaseNode::NotPresent) | None => Some(EditFault::NoEntry),
+    }
+}
+
+/// The text of a file, else nothing.
+pub(crate) fn text_of(node: Option<&BaseNode>) -> &[u8]
+    ensures { result.now ≡ node_text (option_copied node.entry) }
+{
+    match node {
+        Some(BaseNode::File { text, .. }) => text.as_slice(),
+        _ => &[],
+    }
+}
+
+/// The properties of a node, else none.
+pub(crate) fn props_of(alloc: Global, node: Option<&BaseNode>) -> Result<Props, AllocError>
+    ensures { IfOk result (λ p. p ≡ node_props (option_copied node.entry)) }
+{
+    match node {
+        Some(BaseNode::File { props, .. }) => props.clone(),
+        Some(BaseNode::Dir { props, .. }) => props.clone(),
+        _ => Ok(Props::new(alloc)),
+    }
+}
+
+/// A directory that is opened: incomplete at the target, and without properties where it was incomplete before.
+pub(crate) fn open_directory(alloc: Global, node: &mut BaseNode, target: Rev, moved: RelPath)
+    ensures { Some node.new ≡ opened_directory target (λ q. moved) (Some node.old) }
+{
+    if let BaseNode::Dir {
+        rev,
+        repos_path,
+        complete,
+        props,
+    } = node
+    {
+        *rev = target;
+        *repos_path = moved;
+        if !*complete {
+            *props = Props::new(alloc);
+        }
+        *complete = false;
+    }
+}
+
+/// The directory at a path is opened.
+pub(crate) fn open_directory_at(
+    alloc: Global,
+    nodes: &mut Nodes,
+    path: &RelPath,
+    target: Rev,
+    moved: RelPath,
+)
+    ensures { (p : Path) → get_in nodes.new.entries p ≡ (if path_eq path.now p then opened_directory target (λ q. moved) (get_in nodes.old.entries path.now) else get_in nodes.old.entries p) }
+{
+    if let Some(node) = nodes.get_mut(path) {
+        open_directory(alloc, node, target, moved);
+    }
+}
+
+/// The directory at a path is closed.
+pub(crate) fn close_directory_at(nodes: &mut Nodes, path: &RelPath, props: Props)
+    ensures { (p : Path) → get_in nodes.new.entries p ≡ (if path_eq path.now p then option_map (completed props) (get_in nodes.old.entries path.now) else get_in nodes.old.entries p) }
+{
+    if let Some(node) = nodes.get_mut(path) {
+        close_directory(node, props);
+    }
+}
+
+/// The file at a path is closed.
+pub(crate) fn close_file_at(alloc: Global, nodes: &mut Nodes, path: &RelPath, closing: Closing)
+    ensures { (p : Path) → get_in nodes.new.entries p ≡ (if path_eq path.now p then option_map (closed_by closing) (get_in nodes.old.entries path.now) else get_in nodes.old.entries p) }
+{
+    if let Some(node) = nodes.get_mut(path) {
+        close_file(alloc, node, closing);
+    }
+}
+
+/// A directory that is closed: complete, with these properties.
+pub(crate) fn close_directory(node: &mut BaseNode, changed: Props)
+    ensures { node.new ≡ completed changed node.old }
+{
+    if let BaseNode::Dir {
+        complete,
+        props,
+        ..
+    } = node
+    {
+        *complete = true;
+        *props = changed;
+    }
+}
+
+/// What a file gets when it is closed.
+#[derive(Drop)]
+pub(crate) struct Closing {
+    pub(crate) target: Rev,
+    pub(crate) moved: RelPath,
+    /// The new text, if there is one.
+    pub(crate) text: Option<Text>,
+    pub(crate) props: Props,
+}
+
+/// A file that is closed.
+pub(crate) fn close_file(alloc: Global, node: &mut BaseNode, closing: Closing)
+    ensures { node.new ≡ closed_by closing node.old }
+{
+    let Closing {
+        target,
+        moved,
+        text: new_text,
+        props: changed,
+    } = closing;
+    match node {
+        BaseNode::File {
+            rev,
+            repos_path,
+            text,
+            props,
+        } => {
+            *rev = target;
+            *repos_path = moved;
+            if let Some(new_text) = new_text {
+                *text = new_text;
+            }
+            *props = changed;
+        }
+        BaseNode::Dir { .. } => (),
+        BaseNode::NotPresent => {
+            let text = match new_text {
+                Some(text) => text,
+                None => Text::new(Vec::new(alloc)),
+            };
+            *node = BaseNode::File {
+                rev: target,
+                repos_path: moved,
+                text,
+                props: changed,
+            };
+        }
+    }
+}
+
+/// The paths of the nodes at a path and below.
+pub fn paths_within(
+    alloc: Global,
+    nodes: &Nodes,
+    path: &RelPath,
+) -> Result<Vec<RelPath>, AllocError>
+    ensures { IfOk result (λ v. (p : Path) → list_any (λ q. path_eq q p) v.items ≡ (is_within path.now p && is_some (get_in nodes.now.entries p))) }
+{
+    let mut paths = Vec::new(alloc);
+    for (other, _) in nodes.range(path.clone()?..) {
+        if !other.is_within(path) {
+            break;
+        }
+        paths.push(other.clone()?)?;
+    }
+    Ok(paths)
+}
+
+/// Removes what stands at these paths.
+pub fn remove_all(nodes: &mut Nodes, paths: &[RelPath])
+    ensures { (p : Path) → get_in nodes.new.entries p ≡ (if list_any (λ q. path_eq q p) paths.now then None else get_in nodes.old.entries p) }
+{
+    for path in paths {
+        nodes.remove(path);
+    }
+}
+
+/// Removes what stands at a path and below.
+pub(crate) fn delete_within(
+    alloc: Global,
+    nodes: &mut Nodes,
+    path: &RelPath,
+) -> Result<(), AllocError>
+    ensures deleted { OnOk result ((p : Path) → get_in nodes.new.entries p ≡ (if is_within path.now p then None else get_in nodes.old.entries p)) }
+    ensures refused { OnErr result (nodes.new.entries ≡ nodes.old.entries) }
+{
+    let paths = paths_within(alloc, nodes, path)?;
+    remove_all(nodes, &paths);
+    Ok(())
+}
+
+/// A copy of a string, if there is one.
+pub(crate) fn copied(alloc: Global, bytes: Option<&[u8]>) -> Result<Option<Text>, AllocError>
+    ensures { IfOk result (λ t. t ≡ option_copied bytes.entry) }
+{
+    match bytes {
+        Some(bytes) => Ok(Some(Text::new(Vec::from_slice(alloc, bytes)?))),
+        None => Ok(None),
+    }
+}
+
+/// Whether a checksum is given, and is another.
+pub(crate) fn is_wrong_sum(given: &Option<Digest>, text: &[u8]) -> bool
+    ensures { result ≡ is_wrong_sum given.now (md5 text.now) }
+{
+    match given {
+        Some(sum) => {
+            let found: [u8; 16] = Md5::digest(text);
+            sum.0 != found
+        }
+        None => false,
+    }
+}

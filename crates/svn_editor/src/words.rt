@@ -1,0 +1,186 @@
+//! The words of printed lines.
+ghost use Rattle.std.specs.Prelude.{◌≡◌, ◌<◌, ◌≤◌, ◌∷◌, Some, true, length, take};
+ghost use Rattle.std.specs.List.{flat_map, list_all};
+ghost use Rattle.std.specs.Fmt.{DisplaysOnOk, digit_glyph};
+ghost use Rattle.svn_editor.specs.Words.{is_shown, escaped, hex_pair, slashed, word, path_word, token_word, digest_word, checksum_word};
+
+use crate::digest::Digest;
+use crate::token::Token;
+use std::fmt::Display;
+use std::{fmt, str};
+use svn_types::{Name, RelPath};
+
+fn is_shown(byte: u8) -> bool
+    ensures { result ≡ is_shown byte }
+{
+    33 <= byte && byte <= 126 && byte != b'%' && byte != b'"'
+}
+
+fn hex_glyph(digit: u8, upper: bool) -> char
+    requires { digit < 16 }
+    ensures value { result ≡ digit_glyph upper digit }
+    ensures ascii { result < 128 }
+{
+    if digit < 10 {
+        char::from(b'0' + digit)
+    } else if upper {
+        char::from(b'A' + (digit - 10))
+    } else {
+        char::from(b'a' + (digit - 10))
+    }
+}
+
+fn write_hex<W: fmt::Write>(byte: u8, upper: bool, f: &mut fmt::Formatter<W>) -> fmt::Result
+    ensures { DisplaysOnOk W.write_str_gives f.old result (Some (hex_pair upper byte)) f.new }
+{
+    f.write_char(hex_glyph(byte / 16, upper))?;
+    f.write_char(hex_glyph(byte % 16, upper))
+}
+
+// A byte within a word.
+#[derive(Clone, Copy)]
+struct EscapedByte(u8);
+
+impl fmt::Display for EscapedByte {
+    ghost output = { λ b. Some (escaped b.0) };
+
+    fn fmt<W: fmt::Write>(&self, f: &mut fmt::Formatter<W>) -> fmt::Result {
+        let byte = self.0;
+        if is_shown(byte) {
+            f.write_char(char::from(byte))
+        } else {
+            f.write_str("%")?;
+            write_hex(byte, true, f)
+        }
+    }
+}
+
+// How many bytes, from the first on, are printed as they are.
+fn shown_count(bytes: &[u8]) -> usize
+    ensures bounded { result ≤ length bytes.now }
+    ensures shown { list_all is_shown (take result bytes.now) ≡ true }
+{
+    let mut count = 0;
+    for byte in bytes {
+        if !is_shown(*byte) {
+            break;
+        }
+        count += 1;
+    }
+    count
+}
+
+// Bytes that are printed as they are, all at once.
+fn write_shown<W: fmt::Write>(bytes: &[u8], f: &mut fmt::Formatter<W>) -> fmt::Result
+    requires { list_all is_shown bytes.now ≡ true }
+    ensures { DisplaysOnOk W.write_str_gives f.old result (Some (flat_map escaped bytes.now)) f.new }
+{
+    match str::from_utf8(bytes) {
+        Ok(text) => f.write_str(text),
+        // they are ASCII
+        Err(_) => unreachable!(),
+    }
+}
+
+fn write_escaped<W: fmt::Write>(bytes: &[u8], f: &mut fmt::Formatter<W>) -> fmt::Result
+    ensures { DisplaysOnOk W.write_str_gives f.old result (Some (flat_map escaped bytes.now)) f.new }
+{
+    let mut rest = bytes;
+    'rest: while !rest.is_empty() {
+        let (shown, others) = rest.split_at(shown_count(rest));
+        write_shown(shown, f)?;
+        rest = others;
+        if let Some((byte, behind)) = others.split_first() {
+            EscapedByte(*byte).fmt(f)?;
+            rest = behind;
+        }
+    }
+    Ok(())
+}
+
+/// Prints bytes as one word: those from 0x21 to 0x7E but for `%` and `"` as they are, any other as `%` and two upper-case hexadecimal
+/// digits, and no bytes at all as `""`.
+#[derive(Clone, Copy, Debug)]
+pub struct Word<'a>(pub &'a [u8]);
+
+impl fmt::Display for Word<'_> {
+    ghost output = { λ w. Some (word w.0.now) };
+
+    fn fmt<W: fmt::Write>(&self, f: &mut fmt::Formatter<W>) -> fmt::Result {
+        if self.0.is_empty() {
+            f.write_str("\"\"")
+        } else {
+            write_escaped(self.0, f)
+        }
+    }
+}
+
+// Each name behind a slash.
+fn write_slashed<W: fmt::Write>(names: &[Name], f: &mut fmt::Formatter<W>) -> fmt::Result
+    ensures { DisplaysOnOk W.write_str_gives f.old result (Some (flat_map slashed names.now)) f.new }
+{
+    for name in names {
+        f.write_str("/")?;
+        write_escaped(name.as_str().as_bytes(), f)?;
+    }
+    Ok(())
+}
+
+fn write_names<W: fmt::Write>(first: &Name, rest: &[Name], f: &mut fmt::Formatter<W>) -> fmt::Result
+    ensures { DisplaysOnOk W.write_str_gives f.old result (Some (path_word (first.now ∷ rest.now))) f.new }
+{
+    write_escaped(first.as_str().as_bytes(), f)?;
+    write_slashed(rest, f)
+}
+
+/// Prints a path as the word of its names joined by `/`, and the root as `.`.
+#[derive(Clone, Copy, Debug)]
+pub struct PathWord<'a>(pub &'a RelPath);
+
+impl fmt::Display for PathWord<'_> {
+    ghost output = { λ w. Some (path_word w.0.now) };
+
+    fn fmt<W: fmt::Write>(&self, f: &mut fmt::Formatter<W>) -> fmt::Result {
+        match self.0.components().split_first() {
+            Some((first, rest)) => write_names(first, rest, f),
+            None => f.write_str("."),
+        }
+    }
+}
+
+/// A token is printed as `#` and its number.
+impl fmt::Display for Token {
+    ghost output = { λ t. Some (token_word t) };
+
+    fn fmt<W: fmt::Write>(&self, f: &mut fmt::Formatter<W>) -> fmt::Result {
+        let number = self.0;
+        write!(f, "#{number}")
+    }
+}
+
+/// A checksum is printed as 32 lower-case hexadecimal digits.
+impl fmt::Display for Digest {
+    ghost output = { λ d. Some (digest_word d) };
+
+    fn fmt<W: fmt::Write>(&self, f: &mut fmt::Formatter<W>) -> fmt::Result {
+        for byte in &self.0 {
+            write_hex(*byte, false, f)?;
+        }
+        Ok(())
+    }
+}
+
+/// Prints a checksum, and `-` where there is none.
+#[derive(Clone, Copy, Debug)]
+pub struct ChecksumWord(pub Option<Digest>);
+
+impl fmt::Display for ChecksumWord {
+    ghost output = { λ w. Some (checksum_word w.0) };
+
+    fn fmt<W: fmt::Write>(&self, f: &mut fmt::Formatter<W>) -> fmt::Result {
+        match self.0 {
+            Some(digest) => digest.fmt(f),
+            None => f.write_str("-"),
+        }
+    }
+}

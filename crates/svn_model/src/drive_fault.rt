@@ -1,0 +1,55 @@
+//! Why a drive isn't made, or is given up.
+ghost use Rattle.std.specs.Prelude.{◌≡◌};
+ghost use Rattle.svn_model.specs.FaultNumbers.{drive_fault_number};
+ghost use Rattle.svn_model.specs.declared.drive_fault.DriveFault.TheVariants.{Memory};
+
+use std::alloc::AllocError;
+use svn_editor::EditFault;
+use thiserror::Error;
+
+/// Why a drive isn't made, or is given up.
+#[derive(Clone, Copy, Debug, PartialEq, Eq, Error)]
+pub enum DriveFault {
+    /// The repository has no such target revision. No call was made.
+    #[error("there is no such target revision")]
+    NoSuchTarget,
+    /// Memory was refused.
+    #[error("out of memory")]
+    Memory,
+    /// The editor refused a call.
+    #[error("the editor refused a call: {0}")]
+    Editor(EditFault),
+    /// More calls are needed than can be counted.
+    #[error("no number is left for another call")]
+    Full,
+    /// The root of the copy isn't in the target. No call was made.
+    #[error("nothing stands in the target where the root would be")]
+    NoRoot,
+    /// What stands in the target where the root would be is of another line. No call was made.
+    #[error("the root in the target is another node")]
+    OtherRoot,
+}
+
+impl DriveFault {
+    /// The number of the fault.
+    pub fn number(self) -> u32
+        ensures { result ≡ drive_fault_number self }
+    {
+        match self {
+            DriveFault::NoSuchTarget => 21,
+            DriveFault::Memory => 22,
+            DriveFault::Editor(_) => 23,
+            DriveFault::Full => 24,
+            DriveFault::NoRoot => 25,
+            DriveFault::OtherRoot => 26,
+        }
+    }
+}
+
+impl From<AllocError> for DriveFault {
+    ghost from_gives = { λ _ e. e ≡ Memory };
+
+    fn from(_error: AllocError) -> DriveFault {
+        DriveFault::Memory
+    }
+}

@@ -1,0 +1,54 @@
+//! Why a report can't be served.
+ghost use Rattle.std.specs.Prelude.{◌≡◌};
+ghost use Rattle.svn_model.specs.FaultNumbers.{report_fault_number};
+ghost use Rattle.svn_model.specs.declared.report_fault.ReportFault.TheVariants.{Memory};
+
+use std::alloc::AllocError;
+use thiserror::Error;
+
+/// Why a repository can't serve a report. An entry is named by its place in the report, counted from 0; the first that can't be served decides.
+#[derive(Clone, Copy, Debug, PartialEq, Eq, Error)]
+pub enum ReportFault {
+    /// The report is empty.
+    #[error("the report has no entries")]
+    NoEntries,
+    /// The entry names a revision that the repository doesn't have.
+    #[error("entry {0} of the report names a revision that isn't there")]
+    NoSuchRevision(usize),
+    /// Nothing stands in the repository where the entry says that it has something.
+    #[error("entry {0} of the report names a node that isn't there")]
+    NoNode(usize),
+    /// The parent of the entry isn't a directory in the repository.
+    #[error("entry {0} of the report stands below what is no directory")]
+    ParentNotDir(usize),
+    /// Memory was refused.
+    #[error("out of memory")]
+    Memory,
+    /// The root of the report isn't a directory in the repository.
+    #[error("the root of the report is no directory")]
+    RootNotDir,
+}
+
+impl ReportFault {
+    /// The number of the fault.
+    pub fn number(self) -> u32
+        ensures { result ≡ report_fault_number self }
+    {
+        match self {
+            ReportFault::NoEntries => 10,
+            ReportFault::NoSuchRevision(_) => 11,
+            ReportFault::NoNode(_) => 12,
+            ReportFault::ParentNotDir(_) => 13,
+            ReportFault::Memory => 14,
+            ReportFault::RootNotDir => 15,
+        }
+    }
+}
+
+impl From<AllocError> for ReportFault {
+    ghost from_gives = { λ _ e. e ≡ Memory };
+
+    fn from(_error: AllocError) -> ReportFault {
+        ReportFault::Memory
+    }
+}

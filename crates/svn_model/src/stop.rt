@@ -1,0 +1,27 @@
+//! Why a driver stops before the end.
+ghost use Rattle.std.specs.Prelude.{◌≡◌};
+ghost use Rattle.svn_model.specs.declared.stop.Stop.TheVariants.{Memory};
+
+use std::alloc::AllocError;
+use svn_editor::EditFault;
+
+/// Why no more calls are made.
+#[derive(Clone, Copy, Debug, PartialEq, Eq)]
+pub enum Stop {
+    /// So many calls were made as were asked for.
+    Cancelled,
+    /// No number is left for another call.
+    Full,
+    /// Memory was refused.
+    Memory,
+    /// The editor refused a call.
+    Editor(EditFault),
+}
+
+impl From<AllocError> for Stop {
+    ghost from_gives = { λ fault stop. stop ≡ Memory };
+
+    fn from(_fault: AllocError) -> Stop {
+        Stop::Memory
+    }
+}

@@ -1,0 +1,159 @@
+-- One element of a list changed.
+use Rattle.std.proofs.Common.{◌≡◌, ℕ, zero, suc, ◌<◌, ◌≤◌, Bool, true, false, cond, ◌||◌, List, [], ◌∷◌, ◌++◌, length, get_or, set, map}
+use Rattle.std.proofs.Common.{refl, sym, ◌∙◌, ap, subst, arith}
+use Rattle.std.specs.Prelude.{Some, None, slice_get, bytes_eq}
+use Rattle.std.specs.BTreeMap.{is_at}
+use Rattle.std.specs.BTreeSet.{BTreeSet, contains}
+use Rattle.std.specs.Cmp.Lexicographic.{texts_ties}
+use Rattle.std.proofs.lemmas.Option.{same_Some}
+use Rattle.svn_types.specs.Names.{Path, name_cmp}
+use Rattle.svn_types.specs.Paths.{parent, is_root}
+use Rattle.svn_order.specs.declared.directories.OpenedDirectory.{OpenedDirectory}
+use Rattle.svn_order.specs.declared.tokens.GivenToken.{GivenToken}
+use Rattle.svn_order.specs.Directories.{shown, ChangesAt, Inserts, with_change, IsEntry, entry_name}
+use Rattle.svn_order.specs.Tokens.{changed_at}
+
+pub get_read : {X : Type 0} (xs : List X) (i : ℕ) (x : X) → i < length xs → x ≡ get_or xs i x → slice_get xs i ≡ Some x
+get_read [] i x h e = absurd (omega arith)
+get_read (y ∷ xs) zero x h e = ap Some (sym e)
+get_read (y ∷ xs) (suc i) x h e = get_read xs i x (omega arith) e
+
+pub get_past : {X : Type 0} (xs : List X) (i : ℕ) → length xs ≤ i → slice_get xs i ≡ None
+get_past [] i h = refl
+get_past (y ∷ xs) zero h = absurd (omega arith)
+get_past (y ∷ xs) (suc i) h = get_past xs i (omega arith)
+
+pub get_within : {X : Type 0} (xs : List X) (i : ℕ) (x : X) → slice_get xs i ≡ Some x → i < length xs
+get_within [] i x h = absurd (none h)
+  where
+    none : None ≡ Some x → ⊥
+    none e = cc
+get_within (y ∷ xs) zero x h = omega arith
+get_within (y ∷ xs) (suc i) x h = let l : i < length xs = get_within xs i x h in omega arith
+
+pub get-set_other : {X : Type 0} (xs : List X) (i j : ℕ) (y : X) → (j ≡ i → ⊥) → slice_get (set xs i y) j ≡ slice_get xs j
+get-set_other [] i j y n = refl
+get-set_other (x ∷ xs) zero zero y n = absurd (n refl)
+get-set_other (x ∷ xs) zero (suc j) y n = refl
+get-set_other (x ∷ xs) (suc i) zero y n = refl
+get-set_other (x ∷ xs) (suc i) (suc j) y n = get-set_other xs i j y (λ e. n (ap suc e))
+
+pub get-set_same : {X : Type 0} (xs : List X) (i : ℕ) (y : X) → i < length xs → slice_get (set xs i y) i ≡ Some y
+get-set_same [] i y h = absurd (omega arith)
+get-set_same (x ∷ xs) zero y h = refl
+get-set_same (x ∷ xs) (suc i) y h = get-set_same xs i y (omega arith)
+
+-- ---- tokens
+
+changed_here : (f : GivenToken → GivenToken) (ns : List GivenToken) (i : ℕ) (n : GivenToken) → i < length ns → n ≡ get_or ns i n
+    → set ns i (f n) ≡ changed_at f ns i
+changed_here f [] i n h e = refl
+changed_here f (m ∷ ns) zero n h e = ap (λ x. f x ∷ ns) e
+changed_here f (m ∷ ns) (suc i) n h e = ap (λ xs. m ∷ xs) (changed_here f ns i n (omega arith) e)
+
+pub changed_set : (f : GivenToken → GivenToken) (ns : List GivenToken) (i j : ℕ) (n : GivenToken) → j ≡ i → j < length ns
+    → n ≡ get_or ns j n → set ns j (f n) ≡ changed_at f ns i
+changed_set f ns i j n s h e = changed_here f ns j n h e ∙ ap (changed_at f ns) s
+
+pub changed_past : (f : GivenToken → GivenToken) (ns : List GivenToken) (i : ℕ) → length ns ≤ i → ns ≡ changed_at f ns i
+changed_past f [] i h = refl
+changed_past f (m ∷ ns) zero h = absurd (omega arith)
+changed_past f (m ∷ ns) (suc i) h = ap (λ xs. m ∷ xs) (changed_past f ns i (omega arith))
+
+-- ---- directories
+
+shown-set : (ds : List OpenedDirectory) (i : ℕ) (b d : OpenedDirectory) → slice_get ds i ≡ Some b → shown d ≡ shown b
+    → map shown (set ds i d) ≡ map shown ds
+shown-set [] i b d at s = refl
+shown-set (x ∷ ds) zero b d at s = ap (λ y. y ∷ map shown ds) (s ∙ ap shown (sym (same_Some x b at)))
+shown-set (x ∷ ds) (suc i) b d at s = ap (λ ys. shown x ∷ ys) (shown-set ds i b d at s)
+
+ChangesAt-here : (Change : OpenedDirectory → OpenedDirectory → Type 0) (ds : List OpenedDirectory) (i : ℕ) (b d : OpenedDirectory)
+    → i < length ds → b ≡ get_or ds i b → shown d ≡ shown b → Change b d → ChangesAt i Change ds (set ds i d)
+ChangesAt-here Change ds i b d h e s r = record {
+  shown = shown-set ds i b d at s;
+  others = λ j x k n. sym (get-set_other ds i j d n) ∙ k;
+  changed = λ x k. (b, at, subst (λ (y : OpenedDirectory). Change b y) (same_Some d x (sym (get-set_same ds i d h) ∙ k)) r);
+}
+  where
+    at : slice_get ds i ≡ Some b
+    at = get_read ds i b h e
+
+pub ChangesAt-set : (Change : OpenedDirectory → OpenedDirectory → Type 0) (ds : List OpenedDirectory) (i j : ℕ) (b d : OpenedDirectory)
+    → j ≡ i → j < length ds → b ≡ get_or ds j b → shown d ≡ shown b → Change b d → ChangesAt i Change ds (set ds j d)
+ChangesAt-set Change ds i j b d p h e s r = subst (λ (k : ℕ). ChangesAt k Change ds (set ds j d)) p (ChangesAt-here Change ds j b d h e s r)
+
+-- the element is as the change wants it already
+pub ChangesAt-same : (Change : OpenedDirectory → OpenedDirectory → Type 0) (ds : List OpenedDirectory) (i j : ℕ) (b : OpenedDirectory)
+    → j ≡ i → j < length ds → b ≡ get_or ds j b → Change b b → ChangesAt i Change ds ds
+ChangesAt-same Change ds i j b p h e r = subst (λ (k : ℕ). ChangesAt k Change ds ds) p record {
+  shown = refl;
+  others = λ k x l n. l;
+  changed =
+      λ x k. let same : b ≡ x = same_Some b x (sym (get_read ds j b h e) ∙ k) in (x, k, subst (λ (y : OpenedDirectory). Change y y) same r);
+}
+
+pub changed_now : (ds : List OpenedDirectory) (i : ℕ) (b d : OpenedDirectory) → slice_get ds i ≡ Some b → slice_get ds i ≡ Some d
+    → b.has_subdirectory ≡ true → record d { is_changed_late = true } ≡ with_change d
+changed_now ds i b d h k s =
+    let same : b ≡ d = same_Some b d (sym h ∙ k) in
+    let there : d.has_subdirectory ≡ true = sym (ap (λ (x : OpenedDirectory). x.has_subdirectory) same) ∙ s in
+    ap (λ (f : Bool). record d { is_changed_late = f }) (sym (by d.is_changed_late d.has_subdirectory there))
+  where
+    by : (a c : Bool) → c ≡ true → (a || c) ≡ true
+    by true c e = refl
+    by false c e = e
+
+pub not_changed : (d : OpenedDirectory) → d.has_subdirectory ≡ false → d ≡ with_change d
+not_changed d s = ap (λ (f : Bool). record d { is_changed_late = f }) (sym (by d.is_changed_late d.has_subdirectory s))
+  where
+    by : (a c : Bool) → c ≡ false → (a || c) ≡ a
+    by true c e = refl
+    by false c e = e
+
+ChangesAt-past : (Change : OpenedDirectory → OpenedDirectory → Type 0) (ds : List OpenedDirectory) (i : ℕ) → length ds ≤ i
+    → ChangesAt i Change ds ds
+ChangesAt-past Change ds i h = record {
+  shown = refl;
+  others = λ j x k n. k;
+  changed = λ x k. absurd (none (sym (get_past ds i h) ∙ k));
+}
+  where
+    none : {x : OpenedDirectory} → None ≡ Some x → ⊥
+    none e = cc
+
+pub ChangesAt-beyond : (Change : OpenedDirectory → OpenedDirectory → Type 0) (ds : List OpenedDirectory) (i j : ℕ) → j ≡ i → length ds ≤ j
+    → ChangesAt i Change ds ds
+ChangesAt-beyond Change ds i j p h = subst (λ (k : ℕ). ChangesAt k Change ds ds) p (ChangesAt-past Change ds j h)
+
+-- ---- names
+
+-- a path with a last name, taken apart
+pub split_path : (p q : Path) (n : List ℕ) → p ≡ q ++ n ∷ [] → IsEntry p q n
+split_path p q n e = subst (λ (r : Path). IsEntry r q n) (sym e) (record { below_root = below q; parent_is = above q; name_is = last q })
+  where
+    below : (q : Path) → is_root (q ++ n ∷ []) ≡ false
+    below [] = refl
+    below (m ∷ q) = refl
+
+    above : (q : Path) → parent (q ++ n ∷ []) ≡ q
+    above [] = refl
+    above (m ∷ []) = refl
+    above (m ∷ k ∷ q) = ap (λ r. m ∷ r) (above (k ∷ q))
+
+    last : (q : Path) → entry_name (q ++ n ∷ []) ≡ n
+    last [] = refl
+    last (m ∷ []) = refl
+    last (m ∷ k ∷ q) = last (k ∷ q)
+
+pub inserted : (old new : BTreeSet (List ℕ)) (m n : List ℕ) → m ≡ n
+    → ((q : List ℕ) → contains name_cmp new q ≡ cond (is_at (name_cmp m) q) true (contains name_cmp old q)) → Inserts old n new
+inserted old new m n same h q =
+    h q ∙ ap (λ b. cond b true (contains name_cmp old q)) (sym (texts_ties m q) ∙ ap (λ (k : List ℕ). bytes_eq k q) same)
+    ∙ by (bytes_eq n q) (contains name_cmp old q)
+  where
+    by : (a b : Bool) → cond a true b ≡ (b || a)
+    by true true = refl
+    by true false = refl
+    by false true = refl
+    by false false = refl

@@ -1,0 +1,268 @@
+-- The tokens, the open files and the stage of an order check after one more call.
+use Rattle.std.proofs.Common.{◌≡◌, ℕ, suc, zero, ◌+◌, ◌<◌, ◌≤◌, Bool, true, false, ◌&&◌, ◌||◌, not, cond, List, [], ◌∷◌, ◌++◌, length, refl}
+use Rattle.std.proofs.Common.{sym, ◌∙◌, ap, subst, inl, inr, true≢false, arith}
+use Rattle.std.specs.Prelude.{Option, Some, None, ◌⊎◌, slice_get, nat_eq}
+use Rattle.std.specs.List.{list_any}
+use Rattle.std.specs.Ordering.{nat_cmp}
+use Rattle.std.specs.BTreeMap.{is_at}
+use Rattle.std.specs.BTreeSet.{BTreeSet, contains}
+use Rattle.std.specs.Cmp.{unsigned_ties}
+use Rattle.std.proofs.lemmas.List.{length-append}
+use Rattle.std.proofs.lemmas.Option.{same_Some}
+use Rattle.svn_types.specs.declared.kind.Kind.{Kind}
+use Rattle.svn_types.specs.declared.kind.Kind.TheVariants.{File, Directory}
+use Rattle.svn_editor.specs.declared.call.Call.{Call}
+use Rattle.svn_order.specs.declared.tokens.GivenToken.{GivenToken}
+use Rattle.svn_order.specs.declared.order.Stage.TheVariants.{During}
+use Rattle.svn_editor.specs.Calls.{Given, kind_eq, given_by, closes, applies_text, all_given, given, is_closed, is_of_kind}
+use Rattle.svn_editor.specs.Order.{is_target_late}
+use Rattle.svn_order.specs.Tokens.{token_of, changed_at, with_closed, with_text}
+use Rattle.svn_order.specs.OrderChanges.{AddsFile, RemovesFile}
+use Rattle.svn_order.specs.StandsAfter.{stage_after, is_open_file_at, IsTokenOf}
+use Rattle.svn_types.proofs.Places.{some_none, get_cases}
+use Rattle.svn_order.proofs.Changes.{get_within, get_past}
+use Rattle.svn_editor.proofs.OneMore.{or_false, or_true, and_false, any_more, any_still, given_none, given_one}
+use Rattle.svn_editor.proofs.Nested.{true_eq, eq_true}
+use Rattle.svn_order.proofs.Sound.{IsSound, IsKnown}
+use Rattle.svn_order.proofs.OpenDirectories.{new_unclosed, new_textless, beyond}
+
+-- ---- the stage
+
+pub during : (calls : List Call) (c : Call) → stage_after (calls ++ c ∷ []) ≡ During
+during [] c = refl
+during (x ∷ calls) c = refl
+
+-- what isn't the target's call comes after it
+pub begun : (calls : List Call) (c : Call) → is_target_late [] c ≡ true → is_target_late calls c ≡ false → stage_after calls ≡ During
+begun [] c t h = absurd (true≢false (sym t ∙ h))
+begun (x ∷ calls) c t h = refl
+
+-- ---- the token at a place
+
+get_append : {X : Type 0} (xs : List X) (x : X) (i : ℕ) → i < length xs → slice_get (xs ++ x ∷ []) i ≡ slice_get xs i
+get_append [] x i h = absurd (omega arith)
+get_append (y ∷ xs) x zero h = refl
+get_append (y ∷ xs) x (suc i) h = get_append xs x i (omega arith)
+
+get_end : {X : Type 0} (xs : List X) (x : X) (i : ℕ) → i ≡ length xs → slice_get (xs ++ x ∷ []) i ≡ Some x
+get_end [] x zero h = refl
+get_end [] x (suc i) h = absurd (omega arith)
+get_end (y ∷ xs) x zero h = absurd (omega arith)
+get_end (y ∷ xs) x (suc i) h = get_end xs x i (omega arith)
+
+pub given_before : (calls : List Call) (c : Call) (g : Given) (t : ℕ) → given_by c ≡ Some g → t < length (all_given calls)
+    → given (calls ++ c ∷ []) t ≡ given calls t
+given_before calls c g t e h = ap (λ gs. slice_get gs t) (given_one calls c g e) ∙ get_append (all_given calls) g t h
+
+pub given_now : (calls : List Call) (c : Call) (g : Given) (t : ℕ) → given_by c ≡ Some g → t ≡ length (all_given calls)
+    → given (calls ++ c ∷ []) t ≡ Some g
+given_now calls c g t e h = ap (λ gs. slice_get gs t) (given_one calls c g e) ∙ get_end (all_given calls) g t h
+
+pub given_still : (calls : List Call) (c : Call) (t : ℕ) → given_by c ≡ None → given (calls ++ c ∷ []) t ≡ given calls t
+given_still calls c t e = ap (λ gs. slice_get gs t) (given_none calls c e)
+
+pub length-changed : (f : GivenToken → GivenToken) (ns : List GivenToken) (i : ℕ) → length (changed_at f ns i) ≡ length ns
+length-changed f [] i = refl
+length-changed f (n ∷ ns) zero = refl
+length-changed f (n ∷ ns) (suc i) = ap suc (length-changed f ns i)
+
+changed_same : (f : GivenToken → GivenToken) (ns : List GivenToken) (i : ℕ) (n : GivenToken) → slice_get (changed_at f ns i) i ≡ Some n
+    → (m : GivenToken) × (slice_get ns i ≡ Some m) × (f m ≡ n)
+changed_same f [] i n h = absurd (some_none n (sym h))
+changed_same f (x ∷ ns) zero n h = (x, refl, same_Some (f x) n h)
+changed_same f (x ∷ ns) (suc i) n h = changed_same f ns i n h
+
+changed_other : (f : GivenToken → GivenToken) (ns : List GivenToken) (i j : ℕ) → (i ≡ j → ⊥)
+    → slice_get (changed_at f ns i) j ≡ slice_get ns j
+changed_other f [] i j h = refl
+changed_other f (x ∷ ns) zero zero h = absurd (h refl)
+changed_other f (x ∷ ns) zero (suc j) h = refl
+changed_other f (x ∷ ns) (suc i) zero h = refl
+changed_other f (x ∷ ns) (suc i) (suc j) h = changed_other f ns i j (λ e. h (ap suc e))
+
+-- ---- the tokens
+
+abbrev pub AreTokens : List GivenToken → List Call → Type 0
+AreTokens ns calls = (t : ℕ) (n : GivenToken) → slice_get ns t ≡ Some n → IsTokenOf calls t n
+
+pub tokens_still : (ns : List GivenToken) (calls : List Call) (c : Call) → given_by c ≡ None → ((t : ℕ) → closes t c ≡ false)
+    → ((t : ℕ) → applies_text t c ≡ false) → AreTokens ns calls → AreTokens ns (calls ++ c ∷ [])
+tokens_still ns calls c e no_close no_text h t n at =
+    let was = h t n at in
+    record {
+      kind = λ k. ap (is_of_kind k) (given_still calls c t e) ∙ was.kind k;
+      closed = any_still (closes t) calls c (no_close t) ∙ was.closed;
+      text = any_still (applies_text t) calls c (no_text t) ∙ was.text;
+    }
+
+pub tokens_given : (ns : List GivenToken) (calls : List Call) (c : Call) (g : Given) → IsSound calls → length ns ≡ length (all_given calls)
+    → given_by c ≡ Some g → ((t : ℕ) → closes t c ≡ false) → ((t : ℕ) → applies_text t c ≡ false) → AreTokens ns calls
+    → AreTokens (ns ++ token_of g.kind ∷ []) (calls ++ c ∷ [])
+tokens_given ns calls c g sound count e no_close no_text h t n at = by (get_cases ns (token_of g.kind) t n at)
+  where
+    by : (slice_get ns t ≡ Some n) ⊎ ((t ≡ length ns) × (token_of g.kind ≡ n)) → IsTokenOf (calls ++ c ∷ []) t n
+    by (inl old) =
+        let was = h t n old in
+        let l : t < length ns = get_within ns t n old in
+        record {
+          kind = λ k. ap (is_of_kind k) (given_before calls c g t e (omega arith)) ∙ was.kind k;
+          closed = any_still (closes t) calls c (no_close t) ∙ was.closed;
+          text = any_still (applies_text t) calls c (no_text t) ∙ was.text;
+        }
+    by (inr new) = subst (IsTokenOf (calls ++ c ∷ []) t) new.1 record {
+      kind = λ k. ap (is_of_kind k) (given_now calls c g t e (new.0 ∙ count));
+      closed = any_still (closes t) calls c (no_close t) ∙ new_unclosed calls t sound (omega (arith, new.0));
+      text = any_still (applies_text t) calls c (no_text t) ∙ new_textless calls t sound (omega (arith, new.0));
+    }
+
+pub tokens_closed : (ns : List GivenToken) (calls : List Call) (c : Call) (i : ℕ) → given_by c ≡ None → ((t : ℕ) → closes t c ≡ nat_eq i t)
+    → ((t : ℕ) → applies_text t c ≡ false) → AreTokens ns calls → AreTokens (with_closed ns i) (calls ++ c ∷ [])
+tokens_closed ns calls c i e close no_text h t n at = by (nat_eq i t) refl
+  where
+    by : (b : Bool) → nat_eq i t ≡ b → IsTokenOf (calls ++ c ∷ []) t n
+    by true q =
+        let same : i ≡ t = true_eq i t q in
+        let r = changed_same (λ m. record m { is_closed = true }) ns t n (ap (λ j. slice_get (with_closed ns j) t) (sym same) ∙ at) in
+        let was = h t r.0 r.1 in
+        subst (IsTokenOf (calls ++ c ∷ []) t) r.2 record {
+          kind = λ k. ap (is_of_kind k) (given_still calls c t e) ∙ was.kind k;
+          closed = any_more (closes t) calls c ∙ ap (λ b. is_closed calls t || b) (close t ∙ q) ∙ or_true (is_closed calls t);
+          text = any_still (applies_text t) calls c (no_text t) ∙ was.text;
+        }
+    by false q =
+        let was =
+        h t n (sym (changed_other (λ m. record m { is_closed = true }) ns i t (λ s. true≢false (sym (eq_true i t s) ∙ q))) ∙ at) in
+        record {
+          kind = λ k. ap (is_of_kind k) (given_still calls c t e) ∙ was.kind k;
+          closed = any_still (closes t) calls c (close t ∙ q) ∙ was.closed;
+          text = any_still (applies_text t) calls c (no_text t) ∙ was.text;
+        }
+
+pub tokens_text : (ns : List GivenToken) (calls : List Call) (c : Call) (i : ℕ) → given_by c ≡ None → ((t : ℕ) → closes t c ≡ false)
+    → ((t : ℕ) → applies_text t c ≡ nat_eq i t) → AreTokens ns calls → AreTokens (with_text ns i) (calls ++ c ∷ [])
+tokens_text ns calls c i e no_close text h t n at = by (nat_eq i t) refl
+  where
+    by : (b : Bool) → nat_eq i t ≡ b → IsTokenOf (calls ++ c ∷ []) t n
+    by true q =
+        let same : i ≡ t = true_eq i t q in
+        let r = changed_same (λ m. record m { has_text = true }) ns t n (ap (λ j. slice_get (with_text ns j) t) (sym same) ∙ at) in
+        let was = h t r.0 r.1 in
+        subst (IsTokenOf (calls ++ c ∷ []) t) r.2 record {
+          kind = λ k. ap (is_of_kind k) (given_still calls c t e) ∙ was.kind k;
+          closed = any_still (closes t) calls c (no_close t) ∙ was.closed;
+          text =
+              any_more (applies_text t) calls c ∙ ap (λ b. list_any (applies_text t) calls || b) (text t ∙ q)
+              ∙ or_true (list_any (applies_text t) calls);
+        }
+    by false q =
+        let was = h t n (sym (changed_other (λ m. record m { has_text = true }) ns i t (λ s. true≢false (sym (eq_true i t s) ∙ q))) ∙ at) in
+        record {
+          kind = λ k. ap (is_of_kind k) (given_still calls c t e) ∙ was.kind k;
+          closed = any_still (closes t) calls c (no_close t) ∙ was.closed;
+          text = any_still (applies_text t) calls c (text t ∙ q) ∙ was.text;
+        }
+
+-- ---- the open files
+
+abbrev pub AreFiles : BTreeSet ℕ → List Call → Type 0
+AreFiles fs calls = (t : ℕ) → contains nat_cmp fs t ≡ is_open_file_at calls t
+
+tied_number : (m n : ℕ) → is_at (nat_cmp m) n ≡ nat_eq m n
+tied_number m n = sym (unsigned_ties m n)
+
+pub files_still : (fs : BTreeSet ℕ) (calls : List Call) (c : Call) → given_by c ≡ None → ((t : ℕ) → closes t c ≡ false) → AreFiles fs calls
+    → AreFiles fs (calls ++ c ∷ [])
+files_still fs calls c e no_close h t =
+    h t
+    ∙ sym (ap (λ o. is_of_kind File o && not (is_closed (calls ++ c ∷ []) t)) (given_still calls c t e)
+    ∙ ap (λ b. is_of_kind File (given calls t) && not b) (any_still (closes t) calls c (no_close t)))
+
+-- a token that is given, to a file or to none
+pub files_given : (fs : BTreeSet ℕ) (calls : List Call) (c : Call) (g : Given) (t : ℕ) → IsSound calls → given_by c ≡ Some g
+    → ((t : ℕ) → closes t c ≡ false) → AreFiles fs calls
+    → cond (nat_eq (length (all_given calls)) t) (kind_eq g.kind File) (contains nat_cmp fs t) ≡ is_open_file_at (calls ++ c ∷ []) t
+files_given fs calls c g t sound e no_close h =
+    by (nat_eq (length (all_given calls)) t) refl
+    ∙ sym (ap (λ b. is_of_kind File (given (calls ++ c ∷ []) t) && not b) (any_still (closes t) calls c (no_close t)))
+  where
+    by : (b : Bool) → nat_eq (length (all_given calls)) t ≡ b
+        → cond b (kind_eq g.kind File) (contains nat_cmp fs t) ≡ (is_of_kind File (given (calls ++ c ∷ []) t) && not (is_closed calls t))
+    by true q =
+        let new : length (all_given calls) ≡ t = true_eq (length (all_given calls)) t q in
+        sym (ap (λ o. is_of_kind File o && not (is_closed calls t)) (given_now calls c g t e (sym new))
+        ∙ ap (λ b. kind_eq g.kind File && not b) (new_unclosed calls t sound (omega arith))
+        ∙ and_true (kind_eq g.kind File))
+      where
+        and_true : (a : Bool) → (a && true) ≡ a
+        and_true true = refl
+        and_true false = refl
+    by false q = h t ∙ ap (λ o. is_of_kind File o && not (is_closed calls t)) (at (given calls t) refl)
+      where
+        at : (o : Option Given) → given calls t ≡ o → given calls t ≡ given (calls ++ c ∷ []) t
+        at (Some x) k = sym (given_before calls c g t e (get_within (all_given calls) t x k))
+        at None k =
+            let l : length (all_given calls) ≤ t = beyond (all_given calls) t k in
+            k ∙ sym (ap (λ gs. slice_get gs t) (given_one calls c g e)
+            ∙ get_past (all_given calls ++ g ∷ []) t
+            (past (λ s. true≢false (sym (eq_true (length (all_given calls)) t s) ∙ q)) l (length-append (all_given calls) (g ∷ []))))
+          where
+            past : (length (all_given calls) ≡ t → ⊥) → length (all_given calls) ≤ t
+                → length (all_given calls ++ g ∷ []) ≡ length (all_given calls) + 1 → length (all_given calls ++ g ∷ []) ≤ t
+            past n l s = omega arith
+
+pub files_directory : (fs : BTreeSet ℕ) (calls : List Call) (c : Call) (g : Given) → IsSound calls → given_by c ≡ Some g
+    → kind_eq g.kind File ≡ false → ((t : ℕ) → closes t c ≡ false) → AreFiles fs calls → AreFiles fs (calls ++ c ∷ [])
+files_directory fs calls c g sound e kind no_close h t =
+    by (nat_eq (length (all_given calls)) t) refl ∙ files_given fs calls c g t sound e no_close h
+  where
+    by : (b : Bool) → nat_eq (length (all_given calls)) t ≡ b
+        → contains nat_cmp fs t ≡ cond (nat_eq (length (all_given calls)) t) (kind_eq g.kind File) (contains nat_cmp fs t)
+    by false q = sym (ap (λ x. cond x (kind_eq g.kind File) (contains nat_cmp fs t)) q)
+    by true q =
+        let new : length (all_given calls) ≡ t = true_eq (length (all_given calls)) t q in
+        h t ∙ ap (λ o. is_of_kind File o && not (is_closed calls t)) (get_past (all_given calls) t (omega arith))
+        ∙ sym (ap (λ x. cond x (kind_eq g.kind File) (contains nat_cmp fs t)) q ∙ kind)
+
+pub files_added : (fs gs : BTreeSet ℕ) (calls : List Call) (c : Call) (g : Given) (t : ℕ) → IsSound calls → given_by c ≡ Some g
+    → kind_eq g.kind File ≡ true → t ≡ length (all_given calls) → ((t : ℕ) → closes t c ≡ false) → AddsFile t fs gs → AreFiles fs calls
+    → AreFiles gs (calls ++ c ∷ [])
+files_added fs gs calls c g t sound e kind number no_close adds h q =
+    adds q ∙ ap (λ b. cond b true (contains nat_cmp fs q)) (tied_number t q ∙ ap (λ n. nat_eq n q) number)
+    ∙ ap (λ b. cond (nat_eq (length (all_given calls)) q) b (contains nat_cmp fs q)) (sym kind)
+    ∙ files_given fs calls c g q sound e no_close h
+
+pub files_removed : (fs gs : BTreeSet ℕ) (calls : List Call) (c : Call) (t : ℕ) → given_by c ≡ None → ((q : ℕ) → closes q c ≡ nat_eq t q)
+    → RemovesFile t fs gs → AreFiles fs calls → AreFiles gs (calls ++ c ∷ [])
+files_removed fs gs calls c t e close removes h q =
+    removes q ∙ ap (λ b. cond b false (contains nat_cmp fs q)) (tied_number t q) ∙ ap (λ b. cond (nat_eq t q) false b) (h q)
+    ∙ by (nat_eq t q) (is_of_kind File (given calls q)) (is_closed calls q)
+    ∙ sym (ap (λ o. is_of_kind File o && not (is_closed (calls ++ c ∷ []) q)) (given_still calls c q e)
+    ∙ ap (λ b. is_of_kind File (given calls q) && not b) (any_more (closes q) calls c ∙ ap (λ b. is_closed calls q || b) (close q)))
+  where
+    by : (b k d : Bool) → cond b false (k && not d) ≡ (k && not (d || b))
+    by true k d = sym (ap (λ x. k && not x) (or_true d) ∙ and_false k)
+    by false k d = ap (λ x. k && not x) (sym (or_false d))
+
+-- the close of a directory closes no file
+pub files_closed : (fs : BTreeSet ℕ) (calls : List Call) (c : Call) (t : ℕ) → given_by c ≡ None → IsKnown calls t Directory
+    → ((q : ℕ) → closes q c ≡ nat_eq t q) → AreFiles fs calls → AreFiles fs (calls ++ c ∷ [])
+files_closed fs calls c t e known close h q =
+    h q ∙ by (nat_eq t q) refl
+    ∙ sym (ap (λ o. is_of_kind File o && not (is_closed (calls ++ c ∷ []) q)) (given_still calls c q e)
+    ∙ ap (λ b. is_of_kind File (given calls q) && not b) (any_more (closes q) calls c ∙ ap (λ b. is_closed calls q || b) (close q)))
+  where
+    not_both : (x : Kind) → kind_eq x Directory ≡ true → kind_eq x File ≡ false
+    not_both Directory h = refl
+    not_both File h = absurd (true≢false (sym h))
+
+    by : (b : Bool) → nat_eq t q ≡ b
+        → (is_of_kind File (given calls q) && not (is_closed calls q))
+        ≡ (is_of_kind File (given calls q) && not (is_closed calls q || nat_eq t q))
+    by false k =
+        ap (λ x. is_of_kind File (given calls q) && not x) (sym (ap (λ b. is_closed calls q || b) k ∙ or_false (is_closed calls q)))
+    by true k =
+        let same : t ≡ q = true_eq t q k in
+        let none : is_of_kind File (given calls q) ≡ false =
+        ap (λ n. is_of_kind File (given calls n)) (sym same) ∙ ap (is_of_kind File) known.is
+        ∙ not_both known.given_as.kind known.kind in
+        ap (λ b. b && not (is_closed calls q)) none ∙ sym (ap (λ b. b && not (is_closed calls q || nat_eq t q)) none)

@@ -1,0 +1,5 @@
+pub mod Tokens
+pub mod Directories
+pub mod OrderState
+pub mod StandsAfter
+pub mod OrderChanges

@@ -1,0 +1,181 @@
+//! The directories that are open, each with what later calls may ask of it. The innermost is the last; each stands at the place that is the
+//! length of its path.
+ghost use Rattle.std.specs.Prelude.{◌≡◌, OnOk};
+ghost use Rattle.svn_order.specs.Directories.{innermost_of, holds_entry, is_opened_in, is_deleted_in, changed_late_in, IsNew, InsertsOpened, InsertsDeleted, OpensEntry, DeletesEntry, OpensSubdirectory, ChangesProp, Opens, without_last, EntrySplit};
+
+use std::alloc::{AllocError, Global};
+use std::collections::BTreeSet;
+use svn_editor::Token;
+use svn_types::{Name, RelPath};
+
+/// An open directory.
+#[derive(Debug, Drop)]
+pub struct OpenedDirectory {
+    pub token: Token,
+    pub path: RelPath,
+    /// The entries that were opened or added.
+    pub opened: BTreeSet<Name>,
+    /// The entries that were deleted.
+    pub deleted: BTreeSet<Name>,
+    pub has_subdirectory: bool,
+    /// A property change came after a subdirectory.
+    pub is_changed_late: bool,
+}
+
+impl OpenedDirectory {
+    fn new(alloc: Global, path: RelPath, token: Token) -> OpenedDirectory
+        ensures { IsNew path token result }
+    {
+        OpenedDirectory {
+            token,
+            path,
+            opened: BTreeSet::new(alloc),
+            deleted: BTreeSet::new(alloc),
+            has_subdirectory: false,
+            is_changed_late: false,
+        }
+    }
+}
+
+pub fn innermost(directories: &[OpenedDirectory]) -> Option<Token>
+    ensures { result ≡ innermost_of directories.now }
+{
+    match directories.last() {
+        Some(directory) => Some(directory.token),
+        None => None,
+    }
+}
+
+// The last name of a path, and the names above it.
+fn split_entry(path: &RelPath) -> Option<(&Name, &[Name])>
+    ensures { EntrySplit path.now result }
+{
+    path.components().split_last()
+}
+
+// Whether the token is that of an open directory that the path is an entry of.
+pub fn holds_entry(directories: &[OpenedDirectory], token: Token, path: &RelPath) -> bool
+    ensures { result ≡ holds_entry directories.now token path.now }
+{
+    let Some((_, above)) = split_entry(path) else {
+        return false;
+    };
+    match directories.get(above.len()) {
+        Some(directory) => directory.token == token && directory.path.components() == above,
+        None => false,
+    }
+}
+
+// Whether the entry was opened or added, of a path whose parent is open.
+pub fn is_opened(directories: &[OpenedDirectory], path: &RelPath) -> bool
+    ensures { result ≡ is_opened_in directories.now path.now }
+{
+    let Some((name, above)) = split_entry(path) else {
+        return false;
+    };
+    match directories.get(above.len()) {
+        Some(directory) => directory.opened.contains(name),
+        None => false,
+    }
+}
+
+pub fn is_deleted(directories: &[OpenedDirectory], path: &RelPath) -> bool
+    ensures { result ≡ is_deleted_in directories.now path.now }
+{
+    let Some((name, above)) = split_entry(path) else {
+        return false;
+    };
+    match directories.get(above.len()) {
+        Some(directory) => directory.deleted.contains(name),
+        None => false,
+    }
+}
+
+// Whether a property change of the innermost directory came after a subdirectory of it.
+pub fn is_changed_late(directories: &[OpenedDirectory]) -> bool
+    ensures { result ≡ changed_late_in directories.now }
+{
+    match directories.last() {
+        Some(directory) => directory.is_changed_late,
+        None => false,
+    }
+}
+
+fn insert_opened(directory: &mut OpenedDirectory, name: &Name) -> Result<(), AllocError>
+    ensures { OnOk result (InsertsOpened name.now directory.old directory.new) }
+{
+    directory.opened.insert(name.clone()?)?;
+    Ok(())
+}
+
+fn insert_deleted(directory: &mut OpenedDirectory, name: &Name) -> Result<(), AllocError>
+    ensures { OnOk result (InsertsDeleted name.now directory.old directory.new) }
+{
+    directory.deleted.insert(name.clone()?)?;
+    Ok(())
+}
+
+pub fn open_entry(directories: &mut Vec<OpenedDirectory>, path: &RelPath) -> Result<(), AllocError>
+    ensures { OnOk result (OpensEntry directories.old.items path.now directories.new.items) }
+{
+    if let Some((name, above)) = split_entry(path) {
+        let place = above.len();
+        if place < directories.len() {
+            insert_opened(&mut directories[place], name)?;
+        }
+    }
+    Ok(())
+}
+
+pub fn delete_entry(
+    directories: &mut Vec<OpenedDirectory>,
+    path: &RelPath,
+) -> Result<(), AllocError>
+    ensures { OnOk result (DeletesEntry directories.old.items path.now directories.new.items) }
+{
+    if let Some((name, above)) = split_entry(path) {
+        let place = above.len();
+        if place < directories.len() {
+            insert_deleted(&mut directories[place], name)?;
+        }
+    }
+    Ok(())
+}
+
+pub fn open_subdirectory(directories: &mut Vec<OpenedDirectory>)
+    ensures { OpensSubdirectory directories.old.items directories.new.items }
+{
+    if !directories.is_empty() {
+        let last = directories.len() - 1;
+        directories[last].has_subdirectory = true;
+    }
+}
+
+pub fn change_prop(directories: &mut Vec<OpenedDirectory>)
+    ensures { ChangesProp directories.old.items directories.new.items }
+{
+    if !directories.is_empty() {
+        let last = directories.len() - 1;
+        if directories[last].has_subdirectory {
+            directories[last].is_changed_late = true;
+        }
+    }
+}
+
+pub fn open(
+    directories: &mut Vec<OpenedDirectory>,
+    alloc: Global,
+    path: RelPath,
+    token: Token,
+) -> Result<(), AllocError>
+    ensures { OnOk result (Opens directories.old.items path token directories.new.items) }
+{
+    directories.push(OpenedDirectory::new(alloc, path, token))?;
+    Ok(())
+}
+
+pub fn close_innermost(directories: &mut Vec<OpenedDirectory>)
+    ensures { directories.new.items ≡ without_last directories.old.items }
+{
+    directories.pop();
+}

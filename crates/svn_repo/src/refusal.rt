@@ -1,0 +1,304 @@
+//! Why a change can't be made on a draft. These functions take no memory.
+ghost use Rattle.std.specs.Prelude.{◌≡◌, ◌+◌, ◌<◌, ◌≤◌, ℕ, length, slice_get, nat_lt, take, IfOk, IfErr, OnOk, Some, None};
+ghost use Rattle.std.specs.Option.{option_or, is_some};
+ghost use Rattle.svn_types.specs.Names.{depth_limit};
+ghost use Rattle.svn_repo.specs.History.{walk};
+ghost use Rattle.svn_types.specs.Limits.{path_limit};
+ghost use Rattle.svn_repo.specs.Stored.{rows};
+ghost use Rattle.svn_repo.specs.Drafts.{IsClosedIn, IsOldPart, IsPast, past_in, tree_in};
+ghost use Rattle.svn_repo.specs.Trees.{is_directory_place};
+ghost use Rattle.svn_repo.specs.Changes.{above_fault, change_fault, copy_fault, directory_fault_at, file_fault_at, copy_depth_fault, fault_if, depth_fault, size_fault, root_fault, missing_fault, walk_fault, value_fault, pending_in};
+
+use crate::change::{Change, CommitFault};
+use crate::entries::NodeId;
+use crate::store::{Node, child, kind_at, node_below, root_of};
+use svn_types::{Kind, MAX_DEPTH, MAX_SIZE, Name, Rev, Text};
+
+// What stands at a path: else the fault of the first place above that is missing or no directory.
+fn find(nodes: &[Node], root: NodeId, names: &[Name]) -> Result<Option<NodeId>, CommitFault>
+    requires root_in { root < length nodes.now }
+    requires closed { IsClosedIn nodes.now }
+    ensures found { IfOk result (λ at. at ≡ walk (rows nodes.now) root names.now) }
+    ensures above { OnOk result ((base : ℕ) → above_fault (tree_in base nodes.now root) names.now ≡ None) }
+    ensures fault { IfErr result (λ fault. (base : ℕ) → above_fault (tree_in base nodes.now root) names.now ≡ Some fault) }
+{
+    let mut at = Some(root);
+    for name in names {
+        let Some(id) = at else {
+            return Err(CommitFault::Missing);
+        };
+        match nodes[id.index].kind() {
+            Kind::File => return Err(CommitFault::NotDir),
+            Kind::Directory => at = child(nodes, id, name),
+        }
+    }
+    Ok(at)
+}
+
+fn fault_above(nodes: &[Node], root: NodeId, names: &[Name]) -> Option<CommitFault>
+    requires root_in { root < length nodes.now }
+    requires closed { IsClosedIn nodes.now }
+    ensures { (base : ℕ) → result ≡ above_fault (tree_in base nodes.now root) names.now }
+{
+    match find(nodes, root, names) {
+        Ok(_) => None,
+        Err(fault) => Some(fault),
+    }
+}
+
+/// Whether anything stands at a path.
+pub(crate) fn stands(nodes: &[Node], root: NodeId, names: &[Name]) -> bool
+    requires root_in { root < length nodes.now }
+    requires closed { IsClosedIn nodes.now }
+    ensures { (base : ℕ) → result ≡ is_some (tree_in base nodes.now root names.now) }
+{
+    node_below(nodes, root, names).is_some()
+}
+
+fn fault_of_depth(names: &[Name]) -> Option<CommitFault>
+    ensures { result ≡ depth_fault names.now }
+{
+    if names.len() > MAX_DEPTH {
+        Some(CommitFault::TooDeep)
+    } else {
+        None
+    }
+}
+
+// Why a path isn't one at which something stands.
+fn fault_at_present(nodes: &[Node], root: NodeId, names: &[Name]) -> Option<CommitFault>
+    requires root_in { root < length nodes.now }
+    requires closed { IsClosedIn nodes.now }
+    ensures { (base : ℕ) → result ≡ missing_fault (tree_in base nodes.now root names.now) }
+{
+    if stands(nodes, root, names) {
+        None
+    } else {
+        Some(CommitFault::Missing)
+    }
+}
+
+fn fault_of_size(text: &Text) -> Option<CommitFault>
+    ensures { result ≡ size_fault text.now }
+{
+    if text.len() > MAX_SIZE {
+        Some(CommitFault::TooLong)
+    } else {
+        None
+    }
+}
+
+fn fault_of_root(names: &[Name]) -> Option<CommitFault>
+    ensures { result ≡ root_fault names.now }
+{
+    if names.is_empty() {
+        Some(CommitFault::IsRoot)
+    } else {
+        None
+    }
+}
+
+fn fault_of_dir(nodes: &[Node], root: NodeId, names: &[Name]) -> Option<CommitFault>
+    requires root_in { root < length nodes.now }
+    requires closed { IsClosedIn nodes.now }
+    ensures { (base : ℕ) → let t = tree_in base nodes.now root in result ≡ option_or (root_fault names.now) (directory_fault_at t names.now) }
+{
+    if let Some(fault) = fault_of_root(names) {
+        return Some(fault);
+    }
+    match find(nodes, root, names) {
+        Ok(Some(_)) => Some(CommitFault::Exists),
+        Ok(None) => fault_of_depth(names),
+        Err(fault) => Some(fault),
+    }
+}
+
+fn fault_of_file(nodes: &[Node], root: NodeId, names: &[Name], text: &Text) -> Option<CommitFault>
+    requires root_in { root < length nodes.now }
+    requires closed { IsClosedIn nodes.now }
+    ensures { (base : ℕ) → let t = tree_in base nodes.now root in result ≡ option_or (root_fault names.now) (option_or (size_fault text.now) (file_fault_at t names.now)) }
+{
+    if let Some(fault) = fault_of_root(names) {
+        return Some(fault);
+    }
+    if let Some(fault) = fault_of_size(text) {
+        return Some(fault);
+    }
+    let at = match find(nodes, root, names) {
+        Ok(at) => at,
+        Err(fault) => return Some(fault),
+    };
+    if kind_at(nodes, at) == Some(Kind::Directory) {
+        return Some(CommitFault::NotFile);
+    }
+    fault_of_depth(names)
+}
+
+// Why the way to a path that has to stand can't be gone.
+fn fault_of_walk(nodes: &[Node], root: NodeId, names: &[Name]) -> Option<CommitFault>
+    requires root_in { root < length nodes.now }
+    requires closed { IsClosedIn nodes.now }
+    ensures { (base : ℕ) → result ≡ walk_fault (tree_in base nodes.now root) names.now }
+{
+    if let Some(fault) = fault_above(nodes, root, names) {
+        return Some(fault);
+    }
+    fault_at_present(nodes, root, names)
+}
+
+fn fault_of_removed(nodes: &[Node], root: NodeId, names: &[Name]) -> Option<CommitFault>
+    requires root_in { root < length nodes.now }
+    requires closed { IsClosedIn nodes.now }
+    ensures { (base : ℕ) → result ≡ option_or (root_fault names.now) (walk_fault (tree_in base nodes.now root) names.now) }
+{
+    if let Some(fault) = fault_of_root(names) {
+        return Some(fault);
+    }
+    fault_of_walk(nodes, root, names)
+}
+
+fn fault_of_value(value: &Option<Text>) -> Option<CommitFault>
+    ensures { result ≡ value_fault value.now }
+{
+    match value {
+        Some(value) => fault_of_size(value),
+        None => None,
+    }
+}
+
+fn fault_of_prop(
+    nodes: &[Node],
+    root: NodeId,
+    names: &[Name],
+    value: &Option<Text>,
+) -> Option<CommitFault>
+    requires root_in { root < length nodes.now }
+    requires closed { IsClosedIn nodes.now }
+    ensures { (base : ℕ) → result ≡ option_or (value_fault value.now) (walk_fault (tree_in base nodes.now root) names.now) }
+{
+    if let Some(fault) = fault_of_value(value) {
+        return Some(fault);
+    }
+    fault_of_walk(nodes, root, names)
+}
+
+// Whether something below the node would stand too deep, were the node put at a path. The height of each old node is known.
+fn is_too_deep(heights: &[u8], node: NodeId, names: &[Name]) -> bool
+    requires node_in { node < length heights.now }
+    requires depth { length names.now ≤ depth_limit }
+    ensures { (k : ℕ) → slice_get heights.now node ≡ Some k → result ≡ nat_lt path_limit (length names.now + k) }
+{
+    names.len() + heights[node.index] as usize > MAX_DEPTH
+}
+
+// Why a copy of what stands at the source can't be put at a path below directories.
+fn fault_at_copy(
+    nodes: &[Node],
+    heights: &[u8],
+    root: NodeId,
+    node: NodeId,
+    names: &[Name],
+) -> Option<CommitFault>
+    requires root_in { root < length nodes.now }
+    requires closed { IsClosedIn nodes.now }
+    requires node_in { node < length heights.now }
+    requires depth { length names.now ≤ depth_limit }
+    requires not_root { root_fault names.now ≡ None }
+    requires past { IsOldPart heights.now nodes.now }
+    ensures { (base : ℕ) → result ≡ option_or (fault_if (is_some (tree_in base nodes.now root names.now)) CommitFault.Exists) (copy_depth_fault (rows (take (length heights.now) nodes.now)) (Some node) names.now) }
+{
+    if stands(nodes, root, names) {
+        Some(CommitFault::Exists)
+    } else if is_too_deep(heights, node, names) {
+        Some(CommitFault::TooDeep)
+    } else {
+        None
+    }
+}
+
+// Why what stands at the source, below a root that stood before, can't be copied to a path.
+fn fault_below_top(
+    nodes: &[Node],
+    heights: &[u8],
+    root: NodeId,
+    top: NodeId,
+    source: &[Name],
+    names: &[Name],
+) -> Option<CommitFault>
+    requires root_in { root < length nodes.now }
+    requires closed { IsClosedIn nodes.now }
+    requires depth { length names.now ≤ depth_limit }
+    requires not_root { root_fault names.now ≡ None }
+    requires top_in { top < length heights.now }
+    requires past { IsOldPart heights.now nodes.now }
+    ensures { (base : ℕ) → let t = tree_in base nodes.now root in result ≡ option_or (walk_fault (tree_in base nodes.now top) source.now) (option_or (above_fault t names.now) (option_or (fault_if (is_some (t names.now)) CommitFault.Exists) (copy_depth_fault (rows (take (length heights.now) nodes.now)) (walk (rows nodes.now) top source.now) names.now))) }
+{
+    if let Some(fault) = fault_of_walk(nodes, top, source) {
+        return Some(fault);
+    }
+    if let Some(fault) = fault_above(nodes, root, names) {
+        return Some(fault);
+    }
+    let Some(node) = node_below(nodes, top, source) else {
+        unreachable!()
+    };
+    fault_at_copy(nodes, heights, root, node, names)
+}
+
+fn fault_of_copy(
+    nodes: &[Node],
+    roots: &[NodeId],
+    heights: &[u8],
+    root: NodeId,
+    rev: Rev,
+    source: &[Name],
+    names: &[Name],
+) -> Option<CommitFault>
+    requires root_in { root < length nodes.now }
+    requires closed { IsClosedIn nodes.now }
+    requires depth { length names.now ≤ depth_limit }
+    requires past { IsPast roots.now heights.now nodes.now }
+    ensures { (l : ℕ) → let base = length heights.now in result ≡ option_or (root_fault names.now) (copy_fault (past_in base roots.now nodes.now l) (tree_in base nodes.now root) rev source.now names.now) }
+{
+    if let Some(fault) = fault_of_root(names) {
+        return Some(fault);
+    }
+    match root_of(roots, rev) {
+        None => Some(CommitFault::NoSuchRevision),
+        Some(top) => fault_below_top(nodes, heights, root, top, source, names),
+    }
+}
+
+/// Why a change can't be made on a draft, if it can't. There is a height for each node that stood before the draft.
+pub(crate) fn fault_of(
+    nodes: &[Node],
+    roots: &[NodeId],
+    heights: &[u8],
+    root: NodeId,
+    change: &Change,
+) -> Option<CommitFault>
+    requires root_in { root < length nodes.now }
+    requires closed { IsClosedIn nodes.now }
+    requires past { IsPast roots.now heights.now nodes.now }
+    ensures { (l next : ℕ) → let base = length heights.now in result ≡ change_fault (past_in base roots.now nodes.now l) (pending_in base nodes.now root next) change.now }
+{
+    match change {
+        Change::MakeDir { path } => fault_of_dir(nodes, root, path.components()),
+        Change::PutFile { path, text } => fault_of_file(nodes, root, path.components(), text),
+        Change::SetProp {
+            path,
+            name: _,
+            value,
+        } => fault_of_prop(nodes, root, path.components(), value),
+        Change::Remove { path } => fault_of_removed(nodes, root, path.components()),
+        Change::CopyFrom { rev, source, path } => fault_of_copy(
+            nodes,
+            roots,
+            heights,
+            root,
+            *rev,
+            source.components(),
+            path.components(),
+        ),
+    }
+}

@@ -1,0 +1,8 @@
+-- entries found by their path and by what stands next to it; one more entry
+pub mod Listings
+-- the order in which directories end
+pub mod EndOrder
+-- the next name beneath a path at which a report has entries
+pub mod NextNames
+-- the reported names beneath a path, one after the other
+pub mod ReportedNames

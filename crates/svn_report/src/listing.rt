@@ -1,0 +1,194 @@
+//! Entries at paths, found by their place, by their path, and by what stands above or beneath a path.
+ghost use Rattle.std.specs.Prelude.{◌≡◌, ◌++◌, ◌∷◌, [], ℕ, length, slice_get, IsTrue, ◌↔◌, OnOk, OnErr, IfOk, Some, None};
+ghost use Rattle.std.specs.List.{list_any};
+ghost use Rattle.std.specs.Option.{option_copied, option_map, option_to_list};
+ghost use Rattle.svn_types.specs.Paths.{is_within};
+ghost use Rattle.svn_report.specs.Reports.{entry_at, has_entry_below, is_deleted_above, is_deleted_at, is_link_too_deep, reporter_fault};
+ghost use Rattle.svn_report.specs.LawfulReports.{AreLawfulEntries};
+ghost use Rattle.svn_report.specs.ReportNames.{next_name, IsNextName};
+
+use crate::entry::ReportEntry;
+use crate::path_index::{PathIndex, is_within};
+use crate::reporter_fault::ReporterFault;
+use indexmap::IndexMap;
+use std::alloc::{AllocError, Global};
+use std::marker::Model;
+use svn_types::{MAX_DEPTH, Name, RelPath};
+
+// The entries by path, in the order of the calls, and their paths in an index. A contract sees the list of entries.
+#[derive(Debug, Drop)]
+pub struct Listing {
+    entries: IndexMap<RelPath, ReportEntry>,
+    paths: PathIndex,
+}
+
+impl Model for Listing {
+    ghost use Rattle.svn_report.specs.Reports.{Entries};
+    ghost use Rattle.svn_report.specs.ReportOrder.{IsKept};
+
+    ghost Value = { Entries };
+
+    ghost view = { λ l. l.entries.entries };
+
+    ghost invariant = { λ l. IsKept l.paths l.entries.entries };
+}
+
+// The name that leads from the first path down to the second, where that stands below it.
+#[tactic(auto, using(crate::proofs::NextNames::next_named, crate::proofs::NextNames::not_below, crate::proofs::NextNames::not_within))]
+fn name_below<'n>(above: &[Name], below: &'n [Name]) -> Option<&'n Name>
+    ensures { option_to_list (option_copied result) ≡ next_name above.now below.now }
+{
+    if above.len() < below.len() && above == &below[..above.len()] {
+        below[above.len()..].first()
+    } else {
+        None
+    }
+}
+
+impl Listing {
+    pub fn new(alloc: Global) -> Listing
+        ensures { result ≡ [] }
+    {
+        Listing {
+            entries: IndexMap::new(alloc),
+            paths: PathIndex::new(alloc),
+        }
+    }
+
+    pub fn law(&self)
+        ensures { AreLawfulEntries self.now }
+    {
+        let _entries = &self.entries;
+    }
+
+    pub fn len(&self) -> usize
+        ensures { result ≡ length self.now }
+    {
+        self.entries.len()
+    }
+
+    pub fn is_empty(&self) -> bool
+        ensures { IsTrue result ↔ (self.now ≡ []) }
+    {
+        self.entries.is_empty()
+    }
+
+    pub fn entry(&self, i: usize) -> Option<(&RelPath, &ReportEntry)>
+        ensures { option_map (λ e. (e.0.now, e.1.now)) result ≡ slice_get self.now i }
+    {
+        self.entries.get_index(i)
+    }
+
+    #[tactic(auto, using(crate::proofs::Listings::lookup_entry))]
+    pub fn entry_at(&self, path: &RelPath) -> Option<&ReportEntry>
+        ensures { option_copied result ≡ entry_at self.now path.now }
+    {
+        self.entries.get(path)
+    }
+
+    pub fn has_entry_below(&self, path: &RelPath) -> bool
+        ensures { result ≡ has_entry_below self.now path.now }
+    {
+        match self.paths.next(path) {
+            Some(next) => is_within(path.components(), next.components()),
+            None => false,
+        }
+    }
+
+    // The first name beneath the path at or below which an entry stands.
+    fn first_name_below(&self, path: &RelPath) -> Option<&Name>
+        ensures { IsNextName path.now self.now None (option_copied result) }
+    {
+        match self.paths.next(path) {
+            Some(next) => name_below(path.components(), next.components()),
+            None => None,
+        }
+    }
+
+    // The first such name that comes after a name.
+    fn name_below_after(&self, path: &RelPath, last: &Name) -> Result<Option<&Name>, AllocError>
+        ensures { IfOk result (λ found. IsNextName path.now self.now (Some last.now) (option_copied found)) }
+    {
+        match self.paths.next_outside(path, last)? {
+            Some(next) => Ok(name_below(path.components(), next.names())),
+            None => Ok(None),
+        }
+    }
+
+    pub fn next_name_below(
+        &self,
+        path: &RelPath,
+        after: Option<&Name>,
+    ) -> Result<Option<&Name>, AllocError>
+        ensures { IfOk result (λ found. IsNextName path.now self.now (option_copied after.entry) (option_copied found)) }
+    {
+        match after {
+            Some(last) => self.name_below_after(path, last),
+            None => Ok(self.first_name_below(path)),
+        }
+    }
+
+    fn is_under_deleted(&self, path: &RelPath) -> bool
+        ensures { result ≡ list_any (is_deleted_above path.now) self.now }
+    {
+        match self.paths.previous(path) {
+            Some(previous) => {
+                is_within(previous.components(), path.components()) && self.is_deleted(previous)
+            }
+            None => false,
+        }
+    }
+
+    fn is_deleted(&self, path: &RelPath) -> bool
+        ensures { result ≡ is_deleted_at (entry_at self.now path.now) }
+    {
+        matches!(self.entry_at(path), Some(ReportEntry::DeletePath))
+    }
+
+    // Why the entry can't be the next. It takes no memory.
+    pub fn fault_of(&self, path: &RelPath, entry: &ReportEntry) -> Option<ReporterFault>
+        ensures { result ≡ reporter_fault self.now path.now entry.now }
+    {
+        if self.is_empty() && !(path.is_root() && matches!(entry, ReportEntry::SetPath { .. })) {
+            Some(ReporterFault::NotRootFirst)
+        } else if self.entry_at(path).is_some() {
+            Some(ReporterFault::Repeated)
+        } else if self.is_under_deleted(path) {
+            Some(ReporterFault::UnderDeleted)
+        } else if self.has_entry_below(path) {
+            Some(ReporterFault::ParentLater)
+        } else if is_link_too_deep(path, entry) {
+            Some(ReporterFault::TooDeep)
+        } else {
+            None
+        }
+    }
+
+    // Adds an entry that can be the next.
+    pub fn push(&mut self, path: &RelPath, entry: ReportEntry) -> Result<(), AllocError>
+        requires { reporter_fault self.old path.now entry ≡ None }
+        ensures ok { OnOk result (self.new ≡ self.old ++ (path.now, entry) ∷ []) }
+        ensures err { OnErr result (self.new ≡ self.old) }
+    {
+        let count = self.entries.len();
+        self.entries.insert(path.clone()?, entry)?;
+        match self.paths.insert(path) {
+            Ok(()) => Ok(()),
+            Err(_) => {
+                self.entries.truncate(count);
+                Err(AllocError)
+            }
+        }
+    }
+}
+
+fn is_link_too_deep(path: &RelPath, entry: &ReportEntry) -> bool
+    ensures { result ≡ is_link_too_deep path.now entry.now }
+{
+    match entry {
+        ReportEntry::LinkPath { repos_path, .. } => {
+            repos_path.components().len() + MAX_DEPTH < path.components().len()
+        }
+        _ => false,
+    }
+}

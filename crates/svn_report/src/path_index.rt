@@ -1,0 +1,233 @@
+//! Paths in two orders, found by what stands above, beneath or behind a path.
+ghost use Rattle.std.specs.Prelude.{◌≡◌, ◌||◌, ◌&&◌, not, ◌∷◌, ◌++◌, [], false, Some, IfOk, OnOk, OnErr};
+ghost use Rattle.std.specs.Ordering.{eq_by_cmp};
+ghost use Rattle.std.specs.Cmp.{partial_equiv_from_equiv, partial_order_from_total, eq_by_cmp_equiv};
+ghost use Rattle.std.specs.Option.{option_copied};
+ghost use Rattle.std.specs.BTreeSet.{BTreeSet, contains};
+ghost use Rattle.svn_types.specs.Names.{Path, path_cmp};
+ghost use Rattle.svn_types.specs.Paths.{path_eq, is_within, child};
+ghost use Rattle.svn_report.specs.ReportOrder.{end_cmp, end_total, IsNext, IsNextBy, IsPrevious};
+
+use std::alloc::{AllocError, Global};
+use std::cmp::Ordering;
+use std::collections::BTreeSet;
+use std::marker::Model;
+use std::ops::Bound;
+use svn_types::{Name, RelPath};
+
+#[tactic(auto, using(svn_types::proofs::PathOrder::within_take, svn_types::proofs::PathOrder::within_short))]
+pub fn is_within(above: &[Name], below: &[Name]) -> bool
+    ensures { result ≡ is_within above.now below.now }
+{
+    above.len() <= below.len() && above == &below[..above.len()]
+}
+
+fn are_nested(first: &[Name], second: &[Name]) -> bool
+    ensures { result ≡ (is_within first.now second.now || is_within second.now first.now) }
+{
+    is_within(first, second) || is_within(second, first)
+}
+
+// The order in which directories end: that of paths, but that a path stands behind what is beneath it.
+#[tactic(auto, using(crate::proofs::EndOrder::end_nested, crate::proofs::EndOrder::end_apart))]
+fn compare_ends<'x>(first: &'x [Name], second: &'x [Name]) -> Ordering
+    ensures { result ≡ end_cmp first.now second.now }
+{
+    let order = first.cmp(second);
+    if are_nested(first, second) {
+        order.reverse()
+    } else {
+        order
+    }
+}
+
+// The names of a path, in the order in which directories end.
+#[derive(Debug, Drop)]
+pub struct PathEnd {
+    names: Vec<Name>,
+}
+
+impl Model for PathEnd {
+    ghost use Rattle.svn_types.specs.Names.{Path};
+
+    ghost Value = { Path };
+
+    ghost view = { λ p. p.names.items };
+}
+
+impl PathEnd {
+    fn of(alloc: Global, path: &RelPath) -> Result<PathEnd, AllocError>
+        ensures { IfOk result (λ end. end ≡ path.now) }
+    {
+        Ok(PathEnd {
+            names: Vec::from_clones(alloc, path.components())?,
+        })
+    }
+
+    fn of_child(alloc: Global, path: &RelPath, name: &Name) -> Result<PathEnd, AllocError>
+        ensures { IfOk result (λ end. end ≡ child path.now name.now) }
+    {
+        let mut names = Vec::from_clones(alloc, path.components())?;
+        names.push(name.clone()?)?;
+        Ok(PathEnd { names })
+    }
+
+    pub fn names(&self) -> &[Name]
+        ensures { result.now ≡ self.now }
+    {
+        &self.names
+    }
+}
+
+impl PartialEq for PathEnd {
+    ghost eq = { eq_by_cmp end_cmp };
+
+    ghost laws = { partial_equiv_from_equiv (eq_by_cmp_equiv end_total) };
+
+    fn eq(&self, other: &PathEnd) -> bool {
+        compare_ends(self.names(), other.names()).is_eq()
+    }
+}
+
+impl Eq for PathEnd {
+    ghost laws = { eq_by_cmp_equiv end_total };
+}
+
+impl PartialOrd for PathEnd {
+    ghost partial_cmp = { λ x y. Some (end_cmp x y) };
+
+    ghost laws = { partial_order_from_total end_total };
+
+    fn partial_cmp(&self, other: &PathEnd) -> Option<Ordering> {
+        Some(self.cmp(other))
+    }
+}
+
+impl Ord for PathEnd {
+    ghost use Rattle.std.specs.Prelude.{refl};
+
+    ghost cmp = { end_cmp };
+
+    ghost total = { end_total };
+
+    ghost matches_partial_cmp = { λ x y. refl };
+
+    ghost matches_eq = { λ x y. refl };
+
+    fn cmp(&self, other: &PathEnd) -> Ordering {
+        compare_ends(self.names(), other.names())
+    }
+}
+
+fn next_path<'a>(paths: &'a BTreeSet<RelPath>, path: &RelPath) -> Option<&'a RelPath>
+    ensures { IsNext paths.now path.now (option_copied result) }
+{
+    let mut after = paths.range((Bound::Excluded(path), Bound::Unbounded));
+    after.next()
+}
+
+fn previous_path<'a>(paths: &'a BTreeSet<RelPath>, path: &RelPath) -> Option<&'a RelPath>
+    ensures { IsPrevious paths.now path.now (option_copied result) }
+{
+    let mut before = paths.range(..path);
+    before.next_back()
+}
+
+fn next_end<'a>(ends: &'a BTreeSet<PathEnd>, end: &PathEnd) -> Option<&'a PathEnd>
+    ensures { IsNextBy end_cmp (contains end_cmp ends.now) end.now (option_copied result) }
+{
+    let mut after = ends.range((Bound::Excluded(end), Bound::Unbounded));
+    after.next()
+}
+
+fn insert_path(paths: &mut BTreeSet<RelPath>, path: &RelPath) -> Result<(), AllocError>
+    ensures added { OnOk result ((q : Path) → contains path_cmp paths.new q ≡ (path_eq path.now q || contains path_cmp paths.old q)) }
+    ensures unchanged { OnErr result ((q : Path) → contains path_cmp paths.new q ≡ contains path_cmp paths.old q) }
+{
+    paths.insert(path.clone()?)?;
+    Ok(())
+}
+
+fn remove_path(paths: &mut BTreeSet<RelPath>, path: &RelPath)
+    ensures { (q : Path) → contains path_cmp paths.new q ≡ (not (path_eq path.now q) && contains path_cmp paths.old q) }
+{
+    paths.remove(path);
+}
+
+fn insert_end(ends: &mut BTreeSet<PathEnd>, end: PathEnd) -> Result<(), AllocError>
+    ensures added { OnOk result ((q : Path) → contains end_cmp ends.new q ≡ (path_eq end q || contains end_cmp ends.old q)) }
+    ensures unchanged { OnErr result ((q : Path) → contains end_cmp ends.new q ≡ contains end_cmp ends.old q) }
+{
+    ends.insert(end)?;
+    Ok(())
+}
+
+// The same paths in path order and in the order in which they end. A contract sees the set in path order.
+#[derive(Debug, Drop)]
+pub struct PathIndex {
+    alloc: Global,
+    paths: BTreeSet<RelPath>,
+    ends: BTreeSet<PathEnd>,
+}
+
+impl Model for PathIndex {
+    ghost use Rattle.std.specs.BTreeSet.{BTreeSet};
+    ghost use Rattle.svn_types.specs.Names.{Path};
+    ghost use Rattle.svn_report.specs.ReportOrder.{HasSamePaths};
+
+    ghost Value = { BTreeSet Path };
+
+    ghost view = { λ i. i.paths };
+
+    ghost invariant = { λ i. HasSamePaths i.paths i.ends };
+}
+
+impl PathIndex {
+    pub fn new(alloc: Global) -> PathIndex
+        ensures { (q : Path) → contains path_cmp result q ≡ false }
+    {
+        PathIndex {
+            alloc,
+            paths: BTreeSet::new(alloc),
+            ends: BTreeSet::new(alloc),
+        }
+    }
+
+    // The first path behind a path. What stands beneath it comes first.
+    pub fn next(&self, path: &RelPath) -> Option<&RelPath>
+        ensures { IsNext self.now path.now (option_copied result) }
+    {
+        next_path(&self.paths, path)
+    }
+
+    // The last path before a path.
+    pub fn previous(&self, path: &RelPath) -> Option<&RelPath>
+        ensures { IsPrevious self.now path.now (option_copied result) }
+    {
+        previous_path(&self.paths, path)
+    }
+
+    // The first path that ends behind the name beneath the path. What stands beneath the name ends before it.
+    pub fn next_outside(&self, path: &RelPath, name: &Name) -> Result<Option<&PathEnd>, AllocError>
+        ensures { IfOk result (λ found. IsNextBy end_cmp (contains path_cmp self.now) (child path.now name.now) (option_copied found)) }
+    {
+        let end = PathEnd::of_child(self.alloc, path, name)?;
+        Ok(next_end(&self.ends, &end))
+    }
+
+    pub fn insert(&mut self, path: &RelPath) -> Result<(), AllocError>
+        requires { contains path_cmp self.old path.now ≡ false }
+        ensures added { OnOk result ((q : Path) → contains path_cmp self.new q ≡ (path_eq path.now q || contains path_cmp self.old q)) }
+        ensures unchanged { OnErr result ((q : Path) → contains path_cmp self.new q ≡ contains path_cmp self.old q) }
+    {
+        let end = PathEnd::of(self.alloc, path)?;
+        insert_path(&mut self.paths, path)?;
+        match insert_end(&mut self.ends, end) {
+            Ok(()) => Ok(()),
+            Err(_) => {
+                remove_path(&mut self.paths, path);
+                Err(AllocError)
+            }
+        }
+    }
+}

@@ -1,0 +1,10 @@
+pub mod Applied
+pub mod Applying
+pub mod Beginning
+pub mod Composing
+pub mod Counting
+pub mod DriveCalls
+pub mod Ending
+pub mod Halting
+pub mod Sending
+pub mod Theorems

@@ -1,0 +1,124 @@
+-- The theorems of a run on one thread and of one on two, from their parts.
+use Rattle.std.proofs.Common.{◌≡◌, ℕ, true, false, [], refl, sym, ap, subst, ◌∙◌}
+use Rattle.std.specs.Prelude.{if◌then◌else◌, Option, Some, None, Result, Ok, Err, IfOk, IfErr, OnErr}
+use Rattle.std.specs.Option.{option_or}
+use Rattle.svn_link.specs.Ends.{Passed}
+use Rattle.svn_model.specs.Nodes.{get_in, InPathOrder}
+use Rattle.svn_law.specs.Laws.{IsTrueCopy}
+use Rattle.svn_run.specs.declared.outcome.Outcome.{Outcome}
+use Rattle.svn_run.specs.declared.outcome.RunFault.{RunFault}
+use Rattle.svn_run.specs.declared.outcome.RunFault.TheVariants.{Memory, Capacity}
+use Rattle.svn_run.specs.Coming.{CameTo}
+use Rattle.svn_run.specs.Goals.{fault_at}
+use Rattle.svn_run.specs.RunLaws.{RunLaws}
+use Rattle.svn_run.specs.UpdateTheorem.{Nodes, Asked, is_capacity, fault_in_turn, fault_in_threads, IsRefusal, IsWantOfMemory}
+use Rattle.svn_run.specs.UpdateTheorem.{IsWantInThreads, made_in, late_in, calls_made, IsSound, TurnTheorem, ThreadsTheorem}
+use Rattle.svn_run.proofs.Beginning.{same_fault, has_target}
+use Rattle.svn_run.proofs.Composing.{drive_for, sound, ran}
+
+-- what holds of a value holds of an equal one
+pub moved : {A : Type 0} (P : A → Type 0) (old new : A) → new ≡ old → P old → P new
+moved P old new same h = subst P (sym same) h
+
+module _ (laws : RunLaws) (a : Asked) (true_copy : IsTrueCopy a.history a.copy) where
+  -- a copy that is as it was
+  pub unmoved : IsSound a a.copy
+  unmoved = record { truth = true_copy.true_of; shape = true_copy.shape }
+
+  -- no run leads to the target
+  pub refused_in_turn : (e : RunFault) → fault_at a.history a.target a.mode (get_in a.copy []) ≡ Some e → TurnTheorem a a.copy (Err e)
+  refused_in_turn e h = record {
+    refused = subst (λ o. IsRefusal o IsWantOfMemory e) (sym (same_fault laws a true_copy ∙ h)) refl;
+    unchanged = refl;
+    begun = tt;
+    ran = tt;
+    never_late = tt;
+    sound = unmoved;
+  }
+
+  module _ (none : fault_at a.history a.target a.mode (get_in a.copy []) ≡ None) where
+    no_fault : fault_in_turn a ≡ None
+    no_fault = same_fault laws a true_copy ∙ none
+
+    -- memory was wanting
+    pub without_memory : (left : Nodes) (e : RunFault) → left ≡ a.copy → e ≡ Memory → TurnTheorem a left (Err e)
+    without_memory left e same is = record {
+      refused = subst (λ o. IsRefusal o IsWantOfMemory e) (sym no_fault) is;
+      unchanged = same;
+      begun = tt;
+      ran = tt;
+      never_late = tt;
+      sound = subst (IsSound a) (sym same) unmoved;
+    }
+
+    -- it ended
+    pub came_in_turn : (left : Nodes) (o : Outcome) → InPathOrder left → CameTo (drive_for a) a.mode a.cancel_after (get_in a.copy) left o
+        → late_in o ≡ None → TurnTheorem a left (Ok o)
+    came_in_turn left o in_order came never = record {
+      refused = tt;
+      unchanged = tt;
+      begun = no_fault;
+      ran = ran laws a true_copy (has_target laws a true_copy none) left in_order o came;
+      never_late = never;
+      sound = sound laws a true_copy (has_target laws a true_copy none) left in_order o came;
+    }
+
+    pub in_turn : (left : Nodes) (answer : Result Outcome RunFault) → InPathOrder left
+        → IfOk answer (CameTo (drive_for a) a.mode a.cancel_after (get_in a.copy) left) → IfOk answer (λ o. late_in o ≡ None)
+        → IfErr answer (λ e. e ≡ Memory) → OnErr answer (left ≡ a.copy) → TurnTheorem a left answer
+    in_turn left (Ok o) in_order came never memory same = came_in_turn left o in_order came never
+    in_turn left (Err e) in_order came never memory same = without_memory left e same memory
+
+-- ---- two threads
+
+module _ (laws : RunLaws) (a : Asked) (true_copy : IsTrueCopy a.history a.copy) (capacity : ℕ) where
+  abbrev capacity_fault : Option RunFault
+  capacity_fault = if is_capacity capacity then None else Some Capacity
+
+  refused_as : (e : RunFault) → fault_in_threads a capacity ≡ Some e → ThreadsTheorem a capacity a.copy (Err e)
+  refused_as e h = record {
+    refused = subst (λ o. IsRefusal o IsWantInThreads e) (sym h) refl;
+    unchanged = refl;
+    begun = tt;
+    ran = tt;
+    sound = unmoved laws a true_copy;
+  }
+
+  -- no run leads to the target
+  pub refused_in_threads : (e : RunFault) → fault_at a.history a.target a.mode (get_in a.copy []) ≡ Some e
+      → ThreadsTheorem a capacity a.copy (Err e)
+  refused_in_threads e h = refused_as e (ap (λ o. option_or o capacity_fault) (same_fault laws a true_copy ∙ h))
+
+  module _ (none : fault_at a.history a.target a.mode (get_in a.copy []) ≡ None) where
+    pub refused_capacity : is_capacity capacity ≡ false → ThreadsTheorem a capacity a.copy (Err Capacity)
+    refused_capacity wrong =
+        refused_as Capacity
+        (ap (λ o. option_or o capacity_fault) (same_fault laws a true_copy ∙ none) ∙ ap (λ b. if b then None else Some Capacity) wrong)
+
+    module _ (right : is_capacity capacity ≡ true) where
+      no_fault_in_threads : fault_in_threads a capacity ≡ None
+      no_fault_in_threads =
+          ap (λ o. option_or o capacity_fault) (same_fault laws a true_copy ∙ none) ∙ ap (λ b. if b then None else Some Capacity) right
+
+      -- memory or a thread was wanting
+      pub wanting : (left : Nodes) (e : RunFault) → left ≡ a.copy → IsWantInThreads e → ThreadsTheorem a capacity left (Err e)
+      wanting left e same want = record {
+        refused = subst (λ o. IsRefusal o IsWantInThreads e) (sym no_fault_in_threads) want;
+        unchanged = same;
+        begun = tt;
+        ran = tt;
+        sound = subst (IsSound a) (sym same) (unmoved laws a true_copy);
+      }
+
+      -- it ended
+      pub came_in_threads : (left : Nodes) (o : Outcome) (passed : Passed) → InPathOrder left
+          → CameTo (drive_for a) a.mode a.cancel_after (get_in a.copy) left o
+          → passed.sent ≡ calls_made (drive_for a) (made_in o) → passed.taken ≡ calls_made (drive_for a) (made_in o)
+          → ThreadsTheorem a capacity left (Ok (o, passed))
+      came_in_threads left o passed in_order came sent taken = record {
+        refused = tt;
+        unchanged = tt;
+        begun = no_fault_in_threads;
+        ran = record { ran = ran laws a true_copy (has_target laws a true_copy none) left in_order o came; sent = sent; taken = taken };
+        sound = sound laws a true_copy (has_target laws a true_copy none) left in_order o came;
+      }

@@ -1,0 +1,12 @@
+-- The number that each fault of a run is known by.
+use Rattle.std.specs.Prelude.{ℕ}
+use Rattle.svn_run.specs.declared.outcome.RunFault.{RunFault}
+use Rattle.svn_run.specs.declared.outcome.RunFault.TheVariants.{NoSuchRevision, NoRoot, OtherRoot, Capacity, Memory as NoMemory, NoThread}
+
+abbrev pub run_fault_number : RunFault → ℕ
+run_fault_number NoSuchRevision = 31
+run_fault_number NoRoot = 35
+run_fault_number OtherRoot = 36
+run_fault_number Capacity = 32
+run_fault_number NoMemory = 33
+run_fault_number NoThread = 34

@@ -1,0 +1,11 @@
+pub mod Coming
+pub mod Counts
+pub mod Courses
+pub mod Driven
+pub mod FaultNumbers
+pub mod Finishing
+pub mod Goals
+pub mod Lines
+pub mod RunLaws
+pub mod Takes
+pub mod UpdateTheorem

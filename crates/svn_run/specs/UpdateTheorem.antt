@@ -1,0 +1,166 @@
+-- The update theorem: what comes of a run that brings a working copy to a revision, by an update or by a switch of the whole copy.
+--     Asked      what a run was asked for
+--     Ran a left outcome      the run ended with that outcome, and left that copy
+--     TurnTheorem a left answer      the theorem of a run on one thread
+--     ThreadsTheorem a capacity left answer      the theorem of a run on two threads
+use Rattle.std.specs.Prelude.{◌≡◌, ℕ, ◌+◌, ◌<◌, ◌≤◌, Bool, ◌&&◌, List, [], ◌∷◌, ◌++◌, length, take, nat_eq, nat_le, Option, Some, None}
+use Rattle.std.specs.Prelude.{option_map, IfSome, Result, IfOk, IfErr, OnOk, OnErr, ◌⊎◌, if◌then◌else◌}
+use Rattle.std.specs.Option.{option_or}
+use Rattle.md5.specs.Md5.{md5}
+use Rattle.svn_types.specs.Names.{Path}
+use Rattle.svn_repo.specs.History.{History}
+use Rattle.svn_editor.specs.declared.call.Call.{Call}
+use Rattle.svn_editor.specs.declared.call.Call.TheVariants.{AbortEdit}
+use Rattle.svn_editor.specs.Steps.{Mode}
+use Rattle.svn_link.specs.Ends.{Passed}
+use Rattle.svn_model.specs.declared.base_node.BaseNode.{BaseNode}
+use Rattle.svn_model.specs.declared.drive_fault.DriveFault.{DriveFault}
+use Rattle.svn_model.specs.declared.drive_fault.DriveFault.TheVariants.{NoSuchTarget, NoRoot as RootMissing, OtherRoot as RootOther}
+use Rattle.svn_model.specs.Checks.{target_fault}
+use Rattle.svn_model.specs.Crawl.{crawl}
+use Rattle.svn_model.specs.Follow.{Request}
+use Rattle.svn_model.specs.Drive.{IsDrive}
+use Rattle.svn_model.specs.Nodes.{get_in, IsTrueOf, IsWorkingCopy}
+use Rattle.svn_model.specs.Effects.{after}
+use Rattle.svn_model.specs.Result.{result}
+use Rattle.svn_law.specs.Laws.{request_of, reported_again, Composes, Resumes}
+use Rattle.svn_run.specs.declared.outcome.Cause.{Cause}
+use Rattle.svn_run.specs.declared.outcome.Cause.TheVariants.{Cancelled}
+use Rattle.svn_run.specs.declared.outcome.Outcome.{Outcome}
+use Rattle.svn_run.specs.declared.outcome.Outcome.TheVariants.{Closed, Aborted}
+use Rattle.svn_run.specs.declared.outcome.RunFault.{RunFault}
+use Rattle.svn_run.specs.declared.outcome.RunFault.TheVariants.{NoSuchRevision, NoRoot, OtherRoot, Capacity, Memory, NoThread}
+
+abbrev pub Nodes : Type 0
+Nodes = List (Path × BaseNode)
+
+-- ---- what is asked for
+
+-- a repository and a copy; the target revision, and whether the copy is updated or switched; where texts come; after how many calls to stop
+pub record Asked : Type 0 where
+  pub history : History
+  pub copy : Nodes
+  pub target : ℕ
+  pub mode : Mode
+  pub late_texts : Bool
+  pub cancel_after : Option ℕ
+
+abbrev pub asked : History → Nodes → ℕ → Mode → Bool → Option ℕ → Asked
+asked h nodes target mode late cancel =
+    record { history = h; copy = nodes; target = target; mode = mode; late_texts = late; cancel_after = cancel }
+
+-- what the driver is asked for: the report is the copy's crawl
+abbrev pub request : Asked → Request
+request a = request_of a.history a.copy a.target a.mode md5
+
+-- ---- a run that makes no call
+
+abbrev pub run_fault_of : DriveFault → RunFault
+run_fault_of NoSuchTarget = NoSuchRevision
+run_fault_of RootMissing = NoRoot
+run_fault_of RootOther = OtherRoot
+run_fault_of _ = Memory
+
+-- why no run leads to the target: no such revision; the copy's root isn't in it; another node is there
+abbrev pub fault_in_turn : Asked → Option RunFault
+fault_in_turn a = option_map run_fault_of (target_fault (request a))
+
+abbrev pub is_capacity : ℕ → Bool
+is_capacity n = nat_le 1 n && nat_le n 4096
+
+-- the capacity is looked at after that
+abbrev pub fault_in_threads : Asked → ℕ → Option RunFault
+fault_in_threads a capacity = option_or (fault_in_turn a) (if is_capacity capacity then None else Some Capacity)
+
+-- the fault, if there is one; else what is wanting
+abbrev pub IsRefusal : Option RunFault → (RunFault → Type 0) → RunFault → Type 0
+IsRefusal (Some fault) IsWant e = e ≡ fault
+IsRefusal None IsWant e = IsWant e
+
+abbrev pub IsWantOfMemory : RunFault → Type 0
+IsWantOfMemory e = e ≡ Memory
+
+abbrev pub IsWantInThreads : RunFault → Type 0
+IsWantInThreads e = (e ≡ Memory) ⊎ (e ≡ NoThread)
+
+-- ---- a run that makes calls
+
+-- how many calls were made, and how many of them the copy accepted, an `AbortEdit` left out
+abbrev pub made_in : Outcome → ℕ
+made_in (Closed calls) = calls
+made_in (Aborted made accepted late cause) = made
+
+abbrev pub accepted_in : Outcome → ℕ
+accepted_in (Closed calls) = calls
+accepted_in (Aborted made accepted late cause) = accepted
+
+abbrev pub late_in : Outcome → Option ℕ
+late_in (Closed calls) = None
+late_in (Aborted made accepted late cause) = late
+
+abbrev pub IfClosed : Outcome → (ℕ → Type 0) → Type 0
+IfClosed (Closed calls) P = P calls
+IfClosed (Aborted made accepted late cause) P = Unit {0}
+
+abbrev pub OnCause : Cause → Type 0 → Type 0
+OnCause Cancelled P = P
+OnCause _ P = Unit {0}
+
+abbrev pub IfCancelled : Outcome → (ℕ → ℕ → Type 0) → Type 0
+IfCancelled (Closed calls) P = Unit {0}
+IfCancelled (Aborted made accepted late cause) P = OnCause cause (P made accepted)
+
+-- the first so many calls of the drive, then `AbortEdit` unless the last of them was made
+abbrev pub calls_made : List Call → ℕ → List Call
+calls_made drive made = take made drive ++ (if nat_eq made (length drive) then [] else AbortEdit ∷ [])
+
+-- the copy that is left is true of the repository, and has the shape of a working copy
+pub record IsSound (a : Asked) (left : Nodes) : Type 0 where
+  pub truth : IsTrueOf a.history (get_in left)
+  pub shape : IsWorkingCopy (get_in left)
+
+pub record Ran (a : Asked) (left : Nodes) (o : Outcome) : Type 0 where
+  -- the one list of calls that brings the copy to its target
+  pub drive : List Call
+  pub is_drive : IsDrive (request a) a.late_texts drive
+  -- the copy is what the accepted calls leave, which are the first of the drive
+  pub copy : (p : Path) → get_in left p ≡ after a.mode (get_in a.copy) (take (accepted_in o) drive) p
+  pub accepted : accepted_in o ≤ made_in o
+  pub made : made_in o ≤ length drive
+  -- after an accepted `CloseEdit` all calls were made, and the copy is, path by path, the target revision looked up through the path map
+  pub closed : IfClosed o (λ calls. (calls ≡ length drive) × ((p : Path) → get_in left p ≡ result (request a) p))
+  -- a number of calls that was handed in is never passed
+  pub limit : IfSome a.cancel_after (λ n. made_in o ≤ n)
+  -- the run is cancelled at that number alone, before the end of the drive, all calls until then being accepted
+  pub cancelled : IfCancelled o (λ made accepted. (a.cancel_after ≡ Some made) × (accepted ≡ made) × (made < length drive))
+  -- a driver that stopped on the notice read the number of the call that was made and refused
+  pub late : IfSome (late_in o) (λ n. (n ≡ accepted_in o + 1) × (n ≤ made_in o))
+  -- the same run, made again, ends as this one would have
+  pub resumed : Resumes (request a) (reported_again (request a) (crawl left)) (get_in left)
+  -- and one to any target that is there ends with that target's result
+  pub later : (target : ℕ) (mode : Mode) (late : Bool) (calls : List Call) → target_fault (request_of a.history left target mode md5) ≡ None
+      → IsDrive (request_of a.history left target mode md5) late calls
+      → Composes (request_of a.history left target mode md5) (get_in left) calls
+
+pub record TurnTheorem (a : Asked) (left : Nodes) (answer : Result Outcome RunFault) : Type 0 where
+  -- a refusal comes before any call, for its reason and no other but want of memory
+  pub refused : IfErr answer (IsRefusal (fault_in_turn a) IsWantOfMemory)
+  pub unchanged : OnErr answer (left ≡ a.copy)
+  pub begun : OnOk answer (fault_in_turn a ≡ None)
+  pub ran : IfOk answer (Ran a left)
+  pub never_late : IfOk answer (λ o. late_in o ≡ None)
+  -- whatever the answer
+  pub sound : IsSound a left
+
+-- what the two threads passed: the calls that were made, once each, in order, and nothing behind the last
+pub record RanInThreads (a : Asked) (left : Nodes) (o : Outcome) (passed : Passed) : Type 0 where
+  pub ran : Ran a left o
+  pub sent : passed.sent ≡ calls_made ran.drive (made_in o)
+  pub taken : passed.taken ≡ calls_made ran.drive (made_in o)
+
+pub record ThreadsTheorem (a : Asked) (capacity : ℕ) (left : Nodes) (answer : Result (Outcome × Passed) RunFault) : Type 0 where
+  pub refused : IfErr answer (IsRefusal (fault_in_threads a capacity) IsWantInThreads)
+  pub unchanged : OnErr answer (left ≡ a.copy)
+  pub begun : OnOk answer (fault_in_threads a capacity ≡ None)
+  pub ran : IfOk answer (λ x. RanInThreads a left x.0 x.1)
+  pub sound : IsSound a left

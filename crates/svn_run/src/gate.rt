@@ -1,0 +1,21 @@
+//! What is told of the calls as they pass.
+use std::marker::Sync;
+
+/// Hears of each call as it passes from the driver's thread to the caller's. Calls are counted from 1, the last call included.
+pub trait Gate: Sync {
+    /// Call `n` is about to be sent.
+    fn before_send(&self, n: u64);
+
+    /// Call `n` was taken, and is not yet applied.
+    fn after_take(&self, n: u64);
+}
+
+/// Does nothing.
+#[derive(Clone, Copy, Debug)]
+pub struct NoGate;
+
+impl Gate for NoGate {
+    fn before_send(&self, _n: u64) {}
+
+    fn after_take(&self, _n: u64) {}
+}

@@ -1,0 +1,3 @@
+pub mod OperandLemmas
+pub mod Splits
+pub mod WordLemmas

@@ -1,0 +1,150 @@
+//! The commands of a script, read from its lines.
+ghost use Rattle.std.specs.Prelude.{◌≡◌};
+ghost use Rattle.svn_script.specs.Reading.{words_of};
+ghost use Rattle.svn_script.specs.Gives.{Gives};
+ghost use Rattle.svn_script.specs.Commands.{when_no_word, with_words, is_comment, command_of};
+
+use crate::changes::{read_copy, read_make_dir, read_prop, read_put, read_remove, read_unprop};
+use crate::copies::{
+    read_checkout, read_drive, read_forget, read_place, read_switch, read_switch_to, read_update,
+};
+use crate::lines::next_word;
+use crate::operands::is_blank;
+use crate::verb::{Verb, read_verb};
+use crate::words::LineFault;
+use std::alloc::Global;
+use svn_repo::Change;
+use svn_types::{RelPath, Rev};
+
+/// One line of a script.
+#[derive(Debug, Drop)]
+pub enum Command {
+    /// A line without words, or a comment.
+    Nothing,
+    /// `mkdir PATH`, `put PATH TEXT`, `prop PATH NAME VALUE`, `unprop PATH NAME`, `remove PATH` or `copy REV SOURCE PATH`: one more change
+    /// for the next commit.
+    Change(Change),
+    /// `commit`
+    Commit,
+    /// `checkout REV` or `checkout REV PATH`: a working copy of the revision's tree, or of what is beneath the path in it.
+    Checkout {
+        /// the revision
+        rev: Rev,
+        /// the repository path of the copy's root, which is the repository's root where no path is given
+        path: RelPath,
+    },
+    /// `place PATH REV`
+    Place {
+        /// the path in the working copy
+        path: RelPath,
+        /// the revision that it is put at
+        rev: Rev,
+    },
+    /// `switch PATH REPOSPATH REV`
+    Switch {
+        /// the path in the working copy
+        path: RelPath,
+        /// the repository path that is put there
+        repos_path: RelPath,
+        /// the revision in which it is looked up
+        rev: Rev,
+    },
+    /// `forget PATH`
+    Forget {
+        /// the path in the working copy
+        path: RelPath,
+    },
+    /// `report`
+    Report,
+    /// `drive REV` or `drive REV late`
+    Drive {
+        /// the target
+        rev: Rev,
+        /// whether texts come after all directories are closed
+        late: bool,
+    },
+    /// `update REV` or `update REV N`, either with a last word `late`
+    Update {
+        /// the target
+        rev: Rev,
+        /// after how many calls the run is to stop, if it is to
+        cancel_after: Option<u64>,
+        /// whether texts come after all directories are closed
+        late: bool,
+    },
+    /// `switch-to REPOSPATH REV` or `switch-to REPOSPATH REV N`, either with a last word `late`
+    SwitchTo {
+        /// the repository path that the copy's root is to have
+        repos_path: RelPath,
+        /// the target
+        rev: Rev,
+        /// after how many calls the run is to stop, if it is to
+        cancel_after: Option<u64>,
+        /// whether texts come after all directories are closed
+        late: bool,
+    },
+    /// `show`
+    Show,
+}
+
+// A command that has no words behind its name.
+fn alone(command: Command, line: &[u8]) -> Result<Command, LineFault>
+    ensures { Gives (λ c. c) result (when_no_word command (words_of line.now)) }
+{
+    if is_blank(line) {
+        Ok(command)
+    } else {
+        Err(LineFault::Bad)
+    }
+}
+
+// Reads what is behind the name of a command.
+fn read_rest(alloc: Global, verb: Verb, line: &[u8]) -> Result<Command, LineFault>
+    ensures { Gives (λ c. c) result (with_words verb (words_of line.now)) }
+{
+    match verb {
+        Verb::Mkdir => read_make_dir(alloc, line),
+        Verb::Put => read_put(alloc, line),
+        Verb::Prop => read_prop(alloc, line),
+        Verb::Unprop => read_unprop(alloc, line),
+        Verb::Remove => read_remove(alloc, line),
+        Verb::Copy => read_copy(alloc, line),
+        Verb::Commit => alone(Command::Commit, line),
+        Verb::Checkout => read_checkout(alloc, line),
+        Verb::Place => read_place(alloc, line),
+        Verb::Switch => read_switch(alloc, line),
+        Verb::Forget => read_forget(alloc, line),
+        Verb::Report => alone(Command::Report, line),
+        Verb::Drive => read_drive(line),
+        Verb::Update => read_update(line),
+        Verb::SwitchTo => read_switch_to(alloc, line),
+        Verb::Show => alone(Command::Show, line),
+    }
+}
+
+// Whether a line is a comment.
+fn is_comment(line: &[u8]) -> bool
+    ensures { result ≡ is_comment line.now }
+{
+    match line {
+        [first, ..] => *first == b'#',
+        [] => false,
+    }
+}
+
+/// Reads one line of a script, which has no line feed. Bad where the line is no command with just its words, each of its form; Memory where
+/// a growth was refused.
+pub fn read_command(alloc: Global, line: &[u8]) -> Result<Command, LineFault>
+    ensures { Gives (λ c. c) result (command_of line.now) }
+{
+    if is_comment(line) {
+        return Ok(Command::Nothing);
+    }
+    match next_word(line) {
+        Some((name, rest)) => match read_verb(name) {
+            Some(verb) => read_rest(alloc, verb, rest),
+            None => Err(LineFault::Bad),
+        },
+        None => Ok(Command::Nothing),
+    }
+}

@@ -1,0 +1,132 @@
+//! The words of the command line.
+ghost use Rattle.std.specs.Prelude.{◌≡◌, ◌≤◌, IfOk, false};
+ghost use Rattle.svn_script.specs.FaultNumbers.{words_fault_number, words_status};
+
+use clap::error::ErrorKind;
+use clap::{Arg, ArgAction, ArgMatches, Command, value_parser};
+use std::alloc::Global;
+use svn_types::MAX_CAPACITY;
+use thiserror::Error;
+
+/// How many calls wait between driver and working copy where no number is given.
+const DEFAULT_CAPACITY: usize = 64;
+
+const ABOUT: &str = "Runs a script of repository and working copy commands from standard input.";
+
+const BEHIND: &str = "\
+The commands are described in docs/SCRIPT.md.
+
+Status 0: the script ended, refused commands included.
+Status 1: reading or writing failed, or memory was refused.
+Status 2: a line of the script, or one of these words, is at fault.
+
+Example: printf 'put f a\\ncommit\\ncheckout 1\\nshow\\n' | svnup";
+
+/// How a script is to be run.
+#[derive(Clone, Copy, Debug, PartialEq, Eq)]
+pub struct Settings {
+    /// how many calls may wait between driver and working copy, 1 to 4,096
+    pub capacity: usize,
+    /// whether driver and working copy run in turn, on one thread
+    pub in_turn: bool,
+}
+
+impl Default for Settings {
+    ghost is_default = { λ s. (s.capacity ≡ 64) × (s.in_turn ≡ false) };
+
+    fn default() -> Settings {
+        Settings {
+            capacity: DEFAULT_CAPACITY,
+            in_turn: false,
+        }
+    }
+}
+
+/// Why the words of the command line give no settings. `Display` gives what `svnup` prints to standard error.
+#[derive(Debug, Drop, Error)]
+pub enum WordsFault {
+    /// The words aren't those of a call, or ask for help. The text says why, or is the help; it ends with a line feed.
+    #[error("{0}")]
+    BadWords(String),
+    /// A growth was refused.
+    #[error("svnup: out of memory\n")]
+    Memory,
+}
+
+impl WordsFault {
+    /// Its number: 71 or 72.
+    pub fn number(&self) -> u32
+        ensures { result ≡ words_fault_number self.now }
+    {
+        match self {
+            WordsFault::BadWords(_) => 71,
+            WordsFault::Memory => 72,
+        }
+    }
+
+    /// The exit status that a program gives for it: 2 where the words are at fault, else 1.
+    pub fn status(&self) -> u8
+        ensures { result ≡ words_status self.now }
+    {
+        match self {
+            WordsFault::BadWords(_) => 2,
+            WordsFault::Memory => 1,
+        }
+    }
+}
+
+// What the words are for `svnup`.
+fn parse_words<'a>(alloc: Global, words: &'a [&'a str]) -> Result<ArgMatches<'a>, clap::Error> {
+    let capacity = Arg::new(alloc, "capacity")
+        .long("capacity")
+        .value_name("N")
+        .value_parser(value_parser!(usize).range(1..=4096))
+        .default_value("64")
+        .help("How many calls may wait between driver and working copy, 1 to 4096");
+    let in_turn = Arg::new(alloc, "in-turn")
+        .long("in-turn")
+        .action(ArgAction::SetTrue)
+        .help("Run driver and working copy in turn, on one thread");
+    let command = Command::new(alloc, "svnup")
+        .about(ABOUT)
+        .after_help(BEHIND)
+        .arg(capacity)?
+        .arg(in_turn)?;
+    command.try_get_matches_from(words)
+}
+
+// The capacity that was given. No number but these passes the parser of its argument.
+fn capacity_of(matches: &ArgMatches<'_>) -> usize
+    ensures least { 1 ≤ result }
+    ensures most { result ≤ MAX_CAPACITY }
+{
+    match matches.get_one::<usize>("capacity") {
+        Some(capacity) if 1 <= capacity && capacity <= MAX_CAPACITY => capacity,
+        _ => DEFAULT_CAPACITY,
+    }
+}
+
+fn fault_of(alloc: Global, error: &clap::Error) -> WordsFault {
+    if error.kind() == ErrorKind::OutOfMemory {
+        return WordsFault::Memory;
+    }
+    match format!(in alloc; "{error}") {
+        Ok(text) => WordsFault::BadWords(text),
+        Err(_) => WordsFault::Memory,
+    }
+}
+
+/// Reads the words of a call of `svnup`, the first of which is the program's name: `svnup [--capacity N] [--in-turn]`, where N is 1 to
+/// 4,096, by default 64. BadWords where they aren't of this form, or ask for help by `-h` or `--help`; Memory where a growth was refused.
+pub fn read_words<'a>(alloc: Global, words: &'a [&'a str]) -> Result<Settings, WordsFault>
+    ensures least { IfOk result (λ s. 1 ≤ s.capacity) }
+    ensures most { IfOk result (λ s. s.capacity ≤ MAX_CAPACITY) }
+{
+    match parse_words(alloc, words) {
+        Ok(matches) => Ok(Settings {
+            capacity: capacity_of(&matches),
+            in_turn: matches.get_flag("in-turn"),
+        }),
+        Err(error) => Err(fault_of(alloc, &error)),
+    }
+}

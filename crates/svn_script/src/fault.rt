@@ -1,0 +1,53 @@
+//! How a script ends before its time.
+ghost use Rattle.std.specs.Prelude.{◌≡◌};
+ghost use Rattle.svn_script.specs.FaultNumbers.{script_fault_number, script_status};
+
+use thiserror::Error;
+
+/// Why a script was given up. `Display` gives the line that `svnup` prints to standard error.
+#[derive(Clone, Copy, Debug, PartialEq, Eq, Error)]
+pub enum ScriptFault {
+    /// The line of this number, counted from 1, is no command. What the lines before it wrote stays written.
+    #[error("svnup: line {0}: bad line")]
+    BadLine(u64),
+    /// The script has over 16,777,216 bytes. None of it ran.
+    #[error("svnup: script too long")]
+    TooLong,
+    /// The script couldn't be read to its end. None of it ran.
+    #[error("svnup: read fault")]
+    Read,
+    /// The output couldn't be written.
+    #[error("svnup: write fault")]
+    Write,
+    /// A growth was refused while the script was read, or an output made.
+    #[error("svnup: out of memory")]
+    Memory,
+}
+
+impl ScriptFault {
+    /// Its number: 61 to 65 in the order of the variants.
+    pub fn number(self) -> u32
+        ensures { result ≡ script_fault_number self }
+    {
+        match self {
+            ScriptFault::BadLine(_) => 61,
+            ScriptFault::TooLong => 62,
+            ScriptFault::Read => 63,
+            ScriptFault::Write => 64,
+            ScriptFault::Memory => 65,
+        }
+    }
+
+    /// The exit status that a program gives for it: 2 where the script is at fault, else 1.
+    pub fn status(self) -> u8
+        ensures { result ≡ script_status self }
+    {
+        match self {
+            ScriptFault::BadLine(_) => 2,
+            ScriptFault::TooLong => 2,
+            ScriptFault::Read => 1,
+            ScriptFault::Write => 1,
+            ScriptFault::Memory => 1,
+        }
+    }
+}

@@ -1,0 +1,86 @@
+//! A script as bytes, and where its lines and words end.
+ghost use Rattle.std.specs.Prelude.{◌≡◌, ℕ, ◌<◌, ◌≤◌, ◌≢◌, ◌∷◌, [], length, nat_eq, position, Some, IfSome, IfOk, IfErr, MatchOption};
+ghost use Rattle.std.specs.List.{slice_split};
+ghost use Rattle.std.specs.Io.KnownBytes.{IsAtEnd};
+ghost use Rattle.svn_script.specs.Reading.{without_return, words_of};
+
+use crate::fault::ScriptFault;
+use std::alloc::Global;
+use std::io::Read;
+use svn_types::MAX_SCRIPT;
+
+/// The most bytes that are read at a time.
+const BLOCK: usize = 8192;
+
+/// Reads a script to its end, or until it is too long: after 16,777,217 bytes it reads no more.
+pub fn read_script<R: Read>(alloc: Global, reader: &mut R) -> Result<Vec<u8>, ScriptFault>
+    ensures bounded { IfOk result (λ v. length v.items ≤ MAX_SCRIPT) }
+    ensures bytes { IfOk result (λ v. IfSome (R.remaining reader.old) (λ bytes. v.items ≡ bytes)) }
+    ensures end { IfOk result (λ _. IsAtEnd (R.remaining reader.new)) }
+    ensures too_long { IfErr result (λ e. e ≡ ScriptFault.TooLong → IfSome (R.remaining reader.old) (λ bytes. MAX_SCRIPT < length bytes)) }
+    ensures no_line { IfErr result (λ e. (n : ℕ) → e ≢ ScriptFault.BadLine n) }
+    ensures no_write { IfErr result (λ e. e ≢ ScriptFault.Write) }
+{
+    let mut script = Vec::new(alloc);
+    let mut block = [0u8; BLOCK];
+    'reads: while script.len() <= MAX_SCRIPT {
+        let room = BLOCK.min(MAX_SCRIPT + 1 - script.len());
+        let Ok(count) = reader.read(&mut block[..room]) else {
+            return Err(ScriptFault::Read);
+        };
+        if count == 0 {
+            return Ok(script);
+        }
+        if script.extend_from_slice(&block[..count]).is_err() {
+            return Err(ScriptFault::Memory);
+        }
+    }
+    Err(ScriptFault::TooLong)
+}
+
+// The place of the first such byte.
+fn find_byte(text: &[u8], byte: u8) -> Option<usize>
+    ensures place { result ≡ position (λ b. nat_eq b byte) text.now }
+    ensures bounded { IfSome result (λ i. i < length text.now) }
+{
+    text.iter().position(|b| *b == byte)
+}
+
+/// The bytes before the first separator and those behind it, if there is one.
+pub fn split_once(text: &[u8], separator: u8) -> Option<(&[u8], &[u8])>
+    ensures parts { let p = (λ (b : ℕ). nat_eq b separator) in MatchOption result (slice_split p text.now ≡ text.now ∷ []) (λ r. slice_split p text.now ≡ r.0.now ∷ slice_split p r.1.now) }
+    ensures shorter { IfSome result (λ r. length r.1.now < length text.now) }
+{
+    match find_byte(text, separator) {
+        Some(end) => Some((&text[..end], &text[end + 1..])),
+        None => None,
+    }
+}
+
+/// A line without the carriage return at its end, if there is one.
+pub fn without_return(line: &[u8]) -> &[u8]
+    ensures { result.now ≡ without_return line.now }
+{
+    match line.split_last() {
+        Some((last, front)) => { if *last == b'\r' { front } else { line } }
+        None => line,
+    }
+}
+
+/// The first word of a line, and what is behind it. Words stand between spaces.
+pub(crate) fn next_word(line: &[u8]) -> Option<(&[u8], &[u8])>
+    ensures { MatchOption result (words_of line.now ≡ []) (λ r. words_of line.now ≡ r.0.now ∷ words_of r.1.now) }
+{
+    let mut rest = line;
+    'pieces: while let Some((piece, after)) = split_once(rest, b' ') {
+        if !piece.is_empty() {
+            return Some((piece, after));
+        }
+        rest = after;
+    }
+    if rest.is_empty() {
+        None
+    } else {
+        Some(rest.split_at(rest.len()))
+    }
+}

@@ -1,0 +1,133 @@
+-- The order of the keys of paths is the order of the paths.
+use Rattle.std.proofs.Common.{◌≡◌, ℕ, Bool, true, false, ◌&&◌, List, [], ◌∷◌, ◌++◌, refl, ap, sym, ◌∙◌, arith, nat_eq}
+use Rattle.std.proofs.Common.{Option, Some, None, length, append_assoc, true≢false, take, drop, take-append-drop, MatchOption, ◌↔◌, ◌+◌}
+use Rattle.std.specs.declared.cmp.Ordering.{Ordering}
+use Rattle.std.specs.declared.cmp.Ordering.TheVariants.{Less, Equal, Greater}
+use Rattle.std.specs.Ordering.{ordering_then, nat_cmp, is_eq}
+use Rattle.std.specs.Cmp.Lexicographic.{pointwise, pointwise_decides, bytes_decides, slice_cmp, texts_ties, lists_ties}
+use Rattle.std.specs.List.{list_all}
+use Rattle.std.proofs.lemmas.List.Folds.{list_all-append}
+use Rattle.std.proofs.lemmas.List.{append_cancel_left}
+use Rattle.std.proofs.Math.Seq.{take-append_seam}
+use denote.Ref.{Bor}
+use Rattle.std.specs.Option.{option_or}
+use Rattle.svn_types.specs.Names.{Path, is_plain, IsName}
+use Rattle.svn_types.specs.NameFaults.{name_fault, names_fault}
+use Rattle.svn_types.specs.declared.fault.PathFault.{PathFault}
+use Rattle.svn_types.specs.PathKeys.{path_key, is_plain_path}
+
+then_assoc : (r s t : Ordering) → ordering_then r (ordering_then s t) ≡ ordering_then (ordering_then r s) t
+then_assoc Less s t = refl
+then_assoc Equal s t = refl
+then_assoc Greater s t = refl
+
+-- a plain byte is greater than 1
+below_plain : (b : ℕ) (rest : Bool) → (is_plain b && rest) ≡ true → nat_cmp 1 b ≡ Less
+below_plain b rest h = grind (arith, h)
+
+above_plain : (b : ℕ) (rest : Bool) → (is_plain b && rest) ≡ true → nat_cmp b 1 ≡ Greater
+above_plain b rest h = grind (arith, h)
+
+rest_plain : (b rest : Bool) → (b && rest) ≡ true → rest ≡ true
+rest_plain true rest h = h
+rest_plain false rest h = absurd (true≢false (sym h))
+
+first_plain : (b rest : Bool) → (b && rest) ≡ true → b ≡ true
+first_plain true rest h = refl
+first_plain false rest h = h
+
+-- two names and what stands behind them
+names_order : (m n s t : List ℕ) → list_all is_plain m ≡ true → list_all is_plain n ≡ true
+    → slice_cmp nat_cmp (m ++ 1 ∷ s) (n ++ 1 ∷ t) ≡ ordering_then (slice_cmp nat_cmp m n) (slice_cmp nat_cmp s t)
+names_order [] [] s t hm hn = refl
+names_order [] (b ∷ n) s t hm hn = ap (λ o. ordering_then o (slice_cmp nat_cmp s (n ++ 1 ∷ t))) (below_plain b _ hn)
+names_order (a ∷ m) [] s t hm hn = ap (λ o. ordering_then o (slice_cmp nat_cmp (m ++ 1 ∷ s) t)) (above_plain a _ hm)
+names_order (a ∷ m) (b ∷ n) s t hm hn =
+    ap (ordering_then (nat_cmp a b)) (names_order m n s t (rest_plain _ _ hm) (rest_plain _ _ hn))
+    ∙ then_assoc (nat_cmp a b) (slice_cmp nat_cmp m n) (slice_cmp nat_cmp s t)
+
+root_first : (n s : List ℕ) → slice_cmp nat_cmp [] (n ++ 1 ∷ s) ≡ Less
+root_first [] s = refl
+root_first (b ∷ n) s = refl
+
+root_second : (n s : List ℕ) → slice_cmp nat_cmp (n ++ 1 ∷ s) [] ≡ Greater
+root_second [] s = refl
+root_second (b ∷ n) s = refl
+
+pub key_order : (p q : Path) → is_plain_path p ≡ true → is_plain_path q ≡ true
+    → slice_cmp nat_cmp (path_key p) (path_key q) ≡ slice_cmp (slice_cmp nat_cmp) p q
+key_order [] [] hp hq = refl
+key_order [] (n ∷ q) hp hq = root_first n (path_key q)
+key_order (m ∷ p) [] hp hq = root_second m (path_key p)
+key_order (m ∷ p) (n ∷ q) hp hq =
+    names_order m n (path_key p) (path_key q) (first_plain _ _ hp) (first_plain _ _ hq)
+    ∙ ap (ordering_then (slice_cmp nat_cmp m n)) (key_order p q (rest_plain _ _ hp) (rest_plain _ _ hq))
+
+pub key_equality : (p q : Path) → is_plain_path p ≡ true → is_plain_path q ≡ true
+    → pointwise nat_eq (path_key p) (path_key q) ≡ pointwise (pointwise nat_eq) p q
+key_equality p q hp hq =
+    texts_ties (path_key p) (path_key q) ∙ ap is_eq (key_order p q hp hq) ∙ sym (lists_ties (slice_cmp nat_cmp) texts_ties p q)
+
+-- one name more
+pub path_key-child : (p : Path) (n : List ℕ) → path_key (p ++ n ∷ []) ≡ path_key p ++ n ++ 1 ∷ []
+path_key-child [] n = refl
+path_key-child (m ∷ p) n =
+    ap (λ s. m ++ 1 ∷ s) (path_key-child p n ∙ append_assoc (path_key p) n (1 ∷ []))
+    ∙ sym (append_assoc m (1 ∷ path_key p) (n ++ 1 ∷ []))
+    ∙ sym (append_assoc (m ++ 1 ∷ path_key p) n (1 ∷ []))
+
+-- names without a fault are plain
+plain_name : (n : List ℕ) → name_fault n ≡ None → list_all is_plain n ≡ true
+plain_name n h = grind (arith, h)
+
+plain_names : (n : List ℕ) (p : Path) (f : Option PathFault) → f ≡ name_fault n → option_or f (names_fault p) ≡ None
+    → (names_fault p ≡ None → is_plain_path p ≡ true) → is_plain_path (n ∷ p) ≡ true
+plain_names n p None e h rest = rw (plain_name n (sym e)) (rest h)
+plain_names n p (Some f) e h rest = grind (arith, h)
+
+pub plain_without_fault : (p : Path) → names_fault p ≡ None → is_plain_path p ≡ true
+plain_without_fault [] h = refl
+plain_without_fault (n ∷ p) h = plain_names n p (name_fault n) refl h (plain_without_fault p)
+
+pub plain_child : (p : Path) (n : List ℕ) → is_plain_path p ≡ true → IsName n → is_plain_path (p ++ n ∷ []) ≡ true
+plain_child p n h name = rw (list_all-append (list_all is_plain) p (n ∷ [])) (rw (h, name.plain) refl)
+
+-- ---- a path with one name more
+
+pub key_decides : (p q : Path) → is_plain_path p ≡ true → is_plain_path q ≡ true → path_key p ≡ path_key q → p ≡ q
+key_decides p q hp hq e =
+    (pointwise_decides bytes_decides p q).0 (sym (key_equality p q hp hq) ∙ (bytes_decides (path_key p) (path_key q)).1 e)
+
+pub key_child : (below p : Path) (n : List ℕ) → is_plain_path below ≡ true → is_plain_path p ≡ true → IsName n
+    → (path_key below ≡ path_key p ++ n ++ 1 ∷ []) ↔ (below ≡ p ++ n ∷ [])
+key_child below p n hb hp name = (
+  λ e. key_decides below (p ++ n ∷ []) hb (plain_child p n hp name) (e ∙ sym (path_key-child p n)),
+  λ e. ap path_key e ∙ path_key-child p n,
+)
+
+-- what `strip_prefix` says
+pub stripped : (s p : List ℕ) (r : Option (Bor (List ℕ)))
+    → MatchOption r (pointwise nat_eq (take (length p) s) p ≡ false)
+    (λ x. (pointwise nat_eq (take (length p) s) p ≡ true) × (x.now ≡ drop (length p) s) × (length x.now + length p ≡ length s))
+    → MatchOption r ((rest : List ℕ) → s ≡ p ++ rest → ⊥) (λ x. s ≡ p ++ x.now)
+stripped s p None h = λ rest e.
+    true≢false (sym ((bytes_decides (take (length p) s) p).1 (ap (take (length p)) e ∙ take-append_seam p rest)) ∙ h)
+stripped s p (Some x) h = sym (take-append-drop (length p) s) ∙ (λ i. (bytes_decides (take (length p) s) p).0 h.0 i ++ sym h.1 i)
+
+pub one_more : (key above below last end : List ℕ) → key ≡ above ++ below → below ≡ last ++ end
+    → (end ≡ 1 ∷ []) ↔ (key ≡ above ++ last ++ 1 ∷ [])
+one_more key above below last end hk hb = (
+  λ e. hk ∙ ap (λ l. above ++ l) (hb ∙ ap (λ l. last ++ l) e) ∙ sym (append_assoc above last (1 ∷ [])),
+  λ e. append_cancel_left last end (1 ∷ [])
+      (sym hb ∙ append_cancel_left above below (last ++ 1 ∷ []) (sym hk ∙ e ∙ append_assoc above last (1 ∷ []))),
+)
+
+-- what holds where there is no value
+pub when_none : {A : Type 0} (o : Option A) (P : Type 0) (Q : A → Type 0) → ((x : A) → o ≡ Some x → ⊥) → MatchOption o P Q → P
+when_none None P Q not h = h
+when_none (Some x) P Q not h = absurd (not x refl)
+
+pub not_more : (key above below last : List ℕ) → key ≡ above ++ below → ((rest : List ℕ) → below ≡ last ++ rest → ⊥)
+    → key ≡ above ++ last ++ 1 ∷ [] → ⊥
+not_more key above below last hk not e =
+    not (1 ∷ []) (append_cancel_left above below (last ++ 1 ∷ []) (sym hk ∙ e ∙ append_assoc above last (1 ∷ [])))

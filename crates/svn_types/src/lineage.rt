@@ -1,0 +1,59 @@
+//! Paths above and below one another.
+ghost use Rattle.std.specs.Prelude.{◌≡◌, ◌+◌, ◌++◌, ◌∷◌, [], length, bytes_eq, IfOk, MatchOption, IfSome};
+ghost use Rattle.svn_types.specs.NameFaults.{AnswersPath, count_fault};
+ghost use Rattle.svn_types.specs.Paths.{parent, parent_path, last_name, child, is_within};
+
+use crate::fault::PathFault;
+use crate::limits::MAX_COMPONENTS;
+use crate::name::Name;
+use crate::rel_path::RelPath;
+use std::alloc::{AllocError, Global};
+
+// The names of one list, and behind them those of another.
+fn both_names(alloc: Global, above: &[Name], below: &[Name]) -> Result<Vec<Name>, AllocError>
+    ensures { IfOk result (λ v. v.items ≡ above.now ++ below.now) }
+{
+    let mut names = Vec::from_clones(alloc, above)?;
+    names.extend_with_clones(below)?;
+    Ok(names)
+}
+
+impl RelPath {
+    /// The path without its last name, which is that of the directory where it stands; none for the root. AllocError where a growth is refused.
+    pub fn parent(&self, alloc: Global) -> Result<Option<RelPath>, AllocError>
+        ensures { IfOk result (λ above. above ≡ parent_path self.now) }
+    {
+        let Some((_, above)) = self.components().split_last() else {
+            return Ok(None);
+        };
+        let names = Vec::from_clones(alloc, above)?;
+        Ok(Some(RelPath::from_names(alloc, names, self.key().len())?))
+    }
+
+    /// Its last name, none for the root.
+    pub fn last_name(&self) -> Option<&Name>
+        ensures name { MatchOption result (self.now ≡ []) (λ name. last_name self.now ≡ name.now ∷ []) }
+        ensures split { IfSome result (λ name. self.now ≡ child (parent self.now) name.now) }
+    {
+        self.components().last()
+    }
+
+    /// Whether it is that path or stands below it.
+    pub fn is_within(&self, above: &RelPath) -> bool
+        ensures { result ≡ is_within above.now self.now }
+    {
+        self.components().starts_with(above.components())
+    }
+
+    /// The path with the names of another one behind its own: TooManyComponents where they are over 128 together, else Memory alone.
+    pub fn join_path(&self, alloc: Global, below: &RelPath) -> Result<RelPath, PathFault>
+        ensures { AnswersPath (count_fault (length self.now + length below.now)) (self.now ++ below.now) result }
+    {
+        if self.components().len() + below.components().len() > MAX_COMPONENTS {
+            return Err(PathFault::TooManyComponents);
+        }
+        let names = both_names(alloc, self.components(), below.components())?;
+        let len = self.key().len().saturating_add(below.key().len());
+        Ok(RelPath::from_names(alloc, names, len)?)
+    }
+}

@@ -1,0 +1,101 @@
+//! Keys of paths, by which they are compared.
+ghost use Rattle.std.specs.Prelude.{◌≡◌, ◌+◌, ◌≤◌, ◌∷◌, ◌++◌, [], length, IfOk, true};
+ghost use Rattle.svn_types.specs.PathKeys.{path_key, is_plain_path};
+
+use crate::name::Name;
+use crate::short_bytes::ShortBytes;
+use std::alloc::{AllocError, Global};
+use std::marker::Model;
+
+// The longest key that lies in the value itself. With it what the clones of a path share is a block of 88 bytes.
+const MAX_SHORT: usize = 54;
+
+#[derive(Drop)]
+enum KeyForm {
+    Short(ShortBytes<54>),
+    Long(Vec<u8>),
+}
+
+/// The key of a path: its names in one run of bytes, the byte 1 behind each. As no name has a byte below 32, the order of the keys is that of
+/// the paths. A contract sees it as its bytes.
+#[derive(Drop)]
+pub(crate) struct PathKey {
+    form: KeyForm,
+}
+
+impl Model for PathKey {
+    ghost use Rattle.std.specs.Prelude.{ℕ, List};
+    ghost use Rattle.svn_types.specs.Forms.{key_bytes};
+
+    ghost Value = { List ℕ };
+
+    ghost view = { λ k. key_bytes k.form };
+}
+
+// A short key with one name more.
+fn short_with_last(above: &[u8], last: &[u8]) -> PathKey
+    requires { length above.now + length last.now + 1 ≤ 54 }
+    ensures { result ≡ above.now ++ last.now ++ 1 ∷ [] }
+{
+    let mut key = ShortBytes::of(above);
+    key.push_all(last);
+    key.push_all(&[1]);
+    PathKey {
+        form: KeyForm::Short(key),
+    }
+}
+
+impl PathKey {
+    fn from_vec(key: Vec<u8>) -> PathKey
+        ensures { result ≡ key.items }
+    {
+        if key.len() <= MAX_SHORT {
+            return PathKey {
+                form: KeyForm::Short(ShortBytes::of(&key)),
+            };
+        }
+        PathKey {
+            form: KeyForm::Long(key),
+        }
+    }
+
+    /// The key of these names, which has room in that many bytes.
+    pub(crate) fn of(alloc: Global, names: &[Name], len: usize) -> Result<PathKey, AllocError>
+        ensures key { IfOk result (λ k. k ≡ path_key names.now) }
+        ensures plain { IfOk result (λ k. is_plain_path names.now ≡ true) }
+    {
+        let mut key = Vec::with_capacity(alloc, len)?;
+        for name in names {
+            key.extend_from_slice(name.as_str().as_bytes())?;
+            key.push(1)?;
+        }
+        Ok(PathKey::from_vec(key))
+    }
+
+    /// The key with one name more.
+    pub(crate) fn with_last(alloc: Global, above: &[u8], last: &[u8]) -> Result<PathKey, AllocError>
+        ensures { IfOk result (λ k. k ≡ above.now ++ last.now ++ 1 ∷ []) }
+    {
+        let len = above.len().saturating_add(last.len()).saturating_add(1);
+        if len <= MAX_SHORT {
+            return Ok(short_with_last(above, last));
+        }
+        let mut key = Vec::with_capacity(alloc, len)?;
+        key.extend_from_slice(above)?;
+        key.extend_from_slice(last)?;
+        key.push(1)?;
+        Ok(PathKey {
+            form: KeyForm::Long(key),
+        })
+    }
+
+    /// Its bytes.
+    pub(crate) fn as_slice(&self) -> &[u8]
+        ensures { result.now ≡ self.now }
+    {
+        match &self.form {
+            KeyForm::Short(key) => key.as_slice(),
+            KeyForm::Long(key) => key,
+        }
+    }
+}

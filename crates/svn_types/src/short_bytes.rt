@@ -1,0 +1,83 @@
+//! A few bytes that lie in the value itself.
+ghost use Rattle.std.specs.Prelude.{◌≡◌, ◌+◌, ◌<◌, ◌≤◌, ◌++◌, [], length, take};
+
+use std::marker::Model;
+
+/// At most `N` bytes, which take no memory of their own. `N` is below 256. A contract sees them as their list.
+#[derive(Drop)]
+pub(crate) struct ShortBytes<const N: usize> {
+    len: u8,
+    room: [u8; N],
+}
+
+impl<const N: usize> Model for ShortBytes<N> {
+    ghost use Rattle.std.specs.Prelude.{◌≡◌, ◌≤◌, ℕ, List, length, take};
+
+    ghost Value = { List ℕ };
+
+    ghost view = { λ s. take s.len s.room };
+
+    ghost invariant = { λ s. (s.len ≤ N) × (length s.room ≡ N) };
+}
+
+// Writes bytes over those from `start` on.
+fn write_at<const N: usize>(room: &mut [u8; N], start: usize, source: &[u8])
+    requires { start + length source.now ≤ N }
+    ensures front { take (start + length source.now) room.new ≡ take start room.old ++ source.now }
+    ensures len { length room.new ≡ N }
+{
+    'byte: for i in 0..source.len() {
+        room[start + i] = source[i];
+    }
+}
+
+impl<const N: usize> ShortBytes<N> {
+    /// No bytes.
+    pub(crate) fn new() -> ShortBytes<N>
+        ensures { result ≡ [] }
+    {
+        ShortBytes {
+            len: 0,
+            room: [0; N],
+        }
+    }
+
+    /// These bytes, which fit.
+    pub(crate) fn of(bytes: &[u8]) -> ShortBytes<N>
+        requires small { N < 256 }
+        requires fits { length bytes.now ≤ N }
+        ensures { result ≡ bytes.now }
+    {
+        let mut all = ShortBytes::new();
+        all.push_all(bytes);
+        all
+    }
+
+    /// Appends bytes, which fit.
+    pub(crate) fn push_all(&mut self, more: &[u8])
+        requires small { N < 256 }
+        requires fits { length self.old + length more.now ≤ N }
+        ensures { self.new ≡ self.old ++ more.now }
+    {
+        let start = self.len as usize;
+        write_at(&mut self.room, start, more);
+        self.len = (start + more.len()) as u8;
+    }
+
+    /// The bytes.
+    pub(crate) fn as_slice(&self) -> &[u8]
+        ensures { result.now ≡ self.now }
+    {
+        &self.room[..self.len as usize]
+    }
+
+    /// The same bytes.
+    pub(crate) fn copy(&self) -> ShortBytes<N>
+        ensures { result ≡ self.now }
+    {
+        ShortBytes {
+            len: self.len,
+            room: self.room,
+        }
+    }
+}

@@ -1,0 +1,49 @@
+-- Commands on the working copy, where there is one.
+use Rattle.std.proofs.Common.{◌≡◌, Bool, true, false, ap, sym, subst, Option, Some, None, Result, Ok, Err}
+use Rattle.std.specs.Prelude.{IsOk, IfErr, OnOk, OnErr}
+use Rattle.std.specs.Result.{is_err}
+use Rattle.svn_types.specs.Names.{Path}
+use Rattle.svn_repo.specs.History.{History}
+use Rattle.svn_model.specs.declared.wc_fault.WcFault.{WcFault}
+use Rattle.svn_model.specs.Follow.{Request}
+use Rattle.svn_model.specs.Nodes.{WorkingCopy, get_in, InPathOrder, IsTrueOf}
+use Rattle.svn_run.specs.UpdateTheorem.{Nodes}
+use Rattle.svn_update.specs.declared.answer.Answer.{Answer}
+use Rattle.svn_update.specs.declared.answer.Answer.TheVariants.{Driven, Refused}
+use Rattle.svn_update.specs.declared.answer.Refusal.TheVariants.{Drive as DriveRefused}
+use Rattle.svn_update.specs.Commands.{OnCopy, AnswersBuilder, AnswersDrive, IsRecorded, answer_built}
+
+-- what is answered for the copy that there is
+pub on_copy : (P : Nodes → Type 0) (old new : Option Nodes) (a : Answer) (w : Nodes) → old ≡ Some w → P w → OnCopy P old new a
+on_copy P old new a w there h = subst (λ (o : Option Nodes). OnCopy P o new a) (sym there) h
+
+-- what is answered for a copy that was to be changed
+pub on_changed : (before h : History) (copy : Option Nodes) (w left : Nodes) (r : Result (Unit {0}) WcFault) (a : Answer)
+    (Answers : History → Nodes → Answer → Type 0)
+    → before ≡ h → copy ≡ Some w → a ≡ answer_built r → Answers before w (answer_built r) → OnCopy (λ w. Answers h w a) copy (Some left) a
+on_changed before h copy w left r a Answers same there is did =
+    on_copy (λ w. Answers h w a) copy (Some left) a w there
+    (subst (Answers h w) (sym is) (subst (λ (h : History). Answers h w (answer_built r)) same did))
+
+-- a copy that was to be changed is made as its definition says, or is as it was
+pub built : (fault : Option WcFault) (IsFault : WcFault → Type 0) (made : WorkingCopy) (old new : Nodes) (r : Result (Unit {0}) WcFault)
+    → OnOk r ((p : Path) → get_in new p ≡ made p) → OnOk r (fault ≡ None) → IfErr r IsFault → OnErr r (new ≡ old) → InPathOrder new
+    → AnswersBuilder fault IsFault made (Some old) (Some new) (answer_built r)
+built fault IsFault made old new (Ok x) nodes can f u in_order = (can, (in_order, nodes))
+built fault IsFault made old new (Err e) nodes can f u in_order = (ap (λ (w : Nodes). Some w) u, f)
+
+-- a test that fails where the fact holds says that it doesn't
+pub not_true : {T E : Type 0} (r : Result T E) (P : Type 0) → (P → IsOk r) → is_err r ≡ true → P → ⊥
+not_true (Ok x) P test err p = absurd cc
+not_true (Err e) P test err p = let ok = test p in cc
+
+pub is_true : {T E : Type 0} (r : Result T E) (P : Type 0) → OnOk r P → is_err r ≡ false → P
+is_true (Ok x) P test ok = test
+is_true (Err e) P test ok = absurd cc
+
+-- the drive of a true copy
+pub drives : (h : History) (w : Nodes) (d : Request) (late : Bool) (a : Answer) → IsTrueOf h (get_in w) → IsRecorded d late a
+    → AnswersDrive h w d late a
+drives h w d late (Refused (DriveRefused e)) is r = (is, r)
+drives h w d late (Driven calls) is r = (is, r.0, r.1)
+drives h w d late _ is r = absurd r

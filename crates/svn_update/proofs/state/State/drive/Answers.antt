@@ -1,0 +1,31 @@
+use Rattle.std.proofs.Common.{◌≡◌, ap, sym, subst, ◌∙◌}
+use Rattle.md5.specs.Md5.{md5}
+use Rattle.svn_repo.specs.History.{History}
+use Rattle.svn_editor.specs.Steps.{Update}
+use Rattle.svn_report.specs.Reports.{ReportView}
+use Rattle.svn_drive.specs.Walking.{asked}
+use Rattle.svn_model.specs.Nodes.{get_in, IsTrueOf}
+use Rattle.svn_law.specs.Laws.{request_of}
+use Rattle.svn_update.specs.Commands.{IsRecorded}
+use Rattle.svn_update.specs.ScriptStates.{ScriptState}
+use Rattle.svn_update.proofs.CopyLemmas.{drives, is_true, not_true, on_copy}
+use Rattle.svn_update.proofs.state.State.drive.Goals as goal
+
+pub returns-then-is_err : goal.returns-then-is_err
+returns-then-is_err c =
+    on_copy _ _ _ _ c.in-Some.copy (ap (λ (s : ScriptState). s.copy) (sym c.self.view_is) ∙ c.in-Some.is)
+    (subst (λ (h : History). IsTrueOf h (get_in c.in-Some.copy) → ⊥) (ap (λ (s : ScriptState). s.repo) c.self.view_is)
+    (not_true c.check_true.result (IsTrueOf c.self.inside.repo (get_in c.in-Some.copy)) c.check_true.ensures.true_is_ok
+    (sym c.is_err.ensures.value ∙ c.if-is_err.true)))
+
+pub returns-in-Ok : goal.returns-in-Ok
+returns-in-Ok c =
+    let same_repo : c.self.inside.repo ≡ c.args.self.now.repo = ap (λ (s : ScriptState). s.repo) c.self.view_is in
+    on_copy _ _ _ _ c.in-Some.copy (ap (λ (s : ScriptState). s.copy) (sym c.self.view_is) ∙ c.in-Some.is)
+    (drives c.args.self.now.repo c.in-Some.copy (request_of c.args.self.now.repo c.in-Some.copy c.args.rev Update md5) c.args.late
+    c.drive_report.result
+    (subst (λ (h : History). IsTrueOf h (get_in c.in-Some.copy)) same_repo
+    (is_true c.check_true.result (IsTrueOf c.self.inside.repo (get_in c.in-Some.copy)) c.check_true.ensures.is_true
+    (sym c.is_err.ensures.value ∙ c.if-is_err.false)))
+    (subst (λ (r : ReportView). IsRecorded (asked c.args.self.now.repo r c.args.rev Update) c.args.late c.drive_report.result)
+    c.in-Ok.ensures.report c.drive_report.ensures))

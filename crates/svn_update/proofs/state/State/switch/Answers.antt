@@ -1,0 +1,18 @@
+use Rattle.std.proofs.Common.{ap, sym, ◌∙◌, Some}
+use Rattle.svn_repo.specs.History.{History}
+use Rattle.svn_run.specs.UpdateTheorem.{Nodes}
+use Rattle.svn_update.specs.declared.answer.Answer.{Answer}
+use Rattle.svn_update.specs.Commands.{AnswersSwitch}
+use Rattle.svn_update.specs.ScriptStates.{ScriptState}
+use Rattle.svn_update.proofs.CopyLemmas.{built, on_changed}
+use Rattle.svn_update.proofs.state.State.switch.Goals as goal
+
+pub returns-clause-answer : goal.returns-clause-answer
+returns-clause-answer c =
+    let left = c.switch-switched.new.self in
+    on_changed c.self.inside.repo c.args.self.now.repo c.args.self.now.copy c.in-Some.copy left c.switch-switched.result c.built.result
+    (λ (h : History) (w : Nodes) (a : Answer). AnswersSwitch h w c.args.path.now c.args.repos_path.now c.args.rev (Some left) a)
+    (ap (λ (s : ScriptState). s.repo) c.self.view_is) (ap (λ (s : ScriptState). s.copy) (sym c.self.view_is) ∙ c.in-Some.is) c.built.ensures
+    (built _ _ _ c.in-Some.copy left c.switch-switched.result
+    c.switch-switched.ensures.nodes c.switch-switched.ensures.made c.switch-switched.ensures.fault c.switch-switched.ensures.unchanged
+    c.law.ensures.order)

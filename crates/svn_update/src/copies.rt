@@ -1,0 +1,165 @@
+//! What the commands on the working copy do.
+ghost use Rattle.std.specs.Prelude.{◌≡◌, None};
+ghost use Rattle.std.specs.Option.{option_copied};
+ghost use Rattle.md5.specs.Md5.{md5};
+ghost use Rattle.svn_editor.specs.Steps.{Update};
+ghost use Rattle.svn_model.specs.Checks.{target_fault};
+ghost use Rattle.svn_model.specs.Drive.{IsDrive};
+ghost use Rattle.svn_model.specs.TreeCalls.{drive_calls};
+ghost use Rattle.svn_law.specs.Laws.{request_of};
+ghost use Rattle.svn_run.specs.Goals.{mode_of};
+ghost use Rattle.svn_run.specs.UpdateTheorem.{asked};
+ghost use Rattle.svn_update.specs.Commands.{AnswersCheckout, AnswersPlace, AnswersSwitch, AnswersForget, AnswersReport, AnswersDrive, AnswersRun, KeepsRepo, OnCopy, answer_built, IsRecorded};
+ghost use Rattle.svn_drive.specs.Walking.{asked as driven_for};
+
+use crate::answer::{Answer, Refusal};
+use crate::runs::{Wanted, run_copy};
+use crate::state::State;
+use std::sync::Wait;
+use std::thread::Threads;
+use svn_drive::{DriveOptions, drive};
+use svn_drive_law::the_calls_are_a_drive;
+use svn_editor::Recorder;
+use svn_law::crawl_says_what_stands;
+use svn_model::WcFault;
+use svn_report::Report;
+use svn_script::Settings;
+use svn_types::{RelPath, Rev};
+use svn_wc::WorkingCopy;
+
+// What is said of a copy that was to be changed.
+fn built(answer: Result<(), WcFault>) -> Answer
+    ensures { result ≡ answer_built answer }
+{
+    match answer {
+        Ok(()) => Answer::Done,
+        Err(fault) => Answer::Refused(Refusal::Copy(fault)),
+    }
+}
+
+impl State {
+    /// Makes the working copy anew. A refusal leaves the one that was there.
+    pub(crate) fn checkout(&mut self, path: &RelPath, rev: Rev) -> Answer
+        ensures keeps { KeepsRepo self.old self.new }
+        ensures answer { AnswersCheckout self.old.repo path.now rev self.old.copy self.new.copy result }
+    {
+        match WorkingCopy::checkout_at(self.alloc, &self.repo, path, rev) {
+            Ok(copy) => {
+                // its nodes stand in path order
+                copy.law();
+                self.copy = Some(copy);
+                Answer::Done
+            }
+            Err(fault) => Answer::Refused(Refusal::Copy(fault)),
+        }
+    }
+
+    pub(crate) fn place(&mut self, path: &RelPath, rev: Rev) -> Answer
+        ensures keeps { KeepsRepo self.old self.new }
+        ensures answer { OnCopy (λ w. AnswersPlace self.old.repo w path.now rev self.new.copy result) self.old.copy self.new.copy result }
+    {
+        let Some(copy) = &mut self.copy else {
+            return Answer::Refused(Refusal::NoCopy);
+        };
+        let placed = copy.place(&self.repo, path, rev);
+        copy.law();
+        built(placed)
+    }
+
+    pub(crate) fn switch(&mut self, path: &RelPath, repos_path: &RelPath, rev: Rev) -> Answer
+        ensures keeps { KeepsRepo self.old self.new }
+        ensures answer { OnCopy (λ w. AnswersSwitch self.old.repo w path.now repos_path.now rev self.new.copy result) self.old.copy self.new.copy result }
+    {
+        let Some(copy) = &mut self.copy else {
+            return Answer::Refused(Refusal::NoCopy);
+        };
+        let switched = copy.switch(&self.repo, path, repos_path, rev);
+        copy.law();
+        built(switched)
+    }
+
+    pub(crate) fn forget(&mut self, path: &RelPath) -> Answer
+        ensures keeps { KeepsRepo self.old self.new }
+        ensures answer { OnCopy (λ w. AnswersForget w path.now self.new.copy result) self.old.copy self.new.copy result }
+    {
+        let Some(copy) = &mut self.copy else {
+            return Answer::Refused(Refusal::NoCopy);
+        };
+        let forgotten = copy.forget(path);
+        copy.law();
+        built(forgotten)
+    }
+
+    pub(crate) fn report(&self) -> Answer
+        ensures { OnCopy (λ w. AnswersReport w result) self.now.copy self.now.copy result }
+    {
+        let Some(copy) = &self.copy else {
+            return Answer::Refused(Refusal::NoCopy);
+        };
+        copy.law();
+        match copy.crawl(self.alloc) {
+            Ok(report) => Answer::Reported(report),
+            Err(fault) => Answer::Refused(Refusal::Copy(fault)),
+        }
+    }
+
+    /// Drives what the copy reports into a recorder. The copy has to be true.
+    pub(crate) fn drive(&self, rev: Rev, late: bool) -> Answer
+        ensures { OnCopy (λ w. AnswersDrive self.now.repo w (request_of self.now.repo w rev Update md5) late result) self.now.copy self.now.copy result }
+    {
+        let Some(copy) = &self.copy else {
+            return Answer::Refused(Refusal::NoCopy);
+        };
+        if copy.check_true(&self.repo).is_err() {
+            return Answer::Refused(Refusal::Untrue);
+        }
+        self.repo.law();
+        copy.law();
+        crawl_says_what_stands();
+        the_calls_are_a_drive();
+        match copy.crawl(self.alloc) {
+            Ok(report) => self.drive_report(&report, rev, late),
+            Err(fault) => Answer::Refused(Refusal::Copy(fault)),
+        }
+    }
+
+    // Drives a report.
+    fn drive_report(&self, report: &Report, rev: Rev, late: bool) -> Answer
+        requires drive { let d = driven_for self.now.repo report.now rev Update in target_fault d ≡ None → IsDrive d late (drive_calls d late) }
+        ensures { IsRecorded (driven_for self.now.repo report.now rev Update) late result }
+    {
+        let mut recorder = Recorder::new(self.alloc);
+        let options = DriveOptions {
+            cancel_after: None,
+            late_texts: late,
+        };
+        match drive(self.alloc, &self.repo, report, rev, options, &mut recorder) {
+            Ok(_) => Answer::Driven(recorder),
+            Err(fault) => Answer::Refused(Refusal::Drive(fault)),
+        }
+    }
+
+    /// Updates the copy, or switches it whole. It has to be true.
+    pub(crate) fn run_to<T: Threads + Wait + Sync>(
+        &mut self,
+        rt: &T,
+        settings: Settings,
+        wanted: &Wanted<'_>,
+    ) -> Answer
+        ensures keeps { KeepsRepo self.old self.new }
+        ensures answer { OnCopy (λ w. AnswersRun settings (asked self.old.repo w wanted.now.rev (mode_of (option_copied wanted.now.to)) wanted.now.late wanted.now.cancel_after) self.new.copy result) self.old.copy self.new.copy result }
+    {
+        let Some(copy) = &mut self.copy else {
+            return Answer::Refused(Refusal::NoCopy);
+        };
+        if copy.check_true(&self.repo).is_err() {
+            return Answer::Refused(Refusal::Untrue);
+        }
+        let ended = run_copy(rt, self.alloc, settings, &self.repo, copy, wanted);
+        copy.law();
+        match ended {
+            Ok(outcome) => Answer::Ended(outcome),
+            Err(fault) => Answer::Refused(Refusal::Run(fault)),
+        }
+    }
+}

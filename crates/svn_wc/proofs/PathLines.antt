@@ -1,0 +1,349 @@
+-- The nodes on the way down to a path.
+--     prefixes p      the paths from the root down to p
+use Rattle.std.proofs.Common.{◌≡◌, ℕ, suc, ◌+◌, ◌-◌, Bool, true, false, cond, List, [], ◌∷◌, ◌++◌, length, take, map, refl, sym, ap, subst}
+use Rattle.std.proofs.Common.{◌∙◌, Option, Some, None, true≢false, arith}
+use Rattle.std.specs.Prelude.{◌&&◌, filter_map, slice_get, Result, Ok, Err, IfOk, MatchResult}
+use Rattle.std.specs.List.{cons_option}
+use Rattle.std.specs.Option.{is_some, option_map, option_or, option_copied}
+use Rattle.std.specs.Borrow.{Bor}
+use Rattle.std.specs.BTreeMap.{is_at}
+use Rattle.std.specs.declared.cmp.Ordering.TheVariants.{Less}
+use Rattle.std.proofs.lemmas.List.{take-map, length-map, length_push}
+use Rattle.std.proofs.lemmas.Option.{slice_get-map}
+use Rattle.svn_types.specs.Names.{Path, path_cmp}
+use Rattle.svn_types.specs.Paths.{is_within, is_root, parent, path_eq, child}
+use Rattle.svn_types.proofs.PathOrder.{below_after, within_between}
+use Rattle.svn_report.specs.declared.entry.ReportEntry.{ReportEntry}
+use Rattle.svn_report.specs.Reports.{ReportView}
+use Rattle.svn_model.specs.declared.base_node.BaseNode.{BaseNode}
+use Rattle.svn_model.specs.Nodes.{get_in, InPathOrder, IsWorkingCopy, is_dir, node_path}
+use Rattle.svn_model.specs.Crawl.{entry_for, reported_at, crawl}
+use Rattle.svn_wc.specs.Crawling.{with_reported, IsBelow}
+use Rattle.svn_edit_law.proofs.Lookups.{at_path, get_in-append}
+use Rattle.svn_edit_law.proofs.PathsBelow.{below_is_other, path_is, same_path, same_name as same_bytes}
+use Rattle.svn_edit.proofs.NodeOrder.{at_first, first_or_after, before_behind, order_behind, some_behind}
+use Rattle.svn_types.proofs.PathsInOrder.{not_before_itself, not_both}
+use Rattle.svn_types.proofs.PathLemmas.{is_root-child, parent-child, split_within}
+
+-- ---- paths
+
+abbrev pub prefixes : Path → List Path
+prefixes [] = [] ∷ []
+prefixes (n ∷ p) = [] ∷ map (λ (q : Path). n ∷ q) (prefixes p)
+
+map-append : {X Y : Type 0} (f : X → Y) (xs ys : List X) → map f (xs ++ ys) ≡ map f xs ++ map f ys
+map-append f [] ys = refl
+map-append f (x ∷ xs) ys = ap (λ l. f x ∷ l) (map-append f xs ys)
+
+-- one name longer
+prefixes-child : (p : Path) (name : List ℕ) → prefixes (p ++ name ∷ []) ≡ prefixes p ++ (p ++ name ∷ []) ∷ []
+prefixes-child [] name = refl
+prefixes-child (n ∷ p) name =
+    ap (λ (l : List Path). [] ∷ map (λ (q : Path). n ∷ q) l) (prefixes-child p name)
+    ∙ ap (λ (l : List Path). [] ∷ l) (map-append (λ (q : Path). n ∷ q) (prefixes p) ((p ++ name ∷ []) ∷ []))
+
+-- those of a longer path begin with those of a shorter one above it
+take-prefixes : (q r : Path) → take (suc (length q)) (prefixes (q ++ r)) ≡ prefixes q
+take-prefixes [] [] = refl
+take-prefixes [] (n ∷ r) = refl
+take-prefixes (m ∷ q) r =
+    ap (λ (l : List Path). [] ∷ l)
+    (take-map (λ (p : Path). m ∷ p) (suc (length q)) (prefixes (q ++ r)) ∙ ap (map (λ (p : Path). m ∷ p)) (take-prefixes q r))
+
+pub within_itself : (q r : Path) → is_within q (q ++ r) ≡ true
+within_itself [] r = refl
+within_itself (m ∷ q) r = ap (λ b. b && is_within q (q ++ r)) (same_bytes m) ∙ within_itself q r
+
+-- a path is the root, or has one above it
+pub data PathCase (p : Path) : Type 0 where
+  at_root : p ≡ [] → PathCase p
+  at_child : (q : Path) (name : List ℕ) → p ≡ child q name → PathCase p
+
+pub path_case : (p : Path) → PathCase p
+path_case [] = at_root refl
+path_case (n ∷ p) = by (path_case p)
+  where
+    by : PathCase p → PathCase (n ∷ p)
+    by (at_root e) = at_child [] n (ap (λ (q : Path). n ∷ q) e)
+    by (at_child q name e) = at_child (n ∷ q) name (ap (λ (r : Path). n ∷ r) e)
+
+-- ---- lists
+
+-- the last one
+pub last_get : {X : Type 0} (xs : List X) (x : X) → slice_get (xs ++ x ∷ []) (length (xs ++ x ∷ []) - 1) ≡ Some x
+last_get {X} xs x =
+    let e = length_push xs x in let k : length (xs ++ x ∷ []) - 1 ≡ length xs = omega arith in ap (slice_get (xs ++ x ∷ [])) k ∙ at xs
+  where
+    at : (ys : List X) → slice_get (ys ++ x ∷ []) (length ys) ≡ Some x
+    at [] = refl
+    at (y ∷ ys) = at ys
+
+same_Some : {X : Type 0} (x y : X) → Some x ≡ Some y → x ≡ y
+same_Some x y e = cc
+
+unwrapped : {X : Type 0} (o u : Option X) → option_map (λ x. Some x) o ≡ Some u → o ≡ u
+unwrapped None u e = absurd (true≢false (sym (ap is_some e)))
+unwrapped (Some x) u e = same_Some (Some x) u e
+
+-- the last node of a list whose last is known
+last_known : {X : Type 0} (ns : List X) (xs : List (Option X)) (x : Option X) → map (λ n. Some n) ns ≡ xs ++ x ∷ []
+    → slice_get ns (length ns - 1) ≡ x
+last_known {X} ns xs x e =
+    let n : length (map (λ (n : X). Some n) ns) ≡ length ns = length-map ns (λ n. Some n) in
+    unwrapped (slice_get ns (length ns - 1)) x
+    (sym (slice_get-map (λ (n : X). Some n) ns (length ns - 1)) ∙ ap (λ k. slice_get (map (λ (n : X). Some n) ns) (k - 1)) (sym n)
+    ∙ ap (λ (l : List (Option X)). slice_get l (length l - 1)) e ∙ last_get xs x)
+
+prefixes-last : (q : Path) → (front : List Path) × (prefixes q ≡ front ++ q ∷ [])
+prefixes-last q = by (path_case q)
+  where
+    by : PathCase q → (front : List Path) × (prefixes q ≡ front ++ q ∷ [])
+    by (at_root e) = ([], ap prefixes e ∙ ap (λ (p : Path). p ∷ []) (sym e))
+    by (at_child p name e) = (prefixes p, ap prefixes e ∙ prefixes-child p name ∙ ap (λ (r : Path). prefixes p ++ r ∷ []) (sym e))
+
+-- ---- a crawl, node by node
+
+-- the nodes on the way down to the last node that was taken, if one was
+pub data IsLine (nodes done : List (Path × BaseNode)) (line : List BaseNode) : Type 0 where
+  none_yet : done ≡ [] → line ≡ [] → IsLine nodes done line
+  last_at : (front : List (Path × BaseNode)) (e : Path × BaseNode) → done ≡ front ++ e ∷ []
+      → map (λ n. Some n) line ≡ map (get_in nodes) (prefixes e.0) → IsLine nodes done line
+
+pub record IsCrawled (nodes : List (Path × BaseNode)) (line : List BaseNode) (r : ReportView) (left : List (Path × BaseNode)) : Type 0 where
+  pub done : List (Path × BaseNode)
+  pub parts : nodes ≡ done ++ left
+  pub line_is : IsLine nodes done line
+  pub root : r.root ≡ node_path (get_in nodes [])
+  pub entries : r.entries ≡ filter_map (reported_at nodes) done
+
+dir_some : (o : Option BaseNode) → is_dir o ≡ true → is_some o ≡ true
+dir_some None d = absurd (true≢false (sym d))
+dir_some (Some n) d = refl
+
+pub crawled_first : (nodes : List (Path × BaseNode)) (r : ReportView) → r.root ≡ node_path (get_in nodes []) → r.entries ≡ []
+    → IsCrawled nodes [] r nodes
+crawled_first nodes r root entries = record { done = []; parts = refl; line_is = none_yet refl refl; root = root; entries = entries }
+
+filter_map-push : {X Y : Type 0} (f : X → Option Y) (xs : List X) (x : X)
+    → filter_map f (xs ++ x ∷ []) ≡ filter_map f xs ++ cons_option (f x) []
+filter_map-push f [] x = refl
+filter_map-push {X} {Y} f (y ∷ xs) x = by (f y) (filter_map-push f xs x)
+  where
+    by : (o : Option Y) → filter_map f (xs ++ x ∷ []) ≡ filter_map f xs ++ cons_option (f x) []
+        → cons_option o (filter_map f (xs ++ x ∷ [])) ≡ cons_option o (filter_map f xs) ++ cons_option (f x) []
+    by None h = h
+    by (Some v) h = ap (λ l. v ∷ l) h
+
+append-nil : {X : Type 0} (xs : List X) → xs ++ [] ≡ xs
+append-nil [] = refl
+append-nil (x ∷ xs) = ap (λ l. x ∷ l) (append-nil xs)
+
+append_one : {X : Type 0} (xs : List X) (y : X) (ys : List X) → xs ++ y ∷ ys ≡ (xs ++ y ∷ []) ++ ys
+append_one [] y ys = refl
+append_one (x ∷ xs) y ys = ap (λ l. x ∷ l) (append_one xs y ys)
+
+pub crawled_last : (nodes : List (Path × BaseNode)) (line : List BaseNode) (r : ReportView) → IsCrawled nodes line r [] → r ≡ crawl nodes
+crawled_last nodes line r c =
+    let all : c.done ≡ nodes = sym (append-nil c.done) ∙ sym c.parts in
+    let es : r.entries ≡ filter_map (reported_at nodes) nodes = c.entries ∙ ap (filter_map (reported_at nodes)) all in
+    λ i. record { root = c.root i; entries = es i }
+
+module _ (nodes : List (Path × BaseNode)) (order : InPathOrder nodes) (line : List BaseNode) (r : ReportView) (e : Path × BaseNode)
+    (left : List (Path × BaseNode))
+    (c : IsCrawled nodes line r (e ∷ left)) where
+  whole : InPathOrder (c.done ++ e ∷ left)
+  whole = subst InPathOrder c.parts order
+
+  in_parts : (p : Path) → get_in nodes p ≡ option_or (get_in c.done p) (get_in (e ∷ left) p)
+  in_parts p = ap (λ l. get_in l p) c.parts ∙ get_in-append c.done (e ∷ left) p
+
+  some_of : (o : Option BaseNode) → (o ≡ None → ⊥) → is_some o ≡ true
+  some_of None h = absurd (h refl)
+  some_of (Some x) h = refl
+
+  -- what stands at the next path is the next node
+  stands : get_in nodes e.0 ≡ Some e.1
+  stands = in_parts e.0 ∙ by (get_in c.done e.0) refl
+    where
+      by : (o : Option BaseNode) → get_in c.done e.0 ≡ o → option_or o (get_in (e ∷ left) e.0) ≡ Some e.1
+      by None h = at_first e left
+      by (Some x) h =
+          absurd (not_before_itself e.0 (before_behind c.done (e ∷ left) whole e.0 e.0 (ap is_some h) (ap is_some (at_first e left))))
+
+  -- a directory above the next node was taken
+  taken : (q r : Path) (name : List ℕ) → e.0 ≡ q ++ name ∷ r → is_some (get_in nodes q) ≡ true → is_some (get_in c.done q) ≡ true
+  taken q r name is some = by (get_in c.done q) refl (sym (ap is_some (in_parts q)) ∙ some)
+    where
+      before : path_cmp q e.0 ≡ Less
+      before = ap (path_cmp q) is ∙ below_after q (q ++ name ∷ r) (within_itself q (name ∷ r)) (below_is_other q name r)
+
+      by : (o : Option BaseNode) → get_in c.done q ≡ o → is_some (option_or o (get_in (e ∷ left) q)) ≡ true → is_some o ≡ true
+      by (Some x) h s = refl
+      by None h s =
+          absurd (first_or_after ⊥ e left (order_behind c.done (e ∷ left) whole) q s
+          (λ same. not_before_itself q (ap (path_cmp q) same ∙ before)) (λ after. not_both q e.0 before after))
+
+  -- what was taken last comes before
+  last_before : (front : List (Path × BaseNode)) (l : Path × BaseNode) → c.done ≡ front ++ l ∷ [] → path_cmp l.0 e.0 ≡ Less
+  last_before front l d =
+      before_behind c.done (e ∷ left) whole l.0 e.0
+      (ap (λ xs. is_some (get_in xs l.0)) d ∙ ap is_some (get_in-append front (l ∷ []) l.0)
+      ∙ some_behind (get_in front l.0) (get_in (l ∷ []) l.0) (ap is_some (at_first l [])))
+      (ap is_some (at_first e left))
+
+  -- what was taken is the last, or comes before it
+  taken_before : (P : Type 0) (front : List (Path × BaseNode)) (l : Path × BaseNode) → c.done ≡ front ++ l ∷ [] → (q : Path)
+      → is_some (get_in c.done q) ≡ true → (q ≡ l.0 → P) → (path_cmp q l.0 ≡ Less → P) → P
+  taken_before P front l d q some same before =
+      by (get_in front q) refl (sym (ap (λ xs. is_some (get_in xs q)) d ∙ ap is_some (get_in-append front (l ∷ []) q)) ∙ some)
+    where
+      cut : InPathOrder (front ++ l ∷ e ∷ left)
+      cut = subst InPathOrder (ap (λ xs. xs ++ e ∷ left) d ∙ sym (append_one front l (e ∷ left))) whole
+
+      one : (b : Bool) → is_at (path_cmp q) l.0 ≡ b → is_some (cond b (Some l.1) None) ≡ true → P
+      one true t s = same (path_is q l.0 (sym (at_path q l.0) ∙ t))
+      one false t s = absurd (true≢false (sym s))
+
+      by : (o : Option BaseNode) → get_in front q ≡ o → is_some (option_or o (get_in (l ∷ []) q)) ≡ true → P
+      by (Some x) h s = before (before_behind front (l ∷ e ∷ left) cut q l.0 (ap is_some h) (ap is_some (at_first l (e ∷ left))))
+      by None h s = one (is_at (path_cmp q) l.0) refl s
+
+  -- the nodes down to the path above the next one
+  module _ (w : IsWorkingCopy (get_in nodes)) (q : Path) (name : List ℕ) (is : e.0 ≡ child q name) where
+    directory : is_dir (get_in nodes q) ≡ true
+    directory = w.parents q name (λ none. true≢false (sym (ap is_some stands) ∙ ap is_some (ap (get_in nodes) is ∙ none)))
+
+    above_taken : is_some (get_in c.done q) ≡ true
+    above_taken = taken q [] name is (dir_some (get_in nodes q) directory)
+
+    down_to : take (length e.0) (map (λ n. Some n) line) ≡ map (get_in nodes) (prefixes q)
+    down_to = by c.line_is
+      where
+        depth : length e.0 ≡ suc (length q)
+        depth = let d : length e.0 ≡ length q + 1 = ap length is ∙ length_push q name in omega arith
+
+        by : IsLine nodes c.done line → take (length e.0) (map (λ n. Some n) line) ≡ map (get_in nodes) (prefixes q)
+        by (none_yet d l) = absurd (true≢false (sym above_taken ∙ ap (λ xs. is_some (get_in xs q)) d))
+        by (last_at front l d m) =
+            let within : is_within q l.0 ≡ true =
+            taken_before (is_within q l.0 ≡ true) front l d q above_taken
+            (λ same. subst (λ (p : Path). is_within q p ≡ true) (append-nil q ∙ same) (within_itself q []))
+            (λ before. within_between q l.0 e.0 before (λ after. not_both l.0 e.0 (last_before front l d) after)
+            (subst (λ (p : Path). is_within q p ≡ true) (sym is) (within_itself q (name ∷ [])))) in
+            let parts = split_within q l.0 within in
+            ap (λ k. take k (map (λ n. Some n) line)) depth ∙ ap (take (suc (length q))) m
+            ∙ ap (λ (p : Path). take (suc (length q)) (map (get_in nodes) (prefixes p))) parts.1
+            ∙ take-map (get_in nodes) (suc (length q)) (prefixes (q ++ parts.0)) ∙ ap (map (get_in nodes)) (take-prefixes q parts.0)
+
+    kept : map (λ n. Some n) (take (length e.0) line) ≡ map (get_in nodes) (prefixes q)
+    kept = sym (take-map (λ (n : BaseNode). Some n) (length e.0) line) ∙ down_to
+
+    -- the last of them is the directory above
+    last_is_above : slice_get (take (length e.0) line) (length (take (length e.0) line) - 1) ≡ get_in nodes q
+    last_is_above =
+        let last = prefixes-last q in
+        last_known (take (length e.0) line) (map (get_in nodes) last.0) (get_in nodes q)
+        (kept ∙ ap (map (get_in nodes)) last.1 ∙ map-append (get_in nodes) last.0 (q ∷ []))
+
+    line_on : map (λ n. Some n) (take (length e.0) line ++ e.1 ∷ []) ≡ map (get_in nodes) (prefixes e.0)
+    line_on =
+        map-append (λ (n : BaseNode). Some n) (take (length e.0) line) (e.1 ∷ [])
+        ∙ (λ i. kept i ++ sym (sym (ap (get_in nodes) is) ∙ stands) i ∷ [])
+        ∙ sym (map-append (get_in nodes) (prefixes q) (child q name ∷ []))
+        ∙ ap (map (get_in nodes)) (sym (prefixes-child q name)) ∙ ap (λ (p : Path). map (get_in nodes) (prefixes p)) (sym is)
+
+  above : Option BaseNode
+  above = slice_get (take (length e.0) line) (length (take (length e.0) line) - 1)
+
+  -- the next node is the root, or a directory is above it
+  pub next_below : IsWorkingCopy (get_in nodes) → (o : Option BaseNode)
+      → o ≡ slice_get (take (length e.0) line) (length (take (length e.0) line) - 1) → IsBelow e.0 o
+  next_below w o same = by (path_case e.0)
+    where
+      as_below : (p : Path) (u : Option BaseNode) → is_root p ≡ false → is_dir u ≡ true → IsBelow p u
+      as_below p None root dir = absurd (true≢false (sym dir))
+      as_below p (Some n) root dir = (root, dir)
+
+      by : PathCase e.0 → IsBelow e.0 o
+      by (at_root is) =
+          subst (λ (u : Option BaseNode). IsBelow e.0 u)
+          (sym (same ∙ (λ i. slice_get (take (length (is i)) line) (length (take (length (is i)) line) - 1)))) (ap is_root is)
+      by (at_child q name is) =
+          as_below e.0 o (ap is_root is ∙ is_root-child q name) (ap is_dir (same ∙ last_is_above w q name is) ∙ directory w q name is)
+
+  entry_is : IsWorkingCopy (get_in nodes) → (o : Option BaseNode)
+      → o ≡ slice_get (take (length e.0) line) (length (take (length e.0) line) - 1)
+      → entry_for e.0 o (Some e.1) ≡ entry_for e.0 (get_in nodes (parent e.0)) (Some e.1)
+  entry_is w o same = by (path_case e.0)
+    where
+      by : PathCase e.0 → entry_for e.0 o (Some e.1) ≡ entry_for e.0 (get_in nodes (parent e.0)) (Some e.1)
+      by (at_root is) = (λ i. entry_for (is i) o (Some e.1)) ∙ sym (λ i. entry_for (is i) (get_in nodes (parent e.0)) (Some e.1))
+      by (at_child q name is) =
+          ap (λ (u : Option BaseNode). entry_for e.0 u (Some e.1))
+          (same ∙ last_is_above w q name is ∙ ap (get_in nodes) (sym (ap parent is ∙ parent-child q name)))
+
+  pub crawled_next : IsWorkingCopy (get_in nodes) → (o : Option BaseNode)
+      → o ≡ slice_get (take (length e.0) line) (length (take (length e.0) line) - 1) → (r2 : ReportView)
+      → r2 ≡ with_reported r e.0 (entry_for e.0 o (Some e.1)) → IsCrawled nodes (take (length e.0) line ++ e.1 ∷ []) r2 left
+  crawled_next w o same r2 made = record {
+    done = c.done ++ e ∷ [];
+    parts = c.parts ∙ append_one c.done e left;
+    line_is = last_at c.done e refl (by (path_case e.0));
+    root = ap (λ (v : ReportView). v.root) made ∙ same_root (entry_for e.0 o (Some e.1)) ∙ c.root;
+    entries =
+        ap (λ (v : ReportView). v.entries) made ∙ more (entry_for e.0 o (Some e.1))
+        ∙ (λ i. c.entries i ++ cons_option (option_map (λ entry. (e.0, entry)) (entry_is w o same i)) [])
+        ∙ sym (filter_map-push (reported_at nodes) c.done e);
+  }
+    where
+      same_root : (u : Option ReportEntry) → (with_reported r e.0 u).root ≡ r.root
+      same_root None = refl
+      same_root (Some x) = refl
+
+      more : (u : Option ReportEntry) → (with_reported r e.0 u).entries ≡ r.entries ++ cons_option (option_map (λ entry. (e.0, entry)) u) []
+      more None = sym (append-nil r.entries)
+      more (Some x) = refl
+
+      by : PathCase e.0 → map (λ n. Some n) (take (length e.0) line ++ e.1 ∷ []) ≡ map (get_in nodes) (prefixes e.0)
+      by (at_child q name is) = line_on w q name is
+      by (at_root is) =
+          ap (λ (p : Path). map (λ n. Some n) (take (length p) line ++ e.1 ∷ [])) is
+          ∙ (λ i. sym (sym (ap (get_in nodes) is) ∙ stands) i ∷ [])
+          ∙ ap (λ (p : Path). map (get_in nodes) (prefixes p)) (sym is)
+
+-- ---- answers
+
+pub if_ok_same : {X E : Type 0} (r : Result X E) (P : E → Type 0) (x y : X) → x ≡ y → MatchResult r (λ v. v ≡ x) P → IfOk r (λ v. v ≡ y)
+if_ok_same (Ok v) P x y e h = h ∙ e
+if_ok_same (Err v) P x y e h = tt
+
+-- a test that is passed exactly by the same path is the test of equal paths
+pub tests_path : (b : Bool) (p q : Path) → (b ≡ true → p ≡ q) → (p ≡ q → b ≡ true) → b ≡ path_eq p q
+tests_path b p q f g = by b (path_eq p q) refl refl
+  where
+    by : (x y : Bool) → b ≡ x → path_eq p q ≡ y → x ≡ y
+    by true true u v = refl
+    by false false u v = refl
+    by true false u v = absurd (true≢false (sym (sym v ∙ ap (path_eq p) (sym (f u)) ∙ same_path p)))
+    by false true u v = absurd (true≢false (sym (g (path_is p q v)) ∙ u))
+
+-- what stands behind the last reference of a list
+pub last_behind : {X : Type 0} (refs : List (Bor X)) (n : ℕ) (kept : List (Bor X)) → kept ≡ take n refs
+    → option_copied (slice_get kept (length kept - 1))
+    ≡ slice_get (take n (map (λ r. r.now) refs)) (length (take n (map (λ r. r.now) refs)) - 1)
+last_behind {X} refs n kept is =
+    let all : take n (map (λ (r : Bor X). r.now) refs) ≡ map (λ (r : Bor X). r.now) kept =
+    take-map (λ (r : Bor X). r.now) n refs ∙ ap (map (λ (r : Bor X). r.now)) (sym is) in
+    copied (slice_get kept (length kept - 1)) ∙ sym (slice_get-map (λ (r : Bor X). r.now) kept (length kept - 1))
+    ∙ ap (λ k. slice_get (map (λ (r : Bor X). r.now) kept) (k - 1)) (sym (length-map kept (λ (r : Bor X). r.now)))
+    ∙ ap (λ (l : List X). slice_get l (length l - 1)) (sym all)
+  where
+    copied : (o : Option (Bor X)) → option_copied o ≡ option_map (λ r. r.now) o
+    copied None = refl
+    copied (Some r) = refl
+
+pub pushed_behind : {X : Type 0} (refs : List (Bor X)) (n : ℕ) (kept more : List (Bor X)) (r : Bor X) → kept ≡ take n refs
+    → more ≡ kept ++ r ∷ [] → map (λ r. r.now) more ≡ take n (map (λ r. r.now) refs) ++ r.now ∷ []
+pushed_behind {X} refs n kept more r is items =
+    ap (map (λ (r : Bor X). r.now)) items ∙ map-append (λ (r : Bor X). r.now) kept (r ∷ [])
+    ∙ ap (λ (l : List X). l ++ r.now ∷ []) (ap (map (λ (r : Bor X). r.now)) is ∙ sym (take-map (λ (r : Bor X). r.now) n refs))

@@ -1,0 +1,10 @@
+use Rattle.std.proofs.Common.{◌≡◌, sym, ap, ◌∙◌}
+use Rattle.svn_types.specs.Paths.{parent, path_eq}
+use Rattle.svn_edit_law.proofs.PathParts.{front_is}
+use Rattle.svn_wc.proofs.building.is_parent.Goals as goal
+
+pub returns-in-Some : goal.returns-in-Some
+returns-in-Some c =
+    let front : parent c.args.path.now ≡ c.in-Some.front.now =
+    ap parent (sym c.components.ensures.names ∙ c.in-Some.ensures.cases.0) ∙ front_is c.in-Some.front.now c.in-Some.field-0-0.now in
+    c.eq.ensures ∙ (λ i. path_eq (sym front i) (c.components-in-Some.ensures.names i))

@@ -1,0 +1,70 @@
+use Rattle.std.proofs.Common.{◌≡◌, ◌+◌, ℕ, List, [], ◌∷◌, ◌++◌, length, length-append, arith, subst, sym, ap, ◌∙◌}
+use Rattle.svn_types.specs.Names.{Path}
+use Rattle.svn_types.specs.Pairs.{InNameOrder}
+use Rattle.svn_repo.specs.Readings.{entries_of}
+use Rattle.svn_wc.specs.Gathered.{gathered}
+use Rattle.svn_wc.specs.Standing.{Puts, standing}
+use Rattle.svn_wc.proofs.Gathering.{fill_begins, fill_ends, fill_leaf, fill_free, fill_next, when_none}
+use Rattle.svn_wc.proofs.gather.+gather.Goals as goal
+
+pub returns-in_default : goal.returns-in_default
+returns-in_default t c =
+    fill_leaf c.args.from.now.repo.now c.args.from.now.rev c.args.at.now c.args.repos_path.now c.args.id (gathered c.args.pairs.now.items)
+    (gathered c.push_node.new.pairs.items)
+    c.in_ok-push_node.ensures c.requires.free
+    (when_none c.entries.result (entries_of c.args.from.now.repo.now c.args.id ≡ []) c.in_default.not-Some c.entries.ensures.leaf)
+
+pub loop-name-init : goal.loop-name-init
+loop-name-init t c =
+    let e1 : c.into_iter-name-iterator.result ≡ c.as_map-name-items.result.now.entries =
+    c.into_iter-name-iterator.ensures.into_iter_gives.0 in
+    let e2 : c.as_map-name-items.result.now.entries ≡ c.in-Some.entries.now = c.as_map-name-items.ensures.entries in
+    let e3 : c.in-Some.entries.now ≡ entries_of c.args.from.now.repo.now c.args.id = c.in-Some.ensures.listing in
+    fill_begins c.args.from.now.repo.now c.args.from.now.rev c.args.at.now c.args.repos_path.now c.args.id (gathered c.args.pairs.now.items)
+    (gathered c.push_node.new.pairs.items)
+    c.in_ok-push_node.ensures c.requires.free c.into_iter-name-iterator.result
+    (subst (λ (l : List (List ℕ × ℕ)). InNameOrder l) (sym (e1 ∙ e2)) c.as_map-name-items.ensures.ordered)
+    (e1 ∙ e2 ∙ e3)
+
+pub gather-requires : goal.gather-requires
+gather-requires t c =
+    let below : c.in_ok-at_below.at_below ≡ c.args.at.now ++ c.in-Some-2.name.now ∷ [] = c.in_ok-at_below.ensures.path in
+    let longer : length c.in_ok-at_below.at_below ≡ length c.args.at.now + 1 =
+    ap length below ∙ length-append c.args.at.now (c.in-Some-2.name.now ∷ []) in
+    let step : c.loop-name.name-iterator ≡ (c.in-Some-2.name.now, c.in-Some-2.child.now) ∷ c.next.new.self = c.in-Some-2.ensures.steps in
+    let inv = rw step at c.loop-name.invariant in (
+      omega (arith, longer, c.in_ok-at_below.ensures.bounded),
+      λ r. ap (λ (p : Path). gathered c.loop-name.pairs.items (p ++ r)) below
+          ∙ fill_free c.args.from.now.repo.now c.args.from.now.rev c.args.at.now c.args.repos_path.now c.args.id
+          (gathered c.args.pairs.now.items) (gathered c.push_node.new.pairs.items)
+          c.in_ok-push_node.ensures (c.in-Some-2.name.now, c.in-Some-2.child.now) c.next.new.self (gathered c.loop-name.pairs.items)
+          (gathered c.loop-name.pairs.items) inv.0 r,
+    )
+
+pub loop-name-preserved : goal.loop-name-preserved
+loop-name-preserved t c =
+    let at : c.in_ok-at_below.at_below ≡ c.args.at.now ++ c.in-Some-2.name.now ∷ [] = c.in_ok-at_below.ensures.path in
+    let below : c.in_ok-below.below ≡ c.args.repos_path.now ++ c.in-Some-2.name.now ∷ [] = c.in_ok-below.ensures.path in
+    let step : c.loop-name.name-iterator ≡ (c.in-Some-2.name.now, c.in-Some-2.child.now) ∷ c.next.new.self = c.in-Some-2.ensures.steps in
+    let inv = rw step at c.loop-name.invariant in
+    fill_next c.args.from.now.repo.now c.args.from.now.rev c.args.at.now c.args.repos_path.now c.args.id (gathered c.args.pairs.now.items)
+    (gathered c.push_node.new.pairs.items)
+    c.in_ok-push_node.ensures (c.in-Some-2.name.now, c.in-Some-2.child.now) c.next.new.self (gathered c.loop-name.pairs.items)
+    (gathered c.gather.new.pairs.items) inv.0 inv.1
+    (subst
+    (λ (p : Path). Puts
+    (standing c.args.from.now.repo.now c.args.from.now.rev (c.args.repos_path.now ++ c.in-Some-2.name.now ∷ []) c.in-Some-2.child.now) p
+    (gathered c.loop-name.pairs.items) (gathered c.gather.new.pairs.items))
+    at
+    (subst
+    (λ (p : Path). Puts (standing c.args.from.now.repo.now c.args.from.now.rev p c.in-Some-2.child.now) c.in_ok-at_below.at_below
+    (gathered c.loop-name.pairs.items) (gathered c.gather.new.pairs.items))
+    below c.in_ok-gather.ensures))
+
+pub returns : goal.returns
+returns t c =
+    let step : c.loop-name.name-iterator ≡ [] = c.in-None.ensures.steps.0 in
+    let inv = rw step at c.loop-name.invariant in
+    fill_ends c.args.from.now.repo.now c.args.from.now.rev c.args.at.now c.args.repos_path.now c.args.id (gathered c.args.pairs.now.items)
+    (gathered c.push_node.new.pairs.items)
+    c.in_ok-push_node.ensures (gathered c.loop-name.pairs.items) inv.0

@@ -1,0 +1,7 @@
+use Rattle.svn_wc.proofs.Truly.{tests_props}
+use Rattle.svn_wc.proofs.truth.has_props.Goals as goal
+
+pub returns-in-Some : goal.returns-in-Some
+returns-in-Some c = λ there.
+    tests_props c.args.repo.now c.args.id c.is_same.result c.args.props.now c.in-Some.others.now c.in-Some.ensures c.is_same.ensures.0
+    c.is_same.ensures.1

@@ -1,0 +1,44 @@
+use Rattle.std.proofs.Common.{◌≡◌, true, false, List, sym, ap, subst, ◌∙◌, rules}
+use Rattle.svn_types.specs.Names.{Path}
+use Rattle.svn_types.specs.Paths.{is_root}
+use Rattle.svn_model.specs.declared.base_node.BaseNode.{BaseNode}
+use Rattle.svn_model.specs.Nodes.{WorkingCopy, get_in, is_present, IsWorkingCopy, IsTrueOf}
+use Rattle.svn_repo.specs.History.{new_history}
+use Rattle.svn_wc.proofs.Forgetting.{retained_by, is_kept, made_absent, left_of, left_forgotten, not_root, may_forget}
+use Rattle.svn_wc.proofs.working_copy.WorkingCopy.forget.Goals as goal
+
+pub returns-clause-nodes : goal.returns-clause-nodes
+returns-clause-nodes c = λ p.
+    let at = c.args.path.now in
+    let present : is_present (get_in c.args.self.now at) ≡ true =
+    sym (ap (λ (l : List (Path × BaseNode)). is_present (get_in l at)) c.self.view_is) ∙ sym (ap is_present c.get.ensures.value)
+    ∙ sym c.is_present.ensures ∙ c.if-not-is_present.false in
+    retained_by (is_kept at) (made_absent at) _ _ (λ k v b w f' t. search rules) c.self.inside.nodes.entries c.retain.new.self.entries
+    c.retain.ensures.was_ordered c.retain.ensures.filtered p
+    ∙ ap (λ (l : List (Path × BaseNode)). left_of (is_kept at) (made_absent at) p (get_in l p)) c.self.view_is
+    ∙ left_forgotten (get_in c.args.self.now) at p present
+
+pub invariant_of-self : goal.invariant_of-self
+invariant_of-self c =
+    let at = c.args.path.now in
+    let present : is_present (get_in c.args.self.now at) ≡ true =
+    sym (ap (λ (l : List (Path × BaseNode)). is_present (get_in l at)) c.self.view_is) ∙ sym (ap is_present c.get.ensures.value)
+    ∙ sym c.is_present.ensures ∙ c.if-not-is_present.false in
+    let root : is_root at ≡ false = not_root at c.is_root.result c.is_root.ensures.1 c.if-is_root.false in
+    subst IsWorkingCopy (λ i p. sym (returns-clause-nodes c p) i)
+    (c.forgetting_keeps_a_copy.ensures new_history (get_in c.args.self.now) at
+    (subst (λ (l : List (Path × BaseNode)). IsWorkingCopy (get_in l)) c.self.view_is c.self.invariant)
+    (may_forget (get_in c.args.self.now) at root present)).shape
+
+pub returns-clause-truth : goal.returns-clause-truth
+returns-clause-truth c = λ h t.
+    let at = c.args.path.now in
+    let present : is_present (get_in c.args.self.now at) ≡ true =
+    sym (ap (λ (l : List (Path × BaseNode)). is_present (get_in l at)) c.self.view_is) ∙ sym (ap is_present c.get.ensures.value)
+    ∙ sym c.is_present.ensures ∙ c.if-not-is_present.false in
+    let root : is_root at ≡ false = not_root at c.is_root.result c.is_root.ensures.1 c.if-is_root.false in
+    subst (λ (w : WorkingCopy). IsTrueOf h w) (λ i p. sym (returns-clause-nodes c p) i)
+    ((c.forgetting_keeps_a_copy.ensures h (get_in c.args.self.now) at
+    (subst (λ (l : List (Path × BaseNode)). IsWorkingCopy (get_in l)) c.self.view_is c.self.invariant)
+    (may_forget (get_in c.args.self.now) at root present)).true_of
+    t)

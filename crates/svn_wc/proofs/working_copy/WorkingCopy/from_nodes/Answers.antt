@@ -1,0 +1,19 @@
+use Rattle.std.proofs.Common.{◌≡◌, None, sym, subst, ◌∙◌, rules}
+use Rattle.svn_model.specs.declared.wc_fault.WcFault.TheVariants.{Twice}
+use Rattle.svn_model.specs.Nodes.{IsWorkingCopy}
+use Rattle.svn_model.specs.Refusals.{has_twice, nodes_fault}
+use Rattle.svn_edit_law.specs.CopyLaws.{AllEndNamed}
+use Rattle.svn_edit_law.proofs.Builds.{passed}
+use Rattle.svn_wc.proofs.EachOnce.{gathered_once}
+use Rattle.svn_wc.proofs.working_copy.WorkingCopy.from_nodes.Goals as goal
+
+pub returns-clause-nodes : goal.returns-clause-nodes
+returns-clause-nodes c = λ p.
+    let none : nodes_fault c.args.nodes.items ≡ None = search rules in
+    c.in_ok-map.ensures.0 p ∙ gathered_once c.args.nodes.items (passed (has_twice c.args.nodes.items) Twice _ none).0 p
+
+pub invariant_of-result : goal.invariant_of-result
+invariant_of-result c =
+    let none : nodes_fault c.args.nodes.items ≡ None = search rules in
+    let named : AllEndNamed c.args.nodes.items = search rules in
+    subst IsWorkingCopy (λ i p. sym (returns-clause-nodes c p) i) (c.nodes_make_a_copy.ensures c.args.nodes.items named none)

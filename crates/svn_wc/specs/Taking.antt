@@ -1,0 +1,49 @@
+-- What an applier makes of a call.
+--     TakesCall edit nodes call answer edit' nodes'      the edit and the copy before, the call, its answer, and both after
+--     IsBegun edit nodes      no call was given to the edit, which is one of this copy
+--     IsInShape edit nodes      as long as the edit goes on, the copy has the shape that its calls leave
+use Rattle.std.specs.Prelude.{◌≡◌, ◌≢◌, true, List, [], ◌∷◌, ◌++◌, Result, OnOk, OnErr, IfErr}
+use Rattle.md5.specs.Md5.{md5}
+use Rattle.svn_types.specs.Names.{Path}
+use Rattle.svn_editor.specs.declared.call.Call.{Call}
+use Rattle.svn_editor.specs.declared.fault.EditFault.{EditFault}
+use Rattle.svn_editor.specs.declared.fault.EditFault.TheVariants.{Memory}
+use Rattle.svn_editor.specs.Calls.{is_last}
+use Rattle.svn_editor.specs.Steps.{Mode, Update}
+use Rattle.svn_model.specs.declared.base_node.BaseNode.{BaseNode}
+use Rattle.svn_model.specs.Nodes.{WorkingCopy, get_in}
+use Rattle.svn_model.specs.Effects.{refusal}
+use Rattle.svn_model.specs.Answering.{AnswersCall}
+use Rattle.svn_edit_law.specs.Laws.{IsShapedAfter}
+use Rattle.svn_edit.specs.declared.edit.Edit.{Edit}
+use Rattle.svn_edit.specs.declared.edit.Stage.TheVariants.{Going}
+use Rattle.svn_edit.specs.Applying.{mode_of, StandsAfter, HasEnded, IsRefused, StaysRefused, StaysEnded, LeavesRefused}
+
+pub record TakesCall (old : Edit) (w : List (Path × BaseNode)) (call : Call) (answer : Result (Unit {0}) EditFault)
+    (new : Edit) (w' : List (Path × BaseNode)) : Type 0 where
+  pub answers : (mode : Mode) (w0 : WorkingCopy) (calls : List Call) → StandsAfter mode w0 old w calls
+      → AnswersCall (refusal md5 mode calls call w) answer
+  pub accepted : OnOk answer ((mode : Mode) (w0 : WorkingCopy) (calls : List Call) → StandsAfter mode w0 old w calls
+      → StandsAfter mode w0 new w' (calls ++ call ∷ []))
+  pub shape : OnOk answer ((mode : Mode) (w0 : WorkingCopy) (calls : List Call) → StandsAfter mode w0 old w calls
+      → IsShapedAfter mode (get_in w) calls → IsShapedAfter mode (get_in w') (calls ++ call ∷ []))
+  pub refused : OnErr answer ((mode : Mode) (w0 : WorkingCopy) (calls : List Call) → StandsAfter mode w0 old w calls → w' ≡ w)
+  pub dead : LeavesRefused old.stage answer new
+  pub was_refused : IsRefused old → StaysRefused call answer new × (w' ≡ w)
+  pub ended : HasEnded old → StaysEnded old answer new × (w' ≡ w)
+  -- want of memory isn't answered to the last call of an update
+  pub last : is_last call ≡ true → mode_of old.root ≡ Update → IfErr answer (λ e. e ≢ Memory)
+
+abbrev pub IsBegun : Edit → List (Path × BaseNode) → Type 0
+IsBegun edit nodes = (mode : Mode) × StandsAfter mode (get_in nodes) edit nodes []
+
+-- the edit stands after some calls, and these left the copy in its shape
+pub record GoesOn (edit : Edit) (nodes : List (Path × BaseNode)) : Type 0 where
+  pub mode : Mode
+  pub start : WorkingCopy
+  pub calls : List Call
+  pub stands : StandsAfter mode start edit nodes calls
+  pub shape : IsShapedAfter mode (get_in nodes) calls
+
+abbrev pub IsInShape : Edit → List (Path × BaseNode) → Type 0
+IsInShape edit nodes = edit.stage ≡ Going → GoesOn edit nodes

@@ -1,0 +1,58 @@
+-- How a copy is compared with the repository, node by node in path order.
+--     looked h node      what the repository has in a node's place, by its revision and repository path
+--     HasWalked h nodes e old found new      the nodes at and below a path were compared
+use Rattle.std.specs.Prelude.{◌≡◌, ℕ, Bool, true, false, List, [], ◌∷◌, ◌++◌, Option, Some, None, option_and_then}
+use Rattle.std.specs.List.{list_all, list_any}
+use Rattle.svn_types.specs.Names.{Path}
+use Rattle.svn_types.specs.Paths.{child, path_eq, is_within, is_below}
+use Rattle.svn_types.specs.Pairs.{value_of}
+use Rattle.svn_repo.specs.History.{History, look}
+use Rattle.svn_repo.specs.Readings.{entries_of}
+use Rattle.svn_model.specs.declared.base_node.BaseNode.{BaseNode}
+use Rattle.svn_model.specs.declared.base_node.BaseNode.TheVariants.{File as FileNode, Dir as DirNode, NotPresent}
+use Rattle.svn_model.specs.Nodes.{get_in}
+use Rattle.svn_model.specs.Truth.{first_untrue_in}
+
+abbrev pub looked : History → BaseNode → Option ℕ
+looked h (FileNode r q text props) = look h r q
+looked h (DirNode r q complete props) = look h r q
+looked h NotPresent = None
+
+-- the node under a name
+abbrev pub entry_in : History → Option ℕ → List ℕ → Option ℕ
+entry_in h found name = option_and_then (λ n. value_of (entries_of h n) name) found
+
+-- the path is the directory's with the name behind it, in its revision
+abbrev pub IsStep : BaseNode → ℕ → Path → List ℕ → Type 0
+IsStep (DirNode r q complete props) rev p name = (r ≡ rev) × (p ≡ child q name)
+IsStep _ rev p name = ⊥
+
+-- the second path is one of these names below the first
+abbrev pub has_child : Path → Path → List (List ℕ) → Bool
+has_child p q names = list_any (λ name. path_eq (child p name) q) names
+
+-- no node of the list stands at the path or below, if they are in path order and behind the path
+abbrev pub IsPast : Path → List (Path × BaseNode) → Type 0
+IsPast p [] = Unit {0}
+IsPast p (e ∷ es) = is_within p e.0 ≡ false
+
+-- the first node was taken, which stands at the path or below; or none does
+abbrev pub TakesNext : Path → List (Path × BaseNode) → Option (Path × BaseNode) → List (Path × BaseNode) → Type 0
+TakesNext p old None new = IsPast p old × (new ≡ old)
+TakesNext p old (Some e) new = (old ≡ e ∷ new) × (is_within p e.0 ≡ true)
+
+-- a prefix was taken away
+abbrev pub IsRest : List (Path × BaseNode) → List (Path × BaseNode) → Type 0
+IsRest old new = (taken : List (Path × BaseNode)) × (old ≡ taken ++ new)
+
+-- all of them stand strictly below the path
+abbrev pub all_below : Path → List (Path × BaseNode) → Bool
+all_below p nodes = list_all (λ e. is_below p e.0) nodes
+
+-- the nodes taken stand below the path, and the first untrue node of these and the path's own is found
+pub record HasWalked (h : History) (nodes : List (Path × BaseNode)) (e : Path × BaseNode) (old : List (Path × BaseNode))
+    (found : Option Path) (new : List (Path × BaseNode)) : Type 0 where
+  pub taken : List (Path × BaseNode)
+  pub parts : old ≡ taken ++ new
+  pub below : all_below e.0 taken ≡ true
+  pub first : found ≡ first_untrue_in h (get_in nodes) (e ∷ taken)

@@ -1,0 +1,144 @@
+//! The editor that applies an edit to a working copy.
+ghost use Rattle.std.specs.Prelude.{◌≡◌, ◌≢◌, true, [], ◌∷◌, ◌++◌, List, IfOk, IfErr, OnOk, OnErr, None, Some};
+ghost use Rattle.md5.specs.Md5.{md5};
+ghost use Rattle.svn_editor.specs.declared.call.Call.{Call};
+ghost use Rattle.svn_editor.specs.declared.fault.EditFault.TheVariants.{Memory};
+ghost use Rattle.svn_editor.specs.Calls.{is_last};
+ghost use Rattle.svn_editor.specs.Steps.{Mode, Update, SwitchTo};
+ghost use Rattle.svn_model.specs.Nodes.{WorkingCopy as CopyMap, get_in};
+ghost use Rattle.svn_model.specs.Effects.{refusal};
+ghost use Rattle.svn_edit_law.specs.Laws.{EndsNamed, OpensNamed, IsShapedAfter};
+ghost use Rattle.svn_edit.specs.Applying.{mode_of, live_count, StandsAfter, HasEnded, IsRefused, StaysRefused, StaysEnded, LeavesRefused};
+ghost use Rattle.svn_model.specs.Answering.{AnswersCall};
+ghost use Rattle.svn_wc.specs.Taking.{IsBegun, IsInShape};
+
+use crate::working_copy::WorkingCopy;
+use std::alloc::Global;
+use svn_edit::Edit;
+use svn_editor::{Call, EditFault, Editor};
+use svn_types::RelPath;
+
+/// Applies the calls of an edit to a copy. As long as the edit goes on, it stands after some calls, which left the copy in its shape.
+#[derive(Drop)]
+pub struct Applier<'a> {
+    copy: &'a mut WorkingCopy,
+    edit: Edit,
+    ghost in_shape: { ∥ IsInShape edit copy.now ∥₁ },
+}
+
+impl<'a> Applier<'a> {
+    /// An applier of an update, which no call was given to. The only fault is Memory.
+    pub fn new(alloc: Global, copy: &'a mut WorkingCopy) -> Result<Applier<'a>, EditFault>
+        ensures begun { IfOk result (λ a. StandsAfter Update (get_in copy.old) a.edit a.copy.now []) }
+        ensures shape { IfOk result (λ a. IsShapedAfter Update (get_in a.copy.now) []) }
+        ensures same_copy { IfOk result (λ a. a.copy.ghost_name ≡ copy.entry.ghost_name) }
+        ensures memory { IfErr result (λ e. e ≡ Memory) }
+    {
+        copy.law();
+        let edit = Edit::new(alloc, None)?;
+        Ok(Applier { copy, edit })
+    }
+
+    /// An applier by an edit that was begun before, and that no call was given to. It takes no memory.
+    pub fn with_edit(copy: &'a mut WorkingCopy, edit: Edit) -> Applier<'a>
+        requires { IsBegun edit copy.old }
+        ensures edit { result.edit ≡ edit }
+        ensures nodes { result.copy.now ≡ copy.old }
+        ensures same_copy { result.copy.ghost_name ≡ copy.entry.ghost_name }
+    {
+        copy.law();
+        Applier { copy, edit }
+    }
+
+    /// The copy that it was given, so that what holds of it now can be said after the applier is gone. It takes no memory.
+    pub fn into_copy(self) -> &'a mut WorkingCopy
+        ensures nodes { result.now ≡ self.entry.copy.now }
+        ensures same_copy { result.ghost_name ≡ self.entry.copy.ghost_name }
+    {
+        let Applier { copy, edit: _ } = self;
+        copy
+    }
+
+    /// An applier of a switch of the whole copy to that path of the repository. The only fault is Memory. A path of over 64 names is
+    /// refused at OpenRoot, as TooDeep.
+    pub fn new_switch(
+        alloc: Global,
+        copy: &'a mut WorkingCopy,
+        to: &RelPath,
+    ) -> Result<Applier<'a>, EditFault>
+        ensures begun { IfOk result (λ a. StandsAfter (SwitchTo to.now) (get_in copy.old) a.edit a.copy.now []) }
+        ensures shape { IfOk result (λ a. IsShapedAfter (SwitchTo to.now) (get_in a.copy.now) []) }
+        ensures same_copy { IfOk result (λ a. a.copy.ghost_name ≡ copy.entry.ghost_name) }
+        ensures memory { IfErr result (λ e. e ≡ Memory) }
+    {
+        copy.law();
+        let Ok(root) = to.clone() else {
+            return Err(EditFault::Memory);
+        };
+        let edit = Edit::new(alloc, Some(root))?;
+        Ok(Applier { copy, edit })
+    }
+
+    // Takes the next call.
+    fn take(&mut self, call: Call) -> Result<(), EditFault>
+        ensures answers { (mode : Mode) (w0 : CopyMap) (calls : List Call) → StandsAfter mode w0 self.old.edit self.old.copy.now calls → AnswersCall (refusal md5 mode calls call self.old.copy.now) result }
+        ensures accepted { OnOk result ((mode : Mode) (w0 : CopyMap) (calls : List Call) → StandsAfter mode w0 self.old.edit self.old.copy.now calls → StandsAfter mode w0 self.new.edit self.new.copy.now (calls ++ call ∷ [])) }
+        ensures shape { OnOk result ((mode : Mode) (w0 : CopyMap) (calls : List Call) → StandsAfter mode w0 self.old.edit self.old.copy.now calls → IsShapedAfter mode (get_in self.old.copy.now) calls → IsShapedAfter mode (get_in self.new.copy.now) (calls ++ call ∷ [])) }
+        ensures refused { OnErr result ((mode : Mode) (w0 : CopyMap) (calls : List Call) → StandsAfter mode w0 self.old.edit self.old.copy.now calls → self.new.copy.now ≡ self.old.copy.now) }
+        ensures dead { LeavesRefused self.old.edit.stage result self.new.edit }
+        ensures was_refused { IsRefused self.old.edit → StaysRefused call result self.new.edit × (self.new.copy.now ≡ self.old.copy.now) }
+        ensures ended { HasEnded self.old.edit → StaysEnded self.old.edit result self.new.edit × (self.new.copy.now ≡ self.old.copy.now) }
+        ensures last { is_last call ≡ true → mode_of self.old.edit.root ≡ Update → IfErr result (λ e. e ≢ Memory) }
+        ensures same_copy { self.new.copy.ghost_name ≡ self.old.copy.ghost_name }
+    {
+        opens_allowed(&call);
+        let copy = &mut *self.copy;
+        self.edit.call(&mut copy.nodes, &call)
+    }
+
+    /// How many pools are live: one, and one for each file or directory that is open; after the last call one. It takes no memory.
+    pub fn live_pools(&self) -> u64
+        ensures { (mode : Mode) (w0 : CopyMap) (calls : List Call) → StandsAfter mode w0 self.now.edit self.now.copy.now calls → result ≡ live_count calls }
+    {
+        self.edit.live_pools()
+    }
+}
+
+impl<'a> Editor for Applier<'a> {
+    ghost use Rattle.std.specs.Prelude.{◌≡◌};
+    ghost use Rattle.svn_wc.specs.Taking.{TakesCall};
+
+    ghost answers = { λ before call answer after.
+        TakesCall before.edit before.copy.now call answer after.edit after.copy.now
+        × (after.copy.ghost_name ≡ before.copy.ghost_name) };
+
+    /// Takes the next call, and changes the copy as it says. The faults come in the order that `svn_edit::Edit::call` names. After a refusal
+    /// the copy is as it was, and every call but AbortEdit is refused: Dead. After the last call each is Ended.
+    fn call(&mut self, call: Call) -> Result<(), EditFault> {
+        self.take(call)
+    }
+}
+
+// The last name of a path is an allowed one.
+fn last_name_allowed(path: &RelPath)
+    ensures { EndsNamed path.now }
+{
+    let names = path.components();
+    if names.len() > 0 {
+        let _text = names[names.len() - 1].as_str();
+    }
+}
+
+// The path that a call opens or adds ends with an allowed name.
+fn opens_allowed(call: &Call)
+    ensures { OpensNamed call.now }
+{
+    match call {
+        Call::OpenRoot { .. } => {}
+        Call::AddDirectory { path, .. } => last_name_allowed(path),
+        Call::OpenDirectory { path, .. } => last_name_allowed(path),
+        Call::AddFile { path, .. } => last_name_allowed(path),
+        Call::OpenFile { path, .. } => last_name_allowed(path),
+        _ => {}
+    }
+}

@@ -1,0 +1,292 @@
+//! Copies made of trees of the repository, and trees of the repository placed in a copy.
+ghost use Rattle.std.specs.Prelude.{◌≡◌, ◌++◌, [], IfOk, IfErr, OnOk, OnErr, Some, None, nat_le};
+ghost use Rattle.std.specs.Option.{option_copied};
+ghost use Rattle.svn_types.specs.Names.{Path};
+ghost use Rattle.svn_types.specs.Paths.{path_eq, parent, last_name};
+ghost use Rattle.svn_repo.specs.History.{look};
+ghost use Rattle.svn_repo.specs.Readings.{kind_of};
+ghost use Rattle.svn_model.specs.Nodes.{get_in, IsWorkingCopy, IsTrueOf};
+ghost use Rattle.svn_model.specs.Builders.{checkout, placed};
+ghost use Rattle.svn_model.specs.Effects.{joined_path};
+ghost use Rattle.svn_model.specs.Refusals.{is_missing_revision, is_file_kind, is_too_deep, checkout_fault, place_fault, switch_fault};
+ghost use Rattle.svn_edit_law.specs.Laws.{EndsNamed};
+ghost use Rattle.svn_wc.specs.Building.{Refuses, tree_at};
+
+use crate::gather::{Origin, gather, map_of};
+use crate::paths::last_name_allowed;
+use crate::replace::replace_within;
+use crate::truth::entry_under;
+use crate::working_copy::WorkingCopy;
+use std::alloc::{AllocError, Global};
+use svn_edit::{Nodes, child_path, parent_path};
+use svn_edit_law::{a_checkout_is_a_true_copy, placing_keeps_a_copy, switching_keeps_a_copy};
+use svn_model::{BaseNode, WcFault};
+use svn_repo::{NodeId, Repo};
+use svn_types::{Kind, RelPath, Rev};
+
+const MAX_NAMES: usize = 64;
+
+fn is_missing(repo: &Repo, rev: Rev) -> bool
+    ensures { result ≡ is_missing_revision repo.now rev }
+{
+    rev.0 > repo.latest().0
+}
+
+fn is_file(repo: &Repo, id: NodeId) -> bool
+    ensures { result ≡ is_file_kind (kind_of repo.now id) }
+{
+    repo.kind(id) != Some(Kind::Directory)
+}
+
+// Whether a path may not have a node with this repository path.
+pub(crate) fn is_too_deep(path: &RelPath, repos_path: &RelPath) -> bool
+    ensures { result ≡ is_too_deep path.now repos_path.now }
+{
+    let names = repos_path.components().len();
+    names > MAX_NAMES || path.components().len() > MAX_NAMES + names
+}
+
+// The tree at a path of the repository, as nodes at a path of the copy and below.
+pub(crate) fn tree_nodes(
+    from: &Origin<'_>,
+    at: &RelPath,
+    repos_path: &RelPath,
+    id: NodeId,
+) -> Result<Nodes, AllocError>
+    requires { look from.now.repo.now from.now.rev repos_path.now ≡ Some id }
+    ensures { IfOk result (λ m. (p : Path) → get_in m.entries p ≡ tree_at from.now.repo.now at.now repos_path.now from.now.rev p) }
+{
+    let mut pairs = Vec::new(from.alloc);
+    gather(from, at, repos_path, id, &mut pairs)?;
+    map_of(from.alloc, pairs)
+}
+
+// The directory at a path of a revision.
+fn find_root(repo: &Repo, root: &RelPath, rev: Rev) -> Result<NodeId, WcFault>
+    ensures found { IfOk result (λ id. look repo.now rev root.now ≡ Some id) }
+    ensures made { OnOk result (checkout_fault repo.now root.now rev ≡ None) }
+    ensures fault { IfErr result (λ e. checkout_fault repo.now root.now rev ≡ Some e) }
+{
+    if is_missing(repo, rev) {
+        return Err(WcFault::NoSuchRevision);
+    }
+    let Some(id) = repo.lookup(rev, root) else {
+        return Err(WcFault::Missing);
+    };
+    if is_file(repo, id) {
+        return Err(WcFault::BadRoot);
+    }
+    Ok(id)
+}
+
+// What stands in a revision one name below a path: the last name of another.
+fn find_named(repo: &Repo, rev: Rev, above: &RelPath, path: &RelPath) -> Option<NodeId>
+    ensures { result ≡ look repo.now rev (above.now ++ last_name path.now) }
+{
+    let id = repo.lookup(rev, above);
+    match path.components().last() {
+        Some(name) => entry_under(repo, &id, name),
+        None => id,
+    }
+}
+
+// A path with the last name of another behind it.
+fn joined(alloc: Global, above: &RelPath, path: &RelPath) -> Result<RelPath, AllocError>
+    ensures { IfOk result (λ p. p ≡ above.now ++ last_name path.now) }
+{
+    match path.components().last() {
+        Some(name) => child_path(alloc, above, name),
+        None => above.clone(),
+    }
+}
+
+// Whether a path is the one above another; above the root is the root.
+pub(crate) fn is_parent(other: &RelPath, path: &RelPath) -> bool
+    ensures { result ≡ path_eq (parent path.now) other.now }
+{
+    match path.components().split_last() {
+        Some((_, front)) => front == other.components(),
+        None => other.is_root(),
+    }
+}
+
+impl WorkingCopy {
+    /// The tree at a path of a revision: each node complete, its repository path the root's joined with its path. NoSuchRevision, Missing where
+    /// nothing stands there, BadRoot for a file; else Memory alone.
+    pub fn checkout_at(
+        alloc: Global,
+        repo: &Repo,
+        root: &RelPath,
+        rev: Rev,
+    ) -> Result<WorkingCopy, WcFault>
+        ensures nodes { IfOk result (λ w. (p : Path) → get_in w p ≡ checkout repo.now root.now rev p) }
+        ensures truth { IfOk result (λ w. IsTrueOf repo.now (get_in w)) }
+        ensures made { OnOk result (checkout_fault repo.now root.now rev ≡ None) }
+        ensures fault { IfErr result (Refuses (checkout_fault repo.now root.now rev)) }
+    {
+        repo.law();
+        a_checkout_is_a_true_copy();
+        let id = find_root(repo, root, rev)?;
+        let from = Origin { alloc, repo, rev };
+        let nodes = tree_nodes(&from, &RelPath::root(alloc), root, id)?;
+        Ok(WorkingCopy { alloc, nodes })
+    }
+
+    // What stands at the path above, looked for at each path in turn.
+    fn find_above(&self, path: &RelPath) -> Option<&BaseNode>
+        ensures { option_copied result ≡ get_in self.now (parent path.now) }
+    {
+        for (other, _) in &self.nodes {
+            if is_parent(other, path) {
+                return self.nodes.get(other);
+            }
+        }
+        None
+    }
+
+    // What stands at the path above. The look-up needs that path: where its memory is refused, all paths are looked through, so that the answer
+    // is the same.
+    fn node_above(&self, path: &RelPath) -> Option<&BaseNode>
+        ensures { option_copied result ≡ get_in self.now (parent path.now) }
+    {
+        match parent_path(self.alloc, path) {
+            Ok(above) => self.nodes.get(&above),
+            Err(_) => self.find_above(path),
+        }
+    }
+
+    // What is placed at a path.
+    fn find_placed(&self, repo: &Repo, path: &RelPath, rev: Rev) -> Result<NodeId, WcFault>
+        ensures found { IfOk result (λ id. look repo.now rev (joined_path (get_in self.now) path.now) ≡ Some id) }
+        ensures made { OnOk result (place_fault repo.now (get_in self.now) path.now rev ≡ None) }
+        ensures fault { IfErr result (λ e. place_fault repo.now (get_in self.now) path.now rev ≡ Some e) }
+    {
+        if path.is_root() {
+            return Err(WcFault::IsRoot);
+        }
+        if is_missing(repo, rev) {
+            return Err(WcFault::NoSuchRevision);
+        }
+        let Some(BaseNode::Dir { repos_path, .. }) = self.node_above(path) else {
+            return Err(WcFault::NoParent);
+        };
+        match find_named(repo, rev, repos_path, path) {
+            Some(id) => Ok(id),
+            None => Err(WcFault::Missing),
+        }
+    }
+
+    // The repository path of what is placed at a path: that of the node above, with the name behind it.
+    fn path_placed(&self, path: &RelPath) -> Result<RelPath, AllocError>
+        ensures { IfOk result (λ p. p ≡ joined_path (get_in self.now) path.now) }
+    {
+        match self.node_above(path) {
+            Some(BaseNode::File { repos_path, .. }) => joined(self.alloc, repos_path, path),
+            Some(BaseNode::Dir { repos_path, .. }) => joined(self.alloc, repos_path, path),
+            Some(BaseNode::NotPresent) | None => {
+                joined(self.alloc, &RelPath::root(self.alloc), path)
+            }
+        }
+    }
+
+    // What is switched to at a path.
+    fn find_switched(
+        &self,
+        repo: &Repo,
+        path: &RelPath,
+        repos_path: &RelPath,
+        rev: Rev,
+    ) -> Result<NodeId, WcFault>
+        ensures found { IfOk result (λ id. look repo.now rev repos_path.now ≡ Some id) }
+        ensures made { OnOk result (switch_fault repo.now (get_in self.now) path.now repos_path.now rev ≡ None) }
+        ensures fault { IfErr result (λ e. switch_fault repo.now (get_in self.now) path.now repos_path.now rev ≡ Some e) }
+    {
+        if path.is_root() {
+            return Err(WcFault::IsRoot);
+        }
+        if is_missing(repo, rev) {
+            return Err(WcFault::NoSuchRevision);
+        }
+        let Some(BaseNode::Dir { .. }) = self.node_above(path) else {
+            return Err(WcFault::NoParent);
+        };
+        if is_too_deep(path, repos_path) {
+            return Err(WcFault::TooDeep);
+        }
+        match repo.lookup(rev, repos_path) {
+            Some(id) => Ok(id),
+            None => Err(WcFault::Missing),
+        }
+    }
+
+    // Puts the tree at a path of the repository in the place of what stands at a path of the copy and below.
+    fn put_tree(
+        &mut self,
+        from: &Origin<'_>,
+        path: &RelPath,
+        repos_path: &RelPath,
+        id: NodeId,
+    ) -> Result<(), AllocError>
+        requires stands { look from.now.repo.now from.now.rev repos_path.now ≡ Some id }
+        requires shape { IsWorkingCopy (placed from.now.repo.now (get_in self.old) path.now repos_path.now from.now.rev) }
+        ensures nodes { OnOk result ((p : Path) → get_in self.new p ≡ placed from.now.repo.now (get_in self.old) path.now repos_path.now from.now.rev p) }
+        ensures unchanged { OnErr result (self.new ≡ self.old) }
+    {
+        let part = tree_nodes(from, path, repos_path, id)?;
+        replace_within(self.alloc, &mut self.nodes, path, part)
+    }
+
+    /// Puts the tree of a revision at the parent's repository path joined with the name in the place of what stands at a path, and beneath;
+    /// nothing needs to stand there. IsRoot, NoSuchRevision, NoParent where the parent isn't a present directory, Missing where the repository has
+    /// nothing there; else Memory alone. A refusal leaves the copy as it was. It costs what goes and what comes.
+    pub fn place(&mut self, repo: &Repo, path: &RelPath, rev: Rev) -> Result<(), WcFault>
+        ensures nodes { OnOk result ((p : Path) → get_in self.new p ≡ placed repo.now (get_in self.old) path.now (joined_path (get_in self.old) path.now) rev p) }
+        ensures made { OnOk result (place_fault repo.now (get_in self.old) path.now rev ≡ None) }
+        ensures fault { IfErr result (Refuses (place_fault repo.now (get_in self.old) path.now rev)) }
+        ensures unchanged { OnErr result (self.new ≡ self.old) }
+        ensures truth { OnOk result (IsTrueOf repo.now (get_in self.old) → IsTrueOf repo.now (get_in self.new)) }
+    {
+        repo.law();
+        self.law();
+        placing_keeps_a_copy();
+        last_name_allowed(path);
+        let id = self.find_placed(repo, path, rev)?;
+        let repos_path = self.path_placed(path)?;
+        let from = Origin {
+            alloc: self.alloc,
+            repo,
+            rev,
+        };
+        self.put_tree(&from, path, &repos_path, id)?;
+        Ok(())
+    }
+
+    /// Puts the tree at another repository path in the place of what stands at a path, and beneath. As `place`, but TooDeep, after NoParent, where
+    /// the repository path has over 64 names, or the path over 64 more.
+    pub fn switch(
+        &mut self,
+        repo: &Repo,
+        path: &RelPath,
+        repos_path: &RelPath,
+        rev: Rev,
+    ) -> Result<(), WcFault>
+        ensures nodes { OnOk result ((p : Path) → get_in self.new p ≡ placed repo.now (get_in self.old) path.now repos_path.now rev p) }
+        ensures made { OnOk result (switch_fault repo.now (get_in self.old) path.now repos_path.now rev ≡ None) }
+        ensures fault { IfErr result (Refuses (switch_fault repo.now (get_in self.old) path.now repos_path.now rev)) }
+        ensures unchanged { OnErr result (self.new ≡ self.old) }
+        ensures truth { OnOk result (IsTrueOf repo.now (get_in self.old) → IsTrueOf repo.now (get_in self.new)) }
+    {
+        repo.law();
+        self.law();
+        switching_keeps_a_copy();
+        last_name_allowed(path);
+        let id = self.find_switched(repo, path, repos_path, rev)?;
+        let from = Origin {
+            alloc: self.alloc,
+            repo,
+            rev,
+        };
+        self.put_tree(&from, path, repos_path, id)?;
+        Ok(())
+    }
+}

@@ -1,0 +1,160 @@
+//! What a copy reports.
+ghost use Rattle.std.specs.Prelude.{◌≡◌, ◌++◌, [], not, Some, IsOk, IfOk, IfErr, OnOk, true, false};
+ghost use Rattle.std.specs.Option.{option_copied};
+ghost use Rattle.svn_types.specs.Paths.{path_eq, last_name, is_root};
+ghost use Rattle.svn_model.specs.Nodes.{get_in, is_dir, is_present, is_incomplete, node_revision, node_path};
+ghost use Rattle.svn_model.specs.Crawl.{entry_for, crawl};
+ghost use Rattle.svn_wc.specs.Crawling.{with_reported, IsBelow};
+
+use crate::paths::is_child;
+use crate::working_copy::WorkingCopy;
+use std::alloc::{AllocError, Global};
+use svn_model::{BaseNode, WcFault};
+use svn_report::{Report, Reporter, ReporterFault};
+use svn_types::{RelPath, Rev};
+
+// The nodes of a copy stand in path order, each below a directory, so no fault of a reporter but want of memory comes.
+fn or_memory(answer: Result<(), ReporterFault>) -> Result<(), WcFault>
+    ensures ok { OnOk result (IsOk answer) }
+    ensures fault { IfErr result (λ e. e ≡ WcFault.Memory) }
+{
+    match answer {
+        Ok(()) => Ok(()),
+        Err(_) => Err(WcFault::Memory),
+    }
+}
+
+fn is_incomplete(node: &BaseNode) -> bool
+    ensures { result ≡ is_incomplete (Some node.now) }
+{
+    match node {
+        BaseNode::Dir { complete, .. } => !*complete,
+        BaseNode::File { .. } | BaseNode::NotPresent => false,
+    }
+}
+
+fn revision(node: &BaseNode) -> Rev
+    ensures { result ≡ node_revision (Some node.now) }
+{
+    match node {
+        BaseNode::File { rev, .. } => *rev,
+        BaseNode::Dir { rev, .. } => *rev,
+        BaseNode::NotPresent => Rev(0),
+    }
+}
+
+// Whether the repository path of a node isn't that of the directory above with the node's name behind it.
+fn is_switched(above: &BaseNode, path: &RelPath, repos_path: &RelPath) -> bool
+    ensures { IsBelow path.now (Some above.now) → result ≡ not (path_eq repos_path.now (node_path (Some above.now) ++ last_name path.now)) }
+{
+    match (above, path.components().last()) {
+        (
+            BaseNode::Dir {
+                repos_path: front,
+                ..
+            },
+            Some(name),
+        ) => !is_child(front, name, repos_path),
+        _ => true,
+    }
+}
+
+// Reports a present node below a directory, where it isn't what the directory's own entry says.
+fn report_present(
+    reporter: &mut Reporter,
+    path: &RelPath,
+    above: &BaseNode,
+    node: &BaseNode,
+    repos_path: &RelPath,
+) -> Result<(), WcFault>
+    requires present { is_present (Some node.now) ≡ true }
+    requires repos_path { repos_path.now ≡ node_path (Some node.now) }
+    ensures reported { OnOk result (IsBelow path.now (Some above.now) → reporter.new ≡ with_reported reporter.old path.now (entry_for path.now (Some above.now) (Some node.now))) }
+    ensures fault { IfErr result (λ e. e ≡ WcFault.Memory) }
+{
+    let (rev, incomplete) = (revision(node), is_incomplete(node));
+    if is_switched(above, path, repos_path) {
+        return or_memory(reporter.link_path(path, repos_path.clone()?, rev, incomplete));
+    }
+    if is_incomplete(above) || incomplete || rev != revision(above) {
+        return or_memory(reporter.set_path(path, rev, incomplete));
+    }
+    Ok(())
+}
+
+// Reports a node below a directory.
+fn report_below(
+    reporter: &mut Reporter,
+    path: &RelPath,
+    above: &BaseNode,
+    node: &BaseNode,
+) -> Result<(), WcFault>
+    ensures reported { OnOk result (IsBelow path.now (Some above.now) → reporter.new ≡ with_reported reporter.old path.now (entry_for path.now (Some above.now) (Some node.now))) }
+    ensures fault { IfErr result (λ e. e ≡ WcFault.Memory) }
+{
+    match node {
+        BaseNode::File { repos_path, .. } => report_present(
+            reporter, path, above, node, repos_path,
+        ),
+        BaseNode::Dir { repos_path, .. } => report_present(reporter, path, above, node, repos_path),
+        BaseNode::NotPresent => {
+            if is_incomplete(above) {
+                Ok(())
+            } else {
+                or_memory(reporter.delete_path(path))
+            }
+        }
+    }
+}
+
+// Reports a node below the one above it: the root, where there is none.
+fn report_node(
+    reporter: &mut Reporter,
+    path: &RelPath,
+    above: Option<&BaseNode>,
+    node: &BaseNode,
+) -> Result<(), WcFault>
+    ensures reported { OnOk result (IsBelow path.now (option_copied above.entry) → reporter.new ≡ with_reported reporter.old path.now (entry_for path.now (option_copied above.entry) (Some node.now))) }
+    ensures fault { IfErr result (λ e. e ≡ WcFault.Memory) }
+{
+    match above {
+        Some(above) => report_below(reporter, path, above, node),
+        None => or_memory(reporter.set_path(path, revision(node), is_incomplete(node))),
+    }
+}
+
+impl WorkingCopy {
+    // The repository path of the root.
+    fn root_path(&self, alloc: Global) -> Result<RelPath, AllocError>
+        ensures { IfOk result (λ p. p ≡ node_path (get_in self.now [])) }
+    {
+        let root = RelPath::root(alloc);
+        match self.nodes.get(&root) {
+            Some(BaseNode::File { repos_path, .. }) => repos_path.clone(),
+            Some(BaseNode::Dir { repos_path, .. }) => repos_path.clone(),
+            Some(BaseNode::NotPresent) | None => Ok(root),
+        }
+    }
+
+    /// What the copy reports to a server: the root by `set_path`, and below it, in path order, what isn't as the entries above say. Below a
+    /// complete directory that is: a `delete_path` for what is not present, a `link_path` for a switched node, a `set_path` for another
+    /// revision than the directory's, and for an incomplete directory. Below an incomplete directory it is each present node. Incomplete
+    /// directories start empty. The only fault is Memory.
+    pub fn crawl(&self, alloc: Global) -> Result<Report, WcFault>
+        ensures report { IfOk result (λ r. r ≡ crawl self.now) }
+        ensures fault { IfErr result (λ e. e ≡ WcFault.Memory) }
+    {
+        self.law();
+        let mut reporter = Reporter::new_at(alloc, self.root_path(alloc)?);
+        // the nodes at the root, and at each path down to the last one
+        let mut line = Vec::new(alloc);
+        for (path, node) in &self.nodes {
+            line.truncate(path.components().len());
+            report_node(&mut reporter, path, line.last().copied(), node)?;
+            let Ok(()) = line.push(node) else {
+                return Err(WcFault::Memory);
+            };
+        }
+        Ok(reporter.finish_report())
+    }
+}

@@ -1,0 +1,159 @@
+//! Copies made of lists of nodes. What is wrong with a list is found without memory, so that want of it never hides a fault.
+ghost use Rattle.std.specs.Prelude.{◌≡◌, IfOk, IfErr, OnOk, Some, None};
+ghost use Rattle.std.specs.List.{list_any};
+ghost use Rattle.svn_types.specs.Names.{Path};
+ghost use Rattle.svn_types.specs.Paths.{parent};
+ghost use Rattle.svn_model.specs.Nodes.{get_in, is_dir};
+ghost use Rattle.svn_model.specs.Refusals.{is_of, has_twice, is_orphan, is_node_too_deep, nodes_fault};
+ghost use Rattle.svn_edit_law.specs.CopyLaws.{AllEndNamed};
+ghost use Rattle.svn_wc.specs.Building.{Refuses};
+
+use crate::building::{is_parent, is_too_deep};
+use crate::gather::map_of;
+use crate::paths::last_name_allowed;
+use crate::working_copy::WorkingCopy;
+use std::alloc::Global;
+use svn_edit_law::nodes_make_a_copy;
+use svn_model::{BaseNode, WcFault};
+use svn_types::RelPath;
+
+// The last name of each path is an allowed one.
+fn last_names_allowed(nodes: &[(RelPath, BaseNode)])
+    ensures { AllEndNamed nodes.now }
+{
+    let mut rest = nodes;
+    'nodes: while let Some((first, after)) = rest.split_first() {
+        last_name_allowed(&first.0);
+        rest = after;
+    }
+}
+
+// Whether one of the nodes has that path.
+fn has_path(nodes: &[(RelPath, BaseNode)], path: &RelPath) -> bool
+    ensures { result ≡ list_any (is_of path.now) nodes.now }
+{
+    let mut rest = nodes;
+    'nodes: while let Some((first, after)) = rest.split_first() {
+        if path == &first.0 {
+            return true;
+        }
+        rest = after;
+    }
+    false
+}
+
+// Whether two of the nodes have the same path.
+fn has_twice(nodes: &[(RelPath, BaseNode)]) -> bool
+    ensures { result ≡ has_twice nodes.now }
+{
+    let mut rest = nodes;
+    'nodes: while let Some((first, after)) = rest.split_first() {
+        if has_path(after, &first.0) {
+            return true;
+        }
+        rest = after;
+    }
+    false
+}
+
+fn is_directory(node: &BaseNode) -> bool
+    ensures { result ≡ is_dir (Some node.now) }
+{
+    match node {
+        BaseNode::Dir { .. } => true,
+        BaseNode::File { .. } | BaseNode::NotPresent => false,
+    }
+}
+
+// Whether the nodes have a directory at the path above another; above the root is the root.
+fn has_above(nodes: &[(RelPath, BaseNode)], path: &RelPath) -> bool
+    ensures { result ≡ is_dir (get_in nodes.now (parent path.now)) }
+{
+    let mut rest = nodes;
+    'nodes: while let Some((first, after)) = rest.split_first() {
+        if is_parent(&first.0, path) {
+            return is_directory(&first.1);
+        }
+        rest = after;
+    }
+    false
+}
+
+// Whether one of some nodes has no directory above it among all.
+fn has_orphan(all: &[(RelPath, BaseNode)], nodes: &[(RelPath, BaseNode)]) -> bool
+    ensures { result ≡ list_any (is_orphan (get_in all.now)) nodes.now }
+{
+    let mut rest = nodes;
+    'nodes: while let Some((first, after)) = rest.split_first() {
+        if !first.0.is_root() && !has_above(all, &first.0) {
+            return true;
+        }
+        rest = after;
+    }
+    false
+}
+
+fn is_node_too_deep(path: &RelPath, node: &BaseNode) -> bool
+    ensures { result ≡ is_node_too_deep (path.now, node.now) }
+{
+    match node {
+        BaseNode::File { repos_path, .. } => is_too_deep(path, repos_path),
+        BaseNode::Dir { repos_path, .. } => is_too_deep(path, repos_path),
+        BaseNode::NotPresent => false,
+    }
+}
+
+// Whether one of the nodes is too deep.
+fn has_too_deep(nodes: &[(RelPath, BaseNode)]) -> bool
+    ensures { result ≡ list_any is_node_too_deep nodes.now }
+{
+    let mut rest = nodes;
+    'nodes: while let Some((first, after)) = rest.split_first() {
+        if is_node_too_deep(&first.0, &first.1) {
+            return true;
+        }
+        rest = after;
+    }
+    false
+}
+
+// Why a copy can't be made of the nodes.
+fn nodes_fault(alloc: Global, nodes: &[(RelPath, BaseNode)]) -> Option<WcFault>
+    ensures { result ≡ nodes_fault nodes.now }
+{
+    if has_twice(nodes) {
+        return Some(WcFault::Twice);
+    }
+    if !has_above(nodes, &RelPath::root(alloc)) {
+        return Some(WcFault::BadRoot);
+    }
+    if has_orphan(nodes, nodes) {
+        return Some(WcFault::NoParent);
+    }
+    if has_too_deep(nodes) {
+        return Some(WcFault::TooDeep);
+    }
+    None
+}
+
+impl WorkingCopy {
+    /// A copy of these nodes, which may come in any order. Twice for a path that comes twice, BadRoot where the root is missing or is no
+    /// directory, NoParent where a node's parent isn't a directory, TooDeep where a repository path has over 64 names, or a path over 64 more;
+    /// else Memory alone. It costs the square of their number.
+    pub fn from_nodes(
+        alloc: Global,
+        nodes: Vec<(RelPath, BaseNode)>,
+    ) -> Result<WorkingCopy, WcFault>
+        ensures nodes { IfOk result (λ w. (p : Path) → get_in w p ≡ get_in nodes.items p) }
+        ensures made { OnOk result (nodes_fault nodes.items ≡ None) }
+        ensures fault { IfErr result (Refuses (nodes_fault nodes.items)) }
+    {
+        nodes_make_a_copy();
+        last_names_allowed(&nodes);
+        if let Some(fault) = nodes_fault(alloc, &nodes) {
+            return Err(fault);
+        }
+        let map = map_of(alloc, nodes)?;
+        Ok(WorkingCopy { alloc, nodes: map })
+    }
+}
