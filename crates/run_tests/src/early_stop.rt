@@ -1,6 +1,6 @@
 // An update whose driver is never more than two calls ahead, and which may be refused memory anywhere.
 use crate::histories::path_at;
-use crate::threads::IN_PLACE;
+use crate::threads::{IN_PLACE, comes};
 use std::alloc::Global;
 use std::process::Abort;
 use std::sync::atomic::{AtomicU64, Ordering};
@@ -9,9 +9,6 @@ use svn_repo::{Change, Repo};
 use svn_run::{Cause, Gate, Outcome, RunFault, update};
 use svn_types::{Rev, Text};
 use svn_wc::WorkingCopy;
-
-// How often the driver looks for the other thread before it goes on.
-const TURNS: u64 = 10_000_000;
 
 const FILES: u64 = 40;
 
@@ -26,11 +23,7 @@ struct InStep {
 
 impl Gate for InStep {
     fn before_send(&self, n: u64) {
-        for _ in 0..TURNS {
-            if self.taken.load(Ordering::SeqCst) >= n.saturating_sub(1) {
-                return;
-            }
-        }
+        comes(&self.taken, n.saturating_sub(1));
     }
 
     fn after_take(&self, n: u64) {

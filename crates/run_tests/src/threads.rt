@@ -4,11 +4,23 @@ use crate::rows::ONE_FILE;
 use std::process::Abort;
 use std::sync::atomic::{AtomicBool, AtomicU64, Ordering};
 use std::test::Fail;
+use std::thread;
 use svn_run::{Gate, Options, Outcome, update};
 use svn_types::Rev;
 
-// How often a thread looks for the other before it gives up.
-const TURNS: u64 = 10_000_000;
+// How often a thread looks for the other before it gives up: more than enough for a machine on which much else runs.
+const LOOKS: u64 = 1_000_000_000;
+
+// Waits until the other thread has come so far; the answer says whether it has.
+pub(crate) fn comes(count: &AtomicU64, n: u64) -> bool {
+    for _ in 0..LOOKS {
+        if count.load(Ordering::SeqCst) >= n {
+            return true;
+        }
+        thread::yield_now();
+    }
+    false
+}
 
 pub(crate) const IN_PLACE: Options = Options {
     capacity: 1,
@@ -19,34 +31,31 @@ pub(crate) const IN_PLACE: Options = Options {
 // The third call is held back until the first was taken, and that one until the third is to be sent.
 #[derive(Drop)]
 struct Meeting {
-    third_begun: AtomicBool,
-    first_taken: AtomicBool,
+    begun: AtomicU64,
+    taken: AtomicU64,
     given_up: AtomicBool,
 }
 
 impl Meeting {
-    // Says that one side has come, and waits for the other.
-    fn meet(&self, here: &AtomicBool, there: &AtomicBool) {
-        here.store(true, Ordering::SeqCst);
-        for _ in 0..TURNS {
-            if there.load(Ordering::SeqCst) {
-                return;
-            }
+    // Says how far this side has come, and waits until the other has come as far as it is to.
+    fn meet(&self, here: &AtomicU64, n: u64, there: &AtomicU64, other: u64) {
+        here.store(n, Ordering::SeqCst);
+        if !comes(there, other) {
+            self.given_up.store(true, Ordering::SeqCst);
         }
-        self.given_up.store(true, Ordering::SeqCst);
     }
 }
 
 impl Gate for Meeting {
     fn before_send(&self, n: u64) {
         if n == 3 {
-            self.meet(&self.third_begun, &self.first_taken);
+            self.meet(&self.begun, 3, &self.taken, 1);
         }
     }
 
     fn after_take(&self, n: u64) {
         if n == 1 {
-            self.meet(&self.first_taken, &self.third_begun);
+            self.meet(&self.taken, 1, &self.begun, 3);
         }
     }
 }
@@ -59,8 +68,8 @@ fn the_two_threads_meet(rt: HostRuntime) -> Result<(), Fail> {
         let mut copy = copy_of(alloc, &repo, ONE_FILE.copy)?;
         assert!(rt; copy.check_true(&repo).is_ok());
         let gate = Meeting {
-            third_begun: AtomicBool::new(false),
-            first_taken: AtomicBool::new(false),
+            begun: AtomicU64::new(0),
+            taken: AtomicU64::new(0),
             given_up: AtomicBool::new(false),
         };
         let options = Options {
