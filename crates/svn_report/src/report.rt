@@ -30,7 +30,8 @@ impl Model for Report {
 }
 
 impl Report {
-    /// What holds of every report, for the proofs of its callers. It does nothing.
+    /// What holds of every report, for the proofs of its callers; it does nothing. The root is set first; each path has one entry; none comes before
+    /// one above it; nothing stands beneath a delete; no link has over 64 names more than its repository path.
     pub fn law(&self)
         ensures { IsReport self.now }
     {
@@ -58,7 +59,7 @@ impl Report {
         self.listing.is_empty()
     }
 
-    /// An entry and its path, in the order of the calls, counted from 0.
+    /// An entry and its path, in the order of the calls, counted from 0; None from [`len`](Report::len) on.
     pub fn entry(&self, i: usize) -> Option<(&RelPath, &ReportEntry)>
         ensures { option_map (λ e. (e.0.now, e.1.now)) result ≡ slice_get self.now.entries i }
     {
