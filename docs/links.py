@@ -1,5 +1,5 @@
 #!/usr/bin/env python3
-"""Says which files and functions that the documents name aren't there. Status 1 where there are some.
+"""Says which files that the documents and the comments of the code name aren't there. Status 1 where there are some.
 
 Looked at are words in backquotes: names of files with an ending of this repository, and Markdown links."""
 import os
@@ -24,16 +24,25 @@ def is_there(word, here, known):
     return any(("/" + it).endswith(tail) for it in known) or os.path.exists(os.path.join(TOP, here, word))
 
 
+def text_of(page):
+    """The text of a document without its indented code, or the doc comments of a file of code."""
+    with open(os.path.join(TOP, page), encoding="utf-8") as it:
+        text = it.read()
+    if page.endswith(".rt"):
+        return "\n".join(re.findall(r"(?m)^\s*//[/!] ?(.*)$", text))
+    return re.sub(r"(?m)^    .*$", "", text)
+
+
 def main():
     known = files()
-    pages = [it for it in known if it.endswith(".md") and not it.startswith("drafts")]
+    documents = [it for it in known if it.endswith(".md") and not it.startswith("drafts")]
+    pages = documents + [it for it in known if it.endswith(".rt")]
     lacking = []
     for page in pages:
-        with open(os.path.join(TOP, page), encoding="utf-8") as it:
-            text = re.sub(r"(?m)^    .*$", "", it.read())
+        text = text_of(page)
         words = re.findall(r"`([^`\n]+)`", text)
         named = [it for it in words if re.fullmatch(r"[\w./-]+", it) and (it.endswith(ENDINGS) or it.startswith("crates/"))]
-        named += [it for it in re.findall(r"\]\(([^)#\s]+)", text) if "://" not in it]
+        named += [it for it in re.findall(r"\]\(([^)#\s]+)", text) if ":" not in it]
         here = os.path.dirname(page)
         lacking += [f"{page}: {it}" for it in named if not is_there(it, here, known)]
     print("\n".join(sorted({*lacking})) or "all files that the documents name are there")
