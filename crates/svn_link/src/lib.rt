@@ -19,7 +19,7 @@
 //! ```
 //!
 //! `send`, `take`, `refused`, `seen` and `settle_notice` may wait for the other thread, and no other call. `link` and
-//! `notice` alone take memory. No calls but a driver's go through a link, and none comes back: a refusal travels as a number.
+//! `notice` alone take memory.
 //!
 //! Both ends of a link are kept until the Inbox is over. Where one of them is dropped earlier, a call of the other may
 //! wait for ever, as its type says.

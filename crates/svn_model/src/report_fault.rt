@@ -18,7 +18,7 @@ pub enum ReportFault {
     /// Nothing stands in the repository at the entry's path and revision, where the entry isn't a delete.
     #[error("entry {0} of the report names a node that isn't there")]
     NoNode(usize),
-    /// The directory that the entry is in isn't one in the repository, by what the report says of its path.
+    /// The path above the entry isn't a directory in the repository, by what the report says of it.
     #[error("entry {0} of the report stands below what is no directory")]
     ParentNotDir(usize),
     /// A growth was refused before the first of the other faults was found.

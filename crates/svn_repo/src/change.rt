@@ -8,7 +8,7 @@ use svn_types::{PropName, RelPath, Rev, Text};
 use thiserror::Error;
 
 /// One change of a commit (of a transaction, `svn_fs.h`). Each makes afresh every directory above its path; what it doesn't make stays the node
-/// revision that it was. The conditions at the fields are those under which `Repo::commit` doesn't refuse.
+/// revision that it was. What `Repo::commit` asks of a field stands there; and directories have to stand above each path.
 #[derive(Debug, Drop)]
 pub enum Change {
     /// Makes a directory of a new line, without entries and properties, where nothing stands.

@@ -41,7 +41,7 @@ pub struct Options {
 /// is then as it was. It may wait for the other thread.
 ///
 /// Otherwise it answers how the run ended, and what passed between the threads: how many calls were sent and taken, the last
-/// and `AbortEdit` included. Until it comes back the copy is its own.
+/// and `AbortEdit` included.
 pub fn update<R: Threads + Wait + Sync, G: Gate>(
     rt: &R,
     alloc: Global,

@@ -10,7 +10,7 @@ pub const MAX_COMPONENTS: usize = 128;
 /// The most names in a path of a repository; beyond it each layer has a fault `TooDeep`.
 pub const MAX_DEPTH: usize = 64;
 
-/// The most bytes in a text or in the value of a property, where it is stored; beyond it each layer has a fault `TooLong`.
+/// The most bytes in a text or in the value of a property that a commit, an edit or a pool takes; beyond it is their fault `TooLong`.
 pub const MAX_SIZE: usize = 1_048_576;
 
 /// The most calls that the queue between driver and working copy may hold; the least is 1.

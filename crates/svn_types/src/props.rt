@@ -12,7 +12,7 @@ use std::collections::BTreeMap;
 use std::marker::Model;
 
 /// The properties of a node (`svn_props.h`): values by their names, each name once. A contract sees them as the pairs in byte order of the names.
-/// Neither their number nor the length of a value is bounded here; what stores them refuses values of over 1,048,576 bytes.
+/// Neither their number nor the length of a value is bounded here; a commit and an edit refuse values of over 1,048,576 bytes.
 #[derive(Debug, Drop)]
 pub struct Props {
     map: BTreeMap<PropName, Text>,

@@ -21,8 +21,8 @@ enum TextForm {
     Shared(Arc<Vec<u8>>),
 }
 
-/// The text of a file, or the value of a property (`svn_string_t` of `svn_string.h`): any bytes, of any number here; what stores them refuses over
-/// 1,048,576. A contract sees it as their list. The clones of a long one share its bytes.
+/// The text of a file, or the value of a property (`svn_string_t` of `svn_string.h`): any bytes, of any number here; a commit, an edit and a pool
+/// refuse over 1,048,576. A contract sees it as their list. A clone of a long text may share its bytes.
 pub struct Text {
     form: TextForm,
 }

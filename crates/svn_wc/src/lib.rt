@@ -9,8 +9,10 @@
 //! let mut copy = WorkingCopy::checkout(alloc, &repo, Rev(1))?;
 //! let report = copy.crawl(alloc)?;
 //! let options = DriveOptions { cancel_after: None, late_texts: false };
-//! let mut applier = Applier::new(alloc, &mut copy)?;
-//! drive(alloc, &repo, &report, Rev(2), options, &mut applier)?;
+//! {
+//!     let mut applier = Applier::new(alloc, &mut copy)?;
+//!     drive(alloc, &repo, &report, Rev(2), options, &mut applier)?;
+//! }
 //! assert!(rt; copy.check_true(&repo).is_ok());
 //! ```
 //!
