@@ -1,6 +1,6 @@
 //! What an update means, in definitions: what a report says of the repository, where each path leads, the drive of an edit,
-//! what a working copy is and when it is true, and what each call does to it. Whoever audits the project reads the `specs/` of this
-//! crate: driver, copy and laws are stated in its words, and nothing else says what is claimed. `docs/DEFINITIONS.md` has them in prose.
+//! what a working copy is and when it is true, and what each call does to it. Driver, copy, laws and the update theorem are stated in
+//! the words of its `specs/`, so whoever audits the project reads these first; `docs/DEFINITIONS.md` has them in prose.
 //!
 //! The code here is the values that the definitions speak of: [`BaseNode`], what a copy has at a path; [`WcFault`], [`ReportFault`] and
 //! [`DriveFault`], why copy, repository and driver refuse; [`Stop`] and [`DriveEnd`], how a drive ends.
