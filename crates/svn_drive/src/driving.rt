@@ -138,7 +138,8 @@ pub fn drive<'a, E: Editor>(
 }
 
 /// Drives an editor from a report to another path of the repository, at a revision: a switch of the whole copy (`svn_ra_do_switch3` of
-/// `svn_ra.h`). NoRoot and OtherRoot are asked of that path; all else is as in [`drive`].
+/// `svn_ra.h`). NoRoot and OtherRoot are faults of what stands at that path in the target; all else is
+/// as in [`drive`].
 pub fn drive_switch<'a, E: Editor>(
     alloc: Global,
     repo: &'a Repo,

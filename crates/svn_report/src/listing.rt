@@ -123,6 +123,7 @@ impl Listing {
     }
 
     /// The first name directly beneath a path at or below which an entry stands, or the first of those behind a name.
+    /// AllocError where a growth is refused, which only the second can ask for.
     pub fn next_name_below(
         &self,
         path: &RelPath,

@@ -211,6 +211,7 @@ impl PathIndex {
     }
 
     /// The first path that ends behind the name beneath the path. What stands beneath the name ends before it.
+    /// AllocError where a growth is refused.
     pub fn next_outside(&self, path: &RelPath, name: &Name) -> Result<Option<&PathEnd>, AllocError>
         ensures { IfOk result (λ found. IsNextBy end_cmp (contains path_cmp self.now) (child path.now name.now) (option_copied found)) }
     {
