@@ -1,13 +1,15 @@
 #!/usr/bin/env python3
-"""Says which files and functions that the documents name aren't there. Status 1 where there are some.
+"""Says which files and names that the documents and the comments of the code name aren't there. Status 1 where there are some.
 
-Looked at are words in backquotes: names of files with an ending of this repository, and Markdown links."""
+Looked at are words in backquotes: names of files with an ending of this repository, and names with `_` or a capital inside,
+which have to stand somewhere in code, definitions or proofs; and Markdown links. Subversion's names begin with `svn_`."""
 import os
 import re
 import sys
 
 TOP = os.path.dirname(os.path.dirname(os.path.abspath(__file__)))
 ENDINGS = (".rt", ".antt", ".md", ".py", ".sh", ".script", ".output", ".edit")
+COMMENT = re.compile(r"(?m)^\s*//[/!] ?(.*)$")
 
 
 def files():
@@ -18,25 +20,54 @@ def files():
     return found
 
 
+def read(page):
+    with open(os.path.join(TOP, page), encoding="utf-8") as it:
+        return it.read()
+
+
+def text_of(page):
+    """The text of a document without its code, or the doc comments of a file of code."""
+    if page.endswith(".rt"):
+        return "\n".join(COMMENT.findall(read(page)))
+    return re.sub(r"(?m)^    .*$", "", re.sub(r"(?ms)^```.*?^```", "", read(page)))
+
+
+def words_of_code(known):
+    words = {os.path.basename(it).split(".")[0] for it in known}
+    for it in known:
+        if it.endswith((".rt", ".antt")):
+            words.update(re.findall(r"\w+", COMMENT.sub("", read(it))))
+    return words
+
+
 def is_there(word, here, known):
     """A name is good as a path from the top or the page, or as the end of a path somewhere."""
     tail = "/" + word.strip("/")
     return any(("/" + it).endswith(tail) for it in known) or os.path.exists(os.path.join(TOP, here, word))
 
 
+def names_in(word):
+    """The names of code in what stands between backquotes, but for names of files, those of Subversion among them."""
+    if word.endswith(ENDINGS + (".h", ".c")) or "/" in word:
+        return []
+    names = re.findall(r"(?<![\w-])[A-Za-z]\w*(?![\w-])", word)
+    return [it for it in names if re.search(r"_|[a-z][A-Z]", it) and not it.startswith("svn_")]
+
+
 def main():
     known = files()
-    pages = [it for it in known if it.endswith(".md") and not it.startswith("drafts")]
+    words = words_of_code(known)
+    documents = [it for it in known if it.endswith(".md") and not it.startswith("drafts")]
     lacking = []
-    for page in pages:
-        with open(os.path.join(TOP, page), encoding="utf-8") as it:
-            text = re.sub(r"(?m)^    .*$", "", it.read())
-        words = re.findall(r"`([^`\n]+)`", text)
-        named = [it for it in words if re.fullmatch(r"[\w./-]+", it) and (it.endswith(ENDINGS) or it.startswith("crates/"))]
-        named += [it for it in re.findall(r"\]\(([^)#\s]+)", text) if "://" not in it]
+    for page in documents + [it for it in known if it.endswith(".rt")]:
+        text = text_of(page)
+        quoted = re.findall(r"`([^`\n]+)`", text)
+        named = [it for it in quoted if re.fullmatch(r"[\w./-]+", it) and (it.endswith(ENDINGS) or it.startswith("crates/"))]
+        named += [it for it in re.findall(r"\]\(([^)#\s]+)", text) if ":" not in it]
         here = os.path.dirname(page)
         lacking += [f"{page}: {it}" for it in named if not is_there(it, here, known)]
-    print("\n".join(sorted({*lacking})) or "all files that the documents name are there")
+        lacking += [f"{page}: {name}" for it in quoted for name in names_in(it) if name not in words]
+    print("\n".join(sorted({*lacking})) or "all that the documents name is there")
     return 1 if lacking else 0
 
 

@@ -1,10 +1,18 @@
+-- Calls in a row: what one list leads to and the next goes on from.
 pub mod RunLemmas
+-- The calls of a visit: those of the path itself, of what is below it, and its close.
 pub mod Visits
 pub mod NextNames
 pub mod VisitRuns
+-- What a place has, the root's and a child's by its parent's.
 pub mod ChildPlaces
+-- How a file ends: with a text and its close, or the close alone.
 pub mod FileEnds
+-- The texts that wait: at a path that is entered or not, name by name, and at a whole run.
 pub mod Waits
+-- What the calls of a whole drive lead to: its first call, the visit of the root, the texts that waited, and the last call.
 pub mod WholeRuns
+-- What a check finds: the nodes of what is seen, and the first fault, entry by entry.
 pub mod Checks
+-- Where a walk passes a child over: nothing is called there.
 pub mod Idle

@@ -21,10 +21,12 @@ use svn_repo::Repo;
 use svn_report::Report;
 use svn_types::{RelPath, Rev};
 
-/// How a drive is made: after how many calls it is given up, and whether texts come after all directories.
+/// How a drive is made.
 #[derive(Clone, Copy, Debug)]
 pub struct DriveOptions {
+    /// After how many calls the drive is given up, if it has more: then it makes `AbortEdit`, which isn't counted. None: it goes to its end.
     pub cancel_after: Option<u64>,
+    /// Whether the texts of files come after all directories are closed, as the order of `svn_delta.h` allows.
     pub late_texts: bool,
 }
 
@@ -102,7 +104,15 @@ fn give_up<E: Editor>(stop: Stop, made: u64, editor: &mut E) -> Result<DriveEnd,
     }
 }
 
-/// Drives an editor from a report to a revision.
+/// Drives an editor from a report to a revision: an update. The report is one that the repository can serve (`check_report` is the test; of
+/// another the calls are those that the walk of `svn_model/specs/Tree.antt` gives, and need not lead anywhere).
+///
+/// Answers Closed where all calls were made and accepted, and Cancelled where `cancel_after` calls were, before the last. Before any call
+/// come, in this order, NoSuchTarget, NoRoot where the target has nothing at the repository path of the report's root, OtherRoot where a node
+/// of another line is there; or Memory. After calls come Full, Memory and Editor, for a call that was refused. After Cancelled and after
+/// these the last call was `AbortEdit`, and what it answered counts for nothing. It waits where the editor does.
+///
+/// It costs what the report and the entries of the directories do that are opened or added, by their depth.
 pub fn drive<'a, E: Editor>(
     alloc: Global,
     repo: &'a Repo,
@@ -127,7 +137,9 @@ pub fn drive<'a, E: Editor>(
     walk.drive(editor)
 }
 
-/// Drives an editor from a report to another path of the repository, at a revision.
+/// Drives an editor from a report to another path of the repository, at a revision: a switch of the whole copy (`svn_ra_do_switch3` of
+/// `svn_ra.h`). NoRoot and OtherRoot are faults of what stands at that path in the target; all else is
+/// as in [`drive`].
 pub fn drive_switch<'a, E: Editor>(
     alloc: Global,
     repo: &'a Repo,

@@ -1,5 +1,17 @@
-//! The laws of drives: which calls lead a client from what it reports to a target. They are stated over the definitions
-//! alone. Each law is the contract of a function that does nothing: who calls the function has the law.
+//! The laws of drives: which calls lead a client from what it reports to a target. They are stated over the definitions of `svn_model`
+//! alone, in `specs/Laws.antt`. Each law is the contract of a function that does nothing: who calls the function has the law.
+//!
+//! ```
+//! pub fn caller()
+//!     ensures { drive_is_determined }
+//! {
+//!     drive_is_determined();
+//! }
+//! ```
+//!
+//! The premises of all but [`drive_is_determined`] are a lawful repository, a report that a reporter made and that the repository can serve,
+//! and a target without fault (for [`existing_targets_have_no_fault`] one that is there); the contracts `Repo::law`, `Report::law`, `check_report` and `drive` give them. `svn_drive` uses
+//! [`the_calls_are_a_drive`]. How the laws are proved, `docs/PROOF.md` tells.
 #![tactic(auto)]
 
 ghost use Rattle.svn_drive_law.specs.Laws.{drive_is_determined, existing_targets_have_no_fault, new_paths_have_parents};

@@ -45,7 +45,8 @@ pub(crate) enum Stage {
     Ended,
 }
 
-/// An edit: the calls that came so far, and what is to be done at the close of what is open.
+/// An edit: how far it is, the check of the order of its calls, and a baton for each open file and directory: what is to be done at its close.
+/// The strings that it keeps until then lie in pools, one for each baton.
 #[derive(Drop)]
 pub struct Edit {
     pub(crate) stage: Stage,
@@ -88,7 +89,8 @@ fn refused_as(fault: OrderFault) -> EditFault
 }
 
 impl Edit {
-    /// An edit that no call was given to: an update, or a switch to a root. The only fault is Memory.
+    /// An edit that no call was given to: an update, or with a root a switch of the whole copy to that path of the repository. The only fault is
+    /// Memory.
     pub fn new(alloc: Global, root: Option<RelPath>) -> Result<Edit, EditFault>
         ensures begun { IfOk result (λ e. (mode : Mode) (nodes : List (Path × BaseNode)) → mode_of root ≡ mode → StandsAfter mode (get_in nodes) e nodes []) }
         ensures memory { IfErr result (λ e. e ≡ EditFault.Memory) }

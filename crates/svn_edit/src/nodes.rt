@@ -16,7 +16,7 @@ use svn_editor::{Digest, EditFault};
 use svn_model::BaseNode;
 use svn_types::{Kind, Props, RelPath, Rev, Text};
 
-/// The nodes of a copy, by their paths.
+/// The nodes of a copy, by their paths from its root, in path order.
 pub type Nodes = BTreeMap<RelPath, BaseNode>;
 
 /// Whether a node is present.
@@ -211,7 +211,7 @@ pub(crate) fn close_file(alloc: Global, node: &mut BaseNode, closing: Closing)
     }
 }
 
-/// The paths of the nodes at a path and below.
+/// The paths of the nodes at a path and below, in path order. AllocError where a growth is refused.
 pub fn paths_within(
     alloc: Global,
     nodes: &Nodes,
@@ -229,7 +229,7 @@ pub fn paths_within(
     Ok(paths)
 }
 
-/// Removes what stands at these paths.
+/// Removes what stands at these paths. It takes no memory.
 pub fn remove_all(nodes: &mut Nodes, paths: &[RelPath])
     ensures { (p : Path) → get_in nodes.new.entries p ≡ (if list_any (λ q. path_eq q p) paths.now then None else get_in nodes.old.entries p) }
 {

@@ -14,7 +14,7 @@ use svn_editor::EditFault;
 use svn_model::BaseNode;
 use svn_types::{MAX_DEPTH, Name, RelPath};
 
-/// The path of a child. A path of a repository has at most 64 names, so want of memory is all that can come.
+/// The path with one more name. AllocError where a growth is refused, or the path has 128 names, which no path of a repository has.
 pub fn child_path(alloc: Global, path: &RelPath, name: &Name) -> Result<RelPath, AllocError>
     ensures path { IfOk result (λ p. p ≡ path.now ++ name.now ∷ []) }
     ensures bounded { OnOk result (length path.now + 1 < depth_limit + 1) }
@@ -25,7 +25,7 @@ pub fn child_path(alloc: Global, path: &RelPath, name: &Name) -> Result<RelPath,
     }
 }
 
-/// The path without its last name, the root's being the root.
+/// The path without its last name, the root's being the root. AllocError where a growth is refused.
 pub fn parent_path(alloc: Global, path: &RelPath) -> Result<RelPath, AllocError>
     ensures { IfOk result (λ p. p ≡ parent path.now) }
 {

@@ -1,5 +1,17 @@
 //! The laws of edits and of copies: what calls do to a working copy, one after the other, and what it reports. They are stated
-//! over the definitions alone. Each law is the contract of a function that does nothing: who calls the function has the law.
+//! over the definitions of `svn_model` alone, in `specs/Laws.antt` (edits) and `specs/CopyLaws.antt` (copies without a drive). Each law is
+//! the contract of a function that does nothing: who calls the function has the law.
+//!
+//! ```
+//! pub fn check_true(&self, repo: &Repo) -> Result<(), &RelPath>
+//!     ensures is_true { OnOk result (IsTrueOf repo.now (get_in self.now)) }
+//! {
+//!     truth_is_tested();
+//!     // .. what is left to prove is which path the code finds first
+//! ```
+//!
+//! `svn_edit` and `svn_wc` use them: the builders of a copy and its test of truth by the laws of copies, the applier by those of edits.
+//! How the laws are proved, `docs/PROOF.md` tells.
 #![tactic(auto)]
 
 ghost use Rattle.svn_edit_law.specs.Laws.{a_call_keeps_the_shape, calls_are_applied_in_turn, calls_keep_the_shape};

@@ -3,7 +3,7 @@ ghost use Rattle.std.specs.Prelude.{◌≡◌, ℕ};
 
 use std::marker::Model;
 
-/// The MD5 checksum of a text (RFC 1321). A contract sees it as its bytes.
+/// The MD5 checksum of a text (RFC 1321), its 16 bytes in the order in which they are printed. A contract sees it as its bytes.
 #[derive(Clone, Copy, Debug, PartialEq, Eq)]
 pub struct Digest(pub [u8; 16]);
 

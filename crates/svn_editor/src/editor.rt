@@ -31,7 +31,7 @@ pub trait Editor {
     // of the editor before, the call, its answer and the editor after
     ghost answers: { Self → Call → Result (Unit {0}) EditFault → Self → Type 0 };
 
-    /// Takes the next call, or refuses it with the reason.
+    /// Takes the next call, or refuses it with the reason. A refused call has changed nothing of what is edited.
     fn call(&mut self, call: Call) -> Result<(), EditFault>
         ensures { answers self.old call result self.new };
 }

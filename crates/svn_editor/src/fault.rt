@@ -6,16 +6,17 @@ ghost use Rattle.svn_editor.specs.Faults.{as_edit_fault};
 use std::alloc::AllocError;
 use thiserror::Error;
 
-/// Why a call is out of order, by the rules of `svn_delta.h`. The first rule that it breaks is named.
+/// Why a call is out of order, by the rules of `svn_delta.h`, which are prose at [`Editor`](crate::Editor). A call that breaks several has the
+/// fault that `OrderCheck::step` of `svn_order` names first. Subversion asserts some of the rules, and leaves open what comes of breaking others.
 #[derive(Clone, Copy, Debug, PartialEq, Eq, Error)]
 pub enum OrderFault {
     /// The first call isn't that of the target revision, or a later one is.
     #[error("the target revision has to be set once, by the first call")]
     TargetFirst,
-    /// The token was never given, or was given to a node of the other kind.
+    /// A token that the call names was never given, or was given to a node of the other kind.
     #[error("no such file or directory was opened")]
     UnknownToken,
-    /// The file or the directory was closed.
+    /// The file or the directory of a token that the call names was closed.
     #[error("the file or directory is closed")]
     ClosedToken,
     /// The entry was opened, added or deleted before.
@@ -42,28 +43,28 @@ pub enum OrderFault {
     /// The edit ends while the root or a file is open, or before the root was opened.
     #[error("the edit ends before the root and all files are closed")]
     RootNotClosed,
-    /// The edit has ended.
+    /// The edit was ended or given up before.
     #[error("the edit has ended")]
     Ended,
-    /// An earlier call was refused.
+    /// An earlier call was refused, and this one isn't `AbortEdit`.
     #[error("an earlier call of the edit was refused")]
     Dead,
     /// A new token isn't the number of tokens given so far.
     #[error("the new token isn't the next number")]
     TokenOrder,
-    /// The path isn't that of an entry of the parent.
+    /// The path isn't that of the parent with one name more.
     #[error("the path isn't the parent's with one name more")]
     WrongPath,
-    /// Memory was refused.
+    /// A growth was refused.
     #[error("out of memory")]
     Memory,
-    /// The text or the end of a postponed file comes while a directory is open.
+    /// The text or the close of a file comes while a directory is open, after a call on another file or on a directory.
     #[error("the text of a postponed file comes while a directory is open")]
     TooEarly,
 }
 
 impl OrderFault {
-    /// The number of the fault.
+    /// The fault's number, from 1, TargetFirst, to 17, TooEarly, in the order of the variants.
     pub fn number(self) -> u32
         ensures { result ≡ order_fault_number self }
     {
@@ -89,46 +90,48 @@ impl OrderFault {
     }
 }
 
-/// Why an editor refuses a call.
+/// Why an editor refuses a call. Which faults an editor has, and when, it says itself; those of a working copy stand here.
 #[derive(Clone, Copy, Debug, PartialEq, Eq, Error)]
 pub enum EditFault {
-    /// The call is out of order.
+    /// The call is out of order; the fault is not `OrderFault::Memory`, which is `Memory` here.
     #[error(transparent)]
     Order(OrderFault),
-    /// Nothing is there to open or to delete.
+    /// Nothing is present at the path that is opened or deleted.
     #[error("there is no such entry")]
     NoEntry,
     /// A file is opened as a directory, or a directory as a file.
     #[error("the entry is of the other kind")]
     WrongKind,
-    /// The entry has another revision than the call says.
+    /// The entry that is opened or deleted has another revision than the call says.
     #[error("the entry has another revision")]
     WrongRevision,
-    /// The checksum of the text to replace is another.
+    /// `ApplyText` has a checksum that isn't that of the text to replace; an added file's is the empty text.
     #[error("the text that is replaced has another checksum")]
     BaseChecksum,
-    /// The checksum of the resulting text is another.
+    /// `CloseFile` has a checksum that isn't that of the file's text from then on, whether or not a text came (Subversion looks at it only where
+    /// one came).
     #[error("the resulting text has another checksum")]
     TextChecksum,
-    /// Memory was refused.
+    /// A growth was refused.
     #[error("out of memory")]
     Memory,
-    /// Something is there already.
+    /// Something is present at the path that is added.
     #[error("there is an entry already")]
     EntryExists,
-    /// A path in the repository would have over 64 names.
+    /// A node would have a repository path of over 64 names: one that is added, in a switch one that is opened, or at its end any.
     #[error("a path in the repository would have over 64 names")]
     TooDeep,
-    /// A text or a value has over 1,048,576 bytes.
+    /// The text, or the value of a property, has over 1,048,576 bytes.
     #[error("a text or a value has over 1048576 bytes")]
     TooLong,
-    /// The receiver refused the call of this number, counted from 1, and the sender stops.
+    /// The receiver in another thread refused an earlier call, of this number, counted from 1: the sender is to stop.
     #[error("call {0} was refused")]
     Late(u64),
 }
 
 impl EditFault {
-    /// The number of the fault. A call that is out of order has the number of the order's fault.
+    /// The fault's number: from 41, NoEntry, to 50, Late, in the order of the variants; a call that is out of order has the number of the order's
+    /// fault.
     pub fn number(self) -> u32
         ensures { result ≡ edit_fault_number self }
     {

@@ -34,7 +34,7 @@ impl Recorder {
         }
     }
 
-    /// The calls so far.
+    /// The calls that it accepted, the first one first. It takes no memory.
     pub fn calls(&self) -> &[Call]
         ensures { result.now ≡ self.now }
     {

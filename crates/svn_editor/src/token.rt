@@ -3,7 +3,8 @@ ghost use Rattle.std.specs.Prelude.{◌≡◌, ℕ};
 
 use std::marker::Model;
 
-/// Names a file or a directory that an edit opened. A contract sees it as its number.
+/// Names a file or a directory that an edit opened or added, in the place of Subversion's baton (`svn_delta.h`): the number of those before it.
+/// A contract sees it as its number.
 #[derive(Clone, Copy, Debug, PartialEq, Eq, PartialOrd, Ord)]
 pub struct Token(pub u64);
 

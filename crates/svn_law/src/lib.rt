@@ -1,5 +1,15 @@
-//! The laws that join the driver and the working copy, over their definitions alone. Each law is the contract of a function that
-//! does nothing: who calls the function has the law.
+//! The laws that join the driver and the working copy, over the definitions of `svn_model` alone, in `specs/Laws.antt`. Each law is the
+//! contract of a function that does nothing: who calls the function has the law.
+//!
+//! ```
+//! crawl_says_what_stands();
+//! drive_composes();
+//! // from here on the proof knows that the calls of a copy's drive are accepted and leave the result
+//! ```
+//!
+//! Their premise is `IsRequestOf`: a true working copy, a report that describes it and that the repository can serve, and a target without
+//! fault. The crawl of a true copy is such a report ([`crawl_says_what_stands`]). `svn_run` makes the update theorem of them and of the
+//! contracts of driver, applier and link. How they are proved, `docs/PROOF.md` tells.
 #![tactic(auto)]
 
 ghost use Rattle.svn_law.specs.Laws.{crawl_says_what_stands, drive_composes, each_call_is_accepted, prefixes_stay_true};

@@ -8,16 +8,16 @@ use thiserror::Error;
 /// Why there is no link, or no notice.
 #[derive(Clone, Copy, Debug, PartialEq, Eq, Error)]
 pub enum LinkFault {
-    /// The capacity is not from 1 to 4,096.
+    /// The capacity is not from 1 to 4,096 calls.
     #[error("the capacity is not from 1 to 4096")]
     Capacity,
-    /// A growth was refused.
+    /// A growth was refused while the two ends were made; no later call takes memory.
     #[error("out of memory")]
     Memory,
 }
 
 impl LinkFault {
-    /// The fault's number, 1 or 2.
+    /// The fault's number: 1 for Capacity, 2 for Memory.
     pub fn number(self) -> u32
         ensures { result ≡ link_fault_number self }
     {

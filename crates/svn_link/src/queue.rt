@@ -5,15 +5,19 @@ use crossbeam_channel::{RuledReceiver, RuledSender};
 use std::collections::LinkedList;
 use svn_editor::Call;
 
-// What a pass may do, and what it has sent and taken. It exists in proofs alone: no value of it is made.
+/// What a pass may do, and what it has sent and taken. It exists in proofs alone: no value of it is made.
 pub struct Hand {
+    /// Whether it may send.
     pub sends: bool,
+    /// Whether it may take.
     pub takes: bool,
+    /// What it has sent, the first call first.
     pub sent: LinkedList<Call>,
+    /// What it has taken, the first call first.
     pub taken: LinkedList<Call>,
 }
 
-// What was taken, and then what the queue holds, is what was sent.
+/// What was taken, and then what the queue holds, is what was sent.
 pub struct InOrder;
 
 impl Protocol<Call, Hand> for InOrder {
@@ -25,7 +29,7 @@ impl Protocol<Call, Hand> for InOrder {
     ghost first = { hand true true [] [] };
 }
 
-// The pass that may do both is split into one that sends and one that takes, and they are joined to one again.
+/// The pass that may do both is split into one that sends and one that takes, and they are joined to one again.
 pub struct Roles;
 
 impl Split<Hand> for Roles {
@@ -46,7 +50,7 @@ impl Join<Hand> for Roles {
     ghost spent = { hand false false [] [] };
 }
 
-// A send: the call is the last of those that were sent. A send that finds the queue full tells nothing.
+/// A send: the call is the last of those that were sent. A send that finds the queue full tells nothing.
 pub struct Sends;
 
 impl Outcome<Call, Hand> for Sends {
@@ -60,7 +64,7 @@ impl Lesson<Call, Hand> for Sends {
     ghost fact = { λ _ _. Unit {0} };
 }
 
-// A take: the call is the last of those that were taken. A take that finds the queue empty tells nothing.
+/// A take: the call is the last of those that were taken. A take that finds the queue empty tells nothing.
 pub struct Takes;
 
 impl Outcome<Call, Hand> for Takes {
@@ -73,7 +77,7 @@ impl Lesson<Call, Hand> for Takes {
     ghost fact = { λ _ _. Unit {0} };
 }
 
-// What the joined pass learns of the queue: what was taken, and then what the queue holds, is what was sent.
+/// What the joined pass learns of the queue: what was taken, and then what the queue holds, is what was sent.
 pub struct Remains;
 
 impl Lesson<Call, Hand> for Remains {
@@ -82,8 +86,11 @@ impl Lesson<Call, Hand> for Remains {
     ghost fact = { λ h items. h.sent ≡ h.taken ++ items };
 }
 
+/// The end of the channel that sends by the rule.
 pub type Sender = RuledSender<Call, Hand, InOrder>;
 
+/// The end of the channel that takes by the rule.
 pub type Receiver = RuledReceiver<Call, Hand, InOrder>;
 
+/// A value without bytes by which a thread may make steps, and in which proofs keep what it did.
 pub type Pass = crossbeam_channel::Pass<Call, Hand>;

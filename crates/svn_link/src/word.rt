@@ -6,14 +6,17 @@ use atomic_table::{Join, Split};
 use crossbeam_utils::atomic::seq_cell::RuledSeqCell;
 use crossbeam_utils::rule::{Outcome, Protocol};
 
-// What a pass may do, what it told and what it saw. It exists in proofs alone: no value of it is made.
+/// What a pass may do, what it told and what it saw. It exists in proofs alone: no value of it is made.
 pub struct News {
+    /// Whether it may tell.
     pub tells: bool,
+    /// The number that it told, if it did.
     pub told: Option<u64>,
+    /// The number that it saw last, if it saw one.
     pub seen: Option<u64>,
 }
 
-// The number in the word is the one told, and a number that was seen is that one.
+/// The number in the word is the one told, and a number that was seen is that one.
 pub struct ToldOnce;
 
 impl Protocol<[u64; 1], News> for ToldOnce {
@@ -25,7 +28,7 @@ impl Protocol<[u64; 1], News> for ToldOnce {
     ghost first = { news true None None };
 }
 
-// The pass that may do both is split into one that tells and one that sees, and they are joined to one again.
+/// The pass that may do both is split into one that tells and one that sees, and they are joined to one again.
 pub struct Roles;
 
 impl Split<News> for Roles {
@@ -46,7 +49,7 @@ impl Join<News> for Roles {
     ghost spent = { news false None None };
 }
 
-// All that a pass saw goes to a new one, since a pass that made steps can't be joined.
+/// All that a pass saw goes to a new one, since a pass that made steps can't be joined.
 pub struct Moved;
 
 impl Split<News> for Moved {
@@ -58,7 +61,7 @@ impl Split<News> for Moved {
     ghost right = { λ v. v };
 }
 
-// The store: the number is told.
+/// The store: the number is told.
 pub struct Tells;
 
 impl Outcome<[u64; 1], News> for Tells {
@@ -67,7 +70,7 @@ impl Outcome<[u64; 1], News> for Tells {
     ghost then = { IsTold };
 }
 
-// A load by the pass that sees: the number in the word is seen, and is the one seen before, if one was.
+/// A load by the pass that sees: the number in the word is seen, and is the one seen before, if one was.
 pub struct Sees;
 
 impl Outcome<[u64; 1], News> for Sees {
@@ -76,7 +79,7 @@ impl Outcome<[u64; 1], News> for Sees {
     ghost then = { IsSeen };
 }
 
-// A load by the joined pass: the number in the word is the one told, and what was seen is that one.
+/// A load by the joined pass: the number in the word is the one told, and what was seen is that one.
 pub struct Agrees;
 
 impl Outcome<[u64; 1], News> for Agrees {
@@ -85,8 +88,10 @@ impl Outcome<[u64; 1], News> for Agrees {
     ghost then = { IsAgreed };
 }
 
+/// The word that both threads share, under the rule.
 pub type Cell = RuledSeqCell<[u64; 1], News, ToldOnce, 1>;
 
+/// A value without bytes by which a thread may make steps, and in which proofs keep what it told and saw.
 pub type Pass = crossbeam_utils::atomic::seq_cell::Pass<[u64; 1], News>;
 
 // The number that a word stands for.

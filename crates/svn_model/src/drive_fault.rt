@@ -13,13 +13,13 @@ pub enum DriveFault {
     /// The repository has no such target revision. No call was made.
     #[error("there is no such target revision")]
     NoSuchTarget,
-    /// Memory was refused.
+    /// A growth was refused. Calls may have been made; then the last was `AbortEdit`.
     #[error("out of memory")]
     Memory,
-    /// The editor refused a call.
+    /// The editor refused a call, for this reason. After it the driver made `AbortEdit`.
     #[error("the editor refused a call: {0}")]
     Editor(EditFault),
-    /// More calls are needed than can be counted.
+    /// More calls are needed than the 18,446,744,073,709,551,615 that can be counted. The last was `AbortEdit`.
     #[error("no number is left for another call")]
     Full,
     /// The root of the copy isn't in the target. No call was made.
@@ -31,7 +31,7 @@ pub enum DriveFault {
 }
 
 impl DriveFault {
-    /// The number of the fault.
+    /// The fault's number: from 21, NoSuchTarget, to 26, OtherRoot, in the order of the variants.
     pub fn number(self) -> u32
         ensures { result ≡ drive_fault_number self }
     {

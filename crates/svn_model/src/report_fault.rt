@@ -15,13 +15,13 @@ pub enum ReportFault {
     /// The entry names a revision that the repository doesn't have.
     #[error("entry {0} of the report names a revision that isn't there")]
     NoSuchRevision(usize),
-    /// Nothing stands in the repository where the entry says that it has something.
+    /// Nothing stands in the repository at the entry's path and revision, where the entry isn't a delete.
     #[error("entry {0} of the report names a node that isn't there")]
     NoNode(usize),
-    /// The parent of the entry isn't a directory in the repository.
+    /// The path above the entry isn't a directory in the repository, by what the report says of it.
     #[error("entry {0} of the report stands below what is no directory")]
     ParentNotDir(usize),
-    /// Memory was refused.
+    /// A growth was refused before the first of the other faults was found.
     #[error("out of memory")]
     Memory,
     /// The root of the report isn't a directory in the repository.
@@ -30,7 +30,7 @@ pub enum ReportFault {
 }
 
 impl ReportFault {
-    /// The number of the fault.
+    /// The fault's number: from 10, NoEntries, to 15, RootNotDir, in the order of the variants.
     pub fn number(self) -> u32
         ensures { result ≡ report_fault_number self }
     {

@@ -6,37 +6,37 @@ ghost use Rattle.svn_model.specs.declared.wc_fault.WcFault.TheVariants.{Memory};
 use std::alloc::AllocError;
 use thiserror::Error;
 
-/// Why a working copy can't be made or changed so. A refusal leaves it as it was.
+/// Why a working copy can't be made, or can't be changed without a drive. Which fault comes first, each call says. A refusal leaves the copy as it was.
 #[derive(Clone, Copy, Debug, PartialEq, Eq, Error)]
 pub enum WcFault {
     /// The repository has no such revision.
     #[error("there is no such revision")]
     NoSuchRevision,
-    /// There is nothing to place, or no present node to forget.
+    /// The repository has nothing to check out or to place there, or the copy has no present node to forget.
     #[error("nothing stands there")]
     Missing,
-    /// The parent isn't a present directory.
+    /// The copy has no directory above the path.
     #[error("the parent isn't a directory of the working copy")]
     NoParent,
-    /// The root can't be replaced or forgotten.
+    /// The path is the copy's root, which can't be replaced or forgotten.
     #[error("the root can't be changed so")]
     IsRoot,
     /// A repository path has over 64 names, or a path over 64 more than its repository path.
     #[error("a path has too many names")]
     TooDeep,
-    /// Memory was refused.
+    /// A growth was refused.
     #[error("out of memory")]
     Memory,
-    /// A path is given twice.
+    /// A list of nodes has a path twice.
     #[error("a path is given twice")]
     Twice,
-    /// The root is missing, or is no directory.
+    /// A list of nodes has no root, or one that is no directory; or what is to be checked out is a file.
     #[error("the root isn't a directory")]
     BadRoot,
 }
 
 impl WcFault {
-    /// The number of the fault.
+    /// The fault's number: from 1, NoSuchRevision, to 8, BadRoot, in the order of the variants.
     pub fn number(self) -> u32
         ensures { result ≡ wc_fault_number self }
     {

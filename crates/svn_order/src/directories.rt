@@ -11,12 +11,15 @@ use svn_types::{Name, RelPath};
 /// An open directory.
 #[derive(Debug, Drop)]
 pub struct OpenedDirectory {
+    /// Its token.
     pub token: Token,
+    /// Its path from the root of the edit.
     pub path: RelPath,
     /// The entries that were opened or added.
     pub opened: BTreeSet<Name>,
     /// The entries that were deleted.
     pub deleted: BTreeSet<Name>,
+    /// A directory in it was opened or added.
     pub has_subdirectory: bool,
     /// A property change came after a subdirectory.
     pub is_changed_late: bool,
@@ -37,6 +40,7 @@ impl OpenedDirectory {
     }
 }
 
+/// The token of the directory that was opened last and isn't closed.
 pub fn innermost(directories: &[OpenedDirectory]) -> Option<Token>
     ensures { result ≡ innermost_of directories.now }
 {
@@ -53,7 +57,7 @@ fn split_entry(path: &RelPath) -> Option<(&Name, &[Name])>
     path.components().split_last()
 }
 
-// Whether the token is that of an open directory that the path is an entry of.
+/// Whether the token is that of an open directory that the path is an entry of.
 pub fn holds_entry(directories: &[OpenedDirectory], token: Token, path: &RelPath) -> bool
     ensures { result ≡ holds_entry directories.now token path.now }
 {
@@ -66,7 +70,7 @@ pub fn holds_entry(directories: &[OpenedDirectory], token: Token, path: &RelPath
     }
 }
 
-// Whether the entry was opened or added, of a path whose parent is open.
+/// Whether the entry was opened or added, of a path whose parent is open.
 pub fn is_opened(directories: &[OpenedDirectory], path: &RelPath) -> bool
     ensures { result ≡ is_opened_in directories.now path.now }
 {
@@ -79,6 +83,7 @@ pub fn is_opened(directories: &[OpenedDirectory], path: &RelPath) -> bool
     }
 }
 
+/// Whether the entry was deleted, of a path whose parent is open.
 pub fn is_deleted(directories: &[OpenedDirectory], path: &RelPath) -> bool
     ensures { result ≡ is_deleted_in directories.now path.now }
 {
@@ -91,7 +96,7 @@ pub fn is_deleted(directories: &[OpenedDirectory], path: &RelPath) -> bool
     }
 }
 
-// Whether a property change of the innermost directory came after a subdirectory of it.
+/// Whether a property change of the innermost directory came after a subdirectory of it.
 pub fn is_changed_late(directories: &[OpenedDirectory]) -> bool
     ensures { result ≡ changed_late_in directories.now }
 {
@@ -115,6 +120,7 @@ fn insert_deleted(directory: &mut OpenedDirectory, name: &Name) -> Result<(), Al
     Ok(())
 }
 
+/// Notes that the entry was opened or added. AllocError where a growth is refused.
 pub fn open_entry(directories: &mut Vec<OpenedDirectory>, path: &RelPath) -> Result<(), AllocError>
     ensures { OnOk result (OpensEntry directories.old.items path.now directories.new.items) }
 {
@@ -127,6 +133,7 @@ pub fn open_entry(directories: &mut Vec<OpenedDirectory>, path: &RelPath) -> Res
     Ok(())
 }
 
+/// Notes that the entry was deleted. AllocError where a growth is refused.
 pub fn delete_entry(
     directories: &mut Vec<OpenedDirectory>,
     path: &RelPath,
@@ -142,6 +149,7 @@ pub fn delete_entry(
     Ok(())
 }
 
+/// Notes that a directory was opened or added in the innermost one.
 pub fn open_subdirectory(directories: &mut Vec<OpenedDirectory>)
     ensures { OpensSubdirectory directories.old.items directories.new.items }
 {
@@ -151,6 +159,7 @@ pub fn open_subdirectory(directories: &mut Vec<OpenedDirectory>)
     }
 }
 
+/// Notes that a property of the innermost directory was changed.
 pub fn change_prop(directories: &mut Vec<OpenedDirectory>)
     ensures { ChangesProp directories.old.items directories.new.items }
 {
@@ -162,6 +171,7 @@ pub fn change_prop(directories: &mut Vec<OpenedDirectory>)
     }
 }
 
+/// Opens a directory, which is the innermost from then on. AllocError where a growth is refused.
 pub fn open(
     directories: &mut Vec<OpenedDirectory>,
     alloc: Global,
@@ -174,6 +184,7 @@ pub fn open(
     Ok(())
 }
 
+/// Closes the innermost directory, if one is open.
 pub fn close_innermost(directories: &mut Vec<OpenedDirectory>)
     ensures { directories.new.items ≡ without_last directories.old.items }
 {

@@ -18,7 +18,7 @@ use std::collections::BTreeSet;
 use svn_editor::{Call, OrderFault, Token};
 use svn_types::{Kind, RelPath};
 
-/// How far an edit is.
+/// How far an edit is; `OrderCheck` alone uses it.
 #[derive(Clone, Copy, Debug)]
 pub enum Stage {
     /// No call was taken.
@@ -31,7 +31,7 @@ pub enum Stage {
     Dead,
 }
 
-/// Tells which calls of an edit are in order, by the rules of `svn_delta.h`.
+/// Tells which calls of an edit are in order, by the rules of `svn_delta.h`, which are prose at `svn_editor::Editor`.
 ///
 /// It remembers a few bytes of each token, and of the directories that are open their paths and the names of the entries that calls were
 /// about. The cost of a step grows with the length of the path that the call has, and with the logarithm of the entries of its directory.

@@ -10,8 +10,11 @@ use svn_types::Kind;
 /// What is remembered of a token.
 #[derive(Clone, Copy, Debug)]
 pub struct GivenToken {
+    /// What it was given to.
     pub kind: Kind,
+    /// Whether that was closed.
     pub is_closed: bool,
+    /// Whether that was given its text.
     pub has_text: bool,
 }
 
@@ -24,7 +27,7 @@ fn same_kind(one: Kind, other: Kind) -> bool
     }
 }
 
-// Whether the token was given, and to a node of this kind.
+/// Whether the token was given, and to a node of this kind.
 pub fn is_of_kind(tokens: &[GivenToken], token: Token, kind: Kind) -> bool
     ensures { result ≡ is_of_kind_at tokens.now token kind }
 {
@@ -34,6 +37,7 @@ pub fn is_of_kind(tokens: &[GivenToken], token: Token, kind: Kind) -> bool
     }
 }
 
+/// Whether the token was given, and what it was given to was closed.
 pub fn is_closed(tokens: &[GivenToken], token: Token) -> bool
     ensures { result ≡ is_closed_at tokens.now token }
 {
@@ -43,6 +47,7 @@ pub fn is_closed(tokens: &[GivenToken], token: Token) -> bool
     }
 }
 
+/// Whether the token was given, and what it was given to has its text.
 pub fn has_text(tokens: &[GivenToken], token: Token) -> bool
     ensures { result ≡ has_text_at tokens.now token }
 {
@@ -52,6 +57,7 @@ pub fn has_text(tokens: &[GivenToken], token: Token) -> bool
     }
 }
 
+/// Gives the next token, to a node of this kind. AllocError where a growth is refused.
 pub fn give(tokens: &mut Vec<GivenToken>, kind: Kind) -> Result<(), AllocError>
     ensures { OnOk result (tokens.new.items ≡ tokens.old.items ++ token_of kind ∷ []) }
 {
@@ -63,6 +69,7 @@ pub fn give(tokens: &mut Vec<GivenToken>, kind: Kind) -> Result<(), AllocError>
     Ok(())
 }
 
+/// Notes that what the token was given to was closed.
 pub fn close(tokens: &mut Vec<GivenToken>, token: Token)
     ensures { tokens.new.items ≡ with_closed tokens.old.items token }
 {
@@ -72,6 +79,7 @@ pub fn close(tokens: &mut Vec<GivenToken>, token: Token)
     }
 }
 
+/// Notes that what the token was given to has its text.
 pub fn add_text(tokens: &mut Vec<GivenToken>, token: Token)
     ensures { tokens.new.items ≡ with_text tokens.old.items token }
 {

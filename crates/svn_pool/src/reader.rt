@@ -8,7 +8,8 @@ use crate::page::Page;
 use std::alloc::Allocator;
 use std::marker::Model;
 
-/// The strings of a pool in order, each block read once.
+/// The strings of a pool in the order in which they were pushed, each block read once. A step takes no memory. The tree can't be changed while
+/// one is there.
 #[derive(Drop)]
 pub struct Reader<'a, A: Allocator + Copy> {
     // The pages that are not begun, the newest first.

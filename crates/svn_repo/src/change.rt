@@ -7,7 +7,8 @@ use std::alloc::AllocError;
 use svn_types::{PropName, RelPath, Rev, Text};
 use thiserror::Error;
 
-/// One change of a commit. Each makes afresh every directory above its path; what it doesn't make stays the node revision that it was.
+/// One change of a commit (of a transaction, `svn_fs.h`). Each makes afresh every directory above its path; what it doesn't make stays the node
+/// revision that it was. What `Repo::commit` asks of a field stands there; and directories have to stand above each path.
 #[derive(Debug, Drop)]
 pub enum Change {
     /// Makes a directory of a new line, without entries and properties, where nothing stands.
@@ -51,7 +52,7 @@ pub enum Change {
 /// NoSuchRevision, TooLong, then Missing or NotDir on the ways down, then Exists, NotFile, TooDeep, Memory.
 #[derive(Clone, Copy, Debug, PartialEq, Eq, Error)]
 pub enum CommitFault {
-    /// Something stands where a directory or a copy is to be put.
+    /// Something stands where a directory is to be made or a copy put.
     #[error("something stands at the path")]
     Exists,
     /// Nothing stands at the path, at its source, or at a path above one of them.
@@ -84,7 +85,7 @@ pub enum CommitFault {
 }
 
 impl CommitFault {
-    /// The fault's number, 1 to 10.
+    /// The fault's number: from 1, Exists, to 10, Memory, in the order of the variants.
     pub fn number(self) -> u32
         ensures { result ≡ commit_fault_number self }
     {

@@ -13,7 +13,8 @@ use std::collections::btree_map::Iter;
 use std::marker::Model;
 use svn_types::Name;
 
-/// A node revision of a repository. Two that are equal have one line, one content and one subtree. A contract sees it as its number.
+/// Names a node revision of a repository (a node-revision ID, `svn_fs_id_t` of `svn_fs.h`). Two that are equal have one line, one content and one
+/// subtree. A repository answers None of one that it doesn't have, as another's may be. A contract sees it as its number.
 #[derive(Clone, Copy, Debug, PartialEq, Eq)]
 pub struct NodeId {
     pub(crate) index: usize,
@@ -29,7 +30,8 @@ impl Model for NodeId {
     ghost inverse = { λ n. record { index = n } };
 }
 
-/// The entries of a directory. A contract sees them as pairs of a name and a node, in order of the names.
+/// The entries of a directory: a node under each name, of which there are as many as memory holds. A contract sees them as pairs of a name and a
+/// node, in byte order of the names.
 #[derive(Debug, Drop)]
 pub struct Entries {
     map: BTreeMap<Name, NodeId>,
@@ -56,7 +58,7 @@ impl Entries {
         }
     }
 
-    /// The node under a name, if there is one.
+    /// The node under a name, if there is one. It takes no memory.
     pub fn get(&self, name: &Name) -> Option<NodeId>
         ensures { result ≡ lookup (is_at (name_cmp name.now)) self.now }
     {
@@ -77,7 +79,7 @@ impl Entries {
         self.map.is_empty()
     }
 
-    /// The names and nodes, in order of the names.
+    /// The names and nodes, in byte order of the names. It takes no memory.
     pub fn iter(&self) -> Iter<'_, Name, NodeId>
         ensures rest { result ≡ self.now }
         ensures runs { ShowsInOrder (deref_pair {K = List ℕ} {X = ℕ}) }

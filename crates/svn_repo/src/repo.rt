@@ -96,21 +96,23 @@ impl Repo {
         let _lines = &self.lines;
     }
 
-    /// The newest revision.
+    /// The newest revision; all from 0 to it are there.
     pub fn latest(&self) -> Rev
         ensures { result + 1 ≡ length self.now.roots }
     {
         Rev((self.roots.len() - 1) as u64)
     }
 
-    /// The node at a path in a revision; None where there is no such revision, or nothing stands there.
+    /// The node at a path in a revision; None where there is no such revision, or nothing stands there. It costs the length of the path times the
+    /// logarithm of the entries, and takes no memory.
     pub fn lookup(&self, rev: Rev, path: &RelPath) -> Option<NodeId>
         ensures { result ≡ look self.now rev path.now }
     {
         lookup_in(&self.nodes, &self.roots, rev, path.components())
     }
 
-    /// The line of a node: two nodes are related exactly where they have one line. None where there is no such node.
+    /// The line of a node (its node-ID), from 0, which is that of the roots: two nodes are related exactly where they have one line. None where there
+    /// is no such node.
     pub fn line(&self, id: NodeId) -> Option<u64>
         ensures { result ≡ option_map (λ row. row.line) (node_at self.now id) }
     {

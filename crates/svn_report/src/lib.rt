@@ -1,4 +1,25 @@
 //! Reports of what a client has (`svn_ra.h`): the reporter that takes them down, the report, and how it is printed.
+//!
+//! A [`Reporter`] takes the calls `set_path`, `link_path` and `delete_path`, refuses one with a [`ReporterFault`], and ends as a [`Report`],
+//! whose entries ([`ReportEntry`]) are found by place, by path and by what stands beneath a path.
+//!
+//! ```
+//! let mut reporter = Reporter::new(alloc);
+//! reporter.set_path(&RelPath::root(alloc), Rev(1), false)?;
+//! reporter.delete_path(&RelPath::parse(alloc, "b")?)?;
+//! let below = reporter.set_path(&RelPath::parse(alloc, "b/c")?, Rev(1), false);
+//! assert_eq!(rt; below, Err(ReporterFault::UnderDeleted));
+//! let report = reporter.finish_report();
+//! print!(rt; "{report}")?;
+//! ```
+//!
+//! prints `set . 1` and `delete b`.
+//!
+//! Promises: each call answers the first fault in the order and no other, want of memory last (`answer`); an accepted one adds exactly
+//! its entry (`added`), a refused one leaves the reporter as it was (`unchanged`). The readers of a `Report` are exact, and
+//! `next_name_below` enumerates the names beneath a path, each once (`first`, `in_turn`). What holds of every report is the contract of
+//! `Report::law` (`IsReport` of `specs/LawfulReports.antt`). `Display` has exactly the bytes of `specs/Lines.antt`. Whether a repository
+//! has what a report says, `check_report` of `svn_drive` asks.
 #![tactic(auto)]
 
 mod entry;

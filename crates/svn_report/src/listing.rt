@@ -15,7 +15,7 @@ use std::alloc::{AllocError, Global};
 use std::marker::Model;
 use svn_types::{MAX_DEPTH, Name, RelPath};
 
-// The entries by path, in the order of the calls, and their paths in an index. A contract sees the list of entries.
+/// The entries by path, in the order of the calls, and their paths in an index. A contract sees the list of entries.
 #[derive(Debug, Drop)]
 pub struct Listing {
     entries: IndexMap<RelPath, ReportEntry>,
@@ -46,6 +46,7 @@ fn name_below<'n>(above: &[Name], below: &'n [Name]) -> Option<&'n Name>
 }
 
 impl Listing {
+    /// No entries. It takes no memory.
     pub fn new(alloc: Global) -> Listing
         ensures { result ≡ [] }
     {
@@ -55,30 +56,35 @@ impl Listing {
         }
     }
 
+    /// What holds of the entries of every listing. It does nothing.
     pub fn law(&self)
         ensures { AreLawfulEntries self.now }
     {
         let _entries = &self.entries;
     }
 
+    /// How many entries there are.
     pub fn len(&self) -> usize
         ensures { result ≡ length self.now }
     {
         self.entries.len()
     }
 
+    /// Whether there is none.
     pub fn is_empty(&self) -> bool
         ensures { IsTrue result ↔ (self.now ≡ []) }
     {
         self.entries.is_empty()
     }
 
+    /// An entry and its path, in the order of the calls, counted from 0.
     pub fn entry(&self, i: usize) -> Option<(&RelPath, &ReportEntry)>
         ensures { option_map (λ e. (e.0.now, e.1.now)) result ≡ slice_get self.now i }
     {
         self.entries.get_index(i)
     }
 
+    /// The entry at a path.
     #[tactic(auto, using(crate::proofs::Listings::lookup_entry))]
     pub fn entry_at(&self, path: &RelPath) -> Option<&ReportEntry>
         ensures { option_copied result ≡ entry_at self.now path.now }
@@ -86,6 +92,7 @@ impl Listing {
         self.entries.get(path)
     }
 
+    /// Whether an entry stands strictly beneath a path.
     pub fn has_entry_below(&self, path: &RelPath) -> bool
         ensures { result ≡ has_entry_below self.now path.now }
     {
@@ -115,6 +122,8 @@ impl Listing {
         }
     }
 
+    /// The first name directly beneath a path at or below which an entry stands, or the first of those behind a name.
+    /// AllocError where a growth is refused, which only the second can ask for.
     pub fn next_name_below(
         &self,
         path: &RelPath,
@@ -145,7 +154,7 @@ impl Listing {
         matches!(self.entry_at(path), Some(ReportEntry::DeletePath))
     }
 
-    // Why the entry can't be the next. It takes no memory.
+    /// Why the entry can't be the next. It takes no memory.
     pub fn fault_of(&self, path: &RelPath, entry: &ReportEntry) -> Option<ReporterFault>
         ensures { result ≡ reporter_fault self.now path.now entry.now }
     {
@@ -164,7 +173,7 @@ impl Listing {
         }
     }
 
-    // Adds an entry that can be the next.
+    /// Adds an entry that can be the next. AllocError where a growth is refused, and then nothing has changed.
     pub fn push(&mut self, path: &RelPath, entry: ReportEntry) -> Result<(), AllocError>
         requires { reporter_fault self.old path.now entry ≡ None }
         ensures ok { OnOk result (self.new ≡ self.old ++ (path.now, entry) ∷ []) }

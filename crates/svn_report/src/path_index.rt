@@ -15,6 +15,7 @@ use std::marker::Model;
 use std::ops::Bound;
 use svn_types::{Name, RelPath};
 
+/// Whether the second path is the first one or stands beneath it.
 #[tactic(auto, using(svn_types::proofs::PathOrder::within_take, svn_types::proofs::PathOrder::within_short))]
 pub fn is_within(above: &[Name], below: &[Name]) -> bool
     ensures { result ≡ is_within above.now below.now }
@@ -41,7 +42,7 @@ fn compare_ends<'x>(first: &'x [Name], second: &'x [Name]) -> Ordering
     }
 }
 
-// The names of a path, in the order in which directories end.
+/// The names of a path, in the order in which directories end.
 #[derive(Debug, Drop)]
 pub struct PathEnd {
     names: Vec<Name>,
@@ -72,6 +73,7 @@ impl PathEnd {
         Ok(PathEnd { names })
     }
 
+    /// The names of the path, from the root down.
     pub fn names(&self) -> &[Name]
         ensures { result.now ≡ self.now }
     {
@@ -162,7 +164,7 @@ fn insert_end(ends: &mut BTreeSet<PathEnd>, end: PathEnd) -> Result<(), AllocErr
     Ok(())
 }
 
-// The same paths in path order and in the order in which they end. A contract sees the set in path order.
+/// The same paths in path order and in the order in which they end. A contract sees the set in path order.
 #[derive(Debug, Drop)]
 pub struct PathIndex {
     alloc: Global,
@@ -183,6 +185,7 @@ impl Model for PathIndex {
 }
 
 impl PathIndex {
+    /// No paths. It takes no memory.
     pub fn new(alloc: Global) -> PathIndex
         ensures { (q : Path) → contains path_cmp result q ≡ false }
     {
@@ -193,21 +196,22 @@ impl PathIndex {
         }
     }
 
-    // The first path behind a path. What stands beneath it comes first.
+    /// The first path behind a path. What stands beneath it comes first.
     pub fn next(&self, path: &RelPath) -> Option<&RelPath>
         ensures { IsNext self.now path.now (option_copied result) }
     {
         next_path(&self.paths, path)
     }
 
-    // The last path before a path.
+    /// The last path before a path.
     pub fn previous(&self, path: &RelPath) -> Option<&RelPath>
         ensures { IsPrevious self.now path.now (option_copied result) }
     {
         previous_path(&self.paths, path)
     }
 
-    // The first path that ends behind the name beneath the path. What stands beneath the name ends before it.
+    /// The first path that ends behind the name beneath the path. What stands beneath the name ends before it.
+    /// AllocError where a growth is refused.
     pub fn next_outside(&self, path: &RelPath, name: &Name) -> Result<Option<&PathEnd>, AllocError>
         ensures { IfOk result (λ found. IsNextBy end_cmp (contains path_cmp self.now) (child path.now name.now) (option_copied found)) }
     {
@@ -215,6 +219,7 @@ impl PathIndex {
         Ok(next_end(&self.ends, &end))
     }
 
+    /// Adds a path. AllocError where a growth is refused, and then nothing has changed.
     pub fn insert(&mut self, path: &RelPath) -> Result<(), AllocError>
         requires { contains path_cmp self.old path.now ≡ false }
         ensures added { OnOk result ((q : Path) → contains path_cmp self.new q ≡ (path_eq path.now q || contains path_cmp self.old q)) }

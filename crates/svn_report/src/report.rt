@@ -30,7 +30,8 @@ impl Model for Report {
 }
 
 impl Report {
-    /// What holds of every report, for the proofs of its callers. It does nothing.
+    /// What holds of every report, for the proofs of its callers; it does nothing. The root is set first; each path has one entry; none comes before
+    /// one above it; nothing stands beneath a delete; no link has over 64 names more than its repository path.
     pub fn law(&self)
         ensures { IsReport self.now }
     {
@@ -58,7 +59,7 @@ impl Report {
         self.listing.is_empty()
     }
 
-    /// An entry and its path, in the order of the calls, counted from 0.
+    /// An entry and its path, in the order of the calls, counted from 0; None from [`len`](Report::len) on.
     pub fn entry(&self, i: usize) -> Option<(&RelPath, &ReportEntry)>
         ensures { option_map (λ e. (e.0.now, e.1.now)) result ≡ slice_get self.now.entries i }
     {
@@ -81,7 +82,7 @@ impl Report {
 
     /// The first name directly beneath a path, in the order of names, at or below which an entry stands; with `after` the first of those that
     /// come after it. Asked again and again after its own answer it gives each such name once. The cost grows with the logarithm of the report.
-    /// With `after` it takes memory for a path; without it takes none.
+    /// With `after` it takes memory for a path, and answers AllocError where that is refused; without it takes none.
     pub fn next_name_below(
         &self,
         path: &RelPath,
@@ -147,7 +148,8 @@ impl Reporter {
         Ok(())
     }
 
-    /// Says that the path is there at a revision, and with `start_empty` that a directory has none of its entries and properties.
+    /// Says that the path is there at a revision, and with `start_empty` that a directory has none of its entries and properties. NotRootFirst where
+    /// it is the first call and of another path than the root, Repeated, UnderDeleted, ParentLater; Memory last.
     pub fn set_path(
         &mut self,
         path: &RelPath,
@@ -161,7 +163,8 @@ impl Reporter {
         self.add(path, ReportEntry::SetPath { rev, start_empty })
     }
 
-    /// Says that another path of the repository is there at a revision. Its names may be at most 64 fewer than the path's.
+    /// Says that another path of the repository is there at a revision. NotRootFirst where it is the first call, Repeated, UnderDeleted, ParentLater,
+    /// TooDeep where the path has over 64 names more than that of the repository; Memory last.
     pub fn link_path(
         &mut self,
         path: &RelPath,
@@ -183,7 +186,7 @@ impl Reporter {
         )
     }
 
-    /// Says that nothing is at the path.
+    /// Says that nothing is at the path. NotRootFirst where it is the first call, Repeated, UnderDeleted, ParentLater; Memory last.
     pub fn delete_path(&mut self, path: &RelPath) -> Result<(), ReporterFault>
         ensures answer { Answers (reporter_fault self.old.entries path.now DeletePath) result }
         ensures added { OnOk result (self.new ≡ with_entry self.old path.now DeletePath) }
@@ -192,7 +195,7 @@ impl Reporter {
         self.add(path, ReportEntry::DeletePath)
     }
 
-    /// The report. Takes no memory.
+    /// Ends the report, which may have no entries: no repository can serve it then. Takes no memory.
     pub fn finish_report(self) -> Report
         ensures { result ≡ self }
     {
@@ -202,6 +205,6 @@ impl Reporter {
         }
     }
 
-    /// Gives the report up. Takes no memory.
+    /// Gives the report up, as dropping the reporter does. Takes no memory.
     pub fn abort_report(self) {}
 }

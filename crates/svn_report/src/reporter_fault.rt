@@ -15,22 +15,22 @@ pub enum ReporterFault {
     /// The path has an entry.
     #[error("the path has an entry already")]
     Repeated,
-    /// An entry above the path says that nothing is there.
+    /// An entry above the path is a `delete_path`.
     #[error("a directory above the path is deleted")]
     UnderDeleted,
     /// An entry stands beneath the path.
     #[error("an entry beneath the path came before")]
     ParentLater,
-    /// The path of a link has over 64 names more than its path in the repository.
+    /// The path of a link has over 64 names more than its path in the repository (so that it may have 128).
     #[error("the path of a link has over 64 names more than its path in the repository")]
     TooDeep,
-    /// Memory was refused.
+    /// A growth was refused.
     #[error("out of memory")]
     Memory,
 }
 
 impl ReporterFault {
-    /// The number of the fault.
+    /// The fault's number: from 1, NotRootFirst, to 6, Memory, in the order of the variants.
     pub fn number(self) -> u32
         ensures { result ≡ reporter_fault_number self }
     {

@@ -27,7 +27,7 @@ use svn_wc::WorkingCopy;
 pub struct Options {
     /// How many calls may wait between the two threads, from 1 to 4,096.
     pub capacity: usize,
-    /// After how many calls the run is given up, if its drive has more.
+    /// After how many calls the run is given up, if its drive has more; `AbortEdit` isn't counted. None: it goes to its end.
     pub cancel_after: Option<u64>,
     /// Whether the texts of files come after all directories are closed.
     pub late_texts: bool,
@@ -39,6 +39,9 @@ pub struct Options {
 /// OtherRoot say, in this order, why no run leads to the target, then Capacity that the capacity isn't 1 to 4,096; then
 /// come Memory, where a growth was refused before the first call, and NoThread, where no thread could be made. The copy
 /// is then as it was. It may wait for the other thread.
+///
+/// Otherwise it answers how the run ended, and what passed between the threads: how many calls were sent and taken, the last
+/// and `AbortEdit` included.
 pub fn update<R: Threads + Wait + Sync, G: Gate>(
     rt: &R,
     alloc: Global,

@@ -1,4 +1,20 @@
 //! Runs of an update: a driver and a working copy, until the copy stands at the target or the run is given up.
+//!
+//! [`update`] and [`switch_to`] drive in a thread of their own, [`update_in_turn`] and [`switch_to_in_turn`] on the caller's. A run that begins
+//! answers its [`Outcome`], with a [`Cause`] where it was aborted; one that can't begin a [`RunFault`]. [`Options`] say how a run on two
+//! threads is made, and a [`Gate`] hears of each call as it passes; [`NoGate`] does nothing.
+//!
+//! ```
+//! let options = Options { capacity: 64, cancel_after: None, late_texts: false };
+//! let (outcome, passed) = update(rt, alloc, &repo, &mut copy, Rev(2), options, &NoGate)?;
+//! println!(rt; "{outcome:?}, {} calls taken", passed.taken)?;
+//! ```
+//!
+//! A run asks for a copy that is true of the repository; `WorkingCopy::check_true` is the test.
+//!
+//! Promises: the contract of each is the update theorem, `TurnTheorem` and `ThreadsTheorem` of `specs/UpdateTheorem.antt`: for every repository,
+//! true copy, target, cancel number, place of texts, capacity, gate and schedule. On one thread runs return; on two they may wait, and
+//! nothing is claimed of when the other thread goes on.
 #![tactic(auto)]
 
 mod both;

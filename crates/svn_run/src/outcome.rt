@@ -4,52 +4,53 @@ ghost use Rattle.svn_run.specs.FaultNumbers.{run_fault_number};
 
 use thiserror::Error;
 
-/// Why an update was aborted.
+/// Why a run was aborted.
 #[derive(Clone, Copy, Debug, PartialEq, Eq)]
 pub enum Cause {
-    /// The number of calls that was handed in was made.
+    /// As many calls were made as `cancel_after` allows, and the drive has more.
     Cancelled,
-    /// A growth was refused.
+    /// A growth was refused, to the driver or to the copy.
     Memory,
 }
 
-/// How an update ended, once its first call was made.
+/// How a run ended that began. Whatever it is, the copy is true of the repository, and the same run made again ends as this one would have.
 #[derive(Clone, Copy, Debug, PartialEq, Eq)]
 pub enum Outcome {
     /// The last call, `CloseEdit`, was accepted.
     Closed {
-        /// how many calls were made, `CloseEdit` included
+        /// How many calls were made, `CloseEdit` included.
         calls: u64,
     },
     /// The edit was aborted.
     Aborted {
-        /// how many calls were made, without `AbortEdit`
+        /// How many calls were made, without `AbortEdit`.
         made: u64,
-        /// how many of them the working copy accepted
+        /// How many of them the working copy accepted.
         accepted: u64,
-        /// the number of the refused call that stopped the driver, where it was told in time; None where both run in turn
+        /// The number of the refused call that stopped the driver, counted from 1, where it was told in time; None where both run in turn.
         late: Option<u64>,
-        /// why
+        /// Why.
         cause: Cause,
     },
 }
 
-/// Why an update did not begin. No call was made, and the copy is as it was.
+/// Why a run did not begin. No call was made, and the copy is as it was. Of the first four the
+/// first that holds is answered; the others come where none of these holds.
 #[derive(Clone, Copy, Debug, PartialEq, Eq, Error)]
 pub enum RunFault {
     /// The repository has no revision of the target's number.
     #[error("there is no such revision")]
     NoSuchRevision,
-    /// The copy's root isn't in the target revision.
+    /// In the target revision nothing stands where the copy's root would be: at its repository path, or where a switch leads.
     #[error("the copy's root isn't in the target")]
     NoRoot,
-    /// In the target revision another node stands where the copy's root would be.
+    /// In the target revision a node of another line stands where the copy's root would be.
     #[error("the root in the target is another node")]
     OtherRoot,
-    /// The capacity isn't 1 to 4096.
+    /// The capacity isn't 1 to 4,096. On one thread it isn't asked for.
     #[error("the capacity isn't 1 to 4096")]
     Capacity,
-    /// A growth was refused.
+    /// A growth was refused before the first call.
     #[error("out of memory")]
     Memory,
     /// The driver's thread couldn't be started.
@@ -58,7 +59,7 @@ pub enum RunFault {
 }
 
 impl RunFault {
-    /// Its number.
+    /// The fault's number: 31 NoSuchRevision, 32 Capacity, 33 Memory, 34 NoThread, 35 NoRoot, 36 OtherRoot.
     pub fn number(self) -> u32
         ensures { result ≡ run_fault_number self }
     {

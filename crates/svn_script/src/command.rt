@@ -16,7 +16,7 @@ use std::alloc::Global;
 use svn_repo::Change;
 use svn_types::{RelPath, Rev};
 
-/// One line of a script.
+/// One line of a script, read. What each command does and prints, `svn_update` defines (`specs/Commands.antt`).
 #[derive(Debug, Drop)]
 pub enum Command {
     /// A line without words, or a comment.
@@ -24,66 +24,66 @@ pub enum Command {
     /// `mkdir PATH`, `put PATH TEXT`, `prop PATH NAME VALUE`, `unprop PATH NAME`, `remove PATH` or `copy REV SOURCE PATH`: one more change
     /// for the next commit.
     Change(Change),
-    /// `commit`
+    /// `commit`: a commit of the changes before it.
     Commit,
     /// `checkout REV` or `checkout REV PATH`: a working copy of the revision's tree, or of what is beneath the path in it.
     Checkout {
-        /// the revision
+        /// The revision.
         rev: Rev,
-        /// the repository path of the copy's root, which is the repository's root where no path is given
+        /// The repository path of the copy's root, which is the repository's root where no path is given
         path: RelPath,
     },
-    /// `place PATH REV`
+    /// `place PATH REV`: what the directory above has there in the revision is put at the path.
     Place {
-        /// the path in the working copy
+        /// The path in the working copy
         path: RelPath,
-        /// the revision that it is put at
+        /// The revision that it is put at.
         rev: Rev,
     },
-    /// `switch PATH REPOSPATH REV`
+    /// `switch PATH REPOSPATH REV`: another repository path is put at the path.
     Switch {
-        /// the path in the working copy
+        /// The path in the working copy.
         path: RelPath,
-        /// the repository path that is put there
+        /// The repository path that is put there.
         repos_path: RelPath,
-        /// the revision in which it is looked up
+        /// The revision in which it is looked up.
         rev: Rev,
     },
-    /// `forget PATH`
+    /// `forget PATH`: the path isn't present from then on.
     Forget {
-        /// the path in the working copy
+        /// The path in the working copy.
         path: RelPath,
     },
-    /// `report`
+    /// `report`: prints what the working copy reports.
     Report,
-    /// `drive REV` or `drive REV late`
+    /// `drive REV` or `drive REV late`: prints the calls that an update would make.
     Drive {
-        /// the target
+        /// The target.
         rev: Rev,
-        /// whether texts come after all directories are closed
+        /// Whether texts come after all directories are closed
         late: bool,
     },
-    /// `update REV` or `update REV N`, either with a last word `late`
+    /// `update REV` or `update REV N`, either with a last word `late`: updates the working copy.
     Update {
-        /// the target
+        /// The target.
         rev: Rev,
-        /// after how many calls the run is to stop, if it is to
+        /// After how many calls the run is to stop, if it is to.
         cancel_after: Option<u64>,
-        /// whether texts come after all directories are closed
+        /// Whether texts come after all directories are closed
         late: bool,
     },
-    /// `switch-to REPOSPATH REV` or `switch-to REPOSPATH REV N`, either with a last word `late`
+    /// `switch-to REPOSPATH REV` or `switch-to REPOSPATH REV N`, either with a last word `late`: switches the whole working copy.
     SwitchTo {
-        /// the repository path that the copy's root is to have
+        /// The repository path that the copy's root is to have.
         repos_path: RelPath,
-        /// the target
+        /// The target.
         rev: Rev,
-        /// after how many calls the run is to stop, if it is to
+        /// After how many calls the run is to stop, if it is to.
         cancel_after: Option<u64>,
-        /// whether texts come after all directories are closed
+        /// Whether texts come after all directories are closed
         late: bool,
     },
-    /// `show`
+    /// `show`: prints the nodes of the working copy.
     Show,
 }
 

@@ -22,12 +22,12 @@ Status 2: a line of the script, or one of these words, is at fault.
 
 Example: printf 'put f a\\ncommit\\ncheckout 1\\nshow\\n' | svnup";
 
-/// How a script is to be run.
+/// How the `update` and `switch-to` of a script are to be run. By default in two threads, with at most 64 calls waiting.
 #[derive(Clone, Copy, Debug, PartialEq, Eq)]
 pub struct Settings {
-    /// how many calls may wait between driver and working copy, 1 to 4,096
+    /// How many calls may wait between driver and working copy, 1 to 4,096. Where both run in turn it says nothing.
     pub capacity: usize,
-    /// whether driver and working copy run in turn, on one thread
+    /// Whether driver and working copy run in turn, on one thread.
     pub in_turn: bool,
 }
 
@@ -54,7 +54,7 @@ pub enum WordsFault {
 }
 
 impl WordsFault {
-    /// Its number: 71 or 72.
+    /// The fault's number: 71 for BadWords, 72 for Memory.
     pub fn number(&self) -> u32
         ensures { result ≡ words_fault_number self.now }
     {

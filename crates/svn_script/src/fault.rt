@@ -16,16 +16,17 @@ pub enum ScriptFault {
     /// The script couldn't be read to its end. None of it ran.
     #[error("svnup: read fault")]
     Read,
-    /// The output couldn't be written.
+    /// The output couldn't be written or flushed. What was written of it is unknown.
     #[error("svnup: write fault")]
     Write,
-    /// A growth was refused while the script was read, or an output made.
+    /// A growth was refused while the script or a line of it was read, or its first state made. Where one is refused to a command, that command
+    /// prints its refusal instead.
     #[error("svnup: out of memory")]
     Memory,
 }
 
 impl ScriptFault {
-    /// Its number: 61 to 65 in the order of the variants.
+    /// The fault's number: from 61, BadLine, to 65, Memory, in the order of the variants.
     pub fn number(self) -> u32
         ensures { result ≡ script_fault_number self }
     {

@@ -12,7 +12,8 @@ use svn_types::MAX_SCRIPT;
 /// The most bytes that are read at a time.
 const BLOCK: usize = 8192;
 
-/// Reads a script to its end, or until it is too long: after 16,777,217 bytes it reads no more.
+/// Reads a script to its end, or until it is too long: after 16,777,217 bytes it reads no more, and answers TooLong. Read where the reader
+/// fails; Memory where a growth is refused.
 pub fn read_script<R: Read>(alloc: Global, reader: &mut R) -> Result<Vec<u8>, ScriptFault>
     ensures bounded { IfOk result (λ v. length v.items ≤ MAX_SCRIPT) }
     ensures bytes { IfOk result (λ v. IfSome (R.remaining reader.old) (λ bytes. v.items ≡ bytes)) }
@@ -46,7 +47,7 @@ fn find_byte(text: &[u8], byte: u8) -> Option<usize>
     text.iter().position(|b| *b == byte)
 }
 
-/// The bytes before the first separator and those behind it, if there is one.
+/// The bytes before the first separator and those behind it, if there is one. It takes no memory.
 pub fn split_once(text: &[u8], separator: u8) -> Option<(&[u8], &[u8])>
     ensures parts { let p = (λ (b : ℕ). nat_eq b separator) in MatchOption result (slice_split p text.now ≡ text.now ∷ []) (λ r. slice_split p text.now ≡ r.0.now ∷ slice_split p r.1.now) }
     ensures shorter { IfSome result (λ r. length r.1.now < length text.now) }
@@ -57,7 +58,7 @@ pub fn split_once(text: &[u8], separator: u8) -> Option<(&[u8], &[u8])>
     }
 }
 
-/// A line without the carriage return at its end, if there is one.
+/// A line without the carriage return at its end, if there is one. It takes no memory.
 pub fn without_return(line: &[u8]) -> &[u8]
     ensures { result.now ≡ without_return line.now }
 {

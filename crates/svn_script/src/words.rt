@@ -12,7 +12,7 @@ use svn_types::{PathFault, PropName, RelPath, Text};
 /// Why a line was not read.
 #[derive(Clone, Copy, Debug, PartialEq, Eq)]
 pub enum LineFault {
-    /// It is no command.
+    /// It is no command with just its words, each of its form.
     Bad,
     /// A growth was refused.
     Memory,

@@ -9,13 +9,14 @@ use thiserror::Error;
 /// Why a text is no name, no path or no name of a property.
 #[derive(Clone, Copy, Debug, PartialEq, Eq, Error)]
 pub enum PathFault {
-    /// A name without a byte, as between two slashes.
+    /// A name without a byte, as between two slashes, at the end behind a slash, or for a property.
     #[error("a name is empty")]
     EmptyComponent,
-    /// The name `.` or `..`.
+    /// The name `.` or `..` of a node.
     #[error("a name is `.` or `..`")]
     Dots,
-    /// A character that no name may have.
+    /// A character that no name may have: for a node `/` and the control characters (bytes below 32, and 127); for a property all but ASCII
+    /// letters, digits, `:`, `_`, `-` and `.`, and as the first one all but letters, `:` and `_`.
     #[error("a name has a character that no name may have")]
     BadCharacter,
     /// A name of over 255 bytes.

@@ -1,6 +1,6 @@
 //! What a node is.
 
-/// A file or a directory (`svn_node_kind_t` of `svn_types.h`, of the nodes that are there).
+/// A file or a directory (`svn_node_kind_t` of `svn_types.h`, of the nodes that are there: neither `svn_node_none` nor a symbolic link).
 #[derive(Clone, Copy, Debug, PartialEq, Eq)]
 pub enum Kind {
     /// It has a text, and no entries.

@@ -1,4 +1,22 @@
-//! The words that all layers share: names and paths, properties, texts, revision numbers and node kinds.
+//! The words that all layers share: names and paths, properties, texts, revision numbers and node kinds, and the limits that more
+//! than one crate keeps.
+//!
+//! [`RelPath`] is a list of [`Name`]s below some root, [`Props`] are [`Text`]s under [`PropName`]s, [`Rev`] is the number of a revision,
+//! and [`Kind`] tells a file from a directory. Where a text is no name or no path, [`PathFault`] says why.
+//!
+//! ```
+//! let directory = RelPath::parse(alloc, "trunk/lib")?;
+//! let file = directory.join(alloc, &Name::parse(alloc, "hash.c")?)?;
+//! assert!(rt; file.is_within(&directory));
+//! let mut props = Props::new(alloc);
+//! props.insert(PropName::parse(alloc, "svn:eol-style")?, Text::new(b"native".to_vec(alloc)?))?;
+//! assert_eq!(rt; props.len(), 1);
+//! ```
+//!
+//! Promises: `parse` and `join` answer the value, or exactly the first fault in the order of the definition, want of memory last
+//! (`AnswersPath`, with `name_fault`, `prop_name_fault`, `path_fault` and `count_fault` of `specs/NameFaults.antt`). Orders and equalities are
+//! those of the lists that contracts see (the `cmp` and `eq` of each type). `Props` are a map in name order, and `changes_to` gives
+//! `changes_between` of `specs/Props.antt`. How a value lies in memory no contract says.
 #![tactic(auto)]
 
 mod changes;

@@ -30,7 +30,7 @@ impl RelPath {
         Ok(Some(RelPath::from_names(alloc, names, self.key().len())?))
     }
 
-    /// Its last name, none for the root.
+    /// Its last name, none for the root. It takes no memory.
     pub fn last_name(&self) -> Option<&Name>
         ensures name { MatchOption result (self.now ≡ []) (λ name. last_name self.now ≡ name.now ∷ []) }
         ensures split { IfSome result (λ name. self.now ≡ child (parent self.now) name.now) }
@@ -38,7 +38,7 @@ impl RelPath {
         self.components().last()
     }
 
-    /// Whether it is that path or stands below it.
+    /// Whether it is that path or stands below it. It takes no memory.
     pub fn is_within(&self, above: &RelPath) -> bool
         ensures { result ≡ is_within above.now self.now }
     {

@@ -68,7 +68,7 @@ pub(crate) fn fault_of_name(text: &str) -> Option<PathFault>
 }
 
 impl Name {
-    /// Reads a name. The first fault in this order is answered: EmptyComponent, Dots, NameTooLong, BadCharacter; Memory comes last.
+    /// Reads the name of a node. The first fault in this order is answered: EmptyComponent, Dots, NameTooLong, BadCharacter; Memory comes last.
     pub fn parse(alloc: Global, text: &str) -> Result<Name, PathFault>
         ensures { AnswersPath (name_fault text.now) text.now result }
     {
@@ -87,7 +87,7 @@ impl Name {
         })
     }
 
-    /// Its text.
+    /// Its text, of 1 to 255 bytes. It takes no memory.
     pub fn as_str(&self) -> &str
         ensures value { result.now ≡ self.now }
         ensures name { IsName self.now }

@@ -16,7 +16,8 @@ use std::convert::AsStr;
 use std::fmt;
 use std::marker::Model;
 
-/// The name of a property: 1 to 255 ASCII characters, the first a letter, `:` or `_`, the rest letters, digits, `:`, `_`, `-` and `.`.
+/// The name of a property: 1 to 255 ASCII characters, the first a letter, `:` or `_`, the rest letters, digits, `:`, `_`, `-` and `.`
+/// (`svn_prop_name_is_valid` of `svn_props.h`, which has no limit of length).
 /// A contract sees it as its bytes.
 #[derive(Debug, Drop)]
 pub struct PropName {
@@ -95,7 +96,7 @@ impl PropName {
         })
     }
 
-    /// Its text.
+    /// Its text, of 1 to 255 bytes. It takes no memory.
     pub fn as_str(&self) -> &str
         ensures value { result.now ≡ self.now }
         ensures name { IsPropName self.now }

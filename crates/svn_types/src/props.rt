@@ -11,7 +11,8 @@ use std::alloc::{AllocError, Global};
 use std::collections::BTreeMap;
 use std::marker::Model;
 
-/// The properties of a node: values by their names, in byte order of the names. A contract sees them as the pairs in this order.
+/// The properties of a node (`svn_props.h`): values by their names, each name once. A contract sees them as the pairs in byte order of the names.
+/// Neither their number nor the length of a value is bounded here; a commit and an edit refuse values of over 1,048,576 bytes.
 #[derive(Debug, Drop)]
 pub struct Props {
     map: BTreeMap<PropName, Text>,
@@ -59,7 +60,7 @@ impl Props {
         self.map == other.map
     }
 
-    /// The properties as a map.
+    /// The properties as a map, in byte order of the names. It takes no memory.
     pub fn as_map(&self) -> &BTreeMap<PropName, Text>
         ensures { result.now.entries ≡ self.now }
     {
@@ -73,7 +74,7 @@ impl Props {
         self.map.get(name)
     }
 
-    /// Sets a property; the value before goes. Where a growth is refused nothing changes.
+    /// Sets a property; the value before goes. AllocError where a growth is refused, and then nothing has changed.
     pub fn insert(&mut self, name: PropName, value: Text) -> Result<(), AllocError>
         ensures ok { OnOk result (self.new ≡ insert_entry name_cmp self.old name value) }
         ensures err { OnErr result (self.new ≡ self.old) }

@@ -56,7 +56,7 @@ impl PathParts {
     }
 }
 
-/// A path below some root: at most 128 names, of which the root has none. Paths are ordered name by name, names by their bytes, a prefix first,
+/// A path below some root (a relpath of `svn_dirent_uri.h`): at most 128 names, of which the root has none. Paths are ordered name by name, names by their bytes, a prefix first,
 /// so a directory stands directly before what is beneath it. A contract sees a path as the list of its names. A clone shares them.
 pub struct RelPath {
     // the root has none
@@ -263,7 +263,7 @@ impl RelPath {
         is_one_more(self.key(), path.key(), name.as_str().as_bytes())
     }
 
-    /// Whether it is the root.
+    /// Whether it is the root: the path of no name.
     pub fn is_root(&self) -> bool
         ensures { IsTrue result ↔ (self.now ≡ []) }
     {

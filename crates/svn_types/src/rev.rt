@@ -5,7 +5,8 @@ ghost use Rattle.std.specs.Fmt.{decimal};
 use std::fmt;
 use std::marker::Model;
 
-/// A revision number. A contract sees it as the number.
+/// The number of a revision (`svn_revnum_t` of `svn_types.h`, without its invalid number): 0 is the empty one that every repository begins with.
+/// Which revisions there are, a repository knows. A contract sees it as the number.
 #[derive(Clone, Copy, Debug, PartialEq, Eq)]
 pub struct Rev(pub u64);
 

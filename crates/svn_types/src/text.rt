@@ -21,7 +21,8 @@ enum TextForm {
     Shared(Arc<Vec<u8>>),
 }
 
-/// The text of a file, or the value of a property: any bytes. A contract sees it as their list.
+/// The text of a file, or the value of a property (`svn_string_t` of `svn_string.h`): any bytes, of any number here; a commit, an edit and a pool
+/// refuse over 1,048,576. A contract sees it as their list. A clone of a long text may share its bytes.
 pub struct Text {
     form: TextForm,
 }
@@ -50,14 +51,14 @@ impl Text {
         }
     }
 
-    /// Its bytes in a vector of their own.
+    /// Its bytes in a vector of their own. AllocError where a growth is refused.
     pub fn to_vec(&self, alloc: Global) -> Result<Vec<u8>, AllocError>
         ensures { IfOk result (λ v. v.items ≡ self.now) }
     {
         Vec::from_slice(alloc, self.as_slice())
     }
 
-    /// Its bytes.
+    /// Its bytes. It takes no memory.
     pub fn as_slice(&self) -> &[u8]
         ensures { result.now ≡ self.now }
     {

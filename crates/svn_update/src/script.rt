@@ -79,7 +79,8 @@ fn run_lines<T: Threads + Wait + Sync, W: Write>(
 /// line of it is read; where one is refused to a command, that command prints its refusal.
 ///
 /// The settings say how `update` and `switch-to` run: with `in_turn` on this thread, else with the driver in a thread of its own and at most
-/// `capacity` calls waiting, which refuses them by Capacity unless it is 1 to 4,096. The output is the same but for wants.
+/// `capacity` calls waiting, which refuses them by Capacity unless it is 1 to 4,096. The output is the same but for wants of memory
+/// or of a thread. It waits where the reader, the writer and the other thread do.
 pub fn run_script<T: Threads + Wait + Sync, R: Read, W: Write>(
     rt: &T,
     alloc: Global,

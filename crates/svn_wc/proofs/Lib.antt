@@ -1,10 +1,20 @@
+-- What stands below a path, one name at a time.
 pub mod Trees
+-- One entry of a directory after the other.
 pub mod Sweeps
+-- The nodes on the way down to a path.
 pub mod PathLines
+-- A copy is compared with the repository, the nodes below a path one after the other.
 pub mod Truly
+-- A tree of the repository is gathered: its node first, and then the entries in order of their names.
 pub mod Gathering
+-- A path is forgotten: one node after the other is kept, changed, or goes.
 pub mod Forgetting
+-- What stands at a path and below is replaced: room is made for what comes, then what was there goes.
 pub mod Replacing
+-- Trees of the repository, and what a copy makes of them.
 pub mod Placing
+-- Lists of nodes in any order, each path once: what is gathered from one is what it has.
 pub mod EachOnce
+-- A call of an applier keeps the copy in its shape, whatever the call and its answer.
 pub mod ShapeKept

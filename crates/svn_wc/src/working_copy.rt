@@ -13,8 +13,9 @@ use svn_model::{BaseNode, WcFault};
 use svn_repo::Repo;
 use svn_types::{RelPath, Rev};
 
-/// What a client has of a repository: a node for each path that it knows, the root's being a directory, and each other's below one. A contract
-/// sees it as the pairs of a path and its node, in path order.
+/// What a client has of a repository: a node for each path that it knows, the root's being a directory, and each other's below one. A path has at
+/// most 64 names more than its node's repository path, and that at most 64. Nodes may be of several revisions, and switched. A contract sees a
+/// copy as the pairs of a path and its node, in path order.
 #[derive(Debug, Drop)]
 pub struct WorkingCopy {
     pub(crate) alloc: Global,
@@ -61,7 +62,7 @@ impl WorkingCopy {
         let _nodes = self.nodes.iter();
     }
 
-    /// What the copy has at a path. It takes no memory.
+    /// What the copy has at a path; None where it knows nothing there. It takes no memory.
     pub fn get(&self, path: &RelPath) -> Option<&BaseNode>
         ensures { option_copied result ≡ get_in self.now path.now }
     {
