@@ -1,21 +1,21 @@
 -- An edit that no call was given to.
 use Rattle.std.proofs.Common.{◌≡◌, ◌≢◌, ℕ, ◌+◌, cond, List, [], sym, ◌∙◌, ap}
 use Rattle.std.proofs.lemmas.Cmp.{nat_cmp_total}
-use Rattle.std.specs.Prelude.{Some, None, is_some}
+use Rattle.std.specs.Prelude.{Some, None, is_some, nat_eq}
 use Rattle.std.specs.Ordering.{nat_cmp}
-use Rattle.std.specs.BTreeMap.{BTreeMap, get, is_at}
+use Rattle.std.specs.HashMap.{get}
 use Rattle.std.specs.Map.{lookup}
 use Rattle.std.specs.FinMap as map
 use Rattle.svn_pool.specs.Pools.{Entry, Pools, pool_at, root_alone}
 use Rattle.svn_pool.proofs.Views.{inserted_here, inserted_away}
 use Rattle.svn_edit.specs.declared.baton.Baton.{Baton}
-use Rattle.svn_edit.specs.Applying.{HoldsBatons}
+use Rattle.svn_edit.specs.Applying.{BatonMap, HoldsBatons}
 
 none_some : {X : Type 0} (x : X) → None ≡ Some x → ⊥
 none_some x e = cc
 
-pub begun_batons : (pools : Pools) (batons : BTreeMap ℕ Baton) → pools ≡ root_alone 0 → batons.entries ≡ []
-    → HoldsBatons pools (get nat_cmp batons) []
+pub begun_batons : (pools : Pools) (batons : BatonMap) → pools ≡ root_alone 0 → batons.entries ≡ []
+    → HoldsBatons pools (get nat_eq batons) []
 begun_batons pools batons is empty = record {
   opened = λ t. ap is_some (nothing t);
   each = λ t b e. absurd (none_some b (sym (nothing t) ∙ e));
@@ -33,5 +33,5 @@ begun_batons pools batons is empty = record {
         none_some e (sym (ap (λ (p : Pools). pool_at p s) is ∙ inserted_away map.empty 0 (record { parent = None; strings = [] }) s
         (λ z. apart (z ∙ sym (ap (λ (p : Pools). p.root) is))) ∙ map.get-empty nat_cmp s) ∙ there)
 
-    nothing : (t : ℕ) → get nat_cmp batons t ≡ None
-    nothing t = ap (λ (l : List (ℕ × Baton)). lookup (is_at (nat_cmp t)) l) empty
+    nothing : (t : ℕ) → get nat_eq batons t ≡ None
+    nothing t = ap (λ (l : List (ℕ × Baton)). lookup (nat_eq t) l) empty

@@ -23,8 +23,7 @@ use Rattle.svn_order.proofs.Lawful.{sound}
 use Rattle.svn_model.specs.declared.base_node.BaseNode.{BaseNode}
 use Rattle.svn_edit.specs.declared.baton.Baton.{Baton}
 use Rattle.svn_edit.specs.declared.edit.Edit.{Edit}
-use Rattle.std.specs.Ordering.{nat_cmp}
-use Rattle.std.specs.BTreeMap.{BTreeMap, Updates, get}
+use Rattle.std.specs.HashMap.{Updates, get}
 use Rattle.svn_pool.proofs.Edges.{updated_here, updated_away}
 use Rattle.svn_edit.specs.declared.baton.Note.{Note}
 use Rattle.svn_edit_law.proofs.Appending.{next_target}
@@ -34,7 +33,7 @@ use Rattle.svn_model.specs.Effects.{change_in, changes_at, closed_directory, is_
 use Rattle.svn_model.specs.Said.{says, said_at}
 use Rattle.svn_edit.specs.Noted.{slashed, note_of, strings_of}
 use Rattle.svn_edit.specs.Applying.{Applied, BatonSaid, BatonNoted, KeepsEdit, batons_of, is_open, IsBaton, BatonGone, IsLeaf, Says, Holds}
-use Rattle.svn_edit.specs.Applying.{IsNext}
+use Rattle.svn_edit.specs.Applying.{IsNext, BatonMap}
 use Rattle.svn_model.specs.Answering.{AnswersCall}
 use Rattle.svn_edit_law.proofs.StepEffects.{effect_alone, effect_none}
 use Rattle.svn_edit.proofs.HeldBatons.{held_leaf, held_gone, held_noted}
@@ -182,9 +181,9 @@ pub pass_ok : (A B : Type 0) (a : Result (Unit {0}) A) (r : Result (Unit {0}) Ed
 pass_ok A B a (Ok v) ok h = subst (λ (x : Result (Unit {0}) A). OnOk x B) ok h
 pass_ok A B a (Err e) ok h = tt
 
-pub noted_of : (t : ℕ) (note : Note) (strings : List (List ℕ)) (b d : Baton) (pools pools2 : Pools) (m n : BTreeMap ℕ Baton)
-    → BatonSaid note strings b pools d pools2 → Updates nat_cmp m n t (Some d)
-    → BatonNoted t b note strings pools (get nat_cmp m) pools2 (get nat_cmp n)
+pub noted_of : (t : ℕ) (note : Note) (strings : List (List ℕ)) (b d : Baton) (pools pools2 : Pools) (m n : BatonMap)
+    → BatonSaid note strings b pools d pools2 → Updates nat_eq m n t (Some d)
+    → BatonNoted t b note strings pools (get nat_eq m) pools2 (get nat_eq n)
 noted_of t note strings b d pools pools2 m n said written = record {
   baton = d;
   path = said.path;

@@ -1,7 +1,5 @@
 //! An edit of a copy, call by call.
 ghost use Rattle.std.specs.Prelude.{◌≡◌, ◌≢◌, [], ◌∷◌, ◌++◌, List, IfOk, IfErr, OnOk, OnErr, Ok, Some, None, true, false, if◌then◌else◌};
-ghost use Rattle.std.specs.Ordering.{nat_cmp};
-ghost use Rattle.std.specs.BTreeMap.{get};
 ghost use Rattle.md5.specs.Md5.{md5};
 ghost use Rattle.svn_types.specs.Names.{Path};
 ghost use Rattle.svn_types.specs.Paths.{path_eq};
@@ -27,7 +25,7 @@ use crate::baton::{Baton, drop_pool};
 use crate::nodes::Nodes;
 use crate::{nodes, paths};
 use std::alloc::{AllocError, Global};
-use std::collections::BTreeMap;
+use std::collections::HashMap;
 use svn_editor::{Call, Digest, EditFault, OrderFault, Token};
 use svn_model::BaseNode;
 use svn_order::OrderCheck;
@@ -55,7 +53,7 @@ pub struct Edit {
     /// Where a switch brings the copy.
     pub(crate) root: Option<RelPath>,
     pub(crate) pools: PoolTree<Global>,
-    pub(crate) batons: BTreeMap<u64, Baton>,
+    pub(crate) batons: HashMap<u64, Baton>,
     pub(crate) alloc: Global,
 }
 
@@ -104,7 +102,7 @@ impl Edit {
             target: Rev(0),
             root,
             pools,
-            batons: BTreeMap::new(alloc),
+            batons: HashMap::new(alloc),
             alloc,
         })
     }

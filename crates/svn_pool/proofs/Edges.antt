@@ -1,11 +1,13 @@
 -- A map by numbers and a set of pairs, after one key was put in or taken out.
-use Rattle.std.proofs.Common.{◌≡◌, ◌≢◌, ◌<◌, ◌≤◌, ℕ, Bool, true, false, cond, Option, refl, sym, ap, ◌∙◌, arith}
+use Rattle.std.proofs.Common.{nat_eq, ◌≡◌, ◌≢◌, ◌<◌, ◌≤◌, ℕ, Bool, true, false, cond, Option, refl, sym, ap, ◌∙◌, arith}
+use Rattle.std.proofs.lemmas.Bool.{ne_eqb}
 use Rattle.std.proofs.lemmas.Cmp.{nat_cmp_total, tied_itself, ranked, by_ranked}
 use Rattle.std.specs.Cmp.{nat_cmp_is}
 use Rattle.std.proofs.lemmas.Map.Lookups.{exact_unsigned, exact_pairs}
-use Rattle.std.specs.BTreeMap.{BTreeMap, get, is_at, Updates}
+use Rattle.std.specs.BTreeMap.{is_at}
+use Rattle.std.specs.HashMap.{HashMap, get, Updates}
 use Rattle.std.specs.BTreeSet as set
-use Rattle.std.specs.Ordering.{is_eq, is_gt, nat_cmp, ordering_then}
+use Rattle.std.specs.Ordering.{eq_by_cmp, is_eq, is_gt, nat_cmp, ordering_then}
 use Rattle.std.specs.declared.cmp.Ordering.{Ordering}
 use Rattle.std.specs.declared.cmp.Ordering.TheVariants.{Less, Equal, Greater}
 use Rattle.svn_pool.specs.Linked.{edge_cmp}
@@ -29,17 +31,17 @@ edge_same e f is = exact_pairs nat_cmp nat_cmp exact_unsigned exact_unsigned e f
 pub edge_apart : (e f : ℕ × ℕ) → (e ≡ f → ⊥) → is_at (edge_cmp e) f ≡ false
 edge_apart e f apart = not_true (is_at (edge_cmp e) f) (λ is. apart (edge_same e f is))
 
-pub number_apart : (k q : ℕ) → q ≢ k → is_at (nat_cmp k) q ≡ false
-number_apart k q apart = not_true (is_at (nat_cmp k) q) (λ is. apart (sym (exact_unsigned k q (is_eq_gives (nat_cmp k q) is))))
+pub number_apart : (k q : ℕ) → q ≢ k → eq_by_cmp nat_cmp k q ≡ false
+number_apart k q apart = not_true (eq_by_cmp nat_cmp k q) (λ is. apart (sym (exact_unsigned k q (is_eq_gives (nat_cmp k q) is))))
 
-module _ {X : Type 0} (m n : BTreeMap ℕ X) (k : ℕ) (w : Option X) (h : Updates nat_cmp m n k w) where
+module _ {X S : Type 0} (m n : HashMap ℕ X S) (k : ℕ) (w : Option X) (h : Updates nat_eq m n k w) where
   -- what the key has
-  pub updated_here : get nat_cmp n k ≡ w
+  pub updated_here : get nat_eq n k ≡ w
   updated_here = h.1
 
   -- what another key has
-  pub updated_away : (q : ℕ) → q ≢ k → get nat_cmp n q ≡ get nat_cmp m q
-  updated_away q apart = h.2 q (number_apart k q apart)
+  pub updated_away : (q : ℕ) → q ≢ k → get nat_eq n q ≡ get nat_eq m q
+  updated_away q apart = h.2 q (ne_eqb k q (λ e. apart (sym e)))
 
 module _ (s t : set.BTreeSet (ℕ × ℕ)) (e : ℕ × ℕ) (b : Bool) (h : set.Updates edge_cmp s t e b) where
   pub edge_here : set.contains edge_cmp t e ≡ b

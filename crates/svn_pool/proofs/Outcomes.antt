@@ -3,12 +3,11 @@ use Rattle.std.proofs.Common.{◌≡◌, ◌≢◌, ℕ, zero, suc, ◌+◌, ◌
 use Rattle.std.proofs.Common.{IsSome, is_some, refl, sym, ap, subst, ◌∙◌, inl, inr, arith}
 use Rattle.std.proofs.lemmas.Bool.{cases_eq, le-leb, eq-eqb, ne_eqb}
 use Rattle.std.proofs.lemmas.Bool.Decides.{leb_tells}
-use Rattle.std.specs.BTreeMap.{BTreeMap, get, Updates}
+use Rattle.std.specs.HashMap.{get, Updates}
 use Rattle.std.specs.BTreeSet.{BTreeSet}
 use Rattle.std.specs.Option.{IsSomeAnd}
-use Rattle.std.specs.Ordering.{nat_cmp}
 use Rattle.svn_pool.specs.Ancestry.{IsAbove, IsBeneath, IsCleared, IsDestroyed}
-use Rattle.svn_pool.specs.Linked.{IsLinked, IsPruned}
+use Rattle.svn_pool.specs.Linked.{IsLinked, IsPruned, LiveMap}
 use Rattle.svn_pool.specs.Pools.{Entry, Pools, pool_at, parent_of, fixed_in}
 use Rattle.svn_pool.specs.Refusals.{fault_if_live, create_fault, destroy_fault}
 use Rattle.svn_pool.specs.declared.fault.PoolFault.{PoolFault}
@@ -53,13 +52,13 @@ above_same f g same s (suc n) q above = (above.0, sym (same q) ∙ above.1, abov
 pub beneath_same : (f g : ℕ → Option Entry) → ((q : ℕ) → parent_of (f q) ≡ parent_of (g q)) → (s q : ℕ) → IsBeneath f s q → IsBeneath g s q
 beneath_same f g same s q b = (b.0, above_same f g same s b.0 q b.1)
 
-module _ (pools : BTreeMap ℕ Entry) (children : BTreeSet (ℕ × ℕ)) (linked : IsLinked pools children) where
-  above_older : (s n q : ℕ) → IsAbove (get nat_cmp pools) s n q → s < q
+module _ (pools : LiveMap) (children : BTreeSet (ℕ × ℕ)) (linked : IsLinked pools children) where
+  above_older : (s n q : ℕ) → IsAbove (get nat_eq pools) s n q → s < q
   above_older s zero q above = (linked.older s q above).1
   above_older s (suc n) q above =
       let first = above_older s n above.0 above.2 in let then = (linked.older above.0 q above.1).1 in omega (arith, first, then)
 
-  pub not_beneath_itself : (s : ℕ) → IsBeneath (get nat_cmp pools) s s → ⊥
+  pub not_beneath_itself : (s : ℕ) → IsBeneath (get nat_eq pools) s s → ⊥
   not_beneath_itself s b = let lt = above_older s b.0 s b.1 in omega (arith, lt)
 
 pub parentless : (f : ℕ → Option Entry) (s n q : ℕ) → parent_of (f q) ≡ None → IsAbove f s n q → ⊥
@@ -80,15 +79,15 @@ root_from (Some e) h none = none
 
 module _ (old new : Pools) (s : ℕ) (roots : new.root ≡ old.root) (nexts : new.next ≡ old.next)
     (blocks : new.spare + fixed_in new ≡ old.spare + fixed_in old) where
-  module _ (pools mid end : BTreeMap ℕ Entry) (children : BTreeSet (ℕ × ℕ)) (linked : IsLinked mid children)
-      (at_old : (q : ℕ) → pool_at old q ≡ get nat_cmp pools q) (at_new : (q : ℕ) → pool_at new q ≡ get nat_cmp end q)
-      (put : Updates nat_cmp pools mid s (Some (record { parent = parent_of (get nat_cmp pools s); strings = [] })))
+  module _ (pools mid end : LiveMap) (children : BTreeSet (ℕ × ℕ)) (linked : IsLinked mid children)
+      (at_old : (q : ℕ) → pool_at old q ≡ get nat_eq pools q) (at_new : (q : ℕ) → pool_at new q ≡ get nat_eq end q)
+      (put : Updates nat_eq pools mid s (Some (record { parent = parent_of (get nat_eq pools s); strings = [] })))
       (pruned : IsPruned mid end s) where
-    parents : (q : ℕ) → parent_of (pool_at old q) ≡ parent_of (get nat_cmp mid q)
+    parents : (q : ℕ) → parent_of (pool_at old q) ≡ parent_of (get nat_eq mid q)
     parents q = ap parent_of (at_old q) ∙ elim (cases_eq q s) [
       | inl is ↦
-          ap (λ (k : ℕ). parent_of (get nat_cmp pools k)) is
-          ∙ sym (ap (λ (k : ℕ). parent_of (get nat_cmp mid k)) is ∙ ap parent_of (updated_here pools mid s _ put))
+          ap (λ (k : ℕ). parent_of (get nat_eq pools k)) is
+          ∙ sym (ap (λ (k : ℕ). parent_of (get nat_eq mid k)) is ∙ ap parent_of (updated_here pools mid s _ put))
       | inr apart ↦ sym (ap parent_of (updated_away pools mid s _ put q apart))
     ]
 
@@ -97,10 +96,10 @@ module _ (old new : Pools) (s : ℕ) (roots : new.root ≡ old.root) (nexts : ne
       emptied =
           at_new s ∙ pruned.others s (not_beneath_itself mid children linked s) ∙ updated_here pools mid s _ put
           ∙ ap (λ (o : Option Entry). Some (record { parent = parent_of o; strings = [] })) (sym (at_old s));
-      beneath = λ q b. at_new q ∙ pruned.beneath q (beneath_same (pool_at old) (get nat_cmp mid) parents s q b);
+      beneath = λ q b. at_new q ∙ pruned.beneath q (beneath_same (pool_at old) (get nat_eq mid) parents s q b);
       rest = record {
         others =
-            λ q apart not. at_new q ∙ pruned.others q (λ b. not (beneath_same (get nat_cmp mid) (pool_at old) (λ k. sym (parents k)) s q b))
+            λ q apart not. at_new q ∙ pruned.others q (λ b. not (beneath_same (get nat_eq mid) (pool_at old) (λ k. sym (parents k)) s q b))
             ∙ updated_away pools mid s _ put q apart ∙ sym (at_old q);
         root = roots;
         next = nexts;
@@ -108,24 +107,23 @@ module _ (old new : Pools) (s : ℕ) (roots : new.root ≡ old.root) (nexts : ne
       };
     }
 
-  module _ (pools mid end : BTreeMap ℕ Entry) (at_old : (q : ℕ) → pool_at old q ≡ get nat_cmp pools q)
-      (at_new : (q : ℕ) → pool_at new q ≡ get nat_cmp end q) (pruned : IsPruned pools mid s) (gone : Updates nat_cmp mid end s None) where
-    same_old : (q : ℕ) → parent_of (pool_at old q) ≡ parent_of (get nat_cmp pools q)
+  module _ (pools mid end : LiveMap) (at_old : (q : ℕ) → pool_at old q ≡ get nat_eq pools q)
+      (at_new : (q : ℕ) → pool_at new q ≡ get nat_eq end q) (pruned : IsPruned pools mid s) (gone : Updates nat_eq mid end s None) where
+    same_old : (q : ℕ) → parent_of (pool_at old q) ≡ parent_of (get nat_eq pools q)
     same_old q = ap parent_of (at_old q)
 
     pub destroyed : IsDestroyed old new s
     destroyed = record {
       gone = at_new s ∙ updated_here mid end s None gone;
       beneath = λ q b. at_new q ∙ elim (cases_eq q s) [
-        | inl is ↦ ap (get nat_cmp end) is ∙ updated_here mid end s None gone
+        | inl is ↦ ap (get nat_eq end) is ∙ updated_here mid end s None gone
         | inr apart ↦
-            updated_away mid end s None gone q apart ∙ pruned.beneath q (beneath_same (pool_at old) (get nat_cmp pools) same_old s q b)
+            updated_away mid end s None gone q apart ∙ pruned.beneath q (beneath_same (pool_at old) (get nat_eq pools) same_old s q b)
       ];
       rest = record {
         others =
             λ q apart not. at_new q ∙ updated_away mid end s None gone q apart
-            ∙ pruned.others q (λ b. not (beneath_same (get nat_cmp pools) (pool_at old) (λ k. sym (same_old k)) s q b))
-            ∙ sym (at_old q);
+            ∙ pruned.others q (λ b. not (beneath_same (get nat_eq pools) (pool_at old) (λ k. sym (same_old k)) s q b)) ∙ sym (at_old q);
         root = roots;
         next = nexts;
         blocks = blocks;
@@ -133,57 +131,56 @@ module _ (old new : Pools) (s : ℕ) (roots : new.root ≡ old.root) (nexts : ne
     }
 
 -- the tree's invariant after all beneath a pool are gone
-module _ (pools end : BTreeMap ℕ Entry) (s root last : ℕ) (pruned : IsPruned pools end s)
-    (live : (q : ℕ) → IsSome (get nat_cmp pools q) → q ≤ last) where
-  still_live : (q : ℕ) → IsSome (get nat_cmp end q) → IsSome (get nat_cmp pools q)
+module _ (pools end : LiveMap) (s root last : ℕ) (pruned : IsPruned pools end s)
+    (live : (q : ℕ) → IsSome (get nat_eq pools q) → q ≤ last) where
+  still_live : (q : ℕ) → IsSome (get nat_eq end q) → IsSome (get nat_eq pools q)
   still_live q h =
-      elim (is_some (get nat_cmp pools q)) as (λ (b : Bool). is_some (get nat_cmp pools q) ≡ b → is_some (get nat_cmp pools q) ≡ true) [
+      elim (is_some (get nat_eq pools q)) as (λ (b : Bool). is_some (get nat_eq pools q) ≡ b → is_some (get nat_eq pools q) ≡ true) [
         | true ↦ λ is. is
         | false ↦
-            λ is. absurd (none_is_gone (get nat_cmp end q)
-            (pruned.fewer q
-            (gone_is_none (get nat_cmp pools q) (λ live. let clash : false ≡ true = sym is ∙ live in let no : ⊥ = cc in no)))
+            λ is. absurd (none_is_gone (get nat_eq end q)
+            (pruned.fewer q (gone_is_none (get nat_eq pools q) (λ live. let clash : false ≡ true = sym is ∙ live in let no : ⊥ = cc in no)))
             h)
       ] refl
 
-  pub below-pruned : (q : ℕ) → IsSome (get nat_cmp end q) → q ≤ last
+  pub below-pruned : (q : ℕ) → IsSome (get nat_eq end q) → q ≤ last
   below-pruned q h = live q (still_live q h)
 
-  pub rooted-pruned : IsSomeAnd (get nat_cmp pools root) (λ e. e.parent ≡ None) → IsSomeAnd (get nat_cmp end root) (λ e. e.parent ≡ None)
+  pub rooted-pruned : IsSomeAnd (get nat_eq pools root) (λ e. e.parent ≡ None) → IsSomeAnd (get nat_eq end root) (λ e. e.parent ≡ None)
   rooted-pruned rooted =
-      let same : get nat_cmp end root ≡ get nat_cmp pools root =
-      pruned.others root (λ b. parentless (get nat_cmp pools) s b.0 root (lone_root (get nat_cmp pools root) rooted) b.1) in
+      let same : get nat_eq end root ≡ get nat_eq pools root =
+      pruned.others root (λ b. parentless (get nat_eq pools) s b.0 root (lone_root (get nat_eq pools root) rooted) b.1) in
       subst (λ (o : Option Entry). IsSomeAnd o (λ e. e.parent ≡ None)) (sym same) rooted
 
 -- and after one pool was emptied
-module _ (pools new : BTreeMap ℕ Entry) (s root last : ℕ) (was : IsSome (get nat_cmp pools s))
-    (put : Updates nat_cmp pools new s (Some (record { parent = parent_of (get nat_cmp pools s); strings = [] }))) where
-  pub below-emptied : ((q : ℕ) → IsSome (get nat_cmp pools q) → q ≤ last) → (q : ℕ) → IsSome (get nat_cmp new q) → q ≤ last
+module _ (pools new : LiveMap) (s root last : ℕ) (was : IsSome (get nat_eq pools s))
+    (put : Updates nat_eq pools new s (Some (record { parent = parent_of (get nat_eq pools s); strings = [] }))) where
+  pub below-emptied : ((q : ℕ) → IsSome (get nat_eq pools q) → q ≤ last) → (q : ℕ) → IsSome (get nat_eq new q) → q ≤ last
   below-emptied live q h = elim (cases_eq q s) [
-    | inl is ↦ live q (ap (λ (k : ℕ). is_some (get nat_cmp pools k)) is ∙ was)
+    | inl is ↦ live q (ap (λ (k : ℕ). is_some (get nat_eq pools k)) is ∙ was)
     | inr apart ↦ live q (subst IsSome (updated_away pools new s _ put q apart) h)
   ]
 
-  pub rooted-emptied : IsSomeAnd (get nat_cmp pools root) (λ e. e.parent ≡ None) → IsSomeAnd (get nat_cmp new root) (λ e. e.parent ≡ None)
+  pub rooted-emptied : IsSomeAnd (get nat_eq pools root) (λ e. e.parent ≡ None) → IsSomeAnd (get nat_eq new root) (λ e. e.parent ≡ None)
   rooted-emptied rooted = elim (cases_eq root s) [
     | inl is ↦
-        let here : get nat_cmp new root ≡ Some (record { parent = parent_of (get nat_cmp pools s); strings = [] }) =
-        ap (get nat_cmp new) is ∙ updated_here pools new s _ put in
+        let here : get nat_eq new root ≡ Some (record { parent = parent_of (get nat_eq pools s); strings = [] }) =
+        ap (get nat_eq new) is ∙ updated_here pools new s _ put in
         subst (λ (o : Option Entry). IsSomeAnd o (λ e. e.parent ≡ None)) (sym here)
-        (ap (λ (k : ℕ). parent_of (get nat_cmp pools k)) (sym is) ∙ lone_root (get nat_cmp pools root) rooted)
+        (ap (λ (k : ℕ). parent_of (get nat_eq pools k)) (sym is) ∙ lone_root (get nat_eq pools root) rooted)
     | inr apart ↦ subst (λ (o : Option Entry). IsSomeAnd o (λ e. e.parent ≡ None)) (sym (updated_away pools new s _ put root apart)) rooted
   ]
 
 -- and after a pool that is not the root is gone
-module _ (pools new : BTreeMap ℕ Entry) (s root last : ℕ) (gone : Updates nat_cmp pools new s None) where
-  pub below-removed : ((q : ℕ) → IsSome (get nat_cmp pools q) → q ≤ last) → (q : ℕ) → IsSome (get nat_cmp new q) → q ≤ last
+module _ (pools new : LiveMap) (s root last : ℕ) (gone : Updates nat_eq pools new s None) where
+  pub below-removed : ((q : ℕ) → IsSome (get nat_eq pools q) → q ≤ last) → (q : ℕ) → IsSome (get nat_eq new q) → q ≤ last
   below-removed live q h = elim (cases_eq q s) [
-    | inl is ↦ absurd (none_is_gone (get nat_cmp new q) (ap (get nat_cmp new) is ∙ updated_here pools new s None gone) h)
+    | inl is ↦ absurd (none_is_gone (get nat_eq new q) (ap (get nat_eq new) is ∙ updated_here pools new s None gone) h)
     | inr apart ↦ live q (subst IsSome (updated_away pools new s None gone q apart) h)
   ]
 
-  pub rooted-removed : s ≢ root → IsSomeAnd (get nat_cmp pools root) (λ e. e.parent ≡ None)
-      → IsSomeAnd (get nat_cmp new root) (λ e. e.parent ≡ None)
+  pub rooted-removed : s ≢ root → IsSomeAnd (get nat_eq pools root) (λ e. e.parent ≡ None)
+      → IsSomeAnd (get nat_eq new root) (λ e. e.parent ≡ None)
   rooted-removed apart rooted =
       subst (λ (o : Option Entry). IsSomeAnd o (λ e. e.parent ≡ None))
       (sym (updated_away pools new s None gone root (λ e. apart (sym e)))) rooted

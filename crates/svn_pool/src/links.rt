@@ -1,7 +1,6 @@
 // The live pools by their serials, and the pairs of a parent and its child: one finds a pool, the other a pool's children.
-ghost use Rattle.std.specs.Prelude.{◌≡◌, ◌≢◌, ℕ, ◌+◌, ◌<◌, true, false, [], Some, None, IfSome, IfNone, IsSome, OnOk, OnErr, IfErr};
-ghost use Rattle.std.specs.BTreeMap.{get, btree_map_len, Updates, IsUnchanged};
-ghost use Rattle.std.specs.Ordering.{nat_cmp};
+ghost use Rattle.std.specs.Prelude.{nat_eq, ◌≡◌, ◌≢◌, ℕ, ◌+◌, ◌<◌, true, false, [], Some, None, IfSome, IfNone, IsSome, OnOk, OnErr, IfErr};
+ghost use Rattle.std.specs.HashMap.{get, hash_map_len, Updates, IsUnchanged};
 ghost use Rattle.svn_pool.specs.Linked.{IsLeaf, IsLinked, blocks_held, fixed_held, has_edge};
 ghost use Rattle.svn_pool.specs.Pools.{parent_of};
 
@@ -9,9 +8,10 @@ use crate::fault::PoolFault;
 use crate::pool::Pool;
 use crate::stock::Stock;
 use std::alloc::Allocator;
-use std::collections::{BTreeMap, BTreeSet};
+use std::collections::{BTreeSet, HashMap};
+use std::hash::{BuildHasherDefault, FoldHasher};
 
-pub(crate) type Live<A> = BTreeMap<u64, Pool<A>, A>;
+pub(crate) type Live<A> = HashMap<u64, Pool<A>, BuildHasherDefault<FoldHasher>, A>;
 
 pub(crate) type Children<A> = BTreeSet<(u64, u64), A>;
 
@@ -35,10 +35,10 @@ pub(crate) fn add_child<A: Allocator + Copy>(
     serial: u64,
 ) -> Result<(), PoolFault>
     requires linked { IsLinked pools.old children.old }
-    requires live { IsSome (get nat_cmp pools.old parent) }
-    requires fresh { (s : ℕ) → IsSome (get nat_cmp pools.old s) → s < serial }
+    requires live { IsSome (get nat_eq pools.old parent) }
+    requires fresh { (s : ℕ) → IsSome (get nat_eq pools.old s) → s < serial }
     ensures linked { IsLinked pools.new children.new }
-    ensures added { OnOk result (Updates nat_cmp pools.old pools.new serial (Some (record { parent = Some parent; strings = [] }))) }
+    ensures added { OnOk result (Updates nat_eq pools.old pools.new serial (Some (record { parent = Some parent; strings = [] }))) }
     ensures blocks { blocks_held pools.new ≡ blocks_held pools.old }
     ensures fixed { fixed_held pools.new ≡ fixed_held pools.old }
     ensures refused { OnErr result (IsUnchanged pools.old pools.new) }
@@ -64,12 +64,12 @@ pub(crate) fn remove_leaf<A: Allocator + Copy>(
     requires linked { IsLinked pools.old children.old }
     requires leaf { IsLeaf pools.old serial }
     requires counted { stock.old.used ≡ blocks_held pools.old }
-    ensures parent { result ≡ parent_of (get nat_cmp pools.old serial) }
+    ensures parent { result ≡ parent_of (get nat_eq pools.old serial) }
     ensures linked { IsLinked pools.new children.new }
     ensures counted { stock.new.used ≡ blocks_held pools.new }
     ensures fixed { stock.new.spare + fixed_held pools.new ≡ stock.old.spare + fixed_held pools.old }
-    ensures gone { Updates nat_cmp pools.old pools.new serial None }
-    ensures fewer { IsSome (get nat_cmp pools.old serial) → btree_map_len pools.new + 1 ≡ btree_map_len pools.old }
+    ensures gone { Updates nat_eq pools.old pools.new serial None }
+    ensures fewer { IsSome (get nat_eq pools.old serial) → hash_map_len pools.new + 1 ≡ hash_map_len pools.old }
 {
     let Some(mut pool) = pools.remove(&serial) else {
         return None;

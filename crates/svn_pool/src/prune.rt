@@ -1,7 +1,6 @@
 // How all pools beneath one are removed.
-ghost use Rattle.std.specs.Prelude.{◌≡◌, ◌+◌, IsSome};
-ghost use Rattle.std.specs.BTreeMap.{get};
-ghost use Rattle.std.specs.Ordering.{nat_cmp};
+ghost use Rattle.std.specs.Prelude.{nat_eq, ◌≡◌, ◌+◌, IsSome};
+ghost use Rattle.std.specs.HashMap.{get};
 ghost use Rattle.svn_pool.specs.Linked.{IsLinked, IsPruned, blocks_held, fixed_held};
 
 use crate::links::{Children, Live, first_child, remove_leaf};
@@ -17,7 +16,7 @@ pub(crate) fn prune<A: Allocator + Copy>(
     top: u64,
 )
     requires linked { IsLinked pools.old children.old }
-    requires live { IsSome (get nat_cmp pools.old top) }
+    requires live { IsSome (get nat_eq pools.old top) }
     requires counted { stock.old.used ≡ blocks_held pools.old }
     ensures pruned { IsPruned pools.old pools.new top }
     ensures linked { IsLinked pools.new children.new }

@@ -1,6 +1,5 @@
-use Rattle.std.proofs.Common.{◌≡◌, ◌+◌, ◌-◌, Some, is_some, sym, ap, arith}
-use Rattle.std.specs.BTreeMap.{get}
-use Rattle.std.specs.Ordering.{nat_cmp}
+use Rattle.std.proofs.Common.{nat_eq, ◌≡◌, ◌+◌, ◌-◌, Some, is_some, sym, ap, arith}
+use Rattle.std.specs.HashMap.{get}
 use Rattle.svn_pool.specs.Pools.{Entry, blocks_of, fixed_of}
 use Rattle.svn_pool.specs.Stores.{Store}
 use Rattle.svn_pool.proofs.Counts.{sum_changed}
@@ -9,7 +8,7 @@ use Rattle.svn_pool.proofs.live.empty.Goals as goal
 
 pub returns-clause-linked : goal.returns-clause-linked
 returns-clause-linked g c =
-    let found : get nat_cmp c.args.pools.now c.args.serial ≡ Some c.in-Some.pool.now = sym c.in-Some.ensures.value in
+    let found : get nat_eq c.args.pools.now c.args.serial ≡ Some c.in-Some.pool.now = sym c.in-Some.ensures.value in
     let end = c.get_mut.follows.holds c.clear.new.self in
     linked-written c.args.pools.now (c.get_mut.follows.lender c.clear.new.self) c.args.children.now c.requires.linked c.args.serial
     c.in-Some.pool.now c.clear.new.self found
@@ -17,7 +16,7 @@ returns-clause-linked g c =
 
 pub returns-clause-counted : goal.returns-clause-counted
 returns-clause-counted g c =
-    let found : get nat_cmp c.args.pools.now c.args.serial ≡ Some c.in-Some.pool.now = sym c.in-Some.ensures.value in
+    let found : get nat_eq c.args.pools.now c.args.serial ≡ Some c.in-Some.pool.now = sym c.in-Some.ensures.value in
     let sum =
     sum_changed blocks_of c.args.pools.now (c.get_mut.follows.lender c.clear.new.self) c.args.serial c.clear.new.self c.in-Some.pool.now
     (c.get_mut.follows.holds c.clear.new.self).0 found in
@@ -29,7 +28,7 @@ returns-clause-counted g c =
 
 pub returns-clause-fixed : goal.returns-clause-fixed
 returns-clause-fixed g c =
-    let found : get nat_cmp c.args.pools.now c.args.serial ≡ Some c.in-Some.pool.now = sym c.in-Some.ensures.value in
+    let found : get nat_eq c.args.pools.now c.args.serial ≡ Some c.in-Some.pool.now = sym c.in-Some.ensures.value in
     let sum =
     sum_changed fixed_of c.args.pools.now (c.get_mut.follows.lender c.clear.new.self) c.args.serial c.clear.new.self c.in-Some.pool.now
     (c.get_mut.follows.holds c.clear.new.self).0 found in

@@ -1,8 +1,7 @@
-use Rattle.std.proofs.Common.{◌≡◌, Some, ◌∷◌, ap, subst, ◌∙◌, rules}
+use Rattle.std.proofs.Common.{nat_eq, ◌≡◌, Some, ◌∷◌, ap, subst, ◌∙◌, rules}
 use Rattle.std.proofs.lemmas.Option.{same_Some}
 use Rattle.std.specs.Option.{option_copied}
-use Rattle.std.specs.Ordering.{nat_cmp}
-use Rattle.std.specs.BTreeMap.{Updates, get}
+use Rattle.std.specs.HashMap.{Updates, get}
 use Rattle.svn_edit.specs.declared.baton.Baton.{Baton}
 use Rattle.svn_edit.specs.Noted.{note_of_value, strings_of_value}
 use Rattle.svn_edit.specs.Applying.{BatonSaid}
@@ -17,12 +16,12 @@ returns-in-Some-clause-noted c =
     let key : c.token.inside.0 ≡ c.args.token = c.token.view_is in
     let v = option_copied c.args.value in
     let same : c.in-Some.baton.now ≡ b = same_Some c.in-Some.baton.now b (c.in-Some.ensures.value
-    ∙ ap (get nat_cmp c.args.self.now.batons) key ∙ there) in
+    ∙ ap (get nat_eq c.args.self.now.batons) key ∙ there) in
     let written = c.get_mut.follows.holds c.note_change.new.self in
     let updates = written.3 (rw (← c.in-Some.ensures.value) (search rules)) in
     noted_of c.args.token (note_of_value v) (c.args.name.now ∷ strings_of_value v) b c.note_change.new.self c.args.self.now.pools
     c.note_change.new.pools c.args.self.now.batons (c.get_mut.follows.lender c.note_change.new.self)
     (subst (λ (x : Baton). BatonSaid (note_of_value v) (c.args.name.now ∷ strings_of_value v) x c.args.self.now.pools c.note_change.new.self
     c.note_change.new.pools) same said)
-    (subst (λ k. Updates nat_cmp c.args.self.now.batons (c.get_mut.follows.lender c.note_change.new.self) k (Some c.note_change.new.self))
+    (subst (λ k. Updates nat_eq c.args.self.now.batons (c.get_mut.follows.lender c.note_change.new.self) k (Some c.note_change.new.self))
     key updates))

@@ -1,7 +1,6 @@
-use Rattle.std.proofs.Common.{◌≡◌, None, sym, ap, ◌∙◌, subst}
+use Rattle.std.proofs.Common.{nat_eq, ◌≡◌, None, sym, ap, ◌∙◌, subst}
 use Rattle.std.proofs.lemmas.Option.{same_Some}
-use Rattle.std.specs.Ordering.{nat_cmp}
-use Rattle.std.specs.BTreeMap.{Updates, get}
+use Rattle.std.specs.HashMap.{Updates, get}
 use Rattle.svn_pool.specs.Pools.{pool_at}
 use Rattle.svn_pool.proofs.Edges.{updated_here, updated_away}
 use Rattle.svn_edit.specs.declared.baton.Baton.{Baton}
@@ -11,8 +10,8 @@ use Rattle.svn_edit.proofs.edit.Edit.close_baton.Goals as goal
 pub returns-in-Some-clause-gone : goal.returns-in-Some-clause-gone
 returns-in-Some-clause-gone c = λ b e there live leaf apart.
     let key : c.token.inside.0 ≡ c.args.token = c.token.view_is in
-    let updates = subst (λ k. Updates nat_cmp c.args.self.now.batons c.remove.new.self k None) key c.remove.ensures.updates in
-    let same : c.in-Some.baton ≡ b = same_Some c.in-Some.baton b (c.in-Some.ensures.value ∙ ap (get nat_cmp c.args.self.now.batons) key
+    let updates = subst (λ k. Updates nat_eq c.args.self.now.batons c.remove.new.self k None) key c.remove.ensures.updates in
+    let same : c.in-Some.baton ≡ b = same_Some c.in-Some.baton b (c.in-Some.ensures.value ∙ ap (get nat_eq c.args.self.now.batons) key
     ∙ there) in
     let pools = c.args.self.now.pools in
     let gone = c.drop_pool.ensures e (ap (λ (x : Baton). pool_at pools x.pool.0) same ∙ live)

@@ -1,7 +1,6 @@
 use Rattle.std.proofs.Common.{◌≡◌, cond, sym, ap, subst, ◌∙◌}
-use Rattle.std.specs.Prelude.{Option, filter_map}
-use Rattle.std.specs.Ordering.{nat_cmp}
-use Rattle.std.specs.BTreeMap.{get}
+use Rattle.std.specs.Prelude.{Option, filter_map, nat_eq}
+use Rattle.std.specs.HashMap.{get}
 use Rattle.std.proofs.lemmas.Option.{same_Some}
 use Rattle.md5.specs.Md5.{md5}
 use Rattle.svn_types.specs.Paths.{path_eq}
@@ -19,7 +18,7 @@ pub returns-in-Err-clause-answers : goal.returns-in-Err-clause-answers
 returns-in-Err-clause-answers c = λ b said there s.
     let old = c.args.self.now in
     let same : c.in-Some.baton.now ≡ b = same_Some c.in-Some.baton.now b (c.in-Some.ensures.value
-    ∙ ap (get nat_cmp old.batons) c.token.view_is ∙ there) in
+    ∙ ap (get nat_eq old.batons) c.token.view_is ∙ there) in
     subst (λ (x : Baton). IsAnswer (sum_fault md5 c.args.text_md5.now (filter_map text_in said) (get_in c.args.copy.now.entries x.path))
     c.in-Err.fault) same
     (c.in-Err.ensures.checked said (subst (λ (x : Baton). Says x old.pools said) (sym same) s))
@@ -28,7 +27,7 @@ pub returns-in-Ok-clause-answers : goal.returns-in-Ok-clause-answers
 returns-in-Ok-clause-answers c = λ b said there s.
     let old = c.args.self.now in
     let same : c.in-Some.baton.now ≡ b = same_Some c.in-Some.baton.now b (c.in-Some.ensures.value
-    ∙ ap (get nat_cmp old.batons) c.token.view_is ∙ there) in
+    ∙ ap (get nat_eq old.batons) c.token.view_is ∙ there) in
     sym (ap (λ (x : Baton). sum_fault md5 c.args.text_md5.now (filter_map text_in said) (get_in c.args.copy.now.entries x.path)) same)
     ∙ c.in-Ok.ensures.checked said (subst (λ (x : Baton). Says x old.pools said) (sym same) s)
 
@@ -37,7 +36,7 @@ returns-in-Ok-clause-closed c = λ b said there s.
     let old = c.args.self.now in
     let nodes = c.args.copy.now.entries in
     let same : c.in-Some.baton.now ≡ b = same_Some c.in-Some.baton.now b (c.in-Some.ensures.value
-    ∙ ap (get nat_cmp old.batons) c.token.view_is ∙ there) in
+    ∙ ap (get nat_eq old.batons) c.token.view_is ∙ there) in
     let at = c.in-Some.baton.now.path in
     let closing = c.in-Ok.ensures.closing said (subst (λ (x : Baton). Says x old.pools said) (sym same) s) in
     subst (λ (x : Baton). FileIsClosed (mode_of old.root) old.target x.path (filter_map change_in said)

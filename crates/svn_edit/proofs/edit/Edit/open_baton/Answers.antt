@@ -1,8 +1,7 @@
-use Rattle.std.proofs.Common.{Some, IfOk, subst}
+use Rattle.std.proofs.Common.{nat_eq, Some, IfOk, subst}
 use Rattle.std.specs.Prelude.{Result}
 use Rattle.std.specs.declared.alloc.AllocError.{AllocError}
-use Rattle.std.specs.Ordering.{nat_cmp}
-use Rattle.std.specs.BTreeMap.{Updates}
+use Rattle.std.specs.HashMap.{Updates}
 use Rattle.svn_pool.proofs.Edges.{updated_here, updated_away}
 use Rattle.svn_edit.specs.declared.baton.Baton.{Baton}
 use Rattle.svn_edit.specs.Applying.{BatonBegun}
@@ -13,7 +12,7 @@ returns-clause-opened c =
     let begun : BatonBegun c.args.beneath.0 c.args.path.now c.args.self.now.pools c.in_ok-baton.baton c.open.new.pools =
     subst (λ (r : Result Baton AllocError). IfOk r (λ b. BatonBegun c.args.beneath.0 c.args.path.now c.args.self.now.pools b
     c.open.new.pools)) c.in_ok-baton.ensures.ok c.open.ensures in
-    let updates = subst (λ k. Updates nat_cmp c.args.self.now.batons c.insert.new.self k (Some c.in_ok-baton.baton)) c.token.view_is
+    let updates = subst (λ k. Updates nat_eq c.args.self.now.batons c.insert.new.self k (Some c.in_ok-baton.baton)) c.token.view_is
     c.in-Ok.ensures.updates in
     record {
       baton = c.in_ok-baton.baton;

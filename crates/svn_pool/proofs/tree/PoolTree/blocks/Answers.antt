@@ -6,4 +6,4 @@ pub returns : goal.returns
 returns g c =
     let s = c.self.inside in
     c.used.ensures ∙ c.self.invariant.counted
-    ∙ sym (blocks_are s.root s.last s.pools s.stock.spare c.args.self.now c.self.view_is c.self.invariant.linked.ordered)
+    ∙ sym (blocks_are s.root s.last s.pools s.stock.spare c.args.self.now c.self.view_is c.self.invariant.linked.unique)

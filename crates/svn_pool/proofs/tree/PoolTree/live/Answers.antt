@@ -5,4 +5,4 @@ use Rattle.svn_pool.proofs.tree.PoolTree.live.Goals as goal
 pub returns : goal.returns
 returns g c =
     let s = c.self.inside in
-    c.len.ensures.len ∙ sym (live_is s.root s.last s.pools s.stock.spare c.args.self.now c.self.view_is c.self.invariant.linked.ordered)
+    c.len.ensures.len ∙ sym (live_is s.root s.last s.pools s.stock.spare c.args.self.now c.self.view_is c.self.invariant.linked.unique)

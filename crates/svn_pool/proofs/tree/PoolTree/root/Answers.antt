@@ -10,5 +10,5 @@ returns-clause-live g c =
     let root : c.args.self.now.root ≡ s.root = sym (ap (λ (t : Pools). t.root) c.self.view_is) in
     let at =
     ap (pool_at c.args.self.now) root
-    ∙ pool_is s.root s.last s.pools s.stock.spare c.args.self.now c.self.view_is c.self.invariant.linked.ordered s.root in
+    ∙ pool_is s.root s.last s.pools s.stock.spare c.args.self.now c.self.view_is c.self.invariant.linked.unique s.root in
     subst IsSome (sym at) (live_root _ c.self.invariant.rooted)

@@ -8,7 +8,7 @@ pub returns-in_default-clause-answers : goal.returns-in_default-clause-answers
 returns-in_default-clause-answers g c =
     let s = c.self.inside in
     let is : pool_at c.args.self.now c.args.pool.0 ≡ None =
-    pool_is s.root s.last s.pools s.stock.spare c.args.self.now c.self.view_is c.self.invariant.linked.ordered c.args.pool.0
+    pool_is s.root s.last s.pools s.stock.spare c.args.self.now c.self.view_is c.self.invariant.linked.unique c.args.pool.0
     ∙ sym c.in_default.ensures.value in
     rw (fault_if_gone (pool_at c.args.self.now c.args.pool.0) (λ _. None) is) refl
 
@@ -16,7 +16,7 @@ pub returns-in_default-read-clause-answers : goal.returns-in_default-read-clause
 returns-in_default-read-clause-answers g c =
     let s = c.self.inside in
     let is : pool_at c.args.self.now c.args.pool.0 ≡ Some c.in-Some.pool.now =
-    pool_is s.root s.last s.pools s.stock.spare c.args.self.now c.self.view_is c.self.invariant.linked.ordered c.args.pool.0
+    pool_is s.root s.last s.pools s.stock.spare c.args.self.now c.self.view_is c.self.invariant.linked.unique c.args.pool.0
     ∙ sym c.in-Some.ensures.value in
     rw (fault_if_some (pool_at c.args.self.now c.args.pool.0) None (ap is_some is)) refl
 
@@ -24,7 +24,7 @@ pub returns-clause-answers : goal.returns-clause-answers
 returns-clause-answers g c =
     let s = c.self.inside in
     let is : pool_at c.args.self.now c.args.pool.0 ≡ Some c.in-Some.pool.now =
-    pool_is s.root s.last s.pools s.stock.spare c.args.self.now c.self.view_is c.self.invariant.linked.ordered c.args.pool.0
+    pool_is s.root s.last s.pools s.stock.spare c.args.self.now c.self.view_is c.self.invariant.linked.unique c.args.pool.0
     ∙ sym c.in-Some.ensures.value in
     rw (fault_if_some (pool_at c.args.self.now c.args.pool.0) None (ap is_some is)) tt
 
@@ -32,6 +32,6 @@ pub returns-clause-strings : goal.returns-clause-strings
 returns-clause-strings g c =
     let s = c.self.inside in
     let is : pool_at c.args.self.now c.args.pool.0 ≡ Some c.in-Some.pool.now =
-    pool_is s.root s.last s.pools s.stock.spare c.args.self.now c.self.view_is c.self.invariant.linked.ordered c.args.pool.0
+    pool_is s.root s.last s.pools s.stock.spare c.args.self.now c.self.view_is c.self.invariant.linked.unique c.args.pool.0
     ∙ sym c.in-Some.ensures.value in
     c.in-Some-read.ensures ∙ sym (ap strings_of_pool is)
