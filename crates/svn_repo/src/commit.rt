@@ -11,16 +11,13 @@ use crate::change::{Change, CommitFault};
 use crate::entries::{Entries, NodeId};
 use crate::heights::add_heights;
 use crate::refusal::fault_of;
-use crate::store::{Content, Draft, Node, lookup_in, node_below, put_made, put_old, put_prop};
-use std::alloc::{AllocError, Global};
+use crate::store::{
+    Content, Draft, Node, Past, Stored, lookup_in, node_below, put_made, put_old, put_prop,
+};
+use std::alloc::AllocError;
 use svn_types::{Name, Props, Rev, Text};
 
-fn put_directory(
-    alloc: Global,
-    nodes: &mut Vec<Node>,
-    draft: Draft,
-    names: &[Name],
-) -> Result<NodeId, AllocError>
+fn put_directory(nodes: &mut Vec<Node>, draft: Draft, names: &[Name]) -> Result<NodeId, AllocError>
     requires draft { IsDraft draft.base nodes.old.items draft.root }
     requires not_root { root_fault names.now ≡ None }
     requires above { above_fault (tree_in draft.base nodes.old.items draft.root) names.now ≡ None }
@@ -28,6 +25,7 @@ fn put_directory(
     ensures kept { KeepsOld draft.base nodes.old.items nodes.new.items }
     ensures grown { OnOk result (length nodes.old.items < length nodes.new.items) }
 {
+    let alloc = *nodes.allocator();
     let node = Node {
         line: draft.lines,
         props: Props::new(alloc),
@@ -38,21 +36,20 @@ fn put_directory(
 
 // A file with a text, which keeps the line and the properties of the file that stood there.
 fn file_node(
-    alloc: Global,
-    nodes: &[Node],
+    nodes: &Vec<Node>,
     at: Option<NodeId>,
     lines: u64,
     text: &Text,
 ) -> Result<Node, AllocError>
-    requires { (n : ℕ) → at ≡ Some n → n < length nodes.now }
-    ensures place { IfOk result (λ n. (base : ℕ) → place_of None (row_of n) ≡ with_text lines (option_and_then (place_at (rows nodes.now) base) at) text.now) }
+    requires { (n : ℕ) → at ≡ Some n → n < length nodes.now.items }
+    ensures place { IfOk result (λ n. (base : ℕ) → place_of None (row_of n) ≡ with_text lines (option_and_then (place_at (rows nodes.now.items) base) at) text.now) }
     ensures childless { IfOk result (λ n. entries_of n.content ≡ []) }
 {
     let content = Content::Text(text.clone()?);
     match at {
         None => Ok(Node {
             line: lines,
-            props: Props::new(alloc),
+            props: Props::new(*nodes.allocator()),
             content,
         }),
         Some(id) => {
@@ -68,7 +65,6 @@ fn file_node(
 
 // Puts a text at a path, and says whether a file stood there.
 fn put_file(
-    alloc: Global,
     nodes: &mut Vec<Node>,
     draft: Draft,
     names: &[Name],
@@ -83,7 +79,7 @@ fn put_file(
     ensures grown { OnOk result (length nodes.old.items < length nodes.new.items) }
 {
     let at = node_below(nodes, draft.root, names);
-    let node = file_node(alloc, nodes, at, draft.lines, text)?;
+    let node = file_node(nodes, at, draft.lines, text)?;
     let root = put_made(nodes, draft, names, node)?;
     Ok((root, at.is_some()))
 }
@@ -106,7 +102,6 @@ fn source_of(nodes: &[Node], roots: &[NodeId], rev: Rev, names: &[Name]) -> Node
 
 // Makes a change on a draft.
 fn make(
-    alloc: Global,
     nodes: &mut Vec<Node>,
     roots: &[NodeId],
     draft: Draft,
@@ -124,12 +119,12 @@ fn make(
     let lines = draft.lines;
     match change {
         Change::MakeDir { path } => {
-            let root = put_directory(alloc, nodes, draft, path.components())?;
+            let root = put_directory(nodes, draft, path.components())?;
             let lines = lines + 1;
             Ok(Draft { base, root, lines })
         }
         Change::PutFile { path, text } => {
-            let (root, stood) = put_file(alloc, nodes, draft, path.components(), text)?;
+            let (root, stood) = put_file(nodes, draft, path.components(), text)?;
             let lines = next_line(lines, stood);
             Ok(Draft { base, root, lines })
         }
@@ -151,79 +146,71 @@ fn make(
 
 // Makes the changes in order; the fault of the first that can't be made, else.
 fn make_all(
-    alloc: Global,
     nodes: &mut Vec<Node>,
-    roots: &[NodeId],
-    heights: &[u8],
+    past: &Past<'_>,
     start: Draft,
     changes: &[Change],
 ) -> Result<Draft, CommitFault>
     requires base { start.base ≡ length nodes.old.items }
     requires draft { IsDraft (length nodes.old.items) nodes.old.items start.root }
-    requires size { length heights.now ≡ length nodes.old.items }
-    requires past { IsPast roots.now heights.now nodes.old.items }
+    requires size { length past.now.heights.now ≡ length nodes.old.items }
+    requires past { IsPast past.now.roots.now past.now.heights.now nodes.old.items }
     requires bounded { start.lines ≤ length nodes.old.items }
-    ensures ok { IfOk result (λ r. AllMade roots.now nodes.old.items nodes.new.items start.root start.lines r.root r.lines changes.now) }
-    ensures err { IfErr result (let old = nodes.old.items in AreRefused (history_of roots.now old start.lines) (pending_in (length old) old start.root start.lines) changes.now) }
+    ensures ok { IfOk result (λ r. AllMade past.now.roots.now nodes.old.items nodes.new.items start.root start.lines r.root r.lines changes.now) }
+    ensures err { IfErr result (let old = nodes.old.items in AreRefused (history_of past.now.roots.now old start.lines) (pending_in (length old) old start.root start.lines) changes.now) }
     ensures kept { KeepsOld (length nodes.old.items) nodes.old.items nodes.new.items }
 {
     let mut draft = start;
     for change in changes {
-        if let Some(fault) = fault_of(nodes, roots, heights, draft.root, change) {
+        if let Some(fault) = fault_of(nodes, past, draft.root, change) {
             return Err(fault);
         }
-        draft = make(alloc, nodes, roots, draft, change)?;
+        draft = make(nodes, past.roots, draft, change)?;
     }
     Ok(draft)
 }
 
-// Makes the changes in order on a draft over the last revision, and puts its root behind the others.
-fn push_revision(
-    alloc: Global,
-    nodes: &mut Vec<Node>,
-    roots: &mut Vec<NodeId>,
-    heights: &mut Vec<u8>,
-    lines: u64,
-    changes: &[Change],
-) -> Result<u64, CommitFault>
-    requires { IsStored roots.old.items nodes.old.items lines heights.old.items }
-    ensures ok { IfOk result (IsExtended roots.old.items nodes.old.items lines roots.new.items nodes.new.items heights.new.items changes.now) }
-    ensures fault { IfErr result (IsRefused (history_of roots.old.items nodes.old.items lines) changes.now) }
-    ensures roots_kept { OnErr result (roots.new.items ≡ roots.old.items) }
-    ensures nodes_kept { OnErr result (KeepsOld (length nodes.old.items) nodes.old.items nodes.new.items) }
-    ensures heights_kept { OnErr result (take (length nodes.old.items) heights.new.items ≡ heights.old.items) }
+// Makes the changes in order on a draft over the last revision, puts its root behind the others, and answers the next line.
+fn push_revision(stored: &mut Stored, lines: u64, changes: &[Change]) -> Result<u64, CommitFault>
+    requires { IsStored stored.old.roots.items stored.old.nodes.items lines stored.old.heights.items }
+    ensures ok { IfOk result (IsExtended stored.old.roots.items stored.old.nodes.items lines stored.new.roots.items stored.new.nodes.items stored.new.heights.items changes.now) }
+    ensures fault { IfErr result (IsRefused (history_of stored.old.roots.items stored.old.nodes.items lines) changes.now) }
+    ensures roots_kept { OnErr result (stored.new.roots.items ≡ stored.old.roots.items) }
+    ensures nodes_kept { OnErr result (KeepsOld (length stored.old.nodes.items) stored.old.nodes.items stored.new.nodes.items) }
+    ensures heights_kept { OnErr result (take (length stored.old.nodes.items) stored.new.heights.items ≡ stored.old.heights.items) }
 {
-    let root = roots[roots.len() - 1];
-    let base = nodes.len();
+    let root = stored.roots[stored.roots.len() - 1];
+    let base = stored.nodes.len();
     let start = Draft { base, root, lines };
-    let made = make_all(alloc, nodes, roots, heights, start, changes)?;
-    add_heights(nodes, heights)?;
-    match roots.push(made.root) {
+    let past = Past {
+        roots: &stored.roots,
+        heights: &stored.heights,
+    };
+    let made = make_all(&mut stored.nodes, &past, start, changes)?;
+    add_heights(&stored.nodes, &mut stored.heights)?;
+    match stored.roots.push(made.root) {
         Ok(()) => Ok(made.lines),
         Err(_) => Err(CommitFault::Memory),
     }
 }
 
-/// Adds one more revision: the changes made in order on the last one. A refusal leaves all as it was.
+/// Adds one more revision, the changes made in order on the last one, and answers the next line. A refusal leaves all as it was.
 pub(crate) fn extend(
-    alloc: Global,
-    nodes: &mut Vec<Node>,
-    roots: &mut Vec<NodeId>,
-    heights: &mut Vec<u8>,
+    stored: &mut Stored,
     lines: u64,
     changes: &[Change],
 ) -> Result<u64, CommitFault>
-    requires { IsStored roots.old.items nodes.old.items lines heights.old.items }
-    ensures ok { IfOk result (IsExtended roots.old.items nodes.old.items lines roots.new.items nodes.new.items heights.new.items changes.now) }
-    ensures fault { IfErr result (IsRefused (history_of roots.old.items nodes.old.items lines) changes.now) }
-    ensures unchanged { OnErr result ((nodes.new.items ≡ nodes.old.items) × (roots.new.items ≡ roots.old.items) × (heights.new.items ≡ heights.old.items)) }
+    requires { IsStored stored.old.roots.items stored.old.nodes.items lines stored.old.heights.items }
+    ensures ok { IfOk result (IsExtended stored.old.roots.items stored.old.nodes.items lines stored.new.roots.items stored.new.nodes.items stored.new.heights.items changes.now) }
+    ensures fault { IfErr result (IsRefused (history_of stored.old.roots.items stored.old.nodes.items lines) changes.now) }
+    ensures unchanged { OnErr result ((stored.new.nodes.items ≡ stored.old.nodes.items) × (stored.new.roots.items ≡ stored.old.roots.items) × (stored.new.heights.items ≡ stored.old.heights.items)) }
 {
-    let base = nodes.len();
-    match push_revision(alloc, nodes, roots, heights, lines, changes) {
+    let base = stored.nodes.len();
+    match push_revision(stored, lines, changes) {
         Ok(next) => Ok(next),
         Err(fault) => {
-            nodes.truncate(base);
-            heights.truncate(base);
+            stored.nodes.truncate(base);
+            stored.heights.truncate(base);
             Err(fault)
         }
     }

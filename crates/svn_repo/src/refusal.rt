@@ -11,8 +11,22 @@ ghost use Rattle.svn_repo.specs.Changes.{above_fault, change_fault, copy_fault, 
 
 use crate::change::{Change, CommitFault};
 use crate::entries::NodeId;
-use crate::store::{Node, child, kind_at, node_below, root_of};
+use crate::store::{Node, Past, child, kind_at, node_below, root_of};
 use svn_types::{Kind, MAX_DEPTH, MAX_SIZE, Name, Rev, Text};
+
+// A path below a root.
+#[derive(Clone, Copy, Debug)]
+struct PathBelow<'a> {
+    root: NodeId,
+    names: &'a [Name],
+}
+
+// A path in a revision.
+#[derive(Clone, Copy, Debug)]
+struct RevPath<'a> {
+    rev: Rev,
+    names: &'a [Name],
+}
 
 // What stands at a path: else the fault of the first place above that is missing or no directory.
 fn find(nodes: &[Node], root: NodeId, names: &[Name]) -> Result<Option<NodeId>, CommitFault>
@@ -191,25 +205,24 @@ fn is_too_deep(heights: &[u8], node: NodeId, names: &[Name]) -> bool
     names.len() + heights[node.index] as usize > MAX_DEPTH
 }
 
-// Why a copy of what stands at the source can't be put at a path below directories.
+// Why a copy of a node can't be put at a path below directories.
 fn fault_at_copy(
     nodes: &[Node],
     heights: &[u8],
-    root: NodeId,
     node: NodeId,
-    names: &[Name],
+    to: &PathBelow<'_>,
 ) -> Option<CommitFault>
-    requires root_in { root < length nodes.now }
+    requires root_in { to.now.root < length nodes.now }
     requires closed { IsClosedIn nodes.now }
     requires node_in { node < length heights.now }
-    requires depth { length names.now ≤ depth_limit }
-    requires not_root { root_fault names.now ≡ None }
+    requires depth { length to.now.names.now ≤ depth_limit }
+    requires not_root { root_fault to.now.names.now ≡ None }
     requires past { IsOldPart heights.now nodes.now }
-    ensures { (base : ℕ) → result ≡ option_or (fault_if (is_some (tree_in base nodes.now root names.now)) CommitFault.Exists) (copy_depth_fault (rows (take (length heights.now) nodes.now)) (Some node) names.now) }
+    ensures { (base : ℕ) → let names = to.now.names.now in result ≡ option_or (fault_if (is_some (tree_in base nodes.now to.now.root names)) CommitFault.Exists) (copy_depth_fault (rows (take (length heights.now) nodes.now)) (Some node) names) }
 {
-    if stands(nodes, root, names) {
+    if stands(nodes, to.root, to.names) {
         Some(CommitFault::Exists)
-    } else if is_too_deep(heights, node, names) {
+    } else if is_too_deep(heights, node, to.names) {
         Some(CommitFault::TooDeep)
     } else {
         None
@@ -220,67 +233,63 @@ fn fault_at_copy(
 fn fault_below_top(
     nodes: &[Node],
     heights: &[u8],
-    root: NodeId,
-    top: NodeId,
-    source: &[Name],
-    names: &[Name],
+    source: &PathBelow<'_>,
+    to: &PathBelow<'_>,
 ) -> Option<CommitFault>
-    requires root_in { root < length nodes.now }
+    requires root_in { to.now.root < length nodes.now }
     requires closed { IsClosedIn nodes.now }
-    requires depth { length names.now ≤ depth_limit }
-    requires not_root { root_fault names.now ≡ None }
-    requires top_in { top < length heights.now }
+    requires depth { length to.now.names.now ≤ depth_limit }
+    requires not_root { root_fault to.now.names.now ≡ None }
+    requires top_in { source.now.root < length heights.now }
     requires past { IsOldPart heights.now nodes.now }
-    ensures { (base : ℕ) → let t = tree_in base nodes.now root in result ≡ option_or (walk_fault (tree_in base nodes.now top) source.now) (option_or (above_fault t names.now) (option_or (fault_if (is_some (t names.now)) CommitFault.Exists) (copy_depth_fault (rows (take (length heights.now) nodes.now)) (walk (rows nodes.now) top source.now) names.now))) }
+    ensures { (base : ℕ) → let t = tree_in base nodes.now to.now.root in let names = to.now.names.now in let top = source.now.root in let from = source.now.names.now in result ≡ option_or (walk_fault (tree_in base nodes.now top) from) (option_or (above_fault t names) (option_or (fault_if (is_some (t names)) CommitFault.Exists) (copy_depth_fault (rows (take (length heights.now) nodes.now)) (walk (rows nodes.now) top from) names))) }
 {
-    if let Some(fault) = fault_of_walk(nodes, top, source) {
+    if let Some(fault) = fault_of_walk(nodes, source.root, source.names) {
         return Some(fault);
     }
-    if let Some(fault) = fault_above(nodes, root, names) {
+    if let Some(fault) = fault_above(nodes, to.root, to.names) {
         return Some(fault);
     }
-    let Some(node) = node_below(nodes, top, source) else {
+    let Some(node) = node_below(nodes, source.root, source.names) else {
         unreachable!()
     };
-    fault_at_copy(nodes, heights, root, node, names)
+    fault_at_copy(nodes, heights, node, to)
 }
 
+// Why what stands at a path of a revision can't be copied to a path.
 fn fault_of_copy(
     nodes: &[Node],
-    roots: &[NodeId],
-    heights: &[u8],
-    root: NodeId,
-    rev: Rev,
-    source: &[Name],
-    names: &[Name],
+    past: &Past<'_>,
+    source: &RevPath<'_>,
+    to: &PathBelow<'_>,
 ) -> Option<CommitFault>
-    requires root_in { root < length nodes.now }
+    requires root_in { to.now.root < length nodes.now }
     requires closed { IsClosedIn nodes.now }
-    requires depth { length names.now ≤ depth_limit }
-    requires past { IsPast roots.now heights.now nodes.now }
-    ensures { (l : ℕ) → let base = length heights.now in result ≡ option_or (root_fault names.now) (copy_fault (past_in base roots.now nodes.now l) (tree_in base nodes.now root) rev source.now names.now) }
+    requires depth { length to.now.names.now ≤ depth_limit }
+    requires past { IsPast past.now.roots.now past.now.heights.now nodes.now }
+    ensures { (l : ℕ) → let base = length past.now.heights.now in let names = to.now.names.now in result ≡ option_or (root_fault names) (copy_fault (past_in base past.now.roots.now nodes.now l) (tree_in base nodes.now to.now.root) source.now.rev source.now.names.now names) }
 {
-    if let Some(fault) = fault_of_root(names) {
+    if let Some(fault) = fault_of_root(to.names) {
         return Some(fault);
     }
-    match root_of(roots, rev) {
-        None => Some(CommitFault::NoSuchRevision),
-        Some(top) => fault_below_top(nodes, heights, root, top, source, names),
-    }
+    let Some(root) = root_of(past.roots, source.rev) else {
+        return Some(CommitFault::NoSuchRevision);
+    };
+    let names = source.names;
+    fault_below_top(nodes, past.heights, &PathBelow { root, names }, to)
 }
 
 /// Why a change can't be made on a draft, if it can't. There is a height for each node that stood before the draft.
 pub(crate) fn fault_of(
     nodes: &[Node],
-    roots: &[NodeId],
-    heights: &[u8],
+    past: &Past<'_>,
     root: NodeId,
     change: &Change,
 ) -> Option<CommitFault>
     requires root_in { root < length nodes.now }
     requires closed { IsClosedIn nodes.now }
-    requires past { IsPast roots.now heights.now nodes.now }
-    ensures { (l next : ℕ) → let base = length heights.now in result ≡ change_fault (past_in base roots.now nodes.now l) (pending_in base nodes.now root next) change.now }
+    requires past { IsPast past.now.roots.now past.now.heights.now nodes.now }
+    ensures { (l next : ℕ) → let base = length past.now.heights.now in result ≡ change_fault (past_in base past.now.roots.now nodes.now l) (pending_in base nodes.now root next) change.now }
 {
     match change {
         Change::MakeDir { path } => fault_of_dir(nodes, root, path.components()),
@@ -291,14 +300,13 @@ pub(crate) fn fault_of(
             value,
         } => fault_of_prop(nodes, root, path.components(), value),
         Change::Remove { path } => fault_of_removed(nodes, root, path.components()),
-        Change::CopyFrom { rev, source, path } => fault_of_copy(
-            nodes,
-            roots,
-            heights,
-            root,
-            *rev,
-            source.components(),
-            path.components(),
-        ),
+        Change::CopyFrom { rev, source, path } => {
+            let source = RevPath {
+                rev: *rev,
+                names: source.components(),
+            };
+            let names = path.components();
+            fault_of_copy(nodes, past, &source, &PathBelow { root, names })
+        }
     }
 }

@@ -10,7 +10,7 @@ ghost use Rattle.svn_repo.specs.Stored.{row_of};
 use crate::change::{Change, CommitFault};
 use crate::commit::extend;
 use crate::entries::{Entries, NodeId};
-use crate::store::{Content, Node, lookup_in};
+use crate::store::{Content, Node, Stored, lookup_in};
 use std::alloc::{AllocError, Global};
 use std::marker::Model;
 use svn_types::{Kind, Props, RelPath, Rev, Text};
@@ -20,13 +20,7 @@ use svn_types::{Kind, Props, RelPath, Rev, Text};
 /// didn't change: one node number is one node revision, wherever it stands. It is kept in memory. A contract sees it as its history.
 #[derive(Debug, Drop)]
 pub struct Repo {
-    alloc: Global,
-    // The root node of each revision.
-    roots: Vec<NodeId>,
-    // The nodes of all revisions, each named by its place.
-    nodes: Vec<Node>,
-    // How deep the tree below each node is, in names.
-    heights: Vec<u8>,
+    stored: Stored,
     // The line of the next new node.
     lines: u64,
 }
@@ -38,9 +32,9 @@ impl Model for Repo {
 
     ghost use Rattle.svn_repo.specs.Stored.{history_of, IsStored};
 
-    ghost view = { λ r. history_of r.roots.items r.nodes.items r.lines };
+    ghost view = { λ r. history_of r.stored.roots.items r.stored.nodes.items r.lines };
 
-    ghost invariant = { λ r. IsStored r.roots.items r.nodes.items r.lines r.heights.items };
+    ghost invariant = { λ r. IsStored r.stored.roots.items r.stored.nodes.items r.lines r.stored.heights.items };
 }
 
 // The one node of revision 0, and its number.
@@ -75,13 +69,12 @@ impl Repo {
     {
         let (nodes, roots) = first_root(alloc)?;
         let heights = first_height(alloc)?;
-        Ok(Repo {
-            alloc,
+        let stored = Stored {
             roots,
             nodes,
             heights,
-            lines: 1,
-        })
+        };
+        Ok(Repo { stored, lines: 1 })
     }
 
     /// What holds of every repository, for the proofs of its callers; it does nothing. The root of each revision is a directory of
@@ -100,21 +93,26 @@ impl Repo {
     pub fn latest(&self) -> Rev
         ensures { result + 1 ≡ length self.now.roots }
     {
-        Rev((self.roots.len() - 1) as u64)
+        Rev((self.stored.roots.len() - 1) as u64)
     }
 
     /// The node at a path in a revision; None where there is no such revision, or nothing stands there.
     pub fn lookup(&self, rev: Rev, path: &RelPath) -> Option<NodeId>
         ensures { result ≡ look self.now rev path.now }
     {
-        lookup_in(&self.nodes, &self.roots, rev, path.components())
+        lookup_in(
+            &self.stored.nodes,
+            &self.stored.roots,
+            rev,
+            path.components(),
+        )
     }
 
     /// The line of a node: two nodes are related exactly where they have one line. None where there is no such node.
     pub fn line(&self, id: NodeId) -> Option<u64>
         ensures { result ≡ option_map (λ row. row.line) (node_at self.now id) }
     {
-        let node = self.nodes.get(id.index)?;
+        let node = self.stored.nodes.get(id.index)?;
         Some(node.line)
     }
 
@@ -130,7 +128,7 @@ impl Repo {
     pub fn kind(&self, id: NodeId) -> Option<Kind>
         ensures { result ≡ option_map (λ row. row.kind) (node_at self.now id) }
     {
-        let node = self.nodes.get(id.index)?;
+        let node = self.stored.nodes.get(id.index)?;
         Some(node.kind())
     }
 
@@ -152,7 +150,7 @@ impl Repo {
         ensures no_text { IfNone result (text_of self.now id ≡ []) }
         ensures text { IfSome result (λ text. text.now ≡ text_of self.now id) }
     {
-        let node = self.nodes.get(id.index)?;
+        let node = self.stored.nodes.get(id.index)?;
         match &node.content {
             Content::Text(text) => Some(text),
             Content::Listing(_) => None,
@@ -163,7 +161,7 @@ impl Repo {
     pub fn props(&self, id: NodeId) -> Option<&Props>
         ensures { option_copied result ≡ option_map (λ row. row.props) (node_at self.now id) }
     {
-        let node = self.nodes.get(id.index)?;
+        let node = self.stored.nodes.get(id.index)?;
         Some(&node.props)
     }
 
@@ -174,7 +172,7 @@ impl Repo {
         ensures leaf { IfNone result (entries_of self.now id ≡ []) }
         ensures listing { IfSome result (λ entries. entries.now ≡ entries_of self.now id) }
     {
-        let node = self.nodes.get(id.index)?;
+        let node = self.stored.nodes.get(id.index)?;
         match &node.content {
             Content::Text(_) => None,
             Content::Listing(entries) => Some(entries),
@@ -194,15 +192,8 @@ impl Repo {
         ensures never_full { IfErr result (λ e. e ≢ CommitFault.Full) }
         ensures unchanged { OnErr result (self.new ≡ self.old) }
     {
-        let revision = self.roots.len() as u64;
-        match extend(
-            self.alloc,
-            &mut self.nodes,
-            &mut self.roots,
-            &mut self.heights,
-            self.lines,
-            changes,
-        ) {
+        let revision = self.stored.roots.len() as u64;
+        match extend(&mut self.stored, self.lines, changes) {
             Ok(lines) => {
                 self.lines = lines;
                 Ok(Rev(revision))

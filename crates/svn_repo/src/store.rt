@@ -18,6 +18,24 @@ pub(crate) enum Content {
     Listing(Entries),
 }
 
+/// The stored trees of a repository.
+#[derive(Debug, Drop)]
+pub(crate) struct Stored {
+    // The root node of each revision.
+    pub(crate) roots: Vec<NodeId>,
+    // The nodes of all revisions, each named by its place.
+    pub(crate) nodes: Vec<Node>,
+    // How deep the tree below each node is, in names.
+    pub(crate) heights: Vec<u8>,
+}
+
+/// The revisions that a commit is made over: the root of each, and the height of each node that stood before the commit.
+#[derive(Clone, Copy, Debug)]
+pub(crate) struct Past<'a> {
+    pub(crate) roots: &'a [NodeId],
+    pub(crate) heights: &'a [u8],
+}
+
 /// How far a commit has come: the stored nodes from `base` on are made by it, `root` is the root of its revision, and `lines` is the
 /// next line.
 #[derive(Clone, Copy, Debug)]

@@ -14,8 +14,8 @@ use Rattle.svn_repo.proofs.commit.push_revision.Goals as goal
 
 pub make_all-requires-clause-draft : goal.make_all-requires-clause-draft
 make_all-requires-clause-draft c =
-    let roots = c.args.roots.now.items in
-    let old = c.args.nodes.now.items in
+    let roots = c.args.stored.now.roots.items in
+    let old = c.args.stored.now.nodes.items in
     let from : ℕ = c.index-root.result.now in
     let count : c.len.result ≡ length roots = search rules in
     let sound = c.requires.repository in
@@ -25,20 +25,20 @@ make_all-requires-clause-draft c =
 
 pub make_all-requires-clause-past : goal.make_all-requires-clause-past
 make_all-requires-clause-past c =
-    let roots = c.args.roots.now.items in
-    let old = c.args.nodes.now.items in
+    let roots = c.args.stored.now.roots.items in
+    let old = c.args.stored.now.nodes.items in
     let from : ℕ = c.index-root.result.now in
     let count : c.len.result ≡ length roots = search rules in
     let sound = c.requires.repository in
     let last : slice_get roots (length roots - 1) ≡ Some from =
     last_root roots c.len.result from count sound.some_revision c.index-root.ensures in
     rw (c.deref.ensures.value, c.deref-2.ensures.value)
-    (start_past roots old c.args.lines from sound last c.args.heights.now.items c.requires.known)
+    (start_past roots old c.args.lines from sound last c.args.stored.now.heights.items c.requires.known)
 
 pub returns-in_err-made-clause-fault : goal.returns-in_err-made-clause-fault
 returns-in_err-made-clause-fault c =
-    let roots = c.args.roots.now.items in
-    let old = c.args.nodes.now.items in
+    let roots = c.args.stored.now.roots.items in
+    let old = c.args.stored.now.nodes.items in
     let from : ℕ = c.index-root.result.now in
     let count : c.len.result ≡ length roots = search rules in
     let sound = c.requires.repository in
@@ -57,21 +57,21 @@ returns-in_err-made-clause-fault c =
 
 pub add_heights-requires-clause-ordered : goal.add_heights-requires-clause-ordered
 add_heights-requires-clause-ordered c =
-    let ordered : IsOrdered c.make_all.new.nodes.items (length c.args.nodes.now.items) =
-    draft_ordered (length c.args.nodes.now.items) c.make_all.new.nodes.items c.in_ok-made.made.root c.in_ok-made.ensures.ok.draft in
+    let ordered : IsOrdered c.make_all.new.nodes.items (length c.args.stored.now.nodes.items) =
+    draft_ordered (length c.args.stored.now.nodes.items) c.make_all.new.nodes.items c.in_ok-made.made.root c.in_ok-made.ensures.ok.draft in
     rw (c.deref-3.ensures.value, c.requires.known.size) ordered
 
 pub add_heights-requires-clause-old : goal.add_heights-requires-clause-old
 add_heights-requires-clause-old c = λ n k e.
     let known = c.requires.known in
-    let below : n < length c.args.heights.now.items = slice_get_within c.args.heights.now.items n k e in
-    rw c.deref-3.ensures.value (heights_kept c.args.nodes.now.items c.make_all.new.nodes.items c.args.heights.now.items
+    let below : n < length c.args.stored.now.heights.items = slice_get_within c.args.stored.now.heights.items n k e in
+    rw c.deref-3.ensures.value (heights_kept c.args.stored.now.nodes.items c.make_all.new.nodes.items c.args.stored.now.heights.items
     c.in_ok-made.made.root known c.in_ok-made.ensures.ok.draft c.make_all.ensures.kept n k e (omega (arith, known.size)))
 
 pub returns-in-Ok-clause-ok : goal.returns-in-Ok-clause-ok
 returns-in-Ok-clause-ok c =
-    let roots = c.args.roots.now.items in
-    let old = c.args.nodes.now.items in
+    let roots = c.args.stored.now.roots.items in
+    let old = c.args.stored.now.nodes.items in
     let from : ℕ = c.index-root.result.now in
     let count : c.len.result ≡ length roots = search rules in
     let sound = c.requires.repository in
@@ -97,8 +97,8 @@ returns-in-Ok-clause-ok c =
 
 pub returns-in_err-add_heights-clause-fault : goal.returns-in_err-add_heights-clause-fault
 returns-in_err-add_heights-clause-fault c =
-    let roots = c.args.roots.now.items in
-    let old = c.args.nodes.now.items in
+    let roots = c.args.stored.now.roots.items in
+    let old = c.args.stored.now.nodes.items in
     let from : ℕ = c.index-root.result.now in
     let count : c.len.result ≡ length roots = search rules in
     let sound = c.requires.repository in
@@ -118,8 +118,8 @@ returns-in_err-add_heights-clause-fault c =
 
 pub returns-in-Err-clause-fault : goal.returns-in-Err-clause-fault
 returns-in-Err-clause-fault c =
-    let roots = c.args.roots.now.items in
-    let old = c.args.nodes.now.items in
+    let roots = c.args.stored.now.roots.items in
+    let old = c.args.stored.now.nodes.items in
     let from : ℕ = c.index-root.result.now in
     let count : c.len.result ≡ length roots = search rules in
     let sound = c.requires.repository in

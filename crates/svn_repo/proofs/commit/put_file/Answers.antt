@@ -9,10 +9,9 @@ use Rattle.svn_repo.proofs.commit.put_file.Goals as goal
 
 pub file_node-requires : goal.file_node-requires
 file_node-requires c = λ n e.
-    rw c.deref-2.ensures.value
-    (in_range c.args.nodes.now.items c.requires.draft.closed c.args.draft.root n c.args.names.now c.requires.draft.root_in
+    in_range c.args.nodes.now.items c.requires.draft.closed c.args.draft.root n c.args.names.now c.requires.draft.root_in
     (ap (λ (v : List Node). walk (rows v) c.args.draft.root c.args.names.now) (sym c.deref.ensures.value) ∙ sym c.node_below-at.ensures
-    ∙ e))
+    ∙ e)
 
 pub returns-clause-stood : goal.returns-clause-stood
 returns-clause-stood c =

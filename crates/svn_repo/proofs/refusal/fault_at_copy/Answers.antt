@@ -12,21 +12,25 @@ use Rattle.svn_repo.proofs.refusal.fault_at_copy.Goals as goal
 pub returns-then-is_too_deep : goal.returns-then-is_too_deep
 returns-then-is_too_deep c = λ base.
     let f = rows (take (length c.args.heights.now) c.args.nodes.now) in
-    let free : is_some (tree_in base c.args.nodes.now c.args.root c.args.names.now) ≡ false = sym (c.stands.ensures base)
+    let free : is_some (tree_in base c.args.nodes.now c.args.to.now.root c.args.to.now.names.now) ≡ false = sym (c.stands.ensures base)
     ∙ c.if-stands.false in
-    let deep : reaches f (path_limit + 1 - length c.args.names.now) c.args.node ≡ true =
-    copy_too_deep c.args.heights.now c.args.nodes.now c.args.node c.args.names.now c.is_too_deep.result c.requires.past c.requires.not_root
+    let deep : reaches f (path_limit + 1 - length c.args.to.now.names.now) c.args.node ≡ true =
+    copy_too_deep c.args.heights.now c.args.nodes.now c.args.node c.args.to.now.names.now c.is_too_deep.result c.requires.past
+    c.requires.not_root
     c.requires.node_in c.is_too_deep.ensures ∙ c.if-is_too_deep.true in
-    sym (ap (λ b. option_or (fault_if b Exists) (fault_if (reaches f (path_limit + 1 - length c.args.names.now) c.args.node) TooDeep)) free
+    sym (ap (λ b. option_or (fault_if b Exists) (fault_if (reaches f (path_limit + 1 - length c.args.to.now.names.now) c.args.node)
+    TooDeep)) free
     ∙ ap (λ b. fault_if b TooDeep) deep)
 
 pub returns-else-is_too_deep : goal.returns-else-is_too_deep
 returns-else-is_too_deep c = λ base.
     let f = rows (take (length c.args.heights.now) c.args.nodes.now) in
-    let free : is_some (tree_in base c.args.nodes.now c.args.root c.args.names.now) ≡ false = sym (c.stands.ensures base)
+    let free : is_some (tree_in base c.args.nodes.now c.args.to.now.root c.args.to.now.names.now) ≡ false = sym (c.stands.ensures base)
     ∙ c.if-stands.false in
-    let shallow : reaches f (path_limit + 1 - length c.args.names.now) c.args.node ≡ false =
-    copy_too_deep c.args.heights.now c.args.nodes.now c.args.node c.args.names.now c.is_too_deep.result c.requires.past c.requires.not_root
+    let shallow : reaches f (path_limit + 1 - length c.args.to.now.names.now) c.args.node ≡ false =
+    copy_too_deep c.args.heights.now c.args.nodes.now c.args.node c.args.to.now.names.now c.is_too_deep.result c.requires.past
+    c.requires.not_root
     c.requires.node_in c.is_too_deep.ensures ∙ c.if-is_too_deep.false in
-    sym (ap (λ b. option_or (fault_if b Exists) (fault_if (reaches f (path_limit + 1 - length c.args.names.now) c.args.node) TooDeep)) free
+    sym (ap (λ b. option_or (fault_if b Exists) (fault_if (reaches f (path_limit + 1 - length c.args.to.now.names.now) c.args.node)
+    TooDeep)) free
     ∙ ap (λ b. fault_if b TooDeep) shallow)
