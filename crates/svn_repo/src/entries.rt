@@ -8,6 +8,7 @@ ghost use Rattle.svn_types.specs.Names.{name_cmp};
 ghost use Rattle.svn_types.specs.Pairs.{InNameOrder, ChangesOnly, value_of};
 
 use std::alloc::{AllocError, Global};
+use std::cmp::Ordering;
 use std::collections::BTreeMap;
 use std::collections::btree_map::Iter;
 use std::marker::Model;
@@ -62,7 +63,15 @@ impl Entries {
     pub fn get(&self, name: &Name) -> Option<NodeId>
         ensures { result ≡ lookup (is_at (name_cmp name.now)) self.now }
     {
-        self.map.get(name).copied()
+        // Names mostly come in their order, and then the last entry answers without a search.
+        let Some((last, node)) = self.map.last_key_value() else {
+            return None;
+        };
+        match last.cmp(name) {
+            Ordering::Less => None,
+            Ordering::Equal => Some(*node),
+            Ordering::Greater => self.map.get(name).copied(),
+        }
     }
 
     /// How many entries there are.

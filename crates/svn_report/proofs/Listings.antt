@@ -1,5 +1,6 @@
 -- Entries found by their path, and by what stands next to a path.
-use Rattle.std.proofs.Common.{◌≡◌, ℕ, suc, Bool, true, false, ◌&&◌, ◌||◌, not, cond, List, [], ◌∷◌, ◌++◌, length, take, refl, sym, ◌∙◌, ap, subst, inl, inr, arith, true≢false}
+use Rattle.std.proofs.Common.{◌≡◌, ℕ, suc, Bool, true, false, ◌&&◌, ◌||◌, not, cond, List, [], ◌∷◌, ◌++◌, length, take, refl, sym, ◌∙◌}
+use Rattle.std.proofs.Common.{ap, subst, inl, inr, arith, true≢false}
 use Rattle.std.specs.Prelude.{◌+◌, ◌<◌, ◌≤◌, Option, Some, None, ◌⊎◌, is_some, nat_lt, slice_get, MatchOption}
 use Rattle.std.specs.declared.cmp.Ordering.{Ordering}
 use Rattle.std.specs.declared.cmp.Ordering.TheVariants.{Less, Equal, Greater}
@@ -22,7 +23,8 @@ use Rattle.svn_types.specs.Names.{Path, path_cmp}
 use Rattle.svn_types.specs.Paths.{path_eq, is_within, is_below, is_root}
 use Rattle.svn_report.specs.declared.entry.ReportEntry.{ReportEntry}
 use Rattle.svn_report.specs.declared.entry.ReportEntry.TheVariants.{LinkPath}
-use Rattle.svn_report.specs.Reports.{Entries, entry_at, has_entry_below, is_set, is_delete, is_deleted_at, is_deleted_above, is_link_too_deep, is_root_missing, reporter_fault}
+use Rattle.svn_report.specs.Reports.{Entries, entry_at, has_entry_below, is_set, is_delete, is_deleted_at, is_deleted_above}
+use Rattle.svn_report.specs.Reports.{is_link_too_deep, is_root_missing, reporter_fault}
 use Rattle.svn_report.specs.LawfulReports.{IsRootFirst, AreLawfulEntries}
 use Rattle.std.specs.Prelude.{nat_eq}
 use Rattle.std.specs.Cmp.Lexicographic.{pointwise}
@@ -144,11 +146,13 @@ pub next_below : (paths : BTreeSet Path) (es : Entries) (p n : Path) → IsKept 
 next_below paths es p n kept next = by (is_within p n) refl (has_entry_below es p) refl
   where
     by : (a : Bool) → is_within p n ≡ a → (b : Bool) → has_entry_below es p ≡ b → a ≡ b
-    by true w b h = sym (sym h ∙ at_some (is_below p) es n (ap (λ x. x && not (path_eq p n)) w ∙ ap not (apart p n next.0)) (sym (kept.has n) ∙ next.1))
+    by true w b h = sym (sym h ∙ at_some (is_below p) es n (ap (λ x. x && not (path_eq p n)) w ∙ ap not (apart p n next.0))
+        (sym (kept.has n) ∙ next.1))
     by false w true h =
         let s = somewhere (is_below p) es h in
         let parts = below_parts p s.0 s.1 in
-        absurd (true≢false (sym (within_between p n s.0 next.0 (next.2 s.0 (below_after p s.0 parts.0 parts.1) (kept.has s.0 ∙ s.2)) parts.0) ∙ w))
+        absurd (true≢false (sym (within_between p n s.0 next.0 (next.2 s.0 (below_after p s.0 parts.0 parts.1) (kept.has s.0 ∙ s.2))
+        parts.0) ∙ w))
     by false w false h = refl
 
 pub none_below : (paths : BTreeSet Path) (es : Entries) (p : Path) → IsKept paths es → IsNext paths p None → false ≡ has_entry_below es p
@@ -230,7 +234,10 @@ previous_deleted paths es p n kept previous =
         not_later = previous.2 r.0 (below_after r.0 p above.0 above.1) there
 
         same : (b : Bool) → path_eq r.0 n ≡ b → (is_within n p ≡ true) × (is_deleted_at (entry_at es n) ≡ true)
-        same true e = (ap (λ (z : Path). is_within z p) (sym (same_path r.0 n e)) ∙ above.0, ap (λ (z : Path). is_deleted_at (entry_at es z)) (sym (same_path r.0 n e)) ∙ r.2)
+        same true e = (
+          ap (λ (z : Path). is_within z p) (sym (same_path r.0 n e)) ∙ above.0,
+          ap (λ (z : Path). is_deleted_at (entry_at es z)) (sym (same_path r.0 n e)) ∙ r.2,
+        )
         same false e =
             let less = earlier r.0 n e not_later in
             let inside = within_between r.0 n p less (λ k. asymmetric p n k previous.0) above.0 in
@@ -253,7 +260,8 @@ previous_none paths es p kept previous = by (list_any (is_deleted_above p) es) r
     by true h =
         let r = deleted_somewhere paths es p kept h in
         let above = below_parts r.0 p r.1 in
-        absurd (true≢false (sym (some_deleted (entry_at es r.0) r.2) ∙ sym (kept.has r.0) ∙ previous r.0 (below_after r.0 p above.0 above.1)))
+        absurd (true≢false (sym (some_deleted (entry_at es r.0) r.2) ∙ sym (kept.has r.0) ∙ previous r.0
+        (below_after r.0 p above.0 above.1)))
     by false h = refl
 
 -- ---- one more entry
@@ -280,7 +288,8 @@ entry_at-more [] p e q = refl
 entry_at-more (f ∷ es) p e q = by (path_eq f.0 q) (entry_at-more es p e q)
   where
     by : (b : Bool) → entry_at (es ++ (p, e) ∷ []) q ≡ option_or (entry_at es q) (cond (path_eq p q) (Some e) None)
-        → cond b (Some f.1) (entry_at (es ++ (p, e) ∷ []) q) ≡ option_or (cond b (Some f.1) (entry_at es q)) (cond (path_eq p q) (Some e) None)
+        → cond b (Some f.1) (entry_at (es ++ (p, e) ∷ []) q) ≡ option_or (cond b (Some f.1) (entry_at es q))
+        (cond (path_eq p q) (Some e) None)
     by true ih = refl
     by false ih = ih
 

@@ -1,5 +1,6 @@
 -- The next name beneath a path at which a report has entries.
-use Rattle.std.proofs.Common.{◌≡◌, ℕ, zero, suc, ◌<◌, ◌≤◌, Bool, true, false, ◌&&◌, List, [], ◌∷◌, cond, length, take, drop, refl, sym, ◌∙◌, ap, arith, true≢false}
+use Rattle.std.proofs.Common.{◌≡◌, ℕ, zero, suc, ◌<◌, ◌≤◌, Bool, true, false, ◌&&◌, List, [], ◌∷◌, cond, length, take, drop, refl, sym}
+use Rattle.std.proofs.Common.{◌∙◌, ap, arith, true≢false}
 use Rattle.std.specs.Prelude.{Option, Some, None, bytes_eq, slice_get}
 use Rattle.std.specs.declared.cmp.Ordering.TheVariants.{Less}
 use Rattle.std.specs.Ordering.{ordering_then}
@@ -12,7 +13,8 @@ use Rattle.svn_report.specs.Reports.{Entries}
 use Rattle.svn_report.specs.ReportNames.{next_name, has_entry_within, IsNextName}
 use Rattle.svn_report.specs.ReportOrder.{IsKept, IsNext, IsNextBy, end_cmp}
 use Rattle.svn_types.proofs.PathOrder.{both, same_name, name_cmp-same, below_after, within_between}
-use Rattle.svn_report.proofs.EndOrder.{names_in_order, names_end_in_order, child_itself, above_child, within_named, later_named, ends_before}
+use Rattle.svn_report.proofs.EndOrder.{names_in_order, names_end_in_order, child_itself, above_child, within_named, later_named}
+use Rattle.svn_report.proofs.EndOrder.{ends_before}
 use Rattle.svn_report.proofs.Listings.{somewhere, at_some}
 
 -- ---- the name that leads from a path down to another

@@ -13,7 +13,8 @@ use Rattle.std.proofs.lemmas.Map.Lookups.{exact_bytes}
 use Rattle.svn_types.specs.Names.{Path, name_cmp}
 use Rattle.svn_types.specs.Paths.{is_within, child}
 use Rattle.svn_report.specs.Reports.{Entries}
-use Rattle.svn_report.specs.ReportNames.{next_name, names_in, reported_names, has_entry_within, ComesAfter, IsNextName, comes_after, names_after, names_from}
+use Rattle.svn_report.specs.ReportNames.{next_name, names_in, reported_names, has_entry_within, ComesAfter, IsNextName, comes_after}
+use Rattle.svn_report.specs.ReportNames.{names_after, names_from}
 use Rattle.svn_types.proofs.PathOrder.{same_name, bytes_eq-same, name_cmp-same}
 use Rattle.svn_report.proofs.EndOrder.{Name, bytes_eq-flip}
 

@@ -16,7 +16,8 @@ start_empty_words false = []
 
 abbrev pub entry_words : Path → ReportEntry → List (List ℕ)
 entry_words p (SetPath rev start_empty) = codes "set" ∷ path_word p ∷ decimal rev ∷ start_empty_words start_empty
-entry_words p (LinkPath repos_path rev start_empty) = codes "link" ∷ path_word p ∷ path_word repos_path ∷ decimal rev ∷ start_empty_words start_empty
+entry_words p (LinkPath repos_path rev start_empty) =
+    codes "link" ∷ path_word p ∷ path_word repos_path ∷ decimal rev ∷ start_empty_words start_empty
 entry_words p DeletePath = codes "delete" ∷ path_word p ∷ []
 
 abbrev pub entry_line : Path → ReportEntry → List ℕ

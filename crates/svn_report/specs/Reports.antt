@@ -2,7 +2,8 @@
 --     entry_at entries p      the entry at a path
 --     has_entry_below entries p      an entry stands strictly beneath a path
 --     reporter_fault entries p e      why a call is refused after those entries
-use Rattle.std.specs.Prelude.{◌≡◌, ℕ, ◌+◌, Bool, true, false, ◌&&◌, not, List, [], ◌∷◌, ◌++◌, length, nat_lt, Option, Some, None, is_some, if◌then◌else◌, Result, Ok, Err}
+use Rattle.std.specs.Prelude.{◌≡◌, ℕ, ◌+◌, Bool, true, false, ◌&&◌, not, List, [], ◌∷◌, ◌++◌, length, nat_lt, Option, Some, None}
+use Rattle.std.specs.Prelude.{is_some, if◌then◌else◌, Result, Ok, Err}
 use Rattle.std.specs.List.{list_any}
 use Rattle.svn_types.specs.Limits.{path_limit}
 use Rattle.svn_types.specs.Names.{Path}
@@ -10,7 +11,8 @@ use Rattle.svn_types.specs.Paths.{path_eq, is_below, is_root}
 use Rattle.svn_report.specs.declared.entry.ReportEntry.{ReportEntry}
 use Rattle.svn_report.specs.declared.entry.ReportEntry.TheVariants.{SetPath, LinkPath, DeletePath}
 use Rattle.svn_report.specs.declared.reporter_fault.ReporterFault.{ReporterFault}
-use Rattle.svn_report.specs.declared.reporter_fault.ReporterFault.TheVariants.{NotRootFirst, Repeated, UnderDeleted, ParentLater, TooDeep, Memory}
+use Rattle.svn_report.specs.declared.reporter_fault.ReporterFault.TheVariants.{NotRootFirst, Repeated, UnderDeleted, ParentLater}
+use Rattle.svn_report.specs.declared.reporter_fault.ReporterFault.TheVariants.{TooDeep, Memory}
 
 abbrev pub Entries : Type 0
 Entries = List (Path × ReportEntry)

@@ -1,6 +1,5 @@
-use Rattle.std.proofs.Common.{◌≡◌, ℕ, Some, None, subst, List, ap, sym, ◌∙◌, arith, ◌<◌, ◌≤◌, length, ◌+◌}
+use Rattle.std.proofs.Common.{◌≡◌, ℕ, Some, None, subst, ap, sym, ◌∙◌, arith, ◌<◌, ◌≤◌, length, ◌+◌}
 use Rattle.std.specs.Option.{is_some}
-use Rattle.svn_repo.specs.declared.store.Node.{Node}
 use Rattle.svn_repo.specs.declared.change.Change.{Change}
 use Rattle.svn_types.specs.Names.{Path}
 use Rattle.svn_repo.specs.Trees.{Tree, leaf, graft, nothing, with_prop, IsWay}

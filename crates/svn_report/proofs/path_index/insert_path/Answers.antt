@@ -7,4 +7,5 @@ use Rattle.svn_report.proofs.path_index.insert_path.Goals as goal
 
 pub returns-clause-added : goal.returns-clause-added
 returns-clause-added c = λ q. put_in c.args.paths.now c.insert.new.self c.args.path.now q
-    (c.in_ok-insert.ensures.updates.0 q ∙ ap (λ (p : Path). cond (is_at (path_cmp p) q) true (contains path_cmp c.args.paths.now q)) c.in_ok-clone.ensures.cases)
+    (c.in_ok-insert.ensures.updates.0 q ∙ ap (λ (p : Path). cond (is_at (path_cmp p) q) true (contains path_cmp c.args.paths.now q))
+    c.in_ok-clone.ensures.cases)

@@ -10,7 +10,8 @@ use Rattle.svn_report.proofs.listing.Listing.first_name_below.Goals as goal
 pub returns-in-Some : goal.returns-in-Some
 returns-in-Some c =
     subst (λ (es : Entries). IsNextName c.args.path.now es None (option_copied c.name_below.result)) c.self.view_is
-    (first_name c.self.inside.paths c.self.inside.entries.entries c.args.path.now c.in-Some.next.now (option_copied c.name_below.result) c.self.invariant c.in-Some.ensures
+    (first_name c.self.inside.paths c.self.inside.entries.entries c.args.path.now c.in-Some.next.now
+    (option_copied c.name_below.result) c.self.invariant c.in-Some.ensures
     (c.name_below.ensures ∙ ap (λ (p : Path). next_name p c.components-in-Some.result.now) c.components.ensures.names
     ∙ ap (λ (p : Path). next_name c.args.path.now p) c.components-in-Some.ensures.names))
 

@@ -8,10 +8,12 @@ use Rattle.svn_report.proofs.listing.Listing.is_under_deleted.Goals as goal
 
 pub returns-then-is_within : goal.returns-then-is_within
 returns-then-is_within c =
-    let deleted = previous_deleted c.self.inside.paths c.self.inside.entries.entries c.args.path.now c.in-Some.previous.now c.self.invariant c.in-Some.ensures in
+    let deleted = previous_deleted c.self.inside.paths c.self.inside.entries.entries c.args.path.now c.in-Some.previous.now
+    c.self.invariant c.in-Some.ensures in
     c.is_deleted.ensures
     ∙ ap (λ (es : Entries). is_deleted_at (entry_at es c.in-Some.previous.now)) (sym c.self.view_is)
-    ∙ ap (λ b. b && is_deleted_at (entry_at c.self.inside.entries.entries c.in-Some.previous.now)) (sym c.if-is_within.true ∙ c.is_within.ensures
+    ∙ ap (λ b. b && is_deleted_at (entry_at c.self.inside.entries.entries c.in-Some.previous.now))
+    (sym c.if-is_within.true ∙ c.is_within.ensures
     ∙ ap (λ (p : Path). is_within p c.components-in-Some.result.now) c.components.ensures.names
     ∙ ap (λ (p : Path). is_within c.in-Some.previous.now p) c.components-in-Some.ensures.names)
     ∙ deleted
@@ -19,9 +21,11 @@ returns-then-is_within c =
 
 pub returns-else-is_within : goal.returns-else-is_within
 returns-else-is_within c =
-    let deleted = previous_deleted c.self.inside.paths c.self.inside.entries.entries c.args.path.now c.in-Some.previous.now c.self.invariant c.in-Some.ensures in
+    let deleted = previous_deleted c.self.inside.paths c.self.inside.entries.entries c.args.path.now c.in-Some.previous.now
+    c.self.invariant c.in-Some.ensures in
     c.if-is_within.false
-    ∙ ap (λ b. b && is_deleted_at (entry_at c.self.inside.entries.entries c.in-Some.previous.now)) (sym c.if-is_within.false ∙ c.is_within.ensures
+    ∙ ap (λ b. b && is_deleted_at (entry_at c.self.inside.entries.entries c.in-Some.previous.now))
+    (sym c.if-is_within.false ∙ c.is_within.ensures
     ∙ ap (λ (p : Path). is_within p c.components-in-Some.result.now) c.components.ensures.names
     ∙ ap (λ (p : Path). is_within c.in-Some.previous.now p) c.components-in-Some.ensures.names)
     ∙ deleted

@@ -10,7 +10,8 @@ use Rattle.svn_report.proofs.listing.Listing.name_below_after.Goals as goal
 pub returns-in-Some : goal.returns-in-Some
 returns-in-Some c =
     subst (λ (es : Entries). IsNextName c.args.path.now es (Some c.args.last.now) (option_copied c.name_below.result)) c.self.view_is
-    (later_name c.self.inside.paths c.self.inside.entries.entries c.args.path.now c.in-Some.next.now c.args.last.now (option_copied c.name_below.result) c.self.invariant
+    (later_name c.self.inside.paths c.self.inside.entries.entries c.args.path.now c.in-Some.next.now c.args.last.now
+    (option_copied c.name_below.result) c.self.invariant
     (rw c.in-Some.is at c.in_ok-next.ensures)
     (c.name_below.ensures ∙ ap (λ (p : Path). next_name p c.names.result.now) c.components.ensures.names
     ∙ ap (λ (p : Path). next_name c.args.path.now p) c.names.ensures))

@@ -13,7 +13,8 @@ returns-in-Ok-clause-added c = λ q.
 pub returns-in-Err-clause-unchanged : goal.returns-in-Err-clause-unchanged
 returns-in-Err-clause-unchanged c = λ q.
     taken_again c.self.inside.paths c.insert_path.new.paths c.remove_path.new.paths c.args.path.now
-    (ap (λ (s : BTreeSet Path). contains path_cmp s c.args.path.now) c.self.view_is ∙ c.requires) c.in_ok-insert_path.ensures.added c.remove_path.ensures q
+    (ap (λ (s : BTreeSet Path). contains path_cmp s c.args.path.now) c.self.view_is ∙ c.requires)
+    c.in_ok-insert_path.ensures.added c.remove_path.ensures q
     ∙ ap (λ (s : BTreeSet Path). contains path_cmp s q) c.self.view_is
 
 pub invariant_of-self-in-Ok : goal.invariant_of-self-in-Ok
@@ -28,4 +29,5 @@ invariant_of-self-in-Err c = λ q.
     c.in-Err.ensures.unchanged q
     ∙ c.self.invariant q
     ∙ sym (taken_again c.self.inside.paths c.insert_path.new.paths c.remove_path.new.paths c.args.path.now
-    (ap (λ (s : BTreeSet Path). contains path_cmp s c.args.path.now) c.self.view_is ∙ c.requires) c.in_ok-insert_path.ensures.added c.remove_path.ensures q)
+    (ap (λ (s : BTreeSet Path). contains path_cmp s c.args.path.now) c.self.view_is ∙ c.requires)
+    c.in_ok-insert_path.ensures.added c.remove_path.ensures q)

@@ -14,10 +14,12 @@ returns-clause-in_turn c =
     let es = c.self.inside.listing in
     subst
     (λ (r : ReportView). IfOk c.next_name_below.result
-    (λ (found : Option (Bor (List ℕ))). names_after after (reported_names path r.entries) ≡ names_from (option_copied found) (reported_names path r.entries)))
+    (λ (found : Option (Bor (List ℕ))). names_after after (reported_names path r.entries) ≡ names_from (option_copied found)
+    (reported_names path r.entries)))
     c.self.view_is
     (IfOk-weaker c.next_name_below.result
     (λ (found : Option (Bor (List ℕ))). IsNextName path es after (option_copied found))
-    (λ (found : Option (Bor (List ℕ))). names_after after (reported_names path es) ≡ names_from (option_copied found) (reported_names path es))
+    (λ (found : Option (Bor (List ℕ))). names_after after (reported_names path es) ≡ names_from (option_copied found)
+    (reported_names path es))
     (λ found next. next_listed path es after (option_copied found) next)
     c.next_name_below.ensures)
