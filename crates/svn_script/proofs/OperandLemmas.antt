@@ -7,7 +7,8 @@ two_words_of v [] = refl
 two_words_of v (w ∷ []) = refl
 two_words_of v (w ∷ x ∷ words) = refl
 
-pub three_words_of : (u : List ℕ) (words : List (List ℕ)) → three_words (u ∷ words) ≡ option_map (λ (w : List ℕ × List ℕ). (u, w.0, w.1)) (two_words words)
+pub three_words_of : (u : List ℕ) (words : List (List ℕ))
+    → three_words (u ∷ words) ≡ option_map (λ (w : List ℕ × List ℕ). (u, w.0, w.1)) (two_words words)
 three_words_of u [] = refl
 three_words_of u (v ∷ []) = refl
 three_words_of u (v ∷ w ∷ []) = refl

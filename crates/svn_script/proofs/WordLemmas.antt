@@ -1,5 +1,6 @@
 -- What the definitions of words give, case by case.
-use Rattle.std.proofs.Common.{◌≡◌, ℕ, ◌+◌, ◌-◌, ◌*◌, ◌^◌, ◌<◌, ◌≤◌, Bool, true, false, List, [], ◌∷◌, ◌++◌, length, refl, ap, sym, ◌∙◌, arith, Some, None, Option, option_map, is_some, nat_eq, nat_lt, append_assoc, bytes_eq, if◌then◌else◌}
+use Rattle.std.proofs.Common.{◌≡◌, ℕ, ◌+◌, ◌-◌, ◌*◌, ◌^◌, ◌<◌, ◌≤◌, Bool, true, false, List, [], ◌∷◌, length, refl, ap, sym, ◌∙◌, arith}
+use Rattle.std.proofs.Common.{Some, None, is_some, nat_eq, nat_lt, bytes_eq, if◌then◌else◌}
 use Rattle.std.proofs.lemmas.Bool.{and_parts}
 use Rattle.std.proofs.lemmas.Bool.Decides.{nat_tests}
 use Rattle.std.proofs.lemmas.List.Sums.{AllPass-from_list_all}
@@ -10,7 +11,7 @@ use Rattle.std.specs.Str.{IsUtf8, IsAscii, is_utf8}
 use Rattle.svn_types.specs.declared.fault.PathFault.TheVariants.{EmptyComponent, BadCharacter, NameTooLong}
 use Rattle.svn_types.specs.Names.{path_of_text, name_limit, starts_prop_name, continues_prop_name, is_prop_text}
 use Rattle.svn_script.proofs.Splits.{not_less, test_none}
-use Rattle.svn_script.specs.Reading.{decimal_from, fitting, unescaped, onto, hex_byte, path_of_bytes, path_of_names, prop_name_of_bytes}
+use Rattle.svn_script.specs.Reading.{decimal_from, fitting, path_of_bytes, path_of_names, prop_name_of_bytes}
 
 -- more digits never make a number smaller
 pub decimal_from_grows : (n : ℕ) (bs : List ℕ) → n ≤ decimal_from n bs
@@ -29,27 +30,8 @@ too_large n bs h =
     unfitting : (m : ℕ) → 2 ^ 64 ≤ m → fitting m ≡ None
     unfitting m large = grind (arith, nat_tests)
 
--- a byte but for the percent sign stands for itself
-pub unescaped_plain : (b : ℕ) (bs : List ℕ) → nat_eq b 37 ≡ false → unescaped (b ∷ bs) ≡ onto (Some b) (unescaped bs)
-unescaped_plain b [] e = rw e refl
-unescaped_plain b (c ∷ []) e = rw e refl
-unescaped_plain b (c ∷ d ∷ bs) e = rw e refl
-
-pub unescaped_none : (b : ℕ) → nat_eq b 37 ≡ true → unescaped (b ∷ []) ≡ None
-unescaped_none b e = rw e refl
-
-pub unescaped_short : (b c : ℕ) → nat_eq b 37 ≡ true → unescaped (b ∷ c ∷ []) ≡ None
-unescaped_short b c e = rw e refl
-
-pub unescaped_escape : (b c d : ℕ) (bs : List ℕ) → nat_eq b 37 ≡ true → unescaped (b ∷ c ∷ d ∷ bs) ≡ onto (hex_byte c d) (unescaped bs)
-unescaped_escape b c d bs e = rw e refl
-
--- bytes before the rest of a word, one more of them
-pub onto_end : (front : List ℕ) (b : ℕ) (rest : Option (List ℕ)) → option_map (λ (bs : List ℕ). (front ++ b ∷ []) ++ bs) rest ≡ option_map (λ (bs : List ℕ). front ++ bs) (onto (Some b) rest)
-onto_end front b None = refl
-onto_end front b (Some bs) = simp append_assoc
-
-pub path_of_bytes_text : (bytes : List ℕ) → bytes_eq bytes (46 ∷ []) ≡ false → IsUtf8 bytes → path_of_bytes bytes ≡ path_of_names (path_of_text bytes)
+pub path_of_bytes_text : (bytes : List ℕ) → bytes_eq bytes (46 ∷ []) ≡ false → IsUtf8 bytes
+    → path_of_bytes bytes ≡ path_of_names (path_of_text bytes)
 path_of_bytes_text bytes e text = rw (e, is_utf8-from_IsUtf8 bytes text) refl
 
 not_true : (b : Bool) → ¬ (b ≡ true) → b ≡ false
@@ -63,8 +45,10 @@ not_fitting : (n : ℕ) → None ≡ fitting n → 2 ^ 64 ≤ n
 not_fitting n h = not_less n (2 ^ 64) (test_none (nat_lt n (2 ^ 64)) n (sym h))
 
 -- where one more digit is too many, the whole number is too large
-pub no_digit_fits : (v b : ℕ) (after : List ℕ) (all : ℕ) → None ≡ fitting (v * 10 + (b - 48)) → decimal_from v (b ∷ after) ≡ all → None ≡ fitting all
-no_digit_fits v b after all h e = sym (too_large (v * 10 + (b - 48)) after (not_fitting (v * 10 + (b - 48)) h)) ∙ ap fitting e
+pub no_digit_fits : (v b : ℕ) (after : List ℕ) (all : ℕ) → None ≡ fitting (v * 10 + (b - 48)) → decimal_from v (b ∷ after) ≡ all
+    → None ≡ fitting all
+no_digit_fits v b after all h e =
+    sym (too_large (v * 10 + (b - 48)) after (not_fitting (v * 10 + (b - 48)) h)) ∙ ap fitting e
 
 -- ---- names of properties
 
@@ -85,7 +69,8 @@ prop_text_ascii : (bs : List ℕ) → is_prop_text bs ≡ true → IsAscii bs
 prop_text_ascii bs e =
     IsAscii-from_all bs (λ k d h. continues_ascii _ (AllPass-from_list_all continues_prop_name bs (prop_text_all bs e) k d h))
 
-refused_anyway : (bs : List ℕ) (a b : Bool) → (if is_some (if a then Some EmptyComponent else if b then Some NameTooLong else Some BadCharacter) then None else Some bs) ≡ None
+refused_anyway : (bs : List ℕ) (a b : Bool)
+    → (if is_some (if a then Some EmptyComponent else if b then Some NameTooLong else Some BadCharacter) then None else Some bs) ≡ None
 refused_anyway bs true b = refl
 refused_anyway bs false true = refl
 refused_anyway bs false false = refl
@@ -95,4 +80,5 @@ no_prop_text bs e = rw e (refused_anyway bs (nat_eq (length bs) 0) (nat_lt name_
 
 -- the name of a property is ASCII, so other bytes than text are none
 pub prop_name_of_other : (bytes : List ℕ) → ¬ (IsUtf8 bytes) → prop_name_of_bytes bytes ≡ None
-prop_name_of_other bytes none = no_prop_text bytes (not_true (is_prop_text bytes) (λ e. none (IsUtf8-from_ascii bytes (prop_text_ascii bytes e))))
+prop_name_of_other bytes none =
+    no_prop_text bytes (not_true (is_prop_text bytes) (λ e. none (IsUtf8-from_ascii bytes (prop_text_ascii bytes e))))

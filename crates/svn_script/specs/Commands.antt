@@ -3,9 +3,15 @@
 use Rattle.std.specs.Prelude.{ℕ, Bool, false, List, [], ◌∷◌, nat_eq, Option, Some, None, option_map, option_and_then, if◌then◌else◌}
 use Rattle.svn_repo.specs.declared.change.Change.TheVariants.{MakeDir, PutFile, SetProp, Remove, CopyFrom}
 use Rattle.svn_script.specs.declared.verb.Verb.{Verb}
-use Rattle.svn_script.specs.declared.verb.Verb.TheVariants.{Mkdir as MkdirVerb, Put as PutVerb, Prop as PropVerb, Unprop as UnpropVerb, Remove as RemoveVerb, Copy as CopyVerb, Commit as CommitVerb, Checkout as CheckoutVerb, Place as PlaceVerb, Switch as SwitchVerb, Forget as ForgetVerb, Report as ReportVerb, Drive as DriveVerb, Update as UpdateVerb, SwitchTo as SwitchToVerb, Show as ShowVerb}
+use Rattle.svn_script.specs.declared.verb.Verb.TheVariants.{Mkdir as MkdirVerb, Put as PutVerb, Prop as PropVerb}
+use Rattle.svn_script.specs.declared.verb.Verb.TheVariants.{Unprop as UnpropVerb, Remove as RemoveVerb, Copy as CopyVerb}
+use Rattle.svn_script.specs.declared.verb.Verb.TheVariants.{Commit as CommitVerb, Checkout as CheckoutVerb, Place as PlaceVerb}
+use Rattle.svn_script.specs.declared.verb.Verb.TheVariants.{Switch as SwitchVerb, Forget as ForgetVerb, Report as ReportVerb}
+use Rattle.svn_script.specs.declared.verb.Verb.TheVariants.{Drive as DriveVerb, Update as UpdateVerb, SwitchTo as SwitchToVerb}
+use Rattle.svn_script.specs.declared.verb.Verb.TheVariants.{Show as ShowVerb}
 use Rattle.svn_script.specs.declared.command.Command.{Command}
-use Rattle.svn_script.specs.declared.command.Command.TheVariants.{Nothing, Change, Commit, Checkout, Place, Switch, Forget, Report, Drive, Update, SwitchTo, Show}
+use Rattle.svn_script.specs.declared.command.Command.TheVariants.{Nothing, Change, Commit, Checkout, Place, Switch, Forget}
+use Rattle.svn_script.specs.declared.command.Command.TheVariants.{Report, Drive, Update, SwitchTo, Show}
 use Rattle.svn_script.specs.Reading.{words_of, number_of, bytes_of, path_of, prop_name_of}
 use Rattle.svn_script.specs.Operands.{only_path, two_words, three_words, path_or_root, late_of, ending_of}
 use Rattle.svn_script.specs.Verbs.{verb_of}

@@ -3,7 +3,8 @@
 --     only_path, path_or_root      a path, where there is just one word, or none
 --     late_of words      whether the last word `late` is there, and no other
 --     ending_of words      a cancel number and the last word `late`, where they are there
-use Rattle.std.specs.Prelude.{ℕ, Bool, true, false, ◌&&◌, List, [], ◌∷◌, bytes_eq, codes, Option, Some, None, option_map, option_and_then, if◌then◌else◌}
+use Rattle.std.specs.Prelude.{ℕ, Bool, true, false, ◌&&◌, List, [], ◌∷◌, bytes_eq, codes}
+use Rattle.std.specs.Prelude.{Option, Some, None, option_map, option_and_then, if◌then◌else◌}
 use Rattle.svn_types.specs.Names.{Path}
 use Rattle.svn_script.specs.Reading.{number_of, path_of}
 

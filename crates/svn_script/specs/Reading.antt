@@ -2,7 +2,8 @@
 --     lines_of script      its lines
 --     words_of line      the words of a line, those that stand between spaces
 --     number_of word, bytes_of word, path_of word, prop_name_of word      what a word stands for, or nothing where it has not this form
-use Rattle.std.specs.Prelude.{ℕ, ◌+◌, ◌-◌, ◌*◌, ◌^◌, Bool, ◌&&◌, not, List, [], ◌∷◌, length, nat_lt, nat_le, nat_eq, bytes_eq, filter, Option, Some, None, option_map, option_and_then, is_some, if◌then◌else◌}
+use Rattle.std.specs.Prelude.{ℕ, ◌+◌, ◌-◌, ◌*◌, ◌^◌, Bool, ◌&&◌, not, List, [], ◌∷◌, length, nat_lt, nat_le, nat_eq, bytes_eq, filter}
+use Rattle.std.specs.Prelude.{Option, Some, None, option_map, option_and_then, is_some, if◌then◌else◌}
 use Rattle.std.specs.List.{slice_split, list_all}
 use Rattle.std.specs.Str.{is_utf8}
 use Rattle.svn_types.specs.Names.{Path, is_between, path_of_text}

@@ -1,7 +1,8 @@
 -- The names of the commands.
 use Rattle.std.specs.Prelude.{ℕ, List, bytes_eq, codes, Option, Some, None, if◌then◌else◌}
 use Rattle.svn_script.specs.declared.verb.Verb.{Verb}
-use Rattle.svn_script.specs.declared.verb.Verb.TheVariants.{Mkdir, Put, Prop, Unprop, Remove, Copy, Commit, Checkout, Place, Switch, Forget, Report, Drive, Update, SwitchTo, Show}
+use Rattle.svn_script.specs.declared.verb.Verb.TheVariants.{Mkdir, Put, Prop, Unprop, Remove, Copy, Commit, Checkout}
+use Rattle.svn_script.specs.declared.verb.Verb.TheVariants.{Place, Switch, Forget, Report, Drive, Update, SwitchTo, Show}
 
 abbrev pub verb_of : List ℕ → Option Verb
 verb_of name =

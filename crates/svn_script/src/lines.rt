@@ -1,5 +1,5 @@
 //! A script as bytes, and where its lines and words end.
-ghost use Rattle.std.specs.Prelude.{◌≡◌, ℕ, ◌<◌, ◌≤◌, ◌≢◌, ◌∷◌, [], length, nat_eq, position, Some, IfSome, IfOk, IfErr, MatchOption};
+ghost use Rattle.std.specs.Prelude.{◌≡◌, ℕ, ◌+◌, ◌<◌, ◌≤◌, ◌≢◌, ◌∷◌, [], length, take, drop, nat_eq, position, Some, None, IfSome, IfOk, IfErr, MatchOption};
 ghost use Rattle.std.specs.List.{slice_split};
 ghost use Rattle.std.specs.Io.KnownBytes.{IsAtEnd};
 ghost use Rattle.svn_script.specs.Reading.{without_return, words_of};
@@ -50,6 +50,7 @@ fn find_byte(text: &[u8], byte: u8) -> Option<usize>
 /// The bytes before the first separator and those behind it, if there is one. It takes no memory.
 pub fn split_once(text: &[u8], separator: u8) -> Option<(&[u8], &[u8])>
     ensures parts { let p = (λ (b : ℕ). nat_eq b separator) in MatchOption result (slice_split p text.now ≡ text.now ∷ []) (λ r. slice_split p text.now ≡ r.0.now ∷ slice_split p r.1.now) }
+    ensures place { let at = position (λ b. nat_eq b separator) text.now in MatchOption result (at ≡ None) (λ r. (i : ℕ) × (at ≡ Some i) × (r.0.now ≡ take i text.now) × (r.1.now ≡ drop (i + 1) text.now)) }
     ensures shorter { IfSome result (λ r. length r.1.now < length text.now) }
 {
     match find_byte(text, separator) {

@@ -6,6 +6,7 @@ ghost use Rattle.svn_script.specs.declared.words.LineFault.TheVariants.{Memory};
 ghost use Rattle.svn_script.specs.Reading.{is_digit, fitting, decimal_value, number_of, hex_value, hex_byte, onto, unescaped, bytes_of, path_of, path_of_bytes, path_of_names, prop_name_of, prop_name_of_bytes};
 ghost use Rattle.svn_script.specs.Gives.{Gives};
 
+use crate::lines::split_once;
 use std::alloc::{AllocError, Global};
 use svn_types::{PathFault, PropName, RelPath, Text};
 
@@ -97,15 +98,12 @@ fn read_hex(high: u8, low: u8) -> Option<u8>
     }
 }
 
-// The byte that a word begins with, escaped or as it is, and what is behind it: a word of a first byte and others.
-fn next_byte(first: u8, others: &[u8]) -> Option<(u8, &[u8])>
-    ensures byte { MatchOption result (unescaped (first ∷ others.now) ≡ None) (λ r. unescaped (first ∷ others.now) ≡ onto (Some r.0) (unescaped r.1.now)) }
-    ensures shorter { IfSome result (λ r. length r.1.now ≤ length others.now) }
+// The byte of an escape whose percent sign was read, and what is behind it.
+fn read_escape(behind: &[u8]) -> Option<(u8, &[u8])>
+    ensures byte { MatchOption result (unescaped (37 ∷ behind.now) ≡ None) (λ r. unescaped (37 ∷ behind.now) ≡ onto (Some r.0) (unescaped r.1.now)) }
+    ensures shorter { IfSome result (λ r. length r.1.now ≤ length behind.now) }
 {
-    if first != b'%' {
-        return Some((first, others));
-    }
-    match others {
+    match behind {
         [high, low, rest @ ..] => match read_hex(*high, *low) {
             Some(byte) => Some((byte, rest)),
             None => None,
@@ -114,38 +112,54 @@ fn next_byte(first: u8, others: &[u8]) -> Option<(u8, &[u8])>
     }
 }
 
-fn push_byte(bytes: &mut Vec<u8>, byte: u8) -> Result<(), AllocError>
-    ensures { OnOk result (bytes.new.items ≡ bytes.old.items ++ byte ∷ []) }
+// A run of bytes that stand for themselves, and the byte of the escape behind it.
+fn push_run(bytes: &mut Vec<u8>, run: &[u8], byte: u8) -> Result<(), AllocError>
+    ensures { OnOk result (bytes.new.items ≡ bytes.old.items ++ (run.now ++ byte ∷ [])) }
 {
+    bytes.extend_from_slice(run)?;
     bytes.push(byte)?;
     Ok(())
 }
 
 // The bytes of a word with escapes.
-fn unescape(alloc: Global, word: &[u8]) -> Result<Text, LineFault>
-    ensures { Gives (λ t. t) result (unescaped word.now) }
+fn unescape(alloc: Global, word: &[u8]) -> Result<Vec<u8>, LineFault>
+    ensures { Gives (λ v. v.items) result (unescaped word.now) }
 {
-    let mut bytes = Vec::new(alloc);
+    let mut bytes = Vec::with_capacity(alloc, word.len())?;
     let mut rest = word;
-    'bytes: while let Some((first, others)) = rest.split_first() {
-        let Some((byte, after)) = next_byte(*first, others) else {
+    'escapes: while let Some((plain, behind)) = split_once(rest, b'%') {
+        let Some((byte, after)) = read_escape(behind) else {
             return Err(LineFault::Bad);
         };
-        push_byte(&mut bytes, byte)?;
+        push_run(&mut bytes, plain, byte)?;
         rest = after;
     }
-    Ok(Text::new(bytes))
+    bytes.extend_from_slice(rest)?;
+    Ok(bytes)
+}
+
+// The bytes of a word without escapes, which stand in the word itself.
+fn plain_bytes(word: &[u8]) -> Option<&[u8]>
+    ensures { MatchOption result (bytes_of word.now ≡ unescaped word.now) (λ bytes. bytes_of word.now ≡ Some bytes.now) }
+{
+    if word == b"\"\"".as_slice() {
+        return Some(b"".as_slice());
+    }
+    match split_once(word, b'%') {
+        Some(_) => None,
+        None => Some(word),
+    }
 }
 
 /// Reads the bytes that a word stands for.
 pub(crate) fn read_bytes(alloc: Global, word: &[u8]) -> Result<Text, LineFault>
     ensures { Gives (λ t. t) result (bytes_of word.now) }
 {
-    if word == b"\"\"".as_slice() {
-        Ok(Text::new(Vec::new(alloc)))
-    } else {
-        unescape(alloc, word)
-    }
+    let bytes = match plain_bytes(word) {
+        Some(bytes) => Vec::from_slice(alloc, bytes)?,
+        None => unescape(alloc, word)?,
+    };
+    Ok(Text::new(bytes))
 }
 
 // The path whose names a text spells.
@@ -176,8 +190,10 @@ fn parse_bytes(alloc: Global, bytes: &[u8]) -> Result<RelPath, LineFault>
 pub(crate) fn read_path(alloc: Global, word: &[u8]) -> Result<RelPath, LineFault>
     ensures { Gives (λ p. p) result (path_of word.now) }
 {
-    let bytes = read_bytes(alloc, word)?;
-    parse_bytes(alloc, bytes.as_slice())
+    match plain_bytes(word) {
+        Some(bytes) => parse_bytes(alloc, bytes),
+        None => parse_bytes(alloc, &unescape(alloc, word)?),
+    }
 }
 
 // The property name that a text is.
@@ -205,6 +221,8 @@ fn parse_prop_name_bytes(alloc: Global, bytes: &[u8]) -> Result<PropName, LineFa
 pub(crate) fn read_prop_name(alloc: Global, word: &[u8]) -> Result<PropName, LineFault>
     ensures { Gives (λ n. n) result (prop_name_of word.now) }
 {
-    let bytes = read_bytes(alloc, word)?;
-    parse_prop_name_bytes(alloc, bytes.as_slice())
+    match plain_bytes(word) {
+        Some(bytes) => parse_prop_name_bytes(alloc, bytes),
+        None => parse_prop_name_bytes(alloc, &unescape(alloc, word)?),
+    }
 }

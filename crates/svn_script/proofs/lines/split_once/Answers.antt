@@ -1,4 +1,4 @@
-use Rattle.std.proofs.Common.{ℕ, ◌+◌, ◌∷◌, Bool, List, nat_eq, take, sym, ap, ◌∙◌}
+use Rattle.std.proofs.Common.{ℕ, ◌+◌, ◌∷◌, Bool, List, nat_eq, take, refl, sym, ap, ◌∙◌}
 use Rattle.std.specs.List.{slice_split}
 use Rattle.std.proofs.lemmas.List.{take_rest}
 use Rattle.svn_script.proofs.Splits.{split_at_position, split_nowhere}
@@ -12,3 +12,7 @@ returns-in-Some-clause-parts c =
 
 pub returns-in-None-clause-parts : goal.returns-in-None-clause-parts
 returns-in-None-clause-parts c = split_nowhere (λ b. nat_eq b c.args.separator) c.args.text.now (sym c.in-None.ensures.place)
+
+pub returns-in-Some-clause-place : goal.returns-in-Some-clause-place
+returns-in-Some-clause-place c =
+    (c.in-Some.end, sym c.in-Some.ensures.place, refl, take_rest c.args.text.now (c.in-Some.end + 1))

@@ -1,16 +1,34 @@
-use Rattle.std.proofs.Common.{◌≡◌, ℕ, List, ◌++◌, ◌∷◌, [], option_map, sym, ap, ◌∙◌}
+use Rattle.std.proofs.Common.{◌≡◌, ℕ, List, ◌++◌, ◌∷◌, [], Some, option_map, sym, ap, ◌∙◌}
 use Rattle.svn_script.specs.Reading.{unescaped}
-use Rattle.svn_script.proofs.WordLemmas.{onto_end}
+use Rattle.svn_script.proofs.Escapes.{unescaped_at, unescaped_whole, one_more_escape}
 use Rattle.svn_script.proofs.words.unescape.Goals as goal
 
-pub bytes-preserved : goal.bytes-preserved
-bytes-preserved c =
-    let front = c.bytes.bytes.items in
-    let byte = c.in-Some-next_byte.byte in
-    let after = c.in-Some-next_byte.after.now in
-    let pushed : c.push_byte.new.bytes.items ≡ front ++ byte ∷ [] = c.in_ok-push_byte.ensures in
+pub escapes-preserved : goal.escapes-preserved
+escapes-preserved c =
+    let front = c.escapes.bytes.items in
+    let run = c.in-Some.plain.now in
+    let byte = c.in-Some-read_escape.byte in
+    let after = c.in-Some-read_escape.after.now in
+    let pushed : c.push_run.new.bytes.items ≡ front ++ (run ++ byte ∷ []) = c.in_ok-push_run.ensures in
     ap (λ (bs : List ℕ). option_map (λ (cs : List ℕ). bs ++ cs) (unescaped after)) pushed
-    ∙ onto_end front byte (unescaped after)
-    ∙ ap (option_map (λ (cs : List ℕ). front ++ cs)) (sym c.in-Some-next_byte.ensures.byte)
-    ∙ ap (λ (bs : List ℕ). option_map (λ (cs : List ℕ). front ++ cs) (unescaped bs)) (sym c.in-Some.ensures.cases.0)
-    ∙ c.bytes.invariant
+    ∙ one_more_escape front run byte (unescaped after)
+    ∙ ap (λ r. option_map (λ (cs : List ℕ). front ++ cs) (option_map (λ (cs : List ℕ). run ++ cs) r))
+    (sym c.in-Some-read_escape.ensures.byte)
+    ∙ ap (option_map (λ (cs : List ℕ). front ++ cs))
+    (sym (unescaped_at c.escapes.rest.now run c.in-Some.behind.now c.in-Some.ensures.place))
+    ∙ c.escapes.invariant
+
+pub returns-in_default-read_escape : goal.returns-in_default-read_escape
+returns-in_default-read_escape c =
+    let run = c.in-Some.plain.now in
+    sym c.escapes.invariant
+    ∙ ap (option_map (λ (cs : List ℕ). c.escapes.bytes.items ++ cs))
+    (unescaped_at c.escapes.rest.now run c.in-Some.behind.now c.in-Some.ensures.place
+    ∙ ap (option_map (λ (cs : List ℕ). run ++ cs)) c.in_default-read_escape.ensures.byte)
+
+pub returns : goal.returns
+returns c =
+    sym c.escapes.invariant
+    ∙ ap (option_map (λ (cs : List ℕ). c.escapes.bytes.items ++ cs))
+    (unescaped_whole c.escapes.rest.now c.in_default.ensures.place)
+    ∙ ap Some (sym c.in_ok-extend_from_slice.ensures.items)
