@@ -11,18 +11,8 @@ use Rattle.svn_types.specs.Names.{Path, name_cmp, path_cmp}
 use Rattle.svn_types.specs.Paths.{path_eq, is_within, child}
 use Rattle.svn_report.specs.ReportNames.{next_name}
 use Rattle.svn_report.specs.ReportOrder.{end_cmp}
+use Rattle.svn_types.proofs.NameLemmas.{Name, bytes_eq-symm}
 use Rattle.svn_types.proofs.PathOrder.{both, same_name, bytes_eq-same, name_cmp-same}
-
-abbrev pub Name : Type 0
-Name = List ℕ
-
-pub bytes_eq-flip : (m n : Name) → bytes_eq m n ≡ bytes_eq n m
-bytes_eq-flip m n = by (bytes_eq m n) refl (bytes_eq n m) refl
-  where
-    by : (a : Bool) → bytes_eq m n ≡ a → (b : Bool) → bytes_eq n m ≡ b → a ≡ b
-    by true e b k = sym (sym k ∙ bytes_eq-same n m (sym (same_name m n e)))
-    by false e true k = absurd (true≢false (sym (bytes_eq-same m n (sym (same_name n m k))) ∙ e))
-    by false e false k = refl
 
 -- ---- the order of the ends by that of the paths
 
@@ -30,7 +20,7 @@ pub end_nested : (p q : Path) → (is_within p q || is_within q p) ≡ true → 
 end_nested [] [] h = refl
 end_nested [] (n ∷ q) h = refl
 end_nested (m ∷ p) [] h = refl
-end_nested (m ∷ p) (n ∷ q) h = by (bytes_eq m n) refl (bytes_eq n m) (sym (bytes_eq-flip m n)) h (end_nested p q)
+end_nested (m ∷ p) (n ∷ q) h = by (bytes_eq m n) refl (bytes_eq n m) (sym (bytes_eq-symm m n)) h (end_nested p q)
   where
     by : (a : Bool) → bytes_eq m n ≡ a → (b : Bool) → b ≡ bytes_eq m n → ((a && is_within p q) || (b && is_within q p)) ≡ true
         → ((is_within p q || is_within q p) ≡ true → ordering_reverse (path_cmp p q) ≡ end_cmp p q)
@@ -46,7 +36,7 @@ pub end_apart : (p q : Path) → (is_within p q || is_within q p) ≡ false → 
 end_apart [] [] h = absurd (true≢false h)
 end_apart [] (n ∷ q) h = absurd (true≢false h)
 end_apart (m ∷ p) [] h = absurd (true≢false h)
-end_apart (m ∷ p) (n ∷ q) h = by (bytes_eq m n) refl (bytes_eq n m) (sym (bytes_eq-flip m n)) h (end_apart p q)
+end_apart (m ∷ p) (n ∷ q) h = by (bytes_eq m n) refl (bytes_eq n m) (sym (bytes_eq-symm m n)) h (end_apart p q)
   where
     by : (a : Bool) → bytes_eq m n ≡ a → (b : Bool) → b ≡ bytes_eq m n → ((a && is_within p q) || (b && is_within q p)) ≡ false
         → ((is_within p q || is_within q p) ≡ false → path_cmp p q ≡ end_cmp p q)

@@ -30,23 +30,18 @@ use Rattle.std.specs.Prelude.{nat_eq}
 use Rattle.std.specs.Cmp.Lexicographic.{pointwise}
 use Rattle.indexmap.specs.IndexMap.{insert_entry}
 use Rattle.svn_report.specs.ReportOrder.{IsKept, IsNext, IsNextBy, IsPrevious, end_cmp}
-use Rattle.svn_types.proofs.PathOrder.{same_path, path_eq-same, below_after, within_between}
+use Rattle.svn_types.proofs.PathLemmas.{path_eq-symm, below_parts}
+use Rattle.svn_types.proofs.PathOrder.{same_path, path_eq-same}
+use Rattle.svn_types.proofs.PathsInOrder.{at_path, before_apart, earlier, not_both, below_after, within_between}
+use Rattle.svn_editor.proofs.OneMore.{any_found}
 use Rattle.svn_report.proofs.EndOrder.{end_tied}
 use Rattle.svn_types.proofs.Places.{some_none, passed, get_cases}
-
-path_eq-flip : (p q : Path) → path_eq p q ≡ path_eq q p
-path_eq-flip p q = by (path_eq p q) refl (path_eq q p) refl
-  where
-    by : (a : Bool) → path_eq p q ≡ a → (b : Bool) → path_eq q p ≡ b → a ≡ b
-    by true e b k = sym (sym k ∙ path_eq-same q p (sym (same_path p q e)))
-    by false e true k = absurd (true≢false (sym (path_eq-same p q (sym (same_path q p k))) ∙ e))
-    by false e false k = refl
 
 -- a look-up by the path is the entry there
 pub lookup_entry : (es : Entries) (p : Path) → lookup (path_eq p) es ≡ entry_at es p
 lookup_entry [] p = refl
 lookup_entry (e ∷ es) p =
-    ap (λ b. cond b (Some e.1) (lookup (path_eq p) es)) (path_eq-flip p e.0)
+    ap (λ b. cond b (Some e.1) (lookup (path_eq p) es)) (path_eq-symm p e.0)
     ∙ ap (λ o. cond (path_eq e.0 p) (Some e.1) o) (lookup_entry es p)
 
 -- an entry somewhere has an entry at its path, and the other way round
@@ -105,48 +100,12 @@ previous_is paths p r rest (Some x) range step =
 
 -- ---- what stands beneath a path
 
-below_parts : (p q : Path) → is_below p q ≡ true → (is_within p q ≡ true) × (path_eq p q ≡ false)
-below_parts p q h = by (is_within p q) (path_eq p q) h
-  where
-    by : (a b : Bool) → (a && not b) ≡ true → (a ≡ true) × (b ≡ false)
-    by true false h = (refl, refl)
-    by true true h = absurd (true≢false (sym h))
-    by false b h = absurd (true≢false (sym h))
-
-apart : (p q : Path) → path_cmp p q ≡ Less → path_eq p q ≡ false
-apart p q l = by (path_eq p q) refl
-  where
-    by : (b : Bool) → path_eq p q ≡ b → b ≡ false
-    by true e = absurd (not_less (ap (path_cmp p) (same_path p q e) ∙ l))
-      where
-        not_less : path_cmp p p ≡ Less → ⊥
-        not_less h = absurd (clash (sym (tied_itself (lists_total nat_list_cmp_total) p) ∙ h))
-          where
-            clash : Equal ≡ Less → ⊥
-            clash k = cc
-    by false e = refl
-
--- of two paths one is earlier, and not both
-earlier : (p q : Path) → path_eq p q ≡ false → (path_cmp q p ≡ Less → ⊥) → path_cmp p q ≡ Less
-earlier p q e h = by (path_cmp p q) refl
-  where
-    by : (o : Ordering) → path_cmp p q ≡ o → o ≡ Less
-    by Less k = refl
-    by Equal k = absurd (true≢false (sym (lists_ties (slice_cmp nat_cmp) texts_ties p q ∙ ap is_eq k) ∙ e))
-    by Greater k = absurd (h ((lists_total nat_list_cmp_total).antisymm q p ∙ ap ordering_reverse k))
-
-asymmetric : (p q : Path) → path_cmp p q ≡ Less → path_cmp q p ≡ Less → ⊥
-asymmetric p q h k = clash (sym ((lists_total nat_list_cmp_total).antisymm q p ∙ ap ordering_reverse h) ∙ k)
-  where
-    clash : Greater ≡ Less → ⊥
-    clash e = cc
-
 pub next_below : (paths : BTreeSet Path) (es : Entries) (p n : Path) → IsKept paths es → IsNext paths p (Some n)
     → is_within p n ≡ has_entry_below es p
 next_below paths es p n kept next = by (is_within p n) refl (has_entry_below es p) refl
   where
     by : (a : Bool) → is_within p n ≡ a → (b : Bool) → has_entry_below es p ≡ b → a ≡ b
-    by true w b h = sym (sym h ∙ at_some (is_below p) es n (ap (λ x. x && not (path_eq p n)) w ∙ ap not (apart p n next.0))
+    by true w b h = sym (sym h ∙ at_some (is_below p) es n (ap (λ x. x && not (path_eq p n)) w ∙ ap not (before_apart p n next.0))
         (sym (kept.has n) ∙ next.1))
     by false w true h =
         let s = somewhere (is_below p) es h in
@@ -167,16 +126,6 @@ none_below paths es p kept next = by (has_entry_below es p) refl
 
 -- ---- what is deleted above a path
 
-found_at : {X : Type 0} (f : X → Bool) (xs : List X) → list_any f xs ≡ true → (i : ℕ) × (x : X) × (slice_get xs i ≡ Some x) × (f x ≡ true)
-found_at f [] h = absurd (true≢false (sym h))
-found_at {X} f (x ∷ xs) h = by (f x) refl h (found_at f xs)
-  where
-    by : (b : Bool) → f x ≡ b → (b || list_any f xs) ≡ true
-        → (list_any f xs ≡ true → (i : ℕ) × (y : X) × (slice_get xs i ≡ Some y) × (f y ≡ true))
-        → (i : ℕ) × (y : X) × (slice_get (x ∷ xs) i ≡ Some y) × (f y ≡ true)
-    by true k h ih = (0, x, refl, k)
-    by false k h ih = let r = ih h in (suc r.0, r.1, r.2, r.3)
-
 deleted_parts : (p q : Path) (e : ReportEntry) → (is_delete e && is_below q p) ≡ true → (is_delete e ≡ true) × (is_below q p ≡ true)
 deleted_parts p q e h = by (is_delete e) (is_below q p) h
   where
@@ -187,7 +136,7 @@ deleted_parts p q e h = by (is_delete e) (is_below q p) h
 deleted_somewhere : (paths : BTreeSet Path) (es : Entries) (p : Path) → IsKept paths es → list_any (is_deleted_above p) es ≡ true
     → (q : Path) × (is_below q p ≡ true) × (is_deleted_at (entry_at es q) ≡ true)
 deleted_somewhere paths es p kept h =
-    let r = found_at (is_deleted_above p) es h in
+    let r = any_found (is_deleted_above p) es h in
     let parts = deleted_parts p r.1.0 r.1.1 r.3 in
     (r.1.0, parts.1, ap is_deleted_at (kept.lawful.each_once r.0 r.1 r.2) ∙ parts.0)
 
@@ -240,13 +189,13 @@ previous_deleted paths es p n kept previous =
         )
         same false e =
             let less = earlier r.0 n e not_later in
-            let inside = within_between r.0 n p less (λ k. asymmetric p n k previous.0) above.0 in
+            let inside = within_between r.0 n p less (λ k. not_both p n k previous.0) above.0 in
             let nothing = kept.lawful.nothing_below r.0 n r.2 (ap (λ x. x && not (path_eq r.0 n)) inside ∙ ap not e) in
             absurd (true≢false (sym previous.1 ∙ kept.has n ∙ ap is_some nothing))
 
     by : (a : Bool) → is_within n p ≡ a → (b : Bool) → is_deleted_at (entry_at es n) ≡ b → (r : Bool)
         → list_any (is_deleted_above p) es ≡ r → (a && b) ≡ r
-    by true w true d r h = sym (sym h ∙ at_deleted es p n d (ap (λ x. x && not (path_eq n p)) w ∙ ap not (apart n p previous.0)))
+    by true w true d r h = sym (sym h ∙ at_deleted es p n d (ap (λ x. x && not (path_eq n p)) w ∙ ap not (before_apart n p previous.0)))
     by true w false d true h = absurd (true≢false (sym (it h).1 ∙ d))
     by true w false d false h = refl
     by false w b d true h = absurd (true≢false (sym (it h).0 ∙ w))
@@ -311,16 +260,13 @@ entry_added (f ∷ es) p e h = by (path_eq f.0 p) refl h (entry_added es p e)
         → cond (path_eq p f.0) ((f.0, e) ∷ es) (f ∷ insert_entry (pointwise (pointwise nat_eq)) es p e) ≡ f ∷ (es ++ (p, e) ∷ [])
     by true s h ih = absurd (true≢false h)
     by false s h ih =
-        ap (λ b. cond b ((f.0, e) ∷ es) (f ∷ insert_entry (pointwise (pointwise nat_eq)) es p e)) (path_eq-flip p f.0 ∙ s)
+        ap (λ b. cond b ((f.0, e) ∷ es) (f ∷ insert_entry (pointwise (pointwise nat_eq)) es p e)) (path_eq-symm p f.0 ∙ s)
         ∙ ap (λ (rest : Entries). f ∷ rest) (ih h)
 
 pub welcome_added : (es : Entries) (p q : Path) (e : ReportEntry) → q ≡ p → reporter_fault es p e ≡ None
     → insert_entry (pointwise (pointwise nat_eq)) es q e ≡ es ++ (p, e) ∷ []
 welcome_added es p q e same lawful =
     ap (λ (r : Path). insert_entry (pointwise (pointwise nat_eq)) es r e) same ∙ entry_added es p e (welcome es p e lawful).new
-
-tied_path : (p q : Path) → is_at (path_cmp p) q ≡ path_eq p q
-tied_path p q = sym (lists_ties (slice_cmp nat_cmp) texts_ties p q)
 
 pub not_there : (paths : BTreeSet Path) (es : Entries) (p : Path) (e : ReportEntry) → IsKept paths es → reporter_fault es p e ≡ None
     → contains path_cmp paths p ≡ false
@@ -434,7 +380,7 @@ module _ (es : Entries) (p : Path) (e : ReportEntry) (old : AreLawfulEntries es)
 
 pub put_in : (old new : BTreeSet Path) (p q : Path) → contains path_cmp new q ≡ cond (is_at (path_cmp p) q) true (contains path_cmp old q)
     → contains path_cmp new q ≡ (path_eq p q || contains path_cmp old q)
-put_in old new p q h = h ∙ ap (λ b. cond b true (contains path_cmp old q)) (tied_path p q) ∙ by (path_eq p q)
+put_in old new p q h = h ∙ ap (λ b. cond b true (contains path_cmp old q)) (at_path p q) ∙ by (path_eq p q)
   where
     by : (b : Bool) → cond b true (contains path_cmp old q) ≡ (b || contains path_cmp old q)
     by true = refl
@@ -451,7 +397,7 @@ put_in_ends old new p q h = h ∙ ap (λ b. cond b true (contains end_cmp old q)
 pub taken_out : (old new : BTreeSet Path) (p q : Path)
     → contains path_cmp new q ≡ cond (is_at (path_cmp p) q) false (contains path_cmp old q)
     → contains path_cmp new q ≡ (not (path_eq p q) && contains path_cmp old q)
-taken_out old new p q h = h ∙ ap (λ b. cond b false (contains path_cmp old q)) (tied_path p q) ∙ by (path_eq p q)
+taken_out old new p q h = h ∙ ap (λ b. cond b false (contains path_cmp old q)) (at_path p q) ∙ by (path_eq p q)
   where
     by : (b : Bool) → cond b false (contains path_cmp old q) ≡ (not b && contains path_cmp old q)
     by true = refl

@@ -16,7 +16,7 @@ use Rattle.svn_report.specs.Reports.{Entries}
 use Rattle.svn_report.specs.ReportNames.{next_name, names_in, reported_names, has_entry_within, ComesAfter, IsNextName, comes_after}
 use Rattle.svn_report.specs.ReportNames.{names_after, names_from}
 use Rattle.svn_types.proofs.PathOrder.{same_name, bytes_eq-same, name_cmp-same}
-use Rattle.svn_report.proofs.EndOrder.{Name, bytes_eq-flip}
+use Rattle.svn_types.proofs.NameLemmas.{Name, bytes_eq-symm}
 
 -- ---- into a set, in whatever order
 
@@ -131,7 +131,7 @@ any-append (x ∷ xs) ys m = ap (λ b. bytes_eq x m || b) (any-append xs ys m) �
 
 named_within : (p q : Path) (m : Name) → has_name (next_name p q) m ≡ is_within (child p m) q
 named_within [] [] m = refl
-named_within [] (a ∷ q) m = ap (λ b. b || false) (bytes_eq-flip a m) ∙ by (bytes_eq m a)
+named_within [] (a ∷ q) m = ap (λ b. b || false) (bytes_eq-symm a m) ∙ by (bytes_eq m a)
   where
     by : (b : Bool) → (b || false) ≡ (b && true)
     by true = refl
