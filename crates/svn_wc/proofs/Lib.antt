@@ -8,7 +8,7 @@ pub mod PathLines
 pub mod Truly
 -- A tree of the repository is gathered: its node first, and then the entries in order of their names.
 pub mod Gathering
--- A path is forgotten: one node after the other is kept, changed, or goes.
+-- A path is forgotten: its node is no longer present, and what stands below it goes.
 pub mod Forgetting
 -- What stands at a path and below is replaced: room is made for what comes, then what was there goes.
 pub mod Replacing
@@ -18,3 +18,7 @@ pub mod Placing
 pub mod EachOnce
 -- A call of an applier keeps the copy in its shape, whatever the call and its answer.
 pub mod ShapeKept
+-- The next node below a path, and what is left without it.
+pub mod Removing
+-- A list sorted by its paths: what stands twice, and what a search finds.
+pub mod SortedNodes

@@ -1,4 +1,5 @@
--- What stands at a path and below is replaced: first there is room for all that comes, then what was there goes, and what comes takes its place.
+-- What stands at a path and below is replaced: first there is room for all that comes, then what was there goes, and what comes takes its
+-- place.
 use Rattle.std.proofs.Common.{◌≡◌, Bool, true, false, cond, List, [], ◌∷◌, ◌++◌, refl, sym, ap, subst, ◌∙◌, Option, Some, None, true≢false}
 use Rattle.std.proofs.Common.{take, ℕ, zero, suc}
 use Rattle.std.proofs.lemmas.Option.{same_Some}

@@ -205,7 +205,8 @@ none_before_itself x less = not_before_itself (x ∷ []) (less_path less)
 
 -- ---- the walk
 
--- the nodes below a path that were taken so far: the first untrue of them, and how many names of the path's directory have no node among them
+-- the nodes below a path that were taken so far: the first untrue of them, and how many names of the path's directory have no node
+-- among them
 pub record SoFar (h : History) (nodes : List (Path × BaseNode)) (p : Path) (old : List (Path × BaseNode)) (names : List (List ℕ))
     (left : List (Path × BaseNode)) (found : Option Path) (missing : ℕ) : Type 0 where
   pub taken : List (Path × BaseNode)

@@ -4,3 +4,4 @@ pub mod Taking
 pub mod Truths
 pub mod Gathered
 pub mod Building
+pub mod Listed

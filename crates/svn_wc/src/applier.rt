@@ -7,11 +7,12 @@ ghost use Rattle.svn_editor.specs.Calls.{is_last};
 ghost use Rattle.svn_editor.specs.Steps.{Mode, Update, SwitchTo};
 ghost use Rattle.svn_model.specs.Nodes.{WorkingCopy as CopyMap, get_in};
 ghost use Rattle.svn_model.specs.Effects.{refusal};
-ghost use Rattle.svn_edit_law.specs.Laws.{EndsNamed, OpensNamed, IsShapedAfter};
+ghost use Rattle.svn_edit_law.specs.Laws.{OpensNamed, IsShapedAfter};
 ghost use Rattle.svn_edit.specs.Applying.{mode_of, live_count, StandsAfter, HasEnded, IsRefused, StaysRefused, StaysEnded, LeavesRefused};
 ghost use Rattle.svn_model.specs.Answering.{AnswersCall};
 ghost use Rattle.svn_wc.specs.Taking.{IsBegun, IsInShape};
 
+use crate::paths::last_name_allowed;
 use crate::working_copy::WorkingCopy;
 use std::alloc::Global;
 use svn_edit::Edit;
@@ -118,16 +119,6 @@ impl<'a> Editor for Applier<'a> {
     /// the copy is as it was, and every call but AbortEdit is refused: Dead. After the last call each is Ended.
     fn call(&mut self, call: Call) -> Result<(), EditFault> {
         self.take(call)
-    }
-}
-
-// The last name of a path is an allowed one.
-fn last_name_allowed(path: &RelPath)
-    ensures { EndsNamed path.now }
-{
-    let names = path.components();
-    if names.len() > 0 {
-        let _text = names[names.len() - 1].as_str();
     }
 }
 

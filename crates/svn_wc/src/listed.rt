@@ -1,5 +1,6 @@
-//! Copies made of lists of nodes. What is wrong with a list is found without memory, so that want of it never hides a fault.
-ghost use Rattle.std.specs.Prelude.{◌≡◌, IfOk, IfErr, OnOk, Some, None};
+//! Copies made of lists of nodes, which are sorted by their paths for it. What is wrong with a list is found without memory, so that want of
+//! it never hides a fault.
+ghost use Rattle.std.specs.Prelude.{◌≡◌, IfOk, IfErr, OnOk, Some, None, take};
 ghost use Rattle.std.specs.List.{list_any};
 ghost use Rattle.svn_types.specs.Names.{Path};
 ghost use Rattle.svn_types.specs.Paths.{parent};
@@ -7,10 +8,11 @@ ghost use Rattle.svn_model.specs.Nodes.{get_in, is_dir};
 ghost use Rattle.svn_model.specs.Refusals.{is_of, has_twice, is_orphan, is_node_too_deep, nodes_fault};
 ghost use Rattle.svn_edit_law.specs.CopyLaws.{AllEndNamed};
 ghost use Rattle.svn_wc.specs.Building.{Refuses};
+ghost use Rattle.svn_wc.specs.Listed.{IsSorted, IsSearchable};
 
-use crate::building::{is_parent, is_too_deep};
+use crate::building::is_too_deep;
 use crate::gather::map_of;
-use crate::paths::last_name_allowed;
+use crate::paths::{compare_above, last_name_allowed};
 use crate::working_copy::WorkingCopy;
 use std::alloc::Global;
 use svn_edit_law::nodes_make_a_copy;
@@ -28,27 +30,34 @@ fn last_names_allowed(nodes: &[(RelPath, BaseNode)])
     }
 }
 
-// Whether one of the nodes has that path.
-fn has_path(nodes: &[(RelPath, BaseNode)], path: &RelPath) -> bool
-    ensures { result ≡ list_any (is_of path.now) nodes.now }
+// The nodes in the order of their paths. It takes no memory.
+fn sorted(mut nodes: Vec<(RelPath, BaseNode)>) -> Vec<(RelPath, BaseNode)>
+    ensures sorted { IsSorted result.items }
+    ensures fault { nodes_fault result.items ≡ nodes_fault nodes.items }
+    ensures nodes { nodes_fault nodes.items ≡ None → (p : Path) → get_in result.items p ≡ get_in nodes.items p }
 {
-    let mut rest = nodes;
-    'nodes: while let Some((first, after)) = rest.split_first() {
-        if path == &first.0 {
-            return true;
-        }
-        rest = after;
-    }
-    false
+    nodes.sort_unstable_by(|one, other| one.0.cmp(&other.0));
+    nodes
 }
 
-// Whether two of the nodes have the same path.
+// Whether the first of the nodes has that path.
+fn begins_with(nodes: &[(RelPath, BaseNode)], path: &RelPath) -> bool
+    ensures { result ≡ list_any (is_of path.now) (take 1 nodes.now) }
+{
+    match nodes.first() {
+        Some(node) => path == &node.0,
+        None => false,
+    }
+}
+
+// Whether two of the nodes have the same path: then two do that stand side by side.
 fn has_twice(nodes: &[(RelPath, BaseNode)]) -> bool
+    requires { IsSorted nodes.now }
     ensures { result ≡ has_twice nodes.now }
 {
     let mut rest = nodes;
     'nodes: while let Some((first, after)) = rest.split_first() {
-        if has_path(after, &first.0) {
+        if begins_with(after, &first.0) {
             return true;
         }
         rest = after;
@@ -67,20 +76,18 @@ fn is_directory(node: &BaseNode) -> bool
 
 // Whether the nodes have a directory at the path above another; above the root is the root.
 fn has_above(nodes: &[(RelPath, BaseNode)], path: &RelPath) -> bool
+    requires { IsSearchable nodes.now }
     ensures { result ≡ is_dir (get_in nodes.now (parent path.now)) }
 {
-    let mut rest = nodes;
-    'nodes: while let Some((first, after)) = rest.split_first() {
-        if is_parent(&first.0, path) {
-            return is_directory(&first.1);
-        }
-        rest = after;
+    match nodes.binary_search_by(|node| compare_above(&node.0, path)) {
+        Ok(place) => is_directory(&nodes[place].1),
+        Err(_) => false,
     }
-    false
 }
 
 // Whether one of some nodes has no directory above it among all.
 fn has_orphan(all: &[(RelPath, BaseNode)], nodes: &[(RelPath, BaseNode)]) -> bool
+    requires { IsSearchable all.now }
     ensures { result ≡ list_any (is_orphan (get_in all.now)) nodes.now }
 {
     let mut rest = nodes;
@@ -119,6 +126,7 @@ fn has_too_deep(nodes: &[(RelPath, BaseNode)]) -> bool
 
 // Why a copy can't be made of the nodes.
 fn nodes_fault(alloc: Global, nodes: &[(RelPath, BaseNode)]) -> Option<WcFault>
+    requires { IsSorted nodes.now }
     ensures { result ≡ nodes_fault nodes.now }
 {
     if has_twice(nodes) {
@@ -139,7 +147,7 @@ fn nodes_fault(alloc: Global, nodes: &[(RelPath, BaseNode)]) -> Option<WcFault>
 impl WorkingCopy {
     /// A copy of these nodes, which may come in any order. Twice for a path that comes twice, BadRoot where the root is missing or is no
     /// directory, NoParent where a node's parent isn't a directory, TooDeep where a repository path has over 64 names, or a path over 64 more;
-    /// else Memory alone. It costs the square of their number.
+    /// else Memory alone. Of n nodes it costs the order of n log n.
     pub fn from_nodes(
         alloc: Global,
         nodes: Vec<(RelPath, BaseNode)>,
@@ -150,6 +158,7 @@ impl WorkingCopy {
     {
         nodes_make_a_copy();
         last_names_allowed(&nodes);
+        let nodes = sorted(nodes);
         if let Some(fault) = nodes_fault(alloc, &nodes) {
             return Err(fault);
         }

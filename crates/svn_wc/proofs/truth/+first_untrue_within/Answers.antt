@@ -34,12 +34,14 @@ below-preserved t c =
           subst (λ (l : List (Path × BaseNode)). SoFar h nodes e.0 old names l (option_copied c.below.first) c.below.missing) step
           (c.below.invariant.1 nodes before order whole found) in
           let there : c.find_below-there.result ≡ looked h d.1 = c.find_below-there.ensures found in
-          let walked = c.first_untrue_within-untrue.ensures.walked nodes (front h nodes order before e old whole names d left (option_copied c.below.first) c.below.missing s) order
+          let walked = c.first_untrue_within-untrue.ensures.walked nodes
+          (front h nodes order before e old whole names d left (option_copied c.below.first) c.below.missing s) order
           (front_is h nodes order before e old whole names d left (option_copied c.below.first) c.below.missing s) there in
           let on = walk_on h nodes order before e old whole names d left (option_copied c.below.first) c.below.missing s c.in-Some.ensures.1
           walked.taken walked.below (names_sorted h c.law.ensures.history c.args.node.now c.args.id.now found) left2 walked.parts
           (option_copied c.first_untrue_within-untrue.result) walked.first in
-          let first : option_or (option_copied c.below.first) (option_copied c.first_untrue_within-untrue.result) ≡ option_copied c.or-first.result =
+          let first : option_or (option_copied c.below.first) (option_copied c.first_untrue_within-untrue.result)
+          ≡ option_copied c.or-first.result =
           sym (ap option_copied c.or-first.ensures ∙ option_or-copied c.below.first c.first_untrue_within-untrue.result) in
           subst (λ (n : ℕ). SoFar h nodes e.0 old names left2 (option_copied c.or-first.result) n) (sym c.missing_without-missing.ensures)
           (subst (λ (f : Option Path). SoFar h nodes e.0 old names left2 f (c.below.missing - cond (has_child e.0 d.0 names) 1 0)) first

@@ -1,10 +1,12 @@
-use Rattle.std.proofs.Common.{◌≡◌, true, false, List, sym, ap, subst, ◌∙◌, rules}
+use Rattle.std.proofs.Common.{◌≡◌, true, false, cond, List, None, sym, ap, subst, ◌∙◌}
+use Rattle.std.specs.Option.{option_map}
 use Rattle.svn_types.specs.Names.{Path}
-use Rattle.svn_types.specs.Paths.{is_root}
-use Rattle.svn_model.specs.declared.base_node.BaseNode.{BaseNode}
-use Rattle.svn_model.specs.Nodes.{WorkingCopy, get_in, is_present, IsWorkingCopy, IsTrueOf}
+use Rattle.svn_types.specs.Paths.{path_eq, is_root, is_below}
 use Rattle.svn_repo.specs.History.{new_history}
-use Rattle.svn_wc.proofs.Forgetting.{retained_by, is_kept, made_absent, left_of, left_forgotten, not_root, may_forget}
+use Rattle.svn_model.specs.declared.base_node.BaseNode.{BaseNode}
+use Rattle.svn_model.specs.declared.base_node.BaseNode.TheVariants.{NotPresent}
+use Rattle.svn_model.specs.Nodes.{WorkingCopy, get_in, is_present, IsWorkingCopy, IsTrueOf}
+use Rattle.svn_wc.proofs.Forgetting.{absent_forgotten, not_root, may_forget}
 use Rattle.svn_wc.proofs.working_copy.WorkingCopy.forget.Goals as goal
 
 pub returns-clause-nodes : goal.returns-clause-nodes
@@ -13,10 +15,11 @@ returns-clause-nodes c = λ p.
     let present : is_present (get_in c.args.self.now at) ≡ true =
     sym (ap (λ (l : List (Path × BaseNode)). is_present (get_in l at)) c.self.view_is) ∙ sym (ap is_present c.get.ensures.value)
     ∙ sym c.is_present.ensures ∙ c.if-not-is_present.false in
-    retained_by (is_kept at) (made_absent at) _ _ (λ k v b w f' t. search rules) c.self.inside.nodes.entries c.retain.new.self.entries
-    c.retain.ensures.was_ordered c.retain.ensures.filtered p
-    ∙ ap (λ (l : List (Path × BaseNode)). left_of (is_kept at) (made_absent at) p (get_in l p)) c.self.view_is
-    ∙ left_forgotten (get_in c.args.self.now) at p present
+    c.remove_below.ensures p
+    ∙ ap (cond (is_below at p) None) (c.make_absent.ensures p
+    ∙ ap (λ (l : List (Path × BaseNode)). cond (path_eq at p) (option_map (λ (n : BaseNode). NotPresent) (get_in l at)) (get_in l p))
+    c.self.view_is)
+    ∙ absent_forgotten (get_in c.args.self.now) at p present
 
 pub invariant_of-self : goal.invariant_of-self
 invariant_of-self c =

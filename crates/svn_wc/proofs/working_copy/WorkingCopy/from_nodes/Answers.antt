@@ -9,11 +9,14 @@ use Rattle.svn_wc.proofs.working_copy.WorkingCopy.from_nodes.Goals as goal
 
 pub returns-clause-nodes : goal.returns-clause-nodes
 returns-clause-nodes c = λ p.
-    let none : nodes_fault c.args.nodes.items ≡ None = search rules in
-    c.in_ok-map.ensures.0 p ∙ gathered_once c.args.nodes.items (passed (has_twice c.args.nodes.items) Twice _ none).0 p
+    let nodes = c.sorted-nodes.result.items in
+    let none : nodes_fault nodes ≡ None = search rules in
+    c.in_ok-map.ensures.0 p ∙ gathered_once nodes (passed (has_twice nodes) Twice _ none).0 p
+    ∙ c.sorted-nodes.ensures.nodes (sym c.sorted-nodes.ensures.fault ∙ none) p
 
 pub invariant_of-result : goal.invariant_of-result
 invariant_of-result c =
-    let none : nodes_fault c.args.nodes.items ≡ None = search rules in
+    let none : nodes_fault c.sorted-nodes.result.items ≡ None = search rules in
     let named : AllEndNamed c.args.nodes.items = search rules in
-    subst IsWorkingCopy (λ i p. sym (returns-clause-nodes c p) i) (c.nodes_make_a_copy.ensures c.args.nodes.items named none)
+    subst IsWorkingCopy (λ i p. sym (returns-clause-nodes c p) i)
+    (c.nodes_make_a_copy.ensures c.args.nodes.items named (sym c.sorted-nodes.ensures.fault ∙ none))

@@ -16,7 +16,8 @@ put_tree-requires-clause-shape c =
 pub returns-clause-truth : goal.returns-clause-truth
 returns-clause-truth c = λ t.
     let h = c.args.repo.now in
-    let nodes : (p : Path) → get_in c.put_tree.new.self p ≡ placed h (get_in c.args.self.now) c.args.path.now (joined_path (get_in c.args.self.now) c.args.path.now) c.args.rev p =
+    let nodes : (p : Path) → get_in c.put_tree.new.self p
+    ≡ placed h (get_in c.args.self.now) c.args.path.now (joined_path (get_in c.args.self.now) c.args.path.now) c.args.rev p =
     λ p. c.in_ok-put_tree.ensures.nodes p
     ∙ ap (λ (q : Path). placed h (get_in c.args.self.now) c.args.path.now q c.args.rev p) c.in_ok-repos_path.ensures in
     subst (λ (v : WorkingCopy). IsTrueOf h v) (λ i p. sym (nodes p) i)

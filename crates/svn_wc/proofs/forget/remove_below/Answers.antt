@@ -1,0 +1,18 @@
+use Rattle.std.proofs.Common.{◌∙◌, not, rules}
+use Rattle.svn_types.specs.Paths.{is_below}
+use Rattle.svn_model.specs.Nodes.{get_in}
+use Rattle.svn_wc.proofs.Forgetting.{retained_by, left_out, all_went, when_ok}
+use Rattle.svn_wc.proofs.forget.remove_below.Goals as goal
+
+pub returns-then-is_err : goal.returns-then-is_err
+returns-then-is_err c = λ p.
+    let at = c.args.at.now in
+    retained_by (λ q. not (is_below at q)) _ _ (λ k v b w f' t. search rules) c.remove_each_below.new.nodes.entries
+    c.retain.new.self.entries c.retain.ensures.was_ordered c.retain.ensures.filtered p
+    ∙ left_out (is_below at p) (get_in c.remove_each_below.new.nodes.entries p) (get_in c.args.nodes.now.entries p)
+    (c.remove_each_below.ensures.others p)
+
+pub returns-else-is_err : goal.returns-else-is_err
+returns-else-is_err c = λ p.
+    all_went (is_below c.args.at.now p) (get_in c.remove_each_below.new.nodes.entries p) (get_in c.args.nodes.now.entries p)
+    (c.remove_each_below.ensures.others p) (when_ok c.remove_each_below.result _ (search rules) c.remove_each_below.ensures.removed p)
