@@ -1,5 +1,6 @@
 -- What the word of a path is, name by name, and what bytes are that are printed as they are.
-use Rattle.std.proofs.Common.{◌≡◌, ℕ, ◌≤◌, ◌<◌, Bool, true, false, ◌&&◌, List, [], ◌∷◌, ◌++◌, length, get_or, append_assoc, refl, sym, ap, ◌∙◌, arith, true≢false}
+use Rattle.std.proofs.Common.{◌≡◌, ℕ, ◌≤◌, ◌<◌, Bool, true, false, ◌&&◌, List, [], ◌∷◌, ◌++◌, length, get_or, append_assoc}
+use Rattle.std.proofs.Common.{refl, sym, ap, ◌∙◌, arith, true≢false}
 use Rattle.std.specs.Prelude.{All, if◌then◌else◌}
 use Rattle.std.specs.List.{flat_map, list_all}
 use Rattle.std.specs.Str.{IsUtf8}
@@ -33,7 +34,8 @@ pub shown_text : (bs : List ℕ) → list_all is_shown bs ≡ true → flat_map 
 shown_text [] h = refl
 shown_text (b ∷ bs) h =
     let parts = both (is_shown b) (list_all is_shown bs) h in
-    ap (λ (s : Bool). (if s then b ∷ [] else 37 ∷ hex_pair true b) ++ flat_map escaped bs) parts.0 ∙ ap (λ (l : List ℕ). b ∷ l) (shown_text bs parts.1)
+    ap (λ (s : Bool). (if s then b ∷ [] else 37 ∷ hex_pair true b) ++ flat_map escaped bs) parts.0
+      ∙ ap (λ (l : List ℕ). b ∷ l) (shown_text bs parts.1)
 
 shown_small : (b : ℕ) → is_shown b ≡ true → b < 128
 shown_small b h = grind (arith, nat_tests)
@@ -43,7 +45,8 @@ passes true all f h = refl
 passes false all f h = absurd (true≢false (sym h ∙ f refl))
 
 shown_all : (bs : List ℕ) → list_all is_shown bs ≡ true → All (λ b. b < 128) bs
-shown_all bs h = λ k d in_list. shown_small (get_or bs k d) (passes (is_shown (get_or bs k d)) (list_all is_shown bs) (λ e. list_all_at is_shown bs k d in_list e) h)
+shown_all bs h = λ k d in_list. shown_small (get_or bs k d)
+  (passes (is_shown (get_or bs k d)) (list_all is_shown bs) (λ e. list_all_at is_shown bs k d in_list e) h)
 
 pub shown_utf8 : (bs : List ℕ) → list_all is_shown bs ≡ true → IsUtf8 bs
 shown_utf8 bs h = IsUtf8-from_ascii bs (IsAscii-from_all bs (shown_all bs h))

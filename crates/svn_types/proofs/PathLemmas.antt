@@ -1,5 +1,6 @@
 -- Paths: when they are the same, their parts, and paths above and below one another.
-use Rattle.std.proofs.Common.{◌≡◌, ◌≢◌, suc, ◌-◌, Bool, true, false, ◌&&◌, ◌⊎◌, not, [], ◌∷◌, ◌++◌, length, refl, sym, ◌∙◌, ap, subst, arith, true≢false, append_assoc, append-nil, inl, inr}
+use Rattle.std.proofs.Common.{◌≡◌, ◌≢◌, suc, ◌-◌, Bool, true, false, ◌&&◌, ◌⊎◌, not, [], ◌∷◌, ◌++◌, length, refl, sym, ◌∙◌, ap}
+use Rattle.std.proofs.Common.{subst, arith, true≢false, append_assoc, append-nil, inl, inr}
 use Rattle.std.specs.Prelude.{Some, None, cond, bytes_eq, slice_get}
 use Rattle.std.specs.List.{starts_with}
 use Rattle.std.specs.Cmp.Lexicographic.{pointwise_decides, bytes_decides}

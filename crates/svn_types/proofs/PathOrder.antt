@@ -70,7 +70,8 @@ within_between (m ∷ p) (k ∷ x) (n ∷ q) before after w = by (name_cmp m k) 
     as_m o e = ap (λ (z : List ℕ). name_cmp z k) (sym (same_name m n parts.0)) ∙ e
 
     by : (o : Ordering) → name_cmp m k ≡ o → ordering_then o (path_cmp p x) ≡ Less
-        → (path_cmp p x ≡ Less → (path_cmp q x ≡ Less → ⊥) → is_within p q ≡ true → is_within p x ≡ true) → (bytes_eq m k && is_within p x) ≡ true
+        → (path_cmp p x ≡ Less → (path_cmp q x ≡ Less → ⊥) → is_within p q ≡ true → is_within p x ≡ true)
+        → (bytes_eq m k && is_within p x) ≡ true
     by Less e h ih = absurd (after (ap (λ o. ordering_then o (path_cmp q x)) (as_m Less e)))
     by Equal e h ih =
         ap (λ b. b && is_within p x) (bytes_eq-same m k (exact_bytes m k e))
