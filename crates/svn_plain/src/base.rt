@@ -1,0 +1,157 @@
+//! Working copies, as the model has them: a flat map from path to what stands there.
+
+use crate::history::{History, Node, Values};
+use crate::place::{Place, ROOT};
+use crate::words::Word;
+use anyhow::{Context, Result};
+use std::alloc::Global;
+use std::collections::BTreeMap;
+use svn_model::WcFault;
+use svn_types::Kind;
+
+/// What stands at a path of a copy.
+#[derive(Clone, Copy, PartialEq, Eq)]
+pub enum Base {
+    File {
+        rev: u64,
+        repos: Place,
+        text: Word,
+        values: Values,
+    },
+    Dir {
+        rev: u64,
+        repos: Place,
+        complete: bool,
+        values: Values,
+    },
+    NotPresent,
+}
+
+/// What a copy has at each path.
+pub type BaseTree = BTreeMap<Place, Base>;
+
+/// What a node is in a copy that has it at a revision and a repository path, complete.
+pub fn base_of(node: &Node, rev: u64, repos: Place) -> Base {
+    match node.kind {
+        Kind::File => Base::File {
+            rev,
+            repos,
+            text: node.text,
+            values: node.values,
+        },
+        Kind::Directory => Base::Dir {
+            rev,
+            repos,
+            complete: true,
+            values: node.values,
+        },
+    }
+}
+
+/// Everything at a path and beneath goes.
+pub fn remove_within(tree: &mut BaseTree, path: Place) {
+    tree.retain(|place, _base| !place.is_within(&path));
+}
+
+// What a revision has at a repository path and beneath, put at a path.
+fn put_tree(
+    tree: &mut BaseTree,
+    history: &History,
+    rev: u64,
+    repos: Place,
+    path: Place,
+) -> Result<()> {
+    let source = history.tree(rev).context("no such revision")?;
+    for (place, node) in source {
+        if place.is_within(&repos) {
+            let to = place
+                .moved(repos, path)
+                .context("deeper than the model goes")?;
+            tree.insert(to, base_of(node, rev, *place))?;
+        }
+    }
+    Ok(())
+}
+
+/// Why a copy can't be made of what stands at a path of a revision.
+pub fn checkout_fault(history: &History, rev: u64, path: Place) -> Option<WcFault> {
+    if history.tree(rev).is_none() {
+        return Some(WcFault::NoSuchRevision);
+    }
+    match history.look(rev, Some(path)) {
+        None => Some(WcFault::Missing),
+        Some(node) if node.kind == Kind::File => Some(WcFault::BadRoot),
+        Some(_) => None,
+    }
+}
+
+/// The copy of what stands at a path of a revision.
+pub fn checked_out(alloc: Global, history: &History, rev: u64, path: Place) -> Result<BaseTree> {
+    let mut tree = BTreeMap::new(alloc);
+    put_tree(&mut tree, history, rev, path, ROOT)?;
+    Ok(tree)
+}
+
+/// The repository path that a path has where it isn't switched: that of the directory above with the name behind it. None where
+/// no directory is above.
+pub fn own_repos(tree: &BaseTree, path: Place) -> Option<Place> {
+    let parent = path.parent()?;
+    match tree.get(&parent)? {
+        Base::Dir { repos, .. } => repos.join(path.last()?),
+        Base::File { .. } | Base::NotPresent => None,
+    }
+}
+
+/// Why nothing can be put at a path: with `repos` what stands at another repository path.
+pub fn placing_fault(
+    tree: &BaseTree,
+    history: &History,
+    path: Place,
+    repos: Option<Place>,
+    rev: u64,
+) -> Option<WcFault> {
+    if path.is_root() {
+        return Some(WcFault::IsRoot);
+    }
+    if history.tree(rev).is_none() {
+        return Some(WcFault::NoSuchRevision);
+    }
+    let Some(own) = own_repos(tree, path) else {
+        return Some(WcFault::NoParent);
+    };
+    match history.look(rev, Some(repos.unwrap_or(own))) {
+        None => Some(WcFault::Missing),
+        Some(_) => None,
+    }
+}
+
+/// Puts what a revision has at the path's own repository path, or at another, in the place of what stands at the path.
+pub fn put_at(
+    tree: &mut BaseTree,
+    history: &History,
+    path: Place,
+    repos: Option<Place>,
+    rev: u64,
+) -> Result<()> {
+    let own = own_repos(tree, path).context("no directory is above")?;
+    remove_within(tree, path);
+    put_tree(tree, history, rev, repos.unwrap_or(own), path)
+}
+
+/// Why a path can't be forgotten.
+pub fn forgetting_fault(tree: &BaseTree, path: Place) -> Option<WcFault> {
+    if path.is_root() {
+        return Some(WcFault::IsRoot);
+    }
+    match tree.get(&path) {
+        None | Some(Base::NotPresent) => Some(WcFault::Missing),
+        Some(_) => None,
+    }
+}
+
+/// What stands at the path counts as not present.
+pub fn forget(tree: &mut BaseTree, path: Place) -> Result<()> {
+    remove_within(tree, path);
+    tree.insert(path, Base::NotPresent)?;
+    Ok(())
+}

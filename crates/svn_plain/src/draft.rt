@@ -1,0 +1,233 @@
+//! Commits, as the model makes them: each change is a function on a flat map.
+
+use crate::history::{History, NO_VALUES, Node, Tree};
+use crate::place::Place;
+use crate::words::{NO_TEXT, Word};
+use anyhow::{Context, Result};
+use svn_repo::CommitFault;
+use svn_types::Kind;
+
+/// A change of a commit. A property is named by its place in the table.
+#[derive(Clone, Copy)]
+pub enum Edit {
+    MakeDir {
+        path: Place,
+    },
+    Put {
+        path: Place,
+        text: Word,
+    },
+    Prop {
+        path: Place,
+        name: usize,
+        value: Option<Word>,
+    },
+    Remove {
+        path: Place,
+    },
+    CopyFrom {
+        rev: u64,
+        source: Place,
+        path: Place,
+    },
+}
+
+/// The next revision as the changes so far make it, or why the first that can't be made is refused.
+#[derive(Drop)]
+pub struct Draft {
+    pub tree: Tree,
+    pub fault: Option<CommitFault>,
+    pub next_line: u64,
+    pub next_number: u64,
+}
+
+// Why there is no way to a path: what is above it has to be a directory, and with `whole` something has to stand at the path too.
+fn way_fault(tree: &Tree, path: Place, whole: bool) -> Option<CommitFault> {
+    for length in 0..path.depth() {
+        match tree.get(&path.prefix(length)) {
+            None => return Some(CommitFault::Missing),
+            Some(node) if node.kind == Kind::File => return Some(CommitFault::NotDir),
+            Some(_) => {}
+        }
+    }
+    if whole && !tree.contains_key(&path) {
+        return Some(CommitFault::Missing);
+    }
+    None
+}
+
+fn source_fault(history: &History, rev: u64, source: Place) -> Option<CommitFault> {
+    match history.tree(rev) {
+        None => Some(CommitFault::NoSuchRevision),
+        Some(tree) => way_fault(tree, source, true),
+    }
+}
+
+impl Draft {
+    /// No changes yet.
+    pub fn begin(history: &History) -> Result<Draft> {
+        Ok(Draft {
+            tree: history.last_tree()?,
+            fault: None,
+            next_line: history.next_line,
+            next_number: history.next_number,
+        })
+    }
+
+    // Why nothing can be made at a path: it is the root, or there is no way, or what stands there is in the way.
+    fn making_fault(&self, path: Place, makes_file: bool) -> Option<CommitFault> {
+        if path.is_root() {
+            return Some(CommitFault::IsRoot);
+        }
+        if let Some(fault) = way_fault(&self.tree, path, false) {
+            return Some(fault);
+        }
+        match self.tree.get(&path) {
+            Some(node) if makes_file && node.kind == Kind::File => None,
+            Some(_) if makes_file => Some(CommitFault::NotFile),
+            Some(_) => Some(CommitFault::Exists),
+            None => None,
+        }
+    }
+
+    /// Why a change can't be made after those so far.
+    pub fn fault_of(&self, history: &History, edit: Edit) -> Option<CommitFault> {
+        match edit {
+            Edit::MakeDir { path } => self.making_fault(path, false),
+            Edit::Put { path, .. } => self.making_fault(path, true),
+            Edit::Prop { path, .. } => way_fault(&self.tree, path, true),
+            Edit::Remove { path } if path.is_root() => Some(CommitFault::IsRoot),
+            Edit::Remove { path } => way_fault(&self.tree, path, true),
+            Edit::CopyFrom { path, .. } if path.is_root() => Some(CommitFault::IsRoot),
+            Edit::CopyFrom { rev, source, path } => match source_fault(history, rev, source) {
+                Some(fault) => Some(fault),
+                None => self.making_fault(path, false),
+            },
+        }
+    }
+
+    fn fresh_number(&mut self) -> u64 {
+        let number = self.next_number;
+        self.next_number = number.wrapping_add(1);
+        number
+    }
+
+    // A node of a new line.
+    fn new_node(&mut self, kind: Kind, text: Word) -> Node {
+        let line = self.next_line;
+        self.next_line = line.wrapping_add(1);
+        Node {
+            number: self.fresh_number(),
+            line,
+            kind,
+            text,
+            values: NO_VALUES,
+        }
+    }
+
+    // Every directory above a changed path is another node revision.
+    fn freshen_above(&mut self, path: Place) {
+        for length in 0..path.depth() {
+            let number = self.fresh_number();
+            if let Some(node) = self.tree.get_mut(&path.prefix(length)) {
+                node.number = number;
+            }
+        }
+    }
+
+    fn put(&mut self, path: Place, text: Word) -> Result<()> {
+        let node = match self.tree.get(&path).copied() {
+            Some(old) => Node {
+                number: self.fresh_number(),
+                text,
+                ..old
+            },
+            None => self.new_node(Kind::File, text),
+        };
+        self.tree.insert(path, node)?;
+        Ok(())
+    }
+
+    fn set_value(&mut self, path: Place, name: usize, value: Option<Word>) {
+        let number = self.fresh_number();
+        if let Some(node) = self.tree.get_mut(&path) {
+            node.number = number;
+            if let Some(old) = node.values.get_mut(name) {
+                *old = value;
+            }
+        }
+    }
+
+    fn remove(&mut self, path: Place) {
+        self.tree.retain(|place, _node| !place.is_within(&path));
+    }
+
+    // The numbers are those of the source.
+    fn copy_from(&mut self, history: &History, rev: u64, source: Place, path: Place) -> Result<()> {
+        let tree = history.tree(rev).context("no such revision")?;
+        for (place, node) in tree {
+            if place.is_within(&source) {
+                let to = place
+                    .moved(source, path)
+                    .context("deeper than the model goes")?;
+                self.tree.insert(to, *node)?;
+            }
+        }
+        Ok(())
+    }
+
+    fn make(&mut self, history: &History, edit: Edit) -> Result<Place> {
+        match edit {
+            Edit::MakeDir { path } => {
+                let node = self.new_node(Kind::Directory, NO_TEXT);
+                self.tree.insert(path, node)?;
+                Ok(path)
+            }
+            Edit::Put { path, text } => {
+                self.put(path, text)?;
+                Ok(path)
+            }
+            Edit::Prop { path, name, value } => {
+                self.set_value(path, name, value);
+                Ok(path)
+            }
+            Edit::Remove { path } => {
+                self.remove(path);
+                Ok(path)
+            }
+            Edit::CopyFrom { rev, source, path } => {
+                self.copy_from(history, rev, source, path)?;
+                Ok(path)
+            }
+        }
+    }
+
+    /// Makes one more change, unless one before can't be made.
+    pub fn add(&mut self, history: &History, edit: Edit) -> Result<()> {
+        if self.fault.is_some() {
+            return Ok(());
+        }
+        self.fault = self.fault_of(history, edit);
+        if self.fault.is_none() {
+            let path = self.make(history, edit)?;
+            self.freshen_above(path);
+        }
+        Ok(())
+    }
+
+    /// Makes the changes a revision, unless one can't be made.
+    pub fn commit(self, history: &mut History) -> Result<Option<CommitFault>> {
+        let Draft {
+            tree,
+            fault,
+            next_line,
+            next_number,
+        } = self;
+        if fault.is_none() {
+            history.revisions.push(tree)?;
+            history.next_line = next_line;
+            history.next_number = next_number;
+        }
+        Ok(fault)
+    }
+}

@@ -1,0 +1,204 @@
+//! What the calls do to a copy, one after the other.
+
+use crate::acts::{Act, Deed};
+use crate::base::{Base, BaseTree, own_repos, remove_within};
+use crate::history::{NO_VALUES, Values};
+use crate::place::Place;
+use crate::words::NO_TEXT;
+use anyhow::{Context, Result, bail};
+use svn_types::Kind;
+
+/// The revision that the calls lead to, and the path to which they switch the whole copy.
+#[derive(Clone, Copy)]
+pub struct Edition {
+    pub target: u64,
+    pub to: Option<Place>,
+}
+
+// The properties after the changes that earlier calls asked for at a path.
+fn changed(old: Values, earlier: &[Act], path: Place) -> Values {
+    let mut values = old;
+    for act in earlier {
+        if let Deed::Change { name, value } = act.deed {
+            if act.path == path {
+                if let Some(place) = values.get_mut(name) {
+                    *place = value;
+                }
+            }
+        }
+    }
+    values
+}
+
+impl Edition {
+    // The repository path of what is opened: what it had, or in a switch the parent's with the name behind it.
+    fn opened_repos(&self, tree: &BaseTree, path: Place, had: Place) -> Result<Place> {
+        match self.to {
+            None => Ok(had),
+            Some(to) if path.is_root() => Ok(to),
+            Some(_) => own_repos(tree, path).context("no directory is above what is opened"),
+        }
+    }
+
+    fn open_directory(&self, tree: &mut BaseTree, path: Place) -> Result<()> {
+        let Some(
+            Base::Dir {
+                repos,
+                complete,
+                values,
+                ..
+            },
+        ) = tree.get(&path).copied()
+        else {
+            bail!("what is opened is no directory");
+        };
+        let repos = self.opened_repos(tree, path, repos)?;
+        let opened = Base::Dir {
+            rev: self.target,
+            repos,
+            complete: false,
+            values: if complete { values } else { NO_VALUES },
+        };
+        tree.insert(path, opened)?;
+        Ok(())
+    }
+
+    fn add_directory(&self, tree: &mut BaseTree, path: Place) -> Result<()> {
+        let repos = own_repos(tree, path).context("no directory is above what is added")?;
+        let added = Base::Dir {
+            rev: self.target,
+            repos,
+            complete: false,
+            values: NO_VALUES,
+        };
+        tree.insert(path, added)?;
+        Ok(())
+    }
+
+    fn close_directory(&self, tree: &mut BaseTree, path: Place, earlier: &[Act]) -> Result<()> {
+        let Some(
+            Base::Dir {
+                rev,
+                repos,
+                values,
+                ..
+            },
+        ) = tree.get(&path).copied()
+        else {
+            bail!("what is closed is no directory");
+        };
+        let closed = Base::Dir {
+            rev,
+            repos,
+            complete: true,
+            values: changed(values, earlier, path),
+        };
+        tree.insert(path, closed)?;
+        Ok(())
+    }
+
+    fn close_file(&self, tree: &mut BaseTree, path: Place, earlier: &[Act]) -> Result<()> {
+        let own = own_repos(tree, path).context("no directory is above a file")?;
+        let (repos, old_text, old_values) = match tree.get(&path).copied() {
+            Some(
+                Base::File {
+                    repos,
+                    text,
+                    values,
+                    ..
+                },
+            ) => (self.opened_repos(tree, path, repos)?, text, values),
+            _ => (own, NO_TEXT, NO_VALUES),
+        };
+        let mut text = old_text;
+        for act in earlier {
+            if let Deed::Text { text: given, .. } = act.deed {
+                if act.path == path {
+                    text = given;
+                }
+            }
+        }
+        let closed = Base::File {
+            rev: self.target,
+            repos,
+            text,
+            values: changed(old_values, earlier, path),
+        };
+        tree.insert(path, closed)?;
+        Ok(())
+    }
+
+    fn take(&self, tree: &mut BaseTree, act: &Act, earlier: &[Act]) -> Result<()> {
+        let is_file = act.kind == Kind::File;
+        match act.deed {
+            Deed::Delete { .. } => remove_within(tree, act.path),
+            Deed::Open { .. } if !is_file => self.open_directory(tree, act.path)?,
+            Deed::Add if is_file => {
+                tree.insert(act.path, Base::NotPresent)?;
+            }
+            Deed::Add => self.add_directory(tree, act.path)?,
+            Deed::Close { .. } if is_file => self.close_file(tree, act.path, earlier)?,
+            Deed::Close { .. } => self.close_directory(tree, act.path, earlier)?,
+            Deed::Open { .. } | Deed::Change { .. } | Deed::Text { .. } => {}
+        }
+        Ok(())
+    }
+
+    /// The copy after the first so many of the calls between the first and the last.
+    pub fn after(&self, before: &BaseTree, acts: &[Act], count: usize) -> Result<BaseTree> {
+        let mut tree = before.clone()?;
+        for (at, act) in acts.iter().enumerate() {
+            if at < count {
+                let earlier = acts.get(..at).unwrap_or(&[]);
+                self.take(&mut tree, act, earlier)?;
+            }
+        }
+        Ok(tree)
+    }
+
+    /// What the last call does: each present node gets the target revision, and in a switch its path under the new root; what isn't present
+    /// goes.
+    pub fn closed(&self, tree: &BaseTree) -> Result<BaseTree> {
+        let mut ended = tree.clone()?;
+        ended.clear();
+        for (path, base) in tree {
+            let moved = match self.to {
+                Some(to) => Some(to.with(path.names()).context("deeper than the model goes")?),
+                None => None,
+            };
+            if let Some(base) = self.ended(base, moved) {
+                ended.insert(*path, base)?;
+            }
+        }
+        Ok(ended)
+    }
+
+    fn ended(&self, base: &Base, moved: Option<Place>) -> Option<Base> {
+        let rev = self.target;
+        match *base {
+            Base::NotPresent => None,
+            Base::File {
+                repos,
+                text,
+                values,
+                ..
+            } => Some(Base::File {
+                rev,
+                repos: moved.unwrap_or(repos),
+                text,
+                values,
+            }),
+            Base::Dir {
+                repos,
+                complete,
+                values,
+                ..
+            } => Some(Base::Dir {
+                rev,
+                repos: moved.unwrap_or(repos),
+                complete,
+                values,
+            }),
+        }
+    }
+}

@@ -1,0 +1,31 @@
+//! A plain and slow model of repositories, working copies and updates, written from their definitions: flat maps from path to
+//! node, each path asked by itself, and a drive's calls put in order by sorting. A program compares the library with it on
+//! random histories. It has none of the library's code, only the names of its kinds and faults. Paths have at most 14 names of a table, texts and
+//! values come from a table too, and what would go beyond is an error.
+#![tactic(auto)]
+
+mod acts;
+mod base;
+mod draft;
+mod effects;
+mod history;
+mod lines;
+mod place;
+mod report;
+mod request;
+mod truth;
+mod words;
+
+pub use acts::{Act, Deed, drive};
+pub use base::{
+    Base, BaseTree, checked_out, checkout_fault, forget, forgetting_fault, placing_fault, put_at,
+};
+pub use draft::{Draft, Edit};
+pub use effects::Edition;
+pub use history::{History, Node, Tree, Values};
+pub use lines::{Tokens, line};
+pub use place::{Place, ROOT, Raw};
+pub use report::{Report, Said, crawl};
+pub use request::{Facts, Request, TargetFault, result};
+pub use truth::first_untrue;
+pub use words::{NAMES, NO_TEXT, PROP_NAMES, TEXT_COUNT, Word};
