@@ -35,7 +35,7 @@ shown_text [] h = refl
 shown_text (b ∷ bs) h =
     let parts = both (is_shown b) (list_all is_shown bs) h in
     ap (λ (s : Bool). (if s then b ∷ [] else 37 ∷ hex_pair true b) ++ flat_map escaped bs) parts.0
-      ∙ ap (λ (l : List ℕ). b ∷ l) (shown_text bs parts.1)
+    ∙ ap (λ (l : List ℕ). b ∷ l) (shown_text bs parts.1)
 
 shown_small : (b : ℕ) → is_shown b ≡ true → b < 128
 shown_small b h = grind (arith, nat_tests)
@@ -46,7 +46,7 @@ passes false all f h = absurd (true≢false (sym h ∙ f refl))
 
 shown_all : (bs : List ℕ) → list_all is_shown bs ≡ true → All (λ b. b < 128) bs
 shown_all bs h = λ k d in_list. shown_small (get_or bs k d)
-  (passes (is_shown (get_or bs k d)) (list_all is_shown bs) (λ e. list_all_at is_shown bs k d in_list e) h)
+    (passes (is_shown (get_or bs k d)) (list_all is_shown bs) (λ e. list_all_at is_shown bs k d in_list e) h)
 
 pub shown_utf8 : (bs : List ℕ) → list_all is_shown bs ≡ true → IsUtf8 bs
 shown_utf8 bs h = IsUtf8-from_ascii bs (IsAscii-from_all bs (shown_all bs h))

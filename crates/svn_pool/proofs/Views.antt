@@ -201,7 +201,7 @@ pub root_alone-view : (first spare : ℕ) (none new : LiveMap) → none.entries 
 root_alone-view first spare none new empty after put zero =
     let e : Entry = record { parent = None; strings = [] } in
     let live : contents new ≡ fin.insert fin.empty first e =
-      same_contents new after (fin.insert fin.empty first e) (λ q. elim (cases_eq q first) [
+    same_contents new after (fin.insert fin.empty first e) (λ q. elim (cases_eq q first) [
       | inl is ↦
           ap (get nat_eq new) is ∙ updated_here none new first (Some e) put
           ∙ sym (ap (fin.get (fin.insert fin.empty first e)) is ∙ inserted_here fin.empty first e)

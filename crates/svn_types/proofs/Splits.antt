@@ -20,11 +20,11 @@ slice_split_whole p (x ∷ xs) h = split_step (p x) x (position_or_len p xs) xs 
 -- what `split_once` says, in terms of the parts
 pub name_split : (s : List ℕ) (r : Option (Bor (List ℕ) × Bor (List ℕ)))
     → MatchOption r (position_or_len is_slash s ≡ length s)
-        (λ x. (x.0.now ≡ before_first is_slash s) × (x.1.now ≡ after_first is_slash s) × (position_or_len is_slash s < length s))
+    (λ x. (x.0.now ≡ before_first is_slash s) × (x.1.now ≡ after_first is_slash s) × (position_or_len is_slash s < length s))
     → IsNameSplit s r
 name_split s None h = slice_split_whole is_slash s h
 name_split s (Some x) h = (
   slice_split_first is_slash s 0 h.2 ∙ sym (ap (λ y. y ∷ slice_split is_slash (after_first is_slash s)) h.0)
-    ∙ sym (ap (λ y. x.0.now ∷ slice_split is_slash y) h.1),
+      ∙ sym (ap (λ y. x.0.now ∷ slice_split is_slash y) h.1),
   rw h.1 (omega (arith, length-drop (position_or_len is_slash s + 1) s, h.2)),
 )

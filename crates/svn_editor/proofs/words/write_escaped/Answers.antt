@@ -10,7 +10,7 @@ rest-preserved g c =
     let inv = c.rest.invariant in (
       inv.0 ++ flat_map escaped c.split_at.result.0.now,
       behind_shown inv.0 c.rest.rest.now c.split_at.result.0.now c.split_at.result.1.now (flat_map escaped c.args.bytes.now)
-        c.split_at.ensures.by_index.0 inv.1,
+          c.split_at.ensures.by_index.0 inv.1,
       λ plain. let before = inv.2 plain in has_written_append _ _ _ _ _ _ before (c.in_ok-write_shown.ensures before.plain refl),
     )
 

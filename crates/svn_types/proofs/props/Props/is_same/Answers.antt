@@ -6,4 +6,4 @@ use Rattle.svn_types.proofs.props.Props.is_same.Goals as goal
 pub returns : goal.returns
 returns c = rw (← c.self.view_is, ← c.other.view_is)
     (btree_map_eq-Decides {E = bytes_eq} {F = bytes_eq} bytes_eq-Decides bytes_eq-Decides c.self.inside.map c.other.inside.map
-      c.eq.result c.eq.ensures)
+    c.eq.result c.eq.ensures)
