@@ -1,5 +1,5 @@
 //! Drives: the calls that bring a client from what it reports to a revision.
-ghost use Rattle.std.specs.Prelude.{◌≡◌, ◌+◌, ◌<◌, [], length, Result, OnErr};
+ghost use Rattle.std.specs.Prelude.{◌≡◌, ◌+◌, ◌<◌, [], length, Result, Err, IfSome, OnErr};
 ghost use Rattle.svn_editor.specs.declared.call.Call.TheVariants.{AbortEdit};
 ghost use Rattle.svn_editor.specs.declared.fault.EditFault.{EditFault};
 ghost use Rattle.svn_model.specs.Checks.{target_fault};
@@ -74,7 +74,8 @@ impl<'a> Walk<'a> {
 
     // A whole drive.
     fn drive<E: Editor>(&self, editor: &mut E) -> Result<DriveEnd, DriveFault>
-        ensures { Drives E.answers self.now.limit (target_fault (request_of self.now)) (drive_calls (request_of self.now) self.now.late) result editor.old editor.new }
+        ensures calls { Drives E.answers self.now.limit (target_fault (request_of self.now)) (drive_calls (request_of self.now) self.now.late) result editor.old editor.new }
+        ensures refused { IfSome (target_fault (request_of self.now)) (λ fault. (result ≡ Err fault) × (editor.new ≡ editor.old)) }
     {
         let root = self.root();
         if let Some(fault) = self.target_fault(&root) {
@@ -122,6 +123,8 @@ pub fn drive<'a, E: Editor>(
     editor: &mut E,
 ) -> Result<DriveEnd, DriveFault>
     ensures calls { Drives E.answers options.cancel_after (target_fault (asked repo.now report.now target Update)) (drive_calls (asked repo.now report.now target Update) options.late_texts) result editor.old editor.new }
+    // whatever memory there is, a target that can't be reached is told by its fault, and no call is made
+    ensures refused { IfSome (target_fault (asked repo.now report.now target Update)) (λ fault. (result ≡ Err fault) × (editor.new ≡ editor.old)) }
     ensures of_definition { AreOfDrive (asked repo.now report.now target Update) options.late_texts (drive_calls (asked repo.now report.now target Update) options.late_texts) }
 {
     the_calls_are_a_drive();
@@ -150,6 +153,7 @@ pub fn drive_switch<'a, E: Editor>(
     editor: &mut E,
 ) -> Result<DriveEnd, DriveFault>
     ensures calls { Drives E.answers options.cancel_after (target_fault (asked repo.now report.now target (SwitchTo to.now))) (drive_calls (asked repo.now report.now target (SwitchTo to.now)) options.late_texts) result editor.old editor.new }
+    ensures refused { IfSome (target_fault (asked repo.now report.now target (SwitchTo to.now))) (λ fault. (result ≡ Err fault) × (editor.new ≡ editor.old)) }
     ensures of_definition { AreOfDrive (asked repo.now report.now target (SwitchTo to.now)) options.late_texts (drive_calls (asked repo.now report.now target (SwitchTo to.now)) options.late_texts) }
 {
     the_calls_are_a_drive();

@@ -1,11 +1,12 @@
 //! What nodes of a repository have.
-ghost use Rattle.std.specs.Prelude.{◌≡◌, []};
+ghost use Rattle.std.specs.Prelude.{◌≡◌, [], IfOk};
 ghost use Rattle.svn_repo.specs.History.{node_at, child_in};
 ghost use Rattle.svn_repo.specs.Readings.{are_related, is_directory_at, text_of, kind_of, props_of};
 ghost use Rattle.svn_drive.specs.Walking.{entry_of, has_same_entry};
 
+use std::alloc::{AllocError, Global};
 use svn_repo::{NodeId, Repo};
-use svn_types::{Kind, Name, Props};
+use svn_types::{Kind, Name, Props, Text};
 
 /// Whether two nodes are there, and of one line.
 pub(crate) fn are_related(repo: &Repo, from: &Option<NodeId>, to: &Option<NodeId>) -> bool
@@ -71,6 +72,16 @@ pub(crate) fn text_of(repo: &Repo, node: NodeId) -> &[u8]
     match repo.text(node) {
         Some(text) => text,
         None => &[],
+    }
+}
+
+/// The same as a text, which shares the repository's bytes.
+pub(crate) fn shared_text(alloc: Global, repo: &Repo, node: NodeId) -> Result<Text, AllocError>
+    ensures { IfOk result (λ t. t ≡ text_of repo.now node) }
+{
+    match repo.shared_text(node) {
+        Some(text) => text.clone(),
+        None => Ok(Text::new(Vec::new(alloc))),
     }
 }
 

@@ -18,15 +18,17 @@ ghost use Rattle.svn_drive.specs.Walking.{IsAt, IsEntered, IsIdle, IsTold, reque
 use crate::child_names::{has_name, names_below, reported_below};
 use crate::entries::{revision_of, starts_empty};
 use crate::making::{Progress, make, make_opening};
-use crate::nodes::{entry_of, has_same_entry, is_directory, kind_of, props_of, text_of};
+use crate::nodes::{
+    entry_of, has_same_entry, is_directory, kind_of, props_of, shared_text, text_of,
+};
 use crate::place::Place;
 use crate::walk::Walk;
 use md5::{Digest as Hasher, Md5};
-use std::alloc::{AllocError, Global};
+use std::alloc::AllocError;
 use svn_editor::{Call, Digest, Editor, Token};
 use svn_model::Stop;
 use svn_repo::{NodeId, Repo};
-use svn_types::{Kind, MAX_COMPONENTS, Name, PropChange, Props, Text};
+use svn_types::{Kind, MAX_COMPONENTS, Name, PropChange, Props};
 
 /// What was opened or added: its token, its kind and its node in the target.
 #[derive(Clone, Copy)]
@@ -239,11 +241,10 @@ impl<'a> Walk<'a> {
         ensures runs { Runs E.answers self.now.limit (call_at [] 0 file.now.token (text_action self.now.repo.now file.now) ∷ []) result editor.old editor.new progress.old.made progress.new.made }
         ensures tokens { OnOk result (progress.new.next ≡ progress.old.next) }
     {
-        let text = Vec::from_slice(self.alloc, text_of(self.repo, file.node))?;
         let call = Call::ApplyText {
             token: file.token,
             base_md5: self.base_md5(file),
-            text: Text::new(text),
+            text: shared_text(self.alloc, self.repo, file.node)?,
         };
         make(self.limit, editor, progress, call)
     }
