@@ -1,4 +1,4 @@
-//! Runs each `NAME.script` of its folder, on one thread and on two, and says whether it prints what `NAME.output` has.
+//! Runs each script of its folder, on one thread and on two, and says whether it prints what the output beside it has.
 #![tactic(auto)]
 
 use anyhow::Result;

@@ -22,8 +22,8 @@ use Rattle.svn_wc.specs.Truths.{IsPast}
 -- ---- the nodes behind a path
 
 module _ (m : BTreeMap Path BaseNode) (at : Path) (left : List (Path × BaseNode))
-    (range : IsRangeOf path_cmp (Excluded at) Unbounded m left)
-    (e : Path × BaseNode) (rest : List (Path × BaseNode)) (is : left ≡ e ∷ rest) where
+    (range : IsRangeOf path_cmp (Excluded at) Unbounded m left) (e : Path × BaseNode) (rest : List (Path × BaseNode))
+    (is : left ≡ e ∷ rest) where
   first : IsEntryInRange path_cmp (Excluded at) Unbounded m e
   first = subst (λ (l : List (Path × BaseNode)). IfSome (slice_get l 0) (IsEntryInRange path_cmp (Excluded at) Unbounded m)) is range.1
 
