@@ -71,7 +71,8 @@ impl Edit {
         let mut props = or_memory(nodes::props_of(self.alloc, node))?;
         or_memory(baton.change(self.alloc, &self.pools, &mut props))?;
         let text = or_memory(nodes::copied(self.alloc, new_text))?;
-        let moved = or_memory(paths::closed_path(self.alloc, &self.root, copy, &baton.path))?;
+        let path = &baton.path;
+        let moved = or_memory(paths::closed_path(self.alloc, &self.root, copy, path, node))?;
         let target = self.target;
         Ok(Closing {
             target,

@@ -292,10 +292,11 @@ impl Edit {
         ensures keeps { KeepsEdit self.old self.new }
         ensures applied { let a = Open Directory base in let w = get_in copy.old.entries in Applied (step_fault md5 (mode_of self.old.root) [] w path.now a) (step_effect (mode_of self.old.root) self.old.target [] (record { path = path.now; action = a }) w) copy.old.entries result copy.new.entries }
     {
-        if let Some(fault) = nodes::open_directory_fault(copy.get(path), base) {
+        let node = copy.get(path);
+        if let Some(fault) = nodes::open_directory_fault(node, base) {
             return Err(fault);
         }
-        let moved = paths::moved(self.alloc, &self.root, copy, path)?;
+        let moved = paths::moved(self.alloc, &self.root, copy, path, node)?;
         self.open_baton(beneath, path, token)?;
         nodes::open_directory_at(self.alloc, copy, path, self.target, moved);
         Ok(())
@@ -312,10 +313,11 @@ impl Edit {
         ensures keeps { KeepsEdit self.old self.new }
         ensures applied { let a = Open File base in let w = get_in copy.now.entries in Applied (step_fault md5 (mode_of self.old.root) [] w path.now a) (step_effect (mode_of self.old.root) self.old.target [] (record { path = path.now; action = a }) w) copy.now.entries result copy.now.entries }
     {
-        if let Some(fault) = nodes::open_file_fault(copy.get(path), base) {
+        let node = copy.get(path);
+        if let Some(fault) = nodes::open_file_fault(node, base) {
             return Err(fault);
         }
-        let _moved = paths::moved(self.alloc, &self.root, copy, path)?;
+        let _moved = paths::moved(self.alloc, &self.root, copy, path, node)?;
         let root = self.pools.root();
         self.open_baton(root, path, token)
     }
@@ -428,7 +430,7 @@ impl Edit {
         }
         match self.batons.get_mut(&token.0) {
             Some(baton) => {
-                if nodes::is_wrong_sum(base_md5, nodes::text_of(copy.get(&baton.path))) {
+                if nodes::is_wrong_base(base_md5, copy, &baton.path) {
                     return Err(EditFault::BaseChecksum);
                 }
                 or_memory(baton.note_text(&mut self.pools, text))

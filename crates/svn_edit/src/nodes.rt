@@ -274,3 +274,13 @@ pub(crate) fn is_wrong_sum(given: &Option<Digest>, text: &[u8]) -> bool
         None => false,
     }
 }
+
+/// Whether a checksum is given, and is another than that of the text at a path. Without one nothing is looked up.
+pub(crate) fn is_wrong_base(given: &Option<Digest>, nodes: &Nodes, path: &RelPath) -> bool
+    ensures { result ≡ is_wrong_sum given.now (md5 (node_text (get_in nodes.now.entries path.now))) }
+{
+    match given {
+        Some(_) => is_wrong_sum(given, text_of(nodes.get(path))),
+        None => false,
+    }
+}

@@ -62,12 +62,18 @@ fn with_name(alloc: Global, above: &RelPath, name: &Name) -> Result<RelPath, Edi
     }
 }
 
-// A repository path with the last name of a path behind it.
+// A repository path with the last name of a path behind it. Where that is the path itself, a clone shares it.
 fn with_last(alloc: Global, above: &RelPath, path: &RelPath) -> Result<RelPath, EditFault>
     ensures { Gives (deep_fault (above.now ++ last_name path.now)) (above.now ++ last_name path.now) result }
 {
     match path.components().last() {
-        Some(name) => with_name(alloc, above, name),
+        Some(name) => {
+            if path.is_child_of(above, name) {
+                kept(path)
+            } else {
+                with_name(alloc, above, name)
+            }
+        }
         None => kept(above),
     }
 }
@@ -94,19 +100,21 @@ pub(crate) fn joined(alloc: Global, copy: &Nodes, path: &RelPath) -> Result<RelP
     with_last(alloc, repos_path(copy.get(&above), &empty), path)
 }
 
-/// The repository path that an opened node gets: in a switch to a root, the one under the parent's.
+/// The repository path that the node of a path gets when it is opened: in a switch to a root, the one under the parent's.
 pub(crate) fn moved(
     alloc: Global,
     root: &Option<RelPath>,
     copy: &Nodes,
     path: &RelPath,
+    node: Option<&BaseNode>,
 ) -> Result<RelPath, EditFault>
+    requires { option_copied node ≡ get_in copy.now.entries path.now }
     ensures { let w = get_in copy.now.entries in let p = moved_path (mode_of root.now) w path.now (node_path (w path.now)) in Gives (deep_fault p) p result }
 {
     match root {
         None => {
             let empty = RelPath::root(alloc);
-            kept(repos_path(copy.get(path), &empty))
+            kept(repos_path(node, &empty))
         }
         Some(root) => {
             if path.is_root() {
@@ -118,12 +126,18 @@ pub(crate) fn moved(
     }
 }
 
-// A repository path with the last name of a path behind it, without a test of its length.
+// The same without a test of its length.
 fn with_last_name(alloc: Global, above: &RelPath, path: &RelPath) -> Result<RelPath, AllocError>
     ensures { IfOk result (λ q. q ≡ above.now ++ last_name path.now) }
 {
     match path.components().last() {
-        Some(name) => child_path(alloc, above, name),
+        Some(name) => {
+            if path.is_child_of(above, name) {
+                path.clone()
+            } else {
+                child_path(alloc, above, name)
+            }
+        }
         None => above.clone(),
     }
 }
@@ -138,19 +152,21 @@ fn beneath_parent(alloc: Global, copy: &Nodes, path: &RelPath) -> Result<RelPath
     with_last_name(alloc, beneath, path)
 }
 
-// The repository path that an opened node has, without a test of its length.
+// The repository path that the opened node of a path has, without a test of its length.
 fn opened_path(
     alloc: Global,
     root: &Option<RelPath>,
     copy: &Nodes,
     path: &RelPath,
+    node: Option<&BaseNode>,
 ) -> Result<RelPath, AllocError>
+    requires { option_copied node ≡ get_in copy.now.entries path.now }
     ensures { let w = get_in copy.now.entries in IfOk result (λ q. q ≡ moved_path (mode_of root.now) w path.now (node_path (w path.now))) }
 {
     match root {
         None => {
             let empty = RelPath::root(alloc);
-            repos_path(copy.get(path), &empty).clone()
+            repos_path(node, &empty).clone()
         }
         Some(root) => {
             if path.is_root() {
@@ -162,18 +178,20 @@ fn opened_path(
     }
 }
 
-/// The repository path that a file gets at its close: an added file the parent's joined with the name, another what it got when it was
+/// The repository path that the file of a path gets at its close: an added file the parent's joined with the name, another what it got when it was
 /// opened. Its length was tested then.
 pub(crate) fn closed_path(
     alloc: Global,
     root: &Option<RelPath>,
     copy: &Nodes,
     path: &RelPath,
+    node: Option<&BaseNode>,
 ) -> Result<RelPath, AllocError>
+    requires { option_copied node ≡ get_in copy.now.entries path.now }
     ensures { IfOk result (λ q. q ≡ closed_path (mode_of root.now) (get_in copy.now.entries) path.now) }
 {
-    match copy.get(path) {
+    match node {
         Some(BaseNode::NotPresent) => beneath_parent(alloc, copy, path),
-        _ => opened_path(alloc, root, copy, path),
+        _ => opened_path(alloc, root, copy, path, node),
     }
 }

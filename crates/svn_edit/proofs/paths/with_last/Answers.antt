@@ -7,8 +7,16 @@ use Rattle.svn_edit.specs.Applying.{Gives}
 use Rattle.svn_edit_law.proofs.PathParts.{last_is}
 use Rattle.svn_edit.proofs.paths.with_last.Goals as goal
 
-pub returns-in-Some : goal.returns-in-Some
-returns-in-Some c =
+pub returns-then-is_child_of : goal.returns-then-is_child_of
+returns-then-is_child_of c =
+    let last : last_name c.args.path.now ≡ c.in-Some.name.now ∷ [] =
+    last_is c.args.path.now c.in-Some.name.now (ap (λ (l : Path). slice_get l (length l - 1)) (sym c.components.ensures.names)
+    ∙ sym c.in-Some.ensures.value) in
+    let same : c.args.path.now ≡ c.args.above.now ++ c.in-Some.name.now ∷ [] = c.is_child_of.ensures.child.0 c.if-is_child_of.true in
+    subst (λ (q : Path). Gives (deep_fault q) q c.kept.result) (same ∙ ap (λ (l : Path). c.args.above.now ++ l) (sym last)) c.kept.ensures
+
+pub returns-else-is_child_of : goal.returns-else-is_child_of
+returns-else-is_child_of c =
     let last : last_name c.args.path.now ≡ c.in-Some.name.now ∷ [] =
     last_is c.args.path.now c.in-Some.name.now (ap (λ (l : Path). slice_get l (length l - 1)) (sym c.components.ensures.names)
     ∙ sym c.in-Some.ensures.value) in

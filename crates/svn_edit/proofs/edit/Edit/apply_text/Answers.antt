@@ -8,8 +8,8 @@ use Rattle.svn_edit.proofs.Holding.{map_ok}
 use Rattle.svn_edit.proofs.Closes.{pass_ok, noted_of}
 use Rattle.svn_edit.proofs.edit.Edit.apply_text.Goals as goal
 
-pub returns-else-is_wrong_sum-clause-noted : goal.returns-else-is_wrong_sum-clause-noted
-returns-else-is_wrong_sum-clause-noted c =
+pub returns-else-is_wrong_base-clause-noted : goal.returns-else-is_wrong_base-clause-noted
+returns-else-is_wrong_base-clause-noted c =
     map_ok c.or_memory.result (pass_ok _ _ c.note_text.result c.or_memory.result c.or_memory.ensures.ok c.note_text.ensures)
     (λ said b there.
     let key : c.token.inside.0 ≡ c.args.token = c.token.view_is in
