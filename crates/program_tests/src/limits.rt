@@ -93,8 +93,8 @@ fn long_and_deep_words(rt: HostRuntime) -> Result<(), AllocError> {
     Ok(())
 }
 
-// A script that makes so many directories, each in the one before.
-fn nested_script(alloc: Global, depth: usize) -> Result<String, AllocError> {
+// Lines that make so many directories, each in the one before, in one revision.
+fn nested_lines(alloc: Global, depth: usize) -> Result<String, AllocError> {
     let mut script = String::new(alloc);
     let mut path = String::from_str(alloc, "a")?;
     for _ in 0..depth {
@@ -103,7 +103,7 @@ fn nested_script(alloc: Global, depth: usize) -> Result<String, AllocError> {
         script.push('\n')?;
         path.push_str("/a")?;
     }
-    script.push_str("commit\ncheckout 0\nupdate 1\nupdate 0\n")?;
+    script.push_str("commit\n")?;
     Ok(script)
 }
 
@@ -120,7 +120,27 @@ const NESTED: &[(usize, &str)] = &[
 #[test]
 fn trees_have_a_greatest_depth(rt: HostRuntime) -> Result<(), AllocError> {
     for (depth, output) in NESTED {
-        let script = nested_script(rt.alloc(), *depth)?;
+        let nested = nested_lines(rt.alloc(), *depth)?;
+        let script = format!(in rt.alloc(); "{nested}checkout 0\nupdate 1\nupdate 0\n")?;
+        ends(&rt, &IN_TURN, script.as_str().as_bytes(), Ok(()), output);
+    }
+    Ok(())
+}
+
+// A path has at most 64 names more than the repository path that it shows, which is the root's here. An update then touches each of the 63
+// directories above it and the root, for what is reported below them.
+const SWITCHED: &[(usize, &str)] = &[
+    (63, "committed 1\nok\nok\nclosed 130\n"),
+    (64, "committed 1\nok\nrefused TooDeep\nclosed 4\n"),
+];
+
+#[test]
+fn switched_paths_have_a_greatest_depth(rt: HostRuntime) -> Result<(), AllocError> {
+    for (above, output) in SWITCHED {
+        let nested = nested_lines(rt.alloc(), 64)?;
+        let above = "a/".repeat(rt.alloc(), *above)?;
+        let script =
+            format!(in rt.alloc(); "{nested}checkout 1\nswitch {above}b . 1\nupdate 1\n")?;
         ends(&rt, &IN_TURN, script.as_str().as_bytes(), Ok(()), output);
     }
     Ok(())

@@ -40,6 +40,7 @@ put f %20%21%22%23%24%25%26%7d%7E%7F%80%ff%00%09%0A
 put g #
 put h %25%32%35
 put i \u{0}\u{1}\t~\u{7f}\u{80}
+put j ab%63d%25%20e%41
 commit
 checkout 1
 show
@@ -57,6 +58,7 @@ f file 1 f %20!%22#$%25&}~%7F%80%FF%00%09%0A
 g file 1 g #
 h file 1 h %2525
 i file 1 i %00%01%09~%7F%C2%80
+j file 1 j abcd%25%20eA
 ",
         ),
         // so are paths. They come name by name, names by their bytes, so that a directory stands directly before what is beneath it
