@@ -1,0 +1,246 @@
+//! What the library has beside what the model has.
+
+use crate::real;
+use anyhow::Result;
+use std::alloc::Global;
+use std::collections::BTreeMap;
+use svn_plain::{
+    Base, BaseTree, History, NAMES, Node, PROP_NAMES, Place, ROOT, Report, Said, Tree, Values, Word,
+};
+use svn_report::ReportEntry;
+use svn_update::{
+    BaseNode, Kind, Name, NodeId, PropName, Props, RelPath, Repo, Rev, Text, WorkingCopy,
+};
+
+fn is_name(name: &Name, number: u8) -> bool {
+    let at = usize::from(number).wrapping_sub(1);
+    match NAMES.get(at) {
+        Some((raw, _printed)) => name.as_str() == *raw,
+        None => false,
+    }
+}
+
+/// Whether a path is this place.
+pub(crate) fn is_path(path: &RelPath, place: &Place) -> bool {
+    let names = path.components();
+    if names.len() != place.depth() {
+        return false;
+    }
+    for (name, number) in names.iter().zip(place.names().iter()) {
+        if !is_name(name, *number) {
+            return false;
+        }
+    }
+    true
+}
+
+fn is_text(text: &[u8], word: Word) -> bool {
+    text == word.raw().as_bytes()
+}
+
+fn expected_value(values: &Values, name: &PropName) -> Option<Word> {
+    for (known, value) in PROP_NAMES.iter().zip(values.iter()) {
+        if *known == name.as_str() {
+            return *value;
+        }
+    }
+    None
+}
+
+fn has_value(values: &Values, name: &PropName, text: &Text) -> bool {
+    match expected_value(values, name) {
+        Some(word) => is_text(text.as_slice(), word),
+        None => false,
+    }
+}
+
+fn are_props(props: &Props, values: &Values) -> bool {
+    let mut count = 0usize;
+    for value in values {
+        if value.is_some() {
+            count = count.saturating_add(1);
+        }
+    }
+    if props.len() != count {
+        return false;
+    }
+    for (name, text) in props.as_map() {
+        if !has_value(values, name, text) {
+            return false;
+        }
+    }
+    true
+}
+
+// Whether a node of a copy is what the model has there.
+fn is_base(node: &BaseNode, base: &Base) -> bool {
+    match (node, base) {
+        (BaseNode::NotPresent, Base::NotPresent) => true,
+        (
+            BaseNode::File {
+                rev,
+                repos_path,
+                text,
+                props,
+            },
+            Base::File {
+                rev: wanted,
+                repos,
+                text: word,
+                values,
+            },
+        ) => {
+            rev.0 == *wanted
+                && is_path(repos_path, repos)
+                && is_text(text.as_slice(), *word)
+                && are_props(props, values)
+        }
+        (
+            BaseNode::Dir {
+                rev,
+                repos_path,
+                complete,
+                props,
+            },
+            Base::Dir {
+                rev: wanted,
+                repos,
+                complete: is_complete,
+                values,
+            },
+        ) => {
+            rev.0 == *wanted
+                && is_path(repos_path, repos)
+                && *complete == *is_complete
+                && are_props(props, values)
+        }
+        _ => false,
+    }
+}
+
+/// The first path at which a copy isn't what the model has.
+pub(crate) fn copy_difference(copy: &WorkingCopy, tree: &BaseTree) -> Option<Place> {
+    let nodes = copy.nodes();
+    for ((path, node), (place, base)) in nodes.iter().zip(tree.iter()) {
+        if !is_path(path, place) || !is_base(node, base) {
+            return Some(*place);
+        }
+    }
+    if nodes.len() != tree.len() {
+        return Some(ROOT);
+    }
+    None
+}
+
+fn is_said(entry: &ReportEntry, said: &Said) -> bool {
+    match (entry, said) {
+        (ReportEntry::DeletePath, Said::Delete) => true,
+        (
+            ReportEntry::SetPath { rev, start_empty },
+            Said::Set {
+                rev: wanted,
+                start_empty: is_empty,
+            },
+        ) => rev.0 == *wanted && *start_empty == *is_empty,
+        (
+            ReportEntry::LinkPath {
+                repos_path,
+                rev,
+                start_empty,
+            },
+            Said::Link {
+                repos,
+                rev: wanted,
+                start_empty: is_empty,
+            },
+        ) => rev.0 == *wanted && is_path(repos_path, repos) && *start_empty == *is_empty,
+        _ => false,
+    }
+}
+
+/// The first path at which a report says what the model's doesn't.
+pub(crate) fn report_difference(report: &svn_report::Report, model: &Report) -> Option<Place> {
+    if !is_path(report.root(), &model.root) || report.len() != model.entries.len() {
+        return Some(ROOT);
+    }
+    for (at, (place, said)) in model.entries.iter().enumerate() {
+        match report.entry(at) {
+            Some((path, entry)) if is_path(path, place) && is_said(entry, said) => {}
+            _ => return Some(*place),
+        }
+    }
+    None
+}
+
+/// Which node of the repository each number of the model is.
+pub(crate) type Ids = BTreeMap<u64, NodeId>;
+
+// Whether a number of the model is this node and no other, as far as is known.
+fn is_same_node(ids: &mut Ids, number: u64, id: NodeId) -> Result<bool> {
+    for (known, other) in ids.iter() {
+        if (*known == number) != (*other == id) {
+            return Ok(false);
+        }
+    }
+    ids.insert(number, id)?;
+    Ok(true)
+}
+
+// How many entries the model's tree has in a directory.
+fn count_entries(tree: &Tree, above: Place) -> usize {
+    let mut count = 0usize;
+    for place in tree.keys() {
+        if place.parent() == Some(above) {
+            count = count.saturating_add(1);
+        }
+    }
+    count
+}
+
+// Whether a node reads as the model's.
+fn reads_as(repo: &Repo, id: NodeId, node: &Node, entries: usize) -> bool {
+    if repo.line(id) != Some(node.line) || repo.kind(id) != Some(node.kind) {
+        return false;
+    }
+    match repo.props(id) {
+        Some(props) if are_props(props, &node.values) => {}
+        _ => return false,
+    }
+    match node.kind {
+        Kind::File => match repo.text(id) {
+            Some(text) => is_text(text, node.text),
+            None => false,
+        },
+        Kind::Directory => match repo.entries(id) {
+            Some(listing) => listing.len() == entries,
+            None => false,
+        },
+    }
+}
+
+/// The first path at which a revision isn't what the model has.
+pub(crate) fn revision_difference(
+    alloc: Global,
+    repo: &Repo,
+    history: &History,
+    ids: &mut Ids,
+    rev: u64,
+) -> Result<Option<Place>> {
+    let Some(tree) = history.tree(rev) else {
+        return Ok(Some(ROOT));
+    };
+    for (place, node) in tree {
+        let path = real::path(alloc, *place)?;
+        let is_same = match repo.lookup(Rev(rev), &path) {
+            Some(id) => {
+                reads_as(repo, id, node, count_entries(tree, *place))
+                    && is_same_node(ids, node.number, id)?
+            }
+            None => false,
+        };
+        if !is_same {
+            return Ok(Some(*place));
+        }
+    }
+    Ok(None)
+}

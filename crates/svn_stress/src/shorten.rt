@@ -1,0 +1,75 @@
+//! A history that shows a difference, made short.
+
+use crate::step::Step;
+use crate::world::{Difference, World};
+use anyhow::Result;
+use std::alloc::Global;
+use std::sync::Wait;
+use std::thread::Threads;
+
+/// Makes the steps from the beginning, up to the first difference.
+pub(crate) fn replay<R: Threads + Wait + Sync>(
+    rt: &R,
+    alloc: Global,
+    steps: &[Step],
+) -> Result<Difference> {
+    let mut world = World::new(alloc)?;
+    for step in steps {
+        if let Some(difference) = world.take(rt, *step)? {
+            return Ok(Some(difference));
+        }
+    }
+    Ok(None)
+}
+
+// The steps without those from one place on, so many.
+fn without(alloc: Global, steps: &[Step], from: usize, count: usize) -> Result<Vec<Step>> {
+    let mut left = Vec::new(alloc);
+    for (at, step) in steps.iter().enumerate() {
+        if at < from || at >= from.saturating_add(count) {
+            left.push(*step)?;
+        }
+    }
+    Ok(left)
+}
+
+// Whether the steps still lead to a difference. What the model can't follow shows none.
+fn differs<R: Threads + Wait + Sync>(rt: &R, alloc: Global, steps: &[Step]) -> bool {
+    match replay(rt, alloc, steps) {
+        Ok(difference) => difference.is_some(),
+        Err(_) => false,
+    }
+}
+
+// Drops each run of so many steps that isn't needed, the last first.
+fn dropped<R: Threads + Wait + Sync>(
+    rt: &R,
+    alloc: Global,
+    steps: Vec<Step>,
+    count: usize,
+) -> Result<Vec<Step>> {
+    let mut kept = steps;
+    for back in 1..kept.len().saturating_add(1) {
+        let Some(from) = kept.len().checked_sub(back) else {
+            break;
+        };
+        let fewer = without(alloc, &kept, from, count)?;
+        if differs(rt, alloc, &fewer) {
+            kept = fewer;
+        }
+    }
+    Ok(kept)
+}
+
+/// As few of the steps as still lead to a difference.
+pub(crate) fn shortened<R: Threads + Wait + Sync>(
+    rt: &R,
+    alloc: Global,
+    steps: Vec<Step>,
+) -> Result<Vec<Step>> {
+    let mut kept = steps;
+    for count in [8, 4, 2, 1, 1, 1] {
+        kept = dropped(rt, alloc, kept, count)?;
+    }
+    Ok(kept)
+}
