@@ -1,0 +1,206 @@
+//! Runs rows, each a use of the library with the answers that it has to have, and says of each in each way whether it stands.
+//!
+//! Without words it runs all of them. `svn_sweep list` says the words of each; `svn_sweep ROW WAY` runs one. Memory may be refused in any of
+//! these: each answer is then the row's, or names the want of memory and leaves what is promised, and the row, begun anew, stands.
+//! `sweep/run.py` runs each row with each of its allocations refused. The status is 0 where all stand, 1 where one doesn't, and 3 where memory
+//! is wanting again.
+#![tactic(auto)]
+
+mod calls;
+mod edits;
+mod links;
+mod names;
+mod pools;
+mod printed;
+mod reports;
+mod rows;
+mod runs;
+mod scripts;
+mod streams;
+mod trouble;
+
+use crate::rows::{ROWS, Row};
+use crate::runs::Form;
+use crate::trouble::Trouble;
+use std::alloc::Global;
+use std::env::Env;
+use std::process::ExitCode;
+use std::sync::Wait;
+use std::thread::Threads;
+use std::{env, io};
+use svn_script::Settings;
+
+// How the rows of scripts are run.
+const WAYS: [&str; 9] = [
+    "script",
+    "script-of-one-call",
+    "script-of-many-calls",
+    "calls",
+    "calls-of-one",
+    "calls-of-many",
+    "readers",
+    "writers",
+    "cuts",
+];
+
+// The rows that are no scripts.
+const PARTS: [&str; 9] = [
+    "names", "words", "pools", "orders", "edits", "reporter", "reports", "nodes", "links",
+];
+
+const IN_TURN: Settings = Settings {
+    capacity: 64,
+    in_turn: true,
+};
+
+const ONE_CALL: Settings = Settings {
+    capacity: 1,
+    in_turn: false,
+};
+
+const MANY_CALLS: Settings = Settings {
+    capacity: 64,
+    in_turn: false,
+};
+
+fn run_row<R: Threads + Wait + Sync>(
+    rt: &R,
+    alloc: Global,
+    row: &Row,
+    way: &str,
+) -> Result<(), Trouble> {
+    match way {
+        "script" => scripts::run_row(rt, alloc, row, &IN_TURN),
+        "script-of-one-call" => scripts::run_row(rt, alloc, row, &ONE_CALL),
+        "script-of-many-calls" => scripts::run_row(rt, alloc, row, &MANY_CALLS),
+        "calls" => calls::call_row(rt, alloc, row, Form::InTurn),
+        "calls-of-one" => calls::call_row(rt, alloc, row, Form::InThreads(1)),
+        "calls-of-many" => calls::call_row(rt, alloc, row, Form::InThreads(64)),
+        "readers" => streams::readers(rt, alloc, row),
+        "writers" => streams::writers(rt, alloc, row),
+        _ => streams::cuts(rt, alloc, row),
+    }
+}
+
+fn run_part<R: Wait>(rt: &R, alloc: Global, part: &str) -> Result<(), Trouble> {
+    match part {
+        "names" => names::names(alloc),
+        "words" => names::words(alloc),
+        "pools" => pools::pools(alloc),
+        "orders" => edits::orders(alloc),
+        "edits" => edits::edits(alloc),
+        "reporter" => reports::reporter(alloc),
+        "reports" => reports::reports(alloc),
+        "nodes" => reports::nodes(alloc),
+        _ => links::links(rt, alloc),
+    }
+}
+
+// The row of a name; a name that no row has is that of a part.
+fn run_named<R: Threads + Wait + Sync>(
+    rt: &R,
+    alloc: Global,
+    name: &str,
+    way: &str,
+) -> Result<(), Trouble> {
+    for row in &ROWS {
+        if row.name == name {
+            return run_row(rt, alloc, row, way);
+        }
+    }
+    run_part(rt, alloc, name)
+}
+
+// Memory is refused once, or not at all; where it is refused again, more than that is wanting.
+fn run_again<R: Threads + Wait + Sync>(
+    rt: &R,
+    alloc: Global,
+    name: &str,
+    way: &str,
+) -> Result<(), Trouble> {
+    match run_named(rt, alloc, name, way) {
+        Err(Trouble::Memory) => run_named(rt, alloc, name, way),
+        ended => ended,
+    }
+}
+
+fn tell<R: Threads + Wait + Sync + Print>(
+    rt: &R,
+    alloc: Global,
+    name: &str,
+    way: &str,
+) -> io::Result<u8> {
+    match run_again(rt, alloc, name, way) {
+        Ok(()) => {
+            println!(rt; "{name} {way} stands")?;
+            Ok(0)
+        }
+        Err(Trouble::Other(other)) => {
+            println!(rt; "{name} {way} DOESN'T STAND: {other}")?;
+            Ok(1)
+        }
+        Err(Trouble::Memory) => {
+            println!(rt; "{name} {way} wants memory again")?;
+            Ok(3)
+        }
+    }
+}
+
+// Runs a row in a way, or prints the words that name it.
+fn one<R: Threads + Wait + Sync + Print>(
+    rt: &R,
+    alloc: Global,
+    lists: bool,
+    name: &str,
+    way: &str,
+) -> io::Result<u8> {
+    if lists {
+        println!(rt; "{name} {way}")?;
+        return Ok(0);
+    }
+    tell(rt, alloc, name, way)
+}
+
+// Runs all rows in all ways, or lists them. The answer is the greatest status.
+fn all<R: Threads + Wait + Sync + Print>(rt: &R, alloc: Global, lists: bool) -> io::Result<u8> {
+    let mut status = 0u8;
+    for row in &ROWS {
+        for way in WAYS {
+            status = status.max(one(rt, alloc, lists, row.name, way)?);
+        }
+    }
+    for part in PARTS {
+        status = status.max(one(rt, alloc, lists, part, "alone")?);
+    }
+    Ok(status)
+}
+
+// The words behind the program's name.
+fn words<R: Env + AllocGlobal>(rt: &R) -> io::Result<(Option<String>, Option<String>)> {
+    let mut words = env::args(rt)?;
+    let _program = words.next();
+    let first = words.next();
+    Ok((first, words.next()))
+}
+
+fn run<R: Threads + Wait + Sync + Print + Env + AllocGlobal>(rt: &R) -> io::Result<u8> {
+    let alloc = rt.alloc();
+    let (first, second) = match words(rt) {
+        Ok(found) => found,
+        Err(_) => words(rt)?,
+    };
+    let Some(name) = first else {
+        return all(rt, alloc, false);
+    };
+    match second {
+        Some(way) => tell(rt, alloc, name.as_str(), way.as_str()),
+        None => all(rt, alloc, name.as_str() == "list"),
+    }
+}
+
+fn main(rt: HostRuntime) -> ExitCode {
+    match run(&rt) {
+        Ok(status) => ExitCode::from(status),
+        Err(_) => ExitCode::from(3),
+    }
+}

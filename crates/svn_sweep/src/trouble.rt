@@ -1,0 +1,129 @@
+//! Why a row doesn't stand.
+use std::alloc::{AllocError, AllocFailed};
+use svn_drive::DriveFault;
+use svn_editor::{EditFault, OrderFault};
+use svn_link::LinkFault;
+use svn_model::{ReportFault, WcFault};
+use svn_pool::PoolFault;
+use svn_repo::CommitFault;
+use svn_report::ReporterFault;
+use svn_run::RunFault;
+use svn_script::{LineFault, WordsFault};
+use svn_types::PathFault;
+
+/// Why a row doesn't stand.
+#[derive(Clone, Copy, Debug, PartialEq, Eq)]
+pub(crate) enum Trouble {
+    /// A growth was refused, and the answer says so: the row can be begun anew.
+    Memory,
+    /// An answer that is neither the row's nor a want of memory, or a state that isn't as promised.
+    Other(&'static str),
+}
+
+// What an answer means that isn't the row's.
+fn of_refusal(is_memory: bool, other: &'static str) -> Trouble {
+    if is_memory {
+        Trouble::Memory
+    } else {
+        Trouble::Other(other)
+    }
+}
+
+impl From<AllocError> for Trouble {
+    fn from(_error: AllocError) -> Trouble {
+        Trouble::Memory
+    }
+}
+
+impl<T: Drop> From<AllocFailed<T>> for Trouble {
+    fn from(_error: AllocFailed<T>) -> Trouble {
+        Trouble::Memory
+    }
+}
+
+impl From<PathFault> for Trouble {
+    fn from(fault: PathFault) -> Trouble {
+        of_refusal(fault == PathFault::Memory, "a path or a name is refused")
+    }
+}
+
+impl From<CommitFault> for Trouble {
+    fn from(fault: CommitFault) -> Trouble {
+        of_refusal(fault == CommitFault::Memory, "a commit is refused")
+    }
+}
+
+impl From<WcFault> for Trouble {
+    fn from(fault: WcFault) -> Trouble {
+        of_refusal(
+            fault == WcFault::Memory,
+            "a call of a working copy is refused",
+        )
+    }
+}
+
+impl From<ReporterFault> for Trouble {
+    fn from(fault: ReporterFault) -> Trouble {
+        of_refusal(fault == ReporterFault::Memory, "a reporter refuses a call")
+    }
+}
+
+impl From<ReportFault> for Trouble {
+    fn from(fault: ReportFault) -> Trouble {
+        of_refusal(fault == ReportFault::Memory, "a report is refused")
+    }
+}
+
+impl From<OrderFault> for Trouble {
+    fn from(fault: OrderFault) -> Trouble {
+        of_refusal(fault == OrderFault::Memory, "a call is out of order")
+    }
+}
+
+impl From<EditFault> for Trouble {
+    fn from(fault: EditFault) -> Trouble {
+        of_refusal(fault == EditFault::Memory, "an editor refuses a call")
+    }
+}
+
+impl From<DriveFault> for Trouble {
+    fn from(fault: DriveFault) -> Trouble {
+        let is_memory = fault == DriveFault::Memory
+            || fault == DriveFault::Editor(EditFault::Memory);
+        of_refusal(is_memory, "a drive is refused")
+    }
+}
+
+impl From<RunFault> for Trouble {
+    fn from(fault: RunFault) -> Trouble {
+        let is_memory = fault == RunFault::Memory || fault == RunFault::NoThread;
+        of_refusal(is_memory, "a run is refused")
+    }
+}
+
+impl From<LinkFault> for Trouble {
+    fn from(fault: LinkFault) -> Trouble {
+        of_refusal(fault == LinkFault::Memory, "a link is refused")
+    }
+}
+
+impl From<PoolFault> for Trouble {
+    fn from(fault: PoolFault) -> Trouble {
+        of_refusal(fault == PoolFault::Memory, "a pool refuses a call")
+    }
+}
+
+impl From<LineFault> for Trouble {
+    fn from(fault: LineFault) -> Trouble {
+        of_refusal(fault == LineFault::Memory, "a line is no command")
+    }
+}
+
+impl From<WordsFault> for Trouble {
+    fn from(fault: WordsFault) -> Trouble {
+        of_refusal(
+            matches!(fault, WordsFault::Memory),
+            "words of a command line are refused",
+        )
+    }
+}

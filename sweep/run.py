@@ -1,0 +1,85 @@
+#!/usr/bin/env python3
+"""Runs each row of svn_sweep with each of its allocations refused, and says what was seen.
+
+usage: sweep/run.py PROGRAM [ROW..]
+
+PROGRAM is the built program, crates/svn_sweep/out/svn_sweep (`rt run` in crates/svn_sweep builds it). For each row and way, for N = 1, 2, ..
+until a run asks for fewer, the N-th allocation is refused, and the row has to stand all the same; then all from the N-th on are refused,
+and the program has to end, with the answer that memory is wanting where the row isn't done. refuse.c refuses; the system's C compiler makes
+a library of it, or the kit's. A run has a minute.
+"""
+import os, subprocess, sys, tempfile
+from concurrent.futures import ThreadPoolExecutor
+
+HERE = os.path.dirname(os.path.abspath(__file__))
+SECONDS = 60
+# Ways that take more allocations than can be refused one by one, and differ from the others in their streams alone.
+LONG = ("readers", "writers", "cuts")
+
+
+def built(folder):
+    """The library that refuses."""
+    library = f"{folder}/refuse.so"
+    for compiler in ("cc", "clang", "/opt/rattle/toolchain/bin/clang"):
+        try:
+            words = [compiler, "-O2", "-shared", "-fPIC", "-o", library, f"{HERE}/refuse.c"]
+            if subprocess.run(words, stderr=subprocess.DEVNULL).returncode == 0:
+                return library
+        except OSError:
+            pass
+    sys.exit("no C compiler makes a library of refuse.c")
+
+
+def run(program, words, library, refuse):
+    """The status, what was written, and how many allocations were asked for."""
+    with tempfile.NamedTemporaryFile() as counted:
+        counted.write(bytes(8))
+        counted.flush()
+        room = {"LD_PRELOAD": library, "REFUSE": refuse, "COUNT_IN": counted.name}
+        try:
+            ran = subprocess.run([*program, *words], env=room, capture_output=True, timeout=SECONDS)
+            status, wrote = ran.returncode, (ran.stdout + ran.stderr).decode(errors="replace")
+        except subprocess.TimeoutExpired:
+            status, wrote = "none", "hangs"
+        counted.seek(0)
+        return status, wrote, int.from_bytes(counted.read(8), "little")
+
+
+def sweep(program, library, words):
+    """The row's words, how many allocations were refused, how many of these ended the program where all behind were refused too, and what
+    is wrong."""
+    name, wrong, ended, n = " ".join(words), [], 0, 1
+    while True:
+        status, wrote, count = run(program, words, library, str(n))
+        if status != 0 or wrote != f"{name} stands\n":
+            wrong.append(f"{name}, allocation {n}: status {status}, {wrote!r}")
+        if count < n or len(wrong) > 100:
+            return name, n - 1, ended, wrong
+        status, wrote, _ = run(program, words, library, f"{n}+")
+        ended += status == 3
+        if status not in (0, 3):
+            wrong.append(f"{name}, all allocations from {n} on: status {status}, {wrote!r}")
+        n += 1
+
+
+def main():
+    # the words before the first that is no file start the program
+    files = [it for it in sys.argv[1:] if os.path.sep in it or it.startswith("-")]
+    program, names = files, [it for it in sys.argv[1:] if it not in files]
+    listed = subprocess.run([*program, "list"], capture_output=True, text=True, check=True).stdout.splitlines()
+    rows = [it for it in map(str.split, listed) if it[1] not in LONG and (not names or it[0] in names)]
+    found = refused = 0
+    with tempfile.TemporaryDirectory() as folder, ThreadPoolExecutor(os.cpu_count()) as pool:
+        library = os.environ.get("REFUSER") or built(folder)
+        for name, count, ended, wrong in pool.map(lambda it: sweep(program, library, it), rows):
+            found, refused = found + len(wrong), refused + count
+            print(f"{name}: {count} allocations refused; {ended} of them end it where all behind are refused too; {len(wrong)} wrong")
+            for line in wrong[:20]:
+                print(f"    {line}")
+            sys.stdout.flush()
+    print(f"{len(rows)} rows, {refused} allocations refused, {found} wrong")
+    return 1 if found else 0
+
+
+if __name__ == "__main__":
+    sys.exit(main())
