@@ -6,7 +6,7 @@ usage: sweep/run.py PROGRAM [ROW..]
 PROGRAM is the built program, crates/svn_sweep/out/svn_sweep (`rt run` in crates/svn_sweep builds it). For each row and way, for N = 1, 2, ..
 until a run asks for fewer, the N-th allocation is refused, and the row has to stand all the same; then all from the N-th on are refused,
 and the program has to end, with the answer that memory is wanting where the row isn't done. refuse.c refuses; the system's C compiler makes
-a library of it, or the kit's. A run has a minute.
+a library of it. A run has a minute.
 """
 import os, subprocess, sys, tempfile
 from concurrent.futures import ThreadPoolExecutor
@@ -20,7 +20,7 @@ LONG = ("readers", "writers", "cuts")
 def built(folder):
     """The library that refuses."""
     library = f"{folder}/refuse.so"
-    for compiler in ("cc", "clang", "/opt/rattle/toolchain/bin/clang"):
+    for compiler in ("cc", "clang"):
         try:
             words = [compiler, "-O2", "-shared", "-fPIC", "-o", library, f"{HERE}/refuse.c"]
             if subprocess.run(words, stderr=subprocess.DEVNULL).returncode == 0:
