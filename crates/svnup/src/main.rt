@@ -10,10 +10,20 @@ use std::thread::Threads;
 use std::{env, io};
 use svn_update::{ScriptFault, Settings, WordsFault, read_words, run_script};
 
+// Why the system hands out no words.
+fn fault_of(error: &io::Error) -> ScriptFault {
+    if error.kind() == io::ErrorKind::OutOfMemory {
+        ScriptFault::Memory
+    } else {
+        ScriptFault::Read
+    }
+}
+
 // The words of the command line, the first of which is the program's name.
 fn words(rt: &(impl Env + AllocGlobal)) -> Result<Vec<String>, ScriptFault> {
-    let Ok(words) = env::args(rt) else {
-        return Err(ScriptFault::Read);
+    let words = match env::args(rt) {
+        Ok(words) => words,
+        Err(error) => return Err(fault_of(&error)),
     };
     match words.collect(rt.alloc()) {
         Ok(words) => Ok(words),
