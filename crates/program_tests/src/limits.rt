@@ -139,8 +139,7 @@ fn switched_paths_have_a_greatest_depth(rt: HostRuntime) -> Result<(), AllocErro
     for (above, output) in SWITCHED {
         let nested = nested_lines(rt.alloc(), 64)?;
         let above = "a/".repeat(rt.alloc(), *above)?;
-        let script =
-            format!(in rt.alloc(); "{nested}checkout 1\nswitch {above}b . 1\nupdate 1\n")?;
+        let script = format!(in rt.alloc(); "{nested}checkout 1\nswitch {above}b . 1\nupdate 1\n")?;
         ends(&rt, &IN_TURN, script.as_str().as_bytes(), Ok(()), output);
     }
     Ok(())
