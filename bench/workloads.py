@@ -38,6 +38,15 @@ def compared(times=8, late=False):
         yield "update, texts late", "copy", times, to_and_fro(times, " late")
 
 
+def beside_updates(directory):
+    """What else is done with that copy, and with a directory of it."""
+    yield "drive", "copy", 4, ["drive 2"] * 4
+    yield "report", "copy", 4, ["report"] * 4
+    yield "place", "copy", 4, [f"place {directory} 2", f"place {directory} 1"] * 2
+    yield "forget", "copy", 4, [f"forget {directory}", f"place {directory} 1"] * 4
+    yield "show", "copy", 4, ["show"] * 4
+
+
 def one_directory(files=50_000):
     """Fifty thousand files in one directory, all changed."""
     def put(text):
@@ -45,11 +54,7 @@ def one_directory(files=50_000):
     yield "commit", None, 1, ["mkdir d", *put("a"), "commit"]
     yield "commit again", "commit", 1, [*put("b"), "commit"]
     yield from compared(late=True)
-    yield "drive", "copy", 4, ["drive 2"] * 4
-    yield "report", "copy", 4, ["report"] * 4
-    yield "place", "copy", 4, ["place d 2", "place d 1"] * 2
-    yield "forget", "copy", 4, ["forget d", "place d 1"] * 4
-    yield "show", "copy", 4, ["show"] * 4
+    yield from beside_updates("d")
 
 
 def bushy(files=100_000, changed=10):
@@ -58,11 +63,7 @@ def bushy(files=100_000, changed=10):
     yield "commit", None, 1, [*lines, "commit"]
     yield "commit again", "commit", 1, [*(f"put {path} b" for path in random.Random(1).sample(paths, changed)), "commit"]
     yield from compared()
-    yield "drive", "copy", 4, ["drive 2"] * 4
-    yield "report", "copy", 4, ["report"] * 4
-    yield "place", "copy", 4, ["place d0 2", "place d0 1"] * 2
-    yield "forget", "copy", 4, ["forget d0", "place d0 1"] * 4
-    yield "show", "copy", 4, ["show"] * 4
+    yield from beside_updates("d0")
 
 
 def deep(files=2_000, depth=60):
