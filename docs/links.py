@@ -2,7 +2,9 @@
 """Says which files and names that the documents and the comments of the code name aren't there. Status 1 where there are some.
 
 Looked at are words in backquotes: names of files with an ending of this repository, and names with `_` or a capital inside,
-which have to stand somewhere in code, definitions or proofs; and Markdown links. Subversion's names begin with `svn_`."""
+which have to stand somewhere in code, definitions or proofs; and Markdown links. Subversion's names begin with `svn_`.
+The scripts of examples/ stand again where the gate's program runs them, which sees only files of its own: both have to be the same."""
+import filecmp
 import os
 import re
 import sys
@@ -54,6 +56,14 @@ def names_in(word):
     return [it for it in names if re.search(r"_|[a-z][A-Z]", it) and not it.startswith("svn_")]
 
 
+def other_examples():
+    """The examples that aren't the same in both places."""
+    here, there = (os.path.join(TOP, it) for it in ("examples", "crates/script_examples/data"))
+    names = {it for it in os.listdir(here) + os.listdir(there) if it.endswith((".script", ".output"))}
+    same, _, _ = filecmp.cmpfiles(here, there, names, shallow=False)
+    return [f"examples/{it}: isn't the one in crates/script_examples/data" for it in names - {*same}]
+
+
 def main():
     known = files()
     words = words_of_code(known)
@@ -67,6 +77,7 @@ def main():
         here = os.path.dirname(page)
         lacking += [f"{page}: {it}" for it in named if not is_there(it, here, known)]
         lacking += [f"{page}: {name}" for it in quoted for name in names_in(it) if name not in words]
+    lacking += other_examples()
     print("\n".join(sorted({*lacking})) or "all that the documents name is there")
     return 1 if lacking else 0
 
