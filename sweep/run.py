@@ -2,11 +2,15 @@
 """Runs each row of svn_sweep with each of its allocations refused, and says what was seen.
 
 usage: sweep/run.py PROGRAM [ROW..]
+       sweep/run.py --svnup PROGRAM
 
 PROGRAM is the built program, crates/svn_sweep/out/svn_sweep (`rt run` in crates/svn_sweep builds it). For each row and way, for N = 1, 2, ..
 until a run asks for fewer, the N-th allocation is refused, and the row has to stand all the same; then all from the N-th on are refused,
 and the program has to end, with the answer that memory is wanting where the row isn't done. refuse.c refuses; the system's C compiler makes
 a library of it. A run has a minute.
+
+With --svnup it is the program crates/svnup/out/svnup, and what is swept are its words, the reading of a short script and its printing: it
+answers as with ample memory, or says that it is out of memory, with status 1, or the command that wanted memory is refused.
 """
 import os, subprocess, sys, tempfile
 from concurrent.futures import ThreadPoolExecutor
@@ -30,14 +34,14 @@ def built(folder):
     sys.exit("no C compiler makes a library of refuse.c")
 
 
-def run(program, words, library, refuse):
+def run(program, words, library, refuse, given=b""):
     """The status, what was written, and how many allocations were asked for."""
     with tempfile.NamedTemporaryFile() as counted:
         counted.write(bytes(8))
         counted.flush()
         room = {"LD_PRELOAD": library, "REFUSE": refuse, "COUNT_IN": counted.name}
         try:
-            ran = subprocess.run([*program, *words], env=room, capture_output=True, timeout=SECONDS)
+            ran = subprocess.run([*program, *words], env=room, input=given, capture_output=True, timeout=SECONDS)
             status, wrote = ran.returncode, (ran.stdout + ran.stderr).decode(errors="replace")
         except subprocess.TimeoutExpired:
             status, wrote = "none", "hangs"
@@ -62,16 +66,45 @@ def sweep(program, library, words):
         n += 1
 
 
+# Words for svnup, good and bad. With good words it commits once and says so.
+WORDS = [[], ["--in-turn"], ["--capacity", "1"], ["--capacity=4096", "--in-turn"], ["--help"], ["--capacity", "0"], ["--unknown"], ["word"]]
+WANTING = [(1, "svnup: out of memory\n"), (0, "refused Memory\n")]
+
+
+def sweep_words(program, library, words):
+    """The same of svnup's words: every answer is that with ample memory, or names the want."""
+    given, wrong, ended, n = b"commit\n", [], 0, 1
+    name = " ".join(["svnup", *words])
+    ample = run(program, words, library, "0", given)[:2]
+    while True:
+        status, wrote, count = run(program, words, library, str(n), given)
+        if (status, wrote) not in [ample, *WANTING] or count < n and (status, wrote) != ample:
+            wrong.append(f"{name}, allocation {n}: status {status}, {wrote!r}")
+        if count < n or len(wrong) > 100:
+            return name, n - 1, ended, wrong
+        status, wrote, _ = run(program, words, library, f"{n}+", given)
+        ended += status == 1
+        if (status, wrote) not in [ample, *WANTING]:
+            wrong.append(f"{name}, all allocations from {n} on: status {status}, {wrote!r}")
+        n += 1
+
+
 def main():
+    of_words = sys.argv[1:2] == ["--svnup"]
+    if of_words:
+        del sys.argv[1]
     # the words before the first that is no file start the program
     files = [it for it in sys.argv[1:] if os.path.sep in it or it.startswith("-")]
     program, names = files, [it for it in sys.argv[1:] if it not in files]
-    listed = subprocess.run([*program, "list"], capture_output=True, text=True, check=True).stdout.splitlines()
-    rows = [it for it in map(str.split, listed) if it[1] not in LONG and (not names or it[0] in names)]
+    if of_words:
+        rows, swept = WORDS, sweep_words
+    else:
+        listed = subprocess.run([*program, "list"], capture_output=True, text=True, check=True).stdout.splitlines()
+        rows, swept = [it for it in map(str.split, listed) if it[1] not in LONG and (not names or it[0] in names)], sweep
     found = refused = 0
     with tempfile.TemporaryDirectory() as folder, ThreadPoolExecutor(os.cpu_count()) as pool:
         library = os.environ.get("REFUSER") or built(folder)
-        for name, count, ended, wrong in pool.map(lambda it: sweep(program, library, it), rows):
+        for name, count, ended, wrong in pool.map(lambda it: swept(program, library, it), rows):
             found, refused = found + len(wrong), refused + count
             print(f"{name}: {count} allocations refused; {ended} of them end it where all behind are refused too; {len(wrong)} wrong")
             for line in wrong[:20]:

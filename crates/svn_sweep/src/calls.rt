@@ -1,5 +1,5 @@
-//! A row by the library's calls, one for each line. A refused call leaves things as they were and is made again, and after a run that
-//! was given up the copy is true and the same run, made again, ends at its target.
+//! A row by the library's calls, one for each line. A refused call leaves things as they were; one that wanted memory is made again, and
+//! after a run that was given up the copy is true and the same run, made again, ends at its target.
 use crate::printed::{call_lines, shown};
 use crate::rows::Row;
 use crate::runs::{Form, Wanted, run};
@@ -68,8 +68,8 @@ impl State {
             }
             answer = self.repo.commit(&self.pending);
         }
-        answer?;
         self.pending.clear();
+        answer?;
         Ok(())
     }
 
@@ -94,9 +94,11 @@ impl State {
     fn build(&mut self, command: &Command) -> Result<(), Trouble> {
         let before = shown(self.alloc, &self.copy)?;
         let mut answer = self.change_copy(command);
-        if answer == Err(WcFault::Memory) {
+        if answer.is_err() {
             let after = shown(self.alloc, &self.copy)?;
             same(&after, &before, "a refused call changes the copy")?;
+        }
+        if answer == Err(WcFault::Memory) {
             answer = self.change_copy(command);
         }
         Ok(answer?)
@@ -168,27 +170,21 @@ impl State {
         rt: &R,
         wanted: &Wanted<'_>,
     ) -> Result<Outcome, Trouble> {
-        let before = shown(self.alloc, &self.copy)?;
-        match run(
-            rt,
-            self.alloc,
-            self.form,
-            &self.repo,
-            &mut self.copy,
-            wanted,
-        ) {
-            Err(Trouble::Memory) => {
-                let after = shown(self.alloc, &self.copy)?;
-                same(&after, &before, "a run that doesn't begin changes the copy")?;
-                run(
-                    rt,
-                    self.alloc,
-                    self.form,
-                    &self.repo,
-                    &mut self.copy,
-                    wanted,
-                )
-            }
+        let State {
+            alloc,
+            form,
+            ref repo,
+            ref mut copy,
+            ..
+        } = *self;
+        let before = shown(alloc, copy)?;
+        let answer = run(rt, alloc, form, repo, copy, wanted);
+        if answer.is_err() {
+            let after = shown(alloc, copy)?;
+            same(&after, &before, "a run that doesn't begin changes the copy")?;
+        }
+        match answer {
+            Err(Trouble::Memory) => run(rt, alloc, form, repo, copy, wanted),
             answer => answer,
         }
     }
@@ -276,7 +272,13 @@ pub(crate) fn call_row<R: Threads + Wait + Sync>(
 ) -> Result<(), Trouble> {
     let mut state = State::new(alloc, form)?;
     for (line, printed) in row.lines {
-        state.take(rt, line, printed)?;
+        match state.take(rt, line, printed) {
+            Err(Trouble::Refused(refusal)) => {
+                let found = format!(in alloc; "{refusal}\n")?;
+                same(&found, printed, "a command is refused otherwise")?;
+            }
+            answer => answer?,
+        }
     }
     Ok(())
 }

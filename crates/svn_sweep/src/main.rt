@@ -139,6 +139,10 @@ fn tell<R: Threads + Wait + Sync + Print>(
             println!(rt; "{name} {way} DOESN'T STAND: {other}")?;
             Ok(1)
         }
+        Err(Trouble::Refused(refusal)) => {
+            println!(rt; "{name} {way} DOESN'T STAND: {refusal}")?;
+            Ok(1)
+        }
         Err(Trouble::Memory) => {
             println!(rt; "{name} {way} wants memory again")?;
             Ok(3)

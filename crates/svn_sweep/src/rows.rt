@@ -277,6 +277,99 @@ const LATE_ADD: Row = Row {
     ],
 };
 
+// A switch of the whole copy goes over a directory that was switched for itself.
+const SWITCH_INSIDE: Row = Row {
+    name: "switch-inside",
+    lines: &[
+        ("mkdir t", ""),
+        ("mkdir t/d", ""),
+        ("mkdir e", ""),
+        ("put t/f a", ""),
+        ("put t/d/x a", ""),
+        ("commit", "committed 1\n"),
+        ("copy 1 t b", ""),
+        ("commit", "committed 2\n"),
+        ("put b/f abc", ""),
+        ("commit", "committed 3\n"),
+        ("checkout 1 t", "ok\n"),
+        ("switch d e 1", "ok\n"),
+        ("report", "root t\nset . 1\nlink d e 1\n"),
+        ("switch-to b 3", "closed 13\n"),
+        (
+            "show",
+            ". dir 3 b\nd dir 3 b/d\nd/x file 3 b/d/x a\nf file 3 b/f abc\n",
+        ),
+    ],
+};
+
+const SWITCH_REFUSED: Row = Row {
+    name: "switch-refused",
+    lines: &[
+        ("mkdir t", ""),
+        ("put t/f a", ""),
+        ("commit", "committed 1\n"),
+        ("copy 1 t b", ""),
+        ("commit", "committed 2\n"),
+        ("checkout 1 t", "ok\n"),
+        ("switch-to b 1", "refused NoRoot\n"),
+        ("switch-to . 2", "refused OtherRoot\n"),
+        ("switch-to t/f 2", "refused OtherRoot\n"),
+        ("switch-to b 9", "refused NoSuchRevision\n"),
+        ("remove t", ""),
+        ("commit", "committed 3\n"),
+        ("drive 3", "refused NoRoot\n"),
+        ("update 3", "refused NoRoot\n"),
+        ("show", ". dir 1 t\nf file 1 t/f a\n"),
+        ("checkout 1 t/f", "refused BadRoot\n"),
+        ("switch-to b 3", "closed 4\n"),
+        ("show", ". dir 3 b\nf file 3 b/f a\n"),
+    ],
+};
+
+// Each kind of command is refused, and what was there stays.
+const REFUSED: Row = Row {
+    name: "refused",
+    lines: &[
+        ("mkdir d", ""),
+        ("put d/f a", ""),
+        ("commit", "committed 1\n"),
+        ("mkdir d", ""),
+        ("commit", "refused Exists\n"),
+        ("put x/y a", ""),
+        ("commit", "refused Missing\n"),
+        ("put d/f/x a", ""),
+        ("commit", "refused NotDir\n"),
+        ("put d a", ""),
+        ("commit", "refused NotFile\n"),
+        ("prop x p 1", ""),
+        ("commit", "refused Missing\n"),
+        ("remove .", ""),
+        ("commit", "refused IsRoot\n"),
+        ("copy 2 d e", ""),
+        ("commit", "refused NoSuchRevision\n"),
+        ("commit", "committed 2\n"),
+        ("checkout 1", "ok\n"),
+        ("checkout 3", "refused NoSuchRevision\n"),
+        ("checkout 1 x", "refused Missing\n"),
+        ("checkout 1 d/f", "refused BadRoot\n"),
+        ("place x 1", "refused Missing\n"),
+        ("place d 3", "refused NoSuchRevision\n"),
+        ("place . 1", "refused IsRoot\n"),
+        ("place x/y 1", "refused NoParent\n"),
+        ("switch d x 1", "refused Missing\n"),
+        ("switch . d 1", "refused IsRoot\n"),
+        ("switch x/y d 1", "refused NoParent\n"),
+        ("forget .", "refused IsRoot\n"),
+        ("forget x", "refused Missing\n"),
+        ("drive 3", "refused NoSuchTarget\n"),
+        ("update 3", "refused NoSuchRevision\n"),
+        ("switch-to d 3", "refused NoSuchRevision\n"),
+        ("show", ". dir 1 .\nd dir 1 d\nd/f file 1 d/f a\n"),
+        ("update 2", "closed 4\n"),
+        ("show", ". dir 2 .\nd dir 2 d\nd/f file 2 d/f a\n"),
+    ],
+};
+
 // A path of more bytes than are kept in place, and texts and values too.
 const LONG: Row = Row {
     name: "long",
@@ -301,7 +394,7 @@ const LONG: Row = Row {
 };
 
 /// All rows.
-pub(crate) const ROWS: [Row; 13] = [
+pub(crate) const ROWS: [Row; 16] = [
     CHANGED_FILE,
     TREES,
     MIXED,
@@ -312,6 +405,9 @@ pub(crate) const ROWS: [Row; 13] = [
     PROPERTIES,
     COPIED_OVER,
     WHOLE_SWITCH,
+    SWITCH_INSIDE,
+    SWITCH_REFUSED,
+    REFUSED,
     LATE,
     LATE_ADD,
     LONG,

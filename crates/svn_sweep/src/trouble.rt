@@ -1,5 +1,6 @@
 //! Why a row doesn't stand.
 use std::alloc::{AllocError, AllocFailed};
+use std::fmt;
 use svn_drive::DriveFault;
 use svn_editor::{EditFault, OrderFault};
 use svn_link::LinkFault;
@@ -11,11 +12,34 @@ use svn_run::RunFault;
 use svn_script::{LineFault, WordsFault};
 use svn_types::PathFault;
 
+/// The fault that a command is refused with, other than want of memory.
+#[derive(Clone, Copy, Debug, PartialEq, Eq)]
+pub(crate) enum Refusal {
+    Commit(CommitFault),
+    Copy(WcFault),
+    Drive(DriveFault),
+    Run(RunFault),
+}
+
+/// As a script prints it.
+impl fmt::Display for Refusal {
+    fn fmt<W: fmt::Write>(&self, f: &mut fmt::Formatter<W>) -> fmt::Result {
+        match self {
+            Refusal::Commit(fault) => write!(f, "refused {fault:?}"),
+            Refusal::Copy(fault) => write!(f, "refused {fault:?}"),
+            Refusal::Drive(fault) => write!(f, "refused {fault:?}"),
+            Refusal::Run(fault) => write!(f, "refused {fault:?}"),
+        }
+    }
+}
+
 /// Why a row doesn't stand.
 #[derive(Clone, Copy, Debug, PartialEq, Eq)]
 pub(crate) enum Trouble {
     /// A growth was refused, and the answer says so: the row can be begun anew.
     Memory,
+    /// A command was refused, which a row may want.
+    Refused(Refusal),
     /// An answer that is neither the row's nor a want of memory, or a state that isn't as promised.
     Other(&'static str),
 }
@@ -49,16 +73,19 @@ impl From<PathFault> for Trouble {
 
 impl From<CommitFault> for Trouble {
     fn from(fault: CommitFault) -> Trouble {
-        of_refusal(fault == CommitFault::Memory, "a commit is refused")
+        match fault {
+            CommitFault::Memory => Trouble::Memory,
+            _ => Trouble::Refused(Refusal::Commit(fault)),
+        }
     }
 }
 
 impl From<WcFault> for Trouble {
     fn from(fault: WcFault) -> Trouble {
-        of_refusal(
-            fault == WcFault::Memory,
-            "a call of a working copy is refused",
-        )
+        match fault {
+            WcFault::Memory => Trouble::Memory,
+            _ => Trouble::Refused(Refusal::Copy(fault)),
+        }
     }
 }
 
@@ -88,16 +115,19 @@ impl From<EditFault> for Trouble {
 
 impl From<DriveFault> for Trouble {
     fn from(fault: DriveFault) -> Trouble {
-        let is_memory = fault == DriveFault::Memory
-            || fault == DriveFault::Editor(EditFault::Memory);
-        of_refusal(is_memory, "a drive is refused")
+        match fault {
+            DriveFault::Memory | DriveFault::Editor(EditFault::Memory) => Trouble::Memory,
+            _ => Trouble::Refused(Refusal::Drive(fault)),
+        }
     }
 }
 
 impl From<RunFault> for Trouble {
     fn from(fault: RunFault) -> Trouble {
-        let is_memory = fault == RunFault::Memory || fault == RunFault::NoThread;
-        of_refusal(is_memory, "a run is refused")
+        match fault {
+            RunFault::Memory | RunFault::NoThread => Trouble::Memory,
+            _ => Trouble::Refused(Refusal::Run(fault)),
+        }
     }
 }
 
