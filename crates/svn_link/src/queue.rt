@@ -94,3 +94,7 @@ pub type Receiver = RuledReceiver<Call, Hand, InOrder>;
 
 /// A value without bytes by which a thread may make steps, and in which proofs keep what it did.
 pub type Pass = crossbeam_channel::Pass<Call, Hand>;
+
+/// How often an end looks again, and lets other threads run in between, before it sleeps until it is told: that costs both threads a call of the
+/// system.
+pub(crate) const LOOKS: u32 = 64;
