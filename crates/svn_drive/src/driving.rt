@@ -110,7 +110,7 @@ fn give_up<E: Editor>(stop: Stop, made: u64, editor: &mut E) -> Result<DriveEnd,
 ///
 /// Answers Closed where all calls were made and accepted, and Cancelled where `cancel_after` calls were, before the last. Before any call
 /// come, in this order, NoSuchTarget, NoRoot where the target has nothing at the repository path of the report's root, OtherRoot where a node
-/// of another line is there; or Memory. After calls come Full, Memory and Editor, for a call that was refused. After Cancelled and after
+/// of another line is there. All others come later: Full, Memory and Editor, for a call that was refused. After Cancelled and after
 /// these the last call was `AbortEdit`, and what it answered counts for nothing. It waits where the editor does.
 ///
 /// It costs what the report and the entries of the directories do that are opened or added, by their depth.

@@ -61,12 +61,12 @@ end_of Full made = Err NoNumber
 end_of Memory made = Err NoMemory
 end_of (Editor fault) made = Err (Refused fault)
 
--- A refusal before any call: the fault of the target, or want of memory.
+-- A refusal before any call: the fault of the target.
 abbrev pub IsEarly : Option DriveFault → Result DriveEnd DriveFault → Type 0
 IsEarly fault (Ok x) = ⊥
-IsEarly fault (Err e) = (fault ≡ Some e) ⊎ (e ≡ NoMemory)
+IsEarly fault (Err e) = fault ≡ Some e
 
--- No call, or all of them, or so many but not all up to a stop and then AbortEdit, whatever the editor answers to it.
+-- No call for a fault of the target, or all of them, or so many but not all up to a stop and then AbortEdit, whatever the editor answers to it.
 abbrev pub Drives : {E : Type 0} → (E → Call → Result (Unit {0}) EditFault → E → Type 0) → Option ℕ → Option DriveFault → List Call
     → Result DriveEnd DriveFault → E → E → Type 0
 Drives {E} answers limit fault calls result e f =

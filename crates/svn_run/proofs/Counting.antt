@@ -27,7 +27,7 @@ use Rattle.svn_run.specs.UpdateTheorem.{Nodes}
 use Rattle.svn_run.specs.Counts.{one_for, CountsCall}
 use Rattle.svn_run.specs.Coming.{CameTo, turn_outcome}
 use Rattle.svn_run.proofs.Applying.{IsOver, refused_over, over_stays, abort_stays}
-use Rattle.svn_run.proofs.Halting.{RefusedAt, stopped}
+use Rattle.svn_run.proofs.Halting.{never_early, RefusedAt, stopped}
 
 abbrev no_fault : Option DriveFault
 no_fault = None
@@ -247,14 +247,6 @@ module _ {E : Type 0} (answers : E → Call → Result (Unit {0}) EditFault → 
         for_memory k k f (Refused r.fault) (omega arith) (omega arith) (some_within limit k within) (give_up k m f answer s' h))
         (counts x r.call (Err r.fault) m r.refused))
 
-    -- a want of memory before any call
-    early : (result : Result DriveEnd DriveFault) → IsEarly None result
-        → CameTo drive mode limit w0 (nodes e) (turn_outcome result (made e) (accepted e))
-    early (Ok x) h = absurd h
-    early (Err x) h =
-        for_memory 0 0 e x (omega arith) (omega arith) (some_within limit 0 (λ n q. omega arith))
-        (record { copy = begun.stands.copy; made_is = begun.made_is; accepted_is = begun.accepted_is })
-
     whole : (n : ℕ) (f : E) → Leads answers drive e f → n ≡ length drive → IsWithin limit n
         → CameTo drive mode limit w0 (nodes f) (turn_outcome (Ok (AllMade n)) (made f) (accepted f))
     whole n f h long within =
@@ -293,8 +285,7 @@ module _ {E : Type 0} (answers : E → Call → Result (Unit {0}) EditFault → 
         → CameTo drive mode limit w0 (nodes f) (turn_outcome result (made f) (accepted f))
     came result f drove =
         ⊎_elim
-        (λ (t : (e ≡ f) × IsEarly None result). subst
-        (λ z. CameTo drive mode limit w0 (nodes z) (turn_outcome result (made z) (accepted z))) t.0 (early result t.1))
+        (λ (t : (e ≡ f) × IsEarly None result). absurd (never_early result t.1))
         (λ (u : Whole result f ⊎ Stops result f).
         ⊎_elim
         (λ (t : Whole result f). subst (λ z. CameTo drive mode limit w0 (nodes f) (turn_outcome z (made f) (accepted f))) (sym t.4)

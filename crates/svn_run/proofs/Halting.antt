@@ -1,12 +1,19 @@
 -- Where a driver stopped: so many calls of its list were accepted, and the next was refused or not made.
 use Rattle.std.proofs.Common.{◌≡◌, ℕ, zero, suc, ◌<◌, List, [], ◌∷◌, length, take, refl, inl, inr, ⊎_elim, arith}
-use Rattle.std.specs.Prelude.{◌≢◌, ◌⊎◌, Option, Some, Result, Err, slice_get}
+use Rattle.std.specs.Prelude.{◌≢◌, ◌⊎◌, Option, Some, None, Result, Ok, Err, slice_get}
 use Rattle.svn_editor.specs.declared.call.Call.{Call}
 use Rattle.svn_editor.specs.declared.fault.EditFault.{EditFault}
 use Rattle.svn_editor.specs.Editing.{Leads}
 use Rattle.svn_model.specs.declared.stop.Stop.{Stop}
 use Rattle.svn_model.specs.declared.stop.Stop.TheVariants.{Editor}
-use Rattle.svn_model.specs.Ends.{StopsBefore, Halts}
+use Rattle.svn_model.specs.declared.drive_end.DriveEnd.{DriveEnd}
+use Rattle.svn_model.specs.declared.drive_fault.DriveFault.{DriveFault}
+use Rattle.svn_model.specs.Ends.{StopsBefore, Halts, IsEarly}
+
+-- where the target has no fault, no drive ends before its first call
+pub never_early : (result : Result DriveEnd DriveFault) → IsEarly None result → ⊥
+never_early (Ok x) h = h
+never_early (Err e) h = absurd cc
 
 module _ {E : Type 0} (answers : E → Call → Result (Unit {0}) EditFault → E → Type 0) (limit : Option ℕ) where
   -- the call after the first k was refused

@@ -17,7 +17,7 @@ use Rattle.svn_model.specs.declared.drive_fault.DriveFault.TheVariants as end
 use Rattle.svn_model.specs.Ends.{StopsBefore, Halts, IsWithin, IsEarly, Drives, end_of}
 use Rattle.svn_run.specs.Lines.{LineEnds, IsReason, Answered, IsEnded}
 use Rattle.svn_run.specs.Driven.{IsStopped, StopsOn, IsSent}
-use Rattle.svn_run.proofs.Halting.{RefusedAt, stopped}
+use Rattle.svn_run.proofs.Halting.{never_early, RefusedAt, stopped}
 
 abbrev no_fault : Option DriveFault
 no_fault = None
@@ -128,13 +128,6 @@ module _ (drive : List Call) (limit : Option ℕ) (some : 0 < length drive) (clo
 
   -- ---- the driver's answers
 
-  sent_early : (r : Result DriveEnd DriveFault) (f : LineEnds) → IsEarly None r → Over 0 l f
-      → IsSent drive limit f.out.calls f.watch.number r
-  sent_early (Ok x) f h o over = absurd h
-  sent_early (Err x) f h o over =
-      let none : x ≡ end.Memory = ⊎_elim (λ (t : no_fault ≡ Some x). absurd cc) (λ (t : x ≡ end.Memory). t) h in
-      ((0, o.stops over), subst (λ y. StopsOn drive limit f.out.calls f.watch.number y) (sym none) tt)
-
   sent_own : (s : Stop) (k : ℕ) (m f : LineEnds) → StopsBefore limit k s → Over k m f
       → IsSent drive limit f.out.calls f.watch.number (end_of s k)
   sent_own stop.Cancelled k m f why o over = (why, o.stops over)
@@ -180,18 +173,6 @@ module _ (drive : List Call) (limit : Option ℕ) (some : 0 < length drive) (clo
       subst (λ z. Whole (end_of z k) f) (sym t.stop) w)
       r.1.1
 
-  early : (r : Result DriveEnd DriveFault) (g f : LineEnds) → l ≡ g → IsEarly None r → IsEnded g f → Whole r f
-  early r g f same h e =
-      let nothing : g.out.calls ≡ [] = ap (λ (x : LineEnds). x.out.calls) (sym same) ∙ fresh in
-      let t : Tried (take 0 drive) l g = record {
-        link = ap (λ (x : LineEnds). x.out.link) (sym same);
-        notice = ap (λ (x : LineEnds). x.watch.notice) (sym same);
-        sent = inr nothing;
-        again = λ n q. subst (λ (x : LineEnds). x.watch.number ≡ Some n) same q;
-      } in
-      let o = ends_after 0 l g f some (λ n q. omega arith) t e in
-      record { link = o.link; notice = o.notice; sent = sent_early r f h o }
-
   whole : (n : ℕ) (g f : LineEnds) → Leads Answered drive l g → n ≡ length drive → IsWithin limit n → IsEnded g f → Whole (Ok (Closed n)) f
   whole n g f led count within e =
       let was = led_to drive g led in
@@ -209,7 +190,7 @@ module _ (drive : List Call) (limit : Option ℕ) (some : 0 < length drive) (clo
   pub sends : (r : Result DriveEnd DriveFault) (g f : LineEnds) → Drives Answered limit None drive r l g → IsEnded g f → Whole r f
   sends r g f drove e =
       ⊎_elim
-      (λ (t : (l ≡ g) × IsEarly None r). early r g f t.0 t.1 e)
+      (λ (t : (l ≡ g) × IsEarly None r). absurd (never_early r t.1))
       (λ (u : AllSent r g ⊎ Stops r g).
       ⊎_elim
       (λ (t : AllSent r g). subst (λ z. Whole z f) (sym t.4) (whole t.0 g f t.2 t.3 t.5 e))

@@ -70,8 +70,7 @@ AnswersRecorded d late f (Err e) = IsRecorded d late (Refused (DriveRefused e))
 early : (d : Request) (late : Bool) (f : List Call) (answer : Result DriveEnd DriveFault) → IsEarly (target_fault d) answer
     → AnswersRecorded d late f answer
 early d late f (Ok end) h = absurd h
-early d late f (Err e) (inl h) = inl h
-early d late f (Err e) (inr h) = inr (subst (IsDriveWant d late) (sym h) tt)
+early d late f (Err e) h = inl h
 
 stopped : (d : Request) (late : Bool) (f calls : List Call) (answer : Result DriveEnd DriveFault) → IsStopAnswer d late calls answer
     → AnswersRecorded d late f answer
