@@ -2,7 +2,6 @@
 pub mod RunLemmas
 -- The calls of a visit: those of the path itself, of what is below it, and its close.
 pub mod Visits
-pub mod NextNames
 pub mod VisitRuns
 -- What a place has, the root's and a child's by its parent's.
 pub mod ChildPlaces
@@ -16,3 +15,5 @@ pub mod WholeRuns
 pub mod Checks
 -- Where a walk passes a child over: nothing is called there.
 pub mod Idle
+pub mod NamesLeft
+pub mod SkippedNames
