@@ -3,7 +3,7 @@
 --     left_step      the names that are left are the one that was taken, and those that are left then
 --     step_under      what stands under the name that was taken
 --     step_kept      what is left then is in order, and has what stands under each name
-use Rattle.std.proofs.Common.{◌≡◌, ◌≢◌, ◌⊎◌, inl, inr, ℕ, Bool, true, false, ◌&&◌, ◌||◌, not, List, [], ◌∷◌, ◌++◌, refl, sym, ◌∙◌, ap}
+use Rattle.std.proofs.Common.{◌≡◌, ◌≢◌, ◌⊎◌, inl, inr, ℕ, Bool, true, false, ◌&&◌, ◌||◌, List, [], ◌∷◌, ◌++◌, refl, sym, ◌∙◌, ap}
 use Rattle.std.proofs.Common.{subst, true≢false}
 use Rattle.std.specs.Prelude.{Option, Some, None, cond, is_some, fold, bytes_eq}
 use Rattle.std.specs.List.{list_any}
@@ -430,12 +430,12 @@ module _ (d : Request) (place : Place) (at : IsAt d place) (l : NamesLeft) (src 
         reported =
             ap (λ (ns : List Name). fold (insert_key name_cmp) [] ns) rep ∙ put_reported [] p d.report.entries ∙ sym rep;
         under = λ m h. record {
-              source =
-                  entry-below d.history place.source m ∙ value_at d.history place.source m
-                  ∙ ap (λ (es : List (Name × ℕ)). value_of es m) (sym src);
-              target =
-                  entry-below d.history place.target m ∙ value_at d.history place.target m
-                  ∙ ap (λ (es : List (Name × ℕ)). value_of es m) (sym tgt);
-              reported = sym (has_name-reported p d.report.entries m) ∙ ap (λ (ns : List Name). has_name ns m) (sym rep);
-            };
+          source =
+              entry-below d.history place.source m ∙ value_at d.history place.source m
+              ∙ ap (λ (es : List (Name × ℕ)). value_of es m) (sym src);
+          target =
+              entry-below d.history place.target m ∙ value_at d.history place.target m
+              ∙ ap (λ (es : List (Name × ℕ)). value_of es m) (sym tgt);
+          reported = sym (has_name-reported p d.report.entries m) ∙ ap (λ (ns : List Name). has_name ns m) (sym rep);
+        };
       }

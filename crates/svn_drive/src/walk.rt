@@ -108,12 +108,7 @@ impl<'a> Walk<'a> {
     }
 
     // The node that the client has at a child: the entry of its parent's node, but where the report has an entry of its own.
-    fn child_source(
-        &self,
-        above: &Place<'a>,
-        here: &Seen<'a>,
-        below: &Below<'a>,
-    ) -> Option<NodeId>
+    fn child_source(&self, above: &Place<'a>, here: &Seen<'a>, below: &Below<'a>) -> Option<NodeId>
         requires at { IsAt (request_of self.now) above.now }
         requires below { IsBelow (request_of self.now) above.now below.now }
         requires here { seen_as here.now ≡ reported_child self.now.report.now (seen_as above.now.here) below.now.name.now }
@@ -198,7 +193,9 @@ impl<'a> Walk<'a> {
         ensures path { IfOk result (λ p. (p.here.path ≡ above.now.here.path ++ below.now.name.now ∷ []) × (length p.here.path ≤ depth_limit)) }
         ensures parent { IfOk result (λ p. p.parent ≡ parent) }
     {
-        let here = self.reading().seen_child(&above.here, below.name, below.is_reported)?;
+        let here = self
+            .reading()
+            .seen_child(&above.here, below.name, below.is_reported)?;
         Ok(self.child_seen(above, here, below, parent))
     }
 

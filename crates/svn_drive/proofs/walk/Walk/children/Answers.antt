@@ -72,12 +72,14 @@ names-preserved c =
           ∙ ap (λ (l : List Below). names_of l ++ names_left c.take.new.self) (sym pushed)));
       under =
           subst (AllByRecursion (IsChild d c.args.place.now)) (sym pushed)
-          (all-append (IsChild d c.args.place.now) c.names.children.items (c.in_ok-below.below ∷ []) inv.under
-          (record {
-            under =
-                step_under d c.args.place.now c.names.left n c.in_ok-below.below c.take.new.self inv.left c.in_ok-below.ensures;
-            room = c.is_idle_child.ensures.room c.if-is_idle_child.false;
-          }, tt));
+          (all-append (IsChild d c.args.place.now) c.names.children.items (c.in_ok-below.below ∷ []) inv.under (
+            record {
+              under =
+                  step_under d c.args.place.now c.names.left n c.in_ok-below.below c.take.new.self inv.left c.in_ok-below.ensures;
+              room = c.is_idle_child.ensures.room c.if-is_idle_child.false;
+            },
+            tt,
+          ));
     }
 
 -- a name that is passed over

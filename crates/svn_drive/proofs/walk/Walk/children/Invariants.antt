@@ -1,4 +1,4 @@
-use Rattle.std.proofs.Common.{◌≡◌, ◌++◌, length}
+use Rattle.std.proofs.Common.{◌++◌, length}
 use Rattle.std.specs.List.{AllByRecursion}
 use Rattle.svn_model.specs.Tree.{names_below}
 use Rattle.svn_drive.specs.NamesLeft.{AreLeft, names_left}

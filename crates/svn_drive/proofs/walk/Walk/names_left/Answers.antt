@@ -1,4 +1,4 @@
-use Rattle.std.proofs.Common.{◌≡◌, ◌∙◌}
+use Rattle.std.proofs.Common.{◌∙◌}
 use Rattle.svn_drive.specs.declared.child_names.NamesLeft.{NamesLeft}
 use Rattle.svn_drive.specs.Walking.{request_of}
 use Rattle.svn_drive.proofs.NamesLeft.{all_left, left_at_first}
