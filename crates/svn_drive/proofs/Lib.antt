@@ -15,5 +15,7 @@ pub mod WholeRuns
 pub mod Checks
 -- Where a walk passes a child over: nothing is called there.
 pub mod Idle
+-- The names below a path, taken from three lists in order: each once, with what stands under it.
 pub mod NamesLeft
+-- A walk over the names at which something is done: it does what one over all names does.
 pub mod SkippedNames

@@ -1,5 +1,6 @@
 -- The names that are left below a path, of two directories and a report, and how the first of them is taken.
 --     names_left l      the names, in order and each once
+--     source_of below, target_of below      the nodes under a name, as numbers
 --     TakesChild l name below l'      the first name was taken, with what stands under it
 --     IsBelow d place below      what stands under a name below a place
 --     AreLeft d place l      the lists are in order, and have what stands under each name that is left
@@ -21,7 +22,6 @@ use Rattle.svn_drive.specs.Walking.{entry_of}
 
 -- ---- one name is taken
 
--- the nodes under a name, as numbers
 abbrev pub source_of : Below → Option ℕ
 source_of below = option_copied below.source
 

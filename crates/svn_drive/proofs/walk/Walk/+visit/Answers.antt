@@ -13,8 +13,8 @@ use Rattle.svn_drive.specs.Waiting.{waiting, visit_late, entered_late}
 use Rattle.svn_drive.specs.Walking.{IsEntered, request_of, entered_size}
 use Rattle.svn_drive.proofs.Waits.{waits_on, late-not_entered, late-not_there, late-entered}
 use Rattle.svn_drive.proofs.Visits.{size-not_entered, size-not_there, size-entered}
-use Rattle.svn_drive.proofs.VisitRuns.{no_items, visit_stopped, visit_left, visit_absent, visit_whole}
-use Rattle.svn_drive.proofs.VisitRuns.{name_stopped, names_memory, name_done, visit_at, entered_stopped_as, entered_file_as, entered_below_as, entered_directory_as}
+use Rattle.svn_drive.proofs.VisitRuns.{no_items, visit_stopped, visit_left, visit_absent, visit_whole, name_stopped, names_memory}
+use Rattle.svn_drive.proofs.VisitRuns.{name_done, visit_at, entered_stopped_as, entered_file_as, entered_below_as, entered_directory_as}
 use Rattle.svn_drive.proofs.walk.Walk.+visit.Goals as goal
 
 -- ---- a place
