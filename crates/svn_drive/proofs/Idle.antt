@@ -1,4 +1,5 @@
--- Where a walk passes a child over: one node on both sides without reports, nothing in the target below a new path, or a path that is too long.
+-- Where a walk passes a child over: one node on both sides without reports, nothing in the target below a new path, or a path that is
+-- too long.
 use Rattle.std.proofs.Common.{◌≡◌, ℕ, zero, suc, ◌≤◌, Bool, true, false, ◌&&◌, ◌||◌, not, List, [], ◌∷◌, length, refl, sym, ◌∙◌, ap, arith}
 use Rattle.std.proofs.Common.{true≢false, inl, inr}
 use Rattle.std.specs.Prelude.{Option, Some, None, is_some, cond}
@@ -30,7 +31,7 @@ use Rattle.svn_drive.proofs.Waits.{late-height, late-not_entered}
 
 -- ---- where nothing is reported at a path or below it
 
-none_at : (es : List (Path × ReportEntry)) (c : Path) → has_entry_within es c ≡ false → entry_at es c ≡ None
+pub none_at : (es : List (Path × ReportEntry)) (c : Path) → has_entry_within es c ≡ false → entry_at es c ≡ None
 none_at [] c h = refl
 none_at (e ∷ es) c h =
     let parts = or_parts (is_within c e.0) (has_entry_within es c) h in
@@ -186,9 +187,9 @@ idle_new d p name new out r none =
     never true false = refl
     never false y = refl
 
-pub none_of : (o : Option ℕ) (b : Bool) → is_some o ≡ not b → b ≡ true → o ≡ None
-none_of None b e t = refl
-none_of (Some n) b e t = absurd (true≢false (e ∙ ap not t))
+pub none_of : {A : Type 0} (o : Option A) (b : Bool) → is_some o ≡ not b → b ≡ true → o ≡ None
+none_of {A} None b e t = refl
+none_of {A} (Some n) b e t = absurd (true≢false (e ∙ ap not t))
 
 -- ---- nothing is called there
 

@@ -2,7 +2,6 @@
 pub mod RunLemmas
 -- The calls of a visit: those of the path itself, of what is below it, and its close.
 pub mod Visits
-pub mod NextNames
 pub mod VisitRuns
 -- What a place has, the root's and a child's by its parent's.
 pub mod ChildPlaces
@@ -16,3 +15,7 @@ pub mod WholeRuns
 pub mod Checks
 -- Where a walk passes a child over: nothing is called there.
 pub mod Idle
+-- The names below a path, taken from three lists in order: each once, with what stands under it.
+pub mod NamesLeft
+-- A walk over the names at which something is done: it does what one over all names does.
+pub mod SkippedNames

@@ -25,9 +25,9 @@ use Rattle.svn_model.proofs.Names.{Name}
 use Rattle.svn_drive.proofs.RunLemmas.{run_then, run_stops, run_memory}
 use Rattle.svn_drive.proofs.Visits.{rest_of, visit_after_delete, visit-not_entered, visit-not_there, visit-entered}
 
-pub no_items : (cs : List PropChange) (n : ℕ) → n ≡ 0 → n ≡ length cs → cs ≡ []
-no_items [] n h e = refl
-no_items (c ∷ cs) n h e = absurd (omega arith)
+pub no_items : {X : Type 0} (cs : List X) (n : ℕ) → n ≡ 0 → n ≡ length cs → cs ≡ []
+no_items {X} [] n h e = refl
+no_items {X} (c ∷ cs) n h e = absurd (omega arith)
 
 module _ {E : Type 0} (answers : E → Call → Result (Unit {0}) EditFault → E → Type 0) (limit : Option ℕ) where
   abbrev pub Run : List Call → Result (Unit {0}) Stop → E → E → ℕ → ℕ → Type 0

@@ -2,3 +2,6 @@ pub mod Counts
 pub mod Walking
 pub mod Waiting
 pub mod Checking
+pub mod Firsts
+pub mod NamesLeft
+pub mod Children

@@ -1,8 +1,11 @@
 //! Whether a repository can serve a report.
-ghost use Rattle.std.specs.Prelude.{◌≡◌, ◌≤◌, ◌<◌, ◌++◌, ◌∷◌, [], ◌&&◌, length, IfOk, Some, None, not};
+ghost use Rattle.std.specs.Prelude.{◌≡◌, ◌≤◌, ◌<◌, ◌++◌, ◌∷◌, [], ◌&&◌, length, IfOk, IsFalse, Some, None, not, false};
+ghost use Rattle.std.specs.Option.{option_copied};
 ghost use Rattle.svn_types.specs.Names.{depth_limit};
 ghost use Rattle.svn_types.specs.Paths.{parent};
 ghost use Rattle.svn_repo.specs.History.{look, walk, node_at};
+ghost use Rattle.svn_report.specs.Reports.{entry_at};
+ghost use Rattle.svn_report.specs.ReportNames.{has_entry_within};
 ghost use Rattle.svn_model.specs.Checks.{fault_of, first_fault};
 ghost use Rattle.svn_model.specs.Sources.{source, source_at, reported, reported_root, reported_child};
 ghost use Rattle.svn_drive.specs.Checking.{AnswersCheck, seen_as, fault_by, fault_at};
@@ -89,15 +92,34 @@ impl<'a> Check<'a> {
         }
     }
 
-    /// What it says of a child.
-    pub(crate) fn seen_child(&self, above: &Seen<'a>, name: &Name) -> Result<Seen<'a>, AllocError>
+    // The entry at a path; where nothing is reported at it or below it, it isn't looked for.
+    #[tactic(auto, using(crate::proofs::Idle::none_at))]
+    fn own_entry(&self, path: &RelPath, is_reported: bool) -> Option<&'a ReportEntry>
+        requires { IsFalse is_reported → has_entry_within self.now.report.now.entries path.now ≡ false }
+        ensures { option_copied result ≡ entry_at self.now.report.now.entries path.now }
+    {
+        if is_reported {
+            self.report.entry_at(path)
+        } else {
+            None
+        }
+    }
+
+    /// What it says of a child, and whether anything is reported there or below may be known.
+    pub(crate) fn seen_child(
+        &self,
+        above: &Seen<'a>,
+        name: &Name,
+        is_reported: bool,
+    ) -> Result<Seen<'a>, AllocError>
         requires start { above.now.start ≤ length above.now.path }
         requires short { length above.now.path < depth_limit }
+        requires reported { IsFalse is_reported → has_entry_within self.now.report.now.entries (above.now.path ++ name.now ∷ []) ≡ false }
         ensures seen { IfOk result (λ s. seen_as s ≡ reported_child self.now.report.now (seen_as above.now) name.now) }
         ensures start { IfOk result (λ s. s.start ≤ length s.path) }
     {
         let path = child_path(self.alloc, &above.path, name)?;
-        let own = self.report.entry_at(&path);
+        let own = self.own_entry(&path, is_reported);
         let governing = own_or(own, above.governing);
         match own {
             Some(ReportEntry::LinkPath { repos_path, .. }) => {
@@ -128,7 +150,7 @@ impl<'a> Check<'a> {
     {
         let mut seen = self.seen_root();
         for name in names {
-            seen = self.seen_child(&seen, name)?;
+            seen = self.seen_child(&seen, name, true)?;
         }
         Ok(seen)
     }
@@ -158,7 +180,7 @@ impl<'a> Check<'a> {
             }
             Some((last, names)) => {
                 let above = self.seen_at(names)?;
-                let here = self.seen_child(&above, last)?;
+                let here = self.seen_child(&above, last, true)?;
                 Ok((self.source(&here), self.source(&above)))
             }
         }

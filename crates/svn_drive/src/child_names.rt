@@ -1,87 +1,66 @@
-//! The names directly below a path, in order.
-ghost use Rattle.std.specs.Prelude.{◌≡◌, [], bytes_eq, fold, map, OnOk, IfOk};
-ghost use Rattle.std.specs.List.{list_any};
-ghost use Rattle.std.specs.BTreeSet.{insert_key};
-ghost use Rattle.svn_types.specs.Names.{name_cmp};
-ghost use Rattle.svn_model.specs.Tree.{names_at, names_in, names_below};
-ghost use Rattle.svn_drive.specs.Walking.{IsAt, request_of};
+//! The names directly below a path, in order, and what stands under each.
+ghost use Rattle.std.specs.Prelude.{◌≡◌, Some, IfOk};
+ghost use Rattle.std.specs.Option.{option_copied};
+ghost use Rattle.svn_drive.specs.Firsts.{earlier};
+ghost use Rattle.svn_drive.specs.NamesLeft.{first_name, TakesChild};
 
-use crate::place::Place;
-use crate::walk::Walk;
-use std::alloc::{AllocError, Global};
-use std::collections::BTreeSet;
-use svn_repo::{NodeId, Repo};
-use svn_report::Report;
-use svn_types::{Name, RelPath};
+use crate::lists_left::{EntriesLeft, ReportedLeft};
+use std::alloc::AllocError;
+use svn_repo::NodeId;
+use svn_types::Name;
 
-// Adds the names of a directory's entries.
-fn add_entries<'a>(
-    repo: &'a Repo,
-    node: Option<NodeId>,
-    names: &mut BTreeSet<&'a Name>,
-) -> Result<(), AllocError>
-    ensures { OnOk result (map (λ name. name.now) names.new.keys ≡ fold (insert_key name_cmp) (map (λ name. name.now) names.old.keys) (names_at repo.now node)) }
+/// What stands under a name below a place: the entries of the nodes on both sides, and whether the report has an entry at it or below it.
+#[derive(Clone, Copy)]
+pub(crate) struct Below<'a> {
+    pub(crate) name: &'a Name,
+    pub(crate) source: Option<&'a NodeId>,
+    pub(crate) target: Option<&'a NodeId>,
+    pub(crate) is_reported: bool,
+}
+
+// The earlier of two names.
+fn earlier<'a>(first: Option<&'a Name>, second: Option<&'a Name>) -> Option<&'a Name>
+    ensures { option_copied result ≡ earlier (option_copied first.entry) (option_copied second.entry) }
 {
-    let Some(id) = node else {
-        return Ok(());
+    let Some(name) = first else {
+        return second;
     };
-    let Some(entries) = repo.entries(id) else {
-        return Ok(());
+    let Some(other) = second else {
+        return first;
     };
-    for (name, _) in entries.as_map() {
-        names.insert(name)?;
+    if other < name { second } else { first }
+}
+
+/// The names that are left below a path: those of the source's entries, of the target's, and of the report's, each list in order.
+#[derive(Drop)]
+pub(crate) struct NamesLeft<'a> {
+    pub(crate) source: EntriesLeft<'a>,
+    pub(crate) target: EntriesLeft<'a>,
+    pub(crate) reported: ReportedLeft<'a>,
+}
+
+impl<'a> NamesLeft<'a> {
+    /// The first name of all.
+    pub(crate) fn first_name(&self) -> Option<&'a Name>
+        ensures { option_copied result ≡ first_name self.now }
+    {
+        let entries = earlier(self.source.first_name(), self.target.first_name());
+        earlier(entries, self.reported.first_name())
     }
-    Ok(())
-}
 
-// Adds the names at or below which a report has entries.
-fn add_reported<'a>(
-    report: &'a Report,
-    path: &RelPath,
-    names: &mut BTreeSet<&'a Name>,
-) -> Result<(), AllocError>
-    ensures { OnOk result (map (λ name. name.now) names.new.keys ≡ fold (insert_key name_cmp) (map (λ name. name.now) names.old.keys) (names_in path.now report.now.entries)) }
-{
-    let mut last = None;
-    'reported: while let Some(name) = report.next_name_below(path, last)? {
-        names.insert(name)?;
-        last = Some(name);
+    /// Takes the first name of all, with what stands under it. It takes memory where the name is reported.
+    pub(crate) fn take(&mut self, name: &'a Name) -> Result<Below<'a>, AllocError>
+        requires { first_name self.old ≡ Some name.now }
+        ensures { IfOk result (λ below. TakesChild self.old name.now below self.new) }
+    {
+        let source = self.source.take(name);
+        let target = self.target.take(name);
+        let is_reported = self.reported.take(name)?;
+        Ok(Below {
+            name,
+            source,
+            target,
+            is_reported,
+        })
     }
-    Ok(())
-}
-
-/// The names directly below a path at or below which a report has entries.
-pub(crate) fn reported_below<'a>(
-    alloc: Global,
-    report: &'a Report,
-    path: &RelPath,
-) -> Result<BTreeSet<&'a Name>, AllocError>
-    ensures { IfOk result (λ s. map (λ name. name.now) s.keys ≡ fold (insert_key name_cmp) [] (names_in path.now report.now.entries)) }
-{
-    let mut names = BTreeSet::new(alloc);
-    add_reported(report, path, &mut names)?;
-    Ok(names)
-}
-
-/// Whether a name is one of them.
-pub(crate) fn has_name<'a>(names: &BTreeSet<&'a Name>, name: &'a Name) -> bool
-    ensures { result ≡ list_any (λ n. bytes_eq n name.now) (map (λ n. n.now) names.now.keys) }
-{
-    names.contains(&name)
-}
-
-/// The names directly below a place: in the source, in the target and in the report.
-pub(crate) fn names_below<'a>(
-    alloc: Global,
-    walk: &Walk<'a>,
-    place: &Place<'a>,
-) -> Result<BTreeSet<&'a Name>, AllocError>
-    requires { IsAt (request_of walk.now) place.now }
-    ensures { IfOk result (λ s. map (λ name. name.now) s.keys ≡ names_below (request_of walk.now) place.now.here.path) }
-{
-    let mut names = BTreeSet::new(alloc);
-    add_entries(walk.repo, place.source, &mut names)?;
-    add_entries(walk.repo, place.target, &mut names)?;
-    add_reported(walk.report, &place.here.path, &mut names)?;
-    Ok(names)
 }

@@ -20,8 +20,10 @@
 
 mod check;
 mod child_names;
+mod children;
 mod driving;
 mod entries;
+mod lists_left;
 mod making;
 mod nodes;
 mod place;

@@ -2,7 +2,6 @@
 ghost use Rattle.std.specs.Prelude.{◌≡◌, [], IfOk};
 ghost use Rattle.svn_repo.specs.History.{node_at, child_in};
 ghost use Rattle.svn_repo.specs.Readings.{are_related, is_directory_at, text_of, kind_of, props_of};
-ghost use Rattle.svn_drive.specs.Walking.{entry_of, has_same_entry};
 
 use std::alloc::{AllocError, Global};
 use svn_repo::{NodeId, Repo};
@@ -35,33 +34,6 @@ pub(crate) fn node_under(repo: &Repo, node: NodeId, name: &Name) -> Option<NodeI
     match repo.entries(node) {
         Some(entries) => entries.get(name),
         None => None,
-    }
-}
-
-/// The same, where there is a node.
-pub(crate) fn entry_of(repo: &Repo, node: Option<NodeId>, name: &Name) -> Option<NodeId>
-    ensures { result ≡ entry_of repo.now node name.now }
-{
-    match node {
-        Some(id) => node_under(repo, id, name),
-        None => None,
-    }
-}
-
-/// Whether two nodes have one entry under a name.
-pub(crate) fn has_same_entry(
-    repo: &Repo,
-    old: Option<NodeId>,
-    new: Option<NodeId>,
-    name: &Name,
-) -> bool
-    ensures { result ≡ has_same_entry repo.now old new name.now }
-{
-    let entry = entry_of(repo, old, name);
-    if entry.is_some() {
-        entry == entry_of(repo, new, name)
-    } else {
-        false
     }
 }
 

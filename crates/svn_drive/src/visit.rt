@@ -1,5 +1,5 @@
 //! The walk of a drive: at each place its calls, those of the places below it, and its close.
-ghost use Rattle.std.specs.Prelude.{◌≡◌, IsTrue, IsFalse, ◌+◌, ◌++◌, ◌∷◌, [], ◌≤◌, ◌<◌, length, map, Some, None, false, IfOk, OnOk, if◌then◌else◌};
+ghost use Rattle.std.specs.Prelude.{◌≡◌, ◌+◌, ◌++◌, ◌∷◌, [], ◌≤◌, length, map, Some, None, IfOk, OnOk, if◌then◌else◌};
 ghost use Rattle.std.specs.Option.{option_copied};
 ghost use Rattle.md5.specs.Md5.{md5};
 ghost use Rattle.svn_types.specs.Names.{depth_limit};
@@ -7,20 +7,16 @@ ghost use Rattle.svn_types.specs.Props.{changes_between};
 ghost use Rattle.svn_types.specs.declared.kind.Kind.TheVariants.{File};
 ghost use Rattle.svn_editor.specs.Steps.{Action, Change};
 ghost use Rattle.svn_repo.specs.Readings.{text_of, kind_of, props_of};
-ghost use Rattle.svn_report.specs.ReportNames.{has_entry_within};
 ghost use Rattle.svn_model.specs.Ends.{Runs};
 ghost use Rattle.svn_model.specs.Steps.{gone_actions};
 ghost use Rattle.svn_model.specs.Tree.{names_below, is_entered, is_late, old_props, enter_action, entry_actions, file_end, last_of};
 ghost use Rattle.svn_model.specs.TreeCalls.{call_at, calls_at, in_turn, sizes, visit_calls, visit_size};
 ghost use Rattle.svn_drive.specs.Waiting.{waiting, visit_late, entered_late};
-ghost use Rattle.svn_drive.specs.Walking.{IsAt, IsEntered, IsIdle, IsTold, request_of, text_action, close_action, has_text_of, old_text, text_end, entered_calls, entered_size};
+ghost use Rattle.svn_drive.specs.Walking.{IsAt, IsEntered, IsTold, request_of, text_action, close_action, has_text_of, old_text, text_end, entered_calls, entered_size};
 
-use crate::child_names::{has_name, names_below, reported_below};
 use crate::entries::{revision_of, starts_empty};
 use crate::making::{Progress, make, make_opening};
-use crate::nodes::{
-    entry_of, has_same_entry, is_directory, kind_of, props_of, shared_text, text_of,
-};
+use crate::nodes::{is_directory, kind_of, props_of, shared_text, text_of};
 use crate::place::Place;
 use crate::walk::Walk;
 use md5::{Digest as Hasher, Md5};
@@ -28,7 +24,7 @@ use std::alloc::AllocError;
 use svn_editor::{Call, Digest, Editor, Token};
 use svn_model::Stop;
 use svn_repo::{NodeId, Repo};
-use svn_types::{Kind, MAX_COMPONENTS, Name, PropChange, Props};
+use svn_types::{Kind, PropChange, Props};
 
 /// What was opened or added: its token, its kind and its node in the target.
 #[derive(Clone, Copy)]
@@ -310,38 +306,6 @@ impl<'a> Walk<'a> {
         self.close_file(&file, editor, progress)
     }
 
-    // Whether a child of a kept place is one node on both sides, with nothing reported there, so that nothing is done at it.
-    fn is_same_child(&self, place: &Place<'a>, name: &Name, is_reported: bool) -> bool
-        requires at { IsAt (request_of self.now) place.now }
-        requires kept { IsTrue place.now.is_kept }
-        requires unreported { IsFalse is_reported → has_entry_within self.now.report.now.entries (place.now.here.path ++ name.now ∷ []) ≡ false }
-        ensures { IsTrue result → IsIdle (request_of self.now) (place.now.here.path ++ name.now ∷ []) }
-    {
-        if is_reported {
-            false
-        } else if starts_empty(place.here.governing) {
-            false
-        } else {
-            has_same_entry(self.repo, place.source, place.target, name)
-        }
-    }
-
-    // Whether nothing is done at a child: it is the same, the target has nothing there below what isn't kept, or its path would be too long.
-    fn is_idle_child(&self, place: &Place<'a>, name: &Name, is_reported: bool) -> bool
-        requires at { IsAt (request_of self.now) place.now }
-        requires unreported { IsFalse is_reported → has_entry_within self.now.report.now.entries (place.now.here.path ++ name.now ∷ []) ≡ false }
-        ensures idle { IsTrue result → IsIdle (request_of self.now) (place.now.here.path ++ name.now ∷ []) }
-        ensures room { IsFalse result → length place.now.here.path < depth_limit }
-    {
-        if place.here.path.components().len() >= MAX_COMPONENTS {
-            true
-        } else if place.is_kept {
-            self.is_same_child(place, name, is_reported)
-        } else {
-            entry_of(self.repo, place.target, name).is_none()
-        }
-    }
-
     // The places below a directory.
     #[cycle(visit)]
     fn visit_below<E: Editor>(
@@ -358,14 +322,10 @@ impl<'a> Walk<'a> {
         ensures tokens { OnOk result (progress.new.next ≡ progress.old.next + sizes (visit_size (request_of self.now)) place.now.here.path (names_below (request_of self.now) place.now.here.path)) }
         ensures waits { OnOk result (waiting self.now.repo.now later.new.items ≡ waiting self.now.repo.now later.old.items ++ in_turn (λ q next. visit_late (request_of self.now) self.now.late q token next) (visit_size (request_of self.now)) place.now.here.path progress.old.next (names_below (request_of self.now) place.now.here.path)) }
     {
-        let reported = reported_below(self.alloc, self.report, &place.here.path)?;
-        let names = names_below(self.alloc, self, place)?;
-        for name in names {
-            if self.is_idle_child(place, name, has_name(&reported, name)) {
-                continue;
-            }
-            let below = self.child(place, name, token)?;
-            self.visit(&below, editor, progress, later)?;
+        let children = self.children(place)?;
+        for below in children {
+            let child = self.child(place, &below, token)?;
+            self.visit(&child, editor, progress, later)?;
         }
         Ok(())
     }

@@ -6,17 +6,19 @@ ghost use Rattle.svn_model.specs.Sources.{source, reported_child};
 ghost use Rattle.svn_model.specs.Tree.{is_entered};
 ghost use Rattle.svn_model.specs.Follow.{root_path};
 ghost use Rattle.svn_drive.specs.Checking.{seen_as};
+ghost use Rattle.svn_drive.specs.NamesLeft.{IsBelow};
 ghost use Rattle.svn_drive.specs.Walking.{IsAt, IsNearlyAt, is_changed_at, linked_node, candidate_node, request_of, mode_of};
 
 use crate::check::{Check, Seen, both};
+use crate::child_names::Below;
 use crate::entries::{is_hidden, starts_empty};
-use crate::nodes::{are_related, entry_of, is_directory};
+use crate::nodes::{are_related, is_directory};
 use crate::place::Place;
 use std::alloc::{AllocError, Global};
 use svn_editor::Token;
 use svn_repo::{NodeId, Repo};
 use svn_report::{Report, ReportEntry};
-use svn_types::{Name, RelPath, Rev};
+use svn_types::{RelPath, Rev};
 
 /// A drive: what it reads, the revision that it leads to, the new root of a switch, whether texts wait for the directories, and how many calls
 /// may be made.
@@ -106,9 +108,10 @@ impl<'a> Walk<'a> {
     }
 
     // The node that the client has at a child: the entry of its parent's node, but where the report has an entry of its own.
-    fn child_source(&self, above: &Place<'a>, here: &Seen<'a>, name: &Name) -> Option<NodeId>
+    fn child_source(&self, above: &Place<'a>, here: &Seen<'a>, below: &Below<'a>) -> Option<NodeId>
         requires at { IsAt (request_of self.now) above.now }
-        requires here { seen_as here.now ≡ reported_child self.now.report.now (seen_as above.now.here) name.now }
+        requires below { IsBelow (request_of self.now) above.now below.now }
+        requires here { seen_as here.now ≡ reported_child self.now.report.now (seen_as above.now.here) below.now.name.now }
         requires start { here.now.start ≤ length here.now.path }
         ensures { result ≡ source self.now.repo.now (seen_as here.now) }
     {
@@ -117,7 +120,7 @@ impl<'a> Walk<'a> {
         } else if is_hidden(None, here.governing) {
             None
         } else {
-            entry_of(self.repo, above.source, name)
+            below.source.copied()
         }
     }
 
@@ -144,16 +147,23 @@ impl<'a> Walk<'a> {
     }
 
     // The child of a place, by what the report says of it.
-    fn child_seen(&self, above: &Place<'a>, here: Seen<'a>, name: &Name, parent: Token) -> Place<'a>
+    fn child_seen(
+        &self,
+        above: &Place<'a>,
+        here: Seen<'a>,
+        below: &Below<'a>,
+        parent: Token,
+    ) -> Place<'a>
         requires at { IsAt (request_of self.now) above.now }
-        requires here { seen_as here ≡ reported_child self.now.report.now (seen_as above.now.here) name.now }
+        requires below { IsBelow (request_of self.now) above.now below.now }
+        requires here { seen_as here ≡ reported_child self.now.report.now (seen_as above.now.here) below.now.name.now }
         requires start { here.start ≤ length here.path }
         ensures at { IsAt (request_of self.now) result }
         ensures path { result.here.path ≡ here.entry.path }
         ensures parent { result.parent ≡ parent }
     {
-        let source = self.child_source(above, &here, name);
-        let beneath = entry_of(self.repo, above.target, name);
+        let source = self.child_source(above, &here, below);
+        let beneath = below.target.copied();
         let there = self.candidate(&here, &beneath);
         let related = are_related(self.repo, &source, &there);
         let is_kept = both(above.is_kept, related);
@@ -169,21 +179,24 @@ impl<'a> Walk<'a> {
         })
     }
 
-    /// The child of a place, by its name.
+    /// The child of a place, by its name and what stands under that.
     pub(crate) fn child(
         &self,
         above: &Place<'a>,
-        name: &Name,
+        below: &Below<'a>,
         parent: Token,
     ) -> Result<Place<'a>, AllocError>
         requires at { IsAt (request_of self.now) above.now }
+        requires below { IsBelow (request_of self.now) above.now below.now }
         requires short { length above.now.here.path < depth_limit }
         ensures at { IfOk result (λ p. IsAt (request_of self.now) p) }
-        ensures path { IfOk result (λ p. (p.here.path ≡ above.now.here.path ++ name.now ∷ []) × (length p.here.path ≤ depth_limit)) }
+        ensures path { IfOk result (λ p. (p.here.path ≡ above.now.here.path ++ below.now.name.now ∷ []) × (length p.here.path ≤ depth_limit)) }
         ensures parent { IfOk result (λ p. p.parent ≡ parent) }
     {
-        let here = self.reading().seen_child(&above.here, name)?;
-        Ok(self.child_seen(above, here, name, parent))
+        let here = self
+            .reading()
+            .seen_child(&above.here, below.name, below.is_reported)?;
+        Ok(self.child_seen(above, here, below, parent))
     }
 
     /// Whether the client has something there that goes.

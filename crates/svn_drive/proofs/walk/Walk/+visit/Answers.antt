@@ -1,19 +1,20 @@
-use Rattle.std.proofs.Common.{rules, ◌≡◌, ℕ, ◌+◌, false, [], ◌∷◌, ◌++◌, append-nil, refl, sym, ◌∙◌, ap, subst, arith, None, Ok, Err, OnOk}
+use Rattle.std.proofs.Common.{rules, ◌≡◌, ℕ, List, ◌+◌, false, [], ◌∷◌, ◌++◌, append-nil, refl, sym, ◌∙◌, ap, subst, arith}
+use Rattle.std.proofs.Common.{None, Ok, Err, OnOk}
+use Rattle.std.specs.List.{AllByRecursion}
+use Rattle.svn_types.specs.Names.{Path}
 use Rattle.svn_types.specs.Paths.{child}
-use Rattle.svn_types.proofs.NameSets.{names_read}
 use Rattle.svn_model.specs.declared.stop.Stop.TheVariants.{Memory}
 use Rattle.svn_model.specs.Follow.{target_node}
 use Rattle.svn_model.specs.Tree.{names_below, is_entered}
 use Rattle.svn_model.specs.TreeCalls.{in_turn, sizes, visit_calls, visit_size}
+use Rattle.svn_drive.specs.declared.child_names.Below.{Below}
+use Rattle.svn_drive.specs.Children.{IsChild, names_of}
 use Rattle.svn_drive.specs.Waiting.{waiting, visit_late, entered_late}
-use Rattle.svn_drive.specs.Walking.{IsEntered, IsIdle, request_of, entered_size}
+use Rattle.svn_drive.specs.Walking.{IsEntered, request_of, entered_size}
 use Rattle.svn_drive.proofs.Waits.{waits_on, late-not_entered, late-not_there, late-entered}
 use Rattle.svn_drive.proofs.Visits.{size-not_entered, size-not_there, size-entered}
-use Rattle.svn_drive.proofs.RunLemmas.{run_nothing, run_memory}
-use Rattle.svn_drive.proofs.NextNames.{within_reported}
-use Rattle.svn_drive.proofs.Idle.{idle_calls, idle_size, idle_late}
-use Rattle.svn_drive.proofs.VisitRuns.{run_as, visit_stopped, visit_left, visit_absent, visit_whole, name_stopped, names_memory, name_done}
-use Rattle.svn_drive.proofs.VisitRuns.{visit_at, entered_stopped_as, entered_file_as, entered_below_as, entered_directory_as}
+use Rattle.svn_drive.proofs.VisitRuns.{no_items, visit_stopped, visit_left, visit_absent, visit_whole, name_stopped, names_memory}
+use Rattle.svn_drive.proofs.VisitRuns.{name_done, visit_at, entered_stopped_as, entered_file_as, entered_below_as, entered_directory_as}
 use Rattle.svn_drive.proofs.walk.Walk.+visit.Goals as goal
 
 -- ---- a place
@@ -71,7 +72,9 @@ visit-returns-clause-tokens g t c =
     record { entered = search rules; target = search rules; kind = search rules } in
     let size = size-entered (request_of c.args.self.now) c.args.place.now.here.path c.in-Some.node c.kind_of.result c.requires.short i in
     let before : c.delete_gone.new.progress.next ≡ c.args.progress.now.next = c.in_ok-delete_gone.ensures.tokens in
-    let same : c.delete_gone.new.progress.next + entered_size (request_of c.args.self.now) c.args.place.now.here.path c.kind_of.result ≡ c.args.progress.now.next + visit_size (request_of c.args.self.now) c.args.place.now.here.path =
+    let d = request_of c.args.self.now in
+    let p = c.args.place.now.here.path in
+    let same : c.delete_gone.new.progress.next + entered_size d p c.kind_of.result ≡ c.args.progress.now.next + visit_size d p =
     omega (arith, size, before) in
     subst (λ (n : ℕ). OnOk c.visit_entered.result (c.visit_entered.new.progress.next ≡ n)) same c.visit_entered.ensures.tokens
 
@@ -114,89 +117,97 @@ visit-returns-clause-waits g t c =
 
 -- ---- the names below
 
-pub visit_below-returns-in_err-names-clause-runs : goal.visit_below-returns-in_err-names-clause-runs
-visit_below-returns-in_err-names-clause-runs g t c =
-    let same : c.from_residual-in_err-names.result ≡ Err Memory = search rules in
-    rw same (run_memory g.E.Editor.answers c.args.self.now.limit _ c.args.editor.now c.args.progress.now.made)
+pub visit_below-child-requires-clause-below : goal.visit_below-child-requires-clause-below
+visit_below-child-requires-clause-below g t c =
+    let items : c.loop-below.below-iterator.rest.items ≡ c.in-Some.below ∷ c.next.new.self.rest.items = search rules in
+    let inv = rw items at c.loop-below.invariant in
+    inv.6.0.under
 
-pub visit_below-is_idle_child-requires-clause-unreported : goal.visit_below-is_idle_child-requires-clause-unreported
-visit_below-is_idle_child-requires-clause-unreported g t c = λ f.
-    sym
-    (within_reported c.args.place.now.here.path c.args.self.now.report.now.entries c.in-Some.name.now
-    (names_read c.in_ok-reported.reported.keys)
-    c.in_ok-reported.ensures)
-    ∙ sym c.has_name.ensures ∙ f
+pub visit_below-child-requires-clause-short : goal.visit_below-child-requires-clause-short
+visit_below-child-requires-clause-short g t c =
+    let items : c.loop-below.below-iterator.rest.items ≡ c.in-Some.below ∷ c.next.new.self.rest.items = search rules in
+    let inv = rw items at c.loop-below.invariant in
+    inv.6.0.room
 
-pub visit_below-loop-name-init : goal.visit_below-loop-name-init
-visit_below-loop-name-init g t c =
-    let e : names_read c.into_iter-name-iterator.result ≡ names_below (request_of c.args.self.now) c.args.place.now.here.path =
-    search rules in (
+pub visit_below-loop-below-init : goal.visit_below-loop-below-init
+visit_below-loop-below-init g t c =
+    let all : c.into_iter-below-iterator.result.rest.items ≡ c.in_ok-children.children.items = search rules in
+    let same = c.in_ok-children.ensures.same in (
       [],
       refl,
       (omega arith, λ h. h),
       ap
-          (λ l. in_turn (λ q n. visit_calls (request_of c.args.self.now) c.args.self.now.late q c.args.token n)
-          (visit_size (request_of c.args.self.now)) c.args.place.now.here.path c.args.progress.now.next l)
-          e,
-      ap (λ l. c.args.progress.now.next + sizes (visit_size (request_of c.args.self.now)) c.args.place.now.here.path l) e,
+          (λ (l : List Below). in_turn (λ q n. visit_calls (request_of c.args.self.now) c.args.self.now.late q c.args.token n)
+          (visit_size (request_of c.args.self.now)) c.args.place.now.here.path c.args.progress.now.next (names_of l))
+          all
+          ∙ sym (same.calls c.args.self.now.late c.args.token c.args.progress.now.next),
       ap
-          (λ l. waiting c.args.self.now.repo.now c.args.later.now.items
+          (λ (l : List Below). c.args.progress.now.next
+          + sizes (visit_size (request_of c.args.self.now)) c.args.place.now.here.path (names_of l))
+          all
+          ∙ ap (λ n. c.args.progress.now.next + n) (sym same.tokens),
+      ap
+          (λ (l : List Below). waiting c.args.self.now.repo.now c.args.later.now.items
           ++ in_turn (λ q n. visit_late (request_of c.args.self.now) c.args.self.now.late q c.args.token n)
-          (visit_size (request_of c.args.self.now)) c.args.place.now.here.path c.args.progress.now.next l)
-          e,
+          (visit_size (request_of c.args.self.now)) c.args.place.now.here.path c.args.progress.now.next (names_of l))
+          all
+          ∙ ap (λ l. waiting c.args.self.now.repo.now c.args.later.now.items ++ l)
+          (sym (same.waits c.args.self.now.late c.args.token c.args.progress.now.next)),
+      subst (AllByRecursion (IsChild (request_of c.args.self.now) c.args.place.now)) (sym all) c.in_ok-children.ensures.under,
     )
 
-pub visit_below-returns-in_err-below-clause-runs : goal.visit_below-returns-in_err-below-clause-runs
-visit_below-returns-in_err-below-clause-runs g t c =
-    let same : c.from_residual-in_err-below.result ≡ Err Memory = search rules in
-    let inv = c.loop-name.invariant in
+pub visit_below-returns-in_err-child-clause-runs : goal.visit_below-returns-in_err-child-clause-runs
+visit_below-returns-in_err-child-clause-runs g t c =
+    let same : c.from_residual-in_err-child.result ≡ Err Memory = search rules in
+    let inv = c.loop-below.invariant in
     rw same
     (names_memory g.E.Editor.answers c.args.self.now.limit
     (λ q n. visit_calls (request_of c.args.self.now) c.args.self.now.late q c.args.token n) (visit_size (request_of c.args.self.now))
     c.args.place.now.here.path
     c.args.progress.now.next (names_below (request_of c.args.self.now) c.args.place.now.here.path) c.args.editor.now
     c.args.progress.now.made
-    c.loop-name.progress.next (names_read c.loop-name.name-iterator) c.loop-name.editor c.loop-name.progress.made
+    c.loop-below.progress.next (names_of c.loop-below.below-iterator.rest.items) c.loop-below.editor c.loop-below.progress.made
     (inv.0, inv.1, inv.2, inv.3, inv.4))
 
 pub visit_below-returns-in_err-visit-clause-runs : goal.visit_below-returns-in_err-visit-clause-runs
 visit_below-returns-in_err-visit-clause-runs g t c =
     let same : c.from_residual-in_err-visit.result ≡ Err c.in_err-visit.field-0.0 = search rules in
-    let step : c.loop-name.name-iterator ≡ c.in-Some.name ∷ c.next.new.self = c.in-Some.ensures.steps in
-    let inv = rw step at c.loop-name.invariant in
+    let items : c.loop-below.below-iterator.rest.items ≡ c.in-Some.below ∷ c.next.new.self.rest.items = search rules in
+    let inv = rw items at c.loop-below.invariant in
     rw same
     (name_stopped g.E.Editor.answers c.args.self.now.limit
     (λ q n. visit_calls (request_of c.args.self.now) c.args.self.now.late q c.args.token n) (visit_size (request_of c.args.self.now))
     c.args.place.now.here.path
     c.args.progress.now.next (names_below (request_of c.args.self.now) c.args.place.now.here.path) c.args.editor.now
     c.args.progress.now.made
-    c.loop-name.progress.next c.in-Some.name.now (names_read c.next.new.self) c.loop-name.editor c.visit.new.editor
-    c.loop-name.progress.made c.visit.new.progress.made c.in_err-visit.field-0.0 (inv.0, inv.1, inv.2, inv.3, inv.4)
-    (visit_at g.E.Editor.answers c.args.self.now.limit (request_of c.args.self.now) c.args.self.now.late c.in_ok-below.below.here.path
-    (child c.args.place.now.here.path c.in-Some.name.now) c.in_ok-below.below.parent c.args.token
-    c.loop-name.progress.next (Err c.in_err-visit.field-0.0) c.loop-name.editor c.visit.new.editor c.loop-name.progress.made
+    c.loop-below.progress.next c.in-Some.below.name.now (names_of c.next.new.self.rest.items) c.loop-below.editor c.visit.new.editor
+    c.loop-below.progress.made c.visit.new.progress.made c.in_err-visit.field-0.0 (inv.0, inv.1, inv.2, inv.3, inv.4)
+    (visit_at g.E.Editor.answers c.args.self.now.limit (request_of c.args.self.now) c.args.self.now.late c.in_ok-child.child.here.path
+    (child c.args.place.now.here.path c.in-Some.below.name.now) c.in_ok-child.child.parent c.args.token
+    c.loop-below.progress.next (Err c.in_err-visit.field-0.0) c.loop-below.editor c.visit.new.editor c.loop-below.progress.made
     c.visit.new.progress.made
-    c.in_ok-below.ensures.path.0 c.in_ok-below.ensures.parent c.in_err-visit.ensures.runs))
+    c.in_ok-child.ensures.path.0 c.in_ok-child.ensures.parent c.in_err-visit.ensures.runs))
 
-pub visit_below-loop-name-preserved : goal.visit_below-loop-name-preserved
-visit_below-loop-name-preserved g t c =
-    let step : c.loop-name.name-iterator ≡ c.in-Some.name ∷ c.next.new.self = c.in-Some.ensures.steps in
-    let inv = rw step at c.loop-name.invariant in
-    let tokens : c.visit.new.progress.next ≡ c.loop-name.progress.next + visit_size (request_of c.args.self.now) (child c.args.place.now.here.path c.in-Some.name.now) =
-    c.in_ok-visit.ensures.tokens
-    ∙ ap (λ q. c.loop-name.progress.next + visit_size (request_of c.args.self.now) q) c.in_ok-below.ensures.path.0 in
+pub visit_below-loop-below-preserved : goal.visit_below-loop-below-preserved
+visit_below-loop-below-preserved g t c =
+    let items : c.loop-below.below-iterator.rest.items ≡ c.in-Some.below ∷ c.next.new.self.rest.items = search rules in
+    let inv = rw items at c.loop-below.invariant in
+    let d = request_of c.args.self.now in
+    let q : Path = child c.args.place.now.here.path c.in-Some.below.name.now in
+    let tokens : c.visit.new.progress.next ≡ c.loop-below.progress.next + visit_size d q =
+    c.in_ok-visit.ensures.tokens ∙ ap (λ r. c.loop-below.progress.next + visit_size d r) c.in_ok-child.ensures.path.0 in
     let r =
     name_done g.E.Editor.answers c.args.self.now.limit
     (λ q n. visit_calls (request_of c.args.self.now) c.args.self.now.late q c.args.token n) (visit_size (request_of c.args.self.now))
     c.args.place.now.here.path
     c.args.progress.now.next (names_below (request_of c.args.self.now) c.args.place.now.here.path) c.args.editor.now
     c.args.progress.now.made
-    c.loop-name.progress.next c.visit.new.progress.next c.in-Some.name.now (names_read c.next.new.self) c.loop-name.editor
-    c.visit.new.editor c.loop-name.progress.made c.visit.new.progress.made (inv.0, inv.1, inv.2, inv.3, inv.4)
-    (visit_at g.E.Editor.answers c.args.self.now.limit (request_of c.args.self.now) c.args.self.now.late c.in_ok-below.below.here.path
-    (child c.args.place.now.here.path c.in-Some.name.now) c.in_ok-below.below.parent c.args.token
-    c.loop-name.progress.next (Ok tt) c.loop-name.editor c.visit.new.editor c.loop-name.progress.made c.visit.new.progress.made
-    c.in_ok-below.ensures.path.0 c.in_ok-below.ensures.parent c.in_ok-visit.ensures.runs)
+    c.loop-below.progress.next c.visit.new.progress.next c.in-Some.below.name.now (names_of c.next.new.self.rest.items) c.loop-below.editor
+    c.visit.new.editor c.loop-below.progress.made c.visit.new.progress.made (inv.0, inv.1, inv.2, inv.3, inv.4)
+    (visit_at g.E.Editor.answers c.args.self.now.limit (request_of c.args.self.now) c.args.self.now.late c.in_ok-child.child.here.path
+    (child c.args.place.now.here.path c.in-Some.below.name.now) c.in_ok-child.child.parent c.args.token
+    c.loop-below.progress.next (Ok tt) c.loop-below.editor c.visit.new.editor c.loop-below.progress.made c.visit.new.progress.made
+    c.in_ok-child.ensures.path.0 c.in_ok-child.ensures.parent c.in_ok-visit.ensures.runs)
     tokens in (
       r.0,
       r.1,
@@ -205,72 +216,29 @@ visit_below-loop-name-preserved g t c =
       r.4,
       waits_on (λ q n. visit_late (request_of c.args.self.now) c.args.self.now.late q c.args.token n)
           (visit_size (request_of c.args.self.now)) c.args.place.now.here.path
-          c.loop-name.progress.next c.visit.new.progress.next c.in-Some.name.now (names_read c.next.new.self)
-          (waiting c.args.self.now.repo.now c.loop-name.later.items) (waiting c.args.self.now.repo.now c.visit.new.later.items) _ inv.5
+          c.loop-below.progress.next c.visit.new.progress.next c.in-Some.below.name.now (names_of c.next.new.self.rest.items)
+          (waiting c.args.self.now.repo.now c.loop-below.later.items) (waiting c.args.self.now.repo.now c.visit.new.later.items) _ inv.5
           (c.in_ok-visit.ensures.waits
           ∙ ap
-          (λ q. waiting c.args.self.now.repo.now c.loop-name.later.items
-          ++ visit_late (request_of c.args.self.now) c.args.self.now.late q c.in_ok-below.below.parent c.loop-name.progress.next)
-          c.in_ok-below.ensures.path.0
+          (λ q. waiting c.args.self.now.repo.now c.loop-below.later.items
+          ++ visit_late (request_of c.args.self.now) c.args.self.now.late q c.in_ok-child.child.parent c.loop-below.progress.next)
+          c.in_ok-child.ensures.path.0
           ∙ ap
-          (λ x. waiting c.args.self.now.repo.now c.loop-name.later.items
+          (λ x. waiting c.args.self.now.repo.now c.loop-below.later.items
           ++ visit_late (request_of c.args.self.now) c.args.self.now.late
-          (child c.args.place.now.here.path c.in-Some.name.now) x c.loop-name.progress.next)
-          c.in_ok-below.ensures.parent)
+          (child c.args.place.now.here.path c.in-Some.below.name.now) x c.loop-below.progress.next)
+          c.in_ok-child.ensures.parent)
           tokens,
-    )
-
--- a name that is passed over
-pub visit_below-loop-name-preserved-then-is_idle_child : goal.visit_below-loop-name-preserved-then-is_idle_child
-visit_below-loop-name-preserved-then-is_idle_child g t c =
-    let step : c.loop-name.name-iterator ≡ c.in-Some.name ∷ c.next.new.self = c.in-Some.ensures.steps in
-    let inv = rw step at c.loop-name.invariant in
-    let idle : IsIdle (request_of c.args.self.now) (child c.args.place.now.here.path c.in-Some.name.now) =
-    c.is_idle_child.ensures.idle c.if-is_idle_child.true in
-    let none =
-    idle_size (request_of c.args.self.now) c.args.self.now.late
-    (child c.args.place.now.here.path c.in-Some.name.now) c.args.token c.loop-name.progress.next idle in
-    let tokens :
-    c.loop-name.progress.next
-    ≡ c.loop-name.progress.next + visit_size (request_of c.args.self.now) (child c.args.place.now.here.path c.in-Some.name.now) =
-    omega (arith, none) in
-    let r =
-    name_done g.E.Editor.answers c.args.self.now.limit
-    (λ q n. visit_calls (request_of c.args.self.now) c.args.self.now.late q c.args.token n) (visit_size (request_of c.args.self.now))
-    c.args.place.now.here.path
-    c.args.progress.now.next (names_below (request_of c.args.self.now) c.args.place.now.here.path) c.args.editor.now
-    c.args.progress.now.made
-    c.loop-name.progress.next c.loop-name.progress.next c.in-Some.name.now (names_read c.next.new.self) c.loop-name.editor
-    c.loop-name.editor c.loop-name.progress.made c.loop-name.progress.made (inv.0, inv.1, inv.2, inv.3, inv.4)
-    (run_as g.E.Editor.answers c.args.self.now.limit []
-    (visit_calls (request_of c.args.self.now) c.args.self.now.late
-    (child c.args.place.now.here.path c.in-Some.name.now) c.args.token c.loop-name.progress.next)
-    (Ok tt)
-    c.loop-name.editor c.loop-name.editor c.loop-name.progress.made c.loop-name.progress.made
-    (idle_calls (request_of c.args.self.now) c.args.self.now.late
-    (child c.args.place.now.here.path c.in-Some.name.now) c.args.token c.loop-name.progress.next idle)
-    (run_nothing g.E.Editor.answers c.args.self.now.limit c.loop-name.editor c.loop-name.progress.made))
-    tokens in (
-      r.0,
-      r.1,
-      r.2,
-      r.3,
-      r.4,
-      waits_on (λ q n. visit_late (request_of c.args.self.now) c.args.self.now.late q c.args.token n)
-          (visit_size (request_of c.args.self.now)) c.args.place.now.here.path
-          c.loop-name.progress.next c.loop-name.progress.next c.in-Some.name.now (names_read c.next.new.self)
-          (waiting c.args.self.now.repo.now c.loop-name.later.items) (waiting c.args.self.now.repo.now c.loop-name.later.items) _ inv.5
-          (sym (ap (λ l. waiting c.args.self.now.repo.now c.loop-name.later.items ++ l) (idle_late (request_of c.args.self.now)
-          c.args.self.now.late (child c.args.place.now.here.path c.in-Some.name.now) c.args.token c.loop-name.progress.next idle)
-          ∙ append-nil (waiting c.args.self.now.repo.now c.loop-name.later.items)))
-          tokens,
+      inv.6.1,
     )
 
 pub visit_below-returns-clause-waits : goal.visit_below-returns-clause-waits
 visit_below-returns-clause-waits g t c =
-    let none : c.loop-name.name-iterator ≡ [] = c.in-None.ensures.steps.0 in
-    let inv = rw none at c.loop-name.invariant in
-    sym (append-nil (waiting c.args.self.now.repo.now c.loop-name.later.items)) ∙ inv.5
+    let none : c.loop-below.below-iterator.rest.items ≡ [] =
+    no_items c.loop-below.below-iterator.rest.items c.loop-below.below-iterator.rest.len c.in-None.ensures.steps.0
+    c.loop-below.below-iterator.rest.ok.0 in
+    let inv = rw none at c.loop-below.invariant in
+    sym (append-nil (waiting c.args.self.now.repo.now c.loop-below.later.items)) ∙ inv.5
 
 -- ---- what is entered
 

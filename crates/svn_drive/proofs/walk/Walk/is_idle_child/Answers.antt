@@ -1,4 +1,5 @@
 use Rattle.std.proofs.Common.{sym, ◌∙◌, ap, inl}
+use Rattle.std.specs.Option.{option_copied}
 use Rattle.svn_model.specs.Follow.{Followed}
 use Rattle.svn_drive.specs.Walking.{request_of}
 use Rattle.svn_drive.proofs.Idle.{idle_new, none_of}
@@ -8,5 +9,6 @@ pub returns-else-place-clause-idle : goal.returns-else-place-clause-idle
 returns-else-place-clause-idle c = λ t.
     let out = sym (ap (λ (f : Followed). f.is_kept) c.requires.at.followed) ∙ c.if-place.false in
     inl
-    (idle_new (request_of c.args.self.now) c.args.place.now.here.path c.args.name.now c.args.place.now.target out c.requires.at.target
-    (sym c.entry_of.ensures ∙ none_of c.entry_of.result c.is_none.result c.is_none.ensures t))
+    (idle_new (request_of c.args.self.now) c.args.place.now.here.path c.args.below.now.name.now c.args.place.now.target out
+    c.requires.at.target
+    (sym c.requires.below.target ∙ ap option_copied (none_of c.args.below.now.target c.is_none.result c.is_none.ensures t)))

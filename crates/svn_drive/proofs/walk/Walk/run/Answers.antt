@@ -49,9 +49,16 @@ returns-in_err-give_late g c =
 pub returns : goal.returns
 returns g c =
     let first = c.make.ensures.tokens ∙ c.requires.first in
-    let lates = lates_as (request_of c.args.self.now) c.args.self.now.late c.args.self.now.repo.now c.new-later.result.items c.visit.new.later.items c.args.root.now.here.path c.args.root.now.parent c.make.new.progress.next
+    let lates =
+    lates_as (request_of c.args.self.now) c.args.self.now.late c.args.self.now.repo.now c.new-later.result.items c.visit.new.later.items
+    c.args.root.now.here.path c.args.root.now.parent c.make.new.progress.next
     c.new-later.ensures.items c.requires.root c.requires.parent first c.in_ok-visit.ensures.waits in
-    let whole : Whole g.E.Editor.answers c.args.self.now.limit (request_of c.args.self.now) c.args.self.now.late c.args.editor.now c.args.progress.now.made c.make_last.result c.make_last.new.editor c.make_last.new.progress.made =
+    let limit = c.args.self.now.limit in
+    let d = request_of c.args.self.now in
+    let late = c.args.self.now.late in
+    let made = c.args.progress.now.made in
+    let end = c.make_last.new.progress.made in
+    let whole : Whole g.E.Editor.answers limit d late c.args.editor.now made c.make_last.result c.make_last.new.editor end =
     elim c.if-self.branch [
       | then-self+in_ok-give_late w ↦
           run_late g.E.Editor.answers c.args.self.now.limit (request_of c.args.self.now) c.args.self.now.late c.args.editor.now
