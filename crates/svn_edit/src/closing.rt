@@ -128,9 +128,8 @@ impl Edit {
         if ending::is_settled_deep(copy, root) {
             return Err(EditFault::TooDeep);
         }
-        let moves = or_memory(ending::moves(self.alloc, copy, root))?;
-        ending::move_all(copy, moves);
-        ending::settle_all(copy, self.target);
+        let moved = or_memory(ending::moved_paths(self.alloc, copy, root))?;
+        ending::settle_moved(copy, self.target, moved);
         Ok(())
     }
 }
