@@ -16,6 +16,8 @@ pub mod OpenCounts
 pub mod HeldBatons
 -- What an edit holds after one more call.
 pub mod Holding
+-- The pools that a refused call leaves.
+pub mod LeftPools
 -- The close of a directory: what was said of it is done, and its baton goes.
 pub mod Closes
 -- The close of a file: its text is checked, what was said of it is done, and its baton goes.
