@@ -140,7 +140,8 @@ impl Baton {
     }
 }
 
-// The name of a property that a string has.
+// The name of a property that a string has. A string that is no name can't come, since each was pushed from one; but what was said of
+// a path is bytes in the definitions too, which don't say so: hence AllocError.
 fn prop_name(alloc: Global, bytes: Option<&[u8]>) -> Result<PropName, AllocError>
     ensures { IfOk result (λ n. option_copied bytes.entry ≡ Some n) }
 {

@@ -55,6 +55,8 @@ pub struct Edit {
     /// Where a switch brings the copy.
     pub(crate) root: Option<RelPath>,
     pub(crate) pools: PoolTree<Global>,
+    // The token that a call in order names has a baton. But the calls so far, from which that follows, stand in no field and in no
+    // condition of a call, so where a baton is looked up the branch without one stays, and answers Memory.
     pub(crate) batons: HashMap<u64, Baton>,
     pub(crate) alloc: Global,
 }

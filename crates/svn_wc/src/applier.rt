@@ -9,7 +9,7 @@ ghost use Rattle.svn_model.specs.Nodes.{WorkingCopy as CopyMap, get_in};
 ghost use Rattle.svn_model.specs.Effects.{refusal};
 ghost use Rattle.svn_edit_law.specs.Laws.{OpensNamed, IsShapedAfter};
 ghost use Rattle.svn_edit.specs.Leaving.{IsLeft, PoolsAfter};
-ghost use Rattle.svn_edit.specs.Applying.{mode_of, open_count, live_count, StandsAfter, HasEnded, IsRefused, StaysRefused, StaysEnded, LeavesRefused};
+ghost use Rattle.svn_edit.specs.Applying.{mode_of, open_count, live_count, OneIsLeft, StandsAfter, HasEnded, IsRefused, StaysRefused, StaysEnded, LeavesRefused};
 ghost use Rattle.svn_model.specs.Answering.{AnswersCall};
 ghost use Rattle.svn_wc.specs.Taking.{IsBegun, IsInShape};
 
@@ -102,9 +102,10 @@ impl<'a> Applier<'a> {
     }
 
     /// How many pools are live: one, and one for each file or directory that is open; after the last call one. It takes no memory.
-    /// After a refusal what is open is what the accepted calls left open.
+    /// After a refusal what is open is what the accepted calls left open, until AbortEdit.
     pub fn live_pools(&self) -> u64
         ensures left { (calls : List Call) (c : Call) → IsLeft calls c self.now.edit → result ≡ open_count calls + 1 }
+        ensures alone { OneIsLeft self.now.edit → result ≡ 1 }
         ensures count { (mode : Mode) (w0 : CopyMap) (calls : List Call) → StandsAfter mode w0 self.now.edit self.now.copy.now calls → result ≡ live_count calls }
     {
         self.edit.live_pools()
