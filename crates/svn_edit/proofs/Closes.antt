@@ -1,6 +1,6 @@
 -- The close of a directory: what was said of it is done, and its baton goes.
 use Rattle.std.proofs.Common.{◌≡◌, ◌≢◌, ℕ, Bool, true, false, cond, ◌&&◌, not, List, [], ◌∷◌, ◌++◌, refl, sym, ◌∙◌, ap, subst, true≢false}
-use Rattle.std.specs.Prelude.{Option, Some, None, Result, Ok, Err, OnOk, IfOk, IfErr, is_some, nat_eq, filter_map}
+use Rattle.std.specs.Prelude.{Option, Some, None, Result, Ok, Err, OnOk, OnErr, IfOk, IfErr, is_ok, is_some, nat_eq, filter_map}
 use Rattle.std.specs.List.{cons_option}
 use Rattle.svn_types.specs.declared.kind.Kind.{Kind}
 use Rattle.svn_types.specs.declared.kind.Kind.TheVariants.{File, Directory}
@@ -180,6 +180,11 @@ module _ (mode : Mode) (old new : Edit) (calls : List Call) (t : ℕ) (d : Call)
 pub pass_ok : (A B : Type 0) (a : Result (Unit {0}) A) (r : Result (Unit {0}) EditFault) → IfOk r (λ v. a ≡ Ok v) → OnOk a B → OnOk r B
 pass_ok A B a (Ok v) ok h = subst (λ (x : Result (Unit {0}) A). OnOk x B) ok h
 pass_ok A B a (Err e) ok h = tt
+
+pub pass_err : (A B : Type 0) (a : Result (Unit {0}) A) (r : Result (Unit {0}) EditFault) → is_ok r ≡ is_ok a → OnErr a B → OnErr r B
+pass_err A B a (Ok v) same h = tt
+pass_err A B (Ok v) (Err e) same h = absurd (true≢false (sym same))
+pass_err A B (Err x) (Err e) same h = h
 
 pub noted_of : (t : ℕ) (note : Note) (strings : List (List ℕ)) (b d : Baton) (pools pools2 : Pools) (m n : BatonMap)
     → BatonSaid note strings b pools d pools2 → Updates nat_eq m n t (Some d)

@@ -75,9 +75,9 @@ applied_parts : (fault : Option EditFault) (w : WorkingCopy) (nodes nodes2 : Lis
 applied_parts fault w nodes nodes2 (Ok done) h f g = (h, f)
 applied_parts fault w nodes nodes2 (Err e) h f g = (h, g)
 
-not_both : (k : Kind) → kind_eq k File ≡ true → kind_eq k Directory ≡ true → ⊥
-not_both File f d = true≢false (sym d)
-not_both Directory f d = true≢false (sym f)
+one_kind : (k : Kind) → kind_eq k File ≡ true → kind_eq k Directory ≡ true → ⊥
+one_kind File f d = true≢false (sym d)
+one_kind Directory f d = true≢false (sym f)
 
 module _ (mode : Mode) (old new : Edit) (calls : List Call) (t : ℕ) (sum : Option (List ℕ)) (d : Call) (is : d ≡ CloseFile t sum)
     (next : IsNext mode old calls d) where
@@ -130,7 +130,7 @@ module _ (mode : Mode) (old new : Edit) (calls : List Call) (t : ℕ) (sum : Opt
   none_below : (u : ℕ) (g : Given) → is_open calls u ≡ true → given calls u ≡ Some g → g.kind ≡ Directory → g.parent ≡ Some t → ⊥
   none_below u g o e k p =
       let x = known calls (CloseFile t sum) t File (accepted calls (CloseFile t sum) refl next_close.in_order) refl in
-      not_both x.given_as.kind x.kind (sym (ap (is_of_kind Directory) x.is) ∙ (pathed calls next.lawful).parents u t g e p)
+      one_kind x.given_as.kind x.kind (sym (ap (is_of_kind Directory) x.is) ∙ (pathed calls next.lawful).parents u t g e p)
 
   -- and its baton
   pub file_holds : KeepsEdit old new

@@ -98,6 +98,12 @@ carried pools pools2 at at2 calls calls2 t b h same said root above pool = recor
     above_same : pool_above pools2.root at2 (given calls2 t) ≡ pool_above pools.root at (given calls t)
     above_same = (λ i. pool_above (root i) at2 (same i)) ∙ above
 
+-- the pool of the edit is no baton's
+pub root_apart : (pools : Pools) (at : Batons) (calls : List Call) → HoldsBatons pools at calls → (t : ℕ) (b : Baton) → at t ≡ Some b
+    → pools.root ≢ b.pool.0
+root_apart pools at calls h t b there same =
+    some_none _ (sym (ap parent_of (sym h.root ∙ ap (pool_at pools) same ∙ (h.each t b there).pool)))
+
 -- ---- a call that gives, says and closes nothing
 
 pub held_still : (pools : Pools) (at : Batons) (calls : List Call) (c : Call) → HoldsBatons pools at calls → given_by c ≡ None
@@ -126,7 +132,7 @@ above_by root at at2 above File h = refl
 above_by root at at2 None Directory h = refl
 above_by root at at2 (Some m) Directory h = h m refl refl
 
-above_same : (root : ℕ) (at at2 : Batons) (o : Option Given) → ((g : Given) (m : ℕ) → o ≡ Some g → g.kind ≡ Directory → g.parent ≡ Some m
+pub above_same : (root : ℕ) (at at2 : Batons) (o : Option Given) → ((g : Given) (m : ℕ) → o ≡ Some g → g.kind ≡ Directory → g.parent ≡ Some m
     → pool_or root (at2 m) ≡ pool_or root (at m))
     → pool_above root at2 o ≡ pool_above root at o
 above_same root at at2 None h = refl
@@ -134,7 +140,7 @@ above_same root at at2 (Some g) h = above_by root at at2 g.parent g.kind (λ m k
 
 -- ---- pools beneath the first
 
-beneath_kept : (f f2 : ℕ → Option Entry) (r : ℕ) → ((q p : ℕ) → parent_of (f q) ≡ Some p → parent_of (f2 q) ≡ Some p) → (n q : ℕ)
+pub beneath_kept : (f f2 : ℕ → Option Entry) (r : ℕ) → ((q p : ℕ) → parent_of (f q) ≡ Some p → parent_of (f2 q) ≡ Some p) → (n q : ℕ)
     → IsAbove f r n q → IsAbove f2 r n q
 beneath_kept f f2 r keep zero q h = keep q r h
 beneath_kept f f2 r keep (suc n) q h = (h.0, keep q h.0 h.1, beneath_kept f f2 r keep n h.0 h.2)
@@ -390,7 +396,7 @@ module _ (pools : Pools) (at : Batons) (calls : List Call) (c : Call) (m : ℕ) 
   }
     where
       root_away : pools.root ≢ b.pool.0
-      root_away same = some_none _ (sym (ap parent_of (sym h.root ∙ ap (pool_at pools) same ∙ own.pool)))
+      root_away = root_apart pools at calls h m b there
 
       still : (q p : ℕ) → parent_of (pool_at pools q) ≡ Some p → parent_of (pool_at pools2 q) ≡ Some p
       still q p e = by (cases_eq q b.pool.0)
@@ -453,27 +459,27 @@ module _ (pools : Pools) (at : Batons) (calls : List Call) (c : Call) (m : ℕ) 
 module _ (pools : Pools) (at : Batons) (calls : List Call) (c : Call) (m : ℕ) (b : Baton) (h : HoldsBatons pools at calls)
     (no_subdirectory : (t : ℕ) (g : Given) → is_open calls t ≡ true → given calls t ≡ Some g → g.kind ≡ Directory → g.parent ≡ Some m → ⊥)
     (there : at m ≡ Some b) where
-  root_apart : pools.root ≢ b.pool.0
-  root_apart same = some_none _ (sym (ap parent_of (sym h.root ∙ ap (pool_at pools) same ∙ (h.each m b there).pool)))
+  root_away : pools.root ≢ b.pool.0
+  root_away = root_apart pools at calls h m b there
 
   -- no other pool lies beneath its pool
   pub held_leaf : IsLeaf pools b.pool.0
   held_leaf s beneath = by (cases_eq s pools.root)
     where
       not_above : (t : ℕ) (d : Baton) → at t ≡ Some d → (o : Option Given) → given calls t ≡ o → pool_above pools.root at o ≡ b.pool.0 → ⊥
-      not_above t d e None f p = root_apart p
+      not_above t d e None f p = root_away p
       not_above t d e (Some g) f p = kinds g.kind refl p
         where
           kinds : (k : Kind) → g.kind ≡ k → pool_of_kind pools.root at g.parent k ≡ b.pool.0 → ⊥
-          kinds File x y = root_apart y
+          kinds File x y = root_away y
           kinds Directory x y = parents g.parent refl y
             where
               parents : (o : Option ℕ) → g.parent ≡ o → pool_of_parent pools.root at o ≡ b.pool.0 → ⊥
-              parents None z w = root_apart w
+              parents None z w = root_away w
               parents (Some u) z w = batons (at u) refl w
                 where
                   batons : (o : Option Baton) → at u ≡ o → pool_or pools.root o ≡ b.pool.0 → ⊥
-                  batons None v k = root_apart k
+                  batons None v k = root_away k
                   batons (Some x2) v k = no_subdirectory t g (sym (h.opened t) ∙ ap is_some e) f x (z
                       ∙ ap Some (h.apart u m x2 b v there k))
 
@@ -512,7 +518,7 @@ module _ (pools : Pools) (at : Batons) (calls : List Call) (c : Call) (m : ℕ) 
       opened = λ t. opened_by t (cases_eq t m);
       each = λ t d e. let away = away_from t d e in kept_baton t d away (sym (n.tokens t away) ∙ e);
       apart = λ t u d f e g same. h.apart t u d f (sym (n.tokens t (away_from t d e)) ∙ e) (sym (n.tokens u (away_from u f g)) ∙ g) same;
-      root = ap (pool_at pools2) n.root ∙ n.others pools.root root_apart ∙ h.root;
+      root = ap (pool_at pools2) n.root ∙ n.others pools.root root_away ∙ h.root;
       only = λ s e f r. only_by s e f r (cases_eq s b.pool.0);
       beneath = λ s e f r. subst (λ x. IsBeneath (pool_at pools2) x s) (sym n.root) (beneath_by s e f r);
       count =

@@ -127,6 +127,13 @@ pub err_by : {P : Type 0} (r : Result (Unit {0}) EditFault) → ((e : EditFault)
 err_by (Ok done) f = tt
 err_by (Err e) f = f e refl
 
+pub on_err : {T E : Type 0} {P : Type 0} (r : Result T E) → P → OnErr r P
+on_err (Ok v) h = tt
+on_err (Err e) h = h
+
+pub at_err : {P : Type 0} (r : Result (Unit {0}) EditFault) (e : EditFault) → r ≡ Err e → OnErr r P → P
+at_err {P} r e is h = subst (λ (x : Result (Unit {0}) EditFault). OnErr x P) is h
+
 pub applied_err : (fault : Option EditFault) (w : WorkingCopy) (nodes nodes2 : List (Path × BaseNode)) (r : Result (Unit {0}) EditFault)
     (e : EditFault) → r ≡ Err e → Applied fault w nodes r nodes2 → nodes2 ≡ nodes
 applied_err fault w nodes nodes2 r e is h = (subst (λ (x : Result (Unit {0}) EditFault). Applied fault w nodes x nodes2) is h).1

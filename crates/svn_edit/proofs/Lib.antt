@@ -4,7 +4,7 @@ pub mod NodeOrder
 pub mod OpenFaults
 -- The nodes at a path and below stand next to each other: those from the path on, as long as they are within it.
 pub mod Ranges
--- The last call of an update: every present node gets the target's revision, and the others go.
+-- The last call goes over the nodes once.
 pub mod Settling
 -- Pools after strings were pushed, and what is said there.
 pub mod PoolStrings
@@ -16,11 +16,13 @@ pub mod OpenCounts
 pub mod HeldBatons
 -- What an edit holds after one more call.
 pub mod Holding
+-- The pools that a refused call leaves.
+pub mod LeftPools
 -- The close of a directory: what was said of it is done, and its baton goes.
 pub mod Closes
 -- The close of a file: its text is checked, what was said of it is done, and its baton goes.
 pub mod FileCloses
--- The last call: every present node gets the target's revision, in a switch its path under the new root too, and the others go.
+-- The last call among the others: what it answers and leaves, and how many pools are live.
 pub mod Switching
 -- An edit that no call was given to.
 pub mod Beginning

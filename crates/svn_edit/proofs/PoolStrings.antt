@@ -20,21 +20,27 @@ use Rattle.svn_edit.specs.declared.baton.Note.{Note}
 use Rattle.svn_edit.specs.Noted.{slashed, slashed_after}
 use Rattle.svn_edit.specs.Applying.{pool_entry, text_place, BatonBegun, BatonSaid, IsLeaf, PoolGone}
 
-own_one : (t : Pools) (s : ℕ) (x : List ℕ) → pool_at (pushed t s x) s ≡ Some
+pub own_one : (t : Pools) (s : ℕ) (x : List ℕ) → pool_at (pushed t s x) s ≡ Some
     (record { parent = parent_of (pool_at t s); strings = strings_at t s ++ x ∷ [] })
 own_one t s x = inserted_here t.live s (record { parent = parent_of (pool_at t s); strings = strings_at t s ++ x ∷ [] })
 
-others_one : (t : Pools) (s : ℕ) (x : List ℕ) (q : ℕ) → q ≢ s → pool_at (pushed t s x) q ≡ pool_at t q
+pub others_one : (t : Pools) (s : ℕ) (x : List ℕ) (q : ℕ) → q ≢ s → pool_at (pushed t s x) q ≡ pool_at t q
 others_one t s x q n = inserted_away t.live s (record { parent = parent_of (pool_at t s); strings = strings_at t s ++ x ∷ [] }) q n
+
+parents_one : (t : Pools) (s : ℕ) (x : List ℕ) (q : ℕ) → parent_of (pool_at (pushed t s x) q) ≡ parent_of (pool_at t q)
+parents_one t s x q = elim (cases_eq q s) [
+  | inl is ↦ ap (λ r. parent_of (pool_at (pushed t s x) r)) is ∙ ap parent_of (own_one t s x) ∙ ap (λ r. parent_of (pool_at t r)) (sym is)
+  | inr n ↦ ap parent_of (others_one t s x q n)
+]
 
 -- ---- how many are live
 
-len_pushed : (t : Pools) (s : ℕ) (x : List ℕ) (e : Entry) → pool_at t s ≡ Some e → fin.len (pushed t s x).live ≡ fin.len t.live
+pub len_pushed : (t : Pools) (s : ℕ) (x : List ℕ) (e : Entry) → pool_at t s ≡ Some e → fin.len (pushed t s x).live ≡ fin.len t.live
 len_pushed t s x e live =
     fin.len-insert nat_cmp_total t.live s (record { parent = parent_of (pool_at t s); strings = strings_at t s ++ x ∷ [] })
     ∙ ap (λ (o : Option Entry). cond (is_some o) (fin.len t.live) (fin.len t.live + 1)) live
 
-len_created : (t : Pools) (p : ℕ) → pool_at t t.next ≡ None → fin.len (created t p).live ≡ fin.len t.live + 1
+pub len_created : (t : Pools) (p : ℕ) → pool_at t t.next ≡ None → fin.len (created t p).live ≡ fin.len t.live + 1
 len_created t p fresh =
     fin.len-insert nat_cmp_total t.live t.next (pool_entry p [])
     ∙ ap (λ (o : Option Entry). cond (is_some o) (fin.len t.live) (fin.len t.live + 1)) fresh
@@ -92,9 +98,10 @@ said_two b d t u note x y path pool notes text is = record {
 }
 
 pub begun : (b : Baton) (t u : Pools) (beneath : ℕ) (p : Path) (text : List ℕ) → b.path ≡ p → b.notes.items ≡ [] → b.text ≡ None
-    → b.pool.0 ≡ t.next → pool_at t t.next ≡ None
+    → b.pool.0 ≡ t.next → pool_at t t.next ≡ None → t.next ≢ t.root
+    → ((q : ℕ) → parent_of (pool_at (created t beneath) q) ≢ Some t.next)
     → u ≡ pushed (created t beneath) t.next text → text ≡ slashed p → BatonBegun beneath p t b u
-begun b t u beneath p text path notes none pool fresh is spelled = record {
+begun b t u beneath p text path notes none pool fresh apart childless is spelled = record {
   path = path;
   notes = notes;
   text = none;
@@ -112,6 +119,9 @@ begun b t u beneath p text path notes none pool fresh is spelled = record {
       ap (λ (v : Pools). pool_at v s) is ∙ others_one (created t beneath) t.next text s (λ e. n (e ∙ sym pool))
       ∙ inserted_away t.live t.next (pool_entry beneath []) s (λ e. n (e ∙ sym pool));
   root = ap (λ (v : Pools). v.root) is;
+  apart = λ e. apart (sym pool ∙ e);
+  leaf = λ q e. childless q (sym (ap (λ (v : Pools). parent_of (pool_at v q)) is ∙ parents_one (created t beneath) t.next text q) ∙ e
+      ∙ ap Some pool);
 }
 
 -- ---- names with slashes

@@ -15,12 +15,12 @@ use Rattle.std.specs.Ordering.{is_le, is_eq}
 use Rattle.std.proofs.lemmas.Map.Entries.{lookup-filter-keys}
 use Rattle.svn_types.specs.Names.{Path, path_cmp}
 use Rattle.svn_types.specs.Paths.{path_eq, is_within}
-use Rattle.svn_types.proofs.PathOrder.{below_after, within_between}
+use Rattle.svn_types.proofs.PathsInOrder.{paths_total, not_before_itself, below_after, within_between}
 use Rattle.svn_model.specs.declared.base_node.BaseNode.{BaseNode}
 use Rattle.svn_model.specs.Nodes.{get_in, InPathOrder}
 use Rattle.svn_edit_law.proofs.PathsBelow.{same_name, path_is, path_eq-sym}
 use Rattle.svn_edit_law.proofs.Lookups.{at_path, get_in-append}
-use Rattle.svn_edit.proofs.NodeOrder.{paths_total, not_before_itself, first_or_after, order_behind}
+use Rattle.svn_edit.proofs.NodeOrder.{first_or_after, order_behind}
 
 abbrev pub from_path : Path → List (Path × BaseNode) → List (Path × BaseNode)
 from_path path es = entries_between path_cmp (Included path) Unbounded es

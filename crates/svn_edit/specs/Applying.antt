@@ -126,6 +126,10 @@ pub record HoldsBatons (pools : Pools) (at : Batons) (calls : List Call) : Type 
   pub beneath : (s : ℕ) (e : Entry) → pool_at pools s ≡ Some e → s ≢ pools.root → IsBeneath (pool_at pools) pools.root s
   pub count : map.len pools.live ≡ open_count calls + 1
 
+-- no pool lies beneath it
+abbrev pub IsLeaf : Pools → ℕ → Type 0
+IsLeaf pools s = (q : ℕ) → parent_of (pool_at pools q) ≢ Some s
+
 -- ---- one baton, its pool, and what is said there
 
 -- a baton of a path, with a new pool
@@ -138,6 +142,8 @@ pub record BatonBegun (beneath : ℕ) (p : Path) (old : Pools) (b : Baton) (new 
   pub others : (s : ℕ) → s ≢ b.pool.0 → pool_at new s ≡ pool_at old s
   pub root : new.root ≡ old.root
   pub count : map.len new.live ≡ map.len old.live + 1
+  pub apart : b.pool.0 ≢ old.root
+  pub leaf : IsLeaf new b.pool.0
 
 -- a note more, and its strings
 pub record BatonSaid (note : Note) (strings : List (List ℕ)) (b : Baton) (old : Pools) (d : Baton) (new : Pools) : Type 0 where
@@ -179,6 +185,8 @@ pub record BatonMade (beneath : ℕ) (p : Path) (t : ℕ) (pools : Pools) (at : 
   pub others : (s : ℕ) → s ≢ baton.pool.0 → pool_at pools2 s ≡ pool_at pools s
   pub root : pools2.root ≡ pools.root
   pub count : map.len pools2.live ≡ map.len pools.live + 1
+  pub apart : baton.pool.0 ≢ pools.root
+  pub leaf : IsLeaf pools2 baton.pool.0
   pub token : at2 t ≡ Some baton
   pub tokens : (u : ℕ) → u ≢ t → at2 u ≡ at u
 
@@ -213,10 +221,6 @@ pub record PoolGone (s : ℕ) (old new : Pools) : Type 0 where
   pub others : (q : ℕ) → q ≢ s → pool_at new q ≡ pool_at old q
   pub root : new.root ≡ old.root
   pub count : map.len old.live ≡ map.len new.live + 1
-
--- no pool lies beneath it
-abbrev pub IsLeaf : Pools → ℕ → Type 0
-IsLeaf pools s = (q : ℕ) → parent_of (pool_at pools q) ≢ Some s
 
 -- ---- one call
 

@@ -1,3 +1,4 @@
 pub mod Noted
 pub mod NodeTests
 pub mod Applying
+pub mod Leaving

@@ -1,6 +1,5 @@
 -- The tests of an edit on one node.
 use Rattle.std.specs.Prelude.{ℕ, true, not, List, [], ◌∷◌, ◌++◌, length, nat_eq, nat_lt, Option, Some, None, if◌then◌else◌, ◌≡◌}
-use Rattle.std.specs.Option.{option_map}
 use Rattle.svn_types.specs.declared.kind.Kind.{Kind}
 use Rattle.svn_types.specs.Names.{Path}
 use Rattle.svn_types.specs.Paths.{path_eq}
@@ -11,7 +10,7 @@ use Rattle.svn_editor.specs.declared.fault.EditFault.TheVariants.{NoEntry, Wrong
 use Rattle.svn_model.specs.declared.base_node.BaseNode.{BaseNode}
 use Rattle.svn_model.specs.declared.base_node.BaseNode.TheVariants.{File as FileNode, Dir as DirNode, NotPresent}
 use Rattle.svn_edit.specs.declared.nodes.Closing.{Closing}
-use Rattle.svn_model.specs.Nodes.{WorkingCopy, get_in, is_present, node_revision, node_path, node_text, node_props}
+use Rattle.svn_model.specs.Nodes.{WorkingCopy, get_in, is_present, at_revision, node_revision, node_path, node_text, node_props}
 use Rattle.svn_model.specs.Effects.{has_kind, joined_path, moved_path, closed_file, is_wrong_sum, text_or}
 use Rattle.svn_types.specs.Props.{PropChange, with_changes}
 
@@ -85,15 +84,17 @@ with_path q (FileNode r was text props) = FileNode r q text props
 with_path q (DirNode r was complete props) = DirNode r q complete props
 with_path q NotPresent = NotPresent
 
--- the paths of the present nodes, each with its path under the root
-abbrev pub moves_of : Path → List (Path × BaseNode) → List (Path × Path)
-moves_of root [] = []
-moves_of root (e ∷ nodes) = if is_present (Some e.1) then (e.0, root ++ e.0) ∷ moves_of root nodes else moves_of root nodes
+-- a present node that gets the revision and the first of these paths, and the paths that are left then
+abbrev pub settled_next : ℕ → List Path → BaseNode → BaseNode
+settled_next target [] node = at_revision target node
+settled_next target (next ∷ paths) node = with_path next (at_revision target node)
 
-abbrev pub moved_once : Path × Path → Path → Option BaseNode → Option BaseNode
-moved_once m p node = if path_eq m.0 p then option_map (with_path m.1) node else node
+abbrev pub paths_left : BaseNode → List Path → List Path
+paths_left NotPresent paths = paths
+paths_left node [] = []
+paths_left node (next ∷ paths) = paths
 
--- what stands at a path once the moves were made, from the last to the first
-abbrev pub moved_by : List (Path × Path) → Path → Option BaseNode → Option BaseNode
-moved_by [] p node = node
-moved_by (m ∷ moves) p node = moved_once m p (moved_by moves p node)
+-- the paths under the root of the present nodes
+abbrev pub moved_paths : Path → List (Path × BaseNode) → List Path
+moved_paths root [] = []
+moved_paths root (e ∷ nodes) = if is_present (Some e.1) then (root ++ e.0) ∷ moved_paths root nodes else moved_paths root nodes

@@ -1,5 +1,5 @@
 //! What an edit keeps of an open file or directory.
-ghost use Rattle.std.specs.Prelude.{◌≡◌, ◌≢◌, ◌+◌, ◌++◌, ◌∷◌, [], List, length, IfOk, OnOk, Some, None, filter_map};
+ghost use Rattle.std.specs.Prelude.{◌≡◌, ◌≢◌, ◌+◌, ◌++◌, ◌∷◌, [], List, length, IfOk, OnOk, OnErr, Some, None, filter_map};
 ghost use Rattle.std.specs.Option.{option_copied};
 ghost use Rattle.svn_types.specs.Props.{with_changes};
 ghost use Rattle.svn_types.specs.declared.kind.Kind.TheVariants.{Directory};
@@ -10,6 +10,7 @@ ghost use Rattle.svn_edit.specs.declared.baton.Note.TheVariants.{Text as NewText
 ghost use Rattle.svn_model.specs.Effects.{change_in, text_in};
 ghost use Rattle.svn_edit.specs.Noted.{slashed, note_of_value, strings_of_value};
 ghost use Rattle.svn_edit.specs.NodeTests.{first_of};
+ghost use Rattle.svn_edit.specs.Leaving.{SamePools, BatonBegan};
 ghost use Rattle.svn_edit.specs.Applying.{BatonBegun, BatonSaid, Says, IsLeaf, PoolGone, Properties, StillSaid};
 
 use std::alloc::{AllocError, Global};
@@ -57,6 +58,7 @@ fn slashed(alloc: Global, names: &[Name]) -> Result<Vec<u8>, AllocError>
 fn push(pools: &mut PoolTree<Global>, pool: PoolId, bytes: &[u8]) -> Result<u32, AllocError>
     ensures pushed { OnOk result (pools.new ≡ pushed pools.old pool.0 bytes.now) }
     ensures place { IfOk result (λ place. place ≡ length (strings_at pools.old pool.0)) }
+    ensures refused { OnErr result (pools.new ≡ pools.old) }
 {
     match pools.push(pool, bytes) {
         Ok(place) => Ok(place),
@@ -82,7 +84,8 @@ impl Baton {
         beneath: PoolId,
         path: &RelPath,
     ) -> Result<Baton, AllocError>
-        ensures { IfOk result (λ b. BatonBegun beneath.0 path.now pools.old b pools.new) }
+        ensures begun { IfOk result (λ b. BatonBegun beneath.0 path.now pools.old b pools.new) }
+        ensures kept { OnErr result (SamePools pools.old pools.new) }
     {
         let path = path.clone()?;
         let text = slashed(alloc, path.components())?;
@@ -90,7 +93,7 @@ impl Baton {
             return Err(AllocError);
         };
         let Ok(_) = pools.push(pool, text.as_slice()) else {
-            let _ = pools.destroy(pool);
+            drop_pool(pools, pool);
             return Err(AllocError);
         };
         Ok(Baton {
@@ -101,14 +104,15 @@ impl Baton {
         })
     }
 
-    /// Notes a change of a property.
+    /// Notes a change of a property. Where memory is refused, the first of the strings may have been pushed.
     pub(crate) fn note_change(
         &mut self,
         pools: &mut PoolTree<Global>,
         name: &PropName,
         value: Option<&Text>,
     ) -> Result<(), AllocError>
-        ensures { OnOk result (let v = option_copied value.entry in BatonSaid (note_of_value v) (name.now ∷ strings_of_value v) self.old pools.old self.new pools.new) }
+        ensures noted { OnOk result (let v = option_copied value.entry in BatonSaid (note_of_value v) (name.now ∷ strings_of_value v) self.old pools.old self.new pools.new) }
+        ensures began { OnErr result (let v = option_copied value.entry in BatonBegan (name.now ∷ strings_of_value v) self.old pools.old self.new pools.new) }
     {
         push(pools, self.pool, name.as_str().as_bytes())?;
         let Some(value) = value else {
@@ -120,13 +124,14 @@ impl Baton {
         Ok(())
     }
 
-    /// Notes the text. Where one was noted before, that one counts.
+    /// Notes the text. Where one was noted before, that one counts. Where memory is refused, the string may have been pushed.
     pub(crate) fn note_text(
         &mut self,
         pools: &mut PoolTree<Global>,
         text: &Text,
     ) -> Result<(), AllocError>
-        ensures { OnOk result (BatonSaid NewText (text.now ∷ []) self.old pools.old self.new pools.new) }
+        ensures noted { OnOk result (BatonSaid NewText (text.now ∷ []) self.old pools.old self.new pools.new) }
+        ensures began { OnErr result (BatonBegan (text.now ∷ []) self.old pools.old self.new pools.new) }
     {
         let place = push(pools, self.pool, text.as_slice())?;
         self.notes.push(Note::Text)?;
@@ -135,7 +140,8 @@ impl Baton {
     }
 }
 
-// The name of a property that a string has.
+// The name of a property that a string has. A string that is no name can't come, since each was pushed from one; but what was said of
+// a path is bytes in the definitions too, which don't say so: hence AllocError.
 fn prop_name(alloc: Global, bytes: Option<&[u8]>) -> Result<PropName, AllocError>
     ensures { IfOk result (λ n. option_copied bytes.entry ≡ Some n) }
 {

@@ -38,6 +38,7 @@ impl Edit {
         ensures keeps { KeepsEdit self.old self.new }
         ensures closed { OnOk result ((b : Baton) (said : List Action) → batons_of self.old token ≡ Some b → Says b self.old.pools said → (p : Path) → get_in copy.new.entries p ≡ (if path_eq b.path p then closed_directory (filter_map change_in said) (get_in copy.old.entries b.path) else get_in copy.old.entries p)) }
         ensures refused { IfErr result (λ e. (e ≡ EditFault.Memory) × (copy.new.entries ≡ copy.old.entries)) }
+        ensures unchanged { OnErr result (self.new ≡ self.old) }
     {
         let Some(baton) = self.batons.get(&token.0) else {
             return Err(EditFault::Memory);
@@ -93,6 +94,7 @@ impl Edit {
         ensures answers { (b : Baton) (said : List Action) → batons_of self.old token ≡ Some b → Says b self.old.pools said → let w = get_in copy.old.entries in AnswersCall (sum_fault md5 text_md5.now (filter_map text_in said) (w b.path)) result }
         ensures closed { OnOk result ((b : Baton) (said : List Action) → batons_of self.old token ≡ Some b → Says b self.old.pools said → FileIsClosed (mode_of self.old.root) self.old.target b.path (filter_map change_in said) (filter_map text_in said) copy.old.entries copy.new.entries) }
         ensures refused { OnErr result (copy.new.entries ≡ copy.old.entries) }
+        ensures unchanged { OnErr result (self.new ≡ self.old) }
     {
         let Some(baton) = self.batons.get(&token.0) else {
             return Err(EditFault::Memory);
@@ -128,9 +130,8 @@ impl Edit {
         if ending::is_settled_deep(copy, root) {
             return Err(EditFault::TooDeep);
         }
-        let moves = or_memory(ending::moves(self.alloc, copy, root))?;
-        ending::move_all(copy, moves);
-        ending::settle_all(copy, self.target);
+        let moved = or_memory(ending::moved_paths(self.alloc, copy, root))?;
+        ending::settle_moved(copy, self.target, moved);
         Ok(())
     }
 }

@@ -1,5 +1,5 @@
 //! An edit of a copy, call by call.
-ghost use Rattle.std.specs.Prelude.{◌≡◌, ◌≢◌, [], ◌∷◌, ◌++◌, List, IfOk, IfErr, OnOk, OnErr, Ok, Some, None, true, false, if◌then◌else◌};
+ghost use Rattle.std.specs.Prelude.{◌≡◌, ◌≢◌, ◌+◌, is_ok, [], ◌∷◌, ◌++◌, List, IfOk, IfErr, OnOk, OnErr, Ok, Some, None, true, false, if◌then◌else◌};
 ghost use Rattle.md5.specs.Md5.{md5};
 ghost use Rattle.svn_types.specs.Names.{Path};
 ghost use Rattle.svn_types.specs.Paths.{path_eq};
@@ -7,6 +7,7 @@ ghost use Rattle.svn_types.specs.declared.kind.Kind.TheVariants.{File, Directory
 ghost use Rattle.svn_pool.specs.Pools.{Entry, pool_at};
 ghost use Rattle.svn_editor.specs.Calls.{is_last};
 ghost use Rattle.std.specs.Option.{option_copied};
+ghost use Rattle.std.specs.List.{list_any};
 ghost use Rattle.svn_editor.specs.Steps.{Mode, Action, Delete, Open, Add, Text as TextOf, Update, SwitchTo};
 ghost use Rattle.svn_edit.specs.declared.baton.Note.TheVariants.{Text as NewText};
 ghost use Rattle.svn_edit.specs.Noted.{note_of_value, strings_of_value};
@@ -15,7 +16,8 @@ ghost use Rattle.svn_model.specs.declared.base_node.BaseNode.{BaseNode};
 ghost use Rattle.svn_model.specs.declared.base_node.BaseNode.TheVariants.{NotPresent as NoNode};
 ghost use Rattle.svn_model.specs.Nodes.{WorkingCopy, get_in};
 ghost use Rattle.svn_model.specs.Effects.{change_in, text_in, is_too_long, closed_directory, settled, settle_fault, step_effect, step_fault, effect, edit_fault, refusal};
-ghost use Rattle.svn_edit.specs.Applying.{mode_of, pool_or, Applied, KeepsEdit, MakesBaton, RefusedAs, BatonGone, BatonNoted, TakenInOrder, IsLeaf, Says, batons_of, Holds, IsNext, StandsAfter, AnswersAs, OneIsLeft, live_count, HasEnded, IsRefused, StaysRefused, StaysEnded, LeavesRefused};
+ghost use Rattle.svn_edit.specs.Applying.{mode_of, pool_or, Applied, KeepsEdit, MakesBaton, RefusedAs, BatonGone, BatonNoted, TakenInOrder, IsLeaf, Says, batons_of, Holds, IsNext, StandsAfter, AnswersAs, OneIsLeft, live_count, open_count, HasEnded, IsRefused, StaysRefused, StaysEnded, LeavesRefused};
+ghost use Rattle.svn_edit.specs.Leaving.{HoldsPools, IsLeft, LeavesPools, PoolsAfter, KeepsPools, NoteBegan};
 ghost use Rattle.svn_model.specs.Answering.{AnswersCall};
 ghost use Rattle.svn_edit.specs.NodeTests.{sum_fault, IsClosing, FileIsClosed};
 ghost use Rattle.std.specs.FinMap as map;
@@ -53,6 +55,8 @@ pub struct Edit {
     /// Where a switch brings the copy.
     pub(crate) root: Option<RelPath>,
     pub(crate) pools: PoolTree<Global>,
+    // The token that a call in order names has a baton. But the calls so far, from which that follows, stand in no field and in no
+    // condition of a call, so where a baton is looked up the branch without one stays, and answers Memory.
     pub(crate) batons: HashMap<u64, Baton>,
     pub(crate) alloc: Global,
 }
@@ -69,6 +73,7 @@ fn is_too_long(value: Option<&Text>) -> bool
 pub(crate) fn or_memory<T>(answer: Result<T, AllocError>) -> Result<T, EditFault>
     ensures ok { IfOk result (λ v. answer ≡ Ok v) }
     ensures err { IfErr result (λ e. e ≡ EditFault.Memory) }
+    ensures same { is_ok result ≡ is_ok answer }
 {
     match answer {
         Ok(value) => Ok(value),
@@ -110,7 +115,8 @@ impl Edit {
     /// Takes the next call, and changes the copy as it says. The order check's faults come first, then those of the copy: DeleteEntry
     /// NoEntry, WrongRevision; the adds EntryExists, TooDeep; the opens NoEntry, WrongKind, WrongRevision, TooDeep; property changes TooLong;
     /// ApplyText TooLong, BaseChecksum; CloseFile TextChecksum; CloseEdit of a switch TooDeep. Memory comes last, but not at AbortEdit and
-    /// at CloseEdit of an update. After a refusal the copy is as it was, and every call but AbortEdit is refused.
+    /// at CloseEdit of an update. After a refusal the copy is as it was, the pools are those of what is open, and every call but AbortEdit
+    /// is refused.
     pub fn call(&mut self, copy: &mut Nodes, call: &Call) -> Result<(), EditFault>
         ensures answers { (mode : Mode) (w0 : WorkingCopy) (calls : List Call) → StandsAfter mode w0 self.old copy.old.entries calls → AnswersCall (refusal md5 mode calls call.now copy.old.entries) result }
         ensures accepted { OnOk result ((mode : Mode) (w0 : WorkingCopy) (calls : List Call) → StandsAfter mode w0 self.old copy.old.entries calls → StandsAfter mode w0 self.new copy.new.entries (calls ++ call.now ∷ [])) }
@@ -119,6 +125,7 @@ impl Edit {
         ensures was_refused { IsRefused self.old → StaysRefused call.now result self.new × (copy.new ≡ copy.old) }
         ensures last { is_last call.now ≡ true → mode_of self.old.root ≡ Update → IfErr result (λ e. e ≢ EditFault.Memory) }
         ensures ended { HasEnded self.old → StaysEnded self.old result self.new × (copy.new ≡ copy.old) }
+        ensures pools { PoolsAfter self.old copy.old.entries call.now result self.new }
     {
         match self.stage {
             Stage::Ended => Err(EditFault::Order(OrderFault::Ended)),
@@ -131,6 +138,7 @@ impl Edit {
     pub fn live_pools(&self) -> u64
         ensures live { result ≡ map.len self.now.pools.live }
         ensures count { (mode : Mode) (w0 : WorkingCopy) (nodes : List (Path × BaseNode)) (calls : List Call) → StandsAfter mode w0 self.now nodes calls → result ≡ live_count calls }
+        ensures left { (calls : List Call) (c : Call) → IsLeft calls c self.now → result ≡ open_count calls + 1 }
     {
         self.pools.live()
     }
@@ -138,7 +146,8 @@ impl Edit {
     // Takes the next call after a refusal.
     fn give_up(&mut self, call: &Call) -> Result<(), EditFault>
         requires { IsRefused self.old }
-        ensures { StaysRefused call.now result self.new }
+        ensures stays { StaysRefused call.now result self.new }
+        ensures left { (calls : List Call) (c : Call) → IsLeft calls c self.old → LeavesPools call.now self.old self.new }
     {
         if matches!(call, Call::AbortEdit) {
             self.drop_batons();
@@ -156,6 +165,7 @@ impl Edit {
         ensures refused { OnErr result ((mode : Mode) (w0 : WorkingCopy) (calls : List Call) → StandsAfter mode w0 self.old copy.old.entries calls → copy.new.entries ≡ copy.old.entries) }
         ensures last { is_last call.now ≡ true → mode_of self.old.root ≡ Update → IfErr result (λ e. e ≢ EditFault.Memory) }
         ensures dead { OnErr result (IsRefused self.new) }
+        ensures left { OnErr result ((mode : Mode) (w0 : WorkingCopy) (calls : List Call) → StandsAfter mode w0 self.old copy.old.entries calls → list_any is_last calls ≡ false → HoldsPools self.new.pools (batons_of self.new) calls call.now) }
     {
         let answer = self.take_in_order(copy, call);
         if answer.is_err() {
@@ -171,6 +181,7 @@ impl Edit {
         ensures accepted { OnOk result ((mode : Mode) (w0 : WorkingCopy) (calls : List Call) → StandsAfter mode w0 self.old copy.old.entries calls → TakenInOrder mode w0 self.new copy.new.entries calls call.now) }
         ensures last { is_last call.now ≡ true → mode_of self.old.root ≡ Update → IfErr result (λ e. e ≢ EditFault.Memory) }
         ensures refused { OnErr result ((mode : Mode) (w0 : WorkingCopy) (calls : List Call) → StandsAfter mode w0 self.old copy.old.entries calls → copy.new.entries ≡ copy.old.entries) }
+        ensures pools { OnErr result ((mode : Mode) (w0 : WorkingCopy) (calls : List Call) → StandsAfter mode w0 self.old copy.old.entries calls → list_any is_last calls ≡ false → HoldsPools self.new.pools (batons_of self.new) calls call.now) }
     {
         match self.order.step(call) {
             Ok(()) => self.apply(copy, call),
@@ -185,6 +196,7 @@ impl Edit {
         ensures last { is_last call.now ≡ true → mode_of self.old.root ≡ Update → IfErr result (λ e. e ≢ EditFault.Memory) }
         ensures left { is_last call.now ≡ true → OnOk result ((mode : Mode) (calls : List Call) → IsNext mode self.old calls call.now → OneIsLeft self.new) }
         ensures order { self.new.order ≡ self.old.order }
+        ensures pools { OnErr result ((mode : Mode) (calls : List Call) → IsNext mode self.old calls call.now → HoldsPools self.new.pools (batons_of self.new) calls call.now) }
     {
         match call {
             Call::SetTargetRevision { rev } => {
@@ -249,9 +261,12 @@ impl Edit {
     fn open_baton(&mut self, beneath: PoolId, path: &RelPath, token: Token) -> Result<(), EditFault>
         ensures opened { OnOk result (MakesBaton beneath.0 path.now token self.old self.new) }
         ensures keeps { KeepsEdit self.old self.new }
+        ensures unchanged { OnErr result (KeepsPools self.old self.new) }
         ensures fault { IfErr result (λ e. e ≡ EditFault.Memory) }
     {
-        let baton = or_memory(Baton::open(self.alloc, &mut self.pools, beneath, path))?;
+        let Ok(baton) = Baton::open(self.alloc, &mut self.pools, beneath, path) else {
+            return Err(EditFault::Memory);
+        };
         let pool = baton.pool;
         let Ok(_) = self.batons.insert(token.0, baton) else {
             drop_pool(&mut self.pools, pool);
@@ -273,6 +288,7 @@ impl Edit {
     fn open_root(&mut self, copy: &mut Nodes, base: Rev, token: Token) -> Result<(), EditFault>
         ensures opened { OnOk result (MakesBaton self.old.pools.root [] token self.old self.new) }
         ensures keeps { KeepsEdit self.old self.new }
+        ensures unchanged { OnErr result (KeepsPools self.old self.new) }
         ensures applied { let a = Open Directory base in let w = get_in copy.old.entries in Applied (step_fault md5 (mode_of self.old.root) [] w [] a) (step_effect (mode_of self.old.root) self.old.target [] (record { path = []; action = a }) w) copy.old.entries result copy.new.entries }
     {
         let root = RelPath::root(self.alloc);
@@ -290,6 +306,7 @@ impl Edit {
     ) -> Result<(), EditFault>
         ensures opened { OnOk result (MakesBaton beneath.0 path.now token self.old self.new) }
         ensures keeps { KeepsEdit self.old self.new }
+        ensures unchanged { OnErr result (KeepsPools self.old self.new) }
         ensures applied { let a = Open Directory base in let w = get_in copy.old.entries in Applied (step_fault md5 (mode_of self.old.root) [] w path.now a) (step_effect (mode_of self.old.root) self.old.target [] (record { path = path.now; action = a }) w) copy.old.entries result copy.new.entries }
     {
         let node = copy.get(path);
@@ -311,6 +328,7 @@ impl Edit {
     ) -> Result<(), EditFault>
         ensures opened { OnOk result (MakesBaton self.old.pools.root path.now token self.old self.new) }
         ensures keeps { KeepsEdit self.old self.new }
+        ensures unchanged { OnErr result (KeepsPools self.old self.new) }
         ensures applied { let a = Open File base in let w = get_in copy.now.entries in Applied (step_fault md5 (mode_of self.old.root) [] w path.now a) (step_effect (mode_of self.old.root) self.old.target [] (record { path = path.now; action = a }) w) copy.now.entries result copy.now.entries }
     {
         let node = copy.get(path);
@@ -333,6 +351,7 @@ impl Edit {
     ) -> Result<(), EditFault>
         ensures opened { OnOk result (MakesBaton beneath.0 path.now token self.old self.new) }
         ensures keeps { KeepsEdit self.old self.new }
+        ensures unchanged { batons_of self.old token ≡ None → OnErr result (KeepsPools self.old self.new) }
         ensures copy { OnOk result ((p : Path) → get_in copy.new.entries p ≡ (if path_eq path.now p then Some node else get_in copy.old.entries p)) }
         ensures refused { OnErr result (copy.new.entries ≡ copy.old.entries) }
         ensures fault { IfErr result (λ e. e ≡ EditFault.Memory) }
@@ -355,6 +374,7 @@ impl Edit {
     ) -> Result<(), EditFault>
         ensures opened { OnOk result (MakesBaton beneath.0 path.now token self.old self.new) }
         ensures keeps { KeepsEdit self.old self.new }
+        ensures unchanged { batons_of self.old token ≡ None → OnErr result (KeepsPools self.old self.new) }
         ensures applied { let a = Add Directory in let w = get_in copy.old.entries in Applied (step_fault md5 (mode_of self.old.root) [] w path.now a) (step_effect (mode_of self.old.root) self.old.target [] (record { path = path.now; action = a }) w) copy.old.entries result copy.new.entries }
     {
         if nodes::is_present(copy.get(path)) {
@@ -373,6 +393,7 @@ impl Edit {
     fn add_file(&mut self, copy: &mut Nodes, path: &RelPath, token: Token) -> Result<(), EditFault>
         ensures opened { OnOk result (MakesBaton self.old.pools.root path.now token self.old self.new) }
         ensures keeps { KeepsEdit self.old self.new }
+        ensures unchanged { batons_of self.old token ≡ None → OnErr result (KeepsPools self.old self.new) }
         ensures applied { let a = Add File in let w = get_in copy.old.entries in Applied (step_fault md5 (mode_of self.old.root) [] w path.now a) (step_effect (mode_of self.old.root) self.old.target [] (record { path = path.now; action = a }) w) copy.old.entries result copy.new.entries }
     {
         if nodes::is_present(copy.get(path)) {
@@ -402,6 +423,7 @@ impl Edit {
         value: Option<&Text>,
     ) -> Result<(), EditFault>
         ensures keeps { KeepsEdit self.old self.new }
+        ensures began { OnErr result ((b : Baton) → batons_of self.old token ≡ Some b → NoteBegan token b (name.now ∷ strings_of_value (option_copied value.entry)) self.old self.new) }
         ensures answers { AnswersCall (if is_too_long (option_copied value.entry) then Some EditFault.TooLong else None) result }
         ensures noted { OnOk result ((b : Baton) → batons_of self.old token ≡ Some b → let v = option_copied value.entry in BatonNoted token b (note_of_value v) (name.now ∷ strings_of_value v) self.old.pools (batons_of self.old) self.new.pools (batons_of self.new)) }
     {
@@ -422,6 +444,7 @@ impl Edit {
         text: &Text,
     ) -> Result<(), EditFault>
         ensures keeps { KeepsEdit self.old self.new }
+        ensures began { OnErr result ((b : Baton) → batons_of self.old token ≡ Some b → NoteBegan token b (text.now ∷ []) self.old self.new) }
         ensures answers { (b : Baton) → batons_of self.old token ≡ Some b → AnswersCall (step_fault md5 Update [] (get_in copy.now.entries) b.path (TextOf base_md5.now text.now)) result }
         ensures noted { OnOk result ((b : Baton) → batons_of self.old token ≡ Some b → BatonNoted token b NewText (text.now ∷ []) self.old.pools (batons_of self.old) self.new.pools (batons_of self.new)) }
     {

@@ -1,16 +1,16 @@
 //! What the last call of an edit does to the nodes of a copy.
-ghost use Rattle.std.specs.Prelude.{◌≡◌, ◌++◌, Some, IfOk, if◌then◌else◌};
-ghost use Rattle.std.specs.Option.{option_map};
+ghost use Rattle.std.specs.Prelude.{◌≡◌, ◌++◌, Some, IfOk};
 ghost use Rattle.std.specs.List.{list_any};
+ghost use Rattle.std.specs.Vec.Iter.{into_iter_items};
 ghost use Rattle.svn_types.specs.Names.{Path};
-ghost use Rattle.svn_types.specs.Paths.{path_eq};
 ghost use Rattle.svn_editor.specs.Steps.{Update, SwitchTo};
 ghost use Rattle.svn_model.specs.Nodes.{get_in, is_present, at_revision};
 ghost use Rattle.svn_model.specs.Effects.{settled, is_settled_deep};
-ghost use Rattle.svn_edit.specs.NodeTests.{with_path, moves_of, moved_by};
+ghost use Rattle.svn_edit.specs.NodeTests.{with_path, moved_paths, settled_next, paths_left};
 
 use crate::nodes::{Nodes, is_present};
 use std::alloc::{AllocError, Global};
+use std::vec::IntoIter;
 use svn_model::BaseNode;
 use svn_types::{MAX_DEPTH, RelPath, Rev};
 
@@ -62,32 +62,24 @@ fn under(alloc: Global, root: &RelPath, path: &RelPath) -> Result<RelPath, Alloc
     }
 }
 
-/// The paths of the present nodes, each with the repository path that a switch to a root gives it.
-pub(crate) fn moves(
+/// The repository paths that a switch to a root gives the present nodes, in path order.
+pub(crate) fn moved_paths(
     alloc: Global,
     nodes: &Nodes,
     root: &RelPath,
-) -> Result<Vec<(RelPath, RelPath)>, AllocError>
-    ensures { IfOk result (λ v. v.items ≡ moves_of root.now nodes.now.entries) }
+) -> Result<Vec<RelPath>, AllocError>
+    ensures { IfOk result (λ v. v.items ≡ moved_paths root.now nodes.now.entries) }
 {
-    let mut moves = Vec::new(alloc);
+    let mut moved = Vec::new(alloc);
     for (path, node) in nodes {
         if is_present(Some(node)) {
-            moves.push((path.clone()?, under(alloc, root, path)?))?;
+            moved.push(under(alloc, root, path)?)?;
         }
     }
-    Ok(moves)
+    Ok(moved)
 }
 
-// Gives the node at a path that repository path.
-fn move_to(nodes: &mut Nodes, path: &RelPath, moved: RelPath)
-    ensures { (p : Path) → get_in nodes.new.entries p ≡ (if path_eq path.now p then option_map (with_path moved) (get_in nodes.old.entries p) else get_in nodes.old.entries p) }
-{
-    if let Some(node) = nodes.get_mut(path) {
-        set_path(node, moved);
-    }
-}
-
+// Gives a node that is present a repository path.
 fn set_path(node: &mut BaseNode, moved: RelPath)
     ensures { node.new ≡ with_path moved node.old }
 {
@@ -98,11 +90,25 @@ fn set_path(node: &mut BaseNode, moved: RelPath)
     }
 }
 
-/// Gives nodes those repository paths. It takes no memory.
-pub(crate) fn move_all(nodes: &mut Nodes, mut moves: Vec<(RelPath, RelPath)>)
-    ensures { (p : Path) → get_in nodes.new.entries p ≡ moved_by moves.items p (get_in nodes.old.entries p) }
+// Gives a present node the revision and the next repository path, and tells whether it is present.
+fn settle_next(node: &mut BaseNode, target: Rev, moved: &mut IntoIter<RelPath>) -> bool
+    ensures kept { result ≡ is_present (Some node.old) }
+    ensures settled { node.new ≡ settled_next target (into_iter_items moved.old) node.old }
+    ensures left { into_iter_items moved.new ≡ paths_left node.old (into_iter_items moved.old) }
 {
-    while let Some((path, moved)) = moves.pop() {
-        move_to(nodes, &path, moved);
+    if !settle(node, target) {
+        return false;
     }
+    if let Some(path) = moved.next() {
+        set_path(node, path);
+    }
+    true
+}
+
+/// Gives every present node the revision and the next of these repository paths, and removes the others. It takes no memory.
+pub(crate) fn settle_moved(nodes: &mut Nodes, target: Rev, moved: Vec<RelPath>)
+    ensures { (root : Path) → moved.items ≡ moved_paths root nodes.old.entries → (p : Path) → get_in nodes.new.entries p ≡ settled (SwitchTo root) target p (get_in nodes.old.entries p) }
+{
+    let mut moved = moved.into_iter();
+    nodes.retain(|_, node| settle_next(node, target, &mut moved));
 }

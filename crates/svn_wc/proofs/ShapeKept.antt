@@ -20,6 +20,7 @@ use Rattle.svn_edit_law.proofs.Shape.{shaped_first}
 use Rattle.svn_edit.specs.declared.edit.Edit.{Edit}
 use Rattle.svn_edit.specs.declared.edit.Stage.{Stage}
 use Rattle.svn_edit.specs.declared.edit.Stage.TheVariants.{Going, Refused, Ended}
+use Rattle.svn_edit.specs.Leaving.{PoolsAfter}
 use Rattle.svn_edit.specs.Applying.{mode_of, StandsAfter, HasEnded, IsRefused, StaysRefused, StaysEnded, LeavesRefused}
 use Rattle.svn_edit.proofs.ShapedCalls.{shaped_call}
 use Rattle.svn_wc.specs.Taking.{TakesCall, IsBegun, GoesOn, IsInShape}
@@ -67,9 +68,10 @@ pub taken : (answer : Result (Unit {0}) EditFault) (old new : Edit) (m m' : BTre
     → LeavesRefused old.stage answer new
     → (IsRefused old → StaysRefused c answer new × (m' ≡ m))
     → (HasEnded old → StaysEnded old answer new × (m' ≡ m))
+    → PoolsAfter old m.entries c answer new
     → (is_last c ≡ true → mode_of old.root ≡ Update → IfErr answer (λ e. e ≢ Memory))
     → TakesCall old m.entries c answer new m'.entries
-taken answer old new m m' c named answers accepted refused dead was_refused ended last = record {
+taken answer old new m m' c named answers accepted refused dead was_refused ended pools last = record {
   answers = answers;
   accepted = accepted;
   shape = shaped_call answer old new m.entries m'.entries c named accepted answers;
@@ -77,6 +79,7 @@ taken answer old new m m' c named answers accepted refused dead was_refused ende
   dead = dead;
   was_refused = λ h. let r = was_refused h in (r.0, ap (λ (x : BTreeMap Path BaseNode). x.entries) r.1);
   ended = λ h. let r = ended h in (r.0, ap (λ (x : BTreeMap Path BaseNode). x.entries) r.1);
+  pools = pools;
   last = last;
 }
 

@@ -17,6 +17,7 @@ use Rattle.svn_model.specs.Answering.{AnswersCall}
 use Rattle.svn_edit_law.specs.Laws.{IsShapedAfter}
 use Rattle.svn_edit.specs.declared.edit.Edit.{Edit}
 use Rattle.svn_edit.specs.declared.edit.Stage.TheVariants.{Going}
+use Rattle.svn_edit.specs.Leaving.{PoolsAfter}
 use Rattle.svn_edit.specs.Applying.{mode_of, StandsAfter, HasEnded, IsRefused, StaysRefused, StaysEnded, LeavesRefused}
 
 pub record TakesCall (old : Edit) (w : List (Path × BaseNode)) (call : Call) (answer : Result (Unit {0}) EditFault)
@@ -31,6 +32,8 @@ pub record TakesCall (old : Edit) (w : List (Path × BaseNode)) (call : Call) (a
   pub dead : LeavesRefused old.stage answer new
   pub was_refused : IsRefused old → StaysRefused call answer new × (w' ≡ w)
   pub ended : HasEnded old → StaysEnded old answer new × (w' ≡ w)
+  -- after a refusal too the pools are those of what is open
+  pub pools : PoolsAfter old w call answer new
   -- want of memory isn't answered to the last call of an update
   pub last : is_last call ≡ true → mode_of old.root ≡ Update → IfErr answer (λ e. e ≢ Memory)
 

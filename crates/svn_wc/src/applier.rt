@@ -1,5 +1,5 @@
 //! The editor that applies an edit to a working copy.
-ghost use Rattle.std.specs.Prelude.{◌≡◌, ◌≢◌, true, [], ◌∷◌, ◌++◌, List, IfOk, IfErr, OnOk, OnErr, None, Some};
+ghost use Rattle.std.specs.Prelude.{◌≡◌, ◌≢◌, ◌+◌, true, [], ◌∷◌, ◌++◌, List, IfOk, IfErr, OnOk, OnErr, None, Some};
 ghost use Rattle.md5.specs.Md5.{md5};
 ghost use Rattle.svn_editor.specs.declared.call.Call.{Call};
 ghost use Rattle.svn_editor.specs.declared.fault.EditFault.TheVariants.{Memory};
@@ -8,7 +8,8 @@ ghost use Rattle.svn_editor.specs.Steps.{Mode, Update, SwitchTo};
 ghost use Rattle.svn_model.specs.Nodes.{WorkingCopy as CopyMap, get_in};
 ghost use Rattle.svn_model.specs.Effects.{refusal};
 ghost use Rattle.svn_edit_law.specs.Laws.{OpensNamed, IsShapedAfter};
-ghost use Rattle.svn_edit.specs.Applying.{mode_of, live_count, StandsAfter, HasEnded, IsRefused, StaysRefused, StaysEnded, LeavesRefused};
+ghost use Rattle.svn_edit.specs.Leaving.{IsLeft, PoolsAfter};
+ghost use Rattle.svn_edit.specs.Applying.{mode_of, open_count, live_count, OneIsLeft, StandsAfter, HasEnded, IsRefused, StaysRefused, StaysEnded, LeavesRefused};
 ghost use Rattle.svn_model.specs.Answering.{AnswersCall};
 ghost use Rattle.svn_wc.specs.Taking.{IsBegun, IsInShape};
 
@@ -91,6 +92,7 @@ impl<'a> Applier<'a> {
         ensures dead { LeavesRefused self.old.edit.stage result self.new.edit }
         ensures was_refused { IsRefused self.old.edit → StaysRefused call result self.new.edit × (self.new.copy.now ≡ self.old.copy.now) }
         ensures ended { HasEnded self.old.edit → StaysEnded self.old.edit result self.new.edit × (self.new.copy.now ≡ self.old.copy.now) }
+        ensures pools { PoolsAfter self.old.edit self.old.copy.now call result self.new.edit }
         ensures last { is_last call ≡ true → mode_of self.old.edit.root ≡ Update → IfErr result (λ e. e ≢ Memory) }
         ensures same_copy { self.new.copy.ghost_name ≡ self.old.copy.ghost_name }
     {
@@ -100,8 +102,11 @@ impl<'a> Applier<'a> {
     }
 
     /// How many pools are live: one, and one for each file or directory that is open; after the last call one. It takes no memory.
+    /// After a refusal what is open is what the accepted calls left open, until AbortEdit.
     pub fn live_pools(&self) -> u64
-        ensures { (mode : Mode) (w0 : CopyMap) (calls : List Call) → StandsAfter mode w0 self.now.edit self.now.copy.now calls → result ≡ live_count calls }
+        ensures left { (calls : List Call) (c : Call) → IsLeft calls c self.now.edit → result ≡ open_count calls + 1 }
+        ensures alone { OneIsLeft self.now.edit → result ≡ 1 }
+        ensures count { (mode : Mode) (w0 : CopyMap) (calls : List Call) → StandsAfter mode w0 self.now.edit self.now.copy.now calls → result ≡ live_count calls }
     {
         self.edit.live_pools()
     }

@@ -6,10 +6,12 @@ use Rattle.svn_edit.specs.declared.baton.Note.TheVariants.{Set, Remove}
 use Rattle.svn_edit.specs.Noted.{note_of_value, strings_of_value}
 use Rattle.svn_edit.specs.Applying.{BatonSaid}
 use Rattle.svn_edit.proofs.PoolStrings.{said_one, said_two}
+use Rattle.svn_edit.proofs.Holding.{on_err}
+use Rattle.svn_edit.proofs.LeftPools.{unbegun, began_one, began_two}
 use Rattle.svn_edit.proofs.baton.Baton.note_change.Goals as goal
 
-pub returns-in_default : goal.returns-in_default
-returns-in_default c =
+pub returns-in_default-clause-noted : goal.returns-in_default-clause-noted
+returns-in_default-clause-noted c =
     subst (λ (v : Option (Bor (List ℕ))). BatonSaid (note_of_value (option_copied v))
     (c.args.name.now ∷ strings_of_value (option_copied v)) c.args.self.now c.args.pools.now
     (record { path = c.args.self.now.path; pool = c.args.self.now.pool; notes = c.push-in_default.new.self; text = c.args.self.now.text })
@@ -24,8 +26,8 @@ returns-in_default c =
     c.in_ok-push-2.ensures.items refl (c.in_ok-push.ensures.pushed ∙ ap (pushed c.args.pools.now c.args.self.now.pool.0)
     (c.as_bytes.ensures.value ∙ c.as_str.ensures.value)))
 
-pub returns : goal.returns
-returns c =
+pub returns-clause-noted : goal.returns-clause-noted
+returns-clause-noted c =
     subst (λ (v : Option (Bor (List ℕ))). BatonSaid (note_of_value (option_copied v))
     (c.args.name.now ∷ strings_of_value (option_copied v)) c.args.self.now c.args.pools.now
     (record { path = c.args.self.now.path; pool = c.args.self.now.pool; notes = c.push-3.new.self; text = c.args.self.now.text })
@@ -42,3 +44,38 @@ returns c =
     ∙ (λ i. pushed (c.in_ok-push.ensures.pushed i) c.args.self.now.pool.0 (c.as_slice.ensures i))
     ∙ ap (λ (x : List ℕ). pushed (pushed c.args.pools.now c.args.self.now.pool.0 x) c.args.self.now.pool.0 c.in-Some.value.now)
     (c.as_bytes.ensures.value ∙ c.as_str.ensures.value)))
+
+-- ---- a string or the note was refused
+
+pub returns-in_err-push-clause-began : goal.returns-in_err-push-clause-began
+returns-in_err-push-clause-began c =
+    on_err c.from_residual.result (unbegun _ c.args.self.now c.args.self.now c.args.pools.now c.push.new.pools refl refl
+    c.in_err-push.ensures.refused)
+
+pub returns-in_err-push-2-clause-began : goal.returns-in_err-push-2-clause-began
+returns-in_err-push-2-clause-began c =
+    on_err c.from_residual-in_err-push-2.result (began_one c.args.self.now
+    (record { path = c.args.self.now.path; pool = c.args.self.now.pool; notes = c.push-in_default.new.self; text = c.args.self.now.text })
+    c.args.pools.now c.push.new.pools c.args.name.now (strings_of_value (option_copied c.args.value)) _ refl refl
+    (c.in_ok-push.ensures.pushed ∙ ap (pushed c.args.pools.now c.args.self.now.pool.0) (c.as_bytes.ensures.value ∙ c.as_str.ensures.value))
+    refl)
+
+pub returns-in_err-push-3-clause-began : goal.returns-in_err-push-3-clause-began
+returns-in_err-push-3-clause-began c =
+    on_err c.from_residual-in_err-push-3.result (began_one c.args.self.now c.args.self.now c.args.pools.now c.push-2.new.pools
+    c.args.name.now (strings_of_value (option_copied c.args.value)) _ refl refl
+    (c.in_err-push-3.ensures.refused ∙ c.in_ok-push.ensures.pushed
+    ∙ ap (pushed c.args.pools.now c.args.self.now.pool.0) (c.as_bytes.ensures.value ∙ c.as_str.ensures.value))
+    refl)
+
+pub returns-in_err-push-4-clause-began : goal.returns-in_err-push-4-clause-began
+returns-in_err-push-4-clause-began c =
+    on_err c.from_residual-in_err-push-4.result (began_two c.args.self.now
+    (record { path = c.args.self.now.path; pool = c.args.self.now.pool; notes = c.push-3.new.self; text = c.args.self.now.text })
+    c.args.pools.now c.push-2.new.pools c.args.name.now c.in-Some.value.now
+    (c.args.name.now ∷ strings_of_value (option_copied c.args.value)) refl refl
+    (c.in_ok-push-3.ensures.pushed
+    ∙ (λ i. pushed (c.in_ok-push.ensures.pushed i) c.args.self.now.pool.0 (c.as_slice.ensures i))
+    ∙ ap (λ (x : List ℕ). pushed (pushed c.args.pools.now c.args.self.now.pool.0 x) c.args.self.now.pool.0 c.in-Some.value.now)
+    (c.as_bytes.ensures.value ∙ c.as_str.ensures.value))
+    (ap (λ (v : Option (Bor (List ℕ))). c.args.name.now ∷ strings_of_value (option_copied v)) (sym c.in-Some.is)))

@@ -1,12 +1,14 @@
-use Rattle.std.proofs.Common.{Some, refl, ap, ◌∙◌}
+use Rattle.std.proofs.Common.{[], Some, refl, ap, ◌∙◌}
 use Rattle.std.specs.Option.{option_or}
 use Rattle.svn_pool.specs.Pools.{pushed}
 use Rattle.svn_edit.specs.declared.baton.Note.TheVariants.{Text as NewText}
 use Rattle.svn_edit.proofs.PoolStrings.{said_one}
+use Rattle.svn_edit.proofs.Holding.{on_err}
+use Rattle.svn_edit.proofs.LeftPools.{unbegun, began_one}
 use Rattle.svn_edit.proofs.baton.Baton.note_text.Goals as goal
 
-pub returns : goal.returns
-returns c =
+pub returns-clause-noted : goal.returns-clause-noted
+returns-clause-noted c =
     said_one c.args.self.now (record {
       path = c.args.self.now.path;
       pool = c.args.self.now.pool;
@@ -16,3 +18,17 @@ returns c =
     }) c.args.pools.now c.push.new.pools NewText c.args.text.now refl refl
     c.in_ok-push.ensures.items (c.or-self.ensures ∙ ap (λ n. option_or c.args.self.now.text (Some n)) c.in_ok-place.ensures.place)
     (c.in_ok-place.ensures.pushed ∙ ap (pushed c.args.pools.now c.args.self.now.pool.0) c.as_slice.ensures)
+
+-- ---- the string or the note was refused
+
+pub returns-in_err-place-clause-began : goal.returns-in_err-place-clause-began
+returns-in_err-place-clause-began c =
+    on_err c.from_residual.result (unbegun _ c.args.self.now c.args.self.now c.args.pools.now c.push.new.pools refl refl
+    c.in_err-place.ensures.refused)
+
+pub returns-in_err-push-clause-began : goal.returns-in_err-push-clause-began
+returns-in_err-push-clause-began c =
+    on_err c.from_residual-in_err-push.result (began_one c.args.self.now
+    (record { path = c.args.self.now.path; pool = c.args.self.now.pool; notes = c.push-2.new.self; text = c.args.self.now.text })
+    c.args.pools.now c.push.new.pools c.args.text.now [] _ refl refl
+    (c.in_ok-place.ensures.pushed ∙ ap (pushed c.args.pools.now c.args.self.now.pool.0) c.as_slice.ensures) refl)

@@ -1,12 +1,24 @@
-use Rattle.std.proofs.Common.{refl, ap, ◌∙◌}
-use Rattle.svn_pool.specs.Pools.{pushed}
+use Rattle.std.proofs.Common.{refl, sym, ap, ◌∙◌, Some}
+use Rattle.svn_pool.specs.Pools.{Pools, pool_at, parent_of, pushed}
 use Rattle.svn_edit.specs.Noted.{slashed}
 use Rattle.svn_edit.proofs.PoolStrings.{begun}
+use Rattle.svn_edit.proofs.LeftPools.{undone}
 use Rattle.svn_edit.proofs.baton.Baton.open.Goals as goal
 
-pub returns : goal.returns
-returns c =
+pub returns-clause-begun : goal.returns-clause-begun
+returns-clause-begun c =
     begun _ c.args.pools.now c.push.new.self c.args.beneath.0 c.args.path.now c.in_ok-text.text.items c.in_ok-path.ensures.cases
-    c.new.ensures.items refl c.in-Ok.ensures.serial c.in-Ok.ensures.fresh
+    c.new.ensures.items refl c.in-Ok.ensures.serial c.in-Ok.ensures.fresh c.in-Ok.ensures.apart
+    (λ q e. c.in-Ok.ensures.childless q (ap (λ (v : Pools). parent_of (pool_at v q)) c.in-Ok.ensures.made ∙ e))
     (c.in-Ok-push.ensures.pushed ∙ (λ i. pushed (c.in-Ok.ensures.made i) (c.in-Ok.ensures.serial i) (c.as_slice.ensures.value i)))
     (c.in_ok-text.ensures ∙ ap slashed (c.components.ensures.names ∙ c.in_ok-path.ensures.cases))
+
+-- the string was refused, and the new pool goes
+pub returns-in_default-push-clause-kept : goal.returns-in_default-push-clause-kept
+returns-in_default-push-clause-kept c =
+    let same = c.in_default-push.ensures.refused in
+    let serial = c.in-Ok.ensures.serial in
+    undone c.args.pools.now c.push.new.self c.drop_pool.new.pools c.in-Ok.pool.0 c.args.beneath.0 (same ∙ c.in-Ok.ensures.made) serial
+    c.in-Ok.ensures.fresh c.drop_pool.ensures
+    (λ q e. c.in-Ok.ensures.childless q (ap (λ (v : Pools). parent_of (pool_at v q)) (sym same) ∙ e ∙ ap Some serial))
+    c.in-Ok.ensures.apart

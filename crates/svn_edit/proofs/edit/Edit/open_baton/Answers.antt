@@ -1,21 +1,18 @@
-use Rattle.std.proofs.Common.{nat_eq, Some, IfOk, subst}
-use Rattle.std.specs.Prelude.{Result}
-use Rattle.std.specs.declared.alloc.AllocError.{AllocError}
+use Rattle.std.proofs.Common.{nat_eq, ℕ, List, Some, refl, ap, subst, ◌∙◌}
 use Rattle.std.specs.HashMap.{Updates}
+use Rattle.std.specs.Map.{lookup}
 use Rattle.svn_pool.proofs.Edges.{updated_here, updated_away}
 use Rattle.svn_edit.specs.declared.baton.Baton.{Baton}
-use Rattle.svn_edit.specs.Applying.{BatonBegun}
+use Rattle.svn_edit.proofs.LeftPools.{taken_back}
 use Rattle.svn_edit.proofs.edit.Edit.open_baton.Goals as goal
 
 pub returns-clause-opened : goal.returns-clause-opened
 returns-clause-opened c =
-    let begun : BatonBegun c.args.beneath.0 c.args.path.now c.args.self.now.pools c.in_ok-baton.baton c.open.new.pools =
-    subst (λ (r : Result Baton AllocError). IfOk r (λ b. BatonBegun c.args.beneath.0 c.args.path.now c.args.self.now.pools b
-    c.open.new.pools)) c.in_ok-baton.ensures.ok c.open.ensures in
-    let updates = subst (λ k. Updates nat_eq c.args.self.now.batons c.insert.new.self k (Some c.in_ok-baton.baton)) c.token.view_is
-    c.in-Ok.ensures.updates in
+    let begun = c.in-Ok.ensures.begun in
+    let updates = subst (λ k. Updates nat_eq c.args.self.now.batons c.insert.new.self k (Some c.in-Ok.baton)) c.token.view_is
+    c.in-Ok-insert.ensures.updates in
     record {
-      baton = c.in_ok-baton.baton;
+      baton = c.in-Ok.baton;
       path = begun.path;
       notes = begun.notes;
       text = begun.text;
@@ -24,6 +21,21 @@ returns-clause-opened c =
       others = begun.others;
       root = begun.root;
       count = begun.count;
-      token = updated_here c.args.self.now.batons c.insert.new.self c.args.token (Some c.in_ok-baton.baton) updates;
-      tokens = updated_away c.args.self.now.batons c.insert.new.self c.args.token (Some c.in_ok-baton.baton) updates;
+      apart = begun.apart;
+      leaf = begun.leaf;
+      token = updated_here c.args.self.now.batons c.insert.new.self c.args.token (Some c.in-Ok.baton) updates;
+      tokens = updated_away c.args.self.now.batons c.insert.new.self c.args.token (Some c.in-Ok.baton) updates;
+    }
+
+pub returns-in_default-clause-unchanged : goal.returns-in_default-clause-unchanged
+returns-in_default-clause-unchanged c = record { pools = c.in_default.ensures.kept; batons = λ t. refl }
+
+-- the baton was refused, and its pool goes
+pub returns-in_default-insert-clause-unchanged : goal.returns-in_default-insert-clause-unchanged
+returns-in_default-insert-clause-unchanged c =
+    let begun = c.in-Ok.ensures.begun in
+    record {
+      pools = taken_back c.args.self.now.pools c.open.new.pools c.drop_pool.new.pools c.in-Ok.baton.pool.0 begun.fresh begun.others
+          begun.root begun.count (c.drop_pool.ensures _ begun.made begun.leaf (λ e. begun.apart (e ∙ begun.root)));
+      batons = λ t. ap (λ (l : List (ℕ × Baton)). lookup (nat_eq t) l) c.in_default-insert.ensures.err;
     }

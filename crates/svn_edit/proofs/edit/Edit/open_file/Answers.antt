@@ -9,7 +9,8 @@ use Rattle.svn_edit.specs.NodeTests.{open_fault_of, deep_fault}
 use Rattle.svn_edit.specs.Applying.{mode_of}
 use Rattle.svn_edit_law.proofs.StepEffects.{effect_none}
 use Rattle.svn_edit.proofs.OpenFaults.{open_fault_is}
-use Rattle.svn_edit.proofs.Holding.{applied_none}
+use Rattle.svn_edit.proofs.Holding.{applied_none, on_err}
+use Rattle.svn_edit.proofs.LeftPools.{keeps_same}
 use Rattle.svn_edit.proofs.edit.Edit.open_file.Goals as goal
 
 pub returns-clause-applied : goal.returns-clause-applied
@@ -23,3 +24,9 @@ returns-clause-applied c =
     ∙ c.in_ok-_moved.ensures.0 in
     applied_none (step_fault md5 mode [] w p (Open File c.args.base)) _ c.args.copy.now.entries c.open_baton.result fault
     (effect_none mode c.args.self.now.target [] p (Open File c.args.base) w (λ o. refl) refl) c.open_baton.ensures.fault
+
+pub returns-in-Some-clause-unchanged : goal.returns-in-Some-clause-unchanged
+returns-in-Some-clause-unchanged c = keeps_same c.args.self.now
+
+pub returns-in_err-_moved-clause-unchanged : goal.returns-in_err-_moved-clause-unchanged
+returns-in_err-_moved-clause-unchanged c = on_err c.from_residual.result (keeps_same c.args.self.now)

@@ -9,7 +9,9 @@ use Rattle.svn_editor.proofs.Accepted.{not_ended}
 use Rattle.svn_model.specs.Effects.{edit_fault}
 use Rattle.svn_model.specs.Answering.{AnswersCall}
 use Rattle.svn_edit.proofs.Holding.{ok_by, at_ok, err_by, order_none, order_refused, not_memory, refusal_is, applied_answer, applied_copy}
-use Rattle.svn_edit.proofs.Holding.{applied_err, copy_more, next_is}
+use Rattle.svn_edit.proofs.Holding.{applied_err, at_err, copy_more, next_is}
+use Rattle.svn_edit.specs.Applying.{batons_of}
+use Rattle.svn_edit.proofs.LeftPools.{same_left, pools_same}
 use Rattle.svn_edit.proofs.edit.Edit.take_in_order.Goals as goal
 
 pub returns-in-Ok-clause-answers : goal.returns-in-Ok-clause-answers
@@ -48,6 +50,15 @@ returns-in-Ok-clause-refused c = err_by c.apply.result (λ e bad mode w0 calls s
     (λ h. record { stage = h.stage; root = h.root; target = h.target; batons = h.batons }) in
     applied_err _ _ _ _ c.apply.result e bad (c.apply.ensures.applied mode calls next))
 
+pub returns-in-Ok-clause-pools : goal.returns-in-Ok-clause-pools
+returns-in-Ok-clause-pools c = err_by c.apply.result (λ e bad mode w0 calls s going.
+    let call = c.args.call.now in
+    let none : order_fault calls call ≡ None = order_none (order_fault calls call) (c.in-Ok.ensures.answers calls s.order) in
+    let next = next_is mode w0 c.args.self.now (record c.args.self.now { order = c.step.new.self }) c.args.copy.now.entries calls call s
+    none
+    (λ h. record { stage = h.stage; root = h.root; target = h.target; batons = h.batons }) in
+    at_err c.apply.result e bad c.apply.ensures.pools mode calls next)
+
 pub returns-in-Err : goal.returns-in-Err
 returns-in-Err c = record {
   answers = λ mode w0 calls s.
@@ -56,4 +67,8 @@ returns-in-Err c = record {
   accepted = tt;
   last = λ h update. not_memory c.in-Err.fault c.refused_as.result c.refused_as.ensures (c.in-Err.ensures.last h);
   refused = λ mode w0 calls s. refl;
+  pools = λ mode w0 calls s going.
+      let old = c.args.self.now in
+      same_left old.pools old.pools (batons_of old) (batons_of old) calls c.args.call.now (s.going going).batons (pools_same old.pools)
+      (λ t. refl);
 }

@@ -5,6 +5,7 @@ use Rattle.svn_types.specs.Names.{Path}
 use Rattle.svn_model.specs.declared.base_node.BaseNode.{BaseNode}
 use Rattle.svn_model.specs.Effects.{refusal}
 use Rattle.svn_edit.specs.Applying.{StandsAfter}
+use Rattle.svn_edit.specs.Leaving.{PoolsAfter}
 use Rattle.svn_model.specs.Answering.{AnswersCall}
 use Rattle.svn_edit.proofs.Holding.{map_ok, map_err}
 use Rattle.svn_edit.proofs.ShapedCalls.{shaped_call}
@@ -43,6 +44,11 @@ returns-clause-was_refused c = λ h. let r = c.call.ensures.was_refused h in (
 pub returns-clause-ended : goal.returns-clause-ended
 returns-clause-ended c = λ h. let r = c.call.ensures.ended h in (r.0, ap (λ (m : BTreeMap Path BaseNode). m.entries) r.1 ∙ c.copy.view_is)
 
+pub returns-clause-pools : goal.returns-clause-pools
+returns-clause-pools c =
+    subst (λ (n : List (Path × BaseNode)). PoolsAfter c.args.self.now.edit n c.args.call c.call.result c.call.new.self) c.copy.view_is
+    c.call.ensures.pools
+
 pub invariant_of-copy : goal.invariant_of-copy
 invariant_of-copy c =
     let before =
@@ -51,7 +57,8 @@ invariant_of-copy c =
     (kept c.args.self.now.edit c.call.new.self _ _ c.args.call c.opens_allowed.ensures c.call.result
     (taken c.call.result c.args.self.now.edit c.call.new.self c.copy.inside.nodes c.call.new.copy c.args.call c.opens_allowed.ensures
     c.call.ensures.answers
-    c.call.ensures.accepted c.call.ensures.refused c.call.ensures.dead c.call.ensures.was_refused c.call.ensures.ended c.call.ensures.last)
+    c.call.ensures.accepted c.call.ensures.refused c.call.ensures.dead c.call.ensures.was_refused c.call.ensures.ended
+    c.call.ensures.pools c.call.ensures.last)
     shape c.copy.invariant).1)
 
 pub invariant_of-self : goal.invariant_of-self
@@ -62,6 +69,7 @@ invariant_of-self c =
     (kept c.args.self.now.edit c.call.new.self _ _ c.args.call c.opens_allowed.ensures c.call.result
     (taken c.call.result c.args.self.now.edit c.call.new.self c.copy.inside.nodes c.call.new.copy c.args.call c.opens_allowed.ensures
     c.call.ensures.answers
-    c.call.ensures.accepted c.call.ensures.refused c.call.ensures.dead c.call.ensures.was_refused c.call.ensures.ended c.call.ensures.last)
+    c.call.ensures.accepted c.call.ensures.refused c.call.ensures.dead c.call.ensures.was_refused c.call.ensures.ended
+    c.call.ensures.pools c.call.ensures.last)
     shape c.copy.invariant).0) in
     record { in_shape = after }

@@ -1,0 +1,9 @@
+use Rattle.svn_edit.proofs.Holding.{on_err}
+use Rattle.svn_edit.proofs.LeftPools.{keeps_same}
+use Rattle.svn_edit.proofs.edit.Edit.add_directory.Goals as goal
+
+pub returns-then-is_present-clause-unchanged : goal.returns-then-is_present-clause-unchanged
+returns-then-is_present-clause-unchanged c = λ none. keeps_same c.args.self.now
+
+pub returns-in_err-joined-clause-unchanged : goal.returns-in_err-joined-clause-unchanged
+returns-in_err-joined-clause-unchanged c = λ none. on_err c.from_residual.result (keeps_same c.args.self.now)
