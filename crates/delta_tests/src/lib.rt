@@ -1,10 +1,10 @@
-//! Tests of editor calls and reports: calls that are out of order, printed lines, and reports that are refused.
+//! Tests of editor calls and reports: calls in and out of order, printed lines, and reports that are refused.
 #![tactic(auto)]
 
 #[cfg(test)]
-mod order;
+mod calls;
 #[cfg(test)]
-mod paths;
+mod order;
 #[cfg(test)]
 mod printing;
 #[cfg(test)]

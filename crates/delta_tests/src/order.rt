@@ -1,307 +1,172 @@
-//! Calls that are out of order. Each edit begins with the calls of `begun`, unless its test says otherwise.
-use crate::paths::path;
+//! Calls in and out of order: rows of calls, each with its answer.
+use crate::calls::Row::{
+    AbortEdit, AddDirectory, AddFile, ApplyText, ChangeDirProp, ChangeFileProp, CloseDirectory,
+    CloseEdit, CloseFile, DeleteEntry, OpenRoot, SetTargetRevision,
+};
+use crate::calls::{Row, call};
 use std::alloc::Global;
 use std::process::Abort;
 use std::test::Fail;
-use svn_editor::{Call, OrderFault, Token};
+use svn_editor::OrderFault;
+use svn_editor::OrderFault::{
+    ClosedToken, Dead, DeleteLate, Ended, EntryAgain, FileOpen, NotInnermost, OpenBelow, PropLate,
+    RootNotClosed, TargetFirst, TextAgain, TokenOrder, TooEarly, UnknownToken, WrongPath,
+};
 use svn_order::OrderCheck;
-use svn_types::{PropName, Rev, Text};
 
-const ROOT: Token = Token(0);
+type Answered = (Row, Result<(), OrderFault>);
 
-fn taken(rt: &impl Abort, check: &mut OrderCheck, call: &Call) {
-    let answer = check.step(call);
-    assert_eq!(rt; answer, Ok(()));
-}
+// How most edits begin.
+const BEGUN: [Answered; 2] = [(SetTargetRevision(1), Ok(())), (OpenRoot(0, 0), Ok(()))];
 
-fn refused(rt: &impl Abort, check: &mut OrderCheck, call: &Call, fault: OrderFault) {
-    let answer = check.step(call);
-    assert_eq!(rt; answer, Err(fault));
-}
+// Then two files are open in the root, of which the second is current.
+const TWO_FILES: [Answered; 4] = [
+    (SetTargetRevision(1), Ok(())),
+    (OpenRoot(0, 0), Ok(())),
+    (AddFile("f", 0, 1), Ok(())),
+    (AddFile("g", 0, 2), Ok(())),
+];
 
-fn begun(rt: &impl Abort, alloc: Global) -> OrderCheck {
-    let mut check = OrderCheck::new(alloc);
-    taken(rt, &mut check, &Call::SetTargetRevision { rev: Rev(1) });
-    let (base, token) = (Rev(0), ROOT);
-    taken(rt, &mut check, &Call::OpenRoot { base, token });
-    check
-}
-
-fn add_directory(alloc: Global, text: &str, parent: u64, token: u64) -> Result<Call, Fail> {
-    Ok(Call::AddDirectory {
-        path: path(alloc, text)?,
-        parent: Token(parent),
-        token: Token(token),
-    })
-}
-
-fn add_file(alloc: Global, text: &str, parent: u64, token: u64) -> Result<Call, Fail> {
-    Ok(Call::AddFile {
-        path: path(alloc, text)?,
-        parent: Token(parent),
-        token: Token(token),
-    })
-}
-
-fn delete(alloc: Global, text: &str, parent: u64) -> Result<Call, Fail> {
-    Ok(Call::DeleteEntry {
-        path: path(alloc, text)?,
-        rev: Rev(0),
-        parent: Token(parent),
-    })
-}
-
-fn close(token: u64) -> Call {
-    Call::CloseDirectory {
-        token: Token(token),
+fn answers(
+    rt: &impl Abort,
+    alloc: Global,
+    check: &mut OrderCheck,
+    calls: &[Answered],
+) -> Result<(), Fail> {
+    for (row, answer) in calls {
+        let call = call(alloc, *row)?;
+        assert_eq!(rt; check.step(&call), *answer, "{call}");
     }
+    Ok(())
 }
 
-fn close_file(token: u64) -> Call {
-    Call::CloseFile {
-        token: Token(token),
-        text_md5: None,
+// Each row stands by itself, behind the same beginning.
+fn rows_answer(
+    rt: &impl Abort,
+    alloc: Global,
+    begun: &[Answered],
+    rows: &[&[Answered]],
+) -> Result<(), Fail> {
+    for row in rows {
+        let mut check = OrderCheck::new(alloc);
+        answers(rt, alloc, &mut check, begun)?;
+        answers(rt, alloc, &mut check, row)?;
     }
-}
-
-fn apply_text(alloc: Global, token: u64) -> Result<Call, Fail> {
-    Ok(Call::ApplyText {
-        token: Token(token),
-        base_md5: None,
-        text: Text::new(b"a".to_vec(alloc)?),
-    })
-}
-
-fn change_dir(alloc: Global, token: u64) -> Result<Call, Fail> {
-    Ok(Call::ChangeDirProp {
-        token: Token(token),
-        name: PropName::parse(alloc, "p")?,
-        value: None,
-    })
-}
-
-fn change_file(alloc: Global, token: u64) -> Result<Call, Fail> {
-    Ok(Call::ChangeFileProp {
-        token: Token(token),
-        name: PropName::parse(alloc, "p")?,
-        value: None,
-    })
-}
-
-// An edit with two open files in the root, of which the second is current.
-fn two_files(rt: &impl Abort, alloc: Global) -> Result<OrderCheck, Fail> {
-    let mut check = begun(rt, alloc);
-    taken(rt, &mut check, &add_file(alloc, "f", 0, 1)?);
-    taken(rt, &mut check, &add_file(alloc, "g", 0, 2)?);
-    Ok(check)
-}
-
-#[test]
-fn a_closed_token_ends_an_edit_that_can_only_be_given_up(rt: HostRuntime) -> Result<(), Fail> {
-    let alloc = rt.alloc();
-    let mut check = begun(&rt, alloc);
-    taken(&rt, &mut check, &add_directory(alloc, "a", 0, 1)?);
-    taken(&rt, &mut check, &close(1));
-    refused(
-        &rt,
-        &mut check,
-        &add_file(alloc, "a/f", 1, 2)?,
-        OrderFault::ClosedToken,
-    );
-    refused(&rt, &mut check, &close(0), OrderFault::Dead);
-    taken(&rt, &mut check, &Call::AbortEdit);
-    refused(&rt, &mut check, &Call::AbortEdit, OrderFault::Ended);
     Ok(())
 }
 
 #[test]
-fn a_directory_is_opened_in_the_innermost(rt: HostRuntime) -> Result<(), Fail> {
-    let alloc = rt.alloc();
-    let mut check = begun(&rt, alloc);
-    taken(&rt, &mut check, &add_directory(alloc, "a", 0, 1)?);
-    refused(
-        &rt,
-        &mut check,
-        &add_directory(alloc, "b", 0, 2)?,
-        OrderFault::NotInnermost,
-    );
-    Ok(())
+fn an_edit_begins_with_its_target_and_ends_with_its_root_closed(
+    rt: HostRuntime,
+) -> Result<(), Fail> {
+    const BEGINNINGS: [&[Answered]; 2] = [
+        &[(OpenRoot(0, 0), Err(TargetFirst))],
+        &[(AbortEdit, Ok(()))],
+    ];
+    const ENDS: [&[Answered]; 3] = [
+        &[(CloseEdit, Err(RootNotClosed))],
+        &[
+            (CloseDirectory(0), Ok(())),
+            (CloseEdit, Ok(())),
+            (CloseEdit, Err(Ended)),
+        ],
+        &[
+            (AddFile("f", 0, 1), Ok(())),
+            (CloseDirectory(0), Ok(())),
+            (CloseEdit, Err(RootNotClosed)),
+        ],
+    ];
+    rows_answer(&rt, rt.alloc(), &[], &BEGINNINGS)?;
+    rows_answer(&rt, rt.alloc(), &BEGUN, &ENDS)
 }
 
-#[test]
-fn an_edit_ends_with_its_root_closed(rt: HostRuntime) -> Result<(), Fail> {
-    let mut check = begun(&rt, rt.alloc());
-    refused(&rt, &mut check, &Call::CloseEdit, OrderFault::RootNotClosed);
-    let mut other = begun(&rt, rt.alloc());
-    taken(&rt, &mut other, &close(0));
-    taken(&rt, &mut other, &Call::CloseEdit);
-    refused(&rt, &mut other, &Call::CloseEdit, OrderFault::Ended);
-    Ok(())
-}
+// Tokens are given in their order before they are named, and an edit with a refused call can only be given up.
+const TOKENS: [&[Answered]; 3] = [
+    &[
+        (AddDirectory("a", 0, 1), Ok(())),
+        (CloseDirectory(1), Ok(())),
+        (AddFile("a/f", 1, 2), Err(ClosedToken)),
+        (CloseDirectory(0), Err(Dead)),
+        (AbortEdit, Ok(())),
+        (AbortEdit, Err(Ended)),
+    ],
+    &[(DeleteEntry("f", 0, 1), Err(UnknownToken))],
+    &[(AddFile("f", 0, 2), Err(TokenOrder))],
+];
+
+// A directory is opened in the innermost one, as an entry of it, and is closed after those in it.
+const DIRECTORIES: [&[Answered]; 3] = [
+    &[
+        (AddDirectory("a", 0, 1), Ok(())),
+        (AddDirectory("b", 0, 2), Err(NotInnermost)),
+    ],
+    &[(AddFile("a/b", 0, 1), Err(WrongPath))],
+    &[
+        (AddDirectory("a", 0, 1), Ok(())),
+        (CloseDirectory(0), Err(OpenBelow)),
+    ],
+];
+
+// Properties come before or after all subdirectories, and no delete comes after an add or a delete.
+const ENTRIES: [&[Answered]; 4] = [
+    &[
+        (AddDirectory("a", 0, 1), Ok(())),
+        (ChangeDirProp(0, "p", None), Err(PropLate)),
+    ],
+    &[
+        (AddDirectory("a", 0, 1), Ok(())),
+        (CloseDirectory(1), Ok(())),
+        (ChangeDirProp(0, "p", None), Ok(())),
+        (AddDirectory("b", 0, 2), Err(PropLate)),
+    ],
+    &[
+        (AddFile("f", 0, 1), Ok(())),
+        (CloseFile(1, None), Ok(())),
+        (DeleteEntry("f", 0, 0), Err(DeleteLate)),
+    ],
+    &[
+        (DeleteEntry("f", 0, 0), Ok(())),
+        (DeleteEntry("f", 0, 0), Err(EntryAgain)),
+    ],
+];
+
+// A file has one text, and is closed at once when it has it.
+const TEXTS: [&[Answered]; 2] = [
+    &[
+        (AddFile("f", 0, 1), Ok(())),
+        (ApplyText(1, None, "a"), Ok(())),
+        (ApplyText(1, None, "a"), Err(TextAgain)),
+    ],
+    &[
+        (AddFile("f", 0, 1), Ok(())),
+        (ApplyText(1, None, "a"), Ok(())),
+        (CloseDirectory(0), Err(FileOpen)),
+    ],
+];
 
 #[test]
-fn the_target_revision_comes_first(rt: HostRuntime) -> Result<(), Fail> {
-    let mut check = OrderCheck::new(rt.alloc());
-    let (base, token) = (Rev(0), ROOT);
-    refused(
-        &rt,
-        &mut check,
-        &Call::OpenRoot { base, token },
-        OrderFault::TargetFirst,
-    );
-    let mut other = OrderCheck::new(rt.alloc());
-    taken(&rt, &mut other, &Call::AbortEdit);
-    Ok(())
+fn calls_out_of_order_are_refused(rt: HostRuntime) -> Result<(), Fail> {
+    rows_answer(&rt, rt.alloc(), &BEGUN, &TOKENS)?;
+    rows_answer(&rt, rt.alloc(), &BEGUN, &DIRECTORIES)?;
+    rows_answer(&rt, rt.alloc(), &BEGUN, &ENTRIES)?;
+    rows_answer(&rt, rt.alloc(), &BEGUN, &TEXTS)
 }
 
-#[test]
-fn a_token_is_given_before_it_is_named(rt: HostRuntime) -> Result<(), Fail> {
-    let alloc = rt.alloc();
-    let mut check = begun(&rt, alloc);
-    refused(
-        &rt,
-        &mut check,
-        &delete(alloc, "f", 1)?,
-        OrderFault::UnknownToken,
-    );
-    let mut other = begun(&rt, alloc);
-    refused(
-        &rt,
-        &mut other,
-        &add_file(alloc, "f", 0, 2)?,
-        OrderFault::TokenOrder,
-    );
-    Ok(())
-}
+// A postponed file waits for the directories, and then texts come in any order.
+const POSTPONED: [&[Answered]; 3] = [
+    &[(ChangeFileProp(1, "p", None), Err(PropLate))],
+    &[(CloseFile(1, None), Err(TooEarly))],
+    &[
+        (CloseDirectory(0), Ok(())),
+        (ApplyText(2, None, "a"), Ok(())),
+        (ApplyText(1, None, "a"), Ok(())),
+        (CloseFile(2, None), Ok(())),
+        (CloseFile(1, None), Ok(())),
+        (CloseEdit, Ok(())),
+    ],
+];
 
 #[test]
-fn a_path_is_an_entry_of_the_parent(rt: HostRuntime) -> Result<(), Fail> {
-    let alloc = rt.alloc();
-    let mut check = begun(&rt, alloc);
-    refused(
-        &rt,
-        &mut check,
-        &add_file(alloc, "a/b", 0, 1)?,
-        OrderFault::WrongPath,
-    );
-    Ok(())
-}
-
-#[test]
-fn a_directory_is_closed_after_those_in_it(rt: HostRuntime) -> Result<(), Fail> {
-    let alloc = rt.alloc();
-    let mut check = begun(&rt, alloc);
-    taken(&rt, &mut check, &add_directory(alloc, "a", 0, 1)?);
-    refused(&rt, &mut check, &close(0), OrderFault::OpenBelow);
-    Ok(())
-}
-
-#[test]
-fn properties_come_before_or_after_all_subdirectories(rt: HostRuntime) -> Result<(), Fail> {
-    let alloc = rt.alloc();
-    let mut check = begun(&rt, alloc);
-    taken(&rt, &mut check, &add_directory(alloc, "a", 0, 1)?);
-    refused(
-        &rt,
-        &mut check,
-        &change_dir(alloc, 0)?,
-        OrderFault::PropLate,
-    );
-    let mut other = begun(&rt, alloc);
-    taken(&rt, &mut other, &add_directory(alloc, "a", 0, 1)?);
-    taken(&rt, &mut other, &close(1));
-    taken(&rt, &mut other, &change_dir(alloc, 0)?);
-    refused(
-        &rt,
-        &mut other,
-        &add_directory(alloc, "b", 0, 2)?,
-        OrderFault::PropLate,
-    );
-    Ok(())
-}
-
-#[test]
-fn no_delete_comes_after_an_add_or_a_delete(rt: HostRuntime) -> Result<(), Fail> {
-    let alloc = rt.alloc();
-    let mut check = begun(&rt, alloc);
-    taken(&rt, &mut check, &add_file(alloc, "f", 0, 1)?);
-    taken(&rt, &mut check, &close_file(1));
-    refused(
-        &rt,
-        &mut check,
-        &delete(alloc, "f", 0)?,
-        OrderFault::DeleteLate,
-    );
-    let mut other = begun(&rt, alloc);
-    taken(&rt, &mut other, &delete(alloc, "f", 0)?);
-    refused(
-        &rt,
-        &mut other,
-        &delete(alloc, "f", 0)?,
-        OrderFault::EntryAgain,
-    );
-    Ok(())
-}
-
-#[test]
-fn a_file_has_one_text(rt: HostRuntime) -> Result<(), Fail> {
-    let alloc = rt.alloc();
-    let mut check = begun(&rt, alloc);
-    taken(&rt, &mut check, &add_file(alloc, "f", 0, 1)?);
-    taken(&rt, &mut check, &apply_text(alloc, 1)?);
-    refused(
-        &rt,
-        &mut check,
-        &apply_text(alloc, 1)?,
-        OrderFault::TextAgain,
-    );
-    Ok(())
-}
-
-#[test]
-fn a_file_with_its_text_is_closed_at_once(rt: HostRuntime) -> Result<(), Fail> {
-    let alloc = rt.alloc();
-    let mut check = begun(&rt, alloc);
-    taken(&rt, &mut check, &add_file(alloc, "f", 0, 1)?);
-    taken(&rt, &mut check, &apply_text(alloc, 1)?);
-    refused(&rt, &mut check, &close(0), OrderFault::FileOpen);
-    Ok(())
-}
-
-#[test]
-fn a_postponed_file_waits_for_the_directories(rt: HostRuntime) -> Result<(), Fail> {
-    let alloc = rt.alloc();
-    let mut check = two_files(&rt, alloc)?;
-    refused(
-        &rt,
-        &mut check,
-        &change_file(alloc, 1)?,
-        OrderFault::PropLate,
-    );
-    let mut other = two_files(&rt, alloc)?;
-    refused(&rt, &mut other, &close_file(1), OrderFault::TooEarly);
-    Ok(())
-}
-
-#[test]
-fn an_edit_ends_with_its_files_closed(rt: HostRuntime) -> Result<(), Fail> {
-    let alloc = rt.alloc();
-    let mut check = begun(&rt, alloc);
-    taken(&rt, &mut check, &add_file(alloc, "f", 0, 1)?);
-    taken(&rt, &mut check, &close(0));
-    refused(&rt, &mut check, &Call::CloseEdit, OrderFault::RootNotClosed);
-    Ok(())
-}
-
-#[test]
-fn postponed_texts_come_in_any_order(rt: HostRuntime) -> Result<(), Fail> {
-    let alloc = rt.alloc();
-    let mut check = two_files(&rt, alloc)?;
-    taken(&rt, &mut check, &close(0));
-    taken(&rt, &mut check, &apply_text(alloc, 2)?);
-    taken(&rt, &mut check, &apply_text(alloc, 1)?);
-    taken(&rt, &mut check, &close_file(2));
-    taken(&rt, &mut check, &close_file(1));
-    taken(&rt, &mut check, &Call::CloseEdit);
-    Ok(())
+fn postponed_files_come_after_the_directories(rt: HostRuntime) -> Result<(), Fail> {
+    rows_answer(&rt, rt.alloc(), &TWO_FILES, &POSTPONED)
 }

@@ -1,130 +1,272 @@
-//! Reports whose calls come in an order that is refused, links that are too deep, and the names beneath a path.
-use crate::paths::path;
+//! Reports: rows of calls, each with its answer, and the lines as they are printed; and the names beneath a path.
+use crate::calls::path;
+use Entry::{Delete, Link, Set};
 use std::alloc::Global;
 use std::process::Abort;
 use std::test::Fail;
-use svn_report::{Report, Reporter, ReporterFault};
+use svn_report::ReporterFault::{NotRootFirst, ParentLater, Repeated, TooDeep, UnderDeleted};
+use svn_report::{EntryLine, Report, Reporter, ReporterFault};
 use svn_types::{Name, RelPath, Rev};
 
-fn with_root(alloc: Global) -> Result<Reporter, Fail> {
-    let mut reporter = Reporter::new(alloc);
-    reporter.set_path(&RelPath::root(alloc), Rev(1), false)?;
-    Ok(reporter)
+// A call of a reporter, with texts in the place of paths. What it has stands in the order in which it is printed.
+#[derive(Clone, Copy)]
+enum Entry {
+    Set(&'static str, u64, bool),
+    Link(&'static str, &'static str, u64, bool),
+    Delete(&'static str),
 }
 
-// `z` and so many names `a` beneath it.
-fn deep(alloc: Global, count: usize) -> Result<RelPath, Fail> {
-    let mut text = String::from_str(alloc, "z")?;
-    for _ in 0..count {
-        text.push_str("/a")?;
+type Answered = (Entry, Result<(), ReporterFault>);
+
+fn tell(
+    alloc: Global,
+    reporter: &mut Reporter,
+    entry: Entry,
+) -> Result<Result<(), ReporterFault>, Fail> {
+    Ok(match entry {
+        Set(at, rev, start_empty) => reporter.set_path(&path(alloc, at)?, Rev(rev), start_empty),
+        Link(at, from, rev, start_empty) => {
+            let from = path(alloc, from)?;
+            reporter.link_path(&path(alloc, at)?, from, Rev(rev), start_empty)
+        }
+        Delete(at) => reporter.delete_path(&path(alloc, at)?),
+    })
+}
+
+fn tell_all(
+    rt: &impl Abort,
+    alloc: Global,
+    reporter: &mut Reporter,
+    calls: &[Answered],
+) -> Result<(), Fail> {
+    for (entry, answer) in calls {
+        let found = tell(alloc, reporter, *entry)?;
+        assert_eq!(rt; found, *answer);
     }
-    path(alloc, text.as_str())
-}
-
-#[test]
-fn a_path_is_reported_once(rt: HostRuntime) -> Result<(), Fail> {
-    let alloc = rt.alloc();
-    let mut reporter = with_root(alloc)?;
-    reporter.set_path(&path(alloc, "a")?, Rev(1), false)?;
-    let again = reporter.set_path(&path(alloc, "a")?, Rev(2), false);
-    assert_eq!(rt; again, Err(ReporterFault::Repeated));
     Ok(())
 }
 
-#[test]
-fn nothing_is_reported_beneath_a_delete(rt: HostRuntime) -> Result<(), Fail> {
-    let alloc = rt.alloc();
-    let mut reporter = with_root(alloc)?;
-    reporter.delete_path(&path(alloc, "b")?)?;
-    let below = reporter.set_path(&path(alloc, "b/c")?, Rev(1), false);
-    assert_eq!(rt; below, Err(ReporterFault::UnderDeleted));
+// The report of the repository's root that these calls make.
+fn report_of(rt: &impl Abort, alloc: Global, calls: &[Answered]) -> Result<Report, Fail> {
+    let mut reporter = Reporter::new(alloc);
+    tell_all(rt, alloc, &mut reporter, calls)?;
+    Ok(reporter.finish_report())
+}
+
+// Calls, and what is printed of their report and of its entries.
+const ROWS: [(&[Answered], &str); 6] = [
+    (
+        &[
+            (Set("", 2, true), Ok(())),
+            (Link("g", "f", 2, false), Ok(())),
+            (Delete("h"), Ok(())),
+        ],
+        "set . 2 start_empty\nlink g f 2\ndelete h\n",
+    ),
+    (
+        &[(Set("", 1, false), Ok(())), (Delete("f"), Ok(()))],
+        "set . 1\ndelete f\n",
+    ),
+    // a path is reported once
+    (
+        &[
+            (Set("", 1, false), Ok(())),
+            (Set("a", 1, false), Ok(())),
+            (Set("a", 2, false), Err(Repeated)),
+        ],
+        "set . 1\nset a 1\n",
+    ),
+    // nothing is reported beneath a delete
+    (
+        &[
+            (Set("", 1, false), Ok(())),
+            (Delete("b"), Ok(())),
+            (Set("b/c", 1, false), Err(UnderDeleted)),
+        ],
+        "set . 1\ndelete b\n",
+    ),
+    // a parent is reported before what is beneath
+    (
+        &[
+            (Set("", 1, false), Ok(())),
+            (Set("d/e", 1, false), Ok(())),
+            (Set("d", 1, false), Err(ParentLater)),
+        ],
+        "set . 1\nset d/e 1\n",
+    ),
+    // the root comes first
+    (
+        &[
+            (Set("a", 1, false), Err(NotRootFirst)),
+            (Delete(""), Err(NotRootFirst)),
+            (Set("", 1, false), Ok(())),
+            (Delete(""), Err(Repeated)),
+        ],
+        "set . 1\n",
+    ),
+];
+
+fn push_line(alloc: Global, text: &mut String, report: &Report, place: usize) -> Result<(), Fail> {
+    if let Some((path, entry)) = report.entry(place) {
+        let line = EntryLine { path, entry };
+        text.push_str(format!(in alloc; "{line}\n")?.as_str())?;
+    }
     Ok(())
 }
 
-#[test]
-fn a_parent_is_reported_before_what_is_beneath(rt: HostRuntime) -> Result<(), Fail> {
-    let alloc = rt.alloc();
-    let mut reporter = with_root(alloc)?;
-    reporter.set_path(&path(alloc, "d/e")?, Rev(1), false)?;
-    let above = reporter.set_path(&path(alloc, "d")?, Rev(1), false);
-    assert_eq!(rt; above, Err(ReporterFault::ParentLater));
+// The entries as they are printed, each on a line.
+fn entry_lines(alloc: Global, report: &Report) -> Result<String, Fail> {
+    let mut text = String::new(alloc);
+    for place in 0..report.len() {
+        push_line(alloc, &mut text, report, place)?;
+    }
+    Ok(text)
+}
+
+fn prints(rt: &impl Abort, alloc: Global, report: &Report, lines: &str) -> Result<(), Fail> {
+    let printed = format!(in alloc; "{report}")?;
+    assert_eq!(rt; printed.as_str(), lines);
     Ok(())
+}
+
+fn entries_print(rt: &impl Abort, alloc: Global, report: &Report, lines: &str) -> Result<(), Fail> {
+    let printed = entry_lines(alloc, report)?;
+    assert_eq!(rt; printed.as_str(), lines);
+    Ok(())
+}
+
+fn row_prints(rt: &impl Abort, alloc: Global, calls: &[Answered], lines: &str) -> Result<(), Fail> {
+    let report = report_of(rt, alloc, calls)?;
+    prints(rt, alloc, &report, lines)?;
+    entries_print(rt, alloc, &report, lines)
+}
+
+#[test]
+fn reports_are_made_and_printed(rt: HostRuntime) -> Result<(), Fail> {
+    for (calls, lines) in &ROWS {
+        row_prints(&rt, rt.alloc(), calls, lines)?;
+    }
+    Ok(())
+}
+
+const LINKED: [Answered; 3] = [
+    (Set("", 3, true), Ok(())),
+    (Link("d", "t/d", 1, false), Ok(())),
+    (Link("f", "t/f", 1, false), Ok(())),
+];
+
+// Their report of another root.
+fn linked(rt: &impl Abort, alloc: Global) -> Result<Report, Fail> {
+    let root = path(alloc, "b")?;
+    let mut reporter = Reporter::new_at(alloc, root);
+    tell_all(rt, alloc, &mut reporter, &LINKED)?;
+    Ok(reporter.finish_report())
+}
+
+#[test]
+fn a_report_is_printed_with_its_root(rt: HostRuntime) -> Result<(), Fail> {
+    let report = linked(&rt, rt.alloc())?;
+    let lines = "root b\nset . 3 start_empty\nlink d t/d 1\nlink f t/f 1\n";
+    prints(&rt, rt.alloc(), &report, lines)
+}
+
+// Links `z` and so many names `a` beneath it to a path of one name.
+fn link_deep(
+    alloc: Global,
+    reporter: &mut Reporter,
+    names: usize,
+) -> Result<Result<(), ReporterFault>, Fail> {
+    let below = "/a".repeat(alloc, names)?;
+    let at = path(alloc, format!(in alloc; "z{below}")?.as_str())?;
+    Ok(reporter.link_path(&at, path(alloc, "a")?, Rev(1), false))
+}
+
+fn links_deep(
+    rt: &impl Abort,
+    alloc: Global,
+    reporter: &mut Reporter,
+    names: usize,
+    answer: Result<(), ReporterFault>,
+) -> Result<(), Fail> {
+    let found = link_deep(alloc, reporter, names)?;
+    assert_eq!(rt; found, answer, "{names} names deeper");
+    Ok(())
+}
+
+// How many entries a report has then.
+fn deep_entries(rt: &impl Abort, alloc: Global) -> Result<usize, Fail> {
+    let mut reporter = Reporter::new(alloc);
+    tell_all(rt, alloc, &mut reporter, &[(Set("", 1, false), Ok(()))])?;
+    links_deep(rt, alloc, &mut reporter, 65, Err(TooDeep))?;
+    links_deep(rt, alloc, &mut reporter, 64, Ok(()))?;
+    Ok(reporter.finish_report().len())
 }
 
 #[test]
 fn a_link_goes_at_most_64_names_deeper(rt: HostRuntime) -> Result<(), Fail> {
-    let alloc = rt.alloc();
-    let mut reporter = with_root(alloc)?;
-    let deeper = reporter.link_path(&deep(alloc, 65)?, path(alloc, "a")?, Rev(1), false);
-    assert_eq!(rt; deeper, Err(ReporterFault::TooDeep));
-    reporter.link_path(&deep(alloc, 64)?, path(alloc, "a")?, Rev(1), false)?;
-    let report = reporter.finish_report();
-    assert_eq!(rt; report.len(), 2);
+    let entries = deep_entries(&rt, rt.alloc())?;
+    assert_eq!(rt; entries, 2);
     Ok(())
 }
 
-#[test]
-fn the_root_comes_first(rt: HostRuntime) -> Result<(), Fail> {
-    let alloc = rt.alloc();
-    let root = RelPath::root(alloc);
-    let mut reporter = Reporter::new(alloc);
-    let answer = reporter.set_path(&path(alloc, "a")?, Rev(1), false);
-    assert_eq!(rt; answer, Err(ReporterFault::NotRootFirst));
-    assert_eq!(rt;
-        reporter.delete_path(&root),
-        Err(ReporterFault::NotRootFirst)
-    );
-    reporter.set_path(&root, Rev(1), false)?;
-    assert_eq!(rt; reporter.delete_path(&root), Err(ReporterFault::Repeated));
+// Entries below which there are others.
+const NESTED: [Answered; 7] = [
+    (Set("", 1, false), Ok(())),
+    (Set("d/e/f", 1, false), Ok(())),
+    (Set("b", 1, false), Ok(())),
+    (Set("b/y", 1, false), Ok(())),
+    (Set("b/x/y", 1, false), Ok(())),
+    (Set("b c", 1, false), Ok(())),
+    (Set("d/e/a", 1, false), Ok(())),
+];
+
+// The names beneath each path of their report, each with a comma behind it.
+const NAMES_BELOW: [(&str, &str); 6] = [
+    ("", "b,b c,d,"),
+    ("b", "x,y,"),
+    ("b/y", ""),
+    ("d", "e,"),
+    ("d/e", "a,f,"),
+    ("e", ""),
+];
+
+// Asks for one name after the other, and writes each with a comma.
+fn push_names(out: &mut String, report: &Report, path: &RelPath) -> Result<(), Fail> {
+    let mut last: Option<Name> = None;
+    for _ in 0..=report.len() {
+        let Some(name) = report.next_name_below(path, last.as_ref())? else {
+            break;
+        };
+        out.push_str(name.as_str())?;
+        out.push(',')?;
+        last = Some(name.clone()?);
+    }
     Ok(())
 }
 
-// Asks for the names beneath a path, one after the other.
-fn names_below(
+fn names_below(alloc: Global, report: &Report, at: &str) -> Result<String, Fail> {
+    let mut out = String::new(alloc);
+    push_names(&mut out, report, &path(alloc, at)?)?;
+    Ok(out)
+}
+
+fn names_are(
     rt: &impl Abort,
     alloc: Global,
     report: &Report,
     at: &str,
-    expected: &[&str],
+    names: &str,
 ) -> Result<(), Fail> {
-    let path = path(alloc, at)?;
-    let mut last: Option<Name> = None;
-    for text in expected {
-        let name = Name::parse(alloc, text)?;
-        let found = report.next_name_below(&path, last.as_ref())?;
-        assert_eq!(*rt; found == Some(&name), true);
-        last = Some(name);
-    }
-    let end = report.next_name_below(&path, last.as_ref())?;
-    assert_eq!(*rt; end.is_none(), true);
+    let found = names_below(alloc, report, at)?;
+    assert_eq!(rt; found.as_str(), names, "below {at}");
     Ok(())
 }
 
-// A report with entries at these paths, in this order.
-fn report_of(alloc: Global, paths: &[&str]) -> Result<Report, Fail> {
-    let mut reporter = with_root(alloc)?;
-    for text in paths {
-        reporter.set_path(&path(alloc, text)?, Rev(1), false)?;
-    }
-    Ok(reporter.finish_report())
-}
-
-// The names beneath each path of the report with entries at `d/e/f`, `b`, `b/y`, `b/x/y`, `b c` and `d/e/a`.
-const NAMES_BELOW: [(&str, &[&str]); 6] = [
-    ("", &["b", "b c", "d"]),
-    ("b", &["x", "y"]),
-    ("b/y", &[]),
-    ("d", &["e"]),
-    ("d/e", &["a", "f"]),
-    ("e", &[]),
-];
-
 #[test]
 fn names_beneath_a_path_come_in_their_order(rt: HostRuntime) -> Result<(), Fail> {
-    let alloc = rt.alloc();
-    let report = report_of(alloc, &["d/e/f", "b", "b/y", "b/x/y", "b c", "d/e/a"])?;
+    let report = report_of(&rt, rt.alloc(), &NESTED)?;
     for (at, names) in &NAMES_BELOW {
-        names_below(&rt, alloc, &report, at, names)?;
+        names_are(&rt, rt.alloc(), &report, at, names)?;
     }
     Ok(())
 }
