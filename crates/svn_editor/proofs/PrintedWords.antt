@@ -1,7 +1,7 @@
--- What the word of a path is, name by name, and what bytes are that are printed as they are.
-use Rattle.std.proofs.Common.{◌≡◌, ℕ, ◌≤◌, ◌<◌, Bool, true, false, ◌&&◌, List, [], ◌∷◌, ◌++◌, length, get_or, append_assoc}
+-- What the word of a path is, from its key, and what bytes are that are printed as they are.
+use Rattle.std.proofs.Common.{◌≡◌, ℕ, ◌≤◌, ◌<◌, Bool, true, false, ◌&&◌, List, [], ◌∷◌, ◌++◌, length, map, take, get_or, append_assoc}
 use Rattle.std.proofs.Common.{refl, sym, ap, ◌∙◌, arith, true≢false}
-use Rattle.std.specs.Prelude.{All, if◌then◌else◌}
+use Rattle.std.specs.Prelude.{All, if◌then◌else◌, nat_le}
 use Rattle.std.specs.List.{flat_map, list_all}
 use Rattle.std.specs.Str.{IsUtf8}
 use Rattle.std.proofs.lemmas.Str.{IsUtf8-from_ascii}
@@ -9,26 +9,64 @@ use Rattle.std.proofs.lemmas.Str.Ascii.{IsAscii-from_all}
 use Rattle.std.proofs.lemmas.Bool.Decides.{nat_tests}
 use Rattle.std.proofs.lemmas.List.Concat.{flat_map-append}
 use Rattle.std.proofs.lemmas.List.Folds.{list_all_at}
-use Rattle.svn_types.specs.Names.{Path}
-use Rattle.svn_editor.specs.Words.{escaped, hex_pair, is_shown, slashed, path_word}
-
-escaped_slashes : (p : Path) → flat_map escaped (flat_map (λ m. 47 ∷ m) p) ≡ flat_map slashed p
-escaped_slashes [] = refl
-escaped_slashes (m ∷ p) =
-    flat_map-append escaped (47 ∷ m) (flat_map (λ m. 47 ∷ m) p) ∙ ap (λ (bs : List ℕ). slashed m ++ bs) (escaped_slashes p)
-
--- the first name, and the others each behind a slash
-pub path_word_parts : (n : List ℕ) (p : Path) → 1 ≤ length n → flat_map escaped n ++ flat_map slashed p ≡ path_word (n ∷ p)
-path_word_parts [] p few = absurd (omega arith)
-path_word_parts (b ∷ n) p few =
-    ap (λ (bs : List ℕ). flat_map escaped (b ∷ n) ++ bs) (sym (escaped_slashes p))
-    ∙ sym (flat_map-append escaped (b ∷ n) (flat_map (λ m. 47 ∷ m) p))
-
--- ---- bytes that are printed as they are
+use Rattle.std.proofs.lemmas.List.{length-append, map-append}
+use Rattle.std.proofs.Math.Seq.{take-append_seam}
+use Rattle.svn_types.specs.Names.{Path, is_plain}
+use Rattle.svn_types.specs.PathKeys.{path_key, is_plain_name, is_plain_path}
+use Rattle.svn_editor.specs.Words.{escaped, hex_pair, is_shown, path_byte, path_text, path_word}
 
 both : (x y : Bool) → (x && y) ≡ true → (x ≡ true) × (y ≡ true)
 both true y h = (refl, h)
 both false y h = absurd cc
+
+-- ---- the names of a path, printed from its key
+
+same_front : (s t : List ℕ) (a b : ℕ) → s ++ a ∷ [] ≡ t ++ b ∷ [] → s ≡ t
+same_front s t a b e =
+    let same_length : length s ≡ length t =
+    omega (arith, sym (length-append s (a ∷ [])) ∙ ap length e ∙ length-append t (b ∷ [])) in
+    sym (take-append_seam s (a ∷ [])) ∙ (λ i. take (same_length i) (e i)) ∙ take-append_seam t (b ∷ [])
+
+-- the first name, the others each behind the byte 1, and that byte
+key_ends : (n : List ℕ) (p : Path) → path_key (n ∷ p) ≡ (n ++ flat_map (λ m. 1 ∷ m) p) ++ 1 ∷ []
+key_ends n [] = sym (append_assoc n [] (1 ∷ []))
+key_ends n (m ∷ p) =
+    ap (λ (l : List ℕ). n ++ 1 ∷ l) (key_ends m p) ∙ sym (append_assoc n (1 ∷ m ++ flat_map (λ m. 1 ∷ m) p) (1 ∷ []))
+
+same_byte : (b : ℕ) (rest : Bool) → (is_plain b && rest) ≡ true → path_byte b ≡ b
+same_byte b rest h = grind (arith, h)
+
+same_bytes : (n : List ℕ) → list_all is_plain n ≡ true → map path_byte n ≡ n
+same_bytes [] h = refl
+same_bytes (b ∷ n) h =
+    (λ i. same_byte b (list_all is_plain n) h i ∷ same_bytes n (both (is_plain b) (list_all is_plain n) h).1 i)
+
+slashed_names : (p : Path) → is_plain_path p ≡ true → map path_byte (flat_map (λ m. 1 ∷ m) p) ≡ flat_map (λ m. 47 ∷ m) p
+slashed_names [] h = refl
+slashed_names (m ∷ p) h =
+    let parts = both (is_plain_name m) (is_plain_path p) h in
+    let plain = both (nat_le 1 (length m)) (list_all is_plain m) parts.0 in
+    map-append path_byte (1 ∷ m) (flat_map (λ m. 1 ∷ m) p)
+    ∙ (λ i. 47 ∷ same_bytes m plain.1 i ++ slashed_names p parts.1 i)
+
+names_text : (n : List ℕ) (p : Path) → is_plain_path (n ∷ p) ≡ true
+    → map path_byte (n ++ flat_map (λ m. 1 ∷ m) p) ≡ path_text (n ∷ p)
+names_text n p h =
+    let parts = both (is_plain_name n) (is_plain_path p) h in
+    let plain = both (nat_le 1 (length n)) (list_all is_plain n) parts.0 in
+    map-append path_byte n (flat_map (λ m. 1 ∷ m) p) ∙ (λ i. same_bytes n plain.1 i ++ slashed_names p parts.1 i)
+
+pub printed_names : (p : Path) (front : List ℕ) (last : ℕ) → is_plain_path p ≡ true → path_key p ≡ front ++ last ∷ []
+    → flat_map escaped (map path_byte front) ≡ path_word p
+printed_names [] [] last h e = absurd cc
+printed_names [] (b ∷ front) last h e = absurd cc
+printed_names ([] ∷ p) front last h e = absurd cc
+printed_names ((b ∷ n) ∷ p) front last h e =
+    ap (λ (l : List ℕ). flat_map escaped (map path_byte l))
+    (same_front front ((b ∷ n) ++ flat_map (λ m. 1 ∷ m) p) last 1 (sym e ∙ key_ends (b ∷ n) p))
+    ∙ ap (flat_map escaped) (names_text (b ∷ n) p h)
+
+-- ---- bytes that are printed as they are
 
 pub shown_text : (bs : List ℕ) → list_all is_shown bs ≡ true → flat_map escaped bs ≡ bs
 shown_text [] h = refl

@@ -24,10 +24,6 @@ abbrev pub word : List ℕ → List ℕ
 word [] = 34 ∷ 34 ∷ []
 word (b ∷ bs) = flat_map escaped (b ∷ bs)
 
--- a slash, and the bytes as in a word
-abbrev pub slashed : List ℕ → List ℕ
-slashed m = 47 ∷ flat_map escaped m
-
 -- the names, joined by `/`
 abbrev pub path_text : Path → List ℕ
 path_text [] = []
@@ -37,6 +33,10 @@ path_text (n ∷ p) = n ++ flat_map (λ m. 47 ∷ m) p
 abbrev pub path_word : Path → List ℕ
 path_word [] = 46 ∷ []
 path_word (n ∷ p) = word (path_text (n ∷ p))
+
+-- a byte of a path's key in that text: a slash where a name ends
+abbrev pub path_byte : ℕ → ℕ
+path_byte b = if nat_eq b 1 then 47 else b
 
 -- `#` and the number
 abbrev pub token_word : ℕ → List ℕ

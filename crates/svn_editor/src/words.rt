@@ -1,14 +1,17 @@
 //! The words of printed lines.
-ghost use Rattle.std.specs.Prelude.{◌≡◌, ◌<◌, ◌≤◌, ◌∷◌, Some, true, length, take};
+ghost use Rattle.std.specs.Prelude.{◌≡◌, ◌<◌, ◌≤◌, Some, true, length, map, take};
 ghost use Rattle.std.specs.List.{flat_map, list_all};
 ghost use Rattle.std.specs.Fmt.{DisplaysOnOk, digit_glyph};
-ghost use Rattle.svn_editor.specs.Words.{is_shown, escaped, hex_pair, slashed, word, path_word, token_word, digest_word, checksum_word};
+ghost use Rattle.svn_editor.specs.Words.{is_shown, escaped, hex_pair, word, path_byte, path_word, token_word, digest_word, checksum_word};
 
 use crate::digest::Digest;
 use crate::token::Token;
 use std::fmt::Display;
 use std::{fmt, str};
-use svn_types::{Name, RelPath};
+use svn_types::RelPath;
+
+// How many bytes of a path are printed at a time.
+const PIECE: usize = 64;
 
 fn is_shown(byte: u8) -> bool
     ensures { result ≡ is_shown byte }
@@ -115,22 +118,44 @@ impl fmt::Display for Word<'_> {
     }
 }
 
-// Each name behind a slash.
-fn write_slashed<W: fmt::Write>(names: &[Name], f: &mut fmt::Formatter<W>) -> fmt::Result
-    ensures { DisplaysOnOk W.write_str_gives f.old result (Some (flat_map slashed names.now)) f.new }
+// A byte of a path's key as it is printed: a slash where a name ends.
+fn path_byte(byte: u8) -> u8
+    ensures { result ≡ path_byte byte }
 {
-    for name in names {
-        f.write_str("/")?;
-        write_escaped(name.as_str().as_bytes(), f)?;
-    }
-    Ok(())
+    if byte == 1 { b'/' } else { byte }
 }
 
-fn write_names<W: fmt::Write>(first: &Name, rest: &[Name], f: &mut fmt::Formatter<W>) -> fmt::Result
-    ensures { DisplaysOnOk W.write_str_gives f.old result (Some (path_word (first.now ∷ rest.now))) f.new }
+// Writes what a part of a key stands for over the first bytes.
+fn put_names(key: &[u8], text: &mut [u8; 64])
+    requires { length key.now ≤ 64 }
+    ensures { take (length key.now) text.new ≡ map path_byte key.now }
 {
-    write_escaped(first.as_str().as_bytes(), f)?;
-    write_slashed(rest, f)
+    'byte: for i in 0..key.len() {
+        text[i] = path_byte(key[i]);
+    }
+}
+
+// A part of a key is printed by one write, unless a byte of it is escaped.
+fn write_piece<W: fmt::Write>(key: &[u8], f: &mut fmt::Formatter<W>) -> fmt::Result
+    requires { length key.now ≤ 64 }
+    ensures { DisplaysOnOk W.write_str_gives f.old result (Some (flat_map escaped (map path_byte key.now))) f.new }
+{
+    let mut text = [0; PIECE];
+    put_names(key, &mut text);
+    write_escaped(&text[..key.len()], f)
+}
+
+// The names of a path, of whose key this is all but the last byte.
+fn write_names<W: fmt::Write>(key: &[u8], f: &mut fmt::Formatter<W>) -> fmt::Result
+    ensures { DisplaysOnOk W.write_str_gives f.old result (Some (flat_map escaped (map path_byte key.now))) f.new }
+{
+    let mut rest = key;
+    'rest: while !rest.is_empty() {
+        let (piece, behind) = rest.split_at(rest.len().min(PIECE));
+        write_piece(piece, f)?;
+        rest = behind;
+    }
+    Ok(())
 }
 
 /// Prints a path as the word of its names joined by `/`, and the root as `.`.
@@ -141,8 +166,8 @@ impl fmt::Display for PathWord<'_> {
     ghost output = { λ w. Some (path_word w.0.now) };
 
     fn fmt<W: fmt::Write>(&self, f: &mut fmt::Formatter<W>) -> fmt::Result {
-        match self.0.components().split_first() {
-            Some((first, rest)) => write_names(first, rest, f),
+        match self.0.key().split_last() {
+            Some((_, names)) => write_names(names, f),
             None => f.write_str("."),
         }
     }

@@ -155,11 +155,10 @@ fn plain_bytes(word: &[u8]) -> Option<&[u8]>
 pub(crate) fn read_bytes(alloc: Global, word: &[u8]) -> Result<Text, LineFault>
     ensures { Gives (λ t. t) result (bytes_of word.now) }
 {
-    let bytes = match plain_bytes(word) {
-        Some(bytes) => Vec::from_slice(alloc, bytes)?,
-        None => unescape(alloc, word)?,
-    };
-    Ok(Text::new(bytes))
+    match plain_bytes(word) {
+        Some(bytes) => Ok(Text::from_slice(alloc, bytes)?),
+        None => Ok(Text::new(unescape(alloc, word)?)),
+    }
 }
 
 // The path whose names a text spells.

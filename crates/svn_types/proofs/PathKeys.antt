@@ -14,7 +14,7 @@ use Rattle.std.specs.Option.{option_or}
 use Rattle.svn_types.specs.Names.{Path, is_plain, IsName}
 use Rattle.svn_types.specs.NameFaults.{name_fault, names_fault}
 use Rattle.svn_types.specs.declared.fault.PathFault.{PathFault}
-use Rattle.svn_types.specs.PathKeys.{path_key, is_plain_path}
+use Rattle.svn_types.specs.PathKeys.{path_key, is_plain_name, is_plain_path}
 
 then_assoc : (r s t : Ordering) → ordering_then r (ordering_then s t) ≡ ordering_then (ordering_then r s) t
 then_assoc Less s t = refl
@@ -60,7 +60,7 @@ key_order [] [] hp hq = refl
 key_order [] (n ∷ q) hp hq = root_first n (path_key q)
 key_order (m ∷ p) [] hp hq = root_second m (path_key p)
 key_order (m ∷ p) (n ∷ q) hp hq =
-    names_order m n (path_key p) (path_key q) (first_plain _ _ hp) (first_plain _ _ hq)
+    names_order m n (path_key p) (path_key q) (rest_plain _ _ (first_plain _ _ hp)) (rest_plain _ _ (first_plain _ _ hq))
     ∙ ap (ordering_then (slice_cmp nat_cmp m n)) (key_order p q (rest_plain _ _ hp) (rest_plain _ _ hq))
 
 pub key_equality : (p q : Path) → is_plain_path p ≡ true → is_plain_path q ≡ true
@@ -77,8 +77,9 @@ path_key-child (m ∷ p) n =
     ∙ sym (append_assoc (m ++ 1 ∷ path_key p) n (1 ∷ []))
 
 -- names without a fault are plain
-plain_name : (n : List ℕ) → name_fault n ≡ None → list_all is_plain n ≡ true
-plain_name n h = grind (arith, h)
+plain_name : (n : List ℕ) → name_fault n ≡ None → is_plain_name n ≡ true
+plain_name [] h = grind (arith, h)
+plain_name (b ∷ n) h = grind (arith, h)
 
 plain_names : (n : List ℕ) (p : Path) (f : Option PathFault) → f ≡ name_fault n → option_or f (names_fault p) ≡ None
     → (names_fault p ≡ None → is_plain_path p ≡ true) → is_plain_path (n ∷ p) ≡ true
@@ -89,8 +90,11 @@ pub plain_without_fault : (p : Path) → names_fault p ≡ None → is_plain_pat
 plain_without_fault [] h = refl
 plain_without_fault (n ∷ p) h = plain_names n p (name_fault n) refl h (plain_without_fault p)
 
+named : (n : List ℕ) → IsName n → is_plain_name n ≡ true
+named n name = grind (arith, name.not_empty, name.plain)
+
 pub plain_child : (p : Path) (n : List ℕ) → is_plain_path p ≡ true → IsName n → is_plain_path (p ++ n ∷ []) ≡ true
-plain_child p n h name = rw (list_all-append (list_all is_plain) p (n ∷ [])) (rw (h, name.plain) refl)
+plain_child p n h name = list_all-append is_plain_name p (n ∷ []) ∙ (λ i. h i && (named n name i && true))
 
 -- ---- a path with one name more
 

@@ -1,5 +1,5 @@
 //! Keys of paths, by which they are compared.
-ghost use Rattle.std.specs.Prelude.{◌≡◌, ◌+◌, ◌≤◌, ◌∷◌, ◌++◌, [], length, IfOk, true};
+ghost use Rattle.std.specs.Prelude.{◌≡◌, ◌+◌, ◌≤◌, ◌∷◌, ◌++◌, [], length, IfOk, IfSome, true};
 ghost use Rattle.svn_types.specs.PathKeys.{path_key, is_plain_path};
 
 use crate::name::Name;
@@ -45,31 +45,47 @@ fn short_with_last(above: &[u8], last: &[u8]) -> PathKey
     }
 }
 
-impl PathKey {
-    fn from_vec(key: Vec<u8>) -> PathKey
-        ensures { result ≡ key.items }
-    {
-        if key.len() <= MAX_SHORT {
-            return PathKey {
-                form: KeyForm::Short(ShortBytes::of(&key)),
-            };
+// The key of these names in the value itself, if it is that short.
+fn short_of(names: &[Name]) -> Option<ShortBytes<54>>
+    ensures key { IfSome result (λ k. k ≡ path_key names.now) }
+    ensures plain { IfSome result (λ _. is_plain_path names.now ≡ true) }
+{
+    let mut key = ShortBytes::new();
+    for name in names {
+        let bytes = name.as_str().as_bytes();
+        if key.as_slice().len() + bytes.len() >= MAX_SHORT {
+            return None;
         }
-        PathKey {
-            form: KeyForm::Long(key),
-        }
+        key.push_all(bytes);
+        key.push_all(&[1]);
     }
+    Some(key)
+}
 
-    /// The key of these names, which has room in that many bytes.
+// The key of these names in a vector, which has room in that many bytes.
+fn long_of(alloc: Global, names: &[Name], len: usize) -> Result<Vec<u8>, AllocError>
+    ensures key { IfOk result (λ v. v.items ≡ path_key names.now) }
+    ensures plain { IfOk result (λ _. is_plain_path names.now ≡ true) }
+{
+    let mut key = Vec::with_capacity(alloc, len)?;
+    for name in names {
+        key.extend_from_slice(name.as_str().as_bytes())?;
+        key.push(1)?;
+    }
+    Ok(key)
+}
+
+impl PathKey {
+    /// The key of these names. Where it is long it has room in that many bytes; a short one takes no memory.
     pub(crate) fn of(alloc: Global, names: &[Name], len: usize) -> Result<PathKey, AllocError>
         ensures key { IfOk result (λ k. k ≡ path_key names.now) }
         ensures plain { IfOk result (λ k. is_plain_path names.now ≡ true) }
     {
-        let mut key = Vec::with_capacity(alloc, len)?;
-        for name in names {
-            key.extend_from_slice(name.as_str().as_bytes())?;
-            key.push(1)?;
-        }
-        Ok(PathKey::from_vec(key))
+        let form = match short_of(names) {
+            Some(key) => KeyForm::Short(key),
+            None => KeyForm::Long(long_of(alloc, names, len)?),
+        };
+        Ok(PathKey { form })
     }
 
     /// The key with one name more.

@@ -243,8 +243,8 @@ impl RelPath {
         }
     }
 
-    // By which it is compared.
-    pub(crate) fn key(&self) -> &[u8]
+    /// Its key: its names in one run of bytes, the byte 1 behind each. Paths are compared by their keys. It takes no memory.
+    pub fn key(&self) -> &[u8]
         ensures key { result.now ≡ path_key self.now }
         ensures plain { is_plain_path self.now ≡ true }
         ensures bounded { length self.now ≤ depth_limit }

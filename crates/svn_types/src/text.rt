@@ -51,6 +51,20 @@ impl Text {
         }
     }
 
+    /// The text that has these bytes too. AllocError where a growth is refused; up to 30 bytes take no memory.
+    pub fn from_slice(alloc: Global, bytes: &[u8]) -> Result<Text, AllocError>
+        ensures { IfOk result (λ t. t ≡ bytes.now) }
+    {
+        if bytes.len() <= MAX_SHORT {
+            return Ok(Text {
+                form: TextForm::Short(ShortBytes::of(bytes)),
+            });
+        }
+        Ok(Text {
+            form: TextForm::Own(Vec::from_slice(alloc, bytes)?),
+        })
+    }
+
     /// Its bytes in a vector of their own. AllocError where a growth is refused.
     pub fn to_vec(&self, alloc: Global) -> Result<Vec<u8>, AllocError>
         ensures { IfOk result (λ v. v.items ≡ self.now) }

@@ -1,14 +1,19 @@
-use Rattle.std.proofs.Common.{List, ℕ, ◌++◌, refl, ap, ◌∙◌}
+use Rattle.std.proofs.Common.{◌++◌, refl, ap, map, ◌∙◌}
 use Rattle.std.specs.List.{flat_map}
-use Rattle.std.proofs.Output.{has_written_append, has_written_of_eq}
-use Rattle.svn_editor.specs.Words.{escaped, slashed}
-use Rattle.svn_editor.proofs.PrintedWords.{path_word_parts}
+use Rattle.std.proofs.Output.{has_written_append}
+use Rattle.std.proofs.lemmas.List.{map-append}
+use Rattle.svn_editor.specs.Words.{escaped, path_byte}
+use Rattle.svn_editor.proofs.PrintedWords.{behind_shown}
 use Rattle.svn_editor.proofs.words.write_names.Goals as goal
 
-pub returns : goal.returns
-returns g c = λ plain ok.
-    let first = c.in_ok-write_escaped.ensures plain refl in
-    has_written_of_eq _ _ _ _ _
-    (ap (λ (bs : List ℕ). flat_map escaped bs ++ flat_map slashed c.args.rest.now) (c.as_bytes.ensures.value ∙ c.as_str.ensures.value)
-    ∙ path_word_parts c.args.first.now c.args.rest.now c.as_str.ensures.name.not_empty)
-    (has_written_append _ _ _ _ _ _ first (c.write_slashed.ensures first.plain ok))
+pub rest-preserved : goal.rest-preserved
+rest-preserved g c =
+    let inv = c.rest.invariant in
+    let piece = c.split_at.result.0.now in
+    let behind = c.split_at.result.1.now in (
+      inv.0 ++ flat_map escaped (map path_byte piece),
+      behind_shown inv.0 (map path_byte c.rest.rest.now) (map path_byte piece) (map path_byte behind)
+          (flat_map escaped (map path_byte c.args.key.now))
+          (ap (map path_byte) c.split_at.ensures.by_index.0 ∙ map-append path_byte piece behind) inv.1,
+      λ plain. let before = inv.2 plain in has_written_append _ _ _ _ _ _ before (c.in_ok-write_piece.ensures before.plain refl),
+    )

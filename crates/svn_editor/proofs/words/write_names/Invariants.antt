@@ -1,0 +1,14 @@
+use Rattle.std.proofs.Common.{◌≡◌, ◌++◌, ℕ, List, length, map}
+use Rattle.std.specs.List.{flat_map}
+use Rattle.std.specs.Fmt.{HasWritten, IsPlainFormatter}
+use Rattle.svn_editor.specs.Words.{escaped, path_byte}
+use Rattle.svn_editor.proofs.words.write_names.Given as goal
+
+abbrev pub decreases-rest : goal.decreases-rest
+decreases-rest g l = length l.rest
+
+-- what is written, and what the rest is printed as
+abbrev pub invariant-rest : goal.invariant-rest
+invariant-rest g l =
+    (done : List ℕ) × (done ++ flat_map escaped (map path_byte l.rest) ≡ flat_map escaped (map path_byte l.key))
+    × (IsPlainFormatter l.initial.f → HasWritten g.W.Write.write_str_gives l.initial.f done l.f)
