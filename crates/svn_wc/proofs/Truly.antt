@@ -1,11 +1,12 @@
 -- A copy is compared with the repository, the nodes below a path one after the other.
 use Rattle.std.proofs.Common.{◌≡◌, ℕ, ◌+◌, ◌-◌, ◌<◌, Bool, true, false, not, cond, List, [], ◌∷◌, ◌++◌, length, refl, sym, ap, subst, ◌∙◌}
 use Rattle.std.proofs.Common.{Option, Some, None, true≢false, arith, append_assoc, length-append}
-use Rattle.std.specs.Prelude.{◌&&◌, ◌||◌, bytes_eq, nat_lt, is_none}
+use Rattle.std.specs.Prelude.{◌&&◌, ◌||◌, bytes_eq, nat_lt, is_none, IfSome, MatchOption}
 use Rattle.std.specs.List.{list_any, list_all, AllByRecursion}
 use Rattle.std.specs.List.Sorted.{IsStrictlySortedBy}
 use Rattle.std.specs.Option.{is_some, option_or, option_map, option_copied}
 use Rattle.std.specs.Borrow.{Bor}
+use Rattle.std.specs.Bool.{then_some}
 use Rattle.std.specs.Cmp.Lexicographic.{pointwise_decides}
 use Rattle.std.specs.BTreeMap.{is_at}
 use Rattle.std.specs.Ordering.{ordering_then}
@@ -25,13 +26,18 @@ use Rattle.svn_model.specs.Nodes.{WorkingCopy, get_in, InPathOrder}
 use Rattle.svn_model.specs.Tree.{names_at}
 use Rattle.svn_model.specs.Truth.{Properties, prop_eq, props_eq, is_untrue, lacks_entry, first_untrue_in, first_untrue}
 use Rattle.svn_model.proofs.Children.{entry_below, look-child}
-use Rattle.svn_wc.specs.Truths.{looked, entry_in, IsStep, IsRest, all_below, has_child, IsPast, HasWalked}
+use Rattle.svn_wc.specs.Truths.{looked, entries_at, entry_in, HasNoEntries, CountsMissing, IsStep, IsNameBelow, PassesTo, IsRest, all_below, IsPast, HasWalked}
+use Rattle.svn_wc.proofs.Merging.{EntriesBeside, entry_beside, beside_other, beside_on, entry_in_all, none_before_itself}
 use Rattle.svn_edit_law.proofs.Lookups.{at_path, get_in-append}
 use Rattle.svn_edit_law.proofs.NodeLists.{not_before_itself, not_both}
 use Rattle.svn_edit_law.proofs.PathsBelow.{below_is_other, path_is, path_eq-sym, same_path, same_name, at_name}
 use Rattle.svn_edit.proofs.NodeOrder.{at_first, first_or_after, before_behind, order_behind, some_behind}
 use Rattle.svn_wc.proofs.PathLines.{within_itself}
-use Rattle.svn_types.proofs.PathLemmas.{below_parts, split_within}
+use Rattle.svn_types.proofs.PathLemmas.{below_parts, split_within, is_within-child}
+
+-- the second path is one of these names below the first
+abbrev pub has_child : Path → Path → List (List ℕ) → Bool
+has_child p q names = list_any (λ name. path_eq (child p name) q) names
 
 -- ---- how many names pass a test
 
@@ -197,12 +203,6 @@ same_last (n ∷ p) x y e = same_last p x y (ap rest e)
     rest [] = []
     rest (m ∷ q) = q
 
-none_before_itself : (x : List ℕ) → name_cmp x x ≡ Less → ⊥
-none_before_itself x less = not_before_itself (x ∷ []) (less_path less)
-  where
-    less_path : name_cmp x x ≡ Less → path_cmp (x ∷ []) (x ∷ []) ≡ Less
-    less_path e = ap (λ o. ordering_then o (path_cmp [] [])) e
-
 -- ---- the walk
 
 -- the nodes below a path that were taken so far: the first untrue of them, and how many names of the path's directory have no node
@@ -235,6 +235,9 @@ module _ (h : History) (nodes : List (Path × BaseNode)) (order : InPathOrder no
 
     cut : InPathOrder (front ++ c ∷ left)
     cut = subst InPathOrder front_is order
+
+    pub next_order : InPathOrder (c ∷ left)
+    next_order = order_behind front (c ∷ left) cut
 
     earlier : (p : Path) → is_some (get_in front p) ≡ true → path_cmp p c.0 ≡ Less
     earlier p some = before_behind front (c ∷ left) cut p c.0 some (ap is_some (at_first c left))
@@ -388,6 +391,22 @@ module _ (h : History) (nodes : List (Path × BaseNode)) (order : InPathOrder no
       first = is ∙ (λ i. cond (test i) (Some e.0) (s.first i));
     }
 
+-- a node beside which nothing stands
+pub walks_alone : (h : History) (nodes : List (Path × BaseNode)) (e : Path × BaseNode) (old : List (Path × BaseNode)) (b : Bool)
+    → b ≡ is_untrue h (get_in nodes) e.0 e.1 → (found : Option Path) → found ≡ cond b (Some e.0) None → HasWalked h nodes e old found old
+walks_alone h nodes e old b test found is =
+    record { taken = []; parts = refl; below = refl; first = is ∙ ap (λ x. cond x (Some e.0) None) test }
+
+pub copied_if : {X : Type 0} (b : Bool) (x : Bor X) → option_copied (then_some b x) ≡ cond b (Some x.now) None
+copied_if true x = refl
+copied_if false x = refl
+
+-- one name below a path
+pub within_by_name : (p q : Path) (name : Option (Bor (List ℕ))) → IsNameBelow p q (option_copied name) → is_some name ≡ true
+    → is_within p q ≡ true
+within_by_name p q None named some = absurd (true≢false (sym some))
+within_by_name p q (Some n) named some = subst (λ (z : Path). is_within p z ≡ true) (sym named) (is_within-child p n.now)
+
 -- ---- what the repository has
 
 -- two tests of one thing
@@ -465,6 +484,67 @@ no_child p q (x ∷ names) none = by (path_eq (child p x) q) refl (no_child p q 
     by : (b : Bool) → path_eq (child p x) q ≡ b → has_child p q names ≡ false → (b || has_child p q names) ≡ false
     by true t h = absurd (none x (sym (path_is (child p x) q t)))
     by false t h = h
+
+-- ---- what is beside the nodes below a directory
+
+pub names_of_entries : (h : History) (o : Option ℕ) → names_at h o ≡ keys_of (entries_at h o)
+names_of_entries h None = refl
+names_of_entries h (Some n) = refl
+
+pub names_count : (h : History) (o : Option ℕ) → length (names_at h o) ≡ length (entries_at h o)
+names_count h o = ap length (names_of_entries h o) ∙ each (entries_at h o)
+  where
+    each : (es : List (List ℕ × ℕ)) → length (keys_of es) ≡ length es
+    each [] = refl
+    each (e ∷ es) = let k = each es in omega arith
+
+-- no entry is missing where none is wanted
+pub none_missing : (h : History) (node : BaseNode) (o : Option ℕ) → HasNoEntries node (entries_at h o) → (w : WorkingCopy) (p : Path)
+    → CountsMissing w p node (names_at h o) 0
+none_missing h (FileNode r q text props) o none w p = tt
+none_missing h (DirNode r q complete props) o none w p =
+    sym (ap (lacks_entry w p) (names_of_entries h o ∙ ap keys_of none))
+none_missing h NotPresent o none w p = tt
+
+pub missing_counted : (w : WorkingCopy) (p : Path) (node : BaseNode) (names : List (List ℕ)) (missing : ℕ)
+    → nat_lt 0 missing ≡ lacks_entry w p names → CountsMissing w p node names missing
+missing_counted w p (FileNode r q text props) names missing counted = tt
+missing_counted w p (DirNode r q complete props) names missing counted = counted
+missing_counted w p NotPresent names missing counted = tt
+
+-- the next node's name, if it is a child, and what was taken of the entries
+module _ (h : History) (id : Option ℕ) (p : Path) (entries entries2 : List (List ℕ × ℕ)) (c : Path × BaseNode)
+    (left : List (Path × BaseNode))
+    (beside : EntriesBeside p (entries_at h id) entries (c ∷ left)) (sorted : IsStrictlySortedBy name_cmp (names_at h id))
+    (entry : Option ℕ) where
+  abbrev pub Takes : Option (Bor (List ℕ)) → Type 0
+  Takes name = MatchOption name ((entry ≡ None) × (entries2 ≡ entries)) (λ n. PassesTo n.now entries entry entries2)
+
+  of_name : (n : Bor (List ℕ)) → c.0 ≡ child p n.now → PassesTo n.now entries entry entries2 → entry ≡ entry_in h id n.now
+  of_name n named took =
+      entry_beside p (entries_at h id) entries entries2 c left n.now entry beside named took
+      (subst (IsStrictlySortedBy name_cmp) (names_of_entries h id) sorted)
+      ∙ sym (entry_in_all h id n.now)
+
+  pub entry_told : (name : Option (Bor (List ℕ))) → IsNameBelow p c.0 (option_copied name) → Takes name
+      → IfSome name (λ n. entry ≡ entry_in h id n.now)
+  entry_told None named took = tt
+  entry_told (Some n) named took = of_name n named took
+
+  pub entry_counts : (name : Option (Bor (List ℕ))) → IsNameBelow p c.0 (option_copied name) → Takes name
+      → is_some entry ≡ has_child p c.0 (names_at h id)
+  entry_counts None named took = ap is_some took.0 ∙ sym (no_child p c.0 (names_at h id) named)
+  entry_counts (Some n) named took =
+      ap is_some (of_name n named took) ∙ entry_child h id p n.now ∙ ap (λ (q : Path). has_child p q (names_at h id)) (sym named)
+
+  pub beside_next : InPathOrder (c ∷ left) → (sub left2 : List (Path × BaseNode)) → left ≡ sub ++ left2
+      → (name : Option (Bor (List ℕ))) → IsNameBelow p c.0 (option_copied name) → Takes name
+      → EntriesBeside p (entries_at h id) entries2 left2
+  beside_next order sub left2 rest None named took =
+      subst (λ (l : List (List ℕ × ℕ)). EntriesBeside p (entries_at h id) l left2) (sym took.1)
+      (beside_other p (entries_at h id) entries c left sub left2 beside rest)
+  beside_next order sub left2 rest (Some n) named took =
+      beside_on p (entries_at h id) entries c left sub left2 beside rest order entries2 n.now entry named took
 
 sorted-nil : IsStrictlySortedBy name_cmp []
 unfolding IsStrictlySortedBy
