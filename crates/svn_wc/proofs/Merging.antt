@@ -134,15 +134,15 @@ pub passed_at : (name : Name) (old : List (Name × ℕ)) (e : Name × ℕ) (new 
     → name_cmp e.0 name ≡ Equal → PassesTo name old (Some e.1) new
 passed_at name old e new s equal =
     let same : e.0 ≡ name = same_name e.0 name equal in record {
-  passed = s.passed ++ e ∷ [];
-  parts = s.parts ∙ sym (append_assoc s.passed (e ∷ []) new);
-  up_to =
-      all_push (λ (e : Name × ℕ). name_cmp name e.0 ≡ Less → ⊥) s.passed e (before_is_up_to name s.passed s.before)
-      (λ less. none_before_itself name (ap (name_cmp name) (sym same) ∙ less));
-  value = λ order.
-      sym (value_left name old (e ∷ new) s ∙ value_of-first e new name
-      ∙ ap (λ b. cond b (Some e.1) (value_of new name)) (ap (bytes_eq e.0) (sym same) ∙ bytes_eq-same e.0));
-}
+      passed = s.passed ++ e ∷ [];
+      parts = s.parts ∙ sym (append_assoc s.passed (e ∷ []) new);
+      up_to =
+          all_push (λ (e : Name × ℕ). name_cmp name e.0 ≡ Less → ⊥) s.passed e (before_is_up_to name s.passed s.before)
+          (λ less. none_before_itself name (ap (name_cmp name) (sym same) ∙ less));
+      value = λ order.
+          sym (value_left name old (e ∷ new) s ∙ value_of-first e new name
+          ∙ ap (λ b. cond b (Some e.1) (value_of new name)) (ap (bytes_eq e.0) (sym same) ∙ bytes_eq-same e.0));
+    }
 
 -- ---- beside the nodes below a path
 

@@ -7,16 +7,18 @@ use Rattle.std.specs.List.Sorted.{IsStrictlySortedBy}
 use Rattle.std.specs.Option.{is_some, option_or, option_map, option_copied}
 use Rattle.std.specs.Borrow.{Bor}
 use Rattle.std.specs.Bool.{then_some}
+use Rattle.std.specs.Cmp.{both_ways}
 use Rattle.std.specs.Cmp.Lexicographic.{pointwise_decides}
 use Rattle.std.specs.BTreeMap.{is_at}
 use Rattle.std.specs.Ordering.{ordering_then}
 use Rattle.std.specs.Map.{keys_of}
 use Rattle.std.specs.declared.cmp.Ordering.TheVariants.{Less}
 use Rattle.std.proofs.lemmas.Bool.{lt-ltb}
+use Rattle.std.proofs.lemmas.List.{append-nil}
 use Rattle.std.proofs.lemmas.Map.Keys.{sorted_head, sorted_tail}
 use Rattle.svn_types.specs.Names.{Path, name_cmp, path_cmp}
 use Rattle.svn_types.specs.Paths.{is_within, is_below, path_eq, child}
-use Rattle.svn_types.proofs.PathOrder.{below_after, within_between, same_name as equal_names}
+use Rattle.svn_types.proofs.PathOrder.{below_after, within_between, same_name as equal_names, both as and_both}
 use Rattle.svn_types.specs.Pairs.{value_of}
 use Rattle.svn_repo.specs.History.{History, NodeRow, node_at, look}
 use Rattle.svn_repo.specs.Readings.{IsHistory, row_or_empty, props_of, entries_of}
@@ -27,13 +29,13 @@ use Rattle.svn_model.specs.Tree.{names_at}
 use Rattle.svn_model.specs.Truth.{Properties, prop_eq, props_eq, is_untrue, lacks_entry, first_untrue_in, first_untrue}
 use Rattle.svn_model.proofs.Children.{entry_below, look-child}
 use Rattle.svn_wc.specs.Truths.{looked, entries_at, entry_in, HasNoEntries, CountsMissing, IsStep, IsNameBelow, PassesTo, IsRest, all_below, IsPast, HasWalked}
+use Rattle.svn_wc.proofs.Placing.{entry_is_below}
 use Rattle.svn_wc.proofs.Merging.{EntriesBeside, entry_beside, beside_other, beside_on, entry_in_all, none_before_itself}
 use Rattle.svn_edit_law.proofs.Lookups.{at_path, get_in-append}
 use Rattle.svn_edit_law.proofs.NodeLists.{not_before_itself, not_both}
 use Rattle.svn_edit_law.proofs.PathsBelow.{below_is_other, path_is, path_eq-sym, same_path, same_name, at_name}
 use Rattle.svn_edit.proofs.NodeOrder.{at_first, first_or_after, before_behind, order_behind, some_behind}
-use Rattle.svn_wc.proofs.PathLines.{within_itself}
-use Rattle.svn_types.proofs.PathLemmas.{below_parts, split_within, is_within-child}
+use Rattle.svn_types.proofs.PathLemmas.{below_from, below_parts, split_within, within_append, is_within-child}
 
 -- the second path is one of these names below the first
 abbrev pub has_child : Path → Path → List (List ℕ) → Bool
@@ -112,16 +114,8 @@ first_untrue_in-append h w (x ∷ xs) ys = by (is_untrue h w x.0 x.1) (first_unt
     by true e = refl
     by false e = e
 
-and_both : (a b : Bool) → (a && b) ≡ true → (a ≡ true) × (b ≡ true)
-and_both true b h = (refl, h)
-and_both false b h = absurd (true≢false (sym h))
-
 both_and : (a b : Bool) → a ≡ true → b ≡ true → (a && b) ≡ true
 both_and a b h g = ap (λ x. x && b) h ∙ g
-
-not_true : (b : Bool) → not b ≡ true → b ≡ false
-not_true true h = absurd (true≢false (sym h))
-not_true false h = refl
 
 all-append : {X : Type 0} (f : X → Bool) (xs ys : List X) → list_all f xs ≡ true → list_all f ys ≡ true → list_all f (xs ++ ys) ≡ true
 all-append f [] ys h g = g
@@ -129,12 +123,7 @@ all-append f (x ∷ xs) ys h g =
     let parts = and_both (f x) (list_all f xs) h in both_and (f x) (list_all f (xs ++ ys)) parts.0 (all-append f xs ys parts.1 g)
 
 below_extended : (p : Path) (x : List ℕ) (r : Path) → is_below p (p ++ x ∷ r) ≡ true
-below_extended p x r =
-    both_and (is_within p (p ++ x ∷ r)) (not (path_eq p (p ++ x ∷ r))) (within_itself p (x ∷ r)) (ap not (below_is_other p x r))
-
-append-nil : (p : Path) → p ++ [] ≡ p
-append-nil [] = refl
-append-nil (n ∷ p) = ap (λ (q : Path). n ∷ q) (append-nil p)
+below_extended p x r = below_from p (p ++ x ∷ r) (within_append p (x ∷ r)) (below_is_other p x r)
 
 -- it goes on from the path by a name at least
 pub goes_below : (p q : Path) → is_below p q ≡ true → (x : List ℕ) × (r : Path) × (q ≡ p ++ x ∷ r)
@@ -333,7 +322,7 @@ module _ (h : History) (nodes : List (Path × BaseNode)) (order : InPathOrder no
     own_first = order_behind before (e ∷ s.taken ++ left) (subst InPathOrder (whole ∙ ap (λ l. before ++ e ∷ l) s.parts) order)
 
     child_later : (x : List ℕ) → path_cmp e.0 (child e.0 x) ≡ Less
-    child_later x = below_after e.0 (child e.0 x) (within_itself e.0 (x ∷ [])) (below_is_other e.0 x [])
+    child_later x = below_after e.0 (child e.0 x) (within_append e.0 (x ∷ [])) (below_is_other e.0 x [])
 
     none_earlier : (x : List ℕ) (o : Option BaseNode) → get_in before (child e.0 x) ≡ o → o ≡ None
     none_earlier x None g = refl
@@ -352,13 +341,13 @@ module _ (h : History) (nodes : List (Path × BaseNode)) (order : InPathOrder no
         (order_behind s.taken (f ∷ fs)
         (subst (λ l. InPathOrder (s.taken ++ l)) is (sorted_tail path_cmp e.0 (keys_of (s.taken ++ left)) own_first)))
         (child e.0 x) (ap is_some g)
-        (λ same. absurd (true≢false (sym (subst (λ (z : Path). is_within e.0 z ≡ true) same (within_itself e.0 (x ∷ []))) ∙ gone)))
+        (λ same. absurd (true≢false (sym (subst (λ (z : Path). is_within e.0 z ≡ true) same (within_append e.0 (x ∷ []))) ∙ gone)))
         (λ after.
         let first_later : path_cmp e.0 f.0 ≡ Less =
         before_behind (e ∷ s.taken) (f ∷ fs) (subst (λ l. InPathOrder (e ∷ s.taken ++ l)) is own_first) e.0 f.0
         (ap is_some (at_first e s.taken)) (ap is_some (at_first f fs)) in
         absurd (true≢false (sym (within_between e.0 f.0 (child e.0 x) first_later (λ less. not_both f.0 (child e.0 x) after less)
-        (within_itself e.0 (x ∷ [])))
+        (within_append e.0 (x ∷ [])))
         ∙ gone)))
 
     same_children : (x : List ℕ) → is_none (get_in s.taken (child e.0 x)) ≡ is_none (get_in nodes (child e.0 x))
@@ -411,13 +400,7 @@ within_by_name p q (Some n) named some = subst (λ (z : Path). is_within p z ≡
 
 -- two tests of one thing
 pub same_tests : (P : Type 0) (r t : Bool) → (r ≡ true → P) → (P → r ≡ true) → (t ≡ true → P) → (P → t ≡ true) → r ≡ t
-same_tests P r t f g h k = by r t refl refl
-  where
-    by : (x y : Bool) → r ≡ x → t ≡ y → x ≡ y
-    by true true u v = refl
-    by false false u v = refl
-    by true false u v = sym (k (f u)) ∙ v
-    by false true u v = sym u ∙ g (h v)
+same_tests P r t f g h k = both_ways r t (λ e. k (f e)) (λ e. g (h e))
 
 prop_decides : (a b : List ℕ × List ℕ) → (prop_eq a b ≡ true → a ≡ b) × (a ≡ b → prop_eq a b ≡ true)
 prop_decides a b = (
@@ -440,10 +423,6 @@ tests_props h n r props others read f g =
     by : (o : Option NodeRow) → Some others ≡ option_map (λ row. row.props) o → others ≡ (row_or_empty o).props
     by None e = absurd (true≢false (ap is_some e))
     by (Some row) e = cc
-
-entry_is_below : (h : History) (o : Option ℕ) (name : List ℕ) → entry_in h o name ≡ entry_below h o name
-entry_is_below h None name = refl
-entry_is_below h (Some n) name = refl
 
 -- the entry of the directory above is what stands one name further
 pub step_found : (h : History) (above : BaseNode) (rev : ℕ) (p : Path) (name : List ℕ) (o : Option ℕ) → IsStep above rev p name
@@ -590,11 +569,7 @@ check_on h nodes c left found s left2 found2 w = record {
 
 pub check_ends : (h : History) (nodes : List (Path × BaseNode)) (found : Option Path) → Checked h nodes [] found
     → found ≡ first_untrue h nodes
-check_ends h nodes found s = s.first ∙ ap (first_untrue_in h (get_in nodes)) (sym (no_more s.done) ∙ sym s.parts)
-  where
-    no_more : (xs : List (Path × BaseNode)) → xs ++ [] ≡ xs
-    no_more [] = refl
-    no_more (x ∷ xs) = ap (λ l. x ∷ l) (no_more xs)
+check_ends h nodes found s = s.first ∙ ap (first_untrue_in h (get_in nodes)) (sym (append-nil s.done) ∙ sym s.parts)
 
 pub option_or-copied : {X : Type 0} (a b : Option (Bor X)) → option_copied (option_or a b) ≡ option_or (option_copied a) (option_copied b)
 option_or-copied None b = refl

@@ -115,8 +115,8 @@ pub(crate) fn entry_under(repo: &Repo, id: &Option<NodeId>, name: &Name) -> Opti
     }
 }
 
-// What is known of a node at or below a directory before it is looked at: the directory's node, the node's name where it is one name below, and
-// the entry under that.
+// What is known of a node below a directory before it is looked at: the directory's node, the node's name where it is one name below, and the
+// entry under that.
 #[derive(Drop)]
 struct Beside<'a> {
     above: &'a BaseNode,
@@ -203,10 +203,7 @@ struct Below<'a> {
 }
 
 // The next node, if it stands at the path or below: it is taken.
-fn next_within<'a>(
-    path: &RelPath,
-    left: &mut Ahead<'a, RelPath, BaseNode>,
-) -> Option<Below<'a>>
+fn next_within<'a>(path: &RelPath, left: &mut Ahead<'a, RelPath, BaseNode>) -> Option<Below<'a>>
     ensures taken { TakesNext path.now left.old (option_map (λ b. (b.path.now, b.node.now)) result) left.new }
     ensures name { IfSome result (λ b. IsNameBelow path.now b.path.now (option_copied b.name)) }
 {
@@ -261,8 +258,8 @@ fn missing_without(entry: &Option<NodeId>, missing: usize) -> usize
     }
 }
 
-// The first untrue path among a node's, beside which stands what the repository has in its place, and those below, which are taken. The entries of a
-// directory are gone through beside the nodes below it.
+// The first untrue path among a node's, beside which stands what the repository has in its place, and those below, which are taken. Beside the
+// nodes below a directory its entries are gone through.
 fn first_untrue_within<'a>(
     repo: &Repo,
     path: &'a RelPath,

@@ -26,9 +26,10 @@ below-init t c =
       ([], refl),
       λ nodes before order whole found. (
         walk_begins h nodes c.args.path.now c.args.left.now (names_at h c.args.id.now) c.len-missing.result
-        (c.len-missing.ensures ∙ ap length c.in-Some.ensures ∙ sym (names_count h c.args.id.now)),
+            (c.len-missing.ensures ∙ ap length c.in-Some.ensures ∙ sym (names_count h c.args.id.now)),
         subst (λ l. EntriesBeside c.args.path.now (entries_at h c.args.id.now) l c.args.left.now) (sym all)
-        (beside_begins c.args.path.now (entries_at h c.args.id.now) c.args.left.now)),
+            (beside_begins c.args.path.now (entries_at h c.args.id.now) c.args.left.now),
+      ),
     )
 
 pub below-preserved : goal.below-preserved
@@ -71,10 +72,10 @@ below-preserved t c =
           let missing : c.missing_without-missing.result ≡ c.below.missing - cond (has_child e.0 d.0 names) 1 0 =
           c.missing_without-missing.ensures ∙ ap (λ (b : Bool). c.below.missing - cond b 1 0) counts in (
             subst (λ (n : ℕ). SoFar h nodes e.0 old names left2 (option_copied c.or-first.result) n) (sym missing)
-            (subst (λ (f : Option Path). SoFar h nodes e.0 old names left2 f (c.below.missing - cond (has_child e.0 d.0 names) 1 0)) first on),
+                (subst (λ (f : Option Path). SoFar h nodes e.0 old names left2 f (c.below.missing - cond (has_child e.0 d.0 names) 1 0)) first on),
             beside_next h id e.0 c.below.entries c.take_entry-entry.new.entries d left beside sorted entry
-            (next_order h nodes order before e old whole names d left (option_copied c.below.first) c.below.missing s)
-            walked.taken left2 walked.parts below.name named took,
+                (next_order h nodes order before e old whole names d left (option_copied c.below.first) c.below.missing s)
+                walked.taken left2 walked.parts below.name named took,
           ),
     )
 

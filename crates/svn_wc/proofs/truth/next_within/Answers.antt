@@ -11,9 +11,9 @@ returns-clause-taken c =
     let d : Path × BaseNode = (c.in_ok-below.below.now, c.in_ok-below.node.now) in (
       c.in_ok-below.ensures ∙ ap (λ (l : List (Path × BaseNode)). d ∷ l) (sym c.advance.ensures),
       elim c.else-is_none.branch [
-        else-is_none-via-then-is_none+else-not-is_within w ↦
+        | else-is_none-via-then-is_none+else-not-is_within w ↦
             sym w.is_within.ensures ∙ w.if-not-is_within.false
-      | else-is_none-via-else-is_none w ↦
+        | else-is_none-via-else-is_none w ↦
             within_by_name c.args.path.now c.in_ok-below.below.now c.name_below-name.result c.name_below-name.ensures
             (c.is_none.ensures ∙ ap not w.if-is_none.false)
       ],
