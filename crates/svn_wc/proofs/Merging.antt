@@ -21,7 +21,7 @@ use Rattle.svn_model.specs.declared.base_node.BaseNode.{BaseNode}
 use Rattle.svn_model.specs.Nodes.{get_in, InPathOrder}
 use Rattle.svn_edit.proofs.NodeOrder.{at_first, before_behind, none_before, some_behind}
 use Rattle.svn_edit_law.proofs.Lookups.{get_in-append}
-use Rattle.svn_wc.specs.Truths.{AreUpTo, PassesTo, IsNameBelow, entries_at, entry_in}
+use Rattle.svn_wc.specs.Truths.{AreUpTo, PassesTo, entries_at, entry_in}
 
 -- ---- names in their order
 

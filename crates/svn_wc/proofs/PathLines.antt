@@ -2,7 +2,7 @@
 --     prefixes p      the paths from the root down to p
 use Rattle.std.proofs.Common.{◌≡◌, ℕ, suc, ◌+◌, ◌-◌, Bool, true, false, cond, List, [], ◌∷◌, ◌++◌, length, take, map, refl, sym, ap, subst}
 use Rattle.std.proofs.Common.{◌∙◌, ◌⊎◌, inl, inr, Option, Some, None, true≢false, arith}
-use Rattle.std.specs.Prelude.{◌&&◌, filter_map, slice_get, Result, Ok, Err, IfOk, MatchResult}
+use Rattle.std.specs.Prelude.{filter_map, slice_get, Result, Ok, Err, IfOk, MatchResult}
 use Rattle.std.specs.List.{cons_option}
 use Rattle.std.specs.Option.{is_some, option_map, option_or, option_copied}
 use Rattle.std.specs.Borrow.{Bor}

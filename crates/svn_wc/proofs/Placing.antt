@@ -1,8 +1,8 @@
 -- Trees of the repository, and what a copy makes of them.
 use Rattle.std.proofs.Common.{◌≡◌, ℕ, ◌-◌, Bool, true, false, cond, List, [], ◌∷◌, ◌++◌, length, drop, refl, sym, ap, subst, ◌∙◌, Option}
-use Rattle.std.proofs.Common.{Some, None, true≢false}
+use Rattle.std.proofs.Common.{Some, None}
 use Rattle.std.specs.Prelude.{slice_get, option_and_then, Result, Ok, Err, IfOk, OnOk, OnErr}
-use Rattle.std.specs.Option.{is_some, option_map}
+use Rattle.std.specs.Option.{option_map}
 use Rattle.svn_types.specs.Names.{Path}
 use Rattle.svn_types.specs.Paths.{is_within, last_name}
 use Rattle.svn_repo.specs.History.{History, NodeRow, node_at, walk, child_in, look}

@@ -1,5 +1,5 @@
 use Rattle.std.proofs.Common.{◌≡◌, ◌-◌, ◌∷◌, [], List, ℕ, Option, Some, Bool, cond, length, refl, sym, ap, subst, ◌∙◌}
-use Rattle.std.specs.Option.{option_copied, option_or, is_some}
+use Rattle.std.specs.Option.{option_copied, option_or}
 use Rattle.svn_types.specs.Names.{Path}
 use Rattle.svn_model.specs.declared.base_node.BaseNode.{BaseNode}
 use Rattle.svn_model.specs.Nodes.{get_in}

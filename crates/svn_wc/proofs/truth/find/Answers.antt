@@ -1,6 +1,5 @@
-use Rattle.std.proofs.Common.{◌≡◌, Option, subst, ◌∙◌}
+use Rattle.std.proofs.Common.{◌≡◌, subst, ◌∙◌}
 use Rattle.std.specs.Prelude.{IfSome}
-use Rattle.std.specs.Borrow.{Bor}
 use Rattle.svn_wc.specs.Truths.{entry_in}
 use Rattle.svn_wc.proofs.Truly.{step_found}
 use Rattle.svn_wc.proofs.truth.find.Goals as goal

@@ -1,6 +1,5 @@
-use Rattle.std.proofs.Common.{◌≡◌, ◌∷◌, not, true, List, sym, ap, ◌∙◌}
+use Rattle.std.proofs.Common.{◌∷◌, not, List, sym, ap, ◌∙◌}
 use Rattle.svn_types.specs.Names.{Path}
-use Rattle.svn_types.specs.Paths.{is_within}
 use Rattle.svn_model.specs.declared.base_node.BaseNode.{BaseNode}
 use Rattle.svn_wc.proofs.Truly.{within_by_name}
 use Rattle.svn_wc.proofs.truth.next_within.Goals.{else-is_none-via-then-is_none+else-not-is_within, else-is_none-via-else-is_none}
