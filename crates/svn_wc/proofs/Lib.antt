@@ -4,6 +4,8 @@ pub mod Trees
 pub mod Sweeps
 -- The nodes on the way down to a path.
 pub mod PathLines
+-- The entries of a directory, gone through beside the nodes below it.
+pub mod Merging
 -- A copy is compared with the repository, the nodes below a path one after the other.
 pub mod Truly
 -- A tree of the repository is gathered: its node first, and then the entries in order of their names.

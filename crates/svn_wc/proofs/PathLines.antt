@@ -1,15 +1,16 @@
 -- The nodes on the way down to a path.
 --     prefixes p      the paths from the root down to p
 use Rattle.std.proofs.Common.{◌≡◌, ℕ, suc, ◌+◌, ◌-◌, Bool, true, false, cond, List, [], ◌∷◌, ◌++◌, length, take, map, refl, sym, ap, subst}
-use Rattle.std.proofs.Common.{◌∙◌, Option, Some, None, true≢false, arith}
-use Rattle.std.specs.Prelude.{◌&&◌, filter_map, slice_get, Result, Ok, Err, IfOk, MatchResult}
+use Rattle.std.proofs.Common.{◌∙◌, ◌⊎◌, inl, inr, Option, Some, None, true≢false, arith}
+use Rattle.std.specs.Prelude.{filter_map, slice_get, Result, Ok, Err, IfOk, MatchResult}
 use Rattle.std.specs.List.{cons_option}
 use Rattle.std.specs.Option.{is_some, option_map, option_or, option_copied}
 use Rattle.std.specs.Borrow.{Bor}
+use Rattle.std.specs.Cmp.{both_ways}
 use Rattle.std.specs.BTreeMap.{is_at}
 use Rattle.std.specs.declared.cmp.Ordering.TheVariants.{Less}
-use Rattle.std.proofs.lemmas.List.{take-map, length-map, length_push}
-use Rattle.std.proofs.lemmas.Option.{slice_get-map}
+use Rattle.std.proofs.lemmas.List.{append-nil, take-map, length-map, length_push}
+use Rattle.std.proofs.lemmas.Option.{same_Some, slice_get-map}
 use Rattle.svn_types.specs.Names.{Path, path_cmp}
 use Rattle.svn_types.specs.Paths.{is_within, is_root, parent, path_eq, child}
 use Rattle.svn_types.proofs.PathOrder.{below_after, within_between}
@@ -20,10 +21,10 @@ use Rattle.svn_model.specs.Nodes.{get_in, InPathOrder, IsWorkingCopy, is_dir, no
 use Rattle.svn_model.specs.Crawl.{entry_for, reported_at, crawl}
 use Rattle.svn_wc.specs.Crawling.{with_reported, IsBelow}
 use Rattle.svn_edit_law.proofs.Lookups.{at_path, get_in-append}
-use Rattle.svn_edit_law.proofs.PathsBelow.{below_is_other, path_is, same_path, same_name as same_bytes}
+use Rattle.svn_edit_law.proofs.PathsBelow.{below_is_other, path_is, same_path}
 use Rattle.svn_edit.proofs.NodeOrder.{at_first, first_or_after, before_behind, order_behind, some_behind}
 use Rattle.svn_types.proofs.PathsInOrder.{not_before_itself, not_both}
-use Rattle.svn_types.proofs.PathLemmas.{is_root-child, parent-child, split_within}
+use Rattle.svn_types.proofs.PathLemmas.{is_root-child, parent-child, path_cases, split_within, within_append}
 
 -- ---- paths
 
@@ -50,22 +51,9 @@ take-prefixes (m ∷ q) r =
     ap (λ (l : List Path). [] ∷ l)
     (take-map (λ (p : Path). m ∷ p) (suc (length q)) (prefixes (q ++ r)) ∙ ap (map (λ (p : Path). m ∷ p)) (take-prefixes q r))
 
-pub within_itself : (q r : Path) → is_within q (q ++ r) ≡ true
-within_itself [] r = refl
-within_itself (m ∷ q) r = ap (λ b. b && is_within q (q ++ r)) (same_bytes m) ∙ within_itself q r
-
 -- a path is the root, or has one above it
-pub data PathCase (p : Path) : Type 0 where
-  at_root : p ≡ [] → PathCase p
-  at_child : (q : Path) (name : List ℕ) → p ≡ child q name → PathCase p
-
-pub path_case : (p : Path) → PathCase p
-path_case [] = at_root refl
-path_case (n ∷ p) = by (path_case p)
-  where
-    by : PathCase p → PathCase (n ∷ p)
-    by (at_root e) = at_child [] n (ap (λ (q : Path). n ∷ q) e)
-    by (at_child q name e) = at_child (n ∷ q) name (ap (λ (r : Path). n ∷ r) e)
+abbrev PathCases : Path → Type 0
+PathCases p = (p ≡ []) ⊎ ((q : Path) × (name : List ℕ) × (p ≡ child q name))
 
 -- ---- lists
 
@@ -77,9 +65,6 @@ last_get {X} xs x =
     at : (ys : List X) → slice_get (ys ++ x ∷ []) (length ys) ≡ Some x
     at [] = refl
     at (y ∷ ys) = at ys
-
-same_Some : {X : Type 0} (x y : X) → Some x ≡ Some y → x ≡ y
-same_Some x y e = cc
 
 unwrapped : {X : Type 0} (o u : Option X) → option_map (λ x. Some x) o ≡ Some u → o ≡ u
 unwrapped None u e = absurd (true≢false (sym (ap is_some e)))
@@ -95,11 +80,11 @@ last_known {X} ns xs x e =
     ∙ ap (λ (l : List (Option X)). slice_get l (length l - 1)) e ∙ last_get xs x)
 
 prefixes-last : (q : Path) → (front : List Path) × (prefixes q ≡ front ++ q ∷ [])
-prefixes-last q = by (path_case q)
+prefixes-last q = by (path_cases q)
   where
-    by : PathCase q → (front : List Path) × (prefixes q ≡ front ++ q ∷ [])
-    by (at_root e) = ([], ap prefixes e ∙ ap (λ (p : Path). p ∷ []) (sym e))
-    by (at_child p name e) = (prefixes p, ap prefixes e ∙ prefixes-child p name ∙ ap (λ (r : Path). prefixes p ++ r ∷ []) (sym e))
+    by : PathCases q → (front : List Path) × (prefixes q ≡ front ++ q ∷ [])
+    by (inl e) = ([], ap prefixes e ∙ ap (λ (p : Path). p ∷ []) (sym e))
+    by (inr (p, name, e)) = (prefixes p, ap prefixes e ∙ prefixes-child p name ∙ ap (λ (r : Path). prefixes p ++ r ∷ []) (sym e))
 
 -- ---- a crawl, node by node
 
@@ -133,10 +118,6 @@ filter_map-push {X} {Y} f (y ∷ xs) x = by (f y) (filter_map-push f xs x)
         → cons_option o (filter_map f (xs ++ x ∷ [])) ≡ cons_option o (filter_map f xs) ++ cons_option (f x) []
     by None h = h
     by (Some v) h = ap (λ l. v ∷ l) h
-
-append-nil : {X : Type 0} (xs : List X) → xs ++ [] ≡ xs
-append-nil [] = refl
-append-nil (x ∷ xs) = ap (λ l. x ∷ l) (append-nil xs)
 
 append_one : {X : Type 0} (xs : List X) (y : X) (ys : List X) → xs ++ y ∷ ys ≡ (xs ++ y ∷ []) ++ ys
 append_one [] y ys = refl
@@ -175,7 +156,7 @@ module _ (nodes : List (Path × BaseNode)) (order : InPathOrder nodes) (line : L
   taken q r name is some = by (get_in c.done q) refl (sym (ap is_some (in_parts q)) ∙ some)
     where
       before : path_cmp q e.0 ≡ Less
-      before = ap (path_cmp q) is ∙ below_after q (q ++ name ∷ r) (within_itself q (name ∷ r)) (below_is_other q name r)
+      before = ap (path_cmp q) is ∙ below_after q (q ++ name ∷ r) (within_append q (name ∷ r)) (below_is_other q name r)
 
       by : (o : Option BaseNode) → get_in c.done q ≡ o → is_some (option_or o (get_in (e ∷ left) q)) ≡ true → is_some o ≡ true
       by (Some x) h s = refl
@@ -227,9 +208,9 @@ module _ (nodes : List (Path × BaseNode)) (order : InPathOrder nodes) (line : L
         by (last_at front l d m) =
             let within : is_within q l.0 ≡ true =
             taken_before (is_within q l.0 ≡ true) front l d q above_taken
-            (λ same. subst (λ (p : Path). is_within q p ≡ true) (append-nil q ∙ same) (within_itself q []))
+            (λ same. subst (λ (p : Path). is_within q p ≡ true) (append-nil q ∙ same) (within_append q []))
             (λ before. within_between q l.0 e.0 before (λ after. not_both l.0 e.0 (last_before front l d) after)
-            (subst (λ (p : Path). is_within q p ≡ true) (sym is) (within_itself q (name ∷ [])))) in
+            (subst (λ (p : Path). is_within q p ≡ true) (sym is) (within_append q (name ∷ [])))) in
             let parts = split_within q l.0 within in
             ap (λ k. take k (map (λ n. Some n) line)) depth ∙ ap (take (suc (length q))) m
             ∙ ap (λ (p : Path). take (suc (length q)) (map (get_in nodes) (prefixes p))) parts.1
@@ -258,27 +239,27 @@ module _ (nodes : List (Path × BaseNode)) (order : InPathOrder nodes) (line : L
   -- the next node is the root, or a directory is above it
   pub next_below : IsWorkingCopy (get_in nodes) → (o : Option BaseNode)
       → o ≡ slice_get (take (length e.0) line) (length (take (length e.0) line) - 1) → IsBelow e.0 o
-  next_below w o same = by (path_case e.0)
+  next_below w o same = by (path_cases e.0)
     where
       as_below : (p : Path) (u : Option BaseNode) → is_root p ≡ false → is_dir u ≡ true → IsBelow p u
       as_below p None root dir = absurd (true≢false (sym dir))
       as_below p (Some n) root dir = (root, dir)
 
-      by : PathCase e.0 → IsBelow e.0 o
-      by (at_root is) =
+      by : PathCases e.0 → IsBelow e.0 o
+      by (inl is) =
           subst (λ (u : Option BaseNode). IsBelow e.0 u)
           (sym (same ∙ (λ i. slice_get (take (length (is i)) line) (length (take (length (is i)) line) - 1)))) (ap is_root is)
-      by (at_child q name is) =
+      by (inr (q, name, is)) =
           as_below e.0 o (ap is_root is ∙ is_root-child q name) (ap is_dir (same ∙ last_is_above w q name is) ∙ directory w q name is)
 
   entry_is : IsWorkingCopy (get_in nodes) → (o : Option BaseNode)
       → o ≡ slice_get (take (length e.0) line) (length (take (length e.0) line) - 1)
       → entry_for e.0 o (Some e.1) ≡ entry_for e.0 (get_in nodes (parent e.0)) (Some e.1)
-  entry_is w o same = by (path_case e.0)
+  entry_is w o same = by (path_cases e.0)
     where
-      by : PathCase e.0 → entry_for e.0 o (Some e.1) ≡ entry_for e.0 (get_in nodes (parent e.0)) (Some e.1)
-      by (at_root is) = (λ i. entry_for (is i) o (Some e.1)) ∙ sym (λ i. entry_for (is i) (get_in nodes (parent e.0)) (Some e.1))
-      by (at_child q name is) =
+      by : PathCases e.0 → entry_for e.0 o (Some e.1) ≡ entry_for e.0 (get_in nodes (parent e.0)) (Some e.1)
+      by (inl is) = (λ i. entry_for (is i) o (Some e.1)) ∙ sym (λ i. entry_for (is i) (get_in nodes (parent e.0)) (Some e.1))
+      by (inr (q, name, is)) =
           ap (λ (u : Option BaseNode). entry_for e.0 u (Some e.1))
           (same ∙ last_is_above w q name is ∙ ap (get_in nodes) (sym (ap parent is ∙ parent-child q name)))
 
@@ -288,7 +269,7 @@ module _ (nodes : List (Path × BaseNode)) (order : InPathOrder nodes) (line : L
   crawled_next w o same r2 made = record {
     done = c.done ++ e ∷ [];
     parts = c.parts ∙ append_one c.done e left;
-    line_is = last_at c.done e refl (by (path_case e.0));
+    line_is = last_at c.done e refl (by (path_cases e.0));
     root = ap (λ (v : ReportView). v.root) made ∙ same_root (entry_for e.0 o (Some e.1)) ∙ c.root;
     entries =
         ap (λ (v : ReportView). v.entries) made ∙ more (entry_for e.0 o (Some e.1))
@@ -304,9 +285,9 @@ module _ (nodes : List (Path × BaseNode)) (order : InPathOrder nodes) (line : L
       more None = sym (append-nil r.entries)
       more (Some x) = refl
 
-      by : PathCase e.0 → map (λ n. Some n) (take (length e.0) line ++ e.1 ∷ []) ≡ map (get_in nodes) (prefixes e.0)
-      by (at_child q name is) = line_on w q name is
-      by (at_root is) =
+      by : PathCases e.0 → map (λ n. Some n) (take (length e.0) line ++ e.1 ∷ []) ≡ map (get_in nodes) (prefixes e.0)
+      by (inr (q, name, is)) = line_on w q name is
+      by (inl is) =
           ap (λ (p : Path). map (λ n. Some n) (take (length p) line ++ e.1 ∷ [])) is
           ∙ (λ i. sym (sym (ap (get_in nodes) is) ∙ stands) i ∷ [])
           ∙ ap (λ (p : Path). map (get_in nodes) (prefixes p)) (sym is)
@@ -319,13 +300,7 @@ if_ok_same (Err v) P x y e h = tt
 
 -- a test that is passed exactly by the same path is the test of equal paths
 pub tests_path : (b : Bool) (p q : Path) → (b ≡ true → p ≡ q) → (p ≡ q → b ≡ true) → b ≡ path_eq p q
-tests_path b p q f g = by b (path_eq p q) refl refl
-  where
-    by : (x y : Bool) → b ≡ x → path_eq p q ≡ y → x ≡ y
-    by true true u v = refl
-    by false false u v = refl
-    by true false u v = absurd (true≢false (sym (sym v ∙ ap (path_eq p) (sym (f u)) ∙ same_path p)))
-    by false true u v = absurd (true≢false (sym (g (path_is p q v)) ∙ u))
+tests_path b p q f g = both_ways b (path_eq p q) (λ e. ap (path_eq p) (sym (f e)) ∙ same_path p) (λ e. g (path_is p q e))
 
 -- what stands behind the last reference of a list
 pub last_behind : {X : Type 0} (refs : List (Bor X)) (n : ℕ) (kept : List (Bor X)) → kept ≡ take n refs

@@ -1,8 +1,8 @@
 -- Trees of the repository, and what a copy makes of them.
 use Rattle.std.proofs.Common.{◌≡◌, ℕ, ◌-◌, Bool, true, false, cond, List, [], ◌∷◌, ◌++◌, length, drop, refl, sym, ap, subst, ◌∙◌, Option}
-use Rattle.std.proofs.Common.{Some, None, true≢false}
+use Rattle.std.proofs.Common.{Some, None}
 use Rattle.std.specs.Prelude.{slice_get, option_and_then, Result, Ok, Err, IfOk, OnOk, OnErr}
-use Rattle.std.specs.Option.{is_some, option_map}
+use Rattle.std.specs.Option.{option_map}
 use Rattle.svn_types.specs.Names.{Path}
 use Rattle.svn_types.specs.Paths.{is_within, last_name}
 use Rattle.svn_repo.specs.History.{History, NodeRow, node_at, walk, child_in, look}
@@ -16,8 +16,7 @@ use Rattle.svn_wc.specs.Standing.{standing, Puts}
 use Rattle.svn_wc.specs.Building.{Refuses, tree_at}
 use Rattle.svn_wc.specs.Truths.{entry_in}
 use Rattle.svn_edit_law.proofs.Parts.{drop_front}
-use Rattle.svn_wc.proofs.PathLines.{PathCase, at_root, at_child, path_case, last_get}
-use Rattle.svn_types.proofs.PathLemmas.{split_within}
+use Rattle.svn_types.proofs.PathLemmas.{none_at_last, split_within}
 
 -- ---- looking further down
 
@@ -91,13 +90,9 @@ refuses_memory o e is memory = subst (λ (u : Option WcFault). Refuses u e) (sym
 -- ---- the last name of a path
 
 pub last_none : (p : Path) → None ≡ slice_get p (length p - 1) → last_name p ≡ []
-last_none p h = by (path_case p)
-  where
-    by : PathCase p → last_name p ≡ []
-    by (at_root e) = ap last_name e
-    by (at_child q name e) = absurd (true≢false (sym (ap is_some (h ∙ ap (λ (r : Path). slice_get r (length r - 1)) e ∙ last_get q name))))
+last_none p h = ap last_name (none_at_last p (sym h))
 
-entry_is_below : (h : History) (o : Option ℕ) (name : List ℕ) → entry_in h o name ≡ entry_below h o name
+pub entry_is_below : (h : History) (o : Option ℕ) (name : List ℕ) → entry_in h o name ≡ entry_below h o name
 entry_is_below h None name = refl
 entry_is_below h (Some n) name = refl
 

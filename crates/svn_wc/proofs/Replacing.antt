@@ -2,6 +2,7 @@
 -- place.
 use Rattle.std.proofs.Common.{◌≡◌, Bool, true, false, cond, List, [], ◌∷◌, ◌++◌, refl, sym, ap, subst, ◌∙◌, Option, Some, None, true≢false}
 use Rattle.std.proofs.Common.{take, ℕ, zero, suc}
+use Rattle.std.proofs.lemmas.List.{append-nil}
 use Rattle.std.proofs.lemmas.Option.{same_Some}
 use Rattle.std.specs.Prelude.{◌&&◌, ◌||◌, is_none}
 use Rattle.std.specs.List.{list_any}
@@ -77,10 +78,6 @@ new_on part nodes paths more e left s noted = record {
         either true true = refl
         either true false = refl
         either false y = refl
-
-append-nil : (xs : List (Path × BaseNode)) → xs ++ [] ≡ xs
-append-nil [] = refl
-append-nil (x ∷ xs) = ap (λ l. x ∷ l) (append-nil xs)
 
 pub new_ends : (part nodes : List (Path × BaseNode)) (paths : List Path) → NewSoFar part nodes paths [] → (p : Path)
     → is_one paths p ≡ (is_some (get_in part p) && is_none (get_in nodes p))

@@ -1,21 +1,23 @@
 -- A copy is compared with the repository, the nodes below a path one after the other.
 use Rattle.std.proofs.Common.{◌≡◌, ℕ, ◌+◌, ◌-◌, ◌<◌, Bool, true, false, not, cond, List, [], ◌∷◌, ◌++◌, length, refl, sym, ap, subst, ◌∙◌}
 use Rattle.std.proofs.Common.{Option, Some, None, true≢false, arith, append_assoc, length-append}
-use Rattle.std.specs.Prelude.{◌&&◌, ◌||◌, bytes_eq, nat_lt, is_none}
+use Rattle.std.specs.Prelude.{◌&&◌, ◌||◌, bytes_eq, nat_lt, is_none, IfSome, MatchOption}
 use Rattle.std.specs.List.{list_any, list_all, AllByRecursion}
 use Rattle.std.specs.List.Sorted.{IsStrictlySortedBy}
 use Rattle.std.specs.Option.{is_some, option_or, option_map, option_copied}
 use Rattle.std.specs.Borrow.{Bor}
+use Rattle.std.specs.Bool.{then_some}
+use Rattle.std.specs.Cmp.{both_ways}
 use Rattle.std.specs.Cmp.Lexicographic.{pointwise_decides}
 use Rattle.std.specs.BTreeMap.{is_at}
-use Rattle.std.specs.Ordering.{ordering_then}
 use Rattle.std.specs.Map.{keys_of}
 use Rattle.std.specs.declared.cmp.Ordering.TheVariants.{Less}
 use Rattle.std.proofs.lemmas.Bool.{lt-ltb}
+use Rattle.std.proofs.lemmas.List.{append-nil}
 use Rattle.std.proofs.lemmas.Map.Keys.{sorted_head, sorted_tail}
 use Rattle.svn_types.specs.Names.{Path, name_cmp, path_cmp}
 use Rattle.svn_types.specs.Paths.{is_within, is_below, path_eq, child}
-use Rattle.svn_types.proofs.PathOrder.{below_after, within_between, same_name as equal_names}
+use Rattle.svn_types.proofs.PathOrder.{below_after, within_between, same_name as equal_names, both as and_both}
 use Rattle.svn_types.specs.Pairs.{value_of}
 use Rattle.svn_repo.specs.History.{History, NodeRow, node_at, look}
 use Rattle.svn_repo.specs.Readings.{IsHistory, row_or_empty, props_of, entries_of}
@@ -25,13 +27,18 @@ use Rattle.svn_model.specs.Nodes.{WorkingCopy, get_in, InPathOrder}
 use Rattle.svn_model.specs.Tree.{names_at}
 use Rattle.svn_model.specs.Truth.{Properties, prop_eq, props_eq, is_untrue, lacks_entry, first_untrue_in, first_untrue}
 use Rattle.svn_model.proofs.Children.{entry_below, look-child}
-use Rattle.svn_wc.specs.Truths.{looked, entry_in, IsStep, IsRest, all_below, has_child, IsPast, HasWalked}
+use Rattle.svn_wc.specs.Truths.{looked, entries_at, entry_in, HasNoEntries, CountsMissing, IsStep, IsNameBelow, PassesTo, IsRest, all_below, IsPast, HasWalked}
+use Rattle.svn_wc.proofs.Placing.{entry_is_below}
+use Rattle.svn_wc.proofs.Merging.{EntriesBeside, entry_beside, beside_other, beside_on, entry_in_all, none_before_itself}
 use Rattle.svn_edit_law.proofs.Lookups.{at_path, get_in-append}
 use Rattle.svn_edit_law.proofs.NodeLists.{not_before_itself, not_both}
 use Rattle.svn_edit_law.proofs.PathsBelow.{below_is_other, path_is, path_eq-sym, same_path, same_name, at_name}
 use Rattle.svn_edit.proofs.NodeOrder.{at_first, first_or_after, before_behind, order_behind, some_behind}
-use Rattle.svn_wc.proofs.PathLines.{within_itself}
-use Rattle.svn_types.proofs.PathLemmas.{below_parts, split_within}
+use Rattle.svn_types.proofs.PathLemmas.{below_from, below_parts, split_within, within_append, is_within-child}
+
+-- the second path is one of these names below the first
+abbrev pub has_child : Path → Path → List (List ℕ) → Bool
+has_child p q names = list_any (λ name. path_eq (child p name) q) names
 
 -- ---- how many names pass a test
 
@@ -106,16 +113,8 @@ first_untrue_in-append h w (x ∷ xs) ys = by (is_untrue h w x.0 x.1) (first_unt
     by true e = refl
     by false e = e
 
-and_both : (a b : Bool) → (a && b) ≡ true → (a ≡ true) × (b ≡ true)
-and_both true b h = (refl, h)
-and_both false b h = absurd (true≢false (sym h))
-
 both_and : (a b : Bool) → a ≡ true → b ≡ true → (a && b) ≡ true
 both_and a b h g = ap (λ x. x && b) h ∙ g
-
-not_true : (b : Bool) → not b ≡ true → b ≡ false
-not_true true h = absurd (true≢false (sym h))
-not_true false h = refl
 
 all-append : {X : Type 0} (f : X → Bool) (xs ys : List X) → list_all f xs ≡ true → list_all f ys ≡ true → list_all f (xs ++ ys) ≡ true
 all-append f [] ys h g = g
@@ -123,12 +122,7 @@ all-append f (x ∷ xs) ys h g =
     let parts = and_both (f x) (list_all f xs) h in both_and (f x) (list_all f (xs ++ ys)) parts.0 (all-append f xs ys parts.1 g)
 
 below_extended : (p : Path) (x : List ℕ) (r : Path) → is_below p (p ++ x ∷ r) ≡ true
-below_extended p x r =
-    both_and (is_within p (p ++ x ∷ r)) (not (path_eq p (p ++ x ∷ r))) (within_itself p (x ∷ r)) (ap not (below_is_other p x r))
-
-append-nil : (p : Path) → p ++ [] ≡ p
-append-nil [] = refl
-append-nil (n ∷ p) = ap (λ (q : Path). n ∷ q) (append-nil p)
+below_extended p x r = below_from p (p ++ x ∷ r) (within_append p (x ∷ r)) (below_is_other p x r)
 
 -- it goes on from the path by a name at least
 pub goes_below : (p q : Path) → is_below p q ≡ true → (x : List ℕ) × (r : Path) × (q ≡ p ++ x ∷ r)
@@ -197,12 +191,6 @@ same_last (n ∷ p) x y e = same_last p x y (ap rest e)
     rest [] = []
     rest (m ∷ q) = q
 
-none_before_itself : (x : List ℕ) → name_cmp x x ≡ Less → ⊥
-none_before_itself x less = not_before_itself (x ∷ []) (less_path less)
-  where
-    less_path : name_cmp x x ≡ Less → path_cmp (x ∷ []) (x ∷ []) ≡ Less
-    less_path e = ap (λ o. ordering_then o (path_cmp [] [])) e
-
 -- ---- the walk
 
 -- the nodes below a path that were taken so far: the first untrue of them, and how many names of the path's directory have no node
@@ -235,6 +223,9 @@ module _ (h : History) (nodes : List (Path × BaseNode)) (order : InPathOrder no
 
     cut : InPathOrder (front ++ c ∷ left)
     cut = subst InPathOrder front_is order
+
+    pub next_order : InPathOrder (c ∷ left)
+    next_order = order_behind front (c ∷ left) cut
 
     earlier : (p : Path) → is_some (get_in front p) ≡ true → path_cmp p c.0 ≡ Less
     earlier p some = before_behind front (c ∷ left) cut p c.0 some (ap is_some (at_first c left))
@@ -330,7 +321,7 @@ module _ (h : History) (nodes : List (Path × BaseNode)) (order : InPathOrder no
     own_first = order_behind before (e ∷ s.taken ++ left) (subst InPathOrder (whole ∙ ap (λ l. before ++ e ∷ l) s.parts) order)
 
     child_later : (x : List ℕ) → path_cmp e.0 (child e.0 x) ≡ Less
-    child_later x = below_after e.0 (child e.0 x) (within_itself e.0 (x ∷ [])) (below_is_other e.0 x [])
+    child_later x = below_after e.0 (child e.0 x) (within_append e.0 (x ∷ [])) (below_is_other e.0 x [])
 
     none_earlier : (x : List ℕ) (o : Option BaseNode) → get_in before (child e.0 x) ≡ o → o ≡ None
     none_earlier x None g = refl
@@ -349,13 +340,13 @@ module _ (h : History) (nodes : List (Path × BaseNode)) (order : InPathOrder no
         (order_behind s.taken (f ∷ fs)
         (subst (λ l. InPathOrder (s.taken ++ l)) is (sorted_tail path_cmp e.0 (keys_of (s.taken ++ left)) own_first)))
         (child e.0 x) (ap is_some g)
-        (λ same. absurd (true≢false (sym (subst (λ (z : Path). is_within e.0 z ≡ true) same (within_itself e.0 (x ∷ []))) ∙ gone)))
+        (λ same. absurd (true≢false (sym (subst (λ (z : Path). is_within e.0 z ≡ true) same (within_append e.0 (x ∷ []))) ∙ gone)))
         (λ after.
         let first_later : path_cmp e.0 f.0 ≡ Less =
         before_behind (e ∷ s.taken) (f ∷ fs) (subst (λ l. InPathOrder (e ∷ s.taken ++ l)) is own_first) e.0 f.0
         (ap is_some (at_first e s.taken)) (ap is_some (at_first f fs)) in
         absurd (true≢false (sym (within_between e.0 f.0 (child e.0 x) first_later (λ less. not_both f.0 (child e.0 x) after less)
-        (within_itself e.0 (x ∷ [])))
+        (within_append e.0 (x ∷ [])))
         ∙ gone)))
 
     same_children : (x : List ℕ) → is_none (get_in s.taken (child e.0 x)) ≡ is_none (get_in nodes (child e.0 x))
@@ -388,17 +379,27 @@ module _ (h : History) (nodes : List (Path × BaseNode)) (order : InPathOrder no
       first = is ∙ (λ i. cond (test i) (Some e.0) (s.first i));
     }
 
+-- a node beside which nothing stands
+pub walks_alone : (h : History) (nodes : List (Path × BaseNode)) (e : Path × BaseNode) (old : List (Path × BaseNode)) (b : Bool)
+    → b ≡ is_untrue h (get_in nodes) e.0 e.1 → (found : Option Path) → found ≡ cond b (Some e.0) None → HasWalked h nodes e old found old
+walks_alone h nodes e old b test found is =
+    record { taken = []; parts = refl; below = refl; first = is ∙ ap (λ x. cond x (Some e.0) None) test }
+
+pub copied_if : {X : Type 0} (b : Bool) (x : Bor X) → option_copied (then_some b x) ≡ cond b (Some x.now) None
+copied_if true x = refl
+copied_if false x = refl
+
+-- one name below a path
+pub within_by_name : (p q : Path) (name : Option (Bor (List ℕ))) → IsNameBelow p q (option_copied name) → is_some name ≡ true
+    → is_within p q ≡ true
+within_by_name p q None named some = absurd (true≢false (sym some))
+within_by_name p q (Some n) named some = subst (λ (z : Path). is_within p z ≡ true) (sym named) (is_within-child p n.now)
+
 -- ---- what the repository has
 
 -- two tests of one thing
 pub same_tests : (P : Type 0) (r t : Bool) → (r ≡ true → P) → (P → r ≡ true) → (t ≡ true → P) → (P → t ≡ true) → r ≡ t
-same_tests P r t f g h k = by r t refl refl
-  where
-    by : (x y : Bool) → r ≡ x → t ≡ y → x ≡ y
-    by true true u v = refl
-    by false false u v = refl
-    by true false u v = sym (k (f u)) ∙ v
-    by false true u v = sym u ∙ g (h v)
+same_tests P r t f g h k = both_ways r t (λ e. k (f e)) (λ e. g (h e))
 
 prop_decides : (a b : List ℕ × List ℕ) → (prop_eq a b ≡ true → a ≡ b) × (a ≡ b → prop_eq a b ≡ true)
 prop_decides a b = (
@@ -421,10 +422,6 @@ tests_props h n r props others read f g =
     by : (o : Option NodeRow) → Some others ≡ option_map (λ row. row.props) o → others ≡ (row_or_empty o).props
     by None e = absurd (true≢false (ap is_some e))
     by (Some row) e = cc
-
-entry_is_below : (h : History) (o : Option ℕ) (name : List ℕ) → entry_in h o name ≡ entry_below h o name
-entry_is_below h None name = refl
-entry_is_below h (Some n) name = refl
 
 -- the entry of the directory above is what stands one name further
 pub step_found : (h : History) (above : BaseNode) (rev : ℕ) (p : Path) (name : List ℕ) (o : Option ℕ) → IsStep above rev p name
@@ -465,6 +462,67 @@ no_child p q (x ∷ names) none = by (path_eq (child p x) q) refl (no_child p q 
     by : (b : Bool) → path_eq (child p x) q ≡ b → has_child p q names ≡ false → (b || has_child p q names) ≡ false
     by true t h = absurd (none x (sym (path_is (child p x) q t)))
     by false t h = h
+
+-- ---- what is beside the nodes below a directory
+
+pub names_of_entries : (h : History) (o : Option ℕ) → names_at h o ≡ keys_of (entries_at h o)
+names_of_entries h None = refl
+names_of_entries h (Some n) = refl
+
+pub names_count : (h : History) (o : Option ℕ) → length (names_at h o) ≡ length (entries_at h o)
+names_count h o = ap length (names_of_entries h o) ∙ each (entries_at h o)
+  where
+    each : (es : List (List ℕ × ℕ)) → length (keys_of es) ≡ length es
+    each [] = refl
+    each (e ∷ es) = let k = each es in omega arith
+
+-- no entry is missing where none is wanted
+pub none_missing : (h : History) (node : BaseNode) (o : Option ℕ) → HasNoEntries node (entries_at h o) → (w : WorkingCopy) (p : Path)
+    → CountsMissing w p node (names_at h o) 0
+none_missing h (FileNode r q text props) o none w p = tt
+none_missing h (DirNode r q complete props) o none w p =
+    sym (ap (lacks_entry w p) (names_of_entries h o ∙ ap keys_of none))
+none_missing h NotPresent o none w p = tt
+
+pub missing_counted : (w : WorkingCopy) (p : Path) (node : BaseNode) (names : List (List ℕ)) (missing : ℕ)
+    → nat_lt 0 missing ≡ lacks_entry w p names → CountsMissing w p node names missing
+missing_counted w p (FileNode r q text props) names missing counted = tt
+missing_counted w p (DirNode r q complete props) names missing counted = counted
+missing_counted w p NotPresent names missing counted = tt
+
+-- the next node's name, if it is a child, and what was taken of the entries
+module _ (h : History) (id : Option ℕ) (p : Path) (entries entries2 : List (List ℕ × ℕ)) (c : Path × BaseNode)
+    (left : List (Path × BaseNode))
+    (beside : EntriesBeside p (entries_at h id) entries (c ∷ left)) (sorted : IsStrictlySortedBy name_cmp (names_at h id))
+    (entry : Option ℕ) where
+  abbrev pub Takes : Option (Bor (List ℕ)) → Type 0
+  Takes name = MatchOption name ((entry ≡ None) × (entries2 ≡ entries)) (λ n. PassesTo n.now entries entry entries2)
+
+  of_name : (n : Bor (List ℕ)) → c.0 ≡ child p n.now → PassesTo n.now entries entry entries2 → entry ≡ entry_in h id n.now
+  of_name n named took =
+      entry_beside p (entries_at h id) entries entries2 c left n.now entry beside named took
+      (subst (IsStrictlySortedBy name_cmp) (names_of_entries h id) sorted)
+      ∙ sym (entry_in_all h id n.now)
+
+  pub entry_told : (name : Option (Bor (List ℕ))) → IsNameBelow p c.0 (option_copied name) → Takes name
+      → IfSome name (λ n. entry ≡ entry_in h id n.now)
+  entry_told None named took = tt
+  entry_told (Some n) named took = of_name n named took
+
+  pub entry_counts : (name : Option (Bor (List ℕ))) → IsNameBelow p c.0 (option_copied name) → Takes name
+      → is_some entry ≡ has_child p c.0 (names_at h id)
+  entry_counts None named took = ap is_some took.0 ∙ sym (no_child p c.0 (names_at h id) named)
+  entry_counts (Some n) named took =
+      ap is_some (of_name n named took) ∙ entry_child h id p n.now ∙ ap (λ (q : Path). has_child p q (names_at h id)) (sym named)
+
+  pub beside_next : InPathOrder (c ∷ left) → (sub left2 : List (Path × BaseNode)) → left ≡ sub ++ left2
+      → (name : Option (Bor (List ℕ))) → IsNameBelow p c.0 (option_copied name) → Takes name
+      → EntriesBeside p (entries_at h id) entries2 left2
+  beside_next order sub left2 rest None named took =
+      subst (λ (l : List (List ℕ × ℕ)). EntriesBeside p (entries_at h id) l left2) (sym took.1)
+      (beside_other p (entries_at h id) entries c left sub left2 beside rest)
+  beside_next order sub left2 rest (Some n) named took =
+      beside_on p (entries_at h id) entries c left sub left2 beside rest order entries2 n.now entry named took
 
 sorted-nil : IsStrictlySortedBy name_cmp []
 unfolding IsStrictlySortedBy
@@ -510,11 +568,7 @@ check_on h nodes c left found s left2 found2 w = record {
 
 pub check_ends : (h : History) (nodes : List (Path × BaseNode)) (found : Option Path) → Checked h nodes [] found
     → found ≡ first_untrue h nodes
-check_ends h nodes found s = s.first ∙ ap (first_untrue_in h (get_in nodes)) (sym (no_more s.done) ∙ sym s.parts)
-  where
-    no_more : (xs : List (Path × BaseNode)) → xs ++ [] ≡ xs
-    no_more [] = refl
-    no_more (x ∷ xs) = ap (λ l. x ∷ l) (no_more xs)
+check_ends h nodes found s = s.first ∙ ap (first_untrue_in h (get_in nodes)) (sym (append-nil s.done) ∙ sym s.parts)
 
 pub option_or-copied : {X : Type 0} (a b : Option (Bor X)) → option_copied (option_or a b) ≡ option_or (option_copied a) (option_copied b)
 option_or-copied None b = refl

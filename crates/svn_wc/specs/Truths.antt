@@ -1,22 +1,38 @@
 -- How a copy is compared with the repository, node by node in path order.
 --     looked h node      what the repository has in a node's place, by its revision and repository path
 --     HasWalked h nodes e old found new      the nodes at and below a path were compared
-use Rattle.std.specs.Prelude.{◌≡◌, ℕ, Bool, true, false, List, [], ◌∷◌, ◌++◌, Option, Some, None, option_and_then}
-use Rattle.std.specs.List.{list_all, list_any}
-use Rattle.svn_types.specs.Names.{Path}
-use Rattle.svn_types.specs.Paths.{child, path_eq, is_within, is_below}
-use Rattle.svn_types.specs.Pairs.{value_of}
+use Rattle.std.specs.Prelude.{◌≡◌, ℕ, Bool, true, false, List, [], ◌∷◌, ◌++◌, Option, Some, None, option_and_then, nat_lt}
+use Rattle.std.specs.List.{list_all, AllByRecursion}
+use Rattle.std.specs.declared.cmp.Ordering.TheVariants.{Less}
+use Rattle.svn_types.specs.Names.{Path, name_cmp}
+use Rattle.svn_types.specs.Paths.{child, is_within, is_below}
+use Rattle.svn_types.specs.Pairs.{InNameOrder, value_of}
 use Rattle.svn_repo.specs.History.{History, look}
 use Rattle.svn_repo.specs.Readings.{entries_of}
 use Rattle.svn_model.specs.declared.base_node.BaseNode.{BaseNode}
 use Rattle.svn_model.specs.declared.base_node.BaseNode.TheVariants.{File as FileNode, Dir as DirNode, NotPresent}
-use Rattle.svn_model.specs.Nodes.{get_in}
-use Rattle.svn_model.specs.Truth.{first_untrue_in}
+use Rattle.svn_model.specs.Nodes.{WorkingCopy, get_in}
+use Rattle.svn_model.specs.Truth.{first_untrue_in, lacks_entry}
 
 abbrev pub looked : History → BaseNode → Option ℕ
 looked h (FileNode r q text props) = look h r q
 looked h (DirNode r q complete props) = look h r q
 looked h NotPresent = None
+
+-- the entries of a directory
+abbrev pub entries_at : History → Option ℕ → List (List ℕ × ℕ)
+entries_at h None = []
+entries_at h (Some n) = entries_of h n
+
+-- a directory has none in the repository
+abbrev pub HasNoEntries : BaseNode → List (List ℕ × ℕ) → Type 0
+HasNoEntries (DirNode r q complete props) entries = entries ≡ []
+HasNoEntries _ entries = Unit {0}
+
+-- so many of a directory's names have no node
+abbrev pub CountsMissing : WorkingCopy → Path → BaseNode → List (List ℕ) → ℕ → Type 0
+CountsMissing w p (DirNode r q complete props) names missing = nat_lt 0 missing ≡ lacks_entry w p names
+CountsMissing w p _ names missing = Unit {0}
 
 -- the node under a name
 abbrev pub entry_in : History → Option ℕ → List ℕ → Option ℕ
@@ -27,9 +43,26 @@ abbrev pub IsStep : BaseNode → ℕ → Path → List ℕ → Type 0
 IsStep (DirNode r q complete props) rev p name = (r ≡ rev) × (p ≡ child q name)
 IsStep _ rev p name = ⊥
 
--- the second path is one of these names below the first
-abbrev pub has_child : Path → Path → List (List ℕ) → Bool
-has_child p q names = list_any (λ name. path_eq (child p name) q) names
+-- the second path is the first with the name behind it; with no name, it isn't the first with one name more
+abbrev pub IsNameBelow : Path → Path → Option (List ℕ) → Type 0
+IsNameBelow p q None = (name : List ℕ) → q ≡ child p name → ⊥
+IsNameBelow p q (Some name) = q ≡ child p name
+
+-- all but the first
+abbrev pub behind_first : {X : Type 0} → List X → List X
+behind_first [] = []
+behind_first (x ∷ xs) = xs
+
+-- no name of the entries comes after a name
+abbrev pub AreUpTo : List ℕ → List (List ℕ × ℕ) → Type 0
+AreUpTo name entries = AllByRecursion (λ (e : List ℕ × ℕ). name_cmp name e.0 ≡ Less → ⊥) entries
+
+-- the entries up to a name were passed, and the value under it was found
+pub record PassesTo (name : List ℕ) (old : List (List ℕ × ℕ)) (found : Option ℕ) (new : List (List ℕ × ℕ)) : Type 0 where
+  pub passed : List (List ℕ × ℕ)
+  pub parts : old ≡ passed ++ new
+  pub up_to : AreUpTo name passed
+  pub value : InNameOrder old → found ≡ value_of old name
 
 -- no node of the list stands at the path or below, if they are in path order and behind the path
 abbrev pub IsPast : Path → List (Path × BaseNode) → Type 0

@@ -23,6 +23,7 @@
 //! of calls that it accepted (`TakesCall` of `specs/Taking.antt`, the `answers` of its `Editor`).
 #![tactic(auto)]
 
+mod ahead;
 mod applier;
 mod building;
 mod crawl;

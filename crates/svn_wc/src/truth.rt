@@ -1,5 +1,5 @@
 //! Whether a copy is true of a repository.
-ghost use Rattle.std.specs.Prelude.{◌≡◌, ◌-◌, ◌++◌, ◌∷◌, ◌&&◌, not, IsOk, IsSome, IfSome, OnOk, MatchResult, Some, None, nat_lt, length, if◌then◌else◌, List, bytes_eq};
+ghost use Rattle.std.specs.Prelude.{◌≡◌, ◌-◌, ◌++◌, ◌∷◌, ◌&&◌, not, IsOk, IsSome, IsTrue, IfSome, OnOk, MatchResult, MatchOption, Option, Some, None, is_some, nat_lt, if◌then◌else◌, ℕ, List, bytes_eq};
 ghost use Rattle.std.specs.Option.{option_copied, option_map};
 ghost use Rattle.svn_types.specs.Names.{Path};
 ghost use Rattle.svn_types.specs.Paths.{is_within};
@@ -9,14 +9,15 @@ ghost use Rattle.svn_model.specs.declared.base_node.BaseNode.{BaseNode};
 ghost use Rattle.svn_model.specs.Nodes.{WorkingCopy as CopyMap, get_in, InPathOrder, IsTrueOf};
 ghost use Rattle.svn_model.specs.Tree.{names_at};
 ghost use Rattle.svn_model.specs.Truth.{props_eq, is_untrue_file, is_untrue_dir, is_untrue, lacks_entry, first_untrue};
-ghost use Rattle.svn_wc.specs.Truths.{looked, entry_in, IsStep, has_child, TakesNext, HasWalked, IsRest};
+ghost use Rattle.svn_wc.specs.Truths.{looked, entries_at, entry_in, HasNoEntries, CountsMissing, IsStep, IsNameBelow, TakesNext, PassesTo, HasWalked, IsRest};
 
+use crate::ahead::Ahead;
 use crate::paths::is_child;
 use crate::working_copy::WorkingCopy;
-use std::collections::btree_map::Iter;
+use std::cmp::Ordering;
 use svn_edit_law::truth_is_tested;
 use svn_model::BaseNode;
-use svn_repo::{NodeId, Repo};
+use svn_repo::{Entries, NodeId, Repo};
 use svn_types::{Kind, Name, Props, RelPath, Rev, Text};
 
 // Whether properties are those of a node of the repository.
@@ -76,7 +77,7 @@ fn is_untrue_directory(
 
 // Whether a node is another than the repository has in its place, where a directory lacks so many of its entries.
 fn is_untrue(repo: &Repo, node: &BaseNode, id: &Option<NodeId>, missing: usize) -> bool
-    ensures { (w : CopyMap) (p : Path) → nat_lt 0 missing ≡ lacks_entry w p (names_at repo.now id.now) → id.now ≡ looked repo.now node.now → result ≡ is_untrue repo.now w p node.now }
+    ensures { (w : CopyMap) (p : Path) → CountsMissing w p node.now (names_at repo.now id.now) missing → id.now ≡ looked repo.now node.now → result ≡ is_untrue repo.now w p node.now }
 {
     // what stands in a revision is a node
     repo.law();
@@ -91,16 +92,13 @@ fn is_untrue(repo: &Repo, node: &BaseNode, id: &Option<NodeId>, missing: usize) 
     }
 }
 
-// How many entries a node of the repository has.
-fn entry_count(repo: &Repo, id: &Option<NodeId>) -> usize
-    ensures { result ≡ length (names_at repo.now id.now) }
+// The entries beside which the nodes below a directory are compared, where the repository has one in its place.
+fn listing_of<'a>(repo: &'a Repo, node: &BaseNode, id: &Option<NodeId>) -> Option<&'a Entries>
+    ensures { MatchOption result (HasNoEntries node.now (entries_at repo.now id.now)) (λ entries. entries.now ≡ entries_at repo.now id.now) }
 {
-    match id {
-        Some(id) => match repo.entries(*id) {
-            Some(entries) => entries.len(),
-            None => 0,
-        },
-        None => 0,
+    match (node, id) {
+        (BaseNode::Dir { .. }, Some(id)) => repo.entries(*id),
+        _ => None,
     }
 }
 
@@ -117,52 +115,54 @@ pub(crate) fn entry_under(repo: &Repo, id: &Option<NodeId>, name: &Name) -> Opti
     }
 }
 
-// The last name of a repository path, where the rest is the path of the directory above, in the same revision.
-fn step_from<'a>(above: &BaseNode, rev: Rev, repos_path: &'a RelPath) -> Option<&'a Name>
-    ensures { IfSome result (λ name. IsStep above.now rev repos_path.now name.now) }
+// What is known of a node below a directory before it is looked at: the directory's node, the node's name where it is one name below, and the
+// entry under that.
+#[derive(Drop)]
+struct Beside<'a> {
+    above: &'a BaseNode,
+    name: Option<&'a Name>,
+    entry: Option<NodeId>,
+}
+
+// Whether a repository path is that of the directory above with the name behind it, in the same revision.
+fn is_step(above: &BaseNode, name: &Name, rev: Rev, repos_path: &RelPath) -> bool
+    ensures { IsTrue result → IsStep above.now rev repos_path.now name.now }
 {
-    let name = repos_path.components().last()?;
     match above {
         BaseNode::Dir {
             rev: same,
             repos_path: front,
             ..
-        } => (*same == rev && is_child(front, name, repos_path)).then_some(name),
-        BaseNode::File { .. } | BaseNode::NotPresent => None,
+        } => *same == rev && is_child(front, name, repos_path),
+        BaseNode::File { .. } | BaseNode::NotPresent => false,
     }
 }
 
-// The node at a path of a revision: the entry of the node above, where the path is one name behind that one's.
-fn find(
-    repo: &Repo,
-    above: &BaseNode,
-    id: &Option<NodeId>,
-    rev: Rev,
-    repos_path: &RelPath,
-) -> Option<NodeId>
-    ensures { id.now ≡ looked repo.now above.now → result ≡ look repo.now rev repos_path.now }
+// The node at a path of a revision: the entry beside it, if the path is one name behind the directory's.
+fn find(repo: &Repo, beside: &Beside<'_>, rev: Rev, repos_path: &RelPath) -> Option<NodeId>
+    ensures { (id : Option ℕ) → id ≡ looked repo.now beside.now.above.now → IfSome beside.now.name (λ name. beside.now.entry ≡ entry_in repo.now id name.now) → result ≡ look repo.now rev repos_path.now }
 {
-    match step_from(above, rev, repos_path) {
-        Some(name) => entry_under(repo, id, name),
-        None => repo.lookup(rev, repos_path),
+    match beside.name {
+        Some(name) if is_step(beside.above, name, rev, repos_path) => beside.entry,
+        _ => repo.lookup(rev, repos_path),
     }
 }
 
-// What the repository has in the place of a node, found beside what it has in the place of the node above.
-fn find_below(repo: &Repo, above: &BaseNode, id: &Option<NodeId>, node: &BaseNode) -> Option<NodeId>
-    ensures { id.now ≡ looked repo.now above.now → result ≡ looked repo.now node.now }
+// What the repository has in the place of a node.
+fn find_below(repo: &Repo, beside: &Beside<'_>, node: &BaseNode) -> Option<NodeId>
+    ensures { (id : Option ℕ) → id ≡ looked repo.now beside.now.above.now → IfSome beside.now.name (λ name. beside.now.entry ≡ entry_in repo.now id name.now) → result ≡ looked repo.now node.now }
 {
     match node {
         BaseNode::File {
             rev,
             repos_path,
             ..
-        } => find(repo, above, id, *rev, repos_path),
+        } => find(repo, beside, *rev, repos_path),
         BaseNode::Dir {
             rev,
             repos_path,
             ..
-        } => find(repo, above, id, *rev, repos_path),
+        } => find(repo, beside, *rev, repos_path),
         BaseNode::NotPresent => None,
     }
 }
@@ -186,69 +186,107 @@ fn look_up(repo: &Repo, node: &BaseNode) -> Option<NodeId>
     }
 }
 
-// Whether a path is that of an entry below another.
-fn is_entry(repo: &Repo, id: &Option<NodeId>, path: &RelPath, below: &RelPath) -> bool
-    ensures { result ≡ has_child path.now below.now (names_at repo.now id.now) }
+// The last name of a path, if the rest is the other path.
+fn name_below<'a>(path: &RelPath, below: &'a RelPath) -> Option<&'a Name>
+    ensures { IsNameBelow path.now below.now (option_copied result) }
 {
-    match below.components().last() {
-        Some(name) => is_child(path, name, below) && entry_under(repo, id, name).is_some(),
-        None => false,
+    let name = below.components().last()?;
+    is_child(path, name, below).then_some(name)
+}
+
+// A node at a path or below, with its name where it is one name below.
+#[derive(Drop)]
+struct Below<'a> {
+    path: &'a RelPath,
+    node: &'a BaseNode,
+    name: Option<&'a Name>,
+}
+
+// The next node, if it stands at the path or below: it is taken.
+fn next_within<'a>(path: &RelPath, left: &mut Ahead<'a, RelPath, BaseNode>) -> Option<Below<'a>>
+    ensures taken { TakesNext path.now left.old (option_map (λ b. (b.path.now, b.node.now)) result) left.new }
+    ensures name { IfSome result (λ b. IsNameBelow path.now b.path.now (option_copied b.name)) }
+{
+    let (below, node) = left.first()?;
+    let name = name_below(path, below);
+    if name.is_none() && !below.is_within(path) {
+        return None;
+    }
+    left.advance();
+    Some(Below {
+        path: below,
+        node,
+        name,
+    })
+}
+
+// The node under a name, which is passed with the entries before it.
+fn pass_to(entries: &mut Ahead<'_, Name, NodeId>, name: &Name) -> Option<NodeId>
+    ensures { PassesTo name.now entries.old result entries.new }
+{
+    'entries: while let Some((next, id)) = entries.first() {
+        match next.cmp(name) {
+            Ordering::Less => entries.advance(),
+            Ordering::Equal => {
+                entries.advance();
+                return Some(*id);
+            }
+            Ordering::Greater => return None,
+        }
+    }
+    None
+}
+
+// The same where there is a name.
+fn take_entry(entries: &mut Ahead<'_, Name, NodeId>, name: Option<&Name>) -> Option<NodeId>
+    ensures { MatchOption name.entry ((result ≡ None) × (entries.new ≡ entries.old)) (λ name. PassesTo name.now entries.old result entries.new) }
+{
+    match name {
+        Some(name) => pass_to(entries, name),
+        None => None,
     }
 }
 
-// How many entries are missing, where so many were before what stands at a path below came.
-fn missing_without(
-    repo: &Repo,
-    id: &Option<NodeId>,
-    path: &RelPath,
-    below: &RelPath,
-    missing: usize,
-) -> usize
-    ensures { result ≡ missing - (if has_child path.now below.now (names_at repo.now id.now) then 1 else 0) }
+// How many entries are missing, where so many were before one was found or not.
+fn missing_without(entry: &Option<NodeId>, missing: usize) -> usize
+    ensures { result ≡ missing - (if is_some entry.now then 1 else 0) }
 {
-    if is_entry(repo, id, path, below) {
+    if entry.is_some() {
         missing.saturating_sub(1)
     } else {
         missing
     }
 }
 
-// The next node, if it stands at the path or below: it is taken.
-fn next_within<'a>(
-    path: &RelPath,
-    left: &mut Iter<'a, RelPath, BaseNode>,
-) -> Option<(&'a RelPath, &'a BaseNode)>
-    ensures { TakesNext path.now left.old (option_map (λ e. (e.0.now, e.1.now)) result) left.new }
-{
-    let Ok(mut ahead) = left.clone() else {
-        return None;
-    };
-    let (below, node) = ahead.next()?;
-    if !below.is_within(path) {
-        return None;
-    }
-    *left = ahead;
-    Some((below, node))
-}
-
-// The first untrue path among a node's, beside which stands what the repository has in its place, and those below, which are taken.
+// The first untrue path among a node's, beside which stands what the repository has in its place, and those below, which are taken. Beside the
+// nodes below a directory its entries are gone through.
 fn first_untrue_within<'a>(
     repo: &Repo,
     path: &'a RelPath,
     node: &'a BaseNode,
     id: &Option<NodeId>,
-    left: &mut Iter<'a, RelPath, BaseNode>,
+    left: &mut Ahead<'a, RelPath, BaseNode>,
 ) -> Option<&'a RelPath>
     ensures rest { IsRest left.old left.new }
     ensures walked { (nodes before : List (Path × BaseNode)) → InPathOrder nodes → nodes ≡ before ++ (path.now, node.now) ∷ left.old → id.now ≡ looked repo.now node.now → HasWalked repo.now nodes (path.now, node.now) left.old (option_copied result) left.new }
 {
     repo.law();
+    let Some(listing) = listing_of(repo, node, id) else {
+        return is_untrue(repo, node, id, 0).then_some(path);
+    };
+    let mut entries = Ahead::new(listing.iter());
+    let mut missing = listing.len();
     let mut first = None;
-    let mut missing = entry_count(repo, id);
-    'below: while let Some((below, child)) = next_within(path, left) {
-        missing = missing_without(repo, id, path, below, missing);
-        let there = find_below(repo, node, id, child);
-        let untrue = first_untrue_within(repo, below, child, &there, left);
+    'below: while let Some(below) = next_within(path, left) {
+        let entry = take_entry(&mut entries, below.name);
+        missing = missing_without(&entry, missing);
+        let beside = Beside {
+            above: node,
+            name: below.name,
+            entry,
+        };
+        let there = find_below(repo, &beside, below.node);
+        let untrue = first_untrue_within(repo, below.path, below.node, &there, left);
         first = first.or(untrue);
     }
     if is_untrue(repo, node, id, missing) {
@@ -268,9 +306,11 @@ impl WorkingCopy {
         ensures true_is_ok { IsTrueOf repo.now (get_in self.now) → IsOk result }
     {
         truth_is_tested();
-        let mut left = self.nodes.iter();
+        let nodes = self.nodes.iter();
+        let mut left = Ahead::new(nodes);
         let mut first = None;
-        'nodes: while let Some((path, node)) = left.next() {
+        'nodes: while let Some((path, node)) = left.first() {
+            left.advance();
             let id = look_up(repo, node);
             let untrue = first_untrue_within(repo, path, node, &id, &mut left);
             first = first.or(untrue);

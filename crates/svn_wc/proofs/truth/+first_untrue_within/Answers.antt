@@ -1,51 +1,82 @@
-use Rattle.std.proofs.Common.{◌≡◌, ◌-◌, ◌∷◌, [], List, ℕ, Option, Some, Bool, cond, refl, sym, ap, subst, ◌∙◌}
+use Rattle.std.proofs.Common.{◌≡◌, ◌-◌, ◌∷◌, [], List, ℕ, Option, Some, Bool, cond, length, refl, sym, ap, subst, ◌∙◌}
 use Rattle.std.specs.Option.{option_copied, option_or}
 use Rattle.svn_types.specs.Names.{Path}
 use Rattle.svn_model.specs.declared.base_node.BaseNode.{BaseNode}
 use Rattle.svn_model.specs.Nodes.{get_in}
 use Rattle.svn_model.specs.Tree.{names_at}
-use Rattle.svn_wc.specs.Truths.{looked, HasWalked, IsRest, has_child}
+use Rattle.svn_wc.specs.Truths.{looked, entries_at, HasWalked, IsRest}
+use Rattle.svn_wc.proofs.Merging.{EntriesBeside, beside_begins}
 use Rattle.svn_wc.proofs.Truly.{SoFar, walk_begins, front, front_is, walk_on, walk_ends, all_counted, rest_of_both, names_sorted}
-use Rattle.svn_wc.proofs.Truly.{option_or-copied}
+use Rattle.svn_wc.proofs.Truly.{option_or-copied, has_child, names_count, none_missing, missing_counted, entry_told, entry_counts, beside_next}
+use Rattle.svn_wc.proofs.Truly.{walks_alone, next_order, copied_if}
 use Rattle.svn_wc.proofs.truth.+first_untrue_within.Goals as goal
 
+pub returns-in_default-clause-walked : goal.returns-in_default-clause-walked
+returns-in_default-clause-walked t c = λ nodes before order whole found.
+    let h = c.args.repo.now in
+    let none = none_missing h c.args.node.now c.args.id.now c.in_default.ensures (get_in nodes) c.args.path.now in
+    walks_alone h nodes (c.args.path.now, c.args.node.now) c.args.left.now c.is_untrue.result
+    (c.is_untrue.ensures (get_in nodes) c.args.path.now none found) (option_copied c.then_some.result)
+    (ap option_copied c.then_some.ensures ∙ copied_if c.is_untrue.result c.args.path)
+
 pub below-init : goal.below-init
-below-init t c = (
-  ([], refl),
-  λ nodes before order whole found.
-      walk_begins c.args.repo.now nodes c.args.path.now c.args.left.now
-      (names_at c.args.repo.now c.args.id.now) c.entry_count-missing.result c.entry_count-missing.ensures,
-)
+below-init t c =
+    let h = c.args.repo.now in
+    let all : c.new-entries.result ≡ entries_at h c.args.id.now = c.new-entries.ensures ∙ c.iter.ensures.rest ∙ c.in-Some.ensures in (
+      ([], refl),
+      λ nodes before order whole found. (
+        walk_begins h nodes c.args.path.now c.args.left.now (names_at h c.args.id.now) c.len-missing.result
+            (c.len-missing.ensures ∙ ap length c.in-Some.ensures ∙ sym (names_count h c.args.id.now)),
+        subst (λ l. EntriesBeside c.args.path.now (entries_at h c.args.id.now) l c.args.left.now) (sym all)
+            (beside_begins c.args.path.now (entries_at h c.args.id.now) c.args.left.now),
+      ),
+    )
 
 pub below-preserved : goal.below-preserved
 below-preserved t c =
     let h = c.args.repo.now in
+    let id = c.args.id.now in
     let e : Path × BaseNode = (c.args.path.now, c.args.node.now) in
-    let d : Path × BaseNode = (c.in-Some.below.now, c.in-Some.child.now) in
+    let below = c.in-Some-next_within.below in
+    let d : Path × BaseNode = (below.path.now, below.node.now) in
     let old = c.args.left.now in
     let left = c.next_within.new.left in
     let left2 = c.first_untrue_within-untrue.new.left in
-    let step : c.below.left ≡ d ∷ left = c.in-Some.ensures.0 in
+    let entry = c.take_entry-entry.result in
+    let step : c.below.left ≡ d ∷ left = c.in-Some-next_within.ensures.taken.0 in
     let rest : IsRest old (d ∷ left) = subst (IsRest old) step c.below.invariant.0 in (
       rest_of_both old left left2 d rest c.first_untrue_within-untrue.ensures.rest,
       λ nodes before order whole found.
-          let names = names_at h c.args.id.now in
+          let names = names_at h id in
+          let so = c.below.invariant.1 nodes before order whole found in
           let s : SoFar h nodes e.0 old names (d ∷ left) (option_copied c.below.first) c.below.missing =
-          subst (λ (l : List (Path × BaseNode)). SoFar h nodes e.0 old names l (option_copied c.below.first) c.below.missing) step
-          (c.below.invariant.1 nodes before order whole found) in
-          let there : c.find_below-there.result ≡ looked h d.1 = c.find_below-there.ensures found in
+          subst (λ (l : List (Path × BaseNode)). SoFar h nodes e.0 old names l (option_copied c.below.first) c.below.missing) step so.0 in
+          let beside : EntriesBeside e.0 (entries_at h id) c.below.entries (d ∷ left) =
+          subst (EntriesBeside e.0 (entries_at h id) c.below.entries) step so.1 in
+          let sorted = names_sorted h c.law.ensures.history c.args.node.now id found in
+          let named = c.in-Some-next_within.ensures.name in
+          let took = c.take_entry-entry.ensures in
+          let there : c.find_below-there.result ≡ looked h d.1 =
+          c.find_below-there.ensures id found
+          (entry_told h id e.0 c.below.entries c.take_entry-entry.new.entries d left beside sorted entry below.name named took) in
+          let counts = entry_counts h id e.0 c.below.entries c.take_entry-entry.new.entries d left beside sorted entry below.name named took in
           let walked = c.first_untrue_within-untrue.ensures.walked nodes
           (front h nodes order before e old whole names d left (option_copied c.below.first) c.below.missing s) order
           (front_is h nodes order before e old whole names d left (option_copied c.below.first) c.below.missing s) there in
-          let on = walk_on h nodes order before e old whole names d left (option_copied c.below.first) c.below.missing s c.in-Some.ensures.1
-          walked.taken walked.below (names_sorted h c.law.ensures.history c.args.node.now c.args.id.now found) left2 walked.parts
-          (option_copied c.first_untrue_within-untrue.result) walked.first in
+          let on = walk_on h nodes order before e old whole names d left (option_copied c.below.first) c.below.missing s
+          c.in-Some-next_within.ensures.taken.1
+          walked.taken walked.below sorted left2 walked.parts (option_copied c.first_untrue_within-untrue.result) walked.first in
           let first : option_or (option_copied c.below.first) (option_copied c.first_untrue_within-untrue.result)
           ≡ option_copied c.or-first.result =
           sym (ap option_copied c.or-first.ensures ∙ option_or-copied c.below.first c.first_untrue_within-untrue.result) in
-          subst (λ (n : ℕ). SoFar h nodes e.0 old names left2 (option_copied c.or-first.result) n) (sym c.missing_without-missing.ensures)
-          (subst (λ (f : Option Path). SoFar h nodes e.0 old names left2 f (c.below.missing - cond (has_child e.0 d.0 names) 1 0)) first
-          on),
+          let missing : c.missing_without-missing.result ≡ c.below.missing - cond (has_child e.0 d.0 names) 1 0 =
+          c.missing_without-missing.ensures ∙ ap (λ (b : Bool). c.below.missing - cond b 1 0) counts in (
+            subst (λ (n : ℕ). SoFar h nodes e.0 old names left2 (option_copied c.or-first.result) n) (sym missing)
+                (subst (λ (f : Option Path). SoFar h nodes e.0 old names left2 f (c.below.missing - cond (has_child e.0 d.0 names) 1 0)) first on),
+            beside_next h id e.0 c.below.entries c.take_entry-entry.new.entries d left beside sorted entry
+                (next_order h nodes order before e old whole names d left (option_copied c.below.first) c.below.missing s)
+                walked.taken left2 walked.parts below.name named took,
+          ),
     )
 
 pub returns-then-is_untrue-clause-walked : goal.returns-then-is_untrue-clause-walked
@@ -54,13 +85,13 @@ returns-then-is_untrue-clause-walked t c = λ nodes before order whole found.
     let e : Path × BaseNode = (c.args.path.now, c.args.node.now) in
     let old = c.args.left.now in
     let names = names_at h c.args.id.now in
-    let s = c.below.invariant.1 nodes before order whole found in
-    let past = c.in_default.ensures in
+    let s = (c.below.invariant.1 nodes before order whole found).0 in
+    let past = c.in_default-next_within.ensures.taken in
     let counted = all_counted h nodes order before e old whole names c.below.left (option_copied c.below.first) c.below.missing s past.0 in
-    let test = c.is_untrue.ensures (get_in nodes) e.0 counted found in
+    let test = c.is_untrue-2.ensures (get_in nodes) e.0 (missing_counted (get_in nodes) e.0 e.1 names c.below.missing counted) found in
     subst (λ (l : List (Path × BaseNode)). HasWalked h nodes e old (Some c.args.path.now) l) (sym past.1)
     (walk_ends h nodes order before e old whole names c.below.left
-    (option_copied c.below.first) c.below.missing s past.0 c.is_untrue.result test (Some c.args.path.now)
+    (option_copied c.below.first) c.below.missing s past.0 c.is_untrue-2.result test (Some c.args.path.now)
     (sym (ap (λ (b : Bool). cond b (Some c.args.path.now) (option_copied c.below.first)) c.if-is_untrue.true)))
 
 pub returns-else-is_untrue-clause-walked : goal.returns-else-is_untrue-clause-walked
@@ -69,11 +100,11 @@ returns-else-is_untrue-clause-walked t c = λ nodes before order whole found.
     let e : Path × BaseNode = (c.args.path.now, c.args.node.now) in
     let old = c.args.left.now in
     let names = names_at h c.args.id.now in
-    let s = c.below.invariant.1 nodes before order whole found in
-    let past = c.in_default.ensures in
+    let s = (c.below.invariant.1 nodes before order whole found).0 in
+    let past = c.in_default-next_within.ensures.taken in
     let counted = all_counted h nodes order before e old whole names c.below.left (option_copied c.below.first) c.below.missing s past.0 in
-    let test = c.is_untrue.ensures (get_in nodes) e.0 counted found in
+    let test = c.is_untrue-2.ensures (get_in nodes) e.0 (missing_counted (get_in nodes) e.0 e.1 names c.below.missing counted) found in
     subst (λ (l : List (Path × BaseNode)). HasWalked h nodes e old (option_copied c.below.first) l) (sym past.1)
     (walk_ends h nodes order before e old whole names c.below.left
-    (option_copied c.below.first) c.below.missing s past.0 c.is_untrue.result test (option_copied c.below.first)
+    (option_copied c.below.first) c.below.missing s past.0 c.is_untrue-2.result test (option_copied c.below.first)
     (sym (ap (λ (b : Bool). cond b (Some c.args.path.now) (option_copied c.below.first)) c.if-is_untrue.false)))

@@ -12,23 +12,24 @@ nodes-preserved c =
     let h = c.args.repo.now in
     let nodes = c.args.self.now in
     let e : Path × BaseNode = (c.in-Some.path.now, c.in-Some.node.now) in
-    let step : c.nodes.left ≡ e ∷ c.next.new.self = c.in-Some.ensures.steps in
+    let step : c.nodes.left ≡ e ∷ c.advance.new.self =
+    c.in-Some.ensures ∙ ap (λ (l : List (Path × BaseNode)). e ∷ l) (sym c.advance.ensures) in
     let s = subst (λ (l : List (Path × BaseNode)). Checked h nodes l (option_copied c.nodes.first)) step c.nodes.invariant in
-    let order = subst InPathOrder c.self.view_is c.iter-left.ensures.ordered in
+    let order = subst InPathOrder c.self.view_is c.iter-nodes.ensures.ordered in
     let walked = c.first_untrue_within-untrue.ensures.walked nodes s.done order s.parts c.look_up-id.ensures in
     let first : option_or (option_copied c.nodes.first) (option_copied c.first_untrue_within-untrue.result)
     ≡ option_copied c.or-first.result =
     sym (ap option_copied c.or-first.ensures ∙ option_or-copied c.nodes.first c.first_untrue_within-untrue.result) in
     subst (λ (f : Option Path). Checked h nodes c.first_untrue_within-untrue.new.left f) first
-    (check_on h nodes e c.next.new.self (option_copied c.nodes.first) s c.first_untrue_within-untrue.new.left
+    (check_on h nodes e c.advance.new.self (option_copied c.nodes.first) s c.first_untrue_within-untrue.new.left
     (option_copied c.first_untrue_within-untrue.result) walked)
 
 pub returns-in-Some-first-clause-true_is_ok : goal.returns-in-Some-first-clause-true_is_ok
 returns-in-Some-first-clause-true_is_ok c = λ holds.
     let h = c.args.repo.now in
     let nodes = c.args.self.now in
-    let order = subst InPathOrder c.self.view_is c.iter-left.ensures.ordered in
-    let ended : c.nodes.left ≡ [] = c.in_default.ensures.steps.0 in
+    let order = subst InPathOrder c.self.view_is c.iter-nodes.ensures.ordered in
+    let ended : c.nodes.left ≡ [] = c.in_default.ensures in
     let first =
     check_ends h nodes (option_copied c.nodes.first)
     (subst (λ (l : List (Path × BaseNode)). Checked h nodes l (option_copied c.nodes.first)) ended c.nodes.invariant) in
@@ -39,8 +40,8 @@ pub returns-in-None-clause-is_true : goal.returns-in-None-clause-is_true
 returns-in-None-clause-is_true c =
     let h = c.args.repo.now in
     let nodes = c.args.self.now in
-    let order = subst InPathOrder c.self.view_is c.iter-left.ensures.ordered in
-    let ended : c.nodes.left ≡ [] = c.in_default.ensures.steps.0 in
+    let order = subst InPathOrder c.self.view_is c.iter-nodes.ensures.ordered in
+    let ended : c.nodes.left ≡ [] = c.in_default.ensures in
     let first =
     check_ends h nodes (option_copied c.nodes.first)
     (subst (λ (l : List (Path × BaseNode)). Checked h nodes l (option_copied c.nodes.first)) ended c.nodes.invariant) in

@@ -1,0 +1,50 @@
+//! The pairs of a map, one after the other, the next of them in sight.
+ghost use Rattle.std.specs.Prelude.{◌≡◌, ◌∷◌, [], List, MatchOption};
+ghost use Rattle.std.specs.Map.Iter.{deref_pair};
+ghost use Rattle.svn_wc.specs.Truths.{behind_first};
+
+use std::collections::btree_map::Iter;
+use std::marker::Model;
+
+/// What is left of the pairs of a map, in their order. A contract sees it as these pairs.
+#[derive(Drop)]
+pub(crate) struct Ahead<'a, K, V> {
+    next: Option<(&'a K, &'a V)>,
+    // behind that one
+    left: Iter<'a, K, V>,
+}
+
+impl<'a, K, V> Model for Ahead<'a, K, V> {
+    ghost use Rattle.std.specs.Prelude.{◌≡◌, List, [], None, option_map};
+    ghost use Rattle.std.specs.List.{cons_option};
+    ghost use Rattle.std.specs.Map.Iter.{deref_pair};
+
+    ghost Value = { List (K × V) };
+
+    ghost view = { λ a. cons_option (option_map deref_pair a.next) a.left };
+
+    ghost invariant = { λ a. a.next ≡ None → a.left ≡ [] };
+}
+
+impl<'a, K, V> Ahead<'a, K, V> {
+    pub(crate) fn new(mut left: Iter<'a, K, V>) -> Ahead<'a, K, V>
+        ensures { result ≡ left.entry }
+    {
+        let next = left.next();
+        Ahead { next, left }
+    }
+
+    /// The next pair.
+    pub(crate) fn first(&self) -> Option<(&'a K, &'a V)>
+        ensures { MatchOption result (self.now ≡ []) (λ e. self.now ≡ deref_pair e ∷ behind_first self.now) }
+    {
+        self.next
+    }
+
+    /// Passes the next pair.
+    pub(crate) fn advance(&mut self)
+        ensures { self.new ≡ behind_first self.old }
+    {
+        self.next = self.left.next();
+    }
+}
