@@ -80,12 +80,7 @@ impl fmt::Debug for Outbox {
 }
 
 // Sends a call by the one pass that may, if there is room at one of a few looks.
-fn push_soon<R: Wait>(
-    rt: &R,
-    sender: &Sender,
-    pass: &mut Pass,
-    mut call: Call,
-) -> Result<(), Call>
+fn push_soon<R: Wait>(rt: &R, sender: &Sender, pass: &mut Pass, mut call: Call) -> Result<(), Call>
     requires seat { IsSeatAt (sends_on sender.now) pass.old }
     requires sends { hand_of pass.old ≡ hand true false (hand_of pass.old).sent [] }
     requires room { length (hand_of pass.old).sent < u64.MAX }
