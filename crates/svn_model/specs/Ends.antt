@@ -66,7 +66,8 @@ abbrev pub IsEarly : Option DriveFault → Result DriveEnd DriveFault → Type 0
 IsEarly fault (Ok x) = ⊥
 IsEarly fault (Err e) = fault ≡ Some e
 
--- No call for a fault of the target, or all of them, or so many but not all up to a stop and then AbortEdit, whatever the editor answers to it.
+-- No call, for a fault of the target; or all of them; or so many but not all up to a stop and then AbortEdit, whatever the editor
+-- answers to it.
 abbrev pub Drives : {E : Type 0} → (E → Call → Result (Unit {0}) EditFault → E → Type 0) → Option ℕ → Option DriveFault → List Call
     → Result DriveEnd DriveFault → E → E → Type 0
 Drives {E} answers limit fault calls result e f =

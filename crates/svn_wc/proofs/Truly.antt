@@ -27,7 +27,8 @@ use Rattle.svn_model.specs.Nodes.{WorkingCopy, get_in, InPathOrder}
 use Rattle.svn_model.specs.Tree.{names_at}
 use Rattle.svn_model.specs.Truth.{Properties, prop_eq, props_eq, is_untrue, lacks_entry, first_untrue_in, first_untrue}
 use Rattle.svn_model.proofs.Children.{entry_below, look-child}
-use Rattle.svn_wc.specs.Truths.{looked, entries_at, entry_in, HasNoEntries, CountsMissing, IsStep, IsNameBelow, PassesTo, IsRest, all_below, IsPast, HasWalked}
+use Rattle.svn_wc.specs.Truths.{looked, entries_at, entry_in, HasNoEntries, CountsMissing, IsStep, IsNameBelow, PassesTo, IsRest}
+use Rattle.svn_wc.specs.Truths.{all_below, IsPast, HasWalked}
 use Rattle.svn_wc.proofs.Placing.{entry_is_below}
 use Rattle.svn_wc.proofs.Merging.{EntriesBeside, entry_beside, beside_other, beside_on, entry_in_all, none_before_itself}
 use Rattle.svn_edit_law.proofs.Lookups.{at_path, get_in-append}
