@@ -49,6 +49,3 @@ pub use settled::{Settled, settle};
 pub use svn_types::MAX_CAPACITY;
 pub use teller::Teller;
 pub use watcher::Watcher;
-
-#[cfg(test)]
-mod tests;

@@ -44,6 +44,3 @@ pub use props::Props;
 pub use rel_path::RelPath;
 pub use rev::Rev;
 pub use text::Text;
-
-#[cfg(test)]
-mod tests;
