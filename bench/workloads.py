@@ -73,6 +73,7 @@ def deep(files=2_000, depth=60):
     yield "commit", None, 1, [*(f"mkdir {path}" for path in chain), *puts, "commit"]
     yield "commit again", "commit", 1, [f"put {chain[-1]}/f7 b", "commit"]
     yield from compared(20)
+    yield from beside_updates(chain[1])
 
 
 def directories(count=20_000):
