@@ -9,7 +9,10 @@ use Rattle.std.specs.declared.cmp.Ordering.{Ordering}
 use Rattle.std.specs.declared.cmp.Ordering.TheVariants.{Less, Equal, Greater}
 use Rattle.std.specs.Ordering.{is_lt, ordering_then}
 use Rattle.std.specs.Map.{keys_of}
+use Rattle.std.specs.BTreeMap.{is_at}
 use Rattle.std.specs.Cmp.Lexicographic.{nat_list_cmp_total}
+use Rattle.std.proofs.lemmas.Map.{lookup-none}
+use Rattle.std.proofs.lemmas.Map.Entries.{none_below_head}
 use Rattle.std.proofs.lemmas.Map.Keys.{sorted_tail}
 use Rattle.svn_types.specs.Names.{Path, name_cmp, path_cmp}
 use Rattle.svn_types.specs.Paths.{child}
@@ -19,11 +22,16 @@ use Rattle.svn_repo.specs.History.{History}
 use Rattle.svn_types.proofs.PathsInOrder.{paths_total, not_before_itself}
 use Rattle.svn_model.specs.declared.base_node.BaseNode.{BaseNode}
 use Rattle.svn_model.specs.Nodes.{get_in, InPathOrder}
-use Rattle.svn_edit.proofs.NodeOrder.{at_first, before_behind, none_before, some_behind}
+use Rattle.svn_edit.proofs.NodeOrder.{at_first, before_behind, some_behind}
 use Rattle.svn_edit_law.proofs.Lookups.{get_in-append}
 use Rattle.svn_wc.specs.Truths.{AreUpTo, PassesTo, entries_at, entry_in}
 
 -- ---- names in their order
+
+-- a name before the first entry has none
+none_before : {V : Type 0} (e : Name × V) (es : List (Name × V)) → InNameOrder (e ∷ es) → (x : Name) → name_cmp x e.0 ≡ Less
+    → value_of (e ∷ es) x ≡ None
+none_before e es order x before = lookup-none (is_at (name_cmp x)) (e ∷ es) (none_below_head nat_list_cmp_total x e es order before)
 
 -- no name comes before itself
 pub none_before_itself : (x : Name) → name_cmp x x ≡ Less → ⊥
