@@ -1,4 +1,4 @@
--- What names, texts and keys hold, wherever their bytes lie.
+-- What names, texts, keys and the lists of names hold, wherever they lie.
 use Rattle.std.specs.Prelude.{ℕ, List}
 use Rattle.std.specs.Arc.{arc_value, arc_str_bytes}
 use Rattle.svn_types.specs.declared.small_text.NameForm.{NameForm}
@@ -7,6 +7,8 @@ use Rattle.svn_types.specs.declared.text.TextForm.{TextForm}
 use Rattle.svn_types.specs.declared.text.TextForm.TheVariants as text
 use Rattle.svn_types.specs.declared.path_key.KeyForm.{KeyForm}
 use Rattle.svn_types.specs.declared.path_key.KeyForm.TheVariants as key
+use Rattle.svn_types.specs.declared.path_names.NamesForm.{NamesForm}
+use Rattle.svn_types.specs.declared.path_names.NamesForm.TheVariants as names
 
 abbrev pub name_bytes : NameForm → List ℕ
 name_bytes (name.Short s) = s
@@ -20,3 +22,8 @@ text_bytes (text.Shared a) = (arc_value a).items
 abbrev pub key_bytes : KeyForm → List ℕ
 key_bytes (key.Short s) = s
 key_bytes (key.Long v) = v.items
+
+abbrev pub names_in : NamesForm → List (List ℕ)
+names_in (names.One a) = a
+names_in (names.Two a) = a
+names_in (names.Many v) = v.items

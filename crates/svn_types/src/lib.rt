@@ -26,6 +26,7 @@ mod limits;
 mod lineage;
 mod name;
 mod path_key;
+mod path_names;
 mod prop_name;
 mod props;
 mod rel_path;

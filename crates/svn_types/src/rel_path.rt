@@ -1,5 +1,5 @@
 //! Paths, as lists of names.
-ghost use Rattle.std.specs.Prelude.{◌≡◌, ℕ, ◌+◌, ◌<◌, ◌≤◌, ◌∷◌, ◌++◌, [], length, refl, nat_eq, true, IfOk, Some, None, count_by, ◌↔◌, IsTrue, List, MatchOption};
+ghost use Rattle.std.specs.Prelude.{◌≡◌, ℕ, ◌+◌, ◌<◌, ◌≤◌, ◌∷◌, ◌++◌, [], length, refl, nat_eq, true, IfOk, Some, None, ◌↔◌, IsTrue, List, MatchOption, MatchResult};
 ghost use Rattle.std.specs.Arc.{arc_value};
 ghost use Rattle.std.specs.List.{slice_split};
 ghost use Rattle.std.specs.Ordering.{nat_cmp};
@@ -16,6 +16,7 @@ use crate::fault::PathFault;
 use crate::limits::MAX_COMPONENTS;
 use crate::name::{Name, fault_of_name};
 use crate::path_key::PathKey;
+use crate::path_names::PathNames;
 use std::alloc::{AllocError, Global};
 use std::cmp::Ordering;
 use std::fmt;
@@ -26,7 +27,7 @@ use std::sync::Arc;
 // What the clones of a path share: its names, and beside them its key, by which paths are compared, however deep they are.
 #[derive(Drop)]
 struct PathParts {
-    names: Vec<Name>,
+    names: PathNames,
     key: PathKey,
 }
 
@@ -36,16 +37,16 @@ impl Model for PathParts {
 
     ghost Value = { List (List ℕ) };
 
-    ghost view = { λ p. p.names.items };
+    ghost view = { λ p. p.names };
 
-    ghost invariant = { λ p. (is_plain_path p.names.items ≡ true) × (p.key ≡ path_key p.names.items) };
+    ghost invariant = { λ p. (is_plain_path p.names ≡ true) × (p.key ≡ path_key p.names) };
 }
 
 impl PathParts {
     fn names(&self) -> &[Name]
         ensures { result.now ≡ self.now }
     {
-        &self.names
+        self.names.as_slice()
     }
 
     fn key(&self) -> &[u8]
@@ -82,36 +83,30 @@ fn split_name(text: &str) -> Option<(&str, &str)>
     text.split_once('/')
 }
 
-fn fault_of_names(text: &str) -> Option<PathFault>
-    ensures { result ≡ names_fault (slice_split is_slash text.now) }
+// How many names a text spells, or the fault of the first faulty one.
+fn count_names(text: &str) -> Result<usize, PathFault>
+    ensures { MatchResult result (λ n. (names_fault (slice_split is_slash text.now) ≡ None) × (n ≡ length (slice_split is_slash text.now))) (λ e. names_fault (slice_split is_slash text.now) ≡ Some e) }
 {
     let mut rest = text;
+    let mut count = 1usize;
     'names: while let Some((first, after)) = split_name(rest) {
         if let Some(fault) = fault_of_name(first) {
-            return Some(fault);
+            return Err(fault);
         }
         rest = after;
+        count += 1;
     }
-    fault_of_name(rest)
+    match fault_of_name(rest) {
+        Some(fault) => Err(fault),
+        None => Ok(count),
+    }
 }
 
-fn slash_count(text: &str) -> usize
-    ensures { result ≡ count_by is_slash text.now }
-{
-    text.as_bytes().iter().filter(|byte| **byte == b'/').count()
-}
-
-fn name_count(text: &str) -> usize
-    ensures { result ≡ length (slice_split is_slash text.now) }
-{
-    slash_count(text) + 1
-}
-
-fn names_of(alloc: Global, text: &str) -> Result<Vec<Name>, AllocError>
+fn many_names(alloc: Global, text: &str, count: usize) -> Result<Vec<Name>, AllocError>
     requires { names_fault (slice_split is_slash text.now) ≡ None }
     ensures { IfOk result (λ v. v.items ≡ slice_split is_slash text.now) }
 {
-    let mut names = Vec::with_capacity(alloc, name_count(text))?;
+    let mut names = Vec::with_capacity(alloc, count)?;
     let mut rest = text;
     'names: while let Some((first, after)) = split_name(rest) {
         names.push(Name::from_checked(alloc, first)?)?;
@@ -121,37 +116,48 @@ fn names_of(alloc: Global, text: &str) -> Result<Vec<Name>, AllocError>
     Ok(names)
 }
 
-// What the clones of the path of these names share. Its key has room in that many bytes.
-fn shared_parts(alloc: Global, names: Vec<Name>, len: usize) -> Result<Arc<PathParts>, AllocError>
-    ensures { IfOk result (λ p. arc_value p ≡ names.items) }
+// The names of a text, which are that many.
+fn names_of(alloc: Global, text: &str, count: usize) -> Result<PathNames, AllocError>
+    requires checked { names_fault (slice_split is_slash text.now) ≡ None }
+    requires counted { count ≡ length (slice_split is_slash text.now) }
+    ensures { IfOk result (λ n. n ≡ slice_split is_slash text.now) }
 {
-    let key = PathKey::of(alloc, &names, len)?;
+    if count > 2 {
+        return Ok(PathNames::from_vec(many_names(alloc, text, count)?));
+    }
+    match split_name(text) {
+        Some((first, second)) => {
+            let first = Name::from_checked(alloc, first)?;
+            let second = Name::from_checked(alloc, second)?;
+            Ok(PathNames::two(first, second))
+        }
+        None => Ok(PathNames::one(Name::from_checked(alloc, text)?)),
+    }
+}
+
+// What the clones of the path of these names share. Its key has room in that many bytes.
+fn shared_parts(alloc: Global, names: PathNames, len: usize) -> Result<Arc<PathParts>, AllocError>
+    ensures { IfOk result (λ p. arc_value p ≡ names) }
+{
+    let key = PathKey::of(alloc, names.as_slice(), len)?;
     Ok(Arc::new(alloc, PathParts { names, key })?)
 }
 
-fn parts_of(alloc: Global, text: &str) -> Result<Arc<PathParts>, AllocError>
-    requires { names_fault (slice_split is_slash text.now) ≡ None }
+// What the clones of a text's path share, which has that many names.
+fn parts_of(alloc: Global, text: &str, count: usize) -> Result<Arc<PathParts>, AllocError>
+    requires checked { names_fault (slice_split is_slash text.now) ≡ None }
+    requires counted { count ≡ length (slice_split is_slash text.now) }
     ensures { IfOk result (λ p. arc_value p ≡ slice_split is_slash text.now) }
 {
-    shared_parts(alloc, names_of(alloc, text)?, text.len().saturating_add(1))
-}
-
-// The names with one more.
-fn with_last(alloc: Global, names: &[Name], last: &Name) -> Result<Vec<Name>, AllocError>
-    requires { length names.now < depth_limit }
-    ensures { IfOk result (λ v. v.items ≡ names.now ++ last.now ∷ []) }
-{
-    let mut all = Vec::with_capacity(alloc, names.len() + 1)?;
-    all.extend_with_clones(names)?;
-    all.push(last.clone()?)?;
-    Ok(all)
+    let names = names_of(alloc, text, count)?;
+    shared_parts(alloc, names, text.len().saturating_add(1))
 }
 
 fn joined(alloc: Global, path: &RelPath, last: &Name) -> Result<Arc<PathParts>, AllocError>
     requires { length path.now < depth_limit }
     ensures { IfOk result (λ p. arc_value p ≡ path.now ++ last.now ∷ []) }
 {
-    let names = with_last(alloc, path.components(), last)?;
+    let names = PathNames::with_last(alloc, path.components(), last)?;
     let key = PathKey::with_last(alloc, path.key(), last.as_str().as_bytes())?;
     Ok(Arc::new(alloc, PathParts { names, key })?)
 }
@@ -192,14 +198,15 @@ impl RelPath {
         if text.len() == 0 {
             return Ok(RelPath::root(alloc));
         }
-        if let Some(fault) = fault_of_names(text) {
-            return Err(fault);
-        }
-        if name_count(text) > MAX_COMPONENTS {
+        let count = match count_names(text) {
+            Ok(count) => count,
+            Err(fault) => return Err(fault),
+        };
+        if count > MAX_COMPONENTS {
             return Err(PathFault::TooManyComponents);
         }
         Ok(RelPath {
-            parts: Some(parts_of(alloc, text)?),
+            parts: Some(parts_of(alloc, text, count)?),
         })
     }
 
@@ -216,7 +223,7 @@ impl RelPath {
             return Ok(RelPath::root(alloc));
         }
         Ok(RelPath {
-            parts: Some(shared_parts(alloc, names, len)?),
+            parts: Some(shared_parts(alloc, PathNames::from_vec(names), len)?),
         })
     }
 

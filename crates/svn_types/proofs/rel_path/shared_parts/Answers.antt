@@ -4,6 +4,6 @@ use Rattle.svn_types.proofs.rel_path.shared_parts.Goals as goal
 
 pub invariant_of-new : goal.invariant_of-new
 invariant_of-new c = (
-  sym (ap is_plain_path c.deref.ensures.value) ∙ c.in_ok-key.ensures.plain,
-  c.in_ok-key.ensures.key ∙ ap path_key c.deref.ensures.value,
+  sym (ap is_plain_path c.as_slice.ensures) ∙ c.in_ok-key.ensures.plain,
+  c.in_ok-key.ensures.key ∙ ap path_key c.as_slice.ensures,
 )

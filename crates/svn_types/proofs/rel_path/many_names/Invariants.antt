@@ -4,7 +4,7 @@ use denote.Shadow.{shadow}
 use Rattle.std.specs.List.{slice_split}
 use Rattle.svn_types.specs.Names.{is_slash}
 use Rattle.svn_types.specs.NameFaults.{names_fault}
-use Rattle.svn_types.proofs.rel_path.names_of.Given as goal
+use Rattle.svn_types.proofs.rel_path.many_names.Given as goal
 
 -- the names so far and those of what is left are those of the text
 abbrev pub invariant-names : goal.invariant-names
