@@ -1,25 +1,24 @@
 // What a copy has, in lines.
-use std::alloc::Global;
+use crate::runs::Request;
+use std::alloc::{AllocError, Global};
+use std::process::Abort;
 use std::test::Fail;
 use svn_editor::{PathWord, Word};
 use svn_model::BaseNode;
 use svn_types::{Props, RelPath};
 use svn_wc::WorkingCopy;
 
-fn node_line(alloc: Global, path: &RelPath, node: &BaseNode) -> Result<String, Fail> {
-    let path = PathWord(path);
-    Ok(match node {
+fn write_line(lines: &mut String, at: &RelPath, node: &BaseNode) -> Result<(), AllocError> {
+    let path = PathWord(at);
+    match node {
         BaseNode::File {
             rev,
             repos_path,
             text,
             ..
         } => {
-            format!(in alloc;
-                "{path} file {rev} {} {}\n",
-                PathWord(repos_path),
-                Word(text.as_slice())
-            )?
+            let (from, text) = (PathWord(repos_path), Word(text.as_slice()));
+            writeln!(lines, "{path} file {rev} {from} {text}")
         }
         BaseNode::Dir {
             rev,
@@ -28,10 +27,10 @@ fn node_line(alloc: Global, path: &RelPath, node: &BaseNode) -> Result<String, F
             ..
         } => {
             let end = if *complete { "" } else { " incomplete" };
-            format!(in alloc; "{path} dir {rev} {}{end}\n", PathWord(repos_path))?
+            writeln!(lines, "{path} dir {rev} {}{end}", PathWord(repos_path))
         }
-        BaseNode::NotPresent => format!(in alloc; "{path} not-present\n")?,
-    })
+        BaseNode::NotPresent => writeln!(lines, "{path} not-present"),
+    }
 }
 
 fn props_of(node: &BaseNode) -> Option<&Props> {
@@ -41,19 +40,40 @@ fn props_of(node: &BaseNode) -> Option<&Props> {
     }
 }
 
+fn write_props(lines: &mut String, at: &RelPath, props: &Props) -> Result<(), AllocError> {
+    for (name, value) in props.as_map() {
+        let (path, value) = (PathWord(at), Word(value.as_slice()));
+        writeln!(lines, "{path} prop {name} {value}")?;
+    }
+    Ok(())
+}
+
+fn write_node(lines: &mut String, at: &RelPath, node: &BaseNode) -> Result<(), AllocError> {
+    write_line(lines, at, node)?;
+    match props_of(node) {
+        Some(props) => write_props(lines, at, props),
+        None => Ok(()),
+    }
+}
+
 // A line for each node and for each of its properties.
-pub(crate) fn shown(alloc: Global, copy: &WorkingCopy) -> Result<String, Fail> {
+fn shown(alloc: Global, copy: &WorkingCopy) -> Result<String, AllocError> {
     let mut lines = String::new(alloc);
     for (path, node) in copy.nodes() {
-        lines.push_str(&node_line(alloc, path, node)?)?;
-        let Some(props) = props_of(node) else {
-            continue;
-        };
-        for (name, value) in props.as_map() {
-            let path = PathWord(path);
-            let value = Word(value.as_slice());
-            lines.push_str(&format!(in alloc; "{path} prop {name} {value}\n")?)?;
-        }
+        write_node(&mut lines, path, node)?;
     }
     Ok(lines)
+}
+
+// Whether a copy has what these lines say, after what was asked for.
+pub(crate) fn has(
+    rt: &impl Abort,
+    alloc: Global,
+    copy: &WorkingCopy,
+    lines: &str,
+    request: &Request,
+) -> Result<(), Fail> {
+    let found = shown(alloc, copy)?;
+    assert_eq!(rt; found.as_str(), lines, "{request:?}");
+    Ok(())
 }

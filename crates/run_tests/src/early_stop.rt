@@ -2,9 +2,10 @@
 use crate::histories::path_at;
 use crate::threads::{IN_PLACE, comes};
 use std::alloc::Global;
-use std::process::Abort;
+use std::sync::Wait;
 use std::sync::atomic::{AtomicU64, Ordering};
 use std::test::Fail;
+use std::thread::Threads;
 use svn_repo::{Change, Repo};
 use svn_run::{Cause, Gate, Outcome, RunFault, update};
 use svn_types::{Rev, Text};
@@ -31,53 +32,76 @@ impl Gate for InStep {
     }
 }
 
+fn put_file(alloc: Global, changes: &mut Vec<Change>, file: u64, text: &str) -> Result<(), Fail> {
+    let name = format!(in alloc; "f{file:02}")?;
+    changes.push(Change::PutFile {
+        path: path_at(alloc, &name)?,
+        text: Text::new(text.as_bytes().to_vec(alloc)?),
+    })?;
+    Ok(())
+}
+
 // Gives each file this text, in one commit.
 fn put_all(alloc: Global, repo: &mut Repo, text: &str) -> Result<(), Fail> {
     let mut changes = Vec::new(alloc);
-    for i in 0..FILES {
-        let name = format!(in alloc; "f{i:02}")?;
-        changes.push(Change::PutFile {
-            path: path_at(alloc, &name)?,
-            text: Text::new(text.as_bytes().to_vec(alloc)?),
-        })?;
+    for file in 0..FILES {
+        put_file(alloc, &mut changes, file, text)?;
     }
     repo.commit(&changes)?;
     Ok(())
 }
 
-// Where no memory is refused the update closes. Where a call is refused, the driver was at most two calls behind it, and the number that
-// stopped it is that call's.
-#[test]
-fn a_refused_call_stops_the_driver(rt: HostRuntime) -> Result<(), Fail> {
-    let alloc = rt.alloc();
+// Two revisions, in which all files differ.
+fn put_twice(alloc: Global) -> Result<Repo, Fail> {
     let mut repo = Repo::new(alloc)?;
     put_all(alloc, &mut repo, "a")?;
     put_all(alloc, &mut repo, "abc")?;
-    let mut copy = WorkingCopy::checkout(alloc, &repo, Rev(1))?;
+    Ok(repo)
+}
+
+// Where no memory is refused the update closes. Where a call is refused, the driver was at most two calls behind it, and the number that
+// stopped it is that call's.
+fn is_expected(outcome: Outcome) -> bool {
+    match outcome {
+        Outcome::Closed { calls } => calls == CALLS,
+        Outcome::Aborted {
+            made,
+            accepted,
+            late,
+            cause,
+        } => {
+            let stops = accepted < made && made < CALLS;
+            let number = if stops { accepted.checked_add(1) } else { None };
+            cause == Cause::Memory && made <= accepted.saturating_add(3) && late == number
+        }
+    }
+}
+
+// How the update ends, and whether its copy is true then.
+fn run_in_step<R: Threads + Wait + Sync>(
+    rt: &R,
+    alloc: Global,
+    repo: &Repo,
+) -> Result<(Result<Outcome, RunFault>, bool), Fail> {
+    let mut copy = WorkingCopy::checkout(alloc, repo, Rev(1))?;
     let gate = InStep {
         taken: AtomicU64::new(0),
     };
-    match update(&rt, alloc, &repo, &mut copy, Rev(2), IN_PLACE, &gate) {
-        Ok((Outcome::Closed { calls }, _)) => assert_eq!(rt; calls, CALLS),
-        Ok(
-            (
-                outcome @ Outcome::Aborted {
-                    made,
-                    accepted,
-                    late,
-                    cause,
-                },
-                _,
-            ),
-        ) => {
-            assert_eq!(rt; cause, Cause::Memory);
-            assert!(rt; made <= accepted.saturating_add(3), "{outcome:?}");
-            let stops = accepted < made && made < CALLS;
-            let number = if stops { accepted.checked_add(1) } else { None };
-            assert_eq!(rt; late, number);
-        }
+    let answer = match update(rt, alloc, repo, &mut copy, Rev(2), IN_PLACE, &gate) {
+        Ok((outcome, _)) => Ok(outcome),
+        Err(fault) => Err(fault),
+    };
+    Ok((answer, copy.check_true(repo).is_ok()))
+}
+
+#[test]
+fn a_refused_call_stops_the_driver(rt: HostRuntime) -> Result<(), Fail> {
+    let repo = put_twice(rt.alloc())?;
+    let (answer, is_true) = run_in_step(&rt, rt.alloc(), &repo)?;
+    assert!(rt; is_true);
+    match answer {
+        Ok(outcome) => assert!(rt; is_expected(outcome), "{outcome:?}"),
         Err(fault) => assert_eq!(rt; fault, RunFault::Memory),
     }
-    assert!(rt; copy.check_true(&repo).is_ok());
     Ok(())
 }

@@ -1,11 +1,14 @@
 // Runs that do not begin.
-use crate::copies::shown;
+use crate::copies::has;
 use crate::histories::{Build, Step, copy_of, repository};
-use crate::rows::{BRANCH, CHANGED_FILE, ONE_FILE};
+use crate::rows::{BRANCH, CHANGED_FILE};
 use crate::runs::Form::{InThreads, InTurn};
-use crate::runs::{Request, run};
+use crate::runs::{Form, Request, answers};
+use std::alloc::Global;
 use std::process::Abort;
+use std::sync::Wait;
 use std::test::Fail;
+use std::thread::Threads;
 use svn_run::RunFault;
 
 struct Refusal {
@@ -14,15 +17,22 @@ struct Refusal {
     to: Option<&'static str>,
     target: u64,
     fault: RunFault,
+    // what the copy had before, and has still
+    left: &'static str,
 }
 
-const REFUSALS: [Refusal; 6] = [
+const FILE_AT_1: &str = ". dir 1 .\nf file 1 f a\n";
+
+const TREE_AT_1: &str = ". dir 1 t\nd dir 1 t/d\nd/x file 1 t/d/x a\nf file 1 t/f a\n";
+
+static REFUSALS: [Refusal; 6] = [
     Refusal {
         history: &CHANGED_FILE,
         root: "",
         to: None,
         target: 3,
         fault: RunFault::NoSuchRevision,
+        left: FILE_AT_1,
     },
     Refusal {
         history: &BRANCH,
@@ -30,6 +40,7 @@ const REFUSALS: [Refusal; 6] = [
         to: Some("b"),
         target: 1,
         fault: RunFault::NoRoot,
+        left: TREE_AT_1,
     },
     Refusal {
         history: &BRANCH,
@@ -37,6 +48,7 @@ const REFUSALS: [Refusal; 6] = [
         to: Some(""),
         target: 3,
         fault: RunFault::OtherRoot,
+        left: TREE_AT_1,
     },
     Refusal {
         history: &BRANCH,
@@ -44,6 +56,7 @@ const REFUSALS: [Refusal; 6] = [
         to: Some("t/f"),
         target: 3,
         fault: RunFault::OtherRoot,
+        left: TREE_AT_1,
     },
     Refusal {
         history: &BRANCH,
@@ -51,6 +64,7 @@ const REFUSALS: [Refusal; 6] = [
         to: Some("b"),
         target: 9,
         fault: RunFault::NoSuchRevision,
+        left: TREE_AT_1,
     },
     Refusal {
         history: &BRANCH,
@@ -58,70 +72,81 @@ const REFUSALS: [Refusal; 6] = [
         to: None,
         target: 4,
         fault: RunFault::NoRoot,
+        left: TREE_AT_1,
     },
 ];
+
+fn is_refused<R: Threads + Wait + Sync + Abort>(
+    rt: &R,
+    alloc: Global,
+    refusal: &Refusal,
+    form: Form,
+) -> Result<(), Fail> {
+    let repo = repository(alloc, refusal.history)?;
+    let mut copy = copy_of(alloc, &repo, &[Build::Checkout(refusal.root, 1)])?;
+    let request = Request {
+        of: "a refused run",
+        to: refusal.to,
+        target: refusal.target,
+        cancel_after: None,
+        late_texts: false,
+        form,
+    };
+    answers(rt, alloc, &repo, &mut copy, &request, Err(refusal.fault))?;
+    has(rt, alloc, &copy, refusal.left, &request)
+}
 
 // The capacity is looked at last.
 #[test]
 fn runs_that_lead_nowhere_are_refused(rt: HostRuntime) -> Result<(), Fail> {
-    let alloc = rt.alloc();
     for refusal in &REFUSALS {
-        let repo = repository(alloc, refusal.history)?;
-        let mut copy = copy_of(alloc, &repo, &[Build::Checkout(refusal.root, 1)])?;
-        let before = shown(alloc, &copy)?;
         for form in [InTurn, InThreads(1), InThreads(0)] {
-            let request = Request {
-                to: refusal.to,
-                target: refusal.target,
-                cancel_after: None,
-                late_texts: false,
-                form,
-            };
-            let answer = run(&rt, alloc, &repo, &mut copy, request)?;
-            assert_eq!(rt; answer, Err(refusal.fault), "{form:?}");
-            assert_eq!(rt; shown(alloc, &copy)?.as_str(), before.as_str(), "{form:?}");
+            is_refused(&rt, rt.alloc(), refusal, form)?;
         }
     }
     Ok(())
 }
 
+// An update of one file, which nothing else stops.
+const UNBOUNDED: Refusal = Refusal {
+    history: &CHANGED_FILE,
+    root: "",
+    to: None,
+    target: 2,
+    fault: RunFault::Capacity,
+    left: FILE_AT_1,
+};
+
 #[test]
 fn capacities_are_bounded(rt: HostRuntime) -> Result<(), Fail> {
-    let alloc = rt.alloc();
-    let repo = repository(alloc, ONE_FILE.history)?;
-    let mut copy = copy_of(alloc, &repo, ONE_FILE.copy)?;
     for capacity in [0, 4097] {
-        let request = Request {
-            to: None,
-            target: 2,
-            cancel_after: None,
-            late_texts: false,
-            form: InThreads(capacity),
-        };
-        let answer = run(&rt, alloc, &repo, &mut copy, request)?;
-        assert_eq!(rt; answer, Err(RunFault::Capacity), "at {capacity}");
+        is_refused(&rt, rt.alloc(), &UNBOUNDED, InThreads(capacity))?;
     }
-    assert_eq!(rt; shown(alloc, &copy)?.as_str(), ". dir 1 .\nf file 1 f a\n");
+    Ok(())
+}
+
+static FAULTS: [(RunFault, &str); 6] = [
+    (RunFault::NoSuchRevision, "31: there is no such revision"),
+    (RunFault::Capacity, "32: the capacity isn't 1 to 4096"),
+    (RunFault::Memory, "33: out of memory"),
+    (RunFault::NoThread, "34: no thread could be started"),
+    (RunFault::NoRoot, "35: the copy's root isn't in the target"),
+    (
+        RunFault::OtherRoot,
+        "36: the root in the target is another node",
+    ),
+];
+
+fn is_shown(rt: &impl Abort, alloc: Global, fault: RunFault, line: &str) -> Result<(), Fail> {
+    let shown = format!(in alloc; "{}: {fault}", fault.number())?;
+    assert_eq!(rt; shown.as_str(), line);
     Ok(())
 }
 
 #[test]
 fn faults_are_shown(rt: HostRuntime) -> Result<(), Fail> {
-    let alloc = rt.alloc();
-    for (fault, number, text) in [
-        (RunFault::NoSuchRevision, 31, "there is no such revision"),
-        (RunFault::Capacity, 32, "the capacity isn't 1 to 4096"),
-        (RunFault::Memory, 33, "out of memory"),
-        (RunFault::NoThread, 34, "no thread could be started"),
-        (RunFault::NoRoot, 35, "the copy's root isn't in the target"),
-        (
-            RunFault::OtherRoot,
-            36,
-            "the root in the target is another node",
-        ),
-    ] {
-        assert_eq!(rt; fault.number(), number);
-        assert_eq!(rt; format!(in alloc; "{fault}")?.as_str(), text);
+    for (fault, line) in &FAULTS {
+        is_shown(&rt, rt.alloc(), *fault, line)?;
     }
     Ok(())
 }

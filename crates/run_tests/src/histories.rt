@@ -67,37 +67,55 @@ fn change_of(alloc: Global, step: Step) -> Result<Option<Change>, Fail> {
     })
 }
 
+fn take(alloc: Global, repo: &mut Repo, changes: &mut Vec<Change>, step: Step) -> Result<(), Fail> {
+    match change_of(alloc, step)? {
+        Some(change) => changes.push(change)?,
+        None => {
+            repo.commit(changes)?;
+            changes.clear();
+        }
+    }
+    Ok(())
+}
+
 // The repository with these commits.
 pub(crate) fn repository(alloc: Global, steps: &[Step]) -> Result<Repo, Fail> {
     let mut repo = Repo::new(alloc)?;
     let mut changes = Vec::new(alloc);
     for step in steps {
-        match change_of(alloc, *step)? {
-            Some(change) => changes.push(change)?,
-            None => {
-                repo.commit(&changes)?;
-                changes = Vec::new(alloc);
-            }
-        }
+        take(alloc, &mut repo, &mut changes, *step)?;
     }
     Ok(repo)
+}
+
+fn checkout(alloc: Global, repo: &Repo, root: &str, rev: u64) -> Result<WorkingCopy, Fail> {
+    let root = path_at(alloc, root)?;
+    Ok(WorkingCopy::checkout_at(alloc, repo, &root, Rev(rev))?)
+}
+
+fn change_copy(
+    alloc: Global,
+    repo: &Repo,
+    copy: &mut WorkingCopy,
+    step: Build,
+) -> Result<(), Fail> {
+    match step {
+        Build::Checkout(root, rev) => *copy = checkout(alloc, repo, root, rev)?,
+        Build::Place(path, rev) => copy.place(repo, &path_at(alloc, path)?, Rev(rev))?,
+        Build::Switch(path, to, rev) => {
+            let to = path_at(alloc, to)?;
+            copy.switch(repo, &path_at(alloc, path)?, &to, Rev(rev))?;
+        }
+        Build::Forget(path) => copy.forget(&path_at(alloc, path)?)?,
+    }
+    Ok(())
 }
 
 // The copy that these steps make.
 pub(crate) fn copy_of(alloc: Global, repo: &Repo, steps: &[Build]) -> Result<WorkingCopy, Fail> {
     let mut copy = WorkingCopy::checkout(alloc, repo, Rev(0))?;
     for step in steps {
-        match *step {
-            Build::Checkout(root, rev) => {
-                copy = WorkingCopy::checkout_at(alloc, repo, &path_at(alloc, root)?, Rev(rev))?;
-            }
-            Build::Place(path, rev) => copy.place(repo, &path_at(alloc, path)?, Rev(rev))?,
-            Build::Switch(path, to, rev) => {
-                let to = path_at(alloc, to)?;
-                copy.switch(repo, &path_at(alloc, path)?, &to, Rev(rev))?;
-            }
-            Build::Forget(path) => copy.forget(&path_at(alloc, path)?)?,
-        }
+        change_copy(alloc, repo, &mut copy, *step)?;
     }
     Ok(copy)
 }

@@ -1,6 +1,7 @@
 // A run by any of the four calls.
 use crate::histories::path_at;
 use std::alloc::Global;
+use std::process::Abort;
 use std::sync::Wait;
 use std::test::Fail;
 use std::thread::Threads;
@@ -18,8 +19,10 @@ pub(crate) enum Form {
     InThreads(usize),
 }
 
-#[derive(Clone, Copy)]
+#[derive(Clone, Copy, Debug)]
 pub(crate) struct Request {
+    // what is run, for the eye
+    pub(crate) of: &'static str,
     pub(crate) to: Option<&'static str>,
     pub(crate) target: u64,
     pub(crate) cancel_after: Option<u64>,
@@ -35,43 +38,53 @@ fn passed(outcome: Outcome) -> u64 {
     }
 }
 
-// The copy has to be true.
-pub(crate) fn run<R: Threads + Wait + Sync>(
+fn in_turn(
+    alloc: Global,
+    repo: &Repo,
+    copy: &mut WorkingCopy,
+    request: &Request,
+) -> Result<Result<Outcome, RunFault>, Fail> {
+    if copy.check_true(repo).is_err() {
+        return Err(Fail::from("the copy is not true"));
+    }
+    let (target, late_texts) = (Rev(request.target), request.late_texts);
+    let cancel_after = request.cancel_after;
+    Ok(match request.to {
+        Some(to) => {
+            let to = path_at(alloc, to)?;
+            switch_to_in_turn(alloc, repo, copy, &to, target, cancel_after, late_texts)
+        }
+        None => update_in_turn(alloc, repo, copy, target, cancel_after, late_texts),
+    })
+}
+
+// As many calls have to be sent and taken as the outcome says.
+fn counted(outcome: Outcome, sent: u64, taken: u64) -> Result<Result<Outcome, RunFault>, Fail> {
+    let calls = passed(outcome);
+    if sent != calls || taken != calls {
+        return Err(Fail::from("other calls were passed"));
+    }
+    Ok(Ok(outcome))
+}
+
+fn in_threads<R: Threads + Wait + Sync>(
     rt: &R,
     alloc: Global,
     repo: &Repo,
     copy: &mut WorkingCopy,
-    request: Request,
+    request: &Request,
+    capacity: usize,
 ) -> Result<Result<Outcome, RunFault>, Fail> {
-    let Request {
-        to,
-        target,
-        cancel_after,
-        late_texts,
-        form,
-    } = request;
-    let target = Rev(target);
     if copy.check_true(repo).is_err() {
         return Err(Fail::from("the copy is not true"));
     }
-    let capacity = match form {
-        Form::InTurn => {
-            return Ok(match to {
-                Some(to) => {
-                    let to = path_at(alloc, to)?;
-                    switch_to_in_turn(alloc, repo, copy, &to, target, cancel_after, late_texts)
-                }
-                None => update_in_turn(alloc, repo, copy, target, cancel_after, late_texts),
-            });
-        }
-        Form::InThreads(capacity) => capacity,
-    };
+    let target = Rev(request.target);
     let options = Options {
         capacity,
-        cancel_after,
-        late_texts,
+        cancel_after: request.cancel_after,
+        late_texts: request.late_texts,
     };
-    let answer = match to {
+    let answer = match request.to {
         Some(to) => {
             let to = path_at(alloc, to)?;
             switch_to(rt, alloc, repo, copy, &to, target, options, &NoGate)
@@ -79,13 +92,49 @@ pub(crate) fn run<R: Threads + Wait + Sync>(
         None => update(rt, alloc, repo, copy, target, options, &NoGate),
     };
     match answer {
-        Ok((outcome, settled)) => {
-            let calls = passed(outcome);
-            if settled.sent != calls || settled.taken != calls {
-                return Err(Fail::from("other calls were passed"));
-            }
-            Ok(Ok(outcome))
-        }
+        Ok((outcome, settled)) => counted(outcome, settled.sent, settled.taken),
         Err(fault) => Ok(Err(fault)),
     }
+}
+
+// The copy has to be true.
+fn run<R: Threads + Wait + Sync>(
+    rt: &R,
+    alloc: Global,
+    repo: &Repo,
+    copy: &mut WorkingCopy,
+    request: &Request,
+) -> Result<Result<Outcome, RunFault>, Fail> {
+    match request.form {
+        Form::InTurn => in_turn(alloc, repo, copy, request),
+        Form::InThreads(capacity) => in_threads(rt, alloc, repo, copy, request, capacity),
+    }
+}
+
+// A run of a true copy, which has to answer this.
+pub(crate) fn answers<R: Threads + Wait + Sync + Abort>(
+    rt: &R,
+    alloc: Global,
+    repo: &Repo,
+    copy: &mut WorkingCopy,
+    request: &Request,
+    answer: Result<Outcome, RunFault>,
+) -> Result<(), Fail> {
+    let found = run(rt, alloc, repo, copy, request)?;
+    assert_eq!(rt; found, answer, "{request:?}");
+    Ok(())
+}
+
+// A run of a true copy, which has to be one to the end.
+pub(crate) fn closes<R: Threads + Wait + Sync + Abort>(
+    rt: &R,
+    alloc: Global,
+    repo: &Repo,
+    copy: &mut WorkingCopy,
+    request: &Request,
+) -> Result<(), Fail> {
+    let found = run(rt, alloc, repo, copy, request)?;
+    let is_closed = matches!(found, Ok(Outcome::Closed { .. }));
+    assert!(rt; is_closed, "{request:?}");
+    Ok(())
 }

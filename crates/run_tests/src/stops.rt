@@ -1,12 +1,12 @@
 // Runs that are stopped after a number of calls, and made again.
-use crate::copies::shown;
+use crate::copies::has;
 use crate::histories::{copy_of, repository};
 use crate::rows::{
-    EMPTY_FILE, MIXED, ONE_FILE, OTHER_PROPERTY, REPLACED, ROWS, Row, SWITCH_GONE, SWITCHED,
-    WHOLE_COPY,
+    EMPTY_FILE, MIXED, ONE_FILE, OTHER_PROPERTY, REPLACED, Row, SWITCH_GONE, SWITCHED, WHOLE_COPY,
+    rows,
 };
 use crate::runs::Form::{self, InThreads, InTurn};
-use crate::runs::{Request, run};
+use crate::runs::{Request, answers, closes};
 use std::alloc::Global;
 use std::process::Abort;
 use std::sync::Wait;
@@ -14,6 +14,7 @@ use std::test::Fail;
 use std::thread::Threads;
 use svn_repo::Repo;
 use svn_run::{Cause, Outcome};
+use svn_wc::WorkingCopy;
 
 fn stopped_after(calls: u64) -> Outcome {
     Outcome::Aborted {
@@ -26,6 +27,7 @@ fn stopped_after(calls: u64) -> Outcome {
 
 fn request_of(row: &Row, form: Form, late_texts: bool, cancel_after: Option<u64>) -> Request {
     Request {
+        of: row.name,
         to: row.to,
         target: row.target,
         cancel_after,
@@ -38,101 +40,111 @@ fn request_of(row: &Row, form: Form, late_texts: bool, cancel_after: Option<u64>
 fn run_whole<R: Threads + Wait + Sync + Abort>(
     rt: &R,
     alloc: Global,
+    repo: &Repo,
     row: &Row,
-    form: Form,
-    late_texts: bool,
+    request: &Request,
 ) -> Result<(), Fail> {
-    let repo = repository(alloc, row.history)?;
-    let mut copy = copy_of(alloc, &repo, row.copy)?;
-    let request = request_of(row, form, late_texts, Some(row.calls));
-    let answer = run(rt, alloc, &repo, &mut copy, request)?;
-    assert_eq!(rt;
-        answer,
-        Ok(Outcome::Closed { calls: row.calls }),
-        "{}, {form:?}",
-        row.name
-    );
-    assert_eq!(rt;
-        shown(alloc, &copy)?.as_str(),
-        row.shown,
-        "{}, {form:?}",
-        row.name
-    );
+    let mut copy = copy_of(alloc, repo, row.copy)?;
+    let answer = Ok(Outcome::Closed { calls: row.calls });
+    answers(rt, alloc, repo, &mut copy, request, answer)?;
+    has(rt, alloc, &copy, row.shown, request)
+}
+
+// A run that is stopped.
+fn run_stopped<R: Threads + Wait + Sync + Abort>(
+    rt: &R,
+    alloc: Global,
+    repo: &Repo,
+    copy: &mut WorkingCopy,
+    request: &Request,
+) -> Result<(), Fail> {
+    let calls = request.cancel_after.unwrap_or(0);
+    answers(rt, alloc, repo, copy, request, Ok(stopped_after(calls)))?;
+    assert!(rt; copy.check_true(repo).is_ok(), "{request:?}");
     Ok(())
 }
 
 // A run that is stopped, and then made again to its end.
-fn run_stopped<R: Threads + Wait + Sync + Abort>(
+fn run_again<R: Threads + Wait + Sync + Abort>(
     rt: &R,
     alloc: Global,
     repo: &Repo,
     row: &Row,
     request: Request,
 ) -> Result<(), Fail> {
-    let calls = request.cancel_after.unwrap_or(0);
     let mut copy = copy_of(alloc, repo, row.copy)?;
-    let answer = run(rt, alloc, repo, &mut copy, request)?;
-    assert_eq!(rt;
-        answer,
-        Ok(stopped_after(calls)),
-        "{}, after {calls}",
-        row.name
-    );
-    assert!(rt;
-        copy.check_true(repo).is_ok(),
-        "{}, after {calls}",
-        row.name
-    );
+    run_stopped(rt, alloc, repo, &mut copy, &request)?;
     let again = Request {
         cancel_after: None,
         ..request
     };
-    let answer = run(rt, alloc, repo, &mut copy, again)?;
-    assert!(rt;
-        matches!(answer, Ok(Outcome::Closed { .. })),
-        "{}, after {calls}",
-        row.name
-    );
-    assert_eq!(rt;
-        shown(alloc, &copy)?.as_str(),
-        row.shown,
-        "{}, after {calls}",
-        row.name
-    );
-    Ok(())
+    closes(rt, alloc, repo, &mut copy, &again)?;
+    has(rt, alloc, &copy, row.shown, &request)
 }
 
-#[test]
-fn whole_runs_end_at_the_target(rt: HostRuntime) -> Result<(), Fail> {
-    for row in &ROWS {
-        for form in [
-            InTurn,
-            InThreads(1),
-            InThreads(3),
-            InThreads(64),
-            InThreads(4096),
-        ] {
-            for late_texts in [false, true] {
-                run_whole(&rt, rt.alloc(), row, form, late_texts)?;
-            }
+const FORMS: [Form; 5] = [
+    InTurn,
+    InThreads(1),
+    InThreads(3),
+    InThreads(64),
+    InThreads(4096),
+];
+
+fn each_whole_run<R: Threads + Wait + Sync + Abort>(
+    rt: &R,
+    alloc: Global,
+    row: &Row,
+) -> Result<(), Fail> {
+    let repo = repository(alloc, row.history)?;
+    for form in &FORMS {
+        for late_texts in [false, true] {
+            let request = request_of(row, *form, late_texts, Some(row.calls));
+            run_whole(rt, alloc, &repo, row, &request)?;
         }
     }
     Ok(())
 }
 
 #[test]
-fn stopped_runs_are_made_again(rt: HostRuntime) -> Result<(), Fail> {
-    let alloc = rt.alloc();
-    for row in &ROWS {
-        let repo = repository(alloc, row.history)?;
-        for calls in 0..row.calls {
-            for form in [InTurn, InThreads(1), InThreads(64)] {
-                for late_texts in [false, true] {
-                    let request = request_of(row, form, late_texts, Some(calls));
-                    run_stopped(&rt, alloc, &repo, row, request)?;
-                }
-            }
+fn whole_runs_end_at_the_target(rt: HostRuntime) -> Result<(), Fail> {
+    for row in rows() {
+        each_whole_run(&rt, rt.alloc(), row)?;
+    }
+    Ok(())
+}
+
+fn each_stop<R: Threads + Wait + Sync + Abort>(
+    rt: &R,
+    alloc: Global,
+    repo: &Repo,
+    row: &Row,
+    calls: u64,
+) -> Result<(), Fail> {
+    for form in [InTurn, InThreads(1), InThreads(64)] {
+        for late_texts in [false, true] {
+            let request = request_of(row, form, late_texts, Some(calls));
+            run_again(rt, alloc, repo, row, request)?;
         }
+    }
+    Ok(())
+}
+
+fn each_stopped_run<R: Threads + Wait + Sync + Abort>(
+    rt: &R,
+    alloc: Global,
+    row: &Row,
+) -> Result<(), Fail> {
+    let repo = repository(alloc, row.history)?;
+    for calls in 0..row.calls {
+        each_stop(rt, alloc, &repo, row, calls)?;
+    }
+    Ok(())
+}
+
+#[test]
+fn stopped_runs_are_made_again(rt: HostRuntime) -> Result<(), Fail> {
+    for row in rows() {
+        each_stopped_run(&rt, rt.alloc(), row)?;
     }
     Ok(())
 }
@@ -153,7 +165,7 @@ struct Then {
     shown: &'static str,
 }
 
-const STOPS: [Stop; 12] = [
+static STOPS: [Stop; 12] = [
     Stop {
         row: ONE_FILE,
         late_texts: false,
@@ -302,39 +314,64 @@ const STOPS: [Stop; 12] = [
     },
 ];
 
+// What is asked for after the stop.
+fn next_of(stop: &Stop, form: Form) -> Request {
+    Request {
+        of: stop.row.name,
+        to: stop.then.to,
+        target: stop.then.target,
+        cancel_after: None,
+        late_texts: false,
+        form,
+    }
+}
+
+fn run_on<R: Threads + Wait + Sync + Abort>(
+    rt: &R,
+    alloc: Global,
+    repo: &Repo,
+    copy: &mut WorkingCopy,
+    stop: &Stop,
+    form: Form,
+) -> Result<(), Fail> {
+    let calls = stop.then.calls;
+    let then = next_of(stop, form);
+    answers(rt, alloc, repo, copy, &then, Ok(Outcome::Closed { calls }))?;
+    has(rt, alloc, copy, stop.then.shown, &then)
+}
+
+fn leaves<R: Threads + Wait + Sync + Abort>(
+    rt: &R,
+    alloc: Global,
+    repo: &Repo,
+    stop: &Stop,
+    form: Form,
+) -> Result<(), Fail> {
+    let mut copy = copy_of(alloc, repo, stop.row.copy)?;
+    let request = request_of(&stop.row, form, stop.late_texts, Some(stop.after));
+    run_stopped(rt, alloc, repo, &mut copy, &request)?;
+    has(rt, alloc, &copy, stop.left, &request)?;
+    run_on(rt, alloc, repo, &mut copy, stop, form)
+}
+
+fn each_form_leaves<R: Threads + Wait + Sync + Abort>(
+    rt: &R,
+    alloc: Global,
+    stop: &Stop,
+) -> Result<(), Fail> {
+    let repo = repository(alloc, stop.row.history)?;
+    leaves(rt, alloc, &repo, stop, InTurn)?;
+    leaves(rt, alloc, &repo, stop, InThreads(1))
+}
+
+fn stops() -> &'static [Stop] {
+    &STOPS
+}
+
 #[test]
 fn a_stopped_run_leaves_what_was_accepted(rt: HostRuntime) -> Result<(), Fail> {
-    let alloc = rt.alloc();
-    for stop in &STOPS {
-        let repo = repository(alloc, stop.row.history)?;
-        for form in [InTurn, InThreads(1)] {
-            let mut copy = copy_of(alloc, &repo, stop.row.copy)?;
-            let request = request_of(&stop.row, form, stop.late_texts, Some(stop.after));
-            let answer = run(&rt, alloc, &repo, &mut copy, request)?;
-            assert_eq!(rt; answer, Ok(stopped_after(stop.after)), "{}", stop.row.name);
-            assert_eq!(rt;
-                shown(alloc, &copy)?.as_str(),
-                stop.left,
-                "{}",
-                stop.row.name
-            );
-            let then = Request {
-                to: stop.then.to,
-                target: stop.then.target,
-                cancel_after: None,
-                late_texts: false,
-                form,
-            };
-            let answer = run(&rt, alloc, &repo, &mut copy, then)?;
-            let calls = stop.then.calls;
-            assert_eq!(rt; answer, Ok(Outcome::Closed { calls }), "{}", stop.row.name);
-            assert_eq!(rt;
-                shown(alloc, &copy)?.as_str(),
-                stop.then.shown,
-                "{}",
-                stop.row.name
-            );
-        }
+    for stop in stops() {
+        each_form_leaves(&rt, rt.alloc(), stop)?;
     }
     Ok(())
 }

@@ -1,10 +1,13 @@
 // That the two threads of an update run side by side, and what a gate hears of the calls.
 use crate::histories::{copy_of, repository};
 use crate::rows::ONE_FILE;
+use std::alloc::Global;
 use std::process::Abort;
+use std::sync::Wait;
 use std::sync::atomic::{AtomicBool, AtomicU64, Ordering};
 use std::test::Fail;
-use std::thread;
+use std::thread::{self, Threads};
+use svn_repo::Repo;
 use svn_run::{Gate, Options, Outcome, update};
 use svn_types::Rev;
 
@@ -60,28 +63,49 @@ impl Gate for Meeting {
     }
 }
 
+// How an update of one file ends, and how many calls were sent and taken.
+fn updated<R: Threads + Wait + Sync, G: Gate>(
+    rt: &R,
+    alloc: Global,
+    repo: &Repo,
+    options: Options,
+    gate: &G,
+) -> Result<(Outcome, u64, u64), Fail> {
+    let mut copy = copy_of(alloc, repo, ONE_FILE.copy)?;
+    if copy.check_true(repo).is_err() {
+        return Err(Fail::from("the copy is not true"));
+    }
+    let (outcome, settled) = update(rt, alloc, repo, &mut copy, Rev(2), options, gate)?;
+    Ok((outcome, settled.sent, settled.taken))
+}
+
+fn meet_at<R: Threads + Wait + Sync + Abort>(
+    rt: &R,
+    alloc: Global,
+    repo: &Repo,
+    capacity: usize,
+) -> Result<(), Fail> {
+    let gate = Meeting {
+        begun: AtomicU64::new(0),
+        taken: AtomicU64::new(0),
+        given_up: AtomicBool::new(false),
+    };
+    let options = Options {
+        capacity,
+        ..IN_PLACE
+    };
+    let found = updated(rt, alloc, repo, options, &gate)?;
+    let given_up = gate.given_up.load(Ordering::SeqCst);
+    let met = (Outcome::Closed { calls: 7 }, 7, 7);
+    assert_eq!(rt; (found, given_up), (met, false), "at {capacity}");
+    Ok(())
+}
+
 #[test]
 fn the_two_threads_meet(rt: HostRuntime) -> Result<(), Fail> {
-    let alloc = rt.alloc();
-    let repo = repository(alloc, ONE_FILE.history)?;
-    for capacity in [1, 64] {
-        let mut copy = copy_of(alloc, &repo, ONE_FILE.copy)?;
-        assert!(rt; copy.check_true(&repo).is_ok());
-        let gate = Meeting {
-            begun: AtomicU64::new(0),
-            taken: AtomicU64::new(0),
-            given_up: AtomicBool::new(false),
-        };
-        let options = Options {
-            capacity,
-            ..IN_PLACE
-        };
-        let (outcome, settled) = update(&rt, alloc, &repo, &mut copy, Rev(2), options, &gate)?;
-        assert_eq!(rt; outcome, Outcome::Closed { calls: 7 }, "at {capacity}");
-        assert_eq!(rt; (settled.sent, settled.taken), (7, 7), "at {capacity}");
-        assert!(rt; !gate.given_up.load(Ordering::SeqCst), "at {capacity}");
-    }
-    Ok(())
+    let repo = repository(rt.alloc(), ONE_FILE.history)?;
+    meet_at(&rt, rt.alloc(), &repo, 1)?;
+    meet_at(&rt, rt.alloc(), &repo, 64)
 }
 
 // The last number that was heard at each side, and whether each came after the one before it.
@@ -99,6 +123,15 @@ impl Counting {
         }
         last.store(n, Ordering::SeqCst);
     }
+
+    // The last numbers, and whether one came out of turn.
+    fn heard(&self) -> (u64, u64, bool) {
+        (
+            self.sent.load(Ordering::SeqCst),
+            self.taken.load(Ordering::SeqCst),
+            self.other.load(Ordering::SeqCst),
+        )
+    }
 }
 
 impl Gate for Counting {
@@ -111,27 +144,32 @@ impl Gate for Counting {
     }
 }
 
+// A gate hears of so many calls at each side.
+fn hears<R: Threads + Wait + Sync + Abort>(
+    rt: &R,
+    alloc: Global,
+    repo: &Repo,
+    cancel_after: Option<u64>,
+    heard: u64,
+) -> Result<(), Fail> {
+    let gate = Counting {
+        sent: AtomicU64::new(0),
+        taken: AtomicU64::new(0),
+        other: AtomicBool::new(false),
+    };
+    let options = Options {
+        cancel_after,
+        ..IN_PLACE
+    };
+    updated(rt, alloc, repo, options, &gate)?;
+    assert_eq!(rt; gate.heard(), (heard, heard, false));
+    Ok(())
+}
+
 #[test]
 fn a_gate_hears_of_each_call_once(rt: HostRuntime) -> Result<(), Fail> {
-    let alloc = rt.alloc();
-    let repo = repository(alloc, ONE_FILE.history)?;
+    let repo = repository(rt.alloc(), ONE_FILE.history)?;
     // all seven calls; two of them, and the abort
-    for (cancel_after, heard) in [(None, 7), (Some(2), 3)] {
-        let mut copy = copy_of(alloc, &repo, ONE_FILE.copy)?;
-        assert!(rt; copy.check_true(&repo).is_ok());
-        let gate = Counting {
-            sent: AtomicU64::new(0),
-            taken: AtomicU64::new(0),
-            other: AtomicBool::new(false),
-        };
-        let options = Options {
-            cancel_after,
-            ..IN_PLACE
-        };
-        update(&rt, alloc, &repo, &mut copy, Rev(2), options, &gate)?;
-        assert_eq!(rt; gate.sent.load(Ordering::SeqCst), heard);
-        assert_eq!(rt; gate.taken.load(Ordering::SeqCst), heard);
-        assert!(rt; !gate.other.load(Ordering::SeqCst));
-    }
-    Ok(())
+    hears(&rt, rt.alloc(), &repo, None, 7)?;
+    hears(&rt, rt.alloc(), &repo, Some(2), 3)
 }
