@@ -13,13 +13,13 @@ use Rattle.svn_editor.specs.declared.call.Call.{Call}
 use Rattle.svn_editor.specs.declared.call.Call.TheVariants.{CloseFile}
 use Rattle.svn_editor.specs.declared.fault.EditFault.{EditFault}
 use Rattle.svn_editor.specs.Calls.{Given, kind_eq, given, path_of, is_of_kind}
-use Rattle.svn_editor.specs.Steps.{Mode, Action, Delete, Open, Add, Change, Text, Close, Step, steps_of, target_of}
+use Rattle.svn_editor.specs.Steps.{Mode, Update, Action, Delete, Open, Add, Change, Text, Close, Step, steps_of, target_of}
 use Rattle.svn_editor.proofs.Accepted.{accepted}
 use Rattle.svn_editor.proofs.Nested.{eq_true}
 use Rattle.svn_order.proofs.Sound.{known}
 use Rattle.svn_model.specs.declared.base_node.BaseNode.{BaseNode}
 use Rattle.svn_model.specs.declared.base_node.BaseNode.TheVariants.{File as FileNode, Dir as DirNode, NotPresent}
-use Rattle.svn_model.specs.Nodes.{WorkingCopy, get_in, node_props}
+use Rattle.svn_model.specs.Nodes.{WorkingCopy, get_in, is_present, node_props}
 use Rattle.svn_model.specs.Effects.{change_in, text_in, texts_at, text_or, closed_file, moved_path, joined_path, effect, edit_fault}
 use Rattle.svn_model.specs.Said.{says, said_at}
 use Rattle.svn_model.specs.Answering.{AnswersCall}
@@ -68,6 +68,27 @@ closed_is mode rev w p changes texts c is = by (w p) is.moved is.props
     by (Some (FileNode r was text props)) m q = λ i. Some (FileNode (is.target i) (m i) (text_is text i) (q i))
     by (Some (DirNode r was complete props)) m q = refl
     by (Some NotPresent) m q = λ i. Some (FileNode (is.target i) (m i) (text_is [] i) (q i))
+
+-- the file is closed in a copy that is as it was
+pub file_closed : (mode : Mode) (rev : ℕ) (p : Path) (changes : List PropChange) (texts : List (List ℕ))
+    (nodes mid seen nodes2 : List (Path × BaseNode)) (c d : Closing) → seen ≡ nodes → mid ≡ seen → c ≡ d
+    → IsClosing mode rev (get_in seen) p changes texts d
+    → ((q : Path) → get_in nodes2 q ≡ cond (path_eq p q) (option_map (closed_by c) (get_in mid p)) (get_in mid q))
+    → FileIsClosed mode rev p changes texts nodes nodes2
+file_closed mode rev p changes texts nodes mid seen nodes2 c d same copied taken is written =
+    subst (λ (m : List (Path × BaseNode)). FileIsClosed mode rev p changes texts m nodes2) (copied ∙ same)
+    (λ q. written q ∙ ap (λ (v : Option BaseNode). cond (path_eq p q) v (get_in mid q)) (closed_is mode rev (get_in mid) p changes texts c
+    (subst (λ (m : List (Path × BaseNode)). IsClosing mode rev (get_in m) p changes texts c) (sym copied)
+    (subst (λ (x : Closing). IsClosing mode rev (get_in seen) p changes texts x) (sym taken) is))))
+
+-- in an update a node that is present keeps its path
+pub standing_closed : (rev : ℕ) (w : WorkingCopy) (p : Path) (changes : List PropChange) (texts : List (List ℕ)) (n : BaseNode)
+    → is_present (Some n) ≡ true
+    → closed_file rev (λ q. q) [] changes texts (Some n)
+    ≡ closed_file rev (moved_path Update w p) (joined_path w p) changes texts (Some n)
+standing_closed rev w p changes texts (FileNode r q text props) h = refl
+standing_closed rev w p changes texts (DirNode r q complete props) h = refl
+standing_closed rev w p changes texts NotPresent h = absurd (true≢false (sym h))
 
 applied_parts : (fault : Option EditFault) (w : WorkingCopy) (nodes nodes2 : List (Path × BaseNode)) (r : Result (Unit {0}) EditFault)
     → AnswersCall fault r

@@ -1,13 +1,13 @@
 -- What is said, read note by note.
 use Rattle.std.proofs.Common.{◌≡◌, ℕ, zero, suc, ◌<◌, ◌≤◌, true, arith, length, drop, get_or, List, [], ◌∷◌, ◌++◌, map, refl, sym, ◌∙◌, ap}
-use Rattle.std.proofs.Common.{subst, true≢false, append-nil, length-append}
+use Rattle.std.proofs.Common.{false, ◌||◌, subst, true≢false, append-nil, length-append}
 use Rattle.std.proofs.lemmas.List.{get_or_append_left, get_or_push}
 use Rattle.std.proofs.lemmas.List.Elements.{filter_map-append}
 use Rattle.std.specs.Prelude.{Option, Some, None, MatchOption, filter_map}
 use Rattle.std.specs.Option.{option_copied}
 use Rattle.std.specs.Borrow.{Bor}
 use Rattle.std.proofs.lemmas.Option.{same_Some}
-use Rattle.std.specs.List.{flat_map, cons_option}
+use Rattle.std.specs.List.{list_any, flat_map, cons_option}
 use Rattle.svn_types.specs.Pairs.{with_value}
 use Rattle.svn_types.specs.Props.{with_changes}
 use Rattle.svn_types.specs.declared.kind.Kind.TheVariants.{File, Directory}
@@ -20,7 +20,7 @@ use Rattle.svn_edit.specs.declared.baton.Note.TheVariants.{Set, Remove, Text as 
 use Rattle.svn_model.specs.Effects.{change_in, text_in}
 use Rattle.svn_model.specs.Said.{says}
 use Rattle.svn_edit.specs.NodeTests.{first_of}
-use Rattle.svn_edit.specs.Noted.{note_of, strings_of}
+use Rattle.svn_edit.specs.Noted.{is_change, note_of_value, note_of, strings_of}
 use Rattle.svn_edit.specs.Applying.{IsTextAt, text_place, Properties, StillSaid}
 
 pub record AfterSet (before now : Properties) (said : List Action) (notes : List Note) (strings : List (List ℕ)) : Type 0 where
@@ -180,6 +180,20 @@ all_dropped [] zero h = refl
 all_dropped [] (suc i) h = refl
 all_dropped (x ∷ xs) zero h = absurd (omega arith)
 all_dropped (x ∷ xs) (suc i) h = all_dropped xs i (omega arith)
+
+-- where no note is of a property, nothing is said of one
+pub no_change_said : (said : List Action) → list_any is_change (map note_of said) ≡ false → filter_map change_in said ≡ []
+no_change_said [] h = refl
+no_change_said (Change k x ∷ said) h = absurd (true≢false (sym (ap (λ b. b || list_any is_change (map note_of said)) (of_value x.1)) ∙ h))
+  where
+    of_value : (v : Option (List ℕ)) → is_change (note_of_value v) ≡ true
+    of_value None = refl
+    of_value (Some v) = refl
+no_change_said (Text s x ∷ said) h = no_change_said said h
+no_change_said (Delete r ∷ said) h = no_change_said said h
+no_change_said (Open k r ∷ said) h = no_change_said said h
+no_change_said (Add k ∷ said) h = no_change_said said h
+no_change_said (Close k x ∷ said) h = no_change_said said h
 
 -- ---- the text
 

@@ -1,5 +1,5 @@
 -- The tests of an edit on one node.
-use Rattle.std.specs.Prelude.{ℕ, true, not, List, [], ◌∷◌, ◌++◌, length, nat_eq, nat_lt, Option, Some, None, if◌then◌else◌, ◌≡◌}
+use Rattle.std.specs.Prelude.{ℕ, not, List, [], ◌∷◌, ◌++◌, length, nat_eq, nat_lt, Option, Some, None, if◌then◌else◌, ◌≡◌}
 use Rattle.svn_types.specs.declared.kind.Kind.{Kind}
 use Rattle.svn_types.specs.Names.{Path}
 use Rattle.svn_types.specs.Paths.{path_eq}
@@ -38,11 +38,6 @@ closed_path_of mode w p node = moved_path mode w p (node_path node)
 
 abbrev pub closed_path : Mode → WorkingCopy → Path → Path
 closed_path mode w p = closed_path_of mode w p (w p)
-
--- a directory with these properties, complete
-abbrev pub completed : List (List ℕ × List ℕ) → BaseNode → BaseNode
-completed new (DirNode r q complete props) = DirNode r q true new
-completed new node = node
 
 abbrev pub first_of : List (List ℕ) → Option (List ℕ)
 first_of [] = None

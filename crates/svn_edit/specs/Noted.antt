@@ -1,6 +1,6 @@
 -- What the strings of an open file's or directory's pool say: the path, and then what the calls on it are about.
 --     changes_said notes strings, texts_said notes strings      the same, read from strings and what is noted beside them
-use Rattle.std.specs.Prelude.{ℕ, List, [], ◌∷◌, ◌++◌, Option, Some, None}
+use Rattle.std.specs.Prelude.{ℕ, Bool, true, false, List, [], ◌∷◌, ◌++◌, Option, Some, None}
 use Rattle.svn_types.specs.Names.{Path}
 use Rattle.svn_types.specs.Props.{PropChange}
 use Rattle.svn_editor.specs.Steps.{Action, Change, Text}
@@ -15,6 +15,11 @@ slashed_after (name ∷ p) = 47 ∷ name ++ slashed_after p
 abbrev pub slashed : Path → List ℕ
 slashed [] = []
 slashed (name ∷ p) = name ++ slashed_after p
+
+-- a note of a property
+abbrev pub is_change : Note → Bool
+is_change NewText = false
+is_change _ = true
 
 abbrev pub note_of_value : Option (List ℕ) → Note
 note_of_value None = Remove

@@ -1,6 +1,7 @@
 //! What an edit keeps of an open file or directory.
-ghost use Rattle.std.specs.Prelude.{◌≡◌, ◌≢◌, ◌+◌, ◌++◌, ◌∷◌, [], List, length, IfOk, OnOk, OnErr, Some, None, filter_map};
+ghost use Rattle.std.specs.Prelude.{◌≡◌, ◌≢◌, ◌+◌, ◌++◌, ◌∷◌, [], List, length, IfOk, OnOk, OnErr, Some, None, filter_map, unwrap_or};
 ghost use Rattle.std.specs.Option.{option_copied};
+ghost use Rattle.std.specs.List.{list_any};
 ghost use Rattle.svn_types.specs.Props.{with_changes};
 ghost use Rattle.svn_types.specs.declared.kind.Kind.TheVariants.{Directory};
 ghost use Rattle.svn_pool.specs.Pools.{Entry, pool_at, strings_at, pushed};
@@ -8,7 +9,7 @@ ghost use Rattle.svn_editor.specs.Steps.{Action, Change};
 ghost use Rattle.svn_edit.specs.declared.baton.Note.{Note as NoteOf};
 ghost use Rattle.svn_edit.specs.declared.baton.Note.TheVariants.{Text as NewText};
 ghost use Rattle.svn_model.specs.Effects.{change_in, text_in};
-ghost use Rattle.svn_edit.specs.Noted.{slashed, note_of_value, strings_of_value};
+ghost use Rattle.svn_edit.specs.Noted.{slashed, is_change, note_of_value, strings_of_value};
 ghost use Rattle.svn_edit.specs.NodeTests.{first_of};
 ghost use Rattle.svn_edit.specs.Leaving.{SamePools, BatonBegan};
 ghost use Rattle.svn_edit.specs.Applying.{BatonBegun, BatonSaid, Says, IsLeaf, PoolGone, Properties, StillSaid};
@@ -26,6 +27,15 @@ pub(crate) enum Note {
     Remove,
     /// One string: the text.
     Text,
+}
+
+// Whether one of the notes is of a property.
+fn has_change(notes: &[Note]) -> bool
+    ensures { result ≡ list_any is_change notes.now }
+{
+    notes
+        .iter()
+        .any(|note| matches!(note, Note::Set | Note::Remove))
 }
 
 /// An open file or directory.
@@ -164,7 +174,7 @@ fn copied_text(alloc: Global, bytes: Option<&[u8]>) -> Result<Text, AllocError>
     let Some(bytes) = bytes else {
         return Err(AllocError);
     };
-    Ok(Text::new(Vec::from_slice(alloc, bytes)?))
+    Text::from_slice(alloc, bytes)
 }
 
 // Makes what a note and the next strings say.
@@ -223,5 +233,22 @@ impl Baton {
             make_change(alloc, *note, &mut strings, props)?;
         }
         Ok(())
+    }
+
+    /// What properties become by the changes that were noted. Where none was, nothing: they stay.
+    pub(crate) fn changed(
+        &self,
+        alloc: Global,
+        pools: &PoolTree<Global>,
+        props: &Props,
+    ) -> Result<Option<Props>, AllocError>
+        ensures { IfOk result (λ c. (said : List Action) → Says self.now pools.now said → unwrap_or c props.now ≡ with_changes props.now (filter_map change_in said)) }
+    {
+        if !has_change(&self.notes) {
+            return Ok(None);
+        }
+        let mut changed = props.clone()?;
+        self.change(alloc, pools, &mut changed)?;
+        Ok(Some(changed))
     }
 }

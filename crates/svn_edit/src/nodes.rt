@@ -7,7 +7,7 @@ ghost use Rattle.svn_types.specs.Names.{Path};
 ghost use Rattle.svn_types.specs.Paths.{path_eq, is_within};
 ghost use Rattle.svn_model.specs.Nodes.{get_in, is_present, node_text, node_props};
 ghost use Rattle.svn_model.specs.Effects.{opened_directory, is_wrong_sum};
-ghost use Rattle.svn_edit.specs.NodeTests.{delete_fault_of, open_fault_of, completed, closed_by};
+ghost use Rattle.svn_edit.specs.NodeTests.{delete_fault_of, open_fault_of, closed_by};
 
 use md5::{Digest as Hasher, Md5};
 use std::alloc::{AllocError, Global};
@@ -128,36 +128,12 @@ pub(crate) fn open_directory_at(
     }
 }
 
-/// The directory at a path is closed.
-pub(crate) fn close_directory_at(nodes: &mut Nodes, path: &RelPath, props: Props)
-    ensures { (p : Path) → get_in nodes.new.entries p ≡ (if path_eq path.now p then option_map (completed props) (get_in nodes.old.entries path.now) else get_in nodes.old.entries p) }
-{
-    if let Some(node) = nodes.get_mut(path) {
-        close_directory(node, props);
-    }
-}
-
 /// The file at a path is closed.
 pub(crate) fn close_file_at(alloc: Global, nodes: &mut Nodes, path: &RelPath, closing: Closing)
     ensures { (p : Path) → get_in nodes.new.entries p ≡ (if path_eq path.now p then option_map (closed_by closing) (get_in nodes.old.entries path.now) else get_in nodes.old.entries p) }
 {
     if let Some(node) = nodes.get_mut(path) {
         close_file(alloc, node, closing);
-    }
-}
-
-/// A directory that is closed: complete, with these properties.
-pub(crate) fn close_directory(node: &mut BaseNode, changed: Props)
-    ensures { node.new ≡ completed changed node.old }
-{
-    if let BaseNode::Dir {
-        complete,
-        props,
-        ..
-    } = node
-    {
-        *complete = true;
-        *props = changed;
     }
 }
 
@@ -257,7 +233,7 @@ pub(crate) fn copied(alloc: Global, bytes: Option<&[u8]>) -> Result<Option<Text>
     ensures { IfOk result (λ t. t ≡ option_copied bytes.entry) }
 {
     match bytes {
-        Some(bytes) => Ok(Some(Text::new(Vec::from_slice(alloc, bytes)?))),
+        Some(bytes) => Ok(Some(Text::from_slice(alloc, bytes)?)),
         None => Ok(None),
     }
 }
