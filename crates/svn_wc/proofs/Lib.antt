@@ -24,3 +24,7 @@ pub mod ShapeKept
 pub mod Removing
 -- A list sorted by its paths: what stands twice, and what a search finds.
 pub mod SortedNodes
+-- Ranges of nodes, and how one is gone through from the last node back.
+pub mod NodeRanges
+-- Nodes gone through beside others: which of their paths the others lack.
+pub mod Comparing

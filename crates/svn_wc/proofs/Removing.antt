@@ -2,12 +2,11 @@
 use Rattle.std.proofs.Common.{◌≡◌, Bool, true, false, ◌&&◌, not, List, [], ◌∷◌, refl, sym, ◌∙◌, ap, subst, true≢false}
 use Rattle.std.specs.Prelude.{Option, Some, None, slice_get, is_some}
 use Rattle.std.specs.Option.{IfSome}
-use Rattle.std.specs.BTreeMap.{BTreeMap, is_at}
+use Rattle.std.specs.BTreeMap.{BTreeMap}
 use Rattle.std.specs.BTreeMap.Range.{entries_between, IsRangeOf, IsEntryInRange}
 use Rattle.std.specs.declared.ops.Bound.TheVariants.{Excluded, Unbounded}
 use Rattle.std.specs.declared.cmp.Ordering.TheVariants.{Less}
 use Rattle.std.specs.Ordering.{is_lt}
-use Rattle.std.proofs.lemmas.Map.Entries.{lookup-filter-keys}
 use Rattle.svn_types.specs.Names.{Path, path_cmp}
 use Rattle.svn_types.specs.Paths.{path_eq, is_within, is_below}
 use Rattle.svn_types.proofs.PathLemmas.{below_parts, below_from}
@@ -15,9 +14,9 @@ use Rattle.svn_types.proofs.PathsInOrder.{paths_total, not_before_itself, below_
 use Rattle.svn_model.specs.declared.base_node.BaseNode.{BaseNode}
 use Rattle.svn_model.specs.Nodes.{get_in, InPathOrder}
 use Rattle.svn_edit_law.proofs.PathsBelow.{path_is}
-use Rattle.svn_edit_law.proofs.Lookups.{at_path}
 use Rattle.svn_edit.proofs.NodeOrder.{first_or_after}
 use Rattle.svn_wc.specs.Truths.{IsPast}
+use Rattle.svn_wc.proofs.NodeRanges.{get_in-between}
 
 -- ---- the nodes behind a path
 
@@ -42,9 +41,7 @@ module _ (at : Path) (es left : List (Path × BaseNode)) (is : left ≡ entries_
   still : (p : Path) → path_cmp at p ≡ Less → get_in left p ≡ get_in es p
   still p after =
       ap (λ (l : List (Path × BaseNode)). get_in l p) is
-      ∙ lookup-filter-keys (is_at (path_cmp p)) (λ k. is_lt (path_cmp at k) && not false) true
-      (λ k h. ap (λ b. b && not false)
-      (ap (λ (q : Path). is_lt (path_cmp at q)) (sym (path_is p k (sym (at_path p k) ∙ h))) ∙ ap is_lt after)) es
+      ∙ get_in-between (Excluded at) Unbounded es p (ap (λ o. is_lt o && not false) after)
 
   none_there : (l : List (Path × BaseNode)) → left ≡ l → IsPast at l → (p : Path) → is_within at p ≡ true → get_in l p ≡ None
   none_there [] same past p within = refl

@@ -14,7 +14,6 @@ use Rattle.svn_types.specs.Names.{Path, path_cmp}
 use Rattle.svn_types.specs.Paths.{path_eq, is_within}
 use Rattle.svn_model.specs.declared.base_node.BaseNode.{BaseNode}
 use Rattle.svn_model.specs.Nodes.{get_in, InPathOrder}
-use Rattle.svn_editor.proofs.OneMore.{any_more}
 use Rattle.svn_edit_law.proofs.Lookups.{at_path, get_in-append}
 use Rattle.svn_edit_law.proofs.PathsBelow.{path_is, path_eq-sym}
 use Rattle.svn_edit_law.proofs.NodeLists.{absent_after, not_before_itself, not_both}
@@ -24,116 +23,12 @@ use Rattle.svn_edit.proofs.NodeOrder.{at_first, first_or_after, before_behind}
 abbrev pub is_one : List Path → Path → Bool
 is_one paths p = list_any (λ q. path_eq q p) paths
 
-same_value : {X : Type 0} (f : Path → X) (k p : Path) → path_eq k p ≡ true → f k ≡ f p
-same_value f k p e = ap f (path_is k p e)
-
--- ---- new paths
-
-pub record NewSoFar (part nodes : List (Path × BaseNode)) (paths : List Path) (left : List (Path × BaseNode)) : Type 0 where
-  pub done : List (Path × BaseNode)
-  pub parts : part ≡ done ++ left
-  pub found : (p : Path) → is_one paths p ≡ (is_some (get_in done p) && is_none (get_in nodes p))
-
-pub new_begins : (part nodes : List (Path × BaseNode)) → NewSoFar part nodes [] part
-new_begins part nodes = record { done = []; parts = refl; found = λ p. refl }
-
-push_one : (xs : List (Path × BaseNode)) (e : Path × BaseNode) (p : Path)
-    → is_some (get_in (xs ++ e ∷ []) p) ≡ (is_some (get_in xs p) || path_eq e.0 p)
-push_one xs e p =
-    ap is_some (get_in-append xs (e ∷ []) p)
-    ∙ ap (λ b. is_some (option_or (get_in xs p) (cond b (Some e.1) None))) (at_path p e.0 ∙ path_eq-sym p e.0)
-    ∙ by (get_in xs p) (path_eq e.0 p)
-  where
-    by : (o : Option BaseNode) (b : Bool) → is_some (option_or o (cond b (Some e.1) None)) ≡ (is_some o || b)
-    by None true = refl
-    by None false = refl
-    by (Some n) b = refl
-
-pub new_on : (part nodes : List (Path × BaseNode)) (paths more : List Path) (e : Path × BaseNode) (left : List (Path × BaseNode))
-    → NewSoFar part nodes paths (e ∷ left)
-    → ((p : Path) → is_one more p ≡ (is_one paths p || (path_eq e.0 p && is_none (get_in nodes e.0)))) → NewSoFar part nodes more left
-new_on part nodes paths more e left s noted = record {
-  done = s.done ++ e ∷ [];
-  parts = s.parts ∙ cut s.done;
-  found = λ p. noted p ∙ ap (λ b. b || (path_eq e.0 p && is_none (get_in nodes e.0))) (s.found p)
-      ∙ by p (is_some (get_in s.done p)) (path_eq e.0 p) refl ∙ ap (λ b. b && is_none (get_in nodes p)) (sym (push_one s.done e p));
-}
-  where
-    cut : (xs : List (Path × BaseNode)) → xs ++ e ∷ left ≡ (xs ++ e ∷ []) ++ left
-    cut [] = refl
-    cut (x ∷ xs) = ap (λ l. x ∷ l) (cut xs)
-
-    by : (p : Path) (a b : Bool) → path_eq e.0 p ≡ b
-        → ((a && is_none (get_in nodes p)) || (b && is_none (get_in nodes e.0))) ≡ ((a || b) && is_none (get_in nodes p))
-    by p a true same =
-        ap (λ o. (a && is_none (get_in nodes p)) || is_none o) (same_value (get_in nodes) e.0 p same) ∙ both a (is_none (get_in nodes p))
-      where
-        both : (x y : Bool) → ((x && y) || y) ≡ ((x || true) && y)
-        both true true = refl
-        both true false = refl
-        both false y = refl
-    by p a false same = either a (is_none (get_in nodes p))
-      where
-        either : (x y : Bool) → ((x && y) || false) ≡ ((x || false) && y)
-        either true true = refl
-        either true false = refl
-        either false y = refl
-
-pub new_ends : (part nodes : List (Path × BaseNode)) (paths : List Path) → NewSoFar part nodes paths [] → (p : Path)
-    → is_one paths p ≡ (is_some (get_in part p) && is_none (get_in nodes p))
-new_ends part nodes paths s p =
-    s.found p ∙ ap (λ l. is_some (get_in l p) && is_none (get_in nodes p)) (sym (append-nil s.done) ∙ sym s.parts)
-
--- a path that is noted where nothing stands
-pub noted_more : (nodes : List (Path × BaseNode)) (paths more : List Path) (k : Path) → more ≡ paths ++ k ∷ [] → get_in nodes k ≡ None
-    → (p : Path) → is_one more p ≡ (is_one paths p || (path_eq k p && is_none (get_in nodes k)))
-noted_more nodes paths more k items none p =
-    ap (λ (l : List Path). is_one l p) items ∙ any_more (λ q. path_eq q p) paths k
-    ∙ ap (λ b. is_one paths p || b) (sym (ap (λ o. path_eq k p && is_none o) none ∙ and_true (path_eq k p)))
-  where
-    and_true : (b : Bool) → (b && true) ≡ b
-    and_true true = refl
-    and_true false = refl
-
-pub noted_same : (nodes : List (Path × BaseNode)) (paths : List Path) (k : Path) → is_some (get_in nodes k) ≡ true → (p : Path)
-    → is_one paths p ≡ (is_one paths p || (path_eq k p && is_none (get_in nodes k)))
-noted_same nodes paths k some p = by (get_in nodes k) some (is_one paths p) (path_eq k p)
-  where
-    by : (o : Option BaseNode) → is_some o ≡ true → (a b : Bool) → a ≡ (a || (b && is_none o))
-    by None s a b = absurd (true≢false (sym s))
-    by (Some n) s true b = refl
-    by (Some n) s false true = refl
-    by (Some n) s false false = refl
-
 -- ---- one step after the other
 
 pub set_more : (a b : Bool) (v old : Option BaseNode) → cond b v (cond a v old) ≡ cond (a || b) v old
 set_more true true v old = refl
 set_more true false v old = refl
 set_more false b v old = refl
-
-pub others_more : (part : List (Path × BaseNode)) (k p : Path) (a : Bool) (old : Option BaseNode)
-    → cond (path_eq k p && is_none (get_in part k)) None (cond (a && is_none (get_in part p)) None old)
-    ≡ cond ((a || path_eq k p) && is_none (get_in part p)) None old
-others_more part k p a old = by (path_eq k p) refl
-  where
-    both : (x y : Bool) → cond y None (cond (x && y) None old) ≡ cond ((x || true) && y) None old
-    both true true = refl
-    both true false = refl
-    both false true = refl
-    both false false = refl
-
-    either : (x y : Bool) → cond (x && y) None old ≡ cond ((x || false) && y) None old
-    either true y = refl
-    either false y = refl
-
-    by : (b : Bool) → path_eq k p ≡ b
-        → cond (b && is_none (get_in part k)) None (cond (a && is_none (get_in part p)) None old)
-        ≡ cond ((a || b) && is_none (get_in part p)) None old
-    by true same =
-        ap (λ o. cond (is_none o) None (cond (a && is_none (get_in part p)) None old)) (same_value (get_in part) k p same)
-        ∙ both a (is_none (get_in part p))
-    by false same = either a (is_none (get_in part p))
 
 -- ---- the nodes that come
 
@@ -192,49 +87,57 @@ put_ends part old now s p = s.nodes p ∙ ap (λ l. option_or (get_in l p) (get_
 -- ---- the whole
 
 -- the steps together
-module _ (at : Path) (old part w1 w2 w3 : List (Path × BaseNode)) (olds news : List Path)
+module _ (at : Path) (old part w1 w2 w3 : List (Path × BaseNode)) (gones news : List Path)
     (within : (p : Path) → is_within at p ≡ false → get_in part p ≡ None)
-    (found_old : (p : Path) → is_one olds p ≡ (is_within at p && is_some (get_in old p)))
-    (found_new : (p : Path) → is_one news p ≡ (is_some (get_in part p) && is_none (get_in old p)))
+    (found_gone : (p : Path) → is_one gones p ≡ ((is_within at p && is_some (get_in old p)) && is_none (get_in part p)))
+    (found_new : (p : Path) → is_one news p ≡ ((is_within at p && is_some (get_in part p)) && is_none (get_in old p)))
     (others : (p : Path) → is_one news p ≡ false → get_in w1 p ≡ get_in old p)
-    (gone : (p : Path) → get_in w2 p ≡ cond (is_one olds p && is_none (get_in part p)) None (get_in w1 p)) where
+    (gone : (p : Path) → get_in w2 p ≡ cond (is_one gones p) None (get_in w1 p)) where
+  -- something comes within the path alone
+  comes_within : (p : Path) → is_some (get_in part p) ≡ true → is_within at p ≡ true
+  comes_within p some = by (is_within at p) refl
+    where
+      by : (b : Bool) → is_within at p ≡ b → b ≡ true
+      by true h = refl
+      by false h = absurd (true≢false (sym some ∙ ap is_some (within p h)))
+
   -- where something comes there is a place
   pub room : ((p : Path) → is_one news p ≡ true → is_some (get_in w1 p) ≡ true) → (p : Path) → is_some (get_in part p) ≡ true
       → is_some (get_in w2 p) ≡ true
-  room made p some = ap is_some (gone p) ∙ by (get_in part p) refl some
+  room made p some = ap is_some (gone p) ∙ ap (λ b. is_some (cond b None (get_in w1 p))) (found_gone p) ∙ by (get_in part p) some
     where
       was : (o : Option BaseNode) → get_in old p ≡ o → is_some (get_in w1 p) ≡ true
-      was None g = made p (found_new p ∙ (λ i. some i && is_none (g i)))
-      was (Some n) g = ap is_some (others p (found_new p ∙ (λ i. some i && is_none (g i))) ∙ g)
+      was None g = made p (found_new p ∙ (λ i. (comes_within p some i && some i) && is_none (g i)))
+      was (Some n) g =
+          ap is_some (others p (found_new p ∙ (λ i. (comes_within p some i && some i) && is_none (g i))) ∙ g)
 
       off : (b : Bool) → (b && false) ≡ false
       off true = refl
       off false = refl
 
-      by : (o : Option BaseNode) → get_in part p ≡ o → is_some o ≡ true
-          → is_some (cond (is_one olds p && is_none (get_in part p)) None (get_in w1 p)) ≡ true
-      by None g s = absurd (true≢false (sym s))
-      by (Some n) g s =
-          ap (λ b. is_some (cond b None (get_in w1 p))) (ap (λ o. is_one olds p && is_none o) g ∙ off (is_one olds p))
-          ∙ was (get_in old p) refl
+      by : (o : Option BaseNode) → is_some o ≡ true
+          → is_some (cond ((is_within at p && is_some (get_in old p)) && is_none o) None (get_in w1 p)) ≡ true
+      by None s = absurd (true≢false (sym s))
+      by (Some n) s =
+          ap (λ b. is_some (cond b None (get_in w1 p))) (off (is_within at p && is_some (get_in old p))) ∙ was (get_in old p) refl
 
   pub whole : ((p : Path) → get_in w3 p ≡ option_or (get_in part p) (get_in w2 p)) → (p : Path)
       → get_in w3 p ≡ cond (is_within at p) (get_in part p) (get_in old p)
   whole put p = put p ∙ by (get_in part p) refl (is_within at p) refl
     where
-      off : (b : Bool) → (b && true) ≡ b
-      off true = refl
-      off false = refl
-
       -- where nothing comes
-      rest : get_in part p ≡ None → get_in w2 p ≡ cond (is_within at p && is_some (get_in old p)) None (get_in old p)
+      rest : get_in part p ≡ None → get_in w2 p ≡ cond ((is_within at p && is_some (get_in old p)) && true) None (get_in old p)
       rest none =
           gone p
-          ∙ (λ i. cond (is_one olds p && is_none (none i)) None
-          (others p (found_new p ∙ ap (λ o. is_some o && is_none (get_in old p)) none) i))
-          ∙ ap (λ b. cond b None (get_in old p)) (off (is_one olds p) ∙ found_old p)
+          ∙ (λ i. cond (found_gone p i) None (others p (found_new p ∙ ap (λ o. (is_within at p && is_some o) && is_none (get_in old p)) none
+          ∙ off (is_within at p) (is_none (get_in old p))) i))
+          ∙ ap (λ o. cond ((is_within at p && is_some (get_in old p)) && is_none o) None (get_in old p)) none
+        where
+          off : (b c : Bool) → ((b && false) && c) ≡ false
+          off true c = refl
+          off false c = refl
 
-      left : (b : Bool) (o : Option BaseNode) → cond (b && is_some o) None o ≡ cond b None o
+      left : (b : Bool) (o : Option BaseNode) → cond ((b && is_some o) && true) None o ≡ cond b None o
       left true None = refl
       left true (Some n) = refl
       left false o = refl
@@ -298,8 +201,3 @@ restored paths old w1 w2 o o2 free others gone = same_nodes w2 old o2 o (λ p. g
     by : (p : Path) (b : Bool) → is_one paths p ≡ b → cond b None (get_in w1 p) ≡ get_in old p
     by p true e = sym (free p e)
     by p false e = others p e
-
-pub none_there : (o : Option BaseNode) (b : Bool) → is_some o ≡ false → b ≡ (b && is_none o)
-none_there (Some n) b h = absurd (true≢false h)
-none_there None true h = refl
-none_there None false h = refl

@@ -1,17 +1,22 @@
 //! The pairs of a map, one after the other, the next of them in sight.
 ghost use Rattle.std.specs.Prelude.{◌≡◌, ◌∷◌, [], List, MatchOption};
+ghost use Rattle.std.specs.BTreeMap.{IsOrdered, IsRun};
+ghost use Rattle.std.specs.BTreeMap.Range.{entries_between};
 ghost use Rattle.std.specs.Map.Iter.{deref_pair};
+ghost use Rattle.std.specs.declared.ops.Bound.TheVariants.{Included, Unbounded};
 ghost use Rattle.svn_wc.specs.Truths.{behind_first};
 
-use std::collections::btree_map::Iter;
+use std::collections::BTreeMap;
+use std::collections::btree_map::Range;
 use std::marker::Model;
+use std::ops::Bound;
 
 /// What is left of the pairs of a map, in their order. A contract sees it as these pairs.
 #[derive(Drop)]
 pub(crate) struct Ahead<'a, K, V> {
     next: Option<(&'a K, &'a V)>,
     // behind that one
-    left: Iter<'a, K, V>,
+    left: Range<'a, K, V>,
 }
 
 impl<'a, K, V> Model for Ahead<'a, K, V> {
@@ -26,12 +31,29 @@ impl<'a, K, V> Model for Ahead<'a, K, V> {
     ghost invariant = { λ a. a.next ≡ None → a.left ≡ [] };
 }
 
-impl<'a, K, V> Ahead<'a, K, V> {
-    pub(crate) fn new(mut left: Iter<'a, K, V>) -> Ahead<'a, K, V>
+impl<'a, K: Ord, V> Ahead<'a, K, V> {
+    fn new(mut left: Range<'a, K, V>) -> Ahead<'a, K, V>
         ensures { result ≡ left.entry }
     {
         let next = left.next();
         Ahead { next, left }
+    }
+
+    /// All pairs of a map.
+    pub(crate) fn of(map: &'a BTreeMap<K, V>) -> Ahead<'a, K, V>
+        ensures all { result ≡ map.now.entries }
+        ensures ordered { IsOrdered K.cmp map.now }
+    {
+        Ahead::new(map.range(..))
+    }
+
+    /// The pairs of a map from a key on.
+    pub(crate) fn from(map: &'a BTreeMap<K, V>, key: &K) -> Ahead<'a, K, V>
+        ensures behind { result ≡ entries_between K.cmp (Included key.now) Unbounded map.now.entries }
+        ensures run { IsRun map.now result }
+        ensures ordered { IsOrdered K.cmp map.now }
+    {
+        Ahead::new(map.range((Bound::Included(key), Bound::Unbounded)))
     }
 
     /// The next pair.

@@ -2,7 +2,7 @@
 ghost use Rattle.std.specs.Prelude.{◌≡◌, ◌++◌, [], IfOk, IfErr, OnOk, OnErr, Some, None, nat_le};
 ghost use Rattle.std.specs.Option.{option_copied};
 ghost use Rattle.svn_types.specs.Names.{Path};
-ghost use Rattle.svn_types.specs.Paths.{path_eq, parent, last_name};
+ghost use Rattle.svn_types.specs.Paths.{parent, last_name};
 ghost use Rattle.svn_repo.specs.History.{look};
 ghost use Rattle.svn_repo.specs.Readings.{kind_of};
 ghost use Rattle.svn_model.specs.Nodes.{get_in, IsWorkingCopy, IsTrueOf};
@@ -13,11 +13,13 @@ ghost use Rattle.svn_edit_law.specs.Laws.{EndsNamed};
 ghost use Rattle.svn_wc.specs.Building.{Refuses, tree_at};
 
 use crate::gather::{Origin, gather, map_of};
-use crate::paths::last_name_allowed;
+use crate::paths::{compare_above, last_name_allowed};
 use crate::replace::replace_within;
 use crate::truth::entry_under;
 use crate::working_copy::WorkingCopy;
 use std::alloc::{AllocError, Global};
+use std::cmp::Ordering;
+use std::ops::Bound;
 use svn_edit::{Nodes, child_path, parent_path};
 use svn_edit_law::{a_checkout_is_a_true_copy, placing_keeps_a_copy, switching_keeps_a_copy};
 use svn_model::{BaseNode, WcFault};
@@ -100,16 +102,6 @@ fn joined(alloc: Global, above: &RelPath, path: &RelPath) -> Result<RelPath, All
     }
 }
 
-// Whether a path is the one above another; above the root is the root.
-pub(crate) fn is_parent(other: &RelPath, path: &RelPath) -> bool
-    ensures { result ≡ path_eq (parent path.now) other.now }
-{
-    match path.components().split_last() {
-        Some((_, front)) => front == other.components(),
-        None => other.is_root(),
-    }
-}
-
 impl WorkingCopy {
     /// The tree at a path of a revision: each node complete, its repository path the root's joined with its path. NoSuchRevision, Missing where
     /// nothing stands there, BadRoot for a file; else Memory alone.
@@ -132,20 +124,23 @@ impl WorkingCopy {
         Ok(WorkingCopy { alloc, nodes })
     }
 
-    // What stands at the path above, looked for at each path in turn.
+    // What stands at the path above, looked for from a path back: what lies between them stands below it.
     fn find_above(&self, path: &RelPath) -> Option<&BaseNode>
         ensures { option_copied result ≡ get_in self.now (parent path.now) }
     {
-        for (other, _) in &self.nodes {
-            if is_parent(other, path) {
-                return self.nodes.get(other);
+        let mut left = self.nodes.range((Bound::Unbounded, Bound::Included(path)));
+        'nodes: while let Some((other, node)) = left.next_back() {
+            match compare_above(other, path) {
+                Ordering::Less => return None,
+                Ordering::Equal => return Some(node),
+                Ordering::Greater => {}
             }
         }
         None
     }
 
-    // What stands at the path above. The look-up needs that path: where its memory is refused, all paths are looked through, so that the answer
-    // is the same.
+    // What stands at the path above. The look-up needs that path: where its memory is refused, it is looked for without, so that the answer is
+    // the same.
     fn node_above(&self, path: &RelPath) -> Option<&BaseNode>
         ensures { option_copied result ≡ get_in self.now (parent path.now) }
     {
@@ -155,11 +150,17 @@ impl WorkingCopy {
         }
     }
 
-    // What is placed at a path.
-    fn find_placed(&self, repo: &Repo, path: &RelPath, rev: Rev) -> Result<NodeId, WcFault>
-        ensures found { IfOk result (λ id. look repo.now rev (joined_path (get_in self.now) path.now) ≡ Some id) }
+    // What is placed at a path, behind its repository path: that of the node above, with the name behind it.
+    fn find_placed(
+        &self,
+        repo: &Repo,
+        path: &RelPath,
+        rev: Rev,
+    ) -> Result<(RelPath, NodeId), WcFault>
+        ensures path { IfOk result (λ found. found.0 ≡ joined_path (get_in self.now) path.now) }
+        ensures node { IfOk result (λ found. look repo.now rev (joined_path (get_in self.now) path.now) ≡ Some found.1) }
         ensures made { OnOk result (place_fault repo.now (get_in self.now) path.now rev ≡ None) }
-        ensures fault { IfErr result (λ e. place_fault repo.now (get_in self.now) path.now rev ≡ Some e) }
+        ensures fault { IfErr result (Refuses (place_fault repo.now (get_in self.now) path.now rev)) }
     {
         if path.is_root() {
             return Err(WcFault::IsRoot);
@@ -170,23 +171,10 @@ impl WorkingCopy {
         let Some(BaseNode::Dir { repos_path, .. }) = self.node_above(path) else {
             return Err(WcFault::NoParent);
         };
-        match find_named(repo, rev, repos_path, path) {
-            Some(id) => Ok(id),
-            None => Err(WcFault::Missing),
-        }
-    }
-
-    // The repository path of what is placed at a path: that of the node above, with the name behind it.
-    fn path_placed(&self, path: &RelPath) -> Result<RelPath, AllocError>
-        ensures { IfOk result (λ p. p ≡ joined_path (get_in self.now) path.now) }
-    {
-        match self.node_above(path) {
-            Some(BaseNode::File { repos_path, .. }) => joined(self.alloc, repos_path, path),
-            Some(BaseNode::Dir { repos_path, .. }) => joined(self.alloc, repos_path, path),
-            Some(BaseNode::NotPresent) | None => {
-                joined(self.alloc, &RelPath::root(self.alloc), path)
-            }
-        }
+        let Some(id) = find_named(repo, rev, repos_path, path) else {
+            return Err(WcFault::Missing);
+        };
+        Ok((joined(self.alloc, repos_path, path)?, id))
     }
 
     // What is switched to at a path.
@@ -250,8 +238,7 @@ impl WorkingCopy {
         self.law();
         placing_keeps_a_copy();
         last_name_allowed(path);
-        let id = self.find_placed(repo, path, rev)?;
-        let repos_path = self.path_placed(path)?;
+        let (repos_path, id) = self.find_placed(repo, path, rev)?;
         let from = Origin {
             alloc: self.alloc,
             repo,

@@ -2,32 +2,56 @@
 ghost use Rattle.std.specs.Prelude.{◌≡◌, ◌&&◌, ◌||◌, true, false, IfOk, OnOk, OnErr, Some, None, is_some, is_none, if◌then◌else◌};
 ghost use Rattle.std.specs.List.{list_any};
 ghost use Rattle.std.specs.Option.{option_or};
-ghost use Rattle.svn_types.specs.Names.{Path};
+ghost use Rattle.std.specs.declared.cmp.Ordering.TheVariants.{Less};
+ghost use Rattle.svn_types.specs.Names.{Path, path_cmp};
 ghost use Rattle.svn_types.specs.Paths.{path_eq, is_within};
-ghost use Rattle.svn_model.specs.Nodes.{get_in};
+ghost use Rattle.svn_model.specs.Nodes.{get_in, InPathOrder};
 
+use crate::ahead::Ahead;
 use std::alloc::{AllocError, Global};
-use svn_edit::{Nodes, paths_within, remove_all};
+use std::cmp::Ordering;
+use std::ops::Bound;
+use svn_edit::{Nodes, remove_all};
 use svn_model::BaseNode;
 use svn_types::RelPath;
 
-// Adds a path where nothing stands among the nodes.
-fn note_new(nodes: &Nodes, path: &RelPath, paths: &mut Vec<RelPath>) -> Result<(), AllocError>
-    ensures { OnOk result ((p : Path) → list_any (λ q. path_eq q p) paths.new.items ≡ (list_any (λ q. path_eq q p) paths.old.items || (path_eq path.now p && is_none (get_in nodes.now.entries path.now)))) }
+// Whether something stands at a path among nodes that are gone through in order: those up to the path are passed.
+fn pass_to(beside: &mut Ahead<'_, RelPath, BaseNode>, path: &RelPath) -> bool
+    ensures ordered { InPathOrder beside.old → InPathOrder beside.new }
+    ensures found { InPathOrder beside.old → result ≡ is_some (get_in beside.old path.now) }
+    ensures behind { (p : Path) → path_cmp path.now p ≡ Less → get_in beside.new p ≡ get_in beside.old p }
 {
-    if !nodes.contains_key(path) {
-        paths.push(path.clone()?)?;
+    'beside: while let Some((next, _)) = beside.first() {
+        match next.cmp(path) {
+            Ordering::Less => beside.advance(),
+            Ordering::Equal => {
+                beside.advance();
+                return true;
+            }
+            Ordering::Greater => return false,
+        }
     }
-    Ok(())
+    false
 }
 
-// The paths of a part that aren't among the nodes.
-fn new_paths(alloc: Global, nodes: &Nodes, part: &Nodes) -> Result<Vec<RelPath>, AllocError>
-    ensures { IfOk result (λ v. (p : Path) → list_any (λ q. path_eq q p) v.items ≡ (is_some (get_in part.now.entries p) && is_none (get_in nodes.now.entries p))) }
+// The paths of nodes, at a path and below, at which others have nothing. Both are gone through in order, side by side.
+fn paths_without(
+    alloc: Global,
+    at: &RelPath,
+    nodes: &Nodes,
+    others: &Nodes,
+) -> Result<Vec<RelPath>, AllocError>
+    ensures { IfOk result (λ v. (p : Path) → list_any (λ q. path_eq q p) v.items ≡ ((is_within at.now p && is_some (get_in nodes.now.entries p)) && is_none (get_in others.now.entries p))) }
 {
+    let mut beside = Ahead::from(others, at);
     let mut paths = Vec::new(alloc);
-    for (path, _) in part {
-        note_new(nodes, path, &mut paths)?;
+    for (path, _) in nodes.range((Bound::Included(at), Bound::Unbounded)) {
+        if !path.is_within(at) {
+            break;
+        }
+        if !pass_to(&mut beside, path) {
+            paths.push(path.clone()?)?;
+        }
     }
     Ok(paths)
 }
@@ -59,24 +83,6 @@ fn make_room(nodes: &mut Nodes, paths: &[RelPath]) -> Result<(), AllocError>
             let _after = nodes.len();
             Err(refused)
         }
-    }
-}
-
-// Removes a path at which a part has nothing.
-fn remove_other(nodes: &mut Nodes, path: &RelPath, part: &Nodes)
-    ensures { (p : Path) → get_in nodes.new.entries p ≡ (if path_eq path.now p && is_none (get_in part.now.entries path.now) then None else get_in nodes.old.entries p) }
-{
-    if !part.contains_key(path) {
-        nodes.remove(path);
-    }
-}
-
-// Removes those of the paths at which a part has nothing.
-fn remove_others(nodes: &mut Nodes, paths: &[RelPath], part: &Nodes)
-    ensures { (p : Path) → get_in nodes.new.entries p ≡ (if list_any (λ q. path_eq q p) paths.now && is_none (get_in part.now.entries p) then None else get_in nodes.old.entries p) }
-{
-    for path in paths {
-        remove_other(nodes, path, part);
     }
 }
 
@@ -114,10 +120,10 @@ pub(crate) fn replace_within(
     ensures replaced { OnOk result ((p : Path) → get_in nodes.new.entries p ≡ (if is_within at.now p then get_in part.entries p else get_in nodes.old.entries p)) }
     ensures unchanged { OnErr result (nodes.new.entries ≡ nodes.old.entries) }
 {
-    let old = paths_within(alloc, nodes, at)?;
-    let new = new_paths(alloc, nodes, &part)?;
+    let gone = paths_without(alloc, at, nodes, &part)?;
+    let new = paths_without(alloc, at, &part, nodes)?;
     make_room(nodes, &new)?;
-    remove_others(nodes, &old, &part);
+    remove_all(nodes, &gone);
     put_all(nodes, part);
     Ok(())
 }

@@ -274,7 +274,7 @@ fn first_untrue_within<'a>(
     let Some(listing) = listing_of(repo, node, id) else {
         return is_untrue(repo, node, id, 0).then_some(path);
     };
-    let mut entries = Ahead::new(listing.iter());
+    let mut entries = Ahead::of(listing.as_map());
     let mut missing = listing.len();
     let mut first = None;
     'below: while let Some(below) = next_within(path, left) {
@@ -306,8 +306,7 @@ impl WorkingCopy {
         ensures true_is_ok { IsTrueOf repo.now (get_in self.now) → IsOk result }
     {
         truth_is_tested();
-        let nodes = self.nodes.iter();
-        let mut left = Ahead::new(nodes);
+        let mut left = Ahead::of(&self.nodes);
         let mut first = None;
         'nodes: while let Some((path, node)) = left.first() {
             left.advance();

@@ -22,7 +22,7 @@ returns-in_default-clause-walked t c = λ nodes before order whole found.
 pub below-init : goal.below-init
 below-init t c =
     let h = c.args.repo.now in
-    let all : c.new-entries.result ≡ entries_at h c.args.id.now = c.new-entries.ensures ∙ c.iter.ensures.rest ∙ c.in-Some.ensures in (
+    let all : c.of-entries.result ≡ entries_at h c.args.id.now = c.of-entries.ensures.all ∙ c.as_map.ensures.entries ∙ c.in-Some.ensures in (
       ([], refl),
       λ nodes before order whole found. (
         walk_begins h nodes c.args.path.now c.args.left.now (names_at h c.args.id.now) c.len-missing.result

@@ -15,7 +15,7 @@ nodes-preserved c =
     let step : c.nodes.left ≡ e ∷ c.advance.new.self =
     c.in-Some.ensures ∙ ap (λ (l : List (Path × BaseNode)). e ∷ l) (sym c.advance.ensures) in
     let s = subst (λ (l : List (Path × BaseNode)). Checked h nodes l (option_copied c.nodes.first)) step c.nodes.invariant in
-    let order = subst InPathOrder c.self.view_is c.iter-nodes.ensures.ordered in
+    let order = subst InPathOrder c.self.view_is c.of-left.ensures.ordered in
     let walked = c.first_untrue_within-untrue.ensures.walked nodes s.done order s.parts c.look_up-id.ensures in
     let first : option_or (option_copied c.nodes.first) (option_copied c.first_untrue_within-untrue.result)
     ≡ option_copied c.or-first.result =
@@ -28,7 +28,7 @@ pub returns-in-Some-first-clause-true_is_ok : goal.returns-in-Some-first-clause-
 returns-in-Some-first-clause-true_is_ok c = λ holds.
     let h = c.args.repo.now in
     let nodes = c.args.self.now in
-    let order = subst InPathOrder c.self.view_is c.iter-nodes.ensures.ordered in
+    let order = subst InPathOrder c.self.view_is c.of-left.ensures.ordered in
     let ended : c.nodes.left ≡ [] = c.in_default.ensures in
     let first =
     check_ends h nodes (option_copied c.nodes.first)
@@ -40,7 +40,7 @@ pub returns-in-None-clause-is_true : goal.returns-in-None-clause-is_true
 returns-in-None-clause-is_true c =
     let h = c.args.repo.now in
     let nodes = c.args.self.now in
-    let order = subst InPathOrder c.self.view_is c.iter-nodes.ensures.ordered in
+    let order = subst InPathOrder c.self.view_is c.of-left.ensures.ordered in
     let ended : c.nodes.left ≡ [] = c.in_default.ensures in
     let first =
     check_ends h nodes (option_copied c.nodes.first)

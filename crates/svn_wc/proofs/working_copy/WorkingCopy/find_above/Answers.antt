@@ -1,32 +1,47 @@
-use Rattle.std.proofs.Common.{◌≡◌, ◌∷◌, [], List, Some, Bool, cond, sym, ap, ◌∙◌}
+use Rattle.std.proofs.Common.{◌≡◌, ◌∷◌, ◌++◌, [], List, false, sym, ap, subst, ◌∙◌}
+use Rattle.std.specs.Ordering.{is_eq}
 use Rattle.svn_types.specs.Names.{Path}
-use Rattle.svn_types.specs.Paths.{parent}
+use Rattle.svn_types.specs.Paths.{parent, path_eq}
+use Rattle.svn_types.proofs.PathsInOrder.{at_path, path_tie}
 use Rattle.svn_model.specs.declared.base_node.BaseNode.{BaseNode}
-use Rattle.svn_model.specs.Nodes.{get_in}
-use Rattle.svn_edit_law.proofs.PathsBelow.{path_is}
-use Rattle.svn_edit_law.proofs.Lookups.{at_path}
+use Rattle.svn_model.specs.Nodes.{get_in, InPathOrder}
+use Rattle.svn_edit.proofs.Ranges.{order_run}
+use Rattle.svn_wc.proofs.NodeRanges.{above_among, not_last, last_found, none_behind, order_before}
 use Rattle.svn_wc.proofs.working_copy.WorkingCopy.find_above.Goals as goal
 
-pub loop-other-init : goal.loop-other-init
-loop-other-init c =
-    ap (λ (l : List (Path × BaseNode)). get_in l (parent c.args.path.now))
-    (c.into_iter-other-iterator.ensures.into_iter_gives.0 ∙ c.self.view_is)
+pub nodes-init : goal.nodes-init
+nodes-init c =
+    let range = c.range-left.ensures in (
+      subst InPathOrder (sym range.contiguous.2) (order_run c.self.inside.nodes.entries range.contiguous.0 range.contiguous.1 range.ordered),
+      ap (λ (l : List (Path × BaseNode)). get_in l (parent c.args.path.now)) (range.between tt)
+          ∙ above_among c.self.inside.nodes.entries c.args.path.now
+          ∙ ap (λ (l : List (Path × BaseNode)). get_in l (parent c.args.path.now)) c.self.view_is,
+    )
 
-pub loop-other-preserved : goal.loop-other-preserved
-loop-other-preserved c =
-    let q = parent c.args.path.now in
-    let step : c.loop-other.other-iterator ≡ (c.in-Some.other.now, c.in-Some.field-0-1.now) ∷ c.next.new.self = c.in-Some.ensures.steps in
-    sym (ap (λ (b : Bool). cond b (Some c.in-Some.field-0-1.now) (get_in c.next.new.self q))
-    (at_path q c.in-Some.other.now ∙ sym c.is_parent.ensures ∙ c.if-is_parent.false))
-    ∙ sym (ap (λ (l : List (Path × BaseNode)). get_in l q) step) ∙ c.loop-other.invariant
+pub returns-in-Less : goal.returns-in-Less
+returns-in-Less c =
+    let e : Path × BaseNode = (c.in-Some.other.now, c.in-Some.node.now) in
+    let step : c.nodes.left ≡ c.next_back.new.self ++ e ∷ [] = c.in-Some.ensures.steps in
+    sym (none_behind c.next_back.new.self e (subst InPathOrder step c.nodes.invariant.0) (parent c.args.path.now)
+    (sym c.compare_above.ensures ∙ c.in-Less.is))
+    ∙ sym (ap (λ (l : List (Path × BaseNode)). get_in l (parent c.args.path.now)) step) ∙ c.nodes.invariant.1
 
-pub returns-then-is_parent : goal.returns-then-is_parent
-returns-then-is_parent c =
-    c.get.ensures.value ∙ ap (λ (l : List (Path × BaseNode)). get_in l c.in-Some.other.now) c.self.view_is
-    ∙ ap (get_in c.args.self.now)
-    (sym (path_is (parent c.args.path.now) c.in-Some.other.now (sym c.is_parent.ensures ∙ c.if-is_parent.true)))
+pub returns-in-Equal : goal.returns-in-Equal
+returns-in-Equal c =
+    let e : Path × BaseNode = (c.in-Some.other.now, c.in-Some.node.now) in
+    let step : c.nodes.left ≡ c.next_back.new.self ++ e ∷ [] = c.in-Some.ensures.steps in
+    let here : e.0 ≡ parent c.args.path.now = path_tie e.0 (parent c.args.path.now) (sym c.compare_above.ensures ∙ c.in-Equal.is) in
+    sym (last_found c.next_back.new.self e (subst InPathOrder step c.nodes.invariant.0))
+    ∙ ap (get_in (c.next_back.new.self ++ e ∷ [])) here
+    ∙ sym (ap (λ (l : List (Path × BaseNode)). get_in l (parent c.args.path.now)) step) ∙ c.nodes.invariant.1
 
-pub returns : goal.returns
-returns c =
-    let none : c.loop-other.other-iterator ≡ [] = c.in-None.ensures.steps.0 in
-    ap (λ (l : List (Path × BaseNode)). get_in l (parent c.args.path.now)) (sym none) ∙ c.loop-other.invariant
+pub nodes-preserved : goal.nodes-preserved
+nodes-preserved c =
+    let e : Path × BaseNode = (c.in-Some.other.now, c.in-Some.node.now) in
+    let step : c.nodes.left ≡ c.next_back.new.self ++ e ∷ [] = c.in-Some.ensures.steps in
+    let other : path_eq e.0 (parent c.args.path.now) ≡ false =
+    sym (at_path e.0 (parent c.args.path.now)) ∙ ap is_eq (sym c.compare_above.ensures ∙ c.in-Greater.is) in (
+      order_before c.next_back.new.self (e ∷ []) (subst InPathOrder step c.nodes.invariant.0),
+      sym (not_last c.next_back.new.self e (parent c.args.path.now) other)
+          ∙ sym (ap (λ (l : List (Path × BaseNode)). get_in l (parent c.args.path.now)) step) ∙ c.nodes.invariant.1,
+    )
