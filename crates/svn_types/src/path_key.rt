@@ -7,12 +7,12 @@ use crate::short_bytes::ShortBytes;
 use std::alloc::{AllocError, Global};
 use std::marker::Model;
 
-// The longest key that lies in the value itself. With it what the clones of a path share is a block of 88 bytes.
-const MAX_SHORT: usize = 38;
+// The longest key that lies in the value itself. With it what the clones of a path share is a block of 104 bytes.
+const MAX_SHORT: usize = 54;
 
 #[derive(Drop)]
 enum KeyForm {
-    Short(ShortBytes<38>),
+    Short(ShortBytes<54>),
     Long(Vec<u8>),
 }
 
@@ -34,7 +34,7 @@ impl Model for PathKey {
 
 // A short key with one name more.
 fn short_with_last(above: &[u8], last: &[u8]) -> PathKey
-    requires { length above.now + length last.now + 1 ≤ 38 }
+    requires { length above.now + length last.now + 1 ≤ 54 }
     ensures { result ≡ above.now ++ last.now ++ 1 ∷ [] }
 {
     let mut key = ShortBytes::of(above);
@@ -46,7 +46,7 @@ fn short_with_last(above: &[u8], last: &[u8]) -> PathKey
 }
 
 // The key of these names in the value itself, if it is that short.
-fn short_of(names: &[Name]) -> Option<ShortBytes<38>>
+fn short_of(names: &[Name]) -> Option<ShortBytes<54>>
     ensures key { IfSome result (λ k. k ≡ path_key names.now) }
     ensures plain { IfSome result (λ _. is_plain_path names.now ≡ true) }
 {
