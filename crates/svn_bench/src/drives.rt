@@ -1,17 +1,15 @@
 //! Drives into an editor that only counts: all files of a directory or of a tree changed, ten of them, and a report of many entries.
 
-use anyhow::{Result, bail};
+use crate::trees::Tree;
+use anyhow::Result;
 use std::alloc::Global;
 use std::rt::Clock;
 use std::time::Instant;
 use svn_drive::{DriveOptions, drive};
 use svn_editor::{Call, EditFault, Editor};
-use svn_repo::{Change, Repo};
+use svn_repo::Repo;
 use svn_report::{Report, Reporter};
-use svn_types::{Name, RelPath, Rev, Text};
-
-// In a tree ten files stand in a directory, beside up to ten directories.
-const FILES_EACH: u64 = 10;
+use svn_types::{RelPath, Rev};
 
 // An editor that counts the calls.
 #[derive(Drop)]
@@ -28,91 +26,20 @@ impl Editor for Counter {
     }
 }
 
-// Files, and the directories in which they stand in turn, the root first.
-#[derive(Drop)]
-struct Tree {
-    directories: Vec<RelPath>,
-    files: u64,
-}
-
-impl Tree {
-    // All files in the root.
-    fn flat(alloc: Global, files: u64) -> Result<Tree> {
-        Ok(Tree {
-            directories: vec![in alloc; RelPath::root(alloc)]?,
-            files,
-        })
-    }
-
-    // Ten files and ten directories in each directory.
-    fn bushy(alloc: Global, files: u64) -> Result<Tree> {
-        let mut directories = vec![in alloc; RelPath::root(alloc)]?;
-        for number in 1..files / FILES_EACH {
-            let text = format!(in alloc; "d{number}")?;
-            let name = Name::parse(alloc, text.as_str())?;
-            let Some(above) = directories.get((number / 10) as usize) else {
-                bail!("a directory is missing");
-            };
-            let path = above.join(alloc, &name)?;
-            directories.push(path)?;
-        }
-        Ok(Tree { directories, files })
-    }
-
-    fn file(&self, alloc: Global, number: u64) -> Result<RelPath> {
-        let text = format!(in alloc; "f{number}")?;
-        let name = Name::parse(alloc, text.as_str())?;
-        let count = self.directories.len().max(1);
-        match self.directories.get((number / FILES_EACH) as usize % count) {
-            Some(directory) => Ok(directory.join(alloc, &name)?),
-            None => bail!("a directory is missing"),
+// All of a tree is at revision 2; or at 3, but for each file of which the number is a multiple of the step.
+fn report(alloc: Global, tree: &Tree, step: Option<u64>) -> Result<Report> {
+    let mut reporter = Reporter::new(alloc);
+    let Some(each) = step else {
+        reporter.set_path(&RelPath::root(alloc), Rev(2), false)?;
+        return Ok(reporter.finish_report());
+    };
+    reporter.set_path(&RelPath::root(alloc), Rev(3), false)?;
+    for number in 0..tree.files {
+        if number % each.max(1) == 0 {
+            reporter.set_path(&tree.file(alloc, number)?, Rev(2), false)?;
         }
     }
-
-    // Each file of which the number is a multiple of the step gets the text, in one commit.
-    fn put_each(&self, alloc: Global, repo: &mut Repo, step: u64, text: &str) -> Result<()> {
-        let mut changes = Vec::new(alloc);
-        for number in 0..self.files {
-            if number % step.max(1) == 0 {
-                changes.push(Change::PutFile {
-                    path: self.file(alloc, number)?,
-                    text: Text::new(Vec::from_slice(alloc, text.as_bytes())?),
-                })?;
-            }
-        }
-        repo.commit(&changes)?;
-        Ok(())
-    }
-
-    // Revision 1 has the directories, 2 the files, and 3 another text in each file of which the number is a multiple of the step.
-    fn repository(&self, alloc: Global, step: u64) -> Result<Repo> {
-        let mut repo = Repo::new(alloc)?;
-        let mut changes = Vec::new(alloc);
-        for directory in self.directories.iter().skip(1) {
-            let path = directory.clone()?;
-            changes.push(Change::MakeDir { path })?;
-        }
-        repo.commit(&changes)?;
-        self.put_each(alloc, &mut repo, 1, "a")?;
-        self.put_each(alloc, &mut repo, step, "abc")?;
-        Ok(repo)
-    }
-
-    // All is at revision 2; or at 3, but for each file of which the number is a multiple of the step.
-    fn report(&self, alloc: Global, step: Option<u64>) -> Result<Report> {
-        let mut reporter = Reporter::new(alloc);
-        let Some(each) = step else {
-            reporter.set_path(&RelPath::root(alloc), Rev(2), false)?;
-            return Ok(reporter.finish_report());
-        };
-        reporter.set_path(&RelPath::root(alloc), Rev(3), false)?;
-        for number in 0..self.files {
-            if number % each.max(1) == 0 {
-                reporter.set_path(&self.file(alloc, number)?, Rev(2), false)?;
-            }
-        }
-        Ok(reporter.finish_report())
-    }
+    Ok(reporter.finish_report())
 }
 
 // What is timed.
@@ -149,7 +76,7 @@ fn tree_of(alloc: Global, is_flat: bool, files: u64) -> Result<Tree> {
 fn time<R: Clock + Eprint>(rt: &R, alloc: Global, work: &Work, count: u64) -> Result<()> {
     let files = tree_of(alloc, work.is_flat, count)?;
     let repo = files.repository(alloc, work.changed)?;
-    let report = files.report(alloc, work.reported)?;
+    let report = report(alloc, &files, work.reported)?;
     for _ in 0..3 {
         let start = Instant::now(rt)?;
         let calls = drive_once(alloc, &repo, &report)?;

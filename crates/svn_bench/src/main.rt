@@ -1,14 +1,16 @@
 //! Times parts of the library, one or all of them.
 //!
-//! The first argument is what is timed: `commits`, `edits` (the order check and reports), `drives`, `pools`, `link` or
+//! The first argument is what is timed: `commits`, `copies`, `edits` (the order check and reports), `drives`, `pools`, `link` or
 //! `all`. The second is how many files, calls, entries or pools there are, by default 100,000. The times go to standard error.
 #![tactic(auto)]
 
 mod commits;
+mod copies;
 mod drives;
 mod edits;
 mod link_calls;
 mod pools;
+mod trees;
 
 use anyhow::{Result, bail};
 use std::alloc::Global;
@@ -20,7 +22,7 @@ use std::time::Clock;
 
 const DEFAULT_COUNT: u64 = 100_000;
 
-const ALL: [&str; 5] = ["commits", "edits", "drives", "pools", "link"];
+const ALL: [&str; 6] = ["commits", "copies", "edits", "drives", "pools", "link"];
 
 fn time<R: Threads + Wait + Sync + Clock + Eprint>(
     rt: &R,
@@ -30,11 +32,12 @@ fn time<R: Threads + Wait + Sync + Clock + Eprint>(
 ) -> Result<()> {
     match what {
         "commits" => commits::run(rt, alloc, count),
+        "copies" => copies::run(rt, alloc, count),
         "edits" => edits::run(rt, alloc, count),
         "drives" => drives::run(rt, alloc, count),
         "pools" => pools::run(rt, alloc, count),
         "link" => link_calls::run(rt, alloc, count),
-        _ => bail!("what is timed is commits, edits, drives, pools, link or all"),
+        _ => bail!("what is timed is commits, copies, edits, drives, pools, link or all"),
     }
 }
 
@@ -49,7 +52,7 @@ fn count_wanted<R: Env + Alloc>(rt: &R) -> Result<u64> {
 fn main(rt: HostRuntime) -> Result<()> {
     let count = count_wanted(&rt)?;
     let Some(what) = env::args(&rt)?.nth(1) else {
-        bail!("what is timed is commits, edits, drives, pools, link or all");
+        bail!("what is timed is commits, copies, edits, drives, pools, link or all");
     };
     if what.as_str() != "all" {
         return time(&rt, rt.alloc(), what.as_str(), count);
