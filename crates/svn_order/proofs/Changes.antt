@@ -1,16 +1,13 @@
 -- One element of a list changed.
-use Rattle.std.proofs.Common.{◌≡◌, ℕ, zero, suc, ◌<◌, ◌≤◌, Bool, true, false, cond, ◌||◌, List, [], ◌∷◌, ◌++◌, length, get_or, set, map}
+use Rattle.std.proofs.Common.{◌≡◌, ℕ, zero, suc, ◌<◌, ◌≤◌, Bool, true, false, ◌||◌, List, [], ◌∷◌, ◌++◌, length, get_or, set, map}
 use Rattle.std.proofs.Common.{refl, sym, ◌∙◌, ap, subst, arith}
-use Rattle.std.specs.Prelude.{Some, None, slice_get, bytes_eq}
-use Rattle.std.specs.BTreeMap.{is_at}
-use Rattle.std.specs.BTreeSet.{BTreeSet, contains}
-use Rattle.std.specs.Cmp.Lexicographic.{texts_ties}
+use Rattle.std.specs.Prelude.{Some, None, slice_get}
 use Rattle.std.proofs.lemmas.Option.{same_Some}
-use Rattle.svn_types.specs.Names.{Path, name_cmp}
+use Rattle.svn_types.specs.Names.{Path}
 use Rattle.svn_types.specs.Paths.{parent, is_root}
 use Rattle.svn_order.specs.declared.directories.OpenedDirectory.{OpenedDirectory}
 use Rattle.svn_order.specs.declared.tokens.GivenToken.{GivenToken}
-use Rattle.svn_order.specs.Directories.{shown, ChangesAt, Inserts, with_change, IsEntry, entry_name}
+use Rattle.svn_order.specs.Directories.{shown, ChangesAt, with_change, IsEntry, entry_name}
 use Rattle.svn_order.specs.Tokens.{changed_at}
 
 pub get_read : {X : Type 0} (xs : List X) (i : ℕ) (x : X) → i < length xs → x ≡ get_or xs i x → slice_get xs i ≡ Some x
@@ -145,15 +142,3 @@ split_path p q n e = subst (λ (r : Path). IsEntry r q n) (sym e) (record { belo
     last [] = refl
     last (m ∷ []) = refl
     last (m ∷ k ∷ q) = last (k ∷ q)
-
-pub inserted : (old new : BTreeSet (List ℕ)) (m n : List ℕ) → m ≡ n
-    → ((q : List ℕ) → contains name_cmp new q ≡ cond (is_at (name_cmp m) q) true (contains name_cmp old q)) → Inserts old n new
-inserted old new m n same h q =
-    h q ∙ ap (λ b. cond b true (contains name_cmp old q)) (sym (texts_ties m q) ∙ ap (λ (k : List ℕ). bytes_eq k q) same)
-    ∙ by (bytes_eq n q) (contains name_cmp old q)
-  where
-    by : (a b : Bool) → cond a true b ≡ (b || a)
-    by true true = refl
-    by true false = refl
-    by false true = refl
-    by false false = refl

@@ -3,11 +3,10 @@ use Rattle.std.proofs.Common.{◌≡◌, ℕ, suc, zero, ◌-◌, ◌<◌, Bool,
 use Rattle.std.proofs.Common.{◌∙◌, ap, subst, inl, inr, true≢false, arith}
 use Rattle.std.specs.Prelude.{Option, Some, None, ◌⊎◌, slice_get, nat_eq}
 use Rattle.std.specs.List.{list_any}
-use Rattle.std.specs.BTreeSet.{BTreeSet, contains}
 use Rattle.std.proofs.lemmas.List.{length-append, length-map, map-append, take-map, take_at}
 use Rattle.std.proofs.lemmas.Option.{same_Some}
 use Rattle.svn_types.specs.declared.kind.Kind.TheVariants.{Directory}
-use Rattle.svn_types.specs.Names.{Path, name_cmp}
+use Rattle.svn_types.specs.Names.{Path}
 use Rattle.svn_types.specs.Paths.{path_eq, parent, child}
 use Rattle.svn_editor.specs.declared.call.Call.{Call}
 use Rattle.svn_editor.specs.declared.call.Call.TheVariants.{OpenRoot, DeleteEntry, AddDirectory, OpenDirectory, ChangeDirProp}
@@ -16,6 +15,7 @@ use Rattle.svn_order.specs.declared.directories.OpenedDirectory.{OpenedDirectory
 use Rattle.svn_order.specs.declared.order.OrderCheck.{OrderCheck}
 use Rattle.svn_editor.specs.Calls.{Given, number_eq, opens_entry, deletes, changes_dir, opens_subdirectory, all_given, path_of, innermost}
 use Rattle.svn_editor.specs.Calls.{changed_late}
+use Rattle.svn_order.specs.NameSets.{has_name}
 use Rattle.svn_order.specs.Directories.{entry_name, shown, IsNew, InsertsOpened, InsertsDeleted, ChangesAt, with_subdirectory, with_change}
 use Rattle.svn_order.specs.Directories.{without_last, Opens}
 use Rattle.svn_order.specs.StandsAfter.{open_directories, token_and_path, IsDirectoryOf, Holds}
@@ -108,24 +108,24 @@ pub record IsEntryOf (b : OpenedDirectory) (q : Path) : Type 0 where
 -- the names of the directory after an entry of it is opened
 opened_names : (calls : List Call) (c : Call) (q : Path) (b d : OpenedDirectory) → IsOpenOf c q → IsEntryOf b q
     → InsertsOpened (entry_name q) b d → IsDirectoryOf calls b → (n : List ℕ)
-    → list_any (opens_entry (child d.path n)) (calls ++ c ∷ []) ≡ contains name_cmp d.opened n
+    → list_any (opens_entry (child d.path n)) (calls ++ c ∷ []) ≡ has_name d.opened n
 opened_names calls c q b d o e change was n =
     let same : d.path ≡ b.path = ap (λ p. p.1) change.shown in
     any_more (opens_entry (child d.path n)) calls c
     ∙ ap (λ (p : Path). list_any (opens_entry (child p n)) calls || opens_entry (child p n) c) same
     ∙ ap (λ x. x || opens_entry (child b.path n) c) (was.opened n)
-    ∙ ap (λ x. contains name_cmp b.opened n || x)
+    ∙ ap (λ x. has_name b.opened n || x)
     (o.opens (child b.path n) ∙ ap (λ (p : Path). path_eq p (child b.path n)) (sym e.entry)
     ∙ ap (λ (p : Path). path_eq (child (parent q) (entry_name q)) (child p n)) e.path
     ∙ path_eq-children (parent q) (entry_name q) n)
     ∙ sym (change.opened n)
 
 still_deleted : (calls : List Call) (c : Call) (q : Path) (b d : OpenedDirectory) → IsOpenOf c q → InsertsOpened (entry_name q) b d
-    → IsDirectoryOf calls b → (n : List ℕ) → list_any (deletes (child d.path n)) (calls ++ c ∷ []) ≡ contains name_cmp d.deleted n
+    → IsDirectoryOf calls b → (n : List ℕ) → list_any (deletes (child d.path n)) (calls ++ c ∷ []) ≡ has_name d.deleted n
 still_deleted calls c q b d o change was n =
     any_still (deletes (child d.path n)) calls c (o.no_delete (child d.path n))
     ∙ ap (λ (p : Path). list_any (deletes (child p n)) calls) (ap (λ p. p.1) change.shown) ∙ was.deleted n
-    ∙ ap (λ (x : BTreeSet (List ℕ)). contains name_cmp x n) (sym change.deleted)
+    ∙ ap (λ (x : List (List ℕ)). has_name x n) (sym change.deleted)
 
 not_changed_late : (calls : List Call) (c : Call) (t : ℕ) → changes_dir t c ≡ false
     → changed_late (calls ++ c ∷ []) t ≡ changed_late calls t
@@ -210,11 +210,11 @@ entry_deleted s es calls q rev t h sound p change =
           opened =
               λ n. any_still (opens_entry (child d.path n)) calls (DeleteEntry q rev t) refl
               ∙ ap (λ (r : Path). list_any (opens_entry (child r n)) calls) same ∙ was.opened n
-              ∙ ap (λ (x : BTreeSet (List ℕ)). contains name_cmp x n) (sym inserts.opened);
+              ∙ ap (λ (x : List (List ℕ)). has_name x n) (sym inserts.opened);
           deleted = λ n. any_more (deletes (child d.path n)) calls (DeleteEntry q rev t)
               ∙ ap (λ (r : Path). list_any (deletes (child r n)) calls || path_eq q (child r n)) same
               ∙ ap (λ x. x || path_eq q (child b.path n)) (was.deleted n)
-              ∙ ap (λ x. contains name_cmp b.deleted n || x)
+              ∙ ap (λ x. has_name b.deleted n || x)
               (ap (λ (r : Path). path_eq r (child b.path n)) (sym e.entry)
               ∙ ap (λ (r : Path). path_eq (child (parent q) (entry_name q)) (child r n)) e.path
               ∙ path_eq-children (parent q) (entry_name q) n)
@@ -286,11 +286,11 @@ new_directory calls c q t d sound o new fresh number none =
       opened = λ n. ap (λ (p : Path). list_any (opens_entry (child p n)) (calls ++ c ∷ [])) path
           ∙ any_still (opens_entry (child q n)) calls c (o.opens (child q n) ∙ longer q n)
           ∙ any_weaker (opens_entry (child q n)) (touches (child q n)) calls (opens_touches q n) (sound.entries_in q n fresh)
-          ∙ sym (new.opened n);
+          ∙ ap (λ (s : List (List ℕ)). has_name s n) (sym new.opened);
       deleted = λ n. ap (λ (p : Path). list_any (deletes (child p n)) (calls ++ c ∷ [])) path
           ∙ any_still (deletes (child q n)) calls c (o.no_delete (child q n))
           ∙ any_weaker (deletes (child q n)) (touches (child q n)) calls (deletes_touches q n) (sound.entries_in q n fresh)
-          ∙ sym (new.deleted n);
+          ∙ ap (λ (s : List (List ℕ)). has_name s n) (sym new.deleted);
     }
   where
     longer : (q : Path) (n : List ℕ) → path_eq q (child q n) ≡ false

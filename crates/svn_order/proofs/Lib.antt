@@ -1,3 +1,5 @@
+-- names in order: what is behind them, what a search finds, one more
+pub mod OrderedNames
 -- one element of a list of tokens or of open directories changed
 pub mod Changes
 -- what holds of each list of calls that are in order

@@ -1,12 +1,12 @@
 -- What is remembered of the directories that are open, the innermost last. Each stands at the place that is the length of its path.
-use Rattle.std.specs.Prelude.{◌≡◌, ℕ, ◌-◌, Bool, true, false, ◌&&◌, ◌||◌, not, List, [], ◌∷◌, ◌++◌, length, map, nat_eq, bytes_eq, Option}
+use Rattle.std.specs.Prelude.{◌≡◌, ℕ, ◌-◌, Bool, true, false, ◌&&◌, ◌||◌, not, List, [], ◌∷◌, ◌++◌, length, map, nat_eq, Option}
 use Rattle.std.specs.Prelude.{Some, None, MatchOption, slice_get, take}
 use Rattle.std.specs.Option.{option_map}
 use Rattle.std.specs.Borrow.{Bor}
-use Rattle.std.specs.BTreeSet.{BTreeSet, contains}
-use Rattle.svn_types.specs.Names.{Path, name_cmp}
+use Rattle.svn_types.specs.Names.{Path}
 use Rattle.svn_types.specs.Paths.{path_eq, parent, is_root}
 use Rattle.svn_order.specs.declared.directories.OpenedDirectory.{OpenedDirectory}
+use Rattle.svn_order.specs.NameSets.{has_name, Inserts}
 
 -- the last name of a path
 abbrev pub entry_name : Path → List ℕ
@@ -48,11 +48,11 @@ holds_entry ds t p = not (is_root p) && is_directory t (parent p) (slice_get ds 
 
 abbrev pub opened_of : List ℕ → Option OpenedDirectory → Bool
 opened_of n None = false
-opened_of n (Some d) = contains name_cmp d.opened n
+opened_of n (Some d) = has_name d.opened n
 
 abbrev pub deleted_of : List ℕ → Option OpenedDirectory → Bool
 deleted_of n None = false
-deleted_of n (Some d) = contains name_cmp d.deleted n
+deleted_of n (Some d) = has_name d.deleted n
 
 abbrev pub is_opened_in : List OpenedDirectory → Path → Bool
 is_opened_in ds p = not (is_root p) && opened_of (entry_name p) (slice_get ds (length (parent p)))
@@ -62,17 +62,10 @@ is_deleted_in ds p = not (is_root p) && deleted_of (entry_name p) (slice_get ds 
 
 -- ---- changes
 
--- the second set has this name too
-abbrev pub Inserts : BTreeSet (List ℕ) → List ℕ → BTreeSet (List ℕ) → Type 0
-Inserts old n new = (m : List ℕ) → contains name_cmp new m ≡ (contains name_cmp old m || bytes_eq n m)
-
-abbrev pub IsEmptySet : BTreeSet (List ℕ) → Type 0
-IsEmptySet s = (m : List ℕ) → contains name_cmp s m ≡ false
-
 pub record IsNew (p : Path) (t : ℕ) (d : OpenedDirectory) : Type 0 where
   pub shown : shown d ≡ (t, p)
-  pub opened : IsEmptySet d.opened
-  pub deleted : IsEmptySet d.deleted
+  pub opened : d.opened ≡ []
+  pub deleted : d.deleted ≡ []
   pub no_subdirectory : d.has_subdirectory ≡ false
   pub not_late : d.is_changed_late ≡ false
 

@@ -1,4 +1,5 @@
 pub mod Tokens
+pub mod NameSets
 pub mod Directories
 pub mod OrderState
 pub mod StandsAfter

@@ -8,7 +8,7 @@ use Rattle.std.specs.Ordering.{nat_cmp}
 use Rattle.std.specs.BTreeSet.{contains}
 use Rattle.svn_types.specs.declared.kind.Kind.{Kind}
 use Rattle.svn_types.specs.declared.kind.Kind.TheVariants.{File}
-use Rattle.svn_types.specs.Names.{Path, name_cmp}
+use Rattle.svn_types.specs.Names.{Path}
 use Rattle.svn_types.specs.Paths.{child}
 use Rattle.svn_editor.specs.declared.call.Call.{Call}
 use Rattle.svn_editor.specs.declared.call.Call.TheVariants.{AbortEdit}
@@ -21,6 +21,7 @@ use Rattle.svn_order.specs.declared.order.Stage.{Stage}
 use Rattle.svn_order.specs.declared.order.Stage.TheVariants.{Before, During, Ended, Dead}
 use Rattle.svn_editor.specs.Calls.{Given, kind_eq, is_last, opens_entry, deletes, applies_text, opens_subdirectory, all_given, given}
 use Rattle.svn_editor.specs.Calls.{is_closed, is_of_kind, is_open_directory, changed_late, current_file}
+use Rattle.svn_order.specs.NameSets.{has_name}
 use Rattle.svn_order.specs.Directories.{shown}
 use Rattle.svn_editor.specs.Order.{IsLawful}
 
@@ -45,8 +46,8 @@ pub record IsTokenOf (calls : List Call) (t : ℕ) (n : GivenToken) : Type 0 whe
 pub record IsDirectoryOf (calls : List Call) (d : OpenedDirectory) : Type 0 where
   pub subdirectory : list_any (opens_subdirectory d.token) calls ≡ d.has_subdirectory
   pub late : changed_late calls d.token ≡ d.is_changed_late
-  pub opened : (n : List ℕ) → list_any (opens_entry (child d.path n)) calls ≡ contains name_cmp d.opened n
-  pub deleted : (n : List ℕ) → list_any (deletes (child d.path n)) calls ≡ contains name_cmp d.deleted n
+  pub opened : (n : List ℕ) → list_any (opens_entry (child d.path n)) calls ≡ has_name d.opened n
+  pub deleted : (n : List ℕ) → list_any (deletes (child d.path n)) calls ≡ has_name d.deleted n
 
 -- each part of the check says its part of the calls
 pub record Holds (check : OrderCheck) (calls : List Call) : Type 0 where

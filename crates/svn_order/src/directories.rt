@@ -3,8 +3,8 @@
 ghost use Rattle.std.specs.Prelude.{◌≡◌, OnOk};
 ghost use Rattle.svn_order.specs.Directories.{innermost_of, holds_entry, is_opened_in, is_deleted_in, changed_late_in, IsNew, InsertsOpened, InsertsDeleted, OpensEntry, DeletesEntry, OpensSubdirectory, ChangesProp, Opens, without_last, EntrySplit};
 
+use crate::name_set::NameSet;
 use std::alloc::{AllocError, Global};
-use std::collections::BTreeSet;
 use svn_editor::Token;
 use svn_types::{Name, RelPath};
 
@@ -16,9 +16,9 @@ pub struct OpenedDirectory {
     /// Its path from the root of the edit.
     pub path: RelPath,
     /// The entries that were opened or added.
-    pub opened: BTreeSet<Name>,
+    pub opened: NameSet,
     /// The entries that were deleted.
-    pub deleted: BTreeSet<Name>,
+    pub deleted: NameSet,
     /// A directory in it was opened or added.
     pub has_subdirectory: bool,
     /// A property change came after a subdirectory.
@@ -32,8 +32,8 @@ impl OpenedDirectory {
         OpenedDirectory {
             token,
             path,
-            opened: BTreeSet::new(alloc),
-            deleted: BTreeSet::new(alloc),
+            opened: NameSet::new(alloc),
+            deleted: NameSet::new(alloc),
             has_subdirectory: false,
             is_changed_late: false,
         }

@@ -18,6 +18,7 @@
 #![tactic(auto)]
 
 mod directories;
+mod name_set;
 mod order;
 mod order_rules;
 mod tokens;
