@@ -1,5 +1,5 @@
 // Copies that are made and changed without an edit, and what they report.
-use crate::steps::same;
+use crate::steps::{Case, same};
 use std::test::Fail;
 
 // `f` with the text `a` in revision 1, and with `abc` in revision 2.
@@ -12,7 +12,7 @@ const TWO_BRANCHES: &str =
 
 #[test]
 fn refuses_and_changes_nothing(rt: HostRuntime) -> Result<(), Fail> {
-    let cases = [
+    const CASES: &[Case<'static>] = &[
         ("checkout 3 .", "refused 1; "),
         ("checkout 1 g", "refused 2; "),
         ("checkout 1 f", "refused 8; "),
@@ -29,18 +29,19 @@ fn refuses_and_changes_nothing(rt: HostRuntime) -> Result<(), Fail> {
         ("forget .", "refused 4; "),
         ("forget f; forget f", "refused 2; "),
     ];
-    same(&rt, rt.alloc(), ONE_FILE, &cases)
+    same(&rt, rt.alloc(), ONE_FILE, CASES)
 }
 
 #[test]
 fn places_and_switches(rt: HostRuntime) -> Result<(), Fail> {
-    let file = "switch g f 2; show; report; check";
-    let after = ". dir 1 .; f file 1 f a; g file 2 f abc; set . 1; link g f 2; true; ";
-    same(&rt, rt.alloc(), ONE_FILE, &[(file, after)])?;
-    let nodes = ". dir 1 .; a dir 1 b; a/y file 1 b/y a; b dir 1 b; b/y file 1 b/y a; ";
-    let placed = ". dir 1 .; a dir 1 a; a/x file 1 a/x a; b dir 1 b; b/y file 1 b/y a; ";
-    let cases = [
-        ("switch a b 1; show", nodes),
+    const FILE: &[Case<'static>] = &[(
+        "switch g f 2; show; report; check",
+        ". dir 1 .; f file 1 f a; g file 2 f abc; set . 1; link g f 2; true; ",
+    )];
+    const NODES: &str = ". dir 1 .; a dir 1 b; a/y file 1 b/y a; b dir 1 b; b/y file 1 b/y a; ";
+    const PLACED: &str = ". dir 1 .; a dir 1 a; a/x file 1 a/x a; b dir 1 b; b/y file 1 b/y a; ";
+    const DIRECTORIES: &[Case<'static>] = &[
+        ("switch a b 1; show", NODES),
         ("switch a b 1; report; check", "set . 1; link a b 1; true; "),
         // a switch beneath a switch, and a file where nothing stood
         (
@@ -49,24 +50,28 @@ fn places_and_switches(rt: HostRuntime) -> Result<(), Fail> {
         ),
         // a place below a switched directory follows its repository path
         ("switch a b 1; place a/x 1", "refused 2; "),
-        ("switch a b 1; forget a/y; place a/y 1; show", nodes),
+        ("switch a b 1; forget a/y; place a/y 1; show", NODES),
         // a place over a switched subtree
-        ("switch a . 1; switch a/a b 1; place a 1; show", placed),
+        ("switch a . 1; switch a/a b 1; place a 1; show", PLACED),
     ];
-    same(&rt, rt.alloc(), TWO_DIRECTORIES, &cases)
+    same(&rt, rt.alloc(), ONE_FILE, FILE)?;
+    same(&rt, rt.alloc(), TWO_DIRECTORIES, DIRECTORIES)
 }
 
 #[test]
 fn places_older_nodes(rt: HostRuntime) -> Result<(), Fail> {
-    let begun = "mkdir d; put d/x a; commit; put d/x abc; commit; put y a; commit; checkout 3 .; ";
-    let script = "place d/x 1; show; report; check";
-    let after = ". dir 3 .; d dir 3 d; d/x file 1 d/x a; y file 3 y a; set . 3; set d/x 1; true; ";
-    same(&rt, rt.alloc(), begun, &[(script, after)])
+    const BEGUN: &str =
+        "mkdir d; put d/x a; commit; put d/x abc; commit; put y a; commit; checkout 3 .; ";
+    const CASES: &[Case<'static>] = &[(
+        "place d/x 1; show; report; check",
+        ". dir 3 .; d dir 3 d; d/x file 1 d/x a; y file 3 y a; set . 3; set d/x 1; true; ",
+    )];
+    same(&rt, rt.alloc(), BEGUN, CASES)
 }
 
 #[test]
 fn forgets_files_and_directories(rt: HostRuntime) -> Result<(), Fail> {
-    let cases = [
+    const CASES: &[Case<'static>] = &[
         (
             "forget a/x; show; report; check",
             ". dir 1 .; a dir 1 a; a/x not-present; b dir 1 b; b/y file 1 b/y a; set . 1; delete a/x; true; ",
@@ -81,14 +86,16 @@ fn forgets_files_and_directories(rt: HostRuntime) -> Result<(), Fail> {
         ),
         ("forget b; place b 1; report", "set . 1; "),
     ];
-    same(&rt, rt.alloc(), TWO_DIRECTORIES, &cases)
+    same(&rt, rt.alloc(), TWO_DIRECTORIES, CASES)
 }
 
 #[test]
 fn checks_out_a_branch(rt: HostRuntime) -> Result<(), Fail> {
-    let nodes = ". dir 1 t; d dir 1 t/d; d/x file 1 t/d/x a; f file 1 t/f a; ";
-    let cases = [
-        ("checkout 1 t; show", nodes),
+    const CASES: &[Case<'static>] = &[
+        (
+            "checkout 1 t; show",
+            ". dir 1 t; d dir 1 t/d; d/x file 1 t/d/x a; f file 1 t/f a; ",
+        ),
         ("checkout 1 t; report; check", "root t; set . 1; true; "),
         ("checkout 1 t/f", "refused 8; "),
         ("checkout 1 b", "refused 2; "),
@@ -98,5 +105,5 @@ fn checks_out_a_branch(rt: HostRuntime) -> Result<(), Fail> {
             "root t; set . 1; link d e 1; true; ",
         ),
     ];
-    same(&rt, rt.alloc(), TWO_BRANCHES, &cases)
+    same(&rt, rt.alloc(), TWO_BRANCHES, CASES)
 }

@@ -1,11 +1,11 @@
 // Copies made of lists of nodes, which need not be true.
 use crate::builders::ONE_FILE;
-use crate::steps::same;
+use crate::steps::{Case, same};
 use std::test::Fail;
 
 #[test]
 fn refuses_lists(rt: HostRuntime) -> Result<(), Fail> {
-    let cases = [
+    const CASES: &[Case<'static>] = &[
         ("nodes; stop; ", "refused 8; "),
         ("nodes; . dir 1 .; . dir 1 .; stop; ", "refused 7; "),
         ("nodes; . file 1 . a; stop; ", "refused 8; "),
@@ -20,12 +20,12 @@ fn refuses_lists(rt: HostRuntime) -> Result<(), Fail> {
             "refused 5; . dir 1 .; f file 1 f a; ",
         ),
     ];
-    same(&rt, rt.alloc(), ONE_FILE, &cases)
+    same(&rt, rt.alloc(), ONE_FILE, CASES)
 }
 
 #[test]
 fn tells_the_first_untrue_path(rt: HostRuntime) -> Result<(), Fail> {
-    let cases = [
+    const CASES: &[Case<'static>] = &[
         ("nodes; . dir 1 .; stop; check", "untrue at .; "),
         ("nodes; . dir 1 . incomplete; stop; check", "true; "),
         ("nodes; . dir 1 .; f not-present; stop; check", "true; "),
@@ -49,15 +49,15 @@ fn tells_the_first_untrue_path(rt: HostRuntime) -> Result<(), Fail> {
             "untrue at .; ",
         ),
     ];
-    same(&rt, rt.alloc(), ONE_FILE, &cases)
+    same(&rt, rt.alloc(), ONE_FILE, CASES)
 }
 
 // The text of an untrue file is no base for the edit, and stays.
 #[test]
 fn an_untrue_file_is_no_base(rt: HostRuntime) -> Result<(), Fail> {
-    let script =
-        "nodes; . dir 1 .; f file 1 f abc; stop; check; edit; set_target_revision 2; open_root 1 #0; open_file f #0 1 #1; apply_text #1 A abc; close_file #1 B; abort_edit; stop; show";
-    let wanted =
-        "untrue at f; accepted 4 refused 44 13 pools 1; . dir 2 . incomplete; f file 1 f abc; ";
-    same(&rt, rt.alloc(), ONE_FILE, &[(script, wanted)])
+    const CASES: &[Case<'static>] = &[(
+        "nodes; . dir 1 .; f file 1 f abc; stop; check; edit; set_target_revision 2; open_root 1 #0; open_file f #0 1 #1; apply_text #1 A abc; close_file #1 B; abort_edit; stop; show",
+        "untrue at f; accepted 4 refused 44 13 pools 1; . dir 2 . incomplete; f file 1 f abc; ",
+    )];
+    same(&rt, rt.alloc(), ONE_FILE, CASES)
 }

@@ -5,7 +5,7 @@ use std::test::Fail;
 use svn_model::BaseNode;
 use svn_types::{Props, RelPath};
 
-pub(crate) fn node(alloc: Global, line: &str) -> Result<(RelPath, BaseNode), Fail> {
+fn node(alloc: Global, line: &str) -> Result<(RelPath, BaseNode), Fail> {
     let node = match word(line, 1) {
         "file" => BaseNode::File {
             rev: revision(line, 2)?,
@@ -22,4 +22,16 @@ pub(crate) fn node(alloc: Global, line: &str) -> Result<(RelPath, BaseNode), Fai
         _ => BaseNode::NotPresent,
     };
     Ok((path(alloc, line, 0)?, node))
+}
+
+// The nodes of lines with `; ` between two.
+pub(crate) fn nodes(alloc: Global, lines: &str) -> Result<Vec<(RelPath, BaseNode)>, Fail> {
+    let mut nodes = Vec::new(alloc);
+    if lines.is_empty() {
+        return Ok(nodes);
+    }
+    for line in lines.split("; ") {
+        nodes.push(node(alloc, line)?)?;
+    }
+    Ok(nodes)
 }

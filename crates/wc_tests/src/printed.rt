@@ -1,16 +1,16 @@
 // What a copy has and reports, as a script prints it: with `; ` behind each line.
-use std::alloc::Global;
+use std::alloc::{AllocError, Global};
 use std::test::Fail;
 use svn_editor::{PathWord, Word};
 use svn_model::BaseNode;
 use svn_repo::Repo;
-use svn_report::EntryLine;
+use svn_report::{EntryLine, Report};
 use svn_types::{Props, RelPath};
 use svn_wc::WorkingCopy;
 
-fn node_line(alloc: Global, at: &RelPath, node: &BaseNode) -> Result<String, Fail> {
+fn write_line(out: &mut String, at: &RelPath, node: &BaseNode) -> Result<(), AllocError> {
     let at = PathWord(at);
-    Ok(match node {
+    match node {
         BaseNode::File {
             rev,
             repos_path,
@@ -18,7 +18,7 @@ fn node_line(alloc: Global, at: &RelPath, node: &BaseNode) -> Result<String, Fai
             ..
         } => {
             let (from, text) = (PathWord(repos_path), Word(text.as_slice()));
-            format!(in alloc; "{at} file {} {from} {text}; ", rev.0)?
+            write!(out, "{at} file {rev} {from} {text}; ")
         }
         BaseNode::Dir {
             rev,
@@ -26,71 +26,81 @@ fn node_line(alloc: Global, at: &RelPath, node: &BaseNode) -> Result<String, Fai
             complete,
             ..
         } => {
-            let (from, rest) = (
-                PathWord(repos_path),
-                if *complete { "" } else { " incomplete" },
-            );
-            format!(in alloc; "{at} dir {} {from}{rest}; ", rev.0)?
+            let end = if *complete { "" } else { " incomplete" };
+            write!(out, "{at} dir {rev} {}{end}; ", PathWord(repos_path))
         }
-        BaseNode::NotPresent => format!(in alloc; "{at} not-present; ")?,
-    })
+        BaseNode::NotPresent => write!(out, "{at} not-present; "),
+    }
 }
 
-fn push_props(alloc: Global, out: &mut String, at: &RelPath, props: &Props) -> Result<(), Fail> {
+fn write_props(out: &mut String, at: &RelPath, props: &Props) -> Result<(), AllocError> {
     for (name, value) in props.as_map() {
         let (at, value) = (PathWord(at), Word(value.as_slice()));
-        out.push_str(&format!(in alloc; "{at} prop {} {value}; ", name.as_str())?)?;
+        write!(out, "{at} prop {name} {value}; ")?;
     }
     Ok(())
 }
 
-fn push_node(alloc: Global, out: &mut String, at: &RelPath, node: &BaseNode) -> Result<(), Fail> {
-    out.push_str(&node_line(alloc, at, node)?)?;
+fn write_node(out: &mut String, at: &RelPath, node: &BaseNode) -> Result<(), AllocError> {
+    write_line(out, at, node)?;
     match node {
-        BaseNode::File { props, .. } => push_props(alloc, out, at, props),
-        BaseNode::Dir { props, .. } => push_props(alloc, out, at, props),
+        BaseNode::File { props, .. } | BaseNode::Dir { props, .. } => write_props(out, at, props),
         BaseNode::NotPresent => Ok(()),
     }
 }
 
 // The nodes of a copy.
-pub(crate) fn shown(alloc: Global, copy: &WorkingCopy) -> Result<String, Fail> {
-    let mut out = String::new(alloc);
+pub(crate) fn write_nodes(out: &mut String, copy: &WorkingCopy) -> Result<(), AllocError> {
     for (at, node) in copy.nodes() {
-        push_node(alloc, &mut out, at, node)?;
+        write_node(out, at, node)?;
     }
+    Ok(())
+}
+
+pub(crate) fn shown(alloc: Global, copy: &WorkingCopy) -> Result<String, AllocError> {
+    let mut out = String::new(alloc);
+    write_nodes(&mut out, copy)?;
     Ok(out)
 }
 
-// What a copy reports: its root's path, where that isn't empty, and the entries.
-pub(crate) fn reported(alloc: Global, copy: &WorkingCopy) -> Result<String, Fail> {
-    let report = copy.crawl(alloc)?;
-    let mut out = String::new(alloc);
+fn write_report(out: &mut String, report: &Report) -> Result<(), AllocError> {
     if !report.root().is_root() {
-        let root = PathWord(report.root());
-        out.push_str(&format!(in alloc; "root {root}; ")?)?;
+        write!(out, "root {}; ", PathWord(report.root()))?;
     }
     for place in 0..report.len() {
         if let Some((path, entry)) = report.entry(place) {
-            let line = EntryLine { path, entry };
-            out.push_str(&format!(in alloc; "{line}; ")?)?;
+            write!(out, "{}; ", EntryLine { path, entry })?;
         }
     }
-    Ok(out)
+    Ok(())
+}
+
+// What a copy reports: its root's path, where that isn't empty, and the entries.
+pub(crate) fn write_crawl(alloc: Global, out: &mut String, copy: &WorkingCopy) -> Result<(), Fail> {
+    let report = copy.crawl(alloc)?;
+    Ok(write_report(out, &report)?)
 }
 
 // Whether a copy is true.
-pub(crate) fn checked(alloc: Global, copy: &WorkingCopy, repo: &Repo) -> Result<String, Fail> {
-    Ok(match copy.check_true(repo) {
-        Ok(()) => format!(in alloc; "true; ")?,
-        Err(path) => format!(in alloc; "untrue at {}; ", PathWord(path))?,
-    })
+pub(crate) fn write_truth(
+    out: &mut String,
+    copy: &WorkingCopy,
+    repo: &Repo,
+) -> Result<(), AllocError> {
+    match copy.check_true(repo) {
+        Ok(()) => out.push_str("true; "),
+        Err(path) => write!(out, "untrue at {}; ", PathWord(path)),
+    }
 }
 
 // How long the text of a file is.
-pub(crate) fn text_length(alloc: Global, copy: &WorkingCopy, at: &RelPath) -> Result<String, Fail> {
-    Ok(match copy.get(at) {
-        Some(BaseNode::File { text, .. }) => format!(in alloc; "{} bytes; ", text.len())?,
-        _ => format!(in alloc; "no file; ")?,
-    })
+pub(crate) fn write_length(
+    out: &mut String,
+    copy: &WorkingCopy,
+    at: &RelPath,
+) -> Result<(), AllocError> {
+    match copy.get(at) {
+        Some(BaseNode::File { text, .. }) => write!(out, "{} bytes; ", text.len()),
+        _ => out.push_str("no file; "),
+    }
 }

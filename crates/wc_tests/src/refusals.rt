@@ -1,6 +1,6 @@
 // Edits of which a call is refused, and with it each call after it but `abort_edit`.
 use crate::builders::ONE_FILE;
-use crate::steps::same;
+use crate::steps::writes;
 use std::alloc::Global;
 use std::process::Abort;
 use std::test::Fail;
@@ -14,20 +14,25 @@ const CHANGED: &str = ". dir 2 . incomplete; f file 2 f abc; ";
 const CLOSED: &str = ". dir 2 .; f file 2 f abc; ";
 
 // The calls of an edit, the answers, and what the copy has then.
-type Row<'a> = (&'a str, &'a str, &'a str);
+type Row = (&'static str, &'static str, &'static str);
 
-fn answers(rt: &impl Abort, alloc: Global, begun: &str, rows: &[Row<'_>]) -> Result<(), Fail> {
-    for (calls, answers, nodes) in rows {
-        let script = format!(in alloc; "edit; {calls}; stop; show")?;
-        let wanted = format!(in alloc; "{answers}; {nodes}")?;
-        same(rt, alloc, begun, &[(script.as_str(), wanted.as_str())])?;
+fn answer(rt: &impl Abort, alloc: Global, begun: &str, row: Row) -> Result<(), Fail> {
+    let (calls, answers, nodes) = row;
+    let script = format!(in alloc; "edit; {calls}; stop; show")?;
+    let wanted = format!(in alloc; "{answers}; {nodes}")?;
+    writes(rt, alloc, begun, (&script, &wanted))
+}
+
+fn answers(rt: &impl Abort, alloc: Global, begun: &str, rows: &[Row]) -> Result<(), Fail> {
+    for row in rows {
+        answer(rt, alloc, begun, *row)?;
     }
     Ok(())
 }
 
 #[test]
 fn refuses_an_edit_without_a_call(rt: HostRuntime) -> Result<(), Fail> {
-    let rows = [
+    const ROWS: &[Row] = &[
         (
             "open_root 1 #0; open_file f #0 1 #1; apply_text #1 A abc; close_file #1 B; close_directory #0; close_edit",
             "accepted 0 refused 1 13 13 13 13 13 pools 1",
@@ -59,12 +64,12 @@ fn refuses_an_edit_without_a_call(rt: HostRuntime) -> Result<(), Fail> {
             CHANGED,
         ),
     ];
-    answers(&rt, rt.alloc(), ONE_FILE, &rows)
+    answers(&rt, rt.alloc(), ONE_FILE, ROWS)
 }
 
 #[test]
 fn refuses_a_call_given_twice(rt: HostRuntime) -> Result<(), Fail> {
-    let rows = [
+    const ROWS: &[Row] = &[
         (
             "set_target_revision 2; set_target_revision 2; open_root 1 #0; open_file f #0 1 #1; apply_text #1 A abc; close_file #1 B; close_directory #0; close_edit",
             "accepted 1 refused 1 13 13 13 13 13 13 pools 1",
@@ -101,12 +106,12 @@ fn refuses_a_call_given_twice(rt: HostRuntime) -> Result<(), Fail> {
             CLOSED,
         ),
     ];
-    answers(&rt, rt.alloc(), ONE_FILE, &rows)
+    answers(&rt, rt.alloc(), ONE_FILE, ROWS)
 }
 
 #[test]
 fn refuses_what_the_copy_has_not(rt: HostRuntime) -> Result<(), Fail> {
-    let rows = [
+    const ROWS: &[Row] = &[
         (
             "set_target_revision 2; open_root 2 #0",
             "accepted 1 refused 43 pools 1",
@@ -154,12 +159,12 @@ fn refuses_what_the_copy_has_not(rt: HostRuntime) -> Result<(), Fail> {
             ". dir 2 . incomplete; f file 1 f a; g not-present; ",
         ),
     ];
-    answers(&rt, rt.alloc(), ONE_FILE, &rows)
+    answers(&rt, rt.alloc(), ONE_FILE, ROWS)
 }
 
 #[test]
 fn refuses_what_is_too_long(rt: HostRuntime) -> Result<(), Fail> {
-    let rows = [
+    const ROWS: &[Row] = &[
         (
             "set_target_revision 2; open_root 1 #0; add_file g #0 #1; apply_text #1 - x*1048577",
             "accepted 3 refused 49 pools 3",
@@ -176,28 +181,28 @@ fn refuses_what_is_too_long(rt: HostRuntime) -> Result<(), Fail> {
             OPENED,
         ),
     ];
-    answers(&rt, rt.alloc(), ONE_FILE, &rows)
+    answers(&rt, rt.alloc(), ONE_FILE, ROWS)
 }
 
 #[test]
 fn refuses_texts_out_of_turn(rt: HostRuntime) -> Result<(), Fail> {
-    let empty = ". dir 1 . incomplete; f not-present; ";
-    let both = ". dir 1 . incomplete; f not-present; g not-present; ";
-    let rows = [
+    const EMPTY: &str = ". dir 1 . incomplete; f not-present; ";
+    const BOTH: &str = ". dir 1 . incomplete; f not-present; g not-present; ";
+    const ROWS: &[Row] = &[
         (
             "set_target_revision 1; open_root 0 #0; add_file f #0 #1; apply_text #1 - a; close_directory #0",
             "accepted 4 refused 9 pools 3",
-            empty,
+            EMPTY,
         ),
         (
             "set_target_revision 1; open_root 0 #0; add_file f #0 #1; add_file g #0 #2; change_file_prop #1 p 1",
             "accepted 4 refused 8 pools 4",
-            both,
+            BOTH,
         ),
         (
             "set_target_revision 1; open_root 0 #0; add_file f #0 #1; add_file g #0 #2; close_file #1",
             "accepted 4 refused 17 pools 4",
-            both,
+            BOTH,
         ),
         (
             "set_target_revision 1; open_root 0 #0; add_file f #0 #1; close_directory #0; close_edit",
@@ -210,5 +215,5 @@ fn refuses_texts_out_of_turn(rt: HostRuntime) -> Result<(), Fail> {
             ". dir 1 .; f file 1 f abc; g file 1 g a; ",
         ),
     ];
-    answers(&rt, rt.alloc(), "", &rows)
+    answers(&rt, rt.alloc(), "", ROWS)
 }

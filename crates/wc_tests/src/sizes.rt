@@ -1,7 +1,8 @@
 // The deepest paths, wide directories, and the longest texts.
 use crate::builders::ONE_FILE;
-use crate::steps::same;
+use crate::steps::{Case, same, writes};
 use std::alloc::Global;
+use std::process::Abort;
 use std::test::Fail;
 
 // `d/d/d`, with so many names.
@@ -13,71 +14,102 @@ fn chain(alloc: Global, names: usize) -> Result<String, Fail> {
     Ok(path)
 }
 
+fn push_mkdir(alloc: Global, script: &mut String, names: usize) -> Result<(), Fail> {
+    script.push_str(&format!(in alloc; "mkdir {}; ", chain(alloc, names)?)?)?;
+    Ok(())
+}
+
 // A repository with a chain of 64 directories, checked out.
 fn deep_copy(alloc: Global) -> Result<String, Fail> {
     let mut script = String::new(alloc);
     for names in 1..65usize {
-        script.push_str(&format!(in alloc; "mkdir {}; ", chain(alloc, names)?)?)?;
+        push_mkdir(alloc, &mut script, names)?;
     }
     script.push_str("commit; checkout 1 .; ")?;
     Ok(script)
 }
 
+fn switches_the_last(rt: &impl Abort, alloc: Global, deep: &str) -> Result<(), Fail> {
+    let last = chain(alloc, 64)?;
+    let script = format!(in alloc; "switch {last} . 1; count; check; forget {last}; count")?;
+    writes(rt, alloc, deep, (&script, "129 nodes; true; 65 nodes; "))
+}
+
+fn refuses_a_root_below_it(rt: &impl Abort, alloc: Global, deep: &str) -> Result<(), Fail> {
+    let script = format!(in alloc; "switch {} . 1; count", chain(alloc, 65)?)?;
+    writes(rt, alloc, deep, (&script, "refused 5; 65 nodes; "))
+}
+
+fn switches_below_it(rt: &impl Abort, alloc: Global, deep: &str) -> Result<(), Fail> {
+    let below = chain(alloc, 65)?;
+    let script = format!(in alloc; "switch {below} d 1; count; check; report")?;
+    let wanted = format!(in alloc; "129 nodes; true; set . 1; link {below} d 1; ")?;
+    writes(rt, alloc, deep, (&script, &wanted))
+}
+
 // A path has at most 64 names more than its repository path, so at most 128.
 #[test]
 fn switches_at_the_deepest_paths(rt: HostRuntime) -> Result<(), Fail> {
-    let alloc = rt.alloc();
-    let (last, below) = (chain(alloc, 64)?, chain(alloc, 65)?);
-    let root = format!(in alloc; "switch {last} . 1; count; check; forget {last}; count")?;
-    let too_deep = format!(in alloc; "switch {below} . 1; count")?;
-    let child = format!(in alloc; "switch {below} d 1; count; check; report")?;
-    let reported = format!(in alloc; "129 nodes; true; set . 1; link {below} d 1; ")?;
-    let cases = [
-        (root.as_str(), "129 nodes; true; 65 nodes; "),
-        (too_deep.as_str(), "refused 5; 65 nodes; "),
-        (child.as_str(), reported.as_str()),
-    ];
-    same(&rt, alloc, deep_copy(alloc)?.as_str(), &cases)
+    let deep = deep_copy(rt.alloc())?;
+    switches_the_last(&rt, rt.alloc(), &deep)?;
+    refuses_a_root_below_it(&rt, rt.alloc(), &deep)?;
+    switches_below_it(&rt, rt.alloc(), &deep)
+}
+
+const OPENED: &str = "edit; set_target_revision 2; open_root 1 #0; ";
+
+fn push_directory(alloc: Global, script: &mut String, depth: usize) -> Result<(), Fail> {
+    let path = chain(alloc, depth)?;
+    let parent = depth.saturating_sub(1);
+    script.push_str(&format!(in alloc; "add_directory {path} #{parent} #{depth}; ")?)?;
+    Ok(())
+}
+
+fn directories_down_to(alloc: Global, depth: usize) -> Result<String, Fail> {
+    let mut script = String::from_str(alloc, OPENED)?;
+    for names in 1..=depth {
+        push_directory(alloc, &mut script, names)?;
+    }
+    script.push_str("abort_edit; stop; count")?;
+    Ok(script)
 }
 
 #[test]
 fn adds_directories_down_to_64_names(rt: HostRuntime) -> Result<(), Fail> {
-    let alloc = rt.alloc();
-    let mut script = String::new(alloc);
-    script.push_str("edit; set_target_revision 2; open_root 1 #0; ")?;
-    for depth in 0..65usize {
-        let path = chain(alloc, depth + 1)?;
-        script.push_str(&format!(in alloc; "add_directory {path} #{depth} #{}; ", depth + 1)?)?;
+    let script = directories_down_to(rt.alloc(), 65)?;
+    let wanted = "accepted 67 refused 48 pools 1; 66 nodes; ";
+    writes(&rt, rt.alloc(), ONE_FILE, (&script, wanted))
+}
+
+fn push_file(alloc: Global, script: &mut String, file: u64) -> Result<(), Fail> {
+    let calls = format!(in alloc;
+        "add_file g{file} #0 #{file}; apply_text #{file} - a; close_file #{file} A; "
+    )?;
+    script.push_str(&calls)?;
+    Ok(())
+}
+
+fn files_up_to(alloc: Global, last: u64) -> Result<String, Fail> {
+    let mut script = String::from_str(alloc, OPENED)?;
+    for file in 1..=last {
+        push_file(alloc, &mut script, file)?;
     }
-    script.push_str("abort_edit; stop; count")?;
-    let cases = [(
-        script.as_str(),
-        "accepted 67 refused 48 pools 1; 66 nodes; ",
-    )];
-    same(&rt, alloc, ONE_FILE, &cases)
+    script.push_str("close_directory #0; close_edit; stop; count")?;
+    Ok(script)
 }
 
 #[test]
 fn adds_a_thousand_files(rt: HostRuntime) -> Result<(), Fail> {
-    let alloc = rt.alloc();
-    let mut script = String::new(alloc);
-    script.push_str("edit; set_target_revision 2; open_root 1 #0; ")?;
-    for file in 1..1_001u64 {
-        let calls = format!(in alloc;
-            "add_file g{file} #0 #{file}; apply_text #{file} - a; close_file #{file} A; "
-        )?;
-        script.push_str(&calls)?;
-    }
-    script.push_str("close_directory #0; close_edit; stop; count")?;
-    let cases = [(script.as_str(), "accepted 3004 pools 1; 1002 nodes; ")];
-    same(&rt, alloc, ONE_FILE, &cases)
+    let script = files_up_to(rt.alloc(), 1_000)?;
+    let wanted = "accepted 3004 pools 1; 1002 nodes; ";
+    writes(&rt, rt.alloc(), ONE_FILE, (&script, wanted))
 }
 
 #[test]
 fn takes_the_longest_texts(rt: HostRuntime) -> Result<(), Fail> {
-    let cases = [(
+    const CASES: &[Case<'static>] = &[(
         "edit; set_target_revision 2; open_root 1 #0; open_file f #0 1 #1; change_file_prop #1 p x*1048576; apply_text #1 A x*1048576; close_file #1; close_directory #0; close_edit; stop; length f",
         "accepted 8 pools 1; 1048576 bytes; ",
     )];
-    same(&rt, rt.alloc(), ONE_FILE, &cases)
+    same(&rt, rt.alloc(), ONE_FILE, CASES)
 }

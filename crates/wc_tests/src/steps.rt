@@ -2,13 +2,13 @@
 // `nodes` to `stop` are the calls of an edit, or the nodes of a new copy. `show`, `report`, `check`, `count` and the end of an edit write, and so
 // does a refusal: its number.
 use crate::calls::call;
-use crate::nodes::node;
-use crate::printed::{checked, reported, shown, text_length};
+use crate::nodes::nodes;
+use crate::printed::{shown, write_crawl, write_length, write_nodes, write_truth};
 use crate::words::{path, revision, text, value, word};
-use std::alloc::Global;
+use std::alloc::{AllocError, Global};
 use std::process::Abort;
 use std::test::Fail;
-use svn_editor::Editor;
+use svn_editor::{EditFault, Editor};
 use svn_repo::{Change, Repo};
 use svn_types::{PropName, Rev};
 use svn_wc::{Applier, WcFault, WorkingCopy};
@@ -51,11 +51,6 @@ fn change(alloc: Global, step: &str) -> Result<Option<Change>, Fail> {
 }
 
 impl State {
-    fn write(&mut self, line: &str) -> Result<(), Fail> {
-        self.out.push_str(line)?;
-        Ok(())
-    }
-
     fn commit(&mut self) -> Result<(), Fail> {
         self.repo.commit(&self.changes)?;
         self.changes.clear();
@@ -75,8 +70,8 @@ impl State {
     }
 
     fn write_fault(&mut self, fault: WcFault) -> Result<(), Fail> {
-        let line = format!(in self.alloc; "refused {}; ", fault.number())?;
-        self.write(&line)
+        write!(self.out, "refused {}; ", fault.number())?;
+        Ok(())
     }
 
     fn place(&mut self, step: &str) -> Result<Result<(), WcFault>, Fail> {
@@ -99,20 +94,21 @@ impl State {
         };
         self.write_fault(fault)?;
         if shown(self.alloc, &self.copy)? != before {
-            self.write("changed; ")?;
+            self.out.push_str("changed; ")?;
         }
         Ok(())
     }
 
     fn look(&mut self, step: &str) -> Result<(), Fail> {
-        let line = match word(step, 0) {
-            "show" => shown(self.alloc, &self.copy)?,
-            "report" => reported(self.alloc, &self.copy)?,
-            "count" => format!(in self.alloc; "{} nodes; ", self.copy.nodes().len())?,
-            "length" => text_length(self.alloc, &self.copy, &path(self.alloc, step, 1)?)?,
-            _ => checked(self.alloc, &self.copy, &self.repo)?,
-        };
-        self.write(&line)
+        let out = &mut self.out;
+        match word(step, 0) {
+            "show" => write_nodes(out, &self.copy)?,
+            "report" => write_crawl(self.alloc, out, &self.copy)?,
+            "count" => write!(out, "{} nodes; ", self.copy.nodes().len())?,
+            "length" => write_length(out, &self.copy, &path(self.alloc, step, 1)?)?,
+            _ => write_truth(out, &self.copy, &self.repo)?,
+        }
+        Ok(())
     }
 
     fn take(&mut self, step: &str) -> Result<(), Fail> {
@@ -130,13 +126,7 @@ impl State {
 
     // The copy that these nodes make.
     fn list(&mut self, lines: &str) -> Result<(), Fail> {
-        let mut nodes = Vec::new(self.alloc);
-        if !lines.is_empty() {
-            for line in lines.split("; ") {
-                nodes.push(node(self.alloc, line)?)?;
-            }
-        }
-        match WorkingCopy::from_nodes(self.alloc, nodes) {
+        match WorkingCopy::from_nodes(self.alloc, nodes(self.alloc, lines)?) {
             Ok(copy) => {
                 self.copy = copy;
                 Ok(())
@@ -147,38 +137,73 @@ impl State {
 
     // Gives an edit's calls to the copy: an update's, or those of a switch.
     fn edit(&mut self, first: &str, calls: &str) -> Result<(), Fail> {
+        if word(first, 1).is_empty() {
+            let mut applier = Applier::new(self.alloc, &mut self.copy)?;
+            return write_answers(self.alloc, &mut self.out, &mut applier, calls);
+        }
         let to = path(self.alloc, first, 1)?;
-        let line = match word(first, 1) {
-            "" => given(self.alloc, Applier::new(self.alloc, &mut self.copy)?, calls)?,
-            _ => {
-                let applier = Applier::new_switch(self.alloc, &mut self.copy, &to)?;
-                given(self.alloc, applier, calls)?
-            }
-        };
-        self.write(&line)
+        let mut applier = Applier::new_switch(self.alloc, &mut self.copy, &to)?;
+        write_answers(self.alloc, &mut self.out, &mut applier, calls)
     }
 }
 
-// How many calls an applier accepts, the numbers of the faults of the others, and the pools that are live then.
-fn given(alloc: Global, mut applier: Applier<'_>, calls: &str) -> Result<String, Fail> {
-    let mut accepted = 0u64;
-    let mut faults = String::new(alloc);
-    for step in calls.split("; ") {
-        let Some(call) = call(alloc, step)? else {
-            return Ok(format!(in alloc; "no call: {step}; ")?);
+// What an applier answers to the calls of an edit: how many it accepts, and the numbers of the faults of the others.
+#[derive(Drop)]
+struct Answers {
+    accepted: u64,
+    faults: String,
+}
+
+impl Answers {
+    fn take(&mut self, answer: Result<(), EditFault>) -> Result<(), AllocError> {
+        let Err(fault) = answer else {
+            self.accepted = self.accepted.saturating_add(1);
+            return Ok(());
         };
-        match applier.call(call) {
-            Ok(()) => accepted = accepted.saturating_add(1),
-            Err(fault) => {
-                let word = if faults.is_empty() { " refused" } else { "" };
-                faults.push_str(&format!(in alloc; "{word} {}", fault.number())?)?;
-            }
-        }
+        let before = if self.faults.is_empty() {
+            " refused "
+        } else {
+            " "
+        };
+        write!(self.faults, "{before}{}", fault.number())
     }
-    Ok(format!(in alloc;
-        "accepted {accepted}{faults} pools {}; ",
-        applier.live_pools()
-    )?)
+}
+
+fn give(
+    alloc: Global,
+    applier: &mut Applier<'_>,
+    step: &str,
+    answers: &mut Answers,
+) -> Result<(), Fail> {
+    let Some(call) = call(alloc, step)? else {
+        return Err(Fail::from(format!(in alloc; "no call: {step}")?));
+    };
+    Ok(answers.take(applier.call(call))?)
+}
+
+fn answers_to(alloc: Global, applier: &mut Applier<'_>, calls: &str) -> Result<Answers, Fail> {
+    let mut answers = Answers {
+        accepted: 0,
+        faults: String::new(alloc),
+    };
+    for step in calls.split("; ") {
+        give(alloc, applier, step, &mut answers)?;
+    }
+    Ok(answers)
+}
+
+// The answers, and the pools that are live then.
+fn write_answers(
+    alloc: Global,
+    out: &mut String,
+    applier: &mut Applier<'_>,
+    calls: &str,
+) -> Result<(), Fail> {
+    let answers = answers_to(alloc, applier, calls)?;
+    let (accepted, faults) = (answers.accepted, answers.faults.as_str());
+    let pools = applier.live_pools();
+    write!(out, "accepted {accepted}{faults} pools {pools}; ")?;
+    Ok(())
 }
 
 // The steps up to `stop`, and those behind it.
@@ -226,16 +251,31 @@ fn written(alloc: Global, begun: &str, script: &str) -> Result<String, Fail> {
     Ok(state.out)
 }
 
+// A script, and what it writes.
+pub(crate) type Case<'a> = (&'a str, &'a str);
+
+// Behind this beginning, a script writes what stands beside it.
+pub(crate) fn writes(
+    rt: &impl Abort,
+    alloc: Global,
+    begun: &str,
+    case: Case<'_>,
+) -> Result<(), Fail> {
+    let (script, wanted) = case;
+    let found = written(alloc, begun, script)?;
+    assert_eq!(rt; found.as_str(), wanted, "of {script}");
+    Ok(())
+}
+
 // Behind the same beginning, each script writes what stands beside it.
 pub(crate) fn same(
     rt: &impl Abort,
     alloc: Global,
     begun: &str,
-    cases: &[(&str, &str)],
+    cases: &[Case<'_>],
 ) -> Result<(), Fail> {
-    for (script, wanted) in cases {
-        let found = written(alloc, begun, script)?;
-        assert_eq!(rt; found.as_str(), *wanted, "of {script}");
+    for case in cases {
+        writes(rt, alloc, begun, *case)?;
     }
     Ok(())
 }
