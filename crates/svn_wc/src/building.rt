@@ -226,7 +226,8 @@ impl WorkingCopy {
 
     /// Puts the tree of a revision at the parent's repository path joined with the name in the place of what stands at a path, and beneath;
     /// nothing needs to stand there. IsRoot, NoSuchRevision, NoParent where the parent isn't a present directory, Missing where the repository has
-    /// nothing there; else Memory alone. A refusal leaves the copy as it was. It costs what goes and what comes.
+    /// nothing there; else Memory alone. A refusal leaves the copy as it was. It costs what goes and what comes; where memory for the path above
+    /// is refused, also what stands between the two.
     pub fn place(&mut self, repo: &Repo, path: &RelPath, rev: Rev) -> Result<(), WcFault>
         ensures nodes { OnOk result ((p : Path) → get_in self.new p ≡ placed repo.now (get_in self.old) path.now (joined_path (get_in self.old) path.now) rev p) }
         ensures made { OnOk result (place_fault repo.now (get_in self.old) path.now rev ≡ None) }
