@@ -1,9 +1,10 @@
 //! Times parts of the library, one or all of them.
 //!
-//! The first argument is what is timed: `commits`, `copies`, `edits` (the order check and reports), `drives`, `pools`, `link` or
-//! `all`. The second is how many files, calls, entries or pools there are, by default 100,000. The times go to standard error.
+//! The first argument is what is timed: `commits`, `copies`, `edits` (the order check and reports), `drives`, `applies`, `pools`,
+//! `link` or `all`. The second is how many files, calls, entries or pools there are, by default 100,000. The times go to standard error.
 #![tactic(auto)]
 
+mod applies;
 mod commits;
 mod copies;
 mod drives;
@@ -22,7 +23,9 @@ use std::time::Clock;
 
 const DEFAULT_COUNT: u64 = 100_000;
 
-const ALL: [&str; 6] = ["commits", "copies", "edits", "drives", "pools", "link"];
+const ALL: [&str; 7] = [
+    "commits", "copies", "edits", "drives", "applies", "pools", "link",
+];
 
 fn time<R: Threads + Wait + Sync + Clock + Eprint>(
     rt: &R,
@@ -35,9 +38,10 @@ fn time<R: Threads + Wait + Sync + Clock + Eprint>(
         "copies" => copies::run(rt, alloc, count),
         "edits" => edits::run(rt, alloc, count),
         "drives" => drives::run(rt, alloc, count),
+        "applies" => applies::run(rt, alloc, count),
         "pools" => pools::run(rt, alloc, count),
         "link" => link_calls::run(rt, alloc, count),
-        _ => bail!("what is timed is commits, copies, edits, drives, pools, link or all"),
+        _ => bail!("what is timed is commits, copies, edits, drives, applies, pools, link or all"),
     }
 }
 
@@ -52,7 +56,7 @@ fn count_wanted<R: Env + Alloc>(rt: &R) -> Result<u64> {
 fn main(rt: HostRuntime) -> Result<()> {
     let count = count_wanted(&rt)?;
     let Some(what) = env::args(&rt)?.nth(1) else {
-        bail!("what is timed is commits, copies, edits, drives, pools, link or all");
+        bail!("what is timed is commits, copies, edits, drives, applies, pools, link or all");
     };
     if what.as_str() != "all" {
         return time(&rt, rt.alloc(), what.as_str(), count);

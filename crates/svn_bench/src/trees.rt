@@ -43,10 +43,10 @@ impl Tree {
         })
     }
 
-    /// Ten files and ten directories in each directory.
-    pub(crate) fn bushy(alloc: Global, files: u64) -> Result<Tree> {
+    /// Ten directories in each directory, and no file.
+    pub(crate) fn of_directories(alloc: Global, count: u64) -> Result<Tree> {
         let mut directories = top(alloc)?;
-        for number in 1..files / EACH {
+        for number in 1..count {
             let text = format!(in alloc; "d{number}")?;
             let above = directories.get((number / EACH) as usize);
             let path = below(alloc, above, text.as_str())?;
@@ -55,8 +55,15 @@ impl Tree {
         Ok(Tree {
             directories,
             first: 0,
-            files,
+            files: 0,
         })
+    }
+
+    /// Ten files and ten directories in each directory.
+    pub(crate) fn bushy(alloc: Global, files: u64) -> Result<Tree> {
+        let mut tree = Tree::of_directories(alloc, files / EACH)?;
+        tree.files = files;
+        Ok(tree)
     }
 
     /// All files sixty directories down.

@@ -166,7 +166,7 @@ impl fmt::Display for PathWord<'_> {
     ghost output = { λ w. Some (path_word w.0.now) };
 
     fn fmt<W: fmt::Write>(&self, f: &mut fmt::Formatter<W>) -> fmt::Result {
-        match self.0.key().split_last() {
+        match self.0.key().as_bytes().split_last() {
             Some((_, names)) => write_names(names, f),
             None => f.write_str("."),
         }

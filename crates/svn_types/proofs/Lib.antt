@@ -14,3 +14,5 @@ pub mod PathOrder
 pub mod Places
 -- keys of paths, whose order is that of the paths
 pub mod PathKeys
+-- keys of paths, which are texts
+pub mod KeyTexts

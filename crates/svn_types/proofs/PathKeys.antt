@@ -1,5 +1,5 @@
 -- The order of the keys of paths is the order of the paths.
-use Rattle.std.proofs.Common.{◌≡◌, ℕ, Bool, true, false, ◌&&◌, List, [], ◌∷◌, ◌++◌, refl, ap, sym, ◌∙◌, arith, nat_eq}
+use Rattle.std.proofs.Common.{◌≡◌, ◌≢◌, ℕ, Bool, true, false, ◌&&◌, List, [], ◌∷◌, ◌++◌, refl, ap, sym, ◌∙◌, arith, nat_eq}
 use Rattle.std.proofs.Common.{Option, Some, None, length, append_assoc, true≢false, take, drop, take-append-drop, MatchOption, ◌↔◌, ◌+◌}
 use Rattle.std.specs.declared.cmp.Ordering.{Ordering}
 use Rattle.std.specs.declared.cmp.Ordering.TheVariants.{Less, Equal, Greater}
@@ -10,11 +10,16 @@ use Rattle.std.proofs.lemmas.List.Folds.{list_all-append}
 use Rattle.std.proofs.lemmas.List.{append_cancel_left}
 use Rattle.std.proofs.Math.Seq.{take-append_seam}
 use denote.Ref.{Bor}
+use Rattle.std.specs.Str.Pattern.{FindsTextPrefix, StripsPrefix}
+use Rattle.std.specs.Prelude.{bytes_eq, is_some}
 use Rattle.std.specs.Option.{option_or}
 use Rattle.svn_types.specs.Names.{Path, is_plain, IsName}
 use Rattle.svn_types.specs.NameFaults.{name_fault, names_fault}
 use Rattle.svn_types.specs.declared.fault.PathFault.{PathFault}
 use Rattle.svn_types.specs.PathKeys.{path_key, is_plain_name, is_plain_path}
+use Rattle.svn_types.specs.Paths.{is_within}
+use Rattle.svn_types.proofs.NameLemmas.{bytes_eq-same}
+use Rattle.svn_types.proofs.PathLemmas.{split_within}
 
 then_assoc : (r s t : Ordering) → ordering_then r (ordering_then s t) ≡ ordering_then (ordering_then r s) t
 then_assoc Less s t = refl
@@ -76,6 +81,10 @@ path_key-child (m ∷ p) n =
     ∙ sym (append_assoc m (1 ∷ path_key p) (n ++ 1 ∷ []))
     ∙ sym (append_assoc (m ++ 1 ∷ path_key p) n (1 ∷ []))
 
+pub path_key-append : (p r : Path) → path_key (p ++ r) ≡ path_key p ++ path_key r
+path_key-append [] r = refl
+path_key-append (n ∷ p) r = ap (λ s. n ++ 1 ∷ s) (path_key-append p r) ∙ sym (append_assoc n (1 ∷ path_key p) (path_key r))
+
 -- names without a fault are plain
 plain_name : (n : List ℕ) → name_fault n ≡ None → is_plain_name n ≡ true
 plain_name [] h = grind (arith, h)
@@ -111,12 +120,10 @@ key_child below p n hb hp name = (
 
 -- what `strip_prefix` says
 pub stripped : (s p : List ℕ) (r : Option (Bor (List ℕ)))
-    → MatchOption r (pointwise nat_eq (take (length p) s) p ≡ false)
-    (λ x. (pointwise nat_eq (take (length p) s) p ≡ true) × (x.now ≡ drop (length p) s) × (length x.now + length p ≡ length s))
+    → MatchOption r (FindsTextPrefix p s None) (λ x. StripsPrefix (FindsTextPrefix p) s x.now)
     → MatchOption r ((rest : List ℕ) → s ≡ p ++ rest → ⊥) (λ x. s ≡ p ++ x.now)
-stripped s p None h = λ rest e.
-    true≢false (sym ((bytes_decides (take (length p) s) p).1 (ap (take (length p)) e ∙ take-append_seam p rest)) ∙ h)
-stripped s p (Some x) h = sym (take-append-drop (length p) s) ∙ (λ i. (bytes_decides (take (length p) s) p).0 h.0 i ++ sym h.1 i)
+stripped s p None h = h
+stripped s p (Some x) h = h.1.1 ∙ ap (λ (l : List ℕ). p ++ l) (sym h.2)
 
 pub one_more : (key above below last end : List ℕ) → key ≡ above ++ below → below ≡ last ++ end
     → (end ≡ 1 ∷ []) ↔ (key ≡ above ++ last ++ 1 ∷ [])
@@ -135,3 +142,47 @@ pub not_more : (key above below last : List ℕ) → key ≡ above ++ below → 
     → key ≡ above ++ last ++ 1 ∷ [] → ⊥
 not_more key above below last hk not e =
     not (1 ∷ []) (append_cancel_left above below (last ++ 1 ∷ []) (sym hk ∙ e ∙ append_assoc above last (1 ∷ [])))
+
+-- ---- a path within another
+
+not_one : (b : ℕ) (rest : Bool) → (is_plain b && rest) ≡ true → 1 ≢ b
+not_one b rest h e = grind (arith, h, e)
+
+-- where a name ends is seen by the byte behind it
+names_end : (m n s t : List ℕ) → list_all is_plain m ≡ true → list_all is_plain n ≡ true → m ++ 1 ∷ s ≡ n ++ 1 ∷ t → (m ≡ n) × (s ≡ t)
+names_end [] [] s t hm hn e = (refl, cc)
+names_end [] (b ∷ n) s t hm hn e = absurd (not_one b _ hn cc)
+names_end (a ∷ m) [] s t hm hn e = absurd (not_one a _ hm cc)
+names_end (a ∷ m) (b ∷ n) s t hm hn e =
+    let first : a ≡ b = cc in
+    let rest = names_end m n s t (rest_plain _ _ hm) (rest_plain _ _ hn) cc in
+    ((λ i. first i ∷ rest.0 i), rest.1)
+
+no_front : (n s : List ℕ) → [] ≢ n ++ 1 ∷ s
+no_front [] s e = cc
+no_front (b ∷ n) s e = cc
+
+key_within : (p q : Path) → is_plain_path p ≡ true → is_plain_path q ≡ true → (rest : List ℕ) → path_key q ≡ path_key p ++ rest
+    → is_within p q ≡ true
+key_within [] q hp hq rest e = refl
+key_within (m ∷ p) [] hp hq rest e = absurd (no_front m (path_key p ++ rest) (e ∙ append_assoc m (1 ∷ path_key p) rest))
+key_within (m ∷ p) (n ∷ q) hp hq rest e =
+    let parts = names_end n m (path_key q) (path_key p ++ rest) (rest_plain _ _ (first_plain _ _ hq)) (rest_plain _ _ (first_plain _ _ hp))
+    (e ∙ append_assoc m (1 ∷ path_key p) rest) in
+    (λ i. bytes_eq (sym parts.0 i) n && is_within p q) ∙ ap (λ b. b && is_within p q) (bytes_eq-same n)
+    ∙ key_within p q (rest_plain _ _ hp) (rest_plain _ _ hq) rest parts.1
+
+within_key : (p q : Path) → is_within p q ≡ true → (rest : List ℕ) × (path_key q ≡ path_key p ++ rest)
+within_key p q w =
+    let split = split_within p q w in
+    (path_key split.0, ap path_key split.1 ∙ path_key-append p split.0)
+
+-- what stands behind the key above in the key below says whether the path is within
+pub within_by_keys : (p q : Path) → is_plain_path p ≡ true → is_plain_path q ≡ true → (r : Option (Bor (List ℕ)))
+    → MatchOption r ((rest : List ℕ) → path_key q ≡ path_key p ++ rest → ⊥) (λ x. path_key q ≡ path_key p ++ x.now) → is_some r ≡ is_within p q
+within_by_keys p q hp hq (Some x) h = sym (key_within p q hp hq x.now h)
+within_by_keys p q hp hq None h = by (is_within p q) (within_key p q)
+  where
+    by : (b : Bool) → (b ≡ true → (rest : List ℕ) × (path_key q ≡ path_key p ++ rest)) → false ≡ b
+    by false w = refl
+    by true w = absurd (h (w refl).0 (w refl).1)

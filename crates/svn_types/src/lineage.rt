@@ -6,7 +6,7 @@ ghost use Rattle.svn_types.specs.Paths.{parent, parent_path, last_name, child, i
 use crate::fault::PathFault;
 use crate::limits::MAX_COMPONENTS;
 use crate::name::Name;
-use crate::rel_path::RelPath;
+use crate::rel_path::{RelPath, behind};
 use std::alloc::{AllocError, Global};
 
 // The names of one list, and behind them those of another.
@@ -42,7 +42,7 @@ impl RelPath {
     pub fn is_within(&self, above: &RelPath) -> bool
         ensures { result ≡ is_within above.now self.now }
     {
-        self.components().starts_with(above.components())
+        behind(self.key(), above.key()).is_some()
     }
 
     /// The path with the names of another one behind its own: TooManyComponents where they are over 128 together, else Memory alone.

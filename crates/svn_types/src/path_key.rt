@@ -1,11 +1,12 @@
 //! Keys of paths, by which they are compared.
-ghost use Rattle.std.specs.Prelude.{◌≡◌, ◌+◌, ◌≤◌, ◌∷◌, ◌++◌, [], length, IfOk, IfSome, true};
+ghost use Rattle.std.specs.Prelude.{◌≡◌, ◌+◌, ◌≤◌, ◌∷◌, ◌++◌, [], length, IfOk, IfSome, IsUtf8, true};
 ghost use Rattle.svn_types.specs.PathKeys.{path_key, is_plain_path};
 
 use crate::name::Name;
 use crate::short_bytes::ShortBytes;
 use std::alloc::{AllocError, Global};
 use std::marker::Model;
+use std::str;
 
 // The longest key that lies in the value itself. With it what the clones of a path share is a block of 104 bytes.
 const MAX_SHORT: usize = 54;
@@ -17,28 +18,30 @@ enum KeyForm {
 }
 
 /// The key of a path: its names in one run of bytes, the byte 1 behind each. As no name has a byte below 32, the order of the keys is that of
-/// the paths. A contract sees it as its bytes.
+/// the paths. It is a text, since texts are compared many bytes at a time. A contract sees it as its bytes.
 #[derive(Drop)]
 pub(crate) struct PathKey {
     form: KeyForm,
 }
 
 impl Model for PathKey {
-    ghost use Rattle.std.specs.Prelude.{ℕ, List};
+    ghost use Rattle.std.specs.Prelude.{ℕ, List, IsUtf8};
     ghost use Rattle.svn_types.specs.Forms.{key_bytes};
 
     ghost Value = { List ℕ };
 
     ghost view = { λ k. key_bytes k.form };
+
+    ghost invariant = { λ k. ∥ IsUtf8 (key_bytes k.form) ∥₁ };
 }
 
 // A short key with one name more.
-fn short_with_last(above: &[u8], last: &[u8]) -> PathKey
+fn short_with_last(above: &str, last: &str) -> PathKey
     requires { length above.now + length last.now + 1 ≤ 54 }
     ensures { result ≡ above.now ++ last.now ++ 1 ∷ [] }
 {
-    let mut key = ShortBytes::of(above);
-    key.push_all(last);
+    let mut key = ShortBytes::of(above.as_bytes());
+    key.push_all(last.as_bytes());
     key.push_all(&[1]);
     PathKey {
         form: KeyForm::Short(key),
@@ -49,6 +52,7 @@ fn short_with_last(above: &[u8], last: &[u8]) -> PathKey
 fn short_of(names: &[Name]) -> Option<ShortBytes<54>>
     ensures key { IfSome result (λ k. k ≡ path_key names.now) }
     ensures plain { IfSome result (λ _. is_plain_path names.now ≡ true) }
+    ensures text { IfSome result (λ k. ∥ IsUtf8 k ∥₁) }
 {
     let mut key = ShortBytes::new();
     for name in names {
@@ -66,6 +70,7 @@ fn short_of(names: &[Name]) -> Option<ShortBytes<54>>
 fn long_of(alloc: Global, names: &[Name], len: usize) -> Result<Vec<u8>, AllocError>
     ensures key { IfOk result (λ v. v.items ≡ path_key names.now) }
     ensures plain { IfOk result (λ _. is_plain_path names.now ≡ true) }
+    ensures text { IfOk result (λ v. ∥ IsUtf8 v.items ∥₁) }
 {
     let mut key = Vec::with_capacity(alloc, len)?;
     for name in names {
@@ -81,15 +86,18 @@ impl PathKey {
         ensures key { IfOk result (λ k. k ≡ path_key names.now) }
         ensures plain { IfOk result (λ k. is_plain_path names.now ≡ true) }
     {
-        let form = match short_of(names) {
-            Some(key) => KeyForm::Short(key),
-            None => KeyForm::Long(long_of(alloc, names, len)?),
-        };
-        Ok(PathKey { form })
+        if let Some(key) = short_of(names) {
+            return Ok(PathKey {
+                form: KeyForm::Short(key),
+            });
+        }
+        Ok(PathKey {
+            form: KeyForm::Long(long_of(alloc, names, len)?),
+        })
     }
 
     /// The key with one name more.
-    pub(crate) fn with_last(alloc: Global, above: &[u8], last: &[u8]) -> Result<PathKey, AllocError>
+    pub(crate) fn with_last(alloc: Global, above: &str, last: &str) -> Result<PathKey, AllocError>
         ensures { IfOk result (λ k. k ≡ above.now ++ last.now ++ 1 ∷ []) }
     {
         let len = above.len().saturating_add(last.len()).saturating_add(1);
@@ -97,21 +105,21 @@ impl PathKey {
             return Ok(short_with_last(above, last));
         }
         let mut key = Vec::with_capacity(alloc, len)?;
-        key.extend_from_slice(above)?;
-        key.extend_from_slice(last)?;
+        key.extend_from_slice(above.as_bytes())?;
+        key.extend_from_slice(last.as_bytes())?;
         key.push(1)?;
         Ok(PathKey {
             form: KeyForm::Long(key),
         })
     }
 
-    /// Its bytes.
-    pub(crate) fn as_slice(&self) -> &[u8]
+    /// Its text.
+    pub(crate) fn as_str(&self) -> &str
         ensures { result.now ≡ self.now }
     {
         match &self.form {
-            KeyForm::Short(key) => key.as_slice(),
-            KeyForm::Long(key) => key,
+            KeyForm::Short(key) => unsafe { str::from_utf8_unchecked(key.as_slice()) },
+            KeyForm::Long(key) => unsafe { str::from_utf8_unchecked(key) },
         }
     }
 }

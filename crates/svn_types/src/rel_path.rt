@@ -49,11 +49,11 @@ impl PathParts {
         self.names.as_slice()
     }
 
-    fn key(&self) -> &[u8]
+    fn key(&self) -> &str
         ensures key { result.now ≡ path_key self.now }
         ensures plain { is_plain_path self.now ≡ true }
     {
-        self.key.as_slice()
+        self.key.as_str()
     }
 }
 
@@ -158,27 +158,28 @@ fn joined(alloc: Global, path: &RelPath, last: &Name) -> Result<Arc<PathParts>, 
     ensures { IfOk result (λ p. arc_value p ≡ path.now ++ last.now ∷ []) }
 {
     let names = PathNames::with_last(alloc, path.components(), last)?;
-    let key = PathKey::with_last(alloc, path.key(), last.as_str().as_bytes())?;
+    let key = PathKey::with_last(alloc, path.key(), last.as_str())?;
     Ok(Arc::new(alloc, PathParts { names, key })?)
 }
 
-// What stands behind the first bytes, if they are these.
-fn after_bytes<'a>(bytes: &'a [u8], first: &[u8]) -> Option<&'a [u8]>
-    ensures { MatchOption result ((rest : List ℕ) → bytes.now ≡ first.now ++ rest → ⊥) (λ rest. bytes.now ≡ first.now ++ rest.now) }
+// What stands behind a text's front, if that is this.
+pub(crate) fn behind<'a>(text: &'a str, front: &str) -> Option<&'a str>
+    ensures { MatchOption result ((rest : List ℕ) → text.now ≡ front.now ++ rest → ⊥) (λ rest. text.now ≡ front.now ++ rest.now) }
 {
-    bytes.strip_prefix(first)
+    text.strip_prefix(front)
 }
 
 // Whether a key is another one with a name more.
-fn is_one_more(key: &[u8], above: &[u8], last: &[u8]) -> bool
+fn is_one_more(key: &str, above: &str, last: &str) -> bool
     ensures { IsTrue result ↔ (key.now ≡ above.now ++ last.now ++ 1 ∷ []) }
 {
-    let Some(below) = after_bytes(key, above) else {
+    let Some(below) = behind(key, above) else {
         return false;
     };
-    let Some(end) = after_bytes(below, last) else {
+    let Some(end) = behind(below, last) else {
         return false;
     };
+    let end = end.as_bytes();
     end.len() == 1 && end[0] == 1
 }
 
@@ -250,15 +251,15 @@ impl RelPath {
         }
     }
 
-    /// Its key: its names in one run of bytes, the byte 1 behind each. Paths are compared by their keys. It takes no memory.
-    pub fn key(&self) -> &[u8]
+    /// Its key: its names in one text, the byte 1 behind each. Paths are compared by their keys. It takes no memory.
+    pub fn key(&self) -> &str
         ensures key { result.now ≡ path_key self.now }
         ensures plain { is_plain_path self.now ≡ true }
         ensures bounded { length self.now ≤ depth_limit }
     {
         match &self.parts {
             Some(parts) => parts.key(),
-            None => &[],
+            None => "",
         }
     }
 
@@ -267,7 +268,7 @@ impl RelPath {
         ensures child { IsTrue result ↔ (self.now ≡ path.now ++ name.now ∷ []) }
         ensures bounded { length self.now ≤ depth_limit }
     {
-        is_one_more(self.key(), path.key(), name.as_str().as_bytes())
+        is_one_more(self.key(), path.key(), name.as_str())
     }
 
     /// Whether it is the root: the path of no name.

@@ -11,7 +11,6 @@ invariant_of-new c = (
     c.components.ensures.names,
     c.in_ok-key.ensures,
     c.key.ensures.key,
-    c.as_bytes.ensures.value,
     c.as_str.ensures.value,
     path_key-child,
   ) refl,
