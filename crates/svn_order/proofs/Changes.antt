@@ -1,10 +1,11 @@
 -- One element of a list changed.
 use Rattle.std.proofs.Common.{◌≡◌, ℕ, zero, suc, ◌<◌, ◌≤◌, Bool, true, false, ◌||◌, List, [], ◌∷◌, ◌++◌, length, get_or, set, map}
-use Rattle.std.proofs.Common.{refl, sym, ◌∙◌, ap, subst, arith}
+use Rattle.std.proofs.Common.{refl, sym, ◌∙◌, ap, subst, arith, IsTrue, ◌↔◌}
 use Rattle.std.specs.Prelude.{Some, None, slice_get}
 use Rattle.std.proofs.lemmas.Option.{same_Some}
 use Rattle.svn_types.specs.Names.{Path}
-use Rattle.svn_types.specs.Paths.{parent, is_root}
+use Rattle.svn_types.specs.Paths.{parent, is_root, path_eq}
+use Rattle.svn_types.proofs.PathOrder.{same_path, path_eq-same}
 use Rattle.svn_order.specs.declared.directories.OpenedDirectory.{OpenedDirectory}
 use Rattle.svn_order.specs.declared.tokens.GivenToken.{GivenToken}
 use Rattle.svn_order.specs.Directories.{shown, ChangesAt, with_change, IsEntry, entry_name}
@@ -142,3 +143,22 @@ split_path p q n e = subst (λ (r : Path). IsEntry r q n) (sym e) (record { belo
     last [] = refl
     last (m ∷ []) = refl
     last (m ∷ k ∷ q) = last (k ∷ q)
+
+-- an entry's path, put together
+entry_whole : (p : Path) → is_root p ≡ false → p ≡ parent p ++ entry_name p ∷ []
+entry_whole [] h = cc
+entry_whole (n ∷ []) h = refl
+entry_whole (m ∷ n ∷ p) h = ap (λ r. m ∷ r) (entry_whole (n ∷ p) refl)
+
+pub whole_path : (p q : Path) (n : List ℕ) → IsEntry p q n → p ≡ q ++ n ∷ []
+whole_path p q n e = entry_whole p e.below_root ∙ (λ i. e.parent_is i ++ e.name_is i ∷ [])
+
+-- an entry stands in a directory whose path with the entry's name is the entry's
+pub parent_by_name : (d p q : Path) (n : List ℕ) (r : Bool) → IsEntry p q n → (IsTrue r ↔ (p ≡ d ++ n ∷ [])) → r ≡ path_eq d q
+parent_by_name d p q n r e test = by r (path_eq d q) refl test
+  where
+    by : (r b : Bool) → path_eq d q ≡ b → (IsTrue r ↔ (p ≡ d ++ n ∷ [])) → r ≡ b
+    by true true is t = refl
+    by false false is t = refl
+    by true false is t = sym (path_eq-same d q (sym (split_path p d n (t.0 refl)).parent_is ∙ e.parent_is)) ∙ is
+    by false true is t = t.1 (whole_path p q n e ∙ ap (λ (k : Path). k ++ n ∷ []) (sym (same_path d q is)))

@@ -1,7 +1,8 @@
 //! The directories that are open, each with what later calls may ask of it. The innermost is the last; each stands at the place that is the
 //! length of its path.
 ghost use Rattle.std.specs.Prelude.{◌≡◌, OnOk};
-ghost use Rattle.svn_order.specs.Directories.{innermost_of, holds_entry, is_opened_in, is_deleted_in, changed_late_in, IsNew, InsertsOpened, InsertsDeleted, OpensEntry, DeletesEntry, OpensSubdirectory, ChangesProp, Opens, without_last, EntrySplit};
+ghost use Rattle.svn_order.specs.Directories.{innermost_of, holds_entry, is_opened_in, is_deleted_in, changed_late_in, IsNew, InsertsOpened, InsertsDeleted, OpensEntry, DeletesEntry, OpensSubdirectory, ChangesProp, Opens, without_last, EntrySplit, IsEntry};
+ghost use Rattle.svn_types.specs.Paths.{path_eq};
 
 use crate::name_set::NameSet;
 use std::alloc::{AllocError, Global};
@@ -57,15 +58,25 @@ fn split_entry(path: &RelPath) -> Option<(&Name, &[Name])>
     path.components().split_last()
 }
 
+// Whether a directory is the one in which the entry of that name stands, whose path is given too.
+fn is_parent(directory: &RelPath, above: &[Name], name: &Name, path: &RelPath) -> bool
+    requires { IsEntry path.now above.now name.now }
+    ensures { result ≡ path_eq directory.now above.now }
+{
+    path.is_child_of(directory, name)
+}
+
 /// Whether the token is that of an open directory that the path is an entry of.
 pub fn holds_entry(directories: &[OpenedDirectory], token: Token, path: &RelPath) -> bool
     ensures { result ≡ holds_entry directories.now token path.now }
 {
-    let Some((_, above)) = split_entry(path) else {
+    let Some((name, above)) = split_entry(path) else {
         return false;
     };
     match directories.get(above.len()) {
-        Some(directory) => directory.token == token && directory.path.components() == above,
+        Some(directory) => {
+            directory.token == token && is_parent(&directory.path, above, name, path)
+        }
         None => false,
     }
 }
