@@ -1,12 +1,19 @@
--- The pairs of parents and children stay true of the pools.
-use Rattle.std.proofs.Common.{nat_eq, ◌≡◌, ◌≢◌, ℕ, ◌<◌, Bool, true, false, [], Option, None, Some, IsSome, is_some, refl, sym, ap, subst}
+-- The links stay those of the pools, as a pool is put in, written or taken out.
+use Rattle.std.proofs.Common.{nat_eq, ◌≡◌, ◌≢◌, ◌⊎◌, ℕ, ◌<◌, true, false, [], Option, None, Some, IsSome, is_some, refl, sym, ap, subst}
 use Rattle.std.proofs.Common.{◌∙◌, inl, inr, arith}
 use Rattle.std.proofs.lemmas.Bool.{cases_eq}
-use Rattle.std.specs.HashMap.{get, Updates, IsUnique}
-use Rattle.std.specs.BTreeSet as set
-use Rattle.svn_pool.specs.Linked.{edge_cmp, has_edge, IsLinked, IsLeaf, LiveMap}
+use Rattle.std.specs.HashMap as hash
+use Rattle.std.specs.HashMap.{get, Updates}
+use Rattle.svn_pool.specs.Linked.{Changes, IsInverse, IsKin, IsLeaf, IsLinked, IsUnique, LinkedMap, LivePools, bare}
+use Rattle.svn_pool.specs.Linked.{first_of, holder, live_at, next_of}
+use Rattle.svn_pool.specs.Linked.{parent_in, place_by, place_in, place_of, standing}
 use Rattle.svn_pool.specs.Pools.{Entry, parent_of}
-use Rattle.svn_pool.proofs.Edges.{updated_here, updated_away, edge_here, edge_away}
+use Rattle.svn_pool.specs.declared.links.Linked.{Linked}
+use Rattle.svn_pool.specs.declared.links.Place.{Place}
+use Rattle.svn_pool.specs.declared.links.Place.TheVariants.{First, Next}
+use Rattle.svn_pool.proofs.Bare.{changes-bare, is_some-bare, live-bare, pool_in, unique-bare}
+use Rattle.svn_pool.proofs.Edges.{updated_here, updated_away}
+use Rattle.svn_pool.proofs.Siblings.{first_or_next, inverse_with, inverse_without, kin_with, kin_without, some_or_none}
 
 pub Some_is : {X : Type 0} (x y : X) → Some x ≡ Some y → x ≡ y
 Some_is x y e = cc
@@ -16,154 +23,397 @@ pub live_child : (o : Option Entry) (p : ℕ) → parent_of o ≡ Some p → IsS
 live_child None p e = absurd (let no : ⊥ = cc in no)
 live_child (Some x) p e = refl
 
--- a serial above all live ones has no edge
-pub no_edge : (pools : LiveMap) (children : set.BTreeSet (ℕ × ℕ)) → IsLinked pools children → (s : ℕ)
-    → ((c : ℕ) → IsSome (get nat_eq pools c) → c < s) → (q : ℕ) → has_edge children q s ≡ false
-no_edge pools children linked s fresh q =
-    elim (has_edge children q s) as (λ (b : Bool). has_edge children q s ≡ b → b ≡ false) [
-      | true ↦ λ is. let lt : s < s = fresh s (live_child (get nat_eq pools s) q (linked.down q s is)) in absurd (omega arith)
-      | false ↦ λ is. refl
-    ] refl
-
-pub gone_is_none : (o : Option Entry) → (IsSome o → ⊥) → o ≡ None
+pub gone_is_none : {X : Type 0} (o : Option X) → (IsSome o → ⊥) → o ≡ None
 gone_is_none None h = refl
 gone_is_none (Some e) h = absurd (h refl)
 
-pub gone_from_test : (o : Option Entry) → is_some o ≡ false → o ≡ None
+pub gone_from_test : {X : Type 0} (o : Option X) → is_some o ≡ false → o ≡ None
 gone_from_test None h = refl
 gone_from_test (Some e) h = let no : ⊥ = cc in absurd no
 
-pub none_is_gone : (o : Option Entry) → o ≡ None → IsSome o → ⊥
+pub none_is_gone : {X : Type 0} (o : Option X) → o ≡ None → IsSome o → ⊥
 none_is_gone o e live = let no : false ≡ true = sym (ap is_some e) ∙ live in let none : ⊥ = cc in none
 
-module _ (pools new : LiveMap) (children after : set.BTreeSet (ℕ × ℕ)) (linked : IsLinked pools children) (s : ℕ) where
-  module _ (p : ℕ) (live : IsSome (get nat_eq pools p)) (fresh : (c : ℕ) → IsSome (get nat_eq pools c) → c < s)
-      (small : s < 18446744073709551616)
-      (put : Updates nat_eq pools new s (Some (record { parent = Some p; strings = [] })))
-      (more : set.Updates edge_cmp children after (p, s) true) (unique : IsUnique nat_eq new) where
-    here : get nat_eq new s ≡ Some (record { parent = Some p; strings = [] })
-    here = updated_here pools new s _ put
+-- what has a place is live, and so is what holds one
+placed_live : (o : Option (Linked Entry)) (x : Place) → place_in o ≡ Some x → IsSome o
+placed_live None x e = absurd (some_or_none x e)
+placed_live (Some l) x e = refl
 
-    away : (c : ℕ) → c ≢ s → get nat_eq new c ≡ get nat_eq pools c
-    away = updated_away pools new s _ put
+first_live : (o : Option (Linked Entry)) (c : ℕ) → first_of o ≡ Some c → IsSome o
+first_live None c e = absurd (some_or_none c e)
+first_live (Some l) c e = refl
 
-    stays_live : (c : ℕ) → IsSome (get nat_eq pools c) → IsSome (get nat_eq new c)
-    stays_live c h = subst IsSome (sym (away c (λ e. let lt : c < s = fresh c h in absurd (omega arith)))) h
+next_live : (o : Option (Linked Entry)) (c : ℕ) → next_of o ≡ Some c → IsSome o
+next_live None c e = absurd (some_or_none c e)
+next_live (Some l) c e = refl
 
-    other_edge : (q c : ℕ) → c ≢ s → has_edge after q c ≡ has_edge children q c
-    other_edge q c apart = edge_away children after (p, s) true more (q, c) (λ e. apart (sym (ap (λ (x : ℕ × ℕ). x.1) e)))
+holder_live : (m : LinkedMap) (x : Place) (c : ℕ) → standing m x ≡ Some c → IsSome (get nat_eq m (holder x))
+holder_live m (First p) c e = first_live (get nat_eq m p) c e
+holder_live m (Next q) c e = next_live (get nat_eq m q) c e
 
-    -- the new edge is the only one to s
-    edge_to : (q : ℕ) → has_edge after q s ≡ true → q ≡ p
-    edge_to q e = elim (cases_eq q p) [
-      | inl is ↦ is
-      | inr apart ↦
-          let old : has_edge children q s ≡ true =
-          sym (edge_away children after (p, s) true more (q, s) (λ f. apart (sym (ap (λ (x : ℕ × ℕ). x.0) f)))) ∙ e in
-          let lt : s < s = fresh s (live_child (get nat_eq pools s) q (linked.down q s old)) in
-          absurd (omega arith)
-    ]
+-- what stands at a place depends on its holder alone
+same_holder : (m n : LinkedMap) (x : Place) → get nat_eq n (holder x) ≡ get nat_eq m (holder x) → standing n x ≡ standing m x
+same_holder m n (First p) e = ap first_of e
+same_holder m n (Next q) e = ap next_of e
 
-    pub linked-add : IsLinked new after
-    linked-add = record {
-      down = λ q c e. elim (cases_eq c s) [
-        | inl is ↦
-            let at_s : has_edge after q s ≡ true = subst (λ (k : ℕ). has_edge after q k ≡ true) is e in
-            ap (λ (k : ℕ). parent_of (get nat_eq new k)) is ∙ ap parent_of here ∙ ap Some (sym (edge_to q at_s))
-        | inr apart ↦ ap parent_of (away c apart) ∙ linked.down q c (sym (other_edge q c apart) ∙ e)
-      ];
-      up = λ q c e. elim (cases_eq c s) [
-        | inl is ↦
-            let same : q ≡ p = Some_is q p (sym e ∙ ap (λ (k : ℕ). parent_of (get nat_eq new k)) is ∙ ap parent_of here) in
-            (λ i. has_edge after (same i) (is i)) ∙ edge_here children after (p, s) true more
-        | inr apart ↦ other_edge q c apart ∙ linked.up q c (sym (ap parent_of (away c apart)) ∙ e)
-      ];
-      older = λ q c e. elim (cases_eq c s) [
-        | inl is ↦
-            let same : q ≡ p = Some_is q p (sym e ∙ ap (λ (k : ℕ). parent_of (get nat_eq new k)) is ∙ ap parent_of here) in
-            let lt : p < s = fresh p live in
-            (subst (λ (k : ℕ). IsSome (get nat_eq new k)) (sym same) (stays_live p live), omega (arith, same, is, lt))
-        | inr apart ↦
-            let was = linked.older q c (sym (ap parent_of (away c apart)) ∙ e) in
-            (stays_live q was.0, was.1)
-      ];
-      small = λ c h. elim (cases_eq c s) [
-        | inl is ↦ omega (arith, is, small)
-        | inr apart ↦ linked.small c (subst IsSome (away c apart) h)
-      ];
-      unique = unique;
-    }
+unheld : (m : LinkedMap) (x : Place) → get nat_eq m (holder x) ≡ None → standing m x ≡ None
+unheld m (First p) e = ap first_of e
+unheld m (Next q) e = ap next_of e
 
-  module _ (leaf : IsLeaf pools s) (gone : Updates nat_eq pools new s None)
-      (others : (q c : ℕ) → c ≢ s → has_edge after q c ≡ has_edge children q c) (none : (q : ℕ) → has_edge after q s ≡ true → ⊥)
-      (unique : IsUnique nat_eq new) where
-    left : (c : ℕ) → c ≢ s → get nat_eq new c ≡ get nat_eq pools c
-    left = updated_away pools new s None gone
+-- a place of the pool s is one of two
+held_by : (x : Place) (s : ℕ) → holder x ≡ s → (x ≡ First s) ⊎ (x ≡ Next s)
+held_by (First p) s e = inl (ap First e)
+held_by (Next q) s e = inr (ap Next e)
 
-    -- what is live was so before, and is another
-    not_s : (c : ℕ) → IsSome (get nat_eq new c) → c ≢ s
-    not_s c h is = none_is_gone (get nat_eq new c) (ap (get nat_eq new) is ∙ updated_here pools new s None gone) h
+inverse_same : (at at' : Place → Option ℕ) (place place' : ℕ → Option Place) → IsInverse at place → ((x : Place) → at' x ≡ at x)
+    → ((c : ℕ) → place' c ≡ place c) → IsInverse at' place'
+inverse_same at at' place place' inverse same moved = record {
+  there = λ x c e. moved c ∙ inverse.there x c (sym (same x) ∙ e);
+  back = λ x c e. same x ∙ inverse.back x c (sym (moved c) ∙ e);
+}
 
-    pub linked-remove : IsLinked new after
-    linked-remove = record {
-      down = λ q c e. elim (cases_eq c s) [
-        | inl is ↦ absurd (none q (subst (λ (k : ℕ). has_edge after q k ≡ true) is e))
-        | inr apart ↦ ap parent_of (left c apart) ∙ linked.down q c (sym (others q c apart) ∙ e)
-      ];
-      up = λ q c e.
-          let apart : c ≢ s = not_s c (live_child (get nat_eq new c) q e) in
-          others q c apart ∙ linked.up q c (sym (ap parent_of (left c apart)) ∙ e);
-      older = λ q c e.
-          let apart : c ≢ s = not_s c (live_child (get nat_eq new c) q e) in
-          let before : parent_of (get nat_eq pools c) ≡ Some q = sym (ap parent_of (left c apart)) ∙ e in
-          let was = linked.older q c before in
-          let kept : q ≢ s = λ is. leaf c (before ∙ ap Some is) in
-          (subst IsSome (sym (left q kept)) was.0, was.1);
-      small = λ c h. linked.small c (subst IsSome (left c (not_s c h)) h);
-      unique = unique;
-    }
+kin_same : (parent parent' : ℕ → Option ℕ) (place place' : ℕ → Option Place) → IsKin parent place → ((c : ℕ) → parent' c ≡ parent c)
+    → ((c : ℕ) → place' c ≡ place c) → IsKin parent' place'
+kin_same parent parent' place place' kin same moved = record {
+  placed = λ c p e. ap is_some (moved c) ∙ kin.placed c p (sym (same c) ∙ e);
+  first = λ c p e. same c ∙ kin.first c p (sym (moved c) ∙ e);
+  next = λ c q e. let old = kin.next c q (sym (moved c) ∙ e) in (ap is_some (same c) ∙ old.0, same q ∙ old.1 ∙ sym (same c), old.2);
+}
 
-  -- the same pools, and pairs that are the same ones
-  pub linked-again : ((c : ℕ) → get nat_eq new c ≡ get nat_eq pools c) → ((q c : ℕ) → has_edge after q c ≡ has_edge children q c)
-      → IsUnique nat_eq new → IsLinked new after
-  linked-again pool edge unique = record {
-    down = λ q c e. ap parent_of (pool c) ∙ linked.down q c (sym (edge q c) ∙ e);
-    up = λ q c e. edge q c ∙ linked.up q c (sym (ap parent_of (pool c)) ∙ e);
-    older = λ q c e. let was = linked.older q c (sym (ap parent_of (pool c)) ∙ e) in (subst IsSome (sym (pool q)) was.0, was.1);
-    small = λ c h. linked.small c (subst IsSome (pool c) h);
-    unique = unique;
-  }
+-- the same links, and pools that are live and have the same parents as before
+pub linked-same : (m n : LinkedMap) → IsLinked m → ((x : Place) → standing n x ≡ standing m x) → ((c : ℕ) → place_of n c ≡ place_of m c)
+    → ((c : ℕ) → parent_in n c ≡ parent_in m c) → ((c : ℕ) → is_some (live_at (bare n) c) ≡ is_some (live_at (bare m) c))
+    → IsUnique (bare n) → IsLinked n
+linked-same m n linked same moved parents live unique = record {
+  inverse = inverse_same (standing m) (standing n) (place_of m) (place_of n) linked.inverse same moved;
+  kin = kin_same (parent_in m) (parent_in n) (place_of m) (place_of n) linked.kin parents moved;
+  older = λ p c e. let was = linked.older p c (sym (parents c) ∙ e) in (live p ∙ was.0, was.1);
+  small = λ c h. linked.small c (sym (live c) ∙ h);
+  unique = unique;
+}
 
-  -- the same pools with the same parents
-  pub linked-same : ((c : ℕ) → parent_of (get nat_eq new c) ≡ parent_of (get nat_eq pools c))
-      → ((c : ℕ) → IsSome (get nat_eq new c) → IsSome (get nat_eq pools c))
-      → ((c : ℕ) → IsSome (get nat_eq pools c) → IsSome (get nat_eq new c)) → IsUnique nat_eq new → IsLinked new children
-  linked-same parents back forth unique = record {
-    down = λ q c e. parents c ∙ linked.down q c e;
-    up = λ q c e. linked.up q c (sym (parents c) ∙ e);
-    older = λ q c e. let was = linked.older q c (sym (parents c) ∙ e) in (forth q was.0, was.1);
-    small = λ c h. linked.small c (back c h);
-    unique = unique;
-  }
+-- a map with the same entries
+pub linked-again : (m n : LinkedMap) → IsLinked m → ((c : ℕ) → get nat_eq n c ≡ get nat_eq m c) → hash.IsUnique nat_eq n → IsLinked n
+linked-again m n linked same unique =
+    let pool : (c : ℕ) → live_at (bare n) c ≡ live_at (bare m) c = λ c. live-bare n c ∙ ap pool_in (same c) ∙ sym (live-bare m c) in
+    linked-same m n linked (λ x. same_holder m n x (same (holder x))) (λ c. ap place_in (same c)) (λ c. ap parent_of (pool c))
+    (λ c. ap is_some (pool c)) (unique-bare n unique)
 
 -- one pool has other strings
-pub linked-written : (pools new : LiveMap) (children : set.BTreeSet (ℕ × ℕ)) → IsLinked pools children → (s : ℕ) (d e : Entry)
-    → get nat_eq pools s ≡ Some d → e.parent ≡ d.parent → Updates nat_eq pools new s (Some e) → IsUnique nat_eq new → IsLinked new children
-linked-written pools new children linked s d e found same put unique =
-    let here : get nat_eq new s ≡ Some e = updated_here pools new s (Some e) put in
-    linked-same pools new children children linked s
+pub linked-written : (m n : LinkedMap) → IsLinked m → (s : ℕ) (d e : Linked Entry) → get nat_eq m s ≡ Some d → e.pool.parent ≡ d.pool.parent
+    → e.first ≡ d.first → e.next ≡ d.next → e.before ≡ d.before → Updates nat_eq m n s (Some e) → hash.IsUnique nat_eq n → IsLinked n
+linked-written m n linked s d e found parent first next before put unique =
+    let here = updated_here m n s (Some e) put in
+    let away : (c : ℕ) → c ≢ s → get nat_eq n c ≡ get nat_eq m c = updated_away m n s (Some e) put in
+    let change = changes-bare m n s (Some e) put in
+    let firsts : (c : ℕ) → first_of (get nat_eq n c) ≡ first_of (get nat_eq m c) = λ c. elim (cases_eq c s) [
+      | inl is ↦ ap (λ (k : ℕ). first_of (get nat_eq n k)) is ∙ ap first_of here ∙ first ∙ sym (ap first_of found)
+          ∙ ap (λ (k : ℕ). first_of (get nat_eq m k)) (sym is)
+      | inr apart ↦ ap first_of (away c apart)
+    ] in
+    let nexts : (c : ℕ) → next_of (get nat_eq n c) ≡ next_of (get nat_eq m c) = λ c. elim (cases_eq c s) [
+      | inl is ↦ ap (λ (k : ℕ). next_of (get nat_eq n k)) is ∙ ap next_of here ∙ next ∙ sym (ap next_of found)
+          ∙ ap (λ (k : ℕ). next_of (get nat_eq m k)) (sym is)
+      | inr apart ↦ ap next_of (away c apart)
+    ] in
+    linked-same m n linked (by firsts nexts)
+    (λ c. elim (cases_eq c s) [
+      | inl is ↦ ap (place_of n) is ∙ ap place_in here ∙ (λ i. place_by (parent i) (before i)) ∙ sym (ap place_in found)
+          ∙ ap (place_of m) (sym is)
+      | inr apart ↦ ap place_in (away c apart)
+    ])
     (λ c. elim (cases_eq c s) [
       | inl is ↦
-          ap (λ (k : ℕ). parent_of (get nat_eq new k)) is ∙ ap parent_of here ∙ same ∙ sym (ap parent_of found)
-          ∙ ap (λ (k : ℕ). parent_of (get nat_eq pools k)) (sym is)
-      | inr apart ↦ ap parent_of (updated_away pools new s (Some e) put c apart)
+          ap (parent_in n) is ∙ ap parent_of change.0 ∙ parent ∙ sym (ap parent_of (live-bare m s ∙ ap pool_in found))
+          ∙ ap (parent_in m) (sym is)
+      | inr apart ↦ ap parent_of (change.1 c apart)
     ])
-    (λ c h. elim (cases_eq c s) [
-      | inl is ↦ ap (λ (k : ℕ). is_some (get nat_eq pools k)) is ∙ ap is_some found
-      | inr apart ↦ subst IsSome (updated_away pools new s (Some e) put c apart) h
+    (λ c. elim (cases_eq c s) [
+      | inl is ↦
+          ap (λ (k : ℕ). is_some (live_at (bare n) k)) is ∙ ap is_some change.0 ∙ sym (ap is_some (live-bare m s ∙ ap pool_in found))
+          ∙ ap (λ (k : ℕ). is_some (live_at (bare m) k)) (sym is)
+      | inr apart ↦ ap is_some (change.1 c apart)
     ])
-    (λ c h. elim (cases_eq c s) [
-      | inl is ↦ ap (λ (k : ℕ). is_some (get nat_eq new k)) is ∙ ap is_some here
-      | inr apart ↦ subst IsSome (sym (updated_away pools new s (Some e) put c apart)) h
-    ])
-    unique
+    (unique-bare n unique)
+  where
+    by : ((c : ℕ) → first_of (get nat_eq n c) ≡ first_of (get nat_eq m c)) → ((c : ℕ) → next_of (get nat_eq n c) ≡ next_of (get nat_eq m c))
+        → (x : Place) → standing n x ≡ standing m x
+    by firsts nexts (First p) = firsts p
+    by firsts nexts (Next q) = nexts q
+
+-- the pool z stands at x, by the link of its holder
+pub record IsStood (m n : LinkedMap) (x : Place) (z : Option ℕ) : Type 0 where
+  pub here : IsSome (get nat_eq m (holder x)) → standing n x ≡ z
+  pub others : (y : Place) → y ≢ x → standing n y ≡ standing m y
+  pub places : (c : ℕ) → place_of n c ≡ place_of m c
+  pub pools : bare n ≡ bare m
+
+-- and by its own
+pub record IsMoved (m n : LinkedMap) (z : Option ℕ) (x : Place) : Type 0 where
+  pub moved : (c : ℕ) → z ≡ Some c → IsSome (get nat_eq m c) → ((p : ℕ) → x ≡ First p → parent_in m c ≡ Some p) → place_of n c ≡ Some x
+  pub others : (c : ℕ) → z ≢ Some c → place_of n c ≡ place_of m c
+  pub standing : (y : Place) → standing n y ≡ standing m y
+  pub pools : bare n ≡ bare m
+
+-- which pools are live is seen without the links
+live_after : (m n : LinkedMap) → bare n ≡ bare m → (c : ℕ) → IsSome (get nat_eq m c) → IsSome (get nat_eq n c)
+live_after m n same c h = sym (is_some-bare n c) ∙ ap (λ (ps : LivePools). is_some (live_at ps c)) same ∙ is_some-bare m c ∙ h
+
+-- the pool s is gone
+module _ (old mid : LinkedMap) (linked : IsLinked old) (s : ℕ) (leaf : IsLeaf (bare old) s) (l : Linked Entry)
+    (found : get nat_eq old s ≡ Some l) (gone : Updates nat_eq old mid s None) (unique : hash.IsUnique nat_eq mid) where
+  at_s : get nat_eq mid s ≡ None
+  at_s = updated_here old mid s None gone
+
+  away : (c : ℕ) → c ≢ s → get nat_eq mid c ≡ get nat_eq old c
+  away = updated_away old mid s None gone
+
+  change : Changes (bare old) (bare mid) s None
+  change = changes-bare old mid s None gone
+
+  not_own_parent : parent_in old s ≡ Some s → ⊥
+  not_own_parent e = let lt = (linked.older s s e).1 in omega (arith, lt)
+
+  no_first : standing old (First s) ≡ None
+  no_first = by (standing old (First s)) refl
+    where
+      by : (o : Option ℕ) → standing old (First s) ≡ o → o ≡ None
+      by None e = refl
+      by (Some c) e = absurd (leaf c (linked.kin.first c s (linked.inverse.there (First s) c e)))
+
+  not_next : l.next ≢ Some s
+  not_next e =
+      let lt = (linked.kin.next s s (linked.inverse.there (Next s) s (ap next_of found ∙ e))).2 in
+      omega (arith, lt)
+
+  -- its own links but for the next aside, all stand where they did
+  same_standing : (y : Place) → y ≢ Next s → standing mid y ≡ standing old y
+  same_standing y apart = elim (cases_eq (holder y) s) [
+    | inl is ↦ elim (held_by y s is) [
+      | inl first ↦ unheld mid y (ap (get nat_eq mid) is ∙ at_s) ∙ sym (ap (standing old) first ∙ no_first)
+      | inr next ↦ absurd (apart next)
+    ]
+    | inr other ↦ same_holder old mid y (away (holder y) other)
+  ]
+
+  keeps_linked : (new : LinkedMap) → bare new ≡ bare mid → IsInverse (standing new) (place_of new)
+      → IsKin (parent_in new) (place_of new) → IsLinked new
+  keeps_linked new same inverse kin =
+      let here : live_at (bare new) s ≡ None = ap (λ (ps : LivePools). live_at ps s) same ∙ change.0 in
+      let left : (c : ℕ) → c ≢ s → live_at (bare new) c ≡ live_at (bare old) c =
+      λ c apart. ap (λ (ps : LivePools). live_at ps c) same ∙ change.1 c apart in
+      let not_s : (c : ℕ) → IsSome (live_at (bare new) c) → c ≢ s =
+      λ c h is. none_is_gone (live_at (bare new) c) (ap (live_at (bare new)) is ∙ here) h in
+      record {
+        inverse = inverse;
+        kin = kin;
+        older = λ p c e.
+            let apart : c ≢ s = not_s c (live_child (live_at (bare new) c) p e) in
+            let before : parent_in old c ≡ Some p = sym (ap parent_of (left c apart)) ∙ e in
+            let was = linked.older p c before in
+            let kept : p ≢ s = λ is. leaf c (before ∙ ap Some is) in
+            (ap is_some (left p kept) ∙ was.0, was.1);
+        small = λ c h. linked.small c (subst IsSome (left c (not_s c h)) h);
+        unique = subst IsUnique (sym same) (unique-bare mid unique);
+      }
+
+  -- it stood nowhere
+  pub linked-unplaced : place_by l.pool.parent l.before ≡ None → IsLinked mid
+  linked-unplaced none =
+      let place : place_of old s ≡ None = ap place_in found ∙ none in
+      let parent : parent_in old s ≡ None =
+      gone_is_none (parent_in old s) (λ h. by (parent_in old s) refl h place) in
+      let next : standing old (Next s) ≡ None = no_next place parent (standing old (Next s)) refl in
+      let standings : (y : Place) → standing mid y ≡ standing old y = λ y. elim (cases_eq (holder y) s) [
+        | inl is ↦ elim (held_by y s is) [
+          | inl first ↦ unheld mid y (ap (get nat_eq mid) is ∙ at_s) ∙ sym (ap (standing old) first ∙ no_first)
+          | inr at ↦ unheld mid y (ap (get nat_eq mid) is ∙ at_s) ∙ sym (ap (standing old) at ∙ next)
+        ]
+        | inr other ↦ same_holder old mid y (away (holder y) other)
+      ] in
+      let places : (c : ℕ) → place_of mid c ≡ place_of old c = λ c. elim (cases_eq c s) [
+        | inl is ↦ ap (place_of mid) is ∙ ap place_in at_s ∙ sym (ap (place_of old) is ∙ place)
+        | inr apart ↦ ap place_in (away c apart)
+      ] in
+      let parents : (c : ℕ) → parent_in mid c ≡ parent_in old c = λ c. elim (cases_eq c s) [
+        | inl is ↦ ap (parent_in mid) is ∙ ap parent_of change.0 ∙ sym (ap (parent_in old) is ∙ parent)
+        | inr apart ↦ ap parent_of (change.1 c apart)
+      ] in
+      keeps_linked mid refl (inverse_same (standing old) (standing mid) (place_of old) (place_of mid) linked.inverse standings places)
+      (kin_same (parent_in old) (parent_in mid) (place_of old) (place_of mid) linked.kin parents places)
+    where
+      by : (o : Option ℕ) → parent_in old s ≡ o → IsSome o → place_of old s ≡ None → ⊥
+      by None is live none = let clash : ⊥ = cc in clash
+      by (Some p) is live none = none_is_gone (place_of old s) none (linked.kin.placed s p is)
+
+      no_next : place_of old s ≡ None → parent_in old s ≡ None → (o : Option ℕ) → standing old (Next s) ≡ o → o ≡ None
+      no_next place parent None e = refl
+      no_next place parent (Some c) e =
+          let its = linked.kin.next c s (linked.inverse.there (Next s) c e) in
+          absurd (none_is_gone (parent_in old c) (sym its.1 ∙ parent) its.0)
+
+  -- it stood at x, where the next stands now
+  module _ (closed new : LinkedMap) (x : Place) (at : place_by l.pool.parent l.before ≡ Some x) (put : IsStood mid closed x l.next)
+      (moved : IsMoved closed new l.next x) where
+    bare_same : bare new ≡ bare mid
+    bare_same = moved.pools ∙ put.pools
+
+    s_at : place_of old s ≡ Some x
+    s_at = ap place_in found ∙ at
+
+    was : standing old x ≡ Some s
+    was = linked.inverse.back x s s_at
+
+    apart : Next s ≢ x
+    apart is = let lt = (linked.kin.next s s (s_at ∙ ap Some (sym is))).2 in omega (arith, lt)
+
+    not_first : x ≢ First s
+    not_first is = not_own_parent (linked.kin.first s s (s_at ∙ ap Some is))
+
+    other_holder : holder x ≢ s
+    other_holder is = elim (held_by x s is) [ inl first ↦ not_first first | inr next ↦ apart (sym next) ]
+
+    now : standing new x ≡ l.next
+    now = moved.standing x ∙ put.here (ap is_some (away (holder x) other_holder) ∙ holder_live old x s was)
+
+    places_away : (c : ℕ) → c ≢ s → l.next ≢ Some c → place_of new c ≡ place_of old c
+    places_away c not_s not_next = moved.others c not_next ∙ put.places c ∙ ap place_in (away c not_s)
+
+    next_moved : (c : ℕ) → l.next ≡ Some c → place_of new c ≡ Some x
+    next_moved c is =
+        let not_s : c ≢ s = λ same. not_next (is ∙ ap Some same) in
+        let follows : place_of old c ≡ Some (Next s) = linked.inverse.there (Next s) c (ap next_of found ∙ is) in
+        let live : IsSome (get nat_eq old c) = placed_live (get nat_eq old c) (Next s) follows in
+        moved.moved c is (live_after mid closed put.pools c (ap is_some (away c not_s) ∙ live))
+        (λ p first. ap (λ (ps : LivePools). parent_of (live_at ps c)) put.pools ∙ ap parent_of (change.1 c not_s)
+        ∙ sym (linked.kin.next c s follows).1 ∙ linked.kin.first s p (s_at ∙ ap Some first))
+
+    none_there : place_of new s ≡ None
+    none_there = moved.others s not_next ∙ put.places s ∙ ap place_in at_s
+
+    free : standing new (Next s) ≡ None
+    free = moved.standing (Next s) ∙ put.others (Next s) apart ∙ ap next_of at_s
+
+    standing_away : (y : Place) → y ≢ x → y ≢ Next s → standing new y ≡ standing old y
+    standing_away y not_x not_n = moved.standing y ∙ put.others y not_x ∙ same_standing y not_n
+
+    pub linked-remove : IsLinked new
+    linked-remove =
+        keeps_linked new bare_same
+        (inverse_without (standing old) (standing new) (place_of old) (place_of new) linked.inverse x s l.next apart standing_away
+        places_away was (ap next_of found) now free none_there next_moved)
+        (kin_without (standing old) (standing new) (place_of old) (place_of new) linked.inverse x s l.next apart standing_away
+        places_away was (ap next_of found) now free none_there next_moved (parent_in old) (parent_in new) linked.kin
+        (ap (λ (ps : LivePools). parent_of (live_at ps s)) bare_same ∙ ap parent_of change.0)
+        (λ c other. ap (λ (ps : LivePools). parent_of (live_at ps c)) bare_same ∙ ap parent_of (change.1 c other)))
+
+-- the pool s is p's first child, and the newest pool
+module _ (old mid : LinkedMap) (linked : IsLinked old) (s p : ℕ) (l : Linked Entry) (live : IsSome (live_at (bare old) p))
+    (fresh : (c : ℕ) → IsSome (live_at (bare old) c) → c < s) (small : s < 18446744073709551616)
+    (child : l ≡ record {
+      pool = record { parent = Some p; strings = [] };
+      first = None;
+      next = first_of (get nat_eq old p);
+      before = None;
+    })
+    (put_in : Updates nat_eq old mid s (Some l)) (unique : hash.IsUnique nat_eq mid) (led new : LinkedMap)
+    (put : IsStood mid led (First p) (Some s)) (moved : IsMoved led new (first_of (get nat_eq old p)) (Next s)) where
+  abbrev z : Option ℕ
+  z = first_of (get nat_eq old p)
+
+  abbrev lone : Entry
+  lone = record { parent = Some p; strings = [] }
+
+  here_s : get nat_eq mid s ≡ Some l
+  here_s = updated_here old mid s (Some l) put_in
+
+  away_s : (c : ℕ) → c ≢ s → get nat_eq mid c ≡ get nat_eq old c
+  away_s = updated_away old mid s (Some l) put_in
+
+  live_old : (c : ℕ) → IsSome (get nat_eq old c) → c < s
+  live_old c h = fresh c (is_some-bare old c ∙ h)
+
+  no_s : get nat_eq old s ≡ None
+  no_s = gone_is_none (get nat_eq old s) (λ h. let lt = live_old s h in omega (arith, lt))
+
+  change_s : Changes (bare old) (bare mid) s (Some lone)
+  change_s = subst (λ (e : Linked Entry). Changes (bare old) (bare mid) s (Some e.pool)) child (changes-bare old mid s (Some l) put_in)
+
+  pub bare_new : bare new ≡ bare mid
+  bare_new = moved.pools ∙ put.pools
+
+  pub added : Changes (bare old) (bare new) s (Some lone)
+  added = subst (λ (ps : LivePools). Changes (bare old) ps s (Some lone)) (sym bare_new) change_s
+
+  same_before : (y : Place) → y ≢ Next s → standing mid y ≡ standing old y
+  same_before y apart = elim (cases_eq (holder y) s) [
+    | inl is ↦ elim (held_by y s is) [
+      | inl first ↦
+          ap (standing mid) first ∙ ap first_of here_s ∙ ap (λ (e : Linked Entry). e.first) child
+          ∙ sym (unheld old y (ap (get nat_eq old) is ∙ no_s))
+      | inr next ↦ absurd (apart next)
+    ]
+    | inr other ↦ same_holder old mid y (away_s (holder y) other)
+  ]
+
+  not_z : z ≢ Some s
+  not_z e = some_or_none (First p) (sym (ap place_in no_s) ∙ linked.inverse.there (First p) s e)
+
+  not_p : p ≢ s
+  not_p is = let lt = fresh p live in omega (arith, is, lt)
+
+  next_apart : Next s ≢ First p
+  next_apart e = first_or_next p s (sym e)
+
+  now_s : standing new (First p) ≡ Some s
+  now_s = moved.standing (First p) ∙ put.here (ap is_some (away_s p not_p) ∙ sym (is_some-bare old p) ∙ live)
+
+  next_s : standing new (Next s) ≡ z
+  next_s = moved.standing (Next s) ∙ put.others (Next s) next_apart ∙ ap next_of here_s ∙ ap (λ (e : Linked Entry). e.next) child
+
+  place_s : place_of new s ≡ Some (First p)
+  place_s = moved.others s not_z ∙ put.places s ∙ ap place_in here_s ∙ ap (λ (e : Linked Entry). place_by e.pool.parent e.before) child
+
+  z_moved : (c : ℕ) → z ≡ Some c → place_of new c ≡ Some (Next s)
+  z_moved c is =
+      let was : IsSome (get nat_eq old c) = placed_live (get nat_eq old c) (First p) (linked.inverse.there (First p) c is) in
+      let other : c ≢ s = λ same. not_z (is ∙ ap Some same) in
+      moved.moved c is (live_after mid led put.pools c (ap is_some (away_s c other) ∙ was))
+      (λ q first. absurd (first_or_next q s (sym first)))
+
+  others_stand : (y : Place) → y ≢ First p → y ≢ Next s → standing new y ≡ standing old y
+  others_stand y not_x not_n = moved.standing y ∙ put.others y not_x ∙ same_before y not_n
+
+  others_placed : (c : ℕ) → c ≢ s → z ≢ Some c → place_of new c ≡ place_of old c
+  others_placed c not_s not_c = moved.others c not_c ∙ put.places c ∙ ap place_in (away_s c not_s)
+
+  parents_kept : (c : ℕ) → c ≢ s → parent_in new c ≡ parent_in old c
+  parents_kept c apart = ap parent_of (added.1 c apart)
+
+  stays_live : (c : ℕ) → IsSome (live_at (bare old) c) → IsSome (live_at (bare new) c)
+  stays_live c h = ap is_some (added.1 c (λ is. let lt = fresh c h in omega (arith, is, lt))) ∙ h
+
+  pub linked-add : IsLinked new
+  linked-add = record {
+    inverse =
+        inverse_with (standing old) (standing new) (place_of old) (place_of new) linked.inverse (First p) s z next_apart others_stand
+        others_placed (ap place_in no_s) (ap next_of no_s) refl now_s next_s place_s z_moved;
+    kin =
+        kin_with (standing old) (standing new) (place_of old) (place_of new) linked.inverse (First p) s z next_apart others_stand
+        others_placed (ap place_in no_s) (ap next_of no_s) refl now_s next_s place_s z_moved (parent_in old) (parent_in new) linked.kin p
+        refl (ap parent_of added.0) parents_kept (λ c q e. fresh c (live_child (live_at (bare old) c) q e));
+    older = λ q c e. elim (cases_eq c s) [
+      | inl is ↦
+          let same : q ≡ p = Some_is q p (sym e ∙ ap (parent_in new) is ∙ ap parent_of added.0) in
+          let lt : p < s = fresh p live in
+          (subst (λ (k : ℕ). IsSome (live_at (bare new) k)) (sym same) (stays_live p live), omega (arith, same, is, lt))
+      | inr apart ↦
+          let was = linked.older q c (sym (parents_kept c apart) ∙ e) in
+          (stays_live q was.0, was.1)
+    ];
+    small = λ c h. elim (cases_eq c s) [
+      | inl is ↦ omega (arith, is, small)
+      | inr apart ↦ linked.small c (subst IsSome (added.1 c apart) h)
+    ];
+    unique = subst IsUnique (sym bare_new) (unique-bare mid unique);
+  }

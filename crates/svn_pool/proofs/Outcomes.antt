@@ -3,16 +3,13 @@ use Rattle.std.proofs.Common.{◌≡◌, ◌≢◌, ℕ, zero, suc, ◌+◌, ◌
 use Rattle.std.proofs.Common.{IsSome, is_some, refl, sym, ap, subst, ◌∙◌, inl, inr, arith}
 use Rattle.std.proofs.lemmas.Bool.{cases_eq, le-leb, eq-eqb, ne_eqb}
 use Rattle.std.proofs.lemmas.Bool.Decides.{leb_tells}
-use Rattle.std.specs.HashMap.{get, Updates}
-use Rattle.std.specs.BTreeSet.{BTreeSet}
 use Rattle.std.specs.Option.{IsSomeAnd}
 use Rattle.svn_pool.specs.Ancestry.{IsAbove, IsBeneath, IsCleared, IsDestroyed}
-use Rattle.svn_pool.specs.Linked.{IsLinked, IsPruned, LiveMap}
+use Rattle.svn_pool.specs.Linked.{Changes, IsLinked, IsPruned, LinkedMap, LivePools, bare, live_at}
 use Rattle.svn_pool.specs.Pools.{Entry, Pools, pool_at, parent_of, fixed_in}
 use Rattle.svn_pool.specs.Refusals.{fault_if_live, create_fault, destroy_fault}
 use Rattle.svn_pool.specs.declared.fault.PoolFault.{PoolFault}
 use Rattle.svn_pool.specs.declared.fault.PoolFault.TheVariants.{Gone, IsRoot, Full}
-use Rattle.svn_pool.proofs.Edges.{updated_here, updated_away}
 use Rattle.svn_pool.proofs.Kinship.{gone_is_none, none_is_gone}
 
 pub fault_if_gone : (o : Option Entry) (f : Entry → Option PoolFault) → o ≡ None → fault_if_live o f ≡ Some Gone
@@ -52,13 +49,13 @@ above_same f g same s (suc n) q above = (above.0, sym (same q) ∙ above.1, abov
 pub beneath_same : (f g : ℕ → Option Entry) → ((q : ℕ) → parent_of (f q) ≡ parent_of (g q)) → (s q : ℕ) → IsBeneath f s q → IsBeneath g s q
 beneath_same f g same s q b = (b.0, above_same f g same s b.0 q b.1)
 
-module _ (pools : LiveMap) (children : BTreeSet (ℕ × ℕ)) (linked : IsLinked pools children) where
-  above_older : (s n q : ℕ) → IsAbove (get nat_eq pools) s n q → s < q
+module _ (pools : LinkedMap) (linked : IsLinked pools) where
+  above_older : (s n q : ℕ) → IsAbove (live_at (bare pools)) s n q → s < q
   above_older s zero q above = (linked.older s q above).1
   above_older s (suc n) q above =
       let first = above_older s n above.0 above.2 in let then = (linked.older above.0 q above.1).1 in omega (arith, first, then)
 
-  pub not_beneath_itself : (s : ℕ) → IsBeneath (get nat_eq pools) s s → ⊥
+  pub not_beneath_itself : (s : ℕ) → IsBeneath (live_at (bare pools)) s s → ⊥
   not_beneath_itself s b = let lt = above_older s b.0 s b.1 in omega (arith, lt)
 
 pub parentless : (f : ℕ → Option Entry) (s n q : ℕ) → parent_of (f q) ≡ None → IsAbove f s n q → ⊥
@@ -79,51 +76,52 @@ root_from (Some e) h none = none
 
 module _ (old new : Pools) (s : ℕ) (roots : new.root ≡ old.root) (nexts : new.next ≡ old.next)
     (blocks : new.spare + fixed_in new ≡ old.spare + fixed_in old) where
-  module _ (pools mid end : LiveMap) (children : BTreeSet (ℕ × ℕ)) (linked : IsLinked mid children)
-      (at_old : (q : ℕ) → pool_at old q ≡ get nat_eq pools q) (at_new : (q : ℕ) → pool_at new q ≡ get nat_eq end q)
-      (put : Updates nat_eq pools mid s (Some (record { parent = parent_of (get nat_eq pools s); strings = [] })))
-      (pruned : IsPruned mid end s) where
-    parents : (q : ℕ) → parent_of (pool_at old q) ≡ parent_of (get nat_eq mid q)
+  module _ (pools end : LivePools) (mid : LinkedMap) (linked : IsLinked mid)
+      (at_old : (q : ℕ) → pool_at old q ≡ live_at pools q) (at_new : (q : ℕ) → pool_at new q ≡ live_at end q)
+      (put : Changes pools (bare mid) s (Some (record { parent = parent_of (live_at pools s); strings = [] })))
+      (pruned : IsPruned (bare mid) end s) where
+    parents : (q : ℕ) → parent_of (pool_at old q) ≡ parent_of (live_at (bare mid) q)
     parents q = ap parent_of (at_old q) ∙ elim (cases_eq q s) [
       | inl is ↦
-          ap (λ (k : ℕ). parent_of (get nat_eq pools k)) is
-          ∙ sym (ap (λ (k : ℕ). parent_of (get nat_eq mid k)) is ∙ ap parent_of (updated_here pools mid s _ put))
-      | inr apart ↦ sym (ap parent_of (updated_away pools mid s _ put q apart))
+          ap (λ (k : ℕ). parent_of (live_at pools k)) is
+          ∙ sym (ap (λ (k : ℕ). parent_of (live_at (bare mid) k)) is ∙ ap parent_of put.0)
+      | inr apart ↦ sym (ap parent_of (put.1 q apart))
     ]
 
     pub cleared : IsCleared old new s
     cleared = record {
       emptied =
-          at_new s ∙ pruned.others s (not_beneath_itself mid children linked s) ∙ updated_here pools mid s _ put
+          at_new s ∙ pruned.others s (not_beneath_itself mid linked s) ∙ put.0
           ∙ ap (λ (o : Option Entry). Some (record { parent = parent_of o; strings = [] })) (sym (at_old s));
-      beneath = λ q b. at_new q ∙ pruned.beneath q (beneath_same (pool_at old) (get nat_eq mid) parents s q b);
+      beneath = λ q b. at_new q ∙ pruned.beneath q (beneath_same (pool_at old) (live_at (bare mid)) parents s q b);
       rest = record {
         others =
-            λ q apart not. at_new q ∙ pruned.others q (λ b. not (beneath_same (get nat_eq mid) (pool_at old) (λ k. sym (parents k)) s q b))
-            ∙ updated_away pools mid s _ put q apart ∙ sym (at_old q);
+            λ q apart not. at_new q
+            ∙ pruned.others q (λ b. not (beneath_same (live_at (bare mid)) (pool_at old) (λ k. sym (parents k)) s q b))
+            ∙ put.1 q apart ∙ sym (at_old q);
         root = roots;
         next = nexts;
         blocks = blocks;
       };
     }
 
-  module _ (pools mid end : LiveMap) (at_old : (q : ℕ) → pool_at old q ≡ get nat_eq pools q)
-      (at_new : (q : ℕ) → pool_at new q ≡ get nat_eq end q) (pruned : IsPruned pools mid s) (gone : Updates nat_eq mid end s None) where
-    same_old : (q : ℕ) → parent_of (pool_at old q) ≡ parent_of (get nat_eq pools q)
+  module _ (pools mid end : LivePools) (at_old : (q : ℕ) → pool_at old q ≡ live_at pools q)
+      (at_new : (q : ℕ) → pool_at new q ≡ live_at end q) (pruned : IsPruned pools mid s) (gone : Changes mid end s None) where
+    same_old : (q : ℕ) → parent_of (pool_at old q) ≡ parent_of (live_at pools q)
     same_old q = ap parent_of (at_old q)
 
     pub destroyed : IsDestroyed old new s
     destroyed = record {
-      gone = at_new s ∙ updated_here mid end s None gone;
+      gone = at_new s ∙ gone.0;
       beneath = λ q b. at_new q ∙ elim (cases_eq q s) [
-        | inl is ↦ ap (get nat_eq end) is ∙ updated_here mid end s None gone
+        | inl is ↦ ap (live_at end) is ∙ gone.0
         | inr apart ↦
-            updated_away mid end s None gone q apart ∙ pruned.beneath q (beneath_same (pool_at old) (get nat_eq pools) same_old s q b)
+            gone.1 q apart ∙ pruned.beneath q (beneath_same (pool_at old) (live_at pools) same_old s q b)
       ];
       rest = record {
         others =
-            λ q apart not. at_new q ∙ updated_away mid end s None gone q apart
-            ∙ pruned.others q (λ b. not (beneath_same (get nat_eq pools) (pool_at old) (λ k. sym (same_old k)) s q b)) ∙ sym (at_old q);
+            λ q apart not. at_new q ∙ gone.1 q apart
+            ∙ pruned.others q (λ b. not (beneath_same (live_at pools) (pool_at old) (λ k. sym (same_old k)) s q b)) ∙ sym (at_old q);
         root = roots;
         next = nexts;
         blocks = blocks;
@@ -131,56 +129,56 @@ module _ (old new : Pools) (s : ℕ) (roots : new.root ≡ old.root) (nexts : ne
     }
 
 -- the tree's invariant after all beneath a pool are gone
-module _ (pools end : LiveMap) (s root last : ℕ) (pruned : IsPruned pools end s)
-    (live : (q : ℕ) → IsSome (get nat_eq pools q) → q ≤ last) where
-  still_live : (q : ℕ) → IsSome (get nat_eq end q) → IsSome (get nat_eq pools q)
+module _ (pools end : LivePools) (s root last : ℕ) (pruned : IsPruned pools end s)
+    (live : (q : ℕ) → IsSome (live_at pools q) → q ≤ last) where
+  still_live : (q : ℕ) → IsSome (live_at end q) → IsSome (live_at pools q)
   still_live q h =
-      elim (is_some (get nat_eq pools q)) as (λ (b : Bool). is_some (get nat_eq pools q) ≡ b → is_some (get nat_eq pools q) ≡ true) [
+      elim (is_some (live_at pools q)) as (λ (b : Bool). is_some (live_at pools q) ≡ b → is_some (live_at pools q) ≡ true) [
         | true ↦ λ is. is
         | false ↦
-            λ is. absurd (none_is_gone (get nat_eq end q)
-            (pruned.fewer q (gone_is_none (get nat_eq pools q) (λ live. let clash : false ≡ true = sym is ∙ live in let no : ⊥ = cc in no)))
+            λ is. absurd (none_is_gone (live_at end q)
+            (pruned.fewer q (gone_is_none (live_at pools q) (λ live. let clash : false ≡ true = sym is ∙ live in let no : ⊥ = cc in no)))
             h)
       ] refl
 
-  pub below-pruned : (q : ℕ) → IsSome (get nat_eq end q) → q ≤ last
+  pub below-pruned : (q : ℕ) → IsSome (live_at end q) → q ≤ last
   below-pruned q h = live q (still_live q h)
 
-  pub rooted-pruned : IsSomeAnd (get nat_eq pools root) (λ e. e.parent ≡ None) → IsSomeAnd (get nat_eq end root) (λ e. e.parent ≡ None)
+  pub rooted-pruned : IsSomeAnd (live_at pools root) (λ e. e.parent ≡ None) → IsSomeAnd (live_at end root) (λ e. e.parent ≡ None)
   rooted-pruned rooted =
-      let same : get nat_eq end root ≡ get nat_eq pools root =
-      pruned.others root (λ b. parentless (get nat_eq pools) s b.0 root (lone_root (get nat_eq pools root) rooted) b.1) in
+      let same : live_at end root ≡ live_at pools root =
+      pruned.others root (λ b. parentless (live_at pools) s b.0 root (lone_root (live_at pools root) rooted) b.1) in
       subst (λ (o : Option Entry). IsSomeAnd o (λ e. e.parent ≡ None)) (sym same) rooted
 
 -- and after one pool was emptied
-module _ (pools new : LiveMap) (s root last : ℕ) (was : IsSome (get nat_eq pools s))
-    (put : Updates nat_eq pools new s (Some (record { parent = parent_of (get nat_eq pools s); strings = [] }))) where
-  pub below-emptied : ((q : ℕ) → IsSome (get nat_eq pools q) → q ≤ last) → (q : ℕ) → IsSome (get nat_eq new q) → q ≤ last
+module _ (pools new : LivePools) (s root last : ℕ) (was : IsSome (live_at pools s))
+    (put : Changes pools new s (Some (record { parent = parent_of (live_at pools s); strings = [] }))) where
+  pub below-emptied : ((q : ℕ) → IsSome (live_at pools q) → q ≤ last) → (q : ℕ) → IsSome (live_at new q) → q ≤ last
   below-emptied live q h = elim (cases_eq q s) [
-    | inl is ↦ live q (ap (λ (k : ℕ). is_some (get nat_eq pools k)) is ∙ was)
-    | inr apart ↦ live q (subst IsSome (updated_away pools new s _ put q apart) h)
+    | inl is ↦ live q (ap (λ (k : ℕ). is_some (live_at pools k)) is ∙ was)
+    | inr apart ↦ live q (subst IsSome (put.1 q apart) h)
   ]
 
-  pub rooted-emptied : IsSomeAnd (get nat_eq pools root) (λ e. e.parent ≡ None) → IsSomeAnd (get nat_eq new root) (λ e. e.parent ≡ None)
+  pub rooted-emptied : IsSomeAnd (live_at pools root) (λ e. e.parent ≡ None) → IsSomeAnd (live_at new root) (λ e. e.parent ≡ None)
   rooted-emptied rooted = elim (cases_eq root s) [
     | inl is ↦
-        let here : get nat_eq new root ≡ Some (record { parent = parent_of (get nat_eq pools s); strings = [] }) =
-        ap (get nat_eq new) is ∙ updated_here pools new s _ put in
+        let here : live_at new root ≡ Some (record { parent = parent_of (live_at pools s); strings = [] }) =
+        ap (live_at new) is ∙ put.0 in
         subst (λ (o : Option Entry). IsSomeAnd o (λ e. e.parent ≡ None)) (sym here)
-        (ap (λ (k : ℕ). parent_of (get nat_eq pools k)) (sym is) ∙ lone_root (get nat_eq pools root) rooted)
-    | inr apart ↦ subst (λ (o : Option Entry). IsSomeAnd o (λ e. e.parent ≡ None)) (sym (updated_away pools new s _ put root apart)) rooted
+        (ap (λ (k : ℕ). parent_of (live_at pools k)) (sym is) ∙ lone_root (live_at pools root) rooted)
+    | inr apart ↦ subst (λ (o : Option Entry). IsSomeAnd o (λ e. e.parent ≡ None)) (sym (put.1 root apart)) rooted
   ]
 
 -- and after a pool that is not the root is gone
-module _ (pools new : LiveMap) (s root last : ℕ) (gone : Updates nat_eq pools new s None) where
-  pub below-removed : ((q : ℕ) → IsSome (get nat_eq pools q) → q ≤ last) → (q : ℕ) → IsSome (get nat_eq new q) → q ≤ last
+module _ (pools new : LivePools) (s root last : ℕ) (gone : Changes pools new s None) where
+  pub below-removed : ((q : ℕ) → IsSome (live_at pools q) → q ≤ last) → (q : ℕ) → IsSome (live_at new q) → q ≤ last
   below-removed live q h = elim (cases_eq q s) [
-    | inl is ↦ absurd (none_is_gone (get nat_eq new q) (ap (get nat_eq new) is ∙ updated_here pools new s None gone) h)
-    | inr apart ↦ live q (subst IsSome (updated_away pools new s None gone q apart) h)
+    | inl is ↦ absurd (none_is_gone (live_at new q) (ap (live_at new) is ∙ gone.0) h)
+    | inr apart ↦ live q (subst IsSome (gone.1 q apart) h)
   ]
 
-  pub rooted-removed : s ≢ root → IsSomeAnd (get nat_eq pools root) (λ e. e.parent ≡ None)
-      → IsSomeAnd (get nat_eq new root) (λ e. e.parent ≡ None)
+  pub rooted-removed : s ≢ root → IsSomeAnd (live_at pools root) (λ e. e.parent ≡ None)
+      → IsSomeAnd (live_at new root) (λ e. e.parent ≡ None)
   rooted-removed apart rooted =
       subst (λ (o : Option Entry). IsSomeAnd o (λ e. e.parent ≡ None))
-      (sym (updated_away pools new s None gone root (λ e. apart (sym e)))) rooted
+      (sym (gone.1 root (λ e. apart (sym e)))) rooted

@@ -4,22 +4,33 @@ use Rattle.std.proofs.Common.{is_some, refl, sym, ap, ◌∙◌, inl, inr, arith
 use Rattle.std.proofs.lemmas.Bool.{cases_eq, eq-eqb, ne_eqb}
 use Rattle.std.proofs.lemmas.Cmp.{nat_cmp_total, tied_itself}
 use Rattle.std.proofs.lemmas.List.Sums.{sum_by-cons}
+use Rattle.std.proofs.lemmas.Map.Lookups.{exact_unsigned}
 use Rattle.std.proofs.lemmas.Map.Keys.{IsDistinct-head, IsDistinct-tail}
 use Rattle.std.specs.FinMap as fin
 use Rattle.std.specs.FinMap.Entries.{by_order, find, put}
-use Rattle.std.specs.HashMap.{get, values, hash_map_len, Updates, IsUnique}
 use Rattle.std.specs.List.{sum_by, AllByRecursion, IsDistinct}
 use Rattle.std.specs.Map.{keys_of, lookup, values_of}
 use Rattle.std.specs.Ordering.{is_eq, nat_cmp, eq_by_cmp}
 use Rattle.std.specs.declared.cmp.Ordering.{Ordering}
 use Rattle.std.specs.declared.cmp.Ordering.TheVariants.{Less, Equal, Greater}
-use Rattle.svn_pool.specs.Linked.{blocks_held, fixed_held, LiveMap}
+use Rattle.svn_pool.specs.Linked.{Changes, IsUnique, LivePools, blocks_held, fixed_held, live_at}
 use Rattle.svn_pool.specs.Pools.{Entry, Pools, pool_at, parent_of, strings_of_pool, strings_at, blocks_of, fixed_of, blocks_in, fixed_in}
 use Rattle.svn_pool.specs.Pools.{store_of, created, pushed, root_alone}
 use Rattle.svn_pool.specs.Refusals.{fault_if_live, push_fault}
 use Rattle.svn_pool.specs.Stores.{Store, stored, string_fault}
 use Rattle.svn_pool.specs.Views.{contents, seen}
-use Rattle.svn_pool.proofs.Edges.{number_apart, updated_here, updated_away}
+
+is_eq_gives : (o : Ordering) → is_eq o ≡ true → o ≡ Equal
+is_eq_gives Less e = cc
+is_eq_gives Equal e = refl
+is_eq_gives Greater e = cc
+
+not_true : (b : Bool) → (b ≡ true → ⊥) → b ≡ false
+not_true true h = absurd (h refl)
+not_true false h = refl
+
+number_apart : (k q : ℕ) → q ≢ k → eq_by_cmp nat_cmp k q ≡ false
+number_apart k q apart = not_true (eq_by_cmp nat_cmp k q) (λ is. apart (sym (exact_unsigned k q (is_eq_gives (nat_cmp k q) is))))
 
 -- both tests of two numbers answer alike
 cmp-eq : (q x : ℕ) → eq_by_cmp nat_cmp q x ≡ nat_eq q x
@@ -90,15 +101,15 @@ sum-map_of f (e ∷ es) d =
     let more = sum-put f e.0 e.1 (fin.entries (map_of es)) (sym (fin.get-entries (map_of es) e.0) ∙ absent e es d) in
     put_in ∙ more ∙ ap (λ (n : ℕ). f e.1 + n) later ∙ sym (sum_by-cons f e.1 (values_of es))
 
-module _ (m : LiveMap) (unique : IsUnique nat_eq m) where
-  pub get-contents : (q : ℕ) → fin.get (contents m) q ≡ get nat_eq m q
-  get-contents q = fin.get-from_entries nat_cmp_total m.entries q ∙ find-lookup q m.entries
+module _ (m : LivePools) (unique : IsUnique m) where
+  pub get-contents : (q : ℕ) → fin.get (contents m) q ≡ live_at m q
+  get-contents q = fin.get-from_entries nat_cmp_total m q ∙ find-lookup q m
 
-  pub len-contents : fin.len (contents m) ≡ hash_map_len m
-  len-contents = len-map_of m.entries unique
+  pub len-contents : fin.len (contents m) ≡ length m
+  len-contents = len-map_of m unique
 
-  pub sum-contents : (f : Entry → ℕ) → sum_by f (fin.values (contents m)) ≡ sum_by f (values m)
-  sum-contents f = sum-map_of f m.entries unique
+  pub sum-contents : (f : Entry → ℕ) → sum_by f (fin.values (contents m)) ≡ sum_by f (values_of m)
+  sum-contents f = sum-map_of f m unique
 
 not_same : (q s : ℕ) → q ≢ s → eq_by_cmp nat_cmp q s ≡ false
 not_same q s apart = number_apart q s (λ e. apart (sym e))
@@ -121,28 +132,28 @@ module _ (t : fin.FinMap nat_cmp Entry) (s : ℕ) where
   removed_away q apart = fin.get-remove nat_cmp_total t s q ∙ ap (λ (b : Bool). cond b None (fin.get t q)) (not_same q s apart)
 
 -- maps with the same pools are the same
-pub same_contents : (m : LiveMap) → IsUnique nat_eq m → (t : fin.FinMap nat_cmp Entry) → ((q : ℕ) → get nat_eq m q ≡ fin.get t q)
+pub same_contents : (m : LivePools) → IsUnique m → (t : fin.FinMap nat_cmp Entry) → ((q : ℕ) → live_at m q ≡ fin.get t q)
     → contents m ≡ t
 same_contents m unique t same =
     fin.same_map nat_cmp_total fin.nat_cmp-IsAntisymmetric (contents m) t (λ q. get-contents m unique q ∙ same q)
 
 -- one pool was put in
-pub contents-put : (m n : LiveMap) → IsUnique nat_eq m → IsUnique nat_eq n → (s : ℕ) (e : Entry) → Updates nat_eq m n s (Some e)
+pub contents-put : (m n : LivePools) → IsUnique m → IsUnique n → (s : ℕ) (e : Entry) → Changes m n s (Some e)
     → contents n ≡ fin.insert (contents m) s e
 contents-put m n before after s e put =
     same_contents n after (fin.insert (contents m) s e) (λ q. elim (cases_eq q s) [
       | inl is ↦
-          ap (get nat_eq n) is ∙ updated_here m n s (Some e) put
+          ap (live_at n) is ∙ put.0
           ∙ sym (ap (fin.get (fin.insert (contents m) s e)) is ∙ inserted_here (contents m) s e)
-      | inr apart ↦ updated_away m n s (Some e) put q apart ∙ sym (get-contents m before q) ∙ sym (inserted_away (contents m) s e q apart)
+      | inr apart ↦ put.1 q apart ∙ sym (get-contents m before q) ∙ sym (inserted_away (contents m) s e q apart)
     ])
 
-module _ (root last : ℕ) (pools : LiveMap) (spare : ℕ) (t : Pools) (view : seen root last pools spare ≡ t)
-    (unique : IsUnique nat_eq pools) where
-  pub pool_is : (q : ℕ) → pool_at t q ≡ get nat_eq pools q
+module _ (root last : ℕ) (pools : LivePools) (spare : ℕ) (t : Pools) (view : seen root last pools spare ≡ t)
+    (unique : IsUnique pools) where
+  pub pool_is : (q : ℕ) → pool_at t q ≡ live_at pools q
   pool_is q = sym (ap (λ (u : Pools). pool_at u q) view) ∙ get-contents pools unique q
 
-  pub strings_are : (q : ℕ) → strings_at t q ≡ strings_of_pool (get nat_eq pools q)
+  pub strings_are : (q : ℕ) → strings_at t q ≡ strings_of_pool (live_at pools q)
   strings_are q = ap strings_of_pool (pool_is q)
 
   pub blocks_are : blocks_in t ≡ blocks_held pools
@@ -151,37 +162,37 @@ module _ (root last : ℕ) (pools : LiveMap) (spare : ℕ) (t : Pools) (view : s
   pub fixed_are : fixed_in t ≡ fixed_held pools
   fixed_are = sym (ap fixed_in view) ∙ sum-contents pools unique fixed_of
 
-  pub live_is : fin.len t.live ≡ hash_map_len pools
+  pub live_is : fin.len t.live ≡ length pools
   live_is = sym (ap (λ (u : Pools). fin.len u.live) view) ∙ len-contents pools unique
 
-  pub created-view : (new : LiveMap) (p : ℕ) → IsUnique nat_eq new
-      → Updates nat_eq pools new (last + 1) (Some (record { parent = Some p; strings = [] })) → seen root (last + 1) new spare ≡ created t p
+  pub created-view : (new : LivePools) (p : ℕ) → IsUnique new
+      → Changes pools new (last + 1) (Some (record { parent = Some p; strings = [] })) → seen root (last + 1) new spare ≡ created t p
   created-view new p after put =
       let live = contents-put pools new unique after (last + 1) (record { parent = Some p; strings = [] }) put in
       (λ i. record { root = root; next = last + 1 + 1; live = live i; spare = spare }) ∙ ap (λ (u : Pools). created u p) view
 
-module _ (root last : ℕ) (pools : LiveMap) (stock : Store) (t : Pools) (view : seen root last pools stock.spare ≡ t)
-    (unique : IsUnique nat_eq pools) (counted : stock.used ≡ blocks_held pools) where
+module _ (root last : ℕ) (pools : LivePools) (stock : Store) (t : Pools) (view : seen root last pools stock.spare ≡ t)
+    (unique : IsUnique pools) (counted : stock.used ≡ blocks_held pools) where
   pub store_is : store_of t ≡ stock
   store_is =
       let used : blocks_in t ≡ stock.used = blocks_are root last pools stock.spare t view unique ∙ sym counted in
       let spare : t.spare ≡ stock.spare = sym (ap (λ (u : Pools). u.spare) view) in
       (λ i. record { used = used i; spare = spare i })
 
-  pub push_fault_is : (s n : ℕ) → push_fault t s n ≡ fault_if_live (get nat_eq pools s) (λ e. string_fault stock e.strings n)
+  pub push_fault_is : (s n : ℕ) → push_fault t s n ≡ fault_if_live (live_at pools s) (λ e. string_fault stock e.strings n)
   push_fault_is s n =
       (λ i. fault_if_live (pool_is root last pools stock.spare t view unique s i) (λ e. string_fault (store_is i) e.strings n))
 
-  pub pushed-view : (new : LiveMap) (after : Store) (s : ℕ) (bs : List ℕ) → IsUnique nat_eq new
-      → Updates nat_eq pools new s
-      (Some (record { parent = parent_of (get nat_eq pools s); strings = strings_of_pool (get nat_eq pools s) ++ bs ∷ [] }))
-      → after.spare ≡ (stored stock (strings_of_pool (get nat_eq pools s)) (length bs)).spare
+  pub pushed-view : (new : LivePools) (after : Store) (s : ℕ) (bs : List ℕ) → IsUnique new
+      → Changes pools new s
+      (Some (record { parent = parent_of (live_at pools s); strings = strings_of_pool (live_at pools s) ++ bs ∷ [] }))
+      → after.spare ≡ (stored stock (strings_of_pool (live_at pools s)) (length bs)).spare
       → seen root last new after.spare ≡ pushed t s bs
   pushed-view new after s bs late put spare =
-      let o : get nat_eq pools s ≡ pool_at t s = sym (pool_is root last pools stock.spare t view unique s) in
+      let o : live_at pools s ≡ pool_at t s = sym (pool_is root last pools stock.spare t view unique s) in
       let put_in =
       contents-put pools new unique late s
-      (record { parent = parent_of (get nat_eq pools s); strings = strings_of_pool (get nat_eq pools s) ++ bs ∷ [] }) put in
+      (record { parent = parent_of (live_at pools s); strings = strings_of_pool (live_at pools s) ++ bs ∷ [] }) put in
       let at_t : contents pools ≡ t.live = ap (λ (u : Pools). u.live) view in
       let roots : root ≡ t.root = ap (λ (u : Pools). u.root) view in
       let nexts : last + 1 ≡ t.next = ap (λ (u : Pools). u.next) view in
@@ -195,18 +206,18 @@ module _ (root last : ℕ) (pools : LiveMap) (stock : Store) (t : Pools) (view :
       })
 
 -- the root alone
-pub root_alone-view : (first spare : ℕ) (none new : LiveMap) → none.entries ≡ [] → IsUnique nat_eq new
-    → Updates nat_eq none new first (Some (record { parent = None; strings = [] })) → spare ≡ 0
+pub root_alone-view : (first spare : ℕ) (none new : LivePools) → none ≡ [] → IsUnique new
+    → Changes none new first (Some (record { parent = None; strings = [] })) → spare ≡ 0
     → seen first first new spare ≡ root_alone first
 root_alone-view first spare none new empty after put zero =
     let e : Entry = record { parent = None; strings = [] } in
     let live : contents new ≡ fin.insert fin.empty first e =
     same_contents new after (fin.insert fin.empty first e) (λ q. elim (cases_eq q first) [
       | inl is ↦
-          ap (get nat_eq new) is ∙ updated_here none new first (Some e) put
+          ap (live_at new) is ∙ put.0
           ∙ sym (ap (fin.get (fin.insert fin.empty first e)) is ∙ inserted_here fin.empty first e)
       | inr apart ↦
-          updated_away none new first (Some e) put q apart ∙ ap (lookup (nat_eq q)) empty
+          put.1 q apart ∙ ap (lookup (nat_eq q)) empty
           ∙ sym (inserted_away fin.empty first e q apart ∙ fin.get-empty nat_cmp q)
     ]) in
     (λ i. record { root = first; next = first + 1; live = live i; spare = zero i })

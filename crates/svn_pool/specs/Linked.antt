@@ -1,55 +1,121 @@
--- How the tree holds its pools: by their serials, and beside them the pairs of a parent and its child.
-use Rattle.std.specs.Prelude.{nat_eq, ◌≡◌, ◌≢◌, ℕ, ◌<◌, ◌≤◌, Bool, true, None, Some, IsSome, IsSomeAnd}
-use Rattle.std.specs.HashMap.{HashMap, get, values, IsUnique}
-use Rattle.std.specs.BTreeSet.{BTreeSet, contains}
-use Rattle.std.specs.List.{sum_by}
-use Rattle.std.specs.Ordering.{nat_cmp, ordering_then}
-use Rattle.std.specs.declared.cmp.Ordering.{Ordering}
+-- How the tree holds its pools: by their serials, each with links to its first child and to the siblings beside it.
+use Rattle.std.specs.Prelude.{nat_eq, ◌≡◌, ◌≢◌, ℕ, ◌<◌, ◌≤◌, List, map, Option, None, Some, IsSome, IsSomeAnd, option_map}
+use Rattle.std.specs.HashMap.{HashMap, get}
+use Rattle.std.specs.List.{sum_by, IsDistinct}
+use Rattle.std.specs.Map.{keys_of, lookup, values_of}
 use Rattle.std.specs.declared.hash.BuildHasherDefault.{BuildHasherDefault}
 use Rattle.std.specs.declared.hash.FoldHasher.{FoldHasher}
 use Rattle.svn_pool.specs.Ancestry.{IsBeneath}
 use Rattle.svn_pool.specs.Pools.{Entry, parent_of, blocks_of, fixed_of}
+use Rattle.svn_pool.specs.declared.links.Linked.{Linked}
+use Rattle.svn_pool.specs.declared.links.Place.{Place}
+use Rattle.svn_pool.specs.declared.links.Place.TheVariants.{First, Next}
 
--- the live pools by their serials, in no order
-abbrev pub LiveMap : Type 0
-LiveMap = HashMap ℕ Entry (BuildHasherDefault FoldHasher)
+-- the live pools by their serials, each with its links
+abbrev pub LinkedMap : Type 0
+LinkedMap = HashMap ℕ (Linked Entry) (BuildHasherDefault FoldHasher)
 
--- pairs stand in the order of their first parts, and then of their second
-abbrev pub edge_cmp : ℕ × ℕ → ℕ × ℕ → Ordering
-edge_cmp x y = ordering_then (nat_cmp x.0 y.0) (nat_cmp x.1 y.1)
+-- the live pools with their serials, in no order
+abbrev pub LivePools : Type 0
+LivePools = List (ℕ × Entry)
 
--- whether c is kept as a child of p
-abbrev pub has_edge : BTreeSet (ℕ × ℕ) → ℕ → ℕ → Bool
-has_edge children p c = contains edge_cmp children (p, c)
+abbrev pub bare_entry : ℕ × Linked Entry → ℕ × Entry
+bare_entry e = (e.0, e.1.pool)
 
--- the pairs are those of a live pool's parent and the pool; a parent is live too, and older
-pub record IsLinked (pools : LiveMap) (children : BTreeSet (ℕ × ℕ)) : Type 0 where
-  pub down : (p c : ℕ) → has_edge children p c ≡ true → parent_of (get nat_eq pools c) ≡ Some p
-  pub up : (p c : ℕ) → parent_of (get nat_eq pools c) ≡ Some p → has_edge children p c ≡ true
-  pub older : (p c : ℕ) → parent_of (get nat_eq pools c) ≡ Some p → IsSome (get nat_eq pools p) × (p < c)
-  pub small : (c : ℕ) → IsSome (get nat_eq pools c) → c < 18446744073709551616
-  pub unique : IsUnique nat_eq pools
+-- the pools of a map, without their links
+abbrev pub bare : LinkedMap → LivePools
+bare pools = map bare_entry pools.entries
+
+-- the live pool of serial s
+abbrev pub live_at : LivePools → ℕ → Option Entry
+live_at pools s = lookup (nat_eq s) pools
+
+-- each serial is there once
+abbrev pub IsUnique : LivePools → Type 0
+IsUnique pools = IsDistinct nat_eq (keys_of pools)
+
+-- the pool s is w now, where `None` takes it out, and the others are as they were
+abbrev pub Changes : LivePools → LivePools → ℕ → Option Entry → Type 0
+Changes old new s w = (live_at new s ≡ w) × ((q : ℕ) → q ≢ s → live_at new q ≡ live_at old q)
+
+abbrev pub first_of : Option (Linked Entry) → Option ℕ
+first_of None = None
+first_of (Some l) = l.first
+
+abbrev pub next_of : Option (Linked Entry) → Option ℕ
+next_of None = None
+next_of (Some l) = l.next
+
+-- the sibling that a pool at a place follows
+abbrev pub sibling_before : Place → Option ℕ
+sibling_before (First p) = None
+sibling_before (Next q) = Some q
+
+-- where a pool with that parent stands that follows that sibling
+abbrev pub place_by : Option ℕ → Option ℕ → Option Place
+place_by parent (Some q) = Some (Next q)
+place_by parent None = option_map First parent
+
+abbrev pub place_in : Option (Linked Entry) → Option Place
+place_in None = None
+place_in (Some l) = place_by l.pool.parent l.before
+
+-- the pool whose link a place is
+abbrev pub holder : Place → ℕ
+holder (First p) = p
+holder (Next q) = q
+
+-- the pool that stands at a place
+abbrev pub standing : LinkedMap → Place → Option ℕ
+standing pools (First p) = first_of (get nat_eq pools p)
+standing pools (Next q) = next_of (get nat_eq pools q)
+
+-- where a pool stands
+abbrev pub place_of : LinkedMap → ℕ → Option Place
+place_of pools c = place_in (get nat_eq pools c)
+
+abbrev pub parent_in : LinkedMap → ℕ → Option ℕ
+parent_in pools c = parent_of (live_at (bare pools) c)
+
+-- what stands at a place, and where a pool stands, are inverse
+pub record IsInverse (at : Place → Option ℕ) (place : ℕ → Option Place) : Type 0 where
+  pub there : (x : Place) (c : ℕ) → at x ≡ Some c → place c ≡ Some x
+  pub back : (x : Place) (c : ℕ) → place c ≡ Some x → at x ≡ Some c
+
+-- children alone stand somewhere: one as its parent's first child, and each other behind a sibling that is newer
+pub record IsKin (parent : ℕ → Option ℕ) (place : ℕ → Option Place) : Type 0 where
+  pub placed : (c p : ℕ) → parent c ≡ Some p → IsSome (place c)
+  pub first : (c p : ℕ) → place c ≡ Some (First p) → parent c ≡ Some p
+  pub next : (c q : ℕ) → place c ≡ Some (Next q) → IsSome (parent c) × (parent q ≡ parent c) × (c < q)
+
+-- the links are those of the pools to their children; a parent is live, and older
+pub record IsLinked (pools : LinkedMap) : Type 0 where
+  pub inverse : IsInverse (standing pools) (place_of pools)
+  pub kin : IsKin (parent_in pools) (place_of pools)
+  pub older : (p c : ℕ) → parent_in pools c ≡ Some p → IsSome (live_at (bare pools) p) × (p < c)
+  pub small : (c : ℕ) → IsSome (live_at (bare pools) c) → c < 18446744073709551616
+  pub unique : IsUnique (bare pools)
 
 -- no live pool has the parent s
-abbrev pub IsLeaf : LiveMap → ℕ → Type 0
-IsLeaf pools s = (c : ℕ) → parent_of (get nat_eq pools c) ≢ Some s
+abbrev pub IsLeaf : LivePools → ℕ → Type 0
+IsLeaf pools s = (c : ℕ) → parent_of (live_at pools c) ≢ Some s
 
-abbrev pub blocks_held : LiveMap → ℕ
-blocks_held pools = sum_by blocks_of (values pools)
+abbrev pub blocks_held : LivePools → ℕ
+blocks_held pools = sum_by blocks_of (values_of pools)
 
-abbrev pub fixed_held : LiveMap → ℕ
-fixed_held pools = sum_by fixed_of (values pools)
+abbrev pub fixed_held : LivePools → ℕ
+fixed_held pools = sum_by fixed_of (values_of pools)
 
 -- all beneath s are gone, and the others are as they were
-pub record IsPruned (old new : LiveMap) (s : ℕ) : Type 0 where
-  pub beneath : (q : ℕ) → IsBeneath (get nat_eq old) s q → get nat_eq new q ≡ None
-  pub others : (q : ℕ) → (IsBeneath (get nat_eq old) s q → ⊥) → get nat_eq new q ≡ get nat_eq old q
-  pub fewer : (q : ℕ) → get nat_eq old q ≡ None → get nat_eq new q ≡ None
+pub record IsPruned (old new : LivePools) (s : ℕ) : Type 0 where
+  pub beneath : (q : ℕ) → IsBeneath (live_at old) s q → live_at new q ≡ None
+  pub others : (q : ℕ) → (IsBeneath (live_at old) s q → ⊥) → live_at new q ≡ live_at old q
+  pub fewer : (q : ℕ) → live_at old q ≡ None → live_at new q ≡ None
   pub leaf : IsLeaf new s
 
 -- what the tree keeps of its fields
-pub record IsTree (pools : LiveMap) (children : BTreeSet (ℕ × ℕ)) (root last used : ℕ) : Type 0 where
-  pub linked : IsLinked pools children
-  pub rooted : IsSomeAnd (get nat_eq pools root) (λ e. e.parent ≡ None)
-  pub below : (s : ℕ) → IsSome (get nat_eq pools s) → s ≤ last
-  pub counted : used ≡ blocks_held pools
+pub record IsTree (pools : LinkedMap) (root last used : ℕ) : Type 0 where
+  pub linked : IsLinked pools
+  pub rooted : IsSomeAnd (live_at (bare pools) root) (λ e. e.parent ≡ None)
+  pub below : (s : ℕ) → IsSome (live_at (bare pools) s) → s ≤ last
+  pub counted : used ≡ blocks_held (bare pools)

@@ -1,92 +1,209 @@
-// The live pools by their serials, and the pairs of a parent and its child: one finds a pool, the other a pool's children.
-ghost use Rattle.std.specs.Prelude.{nat_eq, ◌≡◌, ◌≢◌, ℕ, ◌+◌, ◌<◌, true, false, [], Some, None, IfSome, IfNone, IsSome, OnOk, OnErr, IfErr};
-ghost use Rattle.std.specs.HashMap.{get, hash_map_len, Updates, IsUnchanged};
-ghost use Rattle.svn_pool.specs.Linked.{IsLeaf, IsLinked, blocks_held, fixed_held, has_edge};
+// The live pools by their serials, linked: each knows its first child and the siblings beside it.
+ghost use Rattle.std.specs.Prelude.{nat_eq, ◌≡◌, ◌≢◌, ℕ, ◌+◌, ◌<◌, [], length, Some, None, is_some, option_copied, IsSome, OnOk, OnErr, IfErr};
+ghost use Rattle.std.specs.HashMap.{get};
+ghost use Rattle.svn_pool.specs.Linked.{Changes, IsLeaf, IsLinked, bare, blocks_held, fixed_held, first_of, holder, live_at, next_of, parent_in, place_by, place_in, place_of, sibling_before, standing};
 ghost use Rattle.svn_pool.specs.Pools.{parent_of};
 
 use crate::fault::PoolFault;
 use crate::pool::Pool;
 use crate::stock::Stock;
 use std::alloc::Allocator;
-use std::collections::{BTreeSet, HashMap};
+use std::collections::HashMap;
 use std::hash::{BuildHasherDefault, FoldHasher};
 
-pub(crate) type Live<A> = HashMap<u64, Pool<A>, BuildHasherDefault<FoldHasher>, A>;
-
-pub(crate) type Children<A> = BTreeSet<(u64, u64), A>;
-
-// The oldest child of a pool.
-pub(crate) fn first_child<A: Allocator + Copy>(children: &Children<A>, parent: u64) -> Option<u64>
-    ensures found { IfSome result (λ c. has_edge children.now parent c ≡ true) }
-    ensures none { IfNone result ((c : ℕ) → c < 18446744073709551616 → has_edge children.now parent c ≡ false) }
-{
-    let mut edges = children.range((parent, 0)..=(parent, u64::MAX));
-    let Some(edge) = edges.next() else {
-        return None;
-    };
-    Some(edge.1)
+// A place for one pool.
+#[derive(Clone, Copy)]
+pub(crate) enum Place {
+    // The first child of a pool.
+    First(u64),
+    // The sibling that follows a pool.
+    Next(u64),
 }
 
-// Adds a child of a live pool. Its serial is greater than all others.
+// A pool with its links. Its children are the first, the one that follows that, and so on, from the newest to the oldest.
+#[derive(Drop)]
+pub(crate) struct Linked<P> {
+    pub(crate) pool: P,
+    pub(crate) first: Option<u64>,
+    next: Option<u64>,
+    // The sibling that this one follows.
+    before: Option<u64>,
+}
+
+pub(crate) type Live<A> = HashMap<u64, Linked<Pool<A>>, BuildHasherDefault<FoldHasher>, A>;
+
+// A pool without children and siblings, which stands nowhere.
+pub(crate) fn unlinked<P>(pool: P) -> Linked<P>
+    ensures { result ≡ record { pool = pool; first = None; next = None; before = None } }
+{
+    Linked {
+        pool,
+        first: None,
+        next: None,
+        before: None,
+    }
+}
+
+pub(crate) fn is_live<A: Allocator + Copy>(pools: &Live<A>, serial: u64) -> bool
+    ensures { result ≡ is_some (live_at (bare pools.now) serial) }
+{
+    pools.contains_key(&serial)
+}
+
+pub(crate) fn live_pool<'a, A: Allocator + Copy>(
+    pools: &'a Live<A>,
+    serial: u64,
+) -> Option<&'a Pool<A>>
+    ensures { option_copied result ≡ live_at (bare pools.now) serial }
+{
+    let Some(linked) = pools.get(&serial) else {
+        return None;
+    };
+    Some(&linked.pool)
+}
+
+// The newest child of a pool.
+pub(crate) fn first_child<A: Allocator + Copy>(pools: &Live<A>, parent: u64) -> Option<u64>
+    ensures { result ≡ first_of (get nat_eq pools.now parent) }
+{
+    let Some(linked) = pools.get(&parent) else {
+        return None;
+    };
+    linked.first
+}
+
+fn set_first<A: Allocator + Copy>(pools: &mut Live<A>, serial: u64, first: Option<u64>)
+    ensures first { IsSome (get nat_eq pools.old serial) → first_of (get nat_eq pools.new serial) ≡ first }
+    ensures next { next_of (get nat_eq pools.new serial) ≡ next_of (get nat_eq pools.old serial) }
+    ensures place { place_in (get nat_eq pools.new serial) ≡ place_in (get nat_eq pools.old serial) }
+    ensures others { (q : ℕ) → q ≢ serial → get nat_eq pools.new q ≡ get nat_eq pools.old q }
+    ensures pools { bare pools.new ≡ bare pools.old }
+{
+    if let Some(linked) = pools.get_mut(&serial) {
+        linked.first = first;
+    }
+}
+
+fn set_next<A: Allocator + Copy>(pools: &mut Live<A>, serial: u64, next: Option<u64>)
+    ensures next { IsSome (get nat_eq pools.old serial) → next_of (get nat_eq pools.new serial) ≡ next }
+    ensures first { first_of (get nat_eq pools.new serial) ≡ first_of (get nat_eq pools.old serial) }
+    ensures place { place_in (get nat_eq pools.new serial) ≡ place_in (get nat_eq pools.old serial) }
+    ensures others { (q : ℕ) → q ≢ serial → get nat_eq pools.new q ≡ get nat_eq pools.old q }
+    ensures pools { bare pools.new ≡ bare pools.old }
+{
+    if let Some(linked) = pools.get_mut(&serial) {
+        linked.next = next;
+    }
+}
+
+// Where a pool stands. The root, which has no parent, stands nowhere.
+fn place_by(parent: Option<u64>, before: Option<u64>) -> Option<Place>
+    ensures { result ≡ place_by parent before }
+{
+    if let Some(before) = before {
+        return Some(Place::Next(before));
+    }
+    let Some(parent) = parent else {
+        return None;
+    };
+    Some(Place::First(parent))
+}
+
+fn sibling_before(place: Place) -> Option<u64>
+    ensures { result ≡ sibling_before place }
+{
+    match place {
+        Place::First(_) => None,
+        Place::Next(before) => Some(before),
+    }
+}
+
+// Sets what stands at a place.
+fn set_standing<A: Allocator + Copy>(pools: &mut Live<A>, place: Place, pool: Option<u64>)
+    ensures here { IsSome (get nat_eq pools.old (holder place)) → standing pools.new place ≡ pool }
+    ensures standing { (x : Place) → x ≢ place → standing pools.new x ≡ standing pools.old x }
+    ensures places { (c : ℕ) → place_of pools.new c ≡ place_of pools.old c }
+    ensures pools { bare pools.new ≡ bare pools.old }
+{
+    match place {
+        Place::First(parent) => set_first(pools, parent, pool),
+        Place::Next(before) => set_next(pools, before, pool),
+    }
+}
+
+// Sets where a pool stands, if there is one: as the first child of its parent, or behind a sibling.
+fn move_to<A: Allocator + Copy>(pools: &mut Live<A>, pool: Option<u64>, place: Place)
+    ensures moved { (c : ℕ) → pool ≡ Some c → IsSome (get nat_eq pools.old c) → ((p : ℕ) → place ≡ Place.First p → parent_in pools.old c ≡ Some p)
+        → place_of pools.new c ≡ Some place }
+    ensures others { (c : ℕ) → pool ≢ Some c → place_of pools.new c ≡ place_of pools.old c }
+    ensures standing { (x : Place) → standing pools.new x ≡ standing pools.old x }
+    ensures pools { bare pools.new ≡ bare pools.old }
+{
+    let Some(serial) = pool else {
+        return;
+    };
+    if let Some(linked) = pools.get_mut(&serial) {
+        linked.before = sibling_before(place);
+    }
+}
+
+// Adds a child of a live pool, before its other children, of which `older` is the first. Its serial is greater than all others.
 pub(crate) fn add_child<A: Allocator + Copy>(
     pools: &mut Live<A>,
-    children: &mut Children<A>,
     parent: u64,
     serial: u64,
+    older: Option<u64>,
 ) -> Result<(), PoolFault>
-    requires linked { IsLinked pools.old children.old }
-    requires live { IsSome (get nat_eq pools.old parent) }
-    requires fresh { (s : ℕ) → IsSome (get nat_eq pools.old s) → s < serial }
-    ensures linked { IsLinked pools.new children.new }
-    ensures added { OnOk result (Updates nat_eq pools.old pools.new serial (Some (record { parent = Some parent; strings = [] }))) }
-    ensures blocks { blocks_held pools.new ≡ blocks_held pools.old }
-    ensures fixed { fixed_held pools.new ≡ fixed_held pools.old }
-    ensures refused { OnErr result (IsUnchanged pools.old pools.new) }
+    requires linked { IsLinked pools.old }
+    requires live { IsSome (live_at (bare pools.old) parent) }
+    requires fresh { (s : ℕ) → IsSome (live_at (bare pools.old) s) → s < serial }
+    requires older { older ≡ first_of (get nat_eq pools.old parent) }
+    ensures linked { IsLinked pools.new }
+    ensures added { OnOk result (Changes (bare pools.old) (bare pools.new) serial (Some (record { parent = Some parent; strings = [] }))) }
+    ensures blocks { blocks_held (bare pools.new) ≡ blocks_held (bare pools.old) }
+    ensures fixed { fixed_held (bare pools.new) ≡ fixed_held (bare pools.old) }
+    ensures refused { OnErr result (bare pools.new ≡ bare pools.old) }
     ensures memory { IfErr result (λ f. f ≡ PoolFault.Memory) }
 {
-    let Ok(_) = children.insert((parent, serial)) else {
+    let child = Linked {
+        pool: Pool::new(Some(parent)),
+        first: None,
+        next: older,
+        before: None,
+    };
+    let Ok(_) = pools.insert(serial, child) else {
         return Err(PoolFault::Memory);
     };
-    let Ok(_) = pools.insert(serial, Pool::new(Some(parent))) else {
-        children.remove(&(parent, serial));
-        return Err(PoolFault::Memory);
-    };
+    set_standing(pools, Place::First(parent), Some(serial));
+    move_to(pools, older, Place::Next(serial));
     Ok(())
 }
 
 // Removes a pool without children, and tells its parent. Its fixed blocks become spare.
 pub(crate) fn remove_leaf<A: Allocator + Copy>(
     pools: &mut Live<A>,
-    children: &mut Children<A>,
     stock: &mut Stock<A>,
     serial: u64,
 ) -> Option<u64>
-    requires linked { IsLinked pools.old children.old }
-    requires leaf { IsLeaf pools.old serial }
-    requires counted { stock.old.used ≡ blocks_held pools.old }
-    ensures parent { result ≡ parent_of (get nat_eq pools.old serial) }
-    ensures linked { IsLinked pools.new children.new }
-    ensures counted { stock.new.used ≡ blocks_held pools.new }
-    ensures fixed { stock.new.spare + fixed_held pools.new ≡ stock.old.spare + fixed_held pools.old }
-    ensures gone { Updates nat_eq pools.old pools.new serial None }
-    ensures fewer { IsSome (get nat_eq pools.old serial) → hash_map_len pools.new + 1 ≡ hash_map_len pools.old }
+    requires linked { IsLinked pools.old }
+    requires leaf { IsLeaf (bare pools.old) serial }
+    requires counted { stock.old.used ≡ blocks_held (bare pools.old) }
+    ensures parent { result ≡ parent_of (live_at (bare pools.old) serial) }
+    ensures linked { IsLinked pools.new }
+    ensures counted { stock.new.used ≡ blocks_held (bare pools.new) }
+    ensures fixed { stock.new.spare + fixed_held (bare pools.new) ≡ stock.old.spare + fixed_held (bare pools.old) }
+    ensures gone { Changes (bare pools.old) (bare pools.new) serial None }
+    ensures fewer { IsSome (live_at (bare pools.old) serial) → length (bare pools.new) + 1 ≡ length (bare pools.old) }
 {
-    let Some(mut pool) = pools.remove(&serial) else {
+    let Some(mut linked) = pools.remove(&serial) else {
         return None;
     };
-    pool.clear(stock);
-    let parent = pool.parent();
-    unlink(children, parent, serial);
+    linked.pool.clear(stock);
+    let parent = linked.pool.parent();
+    let Some(place) = place_by(parent, linked.before) else {
+        return parent;
+    };
+    set_standing(pools, place, linked.next);
+    move_to(pools, linked.next, place);
     parent
-}
-
-// Takes a pool from its parent's children.
-fn unlink<A: Allocator + Copy>(children: &mut Children<A>, parent: Option<u64>, serial: u64)
-    ensures others { (p c : ℕ) → c ≢ serial → has_edge children.new p c ≡ has_edge children.old p c }
-    ensures gone { (p : ℕ) → parent ≡ Some p → has_edge children.new p serial ≡ false }
-    ensures fewer { (p c : ℕ) → has_edge children.new p c ≡ true → has_edge children.old p c ≡ true }
-{
-    if let Some(parent) = parent {
-        children.remove(&(parent, serial));
-    }
 }

@@ -1,38 +1,32 @@
 // How all pools beneath one are removed.
-ghost use Rattle.std.specs.Prelude.{nat_eq, ◌≡◌, ◌+◌, IsSome};
-ghost use Rattle.std.specs.HashMap.{get};
-ghost use Rattle.svn_pool.specs.Linked.{IsLinked, IsPruned, blocks_held, fixed_held};
+ghost use Rattle.std.specs.Prelude.{◌≡◌, ◌+◌, IsSome};
+ghost use Rattle.svn_pool.specs.Linked.{IsLinked, IsPruned, bare, blocks_held, fixed_held, live_at};
 
-use crate::links::{Children, Live, first_child, remove_leaf};
+use crate::links::{Live, first_child, remove_leaf};
 use crate::stock::Stock;
 use std::alloc::Allocator;
 
 // Removes the pools beneath `top`. It goes down to a pool without children, removes it and goes on at that pool's parent, so
 // each step goes down once or removes one: the steps are at most twice the pools that go, and none takes memory.
-pub(crate) fn prune<A: Allocator + Copy>(
-    pools: &mut Live<A>,
-    children: &mut Children<A>,
-    stock: &mut Stock<A>,
-    top: u64,
-)
-    requires linked { IsLinked pools.old children.old }
-    requires live { IsSome (get nat_eq pools.old top) }
-    requires counted { stock.old.used ≡ blocks_held pools.old }
-    ensures pruned { IsPruned pools.old pools.new top }
-    ensures linked { IsLinked pools.new children.new }
-    ensures counted { stock.new.used ≡ blocks_held pools.new }
-    ensures fixed { stock.new.spare + fixed_held pools.new ≡ stock.old.spare + fixed_held pools.old }
+pub(crate) fn prune<A: Allocator + Copy>(pools: &mut Live<A>, stock: &mut Stock<A>, top: u64)
+    requires linked { IsLinked pools.old }
+    requires live { IsSome (live_at (bare pools.old) top) }
+    requires counted { stock.old.used ≡ blocks_held (bare pools.old) }
+    ensures pruned { IsPruned (bare pools.old) (bare pools.new) top }
+    ensures linked { IsLinked pools.new }
+    ensures counted { stock.new.used ≡ blocks_held (bare pools.new) }
+    ensures fixed { stock.new.spare + fixed_held (bare pools.new) ≡ stock.old.spare + fixed_held (bare pools.old) }
 {
     let mut at = top;
     'walk: loop {
-        if let Some(child) = first_child(children, at) {
+        if let Some(child) = first_child(pools, at) {
             at = child;
             continue 'walk;
         }
         if at == top {
             return;
         }
-        let Some(parent) = remove_leaf(pools, children, stock, at) else {
+        let Some(parent) = remove_leaf(pools, stock, at) else {
             return;
         };
         at = parent;

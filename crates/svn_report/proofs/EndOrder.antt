@@ -1,5 +1,7 @@
 -- The order in which directories end, and names beneath a path in both orders.
-use Rattle.std.proofs.Common.{◌≡◌, ℕ, Bool, true, false, ◌&&◌, ◌||◌, List, [], ◌∷◌, cond, refl, sym, ◌∙◌, ap, true≢false}
+use Rattle.std.proofs.Common.{◌≡◌, ◌<◌, ◌≤◌, Bool, true, false, ◌&&◌, not, List, [], ◌∷◌, cond, length, refl, sym, ◌∙◌, ap, arith}
+use Rattle.std.proofs.Common.{true≢false}
+use Rattle.std.proofs.lemmas.Cmp.{tied_itself}
 use Rattle.std.specs.Prelude.{bytes_eq}
 use Rattle.std.specs.declared.cmp.Ordering.{Ordering}
 use Rattle.std.specs.declared.cmp.Ordering.TheVariants.{Less, Equal, Greater}
@@ -8,47 +10,86 @@ use Rattle.std.specs.BTreeMap.{is_at}
 use Rattle.std.specs.Cmp.Lexicographic.{texts_ties}
 use Rattle.std.proofs.lemmas.Map.Lookups.{exact_bytes}
 use Rattle.svn_types.specs.Names.{Path, name_cmp, path_cmp}
-use Rattle.svn_types.specs.Paths.{path_eq, is_within, child}
+use Rattle.svn_types.specs.Paths.{path_eq, is_within, is_below, child}
 use Rattle.svn_report.specs.ReportNames.{next_name}
-use Rattle.svn_report.specs.ReportOrder.{end_cmp}
-use Rattle.svn_types.proofs.NameLemmas.{Name, bytes_eq-symm}
+use Rattle.svn_report.specs.ReportOrder.{end_cmp, end_total}
+use Rattle.svn_types.proofs.NameLemmas.{Name}
 use Rattle.svn_types.proofs.PathOrder.{both, same_name, bytes_eq-same, name_cmp-same}
+use Rattle.svn_types.proofs.PathsInOrder.{paths_total, path_tie, before_apart}
+
+-- ---- a path strictly beneath another has more names
+
+pub longer_within : (p q : Path) → length p < length q → is_within p q ≡ is_below p q
+longer_within p q h = by (is_within p q) (apart p q h)
+  where
+    apart : (p q : Path) → length p < length q → path_eq p q ≡ false
+    apart [] [] h = absurd (omega arith)
+    apart [] (n ∷ q) h = refl
+    apart (m ∷ p) [] h = refl
+    apart (m ∷ p) (n ∷ q) h = and_false (bytes_eq m n) (apart p q (omega arith))
+      where
+        and_false : (b : Bool) → path_eq p q ≡ false → (b && path_eq p q) ≡ false
+        and_false true e = e
+        and_false false e = refl
+
+    by : (b : Bool) → path_eq p q ≡ false → b ≡ (b && not (path_eq p q))
+    by true e = sym (ap not e)
+    by false e = refl
+
+pub shorter_below : (p q : Path) → length q ≤ length p → false ≡ is_below p q
+shorter_below [] [] h = refl
+shorter_below [] (n ∷ q) h = absurd (omega arith)
+shorter_below (m ∷ p) [] h = refl
+shorter_below (m ∷ p) (n ∷ q) h = by (bytes_eq m n) (shorter_below p q (omega arith))
+  where
+    by : (b : Bool) → false ≡ is_below p q → false ≡ ((b && is_within p q) && not (b && path_eq p q))
+    by true e = e
+    by false e = refl
 
 -- ---- the order of the ends by that of the paths
 
-pub end_nested : (p q : Path) → (is_within p q || is_within q p) ≡ true → ordering_reverse (path_cmp p q) ≡ end_cmp p q
-end_nested [] [] h = refl
-end_nested [] (n ∷ q) h = refl
-end_nested (m ∷ p) [] h = refl
-end_nested (m ∷ p) (n ∷ q) h = by (bytes_eq m n) refl (bytes_eq n m) (sym (bytes_eq-symm m n)) h (end_nested p q)
+less_end : (p q : Path) → path_cmp p q ≡ Less → end_cmp p q ≡ cond (is_within p q) Greater Less
+less_end [] [] h = cc
+less_end [] (n ∷ q) h = refl
+less_end (m ∷ p) [] h = cc
+less_end (m ∷ p) (n ∷ q) h = by (name_cmp m n) refl h (less_end p q)
   where
-    by : (a : Bool) → bytes_eq m n ≡ a → (b : Bool) → b ≡ bytes_eq m n → ((a && is_within p q) || (b && is_within q p)) ≡ true
-        → ((is_within p q || is_within q p) ≡ true → ordering_reverse (path_cmp p q) ≡ end_cmp p q)
-        → ordering_reverse (ordering_then (name_cmp m n) (path_cmp p q)) ≡ ordering_then (name_cmp m n) (end_cmp p q)
-    by true e true k h ih =
-        ap (λ o. ordering_reverse (ordering_then o (path_cmp p q))) (name_cmp-same m n (same_name m n e)) ∙ ih h
-        ∙ sym (ap (λ o. ordering_then o (end_cmp p q)) (name_cmp-same m n (same_name m n e)))
-    by true e false k h ih = absurd (true≢false (sym (k ∙ e)))
-    by false e true k h ih = absurd (true≢false (k ∙ e))
-    by false e false k h ih = absurd (true≢false (sym h))
+    apart : (b : Bool) → bytes_eq m n ≡ b → name_cmp m n ≡ Less → b ≡ false
+    apart true e l = absurd (true≢false (ap is_eq (sym (name_cmp-same m n (same_name m n e)) ∙ l)))
+    apart false e l = refl
 
-pub end_apart : (p q : Path) → (is_within p q || is_within q p) ≡ false → path_cmp p q ≡ end_cmp p q
-end_apart [] [] h = absurd (true≢false h)
-end_apart [] (n ∷ q) h = absurd (true≢false h)
-end_apart (m ∷ p) [] h = absurd (true≢false h)
-end_apart (m ∷ p) (n ∷ q) h = by (bytes_eq m n) refl (bytes_eq n m) (sym (bytes_eq-symm m n)) h (end_apart p q)
+    by : (o : Ordering) → name_cmp m n ≡ o → ordering_then o (path_cmp p q) ≡ Less
+        → (path_cmp p q ≡ Less → end_cmp p q ≡ cond (is_within p q) Greater Less)
+        → ordering_then o (end_cmp p q) ≡ cond (bytes_eq m n && is_within p q) Greater Less
+    by Less e h ih = sym (ap (λ b. cond (b && is_within p q) Greater Less) (apart (bytes_eq m n) refl e))
+    by Equal e h ih = ih h ∙ sym (ap (λ b. cond (b && is_within p q) Greater Less) (bytes_eq-same m n (exact_bytes m n e)))
+    by Greater e h ih = cc
+
+below_within : (p q : Path) → path_cmp p q ≡ Less → is_below p q ≡ is_within p q
+below_within p q l = by (is_within p q) (before_apart p q l)
   where
-    by : (a : Bool) → bytes_eq m n ≡ a → (b : Bool) → b ≡ bytes_eq m n → ((a && is_within p q) || (b && is_within q p)) ≡ false
-        → ((is_within p q || is_within q p) ≡ false → path_cmp p q ≡ end_cmp p q)
-        → ordering_then (name_cmp m n) (path_cmp p q) ≡ ordering_then (name_cmp m n) (end_cmp p q)
-    by true e true k h ih = ap (ordering_then (name_cmp m n)) (ih h)
-    by true e false k h ih = absurd (true≢false (sym (k ∙ e)))
-    by false e b k h ih = other (name_cmp m n) refl
-      where
-        other : (o : Ordering) → name_cmp m n ≡ o → ordering_then o (path_cmp p q) ≡ ordering_then o (end_cmp p q)
-        other Less l = refl
-        other Equal l = absurd (true≢false (sym (bytes_eq-same m n (exact_bytes m n l)) ∙ e))
-        other Greater l = refl
+    by : (b : Bool) → path_eq p q ≡ false → (b && not (path_eq p q)) ≡ b
+    by true e = ap not e
+    by false e = refl
+
+pub ends_after : (p q : Path) → path_cmp p q ≡ Less → true ≡ is_below p q → Greater ≡ end_cmp p q
+ends_after p q l b = sym (less_end p q l ∙ ap (λ w. cond w Greater Less) (sym (below_within p q l) ∙ sym b))
+
+pub ends_before : (p q : Path) → path_cmp p q ≡ Less → false ≡ is_below p q → Less ≡ end_cmp p q
+ends_before p q l b = sym (less_end p q l ∙ ap (λ w. cond w Greater Less) (sym (below_within p q l) ∙ sym b))
+
+-- the other way round
+back : (p q : Path) → path_cmp p q ≡ Greater → path_cmp q p ≡ Less
+back p q g = paths_total.antisymm q p ∙ ap ordering_reverse g
+
+pub ends_before_above : (p q : Path) → path_cmp p q ≡ Greater → true ≡ is_below q p → Less ≡ end_cmp p q
+ends_before_above p q g b = ap ordering_reverse (ends_after q p (back p q g) b) ∙ sym (end_total.antisymm p q)
+
+pub ends_after_apart : (p q : Path) → path_cmp p q ≡ Greater → false ≡ is_below q p → Greater ≡ end_cmp p q
+ends_after_apart p q g b = ap ordering_reverse (ends_before q p (back p q g) b) ∙ sym (end_total.antisymm p q)
+
+pub ends_together : (p q : Path) → path_cmp p q ≡ Equal → Equal ≡ end_cmp p q
+ends_together p q e = sym (ap (end_cmp p) (sym (path_tie p q e)) ∙ tied_itself end_total p)
 
 -- in this order too one path is level with itself alone
 pub end_tied : (p q : Path) → is_at (end_cmp p) q ≡ path_eq p q
@@ -152,14 +193,14 @@ later_named (c ∷ p) n m (a ∷ x) l h = by (bytes_eq c a) refl h (later_named 
     by true e h ih = ih (sym (ap (λ o. ordering_then o (end_cmp (child p n) x)) (name_cmp-same c a (same_name c a e))) ∙ l) h
     by false e h ih = cc
 
-pub ends_before : (p : Path) (n k : Name) (x q : Path) → end_cmp (child p n) x ≡ Less → [] ≡ next_name p x → is_within (child p k) q ≡ true
-    → end_cmp q x ≡ Less
-ends_before [] n k x [] l h w = absurd (true≢false (sym w))
-ends_before [] n k [] (b ∷ q) l h w = refl
-ends_before [] n k (a ∷ x) (b ∷ q) l h w = cc
-ends_before (c ∷ p) n k x [] l h w = absurd (true≢false (sym w))
-ends_before (c ∷ p) n k [] (b ∷ q) l h w = refl
-ends_before (c ∷ p) n k (a ∷ x) (b ∷ q) l h w = by (bytes_eq c a) refl h (ends_before p n k x q)
+pub named_ends_before : (p : Path) (n k : Name) (x q : Path) → end_cmp (child p n) x ≡ Less → [] ≡ next_name p x
+    → is_within (child p k) q ≡ true → end_cmp q x ≡ Less
+named_ends_before [] n k x [] l h w = absurd (true≢false (sym w))
+named_ends_before [] n k [] (b ∷ q) l h w = refl
+named_ends_before [] n k (a ∷ x) (b ∷ q) l h w = cc
+named_ends_before (c ∷ p) n k x [] l h w = absurd (true≢false (sym w))
+named_ends_before (c ∷ p) n k [] (b ∷ q) l h w = refl
+named_ends_before (c ∷ p) n k (a ∷ x) (b ∷ q) l h w = by (bytes_eq c a) refl h (named_ends_before p n k x q)
   where
     here : (bytes_eq c b ≡ true) × (is_within (child p k) q ≡ true)
     here = both (bytes_eq c b) (is_within (child p k) q) w

@@ -1,5 +1,5 @@
 -- Entries found by their path, and by what stands next to a path.
-use Rattle.std.proofs.Common.{◌≡◌, ℕ, suc, Bool, true, false, ◌&&◌, ◌||◌, not, cond, List, [], ◌∷◌, ◌++◌, length, take, refl, sym, ◌∙◌}
+use Rattle.std.proofs.Common.{◌≡◌, ℕ, Bool, true, false, ◌&&◌, ◌||◌, not, cond, List, [], ◌∷◌, ◌++◌, length, take, refl, sym, ◌∙◌}
 use Rattle.std.proofs.Common.{ap, subst, inl, inr, arith, true≢false}
 use Rattle.std.specs.Prelude.{◌+◌, ◌<◌, ◌≤◌, Option, Some, None, ◌⊎◌, is_some, nat_lt, slice_get, MatchOption}
 use Rattle.std.specs.declared.cmp.Ordering.{Ordering}
@@ -7,17 +7,15 @@ use Rattle.std.specs.declared.cmp.Ordering.TheVariants.{Less, Equal, Greater}
 use Rattle.std.specs.List.{list_any}
 use Rattle.std.specs.Map.{lookup}
 use Rattle.std.specs.Option.{option_or}
-use Rattle.std.specs.BTreeSet.{BTreeSet, contains, IsKeyRangeOf}
+use Rattle.std.specs.BTreeSet.{BTreeSet, contains, IsKeyRangeOf, IsUpperBound}
 use Rattle.std.specs.Borrow.{Bor}
 use Rattle.std.specs.Option.{option_copied}
 use Rattle.std.specs.declared.ops.Bound.TheVariants.{Excluded, Unbounded}
 use Rattle.std.specs.Cmp.{IsTotalOrder}
-use Rattle.std.proofs.lemmas.Cmp.{tied_itself}
 use Rattle.std.proofs.lemmas.Bool.{cases_lt, lt-ltb}
 use Rattle.std.proofs.lemmas.Option.{same_Some, slice_get_within}
-use Rattle.std.specs.Ordering.{nat_cmp, is_eq, is_gt, is_lt, ordering_reverse}
+use Rattle.std.specs.Ordering.{is_gt, is_le, is_lt, ordering_reverse}
 use Rattle.std.specs.BTreeMap.{is_at}
-use Rattle.std.specs.Cmp.Lexicographic.{slice_cmp, lists_total, lists_ties, texts_ties, nat_list_cmp_total}
 use Rattle.svn_types.specs.Limits.{path_limit}
 use Rattle.svn_types.specs.Names.{Path, path_cmp}
 use Rattle.svn_types.specs.Paths.{path_eq, is_within, is_below, is_root}
@@ -32,7 +30,7 @@ use Rattle.indexmap.specs.IndexMap.{insert_entry}
 use Rattle.svn_report.specs.ReportOrder.{IsKept, IsNext, IsNextBy, IsPrevious, end_cmp}
 use Rattle.svn_types.proofs.PathLemmas.{path_eq-symm, below_parts}
 use Rattle.svn_types.proofs.PathOrder.{same_path, path_eq-same}
-use Rattle.svn_types.proofs.PathsInOrder.{at_path, before_apart, earlier, not_both, below_after, within_between}
+use Rattle.svn_types.proofs.PathsInOrder.{paths_total, path_tie, at_path, before_apart, earlier, not_both, below_after, within_between}
 use Rattle.svn_editor.proofs.OneMore.{any_found}
 use Rattle.svn_report.proofs.EndOrder.{end_tied}
 use Rattle.svn_types.proofs.Places.{some_none, passed, get_cases}
@@ -97,6 +95,20 @@ previous_is paths p r rest None range step = λ q l. range.5 step.0 q (tt, l)
 previous_is paths p r rest (Some x) range step =
     let last = range.3 x.now rest step in
     (last.0.1, last.1, λ q l there after. absurd (true≢false (sym (ap is_lt after) ∙ range.4 x.now rest step q (tt, l) there)))
+
+-- nothing comes after the last path
+pub none_after : (paths : BTreeSet Path) (p last : Path) → IsUpperBound path_cmp paths last → is_le (path_cmp last p) ≡ true
+    → IsNext paths p None
+none_after paths p last greatest later = λ q l. by q (contains path_cmp paths q) refl (beyond q l (path_cmp last p) refl later)
+  where
+    by : (q : Path) (b : Bool) → contains path_cmp paths q ≡ b → path_cmp last q ≡ Less → b ≡ false
+    by q true h l = absurd (true≢false (sym (ap is_lt l) ∙ greatest q h))
+    by q false h l = refl
+
+    beyond : (q : Path) → path_cmp p q ≡ Less → (o : Ordering) → path_cmp last p ≡ o → is_le o ≡ true → path_cmp last q ≡ Less
+    beyond q l Less e h = paths_total.trans last p q e l
+    beyond q l Equal e h = ap (λ (z : Path). path_cmp z q) (path_tie last p e) ∙ l
+    beyond q l Greater e h = absurd (true≢false (sym h))
 
 -- ---- what stands beneath a path
 

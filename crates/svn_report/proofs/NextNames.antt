@@ -1,58 +1,55 @@
 -- The next name beneath a path at which a report has entries.
-use Rattle.std.proofs.Common.{◌≡◌, ℕ, zero, suc, ◌<◌, ◌≤◌, Bool, true, false, ◌&&◌, List, [], ◌∷◌, cond, length, take, drop, refl, sym}
-use Rattle.std.proofs.Common.{◌∙◌, ap, arith, true≢false}
-use Rattle.std.specs.Prelude.{Option, Some, None, bytes_eq, slice_get}
+use Rattle.std.proofs.Common.{◌≡◌, ℕ, ◌<◌, ◌≤◌, Bool, true, false, ◌&&◌, List, [], ◌∷◌, cond, length, refl, sym}
+use Rattle.std.proofs.Common.{◌∙◌, ap, true≢false, get_or, Bor}
+use Rattle.std.specs.Prelude.{Option, Some, None, Ok, bytes_eq, slice_get, IfSome, MatchOption}
+use Rattle.std.specs.List.{HoldsAt}
+use Rattle.std.proofs.lemmas.Option.{slice_get_past, slice_get_read}
 use Rattle.std.specs.declared.cmp.Ordering.TheVariants.{Less}
 use Rattle.std.specs.Ordering.{ordering_then}
-use Rattle.std.specs.Option.{option_to_list}
-use Rattle.std.specs.Cmp.Lexicographic.{pointwise}
+use Rattle.std.specs.Option.{option_copied, option_to_list}
 use Rattle.std.specs.BTreeSet.{BTreeSet, contains}
 use Rattle.svn_types.specs.Names.{Path, path_cmp}
+use Rattle.svn_types.specs.NameFaults.{AnswersPath}
+use Rattle.svn_types.specs.declared.fault.PathFault.{PathFault}
 use Rattle.svn_types.specs.Paths.{is_within, child}
 use Rattle.svn_report.specs.Reports.{Entries}
 use Rattle.svn_report.specs.ReportNames.{next_name, has_entry_within, IsNextName}
 use Rattle.svn_report.specs.ReportOrder.{IsKept, IsNext, IsNextBy, end_cmp}
 use Rattle.svn_types.proofs.PathOrder.{both, same_name, name_cmp-same, below_after, within_between}
 use Rattle.svn_report.proofs.EndOrder.{names_in_order, names_end_in_order, child_itself, above_child, within_named, later_named}
-use Rattle.svn_report.proofs.EndOrder.{ends_before}
+use Rattle.svn_report.proofs.EndOrder.{named_ends_before}
 use Rattle.svn_report.proofs.Listings.{somewhere, at_some}
 
 -- ---- the name that leads from a path down to another
 
-pub next_named : (p q : Path) → length p < length q → true ≡ pointwise bytes_eq p (take (length p) q)
-    → option_to_list (slice_get (drop (length p) q) 0) ≡ next_name p q
-next_named [] [] h e = absurd (omega arith)
-next_named [] (n ∷ q) h e = refl
-next_named (m ∷ p) [] h e = absurd (omega arith)
-next_named (m ∷ p) (n ∷ q) h e =
-    let parts = both (bytes_eq m n) (pointwise bytes_eq p (take (length p) q)) (sym e) in
-    next_named p q (omega arith) (sym parts.1) ∙ sym (ap (λ b. cond b (next_name p q) []) parts.0)
+pub next_named : (p q : Path) → is_within p q ≡ true → option_to_list (slice_get q (length p)) ≡ next_name p q
+next_named [] [] w = refl
+next_named [] (n ∷ q) w = refl
+next_named (m ∷ p) [] w = absurd (true≢false (sym w))
+next_named (m ∷ p) (n ∷ q) w =
+    let parts = both (bytes_eq m n) (is_within p q) w in
+    next_named p q parts.1 ∙ sym (ap (λ b. cond b (next_name p q) []) parts.0)
 
-pub not_below : (p q : Path) → length q ≤ length p → [] ≡ next_name p q
-not_below [] [] h = refl
-not_below [] (n ∷ q) h = absurd (omega arith)
-not_below (m ∷ p) [] h = refl
-not_below (m ∷ p) (n ∷ q) h = by (bytes_eq m n) (not_below p q (omega arith))
+pub not_named : (p q : Path) → is_within p q ≡ false → [] ≡ next_name p q
+not_named [] q w = absurd (true≢false w)
+not_named (m ∷ p) [] w = refl
+not_named (m ∷ p) (n ∷ q) w = by (bytes_eq m n) w (not_named p q)
   where
-    by : (b : Bool) → [] ≡ next_name p q → [] ≡ cond b (next_name p q) []
-    by true e = e
-    by false e = refl
+    by : (b : Bool) → (b && is_within p q) ≡ false → (is_within p q ≡ false → [] ≡ next_name p q) → [] ≡ cond b (next_name p q) []
+    by true w ih = ih w
+    by false w ih = refl
 
-pub not_within : (p q : Path) → length p < length q → false ≡ pointwise bytes_eq p (take (length p) q) → [] ≡ next_name p q
-not_within [] q h e = absurd (true≢false (sym e))
-not_within (m ∷ p) [] h e = refl
-not_within (m ∷ p) (n ∷ q) h e = by (bytes_eq m n) e (not_within p q (omega arith))
-  where
-    by : (b : Bool) → false ≡ (b && pointwise bytes_eq p (take (length p) q))
-        → (false ≡ pointwise bytes_eq p (take (length p) q) → [] ≡ next_name p q)
-        → [] ≡ cond b (next_name p q) []
-    by true f ih = ih f
-    by false f ih = refl
+-- the name that was looked up is the one that stands there
+pub named_at : (q : Path) (i : ℕ) (r : Option (Bor (List ℕ))) → IfSome r (λ x. x.now ≡ get_or q i x.now)
+    → MatchOption r (length q ≤ i) (λ x. (i < length q) × HoldsAt (λ y. x.now ≡ y) q i) → option_copied r ≡ slice_get q i
+named_at q i None g h = sym (slice_get_past q i h)
+named_at q i (Some x) g h = sym (slice_get_read q (length q) i x.now refl h.0 g)
 
-pub first_taken : (k : ℕ) (xs : Path) → 0 < k → slice_get (take k xs) 0 ≡ slice_get xs 0
-first_taken zero xs h = absurd (omega arith)
-first_taken (suc k) [] h = refl
-first_taken (suc k) (x ∷ xs) h = refl
+-- ---- a path that was joined
+
+pub joined : (fault : Option PathFault) (p q : Path) → AnswersPath fault p (Ok q) → q ≡ p
+joined None p q h = h
+joined (Some fault) p q h = absurd h
 
 -- ---- the first path behind a bound tells the next name
 
@@ -113,7 +110,7 @@ pub later_name : (paths : BTreeSet Path) (es : Entries) (p x : Path) (n : List �
     → IsNextBy end_cmp (contains path_cmp paths) (child p n) (Some x) → option_to_list o ≡ next_name p x → IsNextName p es (Some n) o
 later_name paths es p x n None kept next named = λ k after. nothing_at paths es p k kept
     (λ q w in_set. next.2 q (names_end_in_order p n k (child p n) q (child_itself p n) w after) in_set
-    (ends_before p n k x q next.0 named w))
+    (named_ends_before p n k x q next.0 named w))
 later_name paths es p x n (Some m) kept next named = (
   later_named p n m x next.0 named,
   there paths es p x m kept next.1 named,

@@ -1,23 +1,24 @@
 //! Entries at paths, found by their place, by their path, and by what stands above or beneath a path.
-ghost use Rattle.std.specs.Prelude.{◌≡◌, ◌++◌, ◌∷◌, [], ℕ, length, slice_get, IsTrue, ◌↔◌, OnOk, OnErr, IfOk, Some, None};
+ghost use Rattle.std.specs.Prelude.{◌≡◌, ◌++◌, ◌∷◌, [], ℕ, length, slice_get, ◌<◌, IsTrue, ◌↔◌, OnOk, OnErr, IfOk, IfSome, Some, None};
 ghost use Rattle.std.specs.List.{list_any};
 ghost use Rattle.std.specs.Option.{option_copied, option_map, option_to_list};
-ghost use Rattle.svn_types.specs.Paths.{is_within};
+ghost use Rattle.svn_types.specs.Names.{depth_limit};
 ghost use Rattle.svn_report.specs.Reports.{entry_at, has_entry_below, is_deleted_above, is_deleted_at, is_link_too_deep, reporter_fault};
 ghost use Rattle.svn_report.specs.LawfulReports.{AreLawfulEntries};
 ghost use Rattle.svn_report.specs.ReportNames.{next_name, IsNextName};
 
 use crate::entry::ReportEntry;
-use crate::path_index::{PathIndex, is_within};
+use crate::path_index::PathIndex;
 use crate::reporter_fault::ReporterFault;
 use indexmap::IndexMap;
 use std::alloc::{AllocError, Global};
 use std::marker::Model;
-use svn_types::{MAX_DEPTH, Name, RelPath};
+use svn_types::{MAX_DEPTH, Name, PathFault, RelPath};
 
 /// The entries by path, in the order of the calls, and their paths in an index. A contract sees the list of entries.
 #[derive(Debug, Drop)]
 pub struct Listing {
+    alloc: Global,
     entries: IndexMap<RelPath, ReportEntry>,
     paths: PathIndex,
 }
@@ -34,12 +35,13 @@ impl Model for Listing {
 }
 
 // The name that leads from the first path down to the second, where that stands below it.
-#[tactic(auto, using(crate::proofs::NextNames::next_named, crate::proofs::NextNames::not_below, crate::proofs::NextNames::not_within))]
-fn name_below<'n>(above: &[Name], below: &'n [Name]) -> Option<&'n Name>
-    ensures { option_to_list (option_copied result) ≡ next_name above.now below.now }
+#[tactic(auto, using(crate::proofs::NextNames::next_named, crate::proofs::NextNames::not_named))]
+fn name_below<'n>(above: &RelPath, below: &'n RelPath) -> Option<&'n Name>
+    ensures name { option_to_list (option_copied result) ≡ next_name above.now below.now }
+    ensures bounded { IfSome result (λ _. length above.now < depth_limit) }
 {
-    if above.len() < below.len() && above == &below[..above.len()] {
-        below[above.len()..].first()
+    if below.is_within(above) {
+        below.components().get(above.components().len())
     } else {
         None
     }
@@ -51,6 +53,7 @@ impl Listing {
         ensures { result ≡ [] }
     {
         Listing {
+            alloc,
             entries: IndexMap::new(alloc),
             paths: PathIndex::new(alloc),
         }
@@ -97,17 +100,18 @@ impl Listing {
         ensures { result ≡ has_entry_below self.now path.now }
     {
         match self.paths.next(path) {
-            Some(next) => is_within(path.components(), next.components()),
+            Some(next) => next.is_within(path),
             None => false,
         }
     }
 
     // The first name beneath the path at or below which an entry stands.
     fn first_name_below(&self, path: &RelPath) -> Option<&Name>
-        ensures { IsNextName path.now self.now None (option_copied result) }
+        ensures name { IsNextName path.now self.now None (option_copied result) }
+        ensures bounded { IfSome result (λ _. length path.now < depth_limit) }
     {
         match self.paths.next(path) {
-            Some(next) => name_below(path.components(), next.components()),
+            Some(next) => name_below(path, next),
             None => None,
         }
     }
@@ -116,8 +120,14 @@ impl Listing {
     fn name_below_after(&self, path: &RelPath, last: &Name) -> Result<Option<&Name>, AllocError>
         ensures { IfOk result (λ found. IsNextName path.now self.now (Some last.now) (option_copied found)) }
     {
-        match self.paths.next_outside(path, last)? {
-            Some(next) => Ok(name_below(path.components(), next.names())),
+        let child = match path.join(self.alloc, last) {
+            Ok(child) => child,
+            Err(PathFault::Memory) => return Err(AllocError),
+            // Beneath a path of 128 names nothing can stand, so there is no first name, and none after another.
+            Err(_) => return Ok(self.first_name_below(path)),
+        };
+        match self.paths.next_ending(child) {
+            Some(next) => Ok(name_below(path, next)),
             None => Ok(None),
         }
     }
@@ -141,9 +151,7 @@ impl Listing {
         ensures { result ≡ list_any (is_deleted_above path.now) self.now }
     {
         match self.paths.previous(path) {
-            Some(previous) => {
-                is_within(previous.components(), path.components()) && self.is_deleted(previous)
-            }
+            Some(previous) => { path.is_within(previous) && self.is_deleted(previous) }
             None => false,
         }
     }

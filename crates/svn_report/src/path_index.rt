@@ -1,11 +1,11 @@
 //! Paths in two orders, found by what stands above, beneath or behind a path.
-ghost use Rattle.std.specs.Prelude.{◌≡◌, ◌||◌, ◌&&◌, not, ◌∷◌, ◌++◌, [], false, Some, IfOk, OnOk, OnErr};
+ghost use Rattle.std.specs.Prelude.{◌≡◌, ◌||◌, ◌&&◌, not, false, Some, OnOk, OnErr};
 ghost use Rattle.std.specs.Ordering.{eq_by_cmp};
 ghost use Rattle.std.specs.Cmp.{partial_equiv_from_equiv, partial_order_from_total, eq_by_cmp_equiv};
 ghost use Rattle.std.specs.Option.{option_copied};
 ghost use Rattle.std.specs.BTreeSet.{BTreeSet, contains};
 ghost use Rattle.svn_types.specs.Names.{Path, path_cmp};
-ghost use Rattle.svn_types.specs.Paths.{path_eq, is_within, child};
+ghost use Rattle.svn_types.specs.Paths.{path_eq, is_below};
 ghost use Rattle.svn_report.specs.ReportOrder.{end_cmp, end_total, IsNext, IsNextBy, IsPrevious};
 
 use std::alloc::{AllocError, Global};
@@ -13,39 +13,32 @@ use std::cmp::Ordering;
 use std::collections::BTreeSet;
 use std::marker::Model;
 use std::ops::Bound;
-use svn_types::{Name, RelPath};
+use svn_types::RelPath;
 
-/// Whether the second path is the first one or stands beneath it.
-#[tactic(auto, using(svn_types::proofs::PathOrder::within_take, svn_types::proofs::PathOrder::within_short))]
-pub fn is_within(above: &[Name], below: &[Name]) -> bool
-    ensures { result ≡ is_within above.now below.now }
+// Whether a path stands strictly beneath another one. Most have no more names than that, which is quicker to see.
+#[tactic(auto, using(crate::proofs::EndOrder::longer_within, crate::proofs::EndOrder::shorter_below))]
+fn is_beneath(path: &RelPath, above: &RelPath) -> bool
+    ensures { result ≡ is_below above.now path.now }
 {
-    above.len() <= below.len() && above == &below[..above.len()]
-}
-
-fn are_nested(first: &[Name], second: &[Name]) -> bool
-    ensures { result ≡ (is_within first.now second.now || is_within second.now first.now) }
-{
-    is_within(first, second) || is_within(second, first)
+    above.components().len() < path.components().len() && path.is_within(above)
 }
 
 // The order in which directories end: that of paths, but that a path stands behind what is beneath it.
-#[tactic(auto, using(crate::proofs::EndOrder::end_nested, crate::proofs::EndOrder::end_apart))]
-fn compare_ends<'x>(first: &'x [Name], second: &'x [Name]) -> Ordering
+#[tactic(auto, using(crate::proofs::EndOrder::ends_after, crate::proofs::EndOrder::ends_before, crate::proofs::EndOrder::ends_before_above, crate::proofs::EndOrder::ends_after_apart, crate::proofs::EndOrder::ends_together))]
+fn compare_ends<'x>(first: &'x RelPath, second: &'x RelPath) -> Ordering
     ensures { result ≡ end_cmp first.now second.now }
 {
-    let order = first.cmp(second);
-    if are_nested(first, second) {
-        order.reverse()
-    } else {
-        order
+    match first.cmp(second) {
+        Ordering::Less if is_beneath(second, first) => Ordering::Greater,
+        Ordering::Greater if is_beneath(first, second) => Ordering::Less,
+        order => order,
     }
 }
 
-/// The names of a path, in the order in which directories end.
+/// A path, in the order in which directories end.
 #[derive(Debug, Drop)]
 pub struct PathEnd {
-    names: Vec<Name>,
+    path: RelPath,
 }
 
 impl Model for PathEnd {
@@ -53,31 +46,15 @@ impl Model for PathEnd {
 
     ghost Value = { Path };
 
-    ghost view = { λ p. p.names.items };
+    ghost view = { λ p. p.path };
 }
 
 impl PathEnd {
-    fn of(alloc: Global, path: &RelPath) -> Result<PathEnd, AllocError>
-        ensures { IfOk result (λ end. end ≡ path.now) }
-    {
-        Ok(PathEnd {
-            names: Vec::from_clones(alloc, path.components())?,
-        })
-    }
-
-    fn of_child(alloc: Global, path: &RelPath, name: &Name) -> Result<PathEnd, AllocError>
-        ensures { IfOk result (λ end. end ≡ child path.now name.now) }
-    {
-        let mut names = Vec::from_clones(alloc, path.components())?;
-        names.push(name.clone()?)?;
-        Ok(PathEnd { names })
-    }
-
-    /// The names of the path, from the root down.
-    pub fn names(&self) -> &[Name]
+    /// The path.
+    pub fn path(&self) -> &RelPath
         ensures { result.now ≡ self.now }
     {
-        &self.names
+        &self.path
     }
 }
 
@@ -87,7 +64,7 @@ impl PartialEq for PathEnd {
     ghost laws = { partial_equiv_from_equiv (eq_by_cmp_equiv end_total) };
 
     fn eq(&self, other: &PathEnd) -> bool {
-        compare_ends(self.names(), other.names()).is_eq()
+        compare_ends(self.path(), other.path()).is_eq()
     }
 }
 
@@ -117,13 +94,18 @@ impl Ord for PathEnd {
     ghost matches_eq = { λ x y. refl };
 
     fn cmp(&self, other: &PathEnd) -> Ordering {
-        compare_ends(self.names(), other.names())
+        compare_ends(self.path(), other.path())
     }
 }
 
+// Reports mostly come in path order, so most calls ask what stands next to a path behind the last one: that takes no search.
 fn next_path<'a>(paths: &'a BTreeSet<RelPath>, path: &RelPath) -> Option<&'a RelPath>
     ensures { IsNext paths.now path.now (option_copied result) }
 {
+    let last = paths.last()?;
+    if last <= path {
+        return None;
+    }
     let mut after = paths.range((Bound::Excluded(path), Bound::Unbounded));
     after.next()
 }
@@ -131,8 +113,14 @@ fn next_path<'a>(paths: &'a BTreeSet<RelPath>, path: &RelPath) -> Option<&'a Rel
 fn previous_path<'a>(paths: &'a BTreeSet<RelPath>, path: &RelPath) -> Option<&'a RelPath>
     ensures { IsPrevious paths.now path.now (option_copied result) }
 {
-    let mut before = paths.range(..path);
-    before.next_back()
+    match paths.last() {
+        // as in `next_path`
+        Some(last) if last < path => Some(last),
+        _ => {
+            let mut before = paths.range(..path);
+            before.next_back()
+        }
+    }
 }
 
 fn next_end<'a>(ends: &'a BTreeSet<PathEnd>, end: &PathEnd) -> Option<&'a PathEnd>
@@ -164,10 +152,9 @@ fn insert_end(ends: &mut BTreeSet<PathEnd>, end: PathEnd) -> Result<(), AllocErr
     Ok(())
 }
 
-/// The same paths in path order and in the order in which they end. A contract sees the set in path order.
+/// The same paths in path order and in the order in which they end; a path is shared, not copied. A contract sees the set in path order.
 #[derive(Debug, Drop)]
 pub struct PathIndex {
-    alloc: Global,
     paths: BTreeSet<RelPath>,
     ends: BTreeSet<PathEnd>,
 }
@@ -190,7 +177,6 @@ impl PathIndex {
         ensures { (q : Path) → contains path_cmp result q ≡ false }
     {
         PathIndex {
-            alloc,
             paths: BTreeSet::new(alloc),
             ends: BTreeSet::new(alloc),
         }
@@ -210,13 +196,11 @@ impl PathIndex {
         previous_path(&self.paths, path)
     }
 
-    /// The first path that ends behind the name beneath the path. What stands beneath the name ends before it.
-    /// AllocError where a growth is refused.
-    pub fn next_outside(&self, path: &RelPath, name: &Name) -> Result<Option<&PathEnd>, AllocError>
-        ensures { IfOk result (λ found. IsNextBy end_cmp (contains path_cmp self.now) (child path.now name.now) (option_copied found)) }
+    /// The first path that ends behind a path. What stands beneath that ends before it.
+    pub fn next_ending(&self, path: RelPath) -> Option<&RelPath>
+        ensures { IsNextBy end_cmp (contains path_cmp self.now) path (option_copied result) }
     {
-        let end = PathEnd::of_child(self.alloc, path, name)?;
-        Ok(next_end(&self.ends, &end))
+        next_end(&self.ends, &PathEnd { path }).map(|end| end.path())
     }
 
     /// Adds a path. AllocError where a growth is refused, and then nothing has changed.
@@ -225,7 +209,9 @@ impl PathIndex {
         ensures added { OnOk result ((q : Path) → contains path_cmp self.new q ≡ (path_eq path.now q || contains path_cmp self.old q)) }
         ensures unchanged { OnErr result ((q : Path) → contains path_cmp self.new q ≡ contains path_cmp self.old q) }
     {
-        let end = PathEnd::of(self.alloc, path)?;
+        let end = PathEnd {
+            path: path.clone()?,
+        };
         insert_path(&mut self.paths, path)?;
         match insert_end(&mut self.ends, end) {
             Ok(()) => Ok(()),

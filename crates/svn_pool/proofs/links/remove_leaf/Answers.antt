@@ -1,52 +1,119 @@
-use Rattle.std.proofs.Common.{nat_eq, ◌≡◌, ◌+◌, ◌-◌, ℕ, List, Some, refl, sym, ap, ◌∙◌, arith}
+use Rattle.std.proofs.Common.{nat_eq, ◌≡◌, ◌+◌, ◌-◌, ◌≤◌, ℕ, List, Option, None, Some, sym, ap, subst, ◌∙◌, arith}
 use Rattle.std.specs.HashMap.{get}
-use Rattle.std.specs.Map.{lookup}
+use Rattle.std.specs.List.Sorted.{IsPermutation}
+use Rattle.std.specs.Map.{lookup, remove_entry}
+use Rattle.svn_pool.specs.Linked.{Changes, LinkedMap, LivePools, bare, blocks_held, fixed_held, place_by}
 use Rattle.svn_pool.specs.Pools.{Entry, parent_of, blocks_of, fixed_of}
-use Rattle.svn_pool.specs.Stores.{Store}
+use Rattle.svn_pool.specs.Stores.{Store, given_up}
+use Rattle.svn_pool.specs.declared.links.Linked.{Linked}
+use Rattle.svn_pool.proofs.Bare.{changes-bare, is_some-bare, live-bare, pool_in, removed-bare}
 use Rattle.svn_pool.proofs.Counts.{sum_without}
-use Rattle.svn_pool.proofs.Kinship.{linked-again, linked-remove}
+use Rattle.svn_pool.proofs.Kinship.{linked-again, linked-remove, linked-unplaced, none_is_gone}
 use Rattle.svn_pool.proofs.links.remove_leaf.Goals as goal
+
+module _ (old mid : LinkedMap) (s : ℕ) (l : Linked Entry) (found : get nat_eq old s ≡ Some l)
+    (entries : IsPermutation (remove_entry (nat_eq s) old.entries) mid.entries) (before : Store)
+    (counted : before.used ≡ blocks_held (bare old)) where
+  blocks : blocks_held (bare mid) + blocks_of l.pool ≡ blocks_held (bare old)
+  blocks =
+      sum_without blocks_of (bare old) (bare mid) s l.pool (removed-bare old mid s entries) (live-bare old s ∙ ap pool_in found)
+
+  fixed : fixed_held (bare mid) + fixed_of l.pool ≡ fixed_held (bare old)
+  fixed =
+      sum_without fixed_of (bare old) (bare mid) s l.pool (removed-bare old mid s entries) (live-bare old s ∙ ap pool_in found)
+
+  blocks_within : blocks_of l.pool ≤ before.used
+  blocks_within = omega (arith, blocks, counted)
+
+  module _ (after : Store) (counts : after ≡ given_up before l.pool.strings) where
+    blocks_left : after.used ≡ blocks_held (bare mid)
+    blocks_left =
+        let used : after.used ≡ before.used - blocks_of l.pool = ap (λ (b : Store). b.used) counts in
+        omega (arith, blocks, counted, used)
+
+    fixed_left : after.spare + fixed_held (bare mid) ≡ before.spare + fixed_held (bare old)
+    fixed_left =
+        let spare : after.spare ≡ before.spare + fixed_of l.pool = ap (λ (b : Store). b.spare) counts in
+        omega (arith, fixed, spare)
 
 pub returns-in_default-clause-linked : goal.returns-in_default-clause-linked
 returns-in_default-clause-linked g c =
-    let same = c.in_default.ensures.unchanged in
-    linked-again c.args.pools.now c.remove.new.self c.args.children.now c.args.children.now c.requires.linked c.args.serial
-    (λ q. ap (λ (es : List (ℕ × Entry)). lookup (nat_eq q) es) same) (λ q r. refl) c.remove.ensures.unique
+    linked-again c.args.pools.now c.remove.new.self c.requires.linked
+    (λ q. ap (λ (es : List (ℕ × Linked Entry)). lookup (nat_eq q) es) c.in_default.ensures.unchanged) c.remove.ensures.unique
+
+pub returns-in_default-clause-gone : goal.returns-in_default-clause-gone
+returns-in_default-clause-gone g c =
+    changes-bare c.args.pools.now c.remove.new.self c.args.serial None c.remove.ensures.updates
+
+pub returns-in_default-clause-fewer : goal.returns-in_default-clause-fewer
+returns-in_default-clause-fewer g c = λ live.
+    absurd (none_is_gone (get nat_eq c.args.pools.now c.args.serial) (sym c.in_default.ensures.value)
+    (sym (is_some-bare c.args.pools.now c.args.serial) ∙ live))
 
 pub clear-requires : goal.clear-requires
 clear-requires g c =
-    let found : get nat_eq c.args.pools.now c.args.serial ≡ Some c.in-Some.pool = sym c.remove.ensures.value ∙ c.in-Some.is in
-    let sum = sum_without blocks_of c.args.pools.now c.remove.new.self c.args.serial c.in-Some.pool c.remove.ensures.entries found in
-    let counted = c.requires.counted in
-    omega (arith, sum, counted)
+    blocks_within c.args.pools.now c.remove.new.self c.args.serial c.in-Some.linked (sym c.in-Some.ensures.value) c.remove.ensures.entries
+    c.args.stock.now c.requires.counted
+
+pub returns-in_default-place_by-clause-parent : goal.returns-in_default-place_by-clause-parent
+returns-in_default-place_by-clause-parent g c =
+    c.parent-parent.ensures ∙ ap (λ (e : Entry). e.parent) c.clear.ensures.emptied
+    ∙ sym (ap parent_of (live-bare c.args.pools.now c.args.serial ∙ ap pool_in (sym c.in-Some.ensures.value)))
+
+pub returns-in_default-place_by-clause-linked : goal.returns-in_default-place_by-clause-linked
+returns-in_default-place_by-clause-linked g c =
+    linked-unplaced c.args.pools.now c.remove.new.self c.requires.linked c.args.serial c.requires.leaf c.in-Some.linked
+    (sym c.in-Some.ensures.value) c.remove.ensures.updates c.remove.ensures.unique
+    (ap (λ (o : Option ℕ). place_by o c.in-Some.linked.before)
+    (sym (c.parent-parent.ensures ∙ ap (λ (e : Entry). e.parent) c.clear.ensures.emptied))
+    ∙ sym c.place_by.ensures ∙ c.in_default-place_by.is)
+
+pub returns-in_default-place_by-clause-counted : goal.returns-in_default-place_by-clause-counted
+returns-in_default-place_by-clause-counted g c =
+    blocks_left c.args.pools.now c.remove.new.self c.args.serial c.in-Some.linked (sym c.in-Some.ensures.value) c.remove.ensures.entries
+    c.args.stock.now c.requires.counted c.clear.new.stock c.clear.ensures.counts
+
+pub returns-in_default-place_by-clause-fixed : goal.returns-in_default-place_by-clause-fixed
+returns-in_default-place_by-clause-fixed g c =
+    fixed_left c.args.pools.now c.remove.new.self c.args.serial c.in-Some.linked (sym c.in-Some.ensures.value) c.remove.ensures.entries
+    c.args.stock.now c.requires.counted c.clear.new.stock c.clear.ensures.counts
+
+pub returns-in_default-place_by-clause-gone : goal.returns-in_default-place_by-clause-gone
+returns-in_default-place_by-clause-gone g c =
+    changes-bare c.args.pools.now c.remove.new.self c.args.serial None c.remove.ensures.updates
+
+pub returns-clause-parent : goal.returns-clause-parent
+returns-clause-parent g c =
+    c.parent-parent.ensures ∙ ap (λ (e : Entry). e.parent) c.clear.ensures.emptied
+    ∙ sym (ap parent_of (live-bare c.args.pools.now c.args.serial ∙ ap pool_in (sym c.in-Some.ensures.value)))
 
 pub returns-clause-linked : goal.returns-clause-linked
 returns-clause-linked g c =
-    let found : get nat_eq c.args.pools.now c.args.serial ≡ Some c.in-Some.pool = sym c.remove.ensures.value ∙ c.in-Some.is in
-    let parent : c.parent-parent.result ≡ c.in-Some.pool.parent =
-    c.parent-parent.ensures ∙ ap (λ (e : Entry). e.parent) c.clear.ensures.emptied in
-    linked-remove c.args.pools.now c.remove.new.self c.args.children.now c.unlink.new.children c.requires.linked c.args.serial
-    c.requires.leaf c.remove.ensures.updates
-    (λ q r apart. c.unlink.ensures.others q r apart)
-    (λ q is.
-    let was = c.requires.linked.down q c.args.serial (c.unlink.ensures.fewer q c.args.serial is) in
-    let cut = c.unlink.ensures.gone q (parent ∙ sym (ap parent_of found) ∙ was) in
-    let none : ⊥ = cc in none)
-    c.remove.ensures.unique
+    let put = c.set_standing.ensures in
+    let moved = c.move_to.ensures in
+    linked-remove c.args.pools.now c.remove.new.self c.requires.linked c.args.serial c.requires.leaf c.in-Some.linked
+    (sym c.in-Some.ensures.value) c.remove.ensures.updates c.remove.ensures.unique c.set_standing.new.pools c.move_to.new.pools
+    c.in-Some-place_by.place
+    (ap (λ (o : Option ℕ). place_by o c.in-Some.linked.before)
+    (sym (c.parent-parent.ensures ∙ ap (λ (e : Entry). e.parent) c.clear.ensures.emptied))
+    ∙ sym c.place_by.ensures ∙ c.in-Some-place_by.is)
+    (record { here = put.here; others = put.standing; places = put.places; pools = put.pools })
+    (record { moved = moved.moved; others = moved.others; standing = moved.standing; pools = moved.pools })
 
 pub returns-clause-counted : goal.returns-clause-counted
 returns-clause-counted g c =
-    let found : get nat_eq c.args.pools.now c.args.serial ≡ Some c.in-Some.pool = sym c.remove.ensures.value ∙ c.in-Some.is in
-    let sum = sum_without blocks_of c.args.pools.now c.remove.new.self c.args.serial c.in-Some.pool c.remove.ensures.entries found in
-    let counted = c.requires.counted in
-    let used : c.clear.new.stock.used ≡ c.args.stock.now.used - blocks_of c.in-Some.pool =
-    ap (λ (b : Store). b.used) c.clear.ensures.counts in
-    omega (arith, sum, counted, used)
+    blocks_left c.args.pools.now c.remove.new.self c.args.serial c.in-Some.linked (sym c.in-Some.ensures.value) c.remove.ensures.entries
+    c.args.stock.now c.requires.counted c.clear.new.stock c.clear.ensures.counts
+    ∙ sym (ap blocks_held (c.move_to.ensures.pools ∙ c.set_standing.ensures.pools))
 
 pub returns-clause-fixed : goal.returns-clause-fixed
 returns-clause-fixed g c =
-    let found : get nat_eq c.args.pools.now c.args.serial ≡ Some c.in-Some.pool = sym c.remove.ensures.value ∙ c.in-Some.is in
-    let sum = sum_without fixed_of c.args.pools.now c.remove.new.self c.args.serial c.in-Some.pool c.remove.ensures.entries found in
-    let spare : c.clear.new.stock.spare ≡ c.args.stock.now.spare + fixed_of c.in-Some.pool =
-    ap (λ (b : Store). b.spare) c.clear.ensures.counts in
-    omega (arith, sum, spare)
+    ap (λ (ps : LivePools). c.clear.new.stock.spare + fixed_held ps) (c.move_to.ensures.pools ∙ c.set_standing.ensures.pools)
+    ∙ fixed_left c.args.pools.now c.remove.new.self c.args.serial c.in-Some.linked (sym c.in-Some.ensures.value) c.remove.ensures.entries
+    c.args.stock.now c.requires.counted c.clear.new.stock c.clear.ensures.counts
+
+pub returns-clause-gone : goal.returns-clause-gone
+returns-clause-gone g c =
+    subst (λ (ps : LivePools). Changes (bare c.args.pools.now) ps c.args.serial None)
+    (sym (c.move_to.ensures.pools ∙ c.set_standing.ensures.pools))
+    (changes-bare c.args.pools.now c.remove.new.self c.args.serial None c.remove.ensures.updates)

@@ -1,4 +1,5 @@
 use Rattle.std.proofs.Common.{◌≡◌, IsSome, sym, ap, subst, ◌∙◌}
+use Rattle.svn_pool.specs.Linked.{bare}
 use Rattle.svn_pool.specs.Pools.{Pools, pool_at}
 use Rattle.svn_pool.proofs.Outcomes.{live_root}
 use Rattle.svn_pool.proofs.Views.{pool_is}
@@ -10,5 +11,5 @@ returns-clause-live g c =
     let root : c.args.self.now.root ≡ s.root = sym (ap (λ (t : Pools). t.root) c.self.view_is) in
     let at =
     ap (pool_at c.args.self.now) root
-    ∙ pool_is s.root s.last s.pools s.stock.spare c.args.self.now c.self.view_is c.self.invariant.linked.unique s.root in
+    ∙ pool_is s.root s.last (bare s.pools) s.stock.spare c.args.self.now c.self.view_is c.self.invariant.linked.unique s.root in
     subst IsSome (sym at) (live_root _ c.self.invariant.rooted)

@@ -1,7 +1,5 @@
 use Rattle.std.proofs.Common.{◌&&◌, sym, ap, ◌∙◌}
 use Rattle.std.specs.List.{list_any}
-use Rattle.svn_types.specs.Names.{Path}
-use Rattle.svn_types.specs.Paths.{is_within}
 use Rattle.svn_report.specs.Reports.{Entries, entry_at, is_deleted_at, is_deleted_above}
 use Rattle.svn_report.proofs.Listings.{previous_deleted, previous_none}
 use Rattle.svn_report.proofs.listing.Listing.is_under_deleted.Goals as goal
@@ -13,9 +11,7 @@ returns-then-is_within c =
     c.is_deleted.ensures
     ∙ ap (λ (es : Entries). is_deleted_at (entry_at es c.in-Some.previous.now)) (sym c.self.view_is)
     ∙ ap (λ b. b && is_deleted_at (entry_at c.self.inside.entries.entries c.in-Some.previous.now))
-    (sym c.if-is_within.true ∙ c.is_within.ensures
-    ∙ ap (λ (p : Path). is_within p c.components-in-Some.result.now) c.components.ensures.names
-    ∙ ap (λ (p : Path). is_within c.in-Some.previous.now p) c.components-in-Some.ensures.names)
+    (sym c.if-is_within.true ∙ c.is_within.ensures)
     ∙ deleted
     ∙ ap (λ (es : Entries). list_any (is_deleted_above c.args.path.now) es) c.self.view_is
 
@@ -25,9 +21,7 @@ returns-else-is_within c =
     c.self.invariant c.in-Some.ensures in
     c.if-is_within.false
     ∙ ap (λ b. b && is_deleted_at (entry_at c.self.inside.entries.entries c.in-Some.previous.now))
-    (sym c.if-is_within.false ∙ c.is_within.ensures
-    ∙ ap (λ (p : Path). is_within p c.components-in-Some.result.now) c.components.ensures.names
-    ∙ ap (λ (p : Path). is_within c.in-Some.previous.now p) c.components-in-Some.ensures.names)
+    (sym c.if-is_within.false ∙ c.is_within.ensures)
     ∙ deleted
     ∙ ap (λ (es : Entries). list_any (is_deleted_above c.args.path.now) es) c.self.view_is
 

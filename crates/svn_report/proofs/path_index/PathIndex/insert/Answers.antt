@@ -20,7 +20,7 @@ returns-in-Err-clause-unchanged c = λ q.
 pub invariant_of-self-in-Ok : goal.invariant_of-self-in-Ok
 invariant_of-self-in-Ok c = λ q.
     c.in-Ok.ensures.added q
-    ∙ ap (λ (p : Path). path_eq p q || contains end_cmp c.self.inside.ends q) c.in_ok-end.ensures
+    ∙ ap (λ (p : Path). path_eq p q || contains end_cmp c.self.inside.ends q) c.in_ok-clone.ensures.cases
     ∙ ap (λ b. path_eq c.args.path.now q || b) (c.self.invariant q)
     ∙ sym (c.in_ok-insert_path.ensures.added q)
 
