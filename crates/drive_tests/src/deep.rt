@@ -1,10 +1,10 @@
 //! A report as deep as paths go: 64 directories, one in the other, and in the innermost a link to the root.
 use crate::edits::{Edit, NEVER, assert_closed};
-use std::alloc::Global;
+use std::alloc::{AllocError, Global};
 use std::test::Fail;
 
 // A path of so many names `a`.
-fn nested(alloc: Global, depth: usize) -> Result<String, Fail> {
+fn nested(alloc: Global, depth: usize) -> Result<String, AllocError> {
     let mut text = String::from_str(alloc, "a")?;
     for _ in 1..depth {
         text.push_str("/a")?;
@@ -12,38 +12,47 @@ fn nested(alloc: Global, depth: usize) -> Result<String, Fail> {
     Ok(text)
 }
 
+fn write_mkdir(alloc: Global, lines: &mut String, depth: usize) -> Result<(), AllocError> {
+    writeln!(lines, "mkdir {}", nested(alloc, depth)?)
+}
+
 // The directories.
-fn history(alloc: Global) -> Result<String, Fail> {
+fn history(alloc: Global) -> Result<String, AllocError> {
     let mut lines = String::new(alloc);
     for depth in 1..=64 {
-        let path = nested(alloc, depth)?;
-        lines.push_str(format!(in alloc; "mkdir {path}\n")?.as_str())?;
+        write_mkdir(alloc, &mut lines, depth)?;
     }
     lines.push_str("commit")?;
     Ok(lines)
 }
 
 // The innermost is the root's tree once more, and the innermost of that starts empty.
-fn report(alloc: Global) -> Result<String, Fail> {
+fn report(alloc: Global) -> Result<String, AllocError> {
     let link = nested(alloc, 64)?;
     let innermost = nested(alloc, 128)?;
-    Ok(format!(in alloc; "set . 1\nlink {link} . 1\nset {innermost} 1 start_empty")?)
+    format!(in alloc; "set . 1\nlink {link} . 1\nset {innermost} 1 start_empty")
+}
+
+fn write_open(alloc: Global, lines: &mut String, depth: usize) -> Result<(), AllocError> {
+    let path = nested(alloc, depth)?;
+    let parent = depth.saturating_sub(1);
+    writeln!(lines, "open_directory {path} #{parent} 1 #{depth}")
+}
+
+fn write_closes(lines: &mut String, last: usize) -> Result<(), AllocError> {
+    for above in 0..=last {
+        writeln!(lines, "close_directory #{}", last.saturating_sub(above))?;
+    }
+    Ok(())
 }
 
 // All directories are opened, and closed again.
-fn calls(alloc: Global) -> Result<String, Fail> {
+fn calls(alloc: Global) -> Result<String, AllocError> {
     let mut lines = String::from_str(alloc, "set_target_revision 1\nopen_root 1 #0\n")?;
-    for depth in 1usize..=128 {
-        let path = nested(alloc, depth)?;
-        let parent = depth - 1;
-        lines.push_str(format!(in alloc;
-            "open_directory {path} #{parent} 1 #{depth}\n"
-        )?.as_str())?;
+    for depth in 1..=128 {
+        write_open(alloc, &mut lines, depth)?;
     }
-    for above in 0usize..=128 {
-        let token = 128 - above;
-        lines.push_str(format!(in alloc; "close_directory #{token}\n")?.as_str())?;
-    }
+    write_closes(&mut lines, 128)?;
     lines.push_str("close_edit")?;
     Ok(lines)
 }

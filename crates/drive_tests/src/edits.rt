@@ -1,11 +1,12 @@
 //! Edits in lines: what was committed, what a client reports, what it asks for, and the calls that it is given.
-use crate::lines::{path, report, repository, words};
-use std::alloc::Global;
+use crate::lines::{path, report, repository, revision, word};
+use std::alloc::{AllocError, Global};
 use std::process::Abort;
 use std::test::Fail;
 use svn_drive::{DriveEnd, DriveFault, DriveOptions, check_report, drive, drive_switch};
 use svn_editor::{Call, EditFault, Editor, Recorder};
-use svn_types::Rev;
+use svn_repo::Repo;
+use svn_report::Report;
 
 /// An edit.
 #[derive(Clone, Copy)]
@@ -52,55 +53,88 @@ impl Editor for Refuser {
     }
 }
 
-/// What came of a drive.
+/// What came of a drive: the calls as they are printed, each on a line, and the answer.
 #[derive(Drop)]
 pub(crate) struct Outcome {
+    pub(crate) calls: String,
     pub(crate) answer: Result<DriveEnd, DriveFault>,
-    pub(crate) recorder: Recorder,
 }
 
-/// Drives an edit.
-pub(crate) fn drive_edit(alloc: Global, edit: &Edit<'_>, stops: Stops) -> Result<Outcome, Fail> {
-    let repo = repository(alloc, edit.history)?;
+// The report of an edit, which its repository has to be able to serve.
+fn served_report(alloc: Global, repo: &Repo, edit: &Edit<'_>) -> Result<Report, Fail> {
     let report = report(alloc, edit.report)?;
-    check_report(alloc, &repo, &report)?;
-    let [verb, rev, last, _, _] = words(edit.asked);
-    let target = Rev(rev.parse()?);
+    check_report(alloc, repo, &report)?;
+    Ok(report)
+}
+
+fn drive_asked(
+    alloc: Global,
+    repo: &Repo,
+    edit: &Edit<'_>,
+    cancel_after: Option<u64>,
+    editor: &mut Refuser,
+) -> Result<Result<DriveEnd, DriveFault>, Fail> {
+    let report = served_report(alloc, repo, edit)?;
+    let target = revision(edit.asked, 1)?;
+    let last = word(edit.asked, 2);
     let options = DriveOptions {
-        cancel_after: stops.cancel_after,
+        cancel_after,
         late_texts: last == "late",
     };
-    let mut editor = Refuser {
-        recorder: Recorder::new(alloc),
-        refused: stops.refused,
-    };
-    let answer = if verb == "switch" {
+    if word(edit.asked, 0) == "switch" {
         let to = path(alloc, last)?;
-        drive_switch(alloc, &repo, &report, &to, target, options, &mut editor)
+        Ok(drive_switch(alloc, repo, &report, &to, target, options, editor))
     } else {
-        drive(alloc, &repo, &report, target, options, &mut editor)
-    };
-    Ok(Outcome {
-        answer,
-        recorder: editor.recorder,
-    })
+        Ok(drive(alloc, repo, &report, target, options, editor))
+    }
 }
 
 // The calls as they are printed, each on a line.
-fn printed(alloc: Global, calls: &[Call]) -> Result<String, Fail> {
+fn printed(alloc: Global, calls: &[Call]) -> Result<String, AllocError> {
     let mut text = String::new(alloc);
     for call in calls {
-        text.push_str(format!(in alloc; "{call}\n")?.as_str())?;
+        writeln!(text, "{call}")?;
     }
     Ok(text)
 }
 
+fn drive_edit(alloc: Global, edit: &Edit<'_>, stops: Stops) -> Result<Outcome, Fail> {
+    let repo = repository(alloc, edit.history)?;
+    let mut editor = Refuser {
+        recorder: Recorder::new(alloc),
+        refused: stops.refused,
+    };
+    let answer = drive_asked(alloc, &repo, edit, stops.cancel_after, &mut editor)?;
+    let calls = printed(alloc, editor.recorder.calls())?;
+    Ok(Outcome { calls, answer })
+}
+
+impl Outcome {
+    fn assert_is(&self, rt: &impl Abort, wanted: &Outcome, of: &str) {
+        let calls = self.calls.as_str();
+        assert_eq!(rt; calls, wanted.calls.as_str(), "{of}");
+        assert_eq!(rt; self.answer, wanted.answer, "{of}, after\n{calls}");
+    }
+}
+
+/// Whether this comes of an edit.
+pub(crate) fn assert_outcome(
+    rt: &impl Abort,
+    alloc: Global,
+    edit: &Edit<'_>,
+    stops: Stops,
+    wanted: &Outcome,
+) -> Result<(), Fail> {
+    let outcome = drive_edit(alloc, edit, stops)?;
+    outcome.assert_is(rt, wanted, edit.name);
+    Ok(())
+}
+
 // The first of an edit's calls, each on a line.
-fn first_calls(alloc: Global, edit: &Edit<'_>, count: usize) -> Result<String, Fail> {
+fn first_calls(alloc: Global, edit: &Edit<'_>, count: usize) -> Result<String, AllocError> {
     let mut text = String::new(alloc);
     for line in edit.calls.lines().take(count) {
-        text.push_str(line.trim())?;
-        text.push_str("\n")?;
+        writeln!(text, "{}", line.trim())?;
     }
     Ok(text)
 }
@@ -112,17 +146,23 @@ pub(crate) fn assert_closed(
     edit: &Edit<'_>,
     stops: Stops,
 ) -> Result<(), Fail> {
-    let outcome = drive_edit(alloc, edit, stops)?;
-    let made = printed(alloc, outcome.recorder.calls())?;
-    let wanted = first_calls(alloc, edit, usize::MAX)?;
-    assert_eq!(rt; made.as_str(), wanted.as_str(), "{}", edit.name);
     let calls = edit.calls.lines().count() as u64;
-    assert_eq!(rt;
-        outcome.answer,
-        Ok(DriveEnd::Closed { calls }),
-        "{}",
-        edit.name
-    );
+    let wanted = Outcome {
+        calls: first_calls(alloc, edit, usize::MAX)?,
+        answer: Ok(DriveEnd::Closed { calls }),
+    };
+    assert_outcome(rt, alloc, edit, stops, &wanted)
+}
+
+/// Whether nothing stops any of these edits.
+pub(crate) fn assert_all_closed(
+    rt: &impl Abort,
+    alloc: Global,
+    edits: &[Edit<'_>],
+) -> Result<(), Fail> {
+    for edit in edits {
+        assert_closed(rt, alloc, edit, NEVER)?;
+    }
     Ok(())
 }
 
@@ -135,16 +175,7 @@ pub(crate) fn assert_stopped(
     made: usize,
     answer: Result<DriveEnd, DriveFault>,
 ) -> Result<(), Fail> {
-    let outcome = drive_edit(alloc, edit, stops)?;
-    let calls = printed(alloc, outcome.recorder.calls())?;
-    let mut wanted = first_calls(alloc, edit, made)?;
-    wanted.push_str("abort_edit\n")?;
-    assert_eq!(rt;
-        calls.as_str(),
-        wanted.as_str(),
-        "{} after {made}",
-        edit.name
-    );
-    assert_eq!(rt; outcome.answer, answer, "{} after {made}", edit.name);
-    Ok(())
+    let mut calls = first_calls(alloc, edit, made)?;
+    calls.push_str("abort_edit\n")?;
+    assert_outcome(rt, alloc, edit, stops, &Outcome { calls, answer })
 }

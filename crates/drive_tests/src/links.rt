@@ -1,5 +1,5 @@
 //! Updates with links.
-use crate::edits::{Edit, NEVER, assert_closed};
+use crate::edits::{Edit, NEVER, assert_all_closed, assert_closed};
 use crate::histories::{ONE_FILE, REPLACED, TWO_DIRECTORIES};
 use std::test::Fail;
 
@@ -25,7 +25,7 @@ pub(crate) const FOLLOWED: Edit<'static> = Edit {
         close_edit",
 };
 
-const LINKS: [Edit<'static>; 6] = [
+static LINKS: [Edit<'static>; 6] = [
     Edit {
         name: "a link that lapses, since its node is gone",
         history: "mkdir a
@@ -140,10 +140,6 @@ const LINKS: [Edit<'static>; 6] = [
 
 #[test]
 fn links_are_followed_while_their_nodes_stand(rt: HostRuntime) -> Result<(), Fail> {
-    let alloc = rt.alloc();
-    assert_closed(&rt, alloc, &FOLLOWED, NEVER)?;
-    for edit in &LINKS {
-        assert_closed(&rt, alloc, edit, NEVER)?;
-    }
-    Ok(())
+    assert_closed(&rt, rt.alloc(), &FOLLOWED, NEVER)?;
+    assert_all_closed(&rt, rt.alloc(), &LINKS)
 }

@@ -1,6 +1,8 @@
 //! Switches of whole copies.
-use crate::edits::{Edit, NEVER, assert_closed, drive_edit};
+use crate::edits::{Edit, NEVER, Outcome, assert_all_closed, assert_closed, assert_outcome};
 use crate::histories::{BRANCHED, ONE_FILE};
+use std::alloc::Global;
+use std::process::Abort;
 use std::test::Fail;
 use svn_drive::DriveFault;
 
@@ -26,7 +28,7 @@ pub(crate) const LINKED: Edit<'static> = Edit {
         close_edit",
 };
 
-const SWITCHES: [Edit<'static>; 3] = [
+static SWITCHES: [Edit<'static>; 3] = [
     Edit {
         name: "to a branch",
         history: BRANCHED,
@@ -74,61 +76,68 @@ const SWITCHES: [Edit<'static>; 3] = [
 
 #[test]
 fn copies_are_switched(rt: HostRuntime) -> Result<(), Fail> {
-    let alloc = rt.alloc();
-    assert_closed(&rt, alloc, &LINKED, NEVER)?;
-    for edit in &SWITCHES {
-        assert_closed(&rt, alloc, edit, NEVER)?;
-    }
-    Ok(())
+    assert_closed(&rt, rt.alloc(), &LINKED, NEVER)?;
+    assert_all_closed(&rt, rt.alloc(), &SWITCHES)
+}
+
+// What was committed, what is reported of it, what is asked for, and why there is no drive.
+type Refusal = (&'static str, &'static str, &'static str, DriveFault);
+
+static REFUSALS: [Refusal; 7] = [
+    (ONE_FILE, "set . 1", "update 3", DriveFault::NoSuchTarget),
+    (
+        ONE_FILE,
+        "set . 1",
+        "update 3 late",
+        DriveFault::NoSuchTarget,
+    ),
+    (
+        BRANCHED,
+        "root t\nset . 1",
+        "switch 9 b",
+        DriveFault::NoSuchTarget,
+    ),
+    (
+        BRANCHED,
+        "root t\nset . 1",
+        "switch 1 b",
+        DriveFault::NoRoot,
+    ),
+    (
+        BRANCHED,
+        "root t\nset . 1",
+        "switch 3 .",
+        DriveFault::OtherRoot,
+    ),
+    (
+        BRANCHED,
+        "root t\nset . 1",
+        "switch 3 t/f",
+        DriveFault::OtherRoot,
+    ),
+    (BRANCHED, "root b\nset . 2", "update 1", DriveFault::NoRoot),
+];
+
+fn assert_refused(rt: &impl Abort, alloc: Global, refusal: &Refusal) -> Result<(), Fail> {
+    let (history, report, asked, fault) = *refusal;
+    let edit = Edit {
+        name: asked,
+        history,
+        report,
+        asked,
+        calls: "",
+    };
+    let wanted = Outcome {
+        calls: String::new(alloc),
+        answer: Err(fault),
+    };
+    assert_outcome(rt, alloc, &edit, NEVER, &wanted)
 }
 
 #[test]
 fn without_a_target_there_is_no_call(rt: HostRuntime) -> Result<(), Fail> {
-    let alloc = rt.alloc();
-    for (history, report, asked, fault) in [
-        (ONE_FILE, "set . 1", "update 3", DriveFault::NoSuchTarget),
-        (
-            ONE_FILE,
-            "set . 1",
-            "update 3 late",
-            DriveFault::NoSuchTarget,
-        ),
-        (
-            BRANCHED,
-            "root t\nset . 1",
-            "switch 9 b",
-            DriveFault::NoSuchTarget,
-        ),
-        (
-            BRANCHED,
-            "root t\nset . 1",
-            "switch 1 b",
-            DriveFault::NoRoot,
-        ),
-        (
-            BRANCHED,
-            "root t\nset . 1",
-            "switch 3 .",
-            DriveFault::OtherRoot,
-        ),
-        (
-            BRANCHED,
-            "root t\nset . 1",
-            "switch 3 t/f",
-            DriveFault::OtherRoot,
-        ),
-        (BRANCHED, "root b\nset . 2", "update 1", DriveFault::NoRoot),
-    ] {
-        let edit = Edit {
-            name: asked,
-            history,
-            report,
-            asked,
-            calls: "",
-        };
-        let outcome = drive_edit(alloc, &edit, NEVER)?;
-        assert_eq!(rt; outcome.answer, Err(fault), "{asked}");
-        assert_eq!(rt; outcome.recorder.calls().len(), 0, "{asked}");
+    for refusal in &REFUSALS {
+        assert_refused(&rt, rt.alloc(), refusal)?;
     }
     Ok(())
 }

@@ -1,5 +1,5 @@
 //! Updates without links.
-use crate::edits::{Edit, NEVER, assert_closed};
+use crate::edits::{Edit, NEVER, assert_all_closed, assert_closed};
 use crate::histories::{EMPTY_FILE, FILE_THEN_DIRECTORY, MIXED, NESTED, ONE_FILE};
 use std::test::Fail;
 
@@ -38,7 +38,7 @@ pub(crate) const LATE_TEXTS: Edit<'static> = Edit {
 };
 
 /// Of copies of one revision.
-const PLAIN: [Edit<'static>; 8] = [
+static PLAIN: [Edit<'static>; 8] = [
     Edit {
         name: "nothing changed",
         history: ONE_FILE,
@@ -163,7 +163,7 @@ const PLAIN: [Edit<'static>; 8] = [
 ];
 
 /// Of copies of more than one revision.
-const MIXED_REVISIONS: [Edit<'static>; 6] = [
+static MIXED_REVISIONS: [Edit<'static>; 6] = [
     Edit {
         name: "a file that is older than its directory",
         history: MIXED,
@@ -262,20 +262,12 @@ const MIXED_REVISIONS: [Edit<'static>; 6] = [
 
 #[test]
 fn copies_of_one_revision_are_updated(rt: HostRuntime) -> Result<(), Fail> {
-    let alloc = rt.alloc();
-    assert_closed(&rt, alloc, &CHANGED_FILE, NEVER)?;
-    for edit in &PLAIN {
-        assert_closed(&rt, alloc, edit, NEVER)?;
-    }
-    Ok(())
+    assert_closed(&rt, rt.alloc(), &CHANGED_FILE, NEVER)?;
+    assert_all_closed(&rt, rt.alloc(), &PLAIN)
 }
 
 #[test]
 fn copies_of_mixed_revisions_are_updated(rt: HostRuntime) -> Result<(), Fail> {
-    let alloc = rt.alloc();
-    assert_closed(&rt, alloc, &LATE_TEXTS, NEVER)?;
-    for edit in &MIXED_REVISIONS {
-        assert_closed(&rt, alloc, edit, NEVER)?;
-    }
-    Ok(())
+    assert_closed(&rt, rt.alloc(), &LATE_TEXTS, NEVER)?;
+    assert_all_closed(&rt, rt.alloc(), &MIXED_REVISIONS)
 }

@@ -32,12 +32,16 @@ fn put(alloc: Global, changes: &mut Vec<Change>, path: &str, text: &str) -> Resu
     push(changes, Change::PutFile { path, text })
 }
 
+fn put_in(alloc: Global, changes: &mut Vec<Change>, directory: &str, file: u64) -> Result<()> {
+    let path = format!(in alloc; "{directory}/{file}")?;
+    put(alloc, changes, path.as_str(), "a")
+}
+
 // Makes a directory with so many files.
 fn fill(alloc: Global, changes: &mut Vec<Change>, directory: &str, files: u64) -> Result<()> {
     make_dir(alloc, changes, directory)?;
     for file in 0..files {
-        let path = format!(in alloc; "{directory}/{file}")?;
-        put(alloc, changes, path.as_str(), "a")?;
+        put_in(alloc, changes, directory, file)?;
     }
     Ok(())
 }
@@ -66,20 +70,32 @@ fn one_put(alloc: Global, path: &str) -> Result<Vec<Change>> {
     Ok(changes)
 }
 
+// The change that copies `d` of a revision.
+fn copy_change(alloc: Global, rev: Rev, number: u64) -> Result<Change> {
+    let text = format!(in alloc; "copy{number}")?;
+    let path = RelPath::parse(alloc, text.as_str())?;
+    let source = RelPath::parse(alloc, "d")?;
+    Ok(Change::CopyFrom { rev, source, path })
+}
+
 // The changes that copy `d` of a revision so many times.
 fn copies_of(alloc: Global, rev: Rev, copies: u64) -> Result<Vec<Change>> {
     let mut changes = Vec::new(alloc);
     for copy in 0..copies {
-        let text = format!(in alloc; "copy{copy}")?;
-        let path = RelPath::parse(alloc, text.as_str())?;
-        let source = RelPath::parse(alloc, "d")?;
-        push(&mut changes, Change::CopyFrom { rev, source, path })?;
+        push(&mut changes, copy_change(alloc, rev, copy)?)?;
     }
     Ok(changes)
 }
 
 fn nanoseconds_each(took: Duration, count: u64) -> u64 {
     u64::try_from(took.as_nanos()).unwrap_or(u64::MAX) / count.max(1)
+}
+
+// Makes the changes as one commit.
+fn time_commit<R: Clock>(rt: &R, repo: &mut Repo, changes: &[Change]) -> Result<Duration> {
+    let start = Instant::now(rt)?;
+    let _revision = repo.commit(changes)?;
+    Ok(start.elapsed(rt)?)
 }
 
 // Makes the changes as one commit, and says how long each of so many things took.
@@ -90,37 +106,73 @@ fn measure<R: Clock + Eprint>(
     what: &str,
     count: u64,
 ) -> Result<()> {
-    let start = Instant::now(rt)?;
-    let _revision = repo.commit(changes)?;
-    let each = nanoseconds_each(start.elapsed(rt)?, count);
+    let each = nanoseconds_each(time_commit(rt, repo, changes)?, count);
     eprintln!(rt; "{what}: {each} ns each")?;
     Ok(())
 }
 
-// Puts so many files into one directory, and then changes one of them.
-fn measure_flat<R: Clock + Eprint>(rt: &R, alloc: Global, files: u64) -> Result<()> {
-    let mut repo = Repo::new(alloc)?;
+// Puts so many files into one directory.
+fn put_flat<R: Clock + Eprint>(rt: &R, alloc: Global, repo: &mut Repo, files: u64) -> Result<()> {
     let what = format!(in alloc; "{files} files put into one directory")?;
     let changes = flat_tree(alloc, files)?;
-    measure(rt, &mut repo, &changes, what.as_str(), files)?;
+    measure(rt, repo, &changes, what.as_str(), files)
+}
+
+// Changes one of them.
+fn change_flat<R: Clock + Eprint>(
+    rt: &R,
+    alloc: Global,
+    repo: &mut Repo,
+    files: u64,
+) -> Result<()> {
     let what = format!(in alloc; "one of {files} files in one directory changed")?;
     let change = one_put(alloc, "d/0")?;
-    measure(rt, &mut repo, &change, what.as_str(), 1)
+    measure(rt, repo, &change, what.as_str(), 1)
+}
+
+fn measure_flat<R: Clock + Eprint>(rt: &R, alloc: Global, files: u64) -> Result<()> {
+    let mut repo = Repo::new(alloc)?;
+    put_flat(rt, alloc, &mut repo, files)?;
+    change_flat(rt, alloc, &mut repo, files)
+}
+
+// A tree of directories, each with as many files.
+#[derive(Clone, Copy)]
+struct Spread {
+    directories: u64,
+    files: u64,
+}
+
+impl Spread {
+    fn put<R: Clock + Eprint>(self, rt: &R, alloc: Global, repo: &mut Repo) -> Result<()> {
+        let Spread { directories, files } = self;
+        let what = format!(in alloc; "{files} files put into {directories} directories")?;
+        let changes = spread_tree(alloc, directories)?;
+        measure(rt, repo, &changes, what.as_str(), files)
+    }
+
+    fn change<R: Clock + Eprint>(self, rt: &R, alloc: Global, repo: &mut Repo) -> Result<()> {
+        let Spread { directories, files } = self;
+        let what = format!(in alloc; "one of {files} files in {directories} directories changed")?;
+        let change = one_put(alloc, "d/0/0")?;
+        measure(rt, repo, &change, what.as_str(), 1)
+    }
+
+    fn copy<R: Clock + Eprint>(self, rt: &R, alloc: Global, repo: &mut Repo) -> Result<()> {
+        let what = format!(in alloc; "{COPIES} copies of the tree of {} files", self.files)?;
+        let changes = copies_of(alloc, repo.latest(), COPIES)?;
+        measure(rt, repo, &changes, what.as_str(), COPIES)
+    }
 }
 
 // Puts files into so many directories, changes one of them, and copies the tree.
 fn measure_spread<R: Clock + Eprint>(rt: &R, alloc: Global, directories: u64) -> Result<()> {
-    let mut repo = Repo::new(alloc)?;
     let files = directories.saturating_mul(DIRECTORY_FILES);
-    let what = format!(in alloc; "{files} files put into {directories} directories")?;
-    let changes = spread_tree(alloc, directories)?;
-    measure(rt, &mut repo, &changes, what.as_str(), files)?;
-    let what = format!(in alloc; "one of {files} files in {directories} directories changed")?;
-    let change = one_put(alloc, "d/0/0")?;
-    measure(rt, &mut repo, &change, what.as_str(), 1)?;
-    let what = format!(in alloc; "{COPIES} copies of the tree of {files} files")?;
-    let changes = copies_of(alloc, repo.latest(), COPIES)?;
-    measure(rt, &mut repo, &changes, what.as_str(), COPIES)
+    let spread = Spread { directories, files };
+    let mut repo = Repo::new(alloc)?;
+    spread.put(rt, alloc, &mut repo)?;
+    spread.change(rt, alloc, &mut repo)?;
+    spread.copy(rt, alloc, &mut repo)
 }
 
 /// Times commits of so many files, and of a tenth and a hundredth of them.

@@ -4,7 +4,7 @@ use anyhow::Result;
 use std::alloc::Global;
 use std::fmt;
 use std::rt::Clock;
-use std::time::{Duration, Instant};
+use std::time::Instant;
 use svn_editor::{Call, Token};
 use svn_order::OrderCheck;
 use svn_report::Reporter;
@@ -29,15 +29,13 @@ impl Feed {
             is_checked,
             next: 1,
         };
-        feed.give(&Call::SetTargetRevision { rev: Rev(1) })?;
-        let (base, token) = (Rev(0), Token(0));
-        feed.give(&Call::OpenRoot { base, token })?;
+        feed.open_root()?;
         Ok(feed)
     }
 
-    fn give(&mut self, call: &Call) -> Result<()> {
+    fn give(&mut self, call: Call) -> Result<()> {
         if self.is_checked {
-            self.check.step(call)?;
+            self.check.step(&call)?;
         }
         Ok(())
     }
@@ -47,58 +45,83 @@ impl Feed {
         self.next = self.next.wrapping_add(1);
         token
     }
+
+    fn open_root(&mut self) -> Result<()> {
+        let (base, token) = (Rev(0), Token(0));
+        self.give(Call::SetTargetRevision { rev: Rev(1) })?;
+        self.give(Call::OpenRoot { base, token })
+    }
+
+    // Adds a file to the root, and closes it.
+    fn add_file(&mut self, path: RelPath) -> Result<()> {
+        let (parent, token) = (Token(0), self.token());
+        self.give(Call::AddFile {
+            path,
+            parent,
+            token,
+        })?;
+        let text_md5 = None;
+        self.give(Call::CloseFile { token, text_md5 })
+    }
+
+    // Opens a directory, and answers its token.
+    fn add_directory(&mut self, path: RelPath, parent: Token) -> Result<Token> {
+        let token = self.token();
+        self.give(Call::AddDirectory {
+            path,
+            parent,
+            token,
+        })?;
+        Ok(token)
+    }
+
+    // Closes directories, the last first.
+    fn close(&mut self, open: &[Token]) -> Result<()> {
+        for token in open.iter().rev() {
+            self.give(Call::CloseDirectory { token: *token })?;
+        }
+        Ok(())
+    }
 }
 
-fn add_file(alloc: Global, feed: &mut Feed, number: u64) -> Result<()> {
-    let text = format!(in alloc; "f{number}")?;
-    let path = RelPath::parse(alloc, text.as_str())?;
-    let (parent, token) = (Token(0), feed.token());
-    feed.give(&Call::AddFile {
-        path,
-        parent,
-        token,
-    })?;
-    let text_md5 = None;
-    feed.give(&Call::CloseFile { token, text_md5 })
+fn path_of(alloc: Global, letter: &str, number: u64) -> Result<RelPath> {
+    let text = format!(in alloc; "{letter}{number}")?;
+    Ok(RelPath::parse(alloc, text.as_str())?)
 }
 
 fn flat(alloc: Global, is_checked: bool, calls: u64) -> Result<()> {
     let mut feed = Feed::begin(alloc, is_checked)?;
     for number in 0..calls / 2 {
-        add_file(alloc, &mut feed, number)?;
+        feed.add_file(path_of(alloc, "f", number)?)?;
     }
     Ok(())
 }
 
-// Opens a directory, and answers its token.
-fn add_directory(feed: &mut Feed, path: &RelPath, parent: Token) -> Result<Token> {
-    let token = feed.token();
-    let path = path.clone()?;
-    feed.give(&Call::AddDirectory {
-        path,
-        parent,
-        token,
-    })?;
-    Ok(token)
+// Opens a directory in the one that was opened last.
+fn add_below(feed: &mut Feed, path: &RelPath, open: &mut Vec<Token>) -> Result<()> {
+    let parent = open.last().copied().unwrap_or(Token(0));
+    let token = feed.add_directory(path.clone()?, parent)?;
+    open.push(token)?;
+    Ok(())
 }
 
-// Opens directories in one another, as deep as a path can be, and closes them.
-fn chain(alloc: Global, feed: &mut Feed, number: u64) -> Result<()> {
+// Opens directories in one another, as deep as a path can be.
+fn open_chain(alloc: Global, feed: &mut Feed, number: u64, open: &mut Vec<Token>) -> Result<()> {
     let below = Name::parse(alloc, "d")?;
-    let top = format!(in alloc; "d{number}")?;
-    let mut path = RelPath::parse(alloc, top.as_str())?;
-    let mut parent = add_directory(feed, &path, Token(0))?;
-    let mut tokens = vec![in alloc; parent]?;
+    let mut path = path_of(alloc, "d", number)?;
+    add_below(feed, &path, open)?;
     for _ in 1..MAX_COMPONENTS {
         path = path.join(alloc, &below)?;
-        parent = add_directory(feed, &path, parent)?;
-        tokens.push(parent)?;
-    }
-    for token in tokens.iter().rev() {
-        let token = *token;
-        feed.give(&Call::CloseDirectory { token })?;
+        add_below(feed, &path, open)?;
     }
     Ok(())
+}
+
+// Opens directories in one another, and closes them.
+fn chain(alloc: Global, feed: &mut Feed, number: u64) -> Result<()> {
+    let mut open = Vec::new(alloc);
+    open_chain(alloc, feed, number, &mut open)?;
+    feed.close(&open)
 }
 
 fn nested(alloc: Global, is_checked: bool, calls: u64) -> Result<()> {
@@ -109,17 +132,35 @@ fn nested(alloc: Global, is_checked: bool, calls: u64) -> Result<()> {
     Ok(())
 }
 
-fn report(alloc: Global, is_reported: bool, entries: u64) -> Result<()> {
-    let mut reporter = Reporter::new(alloc);
-    reporter.set_path(&RelPath::root(alloc), Rev(1), false)?;
-    for number in 1..entries {
-        let text = format!(in alloc; "p{number}")?;
-        let path = RelPath::parse(alloc, text.as_str())?;
-        if is_reported {
-            reporter.set_path(&path, Rev(2), false)?;
-        }
+fn report_entry(
+    alloc: Global,
+    reporter: &mut Reporter,
+    is_reported: bool,
+    number: u64,
+) -> Result<()> {
+    let path = path_of(alloc, "p", number)?;
+    if is_reported {
+        reporter.set_path(&path, Rev(2), false)?;
     }
     Ok(())
+}
+
+fn report_all(
+    alloc: Global,
+    reporter: &mut Reporter,
+    is_reported: bool,
+    entries: u64,
+) -> Result<()> {
+    reporter.set_path(&RelPath::root(alloc), Rev(1), false)?;
+    for number in 1..entries {
+        report_entry(alloc, reporter, is_reported, number)?;
+    }
+    Ok(())
+}
+
+fn report(alloc: Global, is_reported: bool, entries: u64) -> Result<()> {
+    let mut reporter = Reporter::new(alloc);
+    report_all(alloc, &mut reporter, is_reported, entries)
 }
 
 // What is timed.
@@ -151,19 +192,22 @@ fn make(alloc: Global, work: Work, is_checked: bool, count: u64) -> Result<()> {
     }
 }
 
-fn nanos_each(took: Duration, count: u64) -> u128 {
-    took.as_nanos() / u128::from(count.max(1))
+fn nanos_each<R: Clock>(
+    rt: &R,
+    alloc: Global,
+    work: Work,
+    is_checked: bool,
+    count: u64,
+) -> Result<u128> {
+    let start = Instant::now(rt)?;
+    make(alloc, work, is_checked, count)?;
+    let took = start.elapsed(rt)?;
+    Ok(took.as_nanos() / u128::from(count.max(1)))
 }
 
 fn time<R: Clock + Eprint>(rt: &R, alloc: Global, work: Work, count: u64) -> Result<()> {
-    let start = Instant::now(rt)?;
-    make(alloc, work, false, count)?;
-    let made = start.elapsed(rt)?;
-    let start = Instant::now(rt)?;
-    make(alloc, work, true, count)?;
-    let checked = start.elapsed(rt)?;
-    let making = nanos_each(made, count);
-    let both = nanos_each(checked, count);
+    let making = nanos_each(rt, alloc, work, false, count)?;
+    let both = nanos_each(rt, alloc, work, true, count)?;
     eprintln!(rt; "{count} {work}: {making} ns each to make, {both} ns each to make and check")?;
     Ok(())
 }

@@ -35,11 +35,15 @@ fn take_all<R: Wait>(rt: &R, mut inbox: Inbox) -> u64 {
     sum
 }
 
+fn send_one<R: Wait>(rt: &R, sender: &Sender<Call>, call: Call) {
+    let _ = sender.send(rt, call);
+}
+
 fn send_plain<R: Wait>(rt: &R, sender: Sender<Call>, calls: u64) {
     for revision in 0..calls {
-        let _ = sender.send(rt, Call::SetTargetRevision { rev: Rev(revision) });
+        send_one(rt, &sender, Call::SetTargetRevision { rev: Rev(revision) });
     }
-    let _ = sender.send(rt, Call::CloseEdit);
+    send_one(rt, &sender, Call::CloseEdit);
 }
 
 fn receive_plain<R: Wait>(rt: &R, receiver: Receiver<Call>) -> u64 {
@@ -112,6 +116,53 @@ fn per_second(count: u64, took: Duration) -> u64 {
     count.saturating_mul(1000) / u64::try_from(took.as_millis()).unwrap_or(u64::MAX).max(1)
 }
 
+// The sum of the revisions that came through a link, and how many calls came in a second.
+fn link_rate<R: Threads + Wait + Sync + Clock>(
+    rt: &R,
+    alloc: Global,
+    capacity: usize,
+    calls: u64,
+) -> Result<(u64, u64)> {
+    let start = Instant::now(rt)?;
+    let sum = through_link(rt, alloc, capacity, calls)?;
+    Ok((sum, per_second(calls, start.elapsed(rt)?)))
+}
+
+fn channel_rate<R: Threads + Wait + Sync + Clock>(
+    rt: &R,
+    alloc: Global,
+    capacity: usize,
+    calls: u64,
+) -> Result<(u64, u64)> {
+    let start = Instant::now(rt)?;
+    let sum = through_channel(rt, alloc, capacity, calls)?;
+    Ok((sum, per_second(calls, start.elapsed(rt)?)))
+}
+
+fn check_sums(sum: u64, plain_sum: u64) -> Result<()> {
+    if sum != plain_sum {
+        bail!("the sums {sum} and {plain_sum} differ");
+    }
+    Ok(())
+}
+
+fn tell<R: Eprint>(rt: &R, capacity: usize, link: u64, plain: u64) -> Result<()> {
+    eprintln!(rt; "capacity {capacity}: link {link}, plain channel {plain} calls a second")?;
+    Ok(())
+}
+
+fn compare<R: Threads + Wait + Sync + Clock + Eprint>(
+    rt: &R,
+    alloc: Global,
+    capacity: usize,
+    calls: u64,
+) -> Result<()> {
+    let (sum, link) = link_rate(rt, alloc, capacity, calls)?;
+    let (plain_sum, plain) = channel_rate(rt, alloc, capacity, calls)?;
+    check_sums(sum, plain_sum)?;
+    tell(rt, capacity, link, plain)
+}
+
 /// Times so many calls at each capacity.
 pub(crate) fn run<R: Threads + Wait + Sync + Clock + Eprint>(
     rt: &R,
@@ -119,18 +170,7 @@ pub(crate) fn run<R: Threads + Wait + Sync + Clock + Eprint>(
     calls: u64,
 ) -> Result<()> {
     for capacity in [1, 64, 4096] {
-        let start = Instant::now(rt)?;
-        let sum = through_link(rt, alloc, capacity, calls)?;
-        let link_rate = per_second(calls, start.elapsed(rt)?);
-        let start = Instant::now(rt)?;
-        let plain_sum = through_channel(rt, alloc, capacity, calls)?;
-        let plain_rate = per_second(calls, start.elapsed(rt)?);
-        if sum != plain_sum {
-            bail!("the sums {sum} and {plain_sum} differ");
-        }
-        eprintln!(rt;
-            "capacity {capacity}: link {link_rate}, plain channel {plain_rate} calls a second"
-        )?;
+        compare(rt, alloc, capacity, calls)?;
     }
     Ok(())
 }

@@ -158,15 +158,21 @@ fn is_said(entry: &ReportEntry, said: &Said) -> bool {
     }
 }
 
+fn has_entry(report: &svn_report::Report, at: usize, place: &Place, said: &Said) -> bool {
+    match report.entry(at) {
+        Some((path, entry)) => is_path(path, place) && is_said(entry, said),
+        None => false,
+    }
+}
+
 /// The first path at which a report says what the model's doesn't.
 pub(crate) fn report_difference(report: &svn_report::Report, model: &Report) -> Option<Place> {
     if !is_path(report.root(), &model.root) || report.len() != model.entries.len() {
         return Some(ROOT);
     }
     for (at, (place, said)) in model.entries.iter().enumerate() {
-        match report.entry(at) {
-            Some((path, entry)) if is_path(path, place) && is_said(entry, said) => {}
-            _ => return Some(*place),
+        if !has_entry(report, at, place, said) {
+            return Some(*place);
         }
     }
     None
@@ -218,6 +224,27 @@ fn reads_as(repo: &Repo, id: NodeId, node: &Node, entries: usize) -> bool {
     }
 }
 
+// A revision, and what the model has of it.
+#[derive(Clone, Copy)]
+struct Revision<'a> {
+    repo: &'a Repo,
+    tree: &'a Tree,
+    rev: u64,
+}
+
+impl Revision<'_> {
+    fn has(&self, alloc: Global, ids: &mut Ids, place: Place, node: &Node) -> Result<bool> {
+        let path = real::path(alloc, place)?;
+        let Some(id) = self.repo.lookup(Rev(self.rev), &path) else {
+            return Ok(false);
+        };
+        if !reads_as(self.repo, id, node, count_entries(self.tree, place)) {
+            return Ok(false);
+        }
+        is_same_node(ids, node.number, id)
+    }
+}
+
 /// The first path at which a revision isn't what the model has.
 pub(crate) fn revision_difference(
     alloc: Global,
@@ -229,16 +256,9 @@ pub(crate) fn revision_difference(
     let Some(tree) = history.tree(rev) else {
         return Ok(Some(ROOT));
     };
+    let revision = Revision { repo, tree, rev };
     for (place, node) in tree {
-        let path = real::path(alloc, *place)?;
-        let is_same = match repo.lookup(Rev(rev), &path) {
-            Some(id) => {
-                reads_as(repo, id, node, count_entries(tree, *place))
-                    && is_same_node(ids, node.number, id)?
-            }
-            None => false,
-        };
-        if !is_same {
+        if !revision.has(alloc, ids, *place, node)? {
             return Ok(Some(*place));
         }
     }

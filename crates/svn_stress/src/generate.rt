@@ -1,8 +1,9 @@
 //! The next step of a random history.
 
+use crate::checked::Checked;
 use crate::dice::Dice;
 use crate::step::{Run, Step};
-use crate::world::{Checked, World};
+use crate::world::World;
 use svn_plain::{
     Base, BaseTree, Edit, History, NAMES, PROP_NAMES, Place, ROOT, TEXT_COUNT, Tree, Word,
     forgetting_fault, placing_fault,
@@ -44,6 +45,12 @@ fn extent(tree: &Tree, source: Place) -> (usize, usize) {
     (count, deepest)
 }
 
+// Whether a tree may have what extends so far, at a path.
+fn fits(nodes: usize, path: Place, extent: (usize, usize)) -> bool {
+    let (count, deeper) = extent;
+    nodes.saturating_add(count) <= LARGEST_TREE && path.depth().saturating_add(deeper) <= DEEPEST
+}
+
 fn directory_at(tree: &Tree, place: Place) -> Place {
     match tree.get(&place) {
         Some(node) if node.kind == Kind::File => place.parent().unwrap_or(ROOT),
@@ -55,6 +62,13 @@ fn copied_directory_at(tree: &BaseTree, place: Place) -> Place {
     match tree.get(&place) {
         Some(Base::Dir { .. }) => place,
         _ => place.parent().unwrap_or(ROOT),
+    }
+}
+
+fn line_at(history: &History, rev: u64, repos: Place) -> Option<u64> {
+    match history.look(rev, Some(repos)) {
+        Some(node) => Some(node.line),
+        None => None,
     }
 }
 
@@ -125,13 +139,11 @@ impl Chooser {
             return Edit::CopyFrom { rev, source, path };
         };
         let source = self.dice.place(tree);
-        let (count, deeper) = extent(tree, source);
-        if world.draft.tree.len().saturating_add(count) > LARGEST_TREE
-            || path.depth().saturating_add(deeper) > DEEPEST
-        {
-            return Edit::Remove { path };
+        if fits(world.draft.tree.len(), path, extent(tree, source)) {
+            Edit::CopyFrom { rev, source, path }
+        } else {
+            Edit::Remove { path }
         }
-        Edit::CopyFrom { rev, source, path }
     }
 
     fn prop_edit(&mut self, world: &World) -> Edit {
@@ -157,29 +169,37 @@ impl Chooser {
         self.new_path(tree)
     }
 
+    fn make_dir(&mut self, tree: &Tree) -> Edit {
+        let path = self.new_path(tree);
+        Edit::MakeDir { path }
+    }
+
+    fn put_new(&mut self, tree: &Tree) -> Edit {
+        let path = self.new_path(tree);
+        let text = self.text();
+        Edit::Put { path, text }
+    }
+
+    fn put_again(&mut self, tree: &Tree) -> Edit {
+        let path = self.file_path(tree);
+        let text = self.text();
+        Edit::Put { path, text }
+    }
+
+    fn removal(&mut self, tree: &Tree) -> Edit {
+        let path = self.dice.place(tree);
+        Edit::Remove { path }
+    }
+
     fn any_edit(&mut self, world: &World) -> Edit {
         let tree = &world.draft.tree;
         let is_full = tree.len() >= LARGEST_TREE;
         match self.dice.below(20) {
-            0..=3 if !is_full => {
-                let path = self.new_path(tree);
-                Edit::MakeDir { path }
-            }
-            4..=8 if !is_full => {
-                let path = self.new_path(tree);
-                let text = self.text();
-                Edit::Put { path, text }
-            }
-            9..=10 => {
-                let path = self.file_path(tree);
-                let text = self.text();
-                Edit::Put { path, text }
-            }
+            0..=3 if !is_full => self.make_dir(tree),
+            4..=8 if !is_full => self.put_new(tree),
+            9..=10 => self.put_again(tree),
             11..=13 => self.prop_edit(world),
-            14..=15 => {
-                let path = self.dice.place(tree);
-                Edit::Remove { path }
-            }
+            14..=15 => self.removal(tree),
             _ => self.copy_edit(world),
         }
     }
@@ -197,17 +217,20 @@ impl Chooser {
         edit
     }
 
+    // Mostly a directory.
+    fn checkout_path(&mut self, tree: &Tree) -> Place {
+        let place = self.dice.place(tree);
+        if self.dice.once_in(10) {
+            place
+        } else {
+            directory_at(tree, place)
+        }
+    }
+
     fn checkout(&mut self, world: &World) -> Step {
         let rev = self.revision(&world.history);
         let path = match world.history.tree(rev) {
-            Some(tree) if self.dice.once_in(2) => {
-                let place = self.dice.place(tree);
-                if self.dice.once_in(10) {
-                    place
-                } else {
-                    directory_at(tree, place)
-                }
-            }
+            Some(tree) if self.dice.once_in(2) => self.checkout_path(tree),
             _ => ROOT,
         };
         Step::Checkout { rev, path }
@@ -250,30 +273,12 @@ impl Chooser {
         step
     }
 
-    // A place of the target that is of the line of the copy's root, if the dice come to one.
-    fn root_place(&mut self, world: &World, checked: &Checked, rev: u64) -> Place {
-        let Some(tree) = world.history.tree(rev) else {
-            return ROOT;
-        };
-        let Some(
-            Base::Dir {
-                rev: own,
-                repos,
-                ..
-            },
-        ) = checked.tree.get(&ROOT)
-        else {
-            return ROOT;
-        };
-        let root = world.history.look(*own, Some(*repos));
+    // A place whose node is of the line, if there is one.
+    fn related_place(&mut self, tree: &Tree, line: Option<u64>) -> Place {
         let mut chosen = self.dice.place(tree);
         let mut found = 0u64;
         for (place, node) in tree {
-            let is_related = match &root {
-                Some(root) => root.line == node.line,
-                None => false,
-            };
-            if is_related {
+            if line == Some(node.line) {
                 found = found.saturating_add(1);
                 if self.dice.once_in(found) {
                     chosen = *place;
@@ -283,18 +288,43 @@ impl Chooser {
         chosen
     }
 
-    fn how(&mut self, to: Option<Place>, rev: u64) -> Run {
-        let cancel_after = if self.dice.once_in(2) {
+    // A place of the target that is of the line of the copy's root, if there is one.
+    fn root_place(&mut self, world: &World, checked: &Checked, rev: u64) -> Place {
+        match (world.history.tree(rev), checked.tree.get(&ROOT)) {
+            (
+                Some(tree),
+                Some(
+                    Base::Dir {
+                        rev: own,
+                        repos,
+                        ..
+                    },
+                ),
+            ) => self.related_place(tree, line_at(&world.history, *own, *repos)),
+            _ => ROOT,
+        }
+    }
+
+    fn cancel_after(&mut self) -> Option<u64> {
+        if self.dice.once_in(2) {
             let longest = self.dice.pick(&[6, 12, 24], 6);
             Some(self.dice.below(longest))
         } else {
             None
-        };
-        let capacity = if self.dice.once_in(2) {
+        }
+    }
+
+    fn capacity(&mut self) -> Option<usize> {
+        if self.dice.once_in(2) {
             Some(self.dice.pick(&CAPACITIES, 1))
         } else {
             None
-        };
+        }
+    }
+
+    fn how(&mut self, to: Option<Place>, rev: u64) -> Run {
+        let cancel_after = self.cancel_after();
+        let capacity = self.capacity();
         Run {
             to,
             rev,
@@ -336,23 +366,23 @@ impl Chooser {
         }
     }
 
+    // The first revisions and the first copy.
+    fn first_step(&mut self, world: &World) -> Step {
+        let latest = world.history.latest();
+        if latest > 0 && (latest >= LAST_REVISION || self.dice.once_in(6)) {
+            return self.checkout(world);
+        }
+        self.commit_step(world)
+    }
+
     /// The next step.
     pub(crate) fn step(&mut self, world: &World) -> Step {
-        let latest = world.history.latest();
-        let can_commit = latest < LAST_REVISION;
-        match &world.checked {
-            Some(checked) => {
-                if can_commit && self.dice.once_in(2) {
-                    return self.commit_step(world);
-                }
-                self.copy_step(world, checked)
-            }
-            None => {
-                if latest > 0 && (!can_commit || self.dice.once_in(6)) {
-                    return self.checkout(world);
-                }
-                self.commit_step(world)
-            }
+        let Some(checked) = &world.checked else {
+            return self.first_step(world);
+        };
+        if world.history.latest() < LAST_REVISION && self.dice.once_in(2) {
+            return self.commit_step(world);
         }
+        self.copy_step(world, checked)
     }
 }

@@ -4,7 +4,9 @@
 //! every machine. Where something differs it prints what, and the history as a script for `svnup`, made short, and ends with status 1.
 #![tactic(auto)]
 
+mod checked;
 mod compare;
+mod counts;
 mod dice;
 mod generate;
 mod real;
@@ -13,10 +15,12 @@ mod shorten;
 mod step;
 mod world;
 
+use crate::checked::Difference;
+use crate::counts::{Counts, NO_COUNTS};
 use crate::generate::Chooser;
 use crate::shorten::{replay, shortened};
 use crate::step::Step;
-use crate::world::{Counts, NO_COUNTS, World};
+use crate::world::World;
 use anyhow::{Result, bail};
 use std::alloc::Global;
 use std::env;
@@ -35,29 +39,65 @@ struct Story {
     counts: Counts,
 }
 
+// Takes the next step; the answer says whether it shows a difference.
+fn take_next<R: Threads + Wait + Sync>(
+    rt: &R,
+    world: &mut World,
+    chooser: &mut Chooser,
+    steps: &mut Vec<Step>,
+) -> Result<bool> {
+    let step = chooser.step(world);
+    steps.push(step)?;
+    Ok(world.take(rt, step)?.is_some())
+}
+
+// Takes steps up to the first difference; the answer says whether there is one.
+fn take_all<R: Threads + Wait + Sync>(
+    rt: &R,
+    world: &mut World,
+    chooser: &mut Chooser,
+    steps: &mut Vec<Step>,
+) -> Result<bool> {
+    for _ in 0..STEPS_EACH {
+        if take_next(rt, world, chooser, steps)? {
+            return Ok(true);
+        }
+    }
+    Ok(false)
+}
+
 fn make_story<R: Threads + Wait + Sync>(
     rt: &R,
     alloc: Global,
     seed: u64,
     number: u64,
 ) -> Result<Story> {
-    let mut world = World::new(alloc)?;
     let mut chooser = Chooser::new(seed, number);
     let mut steps = Vec::new(alloc);
-    let mut differs = false;
-    for _ in 0..STEPS_EACH {
-        let step = chooser.step(&world);
-        steps.push(step)?;
-        if world.take(rt, step)?.is_some() {
-            differs = true;
-            break;
-        }
-    }
+    let mut world = World::new(alloc)?;
+    let differs = take_all(rt, &mut world, &mut chooser, &mut steps)?;
+    let counts = world.counts;
     Ok(Story {
         steps,
         differs,
-        counts: world.counts,
+        counts,
     })
+}
+
+fn tell_steps<R: Print>(rt: &R, number: u64, steps: &[Step]) -> Result<()> {
+    println!(rt; "# history {number}")?;
+    for step in steps {
+        println!(rt; "{step}")?;
+    }
+    Ok(())
+}
+
+fn tell_end<R: Print>(rt: &R, difference: &Difference) -> Result<()> {
+    match difference {
+        Some(difference) => println!(rt; "# {difference}")?,
+        None => println!(rt; "# it differs no more")?,
+    }
+    Ok(())
 }
 
 // Prints the shortest script that was found, and what differs at its end.
@@ -68,37 +108,42 @@ fn tell<R: Threads + Wait + Sync + Print>(
     steps: Vec<Step>,
 ) -> Result<()> {
     let short = shortened(rt, alloc, steps)?;
-    println!(rt; "# history {number}")?;
-    for step in &short {
-        println!(rt; "{step}")?;
-    }
-    match replay(rt, alloc, &short)? {
-        Some(difference) => println!(rt; "# {difference}")?,
-        None => println!(rt; "# it differs no more")?,
-    }
-    Ok(())
+    tell_steps(rt, number, &short)?;
+    let difference = replay(rt, alloc, &short)?;
+    tell_end(rt, &difference)
 }
 
 fn tell_counts<R: Print>(rt: &R, histories: u64, counts: &Counts) -> Result<()> {
     let Counts {
         commits,
         builds,
-        updates,
-        switches,
-        stops,
-        resumed,
-        late,
-        in_threads,
         refusals,
-        calls,
-    } = *counts;
+        runs,
+    } = counts;
     println!(rt;
         "{histories} histories: {commits} commits, {builds} changes of copies, {refusals} refusals"
     )?;
-    println!(rt;
-        "{updates} updates, {switches} switches, {calls} calls: {stops} stopped, {resumed} resumed, {late} late, {in_threads} on two threads"
-    )?;
+    println!(rt; "{runs}")?;
     Ok(())
+}
+
+// Makes a history, and answers what was done. Where it shows a difference, that is told, and is an error.
+fn count_story<R: Threads + Wait + Sync + Print>(
+    rt: &R,
+    alloc: Global,
+    seed: u64,
+    number: u64,
+) -> Result<Counts> {
+    let Story {
+        steps,
+        differs,
+        counts,
+    } = make_story(rt, alloc, seed, number)?;
+    if differs {
+        tell(rt, alloc, number, steps)?;
+        bail!("the library and its model differ");
+    }
+    Ok(counts)
 }
 
 // Histories until so many updates and switches were made.
@@ -110,16 +155,10 @@ fn stress<R: Threads + Wait + Sync + Print>(
 ) -> Result<()> {
     let mut counts = NO_COUNTS;
     for number in 0..u64::MAX {
-        let runs = counts.updates.saturating_add(counts.switches);
-        if runs >= wanted {
+        if counts.runs.total() >= wanted {
             return tell_counts(rt, number, &counts);
         }
-        let story = make_story(rt, alloc, seed, number)?;
-        counts = counts.plus(story.counts);
-        if story.differs {
-            tell(rt, alloc, number, story.steps)?;
-            bail!("the library and its model differ");
-        }
+        counts = counts.plus(count_story(rt, alloc, seed, number)?);
     }
     Ok(())
 }

@@ -15,52 +15,51 @@ fn text(alloc: Global, word: Word) -> Result<Text> {
     Ok(Text::new(Vec::from_slice(alloc, word.raw().as_bytes())?))
 }
 
-pub(crate) fn prop_name(alloc: Global, name: usize) -> Result<PropName> {
+fn prop_name(alloc: Global, name: usize) -> Result<PropName> {
     let name = PROP_NAMES.get(name).copied().unwrap_or("");
     Ok(PropName::parse(alloc, name)?)
 }
 
-fn prop_change(alloc: Global, at: Place, name: usize, value: Option<Word>) -> Result<Change> {
-    let value = match value {
-        Some(value) => Some(text(alloc, value)?),
-        None => None,
-    };
-    Ok(Change::SetProp {
-        path: path(alloc, at)?,
-        name: prop_name(alloc, name)?,
-        value,
-    })
+fn value(alloc: Global, value: Option<Word>) -> Result<Option<Text>> {
+    match value {
+        Some(word) => Ok(Some(text(alloc, word)?)),
+        None => Ok(None),
+    }
+}
+
+fn put_file(alloc: Global, at: Place, word: Word) -> Result<Change> {
+    let path = path(alloc, at)?;
+    let text = text(alloc, word)?;
+    Ok(Change::PutFile { path, text })
+}
+
+fn set_prop(alloc: Global, at: Place, name: usize, word: Option<Word>) -> Result<Change> {
+    let path = path(alloc, at)?;
+    let name = prop_name(alloc, name)?;
+    let value = value(alloc, word)?;
+    Ok(Change::SetProp { path, name, value })
+}
+
+fn copy_from(alloc: Global, rev: u64, from: Place, at: Place) -> Result<Change> {
+    let source = path(alloc, from)?;
+    let path = path(alloc, at)?;
+    let rev = Rev(rev);
+    Ok(Change::CopyFrom { rev, source, path })
 }
 
 /// A change of a commit.
 pub(crate) fn change(alloc: Global, edit: Edit) -> Result<Change> {
     match edit {
-        Edit::MakeDir { path: at } => Ok(Change::MakeDir {
-            path: path(alloc, at)?,
-        }),
-        Edit::Put {
-            path: at,
-            text: word,
-        } => Ok(Change::PutFile {
-            path: path(alloc, at)?,
-            text: text(alloc, word)?,
-        }),
-        Edit::Prop {
-            path: at,
-            name,
-            value,
-        } => prop_change(alloc, at, name, value),
-        Edit::Remove { path: at } => Ok(Change::Remove {
-            path: path(alloc, at)?,
-        }),
-        Edit::CopyFrom {
-            rev,
-            source,
-            path: at,
-        } => Ok(Change::CopyFrom {
-            rev: Rev(rev),
-            source: path(alloc, source)?,
-            path: path(alloc, at)?,
-        }),
+        Edit::MakeDir { path: at } => {
+            let path = path(alloc, at)?;
+            Ok(Change::MakeDir { path })
+        }
+        Edit::Put { path, text } => put_file(alloc, path, text),
+        Edit::Prop { path, name, value } => set_prop(alloc, path, name, value),
+        Edit::Remove { path: at } => {
+            let path = path(alloc, at)?;
+            Ok(Change::Remove { path })
+        }
+        Edit::CopyFrom { rev, source, path } => copy_from(alloc, rev, source, path),
     }
 }

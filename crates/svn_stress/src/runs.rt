@@ -1,8 +1,10 @@
 //! Updates and switches of the whole copy: what the model expects, and what the library does.
 
+use crate::checked::{Checked, Difference, Promise};
+use crate::counts::RunCounts;
 use crate::real;
 use crate::step::Run;
-use crate::world::{Checked, Counts, Difference, Promise, World};
+use crate::world::World;
 use anyhow::{Result, bail};
 use std::alloc::Global;
 use std::sync::Wait;
@@ -10,38 +12,33 @@ use std::thread::Threads;
 use svn_drive::{DriveOptions, drive, drive_switch};
 use svn_editor::{Call, Recorder};
 use svn_plain::{
-    Act, BaseTree, Edition, History, Request, TargetFault, Tokens, crawl, drive as acts_of, line,
-    result,
+    Act, BaseTree, Edition, Facts, History, Place, Request, TargetFault, Tokens, crawl,
+    drive as acts_of, line, result,
 };
+use svn_report::Report;
 use svn_update::{
-    Cause, NoGate, Options, Outcome, Repo, Rev, RunFault, WorkingCopy, switch_to,
+    Cause, NoGate, Options, Outcome, RelPath, Repo, Rev, RunFault, WorkingCopy, switch_to,
     switch_to_in_turn, update, update_in_turn,
 };
 
-// What a run is to do: the calls between the first and the last, the copy that it leaves, and the one that it leaves if it isn't stopped.
+// What a run is to do: the calls between the first and the last, after how many calls it is stopped, the copy that it leaves,
+// and the one that it leaves if it isn't stopped.
 #[derive(Drop)]
 struct Plan {
     acts: Vec<Act>,
+    stop: Option<u64>,
     left: BaseTree,
     result: BaseTree,
 }
 
+// All calls, the first and the last included.
+fn total(acts: &[Act]) -> u64 {
+    (acts.len() as u64).saturating_add(2)
+}
+
 impl Plan {
-    // All calls, the first and the last included.
-    fn total(&self) -> u64 {
-        (self.acts.len() as u64).saturating_add(2)
-    }
-
-    // After how many calls the run is stopped, if it is.
-    fn stop(&self, run: &Run) -> Option<u64> {
-        match run.cancel_after {
-            Some(calls) if calls < self.total() => Some(calls),
-            _ => None,
-        }
-    }
-
-    fn outcome(&self, run: &Run) -> Outcome {
-        match self.stop(run) {
+    fn outcome(&self) -> Outcome {
+        match self.stop {
             Some(calls) => Outcome::Aborted {
                 made: calls,
                 accepted: calls,
@@ -49,7 +46,7 @@ impl Plan {
                 cause: Cause::Cancelled,
             },
             None => Outcome::Closed {
-                calls: self.total(),
+                calls: total(&self.acts),
             },
         }
     }
@@ -63,14 +60,61 @@ fn run_fault(fault: TargetFault) -> RunFault {
     }
 }
 
-// The copy after so many calls, the first of which changes nothing; all of them where there is no number.
-fn left_by(edition: Edition, tree: &BaseTree, acts: &[Act], stop: Option<u64>) -> Result<BaseTree> {
-    match stop {
-        Some(calls) => edition.after(tree, acts, calls.saturating_sub(1) as usize),
-        None => {
-            let all = edition.after(tree, acts, acts.len())?;
-            edition.closed(&all)
+impl Run {
+    // What the model has to say of each path, or why the run can't begin.
+    fn facts(
+        &self,
+        alloc: Global,
+        history: &History,
+        tree: &BaseTree,
+    ) -> Result<Result<Vec<Facts>, RunFault>> {
+        let report = crawl(alloc, tree)?;
+        let request = Request {
+            history,
+            report: &report,
+            target: self.rev,
+            to: self.to,
+        };
+        match request.fault() {
+            Some(fault) => Ok(Err(run_fault(fault))),
+            None => Ok(Ok(request.all_facts(alloc, tree)?)),
         }
+    }
+
+    // After how many of the calls it is stopped, if it is.
+    fn stop(&self, acts: &[Act]) -> Option<u64> {
+        match self.cancel_after {
+            Some(calls) if calls < total(acts) => Some(calls),
+            _ => None,
+        }
+    }
+
+    // The copy after so many calls, the first of which changes nothing; all of them where there is no number.
+    fn left_by(&self, tree: &BaseTree, acts: &[Act], stop: Option<u64>) -> Result<BaseTree> {
+        let edition = Edition {
+            target: self.rev,
+            to: self.to,
+        };
+        match stop {
+            Some(calls) => edition.after(tree, acts, calls.saturating_sub(1) as usize),
+            None => {
+                let all = edition.after(tree, acts, acts.len())?;
+                edition.closed(&all)
+            }
+        }
+    }
+
+    fn plan(&self, alloc: Global, tree: &BaseTree, facts: &[Facts]) -> Result<Plan> {
+        let acts = acts_of(alloc, facts, self.is_late)?;
+        let stop = self.stop(&acts);
+        let left = self.left_by(tree, &acts, stop)?;
+        let result = result(alloc, facts, self.rev)?;
+        Ok(Plan {
+            acts,
+            stop,
+            left,
+            result,
+        })
     }
 }
 
@@ -80,49 +124,42 @@ fn make_plan(
     tree: &BaseTree,
     run: &Run,
 ) -> Result<Result<Plan, RunFault>> {
-    let report = crawl(alloc, tree)?;
-    let request = Request {
-        history,
-        report: &report,
-        target: run.rev,
-        to: run.to,
-    };
-    if let Some(fault) = request.fault() {
-        return Ok(Err(run_fault(fault)));
+    match run.facts(alloc, history, tree)? {
+        Ok(facts) => Ok(Ok(run.plan(alloc, tree, &facts)?)),
+        Err(fault) => Ok(Err(fault)),
     }
-    let facts = request.all_facts(alloc, tree)?;
-    let acts = acts_of(alloc, &facts, run.is_late)?;
-    let mut plan = Plan {
-        acts,
-        left: tree.clone()?,
-        result: result(alloc, &facts, run.rev)?,
+}
+
+// Records the calls that the driver makes for a report.
+fn record(
+    alloc: Global,
+    repo: &Repo,
+    report: &Report,
+    run: &Run,
+    recorder: &mut Recorder,
+) -> Result<()> {
+    let target = Rev(run.rev);
+    let options = DriveOptions {
+        cancel_after: None,
+        late_texts: run.is_late,
     };
-    let edition = Edition {
-        target: run.rev,
-        to: run.to,
-    };
-    plan.left = left_by(edition, tree, &plan.acts, plan.stop(run))?;
-    Ok(Ok(plan))
+    match run.to {
+        Some(to) => {
+            let to = real::path(alloc, to)?;
+            drive_switch(alloc, repo, report, &to, target, options, recorder)?;
+        }
+        None => {
+            drive(alloc, repo, report, target, options, recorder)?;
+        }
+    }
+    Ok(())
 }
 
 // The calls that the driver makes for what the copy reports.
 fn recorded(alloc: Global, repo: &Repo, copy: &WorkingCopy, run: &Run) -> Result<Recorder> {
     let report = copy.crawl(alloc)?;
     let mut recorder = Recorder::new(alloc);
-    let options = DriveOptions {
-        cancel_after: None,
-        late_texts: run.is_late,
-    };
-    let target = Rev(run.rev);
-    match run.to {
-        Some(to) => {
-            let to = real::path(alloc, to)?;
-            drive_switch(alloc, repo, &report, &to, target, options, &mut recorder)?;
-        }
-        None => {
-            drive(alloc, repo, &report, target, options, &mut recorder)?;
-        }
-    }
+    record(alloc, repo, &report, run, &mut recorder)?;
     Ok(recorder)
 }
 
@@ -137,22 +174,50 @@ fn compare_call(alloc: Global, call: Option<&Call>, expected: &str) -> Result<Di
     Ok(Some(format!(in alloc; "the drive has {made}, not {expected}")?))
 }
 
-// The calls of the driver beside those of the model, line by line.
-fn compare_drive(alloc: Global, calls: &[Call], acts: &[Act], rev: u64) -> Result<Difference> {
-    if calls.len() != acts.len().saturating_add(2) {
-        let (made, expected) = (calls.len(), acts.len().saturating_add(2));
-        return Ok(Some(format!(in alloc; "the drive has {made} calls, not {expected}")?));
+// Whether there are as many calls as the model has.
+fn compare_count(alloc: Global, calls: &[Call], acts: &[Act]) -> Result<Difference> {
+    let (made, expected) = (calls.len() as u64, total(acts));
+    if made == expected {
+        return Ok(None);
     }
-    let first = format!(in alloc; "set_target_revision {rev}")?;
-    if let Some(difference) = compare_call(alloc, calls.first(), first.as_str())? {
-        return Ok(Some(difference));
-    }
+    Ok(Some(format!(in alloc; "the drive has {made} calls, not {expected}")?))
+}
+
+fn compare_first(alloc: Global, calls: &[Call], rev: u64) -> Result<Difference> {
+    let expected = format!(in alloc; "set_target_revision {rev}")?;
+    compare_call(alloc, calls.first(), expected.as_str())
+}
+
+fn compare_act(alloc: Global, tokens: &mut Tokens, call: &Call, act: &Act) -> Result<Difference> {
+    let expected = line(alloc, tokens, act)?;
+    compare_call(alloc, Some(call), expected.as_str())
+}
+
+// The calls between the first and the last.
+fn compare_acts(alloc: Global, calls: &[Call], acts: &[Act]) -> Result<Difference> {
     let mut tokens = Tokens::new(alloc);
     for (act, call) in acts.iter().zip(calls.iter().skip(1)) {
-        let expected = line(alloc, &mut tokens, act)?;
-        if let Some(difference) = compare_call(alloc, Some(call), expected.as_str())? {
-            return Ok(Some(difference));
+        let difference = compare_act(alloc, &mut tokens, call, act)?;
+        if difference.is_some() {
+            return Ok(difference);
         }
+    }
+    Ok(None)
+}
+
+// The calls of the driver beside those of the model, line by line.
+fn compare_drive(alloc: Global, calls: &[Call], acts: &[Act], rev: u64) -> Result<Difference> {
+    let difference = compare_count(alloc, calls, acts)?;
+    if difference.is_some() {
+        return Ok(difference);
+    }
+    let difference = compare_first(alloc, calls, rev)?;
+    if difference.is_some() {
+        return Ok(difference);
+    }
+    let difference = compare_acts(alloc, calls, acts)?;
+    if difference.is_some() {
+        return Ok(difference);
     }
     compare_call(alloc, calls.last(), "close_edit")
 }
@@ -164,27 +229,89 @@ struct Ended {
     passed: Option<(u64, u64)>,
 }
 
+fn update_turned(
+    alloc: Global,
+    repo: &Repo,
+    copy: &mut WorkingCopy,
+    run: &Run,
+) -> Result<Result<Outcome, RunFault>> {
+    if copy.check_true(repo).is_err() {
+        bail!("the copy isn't true");
+    }
+    let (cancel_after, is_late) = (run.cancel_after, run.is_late);
+    Ok(update_in_turn(alloc, repo, copy, Rev(run.rev), cancel_after, is_late))
+}
+
+fn switch_turned(
+    alloc: Global,
+    repo: &Repo,
+    copy: &mut WorkingCopy,
+    run: &Run,
+    to: &RelPath,
+) -> Result<Result<Outcome, RunFault>> {
+    if copy.check_true(repo).is_err() {
+        bail!("the copy isn't true");
+    }
+    let (cancel_after, is_late) = (run.cancel_after, run.is_late);
+    Ok(switch_to_in_turn(alloc, repo, copy, to, Rev(run.rev), cancel_after, is_late))
+}
+
 fn run_in_turn(
     alloc: Global,
     repo: &Repo,
     copy: &mut WorkingCopy,
     run: &Run,
 ) -> Result<Result<Ended, RunFault>> {
-    if copy.check_true(repo).is_err() {
-        bail!("the copy isn't true");
-    }
-    let rev = Rev(run.rev);
     let answer = match run.to {
-        Some(to) => {
-            let to = real::path(alloc, to)?;
-            switch_to_in_turn(alloc, repo, copy, &to, rev, run.cancel_after, run.is_late)
-        }
-        None => update_in_turn(alloc, repo, copy, rev, run.cancel_after, run.is_late),
+        Some(to) => switch_turned(alloc, repo, copy, run, &real::path(alloc, to)?)?,
+        None => update_turned(alloc, repo, copy, run)?,
     };
     match answer {
         Ok(outcome) => Ok(Ok(Ended {
             outcome,
             passed: None,
+        })),
+        Err(fault) => Ok(Err(fault)),
+    }
+}
+
+fn update_threaded<R: Threads + Wait + Sync>(
+    rt: &R,
+    alloc: Global,
+    repo: &Repo,
+    copy: &mut WorkingCopy,
+    rev: Rev,
+    options: Options,
+) -> Result<Result<Ended, RunFault>> {
+    if copy.check_true(repo).is_err() {
+        bail!("the copy isn't true");
+    }
+    match update(rt, alloc, repo, copy, rev, options, &NoGate) {
+        Ok((outcome, settled)) => Ok(Ok(Ended {
+            outcome,
+            passed: Some((settled.sent, settled.taken)),
+        })),
+        Err(fault) => Ok(Err(fault)),
+    }
+}
+
+fn switch_threaded<R: Threads + Wait + Sync>(
+    rt: &R,
+    alloc: Global,
+    repo: &Repo,
+    copy: &mut WorkingCopy,
+    to: Place,
+    rev: Rev,
+    options: Options,
+) -> Result<Result<Ended, RunFault>> {
+    if copy.check_true(repo).is_err() {
+        bail!("the copy isn't true");
+    }
+    let to = real::path(alloc, to)?;
+    match switch_to(rt, alloc, repo, copy, &to, rev, options, &NoGate) {
+        Ok((outcome, settled)) => Ok(Ok(Ended {
+            outcome,
+            passed: Some((settled.sent, settled.taken)),
         })),
         Err(fault) => Ok(Err(fault)),
     }
@@ -198,28 +325,23 @@ fn run_in_threads<R: Threads + Wait + Sync>(
     run: &Run,
     capacity: usize,
 ) -> Result<Result<Ended, RunFault>> {
-    if copy.check_true(repo).is_err() {
-        bail!("the copy isn't true");
-    }
     let options = Options {
         capacity,
         cancel_after: run.cancel_after,
         late_texts: run.is_late,
     };
-    let rev = Rev(run.rev);
-    let answer = match run.to {
-        Some(to) => {
-            let to = real::path(alloc, to)?;
-            switch_to(rt, alloc, repo, copy, &to, rev, options, &NoGate)
+    match run.to {
+        Some(to) => switch_threaded(rt, alloc, repo, copy, to, Rev(run.rev), options),
+        None => update_threaded(rt, alloc, repo, copy, Rev(run.rev), options),
+    }
+}
+
+fn compare_passed(alloc: Global, passed: Option<(u64, u64)>, calls: u64) -> Result<Difference> {
+    match passed {
+        Some((sent, taken)) if sent != calls || taken != calls => {
+            Ok(Some(format!(in alloc; "{sent} calls were sent, {taken} taken, not {calls}")?))
         }
-        None => update(rt, alloc, repo, copy, rev, options, &NoGate),
-    };
-    match answer {
-        Ok((outcome, settled)) => {
-            let passed = Some((settled.sent, settled.taken));
-            Ok(Ok(Ended { outcome, passed }))
-        }
-        Err(fault) => Ok(Err(fault)),
+        _ => Ok(None),
     }
 }
 
@@ -233,11 +355,20 @@ fn compare_outcome(alloc: Global, ended: Ended, expected: Outcome) -> Result<Dif
         Outcome::Closed { calls } => calls,
         Outcome::Aborted { made, .. } => made.saturating_add(1),
     };
-    match ended.passed {
-        Some((sent, taken)) if sent != calls || taken != calls => {
-            Ok(Some(format!(in alloc; "{sent} calls were sent, {taken} taken, not {calls}")?))
-        }
-        _ => Ok(None),
+    compare_passed(alloc, ended.passed, calls)
+}
+
+fn compare_refusal(
+    alloc: Global,
+    answer: Result<Ended, RunFault>,
+    expected: RunFault,
+) -> Result<Difference> {
+    match answer {
+        Err(fault) if fault == expected => Ok(None),
+        Err(fault) => Ok(Some(format!(in alloc;
+            "the run is refused {fault:?}, not {expected:?}"
+        )?)),
+        Ok(_) => Ok(Some(format!(in alloc; "the run isn't refused: {expected:?}")?)),
     }
 }
 
@@ -260,7 +391,7 @@ impl Checked {
 
     // The model's own two ways to the end: the calls one after the other, and the result of the paths.
     fn compare_plan(&self, alloc: Global, run: &Run, plan: &Plan) -> Result<Difference> {
-        if plan.stop(run).is_none() && plan.left != plan.result {
+        if plan.stop.is_none() && plan.left != plan.result {
             let words = "the calls of the model lead elsewhere than its result";
             return Ok(Some(String::from_str(alloc, words)?));
         }
@@ -271,21 +402,40 @@ impl Checked {
         Ok(None)
     }
 
+    // The calls and the ends that are expected of a run that can begin.
+    fn compare_begin(
+        &self,
+        alloc: Global,
+        repo: &Repo,
+        run: &Run,
+        plan: &Plan,
+    ) -> Result<Difference> {
+        let difference = self.compare_plan(alloc, run, plan)?;
+        if difference.is_some() {
+            return Ok(difference);
+        }
+        let recorder = recorded(alloc, repo, &self.copy, run)?;
+        compare_drive(alloc, recorder.calls(), &plan.acts, run.rev)
+    }
+
     // What the model has after a run.
     fn settle(&mut self, run: &Run, plan: Plan) {
-        let is_stopped = plan.stop(run).is_some();
-        let Plan { acts, left, result } = plan;
+        let Plan {
+            acts,
+            stop,
+            left,
+            result,
+        } = plan;
         drop(acts);
         self.tree = left;
-        if is_stopped {
-            self.promise = Some(Promise {
+        self.promise = match stop {
+            Some(_) => Some(Promise {
                 to: run.to,
                 rev: run.rev,
                 result,
-            });
-        } else {
-            self.promise = None;
-        }
+            }),
+            None => None,
+        };
     }
 }
 
@@ -293,21 +443,15 @@ fn one_if(condition: bool) -> u64 {
     if condition { 1 } else { 0 }
 }
 
-impl Counts {
-    fn count_run(&mut self, run: &Run, plan: &Plan, resumes: bool) {
-        let done = Counts {
-            commits: 0,
-            builds: 0,
-            updates: one_if(run.to.is_none()),
-            switches: one_if(run.to.is_some()),
-            stops: one_if(plan.stop(run).is_some()),
-            resumed: one_if(resumes && plan.stop(run).is_none()),
-            late: one_if(run.is_late),
-            in_threads: one_if(run.capacity.is_some()),
-            refusals: 0,
-            calls: plan.stop(run).unwrap_or(plan.total()),
-        };
-        *self = self.plus(done);
+fn count_of(run: &Run, plan: &Plan, resumes: bool) -> RunCounts {
+    RunCounts {
+        updates: one_if(run.to.is_none()),
+        switches: one_if(run.to.is_some()),
+        stops: one_if(plan.stop.is_some()),
+        resumed: one_if(resumes && plan.stop.is_none()),
+        late: one_if(run.is_late),
+        in_threads: one_if(run.capacity.is_some()),
+        calls: plan.stop.unwrap_or(total(&plan.acts)),
     }
 }
 
@@ -327,17 +471,31 @@ impl World {
         }
     }
 
-    // The calls and the ends that are expected of a run that can begin.
     fn compare_begin(&self, run: &Run, plan: &Plan) -> Result<Difference> {
-        let Some(checked) = &self.checked else {
-            return Ok(None);
-        };
-        let alloc = self.alloc;
-        if let Some(difference) = checked.compare_plan(alloc, run, plan)? {
-            return Ok(Some(difference));
+        match &self.checked {
+            Some(checked) => checked.compare_begin(self.alloc, &self.repo, run, plan),
+            None => Ok(None),
         }
-        let recorder = recorded(alloc, &self.repo, &checked.copy, run)?;
-        compare_drive(alloc, recorder.calls(), &plan.acts, run.rev)
+    }
+
+    fn compare_run<R: Threads + Wait + Sync>(
+        &mut self,
+        rt: &R,
+        run: &Run,
+        expected: Outcome,
+    ) -> Result<Difference> {
+        match self.do_run(rt, run)? {
+            Ok(ended) => compare_outcome(self.alloc, ended, expected),
+            Err(fault) => Ok(Some(format!(in self.alloc; "the run is refused: {fault:?}")?)),
+        }
+    }
+
+    fn settle(&mut self, run: &Run, plan: Plan) {
+        if let Some(checked) = &mut self.checked {
+            self.counts
+                .count_runs(count_of(run, &plan, checked.resumes(run)));
+            checked.settle(run, plan);
+        }
     }
 
     fn run_planned<R: Threads + Wait + Sync>(
@@ -346,18 +504,12 @@ impl World {
         run: &Run,
         plan: Plan,
     ) -> Result<Difference> {
-        let alloc = self.alloc;
-        if let Some(difference) = self.compare_begin(run, &plan)? {
-            return Ok(Some(difference));
+        let difference = self.compare_begin(run, &plan)?;
+        if difference.is_some() {
+            return Ok(difference);
         }
-        let difference = match self.do_run(rt, run)? {
-            Ok(ended) => compare_outcome(alloc, ended, plan.outcome(run))?,
-            Err(fault) => Some(format!(in alloc; "the run is refused: {fault:?}")?),
-        };
-        if let Some(checked) = &mut self.checked {
-            self.counts.count_run(run, &plan, checked.resumes(run));
-            checked.settle(run, plan);
-        }
+        let difference = self.compare_run(rt, run, plan.outcome())?;
+        self.settle(run, plan);
         Ok(difference)
     }
 
@@ -367,15 +519,9 @@ impl World {
         run: &Run,
         expected: RunFault,
     ) -> Result<Difference> {
-        self.counts.refusals = self.counts.refusals.saturating_add(1);
-        let alloc = self.alloc;
-        match self.do_run(rt, run)? {
-            Err(fault) if fault == expected => Ok(None),
-            Err(fault) => Ok(Some(format!(in alloc;
-                "the run is refused {fault:?}, not {expected:?}"
-            )?)),
-            Ok(_) => Ok(Some(format!(in alloc; "the run isn't refused: {expected:?}")?)),
-        }
+        self.counts.count_refusal();
+        let answer = self.do_run(rt, run)?;
+        compare_refusal(self.alloc, answer, expected)
     }
 
     /// Runs an update or a switch of the whole copy.

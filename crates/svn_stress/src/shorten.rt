@@ -1,7 +1,8 @@
 //! A history that shows a difference, made short.
 
+use crate::checked::Difference;
 use crate::step::Step;
-use crate::world::{Difference, World};
+use crate::world::World;
 use anyhow::Result;
 use std::alloc::Global;
 use std::sync::Wait;

@@ -77,6 +77,13 @@ impl fmt::Display for Run {
     }
 }
 
+fn write_run<W: fmt::Write>(run: &Run, f: &mut fmt::Formatter<W>) -> fmt::Result {
+    match run.capacity {
+        Some(capacity) => write!(f, "# --capacity {capacity}\n{run}"),
+        None => write!(f, "# --in-turn\n{run}"),
+    }
+}
+
 /// A step as a line of a script; before a run stands a comment that says how it is run.
 impl fmt::Display for Step {
     fn fmt<W: fmt::Write>(&self, f: &mut fmt::Formatter<W>) -> fmt::Result {
@@ -90,10 +97,7 @@ impl fmt::Display for Step {
             Step::Place { path, rev } => write!(f, "place {path} {rev}"),
             Step::Switch { path, repos, rev } => write!(f, "switch {path} {repos} {rev}"),
             Step::Forget { path } => write!(f, "forget {path}"),
-            Step::Run(run) => match run.capacity {
-                Some(capacity) => write!(f, "# --capacity {capacity}\n{run}"),
-                None => write!(f, "# --in-turn\n{run}"),
-            },
+            Step::Run(run) => write_run(&run, f),
         }
     }
 }

@@ -1,6 +1,6 @@
 //! The calls of an edit, given to the order check and to an applier. Each call has a number for its answer: 0 where it is accepted.
-use crate::printed::shown;
-use crate::trouble::Trouble;
+use crate::printed::has;
+use crate::trouble::{Trouble, holds};
 use std::alloc::Global;
 use svn_editor::{Call, Digest, EditFault, Editor, OrderFault, Token};
 use svn_order::OrderCheck;
@@ -33,17 +33,23 @@ fn digest_of(sum: Sum) -> Option<Digest> {
     }
 }
 
+// A call for what stands at a path: the tokens of its parent and of itself, and for what is opened its revision between them. What is
+// deleted has a revision, and a parent.
+#[derive(Clone, Copy)]
+enum Entry {
+    AddDir(u64, u64),
+    AddFile(u64, u64),
+    OpenDir(u64, u64, u64),
+    OpenFile(u64, u64, u64),
+    Delete(u64, u64),
+}
+
 // A call.
 #[derive(Clone, Copy)]
 enum Step {
     Target(u64),
     Root(u64),
-    // a path, the tokens of its parent and of itself, and for what is opened its revision
-    AddDir(&'static str, u64, u64),
-    AddFile(&'static str, u64, u64),
-    OpenDir(&'static str, u64, u64, u64),
-    OpenFile(&'static str, u64, u64, u64),
-    Delete(&'static str, u64, u64),
+    At(&'static str, Entry),
     Prop(u64, &'static str),
     // a token, the checksum of what was there, and the text
     Put(u64, Sum, &'static str),
@@ -57,106 +63,115 @@ fn text_of(alloc: Global, text: &str) -> Result<Text, Trouble> {
     Ok(Text::new(text.as_bytes().to_vec(alloc)?))
 }
 
-fn opening(alloc: Global, step: Step) -> Result<Option<Call>, Trouble> {
-    Ok(Some(match step {
-        Step::AddDir(path, parent, token) => Call::AddDirectory {
-            path: RelPath::parse(alloc, path)?,
+fn entry_call(path: RelPath, entry: Entry) -> Call {
+    match entry {
+        Entry::AddDir(parent, token) => Call::AddDirectory {
+            path,
             parent: Token(parent),
             token: Token(token),
         },
-        Step::AddFile(path, parent, token) => Call::AddFile {
-            path: RelPath::parse(alloc, path)?,
+        Entry::AddFile(parent, token) => Call::AddFile {
+            path,
             parent: Token(parent),
             token: Token(token),
         },
-        Step::OpenDir(path, parent, base, token) => Call::OpenDirectory {
-            path: RelPath::parse(alloc, path)?,
-            parent: Token(parent),
-            base: Rev(base),
-            token: Token(token),
-        },
-        Step::OpenFile(path, parent, base, token) => Call::OpenFile {
-            path: RelPath::parse(alloc, path)?,
+        Entry::OpenDir(parent, base, token) => Call::OpenDirectory {
+            path,
             parent: Token(parent),
             base: Rev(base),
             token: Token(token),
         },
-        _ => return Ok(None),
-    }))
-}
-
-fn call_of(alloc: Global, step: Step) -> Result<Call, Trouble> {
-    if let Some(call) = opening(alloc, step)? {
-        return Ok(call);
-    }
-    Ok(match step {
-        Step::Target(rev) => Call::SetTargetRevision { rev: Rev(rev) },
-        Step::Root(base) => Call::OpenRoot {
+        Entry::OpenFile(parent, base, token) => Call::OpenFile {
+            path,
+            parent: Token(parent),
             base: Rev(base),
-            token: Token(0),
+            token: Token(token),
         },
-        Step::Delete(path, rev, parent) => Call::DeleteEntry {
-            path: RelPath::parse(alloc, path)?,
+        Entry::Delete(rev, parent) => Call::DeleteEntry {
+            path,
             rev: Rev(rev),
             parent: Token(parent),
         },
-        Step::Prop(token, value) => Call::ChangeFileProp {
-            token: Token(token),
-            name: PropName::parse(alloc, "p")?,
-            value: Some(text_of(alloc, value)?),
-        },
-        Step::Put(token, base, text) => Call::ApplyText {
-            token: Token(token),
-            base_md5: digest_of(base),
-            text: text_of(alloc, text)?,
-        },
-        Step::CloseFile(token, sum) => Call::CloseFile {
-            token: Token(token),
-            text_md5: digest_of(sum),
-        },
-        Step::CloseDir(token) => Call::CloseDirectory {
-            token: Token(token),
-        },
-        Step::Close => Call::CloseEdit,
-        _ => Call::AbortEdit,
+    }
+}
+
+fn prop_call(alloc: Global, token: u64, value: &str) -> Result<Call, Trouble> {
+    let value = text_of(alloc, value)?;
+    Ok(Call::ChangeFileProp {
+        token: Token(token),
+        name: PropName::parse(alloc, "p")?,
+        value: Some(value),
     })
 }
 
+fn text_call(alloc: Global, token: u64, base: Sum, text: &str) -> Result<Call, Trouble> {
+    Ok(Call::ApplyText {
+        token: Token(token),
+        base_md5: digest_of(base),
+        text: text_of(alloc, text)?,
+    })
+}
+
+fn call_of(alloc: Global, step: Step) -> Result<Call, Trouble> {
+    match step {
+        Step::Target(rev) => Ok(Call::SetTargetRevision { rev: Rev(rev) }),
+        Step::Root(base) => Ok(Call::OpenRoot {
+            base: Rev(base),
+            token: Token(0),
+        }),
+        Step::At(path, entry) => Ok(entry_call(RelPath::parse(alloc, path)?, entry)),
+        Step::Prop(token, value) => prop_call(alloc, token, value),
+        Step::Put(token, base, text) => text_call(alloc, token, base, text),
+        Step::CloseFile(token, sum) => Ok(Call::CloseFile {
+            token: Token(token),
+            text_md5: digest_of(sum),
+        }),
+        Step::CloseDir(token) => Ok(Call::CloseDirectory {
+            token: Token(token),
+        }),
+        Step::Close => Ok(Call::CloseEdit),
+        Step::Abort => Ok(Call::AbortEdit),
+    }
+}
+
 // Behind the target revision and the root.
-const ORDERS: [&[(Step, u32)]; 8] = [
+static ORDERS: [&[(Step, u32)]; 8] = [
     &[
-        (Step::AddDir("a", 0, 1), 0),
+        (Step::At("a", Entry::AddDir(0, 1)), 0),
         (Step::CloseDir(1), 0),
-        (Step::AddFile("a/f", 1, 2), 3),
+        (Step::At("a/f", Entry::AddFile(1, 2)), 3),
         (Step::CloseDir(0), 13),
         (Step::Abort, 0),
         (Step::Abort, 12),
     ],
-    &[(Step::AddDir("a", 0, 1), 0), (Step::AddDir("b", 0, 2), 6)],
+    &[
+        (Step::At("a", Entry::AddDir(0, 1)), 0),
+        (Step::At("b", Entry::AddDir(0, 2)), 6),
+    ],
     &[(Step::Close, 11)],
     &[
-        (Step::AddFile("f", 0, 1), 0),
+        (Step::At("f", Entry::AddFile(0, 1)), 0),
         (Step::Put(1, Sum::None, "a"), 0),
         (Step::CloseDir(0), 9),
     ],
     &[
-        (Step::AddFile("f", 0, 1), 0),
-        (Step::AddFile("g", 0, 2), 0),
+        (Step::At("f", Entry::AddFile(0, 1)), 0),
+        (Step::At("g", Entry::AddFile(0, 2)), 0),
         (Step::Prop(1, "1"), 8),
     ],
     &[
-        (Step::AddFile("f", 0, 1), 0),
-        (Step::AddFile("g", 0, 2), 0),
+        (Step::At("f", Entry::AddFile(0, 1)), 0),
+        (Step::At("g", Entry::AddFile(0, 2)), 0),
         (Step::CloseFile(1, Sum::None), 17),
     ],
     &[
-        (Step::AddFile("f", 0, 1), 0),
+        (Step::At("f", Entry::AddFile(0, 1)), 0),
         (Step::CloseDir(0), 0),
         (Step::Close, 11),
     ],
     &[
-        (Step::AddFile("f", 0, 1), 0),
-        (Step::AddFile("g", 0, 2), 0),
+        (Step::At("f", Entry::AddFile(0, 1)), 0),
+        (Step::At("g", Entry::AddFile(0, 2)), 0),
         (Step::CloseDir(0), 0),
         (Step::Put(2, Sum::None, "a"), 0),
         (Step::Put(1, Sum::None, "a"), 0),
@@ -166,34 +181,47 @@ const ORDERS: [&[(Step, u32)]; 8] = [
     ],
 ];
 
+fn number_of(answer: Result<(), OrderFault>) -> Result<u32, Trouble> {
+    match answer {
+        Ok(()) => Ok(0),
+        Err(OrderFault::Memory) => Err(Trouble::Memory),
+        Err(fault) => Ok(fault.number()),
+    }
+}
+
+fn checked(alloc: Global, check: &mut OrderCheck, step: Step) -> Result<u32, Trouble> {
+    let call = call_of(alloc, step)?;
+    number_of(check.step(&call))
+}
+
 fn check_step(
     alloc: Global,
     check: &mut OrderCheck,
     step: Step,
     wanted: u32,
 ) -> Result<(), Trouble> {
-    let call = call_of(alloc, step)?;
-    let answer = match check.step(&call) {
-        Ok(()) => 0,
-        Err(OrderFault::Memory) => return Err(Trouble::Memory),
-        Err(fault) => fault.number(),
-    };
-    if answer == wanted {
-        Ok(())
-    } else {
-        Err(Trouble::Other("the order check answers otherwise"))
+    let answer = checked(alloc, check, step)?;
+    holds(answer == wanted, "the order check answers otherwise")
+}
+
+fn check_all(alloc: Global, check: &mut OrderCheck, calls: &[(Step, u32)]) -> Result<(), Trouble> {
+    for (step, wanted) in calls {
+        check_step(alloc, check, *step, *wanted)?;
     }
+    Ok(())
+}
+
+fn check_order(alloc: Global, calls: &[(Step, u32)]) -> Result<(), Trouble> {
+    let mut check = OrderCheck::new(alloc);
+    let begun = [(Step::Target(1), 0), (Step::Root(0), 0)];
+    check_all(alloc, &mut check, &begun)?;
+    check_all(alloc, &mut check, calls)
 }
 
 /// Calls in and out of order. The edit is begun anew where memory is refused.
 pub(crate) fn orders(alloc: Global) -> Result<(), Trouble> {
-    for calls in ORDERS {
-        let mut check = OrderCheck::new(alloc);
-        check_step(alloc, &mut check, Step::Target(1), 0)?;
-        check_step(alloc, &mut check, Step::Root(0), 0)?;
-        for (step, wanted) in calls {
-            check_step(alloc, &mut check, *step, *wanted)?;
-        }
+    for calls in &ORDERS {
+        check_order(alloc, calls)?;
     }
     Ok(())
 }
@@ -212,7 +240,7 @@ const TARGET: Step = Step::Target(2);
 
 const ROOT: Step = Step::Root(1);
 
-const FILE: Step = Step::OpenFile("f", 0, 1, 1);
+const FILE: Step = Step::At("f", Entry::OpenFile(0, 1, 1));
 
 const TEXT: Step = Step::Put(1, Sum::OfA, "abc");
 
@@ -220,7 +248,7 @@ const FILE_END: Step = Step::CloseFile(1, Sum::OfAbc);
 
 const ROOT_END: Step = Step::CloseDir(0);
 
-const EDITS: [Edit; 13] = [
+static EDITS: [Edit; 13] = [
     Edit {
         calls: &[
             (TARGET, 0),
@@ -284,17 +312,25 @@ const EDITS: [Edit; 13] = [
         calls: &[
             (TARGET, 0),
             (ROOT, 0),
-            (Step::Delete("g", 1, 0), 41),
+            (Step::At("g", Entry::Delete(1, 0)), 41),
             (Step::Abort, 0),
         ],
         shown: OPENED,
     },
     Edit {
-        calls: &[(TARGET, 0), (ROOT, 0), (Step::OpenDir("f", 0, 1, 1), 42)],
+        calls: &[
+            (TARGET, 0),
+            (ROOT, 0),
+            (Step::At("f", Entry::OpenDir(0, 1, 1)), 42),
+        ],
         shown: OPENED,
     },
     Edit {
-        calls: &[(TARGET, 0), (ROOT, 0), (Step::OpenFile("f", 0, 2, 1), 43)],
+        calls: &[
+            (TARGET, 0),
+            (ROOT, 0),
+            (Step::At("f", Entry::OpenFile(0, 2, 1)), 43),
+        ],
         shown: OPENED,
     },
     Edit {
@@ -302,7 +338,11 @@ const EDITS: [Edit; 13] = [
         shown: UNTOUCHED,
     },
     Edit {
-        calls: &[(TARGET, 0), (ROOT, 0), (Step::AddFile("f", 0, 1), 47)],
+        calls: &[
+            (TARGET, 0),
+            (ROOT, 0),
+            (Step::At("f", Entry::AddFile(0, 1)), 47),
+        ],
         shown: OPENED,
     },
     // a property is given twice, and the later one stays
@@ -310,7 +350,7 @@ const EDITS: [Edit; 13] = [
         calls: &[
             (TARGET, 0),
             (ROOT, 0),
-            (Step::AddFile("g", 0, 1), 0),
+            (Step::At("g", Entry::AddFile(0, 1)), 0),
             (Step::Prop(1, "1"), 0),
             (Step::Prop(1, "2"), 0),
             (Step::CloseFile(1, Sum::None), 0),
@@ -330,31 +370,38 @@ fn refused(applier: &mut Applier<'_>) -> Trouble {
     Trouble::Memory
 }
 
+fn applied(alloc: Global, applier: &mut Applier<'_>, step: Step) -> Result<u32, Trouble> {
+    match applier.call(call_of(alloc, step)?) {
+        Ok(()) => Ok(0),
+        Err(EditFault::Memory) => Err(refused(applier)),
+        Err(fault) => Ok(fault.number()),
+    }
+}
+
 fn apply_step(
     alloc: Global,
     applier: &mut Applier<'_>,
     step: Step,
     wanted: u32,
 ) -> Result<(), Trouble> {
-    let call = call_of(alloc, step)?;
-    let answer = match applier.call(call) {
-        Ok(()) => 0,
-        Err(EditFault::Memory) => return Err(refused(applier)),
-        Err(fault) => fault.number(),
-    };
-    if answer == wanted {
-        Ok(())
-    } else {
-        Err(Trouble::Other("an applier answers otherwise"))
+    let answer = applied(alloc, applier, step)?;
+    holds(answer == wanted, "an applier answers otherwise")
+}
+
+fn apply_all(
+    alloc: Global,
+    applier: &mut Applier<'_>,
+    calls: &[(Step, u32)],
+) -> Result<(), Trouble> {
+    for (step, wanted) in calls {
+        apply_step(alloc, applier, *step, *wanted)?;
     }
+    Ok(())
 }
 
 fn apply(alloc: Global, copy: &mut WorkingCopy, calls: &[(Step, u32)]) -> Result<(), Trouble> {
     let mut applier = Applier::new(alloc, copy)?;
-    for (step, wanted) in calls {
-        apply_step(alloc, &mut applier, *step, *wanted)?;
-    }
-    Ok(())
+    apply_all(alloc, &mut applier, calls)
 }
 
 fn put(alloc: Global, text: &str) -> Result<Change, Trouble> {
@@ -364,27 +411,48 @@ fn put(alloc: Global, text: &str) -> Result<Change, Trouble> {
     })
 }
 
+fn commit_text(alloc: Global, repo: &mut Repo, text: &str) -> Result<(), Trouble> {
+    let change = put(alloc, text)?;
+    repo.commit(&[change])?;
+    Ok(())
+}
+
 /// A repository whose file `f` has the text `a`, and then `abc`.
 pub(crate) fn changed_file(alloc: Global) -> Result<Repo, Trouble> {
     let mut repo = Repo::new(alloc)?;
-    repo.commit(&[put(alloc, "a")?])?;
-    repo.commit(&[put(alloc, "abc")?])?;
+    commit_text(alloc, &mut repo, "a")?;
+    commit_text(alloc, &mut repo, "abc")?;
     Ok(repo)
+}
+
+// A call that is refused for memory leaves a true copy.
+fn apply_or_leave(
+    alloc: Global,
+    repo: &Repo,
+    copy: &mut WorkingCopy,
+    calls: &[(Step, u32)],
+) -> Result<(), Trouble> {
+    let ended = apply(alloc, copy, calls);
+    if ended == Err(Trouble::Memory) {
+        holds(
+            copy.check_true(repo).is_ok(),
+            "a refused call leaves an untrue copy",
+        )?;
+    }
+    ended
+}
+
+fn apply_edit(alloc: Global, repo: &Repo, edit: &Edit) -> Result<(), Trouble> {
+    let mut copy = WorkingCopy::checkout(alloc, repo, Rev(1))?;
+    apply_or_leave(alloc, repo, &mut copy, edit.calls)?;
+    has(alloc, &copy, edit.shown, "an edit leaves something else")
 }
 
 /// Edits that an applier takes or refuses. The edit is begun anew, on a copy as it was, where memory is refused.
 pub(crate) fn edits(alloc: Global) -> Result<(), Trouble> {
     let repo = changed_file(alloc)?;
     for edit in &EDITS {
-        let mut copy = WorkingCopy::checkout(alloc, &repo, Rev(1))?;
-        let ended = apply(alloc, &mut copy, edit.calls);
-        if ended == Err(Trouble::Memory) && copy.check_true(&repo).is_err() {
-            return Err(Trouble::Other("a refused call leaves an untrue copy"));
-        }
-        ended?;
-        if shown(alloc, &copy)?.as_str() != edit.shown {
-            return Err(Trouble::Other("an edit leaves something else"));
-        }
+        apply_edit(alloc, &repo, edit)?;
     }
     Ok(())
 }

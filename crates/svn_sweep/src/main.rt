@@ -7,6 +7,7 @@
 #![tactic(auto)]
 
 mod calls;
+mod copies;
 mod edits;
 mod links;
 mod names;
@@ -19,7 +20,7 @@ mod scripts;
 mod streams;
 mod trouble;
 
-use crate::rows::{ROWS, Row};
+use crate::rows::{Row, rows};
 use crate::runs::Form;
 use crate::trouble::Trouble;
 use std::alloc::Global;
@@ -48,11 +49,6 @@ const PARTS: [&str; 9] = [
     "names", "words", "pools", "orders", "edits", "reporter", "reports", "nodes", "links",
 ];
 
-const IN_TURN: Settings = Settings {
-    capacity: 64,
-    in_turn: true,
-};
-
 const ONE_CALL: Settings = Settings {
     capacity: 1,
     in_turn: false,
@@ -70,7 +66,7 @@ fn run_row<R: Threads + Wait + Sync>(
     way: &str,
 ) -> Result<(), Trouble> {
     match way {
-        "script" => scripts::run_row(rt, alloc, row, &IN_TURN),
+        "script" => scripts::run_row(rt, alloc, row, &scripts::IN_TURN),
         "script-of-one-call" => scripts::run_row(rt, alloc, row, &ONE_CALL),
         "script-of-many-calls" => scripts::run_row(rt, alloc, row, &MANY_CALLS),
         "calls" => calls::call_row(rt, alloc, row, Form::InTurn),
@@ -103,7 +99,7 @@ fn run_named<R: Threads + Wait + Sync>(
     name: &str,
     way: &str,
 ) -> Result<(), Trouble> {
-    for row in &ROWS {
+    for row in rows() {
         if row.name == name {
             return run_row(rt, alloc, row, way);
         }
@@ -135,17 +131,9 @@ fn tell<R: Threads + Wait + Sync + Print>(
             println!(rt; "{name} {way} stands")?;
             Ok(0)
         }
-        Err(Trouble::Other(other)) => {
-            println!(rt; "{name} {way} DOESN'T STAND: {other}")?;
-            Ok(1)
-        }
-        Err(Trouble::Refused(refusal)) => {
-            println!(rt; "{name} {way} DOESN'T STAND: {refusal}")?;
-            Ok(1)
-        }
-        Err(Trouble::Memory) => {
-            println!(rt; "{name} {way} wants memory again")?;
-            Ok(3)
+        Err(trouble) => {
+            println!(rt; "{name} {way} {trouble}")?;
+            Ok(trouble.status())
         }
     }
 }
@@ -165,18 +153,48 @@ fn one<R: Threads + Wait + Sync + Print>(
     tell(rt, alloc, name, way)
 }
 
-// Runs all rows in all ways, or lists them. The answer is the greatest status.
-fn all<R: Threads + Wait + Sync + Print>(rt: &R, alloc: Global, lists: bool) -> io::Result<u8> {
+// A row in all ways.
+fn all_ways<R: Threads + Wait + Sync + Print>(
+    rt: &R,
+    alloc: Global,
+    lists: bool,
+    name: &str,
+) -> io::Result<u8> {
     let mut status = 0u8;
-    for row in &ROWS {
-        for way in WAYS {
-            status = status.max(one(rt, alloc, lists, row.name, way)?);
-        }
+    for way in WAYS {
+        status = status.max(one(rt, alloc, lists, name, way)?);
     }
+    Ok(status)
+}
+
+fn all_rows<R: Threads + Wait + Sync + Print>(
+    rt: &R,
+    alloc: Global,
+    lists: bool,
+) -> io::Result<u8> {
+    let mut status = 0u8;
+    for row in rows() {
+        status = status.max(all_ways(rt, alloc, lists, row.name)?);
+    }
+    Ok(status)
+}
+
+fn all_parts<R: Threads + Wait + Sync + Print>(
+    rt: &R,
+    alloc: Global,
+    lists: bool,
+) -> io::Result<u8> {
+    let mut status = 0u8;
     for part in PARTS {
         status = status.max(one(rt, alloc, lists, part, "alone")?);
     }
     Ok(status)
+}
+
+// Runs all rows in all ways, or lists them. The answer is the greatest status.
+fn all<R: Threads + Wait + Sync + Print>(rt: &R, alloc: Global, lists: bool) -> io::Result<u8> {
+    let status = all_rows(rt, alloc, lists)?;
+    Ok(status.max(all_parts(rt, alloc, lists)?))
 }
 
 // The words behind the program's name.

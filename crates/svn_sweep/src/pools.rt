@@ -1,10 +1,10 @@
 //! Pools.
-use crate::trouble::Trouble;
+use crate::trouble::{Trouble, holds};
 use std::alloc::Global;
 use svn_pool::{PoolFault, PoolId, PoolTree};
 
 // A call, and what it answers: a serial, a place or nothing.
-#[derive(Clone, Copy, Debug)]
+#[derive(Clone, Copy)]
 enum Step {
     Create(u64),
     // a pool, and the length of a string
@@ -17,7 +17,7 @@ type Answer = Result<u64, PoolFault>;
 // Behind each call live pools, blocks in use and spare blocks.
 type Row = (Step, Answer, (u64, u64, u64));
 
-const BRANCH: [Row; 11] = [
+static BRANCH: [Row; 11] = [
     (Step::Create(0), Ok(1), (2, 0, 0)),
     (Step::Create(1), Ok(2), (3, 0, 0)),
     (Step::Create(2), Ok(3), (4, 0, 0)),
@@ -31,7 +31,7 @@ const BRANCH: [Row; 11] = [
     (Step::Clear(0), Ok(0), (1, 0, 3)),
 ];
 
-const LENGTHS: [Row; 7] = [
+static LENGTHS: [Row; 7] = [
     (Step::Push(0, 1), Ok(0), (1, 1, 0)),
     (Step::Push(0, 8188), Ok(1), (1, 2, 0)),
     (Step::Push(0, 8189), Ok(2), (1, 3, 0)),
@@ -70,25 +70,40 @@ fn counts(tree: &PoolTree<Global>) -> (u64, u64, u64) {
 }
 
 // A refused call changes nothing, so that it can be made again.
+fn answer_or_leave(
+    tree: &mut PoolTree<Global>,
+    step: Step,
+    string: &[u8],
+) -> Result<Answer, Trouble> {
+    let before = counts(tree);
+    let answer = answer_of(tree, step, string);
+    if answer == Err(PoolFault::Memory) {
+        holds(
+            counts(tree) == before,
+            "a refused call changes a tree of pools",
+        )?;
+    }
+    Ok(answer)
+}
+
+fn answer_anew(tree: &mut PoolTree<Global>, step: Step, string: &[u8]) -> Result<Answer, Trouble> {
+    match answer_or_leave(tree, step, string)? {
+        Err(PoolFault::Memory) => match answer_of(tree, step, string) {
+            Err(PoolFault::Memory) => Err(Trouble::Memory),
+            answer => Ok(answer),
+        },
+        answer => Ok(answer),
+    }
+}
+
 fn take(alloc: Global, tree: &mut PoolTree<Global>, row: &Row) -> Result<(), Trouble> {
     let (step, wanted, behind) = *row;
     let string = string_of(alloc, step)?;
-    let before = counts(tree);
-    let mut answer = answer_of(tree, step, &string);
-    if answer == Err(PoolFault::Memory) {
-        if counts(tree) != before {
-            return Err(Trouble::Other("a refused call changes a tree of pools"));
-        }
-        answer = answer_of(tree, step, &string);
-    }
-    if answer == Err(PoolFault::Memory) {
-        return Err(Trouble::Memory);
-    }
-    if answer == wanted && counts(tree) == behind {
-        Ok(())
-    } else {
-        Err(Trouble::Other("a tree of pools answers otherwise"))
-    }
+    let answer = answer_anew(tree, step, &string)?;
+    holds(
+        answer == wanted && counts(tree) == behind,
+        "a tree of pools answers otherwise",
+    )
 }
 
 fn take_all(alloc: Global, rows: &[Row]) -> Result<(), Trouble> {

@@ -1,22 +1,22 @@
 //! What the library's values are in lines, as a script prints them.
-use crate::trouble::Trouble;
-use std::alloc::Global;
+use crate::trouble::{Trouble, same};
+use std::alloc::{AllocError, Global};
 use svn_editor::{Call, PathWord, Word};
 use svn_model::BaseNode;
 use svn_types::{Props, RelPath};
 use svn_wc::WorkingCopy;
 
-fn node_line(alloc: Global, path: &RelPath, node: &BaseNode) -> Result<String, Trouble> {
-    let path = PathWord(path);
-    Ok(match node {
+fn write_line(lines: &mut String, at: &RelPath, node: &BaseNode) -> Result<(), AllocError> {
+    let path = PathWord(at);
+    match node {
         BaseNode::File {
             rev,
             repos_path,
             text,
             ..
         } => {
-            let text = Word(text.as_slice());
-            format!(in alloc; "{path} file {rev} {} {text}\n", PathWord(repos_path))?
+            let (from, text) = (PathWord(repos_path), Word(text.as_slice()));
+            writeln!(lines, "{path} file {rev} {from} {text}")
         }
         BaseNode::Dir {
             rev,
@@ -25,10 +25,10 @@ fn node_line(alloc: Global, path: &RelPath, node: &BaseNode) -> Result<String, T
             ..
         } => {
             let end = if *complete { "" } else { " incomplete" };
-            format!(in alloc; "{path} dir {rev} {}{end}\n", PathWord(repos_path))?
+            writeln!(lines, "{path} dir {rev} {}{end}", PathWord(repos_path))
         }
-        BaseNode::NotPresent => format!(in alloc; "{path} not-present\n")?,
-    })
+        BaseNode::NotPresent => writeln!(lines, "{path} not-present"),
+    }
 }
 
 fn props_of(node: &BaseNode) -> Option<&Props> {
@@ -38,28 +38,47 @@ fn props_of(node: &BaseNode) -> Option<&Props> {
     }
 }
 
+fn write_props(lines: &mut String, at: &RelPath, props: &Props) -> Result<(), AllocError> {
+    for (name, value) in props.as_map() {
+        let (path, value) = (PathWord(at), Word(value.as_slice()));
+        writeln!(lines, "{path} prop {name} {value}")?;
+    }
+    Ok(())
+}
+
+fn write_node(lines: &mut String, at: &RelPath, node: &BaseNode) -> Result<(), AllocError> {
+    write_line(lines, at, node)?;
+    match props_of(node) {
+        Some(props) => write_props(lines, at, props),
+        None => Ok(()),
+    }
+}
+
 /// A line for each node of a copy and for each of its properties.
-pub(crate) fn shown(alloc: Global, copy: &WorkingCopy) -> Result<String, Trouble> {
+pub(crate) fn shown(alloc: Global, copy: &WorkingCopy) -> Result<String, AllocError> {
     let mut lines = String::new(alloc);
     for (path, node) in copy.nodes() {
-        lines.push_str(&node_line(alloc, path, node)?)?;
-        let Some(props) = props_of(node) else {
-            continue;
-        };
-        for (name, value) in props.as_map() {
-            let path = PathWord(path);
-            let value = Word(value.as_slice());
-            lines.push_str(&format!(in alloc; "{path} prop {name} {value}\n")?)?;
-        }
+        write_node(&mut lines, path, node)?;
     }
     Ok(lines)
 }
 
+/// A copy has what these lines say, or what is otherwise.
+pub(crate) fn has(
+    alloc: Global,
+    copy: &WorkingCopy,
+    lines: &str,
+    other: &'static str,
+) -> Result<(), Trouble> {
+    let found = shown(alloc, copy)?;
+    same(&found, lines, other)
+}
+
 /// A line for each call.
-pub(crate) fn call_lines(alloc: Global, calls: &[Call]) -> Result<String, Trouble> {
+pub(crate) fn call_lines(alloc: Global, calls: &[Call]) -> Result<String, AllocError> {
     let mut lines = String::new(alloc);
     for call in calls {
-        lines.push_str(format!(in alloc; "{call}\n")?.as_str())?;
+        writeln!(lines, "{call}")?;
     }
     Ok(lines)
 }

@@ -1,9 +1,10 @@
 //! Reports that are made and checked, and copies that are made of nodes.
 use crate::edits::changed_file;
-use crate::trouble::Trouble;
+use crate::trouble::{Trouble, holds};
 use std::alloc::Global;
 use svn_drive::{ReportFault, check_report};
 use svn_model::{BaseNode, WcFault};
+use svn_repo::Repo;
 use svn_report::{Report, Reporter, ReporterFault};
 use svn_types::{Props, RelPath, Rev, Text};
 use svn_wc::WorkingCopy;
@@ -36,27 +37,30 @@ fn tell(
 }
 
 // A refused call leaves the reporter as it was, so that the call can be made again.
+fn tell_anew(
+    alloc: Global,
+    reporter: &mut Reporter,
+    entry: Entry,
+) -> Result<Result<(), ReporterFault>, Trouble> {
+    match tell(alloc, reporter, entry)? {
+        Err(ReporterFault::Memory) => tell(alloc, reporter, entry),
+        answer => Ok(answer),
+    }
+}
+
 fn told(
     alloc: Global,
     reporter: &mut Reporter,
     entry: Entry,
     wanted: Option<ReporterFault>,
 ) -> Result<(), Trouble> {
-    let mut answer = tell(alloc, reporter, entry)?;
-    if answer == Err(ReporterFault::Memory) {
-        answer = tell(alloc, reporter, entry)?;
-    }
-    if answer == Err(ReporterFault::Memory) {
-        return Err(Trouble::Memory);
-    }
-    if answer.err() == wanted {
-        Ok(())
-    } else {
-        Err(Trouble::Other("a reporter answers otherwise"))
+    match tell_anew(alloc, reporter, entry)? {
+        Err(ReporterFault::Memory) => Err(Trouble::Memory),
+        answer => holds(answer.err() == wanted, "a reporter answers otherwise"),
     }
 }
 
-const CALLS: [(Entry, Option<ReporterFault>); 10] = [
+static CALLS: [(Entry, Option<ReporterFault>); 10] = [
     (Entry::Set("a", 1), Some(ReporterFault::NotRootFirst)),
     (Entry::Delete(""), Some(ReporterFault::NotRootFirst)),
     (Entry::Set("", 1), None),
@@ -76,25 +80,43 @@ fn deep(alloc: Global, count: usize) -> Result<RelPath, Trouble> {
     Ok(RelPath::parse(alloc, text.as_str())?)
 }
 
+fn tell_all(alloc: Global, reporter: &mut Reporter) -> Result<(), Trouble> {
+    for (entry, wanted) in &CALLS {
+        told(alloc, reporter, *entry, *wanted)?;
+    }
+    Ok(())
+}
+
+fn link_deep(
+    alloc: Global,
+    reporter: &mut Reporter,
+    count: usize,
+) -> Result<Result<(), ReporterFault>, Trouble> {
+    let path = deep(alloc, count)?;
+    let to = RelPath::parse(alloc, "a")?;
+    Ok(reporter.link_path(&path, to, Rev(1), false))
+}
+
+// A path of a link has at most 64 names beneath its first.
+fn link_deepest(alloc: Global, reporter: &mut Reporter) -> Result<(), Trouble> {
+    let answer = link_deep(alloc, reporter, 65)?;
+    holds(
+        answer == Err(ReporterFault::TooDeep),
+        "a deep link is taken",
+    )?;
+    Ok(link_deep(alloc, reporter, 64)??)
+}
+
+fn entry_count(reporter: Reporter) -> usize {
+    reporter.finish_report().len()
+}
+
 /// A reporter's calls.
 pub(crate) fn reporter(alloc: Global) -> Result<(), Trouble> {
     let mut reporter = Reporter::new(alloc);
-    for (entry, wanted) in CALLS {
-        told(alloc, &mut reporter, entry, wanted)?;
-    }
-    let path = deep(alloc, 65)?;
-    let to = RelPath::parse(alloc, "a")?;
-    if reporter.link_path(&path, to, Rev(1), false) != Err(ReporterFault::TooDeep) {
-        return Err(Trouble::Other("a deep link is taken"));
-    }
-    let path = deep(alloc, 64)?;
-    let to = RelPath::parse(alloc, "a")?;
-    reporter.link_path(&path, to, Rev(1), false)?;
-    if reporter.finish_report().len() == 6 {
-        Ok(())
-    } else {
-        Err(Trouble::Other("a report has other entries"))
-    }
+    tell_all(alloc, &mut reporter)?;
+    link_deepest(alloc, &mut reporter)?;
+    holds(entry_count(reporter) == 6, "a report has other entries")
 }
 
 fn report_of(alloc: Global, entries: &[Entry]) -> Result<Report, Trouble> {
@@ -106,7 +128,7 @@ fn report_of(alloc: Global, entries: &[Entry]) -> Result<Report, Trouble> {
 }
 
 // Reports against the repository of a changed file.
-const REPORTS: [(&[Entry], Result<(), ReportFault>); 7] = [
+static REPORTS: [(&[Entry], Result<(), ReportFault>); 7] = [
     (&[], Err(ReportFault::NoEntries)),
     (&[Entry::Set("", 1), Entry::Set("f", 2)], Ok(())),
     (&[Entry::Set("", 3)], Err(ReportFault::NoSuchRevision(0))),
@@ -133,21 +155,38 @@ const REPORTS: [(&[Entry], Result<(), ReportFault>); 7] = [
     (&[Entry::Set("", 1), Entry::Delete("g")], Ok(())),
 ];
 
+fn check_anew(alloc: Global, repo: &Repo, report: &Report) -> Result<(), ReportFault> {
+    match check_report(alloc, repo, report) {
+        Err(ReportFault::Memory) => check_report(alloc, repo, report),
+        answer => answer,
+    }
+}
+
+fn is_answered(
+    answer: Result<(), ReportFault>,
+    wanted: Result<(), ReportFault>,
+) -> Result<(), Trouble> {
+    if answer == Err(ReportFault::Memory) {
+        return Err(Trouble::Memory);
+    }
+    holds(answer == wanted, "a report is checked otherwise")
+}
+
+fn is_checked(
+    alloc: Global,
+    repo: &Repo,
+    entries: &[Entry],
+    wanted: Result<(), ReportFault>,
+) -> Result<(), Trouble> {
+    let report = report_of(alloc, entries)?;
+    is_answered(check_anew(alloc, repo, &report), wanted)
+}
+
 /// Reports that a repository can serve, and reports that it can't.
 pub(crate) fn reports(alloc: Global) -> Result<(), Trouble> {
     let repo = changed_file(alloc)?;
-    for (entries, wanted) in REPORTS {
-        let report = report_of(alloc, entries)?;
-        let mut answer = check_report(alloc, &repo, &report);
-        if answer == Err(ReportFault::Memory) {
-            answer = check_report(alloc, &repo, &report);
-        }
-        if answer == Err(ReportFault::Memory) {
-            return Err(Trouble::Memory);
-        }
-        if answer != wanted {
-            return Err(Trouble::Other("a report is checked otherwise"));
-        }
+    for (entries, wanted) in &REPORTS {
+        is_checked(alloc, &repo, entries, *wanted)?;
     }
     Ok(())
 }
@@ -155,12 +194,11 @@ pub(crate) fn reports(alloc: Global) -> Result<(), Trouble> {
 // A directory, or a file with a text, at a revision.
 type Node = (&'static str, u64, Option<&'static str>);
 
-fn node_of(alloc: Global, node: &Node) -> Result<(RelPath, BaseNode), Trouble> {
+fn base_of(alloc: Global, node: &Node) -> Result<BaseNode, Trouble> {
     let (path, rev, text) = *node;
     let repos_path = RelPath::parse(alloc, path)?;
-    let rev = Rev(rev);
-    let props = Props::new(alloc);
-    let node = match text {
+    let (rev, props) = (Rev(rev), Props::new(alloc));
+    Ok(match text {
         Some(text) => BaseNode::File {
             rev,
             repos_path,
@@ -173,8 +211,12 @@ fn node_of(alloc: Global, node: &Node) -> Result<(RelPath, BaseNode), Trouble> {
             complete: true,
             props,
         },
-    };
-    Ok((RelPath::parse(alloc, path)?, node))
+    })
+}
+
+fn node_of(alloc: Global, node: &Node) -> Result<(RelPath, BaseNode), Trouble> {
+    let base = base_of(alloc, node)?;
+    Ok((RelPath::parse(alloc, node.0)?, base))
 }
 
 fn copy_of(alloc: Global, nodes: &[Node]) -> Result<Result<WorkingCopy, WcFault>, Trouble> {
@@ -186,7 +228,7 @@ fn copy_of(alloc: Global, nodes: &[Node]) -> Result<Result<WorkingCopy, WcFault>
 }
 
 // Lists of nodes of which no copy is made.
-const LISTS: [(&[Node], WcFault); 4] = [
+static LISTS: [(&[Node], WcFault); 4] = [
     (&[], WcFault::BadRoot),
     (&[("", 1, None), ("", 1, None)], WcFault::Twice),
     (&[("", 1, Some("a"))], WcFault::BadRoot),
@@ -194,7 +236,7 @@ const LISTS: [(&[Node], WcFault); 4] = [
 ];
 
 // Lists of nodes of a changed file's repository, and the path that isn't true.
-const COPIES: [(&[Node], Option<&str>); 5] = [
+static COPIES: [(&[Node], Option<&str>); 5] = [
     (&[("", 1, None), ("f", 1, Some("a"))], None),
     (&[("", 1, None), ("f", 1, Some("abc"))], Some("f")),
     (&[("", 1, None), ("f", 3, Some("a"))], Some("f")),
@@ -202,25 +244,56 @@ const COPIES: [(&[Node], Option<&str>); 5] = [
     (&[("", 1, None)], Some("")),
 ];
 
-/// Copies that are made of nodes, and what of them isn't true.
-pub(crate) fn nodes(alloc: Global) -> Result<(), Trouble> {
-    let repo = changed_file(alloc)?;
-    for (list, wanted) in LISTS {
-        match copy_of(alloc, list)? {
-            Err(WcFault::Memory) => return Err(Trouble::Memory),
-            Err(fault) if fault == wanted => {}
-            _ => return Err(Trouble::Other("a list of nodes is answered otherwise")),
-        }
+fn list_fault(alloc: Global, list: &[Node]) -> Result<Option<WcFault>, Trouble> {
+    Ok(copy_of(alloc, list)?.err())
+}
+
+fn is_refused(alloc: Global, list: &[Node], wanted: WcFault) -> Result<(), Trouble> {
+    match list_fault(alloc, list)? {
+        Some(WcFault::Memory) => Err(Trouble::Memory),
+        fault => holds(
+            fault == Some(wanted),
+            "a list of nodes is answered otherwise",
+        ),
     }
-    for (list, wanted) in COPIES {
-        let copy = copy_of(alloc, list)??;
-        let untrue = match wanted {
-            Some(path) => Some(RelPath::parse(alloc, path)?),
-            None => None,
-        };
-        if copy.check_true(&repo).err() != untrue.as_ref() {
-            return Err(Trouble::Other("another path isn't true"));
-        }
+}
+
+fn lists(alloc: Global) -> Result<(), Trouble> {
+    for (list, wanted) in &LISTS {
+        is_refused(alloc, list, *wanted)?;
     }
     Ok(())
+}
+
+fn has_untrue(alloc: Global, repo: &Repo, copy: &WorkingCopy, path: &str) -> Result<bool, Trouble> {
+    let path = RelPath::parse(alloc, path)?;
+    Ok(copy.check_true(repo).err() == Some(&path))
+}
+
+fn is_untrue_at(
+    alloc: Global,
+    repo: &Repo,
+    list: &[Node],
+    wanted: Option<&str>,
+) -> Result<(), Trouble> {
+    let copy = copy_of(alloc, list)??;
+    let is_so = match wanted {
+        Some(path) => has_untrue(alloc, repo, &copy, path)?,
+        None => copy.check_true(repo).is_ok(),
+    };
+    holds(is_so, "another path isn't true")
+}
+
+fn copies(alloc: Global) -> Result<(), Trouble> {
+    let repo = changed_file(alloc)?;
+    for (list, wanted) in &COPIES {
+        is_untrue_at(alloc, &repo, list, *wanted)?;
+    }
+    Ok(())
+}
+
+/// Copies that are made of nodes, and what of them isn't true.
+pub(crate) fn nodes(alloc: Global) -> Result<(), Trouble> {
+    lists(alloc)?;
+    copies(alloc)
 }

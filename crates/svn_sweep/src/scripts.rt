@@ -11,6 +11,12 @@ use svn_update::run_script;
 // More than any row prints, so that a writer needs no growth.
 const ROOM: usize = 65_536;
 
+/// Runs in turn, on one thread.
+pub(crate) const IN_TURN: Settings = Settings {
+    capacity: 64,
+    in_turn: true,
+};
+
 /// The lines of a row.
 pub(crate) fn script_of(alloc: Global, row: &Row) -> Result<String, Trouble> {
     let mut script = String::new(alloc);
@@ -40,22 +46,44 @@ fn first_other(output: &str, ended: Result<(), ScriptFault>) -> Trouble {
     }
 }
 
+// What is behind all that a row prints, or else from the first line on that differs.
+fn behind<'a>(row: &Row, output: &'a str) -> Result<&'a str, &'a str> {
+    let mut rest = output;
+    for (_, printed) in row.lines {
+        match rest.strip_prefix(*printed) {
+            Some(after) => rest = after,
+            None => return Err(rest),
+        }
+    }
+    Ok(rest)
+}
+
 // Whether a script ended as the row does. Behind a line that names a want of memory the others may differ.
 fn judge(row: &Row, ended: Result<(), ScriptFault>, output: &str) -> Result<(), Trouble> {
     if ended != Ok(()) && ended != Err(ScriptFault::Memory) {
         return Err(Trouble::Other("a script ends by another fault"));
     }
-    let mut rest = output;
-    for (_, printed) in row.lines {
-        match rest.strip_prefix(*printed) {
-            Some(after) => rest = after,
-            None => return Err(first_other(rest, ended)),
-        }
+    match behind(row, output) {
+        Ok(rest) if rest.is_empty() && ended.is_ok() => Ok(()),
+        Ok(rest) | Err(rest) => Err(first_other(rest, ended)),
     }
-    if rest.is_empty() && ended.is_ok() {
-        return Ok(());
-    }
-    Err(first_other(rest, ended))
+}
+
+/// Runs a script, which writes behind what is there.
+pub(crate) fn run_text<R: Threads + Wait + Sync>(
+    rt: &R,
+    alloc: Global,
+    script: &str,
+    output: &mut Vec<u8>,
+    settings: &Settings,
+) -> Result<(), ScriptFault> {
+    let mut reader = script.as_bytes();
+    run_script(rt, alloc, &mut reader, output, settings)
+}
+
+/// What was written, as a text.
+pub(crate) fn printed_by(output: &[u8]) -> &str {
+    str::from_utf8(output).unwrap_or("bytes that are no text")
 }
 
 /// Runs a row as a script.
@@ -67,8 +95,6 @@ pub(crate) fn run_row<R: Threads + Wait + Sync>(
 ) -> Result<(), Trouble> {
     let script = script_of(alloc, row)?;
     let mut output = Vec::with_capacity(alloc, ROOM)?;
-    let mut reader = script.as_str().as_bytes();
-    let ended = run_script(rt, alloc, &mut reader, &mut output, settings);
-    let printed = str::from_utf8(&output).unwrap_or("bytes that are no text");
-    judge(row, ended, printed)
+    let ended = run_text(rt, alloc, &script, &mut output, settings);
+    judge(row, ended, printed_by(&output))
 }

@@ -1,19 +1,13 @@
 //! Readers and writers that fail at one of their calls, or give and take little at a time, and scripts that are cut off at each byte.
 use crate::rows::Row;
-use crate::scripts::script_of;
-use crate::trouble::Trouble;
-use std::alloc::Global;
-use std::io::{Read, Write};
+use crate::scripts::{IN_TURN, printed_by, run_text, script_of};
+use crate::trouble::{Trouble, holds};
+use std::alloc::{AllocError, Global};
+use std::io::{self, Read, Write};
 use std::sync::Wait;
 use std::thread::Threads;
-use std::{io, str};
-use svn_script::{LineFault, ScriptFault, Settings, read_command};
+use svn_script::{LineFault, ScriptFault, read_command};
 use svn_update::run_script;
-
-const IN_TURN: Settings = Settings {
-    capacity: 64,
-    in_turn: true,
-};
 
 fn broken() -> io::Error {
     io::Error::from(io::ErrorKind::BrokenPipe)
@@ -87,6 +81,38 @@ fn output_of(alloc: Global, row: &Row) -> Result<String, Trouble> {
     Ok(output)
 }
 
+// A reader that fails at none of its calls gives the whole row, and one that fails at any nothing of it.
+fn is_read(
+    fails_at: usize,
+    ended: Result<(), ScriptFault>,
+    output: &[u8],
+    wanted: &str,
+) -> Result<(), Trouble> {
+    let is_well = if fails_at == 0 {
+        ended.is_ok() && output == wanted.as_bytes()
+    } else {
+        ended == Err(ScriptFault::Read) && output.is_empty()
+    };
+    holds(is_well, "a reader that fails is answered otherwise")
+}
+
+fn read_until<R: Threads + Wait + Sync>(
+    rt: &R,
+    alloc: Global,
+    script: &str,
+    wanted: &str,
+    fails_at: usize,
+) -> Result<(), Trouble> {
+    let mut reader = ShortReader {
+        rest: script.as_bytes(),
+        calls: 0,
+        fails_at,
+    };
+    let mut output = Vec::new(alloc);
+    let ended = run_script(rt, alloc, &mut reader, &mut output, &IN_TURN);
+    is_read(fails_at, ended, &output, wanted)
+}
+
 /// A reader that fails at its first call, at its second, and so on: nothing is done of the script. One that fails at none gives the row.
 pub(crate) fn readers<R: Threads + Wait + Sync>(
     rt: &R,
@@ -95,23 +121,8 @@ pub(crate) fn readers<R: Threads + Wait + Sync>(
 ) -> Result<(), Trouble> {
     let script = script_of(alloc, row)?;
     let wanted = output_of(alloc, row)?;
-    let last = script.len().saturating_add(1);
-    for fails_at in 0..=last {
-        let mut reader = ShortReader {
-            rest: script.as_str().as_bytes(),
-            calls: 0,
-            fails_at,
-        };
-        let mut output = Vec::new(alloc);
-        let ended = run_script(rt, alloc, &mut reader, &mut output, &IN_TURN);
-        let is_well = if fails_at == 0 {
-            ended.is_ok() && output.as_slice() == wanted.as_str().as_bytes()
-        } else {
-            ended == Err(ScriptFault::Read) && output.is_empty()
-        };
-        if !is_well {
-            return Err(Trouble::Other("a reader that fails is answered otherwise"));
-        }
+    for fails_at in 0..=script.len().saturating_add(1) {
+        read_until(rt, alloc, &script, &wanted, fails_at)?;
     }
     Ok(())
 }
@@ -119,29 +130,40 @@ pub(crate) fn readers<R: Threads + Wait + Sync>(
 // More calls than a row's output has bytes.
 const LAST_CALL: usize = 10_000;
 
-// Runs a script whose writer fails at this call, and says whether the script ended before it.
-fn ends_before<R: Threads + Wait + Sync>(
+// Whether a script ended before the call at which its writer was to fail.
+fn is_written(
+    writer: &ShortWriter,
+    ended: Result<(), ScriptFault>,
+    wanted: &str,
+) -> Result<bool, Trouble> {
+    let output = writer.output.as_slice();
+    let ends_before = writer.calls < writer.fails_at;
+    if ends_before {
+        let is_whole = ended.is_ok() && output == wanted.as_bytes();
+        holds(is_whole, "a short writer is given something else")?;
+    } else {
+        let is_begun = ended == Err(ScriptFault::Write) && wanted.as_bytes().starts_with(output);
+        holds(is_begun, "a writer that fails is answered otherwise")?;
+    }
+    Ok(ends_before)
+}
+
+fn write_until<R: Threads + Wait + Sync>(
     rt: &R,
     alloc: Global,
     script: &str,
     wanted: &str,
-    mut writer: ShortWriter,
+    fails_at: usize,
 ) -> Result<bool, Trouble> {
+    let mut writer = ShortWriter {
+        output: Vec::new(alloc),
+        most: 7,
+        calls: 0,
+        fails_at,
+    };
     let mut reader = script.as_bytes();
     let ended = run_script(rt, alloc, &mut reader, &mut writer, &IN_TURN);
-    let output = writer.output.as_slice();
-    if writer.calls < writer.fails_at {
-        return if ended.is_ok() && output == wanted.as_bytes() {
-            Ok(true)
-        } else {
-            Err(Trouble::Other("a short writer is given something else"))
-        };
-    }
-    if ended == Err(ScriptFault::Write) && wanted.as_bytes().starts_with(output) {
-        Ok(false)
-    } else {
-        Err(Trouble::Other("a writer that fails is answered otherwise"))
-    }
+    is_written(&writer, ended, wanted)
 }
 
 /// A writer that fails at its first call, at its second, and so on, until the script ends before.
@@ -153,57 +175,80 @@ pub(crate) fn writers<R: Threads + Wait + Sync>(
     let script = script_of(alloc, row)?;
     let wanted = output_of(alloc, row)?;
     for fails_at in 1..LAST_CALL {
-        let writer = ShortWriter {
-            output: Vec::new(alloc),
-            most: 7,
-            calls: 0,
-            fails_at,
-        };
-        if ends_before(rt, alloc, script.as_str(), wanted.as_str(), writer)? {
+        if write_until(rt, alloc, &script, &wanted, fails_at)? {
             return Ok(());
         }
     }
     Err(Trouble::Other("a script ends at no call of its writer"))
 }
 
-// How a script ends whose last line is cut off, and what it prints behind the lines before.
+// The lines before one that is cut off, what they print, and the number of the one behind them.
+#[derive(Drop)]
+struct Before {
+    script: String,
+    printed: String,
+    next: u64,
+}
+
+impl Before {
+    fn push(&mut self, line: &str, output: &str) -> Result<(), AllocError> {
+        writeln!(self.script, "{line}")?;
+        self.printed.push_str(output)?;
+        self.next = self.next.saturating_add(1);
+        Ok(())
+    }
+}
+
+// A line that is cut off is a command, or else the script ends at it, and it prints nothing.
 fn is_cut_end(
     alloc: Global,
-    line: &str,
+    cut: &str,
     number: u64,
     ended: Result<(), ScriptFault>,
     printed: &str,
-) -> Result<bool, Trouble> {
-    Ok(match read_command(alloc, line.as_bytes()) {
+) -> Result<(), Trouble> {
+    let is_well = match read_command(alloc, cut.as_bytes()) {
         Ok(_) => ended.is_ok(),
         Err(LineFault::Bad) => ended == Err(ScriptFault::BadLine(number)) && printed.is_empty(),
         Err(LineFault::Memory) => return Err(Trouble::Memory),
-    })
+    };
+    holds(is_well, "a line that is cut off is answered otherwise")
 }
 
-// Cuts one line off at each byte, behind lines that print this.
+fn is_cut(
+    alloc: Global,
+    before: &Before,
+    cut: &str,
+    ended: Result<(), ScriptFault>,
+    output: &str,
+) -> Result<(), Trouble> {
+    match output.strip_prefix(before.printed.as_str()) {
+        Some(rest) => is_cut_end(alloc, cut, before.next, ended, rest),
+        None => Err(Trouble::Other("lines before a cut print something else")),
+    }
+}
+
+fn run_cut<R: Threads + Wait + Sync>(
+    rt: &R,
+    alloc: Global,
+    before: &Before,
+    cut: &str,
+) -> Result<(), Trouble> {
+    let script = format!(in alloc; "{}{cut}", before.script)?;
+    let mut output = Vec::new(alloc);
+    let ended = run_text(rt, alloc, &script, &mut output, &IN_TURN);
+    is_cut(alloc, before, cut, ended, printed_by(&output))
+}
+
 fn cut_line<R: Threads + Wait + Sync>(
     rt: &R,
     alloc: Global,
-    before: &str,
-    printed: &str,
+    before: &Before,
     line: &str,
-    number: u64,
 ) -> Result<(), Trouble> {
     for at in 0..=line.len() {
-        let Some(cut) = line.get(..at) else {
-            continue;
-        };
-        let script = format!(in alloc; "{before}{cut}")?;
-        let mut reader = script.as_str().as_bytes();
-        let mut output = Vec::new(alloc);
-        let ended = run_script(rt, alloc, &mut reader, &mut output, &IN_TURN);
-        let output = str::from_utf8(&output).unwrap_or("bytes that are no text");
-        let Some(rest) = output.strip_prefix(printed) else {
-            return Err(Trouble::Other("lines before a cut print something else"));
-        };
-        if !is_cut_end(alloc, cut, number, ended, rest)? {
-            return Err(Trouble::Other("a line that is cut off is answered otherwise"));
+        if let Some(cut) = line.get(..at) {
+            run_cut(rt, alloc, before, cut)?;
         }
     }
     Ok(())
@@ -216,15 +261,14 @@ pub(crate) fn cuts<R: Threads + Wait + Sync>(
     alloc: Global,
     row: &Row,
 ) -> Result<(), Trouble> {
-    let mut before = String::new(alloc);
-    let mut printed = String::new(alloc);
-    let mut number = 1u64;
+    let mut before = Before {
+        script: String::new(alloc),
+        printed: String::new(alloc),
+        next: 1,
+    };
     for (line, output) in row.lines {
-        cut_line(rt, alloc, before.as_str(), printed.as_str(), line, number)?;
-        before.push_str(line)?;
-        before.push('\n')?;
-        printed.push_str(output)?;
-        number = number.saturating_add(1);
+        cut_line(rt, alloc, &before, line)?;
+        before.push(line, output)?;
     }
     Ok(())
 }

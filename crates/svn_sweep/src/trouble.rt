@@ -2,18 +2,18 @@
 use std::alloc::{AllocError, AllocFailed};
 use std::fmt;
 use svn_drive::DriveFault;
-use svn_editor::{EditFault, OrderFault};
+use svn_editor::EditFault;
 use svn_link::LinkFault;
 use svn_model::{ReportFault, WcFault};
 use svn_pool::PoolFault;
 use svn_repo::CommitFault;
 use svn_report::ReporterFault;
 use svn_run::RunFault;
-use svn_script::{LineFault, WordsFault};
+use svn_script::LineFault;
 use svn_types::PathFault;
 
 /// The fault that a command is refused with, other than want of memory.
-#[derive(Clone, Copy, Debug, PartialEq, Eq)]
+#[derive(Clone, Copy, PartialEq)]
 pub(crate) enum Refusal {
     Commit(CommitFault),
     Copy(WcFault),
@@ -34,7 +34,7 @@ impl fmt::Display for Refusal {
 }
 
 /// Why a row doesn't stand.
-#[derive(Clone, Copy, Debug, PartialEq, Eq)]
+#[derive(Clone, Copy, PartialEq)]
 pub(crate) enum Trouble {
     /// A growth was refused, and the answer says so: the row can be begun anew.
     Memory,
@@ -42,6 +42,41 @@ pub(crate) enum Trouble {
     Refused(Refusal),
     /// An answer that is neither the row's nor a want of memory, or a state that isn't as promised.
     Other(&'static str),
+}
+
+/// As the line of a row says it.
+impl fmt::Display for Trouble {
+    fn fmt<W: fmt::Write>(&self, f: &mut fmt::Formatter<W>) -> fmt::Result {
+        match self {
+            Trouble::Memory => write!(f, "wants memory again"),
+            Trouble::Refused(refusal) => write!(f, "DOESN'T STAND: {refusal}"),
+            Trouble::Other(other) => write!(f, "DOESN'T STAND: {other}"),
+        }
+    }
+}
+
+impl Trouble {
+    /// The status of a program whose row ends so.
+    pub(crate) fn status(self) -> u8 {
+        match self {
+            Trouble::Memory => 3,
+            _ => 1,
+        }
+    }
+}
+
+/// Nothing, or what is otherwise.
+pub(crate) fn holds(is_so: bool, other: &'static str) -> Result<(), Trouble> {
+    if is_so {
+        Ok(())
+    } else {
+        Err(Trouble::Other(other))
+    }
+}
+
+/// A text is the wanted one, or says what is otherwise.
+pub(crate) fn same(found: &str, wanted: &str, other: &'static str) -> Result<(), Trouble> {
+    holds(found == wanted, other)
 }
 
 // What an answer means that isn't the row's.
@@ -101,12 +136,6 @@ impl From<ReportFault> for Trouble {
     }
 }
 
-impl From<OrderFault> for Trouble {
-    fn from(fault: OrderFault) -> Trouble {
-        of_refusal(fault == OrderFault::Memory, "a call is out of order")
-    }
-}
-
 impl From<EditFault> for Trouble {
     fn from(fault: EditFault) -> Trouble {
         of_refusal(fault == EditFault::Memory, "an editor refuses a call")
@@ -146,14 +175,5 @@ impl From<PoolFault> for Trouble {
 impl From<LineFault> for Trouble {
     fn from(fault: LineFault) -> Trouble {
         of_refusal(fault == LineFault::Memory, "a line is no command")
-    }
-}
-
-impl From<WordsFault> for Trouble {
-    fn from(fault: WordsFault) -> Trouble {
-        of_refusal(
-            matches!(fault, WordsFault::Memory),
-            "words of a command line are refused",
-        )
     }
 }
