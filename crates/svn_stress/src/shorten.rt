@@ -8,6 +8,21 @@ use std::alloc::Global;
 use std::sync::Wait;
 use std::thread::Threads;
 
+// Makes the steps, up to the first difference.
+fn take_all<R: Threads + Wait + Sync>(
+    rt: &R,
+    world: &mut World,
+    steps: &[Step],
+) -> Result<Difference> {
+    for step in steps {
+        let difference = world.take(rt, *step)?;
+        if difference.is_some() {
+            return Ok(difference);
+        }
+    }
+    Ok(None)
+}
+
 /// Makes the steps from the beginning, up to the first difference.
 pub(crate) fn replay<R: Threads + Wait + Sync>(
     rt: &R,
@@ -15,12 +30,7 @@ pub(crate) fn replay<R: Threads + Wait + Sync>(
     steps: &[Step],
 ) -> Result<Difference> {
     let mut world = World::new(alloc)?;
-    for step in steps {
-        if let Some(difference) = world.take(rt, *step)? {
-            return Ok(Some(difference));
-        }
-    }
-    Ok(None)
+    take_all(rt, &mut world, steps)
 }
 
 // The steps without those from one place on, so many.

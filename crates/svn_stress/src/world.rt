@@ -111,8 +111,9 @@ impl World {
     fn commit(&mut self) -> Result<Difference> {
         let committed = self.commit_pending();
         let expected = self.commit_draft()?;
-        if committed != expected {
-            return compare_commits(self.alloc, committed, expected);
+        let difference = compare_commits(self.alloc, committed, expected)?;
+        if difference.is_some() {
+            return Ok(difference);
         }
         self.counts.count_commit(expected.is_ok());
         self.compare_revisions()
