@@ -1,5 +1,5 @@
 -- A key is a text: its names are, and so is the byte 1 behind each.
-use Rattle.std.proofs.Common.{◌≡◌, List, ℕ, [], ◌∷◌, ◌++◌, IsUtf8, refl}
+use Rattle.std.proofs.Common.{List, ℕ, [], ◌∷◌, ◌++◌, IsUtf8, refl}
 use Rattle.std.proofs.lemmas.Str.{IsUtf8-append}
 
 separator : IsUtf8 (1 ∷ [])

@@ -1,6 +1,6 @@
 -- The order of the keys of paths is the order of the paths.
 use Rattle.std.proofs.Common.{◌≡◌, ◌≢◌, ℕ, Bool, true, false, ◌&&◌, List, [], ◌∷◌, ◌++◌, refl, ap, sym, ◌∙◌, arith, nat_eq}
-use Rattle.std.proofs.Common.{Option, Some, None, length, append_assoc, true≢false, take, drop, take-append-drop, MatchOption, ◌↔◌, ◌+◌}
+use Rattle.std.proofs.Common.{Option, Some, None, append_assoc, true≢false, MatchOption, ◌↔◌}
 use Rattle.std.specs.declared.cmp.Ordering.{Ordering}
 use Rattle.std.specs.declared.cmp.Ordering.TheVariants.{Less, Equal, Greater}
 use Rattle.std.specs.Ordering.{ordering_then, nat_cmp, is_eq}
@@ -8,7 +8,6 @@ use Rattle.std.specs.Cmp.Lexicographic.{pointwise, pointwise_decides, bytes_deci
 use Rattle.std.specs.List.{list_all}
 use Rattle.std.proofs.lemmas.List.Folds.{list_all-append}
 use Rattle.std.proofs.lemmas.List.{append_cancel_left}
-use Rattle.std.proofs.Math.Seq.{take-append_seam}
 use denote.Ref.{Bor}
 use Rattle.std.specs.Str.Pattern.{FindsTextPrefix, StripsPrefix}
 use Rattle.std.specs.Prelude.{bytes_eq, is_some}

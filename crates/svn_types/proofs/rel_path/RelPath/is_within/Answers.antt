@@ -1,5 +1,4 @@
-use Rattle.std.proofs.Common.{◌≡◌, ℕ, List, ◌++◌, MatchOption, ◌∙◌}
-use denote.Ref.{Bor}
+use Rattle.std.proofs.Common.{◌≡◌, ◌∙◌}
 use Rattle.svn_types.specs.PathKeys.{path_key}
 use Rattle.svn_types.proofs.PathKeys.{within_by_keys}
 use Rattle.svn_types.proofs.rel_path.RelPath.is_within.Goals as goal
