@@ -6,7 +6,7 @@ use Rattle.std.proofs.lemmas.Bool.Decides.{nat_tests}
 use Rattle.std.proofs.lemmas.List.{append-nil, take_all, drop_all, drop_more}
 use Rattle.std.proofs.lemmas.List.Quantifiers.{position-Some}
 use Rattle.std.proofs.lemmas.List.Sums.{prefix_len_passes}
-use Rattle.svn_script.proofs.Splits.{not_less, test_none}
+use Rattle.svn_types.proofs.Splits.{not_less, test_none}
 use Rattle.svn_script.specs.Reading.{unescaped, onto, bytes_of}
 
 -- ---- bytes that stand for themselves

@@ -1,6 +1,6 @@
 -- the words behind the name of a command
 pub mod OperandLemmas
--- where bytes are cut at a separator
+-- the end of a line
 pub mod Splits
 -- words with escapes
 pub mod Escapes

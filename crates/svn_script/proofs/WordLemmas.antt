@@ -10,7 +10,7 @@ use Rattle.std.specs.List.{list_all}
 use Rattle.std.specs.Str.{IsUtf8, IsAscii, is_utf8}
 use Rattle.svn_types.specs.declared.fault.PathFault.TheVariants.{EmptyComponent, BadCharacter, NameTooLong}
 use Rattle.svn_types.specs.Names.{path_of_text, name_limit, starts_prop_name, continues_prop_name, is_prop_text}
-use Rattle.svn_script.proofs.Splits.{not_less, test_none}
+use Rattle.svn_types.proofs.Splits.{not_less, test_none}
 use Rattle.svn_script.specs.Reading.{decimal_from, fitting, path_of_bytes, path_of_names, prop_name_of_bytes}
 
 -- more digits never make a number smaller

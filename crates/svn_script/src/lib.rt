@@ -31,6 +31,6 @@ mod words;
 pub use command::{Command, read_command};
 pub use command_line::{Settings, WordsFault, read_words};
 pub use fault::ScriptFault;
-pub use lines::{read_script, split_once, without_return};
-pub use svn_types::MAX_SCRIPT;
+pub use lines::{read_script, without_return};
+pub use svn_types::{MAX_SCRIPT, split_once};
 pub use words::LineFault;

@@ -1,4 +1,4 @@
-//! A script as bytes, and where its lines and words end.
+//! A script as bytes, and its lines and words.
 ghost use Rattle.std.specs.Prelude.{◌≡◌, ℕ, ◌+◌, ◌<◌, ◌≤◌, ◌≢◌, ◌∷◌, [], length, take, drop, nat_eq, position, Some, None, IfSome, IfOk, IfErr, MatchOption};
 ghost use Rattle.std.specs.List.{slice_split};
 ghost use Rattle.std.specs.Io.KnownBytes.{IsAtEnd};
@@ -7,7 +7,7 @@ ghost use Rattle.svn_script.specs.Reading.{without_return, words_of};
 use crate::fault::ScriptFault;
 use std::alloc::Global;
 use std::io::Read;
-use svn_types::MAX_SCRIPT;
+use svn_types::{MAX_SCRIPT, split_once};
 
 /// The most bytes that are read at a time.
 const BLOCK: usize = 8192;
@@ -37,26 +37,6 @@ pub fn read_script<R: Read>(alloc: Global, reader: &mut R) -> Result<Vec<u8>, Sc
         }
     }
     Err(ScriptFault::TooLong)
-}
-
-// The place of the first such byte.
-fn find_byte(text: &[u8], byte: u8) -> Option<usize>
-    ensures place { result ≡ position (λ b. nat_eq b byte) text.now }
-    ensures bounded { IfSome result (λ i. i < length text.now) }
-{
-    text.iter().position(|b| *b == byte)
-}
-
-/// The bytes before the first separator and those behind it, if there is one. It takes no memory.
-pub fn split_once(text: &[u8], separator: u8) -> Option<(&[u8], &[u8])>
-    ensures parts { let p = (λ (b : ℕ). nat_eq b separator) in MatchOption result (slice_split p text.now ≡ text.now ∷ []) (λ r. slice_split p text.now ≡ r.0.now ∷ slice_split p r.1.now) }
-    ensures place { let at = position (λ b. nat_eq b separator) text.now in MatchOption result (at ≡ None) (λ r. (i : ℕ) × (at ≡ Some i) × (r.0.now ≡ take i text.now) × (r.1.now ≡ drop (i + 1) text.now)) }
-    ensures shorter { IfSome result (λ r. length r.1.now < length text.now) }
-{
-    match find_byte(text, separator) {
-        Some(end) => Some((&text[..end], &text[end + 1..])),
-        None => None,
-    }
 }
 
 /// A line without the carriage return at its end, if there is one. It takes no memory.

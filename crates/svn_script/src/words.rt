@@ -1,14 +1,13 @@
 //! What the words of a script stand for.
-ghost use Rattle.std.specs.Prelude.{◌≡◌, ◌+◌, ◌-◌, ◌*◌, ◌≤◌, ◌∷◌, ◌++◌, [], length, Some, None, MatchOption, IfSome, OnOk};
+ghost use Rattle.std.specs.Prelude.{◌≡◌, ◌+◌, ◌-◌, ◌*◌, ◌≤◌, ◌∷◌, ◌++◌, [], length, bytes_eq, Some, None, MatchOption, IfSome, OnOk};
 ghost use Rattle.std.specs.List.{list_all};
 ghost use Rattle.svn_types.specs.Names.{path_of_text};
 ghost use Rattle.svn_script.specs.declared.words.LineFault.TheVariants.{Memory};
 ghost use Rattle.svn_script.specs.Reading.{is_digit, fitting, decimal_value, number_of, hex_value, hex_byte, onto, unescaped, bytes_of, path_of, path_of_bytes, path_of_names, prop_name_of, prop_name_of_bytes};
 ghost use Rattle.svn_script.specs.Gives.{Gives};
 
-use crate::lines::split_once;
 use std::alloc::{AllocError, Global};
-use svn_types::{PathFault, PropName, RelPath, Text};
+use svn_types::{PathFault, PropName, RelPath, Text, split_once};
 
 /// Why a line was not read.
 #[derive(Clone, Copy, Debug, PartialEq, Eq)]
@@ -138,11 +137,18 @@ fn unescape(alloc: Global, word: &[u8]) -> Result<Vec<u8>, LineFault>
     Ok(bytes)
 }
 
+// Whether a word is two quotation marks, which stand for no bytes.
+fn is_quoted_nothing(word: &[u8]) -> bool
+    ensures { result ≡ bytes_eq word.now (34 ∷ 34 ∷ []) }
+{
+    matches!(word, [b'"', b'"'])
+}
+
 // The bytes of a word without escapes, which stand in the word itself.
 fn plain_bytes(word: &[u8]) -> Option<&[u8]>
     ensures { MatchOption result (bytes_of word.now ≡ unescaped word.now) (λ bytes. bytes_of word.now ≡ Some bytes.now) }
 {
-    if word == b"\"\"".as_slice() {
+    if is_quoted_nothing(word) {
         return Some(b"".as_slice());
     }
     match split_once(word, b'%') {
@@ -172,11 +178,18 @@ fn parse_path(alloc: Global, text: &str) -> Result<RelPath, LineFault>
     }
 }
 
+// Whether bytes are one point.
+fn is_point(bytes: &[u8]) -> bool
+    ensures { result ≡ bytes_eq bytes.now (46 ∷ []) }
+{
+    matches!(bytes, [b'.'])
+}
+
 // The path that bytes spell: the root is `.` or no bytes.
 fn parse_bytes(alloc: Global, bytes: &[u8]) -> Result<RelPath, LineFault>
     ensures { Gives (λ p. p) result (path_of_bytes bytes.now) }
 {
-    if bytes == b".".as_slice() {
+    if is_point(bytes) {
         return Ok(RelPath::root(alloc));
     }
     match str::from_utf8(bytes) {

@@ -1,4 +1,4 @@
--- a text that is cut at its first slash
+-- lists that are cut where a test passes: bytes at a separator, a text at its first slash
 pub mod Splits
 -- names: tests on them, their order, and what is found under them
 pub mod NameLemmas

@@ -1,7 +1,7 @@
 -- Names: the tests on them and what they mean, their order, and what is found under them in pairs.
 use Rattle.std.proofs.Common.{◌≡◌, ℕ, Bool, true, false, ◌||◌, List, [], ◌∷◌, refl, sym, ◌∙◌, ap, subst, true≢false}
 use Rattle.std.proofs.Math.Bool.{or-false}
-use Rattle.std.specs.Prelude.{Some, None, cond, bytes_eq, fold}
+use Rattle.std.specs.Prelude.{Option, Some, None, cond, bytes_eq, fold}
 use Rattle.std.specs.List.{list_any}
 use Rattle.std.specs.declared.cmp.Ordering.{Ordering}
 use Rattle.std.specs.declared.cmp.Ordering.TheVariants.{Less, Equal, Greater}
@@ -12,7 +12,10 @@ use Rattle.std.specs.Map.{keys_of}
 use Rattle.std.specs.Cmp.Lexicographic.{bytes_decides, nat_list_cmp_total, texts_ties}
 use Rattle.std.specs.FinMap.{slice_cmp-IsAntisymmetric, nat_cmp-IsAntisymmetric}
 use Rattle.std.proofs.lemmas.Cmp.{tied_itself}
-use Rattle.svn_types.specs.Names.{name_cmp}
+use Rattle.std.specs.Option.{option_or}
+use Rattle.svn_types.specs.Names.{Path, name_cmp}
+use Rattle.svn_types.specs.NameFaults.{name_fault, names_fault}
+use Rattle.svn_types.specs.declared.fault.PathFault.{PathFault}
 use Rattle.svn_types.specs.Pairs.{value_of}
 
 abbrev pub Name : Type 0
@@ -151,3 +154,19 @@ has_name-fold (x ∷ xs) ms m =
     swap true false c = refl
     swap false true c = refl
     swap false false c = refl
+
+-- ---- names of which none has a fault
+
+first_none : (f g : Option PathFault) → option_or f g ≡ None → f ≡ None
+first_none None g h = refl
+first_none (Some d) g h = cc
+
+rest_none : (f g : Option PathFault) → option_or f g ≡ None → g ≡ None
+rest_none None g h = h
+rest_none (Some d) g h = cc
+
+pub first_without_fault : (n : List ℕ) (p : Path) → names_fault (n ∷ p) ≡ None → name_fault n ≡ None
+first_without_fault n p h = first_none (name_fault n) (names_fault p) h
+
+pub rest_without_fault : (n : List ℕ) (p : Path) → names_fault (n ∷ p) ≡ None → names_fault p ≡ None
+rest_without_fault n p h = rest_none (name_fault n) (names_fault p) h

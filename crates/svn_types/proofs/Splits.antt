@@ -1,21 +1,48 @@
--- A text that is cut at its first slash.
-use Rattle.std.proofs.Common.{◌≡◌, ℕ, ◌<◌, ◌≤◌, suc, Bool, true, false, cond, not, List, [], ◌∷◌, length, refl, arith}
-use Rattle.std.proofs.Common.{Option, Some, None, MatchOption, ◌+◌, length-drop, ap, sym, ◌∙◌}
-use Rattle.std.specs.List.{slice_split, onto_first, position_or_len, before_first, after_first}
+-- Lists that are cut at the elements that pass a test: bytes at a separator, a text at its first slash.
+use Rattle.std.proofs.Common.{◌≡◌, ℕ, ◌<◌, ◌≤◌, Bool, true, false, cond, not, List, [], ◌∷◌, length, refl, arith}
+use Rattle.std.proofs.Common.{Option, Some, None, MatchOption, ◌+◌, length-drop, ap, sym, ◌∙◌, take, drop, nat_lt}
+use Rattle.std.specs.List.{slice_split, onto_first, position, position_or_len, prefix_len, before_first, after_first}
 use Rattle.std.proofs.lemmas.List.Splits.{slice_split_first, length-slice_split}
+use Rattle.std.proofs.lemmas.List.Sums.{position_or_len_is}
+use Rattle.std.proofs.lemmas.List.Quantifiers.{position-Some}
+use Rattle.std.proofs.lemmas.Bool.Decides.{nat_tests}
 use denote.Ref.{Bor}
 use Rattle.svn_types.specs.Names.{is_slash}
 use Rattle.svn_types.specs.NameSplits.{IsNameSplit}
 
-split_step : {X : Type 0} (b : Bool) (x : X) (n : ℕ) (xs : List X) (parts : List (List X)) → cond (not b) (1 + n) 0 ≡ suc (length xs)
-    → (n ≡ length xs → parts ≡ xs ∷ []) → cond b ([] ∷ parts) (onto_first x parts) ≡ (x ∷ xs) ∷ []
-split_step true x n xs parts h whole = absurd (omega arith)
-split_step false x n xs parts h whole = let e : n ≡ length xs = omega arith in rw (whole e) refl
+pub test_none : (b : Bool) (n : ℕ) → cond b (Some n) None ≡ None → b ≡ false
+test_none true n e = cc
+test_none false n e = refl
+
+pub not_less : (n m : ℕ) → nat_lt n m ≡ false → m ≤ n
+not_less n m e = grind (arith, nat_tests)
+
+nowhere : {X : Type 0} (p : X → Bool) (xs : List X) → length xs ≤ position_or_len p xs → slice_split p xs ≡ xs ∷ []
+nowhere p [] h = refl
+nowhere p (x ∷ xs) h =
+    (elim (p x) as (λ (b : Bool). length (x ∷ xs) ≤ cond (not b) (1 + prefix_len (λ y. not (p y)) xs) 0
+    → cond b ([] ∷ slice_split p xs) (onto_first x (slice_split p xs)) ≡ (x ∷ xs) ∷ []) [
+      | true ↦ λ few. absurd (omega (arith, few))
+      | false ↦ λ few. ap (onto_first x) (nowhere p xs (omega (arith, few)))
+    ]) h
 
 -- a list in which no element passes is the one part
 pub slice_split_whole : {X : Type 0} (p : X → Bool) (xs : List X) → position_or_len p xs ≡ length xs → slice_split p xs ≡ xs ∷ []
-slice_split_whole p [] h = refl
-slice_split_whole p (x ∷ xs) h = split_step (p x) x (position_or_len p xs) xs (slice_split p xs) h (slice_split_whole p xs)
+slice_split_whole p xs h = nowhere p xs (omega (arith, h))
+
+pub split_nowhere : (p : ℕ → Bool) (xs : List ℕ) → position p xs ≡ None → slice_split p xs ≡ xs ∷ []
+split_nowhere p xs e =
+    let at = position_or_len p xs in
+    nowhere p xs (not_less at (length xs) (test_none (nat_lt at (length xs)) at e))
+
+-- with an element that passes there are a first part and those of the rest
+pub split_at_position : (p : ℕ → Bool) (xs : List ℕ) (i : ℕ) → position p xs ≡ Some i
+    → slice_split p xs ≡ take i xs ∷ slice_split p (drop (i + 1) xs)
+split_at_position p xs i e =
+    let facts = position-Some p xs i 0 e in
+    let bound : i < length xs = facts.0 in
+    let here : position_or_len p xs ≡ i = position_or_len_is p xs i 0 (omega (arith, bound)) facts.2 (λ _. facts.1) in
+    slice_split_first p xs 0 (omega (arith, here, bound)) ∙ (λ j. take (here j) xs ∷ slice_split p (drop (here j + 1) xs))
 
 only_part : {X : Type 0} (b : Bool) (x : X) (xs : List X) (parts : List (List X)) → 1 ≤ length parts
     → length (cond b ([] ∷ parts) (onto_first x parts)) ≤ 1 → (length parts ≤ 1 → parts ≡ xs ∷ [])
@@ -36,6 +63,11 @@ pub slice_split_two : {X : Type 0} (p : X → Bool) (xs first second : List X) �
 slice_split_two p xs first second cut few =
     let whole = slice_split_one p second (omega (arith, few, ap length cut)) in
     cut ∙ ap (λ parts. first ∷ parts) whole
+
+pub slice_split_three : {X : Type 0} (p : X → Bool) (xs first rest second third : List X) → slice_split p xs ≡ first ∷ slice_split p rest
+    → slice_split p rest ≡ second ∷ slice_split p third → length (slice_split p xs) ≤ 3 → slice_split p xs ≡ first ∷ second ∷ third ∷ []
+slice_split_three p xs first rest second third cut next few =
+    cut ∙ ap (λ parts. first ∷ parts) (slice_split_two p rest second third next (omega (arith, few, ap length cut)))
 
 -- what `split_once` says, in terms of the parts
 pub name_split : (s : List ℕ) (r : Option (Bor (List ℕ) × Bor (List ℕ)))

@@ -1,5 +1,5 @@
 -- What names, texts, keys and the lists of names hold, wherever they lie.
-use Rattle.std.specs.Prelude.{ℕ, List}
+use Rattle.std.specs.Prelude.{ℕ, List, []}
 use Rattle.std.specs.Arc.{arc_value, arc_str_bytes}
 use Rattle.svn_types.specs.declared.small_text.NameForm.{NameForm}
 use Rattle.svn_types.specs.declared.small_text.NameForm.TheVariants as name
@@ -7,8 +7,8 @@ use Rattle.svn_types.specs.declared.text.TextForm.{TextForm}
 use Rattle.svn_types.specs.declared.text.TextForm.TheVariants as text
 use Rattle.svn_types.specs.declared.path_key.KeyForm.{KeyForm}
 use Rattle.svn_types.specs.declared.path_key.KeyForm.TheVariants as key
-use Rattle.svn_types.specs.declared.path_names.NamesForm.{NamesForm}
-use Rattle.svn_types.specs.declared.path_names.NamesForm.TheVariants as names
+use Rattle.svn_types.specs.declared.path_parts.PathForm.{PathForm}
+use Rattle.svn_types.specs.declared.path_parts.PathForm.TheVariants as form
 
 abbrev pub name_bytes : NameForm → List ℕ
 name_bytes (name.Short s) = s
@@ -23,7 +23,9 @@ abbrev pub key_bytes : KeyForm → List ℕ
 key_bytes (key.Short s) = s
 key_bytes (key.Long v) = v.items
 
-abbrev pub names_in : NamesForm → List (List ℕ)
-names_in (names.One a) = a
-names_in (names.Two a) = a
-names_in (names.Many v) = v.items
+abbrev pub names_in : PathForm → List (List ℕ)
+names_in form.Root = []
+names_in (form.One a) = arc_value a
+names_in (form.Two a) = arc_value a
+names_in (form.Three a) = arc_value a
+names_in (form.Long a) = arc_value a

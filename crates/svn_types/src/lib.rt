@@ -19,6 +19,7 @@
 //! `changes_between` of `specs/Props.antt`. How a value lies in memory no contract says.
 #![tactic(auto)]
 
+mod bytes;
 mod changes;
 mod fault;
 mod kind;
@@ -26,15 +27,18 @@ mod limits;
 mod lineage;
 mod name;
 mod path_key;
-mod path_names;
+mod path_parts;
 mod prop_name;
 mod props;
 mod rel_path;
 mod rev;
 mod short_bytes;
+mod short_key;
+mod short_path;
 mod small_text;
 mod text;
 
+pub use bytes::split_once;
 pub use changes::PropChange;
 pub use fault::PathFault;
 pub use kind::Kind;

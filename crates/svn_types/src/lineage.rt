@@ -26,8 +26,7 @@ impl RelPath {
         let Some((_, above)) = self.components().split_last() else {
             return Ok(None);
         };
-        let names = Vec::from_clones(alloc, above)?;
-        Ok(Some(RelPath::from_names(alloc, names, self.key().len())?))
+        Ok(Some(RelPath::from_names(alloc, above, self.key().len())?))
     }
 
     /// Its last name, none for the root. It takes no memory.
@@ -54,6 +53,6 @@ impl RelPath {
         }
         let names = both_names(alloc, self.components(), below.components())?;
         let len = self.key().len().saturating_add(below.key().len());
-        Ok(RelPath::from_names(alloc, names, len)?)
+        Ok(RelPath::from_vec(alloc, names, len)?)
     }
 }

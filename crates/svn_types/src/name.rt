@@ -7,7 +7,7 @@ ghost use Rattle.std.specs.Cmp.{partial_equiv_from_equiv};
 ghost use Rattle.std.specs.Cmp.Rules.{hashing};
 ghost use Rattle.std.specs.Hash as fed;
 ghost use Rattle.std.proofs.Common.{rules};
-ghost use Rattle.svn_types.specs.Names.{IsName, is_plain};
+ghost use Rattle.svn_types.specs.Names.{IsName, is_plain, is_dots};
 ghost use Rattle.svn_types.specs.NameFaults.{name_fault, AnswersPath};
 
 use crate::fault::PathFault;
@@ -44,23 +44,30 @@ fn is_plain_byte(byte: u8) -> bool
     32 <= byte && byte != b'/' && byte != 127
 }
 
-fn is_plain_text(text: &str) -> bool
-    ensures { result ≡ list_all is_plain text.now }
+fn are_plain(bytes: &[u8]) -> bool
+    ensures { result ≡ list_all is_plain bytes.now }
 {
-    text.as_bytes().iter().all(|byte| is_plain_byte(*byte))
+    bytes.iter().all(|byte| is_plain_byte(*byte))
 }
 
-// Why a text is no name. It takes no memory.
-pub(crate) fn fault_of_name(text: &str) -> Option<PathFault>
-    ensures { result ≡ name_fault text.now }
+// Whether these are one point or two.
+fn are_dots(bytes: &[u8]) -> bool
+    ensures { result ≡ is_dots bytes.now }
 {
-    if text.len() == 0 {
+    matches!(bytes, [b'.'] | [b'.', b'.'])
+}
+
+// Why the bytes of a text are no name. It takes no memory.
+pub(crate) fn fault_of_name(bytes: &[u8]) -> Option<PathFault>
+    ensures { result ≡ name_fault bytes.now }
+{
+    if bytes.is_empty() {
         Some(PathFault::EmptyComponent)
-    } else if text == "." || text == ".." {
+    } else if are_dots(bytes) {
         Some(PathFault::Dots)
-    } else if text.len() > MAX_NAME_LEN {
+    } else if bytes.len() > MAX_NAME_LEN {
         Some(PathFault::NameTooLong)
-    } else if is_plain_text(text) {
+    } else if are_plain(bytes) {
         None
     } else {
         Some(PathFault::BadCharacter)
@@ -72,7 +79,7 @@ impl Name {
     pub fn parse(alloc: Global, text: &str) -> Result<Name, PathFault>
         ensures { AnswersPath (name_fault text.now) text.now result }
     {
-        match fault_of_name(text) {
+        match fault_of_name(text.as_bytes()) {
             Some(fault) => Err(fault),
             None => Ok(Name::from_checked(alloc, text)?),
         }

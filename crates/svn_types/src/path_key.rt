@@ -1,19 +1,19 @@
 //! Keys of paths, by which they are compared.
-ghost use Rattle.std.specs.Prelude.{◌≡◌, ◌+◌, ◌≤◌, ◌∷◌, ◌++◌, [], length, IfOk, IfSome, IsUtf8, true};
+ghost use Rattle.std.specs.Prelude.{◌≡◌, ◌∷◌, ◌++◌, [], IfOk, IsUtf8, true};
 ghost use Rattle.svn_types.specs.PathKeys.{path_key, is_plain_path};
 
 use crate::name::Name;
-use crate::short_bytes::ShortBytes;
+use crate::short_key::ShortKey;
 use std::alloc::{AllocError, Global};
 use std::marker::Model;
 use std::str;
 
-// The longest key that lies in the value itself. With it what the clones of a path share is a block of 104 bytes.
+// The longest key that lies in the value itself. With it a path of many names is a block of 88 bytes and that of its names.
 const MAX_SHORT: usize = 54;
 
 #[derive(Drop)]
 enum KeyForm {
-    Short(ShortBytes<54>),
+    Short(ShortKey<54>),
     Long(Vec<u8>),
 }
 
@@ -33,37 +33,6 @@ impl Model for PathKey {
     ghost view = { λ k. key_bytes k.form };
 
     ghost invariant = { λ k. ∥ IsUtf8 (key_bytes k.form) ∥₁ };
-}
-
-// A short key with one name more.
-fn short_with_last(above: &str, last: &str) -> PathKey
-    requires { length above.now + length last.now + 1 ≤ 54 }
-    ensures { result ≡ above.now ++ last.now ++ 1 ∷ [] }
-{
-    let mut key = ShortBytes::of(above.as_bytes());
-    key.push_all(last.as_bytes());
-    key.push_all(&[1]);
-    PathKey {
-        form: KeyForm::Short(key),
-    }
-}
-
-// The key of these names in the value itself, if it is that short.
-fn short_of(names: &[Name]) -> Option<ShortBytes<54>>
-    ensures key { IfSome result (λ k. k ≡ path_key names.now) }
-    ensures plain { IfSome result (λ _. is_plain_path names.now ≡ true) }
-    ensures text { IfSome result (λ k. ∥ IsUtf8 k ∥₁) }
-{
-    let mut key = ShortBytes::new();
-    for name in names {
-        let bytes = name.as_str().as_bytes();
-        if key.as_slice().len() + bytes.len() >= MAX_SHORT {
-            return None;
-        }
-        key.push_all(bytes);
-        key.push_all(&[1]);
-    }
-    Some(key)
 }
 
 // The key of these names in a vector, which has room in that many bytes.
@@ -86,7 +55,7 @@ impl PathKey {
         ensures key { IfOk result (λ k. k ≡ path_key names.now) }
         ensures plain { IfOk result (λ k. is_plain_path names.now ≡ true) }
     {
-        if let Some(key) = short_of(names) {
+        if let Some(key) = ShortKey::of(names) {
             return Ok(PathKey {
                 form: KeyForm::Short(key),
             });
@@ -102,7 +71,9 @@ impl PathKey {
     {
         let len = above.len().saturating_add(last.len()).saturating_add(1);
         if len <= MAX_SHORT {
-            return Ok(short_with_last(above, last));
+            return Ok(PathKey {
+                form: KeyForm::Short(ShortKey::with_last(above, last)),
+            });
         }
         let mut key = Vec::with_capacity(alloc, len)?;
         key.extend_from_slice(above.as_bytes())?;
@@ -118,7 +89,7 @@ impl PathKey {
         ensures { result.now ≡ self.now }
     {
         match &self.form {
-            KeyForm::Short(key) => unsafe { str::from_utf8_unchecked(key.as_slice()) },
+            KeyForm::Short(key) => key.as_str(),
             KeyForm::Long(key) => unsafe { str::from_utf8_unchecked(key) },
         }
     }

@@ -1,6 +1,5 @@
 //! Paths, as lists of names.
 ghost use Rattle.std.specs.Prelude.{◌≡◌, ℕ, ◌+◌, ◌<◌, ◌≤◌, ◌∷◌, ◌++◌, [], length, refl, nat_eq, true, IfOk, Some, None, ◌↔◌, IsTrue, List, MatchOption, MatchResult};
-ghost use Rattle.std.specs.Arc.{arc_value};
 ghost use Rattle.std.specs.List.{slice_split};
 ghost use Rattle.std.specs.Ordering.{nat_cmp};
 ghost use Rattle.std.specs.Cmp.Lexicographic.{pointwise, slice_cmp, nat_list_eq_equiv, nat_list_cmp_total, texts_ties, lists_per, lists_equiv, lists_total, lists_ties};
@@ -12,68 +11,32 @@ ghost use Rattle.svn_types.specs.PathHash.{same_path_hash};
 ghost use Rattle.svn_types.specs.PathKeys.{path_key, is_plain_path};
 ghost use Rattle.svn_types.specs.NameFaults.{path_fault, names_fault, count_fault, AnswersPath};
 
+use crate::bytes::split_once;
 use crate::fault::PathFault;
 use crate::limits::MAX_COMPONENTS;
 use crate::name::{Name, fault_of_name};
-use crate::path_key::PathKey;
-use crate::path_names::PathNames;
+use crate::path_parts::PathParts;
 use std::alloc::{AllocError, Global};
 use std::cmp::Ordering;
 use std::fmt;
 use std::hash::{Hash, Hasher};
 use std::marker::Model;
-use std::sync::Arc;
-
-// What the clones of a path share: its names, and beside them its key, by which paths are compared, however deep they are.
-#[derive(Drop)]
-struct PathParts {
-    names: PathNames,
-    key: PathKey,
-}
-
-impl Model for PathParts {
-    ghost use Rattle.std.specs.Prelude.{◌≡◌, ℕ, List, true};
-    ghost use Rattle.svn_types.specs.PathKeys.{path_key, is_plain_path};
-
-    ghost Value = { List (List ℕ) };
-
-    ghost view = { λ p. p.names };
-
-    ghost invariant = { λ p. (is_plain_path p.names ≡ true) × (p.key ≡ path_key p.names) };
-}
-
-impl PathParts {
-    fn names(&self) -> &[Name]
-        ensures { result.now ≡ self.now }
-    {
-        self.names.as_slice()
-    }
-
-    fn key(&self) -> &str
-        ensures key { result.now ≡ path_key self.now }
-        ensures plain { is_plain_path self.now ≡ true }
-    {
-        self.key.as_str()
-    }
-}
 
 /// A path below some root (a relpath of `svn_dirent_uri.h`): at most 128 names, of which the root has none. Paths are ordered name by name, names by their bytes, a prefix first,
 /// so a directory stands directly before what is beneath it. A contract sees a path as the list of its names. A clone shares them.
 pub struct RelPath {
-    // the root has none
-    parts: Option<Arc<PathParts>>,
+    parts: PathParts,
 }
 
 impl Model for RelPath {
-    ghost use Rattle.std.specs.Prelude.{ℕ, List, [], length, ◌≤◌, unwrap_or, option_map};
-    ghost use Rattle.std.specs.Arc.{arc_value};
+    ghost use Rattle.std.specs.Prelude.{ℕ, List, length, ◌≤◌};
     ghost use Rattle.svn_types.specs.Names.{depth_limit};
 
     ghost Value = { List (List ℕ) };
 
-    ghost view = { λ p. unwrap_or (option_map arc_value p.parts) [] };
+    ghost view = { λ p. p.parts };
 
-    ghost invariant = { λ p. length (unwrap_or (option_map arc_value p.parts) []) ≤ depth_limit };
+    ghost invariant = { λ p. length p.parts ≤ depth_limit };
 }
 
 // The text before the first slash and that after it, if there is one.
@@ -83,13 +46,13 @@ fn split_name(text: &str) -> Option<(&str, &str)>
     text.split_once('/')
 }
 
-// How many names a text spells, or the fault of the first faulty one.
-fn count_names(text: &str) -> Result<usize, PathFault>
+// How many names a text spells, or the fault of the first faulty one. It goes over bytes, which is shorter where names are.
+fn count_names(text: &[u8]) -> Result<usize, PathFault>
     ensures { MatchResult result (λ n. (names_fault (slice_split is_slash text.now) ≡ None) × (n ≡ length (slice_split is_slash text.now))) (λ e. names_fault (slice_split is_slash text.now) ≡ Some e) }
 {
     let mut rest = text;
     let mut count = 1usize;
-    'names: while let Some((first, after)) = split_name(rest) {
+    'names: while let Some((first, after)) = split_once(rest, b'/') {
         if let Some(fault) = fault_of_name(first) {
             return Err(fault);
         }
@@ -116,50 +79,51 @@ fn many_names(alloc: Global, text: &str, count: usize) -> Result<Vec<Name>, Allo
     Ok(names)
 }
 
-// The names of a text, which are that many.
-fn names_of(alloc: Global, text: &str, count: usize) -> Result<PathNames, AllocError>
+// The two names of a text.
+fn two_names(alloc: Global, text: &str) -> Result<PathParts, AllocError>
     requires checked { names_fault (slice_split is_slash text.now) ≡ None }
-    requires counted { count ≡ length (slice_split is_slash text.now) }
-    ensures { IfOk result (λ n. n ≡ slice_split is_slash text.now) }
+    requires counted { length (slice_split is_slash text.now) ≡ 2 }
+    ensures { IfOk result (λ p. p ≡ slice_split is_slash text.now) }
 {
-    if count > 2 {
-        return Ok(PathNames::from_vec(many_names(alloc, text, count)?));
-    }
-    match split_name(text) {
-        Some((first, second)) => {
-            let first = Name::from_checked(alloc, first)?;
-            let second = Name::from_checked(alloc, second)?;
-            Ok(PathNames::two(first, second))
-        }
-        None => Ok(PathNames::one(Name::from_checked(alloc, text)?)),
-    }
+    let Some((first, second)) = split_name(text) else {
+        return PathParts::one(alloc, Name::from_checked(alloc, text)?);
+    };
+    let first = Name::from_checked(alloc, first)?;
+    PathParts::two(alloc, first, Name::from_checked(alloc, second)?)
 }
 
-// What the clones of the path of these names share. Its key has room in that many bytes.
-fn shared_parts(alloc: Global, names: PathNames, len: usize) -> Result<Arc<PathParts>, AllocError>
-    ensures { IfOk result (λ p. arc_value p ≡ names) }
+// The three names of a text.
+fn three_names(alloc: Global, text: &str) -> Result<PathParts, AllocError>
+    requires checked { names_fault (slice_split is_slash text.now) ≡ None }
+    requires counted { length (slice_split is_slash text.now) ≡ 3 }
+    ensures { IfOk result (λ p. p ≡ slice_split is_slash text.now) }
 {
-    let key = PathKey::of(alloc, names.as_slice(), len)?;
-    Ok(Arc::new(alloc, PathParts { names, key })?)
+    let Some((first, rest)) = split_name(text) else {
+        return PathParts::one(alloc, Name::from_checked(alloc, text)?);
+    };
+    let first = Name::from_checked(alloc, first)?;
+    let Some((second, third)) = split_name(rest) else {
+        return PathParts::two(alloc, first, Name::from_checked(alloc, rest)?);
+    };
+    let second = Name::from_checked(alloc, second)?;
+    PathParts::three(alloc, first, second, Name::from_checked(alloc, third)?)
 }
 
 // What the clones of a text's path share, which has that many names.
-fn parts_of(alloc: Global, text: &str, count: usize) -> Result<Arc<PathParts>, AllocError>
+fn parts_of(alloc: Global, text: &str, count: usize) -> Result<PathParts, AllocError>
     requires checked { names_fault (slice_split is_slash text.now) ≡ None }
     requires counted { count ≡ length (slice_split is_slash text.now) }
-    ensures { IfOk result (λ p. arc_value p ≡ slice_split is_slash text.now) }
+    ensures { IfOk result (λ p. p ≡ slice_split is_slash text.now) }
 {
-    let names = names_of(alloc, text, count)?;
-    shared_parts(alloc, names, text.len().saturating_add(1))
-}
-
-fn joined(alloc: Global, path: &RelPath, last: &Name) -> Result<Arc<PathParts>, AllocError>
-    requires { length path.now < depth_limit }
-    ensures { IfOk result (λ p. arc_value p ≡ path.now ++ last.now ∷ []) }
-{
-    let names = PathNames::with_last(alloc, path.components(), last)?;
-    let key = PathKey::with_last(alloc, path.key(), last.as_str())?;
-    Ok(Arc::new(alloc, PathParts { names, key })?)
+    match count {
+        1 => PathParts::one(alloc, Name::from_checked(alloc, text)?),
+        2 => two_names(alloc, text),
+        3 => three_names(alloc, text),
+        _ => {
+            let names = many_names(alloc, text, count)?;
+            PathParts::many(alloc, names, text.len().saturating_add(1))
+        }
+    }
 }
 
 // What stands behind a text's front, if that is this.
@@ -188,7 +152,9 @@ impl RelPath {
     pub fn root(_alloc: Global) -> RelPath
         ensures { result ≡ [] }
     {
-        RelPath { parts: None }
+        RelPath {
+            parts: PathParts::root(),
+        }
     }
 
     /// Reads names with slashes between them. The empty text is the root. The fault of the first faulty name is answered, else
@@ -199,7 +165,7 @@ impl RelPath {
         if text.len() == 0 {
             return Ok(RelPath::root(alloc));
         }
-        let count = match count_names(text) {
+        let count = match count_names(text.as_bytes()) {
             Ok(count) => count,
             Err(fault) => return Err(fault),
         };
@@ -207,12 +173,26 @@ impl RelPath {
             return Err(PathFault::TooManyComponents);
         }
         Ok(RelPath {
-            parts: Some(parts_of(alloc, text, count)?),
+            parts: parts_of(alloc, text, count)?,
         })
     }
 
-    // The path of these names, whose key has room in that many bytes.
+    // The path of these names. A long key has room in that many bytes.
     pub(crate) fn from_names(
+        alloc: Global,
+        names: &[Name],
+        len: usize,
+    ) -> Result<RelPath, AllocError>
+        requires { length names.now ≤ depth_limit }
+        ensures { IfOk result (λ p. p ≡ names.now) }
+    {
+        Ok(RelPath {
+            parts: PathParts::of(alloc, names, len)?,
+        })
+    }
+
+    // The path of these names, which stay in their block. A long key has room in that many bytes.
+    pub(crate) fn from_vec(
         alloc: Global,
         names: Vec<Name>,
         len: usize,
@@ -220,11 +200,11 @@ impl RelPath {
         requires { length names.items ≤ depth_limit }
         ensures { IfOk result (λ p. p ≡ names.items) }
     {
-        if names.is_empty() {
-            return Ok(RelPath::root(alloc));
+        if names.len() <= 3 {
+            return RelPath::from_names(alloc, &names, len);
         }
         Ok(RelPath {
-            parts: Some(shared_parts(alloc, PathNames::from_vec(names), len)?),
+            parts: PathParts::many(alloc, names, len)?,
         })
     }
 
@@ -236,7 +216,7 @@ impl RelPath {
             return Err(PathFault::TooManyComponents);
         }
         Ok(RelPath {
-            parts: Some(joined(alloc, self, name)?),
+            parts: self.parts.with_last(alloc, name)?,
         })
     }
 
@@ -245,10 +225,7 @@ impl RelPath {
         ensures names { result.now ≡ self.now }
         ensures bounded { length self.now ≤ depth_limit }
     {
-        match &self.parts {
-            Some(parts) => parts.names(),
-            None => &[],
-        }
+        self.parts.names()
     }
 
     /// Its key: its names in one text, the byte 1 behind each. Paths are compared by their keys. It takes no memory.
@@ -257,10 +234,7 @@ impl RelPath {
         ensures plain { is_plain_path self.now ≡ true }
         ensures bounded { length self.now ≤ depth_limit }
     {
-        match &self.parts {
-            Some(parts) => parts.key(),
-            None => "",
-        }
+        self.parts.key()
     }
 
     /// Whether it is that path with this name more. It takes no memory.
@@ -279,7 +253,7 @@ impl RelPath {
     }
 }
 
-// So that a caller's proof sees a call, and no case of whether there are names.
+// So that a caller's proof sees a call, and nothing of where the names lie.
 impl Drop for RelPath {
     fn drop(self) {
         let RelPath { parts } = self;

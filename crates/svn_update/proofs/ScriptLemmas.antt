@@ -5,9 +5,30 @@ use Rattle.std.specs.List.{slice_split}
 use Rattle.std.proofs.lemmas.List.{append-nil}
 use Rattle.std.proofs.lemmas.List.Splits.{length-slice_split}
 use Rattle.svn_script.specs.declared.command_line.Settings.{Settings}
+use Rattle.std.specs.Io.KnownBytes.{Appends}
+use Rattle.svn_repo.specs.declared.change.Change.{Change}
+use Rattle.svn_script.specs.declared.command.Command.TheVariants as command
 use Rattle.svn_script.specs.Reading.{lines_of, without_return, without_returns}
+use Rattle.svn_script.specs.Commands.{command_of}
+use Rattle.svn_update.specs.declared.answer.Refusal.TheVariants.{Memory as ListMemory}
+use Rattle.svn_update.specs.declared.answer.Answer.TheVariants.{Silent, Refused}
+use Rattle.svn_update.specs.Answers.{answer_text}
 use Rattle.svn_update.specs.ScriptStates.{ScriptState, new_state}
 use Rattle.svn_update.specs.Scripts.{DoesLine, DoesLines, Prints}
+
+-- ---- a change that is kept
+
+pub appends_nothing : (o : Option (List ℕ)) → Appends o o []
+appends_nothing None = tt
+appends_nothing (Some xs) = sym (append-nil xs)
+
+pub keeps_change : (s : Settings) (line : List ℕ) (change : Change) (old new : ScriptState)
+    → command_of line ≡ Some (command.Change change) → new ≡ record old { pending = old.pending ++ change ∷ [] } → DoesLine s line old new []
+keeps_change s line change old new read kept = (command.Change change, read, Silent, kept, refl)
+
+pub has_no_memory : (s : Settings) (line : List ℕ) (change : Change) (old new : ScriptState)
+    → command_of line ≡ Some (command.Change change) → new ≡ old → DoesLine s line old new (answer_text new.copy (Refused ListMemory))
+has_no_memory s line change old new read kept = (command.Change change, read, Refused ListMemory, kept, refl)
 
 -- ---- one more line
 

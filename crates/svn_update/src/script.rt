@@ -2,15 +2,19 @@
 ghost use Rattle.std.specs.Prelude.{◌≡◌, ℕ, ◌≤◌, ◌<◌, List, length, IfErr, IfSome, OnOk, None, true, false};
 ghost use Rattle.std.specs.Io.KnownBytes.{Appends};
 ghost use Rattle.svn_script.specs.Commands.{command_of};
+ghost use Rattle.svn_update.specs.declared.answer.Answer.{Answer};
+ghost use Rattle.svn_update.specs.Answers.{answer_text};
+ghost use Rattle.svn_update.specs.Commands.{Does};
 ghost use Rattle.svn_update.specs.Scripts.{DoesLine, IsReadWhole, Prints, StopsAt, is_of_a_line, is_refused_whole};
 
+use crate::answer::{Answer, Refusal};
 use crate::state::State;
 use std::alloc::Global;
 use std::io::{Read, Write};
 use std::sync::Wait;
 use std::thread::Threads;
 use svn_script::{
-    LineFault, MAX_SCRIPT, ScriptFault, Settings, read_command, read_script, split_once,
+    Command, LineFault, MAX_SCRIPT, ScriptFault, Settings, read_command, read_script, split_once,
     without_return,
 };
 
@@ -22,7 +26,32 @@ struct Host<'a, T> {
     settings: Settings,
 }
 
-// Does one line, and prints what it has to say.
+// Prints what a command had to say.
+fn say<W: Write>(state: &State, answer: &Answer, writer: &mut W) -> Result<(), ScriptFault>
+    ensures said { OnOk result (Appends (W.contents writer.old) (W.contents writer.new) (answer_text state.now.copy answer.now)) }
+    ensures refused { IfErr result (λ e. e ≡ ScriptFault.Write) }
+{
+    match state.print(answer, writer) {
+        Ok(()) => Ok(()),
+        Err(_) => Err(ScriptFault::Write),
+    }
+}
+
+// Does a command, and prints what it has to say.
+fn run_command<T: Threads + Wait + Sync, W: Write>(
+    host: &Host<'_, T>,
+    state: &mut State,
+    command: Command,
+    writer: &mut W,
+) -> Result<(), ScriptFault>
+    ensures ok { OnOk result ((a : Answer) × Does host.now.settings command state.old state.new a × Appends (W.contents writer.old) (W.contents writer.new) (answer_text state.new.copy a)) }
+    ensures refused { IfErr result (λ e. e ≡ ScriptFault.Write) }
+{
+    let answer = state.run(host.rt, host.settings, command);
+    say(state, &answer, writer)
+}
+
+// Does one line, and prints what it has to say. Most lines of a long script are changes, which say nothing.
 fn run_line<T: Threads + Wait + Sync, W: Write>(
     host: &Host<'_, T>,
     state: &mut State,
@@ -35,13 +64,11 @@ fn run_line<T: Threads + Wait + Sync, W: Write>(
     ensures begun { IfErr result (λ e. is_refused_whole e ≡ false) }
 {
     match read_command(host.alloc, line) {
-        Ok(command) => {
-            let answer = state.run(host.rt, host.settings, command);
-            match state.print(&answer, writer) {
-                Ok(()) => Ok(()),
-                Err(_) => Err(ScriptFault::Write),
-            }
-        }
+        Ok(Command::Change(change)) => match state.push_change(change) {
+            Ok(()) => Ok(()),
+            Err(_) => say(state, &Answer::Refused(Refusal::Memory), writer),
+        },
+        Ok(command) => run_command(host, state, command, writer),
         Err(LineFault::Bad) => Err(ScriptFault::BadLine(number)),
         Err(LineFault::Memory) => Err(ScriptFault::Memory),
     }

@@ -1,5 +1,5 @@
 //! What a script works on, and what its commands do.
-ghost use Rattle.std.specs.Prelude.{◌≡◌, IfOk, OnOk};
+ghost use Rattle.std.specs.Prelude.{◌≡◌, ◌∷◌, ◌++◌, [], IfOk, OnOk, OnErr};
 ghost use Rattle.std.specs.Io.KnownBytes.{Appends};
 ghost use Rattle.svn_update.specs.Answers.{answer_text};
 ghost use Rattle.svn_update.specs.ScriptStates.{new_state};
@@ -7,7 +7,7 @@ ghost use Rattle.svn_update.specs.Commands.{AddsChange, Does};
 
 use crate::answer::{Answer, AnswerLines, Refusal};
 use crate::runs::Wanted;
-use std::alloc::Global;
+use std::alloc::{AllocError, Global};
 use std::io;
 use std::io::Write;
 use std::marker::Model;
@@ -47,10 +47,21 @@ impl State {
         })
     }
 
+    /// One more change for the next commit. AllocError where a growth is refused: the state is as it was.
+    pub(crate) fn push_change(&mut self, change: Change) -> Result<(), AllocError>
+        ensures pushed { OnOk result (self.new ≡ record self.old { pending = self.old.pending ++ change ∷ [] }) }
+        ensures refused { OnErr result (self.new ≡ self.old) }
+    {
+        match self.pending.push(change) {
+            Ok(()) => Ok(()),
+            Err(_) => Err(AllocError),
+        }
+    }
+
     fn add_change(&mut self, change: Change) -> Answer
         ensures { AddsChange change self.old self.new result }
     {
-        match self.pending.push(change) {
+        match self.push_change(change) {
             Ok(()) => Answer::Silent,
             Err(_) => Answer::Refused(Refusal::Memory),
         }

@@ -7,8 +7,7 @@ use Rattle.svn_script.proofs.words.parse_bytes.Goals as goal
 
 pub returns-in-Ok : goal.returns-in-Ok
 returns-in-Ok c =
-    let other : bytes_eq c.args.bytes.now (46 ∷ []) ≡ false =
-    ap (bytes_eq c.args.bytes.now) (sym c.as_slice.ensures) ∙ (sym c.eq.ensures ∙ c.if-eq.false) in
+    let other : bytes_eq c.args.bytes.now (46 ∷ []) ≡ false = sym c.is_point.ensures ∙ c.if-is_point.false in
     subst (λ (read : Option Path). Gives (λ p. p) c.parse_path.result read)
     (ap (λ (text : List ℕ). path_of_names (path_of_text text)) c.in-Ok.ensures.cases.0
     ∙ sym (path_of_bytes_text c.args.bytes.now other c.in-Ok.ensures.cases.1))
@@ -16,6 +15,5 @@ returns-in-Ok c =
 
 pub returns-in-Err : goal.returns-in-Err
 returns-in-Err c =
-    let other : bytes_eq c.args.bytes.now (46 ∷ []) ≡ false =
-    ap (bytes_eq c.args.bytes.now) (sym c.as_slice.ensures) ∙ (sym c.eq.ensures ∙ c.if-eq.false) in
+    let other : bytes_eq c.args.bytes.now (46 ∷ []) ≡ false = sym c.is_point.ensures ∙ c.if-is_point.false in
     path_of_bytes_other c.args.bytes.now other c.in-Err.ensures.cases.0

@@ -1,6 +1,4 @@
 use Rattle.std.proofs.Common.{◌≡◌, ◌+◌, ◌≤◌, length}
-use denote.Text.{Utf8}
-use denote.Shadow.{shadow}
 use Rattle.std.specs.List.{slice_split}
 use Rattle.svn_types.specs.Names.{is_slash}
 use Rattle.svn_types.specs.NameFaults.{names_fault}
@@ -9,7 +7,7 @@ use Rattle.svn_types.proofs.rel_path.count_names.Given as goal
 -- no name so far has a fault, and with those that are left they are those of the text
 abbrev pub invariant-names : goal.invariant-names
 invariant-names l =
-    shadow (Utf8 l.rest) × (names_fault (slice_split is_slash l.rest) ≡ names_fault (slice_split is_slash l.fn.text))
+    (names_fault (slice_split is_slash l.rest) ≡ names_fault (slice_split is_slash l.fn.text))
     × (l.count + length (slice_split is_slash l.rest) ≡ 1 + length (slice_split is_slash l.fn.text))
     × (l.count + length l.rest ≤ 1 + length l.fn.text)
 

@@ -2,7 +2,4 @@ use Rattle.std.proofs.lemmas.Str.{IsUtf8-had}
 use Rattle.svn_types.proofs.path_key.PathKey.as_str.Goals as goal
 
 pub from_utf8_unchecked-requires : goal.from_utf8_unchecked-requires
-from_utf8_unchecked-requires c = rw c.as_slice.ensures (IsUtf8-had _ (rw c.in-Short.is at c.self.invariant))
-
-pub from_utf8_unchecked-requires-in-Long : goal.from_utf8_unchecked-requires-in-Long
-from_utf8_unchecked-requires-in-Long c = rw c.deref.ensures.value (IsUtf8-had _ (rw c.in-Long.is at c.self.invariant))
+from_utf8_unchecked-requires c = rw c.deref.ensures.value (IsUtf8-had _ (rw c.in-Long.is at c.self.invariant))

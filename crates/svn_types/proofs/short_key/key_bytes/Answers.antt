@@ -2,10 +2,10 @@ use Rattle.std.proofs.Common.{arith}
 use Rattle.std.proofs.lemmas.Grind.{common_steps}
 use Rattle.std.proofs.lemmas.Str.{IsUtf8-had}
 use Rattle.svn_types.proofs.KeyTexts.{text_with_name}
-use Rattle.svn_types.proofs.path_key.short_of.Goals as goal
+use Rattle.svn_types.proofs.short_key.key_bytes.Goals as goal
 
 pub loop-name-preserved : goal.loop-name-preserved
-loop-name-preserved c = (
+loop-name-preserved g c = (
   grind (arith, common_steps),
   grind (arith, common_steps),
   rw (c.push_all-in-loop-name.ensures, c.push_all.ensures)

@@ -1,8 +1,8 @@
 use Rattle.std.proofs.Common.{ℕ, ◌+◌, ◌∷◌, Bool, List, nat_eq, take, refl, sym, ap, ◌∙◌}
 use Rattle.std.specs.List.{slice_split}
 use Rattle.std.proofs.lemmas.List.{take_rest}
-use Rattle.svn_script.proofs.Splits.{split_at_position, split_nowhere}
-use Rattle.svn_script.proofs.lines.split_once.Goals as goal
+use Rattle.svn_types.proofs.Splits.{split_at_position, split_nowhere}
+use Rattle.svn_types.proofs.bytes.split_once.Goals as goal
 
 pub returns-in-Some-clause-parts : goal.returns-in-Some-clause-parts
 returns-in-Some-clause-parts c =

@@ -1,0 +1,78 @@
+//! Keys of paths that lie in the value itself.
+ghost use Rattle.std.specs.Prelude.{◌≡◌, ◌+◌, ◌<◌, ◌≤◌, ◌∷◌, ◌++◌, [], length, IfSome, IsUtf8, true};
+ghost use Rattle.svn_types.specs.PathKeys.{path_key, is_plain_path};
+
+use crate::name::Name;
+use crate::short_bytes::ShortBytes;
+use std::marker::Model;
+use std::str;
+
+/// A key of at most `K` bytes, which takes no memory of its own. `K` is below 256. A contract sees it as its bytes, which are a text.
+#[derive(Drop)]
+pub(crate) struct ShortKey<const K: usize> {
+    bytes: ShortBytes<K>,
+}
+
+impl<const K: usize> Model for ShortKey<K> {
+    ghost use Rattle.std.specs.Prelude.{ℕ, List, IsUtf8};
+
+    ghost Value = { List ℕ };
+
+    ghost view = { λ k. k.bytes };
+
+    ghost invariant = { λ k. ∥ IsUtf8 k.bytes ∥₁ };
+}
+
+// The bytes of the key of these names, if they are that few.
+fn key_bytes<const K: usize>(names: &[Name]) -> Option<ShortBytes<K>>
+    requires { K < 256 }
+    ensures key { IfSome result (λ k. k ≡ path_key names.now) }
+    ensures plain { IfSome result (λ _. is_plain_path names.now ≡ true) }
+    ensures text { IfSome result (λ k. ∥ IsUtf8 k ∥₁) }
+{
+    let mut key = ShortBytes::new();
+    for name in names {
+        let bytes = name.as_str().as_bytes();
+        if key.as_slice().len() + bytes.len() >= K {
+            return None;
+        }
+        key.push_all(bytes);
+        key.push_all(&[1]);
+    }
+    Some(key)
+}
+
+impl<const K: usize> ShortKey<K> {
+    /// The key of these names, if it has at most `K` bytes.
+    pub(crate) fn of(names: &[Name]) -> Option<ShortKey<K>>
+        requires { K < 256 }
+        ensures key { IfSome result (λ k. k ≡ path_key names.now) }
+        ensures plain { IfSome result (λ _. is_plain_path names.now ≡ true) }
+        ensures text { IfSome result (λ k. ∥ IsUtf8 k ∥₁) }
+    {
+        match key_bytes(names) {
+            Some(bytes) => Some(ShortKey { bytes }),
+            None => None,
+        }
+    }
+
+    /// A key with one name more, which has at most `K` bytes.
+    pub(crate) fn with_last(above: &str, last: &str) -> ShortKey<K>
+        requires small { K < 256 }
+        requires fits { length above.now + length last.now + 1 ≤ K }
+        ensures key { result ≡ above.now ++ last.now ++ 1 ∷ [] }
+        ensures text { ∥ IsUtf8 result ∥₁ }
+    {
+        let mut bytes = ShortBytes::of(above.as_bytes());
+        bytes.push_all(last.as_bytes());
+        bytes.push_all(&[1]);
+        ShortKey { bytes }
+    }
+
+    /// Its text.
+    pub(crate) fn as_str(&self) -> &str
+        ensures { result.now ≡ self.now }
+    {
+        unsafe { str::from_utf8_unchecked(self.bytes.as_slice()) }
+    }
+}
