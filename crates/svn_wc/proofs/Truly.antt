@@ -26,7 +26,7 @@ use Rattle.svn_model.specs.declared.base_node.BaseNode.{BaseNode}
 use Rattle.svn_model.specs.declared.base_node.BaseNode.TheVariants.{File as FileNode, Dir as DirNode, NotPresent}
 use Rattle.svn_model.specs.Nodes.{WorkingCopy, get_in, InPathOrder}
 use Rattle.svn_model.specs.Tree.{names_at}
-use Rattle.svn_model.specs.Truth.{Properties, prop_eq, props_eq, is_untrue, lacks_entry, first_untrue_in, first_untrue}
+use Rattle.svn_model.specs.Truth.{Properties, props_eq, is_untrue, lacks_entry, first_untrue_in, first_untrue}
 use Rattle.svn_model.proofs.Children.{entry_below, look-child}
 use Rattle.svn_wc.specs.Truths.{looked, entries_at, entry_in, HasNoEntries, CountsMissing, IsStep, IsNameBelow, PassesTo, IsRest}
 use Rattle.svn_wc.specs.Truths.{all_below, IsPast, HasWalked}
