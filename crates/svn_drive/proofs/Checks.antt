@@ -4,7 +4,7 @@ use Rattle.std.specs.Prelude.{false, Option, Some, None, slice_get, option_and_t
 use Rattle.std.specs.Option.{option_or}
 use Rattle.svn_types.specs.Names.{Path}
 use Rattle.svn_types.specs.Paths.{parent}
-use Rattle.svn_repo.specs.History.{History, Nodes, node_at, child_in, walk, look}
+use Rattle.svn_repo.specs.History.{History, node_at, walk, look}
 use Rattle.svn_report.specs.declared.entry.ReportEntry.{ReportEntry}
 use Rattle.svn_report.specs.Reports.{ReportView}
 use Rattle.svn_model.specs.declared.report_fault.ReportFault.{ReportFault}
@@ -13,28 +13,11 @@ use Rattle.svn_model.specs.declared.report_fault.ReportFault.TheVariants.{RootNo
 use Rattle.svn_model.specs.Sources.{Reported, reported, reported_child, source, source_at, is_hidden, governing_revision}
 use Rattle.svn_model.specs.Checks.{first_fault, first_fault_from}
 use Rattle.svn_drive.specs.Checking.{IsCheckAnswer, fault_of_entry, fault_at}
+use Rattle.svn_repo.proofs.Walking.{look-append}
 use Rattle.svn_model.proofs.Names.{Name}
 use Rattle.svn_model.proofs.Children.{reported-child, reported-path, parent-child}
 
--- ---- a path in two parts
-
-walk-append : (nodes : Nodes) (n : ℕ) (p q : Path) → walk nodes n (p ++ q) ≡ option_and_then (λ m. walk nodes m q) (walk nodes n p)
-walk-append nodes n [] q = refl
-walk-append nodes n (name ∷ p) q = by (child_in (nodes n) name) (λ m. walk-append nodes m p q)
-  where
-    by : (o : Option ℕ) → ((m : ℕ) → walk nodes m (p ++ q) ≡ option_and_then (λ k. walk nodes k q) (walk nodes m p))
-        → option_and_then (λ m. walk nodes m (p ++ q)) o ≡ option_and_then (λ m. walk nodes m q) (option_and_then (λ m. walk nodes m p) o)
-    by None next = refl
-    by (Some m) next = next m
-
-look-append : (h : History) (rev : ℕ) (p q : Path) → look h rev (p ++ q) ≡ option_and_then (λ m. walk (node_at h) m q) (look h rev p)
-look-append h rev p q = by (slice_get h.roots rev)
-  where
-    by : (o : Option ℕ)
-        → option_and_then (λ n. walk (node_at h) n (p ++ q)) o
-        ≡ option_and_then (λ m. walk (node_at h) m q) (option_and_then (λ n. walk (node_at h) n p) o)
-    by None = refl
-    by (Some n) = walk-append (node_at h) n p q
+-- ---- below what is found at a path
 
 pub below_none : (h : History) (rev : ℕ) (p q : Path) → look h rev p ≡ None → None ≡ look h rev (p ++ q)
 below_none h rev p q e = sym (look-append h rev p q ∙ ap (option_and_then (λ m. walk (node_at h) m q)) e)

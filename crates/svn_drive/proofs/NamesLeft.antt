@@ -17,7 +17,8 @@ use Rattle.std.proofs.lemmas.Bool.{or_left, or_right, or_parts, not-false}
 use Rattle.svn_types.specs.Names.{Path, name_cmp}
 use Rattle.svn_types.specs.Paths.{child}
 use Rattle.svn_types.specs.Pairs.{InNameOrder, value_of}
-use Rattle.svn_types.proofs.NameLemmas.{Name, same_bytes, bytes_eq-same, same_name, name_cmp-same, lt_chain, flipped, has_name-fold}
+use Rattle.svn_types.proofs.NameLemmas.{Name, same_bytes, bytes_eq-same, same_name, name_cmp-same, lt_chain, is_less, reversed, flipped}
+use Rattle.svn_types.proofs.NameLemmas.{has_name-fold}
 use Rattle.svn_types.proofs.NameLemmas.{value_of-first, no_name_no_value}
 use Rattle.svn_types.proofs.NameSets.{fold_sorted}
 use Rattle.svn_repo.specs.History.{History}
@@ -41,11 +42,6 @@ use Rattle.svn_drive.proofs.Idle.{entry-below}
 has_own : (n : Name) (ns : List Name) → has_name (n ∷ ns) n ≡ true
 has_own n ns = ap (λ b. b || has_name ns n) (bytes_eq-same n)
 
-less : (o : Ordering) → is_lt o ≡ true → o ≡ Less
-less Less e = refl
-less Equal e = absurd (true≢false (sym e))
-less Greater e = absurd (true≢false (sym e))
-
 -- a name before the first one is before all
 all_after : (n k : Name) (ms : List Name) → name_cmp n k ≡ Less → Ordered (k ∷ ms) → list_any (not_before n) (k ∷ ms) ≡ false
 all_after n k ms e h =
@@ -60,7 +56,7 @@ one_after n (k ∷ ns) m a h = by (bytes_eq k m) refl h (one_after n ns m parts.
 
     by : (b : Bool) → bytes_eq k m ≡ b → (b || has_name ns m) ≡ true → (has_name ns m ≡ true → name_cmp n m ≡ Less) → name_cmp n m ≡ Less
     by true q e ih =
-        ap (name_cmp n) (sym (same_bytes k m q)) ∙ less (name_cmp n k) (not-false (is_lt (name_cmp n k)) parts.0)
+        ap (name_cmp n) (sym (same_bytes k m q)) ∙ is_less (name_cmp n k) (not-false (is_lt (name_cmp n k)) parts.0)
     by false q e ih = ih e
 
 -- two lists in order with the same names are one
@@ -80,7 +76,7 @@ same_list (x ∷ xs) (y ∷ ys) h k e = by (name_cmp x y) refl (same_list xs ys 
     by : (o : Ordering) → name_cmp x y ≡ o → (((m : Name) → has_name xs m ≡ has_name ys m) → xs ≡ ys) → x ∷ xs ≡ y ∷ ys
     by Less q ih = absurd (true≢false (sym (has_own x xs) ∙ e x ∙ ordered_apart x (y ∷ ys) (all_after x y ys q k)))
     by Greater q ih =
-        let before = all_after y x xs (less (name_cmp y x) (flipped x y q)) h in
+        let before = all_after y x xs (reversed x y Greater q) h in
         absurd (true≢false (sym (has_own y ys) ∙ sym (e y) ∙ ordered_apart y (x ∷ xs) before))
     by Equal q ih = let s = same_name x y q in λ i. s i ∷ ih (λ m. rest s m (bytes_eq x m) refl) i
 

@@ -9,7 +9,7 @@ use Rattle.std.proofs.lemmas.Map.Keys.{sorted_head, sorted_tail}
 use Rattle.svn_types.specs.Names.{Path, path_cmp}
 use Rattle.svn_model.specs.declared.base_node.BaseNode.{BaseNode}
 use Rattle.svn_model.specs.Nodes.{get_in, InPathOrder}
-use Rattle.svn_edit_law.proofs.PathsBelow.{path_is}
+use Rattle.svn_types.proofs.PathLemmas.{same_path as path_is}
 use Rattle.svn_edit_law.proofs.Lookups.{at_path, get_in-append}
 use Rattle.svn_edit_law.proofs.NodeLists.{found_first}
 

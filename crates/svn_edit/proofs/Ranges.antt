@@ -18,7 +18,8 @@ use Rattle.svn_types.specs.Paths.{path_eq, is_within}
 use Rattle.svn_types.proofs.PathsInOrder.{paths_total, not_before_itself, below_after, within_between}
 use Rattle.svn_model.specs.declared.base_node.BaseNode.{BaseNode}
 use Rattle.svn_model.specs.Nodes.{get_in, InPathOrder}
-use Rattle.svn_edit_law.proofs.PathsBelow.{same_name, path_is, path_eq-sym}
+use Rattle.svn_types.proofs.NameLemmas.{bytes_eq-same as same_name}
+use Rattle.svn_types.proofs.PathLemmas.{same_path as path_is, path_eq-symm as path_eq-sym}
 use Rattle.svn_edit_law.proofs.Lookups.{at_path, get_in-append}
 use Rattle.svn_edit.proofs.NodeOrder.{first_or_after, order_behind}
 

@@ -14,7 +14,7 @@ use Rattle.svn_model.specs.Nodes.{get_in, InPathOrder, is_present}
 use Rattle.svn_model.specs.Nodes.{at_revision}
 use Rattle.svn_model.specs.Effects.{settled}
 use Rattle.svn_edit.specs.NodeTests.{moved_paths, settled_next, paths_left}
-use Rattle.svn_edit_law.proofs.PathsBelow.{path_is}
+use Rattle.svn_types.proofs.PathLemmas.{same_path as path_is}
 use Rattle.svn_edit_law.proofs.Lookups.{at_path}
 use Rattle.svn_edit_law.proofs.NodeLists.{absent_after}
 

@@ -12,7 +12,7 @@ use Rattle.svn_repo.specs.History.{History, NodeRow, node_at, walk, look}
 use Rattle.svn_repo.specs.Readings.{IsHistory, kind_of, text_of, props_of, row_or_empty}
 use Rattle.svn_types.specs.Limits.{path_limit}
 use Rattle.svn_types.proofs.NameLemmas.{Name}
-use Rattle.svn_types.proofs.PathLemmas.{same_path, path_eq-same, parent-child, within_append}
+use Rattle.svn_types.proofs.PathLemmas.{same_path, path_eq-same, parent-child, split_within, within_append}
 pub use Rattle.svn_types.proofs.Places.{passed}
 use Rattle.svn_repo.specs.Laws.{NodesExist}
 use Rattle.svn_editor.proofs.OneMore.{not_false}
@@ -28,8 +28,7 @@ use Rattle.svn_model.specs.Refusals.{forget_fault}
 use Rattle.svn_edit_law.specs.Laws.{EndsNamed}
 use Rattle.svn_edit_law.specs.CopyLaws.{KeepsCopy, commits_keep_copies_true, a_checkout_is_a_true_copy, placing_keeps_a_copy}
 use Rattle.svn_edit_law.specs.CopyLaws.{switching_keeps_a_copy, forgetting_keeps_a_copy}
-use Rattle.svn_edit_law.proofs.OpenStand.{split_within}
-use Rattle.svn_edit_law.proofs.OneNode.{dir_present}
+use Rattle.svn_edit_law.proofs.OneNode.{dir_present, present_stands}
 use Rattle.svn_edit_law.proofs.Parts.{drop_front, outside_true, IsTree, tree_true, tree_parents, tree_names, tree_repos_paths, tree_paths}
 use Rattle.svn_edit_law.proofs.Parts.{replaced_shape}
 
@@ -154,7 +153,7 @@ module _ (h : History) (w : WorkingCopy) (at q : Path) (r : ℕ) where
         by false e = outside_true h w new at new_outside there p e (t p)
         by true e =
             let z = split_within at p e in
-            subst (λ x. IsTrueNode h new x (new x)) z.1 (tree_true h new at q r new_tree z.0)
+            subst (λ x. IsTrueNode h new x (new x)) (sym z.1) (tree_true h new at q r new_tree z.0)
 
     placed_keeps : IsHistory h → IsWorkingCopy w → EndsNamed at → is_root at ≡ false → is_dir (w (parent at)) ≡ true
         → length at ≤ path_limit + length q → KeepsCopy h w new
@@ -294,15 +293,12 @@ module _ (w : WorkingCopy) (at : Path) where
         by (inl k) = true≢false (sym present ∙ ap is_present k)
         by (inr k) = true≢false (sym present ∙ ap is_present k)
 
-    present_some : (o : Option BaseNode) → is_present o ≡ true → o ≢ None
-    present_some o e n = true≢false (sym e ∙ ap is_present n)
-
     forgotten_shape : IsWorkingCopy left
     forgotten_shape = replaced_shape w left at shape (record {
       not_root = (passed (is_root at) IsRoot _ f).0;
       outside = left_outside;
-      above = λ p name e. shape.parents p name (λ none. present_some (w at) present_at (ap w e ∙ none));
-      named = λ p name e. shape.names p name (λ none. present_some (w at) present_at (ap w e ∙ none));
+      above = λ p name e. shape.parents p name (λ none. present_stands (w at) present_at (ap w e ∙ none));
+      named = λ p name e. shape.names p name (λ none. present_stands (w at) present_at (ap w e ∙ none));
       parents = λ s name some. absurd (no_child s name some);
       names = λ s name some. absurd (no_child s name some);
       repos_paths = λ s present. absurd (absent s present);

@@ -8,15 +8,14 @@ use Rattle.std.specs.Map.{keys_of}
 use Rattle.std.proofs.lemmas.Bool.{and_parts, false_from_ne_true, le-ltb}
 use Rattle.svn_types.specs.Names.{Path, path_cmp}
 use Rattle.svn_types.specs.Paths.{path_eq, is_below, is_within, is_root, child, parent}
-use Rattle.svn_types.proofs.PathOrder.{below_after}
 use Rattle.svn_report.specs.declared.entry.ReportEntry.{ReportEntry}
 use Rattle.svn_report.specs.declared.entry.ReportEntry.TheVariants.{SetPath, LinkPath, DeletePath}
 use Rattle.svn_report.specs.declared.reporter_fault.ReporterFault.{ReporterFault}
 use Rattle.svn_report.specs.declared.reporter_fault.ReporterFault.TheVariants.{NotRootFirst, Repeated, UnderDeleted, ParentLater, TooDeep}
 use Rattle.svn_report.specs.Reports.{Entries, entry_at, has_entry_below, is_delete, is_deleted_at, is_deleted_above}
 use Rattle.svn_types.specs.Limits.{path_limit}
-use Rattle.svn_types.proofs.PathLemmas.{same_path, path_eq-same}
-use Rattle.svn_types.proofs.PathsInOrder.{not_before_itself, not_both, not_before_root, before_apart}
+use Rattle.svn_types.proofs.PathLemmas.{same_path, path_eq-same, split_within}
+use Rattle.svn_types.proofs.PathsInOrder.{not_before_itself, not_both, not_before_root, before_apart, below_after}
 use Rattle.svn_report.specs.Reports.{is_link_too_deep, is_root_missing, reporter_fault}
 use Rattle.svn_report.specs.LawfulReports.{IsRootFirst, IsReport}
 use Rattle.svn_model.specs.declared.base_node.BaseNode.{BaseNode}
@@ -25,7 +24,6 @@ use Rattle.svn_model.specs.Nodes.{WorkingCopy, get_in, InPathOrder, IsWorkingCop
 use Rattle.svn_model.specs.Nodes.{node_path}
 use Rattle.svn_model.specs.Crawl.{entry_for, reported_at, crawl, is_switched}
 use Rattle.svn_edit_law.specs.CopyLaws.{a_crawl_is_a_report}
-use Rattle.svn_edit_law.proofs.OpenStand.{split_within}
 use Rattle.svn_edit_law.proofs.NodeLists.{get_in-first, rest_in_order, first_before}
 use Rattle.svn_edit_law.proofs.Crawls.{crawled, entry_at-crawl}
 
@@ -201,14 +199,14 @@ directory_above w shape p q below some = by (split_within p q parts.0)
     parts : (is_within p q ≡ true) × (not (path_eq p q) ≡ true)
     parts = and_parts (is_within p q) (not (path_eq p q)) below
 
-    by : (r : Path) × (p ++ r ≡ q) → is_dir (w p) ≡ true
+    by : (r : Path) × (q ≡ p ++ r) → is_dir (w p) ≡ true
     by found = at found.0 found.1
       where
-        at : (r : Path) → p ++ r ≡ q → is_dir (w p) ≡ true
+        at : (r : Path) → q ≡ p ++ r → is_dir (w p) ≡ true
         at [] e =
-            let one : path_eq p q ≡ true = ap (path_eq p) (sym e ∙ append-nil p) ∙ path_eq-same p in
+            let one : path_eq p q ≡ true = ap (path_eq p) (e ∙ append-nil p) ∙ path_eq-same p in
             absurd (true≢false (sym parts.1 ∙ ap not one))
-        at (name ∷ r) e = directory_over w shape r p name (λ n. some (ap w (sym e) ∙ n))
+        at (name ∷ r) e = directory_over w shape r p name (λ n. some (ap w e ∙ n))
 
 -- what is in a list comes after what comes before all its paths
 present_after : (x : Path) (es : List (Path × BaseNode)) → AllByRecursion (λ q. path_cmp x q ≡ Less) (keys_of es)

@@ -1,5 +1,3 @@
--- paths below one another, for the crates above
-pub mod PathsBelow
 -- the last name of a path, and where nothing stands nothing changes
 pub mod PathParts
 -- a copy as a map, and as the function from paths
@@ -12,12 +10,12 @@ pub mod StepEffects
 pub mod Appending
 -- each token has a path of its own, and nothing is said of a path that wasn't opened
 pub mod OnePath
+-- the shape of a copy after one node is changed, after a delete and after the end
+pub mod OneNode
 -- where an edit opened a directory, a directory stands from then on
 pub mod OpenStand
 -- what stands at the path of an open file stays until its close
 pub mod FilesStand
--- the shape of a copy after one node is changed, after a delete and after the end
-pub mod OneNode
 -- a call that isn't refused keeps the shape of the copy
 pub mod Shape
 -- the entries of a directory, and where each stands below a path

@@ -13,7 +13,6 @@ use Rattle.svn_types.specs.Names.{Path, path_cmp}
 use Rattle.svn_types.specs.Paths.{path_eq}
 use Rattle.svn_types.proofs.PathLemmas.{same_path, path_eq-symm, path_eq-same}
 use Rattle.svn_types.proofs.PathsInOrder.{at_path, paths_total}
-pub use Rattle.svn_types.proofs.PathsInOrder.{not_before_itself, not_both}
 use Rattle.svn_model.specs.declared.base_node.BaseNode.{BaseNode}
 use Rattle.svn_model.specs.Nodes.{get_in, InPathOrder}
 

@@ -157,7 +157,7 @@ settled_present mode target p (Some (DirNode r q complete props)) h = refl
 settled_present mode target p (Some NotPresent) h = absurd (h refl)
 settled_present mode target p None h = absurd (h refl)
 
-settled_is_dir : (mode : Mode) (target : ℕ) (p : Path) (o : Option BaseNode) → is_dir o ≡ true → is_dir (settled mode target p o) ≡ true
+pub settled_is_dir : (mode : Mode) (target : ℕ) (p : Path) (o : Option BaseNode) → is_dir o ≡ true → is_dir (settled mode target p o) ≡ true
 settled_is_dir mode target p (Some (DirNode r q c ps)) h = refl
 settled_is_dir mode target p o h = absurd (true≢false (sym h))
 

@@ -14,7 +14,7 @@ use Rattle.svn_editor.specs.declared.call.Call.TheVariants.{ChangeFileProp, Appl
 use Rattle.svn_editor.specs.Calls.{Given, given_by, named_by, opens_entry, deletes, all_given, given, given_path, path_of, is_of_kind}
 use Rattle.svn_editor.specs.Order.{order_fault, IsLawfulAfter, IsLawful}
 use Rattle.svn_editor.specs.Steps.{Action, Delete, Open, Add, Change, Text, Close, step_of, steps_of}
-use Rattle.svn_types.proofs.PathOrder.{same_path, path_eq-same}
+use Rattle.svn_types.proofs.PathLemmas.{same_path, path_eq-same}
 use Rattle.svn_types.proofs.Places.{get_cases, some_none}
 use Rattle.svn_editor.proofs.OneMore.{or_parts, any_more, given_none, given_one}
 use Rattle.svn_editor.proofs.Accepted.{IsAccepted, accepted}
@@ -262,7 +262,7 @@ module _ (calls : List Call) (c : Call) (m : ℕ) (act : Action) (is : noted c �
       said-more calls c (path_of calls m)
       ∙ ap (λ (l : List Action). said_at (path_of calls m) (steps_of calls) ++ l)
       (said_by-noted calls c (path_of calls m) m act is
-      ∙ ap (λ b. cond (b && true) (act ∷ []) []) (path_eq-same (path_of calls m) (path_of calls m) refl))
+      ∙ ap (λ b. cond (b && true) (act ∷ []) []) (path_eq-same (path_of calls m)))
 
   pub said-other : (p : Path) → (path_of calls m ≡ p → ⊥) → said_at p (steps_of (calls ++ c ∷ [])) ≡ said_at p (steps_of calls)
   said-other p other =

@@ -1,14 +1,14 @@
 -- At the path of each directory that an edit opened stands a directory, from then on.
-use Rattle.std.proofs.Common.{◌≡◌, ℕ, Bool, true, false, cond, ◌&&◌, List, [], ◌∷◌, ◌++◌, refl, sym, ◌∙◌, ap, true≢false, inl, inr}
+use Rattle.std.proofs.Common.{◌≡◌, ℕ, Bool, true, false, cond, List, [], ◌∷◌, ◌++◌, refl, sym, ◌∙◌, ap, true≢false, inl, inr}
 use Rattle.std.proofs.Common.{append_assoc, append-nil}
-use Rattle.std.specs.Prelude.{Option, Some, None, ◌⊎◌, bytes_eq}
+use Rattle.std.specs.Prelude.{Option, Some, None, ◌⊎◌}
 use Rattle.std.specs.List.{list_any}
 use Rattle.std.proofs.lemmas.Option.{same_Some}
 use Rattle.svn_types.specs.declared.kind.Kind.TheVariants.{File, Directory}
 use Rattle.svn_types.specs.Names.{Path}
 use Rattle.svn_types.specs.Props.{PropChange}
 use Rattle.svn_types.specs.Paths.{path_eq, is_within, child}
-use Rattle.svn_types.proofs.PathLemmas.{same_path, path_eq-same}
+use Rattle.svn_types.proofs.PathLemmas.{same_path, path_eq-same, split_within}
 use Rattle.svn_editor.specs.declared.call.Call.{Call}
 use Rattle.svn_editor.specs.declared.call.Call.TheVariants.{SetTargetRevision, OpenRoot, DeleteEntry, AddDirectory, OpenDirectory}
 use Rattle.svn_editor.specs.declared.call.Call.TheVariants.{ChangeDirProp, CloseDirectory, AddFile, OpenFile, ChangeFileProp, ApplyText}
@@ -17,29 +17,18 @@ use Rattle.svn_editor.specs.Calls.{Given, kind_eq, given, given_by, opens_entry,
 use Rattle.svn_editor.specs.Steps.{Mode, Action, Open, Add, Change, Text, Close, steps_of, target_of}
 use Rattle.svn_editor.proofs.OneMore.{any_weaker, false_from}
 use Rattle.svn_editor.proofs.Accepted.{IsAccepted}
-use Rattle.svn_order.proofs.Sound.{IsSound, touches, member_of}
+use Rattle.svn_order.proofs.Sound.{IsSound, touches, opens_touches, member_of}
 use Rattle.svn_model.specs.declared.base_node.BaseNode.{BaseNode}
 use Rattle.svn_model.specs.declared.base_node.BaseNode.TheVariants.{Dir as DirNode}
 use Rattle.svn_model.specs.Nodes.{WorkingCopy, is_dir}
 use Rattle.svn_edit_law.specs.Laws.{OpenDirectoriesStand, is_open_of}
 use Rattle.svn_model.specs.Effects.{changes_at, texts_at, moved_path, joined_path, effect, stepped, below_after, opened_directory}
-use Rattle.svn_model.specs.Effects.{closed_directory, closed_file, settled, step_effect}
+use Rattle.svn_model.specs.Effects.{closed_directory, closed_file, step_effect}
 use Rattle.svn_edit_law.proofs.StepEffects.{effect_alone, effect_delete}
+use Rattle.svn_edit_law.proofs.OneNode.{settled_is_dir}
 use Rattle.svn_edit_law.proofs.OnePath.{opened_first, given_cases}
 
 -- ---- the parent of an opened path is opened, and so on upwards
-
-not_root : (p : Path) (n : List ℕ) → path_eq [] (p ++ n ∷ []) ≡ false
-not_root [] n = refl
-not_root (m ∷ p) n = refl
-
-touched : (p : Path) (n : List ℕ) (c : Call) → opens_entry (child p n) c ≡ true → touches (child p n) c ≡ true
-touched p n (OpenRoot base token) h = absurd (true≢false (sym h ∙ not_root p n))
-touched p n (AddDirectory path parent token) h = h
-touched p n (OpenDirectory path parent base token) h = h
-touched p n (AddFile path parent token) h = h
-touched p n (OpenFile path parent base token) h = h
-touched p n _ h = absurd (true≢false (sym h))
 
 pub opened_parent : (calls : List Call) → IsSound calls → (p : Path) (n : List ℕ) → list_any (opens_entry (child p n)) calls ≡ true
     → list_any (opens_entry p) calls ≡ true
@@ -48,7 +37,8 @@ opened_parent calls s p n h = by (list_any (opens_entry p) calls) refl
     by : (b : Bool) → list_any (opens_entry p) calls ≡ b → b ≡ true
     by true e = refl
     by false e =
-        absurd (true≢false (sym h ∙ any_weaker (opens_entry (child p n)) (touches (child p n)) calls (touched p n) (s.entries_in p n e)))
+        absurd (true≢false
+        (sym h ∙ any_weaker (opens_entry (child p n)) (touches (child p n)) calls (opens_touches p n) (s.entries_in p n e)))
 
 pub opened_above : (calls : List Call) → IsSound calls → (r p : Path) → list_any (opens_entry (p ++ r)) calls ≡ true
     → list_any (opens_entry p) calls ≡ true
@@ -57,28 +47,12 @@ opened_above calls s (x ∷ r) p h =
     opened_parent calls s p x
     (opened_above calls s r (p ++ x ∷ []) (ap (λ (q : Path). list_any (opens_entry q) calls) (append_assoc p (x ∷ []) r) ∙ h))
 
-pub split_within : (p q : Path) → is_within p q ≡ true → (r : Path) × (p ++ r ≡ q)
-split_within [] q h = (q, refl)
-split_within (m ∷ p) [] h = absurd (true≢false (sym h))
-split_within (m ∷ p) (n ∷ q) h = by (bytes_eq m n) refl h (split_within p q)
-  where
-    by : (b : Bool) → bytes_eq m n ≡ b → (b && is_within p q) ≡ true → (is_within p q ≡ true → (r : Path) × (p ++ r ≡ q))
-        → (r : Path) × ((m ∷ p) ++ r ≡ n ∷ q)
-    by true e k ih = let x = ih k in (x.0, λ i. name i ∷ x.1 i)
-      where
-        name : m ≡ n
-        name = path_name (same_path (m ∷ []) (n ∷ []) (ap (λ b. b && true) e))
-          where
-            path_name : m ∷ [] ≡ n ∷ [] → m ≡ n
-            path_name k = cc
-    by false e k ih = absurd (true≢false (sym k))
-
 -- no opened path is at a deleted one or below
 pub delete_spares : (calls : List Call) → IsSound calls → (p : Path) → list_any (opens_entry p) calls ≡ false → (t : ℕ) (g : Given)
     → given calls t ≡ Some g → is_within p g.path ≡ false
 delete_spares calls s p h t g e = false_from (is_within p g.path) (λ w.
     let x = split_within p g.path w in
-    true≢false (sym (opened_above calls s x.0 p (ap (λ (q : Path). list_any (opens_entry q) calls) x.1 ∙ member_of calls t g e)) ∙ h))
+    true≢false (sym (opened_above calls s x.0 p (ap (λ (q : Path). list_any (opens_entry q) calls) (sym x.1) ∙ member_of calls t g e)) ∙ h))
 
 -- ---- directories stay
 
@@ -96,10 +70,6 @@ pub opened_dir : (target : ℕ) (moved : Path → Path) (o : Option BaseNode) �
     → is_dir (opened_directory target moved o) ≡ true
 opened_dir target moved (Some (DirNode r q c ps)) h = refl
 opened_dir target moved o h = absurd (true≢false (sym h))
-
-pub settled_dir : (mode : Mode) (target : ℕ) (p : Path) (o : Option BaseNode) → is_dir o ≡ true → is_dir (settled mode target p o) ≡ true
-settled_dir mode target p (Some (DirNode r q c ps)) h = refl
-settled_dir mode target p o h = absurd (true≢false (sym h))
 
 module _ (mode : Mode) (calls : List Call) (w : WorkingCopy) where
   -- a step at another path, or one that leaves a directory one
@@ -151,7 +121,7 @@ module _ (mode : Mode) (calls : List Call) (w : WorkingCopy) where
             (λ same k. closed_file_dir (target_of calls) (moved_path mode w (path_of calls token)) (joined_path w (path_of calls token))
             (changes_at (path_of calls token) (steps_of calls)) (texts_at (path_of calls token) (steps_of calls))
             (w (path_of calls token)) k) h
-        by CloseEdit b = settled_dir mode (target_of calls) g.path (w g.path) h
+        by CloseEdit b = settled_is_dir mode (target_of calls) g.path (w g.path) h
         by AbortEdit b = h
 
     -- what stands at a path that is opened now: of an open a directory stood there before, since the call isn't refused

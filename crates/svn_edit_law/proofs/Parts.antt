@@ -13,14 +13,14 @@ use Rattle.svn_repo.specs.History.{History, look}
 use Rattle.svn_repo.specs.Readings.{IsHistory, kind_of, text_of, props_of, entries_of}
 use Rattle.svn_types.specs.Limits.{path_limit}
 use Rattle.svn_types.proofs.NameLemmas.{Name, same_bytes, value_of_name}
-use Rattle.svn_types.proofs.PathLemmas.{is_within-longer}
+use Rattle.svn_types.proofs.PathLemmas.{split_within, is_within-longer}
 use Rattle.svn_model.specs.declared.base_node.BaseNode.{BaseNode}
 use Rattle.svn_model.specs.declared.base_node.BaseNode.TheVariants.{File as FileNode, Dir as DirNode, NotPresent}
 use Rattle.svn_model.specs.Nodes.{WorkingCopy, IsWorkingCopy, IsTrueNode, is_present, is_dir, node_path, base_node_by, base_node}
 use Rattle.svn_model.specs.Builders.{checkout}
 use Rattle.svn_model.proofs.Children.{entry_below, look-child}
 use Rattle.svn_edit_law.specs.Laws.{EndsNamed}
-use Rattle.svn_edit_law.proofs.OpenStand.{split_within}
+use Rattle.svn_edit_law.proofs.OneNode.{present_stands}
 use Rattle.svn_edit_law.proofs.Entries.{allowed_name, entries_stand, entries_kept}
 
 -- ---- paths
@@ -170,21 +170,18 @@ module _ (h : History) (v : WorkingCopy) (at q : Path) (r : ℕ) (tree : IsTree 
         let z = parent_looked s name some in
         allowed_name (entries_of h z.0) name z.1 (history.entries_named r (q ++ s) z.0 z.2) z.3
 
-    present_some : (o : Option BaseNode) → is_present o ≡ true → o ≢ None
-    present_some o h e = true≢false (sym h ∙ ap is_present e)
-
     tree_path : (s : Path) (n : ℕ) → look h r (q ++ s) ≡ Some n → node_path (v (at ++ s)) ≡ q ++ s
     tree_path s n e = ap node_path (node_is s n e) ∙ path_of (kind_of h n) (q ++ s) (text_of h n) (props_of h n)
 
     pub tree_repos_paths : (s : Path) → is_present (v (at ++ s)) ≡ true → length (node_path (v (at ++ s))) ≤ path_limit
     tree_repos_paths s present =
-        let z = looked s (present_some (v (at ++ s)) present) in
+        let z = looked s (present_stands (v (at ++ s)) present) in
         subst (λ p. length p ≤ path_limit) (sym (tree_path s z.0 z.1)) (history.paths_short r (q ++ s) z.0 z.1)
 
     pub tree_paths : length at ≤ path_limit + length q → (s : Path) → is_present (v (at ++ s)) ≡ true
         → length (at ++ s) ≤ path_limit + length (node_path (v (at ++ s)))
     tree_paths near s present =
-        let z = looked s (present_some (v (at ++ s)) present) in
+        let z = looked s (present_stands (v (at ++ s)) present) in
         let one : length (at ++ s) ≡ length at + length s = length-append at s in
         let two : length (q ++ s) ≡ length q + length s = length-append q s in
         subst (λ p. length (at ++ s) ≤ path_limit + length p) (sym (tree_path s z.0 z.1)) (omega arith)
@@ -227,7 +224,7 @@ module _ (w w' : WorkingCopy) (at : Path) (shape : IsWorkingCopy w) (part : Repl
       by true false e f = ap is_dir (part.outside p f) ∙ part.above p name (first_within at p name e f)
       by true true e f =
           let z = split_within at p f in
-          ap (λ x. is_dir (w' x)) (sym z.1) ∙ part.parents z.0 name (λ none. some (ap (λ x. w' (child x name)) (sym z.1) ∙ none))
+          ap (λ x. is_dir (w' x)) z.1 ∙ part.parents z.0 name (λ none. some (ap (λ x. w' (child x name)) z.1 ∙ none))
 
   new_names : (p : Path) (name : Name) → w' (child p name) ≢ None → IsName name
   new_names p name some = by (is_within at (child p name)) (is_within at p) refl refl
@@ -237,7 +234,7 @@ module _ (w w' : WorkingCopy) (at : Path) (shape : IsWorkingCopy w) (part : Repl
       by true false e f = part.named p name (first_within at p name e f)
       by true true e f =
           let z = split_within at p f in
-          part.names z.0 name (λ none. some (ap (λ x. w' (child x name)) (sym z.1) ∙ none))
+          part.names z.0 name (λ none. some (ap (λ x. w' (child x name)) z.1 ∙ none))
 
   -- what holds of each present node outside and within holds of each
   each : (P : Path → Path → Type 0) → ((p : Path) → is_present (w p) ≡ true → P p (node_path (w p)))
@@ -249,7 +246,7 @@ module _ (w w' : WorkingCopy) (at : Path) (shape : IsWorkingCopy w) (part : Repl
       by false e = subst (λ o. P p (node_path o)) (sym (part.outside p e)) (old p (sym (ap is_present (part.outside p e)) ∙ present))
       by true e =
           let z = split_within at p e in
-          subst (λ x. P x (node_path (w' x))) z.1 (new z.0 (ap (λ x. is_present (w' x)) z.1 ∙ present))
+          subst (λ x. P x (node_path (w' x))) (sym z.1) (new z.0 (ap (λ x. is_present (w' x)) (sym z.1) ∙ present))
 
   pub replaced_shape : IsWorkingCopy w'
   replaced_shape = record {

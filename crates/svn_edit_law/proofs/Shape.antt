@@ -11,7 +11,7 @@ use Rattle.svn_types.specs.Names.{Path, IsName}
 use Rattle.svn_types.specs.Props.{PropChange}
 use Rattle.svn_types.specs.Paths.{path_eq, is_within, is_root, child, parent as parent_of, last_name}
 use Rattle.svn_types.specs.Limits.{path_limit}
-use Rattle.svn_types.proofs.PathLemmas.{same_path, path_eq-same, path_eq-longer, parent-child}
+use Rattle.svn_types.proofs.PathLemmas.{same_path, path_eq-same, path_eq-longer, parent-child, split_within}
 use Rattle.svn_types.proofs.Places.{some_none, passed}
 use Rattle.svn_editor.specs.declared.call.Call.{Call}
 use Rattle.svn_editor.specs.declared.call.Call.TheVariants.{SetTargetRevision, OpenRoot, DeleteEntry, AddDirectory, OpenDirectory}
@@ -37,7 +37,7 @@ use Rattle.svn_model.specs.Effects.{opened_directory, closed_directory, closed_f
 use Rattle.svn_model.specs.Effects.{refusal}
 use Rattle.svn_edit_law.proofs.StepEffects.{effect_alone, effect_none, effect_delete}
 use Rattle.svn_edit_law.proofs.OnePath.{opened_first, given_cases, pathed}
-use Rattle.svn_edit_law.proofs.OpenStand.{opened_parent, opened_above, split_within, opened_dir, closed_dir, closed_file_dir}
+use Rattle.svn_edit_law.proofs.OpenStand.{opened_parent, opened_above, opened_dir, closed_dir, closed_file_dir}
 use Rattle.svn_edit_law.proofs.OpenStand.{directories_stand}
 use Rattle.svn_edit_law.proofs.FilesStand.{file_kept}
 use Rattle.svn_edit_law.proofs.OneNode.{split_last, dir_present, present_stands, short_enough, Fits, parent_dir, above_old, joined_fits}
@@ -312,7 +312,7 @@ module _ (checksum : List ℕ → List ℕ) (mode : Mode) (nodes : List (Path ×
   spared : (p r : Path) → list_any (opens_entry p) calls ≡ false → list_any (opens_entry r) calls ≡ true → is_within p r ≡ false
   spared p r h o = false_from (is_within p r) (λ i.
       let x = split_within p r i in
-      true≢false (sym (opened_above calls s x.0 p (ap (λ (y : Path). list_any (opens_entry y) calls) x.1 ∙ o)) ∙ h))
+      true≢false (sym (opened_above calls s x.0 p (ap (λ (y : Path). list_any (opens_entry y) calls) (sym x.1) ∙ o)) ∙ h))
 
   parent_opened : (r : Path) → list_any (opens_entry r) calls ≡ true → list_any (opens_entry (parent_of r)) calls ≡ true
   parent_opened [] h = h

@@ -20,7 +20,7 @@ use Rattle.svn_edit_law.proofs.NodeLists.{get_in-first, AllIn, all_in}
 
 -- ---- equal properties
 
-prop_decides : (a b : List ℕ × List ℕ) → (prop_eq a b ≡ true → a ≡ b) × (a ≡ b → prop_eq a b ≡ true)
+pub prop_decides : (a b : List ℕ × List ℕ) → (prop_eq a b ≡ true → a ≡ b) × (a ≡ b → prop_eq a b ≡ true)
 prop_decides a b = (
   λ e.
       let parts = and_parts (bytes_eq a.0 b.0) (bytes_eq a.1 b.1) e in

@@ -4,7 +4,7 @@ use Rattle.std.proofs.Common.{sym, ◌∙◌, ap, true≢false, arith}
 use Rattle.std.specs.Prelude.{Option, Some, None, slice_get, nat_eq, filter, fold}
 use Rattle.std.specs.List.{list_any}
 use Rattle.std.proofs.lemmas.Bool.Decides.{nat_tests}
-use Rattle.std.proofs.lemmas.Option.{same_Some}
+use Rattle.std.proofs.lemmas.Option.{none-some, same_Some}
 use Rattle.svn_types.specs.declared.kind.Kind.TheVariants.{Directory}
 use Rattle.svn_editor.specs.declared.call.Call.{Call}
 use Rattle.svn_editor.specs.Calls.{Given, kind_eq, number_eq, later_open, is_open_directory, opens_below}
@@ -21,9 +21,6 @@ IsNested n k above [] = Unit {0}
 IsNested n k above (g ∷ gs) =
     (n ≤ g.token) × (length g.path ≡ k) × (g.parent ≡ above) × (kind_eq g.kind Directory ≡ true)
     × IsNested (suc g.token) (suc k) (Some g.token) gs
-
-none_is : {X : Type 0} (x : X) → None ≡ Some x → ⊥
-none_is x e = cc
 
 pub eq_true : (m n : ℕ) → m ≡ n → nat_eq m n ≡ true
 eq_true m n e = grind (arith, nat_tests)
@@ -42,14 +39,14 @@ number_same o t e = ap (λ x. number_eq x (Some t)) e ∙ eq_true t t refl
 
 pub nested_above : (gs : List Given) (n k : ℕ) (above : Option ℕ) (i : ℕ) (g : Given) → IsNested n k above gs → slice_get gs i ≡ Some g
     → n ≤ g.token
-nested_above [] n k above i g h e = absurd (none_is g e)
+nested_above [] n k above i g h e = absurd (none-some g e)
 nested_above (x ∷ gs) n k above zero g h e = let s : x.token ≡ g.token = ap (λ y. y.token) (same_Some x g e) in omega (arith, h.0)
 nested_above (x ∷ gs) n k above (suc i) g h e =
     let l : suc x.token ≤ g.token = nested_above gs (suc x.token) (suc k) (Some x.token) i g h.4 e in omega (arith, h.0)
 
 pub nested_depth : (gs : List Given) (n k : ℕ) (above : Option ℕ) (i : ℕ) (g : Given) → IsNested n k above gs → slice_get gs i ≡ Some g
     → length g.path ≡ k + i
-nested_depth [] n k above i g h e = absurd (none_is g e)
+nested_depth [] n k above i g h e = absurd (none-some g e)
 nested_depth (x ∷ gs) n k above zero g h e =
     let s : length x.path ≡ length g.path = ap (λ y. length y.path) (same_Some x g e) in omega (arith, h.1)
 nested_depth (x ∷ gs) n k above (suc i) g h e =
@@ -64,7 +61,7 @@ last_above y (z ∷ gs) n k above q t h e =
 
 pub nested_last : (gs : List Given) (n k : ℕ) (above : Option ℕ) (i : ℕ) (g : Given) → IsNested n k above gs → slice_get gs i ≡ Some g
     → last_token above gs ≡ Some g.token → suc i ≡ length gs
-nested_last [] n k above i g h e l = absurd (none_is g e)
+nested_last [] n k above i g h e l = absurd (none-some g e)
 nested_last (x ∷ []) n k above zero g h e l = refl
 nested_last (x ∷ y ∷ gs) n k above zero g h e l =
     let s : x.token ≡ g.token = ap (λ z. z.token) (same_Some x g e) in
@@ -117,7 +114,7 @@ under (y ∷ gs) g t k e h =
 pub open_below_last : (gs : List Given) (n k : ℕ) (above : Option ℕ) (i : ℕ) (g : Given) → IsNested n k above gs
     → (above ≡ Some g.token → ⊥) → slice_get gs i ≡ Some g
     → list_any (opens_below g.token) gs ≡ not (number_eq (last_token above gs) (Some g.token))
-open_below_last [] n k above i g h out e = absurd (none_is g e)
+open_below_last [] n k above i g h out e = absurd (none-some g e)
 open_below_last (x ∷ gs) n k above zero g h out e =
     ap (λ b. b || list_any (opens_below g.token) gs) (not_in above x g h.2 out)
     ∙ under gs g x.token (suc k) (ap (λ z. z.token) (same_Some x g e)) h.4

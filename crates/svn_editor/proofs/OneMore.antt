@@ -4,49 +4,16 @@ use Rattle.std.proofs.Common.{true≢false, arith}
 use Rattle.std.specs.Prelude.{Option, Some, None, slice_get, nat_eq, filter, fold}
 use Rattle.std.specs.List.{list_any, cons_option}
 use Rattle.std.proofs.lemmas.Bool.Decides.{nat_tests}
+use Rattle.std.proofs.lemmas.List.Folds.{list_any-append}
+pub use Rattle.std.proofs.Math.Bool.{or-false as or_false, or-true as or_true, and-false as and_false}
+pub use Rattle.std.proofs.lemmas.Bool.{and_parts, or_parts, not-true as not_true, not-false as not_false, false_from_ne_true as false_from}
 use Rattle.std.proofs.lemmas.List.Elements.{filter_map-append}
+use Rattle.std.proofs.lemmas.Option.{same_Some}
 use Rattle.std.proofs.lemmas.List.{append-nil}
 use Rattle.svn_editor.specs.declared.call.Call.{Call}
 use Rattle.svn_editor.specs.Calls.{Given, given_by, all_given, opens_subdirectory, changes_dir, changed_late, current_after, current_file}
 
 -- ---- truth values
-
-pub or_false : (a : Bool) → (a || false) ≡ a
-or_false true = refl
-or_false false = refl
-
-pub or_true : (a : Bool) → (a || true) ≡ true
-or_true true = refl
-or_true false = refl
-
-pub or_assoc : (a b c : Bool) → (a || (b || c)) ≡ ((a || b) || c)
-or_assoc true b c = refl
-or_assoc false b c = refl
-
-pub and_false : (a : Bool) → (a && false) ≡ false
-and_false true = refl
-and_false false = refl
-
-pub and_parts : (a b : Bool) → (a && b) ≡ true → (a ≡ true) × (b ≡ true)
-and_parts true b h = (refl, h)
-and_parts false b h = absurd (true≢false (sym h))
-
-pub or_parts : (a b : Bool) → (a || b) ≡ false → (a ≡ false) × (b ≡ false)
-or_parts true b h = absurd (true≢false h)
-or_parts false b h = (refl, h)
-
-pub not_true : (a : Bool) → not a ≡ true → a ≡ false
-not_true true h = absurd (true≢false (sym h))
-not_true false h = refl
-
-pub not_false : (a : Bool) → not a ≡ false → a ≡ true
-not_false true h = refl
-not_false false h = absurd (true≢false h)
-
--- what isn't true is false
-pub false_from : (a : Bool) → (a ≡ true → ⊥) → a ≡ false
-false_from true h = absurd (h refl)
-false_from false h = refl
 
 -- truth values that follow from one another are the same
 pub same_truth : (a b : Bool) → (a ≡ true → b ≡ true) → (b ≡ true → a ≡ true) → a ≡ b
@@ -57,8 +24,7 @@ same_truth false false f g = refl
 -- ---- tests on lists
 
 pub any_more : {X : Type 0} (p : X → Bool) (xs : List X) (x : X) → list_any p (xs ++ x ∷ []) ≡ (list_any p xs || p x)
-any_more p [] x = or_false (p x)
-any_more p (y ∷ xs) x = ap (λ b. p y || b) (any_more p xs x) ∙ or_assoc (p y) (list_any p xs) (p x)
+any_more p xs x = list_any-append p xs (x ∷ []) ∙ ap (λ b. list_any p xs || b) (or_false (p x))
 
 -- one more that doesn't pass
 pub any_still : {X : Type 0} (p : X → Bool) (xs : List X) (x : X) → p x ≡ false → list_any p (xs ++ x ∷ []) ≡ list_any p xs
@@ -85,10 +51,7 @@ any_found {X} p (x ∷ xs) h = by (p x) refl h (any_found p xs)
 
 pub any_at : {X : Type 0} (p : X → Bool) (xs : List X) (i : ℕ) (x : X) → slice_get xs i ≡ Some x → p x ≡ true → list_any p xs ≡ true
 any_at p [] i x h k = cc
-any_at p (y ∷ xs) zero x h k = ap (λ b. b || list_any p xs) (ap p (some_is y x h) ∙ k)
-  where
-    some_is : {X : Type 0} (a b : X) → Some a ≡ Some b → a ≡ b
-    some_is a b e = cc
+any_at p (y ∷ xs) zero x h k = ap (λ b. b || list_any p xs) (ap p (same_Some y x h) ∙ k)
 any_at p (y ∷ xs) (suc i) x h k = ap (λ b. p y || b) (any_at p xs i x h k) ∙ or_true (p y)
 
 -- ---- lists that are filtered
@@ -113,10 +76,7 @@ filter_member {X} p (y ∷ xs) i x h = by (p y) refl i h (filter_member p xs)
     by : (b : Bool) → p y ≡ b → (i : ℕ) → slice_get (cond b (y ∷ filter p xs) (filter p xs)) i ≡ Some x
         → ((i : ℕ) (x : X) → slice_get (filter p xs) i ≡ Some x → (j : ℕ) × (slice_get xs j ≡ Some x) × (p x ≡ true))
         → (j : ℕ) × (slice_get (y ∷ xs) j ≡ Some x) × (p x ≡ true)
-    by true k zero h ih = (0, h, ap p (sym (some_is y x h)) ∙ k)
-      where
-        some_is : (a b : X) → Some a ≡ Some b → a ≡ b
-        some_is a b e = cc
+    by true k zero h ih = (0, h, ap p (sym (same_Some y x h)) ∙ k)
     by true k (suc i) h ih = let r = ih i x h in (suc r.0, r.1, r.2)
     by false k i h ih = let r = ih i x h in (suc r.0, r.1, r.2)
 
@@ -127,11 +87,8 @@ filter_keeps p [] j x h k = absurd (none h)
   where
     none : None ≡ Some x → ⊥
     none e = cc
-filter_keeps {X} p (y ∷ xs) zero x h k = by (p y) (ap p (some_is y x h) ∙ k)
+filter_keeps {X} p (y ∷ xs) zero x h k = by (p y) (ap p (same_Some y x h) ∙ k)
   where
-    some_is : (a b : X) → Some a ≡ Some b → a ≡ b
-    some_is a b e = cc
-
     by : (b : Bool) → b ≡ true → (i : ℕ) × (slice_get (cond b (y ∷ filter p xs) (filter p xs)) i ≡ Some x)
     by true e = (0, h)
     by false e = absurd (true≢false (sym e))

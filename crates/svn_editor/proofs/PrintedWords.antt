@@ -6,6 +6,7 @@ use Rattle.std.specs.List.{flat_map, list_all}
 use Rattle.std.specs.Str.{IsUtf8}
 use Rattle.std.proofs.lemmas.Str.{IsUtf8-from_ascii}
 use Rattle.std.proofs.lemmas.Str.Ascii.{IsAscii-from_all}
+use Rattle.std.proofs.lemmas.Bool.{and_parts}
 use Rattle.std.proofs.lemmas.Bool.Decides.{nat_tests}
 use Rattle.std.proofs.lemmas.List.Concat.{flat_map-append}
 use Rattle.std.proofs.lemmas.List.Folds.{list_all_at}
@@ -14,10 +15,6 @@ use Rattle.std.proofs.Math.Seq.{take-append_seam}
 use Rattle.svn_types.specs.Names.{Path, is_plain}
 use Rattle.svn_types.specs.PathKeys.{path_key, is_plain_name, is_plain_path}
 use Rattle.svn_editor.specs.Words.{escaped, hex_pair, is_shown, path_byte, path_text, path_word}
-
-both : (x y : Bool) → (x && y) ≡ true → (x ≡ true) × (y ≡ true)
-both true y h = (refl, h)
-both false y h = absurd cc
 
 -- ---- the names of a path, printed from its key
 
@@ -39,21 +36,21 @@ same_byte b rest h = grind (arith, h)
 same_bytes : (n : List ℕ) → list_all is_plain n ≡ true → map path_byte n ≡ n
 same_bytes [] h = refl
 same_bytes (b ∷ n) h =
-    (λ i. same_byte b (list_all is_plain n) h i ∷ same_bytes n (both (is_plain b) (list_all is_plain n) h).1 i)
+    (λ i. same_byte b (list_all is_plain n) h i ∷ same_bytes n (and_parts (is_plain b) (list_all is_plain n) h).1 i)
 
 slashed_names : (p : Path) → is_plain_path p ≡ true → map path_byte (flat_map (λ m. 1 ∷ m) p) ≡ flat_map (λ m. 47 ∷ m) p
 slashed_names [] h = refl
 slashed_names (m ∷ p) h =
-    let parts = both (is_plain_name m) (is_plain_path p) h in
-    let plain = both (nat_le 1 (length m)) (list_all is_plain m) parts.0 in
+    let parts = and_parts (is_plain_name m) (is_plain_path p) h in
+    let plain = and_parts (nat_le 1 (length m)) (list_all is_plain m) parts.0 in
     map-append path_byte (1 ∷ m) (flat_map (λ m. 1 ∷ m) p)
     ∙ (λ i. 47 ∷ same_bytes m plain.1 i ++ slashed_names p parts.1 i)
 
 names_text : (n : List ℕ) (p : Path) → is_plain_path (n ∷ p) ≡ true
     → map path_byte (n ++ flat_map (λ m. 1 ∷ m) p) ≡ path_text (n ∷ p)
 names_text n p h =
-    let parts = both (is_plain_name n) (is_plain_path p) h in
-    let plain = both (nat_le 1 (length n)) (list_all is_plain n) parts.0 in
+    let parts = and_parts (is_plain_name n) (is_plain_path p) h in
+    let plain = and_parts (nat_le 1 (length n)) (list_all is_plain n) parts.0 in
     map-append path_byte n (flat_map (λ m. 1 ∷ m) p) ∙ (λ i. same_bytes n plain.1 i ++ slashed_names p parts.1 i)
 
 pub printed_names : (p : Path) (front : List ℕ) (last : ℕ) → is_plain_path p ≡ true → path_key p ≡ front ++ last ∷ []
@@ -71,7 +68,7 @@ printed_names ((b ∷ n) ∷ p) front last h e =
 pub shown_text : (bs : List ℕ) → list_all is_shown bs ≡ true → flat_map escaped bs ≡ bs
 shown_text [] h = refl
 shown_text (b ∷ bs) h =
-    let parts = both (is_shown b) (list_all is_shown bs) h in
+    let parts = and_parts (is_shown b) (list_all is_shown bs) h in
     ap (λ (s : Bool). (if s then b ∷ [] else 37 ∷ hex_pair true b) ++ flat_map escaped bs) parts.0
     ∙ ap (λ (l : List ℕ). b ∷ l) (shown_text bs parts.1)
 

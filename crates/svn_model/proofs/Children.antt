@@ -1,6 +1,6 @@
 -- What a path one name longer has: the look-up, the report, and what becomes of it.
 use Rattle.std.proofs.Common.{◌≡◌, ℕ, [], ◌∷◌, refl, sym, ◌∙◌, ap}
-use Rattle.std.specs.Prelude.{Option, Some, None, option_and_then, slice_get}
+use Rattle.std.specs.Prelude.{Option, Some, None, option_and_then}
 use Rattle.svn_types.specs.Names.{Path}
 use Rattle.svn_types.specs.Paths.{child}
 use Rattle.svn_types.specs.Pairs.{value_of}
@@ -8,6 +8,7 @@ use Rattle.svn_types.proofs.NameLemmas.{Name}
 pub use Rattle.svn_types.proofs.PathLemmas.{path_ind, parent-child, is_root-child}
 use Rattle.svn_repo.specs.History.{History, NodeRow, node_at, child_in, walk, look}
 use Rattle.svn_repo.specs.Readings.{row_or_empty, entries_of}
+use Rattle.svn_repo.proofs.Walking.{look-append}
 use Rattle.svn_report.specs.Reports.{ReportView}
 use Rattle.svn_model.specs.Sources.{Reported, reported, reported_from, reported_root, reported_child}
 use Rattle.svn_model.specs.Follow.{Request, Followed, follow, follow_from, follow_root, follow_child}
@@ -21,26 +22,16 @@ child_in-entries : (o : Option NodeRow) (name : Name) → child_in o name ≡ va
 child_in-entries None name = refl
 child_in-entries (Some row) name = refl
 
-walk-child : (h : History) (n : ℕ) (p : Path) (name : Name) → walk (node_at h) n (child p name) ≡ entry_below h (walk (node_at h) n p) name
-walk-child h n [] name = by (child_in (node_at h n) name) ∙ child_in-entries (node_at h n) name
-  where
-    by : (o : Option ℕ) → option_and_then (λ m. walk (node_at h) m []) o ≡ o
-    by None = refl
-    by (Some m) = refl
-walk-child h n (first ∷ p) name = by (child_in (node_at h n) first) (λ m. walk-child h m p name)
-  where
-    by : (o : Option ℕ) → ((m : ℕ) → walk (node_at h) m (child p name) ≡ entry_below h (walk (node_at h) m p) name)
-        → option_and_then (λ m. walk (node_at h) m (child p name)) o ≡ entry_below h (option_and_then (λ m. walk (node_at h) m p) o) name
-    by None ih = refl
-    by (Some m) ih = ih m
-
 pub look-child : (h : History) (r : ℕ) (p : Path) (name : Name) → look h r (child p name) ≡ entry_below h (look h r p) name
-look-child h r p name = by (slice_get h.roots r)
+look-child h r p name = look-append h r p (name ∷ []) ∙ by (look h r p)
   where
-    by : (o : Option ℕ)
-        → option_and_then (λ n. walk (node_at h) n (child p name)) o ≡ entry_below h (option_and_then (λ n. walk (node_at h) n p) o) name
+    one_step : (o : Option ℕ) → option_and_then (λ m. walk (node_at h) m []) o ≡ o
+    one_step None = refl
+    one_step (Some m) = refl
+
+    by : (o : Option ℕ) → option_and_then (λ m. walk (node_at h) m (name ∷ [])) o ≡ entry_below h o name
     by None = refl
-    by (Some n) = walk-child h n p name
+    by (Some n) = one_step (child_in (node_at h n) name) ∙ child_in-entries (node_at h n) name
 
 reported_from-child : (r : ReportView) (s : Reported) (p : Path) (name : Name)
     → reported_from r s (child p name) ≡ reported_child r (reported_from r s p) name

@@ -5,7 +5,7 @@ use Rattle.std.specs.Prelude.{Some, None, slice_get}
 use Rattle.std.proofs.lemmas.Option.{same_Some}
 use Rattle.svn_types.specs.Names.{Path}
 use Rattle.svn_types.specs.Paths.{parent, is_root, path_eq}
-use Rattle.svn_types.proofs.PathOrder.{same_path, path_eq-same}
+use Rattle.svn_types.proofs.PathLemmas.{same_path, path_eq_from}
 use Rattle.svn_order.specs.declared.directories.OpenedDirectory.{OpenedDirectory}
 use Rattle.svn_order.specs.declared.tokens.GivenToken.{GivenToken}
 use Rattle.svn_order.specs.Directories.{shown, ChangesAt, with_change, IsEntry, entry_name}
@@ -160,5 +160,5 @@ parent_by_name d p q n r e test = by r (path_eq d q) refl test
     by : (r b : Bool) → path_eq d q ≡ b → (IsTrue r ↔ (p ≡ d ++ n ∷ [])) → r ≡ b
     by true true is t = refl
     by false false is t = refl
-    by true false is t = sym (path_eq-same d q (sym (split_path p d n (t.0 refl)).parent_is ∙ e.parent_is)) ∙ is
+    by true false is t = sym (path_eq_from d q (sym (split_path p d n (t.0 refl)).parent_is ∙ e.parent_is)) ∙ is
     by false true is t = t.1 (whole_path p q n e ∙ ap (λ (k : Path). k ++ n ∷ []) (sym (same_path d q is)))

@@ -9,8 +9,8 @@ use Rattle.svn_types.specs.declared.kind.Kind.TheVariants.{Directory}
 use Rattle.svn_types.specs.Names.{Path}
 use Rattle.svn_types.specs.Paths.{path_eq, parent, child}
 use Rattle.svn_editor.specs.declared.call.Call.{Call}
-use Rattle.svn_editor.specs.declared.call.Call.TheVariants.{OpenRoot, DeleteEntry, AddDirectory, OpenDirectory, ChangeDirProp}
-use Rattle.svn_editor.specs.declared.call.Call.TheVariants.{CloseDirectory, AddFile, OpenFile}
+use Rattle.svn_editor.specs.declared.call.Call.TheVariants.{OpenRoot, DeleteEntry, ChangeDirProp}
+use Rattle.svn_editor.specs.declared.call.Call.TheVariants.{CloseDirectory}
 use Rattle.svn_order.specs.declared.directories.OpenedDirectory.{OpenedDirectory}
 use Rattle.svn_order.specs.declared.order.OrderCheck.{OrderCheck}
 use Rattle.svn_editor.specs.Calls.{Given, number_eq, opens_entry, deletes, changes_dir, opens_subdirectory, all_given, path_of, innermost}
@@ -20,13 +20,12 @@ use Rattle.svn_order.specs.Directories.{entry_name, shown, IsNew, InsertsOpened,
 use Rattle.svn_order.specs.Directories.{without_last, Opens}
 use Rattle.svn_order.specs.StandsAfter.{open_directories, token_and_path, IsDirectoryOf, Holds}
 use Rattle.svn_order.specs.OrderChanges.{Enters}
-use Rattle.svn_types.proofs.PathOrder.{same_path}
 use Rattle.svn_types.proofs.Places.{some_none, get_cases}
-use Rattle.svn_types.proofs.PathLemmas.{parent-child, path_eq-children}
+use Rattle.svn_types.proofs.PathLemmas.{same_path, parent-child, path_eq-child, path_eq-children}
 use Rattle.svn_order.proofs.Changes.{get_within}
 use Rattle.svn_editor.proofs.OneMore.{or_false, or_true, and_false, false_from, any_more, any_still, any_weaker, late_more, late_none}
 use Rattle.svn_editor.proofs.Nested.{true_eq, eq_true, nested_depth}
-use Rattle.svn_order.proofs.Sound.{IsSound, IsKnown, touches}
+use Rattle.svn_order.proofs.Sound.{IsSound, IsKnown, touches, opens_touches}
 use Rattle.svn_order.proofs.OpenDirectories.{new_childless}
 use Rattle.svn_order.proofs.Looking.{given_at, same_length, IsParent, held, path_held, innermost_place}
 
@@ -284,7 +283,7 @@ new_directory calls c q t d sound o new fresh number none =
           ap (changed_late (calls ++ c ∷ [])) token ∙ not_changed_late calls c t (o.no_change t) ∙ late_none calls t childless
           ∙ sym new.not_late;
       opened = λ n. ap (λ (p : Path). list_any (opens_entry (child p n)) (calls ++ c ∷ [])) path
-          ∙ any_still (opens_entry (child q n)) calls c (o.opens (child q n) ∙ longer q n)
+          ∙ any_still (opens_entry (child q n)) calls c (o.opens (child q n) ∙ path_eq-child q n)
           ∙ any_weaker (opens_entry (child q n)) (touches (child q n)) calls (opens_touches q n) (sound.entries_in q n fresh)
           ∙ ap (λ (s : List (List ℕ)). has_name s n) (sym new.opened);
       deleted = λ n. ap (λ (p : Path). list_any (deletes (child p n)) (calls ++ c ∷ [])) path
@@ -293,22 +292,6 @@ new_directory calls c q t d sound o new fresh number none =
           ∙ ap (λ (s : List (List ℕ)). has_name s n) (sym new.deleted);
     }
   where
-    longer : (q : Path) (n : List ℕ) → path_eq q (child q n) ≡ false
-    longer q n =
-        false_from (path_eq q (child q n)) (λ e. absurd (omega (arith, ap length (same_path q (child q n) e), length-append q (n ∷ []))))
-
-    not_nil : (q : Path) (n : List ℕ) → path_eq [] (child q n) ≡ false
-    not_nil [] n = refl
-    not_nil (m ∷ q) n = refl
-
-    opens_touches : (q : Path) (n : List ℕ) (x : Call) → opens_entry (child q n) x ≡ true → touches (child q n) x ≡ true
-    opens_touches q n (OpenRoot base token) e = absurd (true≢false (sym e ∙ not_nil q n))
-    opens_touches q n (AddDirectory path parent token) e = e
-    opens_touches q n (OpenDirectory path parent base token) e = e
-    opens_touches q n (AddFile path parent token) e = e
-    opens_touches q n (OpenFile path parent base token) e = e
-    opens_touches q n _ e = absurd (true≢false (sym e))
-
     deletes_touches : (q : Path) (n : List ℕ) (x : Call) → deletes (child q n) x ≡ true → touches (child q n) x ≡ true
     deletes_touches q n (DeleteEntry path rev parent) e = e
     deletes_touches q n _ e = absurd (true≢false (sym e))

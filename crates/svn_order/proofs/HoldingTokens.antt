@@ -9,7 +9,6 @@ use Rattle.std.specs.BTreeSet.{BTreeSet, contains}
 use Rattle.std.specs.Cmp.{unsigned_ties}
 use Rattle.std.proofs.lemmas.List.{length-append}
 use Rattle.std.proofs.lemmas.Option.{same_Some}
-use Rattle.svn_types.specs.declared.kind.Kind.{Kind}
 use Rattle.svn_types.specs.declared.kind.Kind.TheVariants.{File, Directory}
 use Rattle.svn_editor.specs.declared.call.Call.{Call}
 use Rattle.svn_order.specs.declared.tokens.GivenToken.{GivenToken}
@@ -23,7 +22,7 @@ use Rattle.svn_types.proofs.Places.{some_none, get_cases}
 use Rattle.svn_order.proofs.Changes.{get_within, get_past}
 use Rattle.svn_editor.proofs.OneMore.{or_false, or_true, and_false, any_more, any_still, given_none, given_one}
 use Rattle.svn_editor.proofs.Nested.{true_eq, eq_true}
-use Rattle.svn_order.proofs.Sound.{IsSound, IsKnown}
+use Rattle.svn_order.proofs.Sound.{IsSound, IsKnown, other_kind}
 use Rattle.svn_order.proofs.OpenDirectories.{new_unclosed, new_textless, beyond}
 
 -- ---- the stage
@@ -251,10 +250,6 @@ files_closed fs calls c t e known close h q =
     ∙ sym (ap (λ o. is_of_kind File o && not (is_closed (calls ++ c ∷ []) q)) (given_still calls c q e)
     ∙ ap (λ b. is_of_kind File (given calls q) && not b) (any_more (closes q) calls c ∙ ap (λ b. is_closed calls q || b) (close q)))
   where
-    not_both : (x : Kind) → kind_eq x Directory ≡ true → kind_eq x File ≡ false
-    not_both Directory h = refl
-    not_both File h = absurd (true≢false (sym h))
-
     by : (b : Bool) → nat_eq t q ≡ b
         → (is_of_kind File (given calls q) && not (is_closed calls q))
         ≡ (is_of_kind File (given calls q) && not (is_closed calls q || nat_eq t q))
@@ -264,5 +259,5 @@ files_closed fs calls c t e known close h q =
         let same : t ≡ q = true_eq t q k in
         let none : is_of_kind File (given calls q) ≡ false =
         ap (λ n. is_of_kind File (given calls n)) (sym same) ∙ ap (is_of_kind File) known.is
-        ∙ not_both known.given_as.kind known.kind in
+        ∙ other_kind known.given_as.kind Directory File known.kind refl in
         ap (λ b. b && not (is_closed calls q)) none ∙ sym (ap (λ b. b && not (is_closed calls q || nat_eq t q)) none)

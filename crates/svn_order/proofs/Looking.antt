@@ -29,7 +29,7 @@ use Rattle.svn_order.specs.Directories.{entry_name, shown, innermost_of, changed
 use Rattle.svn_order.specs.Directories.{opened_of, deleted_of, is_opened_in, is_deleted_in}
 use Rattle.svn_order.specs.OrderState.{none_open}
 use Rattle.svn_order.specs.StandsAfter.{open_directories, token_and_path, Holds}
-use Rattle.svn_types.proofs.PathOrder.{same_path, path_eq-same}
+use Rattle.svn_types.proofs.PathLemmas.{same_path, path_eq_from}
 use Rattle.svn_order.proofs.Changes.{get_within}
 use Rattle.svn_editor.proofs.OneMore.{or_parts, not_false, same_truth, and_parts, any_found, any_at, filter_member, any_both, any_kept}
 use Rattle.svn_editor.proofs.Nested.{last_token, true_eq, eq_true, same_number, nested_last, open_below_last}
@@ -228,7 +228,7 @@ holds_entry_at s calls t q h sound k =
         at None n e = absurd (true≢false (sym e))
         at (Some d) n e =
             let parts = and_parts (nat_eq d.token t) (path_eq d.path (parent q)) e in
-            path_eq-same (parent q) (path_of calls t)
+            path_eq_from (parent q) (path_of calls t)
             (sym (same_path d.path (parent q) parts.1) ∙ path_held s calls (length (parent q)) d h sound n
             ∙ ap (path_of calls) (true_eq d.token t parts.0))
 
@@ -239,7 +239,7 @@ holds_entry_at s calls t q h sound k =
         let d = held s calls t h sound k in
         ap (is_directory t (parent q)) (ap (λ (p : Path). slice_get s.directories.items (length p)) same ∙ d.is)
         ∙ ap (λ b. b && path_eq d.directory.path (parent q)) (eq_true d.directory.token t d.token)
-        ∙ path_eq-same d.directory.path (parent q) (d.path ∙ sym same)
+        ∙ path_eq_from d.directory.path (parent q) (d.path ∙ sym same)
 
 child_split : (q : Path) → is_root q ≡ false → child (parent q) (entry_name q) ≡ q
 child_split [] r = absurd (true≢false r)

@@ -6,7 +6,6 @@ use Rattle.std.specs.List.{list_any}
 use Rattle.std.proofs.lemmas.List.{append-nil, nil_from_length}
 use Rattle.std.proofs.lemmas.List.Elements.{filter-append}
 use Rattle.std.proofs.lemmas.Option.{same_Some}
-use Rattle.svn_types.specs.declared.kind.Kind.{Kind}
 use Rattle.svn_types.specs.declared.kind.Kind.TheVariants.{File, Directory}
 use Rattle.svn_types.specs.Paths.{parent}
 use Rattle.svn_editor.specs.declared.call.Call.{Call}
@@ -21,7 +20,7 @@ use Rattle.svn_editor.proofs.OneMore.{or_false, not_false, false_from, any_more,
 use Rattle.svn_editor.proofs.OneMore.{filter_keeps, any_both, given_none, given_one}
 use Rattle.svn_editor.proofs.Nested.{last_token, IsNested, true_eq, eq_true, same_number, nested_above, nested_depth, nested_last}
 use Rattle.svn_editor.proofs.Nested.{nested_more, open_below_last, innermost_last}
-use Rattle.svn_order.proofs.Sound.{IsSound, IsKnown, names, closes_named, given_closes, known, parent_is, numbered_next}
+use Rattle.svn_order.proofs.Sound.{IsSound, IsKnown, other_kind, names, closes_named, given_closes, known, parent_is, numbered_next}
 use Rattle.svn_types.proofs.Places.{some_none}
 use Rattle.svn_types.proofs.PathLemmas.{length_parent}
 
@@ -278,15 +277,12 @@ open_file_closed calls t md5 s a =
     k : IsKnown calls t File
     k = known calls (CloseFile t md5) t File a refl
 
-    not_both : (x : Kind) → kind_eq x File ≡ true → kind_eq x Directory ≡ false
-    not_both File h = refl
-    not_both Directory h = absurd (true≢false (sym h))
-
     by : (x : Given) (i : ℕ) → given calls i ≡ Some x → (b : Bool) → nat_eq t x.token ≡ b
         → (kind_eq x.kind Directory && not (is_closed calls x.token || b)) ≡ (kind_eq x.kind Directory && not (is_closed calls x.token))
     by x i h false e = ap (λ b. kind_eq x.kind Directory && not b) (or_false (is_closed calls x.token))
     by x i h true e =
         let q : t ≡ x.token = true_eq t x.token e in
         let here : x ≡ k.given_as = same_Some x k.given_as (sym h ∙ ap (given calls) (sym (s.numbered i x h) ∙ sym q) ∙ k.is) in
-        let none : kind_eq x.kind Directory ≡ false = ap (λ y. kind_eq y.kind Directory) here ∙ not_both k.given_as.kind k.kind in
+        let none : kind_eq x.kind Directory ≡ false =
+        ap (λ y. kind_eq y.kind Directory) here ∙ other_kind k.given_as.kind File Directory k.kind refl in
         ap (λ b. b && not (is_closed calls x.token || true)) none ∙ sym (ap (λ b. b && not (is_closed calls x.token)) none)

@@ -1,6 +1,6 @@
 -- Names in order: what is behind all of them, what a search finds, and one name more.
 use Rattle.std.proofs.Common.{◌≡◌, ℕ, suc, ◌-◌, ◌<◌, ◌≤◌, ◌⊎◌, inl, inr, Bool, true, false, cond, ◌||◌, List, [], ◌∷◌, ◌++◌}
-use Rattle.std.proofs.Common.{length, get_or, refl, sym, ◌∙◌, ap, true≢false, arith}
+use Rattle.std.proofs.Common.{length, get_or, refl, sym, ◌∙◌, ap, arith}
 use Rattle.std.specs.Prelude.{bytes_eq, slice_get}
 use Rattle.std.specs.List.{list_any, HoldsAt}
 use Rattle.std.specs.List.Sorted.{IsSorted, IsPartitionPoint}
@@ -16,7 +16,7 @@ use Rattle.std.proofs.lemmas.List.Folds.{list_any_at, list_any-append}
 use Rattle.std.proofs.lemmas.List.Sorted.{searchable_from_sorted}
 use Rattle.std.proofs.lemmas.List.Kept.{IsSortedBy-push}
 use Rattle.svn_types.specs.Names.{name_cmp}
-use Rattle.svn_types.proofs.NameLemmas.{Name, bytes_eq-symm}
+use Rattle.svn_types.proofs.NameLemmas.{Name, bytes_eq-symm, is_less}
 use Rattle.svn_order.specs.NameSets.{has_name, Inserts, is_behind}
 
 -- ---- what is not among them
@@ -35,13 +35,8 @@ none (x ∷ xs) n others =
 last_below : (xs : List Name) (n : Name) → is_behind (slice_get xs (length xs - 1)) n ≡ true → (d : Name) → 0 < length xs
     → name_cmp (get_or xs (length xs - 1) d) n ≡ Less
 last_below xs n behind d some =
-    less (name_cmp (get_or xs (length xs - 1) d) n)
+    is_less (name_cmp (get_or xs (length xs - 1) d) n)
     (ap (λ o. is_behind o n) (sym (slice_get-get_or xs (length xs - 1) d (omega (arith, some)))) ∙ behind)
-  where
-    less : (o : Ordering) → is_lt o ≡ true → o ≡ Less
-    less Less h = refl
-    less Equal h = absurd (true≢false (sym h))
-    less Greater h = absurd (true≢false (sym h))
 
 pub none_behind : (xs : List Name) (n : Name) → IsSorted name_cmp xs → is_behind (slice_get xs (length xs - 1)) n ≡ true
     → list_any (bytes_eq n) xs ≡ false

@@ -7,7 +7,7 @@ use Rattle.std.proofs.lemmas.List.{length-append}
 use Rattle.std.proofs.lemmas.Option.{same_Some}
 use Rattle.std.proofs.lemmas.Bool.Decides.{nat_tests}
 use Rattle.svn_types.specs.declared.kind.Kind.{Kind}
-use Rattle.svn_types.specs.declared.kind.Kind.TheVariants.{Directory}
+use Rattle.svn_types.specs.declared.kind.Kind.TheVariants.{File, Directory}
 use Rattle.svn_types.specs.Names.{Path}
 use Rattle.svn_types.specs.Paths.{path_eq, parent, is_root, child}
 use Rattle.svn_editor.specs.declared.call.Call.{Call}
@@ -17,9 +17,8 @@ use Rattle.svn_editor.specs.Calls.{Given, kind_eq, given_by, named_by, entry_of,
 use Rattle.svn_editor.specs.Calls.{is_closed, given_path, path_of, is_of_kind}
 use Rattle.svn_editor.specs.Order.{is_unknown, is_named_closed, is_misnumbered, is_outside}
 use Rattle.svn_order.specs.StandsAfter.{open_directories}
-use Rattle.svn_types.proofs.PathOrder.{same_path, path_eq-same}
 use Rattle.svn_types.proofs.Places.{some_none, get_cases}
-use Rattle.svn_types.proofs.PathLemmas.{parent-child}
+use Rattle.svn_types.proofs.PathLemmas.{same_path, path_eq_from, parent-child}
 use Rattle.svn_order.proofs.Changes.{get_within}
 use Rattle.svn_editor.proofs.Accepted.{IsAccepted}
 use Rattle.svn_editor.proofs.OneMore.{or_true, or_parts, not_false, false_from, any_more, any_still, given_none, given_one}
@@ -40,6 +39,19 @@ is_at p (Some q) = path_eq q p
 -- the call opens, adds or deletes the entry
 abbrev pub touches : Path → Call → Bool
 touches p c = is_at p (entry_of c)
+
+-- what opens an entry below the root is about that entry
+pub opens_touches : (p : Path) (n : List ℕ) (c : Call) → opens_entry (child p n) c ≡ true → touches (child p n) c ≡ true
+opens_touches p n (OpenRoot base token) h = absurd (true≢false (sym h ∙ not_root p))
+  where
+    not_root : (p : Path) → path_eq [] (child p n) ≡ false
+    not_root [] = refl
+    not_root (m ∷ p) = refl
+opens_touches p n (AddDirectory path parent token) h = h
+opens_touches p n (OpenDirectory path parent base token) h = h
+opens_touches p n (AddFile path parent token) h = h
+opens_touches p n (OpenFile path parent base token) h = h
+opens_touches p n _ h = absurd (true≢false (sym h))
 
 pub record IsSound (calls : List Call) : Type 0 where
   pub numbered : (t : ℕ) (g : Given) → given calls t ≡ Some g → g.token ≡ t
@@ -82,6 +94,13 @@ pub record IsKnown (calls : List Call) (m : ℕ) (k : Kind) : Type 0 where
   pub is : given calls m ≡ Some given_as
   pub kind : kind_eq given_as.kind k ≡ true
   pub unclosed : is_closed calls m ≡ false
+
+-- what is of one kind is of no other
+pub other_kind : (k l m : Kind) → kind_eq k l ≡ true → kind_eq l m ≡ false → kind_eq k m ≡ false
+other_kind File File m one other = other
+other_kind Directory Directory m one other = other
+other_kind File Directory m one other = absurd (true≢false (sym one))
+other_kind Directory File m one other = absurd (true≢false (sym one))
 
 pub known_open : (calls : List Call) (m : ℕ) (k : Kind) → is_unknown calls (Some (m, k)) ≡ false
     → is_named_closed calls (Some (m, k)) ≡ false → IsKnown calls m k
@@ -151,7 +170,7 @@ member_of (c ∷ calls) t g h = by (given_by c) refl t h (member_of calls)
     by None e t h ih = ap (λ b. opens_entry g.path c || b) (ih t g h) ∙ or_true (opens_entry g.path c)
     by (Some x) e zero h ih =
         ap (λ b. b || list_any (opens_entry g.path) calls)
-        (ap (is_given_at g.path) e ∙ path_eq-same x.path g.path (ap (λ y. y.path) (same_Some x g h)))
+        (ap (is_given_at g.path) e ∙ path_eq_from x.path g.path (ap (λ y. y.path) (same_Some x g h)))
     by (Some x) e (suc t) h ih = ap (λ b. opens_entry g.path c || b) (ih t g h) ∙ or_true (opens_entry g.path c)
 
 -- the parent of a path that an entry is in, is the path of its token
@@ -211,7 +230,7 @@ root_more calls c s a = by (given_by c) refl
             none = eq_zero (length (all_given calls)) (sym s.root ∙ k)
 
             at : (n : Option (ℕ × Kind)) → named_by c ≡ n → opens_entry [] c ≡ true
-            at None q = ap (is_given_at []) e ∙ path_eq-same g.path [] (root_only c g e q)
+            at None q = ap (is_given_at []) e ∙ path_eq_from g.path [] (root_only c g e q)
             at (Some x) q =
                 let w = known calls c x.0 x.1 a q in
                 let l : x.0 < length (all_given calls) = get_within (all_given calls) x.0 w.given_as w.is in

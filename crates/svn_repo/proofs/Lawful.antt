@@ -25,7 +25,7 @@ use Rattle.svn_repo.specs.Stored.{IsLawfulPlace, IsLawfulTree}
 use Rattle.svn_repo.specs.Changes.{Pending, root_fault, depth_fault, size_fault, value_fault, above_fault, walk_fault, fault_if}
 use Rattle.svn_repo.specs.Changes.{directory_fault_at, file_fault_at, copy_depth_fault, change_fault, after_change, changes_fault}
 use Rattle.svn_repo.specs.Changes.{after_changes, new_directory, with_text, lines_after}
-use Rattle.svn_repo.proofs.Walking.{and_then_parts, walk_append, rest_below_is}
+use Rattle.svn_repo.proofs.Walking.{and_then_parts, walk_on, rest_below_is}
 use Rattle.svn_repo.proofs.Faults.{or_none}
 use Rattle.svn_repo.proofs.Pendings.{CanCopy, can_copy}
 use Rattle.svn_repo.proofs.Pairs.{in_order-nil, in_order-with_value, values-with_value}
@@ -281,7 +281,7 @@ copy_short h rev source path r x fault there e = by (look h rev source) refl fau
         let placed = and_then_parts (place_at (node_at h) (length h.nodes)) (look h rev (source ++ r)) x e in
         let from_top : walk (node_at h) top.0 (source ++ r) ≡ Some placed.0 =
         ap (option_and_then (λ k. walk (node_at h) k (source ++ r))) (sym top.1) ∙ placed.1 in
-        by_length n placed.0 (sym (walk_append (node_at h) top.0 n source r top.2) ∙ from_top)
+        by_length n placed.0 (sym (walk_on (node_at h) top.0 n source r top.2) ∙ from_top)
         (not_reached (reaches (node_at h) (path_limit + 1 - length path) n) fault)
 
 looked_by_tree : (h : History) (rev : ℕ) (source : Path) → is_some (tree_at h rev source) ≡ true → is_some (look h rev source) ≡ true

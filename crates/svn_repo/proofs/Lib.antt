@@ -5,7 +5,7 @@ pub mod Soundness
 pub mod Pairs
 -- What holds of the entries of each node of a draft, after a node is added and after a child is put.
 pub mod Entering
--- Where paths lead after one node is changed in place: the node is reached by one path alone.
+-- Where paths lead: a path in two parts, and after one node is changed in place, where the node is reached by one path alone.
 pub mod Walking
 -- What a map from names has at a name after a change.
 pub mod Lookups

@@ -1,5 +1,5 @@
 -- The laws of commits, from their definition.
-use Rattle.std.proofs.Common.{◌≡◌, ℕ, zero, suc, ◌<◌, Bool, true, false, cond, ◌||◌, List, [], ◌∷◌, ◌++◌, length, refl, arith, Option, Some}
+use Rattle.std.proofs.Common.{◌≡◌, ℕ, ◌<◌, true, false, cond, List, [], ◌∷◌, ◌++◌, length, refl, arith, Option, Some}
 use Rattle.std.proofs.Common.{None, subst, sym, ap, ◌∙◌, inl, inr}
 use Rattle.std.specs.Prelude.{nat_lt, IsSome}
 use Rattle.std.specs.List.{list_any, slice_get}
@@ -18,6 +18,8 @@ use Rattle.svn_repo.specs.Laws.{RevisionsStay, CopiesKeepNodes, UntouchedPathsKe
 use Rattle.svn_repo.specs.Laws.{latest_of}
 use Rattle.svn_repo.proofs.Walking.{and_then_parts, rest_below_is}
 use Rattle.svn_repo.proofs.Thawing.{append_nil, rest_below_self}
+use Rattle.svn_repo.proofs.OldRevisions.{slice_get_in}
+use Rattle.std.proofs.lemmas.Bool.{or_parts}
 use Rattle.std.proofs.lemmas.Slice.Eq.{bytes_eq-Decides}
 
 pub rest_below_append : (p q : Path) → rest_below p (p ++ q) ≡ Some q
@@ -25,10 +27,6 @@ rest_below_append [] q = refl
 rest_below_append (m ∷ p) q = rw ((bytes_eq-Decides m m).1 refl) (rest_below_append p q)
 
 -- ---- untouched paths
-
-pub neither : (a b : Bool) → (a || b) ≡ false → (a ≡ false) × (b ≡ false)
-neither true b e = cc
-neither false b e = (refl, e)
 
 graft_apart : (t : Tree) (path : Path) (part : Tree) (p : Path) → is_within path p ≡ false → is_within p path ≡ false
     → graft t path part p ≡ t p
@@ -50,18 +48,18 @@ prop_apart t path name value p apart = by (rest_below path p) refl
     by (Some (m ∷ r)) e = ap t (sym (rest_below_is path p (m ∷ r) e))
 
 untouched : (h : History) (s : Pending) (c : Change) (p : Path) → touches p c ≡ false → (after_change h s c).tree p ≡ s.tree p
-untouched h s (MakeDir path) p e = let n = neither (is_within p path) (is_within path p) e in graft_apart s.tree path _ p n.1 n.0
-untouched h s (PutFile path text) p e = let n = neither (is_within p path) (is_within path p) e in graft_apart s.tree path _ p n.1 n.0
+untouched h s (MakeDir path) p e = let n = or_parts (is_within p path) (is_within path p) e in graft_apart s.tree path _ p n.1 n.0
+untouched h s (PutFile path text) p e = let n = or_parts (is_within p path) (is_within path p) e in graft_apart s.tree path _ p n.1 n.0
 untouched h s (SetProp path name value) p e = prop_apart s.tree path name value p e
-untouched h s (Remove path) p e = let n = neither (is_within p path) (is_within path p) e in graft_apart s.tree path _ p n.1 n.0
-untouched h s (CopyFrom rev source path) p e = let n = neither (is_within p path) (is_within path p) e in
+untouched h s (Remove path) p e = let n = or_parts (is_within p path) (is_within path p) e in graft_apart s.tree path _ p n.1 n.0
+untouched h s (CopyFrom rev source path) p e = let n = or_parts (is_within p path) (is_within path p) e in
     graft_apart s.tree path _ p n.1 n.0
 
 all_untouched : (h : History) (s : Pending) (cs : List Change) (p : Path) → list_any (touches p) cs ≡ false
     → (after_changes h s cs).tree p ≡ s.tree p
 all_untouched h s [] p e = refl
 all_untouched h s (c ∷ cs) p e =
-    let n = neither (touches p c) (list_any (touches p) cs) e in
+    let n = or_parts (touches p c) (list_any (touches p) cs) e in
     all_untouched h (after_change h s c) cs p n.1 ∙ untouched h s c p n.0
 
 -- ---- nodes
@@ -77,11 +75,6 @@ is_some_by : (o : Option NodeRow) (row : NodeRow) → o ≡ Some row → IsSome 
 is_some_by None row e = cc
 is_some_by (Some x) row e = search
 
-within_some : {X : Type 0} (xs : List X) (n : ℕ) → n < length xs → (x : X) × (slice_get xs n ≡ Some x)
-within_some [] n h = absurd (omega arith)
-within_some (x ∷ xs) zero h = (x, refl)
-within_some (x ∷ xs) (suc n) h = within_some xs n (omega arith)
-
 pub latest_after : (h mid : History) (changes : List Change) → IsCommit h mid changes → latest_of mid ≡ length h.roots
 latest_after h mid changes commit = let revision : IsRevision h mid (after_changes h (latest_pending h) changes) = commit.1 in
     omega (arith, revision.revisions)
@@ -89,7 +82,7 @@ latest_after h mid changes commit = let revision : IsRevision h mid (after_chang
 grown : (h mid : History) (changes : List Change) → IsCommit h mid changes → (n : ℕ) → n < length h.nodes → n < length mid.nodes
 grown h mid changes commit n below =
     let revision : IsRevision h mid (after_changes h (latest_pending h) changes) = commit.1 in
-    let row = within_some h.nodes n below in
+    let row = slice_get_in h.nodes n below in
     slice_get_within mid.nodes n row.0 (revision.old_nodes n below ∙ row.1)
 
 pub stays : RevisionsStay
@@ -152,7 +145,7 @@ one_commit h mid changes p exist commit e =
 pub keeps : UntouchedPathsKeepNodes
 keeps h h' changes p exist no_commit e = refl
 keeps h h' changes p exist (one_more mid first rest commit commits) e =
-    let n = neither (list_any (touches p) first) (list_any (touches p) rest) (sym (list_any-append (touches p) first rest) ∙ e) in
+    let n = or_parts (list_any (touches p) first) (list_any (touches p) rest) (sym (list_any-append (touches p) first rest) ∙ e) in
     keeps mid h' rest p (exist_after h mid first exist commit) commits n.1 ∙ one_commit h mid first p exist commit n.0
 
 -- ---- copies

@@ -18,7 +18,7 @@ use Rattle.svn_repo.specs.Trees.{Tree, place_of, place_at, tree_at}
 use Rattle.svn_repo.specs.Drafts.{KeepsOld, AreRootsBelow, IsOldPart, IsPast, look_in, past_in, tree_in}
 use Rattle.svn_repo.specs.Changes.{pending_in, change_fault, root_fault, above_fault, missing_fault, walk_fault, revision_fault, copy_fault}
 use Rattle.svn_repo.specs.Changes.{copy_depth_fault, fault_if}
-use Rattle.svn_repo.proofs.Walking.{and_then_same, and_then_parts, walk_append}
+use Rattle.svn_repo.proofs.Walking.{and_then_same, and_then_parts, walk_on}
 use Rattle.svn_repo.proofs.Thawing.{walk_stays, walk_same}
 use Rattle.svn_repo.proofs.Faults.{or_none, above_same}
 
@@ -95,7 +95,7 @@ module _ (base : ℕ) (roots : List ℕ) (nodes : List Node) (inside : base ≤ 
       at q =
           let s = and_then_parts (λ m. walk (rows nodes) m source) (slice_get roots r) node e in
           tree_below_top l r s.0 s.1 (source ++ q) ∙ ap (option_and_then (place_at (rows nodes) base))
-          (walk_append (rows nodes) s.0 node source q s.2)
+          (walk_on (rows nodes) s.0 node source q s.2)
 
   -- what stands at the source of a copy is a node
   pub source_found : (l r : ℕ) (source : Path) → is_some (tree_at (past_in base roots nodes l) r source) ≡ true
@@ -170,16 +170,16 @@ some_name : (p : Path) → root_fault p ≡ None → 1 ≤ length p
 some_name [] e = cc
 some_name (x ∷ p) e = omega arith
 
-height_of_old : (heights : List ℕ) (n : ℕ) → n < length heights → (k : ℕ) × (slice_get heights n ≡ Some k)
-height_of_old [] n h = absurd (omega arith)
-height_of_old (x ∷ xs) zero h = (x, refl)
-height_of_old (x ∷ xs) (suc n) h = height_of_old xs n (omega arith)
+pub slice_get_in : {X : Type 0} (xs : List X) (i : ℕ) → i < length xs → (x : X) × (slice_get xs i ≡ Some x)
+slice_get_in [] i h = absurd (omega arith)
+slice_get_in (x ∷ xs) zero h = (x, refl)
+slice_get_in (x ∷ xs) (suc i) h = slice_get_in xs i (omega arith)
 
 pub copy_too_deep : (heights : List ℕ) (nodes : List Node) (n : ℕ) (p : Path) (deep : Bool) → IsOldPart heights nodes → root_fault p ≡ None
     → n < length heights → ((k : ℕ) → slice_get heights n ≡ Some k → deep ≡ nat_lt path_limit (length p + k))
     → reaches (rows (take (length heights) nodes)) (path_limit + 1 - length p) n ≡ deep
 copy_too_deep heights nodes n p deep old not_root inside test =
-    let k = height_of_old heights n inside in
+    let k = slice_get_in heights n inside in
     sym (test k.0 k.1 ∙ depth_by_height (rows (take (length heights) nodes)) n k.0 p (some_name p not_root) (old.known n k.0 k.1))
 
 -- a walk without a fault leads to a node

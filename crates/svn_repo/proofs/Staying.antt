@@ -4,7 +4,7 @@ use Rattle.std.proofs.Common.{sym, ap, ◌∙◌}
 use Rattle.std.specs.Prelude.{nat_lt}
 use Rattle.std.specs.List.{list_any, slice_get}
 use Rattle.std.specs.Option.{option_and_then, option_map, option_or, is_some}
-use Rattle.std.proofs.lemmas.Bool.{eq-eqb}
+use Rattle.std.proofs.lemmas.Bool.{eq-eqb, or_parts}
 use Rattle.std.proofs.lemmas.List.Folds.{list_any-append}
 use Rattle.std.proofs.lemmas.Option.{slice_get_within}
 use Rattle.svn_types.specs.declared.kind.Kind.{Kind}
@@ -23,10 +23,10 @@ use Rattle.svn_repo.specs.Changes.{Pending, latest_pending, root_fault, above_fa
 use Rattle.svn_repo.specs.Changes.{directory_fault_at, copy_fault, copy_depth_fault, walk_fault, revision_fault, change_fault}
 use Rattle.svn_repo.specs.Changes.{changes_fault, after_change, after_changes, with_text, IsCommit, IsRevision, StandsIn}
 use Rattle.svn_repo.specs.Laws.{ChangesKeepLines, AreCommits, NodesExist, no_commit, one_more, latest_of, removes}
-use Rattle.svn_repo.proofs.Walking.{and_then_parts, rest_below_is}
+use Rattle.svn_repo.proofs.Walking.{and_then_parts, walk-append, rest_below_is}
 use Rattle.svn_repo.proofs.Thawing.{append_nil}
 use Rattle.svn_repo.proofs.Faults.{or_none, some_directory}
-use Rattle.svn_repo.proofs.Meanings.{rest_below_append, neither, some_row, latest_after, stays}
+use Rattle.svn_repo.proofs.Meanings.{rest_below_append, some_row, latest_after, stays}
 
 -- something of the line and the kind of x stands there
 abbrev Keeps : Option Place → Place → Type 0
@@ -186,7 +186,7 @@ all_kept : (h : History) (s : Pending) (cs : List Change) (q : Path) (line : ℕ
 all_kept h s [] q line none left stands = stands
 all_kept h s (c ∷ cs) q line none left stands =
     let f = or_none (change_fault h s c) (changes_fault h (after_change h s c) cs) none in
-    let n = neither (removes q c) (list_any (removes q) cs) left in
+    let n = or_parts (removes q c) (list_any (removes q) cs) left in
     let x = stands.1 in
     let k = kept_at h s c q x.0 f.0 n.0 stands.0 x.1 in
     all_kept h (after_change h s c) cs q line f.1 n.1 (above_kept h s c q f.0 n.0 stands.0, (k.0, k.1, k.2 ∙ x.2))
@@ -236,17 +236,13 @@ all_commits : (h h' : History) (changes : List Change) (q : Path) (line : ℕ) �
     → list_any (removes q) changes ≡ false → Stands (tree_at h (latest_of h)) q line → Stands (tree_at h' (latest_of h')) q line
 all_commits h h' changes q line no_commit left stands = stands
 all_commits h h' changes q line (one_more mid first rest commit commits) left stands =
-    let n = neither (list_any (removes q) first) (list_any (removes q) rest) (sym (list_any-append (removes q) first rest) ∙ left) in
+    let n = or_parts (list_any (removes q) first) (list_any (removes q) rest) (sym (list_any-append (removes q) first rest) ∙ left) in
     all_commits mid h' rest q line commits n.1 (stands_after h mid first q line commit n.0 stands)
 
 -- ---- what stands in a repository
 
 walk_split : (f : Nodes) (n m : ℕ) (p q : Path) → walk f n (p ++ q) ≡ Some m → (k : ℕ) × (walk f n p ≡ Some k) × (walk f k q ≡ Some m)
-walk_split f n m [] q e = (n, refl, e)
-walk_split f n m (x ∷ p) q e =
-    let s = and_then_parts (λ c. walk f c (p ++ q)) (child_in (f n) x) m e in
-    let k = walk_split f s.0 m p q s.2 in
-    (k.0, ap (option_and_then (λ c. walk f c p)) s.1 ∙ k.1, k.2)
+walk_split f n m p q e = and_then_parts (λ k. walk f k q) (walk f n p) m (sym (walk-append f n p q) ∙ e)
 
 no_child : (row : NodeRow) (name : List ℕ) (c : ℕ) → row.entries ≡ [] → child_in (Some row) name ≡ Some c → ⊥
 no_child row name c e f = let bad : None ≡ Some c = sym (ap (λ es. child_in (Some (record row { entries = es })) name) e) ∙ f in cc

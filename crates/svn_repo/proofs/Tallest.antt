@@ -1,10 +1,11 @@
 -- The height of a node from those of its children.
-use Rattle.std.proofs.Common.{◌≡◌, ◌≢◌, ℕ, zero, suc, ◌+◌, ◌<◌, ◌≤◌, Bool, true, false, ◌||◌, List, [], ◌∷◌, ◌++◌, length, length-take}
+use Rattle.std.proofs.Common.{◌≡◌, ◌≢◌, ℕ, zero, suc, ◌+◌, ◌<◌, ◌≤◌, Bool, ◌||◌, List, [], ◌∷◌, ◌++◌, length, length-take}
 use Rattle.std.proofs.Common.{take, max, refl, arith, Option, Some, None, subst, sym, ap, ◌∙◌, ◌⊎◌, inl, inr}
 use Rattle.std.specs.Prelude.{nat_le}
 use Rattle.std.specs.List.{All, list_any, slice_get, slice_set}
 use Rattle.std.specs.Map.{values_of}
 use Rattle.std.specs.Option.{option_map}
+use Rattle.std.proofs.Math.Bool.{or-false, or_assoc}
 use Rattle.std.proofs.Math.Dec.{leb-zero, leb-suc-zero}
 use Rattle.std.proofs.lemmas.Bool.{cases_lt, cases_eq, lt-ltb, le-ltb, le-leb, lt-leb}
 use Rattle.std.proofs.lemmas.List.Elements.{All-head, All-tail}
@@ -18,7 +19,7 @@ use Rattle.svn_repo.specs.Drafts.{IsDraft, KeepsOld}
 use Rattle.svn_repo.proofs.Pairs.{all_values}
 use Rattle.svn_repo.proofs.Entering.{children_found}
 use Rattle.svn_repo.proofs.EntryWrites.{slice_get-append, slice_get-set_same, slice_get-set_other}
-use Rattle.svn_repo.proofs.OldRevisions.{slice_get-take}
+use Rattle.svn_repo.proofs.OldRevisions.{slice_get-take, slice_get_in}
 
 -- ---- the numbers
 
@@ -55,14 +56,6 @@ le-max j a b = elim (cases_lt a j) [
   | inr left ↦ rw (le-leb j a left) (le-leb j (max a b) (omega arith))
 ]
 
-or_false : (b : Bool) → b ≡ (b || false)
-or_false true = refl
-or_false false = refl
-
-or_assoc : (a b c : Bool) → ((a || b) || c) ≡ (a || (b || c))
-or_assoc true b c = refl
-or_assoc false b c = refl
-
 -- ---- a node
 
 -- the height of the child is known
@@ -71,7 +64,7 @@ IsKnown hs f m = (k : ℕ) × (slice_get hs m ≡ Some k) × IsHeight f m k
 
 any_height : (hs : List ℕ) (f : Nodes) (j height : ℕ) (es : List (List ℕ × ℕ)) → j + 1 ≤ path_limit → All (IsKnown hs f) (values_of es)
     → nat_le (suc j) (height_from hs height es) ≡ (nat_le (suc j) height || list_any (λ e. reaches f j e.1) es)
-any_height hs f j height [] h known = or_false (nat_le (suc j) height)
+any_height hs f j height [] h known = sym (or-false (nat_le (suc j) height))
 any_height hs f j height (e ∷ es) h known =
     let first : IsKnown hs f e.1 = All-head (IsKnown hs f) e.1 (values_of es) known in
     let rest : All (IsKnown hs f) (values_of es) = All-tail (IsKnown hs f) e.1 (values_of es) known in
@@ -114,11 +107,6 @@ reaches_same base f g same closed (suc j) n h =
 
 abbrev pub AreDone : ℕ → ℕ → List ℕ → Nodes → Type 0
 AreDone base n hs f = (m k : ℕ) → (m < base) ⊎ (n ≤ m) → slice_get hs m ≡ Some k → IsHeight f m k
-
-slice_get_in : (xs : List ℕ) (i : ℕ) → i < length xs → (k : ℕ) × (slice_get xs i ≡ Some k)
-slice_get_in [] i h = absurd (omega arith)
-slice_get_in (x ∷ xs) zero h = (x, refl)
-slice_get_in (x ∷ xs) (suc i) h = slice_get_in xs i (omega arith)
 
 pub children_known : (base : ℕ) (nodes : List Node) (hs : List ℕ) (n : ℕ) → IsOrdered nodes base → base ≤ n → length hs ≡ length nodes
     → AreDone base (n + 1) hs (rows nodes) → All (IsKnown hs (rows nodes)) (values_of (entries_at (rows nodes n)))

@@ -16,7 +16,7 @@ use Rattle.svn_repo.specs.Trees.{Place, Tree, place_of, place_at, tree_below, to
 use Rattle.svn_repo.specs.Drafts.{IsDraft, IsDraftEntries, IsClosedIn, ThawsChild, already, copied, PutsChild, shape_at, tree_in, IsThawed}
 use Rattle.svn_repo.proofs.EntryWrites.{slice_get-append, slice_get-push}
 use Rattle.svn_repo.proofs.Entering.{old_entries, each-push, each-put}
-use Rattle.svn_repo.proofs.Walking.{SameBut, IsApart, IsOnlyWay, and_then_same, and_then_parts, walk_step, walk_append, walk_after_put}
+use Rattle.svn_repo.proofs.Walking.{SameBut, IsApart, IsOnlyWay, and_then_same, and_then_parts, walk_step, walk_on, walk_after_put}
 use Rattle.svn_repo.proofs.Walking.{rest_below_is}
 
 -- ---- paths
@@ -138,7 +138,7 @@ step_already : (base : ℕ) (old : List Node) (root at : ℕ) (p : Path) (name :
     → walk (rows old) root p ≡ Some at → child_in (rows old at) name ≡ Some result → base ≤ result
     → IsStep base old old root (p ++ name ∷ []) result
 step_already base old root at p name result draft way found fresh =
-    let here : walk (rows old) root (p ++ name ∷ []) ≡ Some result = walk_append (rows old) root at p (name ∷ []) way
+    let here : walk (rows old) root (p ++ name ∷ []) ≡ Some result = walk_on (rows old) root at p (name ∷ []) way
     ∙ walk_step (rows old) at result name [] found in
     record {
       draft = draft;
@@ -217,7 +217,7 @@ module _ (base : ℕ) (old between new : List Node) (root at : ℕ) (p : Path) (
   walk_new = walk_after_put (rows between) (rows new) at root p name (Some (length old)) rows_new put.children only_way copy_apart
 
   way_child : walk (rows old) root (p ++ name ∷ []) ≡ Some n
-  way_child = walk_append (rows old) root at p (name ∷ []) way ∙ walk_step (rows old) at n name [] found
+  way_child = walk_on (rows old) root at p (name ∷ []) way ∙ walk_step (rows old) at n name [] found
 
   walk_here : walk (rows new) root (p ++ name ∷ []) ≡ Some (length old)
   walk_here = walk_new (p ++ name ∷ []) ∙ ap (λ o. led o (λ r. walk (rows between) (length old) r)
@@ -234,7 +234,7 @@ module _ (base : ℕ) (old between new : List Node) (root at : ℕ) (p : Path) (
           absurd (ne (s ∙ append_nil (p ++ name ∷ [])))
       by_rest (Some (x ∷ r)) e =
           let s : q ≡ (p ++ name ∷ []) ++ x ∷ r = rest_below_is (p ++ name ∷ []) q (x ∷ r) (sym e) in
-          copy_walk x r ∙ sym (ap (walk (rows old) root) s ∙ walk_append (rows old) root n (p ++ name ∷ []) (x ∷ r) way_child)
+          copy_walk x r ∙ sym (ap (walk (rows old) root) s ∙ walk_on (rows old) root n (p ++ name ∷ []) (x ∷ r) way_child)
 
   shape_new : (m : ℕ) → shape_at new m ≡ shape_at between m
   shape_new m = elim (cases_eq m at) [

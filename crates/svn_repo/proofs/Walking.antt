@@ -1,12 +1,12 @@
--- Where paths lead after one node is changed in place: the node is reached by one path alone.
+-- Where paths lead: a path in two parts, and after one node is changed in place, where the node is reached by one path alone.
 use Rattle.std.proofs.Common.{◌≡◌, ◌≢◌, ℕ, true, false, cond, List, [], ◌∷◌, ◌++◌, length, refl, arith, Option, Some, None, sym, ap, ◌∙◌}
 use Rattle.std.proofs.Common.{length-append, inl, inr}
-use Rattle.std.specs.Prelude.{bytes_eq}
+use Rattle.std.specs.Prelude.{bytes_eq, slice_get}
 use Rattle.std.specs.Option.{option_and_then}
 use Rattle.std.proofs.lemmas.Bool.{cases_Bool}
 use Rattle.std.proofs.lemmas.Slice.Eq.{bytes_eq-Decides}
 use Rattle.svn_types.specs.Names.{Path}
-use Rattle.svn_repo.specs.History.{Nodes, child_in, walk}
+use Rattle.svn_repo.specs.History.{History, Nodes, node_at, child_in, walk, look}
 use Rattle.svn_repo.specs.Walks.{rest_below, led}
 
 -- g is f but for node k
@@ -36,11 +36,28 @@ and_then_parts u (Some x) y h = (x, refl, h)
 pub walk_step : (f : Nodes) (n c : ℕ) (name : List ℕ) (q : Path) → child_in (f n) name ≡ Some c → walk f n (name ∷ q) ≡ walk f c q
 walk_step f n c name q e = ap (option_and_then (λ m. walk f m q)) e
 
-pub walk_append : (f : Nodes) (n k : ℕ) (p q : Path) → walk f n p ≡ Some k → walk f n (p ++ q) ≡ walk f k q
-walk_append f n k [] q h = let e : n ≡ k = cc in ap (λ x. walk f x q) e
-walk_append f n k (m ∷ p) q h =
-    let s = and_then_parts (λ c. walk f c p) (child_in (f n) m) k h in
-    walk_step f n s.0 m (p ++ q) s.1 ∙ walk_append f s.0 k p q s.2
+-- a path in two parts
+pub walk-append : (f : Nodes) (n : ℕ) (p q : Path) → walk f n (p ++ q) ≡ option_and_then (λ m. walk f m q) (walk f n p)
+walk-append f n [] q = refl
+walk-append f n (name ∷ p) q = by (child_in (f n) name) (λ m. walk-append f m p q)
+  where
+    by : (o : Option ℕ) → ((m : ℕ) → walk f m (p ++ q) ≡ option_and_then (λ k. walk f k q) (walk f m p))
+        → option_and_then (λ m. walk f m (p ++ q)) o ≡ option_and_then (λ m. walk f m q) (option_and_then (λ m. walk f m p) o)
+    by None next = refl
+    by (Some m) next = next m
+
+pub look-append : (h : History) (rev : ℕ) (p q : Path) → look h rev (p ++ q) ≡ option_and_then (λ m. walk (node_at h) m q) (look h rev p)
+look-append h rev p q = by (slice_get h.roots rev)
+  where
+    by : (o : Option ℕ)
+        → option_and_then (λ n. walk (node_at h) n (p ++ q)) o
+        ≡ option_and_then (λ m. walk (node_at h) m q) (option_and_then (λ n. walk (node_at h) n p) o)
+    by None = refl
+    by (Some n) = walk-append (node_at h) n p q
+
+-- the first part leads to a node
+pub walk_on : (f : Nodes) (n k : ℕ) (p q : Path) → walk f n p ≡ Some k → walk f n (p ++ q) ≡ walk f k q
+walk_on f n k p q h = walk-append f n p q ∙ ap (option_and_then (λ m. walk f m q)) h
 
 child_apart : (f : Nodes) (n k c : ℕ) (name : List ℕ) → IsApart f n k → child_in (f n) name ≡ Some c → IsApart f c k
 child_apart f n k c name apart e = λ r h. apart (name ∷ r) (walk_step f n c name r e ∙ h)
@@ -119,7 +136,7 @@ walk_after_put f g k n p name w same put way aside q =
 
     below_apart : (c : ℕ) (x : List ℕ) → child_in (f k) x ≡ Some c → IsApart f c k
     below_apart c x h = λ r back.
-        let s : p ++ x ∷ r ≡ p = way.only (p ++ x ∷ r) (walk_append f n k p (x ∷ r) way.leads ∙ walk_step f k c x r h ∙ back) in
+        let s : p ++ x ∷ r ≡ p = way.only (p ++ x ∷ r) (walk_on f n k p (x ∷ r) way.leads ∙ walk_step f k c x r h ∙ back) in
         let l : length (p ++ x ∷ r) ≡ length p = ap length s in
         absurd (omega (arith, length-append p (x ∷ r)))
 
@@ -127,11 +144,11 @@ walk_after_put f g k n p name w same put way aside q =
     by_rest None e = rw (rest_below_child p name q, ← e) refl
     by_rest (Some []) e =
         let q_is : q ≡ p ++ [] = rest_below_is p q [] (sym e) in
-        let at : walk f n q ≡ Some k = ap (walk f n) q_is ∙ walk_append f n k p [] way.leads in
+        let at : walk f n q ≡ Some k = ap (walk f n) q_is ∙ walk_on f n k p [] way.leads in
         rw (rest_below_child p name q, ← e) (sym at)
     by_rest (Some (x ∷ r)) e =
         let q_is : q ≡ p ++ x ∷ r = rest_below_is p q (x ∷ r) (sym e) in
-        let at : walk f n q ≡ walk f k (x ∷ r) = ap (walk f n) q_is ∙ walk_append f n k p (x ∷ r) way.leads in
+        let at : walk f n q ≡ walk f k (x ∷ r) = ap (walk f n) q_is ∙ walk_on f n k p (x ∷ r) way.leads in
         rw (rest_below_child p name q, ← e) (elim (cases_Bool (bytes_eq name x)) [
           | inl t ↦ rw (put x, t) (and_then_same (λ c. walk g c r) (λ c. walk f c r) w (λ c h. walk_avoiding f g k same c r (aside c h)))
           | inr t ↦ rw (put x, t) (and_then_same (λ c. walk g c r) (λ c. walk f c r) (child_in (f k) x)

@@ -13,7 +13,7 @@ use Rattle.svn_repo.specs.History.{child_in, walk}
 use Rattle.svn_repo.specs.Stored.{row_of, rows}
 use Rattle.svn_repo.specs.Trees.{Place, Tree, place_of, place_at, touched, touch, is_within, IsWay, is_directory_place}
 use Rattle.svn_repo.specs.Drafts.{IsThawed, IsListing, ThawsChild, tree_in}
-use Rattle.svn_repo.proofs.Walking.{walk_append}
+use Rattle.svn_repo.proofs.Walking.{walk_on}
 use Rattle.svn_repo.proofs.Thawing.{thaw_more}
 
 some_of_touched : (b : Bool) (o : Option Place) → is_some (cond b (option_map touched o) o) ≡ is_some o
@@ -62,7 +62,7 @@ pub child_present : (base : ℕ) (nodes : List Node) (root n : ℕ) (p : Path) (
     → is_some (tree_in base nodes root (p ++ name ∷ [])) ≡ true → IsSome (child_in (rows nodes n) name)
 child_present base nodes root n p name here h =
     let walked : is_some (walk (rows nodes) root (p ++ name ∷ [])) ≡ true = some_parts (place_at (rows nodes) base) _ h in
-    let step : is_some (walk (rows nodes) n (name ∷ [])) ≡ true = sym (ap is_some (walk_append (rows nodes) root n p (name ∷ []) here))
+    let step : is_some (walk (rows nodes) n (name ∷ [])) ≡ true = sym (ap is_some (walk_on (rows nodes) root n p (name ∷ []) here))
     ∙ walked in
     some_is (child_in (rows nodes n) name) (some_parts (λ m. walk (rows nodes) m []) (child_in (rows nodes n) name) step)
 

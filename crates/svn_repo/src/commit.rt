@@ -12,7 +12,8 @@ use crate::entries::{Entries, NodeId};
 use crate::heights::add_heights;
 use crate::refusal::fault_of;
 use crate::store::{
-    Content, Draft, Node, Past, Stored, lookup_in, node_below, put_made, put_old, put_prop,
+    Content, Draft, Node, Past, PropSetting, Stored, lookup_in, node_below, put_made, put_old,
+    put_prop,
 };
 use std::alloc::AllocError;
 use svn_types::{Name, Props, Rev, Text};
@@ -129,7 +130,8 @@ fn make(
             Ok(Draft { base, root, lines })
         }
         Change::SetProp { path, name, value } => {
-            let root = put_prop(nodes, draft, path.components(), name, value)?;
+            let setting = PropSetting { name, value };
+            let root = put_prop(nodes, draft, path.components(), &setting)?;
             Ok(Draft { base, root, lines })
         }
         Change::Remove { path } => {

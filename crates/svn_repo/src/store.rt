@@ -45,6 +45,13 @@ pub(crate) struct Draft {
     pub(crate) lines: u64,
 }
 
+/// What a property becomes: without a value it is removed.
+#[derive(Clone, Copy, Debug)]
+pub(crate) struct PropSetting<'a> {
+    pub(crate) name: &'a PropName,
+    pub(crate) value: &'a Option<Text>,
+}
+
 #[derive(Debug, Drop)]
 pub(crate) struct Node {
     pub(crate) line: u64,
@@ -305,32 +312,27 @@ pub(crate) fn kind_at(nodes: &[Node], at: Option<NodeId>) -> Option<Kind>
     }
 }
 
-fn put_value(props: &mut Props, name: &PropName, value: &Option<Text>) -> Result<(), AllocError>
-    ensures ok { OnOk result (props.new ≡ with_value props.old name.now value.now) }
+fn put_value(props: &mut Props, setting: &PropSetting<'_>) -> Result<(), AllocError>
+    ensures ok { OnOk result (props.new ≡ with_value props.old setting.now.name.now setting.now.value.now) }
 {
-    match value {
-        Some(value) => props.insert(name.clone()?, value.clone()?),
+    match setting.value {
+        Some(value) => props.insert(setting.name.clone()?, value.clone()?),
         None => {
-            props.remove(name);
+            props.remove(setting.name);
             Ok(())
         }
     }
 }
 
 // Sets or removes a property of a node.
-fn set_value(
-    nodes: &mut Vec<Node>,
-    at: NodeId,
-    name: &PropName,
-    value: &Option<Text>,
-) -> Result<(), AllocError>
+fn set_value(nodes: &mut Vec<Node>, at: NodeId, setting: &PropSetting<'_>) -> Result<(), AllocError>
     requires { at < length nodes.old.items }
-    ensures ok { OnOk result (SetsProp nodes.old.items nodes.new.items at name.now value.now) }
+    ensures ok { OnOk result (SetsProp nodes.old.items nodes.new.items at setting.now.name.now setting.now.value.now) }
     ensures others { (m : ℕ) → m ≢ at → slice_get nodes.new.items m ≡ slice_get nodes.old.items m }
     ensures size { length nodes.new.items ≡ length nodes.old.items }
 {
     let node = &mut nodes[at.index];
-    put_value(&mut node.props, name, value)
+    put_value(&mut node.props, setting)
 }
 
 /// Sets or removes a property of the node at a path of a draft, and answers the new root.
@@ -338,15 +340,14 @@ pub(crate) fn put_prop(
     nodes: &mut Vec<Node>,
     draft: Draft,
     names: &[Name],
-    name: &PropName,
-    value: &Option<Text>,
+    setting: &PropSetting<'_>,
 ) -> Result<NodeId, AllocError>
     requires draft { IsDraft draft.base nodes.old.items draft.root }
     requires way { IsWay (tree_in draft.base nodes.old.items draft.root) names.now }
-    ensures ok { IfOk result (λ n. IsGrafted draft.base nodes.old.items nodes.new.items draft.root n names.now (with_prop (tree_in draft.base nodes.old.items draft.root) names.now name.now value.now)) }
+    ensures ok { IfOk result (λ n. IsGrafted draft.base nodes.old.items nodes.new.items draft.root n names.now (with_prop (tree_in draft.base nodes.old.items draft.root) names.now setting.now.name.now setting.now.value.now)) }
     ensures kept { KeepsOld draft.base nodes.old.items nodes.new.items }
 {
     let (top, at) = thaw_path(nodes, draft, names)?;
-    set_value(nodes, at, name, value)?;
+    set_value(nodes, at, setting)?;
     Ok(top)
 }

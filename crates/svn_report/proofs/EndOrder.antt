@@ -1,6 +1,7 @@
 -- The order in which directories end, and names beneath a path in both orders.
 use Rattle.std.proofs.Common.{◌≡◌, ◌<◌, ◌≤◌, Bool, true, false, ◌&&◌, not, List, [], ◌∷◌, cond, length, refl, sym, ◌∙◌, ap, arith}
 use Rattle.std.proofs.Common.{true≢false}
+use Rattle.std.proofs.lemmas.Bool.{and_parts}
 use Rattle.std.proofs.lemmas.Cmp.{tied_itself}
 use Rattle.std.specs.Prelude.{bytes_eq}
 use Rattle.std.specs.declared.cmp.Ordering.{Ordering}
@@ -8,13 +9,11 @@ use Rattle.std.specs.declared.cmp.Ordering.TheVariants.{Less, Equal, Greater}
 use Rattle.std.specs.Ordering.{is_eq, ordering_then, ordering_reverse}
 use Rattle.std.specs.BTreeMap.{is_at}
 use Rattle.std.specs.Cmp.Lexicographic.{texts_ties}
-use Rattle.std.proofs.lemmas.Map.Lookups.{exact_bytes}
 use Rattle.svn_types.specs.Names.{Path, name_cmp, path_cmp}
 use Rattle.svn_types.specs.Paths.{path_eq, is_within, is_below, child}
 use Rattle.svn_report.specs.ReportNames.{next_name}
 use Rattle.svn_report.specs.ReportOrder.{end_cmp, end_total}
-use Rattle.svn_types.proofs.NameLemmas.{Name}
-use Rattle.svn_types.proofs.PathOrder.{both, same_name, bytes_eq-same, name_cmp-same}
+use Rattle.svn_types.proofs.NameLemmas.{Name, same_bytes, bytes_eq-same, name_cmp-same, level_names}
 use Rattle.svn_types.proofs.PathsInOrder.{paths_total, path_tie, before_apart}
 
 -- ---- a path strictly beneath another has more names
@@ -55,14 +54,14 @@ less_end (m ∷ p) [] h = cc
 less_end (m ∷ p) (n ∷ q) h = by (name_cmp m n) refl h (less_end p q)
   where
     apart : (b : Bool) → bytes_eq m n ≡ b → name_cmp m n ≡ Less → b ≡ false
-    apart true e l = absurd (true≢false (ap is_eq (sym (name_cmp-same m n (same_name m n e)) ∙ l)))
+    apart true e l = absurd (true≢false (ap is_eq (sym (level_names m n e) ∙ l)))
     apart false e l = refl
 
     by : (o : Ordering) → name_cmp m n ≡ o → ordering_then o (path_cmp p q) ≡ Less
         → (path_cmp p q ≡ Less → end_cmp p q ≡ cond (is_within p q) Greater Less)
         → ordering_then o (end_cmp p q) ≡ cond (bytes_eq m n && is_within p q) Greater Less
     by Less e h ih = sym (ap (λ b. cond (b && is_within p q) Greater Less) (apart (bytes_eq m n) refl e))
-    by Equal e h ih = ih h ∙ sym (ap (λ b. cond (b && is_within p q) Greater Less) (bytes_eq-same m n (exact_bytes m n e)))
+    by Equal e h ih = ih h ∙ sym (ap (λ b. cond (b && is_within p q) Greater Less) (texts_ties m n ∙ ap is_eq e))
     by Greater e h ih = cc
 
 below_within : (p q : Path) → path_cmp p q ≡ Less → is_below p q ≡ is_within p q
@@ -110,16 +109,16 @@ pub names_in_order : (p : Path) (m k : Name) (x y : Path) → is_within (child p
 names_in_order [] m k [] y w v l = absurd (true≢false (sym w))
 names_in_order [] m k (a ∷ x) [] w v l = absurd (true≢false (sym v))
 names_in_order [] m k (a ∷ x) (b ∷ y) w v l =
-    let here = both (bytes_eq m a) (is_within [] x) w in
-    let there = both (bytes_eq k b) (is_within [] y) v in
+    let here = and_parts (bytes_eq m a) (is_within [] x) w in
+    let there = and_parts (bytes_eq k b) (is_within [] y) v in
     ap (λ o. ordering_then o (path_cmp x y))
-    (ap (λ (z : Name). name_cmp z b) (sym (same_name m a here.0)) ∙ ap (name_cmp m) (sym (same_name k b there.0)) ∙ l)
+    (ap (λ (z : Name). name_cmp z b) (sym (same_bytes m a here.0)) ∙ ap (name_cmp m) (sym (same_bytes k b there.0)) ∙ l)
 names_in_order (c ∷ p) m k [] y w v l = absurd (true≢false (sym w))
 names_in_order (c ∷ p) m k (a ∷ x) [] w v l = absurd (true≢false (sym v))
 names_in_order (c ∷ p) m k (a ∷ x) (b ∷ y) w v l =
-    let here = both (bytes_eq c a) (is_within (child p m) x) w in
-    let there = both (bytes_eq c b) (is_within (child p k) y) v in
-    ap (λ o. ordering_then o (path_cmp x y)) (name_cmp-same a b (sym (same_name c a here.0) ∙ same_name c b there.0))
+    let here = and_parts (bytes_eq c a) (is_within (child p m) x) w in
+    let there = and_parts (bytes_eq c b) (is_within (child p k) y) v in
+    ap (λ o. ordering_then o (path_cmp x y)) (ap (name_cmp a) (sym (same_bytes c b there.0) ∙ same_bytes c a here.0) ∙ name_cmp-same a)
     ∙ names_in_order p m k x y here.1 there.1 l
 
 pub names_end_in_order : (p : Path) (m k : Name) (x y : Path) → is_within (child p m) x ≡ true → is_within (child p k) y ≡ true
@@ -127,36 +126,23 @@ pub names_end_in_order : (p : Path) (m k : Name) (x y : Path) → is_within (chi
 names_end_in_order [] m k [] y w v l = absurd (true≢false (sym w))
 names_end_in_order [] m k (a ∷ x) [] w v l = absurd (true≢false (sym v))
 names_end_in_order [] m k (a ∷ x) (b ∷ y) w v l =
-    let here = both (bytes_eq m a) (is_within [] x) w in
-    let there = both (bytes_eq k b) (is_within [] y) v in
+    let here = and_parts (bytes_eq m a) (is_within [] x) w in
+    let there = and_parts (bytes_eq k b) (is_within [] y) v in
     ap (λ o. ordering_then o (end_cmp x y))
-    (ap (λ (z : Name). name_cmp z b) (sym (same_name m a here.0)) ∙ ap (name_cmp m) (sym (same_name k b there.0)) ∙ l)
+    (ap (λ (z : Name). name_cmp z b) (sym (same_bytes m a here.0)) ∙ ap (name_cmp m) (sym (same_bytes k b there.0)) ∙ l)
 names_end_in_order (c ∷ p) m k [] y w v l = absurd (true≢false (sym w))
 names_end_in_order (c ∷ p) m k (a ∷ x) [] w v l = absurd (true≢false (sym v))
 names_end_in_order (c ∷ p) m k (a ∷ x) (b ∷ y) w v l =
-    let here = both (bytes_eq c a) (is_within (child p m) x) w in
-    let there = both (bytes_eq c b) (is_within (child p k) y) v in
-    ap (λ o. ordering_then o (end_cmp x y)) (name_cmp-same a b (sym (same_name c a here.0) ∙ same_name c b there.0))
+    let here = and_parts (bytes_eq c a) (is_within (child p m) x) w in
+    let there = and_parts (bytes_eq c b) (is_within (child p k) y) v in
+    ap (λ o. ordering_then o (end_cmp x y)) (ap (name_cmp a) (sym (same_bytes c b there.0) ∙ same_bytes c a here.0) ∙ name_cmp-same a)
     ∙ names_end_in_order p m k x y here.1 there.1 l
 
 -- ---- what stands beneath a name
 
-pub child_itself : (p : Path) (n : Name) → is_within (child p n) (child p n) ≡ true
-child_itself [] n = ap (λ b. b && true) (bytes_eq-same n n refl)
-child_itself (c ∷ p) n = ap (λ b. b && is_within (child p n) (child p n)) (bytes_eq-same c c refl) ∙ child_itself p n
-
-pub above_child : (p : Path) (n : Name) (x : Path) → is_within (child p n) x ≡ true → (is_within p x ≡ true) × (path_eq p x ≡ false)
-above_child [] n [] w = absurd (true≢false (sym w))
-above_child [] n (a ∷ x) w = (refl, refl)
-above_child (c ∷ p) n [] w = absurd (true≢false (sym w))
-above_child (c ∷ p) n (a ∷ x) w =
-    let here = both (bytes_eq c a) (is_within (child p n) x) w in
-    let rest = above_child p n x here.1 in
-    (ap (λ b. b && is_within p x) here.0 ∙ rest.0, ap (λ b. b && path_eq p x) here.0 ∙ rest.1)
-
 pub within_named : (p : Path) (n : Name) (x : Path) → n ∷ [] ≡ next_name p x → is_within (child p n) x ≡ true
 within_named [] n [] h = cc
-within_named [] n (a ∷ x) h = ap (λ b. b && true) (bytes_eq-same n a (ap (λ (l : List Name). first l) h))
+within_named [] n (a ∷ x) h = ap (λ b. b && true) (ap (bytes_eq n) (sym (ap (λ (l : List Name). first l) h)) ∙ bytes_eq-same n)
   where
     first : List Name → Name
     first [] = []
@@ -190,7 +176,7 @@ later_named (c ∷ p) n m (a ∷ x) l h = by (bytes_eq c a) refl h (later_named 
   where
     by : (b : Bool) → bytes_eq c a ≡ b → m ∷ [] ≡ cond b (next_name p x) []
         → (end_cmp (child p n) x ≡ Less → m ∷ [] ≡ next_name p x → name_cmp n m ≡ Less) → name_cmp n m ≡ Less
-    by true e h ih = ih (sym (ap (λ o. ordering_then o (end_cmp (child p n) x)) (name_cmp-same c a (same_name c a e))) ∙ l) h
+    by true e h ih = ih (sym (ap (λ o. ordering_then o (end_cmp (child p n) x)) (level_names c a e)) ∙ l) h
     by false e h ih = cc
 
 pub named_ends_before : (p : Path) (n k : Name) (x q : Path) → end_cmp (child p n) x ≡ Less → [] ≡ next_name p x
@@ -203,21 +189,21 @@ named_ends_before (c ∷ p) n k [] (b ∷ q) l h w = refl
 named_ends_before (c ∷ p) n k (a ∷ x) (b ∷ q) l h w = by (bytes_eq c a) refl h (named_ends_before p n k x q)
   where
     here : (bytes_eq c b ≡ true) × (is_within (child p k) q ≡ true)
-    here = both (bytes_eq c b) (is_within (child p k) q) w
+    here = and_parts (bytes_eq c b) (is_within (child p k) q) w
 
     as_c : name_cmp b a ≡ name_cmp c a
-    as_c = ap (λ (z : Name). name_cmp z a) (sym (same_name c b here.0))
+    as_c = ap (λ (z : Name). name_cmp z a) (sym (same_bytes c b here.0))
 
     less : (o : Ordering) → name_cmp c a ≡ o → bytes_eq c a ≡ false → ordering_then o (end_cmp (child p n) x) ≡ Less → o ≡ Less
     less Less e f l = refl
-    less Equal e f l = absurd (true≢false (sym (bytes_eq-same c a (exact_bytes c a e)) ∙ f))
+    less Equal e f l = absurd (true≢false (sym (texts_ties c a ∙ ap is_eq e) ∙ f))
     less Greater e f l = cc
 
     by : (s : Bool) → bytes_eq c a ≡ s → [] ≡ cond s (next_name p x) []
         → (end_cmp (child p n) x ≡ Less → [] ≡ next_name p x → is_within (child p k) q ≡ true → end_cmp q x ≡ Less)
         → ordering_then (name_cmp b a) (end_cmp q x) ≡ Less
     by true e h ih =
-        let same = name_cmp-same c a (same_name c a e) in
+        let same = level_names c a e in
         ap (λ o. ordering_then o (end_cmp q x)) (as_c ∙ same)
         ∙ ih (sym (ap (λ o. ordering_then o (end_cmp (child p n) x)) same) ∙ l) h here.1
     by false e h ih = ap (λ o. ordering_then o (end_cmp q x)) (as_c ∙ less (name_cmp c a) refl e l)

@@ -28,8 +28,7 @@ use Rattle.std.specs.Prelude.{nat_eq}
 use Rattle.std.specs.Cmp.Lexicographic.{pointwise}
 use Rattle.indexmap.specs.IndexMap.{insert_entry}
 use Rattle.svn_report.specs.ReportOrder.{IsKept, IsNext, IsNextBy, IsPrevious, end_cmp}
-use Rattle.svn_types.proofs.PathLemmas.{path_eq-symm, below_parts}
-use Rattle.svn_types.proofs.PathOrder.{same_path, path_eq-same}
+use Rattle.svn_types.proofs.PathLemmas.{same_path, path_eq-same, path_eq-symm, below_parts}
 use Rattle.svn_types.proofs.PathsInOrder.{paths_total, path_tie, at_path, before_apart, earlier, not_both, below_after, within_between}
 use Rattle.svn_editor.proofs.OneMore.{any_found}
 use Rattle.svn_report.proofs.EndOrder.{end_tied}
@@ -58,7 +57,7 @@ somewhere f (e ∷ es) h = by (f e.0) refl h (somewhere f es)
     by : (b : Bool) → f e.0 ≡ b → (b || list_any (λ e. f e.0) es) ≡ true
         → (list_any (λ e. f e.0) es ≡ true → (q : Path) × (f q ≡ true) × (is_some (entry_at es q) ≡ true))
         → (q : Path) × (f q ≡ true) × (is_some (cond (path_eq e.0 q) (Some e.1) (entry_at es q)) ≡ true)
-    by true k h ih = (e.0, k, ap (λ b. is_some (cond b (Some e.1) (entry_at es e.0))) (path_eq-same e.0 e.0 refl))
+    by true k h ih = (e.0, k, ap (λ b. is_some (cond b (Some e.1) (entry_at es e.0))) (path_eq-same e.0))
     by false k h ih = let r = ih h in (r.0, r.1, later r.0 r.2)
 
 pub at_some : (f : Path → Bool) (es : Entries) (q : Path) → f q ≡ true → is_some (entry_at es q) ≡ true → list_any (λ e. f e.0) es ≡ true
@@ -307,7 +306,7 @@ module _ (es : Entries) (p : Path) (e : ReportEntry) (old : AreLawfulEntries es)
       by (inr n) =
           subst (λ (y : Path × ReportEntry). option_or (entry_at es y.0) (cond (path_eq p y.0) (Some e) None) ≡ Some y.1) n.1
           (ap (λ o. option_or o (cond (path_eq p p) (Some e) None)) (none_there es p w.new)
-          ∙ ap (λ b. cond b (Some e) None) (path_eq-same p p refl))
+          ∙ ap (λ b. cond b (Some e) None) (path_eq-same p))
 
   nothing_stays : (a q : Path) → is_deleted_at (entry_at (es ++ (p, e) ∷ []) a) ≡ true → is_below a q ≡ true
       → entry_at (es ++ (p, e) ∷ []) q ≡ None
@@ -354,7 +353,7 @@ module _ (es : Entries) (p : Path) (e : ReportEntry) (old : AreLawfulEntries es)
       by (inr last) (inr also) =
           let below : is_below p p ≡ true = ap (λ (z : Path × ReportEntry). is_below p z.0) also.1
           ∙ ap (λ (z : Path × ReportEntry). is_below z.0 y.0) last.1 ∙ b in
-          absurd (true≢false (sym (path_eq-same p p refl) ∙ (below_parts p p below).1))
+          absurd (true≢false (sym (path_eq-same p) ∙ (below_parts p p below).1))
 
   links_stay : (a q : Path) (rev : ℕ) (start_empty : Bool) → entry_at (es ++ (p, e) ∷ []) a ≡ Some (LinkPath q rev start_empty)
       → length a ≤ length q + path_limit

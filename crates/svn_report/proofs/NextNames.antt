@@ -3,6 +3,7 @@ use Rattle.std.proofs.Common.{◌≡◌, ℕ, ◌<◌, ◌≤◌, Bool, true, fa
 use Rattle.std.proofs.Common.{◌∙◌, ap, true≢false, get_or, Bor}
 use Rattle.std.specs.Prelude.{Option, Some, None, Ok, bytes_eq, slice_get, IfSome, MatchOption}
 use Rattle.std.specs.List.{HoldsAt}
+use Rattle.std.proofs.lemmas.Bool.{and_parts}
 use Rattle.std.proofs.lemmas.Option.{slice_get_past, slice_get_read}
 use Rattle.std.specs.declared.cmp.Ordering.TheVariants.{Less}
 use Rattle.std.specs.Ordering.{ordering_then}
@@ -15,9 +16,10 @@ use Rattle.svn_types.specs.Paths.{is_within, child}
 use Rattle.svn_report.specs.Reports.{Entries}
 use Rattle.svn_report.specs.ReportNames.{next_name, has_entry_within, IsNextName}
 use Rattle.svn_report.specs.ReportOrder.{IsKept, IsNext, IsNextBy, end_cmp}
-use Rattle.svn_types.proofs.PathOrder.{both, same_name, name_cmp-same, below_after, within_between}
-use Rattle.svn_report.proofs.EndOrder.{names_in_order, names_end_in_order, child_itself, above_child, within_named, later_named}
-use Rattle.svn_report.proofs.EndOrder.{named_ends_before}
+use Rattle.svn_types.proofs.NameLemmas.{level_names}
+use Rattle.svn_types.proofs.PathLemmas.{is_within-same, below_from_child}
+use Rattle.svn_types.proofs.PathsInOrder.{below_after, within_between}
+use Rattle.svn_report.proofs.EndOrder.{names_in_order, names_end_in_order, within_named, later_named, named_ends_before}
 use Rattle.svn_report.proofs.Listings.{somewhere, at_some}
 
 -- ---- the name that leads from a path down to another
@@ -27,7 +29,7 @@ next_named [] [] w = refl
 next_named [] (n ∷ q) w = refl
 next_named (m ∷ p) [] w = absurd (true≢false (sym w))
 next_named (m ∷ p) (n ∷ q) w =
-    let parts = both (bytes_eq m n) (is_within p q) w in
+    let parts = and_parts (bytes_eq m n) (is_within p q) w in
     next_named p q parts.1 ∙ sym (ap (λ b. cond b (next_name p q) []) parts.0)
 
 pub not_named : (p q : Path) → is_within p q ≡ false → [] ≡ next_name p q
@@ -74,7 +76,7 @@ least : (paths : BTreeSet Path) (es : Entries) (p : Path) (k : List ℕ) → IsK
 least paths es p k kept h out = absurd (true≢false (sym h ∙ nothing_at paths es p k kept out))
 
 child_after : (p q : Path) (n : List ℕ) → is_within (child p n) q ≡ true → path_cmp p q ≡ Less
-child_after p q n w = let above = above_child p n q w in below_after p q above.0 above.1
+child_after p q n w = let above = below_from_child p q n w in below_after p q above.0 above.1
 
 pub first_name : (paths : BTreeSet Path) (es : Entries) (p x : Path) (o : Option (List ℕ)) → IsKept paths es → IsNext paths p (Some x)
     → option_to_list o ≡ next_name p x
@@ -88,13 +90,13 @@ first_name paths es p x None kept next named = λ n after. nothing_at paths es p
     unnamed [] (a ∷ y) w h l = cc
     unnamed (c ∷ r) [] w h l = absurd (true≢false (sym w))
     unnamed (c ∷ r) (a ∷ y) w h l =
-        let here = both (bytes_eq c a) (is_within r y) w in
+        let here = and_parts (bytes_eq c a) (is_within r y) w in
         unnamed r y here.1 (h ∙ ap (λ b. cond b (next_name r y) []) here.0)
-        (sym (ap (λ o. ordering_then o (path_cmp r y)) (name_cmp-same c a (same_name c a here.0))) ∙ l)
+        (sym (ap (λ o. ordering_then o (path_cmp r y)) (level_names c a here.0)) ∙ l)
 
     outside : (q : Path) (n : List ℕ) → is_within (child p n) q ≡ true → contains path_cmp paths q ≡ true → ⊥
     outside q n w in_set =
-        unnamed p x (within_between p x q next.0 (next.2 q (child_after p q n w) in_set) (above_child p n q w).0) named next.0
+        unnamed p x (within_between p x q next.0 (next.2 q (child_after p q n w) in_set) (below_from_child p q n w).0) named next.0
 first_name paths es p x (Some m) kept next named = (
   tt,
   there paths es p x m kept next.1 named,
@@ -109,17 +111,17 @@ no_first_name paths es p kept next = λ n after. nothing_at paths es p n kept
 pub later_name : (paths : BTreeSet Path) (es : Entries) (p x : Path) (n : List ℕ) (o : Option (List ℕ)) → IsKept paths es
     → IsNextBy end_cmp (contains path_cmp paths) (child p n) (Some x) → option_to_list o ≡ next_name p x → IsNextName p es (Some n) o
 later_name paths es p x n None kept next named = λ k after. nothing_at paths es p k kept
-    (λ q w in_set. next.2 q (names_end_in_order p n k (child p n) q (child_itself p n) w after) in_set
+    (λ q w in_set. next.2 q (names_end_in_order p n k (child p n) q (is_within-same (child p n)) w after) in_set
     (named_ends_before p n k x q next.0 named w))
 later_name paths es p x n (Some m) kept next named = (
   later_named p n m x next.0 named,
   there paths es p x m kept next.1 named,
   λ k after h l. least paths es p k kept h
-      (λ q w in_set. next.2 q (names_end_in_order p n k (child p n) q (child_itself p n) w after) in_set
+      (λ q w in_set. next.2 q (names_end_in_order p n k (child p n) q (is_within-same (child p n)) w after) in_set
       (names_end_in_order p k m q x w (within_named p m x named) l)),
 )
 
 pub no_later_name : (paths : BTreeSet Path) (es : Entries) (p : Path) (n : List ℕ) → IsKept paths es
     → IsNextBy end_cmp (contains path_cmp paths) (child p n) None → IsNextName p es (Some n) None
 no_later_name paths es p n kept next = λ k after. nothing_at paths es p k kept
-    (λ q w in_set. absurd (true≢false (sym in_set ∙ next q (names_end_in_order p n k (child p n) q (child_itself p n) w after))))
+    (λ q w in_set. absurd (true≢false (sym in_set ∙ next q (names_end_in_order p n k (child p n) q (is_within-same (child p n)) w after))))

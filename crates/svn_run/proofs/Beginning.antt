@@ -17,17 +17,12 @@ use Rattle.svn_model.specs.Crawl.{crawl}
 use Rattle.svn_model.specs.Follow.{root_path}
 use Rattle.svn_model.specs.Sources.{reported, source, is_hidden, governing_revision}
 use Rattle.svn_model.specs.Nodes.{get_in, is_dir, is_present, node_path, node_revision}
+use Rattle.svn_edit_law.proofs.OneNode.{dir_present}
 use Rattle.svn_law.specs.Laws.{IsTrueCopy}
 use Rattle.svn_run.specs.declared.outcome.RunFault.TheVariants.{NoSuchRevision, NoRoot, OtherRoot}
 use Rattle.svn_run.specs.Goals.{fault_at}
 use Rattle.svn_run.specs.RunLaws.{RunLaws}
 use Rattle.svn_run.specs.UpdateTheorem.{Nodes, Asked, request, run_fault_of, fault_in_turn}
-
-dir_present : (node : Option BaseNode) → is_dir node ≡ true → is_present node ≡ true
-dir_present None h = absurd (true≢false (sym h))
-dir_present (Some (FileNode r q t ps)) h = refl
-dir_present (Some (DirNode r q c ps)) h = refl
-dir_present (Some NotPresent) h = absurd (true≢false (sym h))
 
 shown : (hidden : Bool) (there : Option ℕ) → is_some (if hidden then None else there) ≡ true → (if hidden then None else there) ≡ there
 shown true there h = absurd (true≢false (sym h))

@@ -6,10 +6,8 @@ pub mod NameLemmas
 pub mod NameSets
 -- paths: their parts, and paths above and below one another
 pub mod PathLemmas
--- paths in their order
+-- paths in their order, and what is below a path directly after it
 pub mod PathsInOrder
--- paths in their order, as the reporter and the order check need them
-pub mod PathOrder
 -- places in a list
 pub mod Places
 -- keys of paths, whose order is that of the paths

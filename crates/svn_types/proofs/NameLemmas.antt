@@ -51,13 +51,17 @@ same_name = slice_cmp-IsAntisymmetric nat_cmp-IsAntisymmetric
 pub name_cmp-same : (m : Name) → name_cmp m m ≡ Equal
 name_cmp-same = tied_itself nat_list_cmp_total
 
+-- names that the test takes for one are level
+pub level_names : (m n : Name) → bytes_eq m n ≡ true → name_cmp m n ≡ Equal
+level_names m n h = ap (name_cmp m) (sym (same_bytes m n h)) ∙ name_cmp-same m
+
+pub is_less : (o : Ordering) → is_lt o ≡ true → o ≡ Less
+is_less Less e = refl
+is_less Equal e = cc
+is_less Greater e = cc
+
 pub lt_chain : (m n k : Name) → is_lt (name_cmp m n) ≡ true → is_lt (name_cmp n k) ≡ true → is_lt (name_cmp m k) ≡ true
-lt_chain m n k h i = ap is_lt (nat_list_cmp_total.trans m n k (less _ h) (less _ i))
-  where
-    less : (o : Ordering) → is_lt o ≡ true → o ≡ Less
-    less Less e = refl
-    less Equal e = cc
-    less Greater e = cc
+lt_chain m n k h i = ap is_lt (nat_list_cmp_total.trans m n k (is_less _ h) (is_less _ i))
 
 pub lt_apart : (m n : Name) → is_lt (name_cmp m n) ≡ true → bytes_eq m n ≡ false
 lt_apart m n h = by (bytes_eq m n) refl
@@ -68,8 +72,12 @@ lt_apart m n h = by (bytes_eq m n) refl
         let tie : is_lt (name_cmp m m) ≡ true = subst (λ x. is_lt (name_cmp m x) ≡ true) (sym (same_bytes m n e)) h in
         absurd (true≢false (sym tie ∙ ap is_lt (name_cmp-same m)))
 
+-- the other way round
+pub reversed : (m n : Name) (o : Ordering) → name_cmp m n ≡ o → name_cmp n m ≡ ordering_reverse o
+reversed m n o e = nat_list_cmp_total.antisymm n m ∙ ap ordering_reverse e
+
 pub flipped : (m n : Name) → name_cmp m n ≡ Greater → is_lt (name_cmp n m) ≡ true
-flipped m n e = ap is_lt (nat_list_cmp_total.antisymm n m) ∙ ap (λ o. is_lt (ordering_reverse o)) e
+flipped m n e = ap is_lt (reversed m n Greater e)
 
 -- ---- names as keys
 

@@ -15,8 +15,11 @@ use Rattle.svn_types.proofs.NameLemmas.{Name, same_bytes, bytes_eq-same, eq-symm
 pub same_path : (p q : Path) → path_eq p q ≡ true → p ≡ q
 same_path p q h = (pointwise_decides bytes_decides p q).0 h
 
+pub path_eq_from : (p q : Path) → p ≡ q → path_eq p q ≡ true
+path_eq_from p q h = (pointwise_decides bytes_decides p q).1 h
+
 pub path_eq-same : (p : Path) → path_eq p p ≡ true
-path_eq-same p = (pointwise_decides bytes_decides p p).1 refl
+path_eq-same p = path_eq_from p p refl
 
 pub path_eq-symm : (p q : Path) → path_eq p q ≡ path_eq q p
 path_eq-symm = eq-symm path_eq same_path path_eq-same

@@ -12,7 +12,7 @@ use Rattle.std.proofs.lemmas.Bool.{and_parts}
 use Rattle.std.proofs.lemmas.Cmp.{tied_itself}
 use Rattle.svn_types.specs.Names.{Path, name_cmp, path_cmp}
 use Rattle.svn_types.specs.Paths.{path_eq, is_within, child}
-use Rattle.svn_types.proofs.NameLemmas.{Name, same_bytes, bytes_eq-same, same_name, name_cmp-same}
+use Rattle.svn_types.proofs.NameLemmas.{Name, same_bytes, bytes_eq-same, same_name, level_names, reversed}
 use Rattle.svn_types.proofs.PathLemmas.{same_path}
 
 pub paths_total : IsTotalOrder path_cmp
@@ -68,7 +68,7 @@ below_after [] (n ∷ q) w e = refl
 below_after (m ∷ p) [] w e = absurd (true≢false (sym w))
 below_after (m ∷ p) (n ∷ q) w e =
     let parts = and_parts (bytes_eq m n) (is_within p q) w in
-    ap (λ o. ordering_then o (path_cmp p q)) (ap (name_cmp m) (sym (same_bytes m n parts.0)) ∙ name_cmp-same m)
+    ap (λ o. ordering_then o (path_cmp p q)) (level_names m n parts.0)
     ∙ below_after p q parts.1 (sym (ap (λ b. b && path_eq p q) parts.0) ∙ e)
 
 pub within_after : (p q : Path) → is_within p q ≡ true → is_le (path_cmp p q) ≡ true
@@ -112,16 +112,13 @@ between_child [] (x ∷ r) name after before = (x, r, refl, by (name_cmp x name)
 between_child (m ∷ q) [] name after before = absurd (true≢false (sym (ap is_lt after)))
 between_child (m ∷ q) (n ∷ k) name after before = by (name_cmp m n) refl after (between_child q k name)
   where
-    other_way : (o : Ordering) → name_cmp m n ≡ o → name_cmp n m ≡ ordering_reverse o
-    other_way o e = nat_list_cmp_total.antisymm n m ∙ ap ordering_reverse e
-
     by : (o : Ordering) → name_cmp m n ≡ o → ordering_then o (path_cmp q k) ≡ Less
         → (path_cmp q k ≡ Less → path_cmp k (child q name) ≡ Less → (x : Name) × (r : Path) × (k ≡ q ++ x ∷ r) × (name_cmp x name ≡ Less))
         → (x : Name) × (r : Path) × (n ∷ k ≡ m ∷ q ++ x ∷ r) × (name_cmp x name ≡ Less)
     by Less e h next =
-        absurd (true≢false (sym (ap is_lt (sym (ap (λ o. ordering_then o (path_cmp k (child q name))) (other_way Less e)) ∙ before))))
+        absurd (true≢false (sym (ap is_lt (sym (ap (λ o. ordering_then o (path_cmp k (child q name))) (reversed m n Less e)) ∙ before))))
     by Equal e h next =
-        let found = next h (sym (ap (λ o. ordering_then o (path_cmp k (child q name))) (other_way Equal e)) ∙ before) in
+        let found = next h (sym (ap (λ o. ordering_then o (path_cmp k (child q name))) (reversed m n Equal e)) ∙ before) in
         let same : m ≡ n = same_name m n e in
         (found.0, found.1, (λ i. sym same i ∷ found.2 i), found.3)
     by Greater e h next = absurd (true≢false (sym (ap is_lt h)))

@@ -6,12 +6,12 @@ use Rattle.std.specs.declared.cmp.Ordering.TheVariants.{Less, Equal, Greater}
 use Rattle.std.specs.Ordering.{is_gt}
 use Rattle.svn_types.specs.Names.{Path, path_cmp}
 use Rattle.svn_types.specs.Paths.{path_eq, is_within}
-use Rattle.svn_types.proofs.PathsInOrder.{path_tie, path_cmp-same, before_apart}
+use Rattle.svn_types.proofs.PathsInOrder.{path_tie, path_cmp-same, not_before_itself, not_both, before_apart}
+use Rattle.svn_types.proofs.PathLemmas.{same_path}
 use Rattle.svn_model.specs.declared.base_node.BaseNode.{BaseNode}
 use Rattle.svn_model.specs.Nodes.{get_in, InPathOrder}
 use Rattle.svn_editor.proofs.OneMore.{any_more}
-use Rattle.svn_edit_law.proofs.PathsBelow.{path_is}
-use Rattle.svn_edit_law.proofs.NodeLists.{get_in-first, found_first, absent_after, rest_in_order, not_before_itself, not_both}
+use Rattle.svn_edit_law.proofs.NodeLists.{get_in-first, found_first, absent_after, rest_in_order}
 use Rattle.svn_edit.proofs.NodeOrder.{first_or_after, order_behind}
 use Rattle.svn_edit.proofs.Ranges.{from_path, Taken, taken_none, taken_more, IsPast, paths_are}
 use Rattle.svn_wc.proofs.NodeRanges.{within_from}
@@ -35,7 +35,7 @@ passed_on path old e left s before =
   where
     other : (p : Path) → (path_cmp p path ≡ Less → ⊥) → (b : Bool) → path_eq e.0 p ≡ b → path_eq e.0 p ≡ false
     other p after false h = h
-    other p after true h = absurd (after (ap (λ q. path_cmp q path) (sym (path_is e.0 p h)) ∙ before))
+    other p after true h = absurd (after (ap (λ q. path_cmp q path) (sym (same_path e.0 p h)) ∙ before))
 
 pub left_behind : (path : Path) (old left : List (Path × BaseNode)) → HasPassed path old left → (p : Path) → path_cmp path p ≡ Less
     → get_in left p ≡ get_in old p
@@ -123,7 +123,8 @@ module _ (at : Path) (nodes others beside beside2 : List (Path × BaseNode)) (pa
       by : (p : Path) (a b : Bool) → path_eq e.0 p ≡ b
           → ((a && is_none (get_in others p)) || (b && is_none (get_in others e.0))) ≡ ((a || b) && is_none (get_in others p))
       by p a true e_is =
-          ap (λ q. (a && is_none (get_in others p)) || is_none (get_in others q)) (path_is e.0 p e_is) ∙ both a (is_none (get_in others p))
+          ap (λ q. (a && is_none (get_in others p)) || is_none (get_in others q)) (same_path e.0 p e_is)
+          ∙ both a (is_none (get_in others p))
         where
           both : (x y : Bool) → ((x && y) || y) ≡ ((x || true) && y)
           both true true = refl

@@ -8,18 +8,18 @@ use Rattle.std.proofs.lemmas.Bool.{or_parts}
 use Rattle.std.proofs.lemmas.Map.{update_same, update_other}
 use Rattle.svn_types.specs.Names.{Path, path_cmp}
 use Rattle.svn_types.specs.Paths.{path_eq}
+use Rattle.svn_types.proofs.PathLemmas.{same_path, path_eq-symm}
 use Rattle.svn_model.specs.declared.base_node.BaseNode.{BaseNode}
 use Rattle.svn_model.specs.Nodes.{WorkingCopy, get_in}
 use Rattle.svn_model.specs.Refusals.{is_of, has_twice}
 use Rattle.svn_edit_law.proofs.Lookups.{at_path}
 use Rattle.svn_edit_law.proofs.NodeLists.{get_in-first}
-use Rattle.svn_edit_law.proofs.PathsBelow.{path_is, path_eq-sym}
 use Rattle.svn_wc.specs.Gathered.{gathered}
 
 absent : (q : Path) (xs : List (Path × BaseNode)) → list_any (is_of q) xs ≡ false → get_in xs q ≡ None
 absent q [] h = refl
 absent q (x ∷ xs) h =
-    get_in-first x xs q ∙ ap (λ b. cond b (Some x.1) (get_in xs q)) (path_eq-sym x.0 q ∙ parts.0) ∙ absent q xs parts.1
+    get_in-first x xs q ∙ ap (λ b. cond b (Some x.1) (get_in xs q)) (path_eq-symm x.0 q ∙ parts.0) ∙ absent q xs parts.1
   where
     parts : (path_eq q x.0 ≡ false) × (list_any (is_of q) xs ≡ false)
     parts = or_parts (path_eq q x.0) (list_any (is_of q) xs) h
@@ -40,7 +40,7 @@ gathered_over f (x ∷ xs) h p = gathered_over (set_over f x) xs parts.1 p ∙ b
 
     by : (t : Bool) → path_eq x.0 p ≡ t → option_or (get_in xs p) (set_over f x p) ≡ option_or (get_in (x ∷ xs) p) (f p)
     by true s =
-        ap (λ o. option_or o (set_over f x p)) (ap (get_in xs) (sym (path_is x.0 p s)) ∙ absent x.0 xs parts.0)
+        ap (λ o. option_or o (set_over f x p)) (ap (get_in xs) (sym (same_path x.0 p s)) ∙ absent x.0 xs parts.0)
         ∙ update_same (eq_by_cmp path_cmp) f x.0 (Some x.1) p (at_path x.0 p ∙ s)
         ∙ ap (λ o. option_or o (f p)) (first true s)
     by false s =

@@ -8,13 +8,13 @@ use Rattle.std.specs.Map.Calls.{RetainsPairs}
 use Rattle.std.proofs.lemmas.Map.Keys.{sorted_tail}
 use Rattle.svn_types.specs.Names.{Path, path_cmp}
 use Rattle.svn_types.specs.Paths.{path_eq, is_within, is_below, is_root}
+use Rattle.svn_types.proofs.PathLemmas.{same_path}
 use Rattle.svn_model.specs.declared.base_node.BaseNode.{BaseNode}
 use Rattle.svn_model.specs.declared.base_node.BaseNode.TheVariants.{NotPresent}
 use Rattle.svn_model.specs.Nodes.{WorkingCopy, get_in, InPathOrder, is_present}
 use Rattle.svn_model.specs.Builders.{forgotten}
 use Rattle.svn_model.specs.Refusals.{forget_fault}
 use Rattle.svn_model.specs.declared.wc_fault.WcFault.TheVariants.{IsRoot, Missing}
-use Rattle.svn_edit_law.proofs.PathsBelow.{path_is}
 use Rattle.svn_edit_law.proofs.Lookups.{at_path}
 use Rattle.svn_edit_law.proofs.NodeLists.{absent_after}
 
@@ -42,10 +42,10 @@ module _ (keep : Path → Bool) where
       by : (a : Bool) → is_at (path_cmp p) e.0 ≡ a → (b : Bool) → keep e.0 ≡ b → get_in h.3 p ≡ left_of p (get_in es p)
           → get_in (cond b (e ∷ h.3) h.3) p ≡ left_of p (cond a (Some e.1) (get_in es p))
       by true x true y rest =
-          let same : p ≡ e.0 = path_is p e.0 (sym (at_path p e.0) ∙ x) in
+          let same : p ≡ e.0 = same_path p e.0 (sym (at_path p e.0) ∙ x) in
           ap (λ b. cond b (Some e.1) (get_in h.3 p)) x ∙ sym (ap (λ b. cond b (Some e.1) None) (ap keep same ∙ y))
       by true x false y rest =
-          let same : p ≡ e.0 = path_is p e.0 (sym (at_path p e.0) ∙ x) in
+          let same : p ≡ e.0 = same_path p e.0 (sym (at_path p e.0) ∙ x) in
           rest ∙ ap (left_of p) (ap (get_in es) same ∙ absent_after e es order)
           ∙ sym (ap (λ b. cond b (Some e.1) None) (ap keep same ∙ y))
       by false x true y rest = ap (λ b. cond b (Some e.1) (get_in h.3 p)) x ∙ rest

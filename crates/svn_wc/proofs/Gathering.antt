@@ -10,10 +10,10 @@ use Rattle.svn_repo.specs.Readings.{entries_of}
 use Rattle.svn_model.specs.declared.base_node.BaseNode.{BaseNode}
 use Rattle.svn_model.specs.Nodes.{WorkingCopy, base_node}
 use Rattle.svn_wc.specs.Standing.{standing, standing_at, Puts, IsSwept, SameOutside, AreAmong}
-use Rattle.svn_edit_law.proofs.PathsBelow.{apart_paths, same_path, below_is_other}
 use Rattle.std.specs.Ordering.{eq_by_cmp}
 use Rattle.std.proofs.lemmas.Map.{update_all_push}
 use Rattle.svn_types.specs.Names.{path_cmp}
+use Rattle.svn_types.proofs.PathLemmas.{apart_paths, path_eq-same, path_eq-longer}
 use Rattle.svn_wc.specs.Gathered.{gathered}
 use Rattle.svn_edit_law.proofs.Lookups.{at_path}
 use Rattle.svn_wc.proofs.Trees.{standing-here, standing-below}
@@ -55,7 +55,7 @@ module _ (h : History) (rev : ℕ) (at q : Path) (n : ℕ) (w w1 : WorkingCopy)
     where
       still : (name : List ℕ) (r : Path) → w1 (at ++ name ∷ r) ≡ None
       still name r =
-          put (at ++ name ∷ r) ∙ ap (λ b. cond b (Some (base_node h rev q n)) (w (at ++ name ∷ r))) (below_is_other at name r)
+          put (at ++ name ∷ r) ∙ ap (λ b. cond b (Some (base_node h rev q n)) (w (at ++ name ∷ r))) (path_eq-longer at name r)
           ∙ free (name ∷ r)
 
   -- all is there once the node and its entries are
@@ -63,7 +63,7 @@ module _ (h : History) (rev : ℕ) (at q : Path) (n : ℕ) (w w1 : WorkingCopy)
       (outside : SameOutside at w1 w2) where
     within : (r : Path) → w2 (at ++ r) ≡ standing h rev q n r
     within [] =
-        ap w2 (append-nil at) ∙ here ∙ put at ∙ ap (λ b. cond b (Some (base_node h rev q n)) (w at)) (same_path at)
+        ap w2 (append-nil at) ∙ here ∙ put at ∙ ap (λ b. cond b (Some (base_node h rev q n)) (w at)) (path_eq-same at)
         ∙ sym (standing-here h rev q n)
     within (name ∷ r) = done name r ∙ sym (standing-below h rev q n name r)
 
@@ -79,7 +79,7 @@ module _ (h : History) (rev : ℕ) (at q : Path) (n : ℕ) (w w1 : WorkingCopy)
   pub fill_leaf : ((r : Path) → w (at ++ r) ≡ None) → entries_of h n ≡ [] → Puts (standing h rev q n) at w w1
   fill_leaf free leaf =
       whole w1 refl
-      (λ name r. put (at ++ name ∷ r) ∙ ap (λ b. cond b (Some (base_node h rev q n)) (w (at ++ name ∷ r))) (below_is_other at name r)
+      (λ name r. put (at ++ name ∷ r) ∙ ap (λ b. cond b (Some (base_node h rev q n)) (w (at ++ name ∷ r))) (path_eq-longer at name r)
       ∙ free (name ∷ r)
       ∙ sym (ap (λ l. standing_at h rev q name (value_of l name) r) leaf))
       (λ p out. refl)

@@ -17,7 +17,7 @@ use Rattle.std.proofs.lemmas.Map.Keys.{sorted_tail}
 use Rattle.svn_types.specs.Names.{Path, name_cmp, path_cmp}
 use Rattle.svn_types.specs.Paths.{child}
 use Rattle.svn_types.specs.Pairs.{InNameOrder, value_of}
-use Rattle.svn_types.proofs.NameLemmas.{Name, bytes_eq-same, same_bytes, same_name, name_cmp-same, flipped, value_of-first}
+use Rattle.svn_types.proofs.NameLemmas.{Name, bytes_eq-same, same_bytes, same_name, name_cmp-same, reversed, value_of-first}
 use Rattle.svn_repo.specs.History.{History}
 use Rattle.svn_types.proofs.PathsInOrder.{paths_total, not_before_itself}
 use Rattle.svn_model.specs.declared.base_node.BaseNode.{BaseNode}
@@ -36,11 +36,6 @@ none_before e es order x before = lookup-none (is_at (name_cmp x)) (e ∷ es) (n
 -- no name comes before itself
 pub none_before_itself : (x : Name) → name_cmp x x ≡ Less → ⊥
 none_before_itself x less = true≢false (ap is_lt (sym less ∙ name_cmp-same x))
-
-is_less : (o : Ordering) → is_lt o ≡ true → o ≡ Less
-is_less Less e = refl
-is_less Equal e = absurd (true≢false (sym e))
-is_less Greater e = absurd (true≢false (sym e))
 
 -- children of a path come in the order of their names
 children_in_order : (p : Path) (x y : Name) → name_cmp x y ≡ Less → path_cmp (child p x) (child p y) ≡ Less
@@ -135,7 +130,7 @@ passed_before name old e new s greater = record {
   value = λ order.
       sym (value_left name old (e ∷ new) s
       ∙ none_before e new (behind_in_order s.passed (e ∷ new) (subst InNameOrder s.parts order)) name
-      (is_less (name_cmp name e.0) (flipped e.0 name greater)));
+      (reversed e.0 name Greater greater));
 }
 
 pub passed_at : (name : Name) (old : List (Name × ℕ)) (e : Name × ℕ) (new : List (Name × ℕ)) → Passing name old (e ∷ new)
@@ -215,7 +210,7 @@ module _ (p : Path) (all entries : List (Name × ℕ)) (c : Path × BaseNode) (l
           at : (o : Ordering) → name_cmp x name ≡ o → path_cmp (child p x) q ≡ Less
           at Less e = paths_total.trans (child p x) (child p name) q (children_in_order p x name e) (after_child q there)
           at Equal e = ap (λ (n : Name). path_cmp (child p n) q) (same_name x name e) ∙ after_child q there
-          at Greater e = absurd (none (is_less (name_cmp name x) (flipped x name e)))
+          at Greater e = absurd (none (reversed x name Greater e))
 
       by : (x : Name) (q : Path) → is_some (get_in left2 q) ≡ true → (o : Option ℕ) → value_of s.passed x ≡ o
           → is_some (option_or o (value_of passes.passed x)) ≡ true → path_cmp (child p x) q ≡ Less

@@ -13,12 +13,12 @@ use Rattle.std.proofs.lemmas.Map.Entries.{lookup-filter-keys}
 use Rattle.svn_types.specs.Names.{Path, path_cmp}
 use Rattle.svn_types.specs.Paths.{path_eq, parent, is_within}
 use Rattle.svn_types.proofs.NameLemmas.{name_cmp-same}
-use Rattle.svn_types.proofs.PathsInOrder.{not_both, before_apart, within_after}
+use Rattle.svn_types.proofs.PathsInOrder.{not_before_itself, not_both, before_apart, within_after}
+use Rattle.svn_types.proofs.PathLemmas.{same_path}
 use Rattle.svn_model.specs.declared.base_node.BaseNode.{BaseNode}
 use Rattle.svn_model.specs.Nodes.{get_in, InPathOrder}
-use Rattle.svn_edit_law.proofs.PathsBelow.{path_is}
 use Rattle.svn_edit_law.proofs.Lookups.{at_path, get_in-append}
-use Rattle.svn_edit_law.proofs.NodeLists.{found_first, get_in-first, not_before_itself}
+use Rattle.svn_edit_law.proofs.NodeLists.{found_first, get_in-first}
 use Rattle.svn_edit.proofs.NodeOrder.{before_behind}
 use Rattle.svn_edit.proofs.Ranges.{order_run}
 
@@ -43,7 +43,7 @@ pub get_in-between : (lo hi : Bound Path) (es : List (Path × BaseNode)) (p : Pa
     → get_in (entries_between path_cmp lo hi es) p ≡ get_in es p
 get_in-between lo hi es p inside =
     lookup-filter-keys (is_at (path_cmp p)) (range_contains path_cmp lo hi) true
-    (λ k h. ap (range_contains path_cmp lo hi) (sym (path_is p k (sym (at_path p k) ∙ h))) ∙ inside) es
+    (λ k h. ap (range_contains path_cmp lo hi) (sym (same_path p k (sym (at_path p k) ∙ h))) ∙ inside) es
 
 -- what stands above a path is among the nodes up to the path
 pub above_among : (es : List (Path × BaseNode)) (p : Path)

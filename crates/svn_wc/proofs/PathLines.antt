@@ -9,11 +9,10 @@ use Rattle.std.specs.Borrow.{Bor}
 use Rattle.std.specs.Cmp.{both_ways}
 use Rattle.std.specs.BTreeMap.{is_at}
 use Rattle.std.specs.declared.cmp.Ordering.TheVariants.{Less}
-use Rattle.std.proofs.lemmas.List.{append-nil, take-map, length-map, length_push}
+use Rattle.std.proofs.lemmas.List.{append-nil, map-append, take-map, length-map, length_push}
 use Rattle.std.proofs.lemmas.Option.{same_Some, slice_get-map}
 use Rattle.svn_types.specs.Names.{Path, path_cmp}
 use Rattle.svn_types.specs.Paths.{is_within, is_root, parent, path_eq, child}
-use Rattle.svn_types.proofs.PathOrder.{below_after, within_between}
 use Rattle.svn_report.specs.declared.entry.ReportEntry.{ReportEntry}
 use Rattle.svn_report.specs.Reports.{ReportView}
 use Rattle.svn_model.specs.declared.base_node.BaseNode.{BaseNode}
@@ -21,20 +20,16 @@ use Rattle.svn_model.specs.Nodes.{get_in, InPathOrder, IsWorkingCopy, is_dir, no
 use Rattle.svn_model.specs.Crawl.{entry_for, reported_at, crawl}
 use Rattle.svn_wc.specs.Crawling.{with_reported, IsBelow}
 use Rattle.svn_edit_law.proofs.Lookups.{at_path, get_in-append}
-use Rattle.svn_edit_law.proofs.PathsBelow.{below_is_other, path_is, same_path}
 use Rattle.svn_edit.proofs.NodeOrder.{at_first, first_or_after, before_behind, order_behind, some_behind}
-use Rattle.svn_types.proofs.PathsInOrder.{not_before_itself, not_both}
+use Rattle.svn_types.proofs.PathsInOrder.{not_before_itself, not_both, below_after, within_between}
 use Rattle.svn_types.proofs.PathLemmas.{is_root-child, parent-child, path_cases, split_within, within_append}
+use Rattle.svn_types.proofs.PathLemmas.{path_eq-longer, same_path, path_eq-same}
 
 -- ---- paths
 
 abbrev pub prefixes : Path → List Path
 prefixes [] = [] ∷ []
 prefixes (n ∷ p) = [] ∷ map (λ (q : Path). n ∷ q) (prefixes p)
-
-map-append : {X Y : Type 0} (f : X → Y) (xs ys : List X) → map f (xs ++ ys) ≡ map f xs ++ map f ys
-map-append f [] ys = refl
-map-append f (x ∷ xs) ys = ap (λ l. f x ∷ l) (map-append f xs ys)
 
 -- one name longer
 prefixes-child : (p : Path) (name : List ℕ) → prefixes (p ++ name ∷ []) ≡ prefixes p ++ (p ++ name ∷ []) ∷ []
@@ -156,7 +151,7 @@ module _ (nodes : List (Path × BaseNode)) (order : InPathOrder nodes) (line : L
   taken q r name is some = by (get_in c.done q) refl (sym (ap is_some (in_parts q)) ∙ some)
     where
       before : path_cmp q e.0 ≡ Less
-      before = ap (path_cmp q) is ∙ below_after q (q ++ name ∷ r) (within_append q (name ∷ r)) (below_is_other q name r)
+      before = ap (path_cmp q) is ∙ below_after q (q ++ name ∷ r) (within_append q (name ∷ r)) (path_eq-longer q name r)
 
       by : (o : Option BaseNode) → get_in c.done q ≡ o → is_some (option_or o (get_in (e ∷ left) q)) ≡ true → is_some o ≡ true
       by (Some x) h s = refl
@@ -182,7 +177,7 @@ module _ (nodes : List (Path × BaseNode)) (order : InPathOrder nodes) (line : L
       cut = subst InPathOrder (ap (λ xs. xs ++ e ∷ left) d ∙ sym (append_one front l (e ∷ left))) whole
 
       one : (b : Bool) → is_at (path_cmp q) l.0 ≡ b → is_some (cond b (Some l.1) None) ≡ true → P
-      one true t s = same (path_is q l.0 (sym (at_path q l.0) ∙ t))
+      one true t s = same (same_path q l.0 (sym (at_path q l.0) ∙ t))
       one false t s = absurd (true≢false (sym s))
 
       by : (o : Option BaseNode) → get_in front q ≡ o → is_some (option_or o (get_in (l ∷ []) q)) ≡ true → P
@@ -300,7 +295,7 @@ if_ok_same (Err v) P x y e h = tt
 
 -- a test that is passed exactly by the same path is the test of equal paths
 pub tests_path : (b : Bool) (p q : Path) → (b ≡ true → p ≡ q) → (p ≡ q → b ≡ true) → b ≡ path_eq p q
-tests_path b p q f g = both_ways b (path_eq p q) (λ e. ap (path_eq p) (sym (f e)) ∙ same_path p) (λ e. g (path_is p q e))
+tests_path b p q f g = both_ways b (path_eq p q) (λ e. ap (path_eq p) (sym (f e)) ∙ path_eq-same p) (λ e. g (same_path p q e))
 
 -- what stands behind the last reference of a list
 pub last_behind : {X : Type 0} (refs : List (Bor X)) (n : ℕ) (kept : List (Bor X)) → kept ≡ take n refs

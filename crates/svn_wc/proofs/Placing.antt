@@ -5,39 +5,19 @@ use Rattle.std.specs.Prelude.{slice_get, option_and_then, Result, Ok, Err, IfOk,
 use Rattle.std.specs.Option.{option_map}
 use Rattle.svn_types.specs.Names.{Path}
 use Rattle.svn_types.specs.Paths.{is_within, last_name}
-use Rattle.svn_repo.specs.History.{History, NodeRow, node_at, walk, child_in, look}
+use Rattle.svn_repo.specs.History.{History, node_at, walk, look}
 use Rattle.svn_model.specs.declared.base_node.BaseNode.{BaseNode}
 use Rattle.svn_model.specs.declared.wc_fault.WcFault.{WcFault}
 use Rattle.svn_model.specs.declared.wc_fault.WcFault.TheVariants.{Memory}
 use Rattle.svn_model.specs.Nodes.{WorkingCopy, get_in, base_node, IsWorkingCopy}
 use Rattle.svn_model.specs.Builders.{checkout, placed}
+use Rattle.svn_repo.proofs.Walking.{look-append}
 use Rattle.svn_model.proofs.Children.{entry_below, look-child}
 use Rattle.svn_wc.specs.Standing.{standing, Puts}
 use Rattle.svn_wc.specs.Building.{Refuses, tree_at}
 use Rattle.svn_wc.specs.Truths.{entry_in}
 use Rattle.svn_edit_law.proofs.Parts.{drop_front}
 use Rattle.svn_types.proofs.PathLemmas.{none_at_last, split_within}
-
--- ---- looking further down
-
-walk-append : (nodes : ℕ → Option NodeRow) (n : ℕ) (p r : Path)
-    → walk nodes n (p ++ r) ≡ option_and_then (λ m. walk nodes m r) (walk nodes n p)
-walk-append nodes n [] r = refl
-walk-append nodes n (name ∷ p) r = by (child_in (nodes n) name) (λ m. walk-append nodes m p r)
-  where
-    by : (o : Option ℕ) → ((m : ℕ) → walk nodes m (p ++ r) ≡ option_and_then (λ k. walk nodes k r) (walk nodes m p))
-        → option_and_then (λ m. walk nodes m (p ++ r)) o ≡ option_and_then (λ k. walk nodes k r) (option_and_then (λ m. walk nodes m p) o)
-    by None h = refl
-    by (Some m) h = h m
-
-look-append : (h : History) (rev : ℕ) (p r : Path) → look h rev (p ++ r) ≡ option_and_then (λ m. walk (node_at h) m r) (look h rev p)
-look-append h rev p r = by (slice_get h.roots rev)
-  where
-    by : (o : Option ℕ)
-        → option_and_then (λ n. walk (node_at h) n (p ++ r)) o
-        ≡ option_and_then (λ m. walk (node_at h) m r) (option_and_then (λ n. walk (node_at h) n p) o)
-    by None = refl
-    by (Some n) = walk-append (node_at h) n p r
 
 -- what was gathered is the tree
 pub tree_gathered : (h : History) (at q : Path) (rev n : ℕ) (w : WorkingCopy) → Puts (standing h rev q n) at (λ p. None) w

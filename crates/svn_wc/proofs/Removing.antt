@@ -9,11 +9,10 @@ use Rattle.std.specs.declared.cmp.Ordering.TheVariants.{Less}
 use Rattle.std.specs.Ordering.{is_lt}
 use Rattle.svn_types.specs.Names.{Path, path_cmp}
 use Rattle.svn_types.specs.Paths.{path_eq, is_within, is_below}
-use Rattle.svn_types.proofs.PathLemmas.{below_parts, below_from}
+use Rattle.svn_types.proofs.PathLemmas.{below_parts, below_from, same_path}
 use Rattle.svn_types.proofs.PathsInOrder.{paths_total, not_before_itself, below_after, within_between, before_apart}
 use Rattle.svn_model.specs.declared.base_node.BaseNode.{BaseNode}
 use Rattle.svn_model.specs.Nodes.{get_in, InPathOrder}
-use Rattle.svn_edit_law.proofs.PathsBelow.{path_is}
 use Rattle.svn_edit.proofs.NodeOrder.{first_or_after}
 use Rattle.svn_wc.specs.Truths.{IsPast}
 use Rattle.svn_wc.proofs.NodeRanges.{get_in-between}
@@ -69,4 +68,4 @@ other_path at q p below out = by (path_eq q p) refl
   where
     by : (b : Bool) → path_eq q p ≡ b → b ≡ false
     by false h = refl
-    by true h = absurd (true≢false (sym below ∙ ap (is_below at) (path_is q p h) ∙ out))
+    by true h = absurd (true≢false (sym below ∙ ap (is_below at) (same_path q p h) ∙ out))

@@ -13,10 +13,11 @@ use Rattle.std.proofs.lemmas.Map.Keys.{sorted_tail}
 use Rattle.svn_types.specs.Names.{Path, path_cmp}
 use Rattle.svn_types.specs.Paths.{path_eq, is_within}
 use Rattle.svn_model.specs.declared.base_node.BaseNode.{BaseNode}
+use Rattle.svn_types.proofs.PathsInOrder.{not_before_itself, not_both}
+use Rattle.svn_types.proofs.PathLemmas.{same_path, path_eq-symm}
 use Rattle.svn_model.specs.Nodes.{get_in, InPathOrder}
 use Rattle.svn_edit_law.proofs.Lookups.{at_path, get_in-append}
-use Rattle.svn_edit_law.proofs.PathsBelow.{path_is, path_eq-sym}
-use Rattle.svn_edit_law.proofs.NodeLists.{absent_after, not_before_itself, not_both}
+use Rattle.svn_edit_law.proofs.NodeLists.{absent_after}
 use Rattle.svn_edit.proofs.NodeOrder.{at_first, first_or_after, before_behind}
 
 -- a path is one of these
@@ -64,7 +65,7 @@ module _ (part old now : List (Path × BaseNode)) (order : InPathOrder part) (e 
     parts = s.parts ∙ cut s.done;
     nodes = λ p. put p ∙ ap (cond (path_eq e.0 p) (Some e.1)) (s.nodes p) ∙ by p (path_eq e.0 p) refl (get_in s.done p) refl
         ∙ ap (λ o. option_or o (get_in old p)) (sym (get_in-append s.done (e ∷ []) p
-        ∙ ap (λ b. option_or (get_in s.done p) (cond b (Some e.1) None)) (at_path p e.0 ∙ path_eq-sym p e.0)));
+        ∙ ap (λ b. option_or (get_in s.done p) (cond b (Some e.1) None)) (at_path p e.0 ∙ path_eq-symm p e.0)));
   }
     where
       cut : (xs : List (Path × BaseNode)) → xs ++ e ∷ left ≡ (xs ++ e ∷ []) ++ left
@@ -78,7 +79,7 @@ module _ (part old now : List (Path × BaseNode)) (order : InPathOrder part) (e 
       by p false same (Some n) g = refl
       by p true same (Some n) g =
           absurd (not_before_itself e.0 (before_behind s.done (e ∷ left) (subst InPathOrder s.parts order) e.0 e.0
-          (ap is_some (ap (get_in s.done) (path_is e.0 p same) ∙ g)) (ap is_some (at_first e left))))
+          (ap is_some (ap (get_in s.done) (same_path e.0 p same) ∙ g)) (ap is_some (at_first e left))))
 
 pub put_ends : (part old now : List (Path × BaseNode)) → PutSoFar part old now [] → (p : Path)
     → get_in now p ≡ option_or (get_in part p) (get_in old p)
@@ -187,10 +188,10 @@ same_nodes (e ∷ es) (f ∷ fs) s t same =
                 → cond a (Some e.1) (get_in es p) ≡ cond b (Some f.1) (get_in fs p) → get_in es p ≡ get_in fs p
             by false x false y h = h
             by true x b y h =
-                let own : p ≡ e.0 = path_is p e.0 (sym (at_path p e.0) ∙ x) in
+                let own : p ≡ e.0 = same_path p e.0 (sym (at_path p e.0) ∙ x) in
                 ap (get_in es) own ∙ absent_after e es s ∙ sym (ap (get_in fs) (own ∙ key) ∙ absent_after f fs t)
             by false x true y h =
-                let own : p ≡ f.0 = path_is p f.0 (sym (at_path p f.0) ∙ y) in
+                let own : p ≡ f.0 = same_path p f.0 (sym (at_path p f.0) ∙ y) in
                 ap (get_in es) (own ∙ sym key) ∙ absent_after e es s ∙ sym (ap (get_in fs) own ∙ absent_after f fs t)
 
 pub restored : (paths : List Path) (old w1 w2 : List (Path × BaseNode)) → InPathOrder old → InPathOrder w2

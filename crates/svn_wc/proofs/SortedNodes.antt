@@ -13,13 +13,13 @@ use Rattle.svn_types.specs.Names.{Path, path_cmp}
 use Rattle.svn_types.specs.Paths.{path_eq}
 use Rattle.svn_types.proofs.Places.{passed}
 use Rattle.svn_types.proofs.PathsInOrder.{paths_total, at_path, before_apart, earlier}
+use Rattle.svn_types.proofs.PathLemmas.{same_path, path_eq-symm, path_eq-same}
 use Rattle.svn_model.specs.declared.base_node.BaseNode.{BaseNode}
 use Rattle.svn_model.specs.declared.wc_fault.WcFault.{WcFault}
 use Rattle.svn_model.specs.declared.wc_fault.WcFault.TheVariants.{Twice, BadRoot, NoParent, TooDeep}
 use Rattle.svn_model.specs.Nodes.{get_in, is_dir}
 use Rattle.svn_model.specs.Refusals.{is_of, has_twice, is_orphan, is_node_too_deep, nodes_fault}
 use Rattle.svn_edit_law.proofs.NodeLists.{get_in-first}
-use Rattle.svn_edit_law.proofs.PathsBelow.{path_is, path_eq-sym, same_path}
 use Rattle.svn_wc.specs.Listed.{IsSorted}
 
 -- ---- one after the other
@@ -57,7 +57,7 @@ apart_after p e (f ∷ fs) up before =
     (apart_after p f fs up.1 (by (path_eq e.0 f.0) refl))
   where
     by : (b : Bool) → path_eq e.0 f.0 ≡ b → path_cmp p f.0 ≡ Less
-    by true h = subst (λ (q : Path). path_cmp p q ≡ Less) (path_is e.0 f.0 h) before
+    by true h = subst (λ (q : Path). path_cmp p q ≡ Less) (same_path e.0 f.0 h) before
     by false h = paths_total.trans p e.0 f.0 before (earlier e.0 f.0 h up.0)
 
 -- if a path stands again, it does so next
@@ -82,7 +82,7 @@ pub found_at : (es : List (Path × BaseNode)) → has_twice es ≡ false → (i 
     → (get_or es i d).0 ≡ q → get_in es q ≡ Some (get_or es i d).1
 found_at [] once i d inside q is = absurd (omega (arith, inside))
 found_at (e ∷ es) once zero d inside q is =
-    get_in-first e es q ∙ ap (λ b. cond b (Some e.1) (get_in es q)) (ap (path_eq e.0) (sym is) ∙ same_path e.0)
+    get_in-first e es q ∙ ap (λ b. cond b (Some e.1) (get_in es q)) (ap (path_eq e.0) (sym is) ∙ path_eq-same e.0)
 found_at (e ∷ es) once (suc i) d inside q is =
     let parts = or_parts (list_any (is_of e.0) es) (has_twice es) once in
     let other : path_eq e.0 q ≡ false = ap (path_eq e.0) (sym is) ∙ not_at (is_of e.0) es parts.0 i d (omega (arith, inside)) in
@@ -130,7 +130,7 @@ each_once (e ∷ es) h = or_from (list_any (is_of e.0) es) (has_twice es) (other
 
 still_once : (xs ys : List (Path × BaseNode)) → IsPermutation xs ys → has_twice xs ≡ false → has_twice ys ≡ false
 still_once xs ys same once =
-    each_once ys (IsDistinct-IsPermutation beside (λ x y. path_eq-sym x.0 y.0) xs ys same (distinct xs once))
+    each_once ys (IsDistinct-IsPermutation beside (λ x y. path_eq-symm x.0 y.0) xs ys same (distinct xs once))
 
 pub same_twice : (xs ys : List (Path × BaseNode)) → IsPermutation xs ys → has_twice xs ≡ has_twice ys
 same_twice xs ys same = by (has_twice xs) (has_twice ys) refl refl
@@ -155,7 +155,7 @@ contained (e ∷ es) q n is = by (path_eq e.0 q) refl (sym (get_in-first e es q)
         → (get_in es q ≡ Some n → Contains es (q, n)) → Contains (e ∷ es) (q, n)
     by true here found rest =
         let node = one_node e.1 (sym (ap (λ b. cond b (Some e.1) (get_in es q)) here) ∙ found) in
-        (0, omega arith, λ i. (path_is e.0 q here i, node i))
+        (0, omega arith, λ i. (same_path e.0 q here i, node i))
     by false other found rest =
         let there = rest (sym (ap (λ b. cond b (Some e.1) (get_in es q)) other) ∙ found) in
         (suc there.0, omega (arith, there.1), there.2)

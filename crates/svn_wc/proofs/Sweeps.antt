@@ -9,17 +9,18 @@ use Rattle.std.specs.Map.{keys_of}
 use Rattle.std.proofs.lemmas.Slice.Eq.{bytes_eq-Decides}
 use Rattle.svn_types.specs.Names.{Path, name_cmp}
 use Rattle.svn_types.specs.Pairs.{InNameOrder, value_of}
+use Rattle.svn_types.proofs.NameLemmas.{at_name, bytes_eq-same}
+use Rattle.svn_types.proofs.PathLemmas.{outside_child, within_shorter, within_other}
 use Rattle.svn_model.specs.declared.base_node.BaseNode.{BaseNode}
 use Rattle.svn_model.specs.Nodes.{WorkingCopy}
 use Rattle.svn_wc.specs.Standing.{IsSwept, SameOutside, AreAmong}
-use Rattle.svn_edit_law.proofs.PathsBelow.{at_name, outside_child, above_child, other_child, same_name}
 
 pub value_of-cons : {V : Type 0} (e : List ℕ × V) (es : List (List ℕ × V)) (name : List ℕ)
     → value_of (e ∷ es) name ≡ cond (bytes_eq name e.0) (Some e.1) (value_of es name)
 value_of-cons e es name = ap (λ b. cond b (Some e.1) (value_of es name)) (at_name name e.0)
 
 pub value_of-first : {V : Type 0} (e : List ℕ × V) (es : List (List ℕ × V)) → value_of (e ∷ es) e.0 ≡ Some e.1
-value_of-first e es = value_of-cons e es e.0 ∙ ap (λ b. cond b (Some e.1) (value_of es e.0)) (same_name e.0)
+value_of-first e es = value_of-cons e es e.0 ∙ ap (λ b. cond b (Some e.1) (value_of es e.0)) (bytes_eq-same e.0)
 
 other_name : (a b : List ℕ) → bytes_eq a b ≡ false → bytes_eq b a ≡ false
 other_name a b h = by (bytes_eq b a) refl
@@ -58,14 +59,14 @@ module _ (V : Type 0) (e : List ℕ × V) (left : List (List ℕ × V)) (order :
       → IsSwept q left before after w0 w'
   swept_on q before after w0 w w' swept inside outside = record {
     order = sorted_tail name_cmp e.0 (keys_of left) order;
-    here = outside q (above_child q e.0) ∙ swept.here;
+    here = outside q (within_shorter q e.0 []) ∙ swept.here;
     outside = λ p h. outside p (outside_child q e.0 p h) ∙ swept.outside p h;
     waiting = λ name h r. waits name h r (bytes_eq e.0 name) refl;
     done = λ name h r. is_done name h r (bytes_eq e.0 name) refl;
   }
     where
       moved : (name : List ℕ) (r : Path) → bytes_eq e.0 name ≡ false → w' (q ++ name ∷ r) ≡ w (q ++ name ∷ r)
-      moved name r f = outside (q ++ name ∷ r) (other_child q e.0 name r f)
+      moved name r f = outside (q ++ name ∷ r) (within_other q r e.0 name f)
 
       waits : (name : List ℕ) → is_some (value_of left name) ≡ true → (r : Path) (b : Bool) → bytes_eq e.0 name ≡ b
           → before name r (w' (q ++ name ∷ r))

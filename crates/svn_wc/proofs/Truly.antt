@@ -12,12 +12,13 @@ use Rattle.std.specs.Cmp.Lexicographic.{pointwise_decides}
 use Rattle.std.specs.BTreeMap.{is_at}
 use Rattle.std.specs.Map.{keys_of}
 use Rattle.std.specs.declared.cmp.Ordering.TheVariants.{Less}
-use Rattle.std.proofs.lemmas.Bool.{lt-ltb}
+use Rattle.std.proofs.lemmas.Bool.{and_from, and_parts, lt-ltb}
 use Rattle.std.proofs.lemmas.List.{append-nil}
 use Rattle.std.proofs.lemmas.Map.Keys.{sorted_head, sorted_tail}
 use Rattle.svn_types.specs.Names.{Path, name_cmp, path_cmp}
 use Rattle.svn_types.specs.Paths.{is_within, is_below, path_eq, child}
-use Rattle.svn_types.proofs.PathOrder.{below_after, within_between, same_name as equal_names, both as and_both}
+use Rattle.svn_types.proofs.NameLemmas.{same_bytes, bytes_eq-same, at_name}
+use Rattle.svn_types.proofs.PathsInOrder.{not_before_itself, not_both, below_after, within_between}
 use Rattle.svn_types.specs.Pairs.{value_of}
 use Rattle.svn_repo.specs.History.{History, NodeRow, node_at, look}
 use Rattle.svn_repo.specs.Readings.{IsHistory, row_or_empty, props_of, entries_of}
@@ -25,17 +26,17 @@ use Rattle.svn_model.specs.declared.base_node.BaseNode.{BaseNode}
 use Rattle.svn_model.specs.declared.base_node.BaseNode.TheVariants.{File as FileNode, Dir as DirNode, NotPresent}
 use Rattle.svn_model.specs.Nodes.{WorkingCopy, get_in, InPathOrder}
 use Rattle.svn_model.specs.Tree.{names_at}
-use Rattle.svn_model.specs.Truth.{Properties, prop_eq, props_eq, is_untrue, lacks_entry, first_untrue_in, first_untrue}
+use Rattle.svn_model.specs.Truth.{Properties, props_eq, is_untrue, lacks_entry, first_untrue_in, first_untrue}
 use Rattle.svn_model.proofs.Children.{entry_below, look-child}
 use Rattle.svn_wc.specs.Truths.{looked, entries_at, entry_in, HasNoEntries, CountsMissing, IsStep, IsNameBelow, PassesTo, IsRest}
 use Rattle.svn_wc.specs.Truths.{all_below, IsPast, HasWalked}
 use Rattle.svn_wc.proofs.Placing.{entry_is_below}
 use Rattle.svn_wc.proofs.Merging.{EntriesBeside, entry_beside, beside_other, beside_on, entry_in_all, none_before_itself}
 use Rattle.svn_edit_law.proofs.Lookups.{at_path, get_in-append}
-use Rattle.svn_edit_law.proofs.NodeLists.{not_before_itself, not_both}
-use Rattle.svn_edit_law.proofs.PathsBelow.{below_is_other, path_is, path_eq-sym, same_path, same_name, at_name}
+use Rattle.svn_edit_law.proofs.TruthTests.{prop_decides}
 use Rattle.svn_edit.proofs.NodeOrder.{at_first, first_or_after, before_behind, order_behind, some_behind}
 use Rattle.svn_types.proofs.PathLemmas.{below_from, below_parts, split_within, within_append, is_within-child}
+use Rattle.svn_types.proofs.PathLemmas.{path_eq-longer, same_path, path_eq-symm, path_eq-same}
 
 -- the second path is one of these names below the first
 abbrev pub has_child : Path → Path → List (List ℕ) → Bool
@@ -114,16 +115,13 @@ first_untrue_in-append h w (x ∷ xs) ys = by (is_untrue h w x.0 x.1) (first_unt
     by true e = refl
     by false e = e
 
-both_and : (a b : Bool) → a ≡ true → b ≡ true → (a && b) ≡ true
-both_and a b h g = ap (λ x. x && b) h ∙ g
-
 all-append : {X : Type 0} (f : X → Bool) (xs ys : List X) → list_all f xs ≡ true → list_all f ys ≡ true → list_all f (xs ++ ys) ≡ true
 all-append f [] ys h g = g
 all-append f (x ∷ xs) ys h g =
-    let parts = and_both (f x) (list_all f xs) h in both_and (f x) (list_all f (xs ++ ys)) parts.0 (all-append f xs ys parts.1 g)
+    let parts = and_parts (f x) (list_all f xs) h in and_from (f x) (list_all f (xs ++ ys)) parts.0 (all-append f xs ys parts.1 g)
 
 below_extended : (p : Path) (x : List ℕ) (r : Path) → is_below p (p ++ x ∷ r) ≡ true
-below_extended p x r = below_from p (p ++ x ∷ r) (within_append p (x ∷ r)) (below_is_other p x r)
+below_extended p x r = below_from p (p ++ x ∷ r) (within_append p (x ∷ r)) (path_eq-longer p x r)
 
 -- it goes on from the path by a name at least
 pub goes_below : (p q : Path) → is_below p q ≡ true → (x : List ℕ) × (r : Path) × (q ≡ p ++ x ∷ r)
@@ -133,7 +131,7 @@ goes_below p q h =
     by on.0 on.1 parts.1
   where
     by : (r : Path) → q ≡ p ++ r → path_eq p q ≡ false → (x : List ℕ) × (s : Path) × (q ≡ p ++ x ∷ s)
-    by [] e other = absurd (true≢false (sym (ap (path_eq p) (e ∙ append-nil p) ∙ same_path p) ∙ other))
+    by [] e other = absurd (true≢false (sym (ap (path_eq p) (e ∙ append-nil p) ∙ path_eq-same p) ∙ other))
     by (x ∷ s) e other = (x, s, e)
 
 below_below : (p c q : Path) → is_below p c ≡ true → is_below c q ≡ true → is_below p q ≡ true
@@ -146,8 +144,8 @@ below_below p c q h g =
 all_below_below : (p c : Path) (es : List (Path × BaseNode)) → is_below p c ≡ true → all_below c es ≡ true → all_below p es ≡ true
 all_below_below p c [] h g = refl
 all_below_below p c (e ∷ es) h g =
-    let parts = and_both (is_below c e.0) (all_below c es) g in
-    both_and (is_below p e.0) (all_below p es) (below_below p c e.0 h parts.0) (all_below_below p c es h parts.1)
+    let parts = and_parts (is_below c e.0) (all_below c es) g in
+    and_from (is_below p e.0) (all_below p es) (below_below p c e.0 h parts.0) (all_below_below p c es h parts.1)
 
 -- what is found among nodes that are all below a path is below it
 found_below : (p : Path) (es : List (Path × BaseNode)) (q : Path) → all_below p es ≡ true → is_some (get_in es q) ≡ true
@@ -156,18 +154,18 @@ found_below p [] q all some = absurd (true≢false (sym some))
 found_below p (e ∷ es) q all some = by (is_at (path_cmp q) e.0) refl some (found_below p es q parts.1)
   where
     parts : (is_below p e.0 ≡ true) × (all_below p es ≡ true)
-    parts = and_both (is_below p e.0) (all_below p es) all
+    parts = and_parts (is_below p e.0) (all_below p es) all
 
     by : (b : Bool) → is_at (path_cmp q) e.0 ≡ b → is_some (cond b (Some e.1) (get_in es q)) ≡ true
         → (is_some (get_in es q) ≡ true → is_below p q ≡ true) → is_below p q ≡ true
-    by true t s later = subst (λ (z : Path). is_below p z ≡ true) (sym (path_is q e.0 (sym (at_path q e.0) ∙ t))) parts.0
+    by true t s later = subst (λ (z : Path). is_below p z ≡ true) (sym (same_path q e.0 (sym (at_path q e.0) ∙ t))) parts.0
     by false t s later = later s
 
 -- a path one name longer isn't below another path below
 child_not_below : (p : Path) (x y : List ℕ) (r : Path) → is_below (p ++ y ∷ r) (child p x) ≡ true → ⊥
 child_not_below [] x y r h =
     let parts = below_parts (y ∷ r) (x ∷ []) h in
-    let names = and_both (bytes_eq y x) (is_within r []) parts.0 in
+    let names = and_parts (bytes_eq y x) (is_within r []) parts.0 in
     by r names.1 (sym (ap (λ b. b && path_eq r []) names.0) ∙ parts.1)
   where
     by : (s : Path) → is_within s [] ≡ true → path_eq s [] ≡ false → ⊥
@@ -175,7 +173,7 @@ child_not_below [] x y r h =
     by (m ∷ s) w e = true≢false (sym w)
 child_not_below (n ∷ p) x y r h =
     child_not_below p x y r
-    (sym (ap (λ b. (b && is_within (p ++ y ∷ r) (child p x)) && not (b && path_eq (p ++ y ∷ r) (child p x))) (same_name n)) ∙ h)
+    (sym (ap (λ b. (b && is_within (p ++ y ∷ r) (child p x)) && not (b && path_eq (p ++ y ∷ r) (child p x))) (bytes_eq-same n)) ∙ h)
 
 same_last : (p : Path) (x y : List ℕ) → child p x ≡ child p y → x ≡ y
 same_last [] x y e = head_of e
@@ -247,10 +245,10 @@ module _ (h : History) (nodes : List (Path × BaseNode)) (order : InPathOrder no
 
     module _ (within : is_within e.0 c.0 ≡ true) where
       next_below : is_below e.0 c.0 ≡ true
-      next_below = both_and (is_within e.0 c.0) (not (path_eq e.0 c.0)) within (ap not (by (path_eq e.0 c.0) refl))
+      next_below = and_from (is_within e.0 c.0) (not (path_eq e.0 c.0)) within (ap not (by (path_eq e.0 c.0) refl))
         where
           by : (b : Bool) → path_eq e.0 c.0 ≡ b → b ≡ false
-          by true t = absurd (not_before_itself e.0 (ap (path_cmp e.0) (path_is e.0 c.0 t) ∙ own_earlier))
+          by true t = absurd (not_before_itself e.0 (ap (path_cmp e.0) (same_path e.0 c.0 t) ∙ own_earlier))
           by false t = refl
 
       module _ (sub : List (Path × BaseNode)) (deeper : all_below c.0 sub ≡ true) where
@@ -285,11 +283,11 @@ module _ (h : History) (nodes : List (Path × BaseNode)) (order : InPathOrder no
             by None g = refl
             by (Some n) g =
                 absurd (not_before_itself (child e.0 x)
-                (ap (path_cmp (child e.0 x)) (path_is (child e.0 x) c.0 same) ∙ taken_earlier (child e.0 x) (ap is_some g)))
+                (ap (path_cmp (child e.0 x)) (same_path (child e.0 x) c.0 same) ∙ taken_earlier (child e.0 x) (ap is_some g)))
 
         one : (x y : List ℕ) → path_eq (child e.0 x) c.0 ≡ true → path_eq (child e.0 y) c.0 ≡ true → name_cmp x y ≡ Less → ⊥
         one x y t u less =
-            let same : x ≡ y = same_last e.0 x y (path_is (child e.0 x) c.0 t ∙ sym (path_is (child e.0 y) c.0 u)) in
+            let same : x ≡ y = same_last e.0 x y (same_path (child e.0 x) c.0 t ∙ sym (same_path (child e.0 y) c.0 u)) in
             none_before_itself x (ap (name_cmp x) same ∙ less)
 
         pub walk_on : IsStrictlySortedBy name_cmp names → (left2 : List (Path × BaseNode)) → left ≡ sub ++ left2 → (found2 : Option Path)
@@ -300,7 +298,7 @@ module _ (h : History) (nodes : List (Path × BaseNode)) (order : InPathOrder no
           parts = s.parts ∙ ap (λ l. s.taken ++ c ∷ l) rest ∙ sym (append_assoc s.taken (c ∷ sub) left2);
           below =
               all-append (λ (f : Path × BaseNode). is_below e.0 f.0) s.taken (c ∷ sub) s.below
-              (both_and (is_below e.0 c.0) (all_below e.0 sub) next_below (all_below_below e.0 c.0 sub next_below deeper));
+              (and_from (is_below e.0 c.0) (all_below e.0 sub) next_below (all_below_below e.0 c.0 sub next_below deeper));
           first = (λ i. option_or (s.first i) (is i)) ∙ sym (first_untrue_in-append h (get_in nodes) s.taken (c ∷ sub));
           count = ap (λ n. n - cond (has_child e.0 c.0 names) 1 0) s.count
               ∙ fewer_by_one (λ name. is_none (get_in s.taken (child e.0 name)))
@@ -322,7 +320,7 @@ module _ (h : History) (nodes : List (Path × BaseNode)) (order : InPathOrder no
     own_first = order_behind before (e ∷ s.taken ++ left) (subst InPathOrder (whole ∙ ap (λ l. before ++ e ∷ l) s.parts) order)
 
     child_later : (x : List ℕ) → path_cmp e.0 (child e.0 x) ≡ Less
-    child_later x = below_after e.0 (child e.0 x) (within_append e.0 (x ∷ [])) (below_is_other e.0 x [])
+    child_later x = below_after e.0 (child e.0 x) (within_append e.0 (x ∷ [])) (path_eq-longer e.0 x [])
 
     none_earlier : (x : List ℕ) (o : Option BaseNode) → get_in before (child e.0 x) ≡ o → o ≡ None
     none_earlier x None g = refl
@@ -358,7 +356,7 @@ module _ (h : History) (nodes : List (Path × BaseNode)) (order : InPathOrder no
         (option_or (get_in s.taken (child e.0 x)) (get_in left (child e.0 x))))))
         (none_earlier x (get_in before (child e.0 x)) refl)
         ∙ ap (λ b. is_none (cond b (Some e.1) (option_or (get_in s.taken (child e.0 x)) (get_in left (child e.0 x)))))
-        (at_path (child e.0 x) e.0 ∙ path_eq-sym (child e.0 x) e.0 ∙ below_is_other e.0 x [])
+        (at_path (child e.0 x) e.0 ∙ path_eq-symm (child e.0 x) e.0 ∙ path_eq-longer e.0 x [])
         ∙ ap (λ o. is_none (option_or (get_in s.taken (child e.0 x)) o)) (none_left x left refl past (get_in left (child e.0 x)) refl)
         ∙ by (get_in s.taken (child e.0 x)))
       where
@@ -402,15 +400,6 @@ within_by_name p q (Some n) named some = subst (λ (z : Path). is_within p z ≡
 pub same_tests : (P : Type 0) (r t : Bool) → (r ≡ true → P) → (P → r ≡ true) → (t ≡ true → P) → (P → t ≡ true) → r ≡ t
 same_tests P r t f g h k = both_ways r t (λ e. k (f e)) (λ e. g (h e))
 
-prop_decides : (a b : List ℕ × List ℕ) → (prop_eq a b ≡ true → a ≡ b) × (a ≡ b → prop_eq a b ≡ true)
-prop_decides a b = (
-  λ e. let parts =
-      and_both (bytes_eq a.0 b.0) (bytes_eq a.1 b.1) e in
-      let first = equal_names a.0 b.0 parts.0 in let second = equal_names a.1 b.1 parts.1 in λ i. (first i, second i),
-  λ e. both_and (bytes_eq a.0 b.0) (bytes_eq a.1 b.1) (ap (bytes_eq a.0) (ap (λ (x : List ℕ × List ℕ). x.0) (sym e)) ∙ same_name a.0)
-      (ap (bytes_eq a.1) (ap (λ (x : List ℕ × List ℕ). x.1) (sym e)) ∙ same_name a.1),
-)
-
 -- a test that tells the same properties, after those of a node were read
 pub tests_props : (h : History) (n : ℕ) (r : Bool) (props others : Properties) → Some others ≡ option_map (λ row. row.props) (node_at h n)
     → (r ≡ true → props ≡ others) → (props ≡ others → r ≡ true) → r ≡ props_eq props (props_of h n)
@@ -440,10 +429,10 @@ entry_child h (Some n) p name = by (entries_of h n)
   where
     same_child : (q : Path) (x : List ℕ) → bytes_eq name x ≡ path_eq (child q x) (child q name)
     same_child q x =
-        same_tests (name ≡ x) (bytes_eq name x) (path_eq (child q x) (child q name)) (λ t. equal_names name x t)
-        (λ e. ap (bytes_eq name) (sym e) ∙ same_name name)
-        (λ t. sym (same_last q x name (path_is (child q x) (child q name) t)))
-        (λ e. ap (λ (y : List ℕ). path_eq (child q x) (child q y)) e ∙ same_path (child q x))
+        same_tests (name ≡ x) (bytes_eq name x) (path_eq (child q x) (child q name)) (λ t. same_bytes name x t)
+        (λ e. ap (bytes_eq name) (sym e) ∙ bytes_eq-same name)
+        (λ t. sym (same_last q x name (same_path (child q x) (child q name) t)))
+        (λ e. ap (λ (y : List ℕ). path_eq (child q x) (child q y)) e ∙ path_eq-same (child q x))
 
     by : (es : List (List ℕ × ℕ)) → is_some (value_of es name) ≡ has_child p (child p name) (keys_of es)
     by [] = refl
@@ -461,7 +450,7 @@ no_child p q [] none = refl
 no_child p q (x ∷ names) none = by (path_eq (child p x) q) refl (no_child p q names none)
   where
     by : (b : Bool) → path_eq (child p x) q ≡ b → has_child p q names ≡ false → (b || has_child p q names) ≡ false
-    by true t h = absurd (none x (sym (path_is (child p x) q t)))
+    by true t h = absurd (none x (sym (same_path (child p x) q t)))
     by false t h = h
 
 -- ---- what is beside the nodes below a directory
