@@ -1,6 +1,5 @@
 //! A script as bytes, and its lines and words.
-ghost use Rattle.std.specs.Prelude.{◌≡◌, ℕ, ◌+◌, ◌<◌, ◌≤◌, ◌≢◌, ◌∷◌, [], length, take, drop, nat_eq, position, Some, None, IfSome, IfOk, IfErr, MatchOption};
-ghost use Rattle.std.specs.List.{slice_split};
+ghost use Rattle.std.specs.Prelude.{◌≡◌, ℕ, ◌<◌, ◌≤◌, ◌≢◌, ◌∷◌, [], length, IfSome, IfOk, IfErr, MatchOption};
 ghost use Rattle.std.specs.Io.KnownBytes.{IsAtEnd};
 ghost use Rattle.svn_script.specs.Reading.{without_return, words_of};
 

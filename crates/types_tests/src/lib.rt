@@ -1,8 +1,13 @@
-//! Tests of names, paths and properties: what is refused and why, the ways up and down, and the changes between two lists.
+//! Tests of names, paths and properties: what is refused and why, the ways up and down, paths however they lie in memory, and the changes
+//! between two lists; and of bytes that are cut at a separator.
 #![tactic(auto)]
 
 #[cfg(test)]
+mod bytes;
+#[cfg(test)]
 mod faults;
+#[cfg(test)]
+mod forms;
 #[cfg(test)]
 mod paths;
 #[cfg(test)]
