@@ -7,11 +7,13 @@ ghost use Rattle.svn_types.specs.Names.{Path};
 ghost use Rattle.svn_types.specs.Paths.{path_eq, is_within};
 ghost use Rattle.svn_model.specs.Nodes.{get_in, is_present, node_text};
 ghost use Rattle.svn_model.specs.Effects.{opened_directory, is_wrong_sum};
+ghost use Rattle.svn_model.specs.Answering.{AnswersCall};
 ghost use Rattle.svn_edit.specs.NodeTests.{delete_fault_of, open_fault_of};
 
 use md5::{Digest as Hasher, Md5};
 use std::alloc::{AllocError, Global};
 use std::collections::BTreeMap;
+use std::collections::btree_map::Entry;
 use svn_editor::{Digest, EditFault};
 use svn_model::BaseNode;
 use svn_types::{Kind, Props, RelPath, Rev, Text};
@@ -27,6 +29,35 @@ pub(crate) fn is_present(node: Option<&BaseNode>) -> bool
         Some(BaseNode::File { .. } | BaseNode::Dir { .. }) => true,
         Some(BaseNode::NotPresent) | None => false,
     }
+}
+
+/// Why a node isn't added that has a fault of its own: where one is present, that comes first.
+pub(crate) fn add_fault(node: Option<&BaseNode>, fault: EditFault) -> EditFault
+    ensures { result ≡ (if is_present (option_copied node.entry) then EditFault.EntryExists else fault) }
+{
+    if is_present(node) {
+        EditFault::EntryExists
+    } else {
+        fault
+    }
+}
+
+/// Puts a new node where none is present: EntryExists, or Memory. There is one look-up.
+pub(crate) fn add(nodes: &mut Nodes, at: RelPath, node: BaseNode) -> Result<(), EditFault>
+    ensures answers { AnswersCall (if is_present (get_in nodes.old.entries at) then Some EditFault.EntryExists else None) result }
+    ensures added { OnOk result ((p : Path) → get_in nodes.new.entries p ≡ (if path_eq at p then Some node else get_in nodes.old.entries p)) }
+    ensures refused { OnErr result (nodes.new.entries ≡ nodes.old.entries) }
+{
+    let Ok(entry) = nodes.entry(at) else {
+        return Err(EditFault::Memory);
+    };
+    if let Entry::Occupied(found) = &entry {
+        if is_present(Some(found.get())) {
+            return Err(EditFault::EntryExists);
+        }
+    }
+    entry.insert_entry(node);
+    Ok(())
 }
 
 fn revision_fault(at: Rev, rev: Rev) -> Option<EditFault>

@@ -1,15 +1,16 @@
 //! The opens and adds of an edit.
-ghost use Rattle.std.specs.Prelude.{◌≡◌, [], IfErr, OnOk, OnErr, Some, None, if◌then◌else◌};
+ghost use Rattle.std.specs.Prelude.{◌≡◌, [], Option, IfOk, OnOk, OnErr, Some, None, if◌then◌else◌};
 ghost use Rattle.std.specs.Option.{option_copied};
 ghost use Rattle.md5.specs.Md5.{md5};
 ghost use Rattle.svn_types.specs.Names.{Path};
 ghost use Rattle.svn_types.specs.Paths.{path_eq};
 ghost use Rattle.svn_types.specs.declared.kind.Kind.TheVariants.{File, Directory};
 ghost use Rattle.svn_editor.specs.Steps.{Open, Add};
-ghost use Rattle.svn_model.specs.Nodes.{get_in, node_path};
-ghost use Rattle.svn_model.specs.Effects.{moved_path, step_effect, step_fault};
+ghost use Rattle.svn_model.specs.Nodes.{get_in, is_present, node_path};
+ghost use Rattle.svn_model.specs.Effects.{added_node, joined_path, moved_path, step_effect, step_fault};
+ghost use Rattle.svn_model.specs.Answering.{AnswersCall};
 ghost use Rattle.svn_edit.specs.NodeTests.{deep_fault};
-ghost use Rattle.svn_edit.specs.Applying.{mode_of, pool_or, pool_of_parent, batons_of, Gives, Applied, KeepsEdit, MakesBaton};
+ghost use Rattle.svn_edit.specs.Applying.{mode_of, pool_or, pool_of_parent, batons_of, Gives, Applied, KeepsEdit, MakesBaton, MakesNode};
 ghost use Rattle.svn_edit.specs.Leaving.{KeepsPools};
 
 use crate::baton::Baton;
@@ -21,6 +22,14 @@ use svn_editor::{EditFault, Token};
 use svn_model::BaseNode;
 use svn_pool::PoolId;
 use svn_types::{Props, RelPath, Rev};
+
+// What an added node is made of: its key among the nodes, the path that its baton keeps, and the node.
+#[derive(Drop)]
+struct NewNode {
+    at: RelPath,
+    opened: OpenPath,
+    node: BaseNode,
+}
 
 impl Edit {
     // The baton of the directory that a call names as parent, if it names one.
@@ -128,29 +137,93 @@ impl Edit {
         self.open_baton(root, open, token)
     }
 
-    // Puts a new node where none is present, once its baton is open.
+    // What an added directory is made of.
+    fn new_directory(
+        &self,
+        copy: &Nodes,
+        path: &RelPath,
+        parent: Option<&Baton>,
+    ) -> Result<NewNode, EditFault>
+        ensures { let q = joined_path (get_in copy.now.entries) path.now in MakesNode path.now (deep_fault q) (added_node Directory self.now.target q) result }
+    {
+        let above = or_memory(paths::above(self.alloc, path, parent))?;
+        let joined = paths::joined(self.alloc, copy, &above, path)?;
+        Ok(NewNode {
+            at: or_memory(path.clone())?,
+            opened: or_memory(OpenPath::opened(path))?,
+            node: BaseNode::Dir {
+                rev: self.target,
+                repos_path: joined,
+                complete: false,
+                props: Props::new(self.alloc),
+            },
+        })
+    }
+
+    // What an added file is made of. Until its close it stands as not present.
+    fn new_file(
+        &self,
+        copy: &Nodes,
+        path: &RelPath,
+        parent: Option<&Baton>,
+    ) -> Result<NewNode, EditFault>
+        ensures { let q = joined_path (get_in copy.now.entries) path.now in MakesNode path.now (deep_fault q) (added_node File self.now.target q) result }
+    {
+        let above = or_memory(paths::above(self.alloc, path, parent))?;
+        let _joined = paths::joined(self.alloc, copy, &above, path)?;
+        Ok(NewNode {
+            at: or_memory(path.clone())?,
+            opened: or_memory(OpenPath::added(path, above))?,
+            node: BaseNode::NotPresent,
+        })
+    }
+
+    // Puts a new node where none is present, with its baton.
     fn add_node(
         &mut self,
         copy: &mut Nodes,
-        path: OpenPath,
-        node: BaseNode,
+        new: NewNode,
         beneath: PoolId,
         token: Token,
     ) -> Result<(), EditFault>
-        ensures opened { OnOk result (MakesBaton beneath.0 path token self.old self.new) }
+        ensures opened { OnOk result (MakesBaton beneath.0 new.opened token self.old self.new) }
         ensures keeps { KeepsEdit self.old self.new }
         ensures unchanged { batons_of self.old token ≡ None → OnErr result (KeepsPools self.old self.new) }
-        ensures copy { OnOk result ((p : Path) → get_in copy.new.entries p ≡ (if path_eq path p then Some node else get_in copy.old.entries p)) }
+        ensures answers { AnswersCall (if is_present (get_in copy.old.entries new.at) then Some EditFault.EntryExists else None) result }
+        ensures copy { OnOk result ((p : Path) → get_in copy.new.entries p ≡ (if path_eq new.at p then Some new.node else get_in copy.old.entries p)) }
         ensures refused { OnErr result (copy.new.entries ≡ copy.old.entries) }
-        ensures fault { IfErr result (λ e. e ≡ EditFault.Memory) }
     {
-        let at = or_memory(path.as_rel_path().clone())?;
-        self.open_baton(beneath, path, token)?;
-        let Ok(_) = copy.insert(at, node) else {
+        let NewNode { at, opened, node } = new;
+        self.open_baton(beneath, opened, token)?;
+        let added = nodes::add(copy, at, node);
+        if added.is_err() {
             self.close_baton(token);
-            return Err(EditFault::Memory);
+        }
+        added
+    }
+
+    // Adds what was made for a path, if it could be made. That one is present there is told before any other fault.
+    fn add(
+        &mut self,
+        copy: &mut Nodes,
+        path: &RelPath,
+        new: Result<NewNode, EditFault>,
+        beneath: PoolId,
+        token: Token,
+    ) -> Result<(), EditFault>
+        ensures opened { IfOk new (λ n. n.opened ≡ path.now) → OnOk result (MakesBaton beneath.0 path.now token self.old self.new) }
+        ensures keeps { KeepsEdit self.old self.new }
+        ensures unchanged { batons_of self.old token ≡ None → OnErr result (KeepsPools self.old self.new) }
+        ensures applied { (fault : Option EditFault) (node : BaseNode) → MakesNode path.now fault node new → let w = get_in copy.old.entries in Applied (if is_present (w path.now) then Some EditFault.EntryExists else fault) (λ p. if path_eq path.now p then Some node else w p) copy.old.entries result copy.new.entries }
+    {
+        let fault = match new {
+            Ok(new) => match self.add_node(copy, new, beneath, token) {
+                Ok(()) => return Ok(()),
+                Err(fault) => fault,
+            },
+            Err(fault) => fault,
         };
-        Ok(())
+        Err(nodes::add_fault(copy.get(path), fault))
     }
 
     pub(crate) fn add_directory(
@@ -165,21 +238,10 @@ impl Edit {
         ensures unchanged { batons_of self.old token ≡ None → OnErr result (KeepsPools self.old self.new) }
         ensures applied { let a = Add Directory in let w = get_in copy.old.entries in Applied (step_fault md5 (mode_of self.old.root) [] w path.now a) (step_effect (mode_of self.old.root) self.old.target [] (record { path = path.now; action = a }) w) copy.old.entries result copy.new.entries }
     {
-        if nodes::is_present(copy.get(path)) {
-            return Err(EditFault::EntryExists);
-        }
         let parent = self.batons.get(&parent.0);
         let beneath = self.pool_of(parent);
-        let above = or_memory(paths::above(self.alloc, path, parent))?;
-        let joined = paths::joined(self.alloc, copy, &above, path)?;
-        let node = BaseNode::Dir {
-            rev: self.target,
-            repos_path: joined,
-            complete: false,
-            props: Props::new(self.alloc),
-        };
-        let open = or_memory(OpenPath::opened(path))?;
-        self.add_node(copy, open, node, beneath, token)
+        let new = self.new_directory(copy, path, parent);
+        self.add(copy, path, new, beneath, token)
     }
 
     pub(crate) fn add_file(
@@ -194,14 +256,8 @@ impl Edit {
         ensures unchanged { batons_of self.old token ≡ None → OnErr result (KeepsPools self.old self.new) }
         ensures applied { let a = Add File in let w = get_in copy.old.entries in Applied (step_fault md5 (mode_of self.old.root) [] w path.now a) (step_effect (mode_of self.old.root) self.old.target [] (record { path = path.now; action = a }) w) copy.old.entries result copy.new.entries }
     {
-        if nodes::is_present(copy.get(path)) {
-            return Err(EditFault::EntryExists);
-        }
-        let parent = self.batons.get(&parent.0);
-        let above = or_memory(paths::above(self.alloc, path, parent))?;
-        let _joined = paths::joined(self.alloc, copy, &above, path)?;
-        let open = or_memory(OpenPath::added(path, above))?;
         let root = self.pools.root();
-        self.add_node(copy, open, BaseNode::NotPresent, root, token)
+        let new = self.new_file(copy, path, self.batons.get(&parent.0));
+        self.add(copy, path, new, root, token)
     }
 }
