@@ -178,7 +178,7 @@ impl Edit {
         })
     }
 
-    // Puts a new node where none is present, with its baton.
+    // Puts a new node where none is present, once its baton is open. Where the node isn't put, the baton goes again.
     fn add_node(
         &mut self,
         copy: &mut Nodes,
