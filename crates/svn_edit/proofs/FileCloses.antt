@@ -1,6 +1,6 @@
 -- The close of a file: its text is checked, what was said of it is done, and its baton goes.
 use Rattle.std.proofs.Common.{◌≡◌, ◌≢◌, ℕ, Bool, true, false, cond, ◌&&◌, List, [], ◌∷◌, ◌++◌, refl, sym, ◌∙◌, ap, subst, true≢false}
-use Rattle.std.specs.Prelude.{Option, Some, Result, Ok, Err, OnOk, OnErr, filter_map}
+use Rattle.std.specs.Prelude.{Option, Some, None, Result, Ok, Err, OnOk, OnErr, filter_map}
 use Rattle.std.specs.List.{cons_option}
 use Rattle.svn_types.specs.declared.kind.Kind.{Kind}
 use Rattle.svn_types.specs.declared.kind.Kind.TheVariants.{File, Directory}
@@ -23,6 +23,7 @@ use Rattle.svn_model.specs.Said.{says, said_at}
 use Rattle.svn_model.specs.Answering.{AnswersCall}
 use Rattle.svn_edit_law.proofs.OnePath.{pathed}
 use Rattle.svn_edit_law.proofs.StepEffects.{effect_alone}
+use Rattle.svn_edit_law.proofs.PathsBelow.{path_is}
 use Rattle.svn_edit.specs.declared.baton.Baton.{Baton}
 use Rattle.svn_edit.specs.declared.edit.Edit.{Edit}
 use Rattle.svn_edit.specs.NodeTests.{sum_fault, FileIsClosed}
@@ -57,6 +58,26 @@ node_closed mode rev at p changes texts nodes nodes2 old new same there closed w
     subst (λ (x : Path). FileIsClosed mode rev x changes texts nodes nodes2) same
     (λ q. written q ∙ ap (λ (v : Option BaseNode). cond (path_eq at q) v (w q))
     (closed ∙ ap (closed_file rev (moved_path mode w at) (joined_path w at) changes texts) there))
+
+-- where nothing stands, the close of a file changes nothing
+pub nothing_closed : (mode : Mode) (rev : ℕ) (at p : Path) (changes : List PropChange) (texts : List (List ℕ))
+    (nodes nodes2 : List (Path × BaseNode)) → at ≡ p → None ≡ get_in nodes at → nodes2 ≡ nodes
+    → FileIsClosed mode rev p changes texts nodes nodes2
+nothing_closed mode rev at p changes texts nodes nodes2 same none kept q =
+    ap (λ ns. get_in ns q) kept ∙ by (path_eq p q) refl
+  where
+    w : WorkingCopy
+    w = get_in nodes
+
+    closed : Option BaseNode → Option BaseNode
+    closed = closed_file rev (moved_path mode w p) (joined_path w p) changes texts
+
+    here : None ≡ w p
+    here = none ∙ ap w same
+
+    by : (b : Bool) → path_eq p q ≡ b → w q ≡ cond b (closed (w p)) (w q)
+    by false e = refl
+    by true e = ap w (sym (path_is p q e)) ∙ sym here ∙ ap closed here
 
 applied_parts : (fault : Option EditFault) (w : WorkingCopy) (nodes nodes2 : List (Path × BaseNode)) (r : Result (Unit {0}) EditFault)
     → AnswersCall fault r

@@ -1,5 +1,5 @@
 //! The closes of an edit.
-ghost use Rattle.std.specs.Prelude.{◌≡◌, [], List, IfOk, IfErr, OnOk, OnErr, Ok, Some, filter_map, unwrap_or, if◌then◌else◌};
+ghost use Rattle.std.specs.Prelude.{◌≡◌, [], List, IfOk, IfErr, OnOk, OnErr, Ok, Some, None, filter_map, unwrap_or, if◌then◌else◌};
 ghost use Rattle.md5.specs.Md5.{md5};
 ghost use Rattle.svn_types.specs.Names.{Path};
 ghost use Rattle.svn_types.specs.Paths.{path_eq};
@@ -107,6 +107,9 @@ impl Edit {
     {
         let new_text = self.new_text(node, baton, text_md5)?;
         let moved = or_memory(moved)?;
+        if matches!(node, BaseNode::Dir { .. }) {
+            return Ok(());
+        }
         let BaseNode::File {
             rev,
             repos_path,
@@ -144,6 +147,9 @@ impl Edit {
     {
         let text = self.new_text(node, baton, text_md5)?;
         let repos_path = or_memory(joined)?;
+        if matches!(node, BaseNode::Dir { .. }) {
+            return Ok(());
+        }
         if !matches!(node, BaseNode::NotPresent) {
             return Err(EditFault::Memory);
         }
@@ -158,6 +164,14 @@ impl Edit {
             },
             props,
         };
+        Ok(())
+    }
+
+    // Closes a file where nothing stands: its text is tested, and nothing changes.
+    fn close_nothing(&self, baton: &Baton, text_md5: &Option<Digest>) -> Result<(), EditFault>
+        ensures { (said : List Action) → Says baton.now self.now.pools said → AnswersCall (sum_fault md5 text_md5.now (filter_map text_in said) None) result }
+    {
+        self.new_text(&BaseNode::NotPresent, baton, text_md5)?;
         Ok(())
     }
 
@@ -178,14 +192,14 @@ impl Edit {
                 let joined = paths::joined_again(self.alloc, copy, above, path);
                 match copy.get_mut(path) {
                     Some(node) => self.close_added(node, baton, text_md5, joined),
-                    None => Err(EditFault::Memory),
+                    None => self.close_nothing(baton, text_md5),
                 }
             }
             None => {
                 let moved = paths::moved_again(self.alloc, &self.root, copy, path);
                 match copy.get_mut(path) {
                     Some(node) => self.close_opened(node, baton, text_md5, moved),
-                    None => Err(EditFault::Memory),
+                    None => self.close_nothing(baton, text_md5),
                 }
             }
         }

@@ -9,8 +9,8 @@ use Rattle.svn_model.specs.Answering.{AnswersCall}
 use Rattle.svn_edit.specs.NodeTests.{sum_fault}
 use Rattle.svn_edit.specs.Applying.{mode_of}
 use Rattle.svn_edit_law.proofs.Lookups.{get_in-updated}
-use Rattle.svn_edit.proofs.Holding.{map_ok, map_err}
-use Rattle.svn_edit.proofs.FileCloses.{node_closed}
+use Rattle.svn_edit.proofs.Holding.{ok_by, map_ok, map_err}
+use Rattle.svn_edit.proofs.FileCloses.{node_closed, nothing_closed}
 use Rattle.svn_edit.proofs.edit.Edit.close_file_of.Goals as goal
 
 pub returns-in-Some-get_mut-clause-answers : goal.returns-in-Some-get_mut-clause-answers
@@ -62,3 +62,17 @@ returns-in-Some-get_mut-2-clause-refused c =
     let written = c.get_mut-in-None.follows.holds c.close_opened.new.node in
     map_err c.close_opened.result c.close_opened.ensures.refused (λ same. written.0
     ∙ set_value_same _ _ _ (sym c.in-Some-get_mut-2.ensures.value ∙ ap Some (sym same)))
+
+pub returns-in-None-get_mut-clause-closed : goal.returns-in-None-get_mut-clause-closed
+returns-in-None-get_mut-clause-closed c =
+    ok_by c.close_nothing.result (λ ok said s.
+    nothing_closed (mode_of c.args.self.now.root) c.args.self.now.target c.as_rel_path-path.result.now c.args.baton.now.path
+    (filter_map change_in said) (filter_map text_in said) c.args.copy.now.entries _
+    c.as_rel_path-path.ensures c.in-None-get_mut.ensures.value (search rules))
+
+pub returns-in-None-get_mut-2-clause-closed : goal.returns-in-None-get_mut-2-clause-closed
+returns-in-None-get_mut-2-clause-closed c =
+    ok_by c.close_nothing-in-None-get_mut-2.result (λ ok said s.
+    nothing_closed (mode_of c.args.self.now.root) c.args.self.now.target c.as_rel_path-path.result.now c.args.baton.now.path
+    (filter_map change_in said) (filter_map text_in said) c.args.copy.now.entries _
+    c.as_rel_path-path.ensures c.in-None-get_mut-2.ensures.value (search rules))
