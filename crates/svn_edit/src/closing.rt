@@ -4,8 +4,8 @@ ghost use Rattle.md5.specs.Md5.{md5};
 ghost use Rattle.svn_types.specs.Names.{Path};
 ghost use Rattle.svn_types.specs.Paths.{path_eq};
 ghost use Rattle.svn_editor.specs.Steps.{Action, Update, SwitchTo};
-ghost use Rattle.svn_model.specs.Nodes.{get_in};
-ghost use Rattle.svn_model.specs.Effects.{change_in, text_in, closed_directory, closed_file, settled, settle_fault};
+ghost use Rattle.svn_model.specs.Nodes.{WorkingCopy, get_in};
+ghost use Rattle.svn_model.specs.Effects.{change_in, text_in, closed_directory, closed_file, moved_path, joined_path, settled, settle_fault};
 ghost use Rattle.svn_model.specs.Answering.{AnswersCall};
 ghost use Rattle.svn_edit.specs.declared.baton.Baton.{Baton};
 ghost use Rattle.svn_edit.specs.NodeTests.{first_of, sum_fault, FileIsClosed};
@@ -134,6 +134,7 @@ impl Edit {
     }
 
     // Closes a file that was added, and stood as not present, with its repository path. On a refusal it is as it was.
+    // No file comes here: `close_new` has closed it as an opened one.
     fn close_added(
         &self,
         node: &mut BaseNode,
@@ -167,6 +168,26 @@ impl Edit {
         Ok(())
     }
 
+    // Closes the file of a baton that was added. What stands there as a file is closed like an opened one.
+    fn close_new(
+        &self,
+        node: &mut BaseNode,
+        baton: &Baton,
+        text_md5: &Option<Digest>,
+        joined: Result<RelPath, AllocError>,
+    ) -> Result<(), EditFault>
+        ensures answers { (said : List Action) → Says baton.now self.now.pools said → AnswersCall (sum_fault md5 text_md5.now (filter_map text_in said) (Some node.old)) result }
+        ensures closed { OnOk result ((said : List Action) (w : WorkingCopy) (p : Path) → Says baton.now self.now.pools said → p ≡ baton.now.path → IfOk joined (λ j. j ≡ joined_path w p) → Some node.new ≡ closed_file self.now.target (moved_path (mode_of self.now.root) w p) (joined_path w p) (filter_map change_in said) (filter_map text_in said) (Some node.old)) }
+        ensures refused { OnErr result (node.new ≡ node.old) }
+    {
+        if matches!(node, BaseNode::File { .. }) {
+            let moved = paths::moved_by(&self.root, baton.path.as_rel_path(), joined);
+            self.close_opened(node, baton, text_md5, moved)
+        } else {
+            self.close_added(node, baton, text_md5, joined)
+        }
+    }
+
     // Closes a file where nothing stands: its text is tested, and nothing changes.
     fn close_nothing(&self, baton: &Baton, text_md5: &Option<Digest>) -> Result<(), EditFault>
         ensures { (said : List Action) → Says baton.now self.now.pools said → AnswersCall (sum_fault md5 text_md5.now (filter_map text_in said) None) result }
@@ -191,7 +212,7 @@ impl Edit {
             Some(above) => {
                 let joined = paths::joined_again(self.alloc, copy, above, path);
                 match copy.get_mut(path) {
-                    Some(node) => self.close_added(node, baton, text_md5, joined),
+                    Some(node) => self.close_new(node, baton, text_md5, joined),
                     None => self.close_nothing(baton, text_md5),
                 }
             }

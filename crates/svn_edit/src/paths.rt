@@ -3,7 +3,7 @@ ghost use Rattle.std.specs.Prelude.{◌≡◌, ◌+◌, ◌<◌, [], ◌∷◌, 
 ghost use Rattle.std.specs.Option.{option_copied};
 ghost use Rattle.svn_types.specs.Names.{Path, depth_limit};
 ghost use Rattle.svn_types.specs.Paths.{parent, parent as directory_of, last_name};
-ghost use Rattle.svn_model.specs.Nodes.{get_in, node_path};
+ghost use Rattle.svn_model.specs.Nodes.{WorkingCopy, get_in, node_path};
 ghost use Rattle.svn_model.specs.Effects.{joined_path, moved_path};
 ghost use Rattle.svn_edit.specs.NodeTests.{deep_fault};
 ghost use Rattle.svn_edit.specs.Applying.{Gives, mode_of};
@@ -178,4 +178,21 @@ pub(crate) fn moved_again(
     }
     let above = parent_path(alloc, path)?;
     Ok(Some(joined_again(alloc, copy, &above, path)?))
+}
+
+/// The same by the path that the file would get if it was added.
+pub(crate) fn moved_by(
+    root: &Option<RelPath>,
+    path: &RelPath,
+    joined: Result<RelPath, AllocError>,
+) -> Result<Option<RelPath>, AllocError>
+    ensures { (w : WorkingCopy) → IfOk joined (λ j. j ≡ joined_path w path.now) → IfOk result (λ m. (was : Path) → moved_path (mode_of root.now) w path.now was ≡ unwrap_or m was) }
+{
+    let Some(root) = root else {
+        return Ok(None);
+    };
+    if path.is_root() {
+        return Ok(Some(root.clone()?));
+    }
+    Ok(Some(joined?))
 }

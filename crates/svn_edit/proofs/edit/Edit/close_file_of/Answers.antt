@@ -15,27 +15,27 @@ use Rattle.svn_edit.proofs.edit.Edit.close_file_of.Goals as goal
 
 pub returns-in-Some-get_mut-clause-answers : goal.returns-in-Some-get_mut-clause-answers
 returns-in-Some-get_mut-clause-answers c = λ said s.
-    subst (λ (o : Option BaseNode). AnswersCall (sum_fault md5 c.args.text_md5.now (filter_map text_in said) o) c.close_added.result)
+    subst (λ (o : Option BaseNode). AnswersCall (sum_fault md5 c.args.text_md5.now (filter_map text_in said) o) c.close_new.result)
     (c.in-Some-get_mut.ensures.value ∙ ap (get_in c.args.copy.now.entries) c.as_rel_path-path.ensures)
-    (c.close_added.ensures.answers said s)
+    (c.close_new.ensures.answers said s)
 
 pub returns-in-Some-get_mut-clause-closed : goal.returns-in-Some-get_mut-clause-closed
 returns-in-Some-get_mut-clause-closed c =
     let nodes = c.args.copy.now.entries in
     let at = c.as_rel_path-path.result.now in
     let mode = mode_of c.args.self.now.root in
-    let written = c.get_mut.follows.holds c.close_added.new.node in
-    map_ok c.close_added.result c.close_added.ensures.closed (λ closed said s.
+    let written = c.get_mut.follows.holds c.close_new.new.node in
+    map_ok c.close_new.result c.close_new.ensures.closed (λ closed said s.
     node_closed mode c.args.self.now.target at c.args.baton.now.path (filter_map change_in said) (filter_map text_in said) nodes _
-    c.in-Some-get_mut.node.now c.close_added.new.node c.as_rel_path-path.ensures c.in-Some-get_mut.ensures.value
-    (closed said (moved_path mode (get_in nodes) at) (joined_path (get_in nodes) at) s c.joined_again-joined.ensures)
-    (get_in-updated nodes _ at (Some c.close_added.new.node)
+    c.in-Some-get_mut.node.now c.close_new.new.node c.as_rel_path-path.ensures c.in-Some-get_mut.ensures.value
+    (closed said (get_in nodes) at s c.as_rel_path-path.ensures c.joined_again-joined.ensures)
+    (get_in-updated nodes _ at (Some c.close_new.new.node)
     (written.3 (rw (← c.in-Some-get_mut.ensures.value) (search rules))).0))
 
 pub returns-in-Some-get_mut-clause-refused : goal.returns-in-Some-get_mut-clause-refused
 returns-in-Some-get_mut-clause-refused c =
-    let written = c.get_mut.follows.holds c.close_added.new.node in
-    map_err c.close_added.result c.close_added.ensures.refused (λ same. written.0
+    let written = c.get_mut.follows.holds c.close_new.new.node in
+    map_err c.close_new.result c.close_new.ensures.refused (λ same. written.0
     ∙ set_value_same _ _ _ (sym c.in-Some-get_mut.ensures.value ∙ ap Some (sym same)))
 
 pub returns-in-Some-get_mut-2-clause-answers : goal.returns-in-Some-get_mut-2-clause-answers
