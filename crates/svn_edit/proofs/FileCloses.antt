@@ -1,34 +1,32 @@
 -- The close of a file: its text is checked, what was said of it is done, and its baton goes.
 use Rattle.std.proofs.Common.{◌≡◌, ◌≢◌, ℕ, Bool, true, false, cond, ◌&&◌, List, [], ◌∷◌, ◌++◌, refl, sym, ◌∙◌, ap, subst, true≢false}
 use Rattle.std.specs.Prelude.{Option, Some, None, Result, Ok, Err, OnOk, OnErr, filter_map}
-use Rattle.std.specs.Option.{option_map}
 use Rattle.std.specs.List.{cons_option}
 use Rattle.svn_types.specs.declared.kind.Kind.{Kind}
 use Rattle.svn_types.specs.declared.kind.Kind.TheVariants.{File, Directory}
 use Rattle.svn_types.specs.Names.{Path}
 use Rattle.svn_types.specs.Paths.{path_eq}
-use Rattle.svn_types.specs.Props.{PropChange, with_changes}
+use Rattle.svn_types.specs.Props.{PropChange}
 use Rattle.svn_pool.specs.Pools.{Entry, pool_at}
 use Rattle.svn_editor.specs.declared.call.Call.{Call}
 use Rattle.svn_editor.specs.declared.call.Call.TheVariants.{CloseFile}
 use Rattle.svn_editor.specs.declared.fault.EditFault.{EditFault}
 use Rattle.svn_editor.specs.Calls.{Given, kind_eq, given, path_of, is_of_kind}
-use Rattle.svn_editor.specs.Steps.{Mode, Update, Action, Delete, Open, Add, Change, Text, Close, Step, steps_of, target_of}
+use Rattle.svn_editor.specs.Steps.{Mode, Action, Delete, Open, Add, Change, Text, Close, Step, steps_of, target_of}
 use Rattle.svn_editor.proofs.Accepted.{accepted}
 use Rattle.svn_editor.proofs.Nested.{eq_true}
 use Rattle.svn_order.proofs.Sound.{known}
 use Rattle.svn_model.specs.declared.base_node.BaseNode.{BaseNode}
-use Rattle.svn_model.specs.declared.base_node.BaseNode.TheVariants.{File as FileNode, Dir as DirNode, NotPresent}
-use Rattle.svn_model.specs.Nodes.{WorkingCopy, get_in, is_present, node_props}
-use Rattle.svn_model.specs.Effects.{change_in, text_in, texts_at, text_or, closed_file, moved_path, joined_path, effect, edit_fault}
+use Rattle.svn_model.specs.Nodes.{WorkingCopy, get_in}
+use Rattle.svn_model.specs.Effects.{change_in, text_in, texts_at, closed_file, moved_path, joined_path, effect, edit_fault}
 use Rattle.svn_model.specs.Said.{says, said_at}
 use Rattle.svn_model.specs.Answering.{AnswersCall}
 use Rattle.svn_edit_law.proofs.OnePath.{pathed}
 use Rattle.svn_edit_law.proofs.StepEffects.{effect_alone}
+use Rattle.svn_edit_law.proofs.PathsBelow.{path_is}
 use Rattle.svn_edit.specs.declared.baton.Baton.{Baton}
 use Rattle.svn_edit.specs.declared.edit.Edit.{Edit}
-use Rattle.svn_edit.specs.declared.nodes.Closing.{Closing}
-use Rattle.svn_edit.specs.NodeTests.{first_of, new_text, closed_by, closed_path_of, sum_fault, IsClosing, FileIsClosed}
+use Rattle.svn_edit.specs.NodeTests.{sum_fault, FileIsClosed}
 use Rattle.svn_edit.specs.Applying.{Applied, KeepsEdit, batons_of, mode_of, is_open, IsBaton, BatonGone, IsLeaf, Says, Holds, IsNext}
 use Rattle.svn_edit.proofs.Holding.{at_ok, ok_by}
 use Rattle.svn_edit.proofs.Closes.{changes_are, named_baton, says_of, gone_holds, others_stay}
@@ -49,46 +47,37 @@ texts_are p (s ∷ steps) = by (path_eq s.path p) s.action (texts_are p steps)
     by true (Add k) ih = ih
     by true (Close k x) ih = ih
 
--- what a file becomes
-pub closed_is : (mode : Mode) (rev : ℕ) (w : WorkingCopy) (p : Path) (changes : List PropChange) (texts : List (List ℕ)) (c : Closing)
-    → IsClosing mode rev w p changes texts c
-    → option_map (closed_by c) (w p) ≡ closed_file rev (moved_path mode w p) (joined_path w p) changes texts (w p)
-closed_is mode rev w p changes texts c is = by (w p) is.moved is.props
-  where
-    text_is : (text : List ℕ) → new_text c.text text ≡ text_or texts text
-    text_is text = ap (λ (o : Option (List ℕ)). new_text o text) is.text ∙ at texts
-      where
-        at : (l : List (List ℕ)) → new_text (first_of l) text ≡ text_or l text
-        at [] = refl
-        at (x ∷ l) = refl
-
-    by : (o : Option BaseNode) → c.moved ≡ closed_path_of mode w p o → c.props ≡ with_changes (node_props o) changes
-        → option_map (closed_by c) o ≡ closed_file rev (moved_path mode w p) (joined_path w p) changes texts o
-    by None m q = refl
-    by (Some (FileNode r was text props)) m q = λ i. Some (FileNode (is.target i) (m i) (text_is text i) (q i))
-    by (Some (DirNode r was complete props)) m q = refl
-    by (Some NotPresent) m q = λ i. Some (FileNode (is.target i) (m i) (text_is [] i) (q i))
-
--- the file is closed in a copy that is as it was
-pub file_closed : (mode : Mode) (rev : ℕ) (p : Path) (changes : List PropChange) (texts : List (List ℕ))
-    (nodes mid seen nodes2 : List (Path × BaseNode)) (c d : Closing) → seen ≡ nodes → mid ≡ seen → c ≡ d
-    → IsClosing mode rev (get_in seen) p changes texts d
-    → ((q : Path) → get_in nodes2 q ≡ cond (path_eq p q) (option_map (closed_by c) (get_in mid p)) (get_in mid q))
+-- the file at a path is closed where it stands
+pub node_closed : (mode : Mode) (rev : ℕ) (at p : Path) (changes : List PropChange) (texts : List (List ℕ))
+    (nodes nodes2 : List (Path × BaseNode)) (old new : BaseNode) → at ≡ p → Some old ≡ get_in nodes at
+    → Some new ≡ closed_file rev (moved_path mode (get_in nodes) at) (joined_path (get_in nodes) at) changes texts (Some old)
+    → ((q : Path) → get_in nodes2 q ≡ cond (path_eq at q) (Some new) (get_in nodes q))
     → FileIsClosed mode rev p changes texts nodes nodes2
-file_closed mode rev p changes texts nodes mid seen nodes2 c d same copied taken is written =
-    subst (λ (m : List (Path × BaseNode)). FileIsClosed mode rev p changes texts m nodes2) (copied ∙ same)
-    (λ q. written q ∙ ap (λ (v : Option BaseNode). cond (path_eq p q) v (get_in mid q)) (closed_is mode rev (get_in mid) p changes texts c
-    (subst (λ (m : List (Path × BaseNode)). IsClosing mode rev (get_in m) p changes texts c) (sym copied)
-    (subst (λ (x : Closing). IsClosing mode rev (get_in seen) p changes texts x) (sym taken) is))))
+node_closed mode rev at p changes texts nodes nodes2 old new same there closed written =
+    let w = get_in nodes in
+    subst (λ (x : Path). FileIsClosed mode rev x changes texts nodes nodes2) same
+    (λ q. written q ∙ ap (λ (v : Option BaseNode). cond (path_eq at q) v (w q))
+    (closed ∙ ap (closed_file rev (moved_path mode w at) (joined_path w at) changes texts) there))
 
--- in an update a node that is present keeps its path
-pub standing_closed : (rev : ℕ) (w : WorkingCopy) (p : Path) (changes : List PropChange) (texts : List (List ℕ)) (n : BaseNode)
-    → is_present (Some n) ≡ true
-    → closed_file rev (λ q. q) [] changes texts (Some n)
-    ≡ closed_file rev (moved_path Update w p) (joined_path w p) changes texts (Some n)
-standing_closed rev w p changes texts (FileNode r q text props) h = refl
-standing_closed rev w p changes texts (DirNode r q complete props) h = refl
-standing_closed rev w p changes texts NotPresent h = absurd (true≢false (sym h))
+-- where nothing stands, the close of a file changes nothing
+pub nothing_closed : (mode : Mode) (rev : ℕ) (at p : Path) (changes : List PropChange) (texts : List (List ℕ))
+    (nodes nodes2 : List (Path × BaseNode)) → at ≡ p → None ≡ get_in nodes at → nodes2 ≡ nodes
+    → FileIsClosed mode rev p changes texts nodes nodes2
+nothing_closed mode rev at p changes texts nodes nodes2 same none kept q =
+    ap (λ ns. get_in ns q) kept ∙ by (path_eq p q) refl
+  where
+    w : WorkingCopy
+    w = get_in nodes
+
+    closed : Option BaseNode → Option BaseNode
+    closed = closed_file rev (moved_path mode w p) (joined_path w p) changes texts
+
+    here : None ≡ w p
+    here = none ∙ ap w same
+
+    by : (b : Bool) → path_eq p q ≡ b → w q ≡ cond b (closed (w p)) (w q)
+    by false e = refl
+    by true e = ap w (sym (path_is p q e)) ∙ sym here ∙ ap closed here
 
 applied_parts : (fault : Option EditFault) (w : WorkingCopy) (nodes nodes2 : List (Path × BaseNode)) (r : Result (Unit {0}) EditFault)
     → AnswersCall fault r

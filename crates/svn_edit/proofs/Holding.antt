@@ -1,11 +1,11 @@
 -- What an edit holds after one more call.
-use Rattle.std.proofs.Common.{◌≡◌, ℕ, false, List, [], ◌∷◌, ◌++◌, refl, sym, ◌∙◌, ap, subst}
+use Rattle.std.proofs.Common.{◌≡◌, ℕ, Bool, true, false, cond, List, [], ◌∷◌, ◌++◌, refl, sym, ◌∙◌, ap, subst}
 use Rattle.std.specs.Prelude.{Option, Some, None, Result, Ok, Err, OnOk, OnErr, IfErr}
 use Rattle.std.specs.Option.{option_or, option_map}
 use Rattle.svn_types.specs.Names.{Path}
 use Rattle.svn_editor.specs.declared.call.Call.{Call}
 use Rattle.svn_editor.specs.declared.fault.EditFault.{EditFault}
-use Rattle.svn_editor.specs.declared.fault.EditFault.TheVariants.{Memory, Order}
+use Rattle.svn_editor.specs.declared.fault.EditFault.TheVariants.{EntryExists, Memory, Order}
 use Rattle.svn_editor.specs.declared.fault.OrderFault.{OrderFault}
 use Rattle.svn_editor.specs.declared.fault.OrderFault.TheVariants.{Memory as NoMemory}
 use Rattle.svn_editor.specs.Calls.{Given, given_by, closes, is_abort}
@@ -34,6 +34,12 @@ pub applied_none : (fault : Option EditFault) (w : WorkingCopy) (nodes : List (P
     → Applied fault w nodes r nodes
 applied_none fault w nodes (Ok done) none same h = (none, same)
 applied_none fault w nodes (Err e) none same h = (subst (IsAnswer fault) (sym h) tt, refl)
+
+-- where a node is present, that is told, and no other fault
+pub add_answer : (present : Bool) (fault : Option EditFault) (f r : EditFault) → (present ≡ false → IsAnswer fault f)
+    → r ≡ cond present EntryExists f → IsAnswer (cond present (Some EntryExists) fault) r
+add_answer true fault f r h is = subst (IsAnswer (Some EntryExists)) (sym is) refl
+add_answer false fault f r h is = subst (IsAnswer fault) (sym is) (h refl)
 
 pub applied_some : (fault : Option EditFault) (w : WorkingCopy) (nodes nodes2 : List (Path × BaseNode)) (r : Result (Unit {0}) EditFault)
     → fault ≡ None → OnOk r ((p : Path) → get_in nodes2 p ≡ w p)

@@ -26,7 +26,7 @@ use Rattle.svn_edit.specs.declared.baton.Baton.{Baton}
 use Rattle.svn_edit.specs.declared.edit.Edit.{Edit}
 use Rattle.svn_edit.specs.declared.edit.Stage.TheVariants.{Going, Refused, Ended}
 use Rattle.svn_edit.specs.Applying.{Batons, batons_of, pool_or, pool_above, pool_entry, is_open, IsLeaf, HoldsBatons, PoolGone}
-use Rattle.svn_edit.specs.Applying.{BatonGone, MakesBaton, LetsGo, IsNext, IsRefused, StandsAfter}
+use Rattle.svn_edit.specs.Applying.{IsNext, IsRefused, StandsAfter}
 use Rattle.svn_edit.specs.Leaving.{call_strings, HasPool, HoldsPools, IsLeft, LeavesPools, PoolsAfter, SamePools, KeepsPools, BatonBegan}
 use Rattle.svn_edit.specs.Leaving.{NoteBegan}
 use Rattle.svn_edit.proofs.PoolStrings.{own_one, others_one, len_pushed, len_created}
@@ -176,21 +176,6 @@ undone old made new s beneath is serial fresh goes leaf apart =
     (ap (λ (v : Pools). v.root) is) (ap (λ (v : Pools). map_of.len v.live) is ∙ len_created old beneath fresh)
     (goes (pool_entry beneath []) ((λ i. pool_at (is i) (serial i)) ∙ inserted_here old.live old.next (pool_entry beneath [])) leaf
     (λ e. apart (sym serial ∙ e ∙ ap (λ (v : Pools). v.root) is)))
-
--- a baton that was made goes again
-pub node_undone : (old made new : Edit) (t beneath : ℕ) (p : Path) → MakesBaton beneath p t old made → LetsGo t made new
-    → batons_of old t ≡ None → KeepsPools old new
-node_undone old made new t beneath p m lets none = record {
-  pools = taken_back old.pools made.pools new.pools m.baton.pool.0 m.fresh m.others m.root m.count
-      (record { gone = gone.gone; others = gone.others; root = gone.root; count = gone.count });
-  batons = λ u. elim (cases_eq u t) [
-    | inl is ↦ ap (batons_of new) is ∙ gone.token ∙ sym (ap (batons_of old) is ∙ none)
-    | inr away ↦ gone.tokens u away ∙ m.tokens u away
-  ];
-}
-  where
-    gone : BatonGone t m.baton made.pools (batons_of made) new.pools (batons_of new)
-    gone = lets m.baton _ m.token m.made m.leaf (λ e. m.apart (e ∙ m.root))
 
 -- ---- a baton began to note
 

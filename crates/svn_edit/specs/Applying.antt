@@ -21,6 +21,7 @@ use Rattle.svn_editor.specs.declared.fault.OrderFault.TheVariants.{Dead, Ended a
 use Rattle.svn_editor.specs.declared.call.Call.TheVariants.{AbortEdit}
 use Rattle.svn_editor.specs.Order.{IsLawful, order_fault}
 use Rattle.svn_edit.specs.declared.edit.Stage.{Stage}
+use Rattle.svn_edit.specs.declared.opening.NewNode.{NewNode}
 use Rattle.svn_editor.specs.Calls.{Given, given, all_given, is_closed, path_of, is_last}
 use Rattle.svn_editor.specs.Steps.{Mode, Update, SwitchTo, Action, steps_of, target_of}
 use Rattle.svn_order.specs.StandsAfter as order
@@ -56,6 +57,11 @@ Gives fault value (Err e) = IsAnswer fault e
 abbrev pub AnswersAs : {T : Type 0} → Option EditFault → Result T EditFault → Type 0
 AnswersAs fault (Ok v) = fault ≡ None
 AnswersAs fault (Err e) = IsAnswer fault e
+
+-- what an added node is made of, for a path: its key, its baton's path, and the node
+abbrev pub MakesNode : Path → Option EditFault → BaseNode → Result NewNode EditFault → Type 0
+MakesNode p fault node (Ok n) = (fault ≡ None) × (n.at ≡ p) × (n.opened ≡ p) × (n.node ≡ node)
+MakesNode p fault node (Err e) = IsAnswer fault e
 
 -- ---- batons
 

@@ -9,10 +9,9 @@ use Rattle.svn_editor.specs.declared.fault.EditFault.{EditFault}
 use Rattle.svn_editor.specs.declared.fault.EditFault.TheVariants.{NoEntry, WrongKind, WrongRevision, TextChecksum, TooDeep}
 use Rattle.svn_model.specs.declared.base_node.BaseNode.{BaseNode}
 use Rattle.svn_model.specs.declared.base_node.BaseNode.TheVariants.{File as FileNode, Dir as DirNode, NotPresent}
-use Rattle.svn_edit.specs.declared.nodes.Closing.{Closing}
-use Rattle.svn_model.specs.Nodes.{WorkingCopy, get_in, is_present, at_revision, node_revision, node_path, node_text, node_props}
+use Rattle.svn_model.specs.Nodes.{get_in, is_present, at_revision, node_revision, node_text}
 use Rattle.svn_model.specs.Effects.{has_kind, joined_path, moved_path, closed_file, is_wrong_sum, text_or}
-use Rattle.svn_types.specs.Props.{PropChange, with_changes}
+use Rattle.svn_types.specs.Props.{PropChange}
 
 abbrev pub delete_fault_of : Option BaseNode → ℕ → Option EditFault
 delete_fault_of node rev =
@@ -31,39 +30,13 @@ open_fault_of kind node base =
 abbrev pub deep_fault : Path → Option EditFault
 deep_fault p = if nat_lt path_limit (length p) then Some TooDeep else None
 
--- the repository path that a file gets when it is closed
-abbrev pub closed_path_of : Mode → WorkingCopy → Path → Option BaseNode → Path
-closed_path_of mode w p (Some NotPresent) = joined_path w p
-closed_path_of mode w p node = moved_path mode w p (node_path node)
-
-abbrev pub closed_path : Mode → WorkingCopy → Path → Path
-closed_path mode w p = closed_path_of mode w p (w p)
-
 abbrev pub first_of : List (List ℕ) → Option (List ℕ)
 first_of [] = None
 first_of (text ∷ texts) = Some text
 
-abbrev pub new_text : Option (List ℕ) → List ℕ → List ℕ
-new_text None text = text
-new_text (Some new) text = new
-
--- a file that is closed
-abbrev pub closed_by : Closing → BaseNode → BaseNode
-closed_by c (FileNode r q text props) = FileNode c.target c.moved (new_text c.text text) c.props
-closed_by c NotPresent = FileNode c.target c.moved (new_text c.text []) c.props
-closed_by c node = node
-
 -- why a file isn't closed
 abbrev pub sum_fault : (List ℕ → List ℕ) → Option (List ℕ) → List (List ℕ) → Option BaseNode → Option EditFault
 sum_fault checksum sum texts node = if is_wrong_sum sum (checksum (text_or texts (node_text node))) then Some TextChecksum else None
-
--- what a file gets when it is closed, after these changes and texts
-pub record IsClosing (mode : Mode) (rev : ℕ) (w : WorkingCopy) (p : Path) (changes : List PropChange) (texts : List (List ℕ))
-    (c : Closing) : Type 0 where
-  pub target : c.target ≡ rev
-  pub moved : c.moved ≡ closed_path mode w p
-  pub text : c.text ≡ first_of texts
-  pub props : c.props ≡ with_changes (node_props (w p)) changes
 
 -- the file at the path is closed, and the other nodes are as before
 abbrev pub FileIsClosed : Mode → ℕ → Path → List PropChange → List (List ℕ) → List (Path × BaseNode) → List (Path × BaseNode) → Type 0

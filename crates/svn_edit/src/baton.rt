@@ -14,9 +14,10 @@ ghost use Rattle.svn_edit.specs.NodeTests.{first_of};
 ghost use Rattle.svn_edit.specs.Leaving.{SamePools, BatonBegan};
 ghost use Rattle.svn_edit.specs.Applying.{BatonBegun, BatonSaid, Says, IsLeaf, PoolGone, Properties, StillSaid};
 
+use crate::open_path::OpenPath;
 use std::alloc::{AllocError, Global};
 use svn_pool::{PoolId, PoolTree, Reader};
-use svn_types::{Name, PropName, Props, RelPath, Text};
+use svn_types::{Name, PropName, Props, Text};
 
 /// What the strings of a baton's pool say, behind the first, which is the path.
 #[derive(Clone, Copy, Debug)]
@@ -41,7 +42,7 @@ fn has_change(notes: &[Note]) -> bool
 /// An open file or directory.
 #[derive(Drop)]
 pub(crate) struct Baton {
-    pub(crate) path: RelPath,
+    pub(crate) path: OpenPath,
     pub(crate) pool: PoolId,
     pub(crate) notes: Vec<Note>,
     /// The place of the text among the strings of the pool.
@@ -92,13 +93,12 @@ impl Baton {
         alloc: Global,
         pools: &mut PoolTree<Global>,
         beneath: PoolId,
-        path: &RelPath,
+        path: OpenPath,
     ) -> Result<Baton, AllocError>
-        ensures begun { IfOk result (λ b. BatonBegun beneath.0 path.now pools.old b pools.new) }
+        ensures begun { IfOk result (λ b. BatonBegun beneath.0 path pools.old b pools.new) }
         ensures kept { OnErr result (SamePools pools.old pools.new) }
     {
-        let path = path.clone()?;
-        let text = slashed(alloc, path.components())?;
+        let text = slashed(alloc, path.as_rel_path().components())?;
         let Ok(pool) = pools.create(beneath) else {
             return Err(AllocError);
         };

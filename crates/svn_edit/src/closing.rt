@@ -1,24 +1,24 @@
 //! The closes of an edit.
-ghost use Rattle.std.specs.Prelude.{◌≡◌, [], List, IfOk, IfErr, OnOk, OnErr, Ok, Some, true, filter_map, if◌then◌else◌};
-ghost use Rattle.std.specs.Option.{option_copied};
+ghost use Rattle.std.specs.Prelude.{◌≡◌, [], List, IfOk, IfErr, OnOk, OnErr, Ok, Some, None, filter_map, unwrap_or, if◌then◌else◌};
 ghost use Rattle.md5.specs.Md5.{md5};
 ghost use Rattle.svn_types.specs.Names.{Path};
 ghost use Rattle.svn_types.specs.Paths.{path_eq};
 ghost use Rattle.svn_editor.specs.Steps.{Action, Update, SwitchTo};
-ghost use Rattle.svn_model.specs.Nodes.{get_in, is_present};
-ghost use Rattle.svn_model.specs.Effects.{change_in, text_in, closed_directory, closed_file, settled, settle_fault};
+ghost use Rattle.svn_model.specs.Nodes.{WorkingCopy, get_in};
+ghost use Rattle.svn_model.specs.Effects.{change_in, text_in, closed_directory, closed_file, moved_path, joined_path, settled, settle_fault};
 ghost use Rattle.svn_model.specs.Answering.{AnswersCall};
 ghost use Rattle.svn_edit.specs.declared.baton.Baton.{Baton};
-ghost use Rattle.svn_edit.specs.NodeTests.{first_of, sum_fault, IsClosing, FileIsClosed};
+ghost use Rattle.svn_edit.specs.NodeTests.{first_of, sum_fault, FileIsClosed};
 ghost use Rattle.svn_edit.specs.Applying.{mode_of, Applied, AnswersAs, KeepsEdit, LetsGo, Says, batons_of};
 
 use crate::baton::{Baton, drop_pool};
 use crate::edit::{Edit, or_memory};
-use crate::nodes::{Closing, Nodes};
+use crate::nodes::Nodes;
 use crate::{ending, nodes, paths};
+use std::alloc::AllocError;
 use svn_editor::{Digest, EditFault, Token};
 use svn_model::BaseNode;
-use svn_types::{RelPath, Text};
+use svn_types::{Props, RelPath, Text};
 
 impl Edit {
     // Lets go what an edit keeps of a token.
@@ -65,7 +65,7 @@ impl Edit {
         let Some(baton) = self.batons.get(&token.0) else {
             return Err(EditFault::Memory);
         };
-        if let Some(node) = copy.get_mut(&baton.path) {
+        if let Some(node) = copy.get_mut(baton.path.as_rel_path()) {
             self.complete(node, baton)?;
         }
         self.close_baton(token);
@@ -75,17 +75,17 @@ impl Edit {
     // The new text of a file, if there is one, once the text that it has at its close was tested.
     fn new_text(
         &self,
-        node: Option<&BaseNode>,
+        node: &BaseNode,
         baton: &Baton,
         text_md5: &Option<Digest>,
     ) -> Result<Option<Text>, EditFault>
-        ensures checked { (said : List Action) → Says baton.now self.now.pools said → AnswersAs (sum_fault md5 text_md5.now (filter_map text_in said) (option_copied node.entry)) result }
+        ensures checked { (said : List Action) → Says baton.now self.now.pools said → AnswersAs (sum_fault md5 text_md5.now (filter_map text_in said) (Some node.now)) result }
         ensures text { IfOk result (λ t. (said : List Action) → Says baton.now self.now.pools said → t ≡ first_of (filter_map text_in said)) }
     {
         let new_text = baton.text(&self.pools);
         let text = match new_text {
             Some(text) => text,
-            None => nodes::text_of(node),
+            None => nodes::text_of(Some(node)),
         };
         if nodes::is_wrong_sum(text_md5, text) {
             return Err(EditFault::TextChecksum);
@@ -93,64 +93,110 @@ impl Edit {
         or_memory(nodes::copied(self.alloc, new_text))
     }
 
-    // Closes a file where it stands, which keeps its repository path. On a refusal it is as it was.
-    fn close_standing(
+    // Closes a file that was opened, with the repository path that it gets, if it gets one. On a refusal it is as it was.
+    fn close_opened(
         &self,
         node: &mut BaseNode,
         baton: &Baton,
         text_md5: &Option<Digest>,
+        moved: Result<Option<RelPath>, AllocError>,
     ) -> Result<(), EditFault>
         ensures answers { (said : List Action) → Says baton.now self.now.pools said → AnswersCall (sum_fault md5 text_md5.now (filter_map text_in said) (Some node.old)) result }
-        ensures closed { OnOk result ((said : List Action) → Says baton.now self.now.pools said → is_present (Some node.old) ≡ true → Some node.new ≡ closed_file self.now.target (λ q. q) [] (filter_map change_in said) (filter_map text_in said) (Some node.old)) }
+        ensures closed { OnOk result ((said : List Action) (path : Path → Path) (joined : Path) → Says baton.now self.now.pools said → IfOk moved (λ m. (was : Path) → path was ≡ unwrap_or m was) → Some node.new ≡ closed_file self.now.target path joined (filter_map change_in said) (filter_map text_in said) (Some node.old)) }
         ensures refused { OnErr result (node.new ≡ node.old) }
     {
-        let new_text = self.new_text(Some(node), baton, text_md5)?;
-        if let BaseNode::File {
+        let new_text = self.new_text(node, baton, text_md5)?;
+        let moved = or_memory(moved)?;
+        if matches!(node, BaseNode::Dir { .. }) {
+            return Ok(());
+        }
+        let BaseNode::File {
             rev,
+            repos_path,
             text,
             props,
-            ..
         } = node
-        {
-            let changed = or_memory(baton.changed(self.alloc, &self.pools, props))?;
-            *rev = self.target;
-            if let Some(new_text) = new_text {
-                *text = new_text;
-            }
-            if let Some(changed) = changed {
-                *props = changed;
-            }
+        else {
+            return Err(EditFault::Memory);
+        };
+        let changed = or_memory(baton.changed(self.alloc, &self.pools, props))?;
+        *rev = self.target;
+        if let Some(moved) = moved {
+            *repos_path = moved;
+        }
+        if let Some(new_text) = new_text {
+            *text = new_text;
+        }
+        if let Some(changed) = changed {
+            *props = changed;
         }
         Ok(())
     }
 
-    // What a file gets when it is closed.
-    fn closing(
+    // Closes a file that was added, and stood as not present, with its repository path. On a refusal it is as it was.
+    // No file comes here: `close_new` has closed it as an opened one.
+    fn close_added(
         &self,
-        copy: &Nodes,
-        node: Option<&BaseNode>,
+        node: &mut BaseNode,
         baton: &Baton,
         text_md5: &Option<Digest>,
-    ) -> Result<Closing, EditFault>
-        requires { option_copied node ≡ get_in copy.now.entries baton.now.path }
-        ensures checked { (said : List Action) → Says baton.now self.now.pools said → let w = get_in copy.now.entries in AnswersAs (sum_fault md5 text_md5.now (filter_map text_in said) (w baton.now.path)) result }
-        ensures closing { IfOk result (λ c. (said : List Action) → Says baton.now self.now.pools said → IsClosing (mode_of self.now.root) self.now.target (get_in copy.now.entries) baton.now.path (filter_map change_in said) (filter_map text_in said) c) }
+        joined: Result<RelPath, AllocError>,
+    ) -> Result<(), EditFault>
+        ensures answers { (said : List Action) → Says baton.now self.now.pools said → AnswersCall (sum_fault md5 text_md5.now (filter_map text_in said) (Some node.old)) result }
+        ensures closed { OnOk result ((said : List Action) (moved : Path → Path) (path : Path) → Says baton.now self.now.pools said → IfOk joined (λ j. j ≡ path) → Some node.new ≡ closed_file self.now.target moved path (filter_map change_in said) (filter_map text_in said) (Some node.old)) }
+        ensures refused { OnErr result (node.new ≡ node.old) }
     {
         let text = self.new_text(node, baton, text_md5)?;
-        let mut props = or_memory(nodes::props_of(self.alloc, node))?;
+        let repos_path = or_memory(joined)?;
+        if matches!(node, BaseNode::Dir { .. }) {
+            return Ok(());
+        }
+        if !matches!(node, BaseNode::NotPresent) {
+            return Err(EditFault::Memory);
+        }
+        let mut props = Props::new(self.alloc);
         or_memory(baton.change(self.alloc, &self.pools, &mut props))?;
-        let path = &baton.path;
-        let moved = or_memory(paths::closed_path(self.alloc, &self.root, copy, path, node))?;
-        let target = self.target;
-        Ok(Closing {
-            target,
-            moved,
-            text,
+        *node = BaseNode::File {
+            rev: self.target,
+            repos_path,
+            text: match text {
+                Some(text) => text,
+                None => Text::new(Vec::new(self.alloc)),
+            },
             props,
-        })
+        };
+        Ok(())
     }
 
-    // Closes the file of a baton. In an update one that is present keeps its repository path: it is looked up once.
+    // Closes the file of a baton that was added. What stands there as a file is closed like an opened one.
+    fn close_new(
+        &self,
+        node: &mut BaseNode,
+        baton: &Baton,
+        text_md5: &Option<Digest>,
+        joined: Result<RelPath, AllocError>,
+    ) -> Result<(), EditFault>
+        ensures answers { (said : List Action) → Says baton.now self.now.pools said → AnswersCall (sum_fault md5 text_md5.now (filter_map text_in said) (Some node.old)) result }
+        ensures closed { OnOk result ((said : List Action) (w : WorkingCopy) (p : Path) → Says baton.now self.now.pools said → p ≡ baton.now.path → IfOk joined (λ j. j ≡ joined_path w p) → Some node.new ≡ closed_file self.now.target (moved_path (mode_of self.now.root) w p) (joined_path w p) (filter_map change_in said) (filter_map text_in said) (Some node.old)) }
+        ensures refused { OnErr result (node.new ≡ node.old) }
+    {
+        if matches!(node, BaseNode::File { .. }) {
+            let moved = paths::moved_by(&self.root, baton.path.as_rel_path(), joined);
+            self.close_opened(node, baton, text_md5, moved)
+        } else {
+            self.close_added(node, baton, text_md5, joined)
+        }
+    }
+
+    // Closes a file where nothing stands: its text is tested, and nothing changes.
+    fn close_nothing(&self, baton: &Baton, text_md5: &Option<Digest>) -> Result<(), EditFault>
+        ensures { (said : List Action) → Says baton.now self.now.pools said → AnswersCall (sum_fault md5 text_md5.now (filter_map text_in said) None) result }
+    {
+        self.new_text(&BaseNode::NotPresent, baton, text_md5)?;
+        Ok(())
+    }
+
+    // Closes the file of a baton, which is looked up once. The path that it gets is made before, and its refusal told after that of the text.
     fn close_file_of(
         &self,
         copy: &mut Nodes,
@@ -161,18 +207,23 @@ impl Edit {
         ensures closed { OnOk result ((said : List Action) → Says baton.now self.now.pools said → FileIsClosed (mode_of self.now.root) self.now.target baton.now.path (filter_map change_in said) (filter_map text_in said) copy.old.entries copy.new.entries) }
         ensures refused { OnErr result (copy.new.entries ≡ copy.old.entries) }
     {
-        let closing = match &self.root {
-            Some(_) => self.closing(copy, copy.get(&baton.path), baton, text_md5)?,
-            None => match copy.get_mut(&baton.path) {
-                Some(BaseNode::NotPresent) => {
-                    self.closing(copy, Some(&BaseNode::NotPresent), baton, text_md5)?
+        let path = baton.path.as_rel_path();
+        match baton.path.above() {
+            Some(above) => {
+                let joined = paths::joined_again(self.alloc, copy, above, path);
+                match copy.get_mut(path) {
+                    Some(node) => self.close_new(node, baton, text_md5, joined),
+                    None => self.close_nothing(baton, text_md5),
                 }
-                Some(node) => return self.close_standing(node, baton, text_md5),
-                None => self.closing(copy, None, baton, text_md5)?,
-            },
-        };
-        nodes::close_file_at(self.alloc, copy, &baton.path, closing);
-        Ok(())
+            }
+            None => {
+                let moved = paths::moved_again(self.alloc, &self.root, copy, path);
+                match copy.get_mut(path) {
+                    Some(node) => self.close_opened(node, baton, text_md5, moved),
+                    None => self.close_nothing(baton, text_md5),
+                }
+            }
+        }
     }
 
     pub(crate) fn close_file(

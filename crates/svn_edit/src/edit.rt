@@ -16,15 +16,15 @@ ghost use Rattle.svn_model.specs.declared.base_node.BaseNode.{BaseNode};
 ghost use Rattle.svn_model.specs.declared.base_node.BaseNode.TheVariants.{NotPresent as NoNode};
 ghost use Rattle.svn_model.specs.Nodes.{WorkingCopy, get_in};
 ghost use Rattle.svn_model.specs.Effects.{change_in, text_in, is_too_long, closed_directory, settled, settle_fault, step_effect, step_fault, effect, edit_fault, refusal};
-ghost use Rattle.svn_edit.specs.Applying.{mode_of, pool_or, Applied, KeepsEdit, MakesBaton, RefusedAs, BatonGone, BatonNoted, TakenInOrder, IsLeaf, Says, batons_of, Holds, IsNext, StandsAfter, AnswersAs, OneIsLeft, live_count, open_count, HasEnded, IsRefused, StaysRefused, StaysEnded, LeavesRefused};
+ghost use Rattle.svn_edit.specs.Applying.{mode_of, Applied, KeepsEdit, MakesBaton, RefusedAs, BatonGone, BatonNoted, TakenInOrder, IsLeaf, Says, batons_of, Holds, IsNext, StandsAfter, AnswersAs, OneIsLeft, live_count, open_count, HasEnded, IsRefused, StaysRefused, StaysEnded, LeavesRefused};
 ghost use Rattle.svn_edit.specs.Leaving.{HoldsPools, IsLeft, LeavesPools, PoolsAfter, KeepsPools, NoteBegan};
 ghost use Rattle.svn_model.specs.Answering.{AnswersCall};
-ghost use Rattle.svn_edit.specs.NodeTests.{sum_fault, IsClosing, FileIsClosed};
 ghost use Rattle.std.specs.FinMap as map;
 ghost use Rattle.svn_pool.specs.Ancestry.{IsCleared};
 
 use crate::baton::{Baton, drop_pool};
 use crate::nodes::Nodes;
+use crate::open_path::OpenPath;
 use crate::{nodes, paths};
 use std::alloc::{AllocError, Global};
 use std::collections::HashMap;
@@ -209,21 +209,25 @@ impl Edit {
                 path,
                 parent,
                 token,
-            } => self.add_directory(copy, path, self.pool_of(*parent), *token),
+            } => self.add_directory(copy, path, *parent, *token),
             Call::OpenDirectory {
                 path,
                 parent,
                 base,
                 token,
-            } => self.open_directory(copy, path, *base, self.pool_of(*parent), *token),
+            } => self.open_directory(copy, path, *base, Some(*parent), *token),
             Call::CloseDirectory { token } => self.close_directory(copy, *token),
-            Call::AddFile { path, token, .. } => self.add_file(copy, path, *token),
+            Call::AddFile {
+                path,
+                parent,
+                token,
+            } => self.add_file(copy, path, *parent, *token),
             Call::OpenFile {
                 path,
+                parent,
                 base,
                 token,
-                ..
-            } => self.open_file(copy, path, *base, *token),
+            } => self.open_file(copy, path, *base, *parent, *token),
             Call::ChangeDirProp { token, name, value } => {
                 self.change_prop(*token, name, value.as_ref())
             }
@@ -258,8 +262,13 @@ impl Edit {
     }
 
     // Opens a baton.
-    fn open_baton(&mut self, beneath: PoolId, path: &RelPath, token: Token) -> Result<(), EditFault>
-        ensures opened { OnOk result (MakesBaton beneath.0 path.now token self.old self.new) }
+    pub(crate) fn open_baton(
+        &mut self,
+        beneath: PoolId,
+        path: OpenPath,
+        token: Token,
+    ) -> Result<(), EditFault>
+        ensures opened { OnOk result (MakesBaton beneath.0 path token self.old self.new) }
         ensures keeps { KeepsEdit self.old self.new }
         ensures unchanged { OnErr result (KeepsPools self.old self.new) }
         ensures fault { IfErr result (λ e. e ≡ EditFault.Memory) }
@@ -273,135 +282,6 @@ impl Edit {
             return Err(EditFault::Memory);
         };
         Ok(())
-    }
-
-    // The pool of an open directory.
-    fn pool_of(&self, token: Token) -> PoolId
-        ensures { result.0 ≡ pool_or self.now.pools.root (batons_of self.now token) }
-    {
-        match self.batons.get(&token.0) {
-            Some(baton) => baton.pool,
-            None => self.pools.root(),
-        }
-    }
-
-    fn open_root(&mut self, copy: &mut Nodes, base: Rev, token: Token) -> Result<(), EditFault>
-        ensures opened { OnOk result (MakesBaton self.old.pools.root [] token self.old self.new) }
-        ensures keeps { KeepsEdit self.old self.new }
-        ensures unchanged { OnErr result (KeepsPools self.old self.new) }
-        ensures applied { let a = Open Directory base in let w = get_in copy.old.entries in Applied (step_fault md5 (mode_of self.old.root) [] w [] a) (step_effect (mode_of self.old.root) self.old.target [] (record { path = []; action = a }) w) copy.old.entries result copy.new.entries }
-    {
-        let root = RelPath::root(self.alloc);
-        let pool = self.pools.root();
-        self.open_directory(copy, &root, base, pool, token)
-    }
-
-    fn open_directory(
-        &mut self,
-        copy: &mut Nodes,
-        path: &RelPath,
-        base: Rev,
-        beneath: PoolId,
-        token: Token,
-    ) -> Result<(), EditFault>
-        ensures opened { OnOk result (MakesBaton beneath.0 path.now token self.old self.new) }
-        ensures keeps { KeepsEdit self.old self.new }
-        ensures unchanged { OnErr result (KeepsPools self.old self.new) }
-        ensures applied { let a = Open Directory base in let w = get_in copy.old.entries in Applied (step_fault md5 (mode_of self.old.root) [] w path.now a) (step_effect (mode_of self.old.root) self.old.target [] (record { path = path.now; action = a }) w) copy.old.entries result copy.new.entries }
-    {
-        let node = copy.get(path);
-        if let Some(fault) = nodes::open_directory_fault(node, base) {
-            return Err(fault);
-        }
-        let moved = paths::moved(self.alloc, &self.root, copy, path, node)?;
-        self.open_baton(beneath, path, token)?;
-        nodes::open_directory_at(self.alloc, copy, path, self.target, moved);
-        Ok(())
-    }
-
-    fn open_file(
-        &mut self,
-        copy: &Nodes,
-        path: &RelPath,
-        base: Rev,
-        token: Token,
-    ) -> Result<(), EditFault>
-        ensures opened { OnOk result (MakesBaton self.old.pools.root path.now token self.old self.new) }
-        ensures keeps { KeepsEdit self.old self.new }
-        ensures unchanged { OnErr result (KeepsPools self.old self.new) }
-        ensures applied { let a = Open File base in let w = get_in copy.now.entries in Applied (step_fault md5 (mode_of self.old.root) [] w path.now a) (step_effect (mode_of self.old.root) self.old.target [] (record { path = path.now; action = a }) w) copy.now.entries result copy.now.entries }
-    {
-        let node = copy.get(path);
-        if let Some(fault) = nodes::open_file_fault(node, base) {
-            return Err(fault);
-        }
-        let _moved = paths::moved(self.alloc, &self.root, copy, path, node)?;
-        let root = self.pools.root();
-        self.open_baton(root, path, token)
-    }
-
-    // Puts a new node where none is present, once its baton is open.
-    fn add_node(
-        &mut self,
-        copy: &mut Nodes,
-        path: &RelPath,
-        node: BaseNode,
-        beneath: PoolId,
-        token: Token,
-    ) -> Result<(), EditFault>
-        ensures opened { OnOk result (MakesBaton beneath.0 path.now token self.old self.new) }
-        ensures keeps { KeepsEdit self.old self.new }
-        ensures unchanged { batons_of self.old token ≡ None → OnErr result (KeepsPools self.old self.new) }
-        ensures copy { OnOk result ((p : Path) → get_in copy.new.entries p ≡ (if path_eq path.now p then Some node else get_in copy.old.entries p)) }
-        ensures refused { OnErr result (copy.new.entries ≡ copy.old.entries) }
-        ensures fault { IfErr result (λ e. e ≡ EditFault.Memory) }
-    {
-        let at = or_memory(path.clone())?;
-        self.open_baton(beneath, path, token)?;
-        let Ok(_) = copy.insert(at, node) else {
-            self.close_baton(token);
-            return Err(EditFault::Memory);
-        };
-        Ok(())
-    }
-
-    fn add_directory(
-        &mut self,
-        copy: &mut Nodes,
-        path: &RelPath,
-        beneath: PoolId,
-        token: Token,
-    ) -> Result<(), EditFault>
-        ensures opened { OnOk result (MakesBaton beneath.0 path.now token self.old self.new) }
-        ensures keeps { KeepsEdit self.old self.new }
-        ensures unchanged { batons_of self.old token ≡ None → OnErr result (KeepsPools self.old self.new) }
-        ensures applied { let a = Add Directory in let w = get_in copy.old.entries in Applied (step_fault md5 (mode_of self.old.root) [] w path.now a) (step_effect (mode_of self.old.root) self.old.target [] (record { path = path.now; action = a }) w) copy.old.entries result copy.new.entries }
-    {
-        if nodes::is_present(copy.get(path)) {
-            return Err(EditFault::EntryExists);
-        }
-        let joined = paths::joined(self.alloc, copy, path)?;
-        let node = BaseNode::Dir {
-            rev: self.target,
-            repos_path: joined,
-            complete: false,
-            props: Props::new(self.alloc),
-        };
-        self.add_node(copy, path, node, beneath, token)
-    }
-
-    fn add_file(&mut self, copy: &mut Nodes, path: &RelPath, token: Token) -> Result<(), EditFault>
-        ensures opened { OnOk result (MakesBaton self.old.pools.root path.now token self.old self.new) }
-        ensures keeps { KeepsEdit self.old self.new }
-        ensures unchanged { batons_of self.old token ≡ None → OnErr result (KeepsPools self.old self.new) }
-        ensures applied { let a = Add File in let w = get_in copy.old.entries in Applied (step_fault md5 (mode_of self.old.root) [] w path.now a) (step_effect (mode_of self.old.root) self.old.target [] (record { path = path.now; action = a }) w) copy.old.entries result copy.new.entries }
-    {
-        if nodes::is_present(copy.get(path)) {
-            return Err(EditFault::EntryExists);
-        }
-        let _joined = paths::joined(self.alloc, copy, path)?;
-        let root = self.pools.root();
-        self.add_node(copy, path, BaseNode::NotPresent, root, token)
     }
 
     fn delete_entry(&self, copy: &mut Nodes, path: &RelPath, rev: Rev) -> Result<(), EditFault>
@@ -453,7 +333,7 @@ impl Edit {
         }
         match self.batons.get_mut(&token.0) {
             Some(baton) => {
-                if nodes::is_wrong_base(base_md5, copy, &baton.path) {
+                if nodes::is_wrong_base(base_md5, copy, baton.path.as_rel_path()) {
                     return Err(EditFault::BaseChecksum);
                 }
                 or_memory(baton.note_text(&mut self.pools, text))

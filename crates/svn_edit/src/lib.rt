@@ -22,6 +22,8 @@ mod closing;
 mod edit;
 mod ending;
 mod nodes;
+mod open_path;
+mod opening;
 mod paths;
 
 pub use edit::Edit;

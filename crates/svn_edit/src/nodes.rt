@@ -1,17 +1,19 @@
 //! What an edit asks of the nodes of a copy, and what it does to them.
 ghost use Rattle.std.specs.Prelude.{◌≡◌, nat_eq, IfOk, OnOk, OnErr, Some, None, is_some, if◌then◌else◌, ◌&&◌};
-ghost use Rattle.std.specs.Option.{option_copied, option_map};
+ghost use Rattle.std.specs.Option.{option_copied};
 ghost use Rattle.std.specs.List.{list_any};
 ghost use Rattle.md5.specs.Md5.{md5};
 ghost use Rattle.svn_types.specs.Names.{Path};
 ghost use Rattle.svn_types.specs.Paths.{path_eq, is_within};
-ghost use Rattle.svn_model.specs.Nodes.{get_in, is_present, node_text, node_props};
+ghost use Rattle.svn_model.specs.Nodes.{get_in, is_present, node_text};
 ghost use Rattle.svn_model.specs.Effects.{opened_directory, is_wrong_sum};
-ghost use Rattle.svn_edit.specs.NodeTests.{delete_fault_of, open_fault_of, closed_by};
+ghost use Rattle.svn_model.specs.Answering.{AnswersCall};
+ghost use Rattle.svn_edit.specs.NodeTests.{delete_fault_of, open_fault_of};
 
 use md5::{Digest as Hasher, Md5};
 use std::alloc::{AllocError, Global};
 use std::collections::BTreeMap;
+use std::collections::btree_map::Entry;
 use svn_editor::{Digest, EditFault};
 use svn_model::BaseNode;
 use svn_types::{Kind, Props, RelPath, Rev, Text};
@@ -27,6 +29,35 @@ pub(crate) fn is_present(node: Option<&BaseNode>) -> bool
         Some(BaseNode::File { .. } | BaseNode::Dir { .. }) => true,
         Some(BaseNode::NotPresent) | None => false,
     }
+}
+
+/// Why a node isn't added that has a fault of its own: where one is present, that comes first.
+pub(crate) fn add_fault(node: Option<&BaseNode>, fault: EditFault) -> EditFault
+    ensures { result ≡ (if is_present (option_copied node.entry) then EditFault.EntryExists else fault) }
+{
+    if is_present(node) {
+        EditFault::EntryExists
+    } else {
+        fault
+    }
+}
+
+/// Puts a new node where none is present: EntryExists, or Memory. There is one look-up.
+pub(crate) fn add(nodes: &mut Nodes, at: RelPath, node: BaseNode) -> Result<(), EditFault>
+    ensures answers { AnswersCall (if is_present (get_in nodes.old.entries at) then Some EditFault.EntryExists else None) result }
+    ensures added { OnOk result ((p : Path) → get_in nodes.new.entries p ≡ (if path_eq at p then Some node else get_in nodes.old.entries p)) }
+    ensures refused { OnErr result (nodes.new.entries ≡ nodes.old.entries) }
+{
+    let Ok(entry) = nodes.entry(at) else {
+        return Err(EditFault::Memory);
+    };
+    if let Entry::Occupied(found) = &entry {
+        if is_present(Some(found.get())) {
+            return Err(EditFault::EntryExists);
+        }
+    }
+    entry.insert_entry(node);
+    Ok(())
 }
 
 fn revision_fault(at: Rev, rev: Rev) -> Option<EditFault>
@@ -82,17 +113,6 @@ pub(crate) fn text_of(node: Option<&BaseNode>) -> &[u8]
     }
 }
 
-/// The properties of a node, else none.
-pub(crate) fn props_of(alloc: Global, node: Option<&BaseNode>) -> Result<Props, AllocError>
-    ensures { IfOk result (λ p. p ≡ node_props (option_copied node.entry)) }
-{
-    match node {
-        Some(BaseNode::File { props, .. }) => props.clone(),
-        Some(BaseNode::Dir { props, .. }) => props.clone(),
-        _ => Ok(Props::new(alloc)),
-    }
-}
-
 /// A directory that is opened: incomplete at the target, and without properties where it was incomplete before.
 pub(crate) fn open_directory(alloc: Global, node: &mut BaseNode, target: Rev, moved: RelPath)
     ensures { Some node.new ≡ opened_directory target (λ q. moved) (Some node.old) }
@@ -125,65 +145,6 @@ pub(crate) fn open_directory_at(
 {
     if let Some(node) = nodes.get_mut(path) {
         open_directory(alloc, node, target, moved);
-    }
-}
-
-/// The file at a path is closed.
-pub(crate) fn close_file_at(alloc: Global, nodes: &mut Nodes, path: &RelPath, closing: Closing)
-    ensures { (p : Path) → get_in nodes.new.entries p ≡ (if path_eq path.now p then option_map (closed_by closing) (get_in nodes.old.entries path.now) else get_in nodes.old.entries p) }
-{
-    if let Some(node) = nodes.get_mut(path) {
-        close_file(alloc, node, closing);
-    }
-}
-
-/// What a file gets when it is closed.
-#[derive(Drop)]
-pub(crate) struct Closing {
-    pub(crate) target: Rev,
-    pub(crate) moved: RelPath,
-    /// The new text, if there is one.
-    pub(crate) text: Option<Text>,
-    pub(crate) props: Props,
-}
-
-/// A file that is closed.
-pub(crate) fn close_file(alloc: Global, node: &mut BaseNode, closing: Closing)
-    ensures { node.new ≡ closed_by closing node.old }
-{
-    let Closing {
-        target,
-        moved,
-        text: new_text,
-        props: changed,
-    } = closing;
-    match node {
-        BaseNode::File {
-            rev,
-            repos_path,
-            text,
-            props,
-        } => {
-            *rev = target;
-            *repos_path = moved;
-            if let Some(new_text) = new_text {
-                *text = new_text;
-            }
-            *props = changed;
-        }
-        BaseNode::Dir { .. } => (),
-        BaseNode::NotPresent => {
-            let text = match new_text {
-                Some(text) => text,
-                None => Text::new(Vec::new(alloc)),
-            };
-            *node = BaseNode::File {
-                rev: target,
-                repos_path: moved,
-                text,
-                props: changed,
-            };
-        }
     }
 }
 

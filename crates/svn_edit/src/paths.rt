@@ -1,13 +1,14 @@
 //! The repository paths that an edit gives to nodes.
-ghost use Rattle.std.specs.Prelude.{◌≡◌, ◌+◌, ◌<◌, [], ◌∷◌, ◌++◌, length, IfOk, OnOk};
+ghost use Rattle.std.specs.Prelude.{◌≡◌, ◌+◌, ◌<◌, [], ◌∷◌, ◌++◌, length, unwrap_or, IfOk, OnOk};
 ghost use Rattle.std.specs.Option.{option_copied};
-ghost use Rattle.svn_types.specs.Names.{depth_limit};
-ghost use Rattle.svn_types.specs.Paths.{parent, last_name};
-ghost use Rattle.svn_model.specs.Nodes.{get_in, node_path};
+ghost use Rattle.svn_types.specs.Names.{Path, depth_limit};
+ghost use Rattle.svn_types.specs.Paths.{parent, parent as directory_of, last_name};
+ghost use Rattle.svn_model.specs.Nodes.{WorkingCopy, get_in, node_path};
 ghost use Rattle.svn_model.specs.Effects.{joined_path, moved_path};
-ghost use Rattle.svn_edit.specs.NodeTests.{deep_fault, closed_path};
+ghost use Rattle.svn_edit.specs.NodeTests.{deep_fault};
 ghost use Rattle.svn_edit.specs.Applying.{Gives, mode_of};
 
+use crate::baton::Baton;
 use crate::nodes::Nodes;
 use std::alloc::{AllocError, Global};
 use svn_editor::EditFault;
@@ -36,8 +37,27 @@ pub fn parent_path(alloc: Global, path: &RelPath) -> Result<RelPath, AllocError>
     }
 }
 
-// A copy of a repository path. TooDeep for over 64 names.
-fn kept(path: &RelPath) -> Result<RelPath, EditFault>
+/// The path of the directory that a path is in. Where that is the parent, as in each call in order, a clone shares its path.
+pub(crate) fn above(
+    alloc: Global,
+    path: &RelPath,
+    parent: Option<&Baton>,
+) -> Result<RelPath, AllocError>
+    ensures { IfOk result (λ p. p ≡ directory_of path.now) }
+{
+    let (Some(parent), Some(name)) = (parent, path.components().last()) else {
+        return parent_path(alloc, path);
+    };
+    let above = parent.path.as_rel_path();
+    if path.is_child_of(above, name) {
+        above.clone()
+    } else {
+        parent_path(alloc, path)
+    }
+}
+
+/// A copy of a repository path. TooDeep for over 64 names.
+pub(crate) fn kept(path: &RelPath) -> Result<RelPath, EditFault>
     ensures { Gives (deep_fault path.now) path.now result }
 {
     if path.components().len() > MAX_DEPTH {
@@ -90,40 +110,25 @@ fn repos_path<'a>(node: Option<&'a BaseNode>, root: &'a RelPath) -> &'a RelPath
 }
 
 /// The repository path that an added node gets: the parent's joined with the name.
-pub(crate) fn joined(alloc: Global, copy: &Nodes, path: &RelPath) -> Result<RelPath, EditFault>
+pub(crate) fn joined(
+    alloc: Global,
+    copy: &Nodes,
+    above: &RelPath,
+    path: &RelPath,
+) -> Result<RelPath, EditFault>
+    requires { above.now ≡ parent path.now }
     ensures { Gives (deep_fault (joined_path (get_in copy.now.entries) path.now)) (joined_path (get_in copy.now.entries) path.now) result }
 {
-    let Ok(above) = parent_path(alloc, path) else {
-        return Err(EditFault::Memory);
-    };
     let empty = RelPath::root(alloc);
-    with_last(alloc, repos_path(copy.get(&above), &empty), path)
+    with_last(alloc, repos_path(copy.get(above), &empty), path)
 }
 
-/// The repository path that the node of a path gets when it is opened: in a switch to a root, the one under the parent's.
-pub(crate) fn moved(
-    alloc: Global,
-    root: &Option<RelPath>,
-    copy: &Nodes,
-    path: &RelPath,
-    node: Option<&BaseNode>,
-) -> Result<RelPath, EditFault>
-    requires { option_copied node ≡ get_in copy.now.entries path.now }
-    ensures { let w = get_in copy.now.entries in let p = moved_path (mode_of root.now) w path.now (node_path (w path.now)) in Gives (deep_fault p) p result }
+/// A copy of the repository path of the node there. TooDeep for over 64 names.
+pub(crate) fn standing(alloc: Global, node: Option<&BaseNode>) -> Result<RelPath, EditFault>
+    ensures { let p = node_path (option_copied node.entry) in Gives (deep_fault p) p result }
 {
-    match root {
-        None => {
-            let empty = RelPath::root(alloc);
-            kept(repos_path(node, &empty))
-        }
-        Some(root) => {
-            if path.is_root() {
-                kept(root)
-            } else {
-                joined(alloc, copy, path)
-            }
-        }
-    }
+    let empty = RelPath::root(alloc);
+    kept(repos_path(node, &empty))
 }
 
 // The same without a test of its length.
@@ -142,56 +147,52 @@ fn with_last_name(alloc: Global, above: &RelPath, path: &RelPath) -> Result<RelP
     }
 }
 
-// The repository path of the parent's node joined with the last name, without a test of its length.
-fn beneath_parent(alloc: Global, copy: &Nodes, path: &RelPath) -> Result<RelPath, AllocError>
+/// The repository path that an added file gets at its close. Its length was tested when it was added.
+pub(crate) fn joined_again(
+    alloc: Global,
+    copy: &Nodes,
+    above: &RelPath,
+    path: &RelPath,
+) -> Result<RelPath, AllocError>
+    requires { above.now ≡ parent path.now }
     ensures { IfOk result (λ q. q ≡ joined_path (get_in copy.now.entries) path.now) }
 {
-    let above = parent_path(alloc, path)?;
     let empty = RelPath::root(alloc);
-    let beneath = repos_path(copy.get(&above), &empty);
-    with_last_name(alloc, beneath, path)
+    with_last_name(alloc, repos_path(copy.get(above), &empty), path)
 }
 
-// The repository path that the opened node of a path has, without a test of its length.
-fn opened_path(
+/// The repository path that an opened file gets at its close: nothing where it keeps its own. Its length was tested when it was opened.
+pub(crate) fn moved_again(
     alloc: Global,
     root: &Option<RelPath>,
     copy: &Nodes,
     path: &RelPath,
-    node: Option<&BaseNode>,
-) -> Result<RelPath, AllocError>
-    requires { option_copied node ≡ get_in copy.now.entries path.now }
-    ensures { let w = get_in copy.now.entries in IfOk result (λ q. q ≡ moved_path (mode_of root.now) w path.now (node_path (w path.now))) }
+) -> Result<Option<RelPath>, AllocError>
+    ensures { IfOk result (λ m. (was : Path) → moved_path (mode_of root.now) (get_in copy.now.entries) path.now was ≡ unwrap_or m was) }
 {
-    match root {
-        None => {
-            let empty = RelPath::root(alloc);
-            repos_path(node, &empty).clone()
-        }
-        Some(root) => {
-            if path.is_root() {
-                root.clone()
-            } else {
-                beneath_parent(alloc, copy, path)
-            }
-        }
+    let Some(root) = root else {
+        return Ok(None);
+    };
+    if path.is_root() {
+        return Ok(Some(root.clone()?));
     }
+    let above = parent_path(alloc, path)?;
+    Ok(Some(joined_again(alloc, copy, &above, path)?))
 }
 
-/// The repository path that the file of a path gets at its close: an added file the parent's joined with the name, another what it got when it was
-/// opened. Its length was tested then.
-pub(crate) fn closed_path(
-    alloc: Global,
+/// The same by the path that the file would get if it was added.
+pub(crate) fn moved_by(
     root: &Option<RelPath>,
-    copy: &Nodes,
     path: &RelPath,
-    node: Option<&BaseNode>,
-) -> Result<RelPath, AllocError>
-    requires { option_copied node ≡ get_in copy.now.entries path.now }
-    ensures { IfOk result (λ q. q ≡ closed_path (mode_of root.now) (get_in copy.now.entries) path.now) }
+    joined: Result<RelPath, AllocError>,
+) -> Result<Option<RelPath>, AllocError>
+    ensures { (w : WorkingCopy) → IfOk joined (λ j. j ≡ joined_path w path.now) → IfOk result (λ m. (was : Path) → moved_path (mode_of root.now) w path.now was ≡ unwrap_or m was) }
 {
-    match node {
-        Some(BaseNode::NotPresent) => beneath_parent(alloc, copy, path),
-        _ => opened_path(alloc, root, copy, path, node),
+    let Some(root) = root else {
+        return Ok(None);
+    };
+    if path.is_root() {
+        return Ok(Some(root.clone()?));
     }
+    Ok(Some(joined?))
 }

@@ -7,11 +7,11 @@ use Rattle.svn_edit.proofs.baton.Baton.open.Goals as goal
 
 pub returns-clause-begun : goal.returns-clause-begun
 returns-clause-begun c =
-    begun _ c.args.pools.now c.push.new.self c.args.beneath.0 c.args.path.now c.in_ok-text.text.items c.in_ok-path.ensures.cases
+    begun _ c.args.pools.now c.push.new.self c.args.beneath.0 c.args.path c.in_ok-text.text.items refl
     c.new.ensures.items refl c.in-Ok.ensures.serial c.in-Ok.ensures.fresh c.in-Ok.ensures.apart
     (λ q e. c.in-Ok.ensures.childless q (ap (λ (v : Pools). parent_of (pool_at v q)) c.in-Ok.ensures.made ∙ e))
     (c.in-Ok-push.ensures.pushed ∙ (λ i. pushed (c.in-Ok.ensures.made i) (c.in-Ok.ensures.serial i) (c.as_slice.ensures.value i)))
-    (c.in_ok-text.ensures ∙ ap slashed (c.components.ensures.names ∙ c.in_ok-path.ensures.cases))
+    (c.in_ok-text.ensures ∙ ap slashed (c.components.ensures.names ∙ c.as_rel_path.ensures))
 
 -- the string was refused, and the new pool goes
 pub returns-in_default-push-clause-kept : goal.returns-in_default-push-clause-kept

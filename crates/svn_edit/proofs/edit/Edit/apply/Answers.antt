@@ -38,7 +38,7 @@ returns-in-AddDirectory-clause-holds c =
     holds_made mode old c.add_directory.new.self calls (AddDirectory c.in-AddDirectory.path c.in-AddDirectory.parent
     c.in-AddDirectory.token) c.args.call.now c.in-AddDirectory.is next c.add_directory.ensures.keeps refl
     (record { kind = Directory; path = c.in-AddDirectory.path; parent = Some c.in-AddDirectory.parent; token = c.in-AddDirectory.token })
-    refl refl refl _ (c.pool_of.ensures) made)
+    refl refl refl _ (refl) made)
 
 pub returns-in-OpenDirectory-clause-holds : goal.returns-in-OpenDirectory-clause-holds
 returns-in-OpenDirectory-clause-holds c =
@@ -47,7 +47,7 @@ returns-in-OpenDirectory-clause-holds c =
     holds_made mode old c.open_directory.new.self calls (OpenDirectory c.in-OpenDirectory.path c.in-OpenDirectory.parent
     c.in-OpenDirectory.base c.in-OpenDirectory.token) c.args.call.now c.in-OpenDirectory.is next c.open_directory.ensures.keeps refl
     (record { kind = Directory; path = c.in-OpenDirectory.path; parent = Some c.in-OpenDirectory.parent; token = c.in-OpenDirectory.token })
-    refl refl refl _ (c.pool_of-in-OpenDirectory.ensures) made)
+    refl refl refl _ (refl) made)
 
 pub returns-in-AddFile-clause-holds : goal.returns-in-AddFile-clause-holds
 returns-in-AddFile-clause-holds c =

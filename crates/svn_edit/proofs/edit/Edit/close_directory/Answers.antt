@@ -31,10 +31,12 @@ returns-clause-closed c = λ b said there s.
     let nodes = c.args.copy.now.entries in
     let same : c.in-Some.baton.now ≡ b = same_Some c.in-Some.baton.now b (c.in-Some.ensures.value
     ∙ ap (get nat_eq old.batons) c.token.view_is ∙ there) in
-    let at = c.in-Some.baton.now.path in
+    let at = c.as_rel_path.result.now in
     let closed = closed_directory (filter_map change_in said) in
     subst (λ (x : Baton). (p : Path) → get_in c.match-get_mut.copy.entries p ≡ cond (path_eq x.path p) (closed (get_in nodes x.path))
     (get_in nodes p)) same
+    (subst (λ (q : Path). (p : Path) → get_in c.match-get_mut.copy.entries p ≡ cond (path_eq q p) (closed (get_in nodes q))
+    (get_in nodes p)) c.as_rel_path.ensures
     (elim c.match-get_mut.branch [
       | in-Some-get_mut+in_ok-complete w ↦
           let written = c.get_mut.follows.holds w.complete.new.node in
@@ -46,4 +48,4 @@ returns-clause-closed c = λ b said there s.
       | in_default-get_mut w ↦ λ p.
           ap (λ n. get_in n.entries p) (w.copy-is ∙ c.get_mut.follows.holds-at-none)
           ∙ none_changed (get_in nodes) at closed (search rules) refl p
-    ])
+    ]))

@@ -1,0 +1,263 @@
+//! The opens and adds of an edit.
+ghost use Rattle.std.specs.Prelude.{◌≡◌, [], Option, IfOk, OnOk, OnErr, Some, None, if◌then◌else◌};
+ghost use Rattle.std.specs.Option.{option_copied};
+ghost use Rattle.md5.specs.Md5.{md5};
+ghost use Rattle.svn_types.specs.Names.{Path};
+ghost use Rattle.svn_types.specs.Paths.{path_eq};
+ghost use Rattle.svn_types.specs.declared.kind.Kind.TheVariants.{File, Directory};
+ghost use Rattle.svn_editor.specs.Steps.{Open, Add};
+ghost use Rattle.svn_model.specs.Nodes.{get_in, is_present, node_path};
+ghost use Rattle.svn_model.specs.Effects.{added_node, joined_path, moved_path, step_effect, step_fault};
+ghost use Rattle.svn_model.specs.Answering.{AnswersCall};
+ghost use Rattle.svn_edit.specs.NodeTests.{deep_fault};
+ghost use Rattle.svn_edit.specs.Applying.{mode_of, pool_or, pool_of_parent, batons_of, Gives, Applied, KeepsEdit, MakesBaton, MakesNode};
+ghost use Rattle.svn_edit.specs.Leaving.{KeepsPools};
+
+use crate::baton::Baton;
+use crate::edit::{Edit, or_memory};
+use crate::nodes::Nodes;
+use crate::open_path::OpenPath;
+use crate::{nodes, paths};
+use svn_editor::{EditFault, Token};
+use svn_model::BaseNode;
+use svn_pool::PoolId;
+use svn_types::{Props, RelPath, Rev};
+
+// What an added node is made of: its key among the nodes, the path that its baton keeps, and the node.
+#[derive(Drop)]
+struct NewNode {
+    at: RelPath,
+    opened: OpenPath,
+    node: BaseNode,
+}
+
+impl Edit {
+    // The baton of the directory that a call names as parent, if it names one.
+    fn baton_of(&self, parent: Option<Token>) -> Option<&Baton>
+        ensures { let root = self.now.pools.root in pool_or root (option_copied result) ≡ pool_of_parent root (batons_of self.now) parent }
+    {
+        match parent {
+            Some(parent) => self.batons.get(&parent.0),
+            None => None,
+        }
+    }
+
+    // The pool beneath which that of a directory is made.
+    fn pool_of(&self, parent: Option<&Baton>) -> PoolId
+        ensures { result.0 ≡ pool_or self.now.pools.root (option_copied parent.entry) }
+    {
+        match parent {
+            Some(baton) => baton.pool,
+            None => self.pools.root(),
+        }
+    }
+
+    // The repository path that the node of a path gets when it is opened: in a switch to a root, the one under the parent's.
+    fn moved(
+        &self,
+        copy: &Nodes,
+        path: &RelPath,
+        parent: Option<&Baton>,
+        node: Option<&BaseNode>,
+    ) -> Result<RelPath, EditFault>
+        requires { option_copied node ≡ get_in copy.now.entries path.now }
+        ensures { let w = get_in copy.now.entries in let p = moved_path (mode_of self.now.root) w path.now (node_path (w path.now)) in Gives (deep_fault p) p result }
+    {
+        let Some(root) = &self.root else {
+            return paths::standing(self.alloc, node);
+        };
+        if path.is_root() {
+            return paths::kept(root);
+        }
+        let above = or_memory(paths::above(self.alloc, path, parent))?;
+        paths::joined(self.alloc, copy, &above, path)
+    }
+
+    pub(crate) fn open_root(
+        &mut self,
+        copy: &mut Nodes,
+        base: Rev,
+        token: Token,
+    ) -> Result<(), EditFault>
+        ensures opened { OnOk result (MakesBaton self.old.pools.root [] token self.old self.new) }
+        ensures keeps { KeepsEdit self.old self.new }
+        ensures unchanged { OnErr result (KeepsPools self.old self.new) }
+        ensures applied { let a = Open Directory base in let w = get_in copy.old.entries in Applied (step_fault md5 (mode_of self.old.root) [] w [] a) (step_effect (mode_of self.old.root) self.old.target [] (record { path = []; action = a }) w) copy.old.entries result copy.new.entries }
+    {
+        let root = RelPath::root(self.alloc);
+        self.open_directory(copy, &root, base, None, token)
+    }
+
+    pub(crate) fn open_directory(
+        &mut self,
+        copy: &mut Nodes,
+        path: &RelPath,
+        base: Rev,
+        parent: Option<Token>,
+        token: Token,
+    ) -> Result<(), EditFault>
+        ensures opened { OnOk result (MakesBaton (pool_of_parent self.old.pools.root (batons_of self.old) parent) path.now token self.old self.new) }
+        ensures keeps { KeepsEdit self.old self.new }
+        ensures unchanged { OnErr result (KeepsPools self.old self.new) }
+        ensures applied { let a = Open Directory base in let w = get_in copy.old.entries in Applied (step_fault md5 (mode_of self.old.root) [] w path.now a) (step_effect (mode_of self.old.root) self.old.target [] (record { path = path.now; action = a }) w) copy.old.entries result copy.new.entries }
+    {
+        let node = copy.get(path);
+        if let Some(fault) = nodes::open_directory_fault(node, base) {
+            return Err(fault);
+        }
+        let parent = self.baton_of(parent);
+        let moved = self.moved(copy, path, parent, node)?;
+        let beneath = self.pool_of(parent);
+        let open = or_memory(OpenPath::opened(path))?;
+        self.open_baton(beneath, open, token)?;
+        nodes::open_directory_at(self.alloc, copy, path, self.target, moved);
+        Ok(())
+    }
+
+    pub(crate) fn open_file(
+        &mut self,
+        copy: &Nodes,
+        path: &RelPath,
+        base: Rev,
+        parent: Token,
+        token: Token,
+    ) -> Result<(), EditFault>
+        ensures opened { OnOk result (MakesBaton self.old.pools.root path.now token self.old self.new) }
+        ensures keeps { KeepsEdit self.old self.new }
+        ensures unchanged { OnErr result (KeepsPools self.old self.new) }
+        ensures applied { let a = Open File base in let w = get_in copy.now.entries in Applied (step_fault md5 (mode_of self.old.root) [] w path.now a) (step_effect (mode_of self.old.root) self.old.target [] (record { path = path.now; action = a }) w) copy.now.entries result copy.now.entries }
+    {
+        let node = copy.get(path);
+        if let Some(fault) = nodes::open_file_fault(node, base) {
+            return Err(fault);
+        }
+        let _moved = self.moved(copy, path, self.batons.get(&parent.0), node)?;
+        let open = or_memory(OpenPath::opened(path))?;
+        let root = self.pools.root();
+        self.open_baton(root, open, token)
+    }
+
+    // What an added directory is made of.
+    fn new_directory(
+        &self,
+        copy: &Nodes,
+        path: &RelPath,
+        parent: Option<&Baton>,
+    ) -> Result<NewNode, EditFault>
+        ensures { let q = joined_path (get_in copy.now.entries) path.now in MakesNode path.now (deep_fault q) (added_node Directory self.now.target q) result }
+    {
+        let above = or_memory(paths::above(self.alloc, path, parent))?;
+        let joined = paths::joined(self.alloc, copy, &above, path)?;
+        Ok(NewNode {
+            at: or_memory(path.clone())?,
+            opened: or_memory(OpenPath::opened(path))?,
+            node: BaseNode::Dir {
+                rev: self.target,
+                repos_path: joined,
+                complete: false,
+                props: Props::new(self.alloc),
+            },
+        })
+    }
+
+    // What an added file is made of. Until its close it stands as not present.
+    fn new_file(
+        &self,
+        copy: &Nodes,
+        path: &RelPath,
+        parent: Option<&Baton>,
+    ) -> Result<NewNode, EditFault>
+        ensures { let q = joined_path (get_in copy.now.entries) path.now in MakesNode path.now (deep_fault q) (added_node File self.now.target q) result }
+    {
+        let above = or_memory(paths::above(self.alloc, path, parent))?;
+        let _joined = paths::joined(self.alloc, copy, &above, path)?;
+        Ok(NewNode {
+            at: or_memory(path.clone())?,
+            opened: or_memory(OpenPath::added(path, above))?,
+            node: BaseNode::NotPresent,
+        })
+    }
+
+    // Puts a new node where none is present, once its baton is open. Where the node isn't put, the baton goes again.
+    fn add_node(
+        &mut self,
+        copy: &mut Nodes,
+        new: NewNode,
+        beneath: PoolId,
+        token: Token,
+    ) -> Result<(), EditFault>
+        ensures opened { OnOk result (MakesBaton beneath.0 new.opened token self.old self.new) }
+        ensures keeps { KeepsEdit self.old self.new }
+        ensures unchanged { batons_of self.old token ≡ None → OnErr result (KeepsPools self.old self.new) }
+        ensures answers { AnswersCall (if is_present (get_in copy.old.entries new.at) then Some EditFault.EntryExists else None) result }
+        ensures copy { OnOk result ((p : Path) → get_in copy.new.entries p ≡ (if path_eq new.at p then Some new.node else get_in copy.old.entries p)) }
+        ensures refused { OnErr result (copy.new.entries ≡ copy.old.entries) }
+    {
+        let NewNode { at, opened, node } = new;
+        self.open_baton(beneath, opened, token)?;
+        let added = nodes::add(copy, at, node);
+        if added.is_err() {
+            self.close_baton(token);
+        }
+        added
+    }
+
+    // Adds what was made for a path, if it could be made. That one is present there is told before any other fault.
+    fn add(
+        &mut self,
+        copy: &mut Nodes,
+        path: &RelPath,
+        new: Result<NewNode, EditFault>,
+        beneath: PoolId,
+        token: Token,
+    ) -> Result<(), EditFault>
+        ensures opened { IfOk new (λ n. n.opened ≡ path.now) → OnOk result (MakesBaton beneath.0 path.now token self.old self.new) }
+        ensures keeps { KeepsEdit self.old self.new }
+        ensures unchanged { batons_of self.old token ≡ None → OnErr result (KeepsPools self.old self.new) }
+        ensures applied { (fault : Option EditFault) (node : BaseNode) → MakesNode path.now fault node new → let w = get_in copy.old.entries in Applied (if is_present (w path.now) then Some EditFault.EntryExists else fault) (λ p. if path_eq path.now p then Some node else w p) copy.old.entries result copy.new.entries }
+    {
+        let fault = match new {
+            Ok(new) => match self.add_node(copy, new, beneath, token) {
+                Ok(()) => return Ok(()),
+                Err(fault) => fault,
+            },
+            Err(fault) => fault,
+        };
+        Err(nodes::add_fault(copy.get(path), fault))
+    }
+
+    pub(crate) fn add_directory(
+        &mut self,
+        copy: &mut Nodes,
+        path: &RelPath,
+        parent: Token,
+        token: Token,
+    ) -> Result<(), EditFault>
+        ensures opened { OnOk result (MakesBaton (pool_or self.old.pools.root (batons_of self.old parent)) path.now token self.old self.new) }
+        ensures keeps { KeepsEdit self.old self.new }
+        ensures unchanged { batons_of self.old token ≡ None → OnErr result (KeepsPools self.old self.new) }
+        ensures applied { let a = Add Directory in let w = get_in copy.old.entries in Applied (step_fault md5 (mode_of self.old.root) [] w path.now a) (step_effect (mode_of self.old.root) self.old.target [] (record { path = path.now; action = a }) w) copy.old.entries result copy.new.entries }
+    {
+        let parent = self.batons.get(&parent.0);
+        let beneath = self.pool_of(parent);
+        let new = self.new_directory(copy, path, parent);
+        self.add(copy, path, new, beneath, token)
+    }
+
+    pub(crate) fn add_file(
+        &mut self,
+        copy: &mut Nodes,
+        path: &RelPath,
+        parent: Token,
+        token: Token,
+    ) -> Result<(), EditFault>
+        ensures opened { OnOk result (MakesBaton self.old.pools.root path.now token self.old self.new) }
+        ensures keeps { KeepsEdit self.old self.new }
+        ensures unchanged { batons_of self.old token ≡ None → OnErr result (KeepsPools self.old self.new) }
+        ensures applied { let a = Add File in let w = get_in copy.old.entries in Applied (step_fault md5 (mode_of self.old.root) [] w path.now a) (step_effect (mode_of self.old.root) self.old.target [] (record { path = path.now; action = a }) w) copy.old.entries result copy.new.entries }
+    {
+        let root = self.pools.root();
+        let new = self.new_file(copy, path, self.batons.get(&parent.0));
+        self.add(copy, path, new, root, token)
+    }
+}
