@@ -16,6 +16,7 @@ use Rattle.svn_editor.specs.Steps.{Mode, Action, Delete, Open, Add, Change, Text
 use Rattle.svn_editor.proofs.Accepted.{accepted}
 use Rattle.svn_editor.proofs.Nested.{eq_true}
 use Rattle.svn_order.proofs.Sound.{known}
+use Rattle.svn_types.proofs.PathLemmas.{same_path}
 use Rattle.svn_model.specs.declared.base_node.BaseNode.{BaseNode}
 use Rattle.svn_model.specs.Nodes.{WorkingCopy, get_in}
 use Rattle.svn_model.specs.Effects.{change_in, text_in, texts_at, closed_file, moved_path, joined_path, effect, edit_fault}
@@ -23,7 +24,6 @@ use Rattle.svn_model.specs.Said.{says, said_at}
 use Rattle.svn_model.specs.Answering.{AnswersCall}
 use Rattle.svn_edit_law.proofs.OnePath.{pathed}
 use Rattle.svn_edit_law.proofs.StepEffects.{effect_alone}
-use Rattle.svn_edit_law.proofs.PathsBelow.{path_is}
 use Rattle.svn_edit.specs.declared.baton.Baton.{Baton}
 use Rattle.svn_edit.specs.declared.edit.Edit.{Edit}
 use Rattle.svn_edit.specs.NodeTests.{sum_fault, FileIsClosed}
@@ -77,7 +77,7 @@ nothing_closed mode rev at p changes texts nodes nodes2 same none kept q =
 
     by : (b : Bool) → path_eq p q ≡ b → w q ≡ cond b (closed (w p)) (w q)
     by false e = refl
-    by true e = ap w (sym (path_is p q e)) ∙ sym here ∙ ap closed here
+    by true e = ap w (sym (same_path p q e)) ∙ sym here ∙ ap closed here
 
 applied_parts : (fault : Option EditFault) (w : WorkingCopy) (nodes nodes2 : List (Path × BaseNode)) (r : Result (Unit {0}) EditFault)
     → AnswersCall fault r
