@@ -12,5 +12,7 @@ pub mod PathsInOrder
 pub mod Places
 -- keys of paths, whose order is that of the paths
 pub mod PathKeys
+-- heads of keys, which decide most comparisons
+pub mod PathHeads
 -- keys of paths, which are texts
 pub mod KeyTexts

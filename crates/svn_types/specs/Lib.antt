@@ -7,4 +7,5 @@ pub mod Pairs
 pub mod Props
 pub mod PathHash
 pub mod PathKeys
+pub mod PathHeads
 pub mod Forms

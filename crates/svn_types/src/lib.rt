@@ -26,6 +26,7 @@ mod kind;
 mod limits;
 mod lineage;
 mod name;
+mod path_head;
 mod path_key;
 mod path_parts;
 mod prop_name;

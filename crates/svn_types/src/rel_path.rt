@@ -8,6 +8,7 @@ ghost use Rattle.std.specs.Hash as fed;
 ghost use Rattle.svn_types.specs.Names.{depth_limit, is_slash, path_of_text};
 ghost use Rattle.svn_types.specs.NameSplits.{IsNameSplit};
 ghost use Rattle.svn_types.specs.PathHash.{same_path_hash};
+ghost use Rattle.svn_types.specs.PathHeads.{IsHeadOf};
 ghost use Rattle.svn_types.specs.PathKeys.{path_key, is_plain_path};
 ghost use Rattle.svn_types.specs.NameFaults.{path_fault, names_fault, count_fault, AnswersPath};
 
@@ -15,6 +16,7 @@ use crate::bytes::split_once;
 use crate::fault::PathFault;
 use crate::limits::MAX_COMPONENTS;
 use crate::name::{Name, fault_of_name};
+use crate::path_head::head_of;
 use crate::path_parts::PathParts;
 use std::alloc::{AllocError, Global};
 use std::cmp::Ordering;
@@ -25,18 +27,21 @@ use std::marker::Model;
 /// A path below some root (a relpath of `svn_dirent_uri.h`): at most 128 names, of which the root has none. Paths are ordered name by name, names by their bytes, a prefix first,
 /// so a directory stands directly before what is beneath it. A contract sees a path as the list of its names. A clone shares them.
 pub struct RelPath {
+    // The first bytes of its key, by which most comparisons are decided without a look into another block.
+    head: u64,
     parts: PathParts,
 }
 
 impl Model for RelPath {
-    ghost use Rattle.std.specs.Prelude.{ℕ, List, length, ◌≤◌};
+    ghost use Rattle.std.specs.Prelude.{◌≤◌, ℕ, List, length};
     ghost use Rattle.svn_types.specs.Names.{depth_limit};
+    ghost use Rattle.svn_types.specs.PathHeads.{IsHeadOf};
 
     ghost Value = { List (List ℕ) };
 
     ghost view = { λ p. p.parts };
 
-    ghost invariant = { λ p. length p.parts ≤ depth_limit };
+    ghost invariant = { λ p. (length p.parts ≤ depth_limit) × IsHeadOf p.parts p.head };
 }
 
 // The text before the first slash and that after it, if there is one.
@@ -148,11 +153,30 @@ fn is_one_more(key: &str, above: &str, last: &str) -> bool
 }
 
 impl RelPath {
+    // The path that has these parts.
+    fn of_parts(parts: PathParts) -> RelPath
+        requires { length parts ≤ depth_limit }
+        ensures { result ≡ parts }
+    {
+        RelPath {
+            head: head_of(parts.key()),
+            parts,
+        }
+    }
+
+    // The first bytes of its key.
+    fn head(&self) -> u64
+        ensures { IsHeadOf self.now result }
+    {
+        self.head
+    }
+
     /// The path of no name. It takes no memory.
     pub fn root(_alloc: Global) -> RelPath
         ensures { result ≡ [] }
     {
         RelPath {
+            head: 0,
             parts: PathParts::root(),
         }
     }
@@ -172,9 +196,7 @@ impl RelPath {
         if count > MAX_COMPONENTS {
             return Err(PathFault::TooManyComponents);
         }
-        Ok(RelPath {
-            parts: parts_of(alloc, text, count)?,
-        })
+        Ok(RelPath::of_parts(parts_of(alloc, text, count)?))
     }
 
     // The path of these names. A long key has room in that many bytes.
@@ -186,9 +208,7 @@ impl RelPath {
         requires { length names.now ≤ depth_limit }
         ensures { IfOk result (λ p. p ≡ names.now) }
     {
-        Ok(RelPath {
-            parts: PathParts::of(alloc, names, len)?,
-        })
+        Ok(RelPath::of_parts(PathParts::of(alloc, names, len)?))
     }
 
     // The path of these names, which stay in their block. A long key has room in that many bytes.
@@ -203,9 +223,7 @@ impl RelPath {
         if names.len() <= 3 {
             return RelPath::from_names(alloc, &names, len);
         }
-        Ok(RelPath {
-            parts: PathParts::many(alloc, names, len)?,
-        })
+        Ok(RelPath::of_parts(PathParts::many(alloc, names, len)?))
     }
 
     /// The path with one more name: TooManyComponents at a path of 128 names, else Memory alone.
@@ -215,9 +233,7 @@ impl RelPath {
         if self.components().len() >= MAX_COMPONENTS {
             return Err(PathFault::TooManyComponents);
         }
-        Ok(RelPath {
-            parts: self.parts.with_last(alloc, name)?,
-        })
+        Ok(RelPath::of_parts(self.parts.with_last(alloc, name)?))
     }
 
     /// Its names, from the root down: 0 to 128.
@@ -256,7 +272,7 @@ impl RelPath {
 // So that a caller's proof sees a call, and nothing of where the names lie.
 impl Drop for RelPath {
     fn drop(self) {
-        let RelPath { parts } = self;
+        let RelPath { head: _, parts } = self;
         drop(parts);
     }
 }
@@ -272,6 +288,7 @@ impl Clone for RelPath {
 
     fn clone(&self) -> Result<RelPath, AllocError> {
         Ok(RelPath {
+            head: self.head,
             parts: self.parts.clone()?,
         })
     }
@@ -311,7 +328,10 @@ impl Ord for RelPath {
     ghost matches_eq = { λ x y. lists_ties (slice_cmp nat_cmp) texts_ties x y };
 
     fn cmp(&self, other: &RelPath) -> Ordering {
-        self.key().cmp(other.key())
+        match self.head().cmp(&other.head()) {
+            Ordering::Equal => self.key().cmp(other.key()),
+            unlike => unlike,
+        }
     }
 }
 

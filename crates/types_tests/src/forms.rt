@@ -4,7 +4,8 @@ use std::test::Fail;
 use svn_types::{PathFault, RelPath};
 
 // In path order. A name of 14 bytes is the longest that is short, and a path of one, two or three of them the longest that lies in one block.
-const ROWS: [&str; 12] = [
+// The first 8 bytes of a key decide most comparisons: the last rows are alike in 7 or 8 of them.
+const ROWS: [&str; 18] = [
     "",
     "a",
     "a/a",
@@ -17,6 +18,12 @@ const ROWS: [&str; 12] = [
     "a2345678901234/a2345678901234/a23456789012345",
     "a23456789012345",
     "a23456789012345/a/a/a/a/a/a/a/a/a/a/a/a/a/a/a/a/a/a/a/a/a/a/a/a/a",
+    "abcdefg",
+    "abcdefg/b",
+    "abcdefga",
+    "abcdefgb",
+    "abcdefh",
+    "é",
 ];
 
 // The path that is made of a text's names one by one.
