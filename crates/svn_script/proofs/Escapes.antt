@@ -2,6 +2,7 @@
 use Rattle.std.proofs.Common.{◌≡◌, ℕ, zero, suc, ◌+◌, ◌<◌, ◌≤◌, Bool, true, false, not, List, [], ◌∷◌, ◌++◌, length, take, drop}
 use Rattle.std.proofs.Common.{get_or, refl, ap, ◌∙◌, arith, Some, None, Option, option_map, nat_eq, nat_lt, bytes_eq, append_assoc}
 use Rattle.std.specs.List.{position, position_or_len, prefix_len}
+use Rattle.std.proofs.lemmas.Bool.{not-true}
 use Rattle.std.proofs.lemmas.Bool.Decides.{nat_tests}
 use Rattle.std.proofs.lemmas.List.{append-nil, take_all, drop_all, drop_more}
 use Rattle.std.proofs.lemmas.List.Quantifiers.{position-Some}
@@ -38,17 +39,13 @@ unescaped_run (suc n) (b ∷ word) fits plain =
 
 -- ---- words without an escape
 
-not_passed : (b : Bool) → not b ≡ true → b ≡ false
-not_passed true e = cc
-not_passed false e = refl
-
 pub unescaped_whole : (word : List ℕ) → position (λ b. nat_eq b 37) word ≡ None → unescaped word ≡ Some word
 unescaped_whole word none =
     let p : ℕ → Bool = λ b. nat_eq b 37 in
     let at = position_or_len p word in
     let all : length word ≤ prefix_len (λ b. not (p b)) word = not_less at (length word) (test_none (nat_lt at (length word)) at none) in
     let plain : (k : ℕ) → k < length word → p (get_or word k 0) ≡ false =
-    λ k less. not_passed (p (get_or word k 0)) (prefix_len_passes (λ b. not (p b)) word k 0 (omega (arith, all, less))) in
+    λ k less. not-true (p (get_or word k 0)) (prefix_len_passes (λ b. not (p b)) word k 0 (omega (arith, all, less))) in
     unescaped_run (length word) word (omega arith) plain
     ∙ ap (λ (rest : List ℕ). option_map (λ (bs : List ℕ). take (length word) word ++ bs) (unescaped rest))
     (drop_all (length word) word (omega arith))

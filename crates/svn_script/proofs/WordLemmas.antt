@@ -1,7 +1,7 @@
 -- What the definitions of words give, case by case.
 use Rattle.std.proofs.Common.{◌≡◌, ℕ, ◌+◌, ◌-◌, ◌*◌, ◌^◌, ◌<◌, ◌≤◌, Bool, true, false, List, [], ◌∷◌, length, refl, ap, sym, ◌∙◌, arith}
 use Rattle.std.proofs.Common.{Some, None, is_some, nat_eq, nat_lt, bytes_eq, if◌then◌else◌}
-use Rattle.std.proofs.lemmas.Bool.{and_parts}
+use Rattle.std.proofs.lemmas.Bool.{and_parts, false_from_ne_true}
 use Rattle.std.proofs.lemmas.Bool.Decides.{nat_tests}
 use Rattle.std.proofs.lemmas.List.Sums.{AllPass-from_list_all}
 use Rattle.std.proofs.lemmas.Str.{is_utf8-from_IsUtf8, IsUtf8-from_is_utf8, IsUtf8-from_ascii}
@@ -34,12 +34,8 @@ pub path_of_bytes_text : (bytes : List ℕ) → bytes_eq bytes (46 ∷ []) ≡ f
     → path_of_bytes bytes ≡ path_of_names (path_of_text bytes)
 path_of_bytes_text bytes e text = rw (e, is_utf8-from_IsUtf8 bytes text) refl
 
-not_true : (b : Bool) → ¬ (b ≡ true) → b ≡ false
-not_true true h = absurd (h refl)
-not_true false h = refl
-
 pub path_of_bytes_other : (bytes : List ℕ) → bytes_eq bytes (46 ∷ []) ≡ false → ¬ (IsUtf8 bytes) → path_of_bytes bytes ≡ None
-path_of_bytes_other bytes e none = rw (e, not_true (is_utf8 bytes) (λ t. none (IsUtf8-from_is_utf8 bytes t))) refl
+path_of_bytes_other bytes e none = rw (e, false_from_ne_true (is_utf8 bytes) (λ t. none (IsUtf8-from_is_utf8 bytes t))) refl
 
 not_fitting : (n : ℕ) → None ≡ fitting n → 2 ^ 64 ≤ n
 not_fitting n h = not_less n (2 ^ 64) (test_none (nat_lt n (2 ^ 64)) n (sym h))
@@ -81,4 +77,4 @@ no_prop_text bs e = rw e (refused_anyway bs (nat_eq (length bs) 0) (nat_lt name_
 -- the name of a property is ASCII, so other bytes than text are none
 pub prop_name_of_other : (bytes : List ℕ) → ¬ (IsUtf8 bytes) → prop_name_of_bytes bytes ≡ None
 prop_name_of_other bytes none =
-    no_prop_text bytes (not_true (is_prop_text bytes) (λ e. none (IsUtf8-from_ascii bytes (prop_text_ascii bytes e))))
+    no_prop_text bytes (false_from_ne_true (is_prop_text bytes) (λ e. none (IsUtf8-from_ascii bytes (prop_text_ascii bytes e))))

@@ -1,6 +1,6 @@
 -- The order of the keys of paths is the order of the paths.
 use Rattle.std.proofs.Common.{◌≡◌, ◌≢◌, ℕ, Bool, true, false, ◌&&◌, List, [], ◌∷◌, ◌++◌, refl, ap, sym, ◌∙◌, arith, nat_eq}
-use Rattle.std.proofs.Common.{Option, Some, None, append_assoc, true≢false, MatchOption, ◌↔◌}
+use Rattle.std.proofs.Common.{Option, Some, None, append_assoc, MatchOption, ◌↔◌}
 use Rattle.std.specs.declared.cmp.Ordering.{Ordering}
 use Rattle.std.specs.declared.cmp.Ordering.TheVariants.{Less, Equal, Greater}
 use Rattle.std.specs.Ordering.{ordering_then, nat_cmp, is_eq}
@@ -8,6 +8,7 @@ use Rattle.std.specs.Cmp.Lexicographic.{pointwise, pointwise_decides, bytes_deci
 use Rattle.std.specs.List.{list_all}
 use Rattle.std.proofs.lemmas.List.Folds.{list_all-append}
 use Rattle.std.proofs.lemmas.List.{append_cancel_left}
+use Rattle.std.proofs.lemmas.Bool.{and_parts}
 use denote.Ref.{Bor}
 use Rattle.std.specs.Str.Pattern.{FindsTextPrefix, StripsPrefix}
 use Rattle.std.specs.Prelude.{bytes_eq, is_some}
@@ -32,14 +33,6 @@ below_plain b rest h = grind (arith, h)
 above_plain : (b : ℕ) (rest : Bool) → (is_plain b && rest) ≡ true → nat_cmp b 1 ≡ Greater
 above_plain b rest h = grind (arith, h)
 
-rest_plain : (b rest : Bool) → (b && rest) ≡ true → rest ≡ true
-rest_plain true rest h = h
-rest_plain false rest h = absurd (true≢false (sym h))
-
-first_plain : (b rest : Bool) → (b && rest) ≡ true → b ≡ true
-first_plain true rest h = refl
-first_plain false rest h = h
-
 -- two names and what stands behind them
 names_order : (m n s t : List ℕ) → list_all is_plain m ≡ true → list_all is_plain n ≡ true
     → slice_cmp nat_cmp (m ++ 1 ∷ s) (n ++ 1 ∷ t) ≡ ordering_then (slice_cmp nat_cmp m n) (slice_cmp nat_cmp s t)
@@ -47,7 +40,7 @@ names_order [] [] s t hm hn = refl
 names_order [] (b ∷ n) s t hm hn = ap (λ o. ordering_then o (slice_cmp nat_cmp s (n ++ 1 ∷ t))) (below_plain b _ hn)
 names_order (a ∷ m) [] s t hm hn = ap (λ o. ordering_then o (slice_cmp nat_cmp (m ++ 1 ∷ s) t)) (above_plain a _ hm)
 names_order (a ∷ m) (b ∷ n) s t hm hn =
-    ap (ordering_then (nat_cmp a b)) (names_order m n s t (rest_plain _ _ hm) (rest_plain _ _ hn))
+    ap (ordering_then (nat_cmp a b)) (names_order m n s t (and_parts _ _ hm).1 (and_parts _ _ hn).1)
     ∙ then_assoc (nat_cmp a b) (slice_cmp nat_cmp m n) (slice_cmp nat_cmp s t)
 
 root_first : (n s : List ℕ) → slice_cmp nat_cmp [] (n ++ 1 ∷ s) ≡ Less
@@ -64,8 +57,8 @@ key_order [] [] hp hq = refl
 key_order [] (n ∷ q) hp hq = root_first n (path_key q)
 key_order (m ∷ p) [] hp hq = root_second m (path_key p)
 key_order (m ∷ p) (n ∷ q) hp hq =
-    names_order m n (path_key p) (path_key q) (rest_plain _ _ (first_plain _ _ hp)) (rest_plain _ _ (first_plain _ _ hq))
-    ∙ ap (ordering_then (slice_cmp nat_cmp m n)) (key_order p q (rest_plain _ _ hp) (rest_plain _ _ hq))
+    names_order m n (path_key p) (path_key q) (and_parts _ _ (and_parts _ _ hp).0).1 (and_parts _ _ (and_parts _ _ hq).0).1
+    ∙ ap (ordering_then (slice_cmp nat_cmp m n)) (key_order p q (and_parts _ _ hp).1 (and_parts _ _ hq).1)
 
 pub key_equality : (p q : Path) → is_plain_path p ≡ true → is_plain_path q ≡ true
     → pointwise nat_eq (path_key p) (path_key q) ≡ pointwise (pointwise nat_eq) p q
@@ -154,7 +147,7 @@ names_end [] (b ∷ n) s t hm hn e = absurd (not_one b _ hn cc)
 names_end (a ∷ m) [] s t hm hn e = absurd (not_one a _ hm cc)
 names_end (a ∷ m) (b ∷ n) s t hm hn e =
     let first : a ≡ b = cc in
-    let rest = names_end m n s t (rest_plain _ _ hm) (rest_plain _ _ hn) cc in
+    let rest = names_end m n s t (and_parts _ _ hm).1 (and_parts _ _ hn).1 cc in
     ((λ i. first i ∷ rest.0 i), rest.1)
 
 no_front : (n s : List ℕ) → [] ≢ n ++ 1 ∷ s
@@ -166,10 +159,10 @@ key_within : (p q : Path) → is_plain_path p ≡ true → is_plain_path q ≡ t
 key_within [] q hp hq rest e = refl
 key_within (m ∷ p) [] hp hq rest e = absurd (no_front m (path_key p ++ rest) (e ∙ append_assoc m (1 ∷ path_key p) rest))
 key_within (m ∷ p) (n ∷ q) hp hq rest e =
-    let parts = names_end n m (path_key q) (path_key p ++ rest) (rest_plain _ _ (first_plain _ _ hq)) (rest_plain _ _ (first_plain _ _ hp))
+    let parts = names_end n m (path_key q) (path_key p ++ rest) (and_parts _ _ (and_parts _ _ hq).0).1 (and_parts _ _ (and_parts _ _ hp).0).1
     (e ∙ append_assoc m (1 ∷ path_key p) rest) in
     (λ i. bytes_eq (sym parts.0 i) n && is_within p q) ∙ ap (λ b. b && is_within p q) (bytes_eq-same n)
-    ∙ key_within p q (rest_plain _ _ hp) (rest_plain _ _ hq) rest parts.1
+    ∙ key_within p q (and_parts _ _ hp).1 (and_parts _ _ hq).1 rest parts.1
 
 within_key : (p q : Path) → is_within p q ≡ true → (rest : List ℕ) × (path_key q ≡ path_key p ++ rest)
 within_key p q w =
