@@ -73,6 +73,27 @@ impl Edit {
         paths::joined(self.alloc, copy, &above, path)
     }
 
+    // TooDeep where that path has over 64 names. It isn't made.
+    fn test_moved(
+        &self,
+        copy: &Nodes,
+        path: &RelPath,
+        parent: Option<&Baton>,
+        node: Option<&BaseNode>,
+    ) -> Result<(), EditFault>
+        requires { option_copied node ≡ get_in copy.now.entries path.now }
+        ensures { let w = get_in copy.now.entries in AnswersCall (deep_fault (moved_path (mode_of self.now.root) w path.now (node_path (w path.now)))) result }
+    {
+        let Some(root) = &self.root else {
+            return paths::test_standing(self.alloc, node);
+        };
+        if path.is_root() {
+            return paths::test_path(root);
+        }
+        let above = or_memory(paths::above(self.alloc, path, parent))?;
+        paths::test_joined(self.alloc, copy, &above, path)
+    }
+
     pub(crate) fn open_root(
         &mut self,
         copy: &mut Nodes,
@@ -131,7 +152,7 @@ impl Edit {
         if let Some(fault) = nodes::open_file_fault(node, base) {
             return Err(fault);
         }
-        let _moved = self.moved(copy, path, self.batons.get(&parent.0), node)?;
+        self.test_moved(copy, path, self.batons.get(&parent.0), node)?;
         let open = or_memory(OpenPath::opened(path))?;
         let root = self.pools.root();
         self.open_baton(root, open, token)
@@ -170,7 +191,7 @@ impl Edit {
         ensures { let q = joined_path (get_in copy.now.entries) path.now in MakesNode path.now (deep_fault q) (added_node File self.now.target q) result }
     {
         let above = or_memory(paths::above(self.alloc, path, parent))?;
-        let _joined = paths::joined(self.alloc, copy, &above, path)?;
+        paths::test_joined(self.alloc, copy, &above, path)?;
         Ok(NewNode {
             at: or_memory(path.clone())?,
             opened: or_memory(OpenPath::added(path, above))?,
