@@ -147,15 +147,7 @@ pub(crate) fn test_joined(
     test_last(repos_path(copy.get(above), &empty), path)
 }
 
-/// A copy of the repository path of the node there. TooDeep for over 64 names.
-pub(crate) fn standing(alloc: Global, node: Option<&BaseNode>) -> Result<RelPath, EditFault>
-    ensures { let p = node_path (option_copied node.entry) in Gives (deep_fault p) p result }
-{
-    let empty = RelPath::root(alloc);
-    kept(repos_path(node, &empty))
-}
-
-/// TooDeep where that path has over 64 names. It isn't copied.
+/// TooDeep where the repository path of the node there has over 64 names. It isn't copied.
 pub(crate) fn test_standing(alloc: Global, node: Option<&BaseNode>) -> Result<(), EditFault>
     ensures { AnswersCall (deep_fault (node_path (option_copied node.entry))) result }
 {
