@@ -169,6 +169,14 @@ pub(crate) fn joined_again(
     with_last_name(alloc, repos_path(copy.get(above), &empty), path)
 }
 
+/// The same by the file's path alone.
+pub(crate) fn joined_at(alloc: Global, copy: &Nodes, path: &RelPath) -> Result<RelPath, AllocError>
+    ensures { IfOk result (λ q. q ≡ joined_path (get_in copy.now.entries) path.now) }
+{
+    let above = parent_path(alloc, path)?;
+    joined_again(alloc, copy, &above, path)
+}
+
 /// The repository path that an opened file gets at its close: nothing where it keeps its own. Its length was tested when it was opened.
 pub(crate) fn moved_again(
     alloc: Global,
@@ -184,8 +192,7 @@ pub(crate) fn moved_again(
     if path.is_root() {
         return Ok(Some(root.clone()?));
     }
-    let above = parent_path(alloc, path)?;
-    Ok(Some(joined_again(alloc, copy, &above, path)?))
+    Ok(Some(joined_at(alloc, copy, path)?))
 }
 
 /// The same by the path that the file would get if it was added.
