@@ -1,6 +1,7 @@
 -- An edit that no call was given to.
 use Rattle.std.proofs.Common.{◌≡◌, ◌≢◌, ℕ, ◌+◌, cond, List, [], sym, ◌∙◌, ap}
 use Rattle.std.proofs.lemmas.Cmp.{nat_cmp_total}
+use Rattle.std.proofs.lemmas.Option.{none-some}
 use Rattle.std.specs.Prelude.{Some, None, is_some, nat_eq}
 use Rattle.std.specs.Ordering.{nat_cmp}
 use Rattle.std.specs.HashMap.{get}
@@ -11,15 +12,12 @@ use Rattle.svn_pool.proofs.Views.{inserted_here, inserted_away}
 use Rattle.svn_edit.specs.declared.baton.Baton.{Baton}
 use Rattle.svn_edit.specs.Applying.{BatonMap, HoldsBatons}
 
-none_some : {X : Type 0} (x : X) → None ≡ Some x → ⊥
-none_some x e = cc
-
 pub begun_batons : (pools : Pools) (batons : BatonMap) → pools ≡ root_alone 0 → batons.entries ≡ []
     → HoldsBatons pools (get nat_eq batons) []
 begun_batons pools batons is empty = record {
   opened = λ t. ap is_some (nothing t);
-  each = λ t b e. absurd (none_some b (sym (nothing t) ∙ e));
-  apart = λ t u b d e f same. absurd (none_some b (sym (nothing t) ∙ e));
+  each = λ t b e. absurd (none-some b (sym (nothing t) ∙ e));
+  apart = λ t u b d e f same. absurd (none-some b (sym (nothing t) ∙ e));
   root = (λ i. pool_at (is i) (is i).root) ∙ inserted_here map.empty 0 (record { parent = None; strings = [] });
   only = λ s e there apart. absurd (alone s e there apart);
   beneath = λ s e there apart. absurd (alone s e there apart);
@@ -30,7 +28,7 @@ begun_batons pools batons is empty = record {
   where
     alone : (s : ℕ) (e : Entry) → pool_at pools s ≡ Some e → s ≢ pools.root → ⊥
     alone s e there apart =
-        none_some e (sym (ap (λ (p : Pools). pool_at p s) is ∙ inserted_away map.empty 0 (record { parent = None; strings = [] }) s
+        none-some e (sym (ap (λ (p : Pools). pool_at p s) is ∙ inserted_away map.empty 0 (record { parent = None; strings = [] }) s
         (λ z. apart (z ∙ sym (ap (λ (p : Pools). p.root) is))) ∙ map.get-empty nat_cmp s) ∙ there)
 
     nothing : (t : ℕ) → get nat_eq batons t ≡ None

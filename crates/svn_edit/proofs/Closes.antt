@@ -1,5 +1,6 @@
 -- The close of a directory: what was said of it is done, and its baton goes.
 use Rattle.std.proofs.Common.{◌≡◌, ◌≢◌, ℕ, Bool, true, false, cond, ◌&&◌, not, List, [], ◌∷◌, ◌++◌, refl, sym, ◌∙◌, ap, subst, true≢false}
+use Rattle.std.proofs.lemmas.Option.{none-some}
 use Rattle.std.specs.Prelude.{Option, Some, None, Result, Ok, Err, OnOk, OnErr, IfOk, IfErr, is_ok, is_some, nat_eq, filter_map}
 use Rattle.std.specs.List.{cons_option}
 use Rattle.svn_types.specs.declared.kind.Kind.{Kind}
@@ -101,11 +102,8 @@ gone_holds mode old new calls c d t k is next going named still gives says shut 
     baton : (b : Baton) × (batons_of old t ≡ Some b) × IsBaton old.pools (batons_of old) calls t b
     baton = named_baton mode old calls c t k (subst (λ (x : Call). IsNext mode old calls x) is next) going named
 
-    none_some : (a : ℕ) → None ≡ Some a → ⊥
-    none_some a e = cc
-
     apart : baton.0.pool.0 ≢ old.pools.root
-    apart e = none_some _ (sym (ap parent_of next.holds.batons.root) ∙ ap (λ s. parent_of (pool_at old.pools s)) (sym e)
+    apart e = none-some _ (sym (ap parent_of next.holds.batons.root) ∙ ap (λ s. parent_of (pool_at old.pools s)) (sym e)
         ∙ ap parent_of baton.2.pool)
 
 -- no other token is closed

@@ -2,7 +2,6 @@
 use Rattle.std.proofs.Common.{◌≡◌, ◌≢◌, ℕ, Bool, true, false, cond, ◌&&◌, List, [], ◌∷◌, ◌++◌, refl, sym, ◌∙◌, ap, subst, true≢false}
 use Rattle.std.specs.Prelude.{Option, Some, None, Result, Ok, Err, OnOk, OnErr, filter_map}
 use Rattle.std.specs.List.{cons_option}
-use Rattle.svn_types.specs.declared.kind.Kind.{Kind}
 use Rattle.svn_types.specs.declared.kind.Kind.TheVariants.{File, Directory}
 use Rattle.svn_types.specs.Names.{Path}
 use Rattle.svn_types.specs.Paths.{path_eq}
@@ -11,11 +10,11 @@ use Rattle.svn_pool.specs.Pools.{Entry, pool_at}
 use Rattle.svn_editor.specs.declared.call.Call.{Call}
 use Rattle.svn_editor.specs.declared.call.Call.TheVariants.{CloseFile}
 use Rattle.svn_editor.specs.declared.fault.EditFault.{EditFault}
-use Rattle.svn_editor.specs.Calls.{Given, kind_eq, given, path_of, is_of_kind}
+use Rattle.svn_editor.specs.Calls.{Given, given, path_of, is_of_kind}
 use Rattle.svn_editor.specs.Steps.{Mode, Action, Delete, Open, Add, Change, Text, Close, Step, steps_of, target_of}
 use Rattle.svn_editor.proofs.Accepted.{accepted}
 use Rattle.svn_editor.proofs.Nested.{eq_true}
-use Rattle.svn_order.proofs.Sound.{known}
+use Rattle.svn_order.proofs.Sound.{known, other_kind}
 use Rattle.svn_types.proofs.PathLemmas.{same_path}
 use Rattle.svn_model.specs.declared.base_node.BaseNode.{BaseNode}
 use Rattle.svn_model.specs.Nodes.{WorkingCopy, get_in}
@@ -85,10 +84,6 @@ applied_parts : (fault : Option EditFault) (w : WorkingCopy) (nodes nodes2 : Lis
 applied_parts fault w nodes nodes2 (Ok done) h f g = (h, f)
 applied_parts fault w nodes nodes2 (Err e) h f g = (h, g)
 
-one_kind : (k : Kind) → kind_eq k File ≡ true → kind_eq k Directory ≡ true → ⊥
-one_kind File f d = true≢false (sym d)
-one_kind Directory f d = true≢false (sym f)
-
 module _ (mode : Mode) (old new : Edit) (calls : List Call) (t : ℕ) (sum : Option (List ℕ)) (d : Call) (is : d ≡ CloseFile t sum)
     (next : IsNext mode old calls d) where
   next_close : IsNext mode old calls (CloseFile t sum)
@@ -140,7 +135,8 @@ module _ (mode : Mode) (old new : Edit) (calls : List Call) (t : ℕ) (sum : Opt
   none_below : (u : ℕ) (g : Given) → is_open calls u ≡ true → given calls u ≡ Some g → g.kind ≡ Directory → g.parent ≡ Some t → ⊥
   none_below u g o e k p =
       let x = known calls (CloseFile t sum) t File (accepted calls (CloseFile t sum) refl next_close.in_order) refl in
-      one_kind x.given_as.kind x.kind (sym (ap (is_of_kind Directory) x.is) ∙ (pathed calls next.lawful).parents u t g e p)
+      true≢false (sym ((pathed calls next.lawful).parents u t g e p) ∙ ap (is_of_kind Directory) x.is
+      ∙ other_kind x.given_as.kind File Directory x.kind refl)
 
   -- and its baton
   pub file_holds : KeepsEdit old new

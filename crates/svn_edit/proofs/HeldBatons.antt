@@ -1,11 +1,11 @@
 -- The batons after one more call.
 use Rattle.std.proofs.Common.{◌≡◌, ◌≢◌, ℕ, zero, suc, ◌+◌, ◌<◌, ◌≤◌, Bool, true, false, ◌&&◌, ◌||◌, not, List, [], ◌∷◌, ◌++◌, length, map}
-use Rattle.std.proofs.Common.{refl, sym, ◌∙◌, ap, subst, true≢false, inl, inr, arith, append_assoc, append-nil}
+use Rattle.std.proofs.Common.{refl, sym, ◌∙◌, ap, subst, true≢false, inl, inr, arith, append-nil}
 use Rattle.std.specs.Prelude.{Option, Some, None, is_some, ◌⊎◌, slice_get, filter_map}
 use Rattle.std.specs.FinMap as map_of
 use Rattle.std.specs.List.{flat_map}
 use Rattle.std.proofs.lemmas.Bool.{cases_eq}
-use Rattle.std.proofs.lemmas.Option.{same_Some}
+use Rattle.std.proofs.lemmas.Option.{slice_get_past, same_Some}
 use Rattle.svn_types.specs.declared.kind.Kind.{Kind}
 use Rattle.svn_types.specs.declared.kind.Kind.TheVariants.{File, Directory}
 use Rattle.svn_types.specs.Names.{Path}
@@ -15,9 +15,9 @@ use Rattle.svn_editor.specs.declared.call.Call.{Call}
 use Rattle.svn_editor.specs.Calls.{Given, given_by, closes, all_given, given, given_path, path_of, is_closed, is_of_kind}
 use Rattle.svn_editor.specs.Steps.{Action, steps_of}
 use Rattle.svn_order.proofs.Changes.{get_within}
-use Rattle.svn_editor.proofs.OneMore.{any_weaker, any_still, any_more, or_true, and_false, given_none, given_one}
+use Rattle.svn_editor.proofs.OneMore.{any_still, any_more, or_true, and_false, given_one}
 use Rattle.svn_editor.proofs.Accepted.{IsAccepted}
-use Rattle.svn_order.proofs.Sound.{IsSound, names, closes_named, given_closes, numbered_next, known}
+use Rattle.svn_order.proofs.Sound.{IsSound, given_closes, numbered_next, known}
 use Rattle.svn_edit.specs.declared.baton.Baton.{Baton}
 use Rattle.svn_edit.specs.declared.baton.Note.{Note}
 use Rattle.svn_edit_law.specs.Laws.{IsPathed}
@@ -27,12 +27,14 @@ use Rattle.svn_edit.specs.NodeTests.{first_of}
 use Rattle.svn_edit.specs.Noted.{slashed, note_of, strings_of}
 use Rattle.svn_edit.specs.Applying.{Batons, is_open, open_count, IsTextAt, text_place, pool_or, pool_of_parent, pool_of_kind, pool_above}
 use Rattle.svn_edit.specs.Applying.{pool_entry, IsBaton, HoldsBatons, BatonMade, BatonNoted, BatonGone, IsLeaf}
+use Rattle.std.proofs.lemmas.List.{map-append}
+use Rattle.std.proofs.lemmas.List.Concat.{flat_map-append}
+use Rattle.svn_types.proofs.Places.{some_none}
+use Rattle.svn_order.proofs.OpenDirectories.{new_unclosed}
+use Rattle.svn_order.proofs.HoldingTokens.{given_now, given_still}
 use Rattle.svn_edit.proofs.Saying.{text_more, noted_says}
 use Rattle.svn_edit.proofs.OpenCounts.{open_same, open_more, open_fewer}
 use Rattle.svn_edit_law.proofs.OnePath.{noted, said-quiet, said-own, said-other, parent_named, opened_first}
-
-some_none : {X : Type 0} (x : X) → Some x ≡ None → ⊥
-some_none x e = cc
 
 -- ---- tokens
 
@@ -47,13 +49,6 @@ given_other calls c g t e n = ap (λ (gs : List Given). slice_get gs t) (given_o
     by (x ∷ xs) zero n = refl
     by (x ∷ xs) (suc i) n = by xs i (λ h. n (ap suc h))
 
-given_new : (calls : List Call) (c : Call) (g : Given) → given_by c ≡ Some g → given (calls ++ c ∷ []) (length (all_given calls)) ≡ Some g
-given_new calls c g e = ap (λ (gs : List Given). slice_get gs (length (all_given calls))) (given_one calls c g e) ∙ by (all_given calls)
-  where
-    by : (xs : List Given) → slice_get (xs ++ g ∷ []) (length xs) ≡ Some g
-    by [] = refl
-    by (x ∷ xs) = by xs
-
 within : (calls : List Call) (m : ℕ) → is_of_kind Directory (given calls m) ≡ true → m < length (all_given calls)
 within calls m h = by (given calls m) refl h
   where
@@ -61,8 +56,9 @@ within calls m h = by (given calls m) refl h
     by None e k = absurd (true≢false (sym k))
     by (Some g) e k = get_within (all_given calls) m g e
 
-unclosed_fresh : (calls : List Call) (t : ℕ) → IsSound calls → length (all_given calls) ≤ t → is_closed calls t ≡ false
-unclosed_fresh calls t s h = any_weaker (closes t) (names t) calls (λ c e. closes_named t c e) (s.named_given t h)
+-- a token that wasn't given isn't open
+pub unopened : (calls : List Call) (t : ℕ) → length (all_given calls) ≤ t → is_open calls t ≡ false
+unopened calls t h = ap (λ (o : Option Given). is_some o && not (is_closed calls t)) (slice_get_past (all_given calls) t h)
 
 open_given : (calls : List Call) (t : ℕ) → is_open calls t ≡ true → (g : Given) × (given calls t ≡ Some g) × (is_closed calls t ≡ false)
 open_given calls t h = by (given calls t) refl (is_closed calls t) refl h
@@ -110,8 +106,8 @@ pub held_still : (pools : Pools) (at : Batons) (calls : List Call) (c : Call) �
     → noted c ≡ None → ((t : ℕ) → closes t c ≡ false)
     → HoldsBatons pools at (calls ++ c ∷ [])
 held_still pools at calls c h none says shut = record {
-  opened = λ t. h.opened t ∙ (λ i. is_some (sym (same t) i) && not (sym (any_still (closes t) calls c (shut t)) i));
-  each = λ t b e. carried pools pools at at calls (calls ++ c ∷ []) t b (h.each t b e) (same t)
+  opened = λ t. h.opened t ∙ (λ i. is_some (sym (given_still calls c t none) i) && not (sym (any_still (closes t) calls c (shut t)) i));
+  each = λ t b e. carried pools pools at at calls (calls ++ c ∷ []) t b (h.each t b e) (given_still calls c t none)
       (said-quiet calls c (path_of calls t) says) refl refl refl;
   apart = h.apart;
   root = h.root;
@@ -119,9 +115,6 @@ held_still pools at calls c h none says shut = record {
   beneath = h.beneath;
   count = h.count ∙ ap (λ n. n + 1) (sym (open_same calls c none shut));
 }
-  where
-    same : (t : ℕ) → given (calls ++ c ∷ []) t ≡ given calls t
-    same t = ap (λ (gs : List Given). slice_get gs t) (given_none calls c none)
 
 -- ---- the pool above
 
@@ -132,7 +125,8 @@ above_by root at at2 above File h = refl
 above_by root at at2 None Directory h = refl
 above_by root at at2 (Some m) Directory h = h m refl refl
 
-pub above_same : (root : ℕ) (at at2 : Batons) (o : Option Given) → ((g : Given) (m : ℕ) → o ≡ Some g → g.kind ≡ Directory → g.parent ≡ Some m
+pub above_same : (root : ℕ) (at at2 : Batons) (o : Option Given) → ((g : Given) (m : ℕ) → o ≡ Some g → g.kind ≡ Directory
+    → g.parent ≡ Some m
     → pool_or root (at2 m) ≡ pool_or root (at m))
     → pool_above root at2 o ≡ pool_above root at o
 above_same root at at2 None h = refl
@@ -176,8 +170,8 @@ module _ (pools : Pools) (at : Batons) (calls : List Call) (c : Call) (g : Given
   next : g.token ≡ length (all_given calls)
   next = numbered_next calls c g a gives
 
-  given_now : given (calls ++ c ∷ []) g.token ≡ Some g
-  given_now = ap (given (calls ++ c ∷ [])) next ∙ given_new calls c g gives
+  given_here : given (calls ++ c ∷ []) g.token ≡ Some g
+  given_here = given_now calls c g g.token gives next
 
   given_before : (t : ℕ) → t ≢ g.token → given (calls ++ c ∷ []) t ≡ given calls t
   given_before t n = given_other calls c g t gives (λ e. n (e ∙ sym next))
@@ -186,7 +180,7 @@ module _ (pools : Pools) (at : Batons) (calls : List Call) (c : Call) (g : Given
   closed_same t = any_still (closes t) calls c (given_closes t c g gives)
 
   unclosed : is_closed calls g.token ≡ false
-  unclosed = unclosed_fresh calls g.token s (omega (arith, next))
+  unclosed = new_unclosed calls g.token s (omega (arith, next))
 
   parent_other : (o : Option Given) (t m : ℕ) (x : Given) → given calls t ≡ o → o ≡ Some x → x.parent ≡ Some m → at2 m ≡ at m
   parent_other o t m x is e p =
@@ -208,9 +202,9 @@ module _ (pools : Pools) (at : Batons) (calls : List Call) (c : Call) (g : Given
 
   own_baton : IsBaton pools2 at2 (calls ++ c ∷ []) g.token made.baton
   own_baton = record {
-    path = made.path ∙ sym (ap given_path given_now);
+    path = made.path ∙ sym (ap given_path given_here);
     notes = made.notes ∙ sym (ap (λ (l : List Action). map note_of l) said_own);
-    pool = made.made ∙ (λ i. Some (pool_entry (sym above_now i) (slashed (given_path (sym given_now i)) ∷ flat_map strings_of
+    pool = made.made ∙ (λ i. Some (pool_entry (sym above_now i) (slashed (given_path (sym given_here i)) ∷ flat_map strings_of
         (sym said_own i))));
     text = subst (λ (o : Option ℕ). IsTextAt o _
         (first_of (filter_map text_in (said_at (path_of (calls ++ c ∷ []) g.token) (steps_of (calls ++ c ∷ [])))))) (sym made.text)
@@ -218,10 +212,10 @@ module _ (pools : Pools) (at : Batons) (calls : List Call) (c : Call) (g : Given
   }
     where
       said_own : said_at (path_of (calls ++ c ∷ []) g.token) (steps_of (calls ++ c ∷ [])) ≡ []
-      said_own = ap (λ (o : Option Given). said_at (given_path o) (steps_of (calls ++ c ∷ []))) given_now ∙ nothing_said
+      said_own = ap (λ (o : Option Given). said_at (given_path o) (steps_of (calls ++ c ∷ []))) given_here ∙ nothing_said
 
       above_now : pool_above pools2.root at2 (given (calls ++ c ∷ []) g.token) ≡ pool_above pools.root at (Some g)
-      above_now = (λ i. pool_above (made.root i) at2 (given_now i)) ∙ own_above
+      above_now = (λ i. pool_above (made.root i) at2 (given_here i)) ∙ own_above
 
   old_baton : (t : ℕ) (b : Baton) → t ≢ g.token → at t ≡ Some b → IsBaton pools2 at2 (calls ++ c ∷ []) t b
   old_baton t b n e =
@@ -267,7 +261,7 @@ module _ (pools : Pools) (at : Batons) (calls : List Call) (c : Call) (g : Given
       open_by : (t : ℕ) → (t ≡ g.token) ⊎ (t ≢ g.token) → is_some (at2 t) ≡ is_open (calls ++ c ∷ []) t
       open_by t (inl e) =
           ap (λ u. is_some (at2 u)) e ∙ ap is_some made.token
-          ∙ sym (ap (is_open (calls ++ c ∷ [])) e ∙ (λ i. is_some (given_now i) && not (closed_same g.token i)) ∙ ap not unclosed)
+          ∙ sym (ap (is_open (calls ++ c ∷ [])) e ∙ (λ i. is_some (given_here i) && not (closed_same g.token i)) ∙ ap not unclosed)
       open_by t (inr n) = ap is_some (made.tokens t n) ∙ h.opened t ∙ sym (λ i. is_some (given_before t n i) && not (closed_same t i))
 
       each_by : (t : ℕ) (b : Baton) → at2 t ≡ Some b → (t ≡ g.token) ⊎ (t ≢ g.token) → IsBaton pools2 at2 (calls ++ c ∷ []) t b
@@ -293,35 +287,16 @@ module _ (pools : Pools) (at : Batons) (calls : List Call) (c : Call) (g : Given
       only_by s e there n (inl same) = (g.token, made.baton, made.token, sym same)
       only_by s e there n (inr other) =
           let r = h.only s e (sym (made.others s other) ∙ there) (λ x. n (x ∙ sym made.root)) in
-          let away : r.0 ≢ g.token = λ x. true≢false (sym (sym (h.opened g.token) ∙ ap is_some (ap at (sym x) ∙ r.2)) ∙ not_open) in
+          let away : r.0 ≢ g.token = λ x. true≢false (sym (sym (h.opened g.token) ∙ ap is_some (ap at (sym x) ∙ r.2))
+          ∙ unopened calls g.token (omega (arith, next))) in
           (r.0, r.1, made.tokens r.0 away ∙ r.2, r.3)
-        where
-          not_open : is_open calls g.token ≡ false
-          not_open = by (given calls g.token) refl
-            where
-              by : (o : Option Given) → given calls g.token ≡ o → is_open calls g.token ≡ false
-              by None e = ap (λ (o : Option Given). is_some o && not (is_closed calls g.token)) e
-              by (Some x) e = let w : g.token < length (all_given calls) = get_within (all_given calls) g.token x e in
-                  absurd (omega (arith, w, next))
 
 -- ---- a call that says something
-
-map-more : (xs : List Action) (x : Action) → map note_of (xs ++ x ∷ []) ≡ map note_of xs ++ note_of x ∷ []
-map-more [] x = refl
-map-more (y ∷ xs) x = ap (λ (l : List Note). note_of y ∷ l) (map-more xs x)
-
-flat-more : (xs : List Action) (x : Action) → flat_map strings_of (xs ++ x ∷ []) ≡ flat_map strings_of xs ++ strings_of x
-flat-more [] x = append-nil (strings_of x)
-flat-more (y ∷ xs) x = ap (λ (l : List (List ℕ)). strings_of y ++ l) (flat-more xs x)
-    ∙ sym (append_assoc (strings_of y) (flat_map strings_of xs) (strings_of x))
 
 module _ (pools : Pools) (at : Batons) (calls : List Call) (c : Call) (m : ℕ) (act : Action) (b : Baton) (h : HoldsBatons pools at calls)
     (q : IsPathed calls)
     (gives : given_by c ≡ None) (says : noted c ≡ Some (m, act)) (shut : (t : ℕ) → closes t c ≡ false) (there : at m ≡ Some b)
     (pools2 : Pools) (at2 : Batons) (n : BatonNoted m b (note_of act) (strings_of act) pools at pools2 at2) where
-  given_kept : (t : ℕ) → given (calls ++ c ∷ []) t ≡ given calls t
-  given_kept t = ap (λ (gs : List Given). slice_get gs t) (given_none calls c gives)
-
   own : IsBaton pools at calls m b
   own = h.each m b there
 
@@ -337,13 +312,15 @@ module _ (pools : Pools) (at : Batons) (calls : List Call) (c : Call) (m : ℕ) 
       by k (inr e) = ap (pool_or pools.root) (n.tokens k e)
 
   said_now : said_at (path_of (calls ++ c ∷ []) m) (steps_of (calls ++ c ∷ [])) ≡ said_at (path_of calls m) (steps_of calls) ++ act ∷ []
-  said_now = ap (λ (o : Option Given). said_at (given_path o) (steps_of (calls ++ c ∷ []))) (given_kept m) ∙ said-own calls c m act says
+  said_now = ap (λ (o : Option Given). said_at (given_path o) (steps_of (calls ++ c ∷ []))) (given_still calls c m gives)
+      ∙ said-own calls c m act says
 
   noted_baton : IsBaton pools2 at2 (calls ++ c ∷ []) m n.baton
   noted_baton = record {
-    path = n.path ∙ own.path ∙ sym (ap given_path (given_kept m));
+    path = n.path ∙ own.path ∙ sym (ap given_path (given_still calls c m gives));
     notes = n.notes ∙ ap (λ (l : List Note). l ++ note_of act ∷ []) own.notes
-        ∙ sym (map-more (said_at (path_of calls m) (steps_of calls)) act) ∙ sym (ap (λ (l : List Action). map note_of l) said_now);
+        ∙ sym (map-append note_of (said_at (path_of calls m) (steps_of calls)) (act ∷ []))
+        ∙ sym (ap (λ (l : List Action). map note_of l) said_now);
     pool = ap (pool_at pools2) n.same_pool ∙ n.own ∙ (λ i. Some (record { parent = parent_now i; strings = strings_now i }));
     text =
         let texts = first_of (filter_map text_in (said_at (path_of (calls ++ c ∷ []) m) (steps_of (calls ++ c ∷ [])))) in
@@ -362,11 +339,15 @@ module _ (pools : Pools) (at : Batons) (calls : List Call) (c : Call) (m : ℕ) 
       more : before ++ strings_of act ≡ slashed (path_of (calls ++ c ∷ []) m) ∷ flat_map strings_of
           (said_at (path_of (calls ++ c ∷ []) m) (steps_of (calls ++ c ∷ [])))
       more =
-          ap (λ (l : List (List ℕ)). slashed (path_of calls m) ∷ l) (sym (flat-more (said_at (path_of calls m) (steps_of calls)) act))
-          ∙ (λ i. slashed (given_path (sym (given_kept m) i)) ∷ flat_map strings_of (sym said_now i))
+          let said = said_at (path_of calls m) (steps_of calls) in
+          ap (λ (l : List (List ℕ)). slashed (path_of calls m) ∷ l)
+          (sym (flat_map-append strings_of said (act ∷ []) ∙ ap (λ (l : List (List ℕ)). flat_map strings_of said ++ l)
+          (append-nil (strings_of act))))
+          ∙ (λ i. slashed (given_path (sym (given_still calls c m gives) i)) ∷ flat_map strings_of (sym said_now i))
 
       parent_now : parent_of (pool_at pools b.pool.0) ≡ Some (pool_above pools2.root at2 (given (calls ++ c ∷ []) m))
-      parent_now = ap parent_of own.pool ∙ ap Some (sym ((λ i. pool_above (n.root i) at2 (given_kept m i)) ∙ above_kept (given calls m)))
+      parent_now = ap parent_of own.pool ∙ ap Some
+          (sym ((λ i. pool_above (n.root i) at2 (given_still calls c m gives i)) ∙ above_kept (given calls m)))
 
       strings_now : strings_at pools b.pool.0 ++ strings_of act
           ≡ slashed (path_of (calls ++ c ∷ []) m) ∷ flat_map strings_of (said_at (path_of (calls ++ c ∷ []) m) (steps_of (calls ++ c ∷ [])))
@@ -378,14 +359,14 @@ module _ (pools : Pools) (at : Batons) (calls : List Call) (c : Call) (m : ℕ) 
       let y = is_given m b there in
       let apart : path_of calls m ≡ path_of calls t
       → ⊥ = λ same. away (q.once t m x.0 y.0 x.1 y.1 (sym (ap given_path x.1) ∙ sym same ∙ ap given_path y.1)) in
-      carried pools pools2 at at2 calls (calls ++ c ∷ []) t d (h.each t d e) (given_kept t)
+      carried pools pools2 at at2 calls (calls ++ c ∷ []) t d (h.each t d e) (given_still calls c t gives)
       (said-other calls c m act says (path_of calls t) apart) n.root (above_kept (given calls t))
       (n.others d.pool.0 (λ same. away (h.apart t m d b e there same)))
 
   pub held_noted : HoldsBatons pools2 at2 (calls ++ c ∷ [])
   held_noted = record {
     opened = λ t. opened_by t (cases_eq t m) ∙ h.opened t
-        ∙ (λ i. is_some (sym (given_kept t) i) && not (sym (any_still (closes t) calls c (shut t)) i));
+        ∙ (λ i. is_some (sym (given_still calls c t gives) i) && not (sym (any_still (closes t) calls c (shut t)) i));
     each = λ t d e. each_by t d e (cases_eq t m);
     apart = λ t u d f e g same. h.apart t u (before t d e).0 (before u f g).0 (before t d e).1 (before u f g).1 (sym (before t d e).2 ∙ same
         ∙ (before u f g).2);
@@ -499,12 +480,9 @@ module _ (pools : Pools) (at : Batons) (calls : List Call) (c : Call) (m : ℕ) 
   module _ (sound : IsSound calls) (gives : given_by c ≡ None) (says : noted c ≡ None) (shut : closes m c ≡ true) (others_open : (t : ℕ)
       → t ≢ m → closes t c ≡ false)
       (pools2 : Pools) (at2 : Batons) (n : BatonGone m b pools at pools2 at2) where
-    given_as : (t : ℕ) → given (calls ++ c ∷ []) t ≡ given calls t
-    given_as t = ap (λ (gs : List Given). slice_get gs t) (given_none calls c gives)
-
     kept_baton : (t : ℕ) (d : Baton) → t ≢ m → at t ≡ Some d → IsBaton pools2 at2 (calls ++ c ∷ []) t d
     kept_baton t d away e =
-        carried pools pools2 at at2 calls (calls ++ c ∷ []) t d (h.each t d e) (given_as t)
+        carried pools pools2 at at2 calls (calls ++ c ∷ []) t d (h.each t d e) (given_still calls c t gives)
         (said-quiet calls c (path_of calls t) says) n.root
         (above_same pools.root at at2 (given calls t) (λ g k f x p. ap (pool_or pools.root)
         (n.tokens k (λ y. no_subdirectory t g (sym (h.opened t) ∙ ap is_some e) f x (p ∙ ap Some y)))))
@@ -541,7 +519,7 @@ module _ (pools : Pools) (at : Batons) (calls : List Call) (c : Call) (m : ℕ) 
             ∙ sym (ap (is_open (calls ++ c ∷ [])) e ∙ ap (λ x. is_some (given (calls ++ c ∷ []) m) && not x) (any_more (closes m) calls c
             ∙ ap (λ x. is_closed calls m || x) shut ∙ or_true (is_closed calls m)) ∙ and_false (is_some (given (calls ++ c ∷ []) m)))
         opened_by t (inr away) = ap is_some (n.tokens t away) ∙ h.opened t
-            ∙ (λ i. is_some (sym (given_as t) i) && not (sym (any_still (closes t) calls c (others_open t away)) i))
+            ∙ (λ i. is_some (sym (given_still calls c t gives) i) && not (sym (any_still (closes t) calls c (others_open t away)) i))
 
         only_by : (s : ℕ) (e : Entry) → pool_at pools2 s ≡ Some e → s ≢ pools2.root → (s ≡ b.pool.0) ⊎ (s ≢ b.pool.0)
             → (t : ℕ) × (d : Baton) × (at2 t ≡ Some d) × (d.pool.0 ≡ s)

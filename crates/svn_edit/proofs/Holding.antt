@@ -35,6 +35,12 @@ pub applied_none : (fault : Option EditFault) (w : WorkingCopy) (nodes : List (P
 applied_none fault w nodes (Ok done) none same h = (none, same)
 applied_none fault w nodes (Err e) none same h = (subst (IsAnswer fault) (sym h) tt, refl)
 
+-- a refusal leaves the nodes
+pub applied_refused : (fault : Option EditFault) (w : WorkingCopy) (nodes nodes2 : List (Path × BaseNode))
+    (r : Result (Unit {0}) EditFault) (e : EditFault) → r ≡ Err e → IsAnswer fault e → nodes2 ≡ nodes → Applied fault w nodes r nodes2
+applied_refused fault w nodes nodes2 r e is h same =
+    subst (λ (x : Result (Unit {0}) EditFault). Applied fault w nodes x nodes2) (sym is) (h, same)
+
 -- where a node is present, that is told, and no other fault
 pub add_answer : (present : Bool) (fault : Option EditFault) (f r : EditFault) → (present ≡ false → IsAnswer fault f)
     → r ≡ cond present EntryExists f → IsAnswer (cond present (Some EntryExists) fault) r

@@ -1,7 +1,7 @@
 -- The pools after a refused call are those of the calls before it.
-use Rattle.std.proofs.Common.{nat_eq, ◌≡◌, ◌≢◌, ℕ, ◌+◌, false, ◌&&◌, not, List, [], ◌∷◌, ◌++◌, length, refl, sym, ◌∙◌, ap, subst, inl, inr}
+use Rattle.std.proofs.Common.{nat_eq, ◌≡◌, ◌≢◌, ℕ, ◌+◌, false, List, [], ◌∷◌, ◌++◌, length, refl, sym, ◌∙◌, ap, subst, inl, inr}
 use Rattle.std.proofs.Common.{append_assoc, append-nil, arith, true≢false}
-use Rattle.std.specs.Prelude.{Option, Some, None, is_some, ◌⊎◌, Result, Err, OnErr, slice_get}
+use Rattle.std.specs.Prelude.{Option, Some, None, is_some, ◌⊎◌, Result, Err, OnErr}
 use Rattle.std.specs.HashMap.{Updates}
 use Rattle.std.specs.List.{list_any}
 use Rattle.std.specs.FinMap as map_of
@@ -15,7 +15,7 @@ use Rattle.svn_pool.proofs.Views.{inserted_here, inserted_away}
 use Rattle.svn_editor.specs.declared.call.Call.{Call}
 use Rattle.svn_editor.specs.declared.call.Call.TheVariants.{AbortEdit}
 use Rattle.svn_editor.specs.declared.fault.EditFault.{EditFault}
-use Rattle.svn_editor.specs.Calls.{Given, given, given_by, all_given, is_abort, is_closed, is_last}
+use Rattle.svn_editor.specs.Calls.{Given, given, given_by, all_given, is_abort, is_last}
 use Rattle.svn_editor.specs.Order.{order_fault}
 use Rattle.svn_editor.specs.Steps.{Mode}
 use Rattle.svn_editor.proofs.Accepted.{accepted}
@@ -25,13 +25,13 @@ use Rattle.svn_model.specs.Nodes.{WorkingCopy}
 use Rattle.svn_edit.specs.declared.baton.Baton.{Baton}
 use Rattle.svn_edit.specs.declared.edit.Edit.{Edit}
 use Rattle.svn_edit.specs.declared.edit.Stage.TheVariants.{Going, Refused, Ended}
-use Rattle.svn_edit.specs.Applying.{Batons, batons_of, pool_or, pool_above, pool_entry, is_open, IsLeaf, HoldsBatons, PoolGone}
+use Rattle.svn_edit.specs.Applying.{Batons, batons_of, pool_or, pool_above, pool_entry, IsLeaf, HoldsBatons, PoolGone}
 use Rattle.svn_edit.specs.Applying.{IsNext, IsRefused, StandsAfter}
 use Rattle.svn_edit.specs.Leaving.{call_strings, HasPool, HoldsPools, IsLeft, LeavesPools, PoolsAfter, SamePools, KeepsPools, BatonBegan}
 use Rattle.svn_edit.specs.Leaving.{NoteBegan}
 use Rattle.svn_edit.proofs.PoolStrings.{own_one, others_one, len_pushed, len_created}
 use Rattle.svn_edit.proofs.Holding.{err_by, at_err}
-use Rattle.svn_edit.proofs.HeldBatons.{above_same, beneath_kept, root_apart}
+use Rattle.svn_edit.proofs.HeldBatons.{unopened, above_same, beneath_kept, root_apart}
 
 -- what became of a baton and its pool
 pub record CameFrom (pools pools2 : Pools) (refused : List (List ℕ)) (b d : Baton) : Type 0 where
@@ -325,20 +325,13 @@ began_of t b d strings old new began written = record {
 
 -- ---- a token that wasn't given
 
-slice_none : (xs : List Given) → slice_get xs (length xs) ≡ None
-slice_none [] = refl
-slice_none (x ∷ xs) = slice_none xs
-
 pub fresh_token : (mode : Mode) (edit : Edit) (calls : List Call) (c d : Call) (g : Given) → d ≡ c → IsNext mode edit calls d
     → given_by c ≡ Some g → is_abort c ≡ false → batons_of edit g.token ≡ None
-fresh_token mode edit calls c d g is next gives going = nothing (batons_of edit g.token) (next.holds.batons.opened g.token ∙ unopened)
+fresh_token mode edit calls c d g is next gives going = nothing (batons_of edit g.token) (next.holds.batons.opened g.token
+    ∙ unopened calls g.token (omega (arith, token)))
   where
     token : g.token ≡ length (all_given calls)
     token = numbered_next calls c g (accepted calls c going (ap (order_fault calls) (sym is) ∙ next.in_order)) gives
-
-    unopened : is_open calls g.token ≡ false
-    unopened = ap (λ (o : Option Given). is_some o && not (is_closed calls g.token))
-        (ap (given calls) token ∙ slice_none (all_given calls))
 
     nothing : (o : Option Baton) → is_some o ≡ false → o ≡ None
     nothing None h = refl

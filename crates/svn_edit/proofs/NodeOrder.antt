@@ -1,4 +1,4 @@
--- Nodes in path order: which come before which.
+-- Nodes in path order: which come before which; and a lemma of svn_edit_law under the name by which svn_wc calls it.
 use Rattle.std.proofs.Common.{◌≡◌, Bool, true, false, cond, List, [], ◌∷◌, ◌++◌, refl, sym, ap, ◌∙◌, Option, Some, None, true≢false}
 use Rattle.std.specs.Option.{is_some, option_or}
 use Rattle.std.specs.declared.cmp.Ordering.TheVariants.{Less}
@@ -9,12 +9,9 @@ use Rattle.std.proofs.lemmas.Map.Keys.{sorted_head, sorted_tail}
 use Rattle.svn_types.specs.Names.{Path, path_cmp}
 use Rattle.svn_model.specs.declared.base_node.BaseNode.{BaseNode}
 use Rattle.svn_model.specs.Nodes.{get_in, InPathOrder}
-use Rattle.svn_types.proofs.PathLemmas.{same_path as path_is}
+use Rattle.svn_types.proofs.PathLemmas.{same_path}
 use Rattle.svn_edit_law.proofs.Lookups.{at_path, get_in-append}
-use Rattle.svn_edit_law.proofs.NodeLists.{found_first}
-
-pub at_first : (e : Path × BaseNode) (es : List (Path × BaseNode)) → get_in (e ∷ es) e.0 ≡ Some e.1
-at_first = found_first
+pub use Rattle.svn_edit_law.proofs.NodeLists.{found_first as at_first}
 
 pub order_behind : (xs ys : List (Path × BaseNode)) → InPathOrder (xs ++ ys) → InPathOrder ys
 order_behind [] ys order = order
@@ -26,7 +23,7 @@ first_or_other : (P : Type 0) (e : Path × BaseNode) (es : List (Path × BaseNod
 first_or_other P e es p some first other = by (is_at (path_cmp p) e.0) refl some
   where
     by : (b : Bool) → is_at (path_cmp p) e.0 ≡ b → is_some (cond b (Some e.1) (get_in es p)) ≡ true → P
-    by true t h = first (path_is p e.0 (sym (at_path p e.0) ∙ t))
+    by true t h = first (same_path p e.0 (sym (at_path p e.0) ∙ t))
     by false f h = other h
 
 after_all : (x : Path) (es : List (Path × BaseNode)) → AllByRecursion (λ y. path_cmp x y ≡ Less) (keys_of es) → (p : Path)

@@ -1,6 +1,7 @@
 -- Pools after strings were pushed, and what is said there.
 use Rattle.std.proofs.Common.{◌≡◌, ◌≢◌, ℕ, zero, suc, ◌+◌, Bool, true, false, cond, List, [], ◌∷◌, ◌++◌, length, refl, sym, ◌∙◌, ap}
 use Rattle.std.proofs.Common.{append_assoc, append-nil, arith, true≢false, inl, inr}
+use Rattle.std.proofs.lemmas.Option.{none-some}
 use Rattle.std.specs.Prelude.{Option, Some, None, is_some, Result, Err, nat_eq, ◌-◌}
 use Rattle.std.specs.FinMap as fin
 use Rattle.std.specs.Ordering.{nat_cmp}
@@ -45,15 +46,12 @@ len_created t p fresh =
     fin.len-insert nat_cmp_total t.live t.next (pool_entry p [])
     ∙ ap (λ (o : Option Entry). cond (is_some o) (fin.len t.live) (fin.len t.live + 1)) fresh
 
-none_some : {X : Type 0} (x : X) → None ≡ Some x → ⊥
-none_some x e = cc
-
 len_removed : (m : fin.FinMap nat_cmp Entry) (s : ℕ) (e : Entry) → fin.get m s ≡ Some e → fin.len m ≡ fin.len (fin.remove m s) + 1
 len_removed m s e there =
     by (fin.len m) refl (fin.len-remove nat_cmp_total m s ∙ ap (λ (o : Option Entry). cond (is_some o) (fin.len m - 1) (fin.len m)) there)
   where
     by : (n : ℕ) → fin.len m ≡ n → fin.len (fin.remove m s) ≡ fin.len m - 1 → fin.len m ≡ fin.len (fin.remove m s) + 1
-    by zero z h = absurd (none_some e (sym (ap (λ (k : fin.FinMap nat_cmp Entry). fin.get k s) (fin.empty_of_len m z)
+    by zero z h = absurd (none-some e (sym (ap (λ (k : fin.FinMap nat_cmp Entry). fin.get k s) (fin.empty_of_len m z)
         ∙ fin.get-empty nat_cmp s) ∙ there))
     by (suc n) z h = omega arith
 
@@ -174,8 +172,8 @@ one_left t u e live beneath d =
         by None f = d.rest.others q n (nothing f) ∙ f
           where
             up : (k : ℕ) → pool_at t q ≡ None → IsAbove (pool_at t) t.root k q → ⊥
-            up zero g h = none_some t.root (sym (ap parent_of g) ∙ h)
-            up (suc k) g h = none_some h.0 (sym (ap parent_of g) ∙ h.1)
+            up zero g h = none-some t.root (sym (ap parent_of g) ∙ h)
+            up (suc k) g h = none-some h.0 (sym (ap parent_of g) ∙ h.1)
 
             nothing : pool_at t q ≡ None → IsBeneath (pool_at t) t.root q → ⊥
             nothing g b = up b.0 g b.1
@@ -209,5 +207,5 @@ pub not_uncleared : (t : Pools) (e : Entry) (f : PoolFault) → pool_at t t.root
 not_uncleared t e f live h = by (pool_at t t.root) live h
   where
     by : (o : Option Entry) → o ≡ Some e → Settles (fault_if_live o (λ _. None)) (refused f) → ⊥
-    by None k g = none_some e k
+    by None k g = none-some e k
     by (Some x) k g = true≢false (sym g)

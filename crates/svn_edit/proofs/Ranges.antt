@@ -1,5 +1,5 @@
 -- The nodes at a path and below stand next to each other: those from the path on, as long as they are within it.
-use Rattle.std.proofs.Common.{◌≡◌, ℕ, zero, suc, Bool, true, false, cond, ◌&&◌, ◌||◌, not, List, [], ◌∷◌, ◌++◌, take, drop, refl, sym, ◌∙◌}
+use Rattle.std.proofs.Common.{◌≡◌, ℕ, Bool, true, false, cond, ◌&&◌, ◌||◌, not, List, [], ◌∷◌, ◌++◌, take, drop, refl, sym, ◌∙◌}
 use Rattle.std.proofs.Common.{ap, subst, true≢false, append_assoc}
 use Rattle.std.specs.Prelude.{Option, Some, None, filter}
 use Rattle.std.specs.Option.{is_some, option_or}
@@ -12,14 +12,14 @@ use Rattle.std.specs.declared.ops.Bound.TheVariants.{Included, Unbounded}
 use Rattle.std.specs.declared.cmp.Ordering.{Ordering}
 use Rattle.std.specs.declared.cmp.Ordering.TheVariants.{Less, Equal, Greater}
 use Rattle.std.specs.Ordering.{is_le, is_eq}
+use Rattle.std.proofs.lemmas.List.{take-append-drop}
 use Rattle.std.proofs.lemmas.Map.Entries.{lookup-filter-keys}
 use Rattle.svn_types.specs.Names.{Path, path_cmp}
 use Rattle.svn_types.specs.Paths.{path_eq, is_within}
-use Rattle.svn_types.proofs.PathsInOrder.{paths_total, not_before_itself, below_after, within_between}
+use Rattle.svn_types.proofs.PathsInOrder.{paths_total, not_before_itself, within_after, within_between}
 use Rattle.svn_model.specs.declared.base_node.BaseNode.{BaseNode}
 use Rattle.svn_model.specs.Nodes.{get_in, InPathOrder}
-use Rattle.svn_types.proofs.NameLemmas.{bytes_eq-same as same_name}
-use Rattle.svn_types.proofs.PathLemmas.{same_path as path_is, path_eq-symm as path_eq-sym}
+use Rattle.svn_types.proofs.PathLemmas.{same_path, path_eq-symm, is_within-same}
 use Rattle.svn_edit_law.proofs.Lookups.{at_path, get_in-append}
 use Rattle.svn_edit.proofs.NodeOrder.{first_or_after, order_behind}
 
@@ -91,7 +91,7 @@ filter_passes {X} f (e ∷ es) xs y ys h = by (f e) refl xs h (filter_passes f e
 
 any_key : (es : List (Path × BaseNode)) (p : Path) → list_any (λ q. path_eq q p) (keys_of es) ≡ is_some (get_in es p)
 any_key [] p = refl
-any_key (e ∷ es) p = ap (λ b. b || list_any (λ q. path_eq q p) (keys_of es)) (path_eq-sym e.0 p ∙ sym (at_path p e.0))
+any_key (e ∷ es) p = ap (λ b. b || list_any (λ q. path_eq q p) (keys_of es)) (path_eq-symm e.0 p ∙ sym (at_path p e.0))
     ∙ by (is_at (path_cmp p) e.0) (any_key es p)
   where
     by : (b : Bool) → list_any (λ q. path_eq q p) (keys_of es) ≡ is_some (get_in es p)
@@ -108,26 +108,14 @@ none_outside path p (k ∷ ks) h w = by (path_eq k p) refl (is_within path k) re
         → (list_all (is_within path) ks ≡ true → is_within path p ≡ false → list_any (λ q. path_eq q p) ks ≡ false)
         → (b || list_any (λ q. path_eq q p) ks) ≡ false
     by b e false f h ih = absurd (true≢false (sym h))
-    by true e true f h ih = absurd (true≢false (sym f ∙ ap (is_within path) (path_is k p e) ∙ w))
+    by true e true f h ih = absurd (true≢false (sym f ∙ ap (is_within path) (same_path k p e) ∙ w))
     by false e true f h ih = ih h w
-
-le_of_within : (path p : Path) → is_within path p ≡ true → is_le (path_cmp path p) ≡ true
-le_of_within path p w = by (path_eq path p) refl
-  where
-    by : (b : Bool) → path_eq path p ≡ b → is_le (path_cmp path p) ≡ true
-    by true e = tied (path_cmp path p) (at_path path p ∙ e)
-      where
-        tied : (o : Ordering) → is_eq o ≡ true → is_le o ≡ true
-        tied Equal h = refl
-        tied Less h = refl
-        tied Greater h = absurd (true≢false (sym h))
-    by false e = ap is_le (below_after path p w e)
 
 from_same : (path p : Path) (es : List (Path × BaseNode)) → is_within path p ≡ true → get_in (from_path path es) p ≡ get_in es p
 from_same path p es w =
     lookup-filter-keys (is_at (path_cmp p)) (λ k. is_le (path_cmp path k) && not false) true
-    (λ k h. ap (λ b. b && not false) (ap (λ (q : Path). is_le (path_cmp path q)) (sym (path_is p k (sym (at_path p k) ∙ h)))
-    ∙ le_of_within path p w)) es
+    (λ k h. ap (λ b. b && not false) (ap (λ (q : Path). is_le (path_cmp path q)) (sym (same_path p k (sym (at_path p k) ∙ h)))
+    ∙ within_after path p w)) es
 
 module _ (path : Path) (es : List (Path × BaseNode)) (paths : List Path) (left : List (Path × BaseNode)) (t : Taken path es paths left)
     (order : InPathOrder (from_path path es)) where
@@ -149,12 +137,8 @@ module _ (path : Path) (es : List (Path × BaseNode)) (paths : List Path) (left 
 
           after : (o : Ordering) → path_cmp path e.0 ≡ o → (is_le o && not false) ≡ true → path_cmp path e.0 ≡ Less
           after Less h k = h
-          after Equal h k = absurd (true≢false (sym (ap (is_within path) (sym (path_is path e.0 (sym (at_path path e.0) ∙ ap is_eq h)))
-              ∙ itself path) ∙ out))
-            where
-              itself : (q : Path) → is_within q q ≡ true
-              itself [] = refl
-              itself (m ∷ q) = ap (λ b. b && is_within q q) (same_name m) ∙ itself q
+          after Equal h k = absurd (true≢false (sym (ap (is_within path) (sym (same_path path e.0 (sym (at_path path e.0) ∙ ap is_eq h)))
+              ∙ is_within-same path) ∙ out))
           after Greater h k = absurd (true≢false (sym k))
 
           found : (o : Option BaseNode) → get_in (e ∷ rest) p ≡ o → o ≡ None
@@ -181,12 +165,6 @@ module _ (path : Path) (es : List (Path × BaseNode)) (paths : List Path) (left 
 
 -- ---- a run of what is in order is in order
 
-parts : {X : Type 0} (xs : List X) (i : ℕ) → xs ≡ take i xs ++ drop i xs
-parts [] zero = refl
-parts [] (suc i) = refl
-parts (x ∷ xs) zero = refl
-parts {X} (x ∷ xs) (suc i) = ap (λ (l : List X). x ∷ l) (parts xs i)
-
 order_front : (xs ys : List (Path × BaseNode)) → InPathOrder (xs ++ ys) → InPathOrder xs
 unfolding IsStrictlySortedBy
 order_front [] ys order = tt
@@ -199,7 +177,8 @@ order_front (x ∷ xs) ys order = (front xs order.0, order_front xs ys order.1)
 
 pub order_run : (es : List (Path × BaseNode)) (i n : ℕ) → InPathOrder es → InPathOrder (take n (drop i es))
 order_run es i n order = order_front (take n (drop i es)) (drop n (drop i es))
-    (subst InPathOrder (parts (drop i es) n) (order_behind (take i es) (drop i es) (subst InPathOrder (parts es i) order)))
+    (subst InPathOrder (sym (take-append-drop n (drop i es)))
+    (order_behind (take i es) (drop i es) (subst InPathOrder (sym (take-append-drop i es)) order)))
 
 -- ---- removals
 

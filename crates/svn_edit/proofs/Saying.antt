@@ -6,7 +6,7 @@ use Rattle.std.proofs.lemmas.List.Elements.{filter_map-append}
 use Rattle.std.specs.Prelude.{Option, Some, None, MatchOption, filter_map}
 use Rattle.std.specs.Option.{option_copied}
 use Rattle.std.specs.Borrow.{Bor}
-use Rattle.std.proofs.lemmas.Option.{same_Some}
+use Rattle.std.proofs.lemmas.Option.{none-some, same_Some}
 use Rattle.std.specs.List.{list_any, flat_map, cons_option}
 use Rattle.svn_types.specs.Pairs.{with_value}
 use Rattle.svn_types.specs.Props.{with_changes}
@@ -252,13 +252,10 @@ text_more t strings said (Close k sum) h is = absurd (true≢false (sym h))
 
 -- ---- the calls that say something
 
-none_some : {X : Type 0} (x : X) → None ≡ Some x → ⊥
-none_some x e = cc
-
 pub noted_says : (c : Call) (m : ℕ) (a : Action) → noted c ≡ Some (m, a) → says a ≡ true
 noted_says (ChangeDirProp token name value) m a h = ap (λ (x : ℕ × Action). says x.1)
     (sym (same_Some (token, Change Directory (name, value)) (m, a) h))
 noted_says (ChangeFileProp token name value) m a h = ap (λ (x : ℕ × Action). says x.1)
     (sym (same_Some (token, Change File (name, value)) (m, a) h))
 noted_says (ApplyText token base_md5 text) m a h = ap (λ (x : ℕ × Action). says x.1) (sym (same_Some (token, Text base_md5 text) (m, a) h))
-noted_says _ m a h = absurd (none_some (m, a) h)
+noted_says _ m a h = absurd (none-some (m, a) h)

@@ -14,7 +14,7 @@ use Rattle.svn_model.specs.Nodes.{get_in, InPathOrder, is_present}
 use Rattle.svn_model.specs.Nodes.{at_revision}
 use Rattle.svn_model.specs.Effects.{settled}
 use Rattle.svn_edit.specs.NodeTests.{moved_paths, settled_next, paths_left}
-use Rattle.svn_types.proofs.PathLemmas.{same_path as path_is}
+use Rattle.svn_types.proofs.PathLemmas.{same_path}
 use Rattle.svn_edit_law.proofs.Lookups.{at_path}
 use Rattle.svn_edit_law.proofs.NodeLists.{absent_after}
 
@@ -42,12 +42,12 @@ retained T mode target held each f (e ∷ es) kept start order h p =
         → get_in h.3 p ≡ settled mode target p (get_in es p)
         → get_in (cond b ((e.0, h.1) ∷ h.3) h.3) p ≡ settled mode target p (cond a (Some e.1) (get_in es p))
     by true x b same rest =
-        let here : p ≡ e.0 = path_is p e.0 (sym (at_path p e.0) ∙ x) in
+        let here : p ≡ e.0 = same_path p e.0 (sym (at_path p e.0) ∙ x) in
         own b ∙ same ∙ ap (λ q. settled mode target q (Some e.1)) (sym here)
       where
         own : (b : Bool) → get_in (cond b ((e.0, h.1) ∷ h.3) h.3) p ≡ cond b (Some h.1) None
         own true = ap (λ a. cond a (Some h.1) (get_in h.3 p)) x
-        own false = rest ∙ ap (settled mode target p) (ap (get_in es) (path_is p e.0 (sym (at_path p e.0) ∙ x)) ∙ absent_after e es order)
+        own false = rest ∙ ap (settled mode target p) (ap (get_in es) (same_path p e.0 (sym (at_path p e.0) ∙ x)) ∙ absent_after e es order)
     by false x true same rest = ap (λ a. cond a (Some h.1) (get_in h.3 p)) x ∙ rest
     by false x false same rest = rest
 

@@ -36,7 +36,7 @@ use Rattle.svn_types.specs.Props.{with_changes}
 use Rattle.svn_model.specs.Effects.{after, change_in, text_in}
 use Rattle.svn_model.specs.Said.{said_at}
 use Rattle.svn_model.specs.Answering.{IsAnswer}
-use Rattle.svn_edit.specs.NodeTests.{first_of}
+use Rattle.svn_edit.specs.NodeTests.{first_of, deep_fault}
 use Rattle.svn_edit.specs.Noted.{slashed, note_of, strings_of}
 
 abbrev pub mode_of : Option Path → Mode
@@ -57,6 +57,12 @@ Gives fault value (Err e) = IsAnswer fault e
 abbrev pub AnswersAs : {T : Type 0} → Option EditFault → Result T EditFault → Type 0
 AnswersAs fault (Ok v) = fault ≡ None
 AnswersAs fault (Err e) = IsAnswer fault e
+
+-- what a node's repository path becomes when it is opened, by its old one: nothing where it keeps that, else a path that isn't too deep
+abbrev pub MovesBy : (Path → Path) → Result (Option Path) EditFault → Type 0
+MovesBy moved (Ok None) = (was : Path) → moved was ≡ was
+MovesBy moved (Ok (Some p)) = ((was : Path) → moved was ≡ p) × (deep_fault p ≡ None)
+MovesBy moved (Err e) = (was : Path) → IsAnswer (deep_fault (moved was)) e
 
 -- what an added node is made of, for a path: its key, its baton's path, and the node
 abbrev pub MakesNode : Path → Option EditFault → BaseNode → Result NewNode EditFault → Type 0

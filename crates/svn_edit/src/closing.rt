@@ -1,10 +1,11 @@
 //! The closes of an edit.
-ghost use Rattle.std.specs.Prelude.{◌≡◌, [], List, IfOk, IfErr, OnOk, OnErr, Ok, Some, None, filter_map, unwrap_or, if◌then◌else◌};
+ghost use Rattle.std.specs.Prelude.{◌≡◌, [], List, IfOk, IfErr, OnOk, OnErr, Ok, Some, None, filter_map, unwrap_or, true, if◌then◌else◌};
 ghost use Rattle.md5.specs.Md5.{md5};
 ghost use Rattle.svn_types.specs.Names.{Path};
 ghost use Rattle.svn_types.specs.Paths.{path_eq};
 ghost use Rattle.svn_editor.specs.Steps.{Action, Update, SwitchTo};
-ghost use Rattle.svn_model.specs.Nodes.{WorkingCopy, get_in};
+ghost use Rattle.svn_model.specs.Nodes.{WorkingCopy, get_in, is_present};
+ghost use Rattle.svn_model.specs.declared.base_node.BaseNode.TheVariants.{NotPresent};
 ghost use Rattle.svn_model.specs.Effects.{change_in, text_in, closed_directory, closed_file, moved_path, joined_path, settled, settle_fault};
 ghost use Rattle.svn_model.specs.Answering.{AnswersCall};
 ghost use Rattle.svn_edit.specs.declared.baton.Baton.{Baton};
@@ -93,7 +94,7 @@ impl Edit {
         or_memory(nodes::copied(self.alloc, new_text))
     }
 
-    // Closes a file that was opened, with the repository path that it gets, if it gets one. On a refusal it is as it was.
+    // Closes what stands as a file or a directory, with the repository path that it gets, if it gets one. On a refusal it is as it was.
     fn close_opened(
         &self,
         node: &mut BaseNode,
@@ -101,15 +102,13 @@ impl Edit {
         text_md5: &Option<Digest>,
         moved: Result<Option<RelPath>, AllocError>,
     ) -> Result<(), EditFault>
+        requires { is_present (Some node.old) ≡ true }
         ensures answers { (said : List Action) → Says baton.now self.now.pools said → AnswersCall (sum_fault md5 text_md5.now (filter_map text_in said) (Some node.old)) result }
         ensures closed { OnOk result ((said : List Action) (path : Path → Path) (joined : Path) → Says baton.now self.now.pools said → IfOk moved (λ m. (was : Path) → path was ≡ unwrap_or m was) → Some node.new ≡ closed_file self.now.target path joined (filter_map change_in said) (filter_map text_in said) (Some node.old)) }
         ensures refused { OnErr result (node.new ≡ node.old) }
     {
         let new_text = self.new_text(node, baton, text_md5)?;
         let moved = or_memory(moved)?;
-        if matches!(node, BaseNode::Dir { .. }) {
-            return Ok(());
-        }
         let BaseNode::File {
             rev,
             repos_path,
@@ -117,7 +116,7 @@ impl Edit {
             props,
         } = node
         else {
-            return Err(EditFault::Memory);
+            return Ok(());
         };
         let changed = or_memory(baton.changed(self.alloc, &self.pools, props))?;
         *rev = self.target;
@@ -133,30 +132,21 @@ impl Edit {
         Ok(())
     }
 
-    // Closes a file that was added, and stood as not present, with its repository path. On a refusal it is as it was.
-    // No file comes here: `close_new` has closed it as an opened one.
-    fn close_added(
+    // The file that an added one, which stood as not present, becomes at its close, with its repository path.
+    fn installed_file(
         &self,
-        node: &mut BaseNode,
         baton: &Baton,
         text_md5: &Option<Digest>,
         joined: Result<RelPath, AllocError>,
-    ) -> Result<(), EditFault>
-        ensures answers { (said : List Action) → Says baton.now self.now.pools said → AnswersCall (sum_fault md5 text_md5.now (filter_map text_in said) (Some node.old)) result }
-        ensures closed { OnOk result ((said : List Action) (moved : Path → Path) (path : Path) → Says baton.now self.now.pools said → IfOk joined (λ j. j ≡ path) → Some node.new ≡ closed_file self.now.target moved path (filter_map change_in said) (filter_map text_in said) (Some node.old)) }
-        ensures refused { OnErr result (node.new ≡ node.old) }
+    ) -> Result<BaseNode, EditFault>
+        ensures answers { (said : List Action) → Says baton.now self.now.pools said → AnswersAs (sum_fault md5 text_md5.now (filter_map text_in said) (Some NotPresent)) result }
+        ensures installed { IfOk result (λ n. (said : List Action) (moved : Path → Path) (path : Path) → Says baton.now self.now.pools said → IfOk joined (λ j. j ≡ path) → Some n ≡ closed_file self.now.target moved path (filter_map change_in said) (filter_map text_in said) (Some NotPresent)) }
     {
-        let text = self.new_text(node, baton, text_md5)?;
+        let text = self.new_text(&BaseNode::NotPresent, baton, text_md5)?;
         let repos_path = or_memory(joined)?;
-        if matches!(node, BaseNode::Dir { .. }) {
-            return Ok(());
-        }
-        if !matches!(node, BaseNode::NotPresent) {
-            return Err(EditFault::Memory);
-        }
         let mut props = Props::new(self.alloc);
         or_memory(baton.change(self.alloc, &self.pools, &mut props))?;
-        *node = BaseNode::File {
+        Ok(BaseNode::File {
             rev: self.target,
             repos_path,
             text: match text {
@@ -164,11 +154,11 @@ impl Edit {
                 None => Text::new(Vec::new(self.alloc)),
             },
             props,
-        };
-        Ok(())
+        })
     }
 
-    // Closes the file of a baton that was added. What stands there as a file is closed like an opened one.
+    // Closes what stands at the path of a baton, with the repository path that it gets if it is an added file. What stands as a file is
+    // closed like an opened one.
     fn close_new(
         &self,
         node: &mut BaseNode,
@@ -180,12 +170,12 @@ impl Edit {
         ensures closed { OnOk result ((said : List Action) (w : WorkingCopy) (p : Path) → Says baton.now self.now.pools said → p ≡ baton.now.path → IfOk joined (λ j. j ≡ joined_path w p) → Some node.new ≡ closed_file self.now.target (moved_path (mode_of self.now.root) w p) (joined_path w p) (filter_map change_in said) (filter_map text_in said) (Some node.old)) }
         ensures refused { OnErr result (node.new ≡ node.old) }
     {
-        if matches!(node, BaseNode::File { .. }) {
-            let moved = paths::moved_by(&self.root, baton.path.as_rel_path(), joined);
-            self.close_opened(node, baton, text_md5, moved)
-        } else {
-            self.close_added(node, baton, text_md5, joined)
+        if matches!(node, BaseNode::NotPresent) {
+            *node = self.installed_file(baton, text_md5, joined)?;
+            return Ok(());
         }
+        let moved = paths::moved_by(&self.root, baton.path.as_rel_path(), joined);
+        self.close_opened(node, baton, text_md5, moved)
     }
 
     // Closes a file where nothing stands: its text is tested, and nothing changes.
@@ -196,8 +186,28 @@ impl Edit {
         Ok(())
     }
 
-    // Closes the file of a baton, which is looked up once. The path that it gets is made before, and its refusal told after that of the text.
-    fn close_file_of(
+    // Closes the file of a baton, by the repository path that it gets if it is an added one. That is made before, and its refusal told after
+    // that of the text.
+    fn close_joined(
+        &self,
+        copy: &mut Nodes,
+        baton: &Baton,
+        text_md5: &Option<Digest>,
+        joined: Result<RelPath, AllocError>,
+    ) -> Result<(), EditFault>
+        requires { IfOk joined (λ j. j ≡ joined_path (get_in copy.old.entries) baton.now.path) }
+        ensures answers { (said : List Action) → Says baton.now self.now.pools said → AnswersCall (sum_fault md5 text_md5.now (filter_map text_in said) (get_in copy.old.entries baton.now.path)) result }
+        ensures closed { OnOk result ((said : List Action) → Says baton.now self.now.pools said → FileIsClosed (mode_of self.now.root) self.now.target baton.now.path (filter_map change_in said) (filter_map text_in said) copy.old.entries copy.new.entries) }
+        ensures refused { OnErr result (copy.new.entries ≡ copy.old.entries) }
+    {
+        match copy.get_mut(baton.path.as_rel_path()) {
+            Some(node) => self.close_new(node, baton, text_md5, joined),
+            None => self.close_nothing(baton, text_md5),
+        }
+    }
+
+    // Closes the file of a baton that was opened. Where it stands as not present, which can't come, it is closed like an added one.
+    fn close_present(
         &self,
         copy: &mut Nodes,
         baton: &Baton,
@@ -208,22 +218,33 @@ impl Edit {
         ensures refused { OnErr result (copy.new.entries ≡ copy.old.entries) }
     {
         let path = baton.path.as_rel_path();
-        match baton.path.above() {
-            Some(above) => {
-                let joined = paths::joined_again(self.alloc, copy, above, path);
-                match copy.get_mut(path) {
-                    Some(node) => self.close_new(node, baton, text_md5, joined),
-                    None => self.close_nothing(baton, text_md5),
-                }
-            }
-            None => {
-                let moved = paths::moved_again(self.alloc, &self.root, copy, path);
-                match copy.get_mut(path) {
-                    Some(node) => self.close_opened(node, baton, text_md5, moved),
-                    None => self.close_nothing(baton, text_md5),
-                }
-            }
+        let moved = paths::moved_again(self.alloc, &self.root, copy, path);
+        let Some(node) = copy.get_mut(path) else {
+            return self.close_nothing(baton, text_md5);
+        };
+        if nodes::is_present(Some(node)) {
+            return self.close_opened(node, baton, text_md5, moved);
         }
+        let joined = paths::joined_at(self.alloc, copy, path);
+        self.close_joined(copy, baton, text_md5, joined)
+    }
+
+    // Closes the file of a baton. By the calls in order it is looked up once.
+    fn close_file_of(
+        &self,
+        copy: &mut Nodes,
+        baton: &Baton,
+        text_md5: &Option<Digest>,
+    ) -> Result<(), EditFault>
+        ensures answers { (said : List Action) → Says baton.now self.now.pools said → AnswersCall (sum_fault md5 text_md5.now (filter_map text_in said) (get_in copy.old.entries baton.now.path)) result }
+        ensures closed { OnOk result ((said : List Action) → Says baton.now self.now.pools said → FileIsClosed (mode_of self.now.root) self.now.target baton.now.path (filter_map change_in said) (filter_map text_in said) copy.old.entries copy.new.entries) }
+        ensures refused { OnErr result (copy.new.entries ≡ copy.old.entries) }
+    {
+        let Some(above) = baton.path.above() else {
+            return self.close_present(copy, baton, text_md5);
+        };
+        let joined = paths::joined_again(self.alloc, copy, above, baton.path.as_rel_path());
+        self.close_joined(copy, baton, text_md5, joined)
     }
 
     pub(crate) fn close_file(

@@ -1,5 +1,5 @@
 //! What an edit asks of the nodes of a copy, and what it does to them.
-ghost use Rattle.std.specs.Prelude.{◌≡◌, nat_eq, IfOk, OnOk, OnErr, Some, None, is_some, if◌then◌else◌, ◌&&◌};
+ghost use Rattle.std.specs.Prelude.{◌≡◌, nat_eq, IfOk, OnOk, OnErr, Some, None, is_some, unwrap_or, if◌then◌else◌, ◌&&◌};
 ghost use Rattle.std.specs.Option.{option_copied};
 ghost use Rattle.std.specs.List.{list_any};
 ghost use Rattle.md5.specs.Md5.{md5};
@@ -113,9 +113,15 @@ pub(crate) fn text_of(node: Option<&BaseNode>) -> &[u8]
     }
 }
 
-/// A directory that is opened: incomplete at the target, and without properties where it was incomplete before.
-pub(crate) fn open_directory(alloc: Global, node: &mut BaseNode, target: Rev, moved: RelPath)
-    ensures { Some node.new ≡ opened_directory target (λ q. moved) (Some node.old) }
+/// A directory that is opened, with the repository path that it gets, if it gets one: incomplete at the target, and without properties where
+/// it was incomplete before.
+pub(crate) fn open_directory(
+    alloc: Global,
+    node: &mut BaseNode,
+    target: Rev,
+    moved: Option<RelPath>,
+)
+    ensures { (q : Path → Path) → ((was : Path) → q was ≡ unwrap_or moved was) → Some node.new ≡ opened_directory target q (Some node.old) }
 {
     if let BaseNode::Dir {
         rev,
@@ -125,26 +131,13 @@ pub(crate) fn open_directory(alloc: Global, node: &mut BaseNode, target: Rev, mo
     } = node
     {
         *rev = target;
-        *repos_path = moved;
+        if let Some(moved) = moved {
+            *repos_path = moved;
+        }
         if !*complete {
             *props = Props::new(alloc);
         }
         *complete = false;
-    }
-}
-
-/// The directory at a path is opened.
-pub(crate) fn open_directory_at(
-    alloc: Global,
-    nodes: &mut Nodes,
-    path: &RelPath,
-    target: Rev,
-    moved: RelPath,
-)
-    ensures { (p : Path) → get_in nodes.new.entries p ≡ (if path_eq path.now p then opened_directory target (λ q. moved) (get_in nodes.old.entries path.now) else get_in nodes.old.entries p) }
-{
-    if let Some(node) = nodes.get_mut(path) {
-        open_directory(alloc, node, target, moved);
     }
 }
 

@@ -1,6 +1,6 @@
 //! The opens and adds of an edit.
-ghost use Rattle.std.specs.Prelude.{◌≡◌, [], Option, IfOk, OnOk, OnErr, Some, None, if◌then◌else◌};
-ghost use Rattle.std.specs.Option.{option_copied};
+ghost use Rattle.std.specs.Prelude.{◌≡◌, [], Option, IfOk, OnOk, OnErr, Some, None, unwrap_or, if◌then◌else◌};
+ghost use Rattle.std.specs.Option.{option_copied, option_or};
 ghost use Rattle.md5.specs.Md5.{md5};
 ghost use Rattle.svn_types.specs.Names.{Path};
 ghost use Rattle.svn_types.specs.Paths.{path_eq};
@@ -9,8 +9,8 @@ ghost use Rattle.svn_editor.specs.Steps.{Open, Add};
 ghost use Rattle.svn_model.specs.Nodes.{get_in, is_present, node_path};
 ghost use Rattle.svn_model.specs.Effects.{added_node, joined_path, moved_path, step_effect, step_fault};
 ghost use Rattle.svn_model.specs.Answering.{AnswersCall};
-ghost use Rattle.svn_edit.specs.NodeTests.{deep_fault};
-ghost use Rattle.svn_edit.specs.Applying.{mode_of, pool_or, pool_of_parent, batons_of, Gives, Applied, KeepsEdit, MakesBaton, MakesNode};
+ghost use Rattle.svn_edit.specs.NodeTests.{open_fault_of, deep_fault};
+ghost use Rattle.svn_edit.specs.Applying.{mode_of, pool_or, pool_of_parent, batons_of, Gives, Applied, AnswersAs, KeepsEdit, MakesBaton, MakesNode, MovesBy};
 ghost use Rattle.svn_edit.specs.Leaving.{KeepsPools};
 
 use crate::baton::Baton;
@@ -52,25 +52,65 @@ impl Edit {
         }
     }
 
-    // The repository path that the node of a path gets when it is opened: in a switch to a root, the one under the parent's.
+    // The repository path that the node of a path gets when it is opened: in a switch to a root, the one under the parent's. In an update it
+    // keeps its own: nothing.
     fn moved(
         &self,
         copy: &Nodes,
         path: &RelPath,
         parent: Option<&Baton>,
-        node: Option<&BaseNode>,
-    ) -> Result<RelPath, EditFault>
-        requires { option_copied node ≡ get_in copy.now.entries path.now }
-        ensures { let w = get_in copy.now.entries in let p = moved_path (mode_of self.now.root) w path.now (node_path (w path.now)) in Gives (deep_fault p) p result }
+    ) -> Result<Option<RelPath>, EditFault>
+        ensures { MovesBy (moved_path (mode_of self.now.root) (get_in copy.now.entries) path.now) result }
     {
         let Some(root) = &self.root else {
-            return paths::standing(self.alloc, node);
+            return Ok(None);
         };
         if path.is_root() {
-            return paths::kept(root);
+            return Ok(Some(paths::kept(root)?));
         }
         let above = or_memory(paths::above(self.alloc, path, parent))?;
-        paths::joined(self.alloc, copy, &above, path)
+        Ok(Some(paths::joined(self.alloc, copy, &above, path)?))
+    }
+
+    // The same, once it was found that a directory may be opened. Its own faults come first, and a path that it keeps is tested too.
+    fn moved_directory(
+        &self,
+        node: &BaseNode,
+        base: Rev,
+        moved: Result<Option<RelPath>, EditFault>,
+    ) -> Result<Option<RelPath>, EditFault>
+        ensures answers { (q : Path → Path) → MovesBy q moved → AnswersAs (option_or (open_fault_of Directory (Some node.now) base) (deep_fault (q (node_path (Some node.now))))) result }
+        ensures moved { (q : Path → Path) → MovesBy q moved → IfOk result (λ m. (was : Path) → q was ≡ unwrap_or m was) }
+    {
+        if let Some(fault) = nodes::open_directory_fault(Some(node), base) {
+            return Err(fault);
+        }
+        let moved = moved?;
+        if moved.is_none() {
+            paths::test_standing(self.alloc, Some(node))?;
+        }
+        Ok(moved)
+    }
+
+    // TooDeep where the repository path that the node of a path gets when it is opened has over 64 names. It isn't made.
+    fn test_moved(
+        &self,
+        copy: &Nodes,
+        path: &RelPath,
+        parent: Option<&Baton>,
+        node: Option<&BaseNode>,
+    ) -> Result<(), EditFault>
+        requires { option_copied node ≡ get_in copy.now.entries path.now }
+        ensures { let w = get_in copy.now.entries in AnswersCall (deep_fault (moved_path (mode_of self.now.root) w path.now (node_path (w path.now)))) result }
+    {
+        let Some(root) = &self.root else {
+            return paths::test_standing(self.alloc, node);
+        };
+        if path.is_root() {
+            return paths::test_path(root);
+        }
+        let above = or_memory(paths::above(self.alloc, path, parent))?;
+        paths::test_joined(self.alloc, copy, &above, path)
     }
 
     pub(crate) fn open_root(
@@ -101,16 +141,16 @@ impl Edit {
         ensures unchanged { OnErr result (KeepsPools self.old self.new) }
         ensures applied { let a = Open Directory base in let w = get_in copy.old.entries in Applied (step_fault md5 (mode_of self.old.root) [] w path.now a) (step_effect (mode_of self.old.root) self.old.target [] (record { path = path.now; action = a }) w) copy.old.entries result copy.new.entries }
     {
-        let node = copy.get(path);
-        if let Some(fault) = nodes::open_directory_fault(node, base) {
-            return Err(fault);
-        }
         let parent = self.baton_of(parent);
-        let moved = self.moved(copy, path, parent, node)?;
         let beneath = self.pool_of(parent);
+        let moved = self.moved(copy, path, parent);
+        let Some(node) = copy.get_mut(path) else {
+            return Err(EditFault::NoEntry);
+        };
+        let moved = self.moved_directory(node, base, moved)?;
         let open = or_memory(OpenPath::opened(path))?;
         self.open_baton(beneath, open, token)?;
-        nodes::open_directory_at(self.alloc, copy, path, self.target, moved);
+        nodes::open_directory(self.alloc, node, self.target, moved);
         Ok(())
     }
 
@@ -131,7 +171,7 @@ impl Edit {
         if let Some(fault) = nodes::open_file_fault(node, base) {
             return Err(fault);
         }
-        let _moved = self.moved(copy, path, self.batons.get(&parent.0), node)?;
+        self.test_moved(copy, path, self.batons.get(&parent.0), node)?;
         let open = or_memory(OpenPath::opened(path))?;
         let root = self.pools.root();
         self.open_baton(root, open, token)
@@ -170,7 +210,7 @@ impl Edit {
         ensures { let q = joined_path (get_in copy.now.entries) path.now in MakesNode path.now (deep_fault q) (added_node File self.now.target q) result }
     {
         let above = or_memory(paths::above(self.alloc, path, parent))?;
-        let _joined = paths::joined(self.alloc, copy, &above, path)?;
+        paths::test_joined(self.alloc, copy, &above, path)?;
         Ok(NewNode {
             at: or_memory(path.clone())?,
             opened: or_memory(OpenPath::added(path, above))?,

@@ -5,10 +5,12 @@ ghost use Rattle.svn_types.specs.Names.{Path, depth_limit};
 ghost use Rattle.svn_types.specs.Paths.{parent, parent as directory_of, last_name};
 ghost use Rattle.svn_model.specs.Nodes.{WorkingCopy, get_in, node_path};
 ghost use Rattle.svn_model.specs.Effects.{joined_path, moved_path};
+ghost use Rattle.svn_model.specs.Answering.{AnswersCall};
 ghost use Rattle.svn_edit.specs.NodeTests.{deep_fault};
 ghost use Rattle.svn_edit.specs.Applying.{Gives, mode_of};
 
 use crate::baton::Baton;
+use crate::edit::or_memory;
 use crate::nodes::Nodes;
 use std::alloc::{AllocError, Global};
 use svn_editor::EditFault;
@@ -56,46 +58,36 @@ pub(crate) fn above(
     }
 }
 
+// TooDeep for a repository path of so many names, if they are over 64.
+fn test_depth(names: usize) -> Result<(), EditFault>
+    ensures { (p : Path) → length p ≡ names → AnswersCall (deep_fault p) result }
+{
+    if names > MAX_DEPTH {
+        return Err(EditFault::TooDeep);
+    }
+    Ok(())
+}
+
+// The same of a repository path with the last name of a path behind it. That path isn't made.
+fn test_last(above: &RelPath, path: &RelPath) -> Result<(), EditFault>
+    ensures { AnswersCall (deep_fault (above.now ++ last_name path.now)) result }
+{
+    test_depth(above.components().len() + usize::from(!path.is_root()))
+}
+
+/// TooDeep for a repository path of over 64 names.
+pub(crate) fn test_path(path: &RelPath) -> Result<(), EditFault>
+    ensures { AnswersCall (deep_fault path.now) result }
+{
+    test_depth(path.components().len())
+}
+
 /// A copy of a repository path. TooDeep for over 64 names.
 pub(crate) fn kept(path: &RelPath) -> Result<RelPath, EditFault>
     ensures { Gives (deep_fault path.now) path.now result }
 {
-    if path.components().len() > MAX_DEPTH {
-        return Err(EditFault::TooDeep);
-    }
-    match path.clone() {
-        Ok(copy) => Ok(copy),
-        Err(_) => Err(EditFault::Memory),
-    }
-}
-
-// A repository path with a name behind it. TooDeep for over 64 names.
-fn with_name(alloc: Global, above: &RelPath, name: &Name) -> Result<RelPath, EditFault>
-    ensures { Gives (deep_fault (above.now ++ name.now ∷ [])) (above.now ++ name.now ∷ []) result }
-{
-    if above.components().len() >= MAX_DEPTH {
-        return Err(EditFault::TooDeep);
-    }
-    match above.join(alloc, name) {
-        Ok(below) => Ok(below),
-        Err(_) => Err(EditFault::Memory),
-    }
-}
-
-// A repository path with the last name of a path behind it. Where that is the path itself, a clone shares it.
-fn with_last(alloc: Global, above: &RelPath, path: &RelPath) -> Result<RelPath, EditFault>
-    ensures { Gives (deep_fault (above.now ++ last_name path.now)) (above.now ++ last_name path.now) result }
-{
-    match path.components().last() {
-        Some(name) => {
-            if path.is_child_of(above, name) {
-                kept(path)
-            } else {
-                with_name(alloc, above, name)
-            }
-        }
-        None => kept(above),
-    }
+    test_path(path)?;
+    or_memory(path.clone())
 }
 
 // The repository path of the node there. Where none is present it is the root.
@@ -109,29 +101,7 @@ fn repos_path<'a>(node: Option<&'a BaseNode>, root: &'a RelPath) -> &'a RelPath
     }
 }
 
-/// The repository path that an added node gets: the parent's joined with the name.
-pub(crate) fn joined(
-    alloc: Global,
-    copy: &Nodes,
-    above: &RelPath,
-    path: &RelPath,
-) -> Result<RelPath, EditFault>
-    requires { above.now ≡ parent path.now }
-    ensures { Gives (deep_fault (joined_path (get_in copy.now.entries) path.now)) (joined_path (get_in copy.now.entries) path.now) result }
-{
-    let empty = RelPath::root(alloc);
-    with_last(alloc, repos_path(copy.get(above), &empty), path)
-}
-
-/// A copy of the repository path of the node there. TooDeep for over 64 names.
-pub(crate) fn standing(alloc: Global, node: Option<&BaseNode>) -> Result<RelPath, EditFault>
-    ensures { let p = node_path (option_copied node.entry) in Gives (deep_fault p) p result }
-{
-    let empty = RelPath::root(alloc);
-    kept(repos_path(node, &empty))
-}
-
-// The same without a test of its length.
+// A repository path with the last name of a path behind it. Where that is the path itself, a clone shares it.
 fn with_last_name(alloc: Global, above: &RelPath, path: &RelPath) -> Result<RelPath, AllocError>
     ensures { IfOk result (λ q. q ≡ above.now ++ last_name path.now) }
 {
@@ -147,6 +117,44 @@ fn with_last_name(alloc: Global, above: &RelPath, path: &RelPath) -> Result<RelP
     }
 }
 
+/// The repository path that an added node gets: the parent's joined with the name. TooDeep for over 64 names.
+pub(crate) fn joined(
+    alloc: Global,
+    copy: &Nodes,
+    above: &RelPath,
+    path: &RelPath,
+) -> Result<RelPath, EditFault>
+    requires { above.now ≡ parent path.now }
+    ensures { Gives (deep_fault (joined_path (get_in copy.now.entries) path.now)) (joined_path (get_in copy.now.entries) path.now) result }
+{
+    let empty = RelPath::root(alloc);
+    let above = repos_path(copy.get(above), &empty);
+    test_last(above, path)?;
+    or_memory(with_last_name(alloc, above, path))
+}
+
+/// TooDeep where that path has over 64 names. It isn't made.
+pub(crate) fn test_joined(
+    alloc: Global,
+    copy: &Nodes,
+    above: &RelPath,
+    path: &RelPath,
+) -> Result<(), EditFault>
+    requires { above.now ≡ parent path.now }
+    ensures { AnswersCall (deep_fault (joined_path (get_in copy.now.entries) path.now)) result }
+{
+    let empty = RelPath::root(alloc);
+    test_last(repos_path(copy.get(above), &empty), path)
+}
+
+/// TooDeep where the repository path of the node there has over 64 names. It isn't copied.
+pub(crate) fn test_standing(alloc: Global, node: Option<&BaseNode>) -> Result<(), EditFault>
+    ensures { AnswersCall (deep_fault (node_path (option_copied node.entry))) result }
+{
+    let empty = RelPath::root(alloc);
+    test_path(repos_path(node, &empty))
+}
+
 /// The repository path that an added file gets at its close. Its length was tested when it was added.
 pub(crate) fn joined_again(
     alloc: Global,
@@ -159,6 +167,14 @@ pub(crate) fn joined_again(
 {
     let empty = RelPath::root(alloc);
     with_last_name(alloc, repos_path(copy.get(above), &empty), path)
+}
+
+/// The same by the file's path alone.
+pub(crate) fn joined_at(alloc: Global, copy: &Nodes, path: &RelPath) -> Result<RelPath, AllocError>
+    ensures { IfOk result (λ q. q ≡ joined_path (get_in copy.now.entries) path.now) }
+{
+    let above = parent_path(alloc, path)?;
+    joined_again(alloc, copy, &above, path)
 }
 
 /// The repository path that an opened file gets at its close: nothing where it keeps its own. Its length was tested when it was opened.
@@ -176,8 +192,7 @@ pub(crate) fn moved_again(
     if path.is_root() {
         return Ok(Some(root.clone()?));
     }
-    let above = parent_path(alloc, path)?;
-    Ok(Some(joined_again(alloc, copy, &above, path)?))
+    Ok(Some(joined_at(alloc, copy, path)?))
 }
 
 /// The same by the path that the file would get if it was added.

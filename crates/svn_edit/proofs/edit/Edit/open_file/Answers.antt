@@ -21,12 +21,12 @@ returns-clause-applied c =
     let shut : open_fault_of File (w p) c.args.base ≡ None = search rules in
     let fault : step_fault md5 mode [] w p (Open File c.args.base) ≡ None =
     sym (open_fault_is md5 mode [] w p File c.args.base) ∙ ap (λ o. option_or o (deep_fault (moved_path mode w p (node_path (w p))))) shut
-    ∙ c.in_ok-_moved.ensures.0 in
+    ∙ c.in_ok-test_moved.ensures in
     applied_none (step_fault md5 mode [] w p (Open File c.args.base)) _ c.args.copy.now.entries c.open_baton.result fault
     (effect_none mode c.args.self.now.target [] p (Open File c.args.base) w (λ o. refl) refl) c.open_baton.ensures.fault
 
 pub returns-in-Some-clause-unchanged : goal.returns-in-Some-clause-unchanged
 returns-in-Some-clause-unchanged c = keeps_same c.args.self.now
 
-pub returns-in_err-_moved-clause-unchanged : goal.returns-in_err-_moved-clause-unchanged
-returns-in_err-_moved-clause-unchanged c = on_err c.from_residual.result (keeps_same c.args.self.now)
+pub returns-in_err-test_moved-clause-unchanged : goal.returns-in_err-test_moved-clause-unchanged
+returns-in_err-test_moved-clause-unchanged c = on_err c.from_residual.result (keeps_same c.args.self.now)
