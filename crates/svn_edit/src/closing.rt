@@ -186,8 +186,8 @@ impl Edit {
         Ok(())
     }
 
-    // Closes the file of a baton, by the repository path that it gets if it is an added one. That is made before, and its refusal told after
-    // that of the text.
+    // Closes the file of a baton, with the repository path that it gets if it is an added one. That is made before, and its refusal told
+    // after that of the text.
     fn close_joined(
         &self,
         copy: &mut Nodes,

@@ -113,8 +113,8 @@ pub(crate) fn text_of(node: Option<&BaseNode>) -> &[u8]
     }
 }
 
-/// A directory that is opened, with the repository path that it gets, if it gets one: incomplete at the target, and without properties where
-/// it was incomplete before.
+/// A directory that is opened, with the repository path that it gets, if it gets one: incomplete at the target, and without properties
+/// where it was incomplete before.
 pub(crate) fn open_directory(
     alloc: Global,
     node: &mut BaseNode,

@@ -52,8 +52,8 @@ impl Edit {
         }
     }
 
-    // The repository path that the node of a path gets when it is opened: in a switch to a root, the one under the parent's. In an update it
-    // keeps its own: nothing.
+    // The repository path that the node of a path gets when it is opened: in a switch to a root, the one under the parent's. In an update
+    // it keeps its own: nothing.
     fn moved(
         &self,
         copy: &Nodes,

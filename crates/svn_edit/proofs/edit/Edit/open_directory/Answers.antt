@@ -30,8 +30,9 @@ returns-in_err-moved-clause-applied c =
     subst (λ (o : Option BaseNode). IsAnswer (option_or (open_fault_of Directory o c.args.base) (deep_fault (moved (node_path o))))
     c.in_err-moved.field-0.0) c.in-Some.ensures.value (c.in_err-moved.ensures.answers moved c.moved-moved.ensures) in
     applied_refused (step_fault md5 mode [] w p (Open Directory c.args.base)) _ nodes _ c.from_residual.result c.in_err-moved.field-0.0
-    (search rules) (subst (λ (o : Option EditFault). IsAnswer o c.in_err-moved.field-0.0) (open_fault_is md5 mode [] w p Directory c.args.base)
-    refused) ((c.get_mut.follows.holds c.in-Some.node.now).0 ∙ set_value_same _ _ _ (sym c.in-Some.ensures.value))
+    (search rules)
+    (subst (λ (o : Option EditFault). IsAnswer o c.in_err-moved.field-0.0) (open_fault_is md5 mode [] w p Directory c.args.base) refused)
+    ((c.get_mut.follows.holds c.in-Some.node.now).0 ∙ set_value_same _ _ _ (sym c.in-Some.ensures.value))
 
 pub returns-in_err-open-clause-applied : goal.returns-in_err-open-clause-applied
 returns-in_err-open-clause-applied c =
