@@ -6,6 +6,7 @@ use Rattle.std.specs.List.{cons_option}
 use Rattle.svn_types.specs.declared.kind.Kind.{Kind}
 use Rattle.svn_types.specs.declared.kind.Kind.TheVariants.{File, Directory}
 use Rattle.svn_types.specs.Names.{Path}
+use Rattle.svn_types.specs.PathKeys.{path_key}
 use Rattle.svn_types.specs.Paths.{path_eq}
 use Rattle.svn_types.specs.Props.{PropChange}
 use Rattle.svn_pool.specs.Pools.{Entry, Pools, pool_at, parent_of, strings_of_pool}
@@ -32,7 +33,7 @@ use Rattle.svn_edit_law.proofs.OnePath.{noted, pathed}
 use Rattle.svn_model.specs.Nodes.{WorkingCopy, get_in}
 use Rattle.svn_model.specs.Effects.{change_in, changes_at, closed_directory, is_too_long, step_fault, step_effect, effect, edit_fault}
 use Rattle.svn_model.specs.Said.{says, said_at}
-use Rattle.svn_edit.specs.Noted.{slashed, note_of, strings_of}
+use Rattle.svn_edit.specs.Noted.{note_of, strings_of}
 use Rattle.svn_edit.specs.Applying.{Applied, BatonSaid, BatonNoted, KeepsEdit, batons_of, is_open, IsBaton, BatonGone, IsLeaf, Says, Holds}
 use Rattle.svn_edit.specs.Applying.{IsNext, BatonMap}
 use Rattle.svn_model.specs.Answering.{AnswersCall}
@@ -76,7 +77,7 @@ pub says_of : (pools : Pools) (at : ℕ → Option Baton) (calls : List Call) (t
     → Says b pools (said_at (path_of calls t) (steps_of calls))
 says_of pools at calls t b is = record {
   notes = is.notes;
-  first = slashed (path_of calls t);
+  first = path_key (path_of calls t);
   strings = ap strings_of_pool is.pool;
   text =
       is.text;

@@ -9,6 +9,7 @@ use Rattle.std.proofs.lemmas.Option.{slice_get_past, same_Some}
 use Rattle.svn_types.specs.declared.kind.Kind.{Kind}
 use Rattle.svn_types.specs.declared.kind.Kind.TheVariants.{File, Directory}
 use Rattle.svn_types.specs.Names.{Path}
+use Rattle.svn_types.specs.PathKeys.{path_key}
 use Rattle.svn_pool.specs.Pools.{Entry, Pools, pool_at, parent_of, strings_of_pool, strings_at}
 use Rattle.svn_pool.specs.Ancestry.{IsAbove, IsBeneath}
 use Rattle.svn_editor.specs.declared.call.Call.{Call}
@@ -24,7 +25,7 @@ use Rattle.svn_edit_law.specs.Laws.{IsPathed}
 use Rattle.svn_model.specs.Said.{says, said_at}
 use Rattle.svn_model.specs.Effects.{text_in}
 use Rattle.svn_edit.specs.NodeTests.{first_of}
-use Rattle.svn_edit.specs.Noted.{slashed, note_of, strings_of}
+use Rattle.svn_edit.specs.Noted.{note_of, strings_of}
 use Rattle.svn_edit.specs.Applying.{Batons, is_open, open_count, IsTextAt, text_place, pool_or, pool_of_parent, pool_of_kind, pool_above}
 use Rattle.svn_edit.specs.Applying.{pool_entry, IsBaton, HoldsBatons, BatonMade, BatonNoted, BatonGone, IsLeaf}
 use Rattle.std.proofs.lemmas.List.{map-append}
@@ -79,12 +80,12 @@ carried pools pools2 at at2 calls calls2 t b h same said root above pool = recor
   path = h.path ∙ sym (ap given_path same);
   notes = h.notes ∙ sym (ap (λ (l : List Action). map note_of l) says_same);
   pool = pool ∙ h.pool
-      ∙ (λ i. Some (pool_entry (sym above_same i) (slashed (given_path (sym same i)) ∷ flat_map strings_of (sym says_same i))));
+      ∙ (λ i. Some (pool_entry (sym above_same i) (path_key (given_path (sym same i)) ∷ flat_map strings_of (sym says_same i))));
   text =
       let said2 = said_at (path_of calls2 t) (steps_of calls2) in
-      subst (λ (p : Path). IsTextAt b.text (slashed p ∷ flat_map strings_of said2) (first_of (filter_map text_in said2)))
+      subst (λ (p : Path). IsTextAt b.text (path_key p ∷ flat_map strings_of said2) (first_of (filter_map text_in said2)))
       (sym (ap given_path same))
-      (subst (λ (l : List Action). IsTextAt b.text (slashed (path_of calls t) ∷ flat_map strings_of l) (first_of (filter_map text_in l)))
+      (subst (λ (l : List Action). IsTextAt b.text (path_key (path_of calls t) ∷ flat_map strings_of l) (first_of (filter_map text_in l)))
       (sym says_same) h.text);
 }
   where
@@ -204,7 +205,7 @@ module _ (pools : Pools) (at : Batons) (calls : List Call) (c : Call) (g : Given
   own_baton = record {
     path = made.path ∙ sym (ap given_path given_here);
     notes = made.notes ∙ sym (ap (λ (l : List Action). map note_of l) said_own);
-    pool = made.made ∙ (λ i. Some (pool_entry (sym above_now i) (slashed (given_path (sym given_here i)) ∷ flat_map strings_of
+    pool = made.made ∙ (λ i. Some (pool_entry (sym above_now i) (path_key (given_path (sym given_here i)) ∷ flat_map strings_of
         (sym said_own i))));
     text = subst (λ (o : Option ℕ). IsTextAt o _
         (first_of (filter_map text_in (said_at (path_of (calls ++ c ∷ []) g.token) (steps_of (calls ++ c ∷ [])))))) (sym made.text)
@@ -324,7 +325,7 @@ module _ (pools : Pools) (at : Batons) (calls : List Call) (c : Call) (m : ℕ) 
     pool = ap (pool_at pools2) n.same_pool ∙ n.own ∙ (λ i. Some (record { parent = parent_now i; strings = strings_now i }));
     text =
         let texts = first_of (filter_map text_in (said_at (path_of (calls ++ c ∷ []) m) (steps_of (calls ++ c ∷ [])))) in
-        subst (λ (o : Option ℕ). IsTextAt o (slashed (path_of (calls ++ c ∷ []) m) ∷ flat_map strings_of
+        subst (λ (o : Option ℕ). IsTextAt o (path_key (path_of (calls ++ c ∷ []) m) ∷ flat_map strings_of
         (said_at (path_of (calls ++ c ∷ []) m) (steps_of (calls ++ c ∷ [])))) texts)
         (sym (n.text ∙ ap (λ (o : Option Entry). text_place (note_of act) (length (strings_of_pool o)) b.text) own.pool))
         (subst (λ (l : List (List ℕ)). IsTextAt (text_place (note_of act) (length before) b.text) l texts) more
@@ -334,23 +335,23 @@ module _ (pools : Pools) (at : Batons) (calls : List Call) (c : Call) (m : ℕ) 
   }
     where
       before : List (List ℕ)
-      before = slashed (path_of calls m) ∷ flat_map strings_of (said_at (path_of calls m) (steps_of calls))
+      before = path_key (path_of calls m) ∷ flat_map strings_of (said_at (path_of calls m) (steps_of calls))
 
-      more : before ++ strings_of act ≡ slashed (path_of (calls ++ c ∷ []) m) ∷ flat_map strings_of
+      more : before ++ strings_of act ≡ path_key (path_of (calls ++ c ∷ []) m) ∷ flat_map strings_of
           (said_at (path_of (calls ++ c ∷ []) m) (steps_of (calls ++ c ∷ [])))
       more =
           let said = said_at (path_of calls m) (steps_of calls) in
-          ap (λ (l : List (List ℕ)). slashed (path_of calls m) ∷ l)
+          ap (λ (l : List (List ℕ)). path_key (path_of calls m) ∷ l)
           (sym (flat_map-append strings_of said (act ∷ []) ∙ ap (λ (l : List (List ℕ)). flat_map strings_of said ++ l)
           (append-nil (strings_of act))))
-          ∙ (λ i. slashed (given_path (sym (given_still calls c m gives) i)) ∷ flat_map strings_of (sym said_now i))
+          ∙ (λ i. path_key (given_path (sym (given_still calls c m gives) i)) ∷ flat_map strings_of (sym said_now i))
 
       parent_now : parent_of (pool_at pools b.pool.0) ≡ Some (pool_above pools2.root at2 (given (calls ++ c ∷ []) m))
       parent_now = ap parent_of own.pool ∙ ap Some
           (sym ((λ i. pool_above (n.root i) at2 (given_still calls c m gives i)) ∙ above_kept (given calls m)))
 
       strings_now : strings_at pools b.pool.0 ++ strings_of act
-          ≡ slashed (path_of (calls ++ c ∷ []) m) ∷ flat_map strings_of (said_at (path_of (calls ++ c ∷ []) m) (steps_of (calls ++ c ∷ [])))
+          ≡ path_key (path_of (calls ++ c ∷ []) m) ∷ flat_map strings_of (said_at (path_of (calls ++ c ∷ []) m) (steps_of (calls ++ c ∷ [])))
       strings_now = ap (λ (o : Option Entry). strings_of_pool o ++ strings_of act) own.pool ∙ more
 
   other_baton : (t : ℕ) (d : Baton) → t ≢ m → at t ≡ Some d → IsBaton pools2 at2 (calls ++ c ∷ []) t d

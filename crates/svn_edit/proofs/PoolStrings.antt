@@ -1,6 +1,6 @@
 -- Pools after strings were pushed, and what is said there.
 use Rattle.std.proofs.Common.{◌≡◌, ◌≢◌, ℕ, zero, suc, ◌+◌, Bool, true, false, cond, List, [], ◌∷◌, ◌++◌, length, refl, sym, ◌∙◌, ap}
-use Rattle.std.proofs.Common.{append_assoc, append-nil, arith, true≢false, inl, inr}
+use Rattle.std.proofs.Common.{append_assoc, arith, true≢false, inl, inr}
 use Rattle.std.proofs.lemmas.Option.{none-some}
 use Rattle.std.specs.Prelude.{Option, Some, None, is_some, Result, Err, nat_eq, ◌-◌}
 use Rattle.std.specs.FinMap as fin
@@ -8,6 +8,7 @@ use Rattle.std.specs.Ordering.{nat_cmp}
 use Rattle.std.proofs.lemmas.Bool.{cases_eq}
 use Rattle.std.proofs.lemmas.Cmp.{nat_cmp_total}
 use Rattle.svn_types.specs.Names.{Path}
+use Rattle.svn_types.specs.PathKeys.{path_key}
 use Rattle.svn_pool.specs.Pools.{Entry, Pools, pool_at, parent_of, strings_of_pool, strings_at, created, pushed}
 use Rattle.svn_pool.specs.Ancestry.{IsAbove, IsBeneath, IsCleared, IsDestroyed}
 use Rattle.svn_pool.specs.Faults.{Settles}
@@ -18,7 +19,6 @@ use Rattle.svn_editor.proofs.Nested.{true_eq}
 use Rattle.svn_pool.proofs.Views.{inserted_here, inserted_away, removed_here, removed_away}
 use Rattle.svn_edit.specs.declared.baton.Baton.{Baton}
 use Rattle.svn_edit.specs.declared.baton.Note.{Note}
-use Rattle.svn_edit.specs.Noted.{slashed, slashed_after}
 use Rattle.svn_edit.specs.Applying.{pool_entry, text_place, BatonBegun, BatonSaid, IsLeaf, PoolGone}
 
 pub own_one : (t : Pools) (s : ℕ) (x : List ℕ) → pool_at (pushed t s x) s ≡ Some
@@ -98,7 +98,7 @@ said_two b d t u note x y path pool notes text is = record {
 pub begun : (b : Baton) (t u : Pools) (beneath : ℕ) (p : Path) (text : List ℕ) → b.path ≡ p → b.notes.items ≡ [] → b.text ≡ None
     → b.pool.0 ≡ t.next → pool_at t t.next ≡ None → t.next ≢ t.root
     → ((q : ℕ) → parent_of (pool_at (created t beneath) q) ≢ Some t.next)
-    → u ≡ pushed (created t beneath) t.next text → text ≡ slashed p → BatonBegun beneath p t b u
+    → u ≡ pushed (created t beneath) t.next text → text ≡ path_key p → BatonBegun beneath p t b u
 begun b t u beneath p text path notes none pool fresh apart childless is spelled = record {
   path = path;
   notes = notes;
@@ -121,13 +121,6 @@ begun b t u beneath p text path notes none pool fresh apart childless is spelled
   leaf = λ q e. childless q (sym (ap (λ (v : Pools). parent_of (pool_at v q)) is ∙ parents_one (created t beneath) t.next text q) ∙ e
       ∙ ap Some pool);
 }
-
--- ---- names with slashes
-
-pub slashed-more : (p : Path) (n : List ℕ) → slashed_after (p ++ n ∷ []) ≡ slashed_after p ++ 47 ∷ n
-slashed-more [] n = ap (λ (l : List ℕ). 47 ∷ l) (append-nil n)
-slashed-more (m ∷ p) n = ap (λ (l : List ℕ). 47 ∷ m ++ l) (slashed-more p n)
-    ∙ ap (λ (l : List ℕ). 47 ∷ l) (sym (append_assoc m (slashed_after p) (47 ∷ n)))
 
 -- ---- a pool without pools beneath it
 

@@ -11,6 +11,7 @@ use Rattle.std.specs.FinMap as map
 use Rattle.svn_types.specs.declared.kind.Kind.{Kind}
 use Rattle.svn_types.specs.declared.kind.Kind.TheVariants.{File, Directory}
 use Rattle.svn_types.specs.Names.{Path}
+use Rattle.svn_types.specs.PathKeys.{path_key}
 use Rattle.svn_pool.specs.Pools.{Entry, Pools, pool_at, parent_of, strings_at}
 use Rattle.svn_pool.specs.Ancestry.{IsBeneath}
 use Rattle.svn_editor.specs.declared.call.Call.{Call}
@@ -37,7 +38,7 @@ use Rattle.svn_model.specs.Effects.{after, change_in, text_in}
 use Rattle.svn_model.specs.Said.{said_at}
 use Rattle.svn_model.specs.Answering.{IsAnswer}
 use Rattle.svn_edit.specs.NodeTests.{first_of, deep_fault}
-use Rattle.svn_edit.specs.Noted.{slashed, note_of, strings_of}
+use Rattle.svn_edit.specs.Noted.{note_of, strings_of}
 
 abbrev pub mode_of : Option Path → Mode
 mode_of None = Update
@@ -123,9 +124,9 @@ pub record IsBaton (pools : Pools) (at : Batons) (calls : List Call) (t : ℕ) (
   pub path : b.path ≡ path_of calls t
   pub notes : b.notes.items ≡ map note_of (said_at (path_of calls t) (steps_of calls))
   pub pool : pool_at pools b.pool.0
-      ≡ Some (pool_entry (pool_above pools.root at (given calls t)) (slashed (path_of calls t) ∷ flat_map strings_of
+      ≡ Some (pool_entry (pool_above pools.root at (given calls t)) (path_key (path_of calls t) ∷ flat_map strings_of
       (said_at (path_of calls t) (steps_of calls))))
-  pub text : IsTextAt b.text (slashed (path_of calls t) ∷ flat_map strings_of (said_at (path_of calls t) (steps_of calls)))
+  pub text : IsTextAt b.text (path_key (path_of calls t) ∷ flat_map strings_of (said_at (path_of calls t) (steps_of calls)))
       (first_of (filter_map text_in (said_at (path_of calls t) (steps_of calls))))
 
 -- the batons are those of the open tokens, each with a pool of its own, and there is no other pool but that of the edit
@@ -150,7 +151,7 @@ pub record BatonBegun (beneath : ℕ) (p : Path) (old : Pools) (b : Baton) (new 
   pub notes : b.notes.items ≡ []
   pub text : b.text ≡ None
   pub fresh : pool_at old b.pool.0 ≡ None
-  pub made : pool_at new b.pool.0 ≡ Some (pool_entry beneath (slashed p ∷ []))
+  pub made : pool_at new b.pool.0 ≡ Some (pool_entry beneath (path_key p ∷ []))
   pub others : (s : ℕ) → s ≢ b.pool.0 → pool_at new s ≡ pool_at old s
   pub root : new.root ≡ old.root
   pub count : map.len new.live ≡ map.len old.live + 1
@@ -193,7 +194,7 @@ pub record BatonMade (beneath : ℕ) (p : Path) (t : ℕ) (pools : Pools) (at : 
   pub notes : baton.notes.items ≡ []
   pub text : baton.text ≡ None
   pub fresh : pool_at pools baton.pool.0 ≡ None
-  pub made : pool_at pools2 baton.pool.0 ≡ Some (pool_entry beneath (slashed p ∷ []))
+  pub made : pool_at pools2 baton.pool.0 ≡ Some (pool_entry beneath (path_key p ∷ []))
   pub others : (s : ℕ) → s ≢ baton.pool.0 → pool_at pools2 s ≡ pool_at pools s
   pub root : pools2.root ≡ pools.root
   pub count : map.len pools2.live ≡ map.len pools.live + 1

@@ -5,6 +5,7 @@ use Rattle.std.specs.Prelude.{nat_eq, ◌≡◌, ◌≢◌, ℕ, ◌+◌, false,
 use Rattle.std.specs.List.{list_any, flat_map}
 use Rattle.std.specs.FinMap as map
 use Rattle.svn_types.specs.Names.{Path}
+use Rattle.svn_types.specs.PathKeys.{path_key}
 use Rattle.svn_pool.specs.Pools.{Entry, Pools, pool_at, parent_of, strings_at}
 use Rattle.svn_pool.specs.Ancestry.{IsBeneath}
 use Rattle.svn_editor.specs.declared.call.Call.{Call}
@@ -17,7 +18,7 @@ use Rattle.svn_model.specs.Nodes.{WorkingCopy}
 use Rattle.svn_model.specs.Said.{said_at}
 use Rattle.svn_edit.specs.declared.baton.Baton.{Baton}
 use Rattle.svn_edit.specs.declared.edit.Edit.{Edit}
-use Rattle.svn_edit.specs.Noted.{slashed, strings_of, strings_of_value}
+use Rattle.svn_edit.specs.Noted.{strings_of, strings_of_value}
 use Rattle.svn_edit.specs.Applying.{Batons, batons_of, is_open, open_count, pool_above, IsRefused, OneIsLeft, StandsAfter}
 
 -- ---- the pools and the batons of an edit that a call was refused to
@@ -37,7 +38,7 @@ pub record HasPool (pools : Pools) (at : Batons) (calls : List Call) (refused : 
   pub left : List (List ℕ)
   pub among : begun ++ left ≡ refused
   pub strings : strings_at pools b.pool.0
-      ≡ (slashed (path_of calls t) ∷ flat_map strings_of (said_at (path_of calls t) (steps_of calls))) ++ begun
+      ≡ (path_key (path_of calls t) ∷ flat_map strings_of (said_at (path_of calls t) (steps_of calls))) ++ begun
 
 -- the batons are those of the open tokens, each with a pool of its own, and there is no other pool but that of the edit
 pub record HoldsPools (pools : Pools) (at : Batons) (calls : List Call) (c : Call) : Type 0 where

@@ -1,20 +1,10 @@
--- What the strings of an open file's or directory's pool say: the path, and then what the calls on it are about.
+-- What the strings of an open file's or directory's pool say: the path by its key, and then what the calls on it are about.
 --     changes_said notes strings, texts_said notes strings      the same, read from strings and what is noted beside them
-use Rattle.std.specs.Prelude.{ℕ, Bool, true, false, List, [], ◌∷◌, ◌++◌, Option, Some, None}
-use Rattle.svn_types.specs.Names.{Path}
+use Rattle.std.specs.Prelude.{ℕ, Bool, true, false, List, [], ◌∷◌, Option, Some, None}
 use Rattle.svn_types.specs.Props.{PropChange}
 use Rattle.svn_editor.specs.Steps.{Action, Change, Text}
 use Rattle.svn_edit.specs.declared.baton.Note.{Note}
 use Rattle.svn_edit.specs.declared.baton.Note.TheVariants.{Set, Remove, Text as NewText}
-
--- a path with a slash between its names
-abbrev pub slashed_after : Path → List ℕ
-slashed_after [] = []
-slashed_after (name ∷ p) = 47 ∷ name ++ slashed_after p
-
-abbrev pub slashed : Path → List ℕ
-slashed [] = []
-slashed (name ∷ p) = name ++ slashed_after p
 
 -- a note of a property
 abbrev pub is_change : Note → Bool

@@ -9,7 +9,7 @@ ghost use Rattle.svn_editor.specs.Steps.{Action, Change};
 ghost use Rattle.svn_edit.specs.declared.baton.Note.{Note as NoteOf};
 ghost use Rattle.svn_edit.specs.declared.baton.Note.TheVariants.{Text as NewText};
 ghost use Rattle.svn_model.specs.Effects.{change_in, text_in};
-ghost use Rattle.svn_edit.specs.Noted.{slashed, is_change, note_of_value, strings_of_value};
+ghost use Rattle.svn_edit.specs.Noted.{is_change, note_of_value, strings_of_value};
 ghost use Rattle.svn_edit.specs.NodeTests.{first_of};
 ghost use Rattle.svn_edit.specs.Leaving.{SamePools, BatonBegan};
 ghost use Rattle.svn_edit.specs.Applying.{BatonBegun, BatonSaid, Says, IsLeaf, PoolGone, Properties, StillSaid};
@@ -17,9 +17,9 @@ ghost use Rattle.svn_edit.specs.Applying.{BatonBegun, BatonSaid, Says, IsLeaf, P
 use crate::open_path::OpenPath;
 use std::alloc::{AllocError, Global};
 use svn_pool::{PoolId, PoolTree, Reader};
-use svn_types::{Name, PropName, Props, Text};
+use svn_types::{PropName, Props, Text};
 
-/// What the strings of a baton's pool say, behind the first, which is the path.
+/// What the strings of a baton's pool say, behind the first, which is the path's key.
 #[derive(Clone, Copy, Debug)]
 pub(crate) enum Note {
     /// Two strings: the name of a property, and its new value.
@@ -49,22 +49,6 @@ pub(crate) struct Baton {
     pub(crate) text: Option<u32>,
 }
 
-// The names of a path with a slash between them.
-fn slashed(alloc: Global, names: &[Name]) -> Result<Vec<u8>, AllocError>
-    ensures { IfOk result (λ v. v.items ≡ slashed names.now) }
-{
-    let mut bytes = Vec::new(alloc);
-    let Some((first, rest)) = names.split_first() else {
-        return Ok(bytes);
-    };
-    bytes.extend_from_slice(first.as_str().as_bytes())?;
-    for name in rest {
-        bytes.push(b'/')?;
-        bytes.extend_from_slice(name.as_str().as_bytes())?;
-    }
-    Ok(bytes)
-}
-
 // Pushes a string, and tells its place.
 fn push(pools: &mut PoolTree<Global>, pool: PoolId, bytes: &[u8]) -> Result<u32, AllocError>
     ensures pushed { OnOk result (pools.new ≡ pushed pools.old pool.0 bytes.now) }
@@ -88,7 +72,7 @@ pub(crate) fn drop_pool(pools: &mut PoolTree<Global>, pool: PoolId)
 }
 
 impl Baton {
-    /// A baton whose pool is made beneath another, and holds the path. Where memory is refused, no pool is left.
+    /// A baton whose pool is made beneath another, and holds the path's key. Where memory is refused, no pool is left.
     pub(crate) fn open(
         alloc: Global,
         pools: &mut PoolTree<Global>,
@@ -98,11 +82,10 @@ impl Baton {
         ensures begun { IfOk result (λ b. BatonBegun beneath.0 path pools.old b pools.new) }
         ensures kept { OnErr result (SamePools pools.old pools.new) }
     {
-        let text = slashed(alloc, path.as_rel_path().components())?;
         let Ok(pool) = pools.create(beneath) else {
             return Err(AllocError);
         };
-        let Ok(_) = pools.push(pool, text.as_slice()) else {
+        let Ok(_) = pools.push(pool, path.as_rel_path().key().as_bytes()) else {
             drop_pool(pools, pool);
             return Err(AllocError);
         };

@@ -1,17 +1,19 @@
-use Rattle.std.proofs.Common.{refl, sym, ap, ◌∙◌, Some}
+use Rattle.std.proofs.Common.{◌≡◌, refl, sym, ap, ◌∙◌, Some}
 use Rattle.svn_pool.specs.Pools.{Pools, pool_at, parent_of, pushed}
-use Rattle.svn_edit.specs.Noted.{slashed}
+use Rattle.svn_types.specs.PathKeys.{path_key}
 use Rattle.svn_edit.proofs.PoolStrings.{begun}
 use Rattle.svn_edit.proofs.LeftPools.{undone}
 use Rattle.svn_edit.proofs.baton.Baton.open.Goals as goal
 
 pub returns-clause-begun : goal.returns-clause-begun
 returns-clause-begun c =
-    begun _ c.args.pools.now c.push.new.self c.args.beneath.0 c.args.path c.in_ok-text.text.items refl
+    let bytes : c.as_bytes.result.now ≡ path_key c.args.path =
+    c.as_bytes.ensures.value ∙ c.key.ensures.key ∙ ap path_key c.as_rel_path.ensures in
+    begun _ c.args.pools.now c.push.new.self c.args.beneath.0 c.args.path (path_key c.args.path) refl
     c.new.ensures.items refl c.in-Ok.ensures.serial c.in-Ok.ensures.fresh c.in-Ok.ensures.apart
     (λ q e. c.in-Ok.ensures.childless q (ap (λ (v : Pools). parent_of (pool_at v q)) c.in-Ok.ensures.made ∙ e))
-    (c.in-Ok-push.ensures.pushed ∙ (λ i. pushed (c.in-Ok.ensures.made i) (c.in-Ok.ensures.serial i) (c.as_slice.ensures.value i)))
-    (c.in_ok-text.ensures ∙ ap slashed (c.components.ensures.names ∙ c.as_rel_path.ensures))
+    (c.in-Ok-push.ensures.pushed ∙ (λ i. pushed (c.in-Ok.ensures.made i) (c.in-Ok.ensures.serial i) (bytes i)))
+    refl
 
 -- the string was refused, and the new pool goes
 pub returns-in_default-push-clause-kept : goal.returns-in_default-push-clause-kept
