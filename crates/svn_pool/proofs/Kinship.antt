@@ -3,6 +3,7 @@ use Rattle.std.proofs.Common.{nat_eq, ◌≡◌, ◌≢◌, ◌⊎◌, ℕ, ◌<
 use Rattle.std.proofs.Common.{◌∙◌, inl, inr, arith}
 use Rattle.std.proofs.Math.Path.{transport}
 use Rattle.std.proofs.lemmas.Bool.{cases_eq}
+use Rattle.std.proofs.lemmas.Option.{none-some, same_Some}
 use Rattle.std.specs.HashMap as hash
 use Rattle.std.specs.HashMap.{get, Updates}
 use Rattle.std.specs.Map.{lookup}
@@ -15,10 +16,7 @@ use Rattle.svn_pool.specs.declared.links.Place.{Place}
 use Rattle.svn_pool.specs.declared.links.Place.TheVariants.{First, Next}
 use Rattle.svn_pool.proofs.Bare.{changes-bare, is_some-bare, live-bare, pool_in, unique-bare}
 use Rattle.svn_pool.proofs.Edges.{updated_here, updated_away}
-use Rattle.svn_pool.proofs.Siblings.{first_or_next, inverse_with, inverse_without, kin_with, kin_without, same_place, some_or_none}
-
-pub Some_is : {X : Type 0} (x y : X) → Some x ≡ Some y → x ≡ y
-Some_is x y e = cc
+use Rattle.svn_pool.proofs.Siblings.{first_or_next, inverse_with, inverse_without, kin_with, kin_without, same_place}
 
 -- what has a parent is live
 pub live_child : (o : Option Entry) (p : ℕ) → parent_of o ≡ Some p → IsSome o
@@ -38,15 +36,15 @@ none_is_gone o e live = let no : false ≡ true = sym (ap is_some e) ∙ live in
 
 -- what has a place is live, and so is what holds one
 placed_live : (o : Option (Linked Entry)) (x : Place) → place_in o ≡ Some x → IsSome o
-placed_live None x e = absurd (some_or_none x e)
+placed_live None x e = absurd (none-some x e)
 placed_live (Some l) x e = refl
 
 first_live : (o : Option (Linked Entry)) (c : ℕ) → first_of o ≡ Some c → IsSome o
-first_live None c e = absurd (some_or_none c e)
+first_live None c e = absurd (none-some c e)
 first_live (Some l) c e = refl
 
 next_live : (o : Option (Linked Entry)) (c : ℕ) → next_of o ≡ Some c → IsSome o
-next_live None c e = absurd (some_or_none c e)
+next_live None c e = absurd (none-some c e)
 next_live (Some l) c e = refl
 
 holder_live : (m : LinkedMap) (x : Place) (c : ℕ) → standing m x ≡ Some c → IsSome (get nat_eq m (holder x))
@@ -416,7 +414,7 @@ module _ (old led mid : LinkedMap) (linked : IsLinked old) (s p : ℕ) (l : Link
   ]
 
   not_z : z ≢ Some s
-  not_z e = some_or_none (First p) (sym (ap place_in no_s) ∙ linked.inverse.there (First p) s e)
+  not_z e = none-some (First p) (sym (ap place_in no_s) ∙ linked.inverse.there (First p) s e)
 
   next_apart : Next s ≢ First p
   next_apart e = first_or_next p s (sym e)
@@ -460,7 +458,7 @@ module _ (old led mid : LinkedMap) (linked : IsLinked old) (s p : ℕ) (l : Link
         refl (ap parent_of added.0) parents_kept (λ c q e. fresh c (live_child (live_at (bare old) c) q e));
     older = λ q c e. elim (cases_eq c s) [
       | inl is ↦
-          let same : q ≡ p = Some_is q p (sym e ∙ ap (parent_in new) is ∙ ap parent_of added.0) in
+          let same : q ≡ p = same_Some q p (sym e ∙ ap (parent_in new) is ∙ ap parent_of added.0) in
           let lt : p < s = live_old p live in
           (subst (λ (k : ℕ). IsSome (live_at (bare new) k)) (sym same) (stays_live p (is_some-bare old p ∙ live)), omega (arith, same, is, lt))
       | inr apart ↦

@@ -4,7 +4,7 @@ use Rattle.std.specs.HashMap.{get, PutsEntry}
 use Rattle.std.specs.List.{sum_by}
 use Rattle.std.specs.Map.{values_of}
 use Rattle.svn_pool.specs.Faults.{Answers}
-use Rattle.svn_pool.specs.Linked.{Changes, LinkedMap, bare, live_at}
+use Rattle.svn_pool.specs.Linked.{Changes, LinkedMap, LivePools, bare, live_at}
 use Rattle.svn_pool.specs.Pools.{Entry, blocks_of, fixed_of}
 use Rattle.svn_pool.specs.declared.fault.PoolFault.{PoolFault}
 use Rattle.svn_pool.specs.declared.fault.PoolFault.TheVariants.{Gone, Memory}
@@ -16,14 +16,18 @@ use Rattle.svn_pool.proofs.Kinship.{IsMoved, gone_from_test, gone_is_none, led_a
 use Rattle.svn_pool.proofs.Outcomes.{fault_if_gone, fault_if_some}
 use Rattle.svn_pool.proofs.links.add_child.Goals as goal
 
--- a pool without strings adds nothing to what is counted
+-- a new pool without strings adds nothing to what is counted
 held_still : (f : Entry → ℕ) (old led mid new : LinkedMap) (s : ℕ) (child : Linked Entry) (had : Option (Linked Entry))
-    → had ≡ get nat_eq led s → get nat_eq led s ≡ None → PutsEntry nat_eq led mid s child had → bare led ≡ bare old → bare new ≡ bare mid
-    → f child.pool ≡ 0 → sum_by f (values_of (bare new)) ≡ sum_by f (values_of (bare old))
-held_still f old led mid new s child had is none put before after zero =
+    → ((c : ℕ) → IsSome (live_at (bare old) c) → c < s) → had ≡ get nat_eq led s → PutsEntry nat_eq led mid s child had
+    → bare led ≡ bare old → bare new ≡ bare mid → f child.pool ≡ 0 → sum_by f (values_of (bare new)) ≡ sum_by f (values_of (bare old))
+held_still f old led mid new s child had fresh is put before after zero =
+    let none : get nat_eq led s ≡ None =
+    gone_is_none (get nat_eq led s) (λ h.
+    let lt = fresh s (is_some-bare old s ∙ live_after led old (sym before) s h) in
+    omega (arith, lt)) in
     let sum = sum_with f (bare led) (bare mid) s child.pool (put-new-bare led mid s child had is none put) in
     let same : sum_by f (values_of (bare mid)) ≡ sum_by f (values_of (bare led)) = omega (arith, sum, zero) in
-    ap (λ ps. sum_by f (values_of ps)) after ∙ same ∙ ap (λ ps. sum_by f (values_of ps)) before
+    ap (λ (ps : LivePools). sum_by f (values_of ps)) after ∙ same ∙ ap (λ (ps : LivePools). sum_by f (values_of ps)) before
 
 pub returns-in_default-clause-answers : goal.returns-in_default-clause-answers
 returns-in_default-clause-answers g c =
@@ -83,18 +87,10 @@ returns-clause-added g c =
 
 pub returns-clause-blocks : goal.returns-clause-blocks
 returns-clause-blocks g c =
-    held_still blocks_of c.args.pools.now c.set_first.new.pools c.insert.new.self c.move_to.new.pools c.args.serial _ _ c.in-Ok.ensures.old
-    (gone_is_none (get nat_eq c.set_first.new.pools c.args.serial) (λ h.
-    let live = live_after c.set_first.new.pools c.args.pools.now (sym c.set_first.ensures.pools) c.args.serial h in
-    let lt : c.args.serial < c.args.serial = c.requires.fresh c.args.serial (is_some-bare c.args.pools.now c.args.serial ∙ live) in
-    omega arith))
-    c.in-Ok.ensures.entries c.set_first.ensures.pools c.move_to.ensures.pools (ap blocks_of c.new.ensures)
+    held_still blocks_of c.args.pools.now c.set_first.new.pools c.insert.new.self c.move_to.new.pools c.args.serial _ _ c.requires.fresh
+    c.in-Ok.ensures.old c.in-Ok.ensures.entries c.set_first.ensures.pools c.move_to.ensures.pools (ap blocks_of c.new.ensures)
 
 pub returns-clause-fixed : goal.returns-clause-fixed
 returns-clause-fixed g c =
-    held_still fixed_of c.args.pools.now c.set_first.new.pools c.insert.new.self c.move_to.new.pools c.args.serial _ _ c.in-Ok.ensures.old
-    (gone_is_none (get nat_eq c.set_first.new.pools c.args.serial) (λ h.
-    let live = live_after c.set_first.new.pools c.args.pools.now (sym c.set_first.ensures.pools) c.args.serial h in
-    let lt : c.args.serial < c.args.serial = c.requires.fresh c.args.serial (is_some-bare c.args.pools.now c.args.serial ∙ live) in
-    omega arith))
-    c.in-Ok.ensures.entries c.set_first.ensures.pools c.move_to.ensures.pools (ap fixed_of c.new.ensures)
+    held_still fixed_of c.args.pools.now c.set_first.new.pools c.insert.new.self c.move_to.new.pools c.args.serial _ _ c.requires.fresh
+    c.in-Ok.ensures.old c.in-Ok.ensures.entries c.set_first.ensures.pools c.move_to.ensures.pools (ap fixed_of c.new.ensures)
