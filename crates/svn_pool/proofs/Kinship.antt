@@ -1,6 +1,6 @@
 -- The links stay those of the pools, as a pool is put in, written or taken out.
-use Rattle.std.proofs.Common.{nat_eq, ◌≡◌, ◌≢◌, ◌⊎◌, ℕ, ◌<◌, true, false, List, [], map, Option, None, Some, IsSome, is_some, refl, sym, ap, subst}
-use Rattle.std.proofs.Common.{◌∙◌, inl, inr, arith}
+use Rattle.std.proofs.Common.{nat_eq, ◌≡◌, ◌≢◌, ◌⊎◌, ℕ, ◌<◌, true, false, List, [], map, Option, None, Some, IsSome, is_some, refl, sym}
+use Rattle.std.proofs.Common.{ap, subst, ◌∙◌, inl, inr, arith}
 use Rattle.std.proofs.Math.Path.{transport}
 use Rattle.std.proofs.lemmas.Bool.{cases_eq}
 use Rattle.std.proofs.lemmas.Option.{none-some, same_Some}
@@ -460,7 +460,8 @@ module _ (old led mid : LinkedMap) (linked : IsLinked old) (s p : ℕ) (l : Link
       | inl is ↦
           let same : q ≡ p = same_Some q p (sym e ∙ ap (parent_in new) is ∙ ap parent_of added.0) in
           let lt : p < s = live_old p live in
-          (subst (λ (k : ℕ). IsSome (live_at (bare new) k)) (sym same) (stays_live p (is_some-bare old p ∙ live)), omega (arith, same, is, lt))
+          let parent = stays_live p (is_some-bare old p ∙ live) in
+          (subst (λ (k : ℕ). IsSome (live_at (bare new) k)) (sym same) parent, omega (arith, same, is, lt))
       | inr apart ↦
           let was = linked.older q c (sym (parents_kept c apart) ∙ e) in
           (stays_live q was.0, was.1)
