@@ -2,6 +2,7 @@
 use Rattle.std.proofs.Common.{◌≡◌, ◌≢◌, ℕ, ◌<◌, nat_eq, List, [], map, Option, None, Some, IsSome, refl, sym, ap, subst, ◌∙◌, inl}
 use Rattle.std.proofs.Common.{inr, arith}
 use Rattle.std.proofs.lemmas.Bool.{cases_eq}
+use Rattle.std.proofs.lemmas.Option.{none-some}
 use Rattle.std.specs.HashMap as hash
 use Rattle.std.specs.HashMap.{get, PutsEntry, Updates}
 use Rattle.std.specs.List.{sum_by}
@@ -17,7 +18,6 @@ use Rattle.svn_pool.proofs.Bare.{changes-bare, live-bare, pool_in, put-new-bare,
 use Rattle.svn_pool.proofs.Counts.{sum_with}
 use Rattle.svn_pool.proofs.Edges.{updated_here, updated_away}
 use Rattle.svn_pool.proofs.Kinship.{none_is_gone}
-use Rattle.svn_pool.proofs.Siblings.{some_or_none}
 
 abbrev pub lone : Entry
 lone = record { parent = None; strings = [] }
@@ -56,8 +56,8 @@ module _ (none new : LinkedMap) (first : ℕ) (old : Option (Linked Entry)) (emp
 
   no_parent : (c p : ℕ) → parent_in new c ≡ Some p → ⊥
   no_parent c p e = elim (cases_eq c first) [
-    | inl is ↦ some_or_none p (sym (ap (parent_in new) is ∙ ap parent_of change.0) ∙ e)
-    | inr apart ↦ some_or_none p
+    | inl is ↦ none-some p (sym (ap (parent_in new) is ∙ ap parent_of change.0) ∙ e)
+    | inr apart ↦ none-some p
         (sym (ap parent_of (live-bare new c) ∙ ap (λ (o : Option (Linked Entry)). parent_of (pool_in o)) (elsewhere c apart)) ∙ e)
   ]
 
@@ -74,13 +74,13 @@ module _ (none new : LinkedMap) (first : ℕ) (old : Option (Linked Entry)) (emp
   tree_alone used small unique is puts zero = record {
     linked = record {
       inverse = record {
-        there = λ x c e. absurd (some_or_none c (sym (none_stands x) ∙ e));
-        back = λ x c e. absurd (some_or_none x (sym (no_links c).2 ∙ e));
+        there = λ x c e. absurd (none-some c (sym (none_stands x) ∙ e));
+        back = λ x c e. absurd (none-some x (sym (no_links c).2 ∙ e));
       };
       kin = record {
         placed = λ c p e. absurd (no_parent c p e);
-        first = λ c p e. absurd (some_or_none (First p) (sym (no_links c).2 ∙ e));
-        next = λ c q e. absurd (some_or_none (Next q) (sym (no_links c).2 ∙ e));
+        first = λ c p e. absurd (none-some (First p) (sym (no_links c).2 ∙ e));
+        next = λ c q e. absurd (none-some (Next q) (sym (no_links c).2 ∙ e));
       };
       older = λ p c e. absurd (no_parent c p e);
       small = λ c live. subst (λ (k : ℕ). k < 18446744073709551616) (sym (live_is_first c live)) small;

@@ -1,10 +1,13 @@
 -- The links stay those of the pools, as a pool is put in, written or taken out.
-use Rattle.std.proofs.Common.{nat_eq, ◌≡◌, ◌≢◌, ◌⊎◌, ℕ, ◌<◌, true, false, [], Option, None, Some, IsSome, is_some, refl, sym, ap, subst}
-use Rattle.std.proofs.Common.{◌∙◌, inl, inr, arith}
+use Rattle.std.proofs.Common.{nat_eq, ◌≡◌, ◌≢◌, ◌⊎◌, ℕ, ◌<◌, true, false, List, [], map, Option, None, Some, IsSome, is_some, refl, sym}
+use Rattle.std.proofs.Common.{ap, subst, ◌∙◌, inl, inr, arith}
+use Rattle.std.proofs.Math.Path.{transport}
 use Rattle.std.proofs.lemmas.Bool.{cases_eq}
+use Rattle.std.proofs.lemmas.Option.{none-some, same_Some}
 use Rattle.std.specs.HashMap as hash
 use Rattle.std.specs.HashMap.{get, Updates}
-use Rattle.svn_pool.specs.Linked.{Changes, IsInverse, IsKin, IsLeaf, IsLinked, IsUnique, LinkedMap, LivePools, bare}
+use Rattle.std.specs.Map.{lookup}
+use Rattle.svn_pool.specs.Linked.{Changes, IsInverse, IsKin, IsLeaf, IsLinked, IsUnique, LinkedMap, LivePools, bare, bare_entry}
 use Rattle.svn_pool.specs.Linked.{first_of, holder, live_at, next_of}
 use Rattle.svn_pool.specs.Linked.{parent_in, place_by, place_in, place_of, standing}
 use Rattle.svn_pool.specs.Pools.{Entry, parent_of}
@@ -13,10 +16,7 @@ use Rattle.svn_pool.specs.declared.links.Place.{Place}
 use Rattle.svn_pool.specs.declared.links.Place.TheVariants.{First, Next}
 use Rattle.svn_pool.proofs.Bare.{changes-bare, is_some-bare, live-bare, pool_in, unique-bare}
 use Rattle.svn_pool.proofs.Edges.{updated_here, updated_away}
-use Rattle.svn_pool.proofs.Siblings.{first_or_next, inverse_with, inverse_without, kin_with, kin_without, some_or_none}
-
-pub Some_is : {X : Type 0} (x y : X) → Some x ≡ Some y → x ≡ y
-Some_is x y e = cc
+use Rattle.svn_pool.proofs.Siblings.{first_or_next, inverse_with, inverse_without, kin_with, kin_without, same_place}
 
 -- what has a parent is live
 pub live_child : (o : Option Entry) (p : ℕ) → parent_of o ≡ Some p → IsSome o
@@ -36,15 +36,15 @@ none_is_gone o e live = let no : false ≡ true = sym (ap is_some e) ∙ live in
 
 -- what has a place is live, and so is what holds one
 placed_live : (o : Option (Linked Entry)) (x : Place) → place_in o ≡ Some x → IsSome o
-placed_live None x e = absurd (some_or_none x e)
+placed_live None x e = absurd (none-some x e)
 placed_live (Some l) x e = refl
 
 first_live : (o : Option (Linked Entry)) (c : ℕ) → first_of o ≡ Some c → IsSome o
-first_live None c e = absurd (some_or_none c e)
+first_live None c e = absurd (none-some c e)
 first_live (Some l) c e = refl
 
 next_live : (o : Option (Linked Entry)) (c : ℕ) → next_of o ≡ Some c → IsSome o
-next_live None c e = absurd (some_or_none c e)
+next_live None c e = absurd (none-some c e)
 next_live (Some l) c e = refl
 
 holder_live : (m : LinkedMap) (x : Place) (c : ℕ) → standing m x ≡ Some c → IsSome (get nat_eq m (holder x))
@@ -156,8 +156,64 @@ pub record IsMoved (m n : LinkedMap) (z : Option ℕ) (x : Place) : Type 0 where
   pub pools : bare n ≡ bare m
 
 -- which pools are live is seen without the links
-live_after : (m n : LinkedMap) → bare n ≡ bare m → (c : ℕ) → IsSome (get nat_eq m c) → IsSome (get nat_eq n c)
-live_after m n same c h = sym (is_some-bare n c) ∙ ap (λ (ps : LivePools). is_some (live_at ps c)) same ∙ is_some-bare m c ∙ h
+live_same : (m n : LinkedMap) → bare n ≡ bare m → (c : ℕ) → is_some (get nat_eq n c) ≡ is_some (get nat_eq m c)
+live_same m n same c = sym (is_some-bare n c) ∙ ap (λ (ps : LivePools). is_some (live_at ps c)) same ∙ is_some-bare m c
+
+pub live_after : (m n : LinkedMap) → bare n ≡ bare m → (c : ℕ) → IsSome (get nat_eq m c) → IsSome (get nat_eq n c)
+live_after m n same c h = live_same m n same c ∙ h
+
+-- the links of a pool but for its first child are as they were, and so are all others
+pub record IsLed (m n : LinkedMap) (p : ℕ) (z : Option ℕ) : Type 0 where
+  pub first : IsSome (get nat_eq m p) → first_of (get nat_eq n p) ≡ z
+  pub next : next_of (get nat_eq n p) ≡ next_of (get nat_eq m p)
+  pub place : place_in (get nat_eq n p) ≡ place_in (get nat_eq m p)
+  pub others : (q : ℕ) → q ≢ p → get nat_eq n q ≡ get nat_eq m q
+  pub pools : bare n ≡ bare m
+
+module _ (m n : LinkedMap) (p : ℕ) (z : Option ℕ) (led : IsLed m n p z) where
+  led_others : (y : Place) → y ≢ First p → standing n y ≡ standing m y
+  led_others (First q) apart = ap first_of (led.others q (λ is. apart (ap First is)))
+  led_others (Next q) apart = elim (cases_eq q p) [
+    | inl is ↦ ap (λ (k : ℕ). next_of (get nat_eq n k)) is ∙ led.next ∙ ap (λ (k : ℕ). next_of (get nat_eq m k)) (sym is)
+    | inr other ↦ ap next_of (led.others q other)
+  ]
+
+  led_places : (c : ℕ) → place_of n c ≡ place_of m c
+  led_places c = elim (cases_eq c p) [
+    | inl is ↦ ap (place_of n) is ∙ led.place ∙ ap (place_of m) (sym is)
+    | inr apart ↦ ap place_in (led.others c apart)
+  ]
+
+  led_stands : IsStood m n (First p) z
+  led_stands = record { here = led.first; others = led_others; places = led_places; pools = led.pools }
+
+  -- the same first child as before
+  pub linked-led : IsLinked m → (IsSome (get nat_eq m p) → standing m (First p) ≡ z) → IsLinked n
+  linked-led linked same =
+      linked-same m n linked
+      (λ y. elim (same_place y (First p)) [
+        | inl is ↦ ap (standing n) is ∙ here (get nat_eq m p) refl ∙ ap (standing m) (sym is)
+        | inr apart ↦ led_others y apart
+      ])
+      led_places (λ c. ap (λ (ps : LivePools). parent_of (live_at ps c)) led.pools)
+      (λ c. ap (λ (ps : LivePools). is_some (live_at ps c)) led.pools) (subst IsUnique (sym led.pools) linked.unique)
+    where
+      here : (o : Option (Linked Entry)) → get nat_eq m p ≡ o → first_of (get nat_eq n p) ≡ first_of (get nat_eq m p)
+      here None none =
+          ap first_of (gone_from_test (get nat_eq n p) (live_same m n led.pools p ∙ ap is_some none)) ∙ sym (ap first_of none)
+      here (Some l) found = let live = ap is_some found in led.first live ∙ sym (same live)
+
+-- the first child is set again, in a map with the same entries
+pub led_again : (m l k n : LinkedMap) (p : ℕ) (y z : Option ℕ) → IsLed m l p y → k.entries ≡ l.entries → IsLed k n p z → IsLed m n p z
+led_again m l k n p y z led same again =
+    let at : (q : ℕ) → get nat_eq k q ≡ get nat_eq l q = λ q. ap (λ (es : List (ℕ × Linked Entry)). lookup (nat_eq q) es) same in
+    record {
+      first = λ live. again.first (ap is_some (at p) ∙ live_after m l led.pools p live);
+      next = again.next ∙ ap next_of (at p) ∙ led.next;
+      place = again.place ∙ ap place_in (at p) ∙ led.place;
+      others = λ q apart. again.others q apart ∙ at q ∙ led.others q apart;
+      pools = again.pools ∙ ap (λ (es : List (ℕ × Linked Entry)). map bare_entry es) same ∙ led.pools;
+    }
 
 -- the pool s is gone
 module _ (old mid : LinkedMap) (linked : IsLinked old) (s : ℕ) (leaf : IsLeaf (bare old) s) (l : Linked Entry)
@@ -308,7 +364,7 @@ module _ (old mid : LinkedMap) (linked : IsLinked old) (s : ℕ) (leaf : IsLeaf 
         (λ c other. ap (λ (ps : LivePools). parent_of (live_at ps c)) bare_same ∙ ap parent_of (change.1 c other)))
 
 -- the pool s is p's first child, and the newest pool
-module _ (old mid : LinkedMap) (linked : IsLinked old) (s p : ℕ) (l : Linked Entry) (live : IsSome (live_at (bare old) p))
+module _ (old led mid : LinkedMap) (linked : IsLinked old) (s p : ℕ) (l : Linked Entry) (live : IsSome (get nat_eq old p))
     (fresh : (c : ℕ) → IsSome (live_at (bare old) c) → c < s) (small : s < 18446744073709551616)
     (child : l ≡ record {
       pool = record { parent = Some p; strings = [] };
@@ -316,19 +372,22 @@ module _ (old mid : LinkedMap) (linked : IsLinked old) (s p : ℕ) (l : Linked E
       next = first_of (get nat_eq old p);
       before = None;
     })
-    (put_in : Updates nat_eq old mid s (Some l)) (unique : hash.IsUnique nat_eq mid) (led new : LinkedMap)
-    (put : IsStood mid led (First p) (Some s)) (moved : IsMoved led new (first_of (get nat_eq old p)) (Next s)) where
+    (lead : IsLed old led p (Some s)) (put_in : Updates nat_eq led mid s (Some l)) (unique : hash.IsUnique nat_eq mid) (new : LinkedMap)
+    (moved : IsMoved mid new (first_of (get nat_eq old p)) (Next s)) where
   abbrev z : Option ℕ
   z = first_of (get nat_eq old p)
 
   abbrev lone : Entry
   lone = record { parent = Some p; strings = [] }
 
-  here_s : get nat_eq mid s ≡ Some l
-  here_s = updated_here old mid s (Some l) put_in
+  put : IsStood old led (First p) (Some s)
+  put = led_stands old led p (Some s) lead
 
-  away_s : (c : ℕ) → c ≢ s → get nat_eq mid c ≡ get nat_eq old c
-  away_s = updated_away old mid s (Some l) put_in
+  here_s : get nat_eq mid s ≡ Some l
+  here_s = updated_here led mid s (Some l) put_in
+
+  away_s : (c : ℕ) → c ≢ s → get nat_eq mid c ≡ get nat_eq led c
+  away_s = updated_away led mid s (Some l) put_in
 
   live_old : (c : ℕ) → IsSome (get nat_eq old c) → c < s
   live_old c h = fresh c (is_some-bare old c ∙ h)
@@ -336,56 +395,51 @@ module _ (old mid : LinkedMap) (linked : IsLinked old) (s p : ℕ) (l : Linked E
   no_s : get nat_eq old s ≡ None
   no_s = gone_is_none (get nat_eq old s) (λ h. let lt = live_old s h in omega (arith, lt))
 
-  change_s : Changes (bare old) (bare mid) s (Some lone)
-  change_s = subst (λ (e : Linked Entry). Changes (bare old) (bare mid) s (Some e.pool)) child (changes-bare old mid s (Some l) put_in)
+  no_s_led : get nat_eq led s ≡ None
+  no_s_led = gone_from_test (get nat_eq led s) (live_same old led put.pools s ∙ ap is_some no_s)
 
-  pub bare_new : bare new ≡ bare mid
-  bare_new = moved.pools ∙ put.pools
+  added : Changes (bare old) (bare new) s (Some lone)
+  added =
+      transport (λ i. Changes (put.pools i) (sym moved.pools i) s (Some (child i).pool)) (changes-bare led mid s (Some l) put_in)
 
-  pub added : Changes (bare old) (bare new) s (Some lone)
-  added = subst (λ (ps : LivePools). Changes (bare old) ps s (Some lone)) (sym bare_new) change_s
-
-  same_before : (y : Place) → y ≢ Next s → standing mid y ≡ standing old y
+  same_before : (y : Place) → y ≢ Next s → standing mid y ≡ standing led y
   same_before y apart = elim (cases_eq (holder y) s) [
     | inl is ↦ elim (held_by y s is) [
       | inl first ↦
           ap (standing mid) first ∙ ap first_of here_s ∙ ap (λ (e : Linked Entry). e.first) child
-          ∙ sym (unheld old y (ap (get nat_eq old) is ∙ no_s))
+          ∙ sym (unheld led y (ap (get nat_eq led) is ∙ no_s_led))
       | inr next ↦ absurd (apart next)
     ]
-    | inr other ↦ same_holder old mid y (away_s (holder y) other)
+    | inr other ↦ same_holder led mid y (away_s (holder y) other)
   ]
 
   not_z : z ≢ Some s
-  not_z e = some_or_none (First p) (sym (ap place_in no_s) ∙ linked.inverse.there (First p) s e)
-
-  not_p : p ≢ s
-  not_p is = let lt = fresh p live in omega (arith, is, lt)
+  not_z e = none-some (First p) (sym (ap place_in no_s) ∙ linked.inverse.there (First p) s e)
 
   next_apart : Next s ≢ First p
   next_apart e = first_or_next p s (sym e)
 
   now_s : standing new (First p) ≡ Some s
-  now_s = moved.standing (First p) ∙ put.here (ap is_some (away_s p not_p) ∙ sym (is_some-bare old p) ∙ live)
+  now_s = moved.standing (First p) ∙ same_before (First p) (first_or_next p s) ∙ put.here live
 
   next_s : standing new (Next s) ≡ z
-  next_s = moved.standing (Next s) ∙ put.others (Next s) next_apart ∙ ap next_of here_s ∙ ap (λ (e : Linked Entry). e.next) child
+  next_s = moved.standing (Next s) ∙ ap next_of here_s ∙ ap (λ (e : Linked Entry). e.next) child
 
   place_s : place_of new s ≡ Some (First p)
-  place_s = moved.others s not_z ∙ put.places s ∙ ap place_in here_s ∙ ap (λ (e : Linked Entry). place_by e.pool.parent e.before) child
+  place_s = moved.others s not_z ∙ ap place_in here_s ∙ ap (λ (e : Linked Entry). place_by e.pool.parent e.before) child
 
   z_moved : (c : ℕ) → z ≡ Some c → place_of new c ≡ Some (Next s)
   z_moved c is =
       let was : IsSome (get nat_eq old c) = placed_live (get nat_eq old c) (First p) (linked.inverse.there (First p) c is) in
       let other : c ≢ s = λ same. not_z (is ∙ ap Some same) in
-      moved.moved c is (live_after mid led put.pools c (ap is_some (away_s c other) ∙ was))
+      moved.moved c is (ap is_some (away_s c other) ∙ live_after old led put.pools c was)
       (λ q first. absurd (first_or_next q s (sym first)))
 
   others_stand : (y : Place) → y ≢ First p → y ≢ Next s → standing new y ≡ standing old y
-  others_stand y not_x not_n = moved.standing y ∙ put.others y not_x ∙ same_before y not_n
+  others_stand y not_x not_n = moved.standing y ∙ same_before y not_n ∙ put.others y not_x
 
   others_placed : (c : ℕ) → c ≢ s → z ≢ Some c → place_of new c ≡ place_of old c
-  others_placed c not_s not_c = moved.others c not_c ∙ put.places c ∙ ap place_in (away_s c not_s)
+  others_placed c not_s not_c = moved.others c not_c ∙ ap place_in (away_s c not_s) ∙ put.places c
 
   parents_kept : (c : ℕ) → c ≢ s → parent_in new c ≡ parent_in old c
   parents_kept c apart = ap parent_of (added.1 c apart)
@@ -404,9 +458,10 @@ module _ (old mid : LinkedMap) (linked : IsLinked old) (s p : ℕ) (l : Linked E
         refl (ap parent_of added.0) parents_kept (λ c q e. fresh c (live_child (live_at (bare old) c) q e));
     older = λ q c e. elim (cases_eq c s) [
       | inl is ↦
-          let same : q ≡ p = Some_is q p (sym e ∙ ap (parent_in new) is ∙ ap parent_of added.0) in
-          let lt : p < s = fresh p live in
-          (subst (λ (k : ℕ). IsSome (live_at (bare new) k)) (sym same) (stays_live p live), omega (arith, same, is, lt))
+          let same : q ≡ p = same_Some q p (sym e ∙ ap (parent_in new) is ∙ ap parent_of added.0) in
+          let lt : p < s = live_old p live in
+          let parent = stays_live p (is_some-bare old p ∙ live) in
+          (subst (λ (k : ℕ). IsSome (live_at (bare new) k)) (sym same) parent, omega (arith, same, is, lt))
       | inr apart ↦
           let was = linked.older q c (sym (parents_kept c apart) ∙ e) in
           (stays_live q was.0, was.1)
@@ -415,5 +470,5 @@ module _ (old mid : LinkedMap) (linked : IsLinked old) (s p : ℕ) (l : Linked E
       | inl is ↦ omega (arith, is, small)
       | inr apart ↦ linked.small c (subst IsSome (added.1 c apart) h)
     ];
-    unique = subst IsUnique (sym bare_new) (unique-bare mid unique);
+    unique = subst IsUnique (sym moved.pools) (unique-bare mid unique);
   }

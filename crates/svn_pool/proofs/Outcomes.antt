@@ -24,12 +24,11 @@ create_full t p live last =
     fault_if_some (pool_at t p) (cond (nat_le 18446744073709551616 t.next) (Some Full) None) live
     ∙ ap (λ (b : Bool). cond b (Some Full) None) (le-leb 18446744073709551616 t.next last)
 
-pub create_may : (t : Pools) (p : ℕ) → IsSome (pool_at t p) → t.next < 18446744073709551616 → create_fault t p ≡ None
-create_may t p live left =
+pub create_left : (t : Pools) (p : ℕ) → t.next < 18446744073709551616 → create_fault t p ≡ fault_if_live (pool_at t p) (λ _. None)
+create_left t p left =
     let more : nat_le 18446744073709551616 t.next ≡ false =
     elim (leb_tells 18446744073709551616 t.next) [ inl h ↦ absurd (let le = h.1 in omega (arith, le, left)) | inr h ↦ h.0 ] in
-    fault_if_some (pool_at t p) (cond (nat_le 18446744073709551616 t.next) (Some Full) None) live
-    ∙ ap (λ (b : Bool). cond b (Some Full) None) more
+    ap (λ (b : Bool). fault_if_live (pool_at t p) (λ _. cond b (Some Full) None)) more
 
 pub destroy_root : (t : Pools) (s : ℕ) → IsSome (pool_at t s) → s ≡ t.root → destroy_fault t s ≡ Some IsRoot
 destroy_root t s live is =

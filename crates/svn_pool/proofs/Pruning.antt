@@ -2,12 +2,13 @@
 use Rattle.std.proofs.Common.{◌≡◌, ◌≢◌, ◌⊎◌, ℕ, zero, suc, ◌+◌, ◌<◌, None, Some, IsSome, refl, sym, ap, subst, ◌∙◌}
 use Rattle.std.proofs.Common.{inl, inr, arith}
 use Rattle.std.proofs.lemmas.Bool.{cases_eq}
+use Rattle.std.proofs.lemmas.Option.{same_Some}
 use Rattle.svn_pool.specs.Ancestry.{IsAbove, IsBeneath}
 use Rattle.svn_pool.specs.Linked.{Changes, IsLinked, IsLeaf, IsPruned, LinkedMap, LivePools, bare, blocks_held, fixed_held}
 use Rattle.svn_pool.specs.Linked.{live_at, parent_in, place_of, standing}
 use Rattle.svn_pool.specs.Pools.{parent_of}
 use Rattle.svn_pool.specs.Stores.{Store}
-use Rattle.svn_pool.proofs.Kinship.{Some_is, live_child, none_is_gone}
+use Rattle.svn_pool.proofs.Kinship.{live_child, none_is_gone}
 use Rattle.svn_pool.proofs.Siblings.{no_child}
 use Rattle.svn_pool.specs.declared.links.Place.TheVariants.{First}
 
@@ -61,8 +62,8 @@ module _ (old : LivePools) (top : ℕ) where
 
     up_to : (p : ℕ) → parent_of (live_at old at) ≡ Some p → (n : ℕ) → IsAbove (live_at old) top n at
         → (p ≡ top) ⊎ IsBeneath (live_at old) top p
-    up_to p e zero above = inl (Some_is p top (sym e ∙ above))
-    up_to p e (suc n) above = inr (n, subst (λ (k : ℕ). IsAbove (live_at old) top n k) (Some_is above.0 p (sym above.1 ∙ e)) above.2)
+    up_to p e zero above = inl (same_Some p top (sym e ∙ above))
+    up_to p e (suc n) above = inr (n, subst (λ (k : ℕ). IsAbove (live_at old) top n k) (same_Some above.0 p (sym above.1 ∙ e)) above.2)
 
     pub way_up : (new : LivePools) (p : ℕ) → IsSome (live_at now p) × (p < at) → at ≢ top → Changes now new at None
         → parent_of (live_at now at) ≡ Some p → IsOnWay old new top p

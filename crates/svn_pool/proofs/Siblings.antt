@@ -3,20 +3,15 @@
 use Rattle.std.proofs.Common.{◌≡◌, ◌≢◌, ◌⊎◌, ℕ, zero, suc, ◌+◌, ◌<◌, ◌≤◌, Option, None, Some, IsSome, is_some, refl, sym, ap, ◌∙◌}
 use Rattle.std.proofs.Common.{inl, inr, arith}
 use Rattle.std.proofs.lemmas.Bool.{cases_eq}
+use Rattle.std.proofs.lemmas.Option.{none-some, same_Some}
 use Rattle.svn_pool.specs.Linked.{IsInverse, IsKin}
 use Rattle.svn_pool.specs.declared.links.Place.{Place}
 use Rattle.svn_pool.specs.declared.links.Place.TheVariants.{First, Next}
 
-pub some_or_none : {Y : Type 0} (y : Y) → None ≡ Some y → ⊥
-some_or_none y e = cc
-
-pub some_is : {Y : Type 0} (x y : Y) → Some x ≡ Some y → x ≡ y
-some_is x y e = cc
-
 -- whether c is it
 is_it : (o : Option ℕ) (c : ℕ) → (o ≡ Some c) ⊎ (o ≢ Some c)
-is_it None c = inr (λ e. some_or_none c e)
-is_it (Some d) c = elim (cases_eq d c) [ inl is ↦ inl (ap Some is) | inr apart ↦ inr (λ e. apart (some_is d c e)) ]
+is_it None c = inr (λ e. none-some c e)
+is_it (Some d) c = elim (cases_eq d c) [ inl is ↦ inl (ap Some is) | inr apart ↦ inr (λ e. apart (same_Some d c e)) ]
 
 first_is : (a b : ℕ) → First a ≡ First b → a ≡ b
 first_is a b e = cc
@@ -44,24 +39,24 @@ module _ (standing after : Place → Option ℕ) (place new : ℕ → Option Pla
     there_without y c e = elim (same_place y x) [
       | inl is ↦ moved c (sym now ∙ sym (ap after is) ∙ e) ∙ ap Some (sym is)
       | inr not_x ↦ elim (same_place y (Next s)) [
-        | inl is ↦ absurd (some_or_none c (sym none ∙ sym (ap after is) ∙ e))
+        | inl is ↦ absurd (none-some c (sym none ∙ sym (ap after is) ∙ e))
         | inr not_n ↦
             let before : standing y ≡ Some c = sym (others y not_x not_n) ∙ e in
             let at : place c ≡ Some y = inverse.there y c before in
-            let not_s : c ≢ s = λ is. not_x (some_is y x (sym at ∙ ap place is ∙ inverse.there x s was)) in
-            let not_z : z ≢ Some c = λ is. not_n (some_is y (Next s) (sym at ∙ inverse.there (Next s) c (next ∙ is))) in
+            let not_s : c ≢ s = λ is. not_x (same_Some y x (sym at ∙ ap place is ∙ inverse.there x s was)) in
+            let not_z : z ≢ Some c = λ is. not_n (same_Some y (Next s) (sym at ∙ inverse.there (Next s) c (next ∙ is))) in
             other c not_s not_z ∙ at
       ]
     ]
 
     back_without : (y : Place) (c : ℕ) → new c ≡ Some y → after y ≡ Some c
     back_without y c e = elim (cases_eq c s) [
-      | inl is ↦ absurd (some_or_none y (sym gone ∙ sym (ap new is) ∙ e))
+      | inl is ↦ absurd (none-some y (sym gone ∙ sym (ap new is) ∙ e))
       | inr not_s ↦ elim (is_it z c) [
-        | inl is ↦ ap after (some_is y x (sym e ∙ moved c is)) ∙ now ∙ is
+        | inl is ↦ ap after (same_Some y x (sym e ∙ moved c is)) ∙ now ∙ is
         | inr not_z ↦
             let before : standing y ≡ Some c = inverse.back y c (sym (other c not_s not_z) ∙ e) in
-            let not_x : y ≢ x = λ is. not_s (some_is c s (sym before ∙ ap standing is ∙ was)) in
+            let not_x : y ≢ x = λ is. not_s (same_Some c s (sym before ∙ ap standing is ∙ was)) in
             let not_n : y ≢ Next s = λ is. not_z (sym next ∙ sym (ap standing is) ∙ before) in
             others y not_x not_n ∙ before
       ]
@@ -74,10 +69,10 @@ module _ (standing after : Place → Option ℕ) (place new : ℕ → Option Pla
     module _ (parent later : ℕ → Option ℕ) (kin : IsKin parent place) (no_parent : later s ≡ None)
         (kept : (c : ℕ) → c ≢ s → later c ≡ parent c) where
       not_it : (c p : ℕ) → later c ≡ Some p → c ≢ s
-      not_it c p e is = some_or_none p (sym no_parent ∙ sym (ap later is) ∙ e)
+      not_it c p e is = none-some p (sym no_parent ∙ sym (ap later is) ∙ e)
 
       not_gone : (c : ℕ) (y : Place) → new c ≡ Some y → c ≢ s
-      not_gone c y e is = some_or_none y (sym gone ∙ sym (ap new is) ∙ e)
+      not_gone c y e is = none-some y (sym gone ∙ sym (ap new is) ∙ e)
 
       s_at : place s ≡ Some x
       s_at = inverse.there x s was
@@ -98,7 +93,7 @@ module _ (standing after : Place → Option ℕ) (place new : ℕ → Option Pla
           let not_s = not_gone c (First p) e in
           elim (is_it z c) [
             | inl is ↦
-                let at : x ≡ First p = some_is x (First p) (sym (moved c is) ∙ e) in
+                let at : x ≡ First p = same_Some x (First p) (sym (moved c is) ∙ e) in
                 kept c not_s ∙ sym (followed c is).1 ∙ kin.first s p (s_at ∙ ap Some at)
             | inr not_z ↦ kept c not_s ∙ kin.first c p (sym (other c not_s not_z) ∙ e)
           ]
@@ -108,7 +103,7 @@ module _ (standing after : Place → Option ℕ) (place new : ℕ → Option Pla
           let not_s = not_gone c (Next q) e in
           elim (is_it z c) [
             | inl is ↦
-                let at : x ≡ Next q = some_is x (Next q) (sym (moved c is) ∙ e) in
+                let at : x ≡ Next q = same_Some x (Next q) (sym (moved c is) ∙ e) in
                 let mine = kin.next s q (s_at ∙ ap Some at) in
                 let its = followed c is in
                 let lt : s < q = mine.2 in
@@ -131,27 +126,27 @@ module _ (standing after : Place → Option ℕ) (place new : ℕ → Option Pla
       (next : after (Next s) ≡ z) (here : new s ≡ Some x) (moved : (c : ℕ) → z ≡ Some c → new c ≡ Some (Next s)) where
     there_with : (y : Place) (c : ℕ) → after y ≡ Some c → new c ≡ Some y
     there_with y c e = elim (same_place y x) [
-      | inl is ↦ let same : c ≡ s = some_is c s (sym e ∙ ap after is ∙ now) in ap new same ∙ here ∙ ap Some (sym is)
+      | inl is ↦ let same : c ≡ s = same_Some c s (sym e ∙ ap after is ∙ now) in ap new same ∙ here ∙ ap Some (sym is)
       | inr not_x ↦ elim (same_place y (Next s)) [
         | inl is ↦ moved c (sym next ∙ sym (ap after is) ∙ e) ∙ ap Some (sym is)
         | inr not_n ↦
             let before : standing y ≡ Some c = sym (others y not_x not_n) ∙ e in
             let at : place c ≡ Some y = inverse.there y c before in
-            let not_s : c ≢ s = λ is. some_or_none y (sym unplaced ∙ sym (ap place is) ∙ at) in
-            let not_z : z ≢ Some c = λ is. not_x (some_is y x (sym at ∙ inverse.there x c (was ∙ is))) in
+            let not_s : c ≢ s = λ is. none-some y (sym unplaced ∙ sym (ap place is) ∙ at) in
+            let not_z : z ≢ Some c = λ is. not_x (same_Some y x (sym at ∙ inverse.there x c (was ∙ is))) in
             other c not_s not_z ∙ at
       ]
     ]
 
     back_with : (y : Place) (c : ℕ) → new c ≡ Some y → after y ≡ Some c
     back_with y c e = elim (cases_eq c s) [
-      | inl is ↦ ap after (some_is y x (sym e ∙ ap new is ∙ here)) ∙ now ∙ ap Some (sym is)
+      | inl is ↦ ap after (same_Some y x (sym e ∙ ap new is ∙ here)) ∙ now ∙ ap Some (sym is)
       | inr not_s ↦ elim (is_it z c) [
-        | inl is ↦ ap after (some_is y (Next s) (sym e ∙ moved c is)) ∙ next ∙ is
+        | inl is ↦ ap after (same_Some y (Next s) (sym e ∙ moved c is)) ∙ next ∙ is
         | inr not_z ↦
             let before : standing y ≡ Some c = inverse.back y c (sym (other c not_s not_z) ∙ e) in
             let not_x : y ≢ x = λ is. not_z (sym was ∙ sym (ap standing is) ∙ before) in
-            let not_n : y ≢ Next s = λ is. some_or_none c (sym free ∙ sym (ap standing is) ∙ before) in
+            let not_n : y ≢ Next s = λ is. none-some c (sym free ∙ sym (ap standing is) ∙ before) in
             others y not_x not_n ∙ before
       ]
     ]
@@ -181,20 +176,20 @@ module _ (standing after : Place → Option ℕ) (place new : ℕ → Option Pla
       first_with : (c q : ℕ) → new c ≡ Some (First q) → later c ≡ Some q
       first_with c q e = elim (cases_eq c s) [
         | inl is ↦
-            let same : First p ≡ First q = some_is (First p) (First q) (ap Some (sym at) ∙ sym here ∙ sym (ap new is) ∙ e) in
+            let same : First p ≡ First q = same_Some (First p) (First q) (ap Some (sym at) ∙ sym here ∙ sym (ap new is) ∙ e) in
             ap later is ∙ its ∙ ap Some (first_is p q same)
         | inr not_s ↦ elim (is_it z c) [
-          | inl is ↦ absurd (first_or_next q s (sym (some_is (Next s) (First q) (sym (moved c is) ∙ e))))
+          | inl is ↦ absurd (first_or_next q s (sym (same_Some (Next s) (First q) (sym (moved c is) ∙ e))))
           | inr not_z ↦ kept c not_s ∙ kin.first c q (sym (other c not_s not_z) ∙ e)
         ]
       ]
 
       next_with : (c q : ℕ) → new c ≡ Some (Next q) → IsSome (later c) × (later q ≡ later c) × (c < q)
       next_with c q e = elim (cases_eq c s) [
-        | inl is ↦ absurd (first_or_next p q (some_is (First p) (Next q) (ap Some (sym at) ∙ sym here ∙ sym (ap new is) ∙ e)))
+        | inl is ↦ absurd (first_or_next p q (same_Some (First p) (Next q) (ap Some (sym at) ∙ sym here ∙ sym (ap new is) ∙ e)))
         | inr not_s ↦ elim (is_it z c) [
           | inl is ↦
-              let same : q ≡ s = sym (next_is s q (some_is (Next s) (Next q) (sym (moved c is) ∙ e))) in
+              let same : q ≡ s = sym (next_is s q (same_Some (Next s) (Next q) (sym (moved c is) ∙ e))) in
               let lt = younger c p (led c is) in (
                 ap is_some (kept c not_s ∙ led c is),
                 ap later same ∙ its ∙ sym (led c is) ∙ sym (kept c not_s),
@@ -225,8 +220,8 @@ module _ (parent : ℕ → Option ℕ) (place : ℕ → Option Place) (standing 
       by : (o : Option Place) → place c ≡ o → IsSome o → ((q : ℕ) → 18446744073709551616 ≤ q + n → parent q ≡ Some p → ⊥) → ⊥
       by None at some later = let clash : ⊥ = cc in clash
       by (Some (First r)) at some later =
-          some_or_none c
-          (sym none ∙ ap (λ (k : ℕ). standing (First k)) (sym (some_is r p (sym (kin.first c r at) ∙ is))) ∙ inverse.back (First r) c at)
+          none-some c
+          (sym none ∙ ap (λ (k : ℕ). standing (First k)) (sym (same_Some r p (sym (kin.first c r at) ∙ is))) ∙ inverse.back (First r) c at)
       by (Some (Next q)) at some later =
           let newer = kin.next c q at in
           let lt = newer.2 in

@@ -1,7 +1,7 @@
 -- The pool object that the tree's fields mean.
 use Rattle.std.proofs.Common.{◌≡◌, ◌≢◌, ℕ, ◌+◌, Bool, true, false, cond, nat_eq, List, [], ◌∷◌, ◌++◌, map, length, Option, None, Some}
 use Rattle.std.proofs.Common.{is_some, refl, sym, ap, ◌∙◌, inl, inr, arith}
-use Rattle.std.proofs.lemmas.Bool.{cases_eq, eq-eqb, ne_eqb}
+use Rattle.std.proofs.lemmas.Bool.{cases_eq, eq-eqb, false_from_ne_true, ne_eqb}
 use Rattle.std.proofs.lemmas.Cmp.{nat_cmp_total, tied_itself}
 use Rattle.std.proofs.lemmas.List.Sums.{sum_by-cons}
 use Rattle.std.proofs.lemmas.Map.Lookups.{exact_unsigned}
@@ -25,12 +25,8 @@ is_eq_gives Less e = cc
 is_eq_gives Equal e = refl
 is_eq_gives Greater e = cc
 
-not_true : (b : Bool) → (b ≡ true → ⊥) → b ≡ false
-not_true true h = absurd (h refl)
-not_true false h = refl
-
 number_apart : (k q : ℕ) → q ≢ k → eq_by_cmp nat_cmp k q ≡ false
-number_apart k q apart = not_true (eq_by_cmp nat_cmp k q) (λ is. apart (sym (exact_unsigned k q (is_eq_gives (nat_cmp k q) is))))
+number_apart k q apart = false_from_ne_true (eq_by_cmp nat_cmp k q) (λ is. apart (sym (exact_unsigned k q (is_eq_gives (nat_cmp k q) is))))
 
 -- both tests of two numbers answer alike
 cmp-eq : (q x : ℕ) → eq_by_cmp nat_cmp q x ≡ nat_eq q x

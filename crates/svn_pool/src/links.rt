@@ -1,8 +1,10 @@
 // The live pools by their serials, linked: each knows its first child and the siblings beside it.
-ghost use Rattle.std.specs.Prelude.{nat_eq, ◌≡◌, ◌≢◌, ℕ, ◌+◌, ◌<◌, [], length, Some, None, is_some, option_copied, IsSome, OnOk, OnErr, IfErr};
+ghost use Rattle.std.specs.Prelude.{nat_eq, ◌≡◌, ◌≢◌, ℕ, ◌+◌, ◌<◌, [], length, Some, None, is_some, option_copied, IsSome, IfSome, OnOk, OnErr};
 ghost use Rattle.std.specs.HashMap.{get};
+ghost use Rattle.svn_pool.specs.Faults.{Answers};
 ghost use Rattle.svn_pool.specs.Linked.{Changes, IsLeaf, IsLinked, bare, blocks_held, fixed_held, first_of, holder, live_at, next_of, parent_in, place_by, place_in, place_of, sibling_before, standing};
 ghost use Rattle.svn_pool.specs.Pools.{parent_of};
+ghost use Rattle.svn_pool.specs.Refusals.{fault_if_live};
 
 use crate::fault::PoolFault;
 use crate::pool::Pool;
@@ -10,6 +12,7 @@ use crate::stock::Stock;
 use std::alloc::Allocator;
 use std::collections::HashMap;
 use std::hash::{BuildHasherDefault, FoldHasher};
+use std::mem::replace;
 
 // A place for one pool.
 #[derive(Clone, Copy)]
@@ -72,16 +75,24 @@ pub(crate) fn first_child<A: Allocator + Copy>(pools: &Live<A>, parent: u64) -> 
     linked.first
 }
 
-fn set_first<A: Allocator + Copy>(pools: &mut Live<A>, serial: u64, first: Option<u64>)
+// Sets the first child of a pool, and tells which it was, if the pool is live.
+fn set_first<A: Allocator + Copy>(
+    pools: &mut Live<A>,
+    serial: u64,
+    first: Option<u64>,
+) -> Option<Option<u64>>
+    ensures live { is_some result ≡ is_some (get nat_eq pools.old serial) }
+    ensures was { IfSome result (λ was. was ≡ first_of (get nat_eq pools.old serial)) }
     ensures first { IsSome (get nat_eq pools.old serial) → first_of (get nat_eq pools.new serial) ≡ first }
     ensures next { next_of (get nat_eq pools.new serial) ≡ next_of (get nat_eq pools.old serial) }
     ensures place { place_in (get nat_eq pools.new serial) ≡ place_in (get nat_eq pools.old serial) }
     ensures others { (q : ℕ) → q ≢ serial → get nat_eq pools.new q ≡ get nat_eq pools.old q }
     ensures pools { bare pools.new ≡ bare pools.old }
 {
-    if let Some(linked) = pools.get_mut(&serial) {
-        linked.first = first;
-    }
+    let Some(linked) = pools.get_mut(&serial) else {
+        return None;
+    };
+    Some(replace(&mut linked.first, first))
 }
 
 fn set_next<A: Allocator + Copy>(pools: &mut Live<A>, serial: u64, next: Option<u64>)
@@ -126,7 +137,9 @@ fn set_standing<A: Allocator + Copy>(pools: &mut Live<A>, place: Place, pool: Op
     ensures pools { bare pools.new ≡ bare pools.old }
 {
     match place {
-        Place::First(parent) => set_first(pools, parent, pool),
+        Place::First(parent) => {
+            set_first(pools, parent, pool);
+        }
         Place::Next(before) => set_next(pools, before, pool),
     }
 }
@@ -147,24 +160,24 @@ fn move_to<A: Allocator + Copy>(pools: &mut Live<A>, pool: Option<u64>, place: P
     }
 }
 
-// Adds a child of a live pool, before its other children, of which `older` is the first. Its serial is greater than all others.
+// Adds a child of a pool, before its other children. Its serial is greater than all others. The errors are `Gone` and `Memory`.
 pub(crate) fn add_child<A: Allocator + Copy>(
     pools: &mut Live<A>,
     parent: u64,
     serial: u64,
-    older: Option<u64>,
 ) -> Result<(), PoolFault>
     requires linked { IsLinked pools.old }
-    requires live { IsSome (live_at (bare pools.old) parent) }
     requires fresh { (s : ℕ) → IsSome (live_at (bare pools.old) s) → s < serial }
-    requires older { older ≡ first_of (get nat_eq pools.old parent) }
+    ensures answers { Answers (fault_if_live (live_at (bare pools.old) parent) (λ _. None)) result }
     ensures linked { IsLinked pools.new }
     ensures added { OnOk result (Changes (bare pools.old) (bare pools.new) serial (Some (record { parent = Some parent; strings = [] }))) }
     ensures blocks { blocks_held (bare pools.new) ≡ blocks_held (bare pools.old) }
     ensures fixed { fixed_held (bare pools.new) ≡ fixed_held (bare pools.old) }
     ensures refused { OnErr result (bare pools.new ≡ bare pools.old) }
-    ensures memory { IfErr result (λ f. f ≡ PoolFault.Memory) }
 {
+    let Some(older) = set_first(pools, parent, Some(serial)) else {
+        return Err(PoolFault::Gone);
+    };
     let child = Linked {
         pool: Pool::new(Some(parent)),
         first: None,
@@ -172,9 +185,9 @@ pub(crate) fn add_child<A: Allocator + Copy>(
         before: None,
     };
     let Ok(_) = pools.insert(serial, child) else {
+        set_first(pools, parent, older);
         return Err(PoolFault::Memory);
     };
-    set_standing(pools, Place::First(parent), Some(serial));
     move_to(pools, older, Place::Next(serial));
     Ok(())
 }

@@ -1,7 +1,8 @@
 // What changes one live pool and leaves the others.
-ghost use Rattle.std.specs.Prelude.{◌≡◌, ◌+◌, ◌++◌, [], ◌∷◌, true, false, length, is_some, Some, None, IfOk, IsOk, OnOk, OnErr};
+ghost use Rattle.std.specs.Prelude.{nat_eq, ◌≡◌, ◌+◌, ◌++◌, [], ◌∷◌, true, length, is_some, Some, None, IfSome, OnSome, IfNone, IfOk, IsOk, OnOk, OnErr};
+ghost use Rattle.std.specs.HashMap.{get};
 ghost use Rattle.svn_pool.specs.Faults.{Answers};
-ghost use Rattle.svn_pool.specs.Linked.{Changes, IsLinked, bare, blocks_held, fixed_held, live_at};
+ghost use Rattle.svn_pool.specs.Linked.{Changes, IsLinked, bare, blocks_held, first_of, fixed_held, live_at};
 ghost use Rattle.svn_pool.specs.Pools.{parent_of, strings_of_pool};
 ghost use Rattle.svn_pool.specs.Refusals.{fault_if_live};
 ghost use Rattle.svn_pool.specs.Stores.{needs_none, stored, string_fault};
@@ -38,25 +39,26 @@ pub(crate) fn push_onto<A: Allocator + Copy>(
     linked.pool.push(stock, bytes)
 }
 
-// Gives up the strings of a pool, and tells whether it is live.
+// Gives up the strings of a pool, and tells its first child, if the pool is live.
 pub(crate) fn empty<A: Allocator + Copy>(
     pools: &mut Live<A>,
     stock: &mut Stock<A>,
     serial: u64,
-) -> bool
+) -> Option<Option<u64>>
     requires linked { IsLinked pools.old }
     requires counted { stock.old.used ≡ blocks_held (bare pools.old) }
-    ensures live { result ≡ is_some (live_at (bare pools.old) serial) }
+    ensures live { is_some result ≡ is_some (live_at (bare pools.old) serial) }
+    ensures first { IfSome result (λ first. first ≡ first_of (get nat_eq pools.new serial)) }
     ensures linked { IsLinked pools.new }
     ensures counted { stock.new.used ≡ blocks_held (bare pools.new) }
     ensures fixed { stock.new.spare + fixed_held (bare pools.new) ≡ stock.old.spare + fixed_held (bare pools.old) }
-    ensures emptied { result ≡ true → Changes (bare pools.old) (bare pools.new) serial (Some (record { parent = parent_of (live_at (bare pools.old) serial); strings = [] })) }
-    ensures gone { result ≡ false → bare pools.new ≡ bare pools.old }
-    ensures gone_stock { result ≡ false → stock.new ≡ stock.old }
+    ensures emptied { OnSome result (Changes (bare pools.old) (bare pools.new) serial (Some (record { parent = parent_of (live_at (bare pools.old) serial); strings = [] }))) }
+    ensures gone { IfNone result (bare pools.new ≡ bare pools.old) }
+    ensures gone_stock { IfNone result (stock.new ≡ stock.old) }
 {
     let Some(linked) = pools.get_mut(&serial) else {
-        return false;
+        return None;
     };
     linked.pool.clear(stock);
-    true
+    Some(linked.first)
 }

@@ -1,79 +1,96 @@
-use Rattle.std.proofs.Common.{nat_eq, ◌≡◌, ◌<◌, ℕ, List, [], Option, None, Some, map, sym, ap, subst, ◌∙◌, arith}
-use Rattle.std.specs.HashMap.{get}
-use Rattle.std.specs.Map.{lookup}
-use Rattle.svn_pool.specs.Linked.{Changes, LivePools, bare, bare_entry, blocks_held, fixed_held}
+use Rattle.std.proofs.Common.{nat_eq, ◌≡◌, ◌<◌, ℕ, false, true, Option, None, Some, Ok, Err, IsSome, refl, sym, ap, subst, ◌∙◌, arith}
+use Rattle.std.proofs.Math.Path.{transport}
+use Rattle.std.specs.HashMap.{get, PutsEntry}
+use Rattle.std.specs.List.{sum_by}
+use Rattle.std.specs.Map.{values_of}
+use Rattle.svn_pool.specs.Faults.{Answers}
+use Rattle.svn_pool.specs.Linked.{Changes, LinkedMap, LivePools, bare, live_at}
 use Rattle.svn_pool.specs.Pools.{Entry, blocks_of, fixed_of}
+use Rattle.svn_pool.specs.declared.fault.PoolFault.{PoolFault}
+use Rattle.svn_pool.specs.declared.fault.PoolFault.TheVariants.{Gone, Memory}
 use Rattle.svn_pool.specs.declared.links.Linked.{Linked}
 use Rattle.svn_pool.specs.declared.links.Place.TheVariants.{Next}
 use Rattle.svn_pool.proofs.Bare.{changes-bare, is_some-bare, put-new-bare}
 use Rattle.svn_pool.proofs.Counts.{sum_with}
-use Rattle.svn_pool.proofs.Kinship.{IsMoved, gone_is_none, linked-again, linked-add}
+use Rattle.svn_pool.proofs.Kinship.{IsMoved, gone_from_test, gone_is_none, led_again, linked-add, linked-led, live_after}
+use Rattle.svn_pool.proofs.Outcomes.{fault_if_gone, fault_if_some}
 use Rattle.svn_pool.proofs.links.add_child.Goals as goal
+
+-- a new pool without strings adds nothing to what is counted
+held_still : (f : Entry → ℕ) (old led mid new : LinkedMap) (s : ℕ) (child : Linked Entry) (had : Option (Linked Entry))
+    → ((c : ℕ) → IsSome (live_at (bare old) c) → c < s) → had ≡ get nat_eq led s → PutsEntry nat_eq led mid s child had
+    → bare led ≡ bare old → bare new ≡ bare mid → f child.pool ≡ 0 → sum_by f (values_of (bare new)) ≡ sum_by f (values_of (bare old))
+held_still f old led mid new s child had fresh is put before after zero =
+    let none : get nat_eq led s ≡ None =
+    gone_is_none (get nat_eq led s) (λ h.
+    let lt = fresh s (is_some-bare old s ∙ live_after led old (sym before) s h) in
+    omega (arith, lt)) in
+    let sum = sum_with f (bare led) (bare mid) s child.pool (put-new-bare led mid s child had is none put) in
+    let same : sum_by f (values_of (bare mid)) ≡ sum_by f (values_of (bare led)) = omega (arith, sum, zero) in
+    ap (λ (ps : LivePools). sum_by f (values_of ps)) after ∙ same ∙ ap (λ (ps : LivePools). sum_by f (values_of ps)) before
+
+pub returns-in_default-clause-answers : goal.returns-in_default-clause-answers
+returns-in_default-clause-answers g c =
+    let o = live_at (bare c.args.pools.now) c.args.parent in
+    let none : o ≡ None = gone_from_test o (is_some-bare c.args.pools.now c.args.parent ∙ sym c.in_default.ensures.live) in
+    subst (λ (f : Option PoolFault). Answers {T = Unit {0}} f (Err Gone)) (sym (fault_if_gone o _ none)) refl
 
 pub returns-in_default-clause-linked : goal.returns-in_default-clause-linked
 returns-in_default-clause-linked g c =
-    linked-again c.args.pools.now c.insert.new.self c.requires.linked
-    (λ q. ap (λ (es : List (ℕ × Linked Entry)). lookup (nat_eq q) es) c.in_default.ensures.err) c.insert.ensures.unique
+    let e = c.set_first.ensures in
+    linked-led c.args.pools.now c.set_first.new.pools c.args.parent (Some c.args.serial)
+    (record { first = e.first; next = e.next; place = e.place; others = e.others; pools = e.pools }) c.requires.linked
+    (λ live. let no : false ≡ true = c.in_default.ensures.live ∙ live in absurd (let none : ⊥ = cc in none))
 
-pub returns-in_default-clause-blocks : goal.returns-in_default-clause-blocks
-returns-in_default-clause-blocks g c =
-    ap (λ (es : List (ℕ × Linked Entry)). blocks_held (map bare_entry es)) c.in_default.ensures.err
+pub returns-in_default-insert-clause-answers : goal.returns-in_default-insert-clause-answers
+returns-in_default-insert-clause-answers g c =
+    let o = live_at (bare c.args.pools.now) c.args.parent in
+    let live : IsSome o = is_some-bare c.args.pools.now c.args.parent ∙ sym c.in-Some.ensures.live in
+    subst (λ (f : Option PoolFault). Answers {T = Unit {0}} f (Err Memory)) (sym (fault_if_some o None live)) refl
 
-pub returns-in_default-clause-fixed : goal.returns-in_default-clause-fixed
-returns-in_default-clause-fixed g c =
-    ap (λ (es : List (ℕ × Linked Entry)). fixed_held (map bare_entry es)) c.in_default.ensures.err
+pub returns-in_default-insert-clause-linked : goal.returns-in_default-insert-clause-linked
+returns-in_default-insert-clause-linked g c =
+    let e = c.set_first.ensures in
+    let back = c.set_first-in_default-insert.ensures in
+    linked-led c.args.pools.now c.set_first-in_default-insert.new.pools c.args.parent c.in-Some.older
+    (led_again c.args.pools.now c.set_first.new.pools c.insert.new.self c.set_first-in_default-insert.new.pools c.args.parent
+    (Some c.args.serial) c.in-Some.older
+    (record { first = e.first; next = e.next; place = e.place; others = e.others; pools = e.pools })
+    c.in_default-insert.ensures.err
+    (record { first = back.first; next = back.next; place = back.place; others = back.others; pools = back.pools }))
+    c.requires.linked (λ _. sym c.in-Some.ensures.was)
 
-pub returns-in_default-clause-refused : goal.returns-in_default-clause-refused
-returns-in_default-clause-refused g c = ap (λ (es : List (ℕ × Linked Entry)). map bare_entry es) c.in_default.ensures.err
+pub returns-clause-answers : goal.returns-clause-answers
+returns-clause-answers g c =
+    let o = live_at (bare c.args.pools.now) c.args.parent in
+    let live : IsSome o = is_some-bare c.args.pools.now c.args.parent ∙ sym c.in-Some.ensures.live in
+    subst (λ (f : Option PoolFault). Answers {T = Unit {0}} f (Ok tt)) (sym (fault_if_some o None live)) tt
 
 pub returns-clause-linked : goal.returns-clause-linked
 returns-clause-linked g c =
-    let child : Linked Entry = record {
-      pool = c.new.result;
-      first = None;
-      next = c.args.older;
-      before = None;
-    } in
-    let put = c.set_standing.ensures in
+    let child : Linked Entry = record { pool = c.new.result; first = None; next = c.in-Some.older; before = None } in
+    let e = c.set_first.ensures in
     let moved = c.move_to.ensures in
-    linked-add c.args.pools.now c.insert.new.self c.requires.linked c.args.serial c.args.parent child c.requires.live c.requires.fresh
-    (omega arith)
-    (λ i. record { pool = c.new.ensures i; first = None; next = c.requires.older i; before = None })
-    c.in-Ok.ensures.updates c.insert.ensures.unique c.set_standing.new.pools c.move_to.new.pools
-    (record { here = put.here; others = put.standing; places = put.places; pools = put.pools })
-    (subst (λ (z : Option ℕ). IsMoved c.set_standing.new.pools c.move_to.new.pools z (Next c.args.serial)) c.requires.older
+    linked-add c.args.pools.now c.set_first.new.pools c.insert.new.self c.requires.linked c.args.serial c.args.parent child
+    (sym c.in-Some.ensures.live) c.requires.fresh (omega arith)
+    (λ i. record { pool = c.new.ensures i; first = None; next = c.in-Some.ensures.was i; before = None })
+    (record { first = e.first; next = e.next; place = e.place; others = e.others; pools = e.pools })
+    c.in-Ok.ensures.updates c.insert.ensures.unique c.move_to.new.pools
+    (subst (λ (z : Option ℕ). IsMoved c.insert.new.self c.move_to.new.pools z (Next c.args.serial)) c.in-Some.ensures.was
     (record { moved = moved.moved; others = moved.others; standing = moved.standing; pools = moved.pools }))
 
 pub returns-clause-added : goal.returns-clause-added
 returns-clause-added g c =
-    let same : bare c.move_to.new.pools ≡ bare c.insert.new.self = c.move_to.ensures.pools ∙ c.set_standing.ensures.pools in
-    subst (λ (ps : LivePools). Changes (bare c.args.pools.now) ps c.args.serial
-    (Some (record { parent = Some c.args.parent; strings = [] }))) (sym same)
-    (subst (λ (e : Entry). Changes (bare c.args.pools.now) (bare c.insert.new.self) c.args.serial (Some e)) c.new.ensures
-    (changes-bare c.args.pools.now c.insert.new.self c.args.serial _ c.in-Ok.ensures.updates))
+    transport
+    (λ i. Changes (c.set_first.ensures.pools i) (sym c.move_to.ensures.pools i) c.args.serial (Some (c.new.ensures i)))
+    (changes-bare c.set_first.new.pools c.insert.new.self c.args.serial _ c.in-Ok.ensures.updates)
 
 pub returns-clause-blocks : goal.returns-clause-blocks
 returns-clause-blocks g c =
-    let same : bare c.move_to.new.pools ≡ bare c.insert.new.self = c.move_to.ensures.pools ∙ c.set_standing.ensures.pools in
-    let none : get nat_eq c.args.pools.now c.args.serial ≡ None =
-    gone_is_none (get nat_eq c.args.pools.now c.args.serial) (λ h.
-    let lt : c.args.serial < c.args.serial = c.requires.fresh c.args.serial (is_some-bare c.args.pools.now c.args.serial ∙ h) in
-    omega arith) in
-    let sum =
-    sum_with blocks_of (bare c.args.pools.now) (bare c.insert.new.self) c.args.serial c.new.result
-    (put-new-bare c.args.pools.now c.insert.new.self c.args.serial _ _ c.in-Ok.ensures.old none c.in-Ok.ensures.entries) in
-    let zero : blocks_of c.new.result ≡ 0 = ap blocks_of c.new.ensures in
-    ap blocks_held same ∙ omega (arith, sum, zero)
+    held_still blocks_of c.args.pools.now c.set_first.new.pools c.insert.new.self c.move_to.new.pools c.args.serial _ _ c.requires.fresh
+    c.in-Ok.ensures.old c.in-Ok.ensures.entries c.set_first.ensures.pools c.move_to.ensures.pools (ap blocks_of c.new.ensures)
 
 pub returns-clause-fixed : goal.returns-clause-fixed
 returns-clause-fixed g c =
-    let same : bare c.move_to.new.pools ≡ bare c.insert.new.self = c.move_to.ensures.pools ∙ c.set_standing.ensures.pools in
-    let none : get nat_eq c.args.pools.now c.args.serial ≡ None =
-    gone_is_none (get nat_eq c.args.pools.now c.args.serial) (λ h.
-    let lt : c.args.serial < c.args.serial = c.requires.fresh c.args.serial (is_some-bare c.args.pools.now c.args.serial ∙ h) in
-    omega arith) in
-    let sum =
-    sum_with fixed_of (bare c.args.pools.now) (bare c.insert.new.self) c.args.serial c.new.result
-    (put-new-bare c.args.pools.now c.insert.new.self c.args.serial _ _ c.in-Ok.ensures.old none c.in-Ok.ensures.entries) in
-    let zero : fixed_of c.new.result ≡ 0 = ap fixed_of c.new.ensures in
-    ap fixed_held same ∙ omega (arith, sum, zero)
+    held_still fixed_of c.args.pools.now c.set_first.new.pools c.insert.new.self c.move_to.new.pools c.args.serial _ _ c.requires.fresh
+    c.in-Ok.ensures.old c.in-Ok.ensures.entries c.set_first.ensures.pools c.move_to.ensures.pools (ap fixed_of c.new.ensures)

@@ -1,4 +1,5 @@
 use Rattle.std.proofs.Common.{nat_eq, ◌≡◌, ℕ, Option, Some, is_some, refl, sym, ap, ◌∙◌}
+use Rattle.std.proofs.lemmas.Option.{same_Some}
 use Rattle.std.specs.HashMap.{get}
 use Rattle.svn_pool.specs.Linked.{LinkedMap, parent_in, place_by, place_in, place_of, sibling_before}
 use Rattle.svn_pool.specs.Pools.{Entry, parent_of}
@@ -6,7 +7,6 @@ use Rattle.svn_pool.specs.declared.links.Linked.{Linked}
 use Rattle.svn_pool.specs.declared.links.Place.{Place}
 use Rattle.svn_pool.specs.declared.links.Place.TheVariants.{First, Next}
 use Rattle.svn_pool.proofs.Bare.{live-bare, pool_in, relinked-bare}
-use Rattle.svn_pool.proofs.Siblings.{some_is}
 use Rattle.svn_pool.proofs.links.move_to.Goals as goal
 
 -- a pool that follows the sibling of a place stands there, where it is a child of the right pool
@@ -28,7 +28,7 @@ returns-in-Some-get_mut-clause-moved g c = λ k is _ parent.
     let found : get nat_eq c.args.pools.now c.in-Some.serial ≡ Some l = sym c.in-Some-get_mut.ensures.value in
     moved_to c.args.pools.now (c.get_mut.follows.lender w) c.in-Some.serial l w c.args.place found
     ((c.get_mut.follows.holds w).3 (ap is_some found)).1 refl c.sibling_before-linked.ensures k
-    (some_is c.in-Some.serial k (sym c.in-Some.is ∙ is)) parent
+    (same_Some c.in-Some.serial k (sym c.in-Some.is ∙ is)) parent
 
 pub returns-in-Some-get_mut-clause-pools : goal.returns-in-Some-get_mut-clause-pools
 returns-in-Some-get_mut-clause-pools g c =

@@ -66,7 +66,7 @@ returns-clause-fixed g c =
     omega (arith, sum, none, spare)
 
 pub returns-clause-emptied : goal.returns-clause-emptied
-returns-clause-emptied g c = λ live.
+returns-clause-emptied g c =
     let l = c.in-Some.linked.now in
     let w : Linked Entry = record { pool = c.clear.new.self; first = l.first; next = l.next; before = l.before } in
     let end = c.get_mut.follows.lender w in

@@ -7,12 +7,12 @@ pub invariant_of-self-2 : goal.invariant_of-self-2
 invariant_of-self-2 g c =
     let s = c.self.inside in
     let is = sym c.self.invariant.0 ∙ c.in_ok-leaf.ensures in
-    let some : 0 < s.spare = blanks_some s.spare c.in_ok-leaf.leaf.page c.pop.new.self is in
-    ((blanks-pop s.spare c.in_ok-leaf.leaf.page c.pop.new.self is).1, omega (arith, some, c.self.invariant.1))
+    let some : 0 < s.spare = blanks_some s.spare c.in_ok-leaf.leaf.node.value.page c.pop.new.self is in
+    ((blanks-pop s.spare c.in_ok-leaf.leaf.node.value.page c.pop.new.self is).1, omega (arith, some, c.self.invariant.1))
 
 pub returns-clause-block : goal.returns-clause-block
 returns-clause-block g c =
     let short : nat_le c.args.len 8188 ≡ true = le-leb c.args.len 8188 (omega arith) in
     let is = sym c.self.invariant.0 ∙ c.in_ok-leaf.ensures in
-    (blanks-pop c.self.inside.spare c.in_ok-leaf.leaf.page c.pop.new.self is).0
+    (blanks-pop c.self.inside.spare c.in_ok-leaf.leaf.node.value.page c.pop.new.self is).0
     ∙ ap (λ (b : Bool). record { cap = cond b 8192 (c.args.len + 4); strings = [] }) (sym short)
