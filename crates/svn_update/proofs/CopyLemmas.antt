@@ -1,5 +1,5 @@
 -- Commands on the working copy, where there is one.
-use Rattle.std.proofs.Common.{◌≡◌, Bool, true, false, ap, sym, subst, Option, Some, None, Result, Ok, Err}
+use Rattle.std.proofs.Common.{◌≡◌, ℕ, Bool, true, false, ap, sym, subst, Option, Some, None, Result, Ok, Err}
 use Rattle.std.specs.Prelude.{IsOk, IfErr, OnOk, OnErr}
 use Rattle.std.specs.Result.{is_err}
 use Rattle.svn_types.specs.Names.{Path}
@@ -8,6 +8,16 @@ use Rattle.svn_model.specs.declared.wc_fault.WcFault.{WcFault}
 use Rattle.svn_model.specs.Follow.{Request}
 use Rattle.svn_model.specs.Nodes.{WorkingCopy, get_in, InPathOrder, IsTrueOf}
 use Rattle.svn_run.specs.UpdateTheorem.{Nodes}
+use Rattle.svn_editor.specs.Steps.{Update}
+use Rattle.svn_report.specs.Reports.{ReportView}
+use Rattle.svn_report.specs.LawfulReports.{IsReport}
+use Rattle.svn_model.specs.Checks.{IsCheckable, target_fault}
+use Rattle.svn_model.specs.Crawl.{crawl}
+use Rattle.svn_model.specs.Drive.{IsDrive}
+use Rattle.svn_model.specs.TreeCalls.{drive_calls}
+use Rattle.svn_drive.specs.Walking.{asked}
+use Rattle.svn_drive_law.specs.Laws.{the_calls_are_a_drive}
+use Rattle.svn_law.specs.Laws.{IsTrueCopy, crawl_says_what_stands}
 use Rattle.svn_update.specs.declared.answer.Answer.{Answer}
 use Rattle.svn_update.specs.declared.answer.Answer.TheVariants.{Driven, Refused}
 use Rattle.svn_update.specs.declared.answer.Refusal.TheVariants.{Drive as DriveRefused}
@@ -47,3 +57,12 @@ pub drives : (h : History) (w : Nodes) (d : Request) (late : Bool) (a : Answer) 
 drives h w d late (Refused (DriveRefused e)) is r = (is, r)
 drives h w d late (Driven calls) is r = (is, r.0, r.1)
 drives h w d late _ is r = absurd r
+
+-- what a true copy reports is driven by the calls of a drive
+pub driven : (h : History) (w : Nodes) (r : ReportView) (target : ℕ) (late : Bool) → crawl_says_what_stands → the_calls_are_a_drive
+    → IsTrueCopy h w → r ≡ crawl w
+    → (let d = asked h r target Update in target_fault d ≡ None → IsDrive d late (drive_calls d late))
+driven h w r target late says calls true_copy is there =
+    let stands = says h w true_copy in
+    calls (asked h r target Update) late true_copy.history (subst IsReport (sym is) stands.report)
+    (subst (IsCheckable h) (sym is) stands.checkable) there

@@ -5,10 +5,10 @@ use Rattle.svn_editor.specs.Steps.{Update}
 use Rattle.svn_report.specs.Reports.{ReportView}
 use Rattle.svn_drive.specs.Walking.{asked}
 use Rattle.svn_model.specs.Nodes.{get_in, IsTrueOf}
-use Rattle.svn_law.specs.Laws.{request_of}
+use Rattle.svn_law.specs.Laws.{IsTrueCopy, request_of}
 use Rattle.svn_update.specs.Commands.{IsRecorded}
 use Rattle.svn_update.specs.ScriptStates.{ScriptState}
-use Rattle.svn_update.proofs.CopyLemmas.{drives, is_true, not_true, on_copy}
+use Rattle.svn_update.proofs.CopyLemmas.{drives, driven, is_true, not_true, on_copy}
 use Rattle.svn_update.proofs.state.State.drive.Goals as goal
 
 pub returns-then-is_err : goal.returns-then-is_err
@@ -17,6 +17,24 @@ returns-then-is_err c =
     (subst (λ (h : History). IsTrueOf h (get_in c.in-Some.copy) → ⊥) (ap (λ (s : ScriptState). s.repo) c.self.view_is)
     (not_true c.check_true.result (IsTrueOf c.self.inside.repo (get_in c.in-Some.copy)) c.check_true.ensures.true_is_ok
     (sym c.is_err.ensures.value ∙ c.if-is_err.true)))
+
+pub drive_report-requires : goal.drive_report-requires
+drive_report-requires c =
+    let same_repo : c.self.inside.repo ≡ c.args.self.now.repo = ap (λ (s : ScriptState). s.repo) c.self.view_is in
+    let true_copy : IsTrueCopy c.args.self.now.repo c.in-Some.copy =
+    subst (λ (h : History). IsTrueCopy h c.in-Some.copy) same_repo (record {
+      history = c.law.ensures.history;
+      in_order = c.law-2.ensures.order;
+      shape = c.law-2.ensures.shape;
+      true_of =
+          is_true c.check_true.result (IsTrueOf c.self.inside.repo (get_in c.in-Some.copy)) c.check_true.ensures.is_true
+          (sym c.is_err.ensures.value ∙ c.if-is_err.false);
+    }) in
+    record {
+      drive =
+          driven c.args.self.now.repo c.in-Some.copy c.in-Ok.report c.args.rev c.args.late c.crawl_says_what_stands.ensures
+          c.the_calls_are_a_drive.ensures true_copy c.in-Ok.ensures.report;
+    }
 
 pub returns-in-Ok : goal.returns-in-Ok
 returns-in-Ok c =
