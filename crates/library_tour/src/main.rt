@@ -1,14 +1,12 @@
 //! The library in a few lines: two revisions of a file, a working copy of the first, an update to the second with the driver in a
-//! thread of its own, and a look at what came of it.
+//! thread of its own, and what came of it, printed.
 #![tactic(auto)]
 
 use anyhow::Result;
 use std::alloc::Global;
 use std::sync::Wait;
 use std::thread::Threads;
-use svn_update::{
-    BaseNode, Change, NoGate, Options, RelPath, Repo, Rev, Text, WorkingCopy, update,
-};
+use svn_update::{Change, NoGate, Options, RelPath, Repo, Rev, Text, WorkingCopy, update};
 
 fn put(alloc: Global, path: &str, text: &str) -> Result<Change> {
     Ok(Change::PutFile {
@@ -31,10 +29,7 @@ fn tour<R: Threads + Wait + Sync + Print>(rt: &R, alloc: Global) -> Result<()> {
         let (outcome, _passed) = update(rt, alloc, &repo, &mut copy, Rev(2), options, &NoGate)?;
         println!(rt; "{outcome:?}")?;
     }
-    if let Some(BaseNode::File { rev, text, .. }) = copy.get(&RelPath::parse(alloc, "f")?) {
-        println!(rt; "f at revision {rev}: {} bytes", text.len())?;
-    }
-    Ok(())
+    Ok(print!(rt; "{copy}")?)
 }
 
 fn main(rt: HostRuntime) -> Result<()> {

@@ -1,5 +1,5 @@
 //! The copy of a row by the library's calls: how it is built, and what is seen of it.
-use crate::printed::{call_lines, has, shown};
+use crate::printed::{call_lines, has};
 use crate::trouble::{Trouble, holds, same};
 use std::alloc::Global;
 use svn_drive::{DriveFault, DriveOptions, check_report, drive};
@@ -44,7 +44,7 @@ fn change_or_leave(
     copy: &mut WorkingCopy,
     command: &Command,
 ) -> Result<(), Trouble> {
-    let before = shown(alloc, copy)?;
+    let before = format!(in alloc; "{copy}")?;
     let answer = change(alloc, repo, copy, command);
     if answer.is_err() {
         has(alloc, copy, &before, "a refused call changes the copy")?;

@@ -1,6 +1,6 @@
 //! A run by any of the four calls.
 use crate::copies::is_true;
-use crate::printed::{has, shown};
+use crate::printed::has;
 use crate::trouble::{Trouble, holds, same};
 use std::alloc::Global;
 use std::sync::Wait;
@@ -148,7 +148,7 @@ fn run_or_leave<R: Threads + Wait + Sync>(
     copy: &mut WorkingCopy,
     wanted: &Wanted<'_>,
 ) -> Result<Outcome, Trouble> {
-    let before = shown(alloc, copy)?;
+    let before = format!(in alloc; "{copy}")?;
     let answer = run(rt, alloc, repo, copy, wanted);
     if answer.is_err() {
         let other = "a run that doesn't begin changes the copy";

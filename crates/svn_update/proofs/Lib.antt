@@ -2,8 +2,6 @@
 pub mod CopyLemmas
 -- Drives into a recorder.
 pub mod DriveLemmas
--- Texts that are printed item by item.
-pub mod Printing
 -- A run of a script, by the theorem of runs on one thread and that of runs on two.
 pub mod RunLemmas
 -- Lines that are done one after the other.

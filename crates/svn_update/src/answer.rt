@@ -2,17 +2,18 @@
 ghost use Rattle.std.specs.Prelude.{◌≡◌, Some};
 ghost use Rattle.std.specs.List.{flat_map};
 ghost use Rattle.std.specs.Fmt.{DisplaysOnOk};
-ghost use Rattle.svn_update.specs.Answers.{answer_text, call_text, cause_name, line, node_lines, outcome_words, prop_line};
+ghost use Rattle.svn_wc.specs.Lines.{line};
+ghost use Rattle.svn_update.specs.Answers.{answer_text, call_text, cause_name, outcome_words};
 
 use crate::fault_names::refusal_name;
 use std::fmt;
 use std::fmt::Display;
-use svn_editor::{Call, PathWord, Recorder, Word};
-use svn_model::{BaseNode, DriveFault, WcFault};
+use svn_editor::{Call, Recorder};
+use svn_model::{DriveFault, WcFault};
 use svn_repo::CommitFault;
 use svn_report::Report;
 use svn_run::{Cause, Outcome, RunFault};
-use svn_types::{PropName, Props, RelPath, Rev, Text};
+use svn_types::Rev;
 use svn_wc::WorkingCopy;
 
 /// Why a command did nothing.
@@ -89,84 +90,6 @@ fn write_outcome<W: fmt::Write>(outcome: Outcome, f: &mut fmt::Formatter<W>) -> 
     }
 }
 
-// One property of a node.
-fn write_prop<W: fmt::Write>(
-    path: &RelPath,
-    name: &PropName,
-    value: &Text,
-    f: &mut fmt::Formatter<W>,
-) -> fmt::Result
-    ensures { DisplaysOnOk W.write_str_gives f.old result (Some (prop_line path.now (name.now, value.now))) f.new }
-{
-    let at = PathWord(path);
-    let name = Word(name.as_str().as_bytes());
-    let value = Word(value.as_slice());
-    writeln!(f, "{at} prop {name} {value}")
-}
-
-// The properties of a node, in order of their names.
-fn write_props<W: fmt::Write>(
-    path: &RelPath,
-    props: &Props,
-    f: &mut fmt::Formatter<W>,
-) -> fmt::Result
-    ensures { DisplaysOnOk W.write_str_gives f.old result (Some (flat_map (prop_line path.now) props.now)) f.new }
-{
-    for (name, value) in props.as_map() {
-        write_prop(path, name, value, f)?;
-    }
-    Ok(())
-}
-
-// A node, and behind it its properties.
-fn write_node<W: fmt::Write>(
-    path: &RelPath,
-    node: &BaseNode,
-    f: &mut fmt::Formatter<W>,
-) -> fmt::Result
-    ensures { DisplaysOnOk W.write_str_gives f.old result (Some (node_lines (path.now, node.now))) f.new }
-{
-    let at = PathWord(path);
-    match node {
-        BaseNode::File {
-            rev,
-            repos_path,
-            text,
-            props,
-        } => {
-            let from = PathWord(repos_path);
-            let text = Word(text.as_slice());
-            writeln!(f, "{at} file {} {from} {text}", rev.0)?;
-            write_props(path, props, f)
-        }
-        BaseNode::Dir {
-            rev,
-            repos_path,
-            complete,
-            props,
-        } => {
-            let from = PathWord(repos_path);
-            if *complete {
-                writeln!(f, "{at} dir {} {from}", rev.0)?;
-            } else {
-                writeln!(f, "{at} dir {} {from} incomplete", rev.0)?;
-            }
-            write_props(path, props, f)
-        }
-        BaseNode::NotPresent => writeln!(f, "{at} not-present"),
-    }
-}
-
-// The nodes of a working copy, in path order.
-fn write_copy<W: fmt::Write>(copy: &WorkingCopy, f: &mut fmt::Formatter<W>) -> fmt::Result
-    ensures { DisplaysOnOk W.write_str_gives f.old result (Some (flat_map node_lines copy.now)) f.new }
-{
-    for (path, node) in copy.nodes() {
-        write_node(path, node, f)?;
-    }
-    Ok(())
-}
-
 // A call, and a line feed.
 fn write_call<W: fmt::Write>(call: &Call, f: &mut fmt::Formatter<W>) -> fmt::Result
     ensures { DisplaysOnOk W.write_str_gives f.old result (Some (call_text call.now)) f.new }
@@ -196,7 +119,7 @@ impl fmt::Display for AnswerLines<'_> {
             Answer::Driven(recorder) => write_calls(recorder.calls(), f),
             Answer::Ended(outcome) => write_outcome(*outcome, f),
             Answer::Nodes => match self.copy {
-                Some(copy) => write_copy(copy, f),
+                Some(copy) => write!(f, "{copy}"),
                 None => Ok(()),
             },
             Answer::Refused(refusal) => writeln!(f, "refused {}", refusal_name(*refusal)),

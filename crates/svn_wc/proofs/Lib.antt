@@ -28,3 +28,5 @@ pub mod SortedNodes
 pub mod NodeRanges
 -- Nodes gone through beside others: which of their paths the others lack.
 pub mod Comparing
+-- Texts that are printed item by item.
+pub mod Printing

@@ -5,3 +5,4 @@ pub mod Truths
 pub mod Gathered
 pub mod Building
 pub mod Listed
+pub mod Lines

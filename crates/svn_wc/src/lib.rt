@@ -2,8 +2,8 @@
 //! edit does to it.
 //!
 //! [`WorkingCopy`] is a map from paths to [`BaseNode`]s. `checkout`, `checkout_at` and `from_nodes` make one; `place`, `switch` and `forget` change
-//! it without a drive, or refuse by a [`WcFault`]; `check_true` is the test of truth, `crawl` its report. [`Applier`] is the editor that
-//! applies a driver's calls.
+//! it without a drive, or refuse by a [`WcFault`]; `check_true` is the test of truth, `crawl` its report, and `Display` prints its nodes.
+//! [`Applier`] is the editor that applies a driver's calls.
 //!
 //! ```
 //! let mut copy = WorkingCopy::checkout(alloc, &repo, Rev(1))?;
@@ -19,8 +19,9 @@
 //! Promises: builders and changes give exactly the copy of the definition, refuse by the first fault of its order, leave a refused copy as it
 //! was, and keep a true copy true (`nodes`, `made`, `fault`, `unchanged`, `truth` of each). Every copy has the shape of one at any
 //! moment (`law`). `check_true` finds the first untrue path, and none exactly where the copy is true (`first`, `is_true`, `true_is_ok`).
-//! `crawl` is the report of the definition (`report`). The applier answers and changes as the definitions of an edit say, after every list
-//! of calls that it accepted (`TakesCall` of `specs/Taking.antt`, the `answers` of its `Editor`).
+//! `crawl` is the report of the definition (`report`), and what is printed is `copy_text` of `specs/Lines.antt`. The applier answers and changes
+//! as the definitions of an edit say, after every list of calls that it accepted (`TakesCall` of `specs/Taking.antt`, the `answers` of its
+//! `Editor`).
 #![tactic(auto)]
 
 mod ahead;
@@ -29,6 +30,7 @@ mod building;
 mod crawl;
 mod forget;
 mod gather;
+mod lines;
 mod listed;
 mod paths;
 mod replace;

@@ -3,7 +3,7 @@
 // does a refusal: its number.
 use crate::calls::call;
 use crate::nodes::nodes;
-use crate::printed::{shown, write_crawl, write_length, write_nodes, write_truth};
+use crate::printed::{write_crawl, write_length, write_nodes, write_truth};
 use crate::words::{path, revision, text, value, word};
 use std::alloc::{AllocError, Global};
 use std::process::Abort;
@@ -88,12 +88,12 @@ impl State {
 
     // A call that changes the copy. A refused one leaves it as it was.
     fn build(&mut self, step: &str) -> Result<(), Fail> {
-        let before = shown(self.alloc, &self.copy)?;
+        let before = format!(in self.alloc; "{}", self.copy)?;
         let Err(fault) = self.place(step)? else {
             return Ok(());
         };
         self.write_fault(fault)?;
-        if shown(self.alloc, &self.copy)? != before {
+        if format!(in self.alloc; "{}", self.copy)? != before {
             self.out.push_str("changed; ")?;
         }
         Ok(())
@@ -102,7 +102,7 @@ impl State {
     fn look(&mut self, step: &str) -> Result<(), Fail> {
         let out = &mut self.out;
         match word(step, 0) {
-            "show" => write_nodes(out, &self.copy)?,
+            "show" => write_nodes(self.alloc, out, &self.copy)?,
             "report" => write_crawl(self.alloc, out, &self.copy)?,
             "count" => write!(out, "{} nodes; ", self.copy.nodes().len())?,
             "length" => write_length(out, &self.copy, &path(self.alloc, step, 1)?)?,

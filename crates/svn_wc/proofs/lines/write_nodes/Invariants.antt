@@ -1,8 +1,8 @@
 use Rattle.std.proofs.Common.{◌≡◌, ◌++◌, List, ℕ}
 use Rattle.std.specs.List.{flat_map}
 use Rattle.std.specs.Fmt.{HasWritten, IsPlainFormatter}
-use Rattle.svn_update.specs.Answers.{node_lines}
-use Rattle.svn_update.proofs.answer.write_copy.Given as goal
+use Rattle.svn_wc.specs.Lines.{node_lines}
+use Rattle.svn_wc.proofs.lines.write_nodes.Given as goal
 
 -- what is written so far, and the lines of the nodes that are left
 abbrev pub invariant-loop-path : goal.invariant-loop-path

@@ -1,9 +1,9 @@
 use Rattle.std.proofs.Common.{◌≡◌, ◌++◌, [], rules, refl, ap, ◌∙◌}
 use Rattle.std.specs.List.{flat_map}
 use Rattle.std.proofs.Output.{has_written_append, has_written_of_eq}
-use Rattle.svn_update.specs.Answers.{node_lines}
-use Rattle.svn_update.proofs.Printing.{next_item, no_item}
-use Rattle.svn_update.proofs.answer.write_copy.Goals as goal
+use Rattle.svn_wc.specs.Lines.{node_lines}
+use Rattle.svn_wc.proofs.Printing.{next_item, no_item}
+use Rattle.svn_wc.proofs.lines.write_nodes.Goals as goal
 
 pub loop-path-init : goal.loop-path-init
 loop-path-init g c =

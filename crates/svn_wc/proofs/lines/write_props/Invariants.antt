@@ -1,8 +1,8 @@
 use Rattle.std.proofs.Common.{◌≡◌, ◌++◌, List, ℕ}
 use Rattle.std.specs.List.{flat_map}
 use Rattle.std.specs.Fmt.{HasWritten, IsPlainFormatter}
-use Rattle.svn_update.specs.Answers.{prop_line}
-use Rattle.svn_update.proofs.answer.write_props.Given as goal
+use Rattle.svn_wc.specs.Lines.{prop_line}
+use Rattle.svn_wc.proofs.lines.write_props.Given as goal
 
 -- what is written so far, and the lines of the properties that are left
 abbrev pub invariant-loop-name : goal.invariant-loop-name
