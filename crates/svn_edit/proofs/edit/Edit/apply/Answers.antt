@@ -1,4 +1,4 @@
-use Rattle.std.proofs.Common.{◌∷◌, [], ℕ, List, Option, cond, None, Some, refl, sym, ap, subst, ◌∙◌}
+use Rattle.std.proofs.Common.{nat_eq, ◌∷◌, [], ℕ, List, Option, cond, None, Some, refl, sym, ap, subst, ◌∙◌}
 use Rattle.md5.specs.Md5.{md5}
 use Rattle.svn_types.specs.declared.kind.Kind.TheVariants.{File, Directory}
 use Rattle.svn_editor.specs.declared.call.Call.TheVariants.{OpenRoot, DeleteEntry, AddDirectory, OpenDirectory, ChangeDirProp, AddFile}
@@ -10,17 +10,12 @@ use Rattle.svn_edit.specs.Noted.{note_of_value, strings_of_value}
 use Rattle.svn_editor.specs.declared.fault.EditFault.TheVariants.{TooLong}
 use Rattle.svn_edit.specs.Applying.{BatonNoted, batons_of}
 use Rattle.svn_model.specs.Answering.{AnswersCall}
-use Rattle.svn_edit.proofs.Holding.{map_ok, map_err, err_by, at_err, ok_by, holds_made, holds_still, applied_read}
+use Rattle.svn_edit.proofs.Holding.{map_ok, on_err, ok_by, holds_made, holds_still, applied_read}
 use Rattle.svn_edit.proofs.PoolStrings.{one_left}
 use Rattle.svn_edit.proofs.Closes.{close_applied, close_holds, note_holds, change_applied, text_applied}
 use Rattle.svn_edit.proofs.FileCloses.{file_applied, file_holds}
 use Rattle.svn_edit.proofs.Switching.{end_applied, end_left}
-use Rattle.svn_editor.specs.declared.call.Call.{Call}
-use Rattle.svn_editor.proofs.Nested.{eq_true}
-use Rattle.svn_edit.specs.declared.edit.Edit.{Edit}
-use Rattle.svn_edit.specs.Leaving.{HoldsPools, call_strings}
-use Rattle.svn_edit.proofs.Closes.{note_baton}
-use Rattle.svn_edit.proofs.LeftPools.{keeps_left, keeps_same, began_left, fresh_token}
+use Rattle.svn_edit.proofs.LeftPools.{kept_left, unchanged_left, given_left, said_left}
 use Rattle.svn_edit.proofs.edit.Edit.apply.Goals as goal
 
 pub returns-in-OpenRoot-clause-holds : goal.returns-in-OpenRoot-clause-holds
@@ -190,81 +185,63 @@ returns-in-ChangeFileProp-clause-holds c = map_ok c.change_prop-in-ChangeFilePro
 -- ---- the pools after a refusal
 
 pub returns-in-OpenRoot-clause-pools : goal.returns-in-OpenRoot-clause-pools
-returns-in-OpenRoot-clause-pools c = map_err c.open_root.result c.open_root.ensures.unchanged (λ same mode calls next.
-    keeps_left c.args.self.now c.open_root.new.self calls c.args.call.now next.holds.batons same)
+returns-in-OpenRoot-clause-pools c =
+    kept_left c.args.self.now c.open_root.new.self c.args.call.now c.open_root.result c.open_root.ensures.unchanged
 
 pub returns-in-OpenDirectory-clause-pools : goal.returns-in-OpenDirectory-clause-pools
-returns-in-OpenDirectory-clause-pools c = map_err c.open_directory.result c.open_directory.ensures.unchanged (λ same mode calls next.
-    keeps_left c.args.self.now c.open_directory.new.self calls c.args.call.now next.holds.batons same)
+returns-in-OpenDirectory-clause-pools c =
+    kept_left c.args.self.now c.open_directory.new.self c.args.call.now c.open_directory.result c.open_directory.ensures.unchanged
 
 pub returns-in-OpenFile-clause-pools : goal.returns-in-OpenFile-clause-pools
-returns-in-OpenFile-clause-pools c = map_err c.open_file.result c.open_file.ensures.unchanged (λ same mode calls next.
-    keeps_left c.args.self.now c.open_file.new.self calls c.args.call.now next.holds.batons same)
+returns-in-OpenFile-clause-pools c =
+    kept_left c.args.self.now c.open_file.new.self c.args.call.now c.open_file.result c.open_file.ensures.unchanged
 
 pub returns-in-AddDirectory-clause-pools : goal.returns-in-AddDirectory-clause-pools
-returns-in-AddDirectory-clause-pools c = err_by c.add_directory.result (λ e bad mode calls next.
+returns-in-AddDirectory-clause-pools c =
     let x = c.in-AddDirectory in
-    let fresh = fresh_token mode c.args.self.now calls (AddDirectory x.path x.parent x.token) c.args.call.now
-    (record { kind = Directory; path = x.path; parent = Some x.parent; token = x.token }) x.is next refl refl in
-    keeps_left c.args.self.now c.add_directory.new.self calls c.args.call.now next.holds.batons
-    (at_err c.add_directory.result e bad (c.add_directory.ensures.unchanged fresh)))
+    given_left c.args.self.now c.add_directory.new.self (AddDirectory x.path x.parent x.token) c.args.call.now
+    (record { kind = Directory; path = x.path; parent = Some x.parent; token = x.token }) c.add_directory.result x.is refl refl
+    c.add_directory.ensures.unchanged
 
 pub returns-in-AddFile-clause-pools : goal.returns-in-AddFile-clause-pools
-returns-in-AddFile-clause-pools c = err_by c.add_file.result (λ e bad mode calls next.
+returns-in-AddFile-clause-pools c =
     let x = c.in-AddFile in
-    let fresh = fresh_token mode c.args.self.now calls (AddFile x.path x.parent x.token) c.args.call.now
-    (record { kind = File; path = x.path; parent = Some x.parent; token = x.token }) x.is next refl refl in
-    keeps_left c.args.self.now c.add_file.new.self calls c.args.call.now next.holds.batons
-    (at_err c.add_file.result e bad (c.add_file.ensures.unchanged fresh)))
+    given_left c.args.self.now c.add_file.new.self (AddFile x.path x.parent x.token) c.args.call.now
+    (record { kind = File; path = x.path; parent = Some x.parent; token = x.token }) c.add_file.result x.is refl refl
+    c.add_file.ensures.unchanged
 
 pub returns-in-DeleteEntry-clause-pools : goal.returns-in-DeleteEntry-clause-pools
-returns-in-DeleteEntry-clause-pools c = err_by c.delete_entry.result (λ e bad mode calls next.
-    keeps_left c.args.self.now c.args.self.now calls c.args.call.now next.holds.batons (keeps_same c.args.self.now))
+returns-in-DeleteEntry-clause-pools c =
+    unchanged_left c.args.self.now c.args.self.now c.args.call.now c.delete_entry.result (on_err c.delete_entry.result refl)
 
 pub returns-in-CloseEdit-clause-pools : goal.returns-in-CloseEdit-clause-pools
-returns-in-CloseEdit-clause-pools c = err_by c.close_edit.result (λ e bad mode calls next.
-    keeps_left c.args.self.now c.args.self.now calls c.args.call.now next.holds.batons (keeps_same c.args.self.now))
+returns-in-CloseEdit-clause-pools c =
+    unchanged_left c.args.self.now c.args.self.now c.args.call.now c.close_edit.result (on_err c.close_edit.result refl)
 
 pub returns-in-CloseDirectory-clause-pools : goal.returns-in-CloseDirectory-clause-pools
-returns-in-CloseDirectory-clause-pools c = map_err c.close_directory.result c.close_directory.ensures.unchanged (λ same mode calls next.
-    subst (λ (x : Edit). HoldsPools x.pools (batons_of x) calls c.args.call.now) (sym same)
-    (keeps_left c.args.self.now c.args.self.now calls c.args.call.now next.holds.batons (keeps_same c.args.self.now)))
+returns-in-CloseDirectory-clause-pools c =
+    unchanged_left c.args.self.now c.close_directory.new.self c.args.call.now c.close_directory.result c.close_directory.ensures.unchanged
 
 pub returns-in-CloseFile-clause-pools : goal.returns-in-CloseFile-clause-pools
-returns-in-CloseFile-clause-pools c = map_err c.close_file.result c.close_file.ensures.unchanged (λ same mode calls next.
-    subst (λ (x : Edit). HoldsPools x.pools (batons_of x) calls c.args.call.now) (sym same)
-    (keeps_left c.args.self.now c.args.self.now calls c.args.call.now next.holds.batons (keeps_same c.args.self.now)))
+returns-in-CloseFile-clause-pools c =
+    unchanged_left c.args.self.now c.close_file.new.self c.args.call.now c.close_file.result c.close_file.ensures.unchanged
 
 pub returns-in-ApplyText-clause-pools : goal.returns-in-ApplyText-clause-pools
-returns-in-ApplyText-clause-pools c = map_err c.apply_text.result c.apply_text.ensures.began (λ began mode calls next.
-    let old = c.args.self.now in
+returns-in-ApplyText-clause-pools c =
     let x = c.in-ApplyText in
-    let b = note_baton mode old c.apply_text.new.self calls (ApplyText x.token x.base_md5 x.text) c.args.call.now x.token File
-    (Text x.base_md5 x.text) x.is next refl refl in
-    began_left old c.apply_text.new.self calls c.args.call.now x.token b.0 (x.text ∷ []) next.holds.batons b.1
-    (ap (λ (y : Call). call_strings y x.token) x.is ∙ ap (λ same. cond same (x.text ∷ []) []) (eq_true x.token x.token refl))
-    (began b.0 b.1))
+    said_left c.args.self.now c.apply_text.new.self (ApplyText x.token x.base_md5 x.text) c.args.call.now x.token File (x.text ∷ [])
+    c.apply_text.result x.is refl refl refl c.apply_text.ensures.began
 
 pub returns-in-ChangeDirProp-clause-pools : goal.returns-in-ChangeDirProp-clause-pools
-returns-in-ChangeDirProp-clause-pools c = map_err c.change_prop.result c.change_prop.ensures.began (λ began mode calls next.
-    let old = c.args.self.now in
+returns-in-ChangeDirProp-clause-pools c =
     let x = c.in-ChangeDirProp in
-    let new = c.change_prop.new.self in
-    let b = note_baton mode old new calls (ChangeDirProp x.token x.name x.value) c.args.call.now x.token Directory
-    (Change Directory (x.name, x.value)) x.is next refl refl in
-    began_left old new calls c.args.call.now x.token b.0 _ next.holds.batons b.1
-    (ap (λ (y : Call). call_strings y x.token) x.is ∙ ap (λ same. cond same (x.name ∷ strings_of_value x.value) [])
-    (eq_true x.token x.token refl) ∙ ap (λ (v : Option (List ℕ)). x.name ∷ strings_of_value v) (sym c.as_ref.ensures.value))
-    (began b.0 b.1))
+    said_left c.args.self.now c.change_prop.new.self (ChangeDirProp x.token x.name x.value) c.args.call.now x.token Directory _ c.change_prop.result x.is refl refl
+    (ap (λ (v : Option (List ℕ)). cond (nat_eq x.token x.token) (x.name ∷ strings_of_value v) []) (sym c.as_ref.ensures.value))
+    c.change_prop.ensures.began
 
 pub returns-in-ChangeFileProp-clause-pools : goal.returns-in-ChangeFileProp-clause-pools
-returns-in-ChangeFileProp-clause-pools c = map_err c.change_prop-in-ChangeFileProp.result c.change_prop-in-ChangeFileProp.ensures.began (λ began mode calls next.
-    let old = c.args.self.now in
+returns-in-ChangeFileProp-clause-pools c =
     let x = c.in-ChangeFileProp in
-    let new = c.change_prop-in-ChangeFileProp.new.self in
-    let b = note_baton mode old new calls (ChangeFileProp x.token x.name x.value) c.args.call.now x.token File
-    (Change File (x.name, x.value)) x.is next refl refl in
-    began_left old new calls c.args.call.now x.token b.0 _ next.holds.batons b.1
-    (ap (λ (y : Call). call_strings y x.token) x.is ∙ ap (λ same. cond same (x.name ∷ strings_of_value x.value) [])
-    (eq_true x.token x.token refl) ∙ ap (λ (v : Option (List ℕ)). x.name ∷ strings_of_value v) (sym c.as_ref-in-ChangeFileProp.ensures.value))
-    (began b.0 b.1))
+    said_left c.args.self.now c.change_prop-in-ChangeFileProp.new.self (ChangeFileProp x.token x.name x.value) c.args.call.now x.token File _ c.change_prop-in-ChangeFileProp.result x.is refl refl
+    (ap (λ (v : Option (List ℕ)). cond (nat_eq x.token x.token) (x.name ∷ strings_of_value v) []) (sym c.as_ref-in-ChangeFileProp.ensures.value))
+    c.change_prop-in-ChangeFileProp.ensures.began
