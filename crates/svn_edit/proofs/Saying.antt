@@ -14,7 +14,7 @@ use Rattle.svn_types.specs.declared.kind.Kind.TheVariants.{File, Directory}
 use Rattle.svn_editor.specs.declared.call.Call.{Call}
 use Rattle.svn_editor.specs.declared.call.Call.TheVariants.{ChangeDirProp, ChangeFileProp, ApplyText}
 use Rattle.svn_edit_law.proofs.OnePath.{noted}
-use Rattle.svn_editor.specs.Steps.{Action, Delete, Open, Add, Change, Text, Close}
+use Rattle.svn_editor.specs.Steps.{Action, Change, Text}
 use Rattle.svn_edit.specs.declared.baton.Note.{Note}
 use Rattle.svn_edit.specs.declared.baton.Note.TheVariants.{Set, Remove, Text as NewText}
 use Rattle.svn_model.specs.Effects.{change_in, text_in}

@@ -1,15 +1,11 @@
-use Rattle.std.proofs.Common.{nat_eq, ◌∷◌, [], ℕ, List, Option, cond, None, Some, refl, sym, ap, subst, ◌∙◌}
+use Rattle.std.proofs.Common.{◌∷◌, [], None, Some, refl}
 use Rattle.md5.specs.Md5.{md5}
 use Rattle.svn_types.specs.declared.kind.Kind.TheVariants.{File, Directory}
 use Rattle.svn_editor.specs.declared.call.Call.TheVariants.{OpenRoot, DeleteEntry, AddDirectory, OpenDirectory, ChangeDirProp, AddFile}
 use Rattle.svn_editor.specs.declared.call.Call.TheVariants.{OpenFile, ChangeFileProp, ApplyText}
 use Rattle.svn_editor.specs.Steps.{Delete, Open, Add, Change, Text}
 use Rattle.svn_model.specs.Nodes.{get_in}
-use Rattle.svn_model.specs.Effects.{step_fault, step_effect, is_too_long}
-use Rattle.svn_edit.specs.Noted.{note_of_value, strings_of_value}
-use Rattle.svn_editor.specs.declared.fault.EditFault.TheVariants.{TooLong}
-use Rattle.svn_edit.specs.Applying.{BatonNoted, batons_of}
-use Rattle.svn_model.specs.Answering.{AnswersCall}
+use Rattle.svn_model.specs.Effects.{step_fault, step_effect}
 use Rattle.svn_edit.proofs.Holding.{map_ok, on_err, ok_by, holds_made, holds_still, applied_read}
 use Rattle.svn_edit.proofs.PoolStrings.{one_left}
 use Rattle.svn_edit.proofs.Closes.{close_applied, close_holds, note_holds, change_applied, text_applied}
@@ -143,44 +139,27 @@ returns-in-AbortEdit-clause-left c = λ last mode calls next.
 
 pub returns-in-ChangeDirProp-clause-applied : goal.returns-in-ChangeDirProp-clause-applied
 returns-in-ChangeDirProp-clause-applied c = λ mode calls next.
-    change_applied md5 mode c.args.self.now calls (ChangeDirProp c.in-ChangeDirProp.token c.in-ChangeDirProp.name c.in-ChangeDirProp.value)
-    c.args.call.now c.in-ChangeDirProp.token Directory (c.in-ChangeDirProp.name, c.in-ChangeDirProp.value) c.args.copy.now.entries
-    c.change_prop.result
-    c.in-ChangeDirProp.is refl refl
-    (subst (λ (v : Option (List ℕ)). AnswersCall (cond (is_too_long v) (Some TooLong) None) c.change_prop.result) c.as_ref.ensures.value
-    c.change_prop.ensures.answers)
+    let x = c.in-ChangeDirProp in
+    change_applied md5 mode c.args.self.now calls (ChangeDirProp x.token x.name x.value) c.args.call.now x.token Directory (x.name, x.value)
+    c.args.copy.now.entries c.change_prop.result x.is refl refl c.change_prop.ensures.answers
 
 pub returns-in-ChangeDirProp-clause-holds : goal.returns-in-ChangeDirProp-clause-holds
 returns-in-ChangeDirProp-clause-holds c = map_ok c.change_prop.result c.change_prop.ensures.noted (λ notes mode calls next last.
-    note_holds mode c.args.self.now c.change_prop.new.self calls (ChangeDirProp c.in-ChangeDirProp.token c.in-ChangeDirProp.name
-    c.in-ChangeDirProp.value) c.args.call.now c.in-ChangeDirProp.token Directory
-    (Change Directory (c.in-ChangeDirProp.name, c.in-ChangeDirProp.value))
-    c.in-ChangeDirProp.is next refl refl refl refl refl (λ t. refl) c.change_prop.ensures.keeps
-    (λ b there. subst (λ (v : Option (List ℕ)). BatonNoted c.in-ChangeDirProp.token b (note_of_value v)
-    (c.in-ChangeDirProp.name ∷ strings_of_value v) c.args.self.now.pools (batons_of c.args.self.now) c.change_prop.new.self.pools
-    (batons_of c.change_prop.new.self))
-    c.as_ref.ensures.value (notes b there)))
+    let x = c.in-ChangeDirProp in
+    note_holds mode c.args.self.now c.change_prop.new.self calls (ChangeDirProp x.token x.name x.value) c.args.call.now x.token Directory
+    (Change Directory (x.name, x.value)) x.is next refl refl refl refl refl (λ t. refl) c.change_prop.ensures.keeps notes)
 
 pub returns-in-ChangeFileProp-clause-applied : goal.returns-in-ChangeFileProp-clause-applied
 returns-in-ChangeFileProp-clause-applied c = λ mode calls next.
-    change_applied md5 mode c.args.self.now calls (ChangeFileProp c.in-ChangeFileProp.token c.in-ChangeFileProp.name
-    c.in-ChangeFileProp.value) c.args.call.now c.in-ChangeFileProp.token File
-    (c.in-ChangeFileProp.name, c.in-ChangeFileProp.value) c.args.copy.now.entries c.change_prop-in-ChangeFileProp.result
-    c.in-ChangeFileProp.is refl refl
-    (subst (λ (v : Option (List ℕ)). AnswersCall (cond (is_too_long v) (Some TooLong) None) c.change_prop-in-ChangeFileProp.result)
-    c.as_ref-in-ChangeFileProp.ensures.value c.change_prop-in-ChangeFileProp.ensures.answers)
+    let x = c.in-ChangeFileProp in
+    change_applied md5 mode c.args.self.now calls (ChangeFileProp x.token x.name x.value) c.args.call.now x.token File (x.name, x.value)
+    c.args.copy.now.entries c.change_prop-in-ChangeFileProp.result x.is refl refl c.change_prop-in-ChangeFileProp.ensures.answers
 
 pub returns-in-ChangeFileProp-clause-holds : goal.returns-in-ChangeFileProp-clause-holds
-returns-in-ChangeFileProp-clause-holds c = map_ok c.change_prop-in-ChangeFileProp.result c.change_prop-in-ChangeFileProp.ensures.noted
-    (λ notes mode calls next last.
-    note_holds mode c.args.self.now c.change_prop-in-ChangeFileProp.new.self calls
-    (ChangeFileProp c.in-ChangeFileProp.token c.in-ChangeFileProp.name c.in-ChangeFileProp.value) c.args.call.now
-    c.in-ChangeFileProp.token File (Change File (c.in-ChangeFileProp.name, c.in-ChangeFileProp.value))
-    c.in-ChangeFileProp.is next refl refl refl refl refl (λ t. refl) c.change_prop-in-ChangeFileProp.ensures.keeps
-    (λ b there. subst (λ (v : Option (List ℕ)). BatonNoted c.in-ChangeFileProp.token b (note_of_value v)
-    (c.in-ChangeFileProp.name ∷ strings_of_value v) c.args.self.now.pools
-    (batons_of c.args.self.now) c.change_prop-in-ChangeFileProp.new.self.pools (batons_of c.change_prop-in-ChangeFileProp.new.self))
-    c.as_ref-in-ChangeFileProp.ensures.value (notes b there)))
+returns-in-ChangeFileProp-clause-holds c = map_ok c.change_prop-in-ChangeFileProp.result c.change_prop-in-ChangeFileProp.ensures.noted (λ notes mode calls next last.
+    let x = c.in-ChangeFileProp in
+    note_holds mode c.args.self.now c.change_prop-in-ChangeFileProp.new.self calls (ChangeFileProp x.token x.name x.value) c.args.call.now x.token File
+    (Change File (x.name, x.value)) x.is next refl refl refl refl refl (λ t. refl) c.change_prop-in-ChangeFileProp.ensures.keeps notes)
 
 -- ---- the pools after a refusal
 
@@ -235,13 +214,11 @@ returns-in-ApplyText-clause-pools c =
 pub returns-in-ChangeDirProp-clause-pools : goal.returns-in-ChangeDirProp-clause-pools
 returns-in-ChangeDirProp-clause-pools c =
     let x = c.in-ChangeDirProp in
-    said_left c.args.self.now c.change_prop.new.self (ChangeDirProp x.token x.name x.value) c.args.call.now x.token Directory _ c.change_prop.result x.is refl refl
-    (ap (λ (v : Option (List ℕ)). cond (nat_eq x.token x.token) (x.name ∷ strings_of_value v) []) (sym c.as_ref.ensures.value))
-    c.change_prop.ensures.began
+    said_left c.args.self.now c.change_prop.new.self (ChangeDirProp x.token x.name x.value) c.args.call.now x.token Directory _
+    c.change_prop.result x.is refl refl refl c.change_prop.ensures.began
 
 pub returns-in-ChangeFileProp-clause-pools : goal.returns-in-ChangeFileProp-clause-pools
 returns-in-ChangeFileProp-clause-pools c =
     let x = c.in-ChangeFileProp in
-    said_left c.args.self.now c.change_prop-in-ChangeFileProp.new.self (ChangeFileProp x.token x.name x.value) c.args.call.now x.token File _ c.change_prop-in-ChangeFileProp.result x.is refl refl
-    (ap (λ (v : Option (List ℕ)). cond (nat_eq x.token x.token) (x.name ∷ strings_of_value v) []) (sym c.as_ref-in-ChangeFileProp.ensures.value))
-    c.change_prop-in-ChangeFileProp.ensures.began
+    said_left c.args.self.now c.change_prop-in-ChangeFileProp.new.self (ChangeFileProp x.token x.name x.value) c.args.call.now x.token File _
+    c.change_prop-in-ChangeFileProp.result x.is refl refl refl c.change_prop-in-ChangeFileProp.ensures.began

@@ -1,10 +1,5 @@
-use Rattle.std.proofs.Common.{nat_eq, ◌≡◌, Some, ◌∷◌, [], refl, ap, subst, ◌∙◌, rules}
-use Rattle.std.proofs.lemmas.Option.{same_Some}
-use Rattle.std.specs.HashMap.{Updates, get}
-use Rattle.svn_edit.specs.declared.baton.Baton.{Baton}
-use Rattle.svn_edit.specs.declared.baton.Note.TheVariants.{Text as NewText}
-use Rattle.svn_edit.specs.Applying.{BatonSaid}
-use Rattle.svn_edit.specs.Leaving.{BatonBegan}
+use Rattle.std.proofs.Common.{nat_eq, ◌∷◌, [], refl, ap, ◌∙◌, rules}
+use Rattle.std.specs.HashMap.{get}
 use Rattle.svn_edit.proofs.Holding.{map_ok, map_err}
 use Rattle.svn_edit.proofs.Closes.{pass_ok, pass_err, noted_of}
 use Rattle.svn_edit.proofs.LeftPools.{none_began, unbegun, began_of, no_baton}

@@ -1,11 +1,5 @@
-use Rattle.std.proofs.Common.{nat_eq, ◌≡◌, Some, ◌∷◌, ap, subst, ◌∙◌, rules}
-use Rattle.std.proofs.lemmas.Option.{same_Some}
-use Rattle.std.specs.Option.{option_copied}
-use Rattle.std.specs.HashMap.{Updates, get}
-use Rattle.svn_edit.specs.declared.baton.Baton.{Baton}
-use Rattle.svn_edit.specs.Noted.{note_of_value, strings_of_value}
-use Rattle.svn_edit.specs.Applying.{BatonSaid}
-use Rattle.svn_edit.specs.Leaving.{BatonBegan}
+use Rattle.std.proofs.Common.{nat_eq, ap, ◌∙◌, rules}
+use Rattle.std.specs.HashMap.{get}
 use Rattle.svn_edit.proofs.Holding.{map_ok, map_err}
 use Rattle.svn_edit.proofs.Closes.{pass_ok, pass_err, noted_of}
 use Rattle.svn_edit.proofs.LeftPools.{none_began, began_of, no_baton}
