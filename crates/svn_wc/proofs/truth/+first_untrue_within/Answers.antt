@@ -1,13 +1,13 @@
-use Rattle.std.proofs.Common.{◌≡◌, ◌-◌, ◌∷◌, [], List, ℕ, Option, Some, Bool, cond, length, refl, sym, ap, subst, ◌∙◌}
+use Rattle.std.proofs.Common.{◌≡◌, ◌-◌, ◌∷◌, [], List, ℕ, Option, Bool, true, false, cond, length, refl, sym, ap, subst, ◌∙◌}
 use Rattle.std.specs.Option.{option_copied, option_or}
 use Rattle.svn_types.specs.Names.{Path}
 use Rattle.svn_model.specs.declared.base_node.BaseNode.{BaseNode}
 use Rattle.svn_model.specs.Nodes.{get_in}
 use Rattle.svn_model.specs.Tree.{names_at}
-use Rattle.svn_wc.specs.Truths.{looked, entries_at, HasWalked, IsRest}
+use Rattle.svn_wc.specs.Truths.{looked, entries_at, IsRest}
 use Rattle.svn_wc.proofs.Merging.{EntriesBeside, beside_begins}
-use Rattle.svn_wc.proofs.Truly.{SoFar, walk_begins, front, front_is, walk_on, walk_ends, all_counted, rest_of_both, names_sorted}
-use Rattle.svn_wc.proofs.Truly.{option_or-copied, has_child, names_count, none_missing, missing_counted, entry_told, entry_counts, beside_next}
+use Rattle.svn_wc.proofs.Truly.{SoFar, walk_begins, front, front_is, walk_on, walk_ends, rest_of_both, names_sorted}
+use Rattle.svn_wc.proofs.Truly.{option_or-copied, has_child, names_count, none_missing, entry_told, entry_counts, beside_next}
 use Rattle.svn_wc.proofs.Truly.{walks_alone, next_order, copied_if}
 use Rattle.svn_wc.proofs.truth.+first_untrue_within.Goals as goal
 
@@ -83,28 +83,16 @@ pub returns-then-is_untrue-clause-walked : goal.returns-then-is_untrue-clause-wa
 returns-then-is_untrue-clause-walked t c = λ nodes before order whole found.
     let h = c.args.repo.now in
     let e : Path × BaseNode = (c.args.path.now, c.args.node.now) in
-    let old = c.args.left.now in
-    let names = names_at h c.args.id.now in
-    let s = (c.below.invariant.1 nodes before order whole found).0 in
     let past = c.in_default-next_within.ensures.taken in
-    let counted = all_counted h nodes order before e old whole names c.below.left (option_copied c.below.first) c.below.missing s past.0 in
-    let test = c.is_untrue-2.ensures (get_in nodes) e.0 (missing_counted (get_in nodes) e.0 e.1 names c.below.missing counted) found in
-    subst (λ (l : List (Path × BaseNode)). HasWalked h nodes e old (Some c.args.path.now) l) (sym past.1)
-    (walk_ends h nodes order before e old whole names c.below.left
-    (option_copied c.below.first) c.below.missing s past.0 c.is_untrue-2.result test (Some c.args.path.now)
-    (sym (ap (λ (b : Bool). cond b (Some c.args.path.now) (option_copied c.below.first)) c.if-is_untrue.true)))
+    walk_ends h nodes order before e c.args.left.now whole (names_at h c.args.id.now) c.below.left (option_copied c.below.first)
+    c.below.missing (c.below.invariant.1 nodes before order whole found).0 past.0 _ past.1 true
+    (λ counted. sym c.if-is_untrue.true ∙ c.is_untrue-2.ensures (get_in nodes) e.0 counted found)
 
 pub returns-else-is_untrue-clause-walked : goal.returns-else-is_untrue-clause-walked
 returns-else-is_untrue-clause-walked t c = λ nodes before order whole found.
     let h = c.args.repo.now in
     let e : Path × BaseNode = (c.args.path.now, c.args.node.now) in
-    let old = c.args.left.now in
-    let names = names_at h c.args.id.now in
-    let s = (c.below.invariant.1 nodes before order whole found).0 in
     let past = c.in_default-next_within.ensures.taken in
-    let counted = all_counted h nodes order before e old whole names c.below.left (option_copied c.below.first) c.below.missing s past.0 in
-    let test = c.is_untrue-2.ensures (get_in nodes) e.0 (missing_counted (get_in nodes) e.0 e.1 names c.below.missing counted) found in
-    subst (λ (l : List (Path × BaseNode)). HasWalked h nodes e old (option_copied c.below.first) l) (sym past.1)
-    (walk_ends h nodes order before e old whole names c.below.left
-    (option_copied c.below.first) c.below.missing s past.0 c.is_untrue-2.result test (option_copied c.below.first)
-    (sym (ap (λ (b : Bool). cond b (Some c.args.path.now) (option_copied c.below.first)) c.if-is_untrue.false)))
+    walk_ends h nodes order before e c.args.left.now whole (names_at h c.args.id.now) c.below.left (option_copied c.below.first)
+    c.below.missing (c.below.invariant.1 nodes before order whole found).0 past.0 _ past.1 false
+    (λ counted. sym c.if-is_untrue.false ∙ c.is_untrue-2.ensures (get_in nodes) e.0 counted found)
