@@ -101,6 +101,16 @@ pub root_apart : (pools : Pools) (at : Batons) (calls : List Call) → HoldsBato
 root_apart pools at calls h t b there same =
     some_none _ (sym (ap parent_of (sym h.root ∙ ap (pool_at pools) same ∙ (h.each t b there).pool)))
 
+-- where all but a token, its baton and its pool are as before, each other pool is a baton's still
+only_others : (pools pools2 : Pools) (at at2 : Batons) (calls : List Call) (m : ℕ) (b : Baton) → HoldsBatons pools at calls → at m ≡ Some b
+    → ((s : ℕ) → s ≢ b.pool.0 → pool_at pools2 s ≡ pool_at pools s) → pools2.root ≡ pools.root → ((u : ℕ) → u ≢ m → at2 u ≡ at u)
+    → (s : ℕ) (e : Entry) → pool_at pools2 s ≡ Some e → s ≢ pools2.root → s ≢ b.pool.0
+    → (t : ℕ) × (d : Baton) × (at2 t ≡ Some d) × (d.pool.0 ≡ s)
+only_others pools pools2 at at2 calls m b h there others root tokens s e f r away =
+    let x = h.only s e (sym (others s away) ∙ f) (λ y. r (y ∙ sym root)) in
+    let other : x.0 ≢ m = λ y. away (sym x.3 ∙ ap (λ (z : Baton). z.pool.0) (same_Some x.1 b (sym x.2 ∙ ap at y ∙ there))) in
+    (x.0, x.1, tokens x.0 other ∙ x.2, x.3)
+
 -- ---- a call that gives, says and closes nothing
 
 pub held_still : (pools : Pools) (at : Batons) (calls : List Call) (c : Call) → HoldsBatons pools at calls → given_by c ≡ None
@@ -221,8 +231,8 @@ module _ (pools : Pools) (at : Batons) (calls : List Call) (c : Call) (g : Given
   old_baton : (t : ℕ) (b : Baton) → t ≢ g.token → at t ≡ Some b → IsBaton pools2 at2 (calls ++ c ∷ []) t b
   old_baton t b n e =
       let is = h.each t b e in
-      carried pools pools2 at at2 calls (calls ++ c ∷ []) t b is (given_before t n) (said-quiet calls c (path_of calls t) says) made.begun.root
-      (above_same pools.root at at2 (given calls t) (λ x m f k p. ap (pool_or pools.root) (parent_other (given calls t) t m x refl f p)))
+      carried pools pools2 at at2 calls (calls ++ c ∷ []) t b is (given_before t n) (said-quiet calls c (path_of calls t) says)
+      made.begun.root (above_same pools.root at at2 (given calls t) (λ x m f k p. ap (pool_or pools.root) (parent_other (given calls t) t m x refl f p)))
       (made.begun.others b.pool.0 (not_fresh b.pool.0 _ is.pool))
 
   pub held_made : HoldsBatons pools2 at2 (calls ++ c ∷ [])
@@ -238,7 +248,9 @@ module _ (pools : Pools) (at : Batons) (calls : List Call) (c : Call) (g : Given
   }
     where
       still : (q p : ℕ) → parent_of (pool_at pools q) ≡ Some p → parent_of (pool_at pools2 q) ≡ Some p
-      still q p e = ap parent_of (made.begun.others q (λ same. some_none p (sym e ∙ ap parent_of (ap (pool_at pools) same ∙ made.begun.fresh)))) ∙ e
+      still q p e =
+          let away : q ≢ made.baton.pool.0 = λ same. some_none p (sym e ∙ ap parent_of (ap (pool_at pools) same ∙ made.begun.fresh)) in
+          ap parent_of (made.begun.others q away) ∙ e
 
       above : ℕ
       above = pool_above pools.root at (Some g)
@@ -351,7 +363,8 @@ module _ (pools : Pools) (at : Batons) (calls : List Call) (c : Call) (m : ℕ) 
           (sym ((λ i. pool_above (n.said.root i) at2 (given_still calls c m gives i)) ∙ above_kept (given calls m)))
 
       strings_now : strings_at pools b.pool.0 ++ strings_of act
-          ≡ path_key (path_of (calls ++ c ∷ []) m) ∷ flat_map strings_of (said_at (path_of (calls ++ c ∷ []) m) (steps_of (calls ++ c ∷ [])))
+          ≡ path_key (path_of (calls ++ c ∷ []) m) ∷ flat_map strings_of
+          (said_at (path_of (calls ++ c ∷ []) m) (steps_of (calls ++ c ∷ [])))
       strings_now = ap (λ (o : Option Entry). strings_of_pool o ++ strings_of act) own.pool ∙ more
 
   other_baton : (t : ℕ) (d : Baton) → t ≢ m → at t ≡ Some d → IsBaton pools2 at2 (calls ++ c ∷ []) t d
@@ -428,13 +441,7 @@ module _ (pools : Pools) (at : Batons) (calls : List Call) (c : Call) (m : ℕ) 
           → (t : ℕ) × (d : Baton) × (at2 t ≡ Some d) × (d.pool.0 ≡ s)
       only_by s e f r (inl same) = (m, n.baton, n.token, n.said.same_pool ∙ sym same)
       only_by s e f r (inr away) =
-          let x = h.only s e (sym (n.said.others s away) ∙ f) (λ y. r (y ∙ sym n.said.root)) in (
-            x.0,
-            x.1,
-            n.tokens x.0 (λ y. away (sym x.3 ∙ ap (λ (z : Baton). z.pool.0) (same_Some x.1 b (sym x.2 ∙ ap at y ∙ there))))
-                ∙ x.2,
-            x.3,
-          )
+          only_others pools pools2 at at2 calls m b h there n.said.others n.said.root n.tokens s e f r away
 
 -- ---- a call that closes a token
 
@@ -526,10 +533,4 @@ module _ (pools : Pools) (at : Batons) (calls : List Call) (c : Call) (m : ℕ) 
             → (t : ℕ) × (d : Baton) × (at2 t ≡ Some d) × (d.pool.0 ≡ s)
         only_by s e f r (inl same) = absurd (some_none e (sym f ∙ ap (pool_at pools2) same ∙ n.pool.gone))
         only_by s e f r (inr away) =
-            let x = h.only s e (sym (n.pool.others s away) ∙ f) (λ y. r (y ∙ sym n.pool.root)) in (
-              x.0,
-              x.1,
-              n.tokens x.0 (λ y. away (sym x.3 ∙ ap (λ (z : Baton). z.pool.0) (same_Some x.1 b (sym x.2 ∙ ap at y ∙ there))))
-                  ∙ x.2,
-              x.3,
-            )
+            only_others pools pools2 at at2 calls m b h there n.pool.others n.pool.root n.tokens s e f r away

@@ -8,7 +8,7 @@ use Rattle.svn_editor.specs.declared.fault.EditFault.{EditFault}
 use Rattle.svn_editor.specs.declared.fault.EditFault.TheVariants.{EntryExists, Memory, Order}
 use Rattle.svn_editor.specs.declared.fault.OrderFault.{OrderFault}
 use Rattle.svn_editor.specs.declared.fault.OrderFault.TheVariants.{Memory as NoMemory}
-use Rattle.svn_editor.specs.Calls.{Given, given_by, closes, is_abort}
+use Rattle.svn_editor.specs.Calls.{Given, given_by, closes, is_abort, is_last}
 use Rattle.svn_editor.specs.Order.{order_fault, Answers}
 use Rattle.svn_types.specs.declared.kind.Kind.{Kind}
 use Rattle.svn_types.specs.Paths.{path_eq}
@@ -83,14 +83,16 @@ module _ (mode : Mode) (old new : Edit) (calls : List Call) (c d : Call) (is : d
     batons = subst (λ (x : Call). HoldsBatons new.pools (batons_of new) (calls ++ x ∷ [])) (sym is) h;
   }
 
-  -- a call that gives a token
-  pub holds_made : (g : Given) → given_by c ≡ Some g → noted c ≡ None → is_abort c ≡ false → (beneath : ℕ)
-      → beneath ≡ pool_above old.pools.root (batons_of old) (Some g) → MakesBaton beneath g.path g.token old new
-      → Holds mode new (calls ++ d ∷ [])
-  holds_made g gives says going beneath place made =
-      holds_by (held_made old.pools (batons_of old) calls c g next.holds.batons (sound calls next.lawful) (pathed calls next.lawful)
-      (accepted calls c going in_order) gives says new.pools (batons_of new)
-      (subst (λ n. MakesBaton n g.path g.token old new) place made))
+-- a call that gives a token
+pub given_holds : (old new : Edit) (c d : Call) (g : Given) (r : Result (Unit {0}) EditFault) → d ≡ c → ((n : ℕ) → next_target n c ≡ n)
+    → given_by c ≡ Some g → noted c ≡ None → is_abort c ≡ false → KeepsEdit old new → (beneath : ℕ)
+    → beneath ≡ pool_above old.pools.root (batons_of old) (Some g) → OnOk r (MakesBaton beneath g.path g.token old new)
+    → OnOk r ((mode : Mode) (calls : List Call) → IsNext mode old calls d → is_last d ≡ false → Holds mode new (calls ++ d ∷ []))
+given_holds old new c d g r is still gives says going keeps beneath place made = map_ok r made (λ baton mode calls next last.
+    holds_by mode old new calls c d is next keeps (still (target_of calls))
+    (held_made old.pools (batons_of old) calls c g next.holds.batons (sound calls next.lawful) (pathed calls next.lawful)
+    (accepted calls c going (in_order mode old new calls c d is next keeps (still (target_of calls)))) gives says new.pools (batons_of new)
+    (subst (λ n. MakesBaton n g.path g.token old new) place baton)))
 
 -- a call that changes no baton
 pub holds_still : (mode : Mode) (old : Edit) (calls : List Call) (c d : Call) → d ≡ c → IsNext mode old calls d

@@ -136,8 +136,8 @@ came_same pools pools2 refused b same = record {
   strings = ap strings_of_pool same ∙ sym (append-nil (strings_at pools b.pool.0));
 }
 
-pub same_left : (pools pools2 : Pools) (at at2 : Batons) (calls : List Call) (c : Call) → HoldsBatons pools at calls → SamePools pools pools2
-    → ((t : ℕ) → at2 t ≡ at t) → HoldsPools pools2 at2 calls c
+pub same_left : (pools pools2 : Pools) (at at2 : Batons) (calls : List Call) (c : Call) → HoldsBatons pools at calls
+    → SamePools pools pools2 → ((t : ℕ) → at2 t ≡ at t) → HoldsPools pools2 at2 calls c
 same_left pools pools2 at at2 calls c h same tokens = held_left pools pools2 at at2 calls c h (record {
   root = same.root;
   count = same.count;

@@ -6,7 +6,7 @@ use Rattle.svn_editor.specs.declared.call.Call.TheVariants.{OpenFile, ChangeFile
 use Rattle.svn_editor.specs.Steps.{Delete, Open, Add, Change, Text}
 use Rattle.svn_model.specs.Nodes.{get_in}
 use Rattle.svn_model.specs.Effects.{step_fault, step_effect}
-use Rattle.svn_edit.proofs.Holding.{map_ok, on_err, ok_by, holds_made, holds_still, applied_read}
+use Rattle.svn_edit.proofs.Holding.{map_ok, on_err, ok_by, given_holds, holds_still, applied_read}
 use Rattle.svn_edit.proofs.PoolStrings.{one_left}
 use Rattle.svn_edit.proofs.Closes.{close_applied, close_holds, note_holds, change_applied, text_applied}
 use Rattle.svn_edit.proofs.FileCloses.{file_applied, file_holds}
@@ -16,47 +16,38 @@ use Rattle.svn_edit.proofs.edit.Edit.apply.Goals as goal
 
 pub returns-in-OpenRoot-clause-holds : goal.returns-in-OpenRoot-clause-holds
 returns-in-OpenRoot-clause-holds c =
-    let old = c.args.self.now in
-    map_ok c.open_root.result c.open_root.ensures.opened (λ made mode calls next last.
-    holds_made mode old c.open_root.new.self calls (OpenRoot c.in-OpenRoot.base c.in-OpenRoot.token) c.args.call.now c.in-OpenRoot.is next
-    c.open_root.ensures.keeps refl
-    (record { kind = Directory; path = []; parent = None; token = c.in-OpenRoot.token }) refl refl refl _ (refl) made)
+    let x = c.in-OpenRoot in
+    given_holds c.args.self.now c.open_root.new.self (OpenRoot x.base x.token) c.args.call.now
+    (record { kind = Directory; path = []; parent = None; token = x.token }) c.open_root.result x.is (λ n. refl) refl refl refl c.open_root.ensures.keeps _ refl
+    c.open_root.ensures.opened
 
 pub returns-in-AddDirectory-clause-holds : goal.returns-in-AddDirectory-clause-holds
 returns-in-AddDirectory-clause-holds c =
-    let old = c.args.self.now in
-    map_ok c.add_directory.result c.add_directory.ensures.opened (λ made mode calls next last.
-    holds_made mode old c.add_directory.new.self calls (AddDirectory c.in-AddDirectory.path c.in-AddDirectory.parent
-    c.in-AddDirectory.token) c.args.call.now c.in-AddDirectory.is next c.add_directory.ensures.keeps refl
-    (record { kind = Directory; path = c.in-AddDirectory.path; parent = Some c.in-AddDirectory.parent; token = c.in-AddDirectory.token })
-    refl refl refl _ (refl) made)
+    let x = c.in-AddDirectory in
+    given_holds c.args.self.now c.add_directory.new.self (AddDirectory x.path x.parent x.token) c.args.call.now
+    (record { kind = Directory; path = x.path; parent = Some x.parent; token = x.token }) c.add_directory.result x.is (λ n. refl) refl refl refl c.add_directory.ensures.keeps _ refl
+    c.add_directory.ensures.opened
 
 pub returns-in-OpenDirectory-clause-holds : goal.returns-in-OpenDirectory-clause-holds
 returns-in-OpenDirectory-clause-holds c =
-    let old = c.args.self.now in
-    map_ok c.open_directory.result c.open_directory.ensures.opened (λ made mode calls next last.
-    holds_made mode old c.open_directory.new.self calls (OpenDirectory c.in-OpenDirectory.path c.in-OpenDirectory.parent
-    c.in-OpenDirectory.base c.in-OpenDirectory.token) c.args.call.now c.in-OpenDirectory.is next c.open_directory.ensures.keeps refl
-    (record { kind = Directory; path = c.in-OpenDirectory.path; parent = Some c.in-OpenDirectory.parent; token = c.in-OpenDirectory.token })
-    refl refl refl _ (refl) made)
+    let x = c.in-OpenDirectory in
+    given_holds c.args.self.now c.open_directory.new.self (OpenDirectory x.path x.parent x.base x.token) c.args.call.now
+    (record { kind = Directory; path = x.path; parent = Some x.parent; token = x.token }) c.open_directory.result x.is (λ n. refl) refl refl refl c.open_directory.ensures.keeps _ refl
+    c.open_directory.ensures.opened
 
 pub returns-in-AddFile-clause-holds : goal.returns-in-AddFile-clause-holds
 returns-in-AddFile-clause-holds c =
-    let old = c.args.self.now in
-    map_ok c.add_file.result c.add_file.ensures.opened (λ made mode calls next last.
-    holds_made mode old c.add_file.new.self calls (AddFile c.in-AddFile.path c.in-AddFile.parent c.in-AddFile.token) c.args.call.now
-    c.in-AddFile.is next c.add_file.ensures.keeps refl
-    (record { kind = File; path = c.in-AddFile.path; parent = Some c.in-AddFile.parent; token = c.in-AddFile.token }) refl refl refl _
-    (refl) made)
+    let x = c.in-AddFile in
+    given_holds c.args.self.now c.add_file.new.self (AddFile x.path x.parent x.token) c.args.call.now
+    (record { kind = File; path = x.path; parent = Some x.parent; token = x.token }) c.add_file.result x.is (λ n. refl) refl refl refl c.add_file.ensures.keeps _ refl
+    c.add_file.ensures.opened
 
 pub returns-in-OpenFile-clause-holds : goal.returns-in-OpenFile-clause-holds
 returns-in-OpenFile-clause-holds c =
-    let old = c.args.self.now in
-    map_ok c.open_file.result c.open_file.ensures.opened (λ made mode calls next last.
-    holds_made mode old c.open_file.new.self calls (OpenFile c.in-OpenFile.path c.in-OpenFile.parent c.in-OpenFile.base c.in-OpenFile.token)
-    c.args.call.now c.in-OpenFile.is next c.open_file.ensures.keeps refl
-    (record { kind = File; path = c.in-OpenFile.path; parent = Some c.in-OpenFile.parent; token = c.in-OpenFile.token }) refl refl refl _
-    (refl) made)
+    let x = c.in-OpenFile in
+    given_holds c.args.self.now c.open_file.new.self (OpenFile x.path x.parent x.base x.token) c.args.call.now
+    (record { kind = File; path = x.path; parent = Some x.parent; token = x.token }) c.open_file.result x.is (λ n. refl) refl refl refl c.open_file.ensures.keeps _ refl
+    c.open_file.ensures.opened
 
 pub returns-in-DeleteEntry-clause-holds : goal.returns-in-DeleteEntry-clause-holds
 returns-in-DeleteEntry-clause-holds c = ok_by c.delete_entry.result (λ ok mode calls next last.
@@ -144,10 +135,11 @@ returns-in-ChangeDirProp-clause-applied c = λ mode calls next.
     c.args.copy.now.entries c.change_prop.result x.is refl refl c.change_prop.ensures.answers
 
 pub returns-in-ChangeDirProp-clause-holds : goal.returns-in-ChangeDirProp-clause-holds
-returns-in-ChangeDirProp-clause-holds c = map_ok c.change_prop.result c.change_prop.ensures.noted (λ notes mode calls next last.
+returns-in-ChangeDirProp-clause-holds c =
     let x = c.in-ChangeDirProp in
-    note_holds mode c.args.self.now c.change_prop.new.self calls (ChangeDirProp x.token x.name x.value) c.args.call.now x.token Directory
-    (Change Directory (x.name, x.value)) x.is next refl refl refl refl refl (λ t. refl) c.change_prop.ensures.keeps notes)
+    map_ok c.change_prop.result c.change_prop.ensures.noted (λ notes mode calls next last.
+    note_holds mode c.args.self.now c.change_prop.new.self calls (ChangeDirProp x.token x.name x.value) c.args.call.now x.token
+    Directory (Change Directory (x.name, x.value)) x.is next refl refl refl refl refl (λ t. refl) c.change_prop.ensures.keeps notes)
 
 pub returns-in-ChangeFileProp-clause-applied : goal.returns-in-ChangeFileProp-clause-applied
 returns-in-ChangeFileProp-clause-applied c = λ mode calls next.
@@ -156,10 +148,11 @@ returns-in-ChangeFileProp-clause-applied c = λ mode calls next.
     c.args.copy.now.entries c.change_prop-in-ChangeFileProp.result x.is refl refl c.change_prop-in-ChangeFileProp.ensures.answers
 
 pub returns-in-ChangeFileProp-clause-holds : goal.returns-in-ChangeFileProp-clause-holds
-returns-in-ChangeFileProp-clause-holds c = map_ok c.change_prop-in-ChangeFileProp.result c.change_prop-in-ChangeFileProp.ensures.noted (λ notes mode calls next last.
+returns-in-ChangeFileProp-clause-holds c =
     let x = c.in-ChangeFileProp in
-    note_holds mode c.args.self.now c.change_prop-in-ChangeFileProp.new.self calls (ChangeFileProp x.token x.name x.value) c.args.call.now x.token File
-    (Change File (x.name, x.value)) x.is next refl refl refl refl refl (λ t. refl) c.change_prop-in-ChangeFileProp.ensures.keeps notes)
+    map_ok c.change_prop-in-ChangeFileProp.result c.change_prop-in-ChangeFileProp.ensures.noted (λ notes mode calls next last.
+    note_holds mode c.args.self.now c.change_prop-in-ChangeFileProp.new.self calls (ChangeFileProp x.token x.name x.value) c.args.call.now x.token
+    File (Change File (x.name, x.value)) x.is next refl refl refl refl refl (λ t. refl) c.change_prop-in-ChangeFileProp.ensures.keeps notes)
 
 -- ---- the pools after a refusal
 
@@ -220,5 +213,5 @@ returns-in-ChangeDirProp-clause-pools c =
 pub returns-in-ChangeFileProp-clause-pools : goal.returns-in-ChangeFileProp-clause-pools
 returns-in-ChangeFileProp-clause-pools c =
     let x = c.in-ChangeFileProp in
-    said_left c.args.self.now c.change_prop-in-ChangeFileProp.new.self (ChangeFileProp x.token x.name x.value) c.args.call.now x.token File _
-    c.change_prop-in-ChangeFileProp.result x.is refl refl refl c.change_prop-in-ChangeFileProp.ensures.began
+    said_left c.args.self.now c.change_prop-in-ChangeFileProp.new.self (ChangeFileProp x.token x.name x.value) c.args.call.now x.token
+    File _ c.change_prop-in-ChangeFileProp.result x.is refl refl refl c.change_prop-in-ChangeFileProp.ensures.began
