@@ -232,7 +232,8 @@ module _ (pools : Pools) (at : Batons) (calls : List Call) (c : Call) (g : Given
   old_baton t b n e =
       let is = h.each t b e in
       carried pools pools2 at at2 calls (calls ++ c ∷ []) t b is (given_before t n) (said-quiet calls c (path_of calls t) says)
-      made.begun.root (above_same pools.root at at2 (given calls t) (λ x m f k p. ap (pool_or pools.root) (parent_other (given calls t) t m x refl f p)))
+      made.begun.root
+      (above_same pools.root at at2 (given calls t) (λ x m f k p. ap (pool_or pools.root) (parent_other (given calls t) t m x refl f p)))
       (made.begun.others b.pool.0 (not_fresh b.pool.0 _ is.pool))
 
   pub held_made : HoldsBatons pools2 at2 (calls ++ c ∷ [])

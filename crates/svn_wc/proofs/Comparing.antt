@@ -1,5 +1,6 @@
 -- Nodes are gone through beside others, both in path order: the paths at which the others have nothing.
-use Rattle.std.proofs.Common.{◌≡◌, Bool, true, false, ◌&&◌, ◌||◌, cond, List, [], ◌∷◌, ◌++◌, refl, sym, ap, subst, ◌∙◌, Option, Some, None, true≢false}
+use Rattle.std.proofs.Common.{◌≡◌, Bool, true, false, ◌&&◌, ◌||◌, cond, List, [], ◌∷◌, ◌++◌, refl, sym, ap, subst, ◌∙◌}
+use Rattle.std.proofs.Common.{Option, Some, None, true≢false}
 use Rattle.std.specs.Prelude.{is_none}
 use Rattle.std.specs.Option.{is_some}
 use Rattle.std.specs.declared.cmp.Ordering.TheVariants.{Less, Equal, Greater}
@@ -137,7 +138,8 @@ module _ (at : Path) (nodes others beside beside2 : List (Path × BaseNode)) (pa
         ap (λ (l : List Path). is_one l p) noted
         ∙ noted_by others paths e.0 there (found ∙ ap is_some (s.ahead e.0 within (ap is_some (found_first e left)))) p
         ∙ ap (λ b. b || (path_eq e.0 p && is_none (get_in others e.0))) (s.noted p)
-        ∙ by p (is_one s.seen p) (path_eq e.0 p) refl ∙ ap (λ b. b && is_none (get_in others p)) (sym (any_more (λ q. path_eq q p) s.seen e.0));
+        ∙ by p (is_one s.seen p) (path_eq e.0 p) refl
+        ∙ ap (λ b. b && is_none (get_in others p)) (sym (any_more (λ q. path_eq q p) s.seen e.0));
     order = order;
     ahead = λ p inside some.
         let all : is_some (get_in (e ∷ left) p) ≡ true = ap is_some (get_in-first e left p) ∙ either (path_eq e.0 p) (get_in left p) some in

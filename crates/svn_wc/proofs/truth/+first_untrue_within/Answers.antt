@@ -22,7 +22,8 @@ returns-in_default-clause-walked t c = λ nodes before order whole found.
 pub below-init : goal.below-init
 below-init t c =
     let h = c.args.repo.now in
-    let all : c.of-entries.result ≡ entries_at h c.args.id.now = c.of-entries.ensures.all ∙ c.as_map.ensures.entries ∙ c.in-Some.ensures in (
+    let all : c.of-entries.result ≡ entries_at h c.args.id.now =
+    c.of-entries.ensures.all ∙ c.as_map.ensures.entries ∙ c.in-Some.ensures in (
       ([], refl),
       λ nodes before order whole found. (
         walk_begins h nodes c.args.path.now c.args.left.now (names_at h c.args.id.now) c.len-missing.result
@@ -59,7 +60,8 @@ below-preserved t c =
           let there : c.find_below-there.result ≡ looked h d.1 =
           c.find_below-there.ensures id found
           (entry_told h id e.0 c.below.entries c.take_entry-entry.new.entries d left beside sorted entry below.name named took) in
-          let counts = entry_counts h id e.0 c.below.entries c.take_entry-entry.new.entries d left beside sorted entry below.name named took in
+          let counts =
+          entry_counts h id e.0 c.below.entries c.take_entry-entry.new.entries d left beside sorted entry below.name named took in
           let walked = c.first_untrue_within-untrue.ensures.walked nodes
           (front h nodes order before e old whole names d left (option_copied c.below.first) c.below.missing s) order
           (front_is h nodes order before e old whole names d left (option_copied c.below.first) c.below.missing s) there in
@@ -72,7 +74,8 @@ below-preserved t c =
           let missing : c.missing_without-missing.result ≡ c.below.missing - cond (has_child e.0 d.0 names) 1 0 =
           c.missing_without-missing.ensures ∙ ap (λ (b : Bool). c.below.missing - cond b 1 0) counts in (
             subst (λ (n : ℕ). SoFar h nodes e.0 old names left2 (option_copied c.or-first.result) n) (sym missing)
-                (subst (λ (f : Option Path). SoFar h nodes e.0 old names left2 f (c.below.missing - cond (has_child e.0 d.0 names) 1 0)) first on),
+                (subst (λ (f : Option Path). SoFar h nodes e.0 old names left2 f (c.below.missing - cond (has_child e.0 d.0 names) 1 0))
+                first on),
             beside_next h id e.0 c.below.entries c.take_entry-entry.new.entries d left beside sorted entry
                 (next_order h nodes order before e old whole names d left (option_copied c.below.first) c.below.missing s)
                 walked.taken left2 walked.parts below.name named took,

@@ -18,36 +18,36 @@ pub returns-in-OpenRoot-clause-holds : goal.returns-in-OpenRoot-clause-holds
 returns-in-OpenRoot-clause-holds c =
     let x = c.in-OpenRoot in
     given_holds c.args.self.now c.open_root.new.self (OpenRoot x.base x.token) c.args.call.now
-    (record { kind = Directory; path = []; parent = None; token = x.token }) c.open_root.result x.is (λ n. refl) refl refl refl c.open_root.ensures.keeps _ refl
-    c.open_root.ensures.opened
+    (record { kind = Directory; path = []; parent = None; token = x.token }) c.open_root.result
+    x.is (λ n. refl) refl refl refl c.open_root.ensures.keeps _ refl c.open_root.ensures.opened
 
 pub returns-in-AddDirectory-clause-holds : goal.returns-in-AddDirectory-clause-holds
 returns-in-AddDirectory-clause-holds c =
     let x = c.in-AddDirectory in
     given_holds c.args.self.now c.add_directory.new.self (AddDirectory x.path x.parent x.token) c.args.call.now
-    (record { kind = Directory; path = x.path; parent = Some x.parent; token = x.token }) c.add_directory.result x.is (λ n. refl) refl refl refl c.add_directory.ensures.keeps _ refl
-    c.add_directory.ensures.opened
+    (record { kind = Directory; path = x.path; parent = Some x.parent; token = x.token }) c.add_directory.result
+    x.is (λ n. refl) refl refl refl c.add_directory.ensures.keeps _ refl c.add_directory.ensures.opened
 
 pub returns-in-OpenDirectory-clause-holds : goal.returns-in-OpenDirectory-clause-holds
 returns-in-OpenDirectory-clause-holds c =
     let x = c.in-OpenDirectory in
     given_holds c.args.self.now c.open_directory.new.self (OpenDirectory x.path x.parent x.base x.token) c.args.call.now
-    (record { kind = Directory; path = x.path; parent = Some x.parent; token = x.token }) c.open_directory.result x.is (λ n. refl) refl refl refl c.open_directory.ensures.keeps _ refl
-    c.open_directory.ensures.opened
+    (record { kind = Directory; path = x.path; parent = Some x.parent; token = x.token }) c.open_directory.result
+    x.is (λ n. refl) refl refl refl c.open_directory.ensures.keeps _ refl c.open_directory.ensures.opened
 
 pub returns-in-AddFile-clause-holds : goal.returns-in-AddFile-clause-holds
 returns-in-AddFile-clause-holds c =
     let x = c.in-AddFile in
     given_holds c.args.self.now c.add_file.new.self (AddFile x.path x.parent x.token) c.args.call.now
-    (record { kind = File; path = x.path; parent = Some x.parent; token = x.token }) c.add_file.result x.is (λ n. refl) refl refl refl c.add_file.ensures.keeps _ refl
-    c.add_file.ensures.opened
+    (record { kind = File; path = x.path; parent = Some x.parent; token = x.token }) c.add_file.result
+    x.is (λ n. refl) refl refl refl c.add_file.ensures.keeps _ refl c.add_file.ensures.opened
 
 pub returns-in-OpenFile-clause-holds : goal.returns-in-OpenFile-clause-holds
 returns-in-OpenFile-clause-holds c =
     let x = c.in-OpenFile in
     given_holds c.args.self.now c.open_file.new.self (OpenFile x.path x.parent x.base x.token) c.args.call.now
-    (record { kind = File; path = x.path; parent = Some x.parent; token = x.token }) c.open_file.result x.is (λ n. refl) refl refl refl c.open_file.ensures.keeps _ refl
-    c.open_file.ensures.opened
+    (record { kind = File; path = x.path; parent = Some x.parent; token = x.token }) c.open_file.result
+    x.is (λ n. refl) refl refl refl c.open_file.ensures.keeps _ refl c.open_file.ensures.opened
 
 pub returns-in-DeleteEntry-clause-holds : goal.returns-in-DeleteEntry-clause-holds
 returns-in-DeleteEntry-clause-holds c = ok_by c.delete_entry.result (λ ok mode calls next last.
@@ -151,8 +151,8 @@ pub returns-in-ChangeFileProp-clause-holds : goal.returns-in-ChangeFileProp-clau
 returns-in-ChangeFileProp-clause-holds c =
     let x = c.in-ChangeFileProp in
     map_ok c.change_prop-in-ChangeFileProp.result c.change_prop-in-ChangeFileProp.ensures.noted (λ notes mode calls next last.
-    note_holds mode c.args.self.now c.change_prop-in-ChangeFileProp.new.self calls (ChangeFileProp x.token x.name x.value) c.args.call.now x.token
-    File (Change File (x.name, x.value)) x.is next refl refl refl refl refl (λ t. refl) c.change_prop-in-ChangeFileProp.ensures.keeps notes)
+    note_holds mode c.args.self.now c.change_prop-in-ChangeFileProp.new.self calls (ChangeFileProp x.token x.name x.value) c.args.call.now
+    x.token File (Change File (x.name, x.value)) x.is next refl refl refl refl refl (λ t. refl) c.change_prop-in-ChangeFileProp.ensures.keeps notes)
 
 -- ---- the pools after a refusal
 
