@@ -152,7 +152,8 @@ returns-in-ChangeFileProp-clause-holds c =
     let x = c.in-ChangeFileProp in
     map_ok c.change_prop-in-ChangeFileProp.result c.change_prop-in-ChangeFileProp.ensures.noted (λ notes mode calls next last.
     note_holds mode c.args.self.now c.change_prop-in-ChangeFileProp.new.self calls (ChangeFileProp x.token x.name x.value) c.args.call.now
-    x.token File (Change File (x.name, x.value)) x.is next refl refl refl refl refl (λ t. refl) c.change_prop-in-ChangeFileProp.ensures.keeps notes)
+    x.token File (Change File (x.name, x.value)) x.is next refl refl refl refl refl (λ t. refl)
+    c.change_prop-in-ChangeFileProp.ensures.keeps notes)
 
 -- ---- the pools after a refusal
 
