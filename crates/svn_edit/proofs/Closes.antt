@@ -1,6 +1,6 @@
 -- The close of a directory: what was said of it is done, and its baton goes.
 use Rattle.std.proofs.Common.{◌≡◌, ◌≢◌, ℕ, Bool, true, false, cond, ◌&&◌, not, List, [], ◌∷◌, ◌++◌, refl, sym, ◌∙◌, ap, subst, true≢false}
-use Rattle.std.proofs.lemmas.Option.{none-some}
+use Rattle.std.proofs.lemmas.Option.{none-some, same_Some}
 use Rattle.std.specs.Prelude.{Option, Some, None, Result, Ok, Err, OnOk, OnErr, IfOk, IfErr, is_ok, is_some, nat_eq, filter_map}
 use Rattle.std.specs.List.{cons_option}
 use Rattle.svn_types.specs.declared.kind.Kind.{Kind}
@@ -16,11 +16,12 @@ use Rattle.svn_editor.specs.declared.fault.EditFault.{EditFault}
 use Rattle.svn_editor.specs.declared.fault.EditFault.TheVariants.{Memory, TooLong}
 use Rattle.svn_editor.specs.Calls.{Given, kind_eq, number_eq, given_by, named_by, given, is_closed, all_given, path_of, is_abort}
 use Rattle.svn_editor.specs.Calls.{is_open_in, closes}
-use Rattle.svn_editor.specs.Steps.{Mode, Update, Action, Delete, Open, Add, Change, Text, Close, Step, steps_of, target_of}
-use Rattle.svn_editor.proofs.Accepted.{accepted}
+use Rattle.svn_editor.specs.Steps.{Mode, Update, Action, Change, Text, Close, Step, steps_of, target_of}
+use Rattle.svn_editor.specs.Order.{order_fault}
+use Rattle.svn_editor.proofs.Accepted.{IsAccepted, accepted}
 use Rattle.svn_editor.proofs.OneMore.{any_at, false_from}
 use Rattle.svn_editor.proofs.Nested.{eq_true, true_eq}
-use Rattle.svn_order.proofs.Sound.{known}
+use Rattle.svn_order.proofs.Sound.{IsKnown, known}
 use Rattle.svn_order.proofs.Lawful.{sound}
 use Rattle.svn_model.specs.declared.base_node.BaseNode.{BaseNode}
 use Rattle.svn_edit.specs.declared.baton.Baton.{Baton}
@@ -41,36 +42,48 @@ use Rattle.svn_edit_law.proofs.StepEffects.{effect_alone, effect_none}
 use Rattle.svn_edit.proofs.HeldBatons.{held_leaf, held_gone, held_noted}
 use Rattle.svn_edit.proofs.Holding.{holds_by, applied_some, ok_by, at_ok}
 
+-- what the steps on a path bring of one kind, what is said of it brings
+pub among_said : {B : Type 0} (f : Action → Option B) (p : Path) (at : List Step → List B) → at [] ≡ []
+    → ((s : Step) (steps : List Step) → at (s ∷ steps) ≡ cond (path_eq s.path p) (cons_option (f s.action) (at steps)) (at steps))
+    → ((a : Action) → says a ≡ false → f a ≡ None) → (steps : List Step) → filter_map f (said_at p steps) ≡ at steps
+among_said f p at none more quiet [] = sym none
+among_said f p at none more quiet (s ∷ steps) =
+    by (path_eq s.path p) (says s.action) refl (among_said f p at none more quiet steps) ∙ sym (more s steps)
+  where
+    by : (b c : Bool) → says s.action ≡ c → filter_map f (said_at p steps) ≡ at steps
+        → filter_map f (cond (b && c) (s.action ∷ said_at p steps) (said_at p steps))
+        ≡ cond b (cons_option (f s.action) (at steps)) (at steps)
+    by false c e ih = ih
+    by true true e ih = ap (cons_option (f s.action)) ih
+    by true false e ih = ih ∙ sym (ap (λ o. cons_option o (at steps)) (quiet s.action e))
+
 -- the changes on a path are among what is said
 pub changes_are : (p : Path) (steps : List Step) → filter_map change_in (said_at p steps) ≡ changes_at p steps
-changes_are p [] = refl
-changes_are p (s ∷ steps) = by (path_eq s.path p) s.action (changes_are p steps)
+changes_are p = among_said change_in p (changes_at p) refl (λ s steps. refl) quiet
   where
-    by : (b : Bool) (a : Action) → filter_map change_in (said_at p steps) ≡ changes_at p steps
-        → filter_map change_in (cond (b && says a) (a ∷ said_at p steps) (said_at p steps)) ≡ cond b
-        (cons_option (change_in a) (changes_at p steps)) (changes_at p steps)
-    by false a ih = ih
-    by true (Change k x) ih = ap (λ (l : List PropChange). x ∷ l) ih
-    by true (Text s t) ih = ih
-    by true (Delete r) ih = ih
-    by true (Open k r) ih = ih
-    by true (Add k) ih = ih
-    by true (Close k x) ih = ih
+    quiet : (a : Action) → says a ≡ false → change_in a ≡ None
+    quiet (Change k x) h = absurd (true≢false h)
+    quiet _ h = refl
 
-module _ (mode : Mode) (edit : Edit) (calls : List Call) (c : Call) (m : ℕ) (k : Kind) (next : IsNext mode edit calls c)
+module _ (mode : Mode) (edit : Edit) (calls : List Call) (c d : Call) (m : ℕ) (k : Kind) (is : d ≡ c) (next : IsNext mode edit calls d)
     (going : is_abort c ≡ false) (named : named_by c ≡ Some (m, k)) where
-  named_open : is_open calls m ≡ true
-  named_open =
-      let x = known calls c m k (accepted calls c going next.in_order) named in
-      (λ i. is_some (x.is i) && not (x.unclosed i))
+  pub next_accepted : IsAccepted calls c
+  next_accepted = accepted calls c going (ap (order_fault calls) (sym is) ∙ next.in_order)
 
-  -- the token that a call names has a baton
+  -- the token that a call names is open
+  pub named_known : IsKnown calls m k
+  named_known = known calls c m k next_accepted named
+
+  -- and has a baton
   pub named_baton : (b : Baton) × (batons_of edit m ≡ Some b) × IsBaton edit.pools (batons_of edit) calls m b
   named_baton = by (batons_of edit m) refl
     where
+      is_open_now : is_open calls m ≡ true
+      is_open_now = λ i. is_some (named_known.is i) && not (named_known.unclosed i)
+
       by : (o : Option Baton) → batons_of edit m ≡ o → (b : Baton) × (batons_of edit m ≡ Some b)
           × IsBaton edit.pools (batons_of edit) calls m b
-      by None e = absurd (true≢false (sym named_open ∙ sym (next.holds.batons.opened m) ∙ ap is_some e))
+      by None e = absurd (true≢false (sym is_open_now ∙ sym (next.holds.batons.opened m) ∙ ap is_some e))
       by (Some b) e = (b, e, next.holds.batons.each m b e)
 
 pub says_of : (pools : Pools) (at : ℕ → Option Baton) (calls : List Call) (t : ℕ) (b : Baton) → IsBaton pools at calls t b
@@ -101,7 +114,7 @@ gone_holds mode old new calls c d t k is next going named still gives says shut 
     apart))
   where
     baton : (b : Baton) × (batons_of old t ≡ Some b) × IsBaton old.pools (batons_of old) calls t b
-    baton = named_baton mode old calls c t k (subst (λ (x : Call). IsNext mode old calls x) is next) going named
+    baton = named_baton mode old calls c d t k is next going named
 
     apart : baton.0.pool.0 ≢ old.pools.root
     apart e = none-some _ (sym (ap parent_of next.holds.batons.root) ∙ ap (λ s. parent_of (pool_at old.pools s)) (sym e)
@@ -113,11 +126,8 @@ others_stay t u n = false_from (nat_eq t u) (λ e. n (sym (true_eq t u e)))
 
 module _ (mode : Mode) (old new : Edit) (calls : List Call) (t : ℕ) (d : Call) (is : d ≡ CloseDirectory t)
     (next : IsNext mode old calls d) where
-  next_close : IsNext mode old calls (CloseDirectory t)
-  next_close = subst (λ (x : Call). IsNext mode old calls x) is next
-
   baton : (b : Baton) × (batons_of old t ≡ Some b) × IsBaton old.pools (batons_of old) calls t b
-  baton = named_baton mode old calls (CloseDirectory t) t Directory next_close refl refl
+  baton = named_baton mode old calls (CloseDirectory t) d t Directory is next refl refl
 
   -- what the close does to the copy
   pub close_applied : (checksum : List ℕ → List ℕ) (nodes nodes2 : List (Path × BaseNode)) (r : Result (Unit {0}) EditFault)
@@ -148,7 +158,7 @@ module _ (mode : Mode) (old new : Edit) (calls : List Call) (t : ℕ) (d : Call)
   none_below : (u : ℕ) (g : Given) → is_open calls u ≡ true → given calls u ≡ Some g → g.kind ≡ Directory → g.parent ≡ Some t → ⊥
   none_below u g o e k p =
       true≢false (sym (any_at (is_open_in t calls) (all_given calls) u g e below)
-      ∙ (accepted calls (CloseDirectory t) refl next_close.in_order).none_below)
+      ∙ (next_accepted mode old calls (CloseDirectory t) d t Directory is next refl refl).none_below)
     where
       number : g.token ≡ u
       number = (sound calls next.lawful).numbered u g e
@@ -185,45 +195,36 @@ pass_err A B a (Ok v) same h = tt
 pass_err A B (Ok v) (Err e) same h = absurd (true≢false (sym same))
 pass_err A B (Err x) (Err e) same h = h
 
-pub noted_of : (t : ℕ) (note : Note) (strings : List (List ℕ)) (b d : Baton) (pools pools2 : Pools) (m n : BatonMap)
-    → BatonSaid note strings b pools d pools2 → Updates nat_eq m n t (Some d)
-    → BatonNoted t b note strings pools (get nat_eq m) pools2 (get nat_eq n)
-noted_of t note strings b d pools pools2 m n said written = record {
-  baton = d;
-  path = said.path;
-  same_pool = said.same_pool;
-  notes = said.notes;
-  text = said.text;
-  own = said.own;
-  others = said.others;
-  root = said.root;
-  count = said.count;
-  token = updated_here m n t (Some d) written;
-  tokens = updated_away m n t (Some d) written;
-}
+-- what was said of the baton that a look-up lent
+pub noted_of : (t u : ℕ) (note : Note) (strings : List (List ℕ)) (x d : Baton) (pools pools2 : Pools) (m n : BatonMap)
+    → u ≡ t → Some x ≡ get nat_eq m u → BatonSaid note strings x pools d pools2 → Updates nat_eq m n u (Some d) → (b : Baton)
+    → get nat_eq m t ≡ Some b → BatonNoted t b note strings pools (get nat_eq m) pools2 (get nat_eq n)
+noted_of t u note strings x d pools pools2 m n key lent said updates b there =
+    let written = subst (λ k. Updates nat_eq m n k (Some d)) key updates in
+    record {
+      baton = d;
+      said = subst (λ (y : Baton). BatonSaid note strings y pools d pools2) (same_Some x b (lent ∙ ap (get nat_eq m) key ∙ there)) said;
+      token = updated_here m n t (Some d) written;
+      tokens = updated_away m n t (Some d) written;
+    }
 
 pub applied_same : (fault : Option EditFault) (w : WorkingCopy) (nodes : List (Path × BaseNode)) (r : Result (Unit {0}) EditFault)
     → AnswersCall fault r → ((p : Path) → get_in nodes p ≡ w p) → Applied fault w nodes r nodes
 applied_same fault w nodes (Ok done) h same = (h, same)
 applied_same fault w nodes (Err e) h same = (h, refl)
 
-module _ (mode : Mode) (old new : Edit) (calls : List Call) (c d : Call) (m : ℕ) (k : Kind) (act : Action) (is : d ≡ c)
-    (next : IsNext mode old calls d) (going : is_abort c ≡ false) (named : named_by c ≡ Some (m, k)) where
-  next_note : IsNext mode old calls c
-  next_note = subst (λ (x : Call). IsNext mode old calls x) is next
-
-  pub note_baton : (b : Baton) × (batons_of old m ≡ Some b) × IsBaton old.pools (batons_of old) calls m b
-  note_baton = named_baton mode old calls c m k next_note going named
-
-  pub note_holds : next_target (target_of calls) c ≡ target_of calls → given_by c ≡ None → noted c ≡ Some (m, act)
-      → ((t : ℕ) → closes t c ≡ false) → KeepsEdit old new
-      → ((b : Baton) → batons_of old m ≡ Some b → BatonNoted m b (note_of act) (strings_of act) old.pools (batons_of old) new.pools
-      (batons_of new))
-      → Holds mode new (calls ++ d ∷ [])
-  note_holds still gives says shut keeps notes =
-      holds_by mode old new calls c d is next keeps still
-      (held_noted old.pools (batons_of old) calls c m act note_baton.0 next.holds.batons
-      (pathed calls next.lawful) gives says shut note_baton.1 new.pools (batons_of new) (notes note_baton.0 note_baton.1))
+pub note_holds : (mode : Mode) (old new : Edit) (calls : List Call) (c d : Call) (m : ℕ) (k : Kind) (act : Action) → d ≡ c
+    → IsNext mode old calls d → is_abort c ≡ false → named_by c ≡ Some (m, k)
+    → next_target (target_of calls) c ≡ target_of calls → given_by c ≡ None → noted c ≡ Some (m, act)
+    → ((t : ℕ) → closes t c ≡ false) → KeepsEdit old new
+    → ((b : Baton) → batons_of old m ≡ Some b → BatonNoted m b (note_of act) (strings_of act) old.pools (batons_of old) new.pools
+    (batons_of new))
+    → Holds mode new (calls ++ d ∷ [])
+note_holds mode old new calls c d m k act is next going named still gives says shut keeps notes =
+    let b = named_baton mode old calls c d m k is next going named in
+    holds_by mode old new calls c d is next keeps still
+    (held_noted old.pools (batons_of old) calls c m act b.0 next.holds.batons
+    (pathed calls next.lawful) gives says shut b.1 new.pools (batons_of new) (notes b.0 b.1))
 
 -- a change of a property does nothing yet
 pub change_applied : (checksum : List ℕ → List ℕ) (mode : Mode) (edit : Edit) (calls : List Call) (c d : Call) (m : ℕ) (k : Kind)
@@ -246,7 +247,7 @@ pub text_applied : (checksum : List ℕ → List ℕ) (mode : Mode) (edit : Edit
     → ((b : Baton) → batons_of edit t ≡ Some b → AnswersCall (step_fault checksum Update [] (get_in nodes) b.path (Text sum text)) r)
     → Applied (edit_fault checksum mode calls d nodes) (effect mode calls d (get_in nodes)) nodes r nodes
 text_applied checksum mode edit calls t sum text d nodes r is next answers =
-    let b = named_baton mode edit calls (ApplyText t sum text) t File (subst (λ (x : Call). IsNext mode edit calls x) is next) refl refl in
+    let b = named_baton mode edit calls (ApplyText t sum text) d t File is next refl refl in
     subst (λ (y : Call). Applied (edit_fault checksum mode calls y nodes) (effect mode calls y (get_in nodes)) nodes r nodes) (sym is)
     (applied_same _ (effect mode calls (ApplyText t sum text) (get_in nodes)) nodes r
     (subst (λ (p : Path). AnswersCall (step_fault checksum Update [] (get_in nodes) p (Text sum text)) r) b.2.path (answers b.0 b.1))

@@ -1,7 +1,6 @@
 -- The close of a file: its text is checked, what was said of it is done, and its baton goes.
-use Rattle.std.proofs.Common.{◌≡◌, ◌≢◌, ℕ, Bool, true, false, cond, ◌&&◌, List, [], ◌∷◌, ◌++◌, refl, sym, ◌∙◌, ap, subst, true≢false}
+use Rattle.std.proofs.Common.{◌≡◌, ◌≢◌, ℕ, Bool, true, false, cond, List, [], ◌∷◌, ◌++◌, refl, sym, ◌∙◌, ap, subst, true≢false}
 use Rattle.std.specs.Prelude.{Option, Some, None, Result, Ok, Err, OnOk, OnErr, filter_map}
-use Rattle.std.specs.List.{cons_option}
 use Rattle.svn_types.specs.declared.kind.Kind.TheVariants.{File, Directory}
 use Rattle.svn_types.specs.Names.{Path}
 use Rattle.svn_types.specs.Paths.{path_eq}
@@ -11,10 +10,9 @@ use Rattle.svn_editor.specs.declared.call.Call.{Call}
 use Rattle.svn_editor.specs.declared.call.Call.TheVariants.{CloseFile}
 use Rattle.svn_editor.specs.declared.fault.EditFault.{EditFault}
 use Rattle.svn_editor.specs.Calls.{Given, given, path_of, is_of_kind}
-use Rattle.svn_editor.specs.Steps.{Mode, Action, Delete, Open, Add, Change, Text, Close, Step, steps_of, target_of}
-use Rattle.svn_editor.proofs.Accepted.{accepted}
+use Rattle.svn_editor.specs.Steps.{Mode, Action, Text, Close, Step, steps_of, target_of}
 use Rattle.svn_editor.proofs.Nested.{eq_true}
-use Rattle.svn_order.proofs.Sound.{known, other_kind}
+use Rattle.svn_order.proofs.Sound.{other_kind}
 use Rattle.svn_types.proofs.PathLemmas.{same_path}
 use Rattle.svn_model.specs.declared.base_node.BaseNode.{BaseNode}
 use Rattle.svn_model.specs.Nodes.{WorkingCopy, get_in}
@@ -28,23 +26,15 @@ use Rattle.svn_edit.specs.declared.edit.Edit.{Edit}
 use Rattle.svn_edit.specs.NodeTests.{sum_fault, FileIsClosed}
 use Rattle.svn_edit.specs.Applying.{Applied, KeepsEdit, batons_of, mode_of, is_open, IsBaton, BatonGone, IsLeaf, Says, Holds, IsNext}
 use Rattle.svn_edit.proofs.Holding.{at_ok, ok_by}
-use Rattle.svn_edit.proofs.Closes.{changes_are, named_baton, says_of, gone_holds, others_stay}
+use Rattle.svn_edit.proofs.Closes.{among_said, changes_are, named_known, named_baton, says_of, gone_holds, others_stay}
 
 -- the texts on a path are among what is said
 pub texts_are : (p : Path) (steps : List Step) → filter_map text_in (said_at p steps) ≡ texts_at p steps
-texts_are p [] = refl
-texts_are p (s ∷ steps) = by (path_eq s.path p) s.action (texts_are p steps)
+texts_are p = among_said text_in p (texts_at p) refl (λ s steps. refl) quiet
   where
-    by : (b : Bool) (a : Action) → filter_map text_in (said_at p steps) ≡ texts_at p steps
-        → filter_map text_in (cond (b && says a) (a ∷ said_at p steps) (said_at p steps)) ≡ cond b
-        (cons_option (text_in a) (texts_at p steps)) (texts_at p steps)
-    by false a ih = ih
-    by true (Text sum x) ih = ap (λ (l : List (List ℕ)). x ∷ l) ih
-    by true (Change k x) ih = ih
-    by true (Delete r) ih = ih
-    by true (Open k r) ih = ih
-    by true (Add k) ih = ih
-    by true (Close k x) ih = ih
+    quiet : (a : Action) → says a ≡ false → text_in a ≡ None
+    quiet (Text sum x) h = absurd (true≢false h)
+    quiet _ h = refl
 
 -- the file at a path is closed where it stands
 pub node_closed : (mode : Mode) (rev : ℕ) (at p : Path) (changes : List PropChange) (texts : List (List ℕ))
@@ -86,11 +76,8 @@ applied_parts fault w nodes nodes2 (Err e) h f g = (h, g)
 
 module _ (mode : Mode) (old new : Edit) (calls : List Call) (t : ℕ) (sum : Option (List ℕ)) (d : Call) (is : d ≡ CloseFile t sum)
     (next : IsNext mode old calls d) where
-  next_close : IsNext mode old calls (CloseFile t sum)
-  next_close = subst (λ (x : Call). IsNext mode old calls x) is next
-
   baton : (b : Baton) × (batons_of old t ≡ Some b) × IsBaton old.pools (batons_of old) calls t b
-  baton = named_baton mode old calls (CloseFile t sum) t File next_close refl refl
+  baton = named_baton mode old calls (CloseFile t sum) d t File is next refl refl
 
   -- what the close does to the copy
   pub file_applied : (checksum : List ℕ → List ℕ) (nodes nodes2 : List (Path × BaseNode)) (r : Result (Unit {0}) EditFault)
@@ -134,7 +121,7 @@ module _ (mode : Mode) (old new : Edit) (calls : List Call) (t : ℕ) (sum : Opt
   -- no directory is open below a file
   none_below : (u : ℕ) (g : Given) → is_open calls u ≡ true → given calls u ≡ Some g → g.kind ≡ Directory → g.parent ≡ Some t → ⊥
   none_below u g o e k p =
-      let x = known calls (CloseFile t sum) t File (accepted calls (CloseFile t sum) refl next_close.in_order) refl in
+      let x = named_known mode old calls (CloseFile t sum) d t File is next refl refl in
       true≢false (sym ((pathed calls next.lawful).parents u t g e p) ∙ ap (is_of_kind Directory) x.is
       ∙ other_kind x.given_as.kind File Directory x.kind refl)
 

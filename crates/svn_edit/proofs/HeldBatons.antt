@@ -101,6 +101,16 @@ pub root_apart : (pools : Pools) (at : Batons) (calls : List Call) → HoldsBato
 root_apart pools at calls h t b there same =
     some_none _ (sym (ap parent_of (sym h.root ∙ ap (pool_at pools) same ∙ (h.each t b there).pool)))
 
+-- where all but a token, its baton and its pool are as before, each other pool is a baton's still
+only_others : (pools pools2 : Pools) (at at2 : Batons) (calls : List Call) (m : ℕ) (b : Baton) → HoldsBatons pools at calls → at m ≡ Some b
+    → ((s : ℕ) → s ≢ b.pool.0 → pool_at pools2 s ≡ pool_at pools s) → pools2.root ≡ pools.root → ((u : ℕ) → u ≢ m → at2 u ≡ at u)
+    → (s : ℕ) (e : Entry) → pool_at pools2 s ≡ Some e → s ≢ pools2.root → s ≢ b.pool.0
+    → (t : ℕ) × (d : Baton) × (at2 t ≡ Some d) × (d.pool.0 ≡ s)
+only_others pools pools2 at at2 calls m b h there others root tokens s e f r away =
+    let x = h.only s e (sym (others s away) ∙ f) (λ y. r (y ∙ sym root)) in
+    let other : x.0 ≢ m = λ y. away (sym x.3 ∙ ap (λ (z : Baton). z.pool.0) (same_Some x.1 b (sym x.2 ∙ ap at y ∙ there))) in
+    (x.0, x.1, tokens x.0 other ∙ x.2, x.3)
+
 -- ---- a call that gives, says and closes nothing
 
 pub held_still : (pools : Pools) (at : Batons) (calls : List Call) (c : Call) → HoldsBatons pools at calls → given_by c ≡ None
@@ -199,16 +209,16 @@ module _ (pools : Pools) (at : Batons) (calls : List Call) (c : Call) (g : Given
   nothing_said = said-quiet calls c g.path says ∙ q.untouched g.path (opened_first calls c g a gives)
 
   not_fresh : (s : ℕ) (e : Entry) → pool_at pools s ≡ Some e → s ≢ made.baton.pool.0
-  not_fresh s e there same = some_none e (sym there ∙ ap (pool_at pools) same ∙ made.fresh)
+  not_fresh s e there same = some_none e (sym there ∙ ap (pool_at pools) same ∙ made.begun.fresh)
 
   own_baton : IsBaton pools2 at2 (calls ++ c ∷ []) g.token made.baton
   own_baton = record {
-    path = made.path ∙ sym (ap given_path given_here);
-    notes = made.notes ∙ sym (ap (λ (l : List Action). map note_of l) said_own);
-    pool = made.made ∙ (λ i. Some (pool_entry (sym above_now i) (path_key (given_path (sym given_here i)) ∷ flat_map strings_of
+    path = made.begun.path ∙ sym (ap given_path given_here);
+    notes = made.begun.notes ∙ sym (ap (λ (l : List Action). map note_of l) said_own);
+    pool = made.begun.made ∙ (λ i. Some (pool_entry (sym above_now i) (path_key (given_path (sym given_here i)) ∷ flat_map strings_of
         (sym said_own i))));
     text = subst (λ (o : Option ℕ). IsTextAt o _
-        (first_of (filter_map text_in (said_at (path_of (calls ++ c ∷ []) g.token) (steps_of (calls ++ c ∷ [])))))) (sym made.text)
+        (first_of (filter_map text_in (said_at (path_of (calls ++ c ∷ []) g.token) (steps_of (calls ++ c ∷ [])))))) (sym made.begun.text)
         (ap (λ (l : List Action). first_of (filter_map text_in l)) said_own);
   }
     where
@@ -216,29 +226,32 @@ module _ (pools : Pools) (at : Batons) (calls : List Call) (c : Call) (g : Given
       said_own = ap (λ (o : Option Given). said_at (given_path o) (steps_of (calls ++ c ∷ []))) given_here ∙ nothing_said
 
       above_now : pool_above pools2.root at2 (given (calls ++ c ∷ []) g.token) ≡ pool_above pools.root at (Some g)
-      above_now = (λ i. pool_above (made.root i) at2 (given_here i)) ∙ own_above
+      above_now = (λ i. pool_above (made.begun.root i) at2 (given_here i)) ∙ own_above
 
   old_baton : (t : ℕ) (b : Baton) → t ≢ g.token → at t ≡ Some b → IsBaton pools2 at2 (calls ++ c ∷ []) t b
   old_baton t b n e =
       let is = h.each t b e in
-      carried pools pools2 at at2 calls (calls ++ c ∷ []) t b is (given_before t n) (said-quiet calls c (path_of calls t) says) made.root
+      carried pools pools2 at at2 calls (calls ++ c ∷ []) t b is (given_before t n) (said-quiet calls c (path_of calls t) says)
+      made.begun.root
       (above_same pools.root at at2 (given calls t) (λ x m f k p. ap (pool_or pools.root) (parent_other (given calls t) t m x refl f p)))
-      (made.others b.pool.0 (not_fresh b.pool.0 _ is.pool))
+      (made.begun.others b.pool.0 (not_fresh b.pool.0 _ is.pool))
 
   pub held_made : HoldsBatons pools2 at2 (calls ++ c ∷ [])
   held_made = record {
     opened = λ t. open_by t (cases_eq t g.token);
     each = λ t b e. each_by t b e (cases_eq t g.token);
     apart = λ t u b d e f same. apart_by t u b d e f same (cases_eq t g.token) (cases_eq u g.token);
-    root = ap (pool_at pools2) made.root ∙ made.others pools.root (not_fresh pools.root _ h.root) ∙ h.root;
+    root = ap (pool_at pools2) made.begun.root ∙ made.begun.others pools.root (not_fresh pools.root _ h.root) ∙ h.root;
     only = λ s e there n. only_by s e there n (cases_eq s made.baton.pool.0);
-    beneath = λ s e there n. subst (λ r. IsBeneath (pool_at pools2) r s) (sym made.root)
+    beneath = λ s e there n. subst (λ r. IsBeneath (pool_at pools2) r s) (sym made.begun.root)
         (beneath_by s e there n (cases_eq s made.baton.pool.0));
-    count = made.count ∙ ap (λ n. n + 1) (h.count ∙ sym (open_more calls c g gives unclosed));
+    count = made.begun.count ∙ ap (λ n. n + 1) (h.count ∙ sym (open_more calls c g gives unclosed));
   }
     where
       still : (q p : ℕ) → parent_of (pool_at pools q) ≡ Some p → parent_of (pool_at pools2 q) ≡ Some p
-      still q p e = ap parent_of (made.others q (λ same. some_none p (sym e ∙ ap parent_of (ap (pool_at pools) same ∙ made.fresh)))) ∙ e
+      still q p e =
+          let away : q ≢ made.baton.pool.0 = λ same. some_none p (sym e ∙ ap parent_of (ap (pool_at pools) same ∙ made.begun.fresh)) in
+          ap parent_of (made.begun.others q away) ∙ e
 
       above : ℕ
       above = pool_above pools.root at (Some g)
@@ -248,7 +261,7 @@ module _ (pools : Pools) (at : Batons) (calls : List Call) (c : Call) (g : Given
       beneath_by s e there n (inl same) = at_new (cases_eq above pools.root)
         where
           parent_is : parent_of (pool_at pools2 s) ≡ Some above
-          parent_is = ap (λ q. parent_of (pool_at pools2 q)) same ∙ ap parent_of made.made
+          parent_is = ap (λ q. parent_of (pool_at pools2 q)) same ∙ ap parent_of made.begun.made
 
           at_new : (above ≡ pools.root) ⊎ (above ≢ pools.root) → IsBeneath (pool_at pools2) pools.root s
           at_new (inl x) = (0, parent_is ∙ ap Some x)
@@ -256,7 +269,7 @@ module _ (pools : Pools) (at : Batons) (calls : List Call) (c : Call) (g : Given
               let up = above_beneath pools at calls h g.kind g.parent x in
               (suc up.0, (above, parent_is, beneath_kept (pool_at pools) (pool_at pools2) pools.root still up.0 above up.1))
       beneath_by s e there n (inr other) =
-          let up = h.beneath s e (sym (made.others s other) ∙ there) (λ x. n (x ∙ sym made.root)) in
+          let up = h.beneath s e (sym (made.begun.others s other) ∙ there) (λ x. n (x ∙ sym made.begun.root)) in
           (up.0, beneath_kept (pool_at pools) (pool_at pools2) pools.root still up.0 s up.1)
 
       open_by : (t : ℕ) → (t ≡ g.token) ⊎ (t ≢ g.token) → is_some (at2 t) ≡ is_open (calls ++ c ∷ []) t
@@ -287,7 +300,7 @@ module _ (pools : Pools) (at : Batons) (calls : List Call) (c : Call) (g : Given
           → (t : ℕ) × (b : Baton) × (at2 t ≡ Some b) × (b.pool.0 ≡ s)
       only_by s e there n (inl same) = (g.token, made.baton, made.token, sym same)
       only_by s e there n (inr other) =
-          let r = h.only s e (sym (made.others s other) ∙ there) (λ x. n (x ∙ sym made.root)) in
+          let r = h.only s e (sym (made.begun.others s other) ∙ there) (λ x. n (x ∙ sym made.begun.root)) in
           let away : r.0 ≢ g.token = λ x. true≢false (sym (sym (h.opened g.token) ∙ ap is_some (ap at (sym x) ∙ r.2))
           ∙ unopened calls g.token (omega (arith, next))) in
           (r.0, r.1, made.tokens r.0 away ∙ r.2, r.3)
@@ -308,7 +321,7 @@ module _ (pools : Pools) (at : Batons) (calls : List Call) (c : Call) (m : ℕ) 
   above_kept o = above_same pools.root at at2 o (λ g k e f p. by k (cases_eq k m))
     where
       by : (k : ℕ) → (k ≡ m) ⊎ (k ≢ m) → pool_or pools.root (at2 k) ≡ pool_or pools.root (at k)
-      by k (inl e) = ap (λ u. pool_or pools.root (at2 u)) e ∙ ap (pool_or pools.root) n.token ∙ n.same_pool
+      by k (inl e) = ap (λ u. pool_or pools.root (at2 u)) e ∙ ap (pool_or pools.root) n.token ∙ n.said.same_pool
           ∙ sym (ap (λ u. pool_or pools.root (at u)) e ∙ ap (pool_or pools.root) there)
       by k (inr e) = ap (pool_or pools.root) (n.tokens k e)
 
@@ -318,16 +331,16 @@ module _ (pools : Pools) (at : Batons) (calls : List Call) (c : Call) (m : ℕ) 
 
   noted_baton : IsBaton pools2 at2 (calls ++ c ∷ []) m n.baton
   noted_baton = record {
-    path = n.path ∙ own.path ∙ sym (ap given_path (given_still calls c m gives));
-    notes = n.notes ∙ ap (λ (l : List Note). l ++ note_of act ∷ []) own.notes
+    path = n.said.path ∙ own.path ∙ sym (ap given_path (given_still calls c m gives));
+    notes = n.said.notes ∙ ap (λ (l : List Note). l ++ note_of act ∷ []) own.notes
         ∙ sym (map-append note_of (said_at (path_of calls m) (steps_of calls)) (act ∷ []))
         ∙ sym (ap (λ (l : List Action). map note_of l) said_now);
-    pool = ap (pool_at pools2) n.same_pool ∙ n.own ∙ (λ i. Some (record { parent = parent_now i; strings = strings_now i }));
+    pool = ap (pool_at pools2) n.said.same_pool ∙ n.said.own ∙ (λ i. Some (record { parent = parent_now i; strings = strings_now i }));
     text =
         let texts = first_of (filter_map text_in (said_at (path_of (calls ++ c ∷ []) m) (steps_of (calls ++ c ∷ [])))) in
         subst (λ (o : Option ℕ). IsTextAt o (path_key (path_of (calls ++ c ∷ []) m) ∷ flat_map strings_of
         (said_at (path_of (calls ++ c ∷ []) m) (steps_of (calls ++ c ∷ [])))) texts)
-        (sym (n.text ∙ ap (λ (o : Option Entry). text_place (note_of act) (length (strings_of_pool o)) b.text) own.pool))
+        (sym (n.said.text ∙ ap (λ (o : Option Entry). text_place (note_of act) (length (strings_of_pool o)) b.text) own.pool))
         (subst (λ (l : List (List ℕ)). IsTextAt (text_place (note_of act) (length before) b.text) l texts) more
         (subst (λ (l : List Action). IsTextAt (text_place (note_of act) (length before) b.text) (before ++ strings_of act)
         (first_of (filter_map text_in l))) (sym said_now)
@@ -348,10 +361,11 @@ module _ (pools : Pools) (at : Batons) (calls : List Call) (c : Call) (m : ℕ) 
 
       parent_now : parent_of (pool_at pools b.pool.0) ≡ Some (pool_above pools2.root at2 (given (calls ++ c ∷ []) m))
       parent_now = ap parent_of own.pool ∙ ap Some
-          (sym ((λ i. pool_above (n.root i) at2 (given_still calls c m gives i)) ∙ above_kept (given calls m)))
+          (sym ((λ i. pool_above (n.said.root i) at2 (given_still calls c m gives i)) ∙ above_kept (given calls m)))
 
       strings_now : strings_at pools b.pool.0 ++ strings_of act
-          ≡ path_key (path_of (calls ++ c ∷ []) m) ∷ flat_map strings_of (said_at (path_of (calls ++ c ∷ []) m) (steps_of (calls ++ c ∷ [])))
+          ≡ path_key (path_of (calls ++ c ∷ []) m) ∷ flat_map strings_of
+          (said_at (path_of (calls ++ c ∷ []) m) (steps_of (calls ++ c ∷ [])))
       strings_now = ap (λ (o : Option Entry). strings_of_pool o ++ strings_of act) own.pool ∙ more
 
   other_baton : (t : ℕ) (d : Baton) → t ≢ m → at t ≡ Some d → IsBaton pools2 at2 (calls ++ c ∷ []) t d
@@ -361,8 +375,8 @@ module _ (pools : Pools) (at : Batons) (calls : List Call) (c : Call) (m : ℕ) 
       let apart : path_of calls m ≡ path_of calls t
       → ⊥ = λ same. away (q.once t m x.0 y.0 x.1 y.1 (sym (ap given_path x.1) ∙ sym same ∙ ap given_path y.1)) in
       carried pools pools2 at at2 calls (calls ++ c ∷ []) t d (h.each t d e) (given_still calls c t gives)
-      (said-other calls c m act says (path_of calls t) apart) n.root (above_kept (given calls t))
-      (n.others d.pool.0 (λ same. away (h.apart t m d b e there same)))
+      (said-other calls c m act says (path_of calls t) apart) n.said.root (above_kept (given calls t))
+      (n.said.others d.pool.0 (λ same. away (h.apart t m d b e there same)))
 
   pub held_noted : HoldsBatons pools2 at2 (calls ++ c ∷ [])
   held_noted = record {
@@ -371,10 +385,10 @@ module _ (pools : Pools) (at : Batons) (calls : List Call) (c : Call) (m : ℕ) 
     each = λ t d e. each_by t d e (cases_eq t m);
     apart = λ t u d f e g same. h.apart t u (before t d e).0 (before u f g).0 (before t d e).1 (before u f g).1 (sym (before t d e).2 ∙ same
         ∙ (before u f g).2);
-    root = ap (pool_at pools2) n.root ∙ n.others pools.root root_away ∙ h.root;
+    root = ap (pool_at pools2) n.said.root ∙ n.said.others pools.root root_away ∙ h.root;
     only = λ s e f r. only_by s e f r (cases_eq s b.pool.0);
-    beneath = λ s e f r. subst (λ x. IsBeneath (pool_at pools2) x s) (sym n.root) (beneath_by s e f r (cases_eq s b.pool.0));
-    count = n.count _ own.pool ∙ h.count ∙ ap (λ k. k + 1) (sym (open_same calls c gives shut));
+    beneath = λ s e f r. subst (λ x. IsBeneath (pool_at pools2) x s) (sym n.said.root) (beneath_by s e f r (cases_eq s b.pool.0));
+    count = n.said.count _ own.pool ∙ h.count ∙ ap (λ k. k + 1) (sym (open_same calls c gives shut));
   }
     where
       root_away : pools.root ≢ b.pool.0
@@ -384,9 +398,9 @@ module _ (pools : Pools) (at : Batons) (calls : List Call) (c : Call) (m : ℕ) 
       still q p e = by (cases_eq q b.pool.0)
         where
           by : (q ≡ b.pool.0) ⊎ (q ≢ b.pool.0) → parent_of (pool_at pools2 q) ≡ Some p
-          by (inl same) = ap (λ s. parent_of (pool_at pools2 s)) same ∙ ap parent_of n.own
+          by (inl same) = ap (λ s. parent_of (pool_at pools2 s)) same ∙ ap parent_of n.said.own
               ∙ ap (λ s. parent_of (pool_at pools s)) (sym same) ∙ e
-          by (inr away) = ap parent_of (n.others q away) ∙ e
+          by (inr away) = ap parent_of (n.said.others q away) ∙ e
 
       beneath_by : (s : ℕ) (e : Entry) → pool_at pools2 s ≡ Some e → s ≢ pools2.root → (s ≡ b.pool.0) ⊎ (s ≢ b.pool.0)
           → IsBeneath (pool_at pools2) pools.root s
@@ -398,7 +412,7 @@ module _ (pools : Pools) (at : Batons) (calls : List Call) (c : Call) (m : ℕ) 
                 (pool_at pools2) pools.root still up.0 b.pool.0 up.1,
           )
       beneath_by s e f r (inr away) =
-          let up = h.beneath s e (sym (n.others s away) ∙ f) (λ x. r (x ∙ sym n.root)) in
+          let up = h.beneath s e (sym (n.said.others s away) ∙ f) (λ x. r (x ∙ sym n.said.root)) in
           (up.0, beneath_kept (pool_at pools) (pool_at pools2) pools.root still up.0 s up.1)
 
       opened_by : (t : ℕ) → (t ≡ m) ⊎ (t ≢ m) → is_some (at2 t) ≡ is_some (at t)
@@ -420,21 +434,15 @@ module _ (pools : Pools) (at : Batons) (calls : List Call) (c : Call) (m : ℕ) 
             b,
             ap at same ∙ there,
             ap (λ (x : Baton). x.pool.0)
-                (sym (same_Some n.baton d (sym n.token ∙ ap at2 (sym same) ∙ e))) ∙ n.same_pool,
+                (sym (same_Some n.baton d (sym n.token ∙ ap at2 (sym same) ∙ e))) ∙ n.said.same_pool,
           )
           by (inr away) = (d, sym (n.tokens t away) ∙ e, refl)
 
       only_by : (s : ℕ) (e : Entry) → pool_at pools2 s ≡ Some e → s ≢ pools2.root → (s ≡ b.pool.0) ⊎ (s ≢ b.pool.0)
           → (t : ℕ) × (d : Baton) × (at2 t ≡ Some d) × (d.pool.0 ≡ s)
-      only_by s e f r (inl same) = (m, n.baton, n.token, n.same_pool ∙ sym same)
+      only_by s e f r (inl same) = (m, n.baton, n.token, n.said.same_pool ∙ sym same)
       only_by s e f r (inr away) =
-          let x = h.only s e (sym (n.others s away) ∙ f) (λ y. r (y ∙ sym n.root)) in (
-            x.0,
-            x.1,
-            n.tokens x.0 (λ y. away (sym x.3 ∙ ap (λ (z : Baton). z.pool.0) (same_Some x.1 b (sym x.2 ∙ ap at y ∙ there))))
-                ∙ x.2,
-            x.3,
-          )
+          only_others pools pools2 at at2 calls m b h there n.said.others n.said.root n.tokens s e f r away
 
 -- ---- a call that closes a token
 
@@ -484,10 +492,10 @@ module _ (pools : Pools) (at : Batons) (calls : List Call) (c : Call) (m : ℕ) 
     kept_baton : (t : ℕ) (d : Baton) → t ≢ m → at t ≡ Some d → IsBaton pools2 at2 (calls ++ c ∷ []) t d
     kept_baton t d away e =
         carried pools pools2 at at2 calls (calls ++ c ∷ []) t d (h.each t d e) (given_still calls c t gives)
-        (said-quiet calls c (path_of calls t) says) n.root
+        (said-quiet calls c (path_of calls t) says) n.pool.root
         (above_same pools.root at at2 (given calls t) (λ g k f x p. ap (pool_or pools.root)
         (n.tokens k (λ y. no_subdirectory t g (sym (h.opened t) ∙ ap is_some e) f x (p ∙ ap Some y)))))
-        (n.others d.pool.0 (λ same. away (h.apart t m d b e there same)))
+        (n.pool.others d.pool.0 (λ same. away (h.apart t m d b e there same)))
 
     away_from : (t : ℕ) (d : Baton) → at2 t ≡ Some d → t ≢ m
     away_from t d e same = some_none d (sym e ∙ ap at2 same ∙ n.token)
@@ -497,12 +505,12 @@ module _ (pools : Pools) (at : Batons) (calls : List Call) (c : Call) (m : ℕ) 
       opened = λ t. opened_by t (cases_eq t m);
       each = λ t d e. let away = away_from t d e in kept_baton t d away (sym (n.tokens t away) ∙ e);
       apart = λ t u d f e g same. h.apart t u d f (sym (n.tokens t (away_from t d e)) ∙ e) (sym (n.tokens u (away_from u f g)) ∙ g) same;
-      root = ap (pool_at pools2) n.root ∙ n.others pools.root root_away ∙ h.root;
+      root = ap (pool_at pools2) n.pool.root ∙ n.pool.others pools.root root_away ∙ h.root;
       only = λ s e f r. only_by s e f r (cases_eq s b.pool.0);
-      beneath = λ s e f r. subst (λ x. IsBeneath (pool_at pools2) x s) (sym n.root) (beneath_by s e f r);
+      beneath = λ s e f r. subst (λ x. IsBeneath (pool_at pools2) x s) (sym n.pool.root) (beneath_by s e f r);
       count =
           let was : map_of.len pools.live ≡ open_count calls + 1 = h.count in
-          let less : map_of.len pools.live ≡ map_of.len pools2.live + 1 = n.count in
+          let less : map_of.len pools.live ≡ map_of.len pools2.live + 1 = n.pool.count in
           let fewer : open_count calls ≡ open_count (calls ++ c ∷ []) + 1 = open_fewer calls c m sound gives
           (open_given calls m (sym (h.opened m) ∙ ap is_some there)) shut others_open in
           omega arith;
@@ -510,9 +518,9 @@ module _ (pools : Pools) (at : Batons) (calls : List Call) (c : Call) (m : ℕ) 
       where
         beneath_by : (s : ℕ) (e : Entry) → pool_at pools2 s ≡ Some e → s ≢ pools2.root → IsBeneath (pool_at pools2) pools.root s
         beneath_by s e f r =
-            let away : s ≢ b.pool.0 = λ same. some_none e (sym f ∙ ap (pool_at pools2) same ∙ n.gone) in
-            let up = h.beneath s e (sym (n.others s away) ∙ f) (λ x. r (x ∙ sym n.root)) in
-            (up.0, beneath_without (pool_at pools) (pool_at pools2) pools.root b.pool.0 held_leaf n.others up.0 s away up.1)
+            let away : s ≢ b.pool.0 = λ same. some_none e (sym f ∙ ap (pool_at pools2) same ∙ n.pool.gone) in
+            let up = h.beneath s e (sym (n.pool.others s away) ∙ f) (λ x. r (x ∙ sym n.pool.root)) in
+            (up.0, beneath_without (pool_at pools) (pool_at pools2) pools.root b.pool.0 held_leaf n.pool.others up.0 s away up.1)
 
         opened_by : (t : ℕ) → (t ≡ m) ⊎ (t ≢ m) → is_some (at2 t) ≡ is_open (calls ++ c ∷ []) t
         opened_by t (inl e) =
@@ -524,12 +532,6 @@ module _ (pools : Pools) (at : Batons) (calls : List Call) (c : Call) (m : ℕ) 
 
         only_by : (s : ℕ) (e : Entry) → pool_at pools2 s ≡ Some e → s ≢ pools2.root → (s ≡ b.pool.0) ⊎ (s ≢ b.pool.0)
             → (t : ℕ) × (d : Baton) × (at2 t ≡ Some d) × (d.pool.0 ≡ s)
-        only_by s e f r (inl same) = absurd (some_none e (sym f ∙ ap (pool_at pools2) same ∙ n.gone))
+        only_by s e f r (inl same) = absurd (some_none e (sym f ∙ ap (pool_at pools2) same ∙ n.pool.gone))
         only_by s e f r (inr away) =
-            let x = h.only s e (sym (n.others s away) ∙ f) (λ y. r (y ∙ sym n.root)) in (
-              x.0,
-              x.1,
-              n.tokens x.0 (λ y. away (sym x.3 ∙ ap (λ (z : Baton). z.pool.0) (same_Some x.1 b (sym x.2 ∙ ap at y ∙ there))))
-                  ∙ x.2,
-              x.3,
-            )
+            only_others pools pools2 at at2 calls m b h there n.pool.others n.pool.root n.tokens s e f r away

@@ -8,20 +8,24 @@ use Rattle.svn_editor.specs.declared.fault.EditFault.{EditFault}
 use Rattle.svn_editor.specs.declared.fault.EditFault.TheVariants.{EntryExists, Memory, Order}
 use Rattle.svn_editor.specs.declared.fault.OrderFault.{OrderFault}
 use Rattle.svn_editor.specs.declared.fault.OrderFault.TheVariants.{Memory as NoMemory}
-use Rattle.svn_editor.specs.Calls.{Given, given_by, closes, is_abort}
+use Rattle.svn_editor.specs.Calls.{Given, given_by, closes, is_abort, is_last}
 use Rattle.svn_editor.specs.Order.{order_fault, Answers}
-use Rattle.svn_editor.specs.Steps.{Mode, target_of}
+use Rattle.svn_types.specs.declared.kind.Kind.{Kind}
+use Rattle.svn_types.specs.Paths.{path_eq}
+use Rattle.svn_editor.specs.Steps.{Mode, Add, target_of}
 use Rattle.svn_editor.proofs.Accepted.{accepted, not_ended}
 use Rattle.svn_order.proofs.Lawful.{sound}
 use Rattle.svn_model.specs.declared.base_node.BaseNode.{BaseNode}
 use Rattle.svn_edit.specs.declared.edit.Edit.{Edit}
-use Rattle.svn_model.specs.Nodes.{WorkingCopy, get_in}
-use Rattle.svn_model.specs.Effects.{effect, after, edit_fault, refusal}
+use Rattle.svn_model.specs.Nodes.{WorkingCopy, get_in, is_present}
+use Rattle.svn_model.specs.Effects.{effect, after, edit_fault, refusal, added_node, joined_path, step_fault, step_effect}
+use Rattle.svn_edit.specs.NodeTests.{deep_fault}
 use Rattle.svn_edit.specs.Applying.{RefusedAs, Applied, KeepsEdit, MakesBaton, batons_of, mode_of, pool_above, Holds, IsNext, StandsAfter}
 use Rattle.svn_edit.specs.Applying.{HoldsBatons}
 use Rattle.svn_model.specs.Answering.{IsAnswer, AnswersCall}
 use Rattle.svn_edit_law.proofs.Appending.{after-more, next_target, target-more}
 use Rattle.svn_edit_law.proofs.OnePath.{noted, pathed}
+use Rattle.svn_edit_law.proofs.StepEffects.{effect_alone}
 use Rattle.svn_edit.proofs.HeldBatons.{held_still, held_made}
 
 pub map_ok : {T E : Type 0} {P Q : Type 0} (r : Result T E) → OnOk r P → (P → Q) → OnOk r Q
@@ -47,6 +51,16 @@ pub add_answer : (present : Bool) (fault : Option EditFault) (f r : EditFault) �
 add_answer true fault f r h is = subst (IsAnswer (Some EntryExists)) (sym is) refl
 add_answer false fault f r h is = subst (IsAnswer fault) (sym is) (h refl)
 
+-- what an add makes of the nodes, read as its step
+pub applied_add : (checksum : List ℕ → List ℕ) (mode : Mode) (target : ℕ) (kind : Kind) (at : Path) (nodes nodes2 : List (Path × BaseNode))
+    (r : Result (Unit {0}) EditFault) → let w = get_in nodes in let q = joined_path w at in
+    Applied (cond (is_present (w at)) (Some EntryExists) (deep_fault q)) (λ p. cond (path_eq at p) (Some (added_node kind target q)) (w p))
+    nodes r nodes2 → Applied (step_fault checksum mode [] w at (Add kind))
+    (step_effect mode target [] (record { path = at; action = Add kind }) w) nodes r nodes2
+applied_add checksum mode target kind at nodes nodes2 r h =
+    subst (λ (v : WorkingCopy). Applied (step_fault checksum mode [] (get_in nodes) at (Add kind)) v nodes r nodes2)
+    (λ i p. sym (effect_alone mode target [] at (Add kind) (get_in nodes) (λ o. refl) p) i) h
+
 pub applied_some : (fault : Option EditFault) (w : WorkingCopy) (nodes nodes2 : List (Path × BaseNode)) (r : Result (Unit {0}) EditFault)
     → fault ≡ None → OnOk r ((p : Path) → get_in nodes2 p ≡ w p)
     → IfErr r (λ e. (e ≡ Memory) × (nodes2 ≡ nodes)) → Applied fault w nodes r nodes2
@@ -69,14 +83,16 @@ module _ (mode : Mode) (old new : Edit) (calls : List Call) (c d : Call) (is : d
     batons = subst (λ (x : Call). HoldsBatons new.pools (batons_of new) (calls ++ x ∷ [])) (sym is) h;
   }
 
-  -- a call that gives a token
-  pub holds_made : (g : Given) → given_by c ≡ Some g → noted c ≡ None → is_abort c ≡ false → (beneath : ℕ)
-      → beneath ≡ pool_above old.pools.root (batons_of old) (Some g) → MakesBaton beneath g.path g.token old new
-      → Holds mode new (calls ++ d ∷ [])
-  holds_made g gives says going beneath place made =
-      holds_by (held_made old.pools (batons_of old) calls c g next.holds.batons (sound calls next.lawful) (pathed calls next.lawful)
-      (accepted calls c going in_order) gives says new.pools (batons_of new)
-      (subst (λ n. MakesBaton n g.path g.token old new) place made))
+-- a call that gives a token
+pub given_holds : (old new : Edit) (c d : Call) (g : Given) (r : Result (Unit {0}) EditFault) → d ≡ c → ((n : ℕ) → next_target n c ≡ n)
+    → given_by c ≡ Some g → noted c ≡ None → is_abort c ≡ false → KeepsEdit old new → (beneath : ℕ)
+    → beneath ≡ pool_above old.pools.root (batons_of old) (Some g) → OnOk r (MakesBaton beneath g.path g.token old new)
+    → OnOk r ((mode : Mode) (calls : List Call) → IsNext mode old calls d → is_last d ≡ false → Holds mode new (calls ++ d ∷ []))
+given_holds old new c d g r is still gives says going keeps beneath place made = map_ok r made (λ baton mode calls next last.
+    holds_by mode old new calls c d is next keeps (still (target_of calls))
+    (held_made old.pools (batons_of old) calls c g next.holds.batons (sound calls next.lawful) (pathed calls next.lawful)
+    (accepted calls c going (in_order mode old new calls c d is next keeps (still (target_of calls)))) gives says new.pools (batons_of new)
+    (subst (λ n. MakesBaton n g.path g.token old new) place baton)))
 
 -- a call that changes no baton
 pub holds_still : (mode : Mode) (old : Edit) (calls : List Call) (c d : Call) → d ≡ c → IsNext mode old calls d

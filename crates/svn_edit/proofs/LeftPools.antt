@@ -1,5 +1,5 @@
 -- The pools after a refused call are those of the calls before it.
-use Rattle.std.proofs.Common.{nat_eq, ◌≡◌, ◌≢◌, ℕ, ◌+◌, false, List, [], ◌∷◌, ◌++◌, length, refl, sym, ◌∙◌, ap, subst, inl, inr}
+use Rattle.std.proofs.Common.{nat_eq, ◌≡◌, ◌≢◌, ℕ, ◌+◌, false, cond, List, [], ◌∷◌, ◌++◌, length, refl, sym, ◌∙◌, ap, subst, inl, inr}
 use Rattle.std.proofs.Common.{append_assoc, append-nil, arith, true≢false}
 use Rattle.std.specs.Prelude.{Option, Some, None, is_some, ◌⊎◌, Result, Err, OnErr}
 use Rattle.std.specs.HashMap.{Updates}
@@ -15,7 +15,7 @@ use Rattle.svn_pool.proofs.Views.{inserted_here, inserted_away}
 use Rattle.svn_editor.specs.declared.call.Call.{Call}
 use Rattle.svn_editor.specs.declared.call.Call.TheVariants.{AbortEdit}
 use Rattle.svn_editor.specs.declared.fault.EditFault.{EditFault}
-use Rattle.svn_editor.specs.Calls.{Given, given, given_by, all_given, is_abort, is_last}
+use Rattle.svn_editor.specs.Calls.{Given, given, given_by, named_by, all_given, is_abort, is_last}
 use Rattle.svn_editor.specs.Order.{order_fault}
 use Rattle.svn_editor.specs.Steps.{Mode}
 use Rattle.svn_editor.proofs.Accepted.{accepted}
@@ -30,7 +30,10 @@ use Rattle.svn_edit.specs.Applying.{IsNext, IsRefused, StandsAfter}
 use Rattle.svn_edit.specs.Leaving.{call_strings, HasPool, HoldsPools, IsLeft, LeavesPools, PoolsAfter, SamePools, KeepsPools, BatonBegan}
 use Rattle.svn_edit.specs.Leaving.{NoteBegan}
 use Rattle.svn_edit.proofs.PoolStrings.{own_one, others_one, len_pushed, len_created}
-use Rattle.svn_edit.proofs.Holding.{err_by, at_err}
+use Rattle.svn_edit.proofs.Holding.{err_by, map_err, at_err}
+use Rattle.svn_edit.proofs.Closes.{named_baton}
+use Rattle.svn_editor.proofs.Nested.{eq_true}
+use Rattle.svn_types.specs.declared.kind.Kind.{Kind}
 use Rattle.svn_edit.proofs.HeldBatons.{unopened, above_same, beneath_kept, root_apart}
 
 -- what became of a baton and its pool
@@ -121,8 +124,20 @@ module _ (pools pools2 : Pools) (at at2 : Batons) (calls : List Call) (c : Call)
 
 -- ---- nothing was begun
 
-pub same_left : (pools pools2 : Pools) (at at2 : Batons) (calls : List Call) (c : Call) → HoldsBatons pools at calls → SamePools pools pools2
-    → ((t : ℕ) → at2 t ≡ at t) → HoldsPools pools2 at2 calls c
+-- a baton whose pool is as before
+came_same : (pools pools2 : Pools) (refused : List (List ℕ)) (b : Baton) → pool_at pools2 b.pool.0 ≡ pool_at pools b.pool.0
+    → CameFrom pools pools2 refused b b
+came_same pools pools2 refused b same = record {
+  path = refl;
+  same_pool = refl;
+  begun = [];
+  left = refused;
+  among = refl;
+  strings = ap strings_of_pool same ∙ sym (append-nil (strings_at pools b.pool.0));
+}
+
+pub same_left : (pools pools2 : Pools) (at at2 : Batons) (calls : List Call) (c : Call) → HoldsBatons pools at calls
+    → SamePools pools pools2 → ((t : ℕ) → at2 t ≡ at t) → HoldsPools pools2 at2 calls c
 same_left pools pools2 at at2 calls c h same tokens = held_left pools pools2 at at2 calls c h (record {
   root = same.root;
   count = same.count;
@@ -130,18 +145,7 @@ same_left pools pools2 at at2 calls c h same tokens = held_left pools pools2 at 
   live = λ s e there. (e, sym (same.pools s) ∙ there);
   first = same.pools pools.root;
   forth = λ t b e. (b, tokens t ∙ e, refl);
-  back = λ t d e. (
-    d,
-    sym (tokens t) ∙ e,
-    record {
-      path = refl;
-      same_pool = refl;
-      begun = [];
-      left = call_strings c t;
-      among = refl;
-      strings = ap strings_of_pool (same.pools d.pool.0) ∙ sym (append-nil (strings_at pools d.pool.0));
-    },
-  );
+  back = λ t d e. (d, sym (tokens t) ∙ e, came_same pools pools2 (call_strings c t) d (same.pools d.pool.0));
 })
 
 pub keeps_left : (old new : Edit) (calls : List Call) (c : Call) → HoldsBatons old.pools (batons_of old) calls → KeepsPools old new
@@ -237,19 +241,9 @@ module _ (old new : Edit) (calls : List Call) (c : Call) (t : ℕ) (b : Baton) (
             },
           )
       back_by u d e (inr away) =
-          let before = sym (n.tokens u away) ∙ e in (
-            d,
-            before,
-            record {
-              path = refl;
-              same_pool = refl;
-              begun = [];
-              left = call_strings c u;
-              among = refl;
-              strings = ap strings_of_pool (n.began.others d.pool.0 (λ is. away (h.apart u t d b before there is)))
-                  ∙ sym (append-nil (strings_at old.pools d.pool.0));
-            },
-          )
+          let before = sym (n.tokens u away) ∙ e in
+          let kept = n.began.others d.pool.0 (λ is. away (h.apart u t d b before there is)) in
+          (d, before, came_same old.pools new.pools (call_strings c u) d kept)
 
 pub unbegun : (strings : List (List ℕ)) (b d : Baton) (old new : Pools) → d.path ≡ b.path → d.pool.0 ≡ b.pool.0 → new ≡ old
     → BatonBegan strings b old d new
@@ -314,14 +308,19 @@ none_began t b strings edit there = record {
   tokens = λ u n. refl;
 }
 
-pub began_of : (t : ℕ) (b d : Baton) (strings : List (List ℕ)) (old new : Edit) → BatonBegan strings b old.pools d new.pools
-    → Updates nat_eq old.batons new.batons t (Some d) → NoteBegan t b strings old new
-began_of t b d strings old new began written = record {
-  baton = d;
-  began = began;
-  token = updated_here old.batons new.batons t (Some d) written;
-  tokens = updated_away old.batons new.batons t (Some d) written;
-}
+-- what was begun with the baton that a look-up lent
+pub began_of : (t u : ℕ) (strings : List (List ℕ)) (x d : Baton) (old new : Edit) → u ≡ t → Some x ≡ batons_of old u
+    → BatonBegan strings x old.pools d new.pools → Updates nat_eq old.batons new.batons u (Some d) → (b : Baton)
+    → batons_of old t ≡ Some b → NoteBegan t b strings old new
+began_of t u strings x d old new key lent began updates b there =
+    let written = subst (λ k. Updates nat_eq old.batons new.batons k (Some d)) key updates in
+    record {
+      baton = d;
+      began = subst (λ (y : Baton). BatonBegan strings y old.pools d new.pools) (same_Some x b (lent ∙ ap (batons_of old) key ∙ there))
+          began;
+      token = updated_here old.batons new.batons t (Some d) written;
+      tokens = updated_away old.batons new.batons t (Some d) written;
+    }
 
 -- ---- a token that wasn't given
 
@@ -336,6 +335,34 @@ fresh_token mode edit calls c d g is next gives going = nothing (batons_of edit 
     nothing : (o : Option Baton) → is_some o ≡ false → o ≡ None
     nothing None h = refl
     nothing (Some b) h = absurd (true≢false h)
+
+-- ---- a refused call
+
+abbrev LeavesAll : Edit → Edit → Call → Result (Unit {0}) EditFault → Type 0
+LeavesAll old new d r = OnErr r ((mode : Mode) (calls : List Call) → IsNext mode old calls d → HoldsPools new.pools (batons_of new) calls d)
+
+-- one that leaves the pools as they were
+pub kept_left : (old new : Edit) (d : Call) (r : Result (Unit {0}) EditFault) → OnErr r (KeepsPools old new) → LeavesAll old new d r
+kept_left old new d r same = map_err r same (λ kept mode calls next. keeps_left old new calls d next.holds.batons kept)
+
+-- one that leaves the whole edit
+pub unchanged_left : (old new : Edit) (d : Call) (r : Result (Unit {0}) EditFault) → OnErr r (new ≡ old) → LeavesAll old new d r
+unchanged_left old new d r same = kept_left old new d r (map_err r same (λ e. subst (KeepsPools old) (sym e) (keeps_same old)))
+
+-- one that gives a token, and leaves the pools where that had no baton
+pub given_left : (old new : Edit) (c d : Call) (g : Given) (r : Result (Unit {0}) EditFault) → d ≡ c → given_by c ≡ Some g
+    → is_abort c ≡ false → (batons_of old g.token ≡ None → OnErr r (KeepsPools old new)) → LeavesAll old new d r
+given_left old new c d g r is gives going kept = err_by r (λ e bad mode calls next.
+    keeps_left old new calls d next.holds.batons (at_err r e bad (kept (fresh_token mode old calls c d g is next gives going))))
+
+-- one that says something
+pub said_left : (old new : Edit) (c d : Call) (m : ℕ) (k : Kind) (strings : List (List ℕ)) (r : Result (Unit {0}) EditFault) → d ≡ c
+    → is_abort c ≡ false → named_by c ≡ Some (m, k) → call_strings c m ≡ cond (nat_eq m m) strings []
+    → OnErr r ((b : Baton) → batons_of old m ≡ Some b → NoteBegan m b strings old new) → LeavesAll old new d r
+said_left old new c d m k strings r is going named brings said = map_err r said (λ began mode calls next.
+    let b = named_baton mode old calls c d m k is next going named in
+    began_left old new calls d m b.0 strings next.holds.batons b.1
+    (ap (λ (x : Call). call_strings x m) is ∙ brings ∙ ap (λ same. cond same strings []) (eq_true m m refl)) (began b.0 b.1))
 
 -- ---- a call's answer and the pools
 

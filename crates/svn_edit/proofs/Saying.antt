@@ -14,7 +14,7 @@ use Rattle.svn_types.specs.declared.kind.Kind.TheVariants.{File, Directory}
 use Rattle.svn_editor.specs.declared.call.Call.{Call}
 use Rattle.svn_editor.specs.declared.call.Call.TheVariants.{ChangeDirProp, ChangeFileProp, ApplyText}
 use Rattle.svn_edit_law.proofs.OnePath.{noted}
-use Rattle.svn_editor.specs.Steps.{Action, Delete, Open, Add, Change, Text, Close}
+use Rattle.svn_editor.specs.Steps.{Action, Change, Text}
 use Rattle.svn_edit.specs.declared.baton.Note.{Note}
 use Rattle.svn_edit.specs.declared.baton.Note.TheVariants.{Set, Remove, Text as NewText}
 use Rattle.svn_model.specs.Effects.{change_in, text_in}
@@ -52,7 +52,6 @@ module _ (before now : Properties) (said : List Action) (n : Note) (notes : List
       by : (left : List Action) → n ∷ notes ≡ map note_of left → strings ≡ flat_map strings_of left
           → with_changes before (filter_map change_in said) ≡ with_changes now (filter_map change_in left)
           → AfterSet before now said notes strings
-      by [] h k p = cc
       by (Change kind (name, Some v) ∷ left) h k p = record {
         name = name;
         value = v;
@@ -60,12 +59,7 @@ module _ (before now : Properties) (said : List Action) (n : Note) (notes : List
         split = k;
         still = record { left = left; notes_are = rest_of n Set notes (map note_of left) h; strings_are = refl; props_are = p };
       }
-      by (Change kind (name, None) ∷ left) h k p = cc
-      by (Delete r ∷ left) h k p = cc
-      by (Open kind r ∷ left) h k p = cc
-      by (Add kind ∷ left) h k p = cc
-      by (Text sum text ∷ left) h k p = cc
-      by (Close kind sum ∷ left) h k p = cc
+      by _ h k p = cc
 
   pub after_remove : StillSaid before now said (n ∷ notes) strings → n ≡ Remove → AfterRemove before now said notes strings
   after_remove s is = by s.left s.notes_are s.strings_are s.props_are
@@ -73,45 +67,42 @@ module _ (before now : Properties) (said : List Action) (n : Note) (notes : List
       by : (left : List Action) → n ∷ notes ≡ map note_of left → strings ≡ flat_map strings_of left
           → with_changes before (filter_map change_in said) ≡ with_changes now (filter_map change_in left)
           → AfterRemove before now said notes strings
-      by [] h k p = cc
       by (Change kind (name, None) ∷ left) h k p = record {
         name = name;
         rest = flat_map strings_of left;
         split = k;
         still = record { left = left; notes_are = rest_of n Remove notes (map note_of left) h; strings_are = refl; props_are = p };
       }
-      by (Change kind (name, Some v) ∷ left) h k p = cc
-      by (Delete r ∷ left) h k p = cc
-      by (Open kind r ∷ left) h k p = cc
-      by (Add kind ∷ left) h k p = cc
-      by (Text sum text ∷ left) h k p = cc
-      by (Close kind sum ∷ left) h k p = cc
+      by _ h k p = cc
 
   pub after_text : StillSaid before now said (n ∷ notes) strings → n ≡ NewText → AfterText before now said notes strings
   after_text s is = by s.left s.notes_are s.strings_are s.props_are
     where
-      other : (a : Action) (left : List Action) (text : List ℕ) → n ∷ notes ≡ NewText ∷ map note_of left
-          → strings ≡ text ∷ flat_map strings_of left
-          → with_changes before (filter_map change_in said) ≡ with_changes now (filter_map change_in left)
-          → AfterText before now said notes strings
-      other a left text h k p = record {
-        text = text;
-        rest = flat_map strings_of left;
-        split = k;
-        still = record { left = left; notes_are = rest_of n NewText notes (map note_of left) h; strings_are = refl; props_are = p };
-      }
+      -- what isn't of a property has one string, and changes none
+      one_string : (a : Action) → note_of a ≡ NewText → (text : List ℕ) × (strings_of a ≡ text ∷ []) × (change_in a ≡ None)
+      one_string (Change kind (name, None)) e = cc
+      one_string (Change kind (name, Some v)) e = cc
+      one_string (Text sum text) e = (text, refl, refl)
+      one_string _ e = ([], refl, refl)
 
       by : (left : List Action) → n ∷ notes ≡ map note_of left → strings ≡ flat_map strings_of left
           → with_changes before (filter_map change_in said) ≡ with_changes now (filter_map change_in left)
           → AfterText before now said notes strings
       by [] h k p = cc
-      by (Change kind (name, Some v) ∷ left) h k p = cc
-      by (Change kind (name, None) ∷ left) h k p = cc
-      by (Delete r ∷ left) h k p = other (Delete r) left [] h k p
-      by (Open kind r ∷ left) h k p = other (Open kind r) left [] h k p
-      by (Add kind ∷ left) h k p = other (Add kind) left [] h k p
-      by (Text sum text ∷ left) h k p = other (Text sum text) left text h k p
-      by (Close kind sum ∷ left) h k p = other (Close kind sum) left [] h k p
+      by (a ∷ left) h k p =
+          let heads : n ≡ note_of a = cc in
+          let one = one_string a (sym heads ∙ is) in
+          record {
+            text = one.0;
+            rest = flat_map strings_of left;
+            split = k ∙ ap (λ (l : List (List ℕ)). l ++ flat_map strings_of left) one.1;
+            still = record {
+              left = left;
+              notes_are = rest_of n (note_of a) notes (map note_of left) h;
+              strings_are = refl;
+              props_are = p ∙ ap (λ o. with_changes now (cons_option o (filter_map change_in left))) one.2;
+            };
+          }
 
 -- ---- with what was read of the strings
 
@@ -189,11 +180,7 @@ no_change_said (Change k x ∷ said) h = absurd (true≢false (sym (ap (λ b. b 
     of_value : (v : Option (List ℕ)) → is_change (note_of_value v) ≡ true
     of_value None = refl
     of_value (Some v) = refl
-no_change_said (Text s x ∷ said) h = no_change_said said h
-no_change_said (Delete r ∷ said) h = no_change_said said h
-no_change_said (Open k r ∷ said) h = no_change_said said h
-no_change_said (Add k ∷ said) h = no_change_said said h
-no_change_said (Close k x ∷ said) h = no_change_said said h
+no_change_said (_ ∷ said) h = no_change_said said h
 
 -- ---- the text
 
@@ -245,10 +232,7 @@ text_more (Some place) strings said (Text sum x) h is =
     ap first_of (filter_map-append text_in said (Text sum x ∷ [])) ∙ first_some (filter_map text_in said) (x ∷ [])
     (get_or strings place []) is.1 in
     (kept.0, first ∙ sym is.1 ∙ kept.1)
-text_more t strings said (Delete r) h is = absurd (true≢false (sym h))
-text_more t strings said (Open k r) h is = absurd (true≢false (sym h))
-text_more t strings said (Add k) h is = absurd (true≢false (sym h))
-text_more t strings said (Close k sum) h is = absurd (true≢false (sym h))
+text_more t strings said _ h is = absurd (true≢false (sym h))
 
 -- ---- the calls that say something
 

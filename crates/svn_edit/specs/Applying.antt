@@ -190,43 +190,15 @@ pub record StillSaid (before now : Properties) (said : List Action) (notes : Lis
 
 pub record BatonMade (beneath : ℕ) (p : Path) (t : ℕ) (pools : Pools) (at : Batons) (pools2 : Pools) (at2 : Batons) : Type 0 where
   pub baton : Baton
-  pub path : baton.path ≡ p
-  pub notes : baton.notes.items ≡ []
-  pub text : baton.text ≡ None
-  pub fresh : pool_at pools baton.pool.0 ≡ None
-  pub made : pool_at pools2 baton.pool.0 ≡ Some (pool_entry beneath (path_key p ∷ []))
-  pub others : (s : ℕ) → s ≢ baton.pool.0 → pool_at pools2 s ≡ pool_at pools s
-  pub root : pools2.root ≡ pools.root
-  pub count : map.len pools2.live ≡ map.len pools.live + 1
-  pub apart : baton.pool.0 ≢ pools.root
-  pub leaf : IsLeaf pools2 baton.pool.0
+  pub begun : BatonBegun beneath p pools baton pools2
   pub token : at2 t ≡ Some baton
   pub tokens : (u : ℕ) → u ≢ t → at2 u ≡ at u
 
 pub record BatonNoted (t : ℕ) (b : Baton) (note : Note) (strings : List (List ℕ)) (pools : Pools) (at : Batons) (pools2 : Pools)
     (at2 : Batons) : Type 0 where
   pub baton : Baton
-  pub path : baton.path ≡ b.path
-  pub same_pool : baton.pool.0 ≡ b.pool.0
-  pub notes : baton.notes.items ≡ b.notes.items ++ note ∷ []
-  pub text : baton.text ≡ text_place note (length (strings_at pools b.pool.0)) b.text
-  pub own : pool_at pools2 b.pool.0 ≡ Some (record {
-    parent = parent_of (pool_at pools b.pool.0);
-    strings =
-        strings_at pools b.pool.0 ++ strings;
-  })
-  pub others : (s : ℕ) → s ≢ b.pool.0 → pool_at pools2 s ≡ pool_at pools s
-  pub root : pools2.root ≡ pools.root
-  pub count : (e : Entry) → pool_at pools b.pool.0 ≡ Some e → map.len pools2.live ≡ map.len pools.live
+  pub said : BatonSaid note strings b pools baton pools2
   pub token : at2 t ≡ Some baton
-  pub tokens : (u : ℕ) → u ≢ t → at2 u ≡ at u
-
-pub record BatonGone (t : ℕ) (b : Baton) (pools : Pools) (at : Batons) (pools2 : Pools) (at2 : Batons) : Type 0 where
-  pub gone : pool_at pools2 b.pool.0 ≡ None
-  pub others : (s : ℕ) → s ≢ b.pool.0 → pool_at pools2 s ≡ pool_at pools s
-  pub root : pools2.root ≡ pools.root
-  pub count : map.len pools.live ≡ map.len pools2.live + 1
-  pub token : at2 t ≡ None
   pub tokens : (u : ℕ) → u ≢ t → at2 u ≡ at u
 
 pub record PoolGone (s : ℕ) (old new : Pools) : Type 0 where
@@ -234,6 +206,11 @@ pub record PoolGone (s : ℕ) (old new : Pools) : Type 0 where
   pub others : (q : ℕ) → q ≢ s → pool_at new q ≡ pool_at old q
   pub root : new.root ≡ old.root
   pub count : map.len old.live ≡ map.len new.live + 1
+
+pub record BatonGone (t : ℕ) (b : Baton) (pools : Pools) (at : Batons) (pools2 : Pools) (at2 : Batons) : Type 0 where
+  pub pool : PoolGone b.pool.0 pools pools2
+  pub token : at2 t ≡ None
+  pub tokens : (u : ℕ) → u ≢ t → at2 u ≡ at u
 
 -- ---- one call
 

@@ -102,10 +102,10 @@ impl Baton {
         &mut self,
         pools: &mut PoolTree<Global>,
         name: &PropName,
-        value: Option<&Text>,
+        value: &Option<Text>,
     ) -> Result<(), AllocError>
-        ensures noted { OnOk result (let v = option_copied value.entry in BatonSaid (note_of_value v) (name.now ∷ strings_of_value v) self.old pools.old self.new pools.new) }
-        ensures began { OnErr result (let v = option_copied value.entry in BatonBegan (name.now ∷ strings_of_value v) self.old pools.old self.new pools.new) }
+        ensures noted { OnOk result (BatonSaid (note_of_value value.now) (name.now ∷ strings_of_value value.now) self.old pools.old self.new pools.new) }
+        ensures began { OnErr result (BatonBegan (name.now ∷ strings_of_value value.now) self.old pools.old self.new pools.new) }
     {
         push(pools, self.pool, name.as_str().as_bytes())?;
         let Some(value) = value else {

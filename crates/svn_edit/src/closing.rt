@@ -206,30 +206,8 @@ impl Edit {
         }
     }
 
-    // Closes the file of a baton that was opened. Where it stands as not present, which can't come, it is closed like an added one.
-    fn close_present(
-        &self,
-        copy: &mut Nodes,
-        baton: &Baton,
-        text_md5: &Option<Digest>,
-    ) -> Result<(), EditFault>
-        ensures answers { (said : List Action) → Says baton.now self.now.pools said → AnswersCall (sum_fault md5 text_md5.now (filter_map text_in said) (get_in copy.old.entries baton.now.path)) result }
-        ensures closed { OnOk result ((said : List Action) → Says baton.now self.now.pools said → FileIsClosed (mode_of self.now.root) self.now.target baton.now.path (filter_map change_in said) (filter_map text_in said) copy.old.entries copy.new.entries) }
-        ensures refused { OnErr result (copy.new.entries ≡ copy.old.entries) }
-    {
-        let path = baton.path.as_rel_path();
-        let moved = paths::moved_again(self.alloc, &self.root, copy, path);
-        let Some(node) = copy.get_mut(path) else {
-            return self.close_nothing(baton, text_md5);
-        };
-        if nodes::is_present(Some(node)) {
-            return self.close_opened(node, baton, text_md5, moved);
-        }
-        let joined = paths::joined_at(self.alloc, copy, path);
-        self.close_joined(copy, baton, text_md5, joined)
-    }
-
-    // Closes the file of a baton. By the calls in order it is looked up once.
+    // Closes the file of a baton. By the calls in order it is looked up once. Where an opened one stands as not present, which can't come,
+    // it is closed like an added one.
     fn close_file_of(
         &self,
         copy: &mut Nodes,
@@ -240,10 +218,19 @@ impl Edit {
         ensures closed { OnOk result ((said : List Action) → Says baton.now self.now.pools said → FileIsClosed (mode_of self.now.root) self.now.target baton.now.path (filter_map change_in said) (filter_map text_in said) copy.old.entries copy.new.entries) }
         ensures refused { OnErr result (copy.new.entries ≡ copy.old.entries) }
     {
-        let Some(above) = baton.path.above() else {
-            return self.close_present(copy, baton, text_md5);
+        let path = baton.path.as_rel_path();
+        if let Some(above) = baton.path.above() {
+            let joined = paths::joined_again(self.alloc, copy, above, path);
+            return self.close_joined(copy, baton, text_md5, joined);
+        }
+        let moved = paths::moved_again(self.alloc, &self.root, copy, path);
+        let Some(node) = copy.get_mut(path) else {
+            return self.close_nothing(baton, text_md5);
         };
-        let joined = paths::joined_again(self.alloc, copy, above, baton.path.as_rel_path());
+        if nodes::is_present(Some(node)) {
+            return self.close_opened(node, baton, text_md5, moved);
+        }
+        let joined = paths::joined_at(self.alloc, copy, path);
         self.close_joined(copy, baton, text_md5, joined)
     }
 

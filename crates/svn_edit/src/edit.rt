@@ -228,12 +228,8 @@ impl Edit {
                 base,
                 token,
             } => self.open_file(copy, path, *base, *parent, *token),
-            Call::ChangeDirProp { token, name, value } => {
-                self.change_prop(*token, name, value.as_ref())
-            }
-            Call::ChangeFileProp { token, name, value } => {
-                self.change_prop(*token, name, value.as_ref())
-            }
+            Call::ChangeDirProp { token, name, value } => { self.change_prop(*token, name, value) }
+            Call::ChangeFileProp { token, name, value } => { self.change_prop(*token, name, value) }
             Call::ApplyText {
                 token,
                 base_md5,
@@ -300,14 +296,14 @@ impl Edit {
         &mut self,
         token: Token,
         name: &PropName,
-        value: Option<&Text>,
+        value: &Option<Text>,
     ) -> Result<(), EditFault>
         ensures keeps { KeepsEdit self.old self.new }
-        ensures began { OnErr result ((b : Baton) → batons_of self.old token ≡ Some b → NoteBegan token b (name.now ∷ strings_of_value (option_copied value.entry)) self.old self.new) }
-        ensures answers { AnswersCall (if is_too_long (option_copied value.entry) then Some EditFault.TooLong else None) result }
-        ensures noted { OnOk result ((b : Baton) → batons_of self.old token ≡ Some b → let v = option_copied value.entry in BatonNoted token b (note_of_value v) (name.now ∷ strings_of_value v) self.old.pools (batons_of self.old) self.new.pools (batons_of self.new)) }
+        ensures began { OnErr result ((b : Baton) → batons_of self.old token ≡ Some b → NoteBegan token b (name.now ∷ strings_of_value value.now) self.old self.new) }
+        ensures answers { AnswersCall (if is_too_long value.now then Some EditFault.TooLong else None) result }
+        ensures noted { OnOk result ((b : Baton) → batons_of self.old token ≡ Some b → BatonNoted token b (note_of_value value.now) (name.now ∷ strings_of_value value.now) self.old.pools (batons_of self.old) self.new.pools (batons_of self.new)) }
     {
-        if is_too_long(value) {
+        if is_too_long(value.as_ref()) {
             return Err(EditFault::TooLong);
         }
         match self.batons.get_mut(&token.0) {

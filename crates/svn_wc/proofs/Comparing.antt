@@ -1,5 +1,6 @@
 -- Nodes are gone through beside others, both in path order: the paths at which the others have nothing.
-use Rattle.std.proofs.Common.{◌≡◌, Bool, true, false, ◌&&◌, ◌||◌, cond, List, [], ◌∷◌, ◌++◌, refl, sym, ap, subst, ◌∙◌, Option, Some, None, true≢false}
+use Rattle.std.proofs.Common.{◌≡◌, Bool, true, false, ◌&&◌, ◌||◌, cond, List, [], ◌∷◌, ◌++◌, refl, sym, ap, subst, ◌∙◌}
+use Rattle.std.proofs.Common.{Option, Some, None, true≢false}
 use Rattle.std.specs.Prelude.{is_none}
 use Rattle.std.specs.Option.{is_some}
 use Rattle.std.specs.declared.cmp.Ordering.TheVariants.{Less, Equal, Greater}
@@ -27,6 +28,12 @@ not_first e es p other = get_in-first e es p ∙ ap (λ b. cond b (Some e.1) (ge
 abbrev pub HasPassed : Path → List (Path × BaseNode) → List (Path × BaseNode) → Type 0
 HasPassed path old left =
     (InPathOrder old → InPathOrder left) × ((p : Path) → (path_cmp p path ≡ Less → ⊥) → get_in left p ≡ get_in old p)
+
+-- the first of the nodes that are left, and the others
+pub passed_step : (path : Path) (old all : List (Path × BaseNode)) (e : Path × BaseNode) (rest left : List (Path × BaseNode))
+    → HasPassed path old all → all ≡ e ∷ rest → left ≡ rest → HasPassed path old (e ∷ left)
+passed_step path old all e rest left s step advanced =
+    subst (HasPassed path old) (step ∙ ap (λ (l : List (Path × BaseNode)). e ∷ l) (sym advanced)) s
 
 pub passed_on : (path : Path) (old : List (Path × BaseNode)) (e : Path × BaseNode) (left : List (Path × BaseNode))
     → HasPassed path old (e ∷ left) → path_cmp e.0 path ≡ Less → HasPassed path old left
@@ -74,15 +81,17 @@ module _ (path : Path) (old : List (Path × BaseNode)) (e : Path × BaseNode) (l
 -- the nodes up to some were gone through
 pub record Compared (at : Path) (nodes others beside : List (Path × BaseNode)) (paths : List Path) (left : List (Path × BaseNode))
     : Type 0 where
+  pub whole : InPathOrder (from_path at nodes)
   pub seen : List Path
   pub taken : Taken at nodes seen left
   pub noted : (p : Path) → is_one paths p ≡ (is_one seen p && is_none (get_in others p))
   pub order : InPathOrder beside
   pub ahead : (p : Path) → is_within at p ≡ true → is_some (get_in left p) ≡ true → get_in beside p ≡ get_in others p
 
-pub compare_begins : (at : Path) (nodes others beside left : List (Path × BaseNode)) → left ≡ from_path at nodes
-    → beside ≡ from_path at others → InPathOrder beside → Compared at nodes others beside [] left
-compare_begins at nodes others beside left all rest order = record {
+pub compare_begins : (at : Path) (nodes others beside left : List (Path × BaseNode)) → InPathOrder (from_path at nodes)
+    → left ≡ from_path at nodes → beside ≡ from_path at others → InPathOrder beside → Compared at nodes others beside [] left
+compare_begins at nodes others beside left whole all rest order = record {
+  whole = whole;
   seen = [];
   taken = taken_none at nodes left all;
   noted = λ p. refl;
@@ -90,24 +99,47 @@ compare_begins at nodes others beside left all rest order = record {
   ahead = λ p within some. ap (λ (l : List (Path × BaseNode)). get_in l p) rest ∙ within_from at others p within;
 }
 
+-- a path is noted where the others have nothing
+noted_by : (others : List (Path × BaseNode)) (paths : List Path) (k : Path) (there : Bool) → there ≡ is_some (get_in others k) → (p : Path)
+    → is_one (cond there paths (paths ++ k ∷ [])) p ≡ (is_one paths p || (path_eq k p && is_none (get_in others k)))
+noted_by others paths k true some p = by (get_in others k) some (is_one paths p) (path_eq k p)
+  where
+    by : (o : Option BaseNode) → true ≡ is_some o → (a b : Bool) → a ≡ (a || (b && is_none o))
+    by None s a b = absurd (true≢false s)
+    by (Some n) s true b = refl
+    by (Some n) s false true = refl
+    by (Some n) s false false = refl
+noted_by others paths k false none p =
+    any_more (λ q. path_eq q p) paths k ∙ ap (λ b. is_one paths p || b) (by (get_in others k) none (path_eq k p))
+  where
+    by : (o : Option BaseNode) → false ≡ is_some o → (b : Bool) → b ≡ (b && is_none o)
+    by (Some n) h b = absurd (true≢false (sym h))
+    by None h true = refl
+    by None h false = refl
+
 module _ (at : Path) (nodes others beside beside2 : List (Path × BaseNode)) (paths paths2 : List Path) (e : Path × BaseNode)
-    (left : List (Path × BaseNode)) (in_order : InPathOrder (from_path at nodes)) (s : Compared at nodes others beside paths (e ∷ left))
+    (all left : List (Path × BaseNode)) (step : all ≡ e ∷ left) (was : Compared at nodes others beside paths all)
     (within : is_within at e.0 ≡ true) where
+  s : Compared at nodes others beside paths (e ∷ left)
+  s = subst (λ (l : List (Path × BaseNode)). Compared at nodes others beside paths l) step was
+
   ordered : InPathOrder (e ∷ left)
-  ordered = order_behind s.taken.taken (e ∷ left) (subst InPathOrder s.taken.split in_order)
+  ordered = order_behind s.taken.taken (e ∷ left) (subst InPathOrder s.taken.split s.whole)
 
-  -- what was found is what the others have
-  pub found_there : is_some (get_in beside e.0) ≡ is_some (get_in others e.0)
-  found_there = ap is_some (s.ahead e.0 within (ap is_some (found_first e left)))
-
-  pub compare_on : InPathOrder beside2 → ((p : Path) → path_cmp e.0 p ≡ Less → get_in beside2 p ≡ get_in beside p)
-      → ((p : Path) → is_one paths2 p ≡ (is_one paths p || (path_eq e.0 p && is_none (get_in others e.0))))
+  -- there: the path was found beside, and so it is among the others
+  pub compare_on : (there : Bool) → there ≡ is_some (get_in beside e.0) → InPathOrder beside2
+      → ((p : Path) → path_cmp e.0 p ≡ Less → get_in beside2 p ≡ get_in beside p) → paths2 ≡ cond there paths (paths ++ e.0 ∷ [])
       → Compared at nodes others beside2 paths2 left
-  compare_on order behind noted = record {
+  compare_on there found order behind noted = record {
+    whole = s.whole;
     seen = s.seen ++ e.0 ∷ [];
     taken = taken_more at nodes s.seen e left s.taken within;
-    noted = λ p. noted p ∙ ap (λ b. b || (path_eq e.0 p && is_none (get_in others e.0))) (s.noted p)
-        ∙ by p (is_one s.seen p) (path_eq e.0 p) refl ∙ ap (λ b. b && is_none (get_in others p)) (sym (any_more (λ q. path_eq q p) s.seen e.0));
+    noted = λ p.
+        ap (λ (l : List Path). is_one l p) noted
+        ∙ noted_by others paths e.0 there (found ∙ ap is_some (s.ahead e.0 within (ap is_some (found_first e left)))) p
+        ∙ ap (λ b. b || (path_eq e.0 p && is_none (get_in others e.0))) (s.noted p)
+        ∙ by p (is_one s.seen p) (path_eq e.0 p) refl
+        ∙ ap (λ b. b && is_none (get_in others p)) (sym (any_more (λ q. path_eq q p) s.seen e.0));
     order = order;
     ahead = λ p inside some.
         let all : is_some (get_in (e ∷ left) p) ≡ true = ap is_some (get_in-first e left p) ∙ either (path_eq e.0 p) (get_in left p) some in
@@ -138,29 +170,7 @@ module _ (at : Path) (nodes others beside beside2 : List (Path × BaseNode)) (pa
           neither false y = refl
 
 pub compare_ends : (at : Path) (nodes others beside : List (Path × BaseNode)) (paths : List Path) (left : List (Path × BaseNode))
-    → InPathOrder (from_path at nodes) → Compared at nodes others beside paths left → IsPast at left → (p : Path)
+    → Compared at nodes others beside paths left → IsPast at left → (p : Path)
     → is_one paths p ≡ ((is_within at p && is_some (get_in nodes p)) && is_none (get_in others p))
-compare_ends at nodes others beside paths left order s past p =
-    s.noted p ∙ ap (λ b. b && is_none (get_in others p)) (paths_are at nodes s.seen left s.taken order past p)
-
--- a path that is noted where the others have nothing
-pub noted_more : (others : List (Path × BaseNode)) (paths more : List Path) (k : Path) → more ≡ paths ++ k ∷ []
-    → is_some (get_in others k) ≡ false → (p : Path) → is_one more p ≡ (is_one paths p || (path_eq k p && is_none (get_in others k)))
-noted_more others paths more k items none p =
-    ap (λ (l : List Path). is_one l p) items ∙ any_more (λ q. path_eq q p) paths k
-    ∙ ap (λ b. is_one paths p || b) (by (get_in others k) none (path_eq k p))
-  where
-    by : (o : Option BaseNode) → is_some o ≡ false → (b : Bool) → b ≡ (b && is_none o)
-    by (Some n) h b = absurd (true≢false h)
-    by None h true = refl
-    by None h false = refl
-
-pub noted_same : (others : List (Path × BaseNode)) (paths : List Path) (k : Path) → is_some (get_in others k) ≡ true → (p : Path)
-    → is_one paths p ≡ (is_one paths p || (path_eq k p && is_none (get_in others k)))
-noted_same others paths k some p = by (get_in others k) some (is_one paths p) (path_eq k p)
-  where
-    by : (o : Option BaseNode) → is_some o ≡ true → (a b : Bool) → a ≡ (a || (b && is_none o))
-    by None s a b = absurd (true≢false (sym s))
-    by (Some n) s true b = refl
-    by (Some n) s false true = refl
-    by (Some n) s false false = refl
+compare_ends at nodes others beside paths left s past p =
+    s.noted p ∙ ap (λ b. b && is_none (get_in others p)) (paths_are at nodes s.seen left s.taken s.whole past p)

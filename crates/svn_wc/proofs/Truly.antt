@@ -208,6 +208,12 @@ pub walk_begins : (h : History) (nodes : List (Path × BaseNode)) (p : Path) (ol
 walk_begins h nodes p old names missing all =
     record { taken = []; parts = refl; below = refl; first = refl; count = all ∙ sym (lacking-all names) }
 
+pub missing_counted : (w : WorkingCopy) (p : Path) (node : BaseNode) (names : List (List ℕ)) (missing : ℕ)
+    → nat_lt 0 missing ≡ lacks_entry w p names → CountsMissing w p node names missing
+missing_counted w p (FileNode r q text props) names missing counted = tt
+missing_counted w p (DirNode r q complete props) names missing counted = counted
+missing_counted w p NotPresent names missing counted = tt
+
 module _ (h : History) (nodes : List (Path × BaseNode)) (order : InPathOrder nodes) (before : List (Path × BaseNode)) (e : Path × BaseNode)
     (old : List (Path × BaseNode))
     (whole : nodes ≡ before ++ e ∷ old) (names : List (List ℕ)) where
@@ -364,18 +370,20 @@ module _ (h : History) (nodes : List (Path × BaseNode)) (order : InPathOrder no
         by None = refl
         by (Some n) = refl
 
-    pub all_counted : nat_lt 0 missing ≡ lacks_entry (get_in nodes) e.0 names
+    all_counted : nat_lt 0 missing ≡ lacks_entry (get_in nodes) e.0 names
     all_counted =
         ap (nat_lt 0) s.count ∙ any_lacking (λ name. is_none (get_in s.taken (child e.0 name))) names
         ∙ ap (λ f. list_any f names) (λ i x. same_children x i)
 
-    pub walk_ends : (b : Bool) → b ≡ is_untrue h (get_in nodes) e.0 e.1 → (r : Option Path) → r ≡ cond b (Some e.0) found
-        → HasWalked h nodes e old r left
-    walk_ends b test r is = record {
+    -- the node itself is tested last
+    pub walk_ends : (left2 : List (Path × BaseNode)) → left2 ≡ left → (b : Bool)
+        → (CountsMissing (get_in nodes) e.0 e.1 names missing → b ≡ is_untrue h (get_in nodes) e.0 e.1)
+        → HasWalked h nodes e old (cond b (Some e.0) found) left2
+    walk_ends left2 same b test = record {
       taken = s.taken;
-      parts = s.parts;
+      parts = s.parts ∙ ap (λ l. s.taken ++ l) (sym same);
       below = s.below;
-      first = is ∙ (λ i. cond (test i) (Some e.0) (s.first i));
+      first = λ i. cond (test (missing_counted (get_in nodes) e.0 e.1 names missing all_counted) i) (Some e.0) (s.first i);
     }
 
 -- a node beside which nothing stands
@@ -474,12 +482,6 @@ none_missing h (DirNode r q complete props) o none w p =
     sym (ap (lacks_entry w p) (names_of_entries h o ∙ ap keys_of none))
 none_missing h NotPresent o none w p = tt
 
-pub missing_counted : (w : WorkingCopy) (p : Path) (node : BaseNode) (names : List (List ℕ)) (missing : ℕ)
-    → nat_lt 0 missing ≡ lacks_entry w p names → CountsMissing w p node names missing
-missing_counted w p (FileNode r q text props) names missing counted = tt
-missing_counted w p (DirNode r q complete props) names missing counted = counted
-missing_counted w p NotPresent names missing counted = tt
-
 -- the next node's name, if it is a child, and what was taken of the entries
 module _ (h : History) (id : Option ℕ) (p : Path) (entries entries2 : List (List ℕ × ℕ)) (c : Path × BaseNode)
     (left : List (Path × BaseNode))
@@ -556,9 +558,10 @@ check_on h nodes c left found s left2 found2 w = record {
   first = (λ i. option_or (s.first i) (w.first i)) ∙ sym (first_untrue_in-append h (get_in nodes) s.done (c ∷ w.taken));
 }
 
-pub check_ends : (h : History) (nodes : List (Path × BaseNode)) (found : Option Path) → Checked h nodes [] found
+pub check_ends : (h : History) (nodes left : List (Path × BaseNode)) (found : Option Path) → Checked h nodes left found → left ≡ []
     → found ≡ first_untrue h nodes
-check_ends h nodes found s = s.first ∙ ap (first_untrue_in h (get_in nodes)) (sym (append-nil s.done) ∙ sym s.parts)
+check_ends h nodes left found s none =
+    s.first ∙ ap (first_untrue_in h (get_in nodes)) (sym (append-nil s.done) ∙ ap (λ l. s.done ++ l) (sym none) ∙ sym s.parts)
 
 pub option_or-copied : {X : Type 0} (a b : Option (Bor X)) → option_copied (option_or a b) ≡ option_or (option_copied a) (option_copied b)
 option_or-copied None b = refl

@@ -1,13 +1,13 @@
-use Rattle.std.proofs.Common.{◌≡◌, ◌-◌, ◌∷◌, [], List, ℕ, Option, Some, Bool, cond, length, refl, sym, ap, subst, ◌∙◌}
+use Rattle.std.proofs.Common.{◌≡◌, ◌-◌, ◌∷◌, [], List, ℕ, Option, Bool, true, false, cond, length, refl, sym, ap, subst, ◌∙◌}
 use Rattle.std.specs.Option.{option_copied, option_or}
 use Rattle.svn_types.specs.Names.{Path}
 use Rattle.svn_model.specs.declared.base_node.BaseNode.{BaseNode}
 use Rattle.svn_model.specs.Nodes.{get_in}
 use Rattle.svn_model.specs.Tree.{names_at}
-use Rattle.svn_wc.specs.Truths.{looked, entries_at, HasWalked, IsRest}
+use Rattle.svn_wc.specs.Truths.{looked, entries_at, IsRest}
 use Rattle.svn_wc.proofs.Merging.{EntriesBeside, beside_begins}
-use Rattle.svn_wc.proofs.Truly.{SoFar, walk_begins, front, front_is, walk_on, walk_ends, all_counted, rest_of_both, names_sorted}
-use Rattle.svn_wc.proofs.Truly.{option_or-copied, has_child, names_count, none_missing, missing_counted, entry_told, entry_counts, beside_next}
+use Rattle.svn_wc.proofs.Truly.{SoFar, walk_begins, front, front_is, walk_on, walk_ends, rest_of_both, names_sorted}
+use Rattle.svn_wc.proofs.Truly.{option_or-copied, has_child, names_count, none_missing, entry_told, entry_counts, beside_next}
 use Rattle.svn_wc.proofs.Truly.{walks_alone, next_order, copied_if}
 use Rattle.svn_wc.proofs.truth.+first_untrue_within.Goals as goal
 
@@ -22,7 +22,8 @@ returns-in_default-clause-walked t c = λ nodes before order whole found.
 pub below-init : goal.below-init
 below-init t c =
     let h = c.args.repo.now in
-    let all : c.of-entries.result ≡ entries_at h c.args.id.now = c.of-entries.ensures.all ∙ c.as_map.ensures.entries ∙ c.in-Some.ensures in (
+    let all : c.of-entries.result ≡ entries_at h c.args.id.now =
+    c.of-entries.ensures.all ∙ c.as_map.ensures.entries ∙ c.in-Some.ensures in (
       ([], refl),
       λ nodes before order whole found. (
         walk_begins h nodes c.args.path.now c.args.left.now (names_at h c.args.id.now) c.len-missing.result
@@ -59,7 +60,8 @@ below-preserved t c =
           let there : c.find_below-there.result ≡ looked h d.1 =
           c.find_below-there.ensures id found
           (entry_told h id e.0 c.below.entries c.take_entry-entry.new.entries d left beside sorted entry below.name named took) in
-          let counts = entry_counts h id e.0 c.below.entries c.take_entry-entry.new.entries d left beside sorted entry below.name named took in
+          let counts =
+          entry_counts h id e.0 c.below.entries c.take_entry-entry.new.entries d left beside sorted entry below.name named took in
           let walked = c.first_untrue_within-untrue.ensures.walked nodes
           (front h nodes order before e old whole names d left (option_copied c.below.first) c.below.missing s) order
           (front_is h nodes order before e old whole names d left (option_copied c.below.first) c.below.missing s) there in
@@ -72,7 +74,8 @@ below-preserved t c =
           let missing : c.missing_without-missing.result ≡ c.below.missing - cond (has_child e.0 d.0 names) 1 0 =
           c.missing_without-missing.ensures ∙ ap (λ (b : Bool). c.below.missing - cond b 1 0) counts in (
             subst (λ (n : ℕ). SoFar h nodes e.0 old names left2 (option_copied c.or-first.result) n) (sym missing)
-                (subst (λ (f : Option Path). SoFar h nodes e.0 old names left2 f (c.below.missing - cond (has_child e.0 d.0 names) 1 0)) first on),
+                (subst (λ (f : Option Path). SoFar h nodes e.0 old names left2 f (c.below.missing - cond (has_child e.0 d.0 names) 1 0))
+                first on),
             beside_next h id e.0 c.below.entries c.take_entry-entry.new.entries d left beside sorted entry
                 (next_order h nodes order before e old whole names d left (option_copied c.below.first) c.below.missing s)
                 walked.taken left2 walked.parts below.name named took,
@@ -83,28 +86,16 @@ pub returns-then-is_untrue-clause-walked : goal.returns-then-is_untrue-clause-wa
 returns-then-is_untrue-clause-walked t c = λ nodes before order whole found.
     let h = c.args.repo.now in
     let e : Path × BaseNode = (c.args.path.now, c.args.node.now) in
-    let old = c.args.left.now in
-    let names = names_at h c.args.id.now in
-    let s = (c.below.invariant.1 nodes before order whole found).0 in
     let past = c.in_default-next_within.ensures.taken in
-    let counted = all_counted h nodes order before e old whole names c.below.left (option_copied c.below.first) c.below.missing s past.0 in
-    let test = c.is_untrue-2.ensures (get_in nodes) e.0 (missing_counted (get_in nodes) e.0 e.1 names c.below.missing counted) found in
-    subst (λ (l : List (Path × BaseNode)). HasWalked h nodes e old (Some c.args.path.now) l) (sym past.1)
-    (walk_ends h nodes order before e old whole names c.below.left
-    (option_copied c.below.first) c.below.missing s past.0 c.is_untrue-2.result test (Some c.args.path.now)
-    (sym (ap (λ (b : Bool). cond b (Some c.args.path.now) (option_copied c.below.first)) c.if-is_untrue.true)))
+    walk_ends h nodes order before e c.args.left.now whole (names_at h c.args.id.now) c.below.left (option_copied c.below.first)
+    c.below.missing (c.below.invariant.1 nodes before order whole found).0 past.0 _ past.1 true
+    (λ counted. sym c.if-is_untrue.true ∙ c.is_untrue-2.ensures (get_in nodes) e.0 counted found)
 
 pub returns-else-is_untrue-clause-walked : goal.returns-else-is_untrue-clause-walked
 returns-else-is_untrue-clause-walked t c = λ nodes before order whole found.
     let h = c.args.repo.now in
     let e : Path × BaseNode = (c.args.path.now, c.args.node.now) in
-    let old = c.args.left.now in
-    let names = names_at h c.args.id.now in
-    let s = (c.below.invariant.1 nodes before order whole found).0 in
     let past = c.in_default-next_within.ensures.taken in
-    let counted = all_counted h nodes order before e old whole names c.below.left (option_copied c.below.first) c.below.missing s past.0 in
-    let test = c.is_untrue-2.ensures (get_in nodes) e.0 (missing_counted (get_in nodes) e.0 e.1 names c.below.missing counted) found in
-    subst (λ (l : List (Path × BaseNode)). HasWalked h nodes e old (option_copied c.below.first) l) (sym past.1)
-    (walk_ends h nodes order before e old whole names c.below.left
-    (option_copied c.below.first) c.below.missing s past.0 c.is_untrue-2.result test (option_copied c.below.first)
-    (sym (ap (λ (b : Bool). cond b (Some c.args.path.now) (option_copied c.below.first)) c.if-is_untrue.false)))
+    walk_ends h nodes order before e c.args.left.now whole (names_at h c.args.id.now) c.below.left (option_copied c.below.first)
+    c.below.missing (c.below.invariant.1 nodes before order whole found).0 past.0 _ past.1 false
+    (λ counted. sym c.if-is_untrue.false ∙ c.is_untrue-2.ensures (get_in nodes) e.0 counted found)

@@ -1,6 +1,4 @@
 use Rattle.std.proofs.Common.{◌∷◌, List, ℕ, refl, sym, ap, subst, ◌∙◌, Option}
-use Rattle.std.specs.Option.{option_copied}
-use Rattle.std.specs.Borrow.{Bor}
 use Rattle.svn_pool.specs.Pools.{pushed}
 use Rattle.svn_edit.specs.declared.baton.Note.TheVariants.{Set, Remove}
 use Rattle.svn_edit.specs.Noted.{note_of_value, strings_of_value}
@@ -12,37 +10,22 @@ use Rattle.svn_edit.proofs.baton.Baton.note_change.Goals as goal
 
 pub returns-in_default-clause-noted : goal.returns-in_default-clause-noted
 returns-in_default-clause-noted c =
-    subst (λ (v : Option (Bor (List ℕ))). BatonSaid (note_of_value (option_copied v))
-    (c.args.name.now ∷ strings_of_value (option_copied v)) c.args.self.now c.args.pools.now
-    (record { path = c.args.self.now.path; pool = c.args.self.now.pool; notes = c.push-in_default.new.self; text = c.args.self.now.text })
+    let old = c.args.self.now in
+    let new = record old { notes = c.push-in_default.new.self } in
+    subst (λ (v : Option (List ℕ)). BatonSaid (note_of_value v) (c.args.name.now ∷ strings_of_value v) old c.args.pools.now new
     c.push.new.pools) (sym c.in_default.is)
-    (said_one c.args.self.now (record {
-      path = c.args.self.now.path;
-      pool = c.args.self.now.pool;
-      notes = c.push-in_default.new.self;
-      text =
-          c.args.self.now.text;
-    }) c.args.pools.now c.push.new.pools Remove c.args.name.now refl refl
-    c.in_ok-push-2.ensures.items refl (c.in_ok-push.ensures.pushed ∙ ap (pushed c.args.pools.now c.args.self.now.pool.0)
-    (c.as_bytes.ensures.value ∙ c.as_str.ensures.value)))
+    (said_one old new c.args.pools.now c.push.new.pools Remove c.args.name.now refl refl c.in_ok-push-2.ensures.items refl
+    (c.in_ok-push.ensures.pushed ∙ ap (pushed c.args.pools.now old.pool.0) (c.as_bytes.ensures.value ∙ c.as_str.ensures.value)))
 
 pub returns-clause-noted : goal.returns-clause-noted
 returns-clause-noted c =
-    subst (λ (v : Option (Bor (List ℕ))). BatonSaid (note_of_value (option_copied v))
-    (c.args.name.now ∷ strings_of_value (option_copied v)) c.args.self.now c.args.pools.now
-    (record { path = c.args.self.now.path; pool = c.args.self.now.pool; notes = c.push-3.new.self; text = c.args.self.now.text })
+    let old = c.args.self.now in
+    let new = record old { notes = c.push-3.new.self } in
+    subst (λ (v : Option (List ℕ)). BatonSaid (note_of_value v) (c.args.name.now ∷ strings_of_value v) old c.args.pools.now new
     c.push-2.new.pools) (sym c.in-Some.is)
-    (said_two c.args.self.now (record {
-      path = c.args.self.now.path;
-      pool = c.args.self.now.pool;
-      notes = c.push-3.new.self;
-      text =
-          c.args.self.now.text;
-    }) c.args.pools.now c.push-2.new.pools Set c.args.name.now c.in-Some.value.now refl refl
-    c.in_ok-push-4.ensures.items refl
-    (c.in_ok-push-3.ensures.pushed
-    ∙ (λ i. pushed (c.in_ok-push.ensures.pushed i) c.args.self.now.pool.0 (c.as_slice.ensures i))
-    ∙ ap (λ (x : List ℕ). pushed (pushed c.args.pools.now c.args.self.now.pool.0 x) c.args.self.now.pool.0 c.in-Some.value.now)
+    (said_two old new c.args.pools.now c.push-2.new.pools Set c.args.name.now c.in-Some.value refl refl c.in_ok-push-4.ensures.items refl
+    (c.in_ok-push-3.ensures.pushed ∙ (λ i. pushed (c.in_ok-push.ensures.pushed i) old.pool.0 (c.as_slice.ensures i))
+    ∙ ap (λ (x : List ℕ). pushed (pushed c.args.pools.now old.pool.0 x) old.pool.0 c.in-Some.value)
     (c.as_bytes.ensures.value ∙ c.as_str.ensures.value)))
 
 -- ---- a string or the note was refused
@@ -54,28 +37,26 @@ returns-in_err-push-clause-began c =
 
 pub returns-in_err-push-2-clause-began : goal.returns-in_err-push-2-clause-began
 returns-in_err-push-2-clause-began c =
-    on_err c.from_residual-in_err-push-2.result (began_one c.args.self.now
-    (record { path = c.args.self.now.path; pool = c.args.self.now.pool; notes = c.push-in_default.new.self; text = c.args.self.now.text })
-    c.args.pools.now c.push.new.pools c.args.name.now (strings_of_value (option_copied c.args.value)) _ refl refl
-    (c.in_ok-push.ensures.pushed ∙ ap (pushed c.args.pools.now c.args.self.now.pool.0) (c.as_bytes.ensures.value ∙ c.as_str.ensures.value))
-    refl)
+    let old = c.args.self.now in
+    on_err c.from_residual-in_err-push-2.result (began_one old (record old { notes = c.push-in_default.new.self })
+    c.args.pools.now c.push.new.pools c.args.name.now (strings_of_value c.args.value.now) _ refl refl
+    (c.in_ok-push.ensures.pushed ∙ ap (pushed c.args.pools.now old.pool.0) (c.as_bytes.ensures.value ∙ c.as_str.ensures.value)) refl)
 
 pub returns-in_err-push-3-clause-began : goal.returns-in_err-push-3-clause-began
 returns-in_err-push-3-clause-began c =
-    on_err c.from_residual-in_err-push-3.result (began_one c.args.self.now c.args.self.now c.args.pools.now c.push-2.new.pools
-    c.args.name.now (strings_of_value (option_copied c.args.value)) _ refl refl
+    let old = c.args.self.now in
+    on_err c.from_residual-in_err-push-3.result (began_one old old c.args.pools.now c.push-2.new.pools c.args.name.now
+    (strings_of_value c.args.value.now) _ refl refl
     (c.in_err-push-3.ensures.refused ∙ c.in_ok-push.ensures.pushed
-    ∙ ap (pushed c.args.pools.now c.args.self.now.pool.0) (c.as_bytes.ensures.value ∙ c.as_str.ensures.value))
+    ∙ ap (pushed c.args.pools.now old.pool.0) (c.as_bytes.ensures.value ∙ c.as_str.ensures.value))
     refl)
 
 pub returns-in_err-push-4-clause-began : goal.returns-in_err-push-4-clause-began
 returns-in_err-push-4-clause-began c =
-    on_err c.from_residual-in_err-push-4.result (began_two c.args.self.now
-    (record { path = c.args.self.now.path; pool = c.args.self.now.pool; notes = c.push-3.new.self; text = c.args.self.now.text })
-    c.args.pools.now c.push-2.new.pools c.args.name.now c.in-Some.value.now
-    (c.args.name.now ∷ strings_of_value (option_copied c.args.value)) refl refl
-    (c.in_ok-push-3.ensures.pushed
-    ∙ (λ i. pushed (c.in_ok-push.ensures.pushed i) c.args.self.now.pool.0 (c.as_slice.ensures i))
-    ∙ ap (λ (x : List ℕ). pushed (pushed c.args.pools.now c.args.self.now.pool.0 x) c.args.self.now.pool.0 c.in-Some.value.now)
+    let old = c.args.self.now in
+    on_err c.from_residual-in_err-push-4.result (began_two old (record old { notes = c.push-3.new.self })
+    c.args.pools.now c.push-2.new.pools c.args.name.now c.in-Some.value (c.args.name.now ∷ strings_of_value c.args.value.now) refl refl
+    (c.in_ok-push-3.ensures.pushed ∙ (λ i. pushed (c.in_ok-push.ensures.pushed i) old.pool.0 (c.as_slice.ensures i))
+    ∙ ap (λ (x : List ℕ). pushed (pushed c.args.pools.now old.pool.0 x) old.pool.0 c.in-Some.value)
     (c.as_bytes.ensures.value ∙ c.as_str.ensures.value))
-    (ap (λ (v : Option (Bor (List ℕ))). c.args.name.now ∷ strings_of_value (option_copied v)) (sym c.in-Some.is)))
+    (ap (λ (v : Option (List ℕ)). c.args.name.now ∷ strings_of_value v) (sym c.in-Some.is)))

@@ -9,15 +9,11 @@ use Rattle.svn_edit.proofs.baton.Baton.note_text.Goals as goal
 
 pub returns-clause-noted : goal.returns-clause-noted
 returns-clause-noted c =
-    said_one c.args.self.now (record {
-      path = c.args.self.now.path;
-      pool = c.args.self.now.pool;
-      notes = c.push-2.new.self;
-      text =
-          c.or-self.result;
-    }) c.args.pools.now c.push.new.pools NewText c.args.text.now refl refl
-    c.in_ok-push.ensures.items (c.or-self.ensures ∙ ap (λ n. option_or c.args.self.now.text (Some n)) c.in_ok-place.ensures.place)
-    (c.in_ok-place.ensures.pushed ∙ ap (pushed c.args.pools.now c.args.self.now.pool.0) c.as_slice.ensures)
+    let old = c.args.self.now in
+    said_one old (record old { notes = c.push-2.new.self; text = c.or-self.result }) c.args.pools.now c.push.new.pools NewText
+    c.args.text.now refl refl c.in_ok-push.ensures.items
+    (c.or-self.ensures ∙ ap (λ n. option_or old.text (Some n)) c.in_ok-place.ensures.place)
+    (c.in_ok-place.ensures.pushed ∙ ap (pushed c.args.pools.now old.pool.0) c.as_slice.ensures)
 
 -- ---- the string or the note was refused
 
@@ -28,7 +24,6 @@ returns-in_err-place-clause-began c =
 
 pub returns-in_err-push-clause-began : goal.returns-in_err-push-clause-began
 returns-in_err-push-clause-began c =
-    on_err c.from_residual-in_err-push.result (began_one c.args.self.now
-    (record { path = c.args.self.now.path; pool = c.args.self.now.pool; notes = c.push-2.new.self; text = c.args.self.now.text })
-    c.args.pools.now c.push.new.pools c.args.text.now [] _ refl refl
-    (c.in_ok-place.ensures.pushed ∙ ap (pushed c.args.pools.now c.args.self.now.pool.0) c.as_slice.ensures) refl)
+    let old = c.args.self.now in
+    on_err c.from_residual-in_err-push.result (began_one old (record old { notes = c.push-2.new.self }) c.args.pools.now c.push.new.pools
+    c.args.text.now [] _ refl refl (c.in_ok-place.ensures.pushed ∙ ap (pushed c.args.pools.now old.pool.0) c.as_slice.ensures) refl)

@@ -1,71 +1,53 @@
-use Rattle.std.proofs.Common.{◌∷◌, [], ℕ, List, Option, cond, None, Some, refl, sym, ap, subst, ◌∙◌}
+use Rattle.std.proofs.Common.{◌∷◌, [], None, Some, refl}
 use Rattle.md5.specs.Md5.{md5}
 use Rattle.svn_types.specs.declared.kind.Kind.TheVariants.{File, Directory}
 use Rattle.svn_editor.specs.declared.call.Call.TheVariants.{OpenRoot, DeleteEntry, AddDirectory, OpenDirectory, ChangeDirProp, AddFile}
 use Rattle.svn_editor.specs.declared.call.Call.TheVariants.{OpenFile, ChangeFileProp, ApplyText}
 use Rattle.svn_editor.specs.Steps.{Delete, Open, Add, Change, Text}
 use Rattle.svn_model.specs.Nodes.{get_in}
-use Rattle.svn_model.specs.Effects.{step_fault, step_effect, is_too_long}
-use Rattle.svn_edit.specs.Noted.{note_of_value, strings_of_value}
-use Rattle.svn_editor.specs.declared.fault.EditFault.TheVariants.{TooLong}
-use Rattle.svn_edit.specs.Applying.{BatonNoted, batons_of}
-use Rattle.svn_model.specs.Answering.{AnswersCall}
-use Rattle.svn_edit.proofs.Holding.{map_ok, map_err, err_by, at_err, ok_by, holds_made, holds_still, applied_read}
+use Rattle.svn_model.specs.Effects.{step_fault, step_effect}
+use Rattle.svn_edit.proofs.Holding.{map_ok, on_err, ok_by, given_holds, holds_still, applied_read}
 use Rattle.svn_edit.proofs.PoolStrings.{one_left}
 use Rattle.svn_edit.proofs.Closes.{close_applied, close_holds, note_holds, change_applied, text_applied}
 use Rattle.svn_edit.proofs.FileCloses.{file_applied, file_holds}
 use Rattle.svn_edit.proofs.Switching.{end_applied, end_left}
-use Rattle.svn_editor.specs.declared.call.Call.{Call}
-use Rattle.svn_editor.proofs.Nested.{eq_true}
-use Rattle.svn_edit.specs.declared.edit.Edit.{Edit}
-use Rattle.svn_edit.specs.Leaving.{HoldsPools, call_strings}
-use Rattle.svn_edit.proofs.Closes.{note_baton}
-use Rattle.svn_edit.proofs.LeftPools.{keeps_left, keeps_same, began_left, fresh_token}
+use Rattle.svn_edit.proofs.LeftPools.{kept_left, unchanged_left, given_left, said_left}
 use Rattle.svn_edit.proofs.edit.Edit.apply.Goals as goal
 
 pub returns-in-OpenRoot-clause-holds : goal.returns-in-OpenRoot-clause-holds
 returns-in-OpenRoot-clause-holds c =
-    let old = c.args.self.now in
-    map_ok c.open_root.result c.open_root.ensures.opened (λ made mode calls next last.
-    holds_made mode old c.open_root.new.self calls (OpenRoot c.in-OpenRoot.base c.in-OpenRoot.token) c.args.call.now c.in-OpenRoot.is next
-    c.open_root.ensures.keeps refl
-    (record { kind = Directory; path = []; parent = None; token = c.in-OpenRoot.token }) refl refl refl _ (refl) made)
+    let x = c.in-OpenRoot in
+    given_holds c.args.self.now c.open_root.new.self (OpenRoot x.base x.token) c.args.call.now
+    (record { kind = Directory; path = []; parent = None; token = x.token }) c.open_root.result
+    x.is (λ n. refl) refl refl refl c.open_root.ensures.keeps _ refl c.open_root.ensures.opened
 
 pub returns-in-AddDirectory-clause-holds : goal.returns-in-AddDirectory-clause-holds
 returns-in-AddDirectory-clause-holds c =
-    let old = c.args.self.now in
-    map_ok c.add_directory.result c.add_directory.ensures.opened (λ made mode calls next last.
-    holds_made mode old c.add_directory.new.self calls (AddDirectory c.in-AddDirectory.path c.in-AddDirectory.parent
-    c.in-AddDirectory.token) c.args.call.now c.in-AddDirectory.is next c.add_directory.ensures.keeps refl
-    (record { kind = Directory; path = c.in-AddDirectory.path; parent = Some c.in-AddDirectory.parent; token = c.in-AddDirectory.token })
-    refl refl refl _ (refl) made)
+    let x = c.in-AddDirectory in
+    given_holds c.args.self.now c.add_directory.new.self (AddDirectory x.path x.parent x.token) c.args.call.now
+    (record { kind = Directory; path = x.path; parent = Some x.parent; token = x.token }) c.add_directory.result
+    x.is (λ n. refl) refl refl refl c.add_directory.ensures.keeps _ refl c.add_directory.ensures.opened
 
 pub returns-in-OpenDirectory-clause-holds : goal.returns-in-OpenDirectory-clause-holds
 returns-in-OpenDirectory-clause-holds c =
-    let old = c.args.self.now in
-    map_ok c.open_directory.result c.open_directory.ensures.opened (λ made mode calls next last.
-    holds_made mode old c.open_directory.new.self calls (OpenDirectory c.in-OpenDirectory.path c.in-OpenDirectory.parent
-    c.in-OpenDirectory.base c.in-OpenDirectory.token) c.args.call.now c.in-OpenDirectory.is next c.open_directory.ensures.keeps refl
-    (record { kind = Directory; path = c.in-OpenDirectory.path; parent = Some c.in-OpenDirectory.parent; token = c.in-OpenDirectory.token })
-    refl refl refl _ (refl) made)
+    let x = c.in-OpenDirectory in
+    given_holds c.args.self.now c.open_directory.new.self (OpenDirectory x.path x.parent x.base x.token) c.args.call.now
+    (record { kind = Directory; path = x.path; parent = Some x.parent; token = x.token }) c.open_directory.result
+    x.is (λ n. refl) refl refl refl c.open_directory.ensures.keeps _ refl c.open_directory.ensures.opened
 
 pub returns-in-AddFile-clause-holds : goal.returns-in-AddFile-clause-holds
 returns-in-AddFile-clause-holds c =
-    let old = c.args.self.now in
-    map_ok c.add_file.result c.add_file.ensures.opened (λ made mode calls next last.
-    holds_made mode old c.add_file.new.self calls (AddFile c.in-AddFile.path c.in-AddFile.parent c.in-AddFile.token) c.args.call.now
-    c.in-AddFile.is next c.add_file.ensures.keeps refl
-    (record { kind = File; path = c.in-AddFile.path; parent = Some c.in-AddFile.parent; token = c.in-AddFile.token }) refl refl refl _
-    (refl) made)
+    let x = c.in-AddFile in
+    given_holds c.args.self.now c.add_file.new.self (AddFile x.path x.parent x.token) c.args.call.now
+    (record { kind = File; path = x.path; parent = Some x.parent; token = x.token }) c.add_file.result
+    x.is (λ n. refl) refl refl refl c.add_file.ensures.keeps _ refl c.add_file.ensures.opened
 
 pub returns-in-OpenFile-clause-holds : goal.returns-in-OpenFile-clause-holds
 returns-in-OpenFile-clause-holds c =
-    let old = c.args.self.now in
-    map_ok c.open_file.result c.open_file.ensures.opened (λ made mode calls next last.
-    holds_made mode old c.open_file.new.self calls (OpenFile c.in-OpenFile.path c.in-OpenFile.parent c.in-OpenFile.base c.in-OpenFile.token)
-    c.args.call.now c.in-OpenFile.is next c.open_file.ensures.keeps refl
-    (record { kind = File; path = c.in-OpenFile.path; parent = Some c.in-OpenFile.parent; token = c.in-OpenFile.token }) refl refl refl _
-    (refl) made)
+    let x = c.in-OpenFile in
+    given_holds c.args.self.now c.open_file.new.self (OpenFile x.path x.parent x.base x.token) c.args.call.now
+    (record { kind = File; path = x.path; parent = Some x.parent; token = x.token }) c.open_file.result
+    x.is (λ n. refl) refl refl refl c.open_file.ensures.keeps _ refl c.open_file.ensures.opened
 
 pub returns-in-DeleteEntry-clause-holds : goal.returns-in-DeleteEntry-clause-holds
 returns-in-DeleteEntry-clause-holds c = ok_by c.delete_entry.result (λ ok mode calls next last.
@@ -148,123 +130,89 @@ returns-in-AbortEdit-clause-left c = λ last mode calls next.
 
 pub returns-in-ChangeDirProp-clause-applied : goal.returns-in-ChangeDirProp-clause-applied
 returns-in-ChangeDirProp-clause-applied c = λ mode calls next.
-    change_applied md5 mode c.args.self.now calls (ChangeDirProp c.in-ChangeDirProp.token c.in-ChangeDirProp.name c.in-ChangeDirProp.value)
-    c.args.call.now c.in-ChangeDirProp.token Directory (c.in-ChangeDirProp.name, c.in-ChangeDirProp.value) c.args.copy.now.entries
-    c.change_prop.result
-    c.in-ChangeDirProp.is refl refl
-    (subst (λ (v : Option (List ℕ)). AnswersCall (cond (is_too_long v) (Some TooLong) None) c.change_prop.result) c.as_ref.ensures.value
-    c.change_prop.ensures.answers)
+    let x = c.in-ChangeDirProp in
+    change_applied md5 mode c.args.self.now calls (ChangeDirProp x.token x.name x.value) c.args.call.now x.token Directory (x.name, x.value)
+    c.args.copy.now.entries c.change_prop.result x.is refl refl c.change_prop.ensures.answers
 
 pub returns-in-ChangeDirProp-clause-holds : goal.returns-in-ChangeDirProp-clause-holds
-returns-in-ChangeDirProp-clause-holds c = map_ok c.change_prop.result c.change_prop.ensures.noted (λ notes mode calls next last.
-    note_holds mode c.args.self.now c.change_prop.new.self calls (ChangeDirProp c.in-ChangeDirProp.token c.in-ChangeDirProp.name
-    c.in-ChangeDirProp.value) c.args.call.now c.in-ChangeDirProp.token Directory
-    (Change Directory (c.in-ChangeDirProp.name, c.in-ChangeDirProp.value))
-    c.in-ChangeDirProp.is next refl refl refl refl refl (λ t. refl) c.change_prop.ensures.keeps
-    (λ b there. subst (λ (v : Option (List ℕ)). BatonNoted c.in-ChangeDirProp.token b (note_of_value v)
-    (c.in-ChangeDirProp.name ∷ strings_of_value v) c.args.self.now.pools (batons_of c.args.self.now) c.change_prop.new.self.pools
-    (batons_of c.change_prop.new.self))
-    c.as_ref.ensures.value (notes b there)))
+returns-in-ChangeDirProp-clause-holds c =
+    let x = c.in-ChangeDirProp in
+    map_ok c.change_prop.result c.change_prop.ensures.noted (λ notes mode calls next last.
+    note_holds mode c.args.self.now c.change_prop.new.self calls (ChangeDirProp x.token x.name x.value) c.args.call.now x.token
+    Directory (Change Directory (x.name, x.value)) x.is next refl refl refl refl refl (λ t. refl) c.change_prop.ensures.keeps notes)
 
 pub returns-in-ChangeFileProp-clause-applied : goal.returns-in-ChangeFileProp-clause-applied
 returns-in-ChangeFileProp-clause-applied c = λ mode calls next.
-    change_applied md5 mode c.args.self.now calls (ChangeFileProp c.in-ChangeFileProp.token c.in-ChangeFileProp.name
-    c.in-ChangeFileProp.value) c.args.call.now c.in-ChangeFileProp.token File
-    (c.in-ChangeFileProp.name, c.in-ChangeFileProp.value) c.args.copy.now.entries c.change_prop-in-ChangeFileProp.result
-    c.in-ChangeFileProp.is refl refl
-    (subst (λ (v : Option (List ℕ)). AnswersCall (cond (is_too_long v) (Some TooLong) None) c.change_prop-in-ChangeFileProp.result)
-    c.as_ref-in-ChangeFileProp.ensures.value c.change_prop-in-ChangeFileProp.ensures.answers)
+    let x = c.in-ChangeFileProp in
+    change_applied md5 mode c.args.self.now calls (ChangeFileProp x.token x.name x.value) c.args.call.now x.token File (x.name, x.value)
+    c.args.copy.now.entries c.change_prop-in-ChangeFileProp.result x.is refl refl c.change_prop-in-ChangeFileProp.ensures.answers
 
 pub returns-in-ChangeFileProp-clause-holds : goal.returns-in-ChangeFileProp-clause-holds
-returns-in-ChangeFileProp-clause-holds c = map_ok c.change_prop-in-ChangeFileProp.result c.change_prop-in-ChangeFileProp.ensures.noted
-    (λ notes mode calls next last.
-    note_holds mode c.args.self.now c.change_prop-in-ChangeFileProp.new.self calls
-    (ChangeFileProp c.in-ChangeFileProp.token c.in-ChangeFileProp.name c.in-ChangeFileProp.value) c.args.call.now
-    c.in-ChangeFileProp.token File (Change File (c.in-ChangeFileProp.name, c.in-ChangeFileProp.value))
-    c.in-ChangeFileProp.is next refl refl refl refl refl (λ t. refl) c.change_prop-in-ChangeFileProp.ensures.keeps
-    (λ b there. subst (λ (v : Option (List ℕ)). BatonNoted c.in-ChangeFileProp.token b (note_of_value v)
-    (c.in-ChangeFileProp.name ∷ strings_of_value v) c.args.self.now.pools
-    (batons_of c.args.self.now) c.change_prop-in-ChangeFileProp.new.self.pools (batons_of c.change_prop-in-ChangeFileProp.new.self))
-    c.as_ref-in-ChangeFileProp.ensures.value (notes b there)))
+returns-in-ChangeFileProp-clause-holds c =
+    let x = c.in-ChangeFileProp in
+    map_ok c.change_prop-in-ChangeFileProp.result c.change_prop-in-ChangeFileProp.ensures.noted (λ notes mode calls next last.
+    note_holds mode c.args.self.now c.change_prop-in-ChangeFileProp.new.self calls (ChangeFileProp x.token x.name x.value) c.args.call.now
+    x.token File (Change File (x.name, x.value)) x.is next refl refl refl refl refl (λ t. refl)
+    c.change_prop-in-ChangeFileProp.ensures.keeps notes)
 
 -- ---- the pools after a refusal
 
 pub returns-in-OpenRoot-clause-pools : goal.returns-in-OpenRoot-clause-pools
-returns-in-OpenRoot-clause-pools c = map_err c.open_root.result c.open_root.ensures.unchanged (λ same mode calls next.
-    keeps_left c.args.self.now c.open_root.new.self calls c.args.call.now next.holds.batons same)
+returns-in-OpenRoot-clause-pools c =
+    kept_left c.args.self.now c.open_root.new.self c.args.call.now c.open_root.result c.open_root.ensures.unchanged
 
 pub returns-in-OpenDirectory-clause-pools : goal.returns-in-OpenDirectory-clause-pools
-returns-in-OpenDirectory-clause-pools c = map_err c.open_directory.result c.open_directory.ensures.unchanged (λ same mode calls next.
-    keeps_left c.args.self.now c.open_directory.new.self calls c.args.call.now next.holds.batons same)
+returns-in-OpenDirectory-clause-pools c =
+    kept_left c.args.self.now c.open_directory.new.self c.args.call.now c.open_directory.result c.open_directory.ensures.unchanged
 
 pub returns-in-OpenFile-clause-pools : goal.returns-in-OpenFile-clause-pools
-returns-in-OpenFile-clause-pools c = map_err c.open_file.result c.open_file.ensures.unchanged (λ same mode calls next.
-    keeps_left c.args.self.now c.open_file.new.self calls c.args.call.now next.holds.batons same)
+returns-in-OpenFile-clause-pools c =
+    kept_left c.args.self.now c.open_file.new.self c.args.call.now c.open_file.result c.open_file.ensures.unchanged
 
 pub returns-in-AddDirectory-clause-pools : goal.returns-in-AddDirectory-clause-pools
-returns-in-AddDirectory-clause-pools c = err_by c.add_directory.result (λ e bad mode calls next.
+returns-in-AddDirectory-clause-pools c =
     let x = c.in-AddDirectory in
-    let fresh = fresh_token mode c.args.self.now calls (AddDirectory x.path x.parent x.token) c.args.call.now
-    (record { kind = Directory; path = x.path; parent = Some x.parent; token = x.token }) x.is next refl refl in
-    keeps_left c.args.self.now c.add_directory.new.self calls c.args.call.now next.holds.batons
-    (at_err c.add_directory.result e bad (c.add_directory.ensures.unchanged fresh)))
+    given_left c.args.self.now c.add_directory.new.self (AddDirectory x.path x.parent x.token) c.args.call.now
+    (record { kind = Directory; path = x.path; parent = Some x.parent; token = x.token }) c.add_directory.result x.is refl refl
+    c.add_directory.ensures.unchanged
 
 pub returns-in-AddFile-clause-pools : goal.returns-in-AddFile-clause-pools
-returns-in-AddFile-clause-pools c = err_by c.add_file.result (λ e bad mode calls next.
+returns-in-AddFile-clause-pools c =
     let x = c.in-AddFile in
-    let fresh = fresh_token mode c.args.self.now calls (AddFile x.path x.parent x.token) c.args.call.now
-    (record { kind = File; path = x.path; parent = Some x.parent; token = x.token }) x.is next refl refl in
-    keeps_left c.args.self.now c.add_file.new.self calls c.args.call.now next.holds.batons
-    (at_err c.add_file.result e bad (c.add_file.ensures.unchanged fresh)))
+    given_left c.args.self.now c.add_file.new.self (AddFile x.path x.parent x.token) c.args.call.now
+    (record { kind = File; path = x.path; parent = Some x.parent; token = x.token }) c.add_file.result x.is refl refl
+    c.add_file.ensures.unchanged
 
 pub returns-in-DeleteEntry-clause-pools : goal.returns-in-DeleteEntry-clause-pools
-returns-in-DeleteEntry-clause-pools c = err_by c.delete_entry.result (λ e bad mode calls next.
-    keeps_left c.args.self.now c.args.self.now calls c.args.call.now next.holds.batons (keeps_same c.args.self.now))
+returns-in-DeleteEntry-clause-pools c =
+    unchanged_left c.args.self.now c.args.self.now c.args.call.now c.delete_entry.result (on_err c.delete_entry.result refl)
 
 pub returns-in-CloseEdit-clause-pools : goal.returns-in-CloseEdit-clause-pools
-returns-in-CloseEdit-clause-pools c = err_by c.close_edit.result (λ e bad mode calls next.
-    keeps_left c.args.self.now c.args.self.now calls c.args.call.now next.holds.batons (keeps_same c.args.self.now))
+returns-in-CloseEdit-clause-pools c =
+    unchanged_left c.args.self.now c.args.self.now c.args.call.now c.close_edit.result (on_err c.close_edit.result refl)
 
 pub returns-in-CloseDirectory-clause-pools : goal.returns-in-CloseDirectory-clause-pools
-returns-in-CloseDirectory-clause-pools c = map_err c.close_directory.result c.close_directory.ensures.unchanged (λ same mode calls next.
-    subst (λ (x : Edit). HoldsPools x.pools (batons_of x) calls c.args.call.now) (sym same)
-    (keeps_left c.args.self.now c.args.self.now calls c.args.call.now next.holds.batons (keeps_same c.args.self.now)))
+returns-in-CloseDirectory-clause-pools c =
+    unchanged_left c.args.self.now c.close_directory.new.self c.args.call.now c.close_directory.result c.close_directory.ensures.unchanged
 
 pub returns-in-CloseFile-clause-pools : goal.returns-in-CloseFile-clause-pools
-returns-in-CloseFile-clause-pools c = map_err c.close_file.result c.close_file.ensures.unchanged (λ same mode calls next.
-    subst (λ (x : Edit). HoldsPools x.pools (batons_of x) calls c.args.call.now) (sym same)
-    (keeps_left c.args.self.now c.args.self.now calls c.args.call.now next.holds.batons (keeps_same c.args.self.now)))
+returns-in-CloseFile-clause-pools c =
+    unchanged_left c.args.self.now c.close_file.new.self c.args.call.now c.close_file.result c.close_file.ensures.unchanged
 
 pub returns-in-ApplyText-clause-pools : goal.returns-in-ApplyText-clause-pools
-returns-in-ApplyText-clause-pools c = map_err c.apply_text.result c.apply_text.ensures.began (λ began mode calls next.
-    let old = c.args.self.now in
+returns-in-ApplyText-clause-pools c =
     let x = c.in-ApplyText in
-    let b = note_baton mode old c.apply_text.new.self calls (ApplyText x.token x.base_md5 x.text) c.args.call.now x.token File
-    (Text x.base_md5 x.text) x.is next refl refl in
-    began_left old c.apply_text.new.self calls c.args.call.now x.token b.0 (x.text ∷ []) next.holds.batons b.1
-    (ap (λ (y : Call). call_strings y x.token) x.is ∙ ap (λ same. cond same (x.text ∷ []) []) (eq_true x.token x.token refl))
-    (began b.0 b.1))
+    said_left c.args.self.now c.apply_text.new.self (ApplyText x.token x.base_md5 x.text) c.args.call.now x.token File (x.text ∷ [])
+    c.apply_text.result x.is refl refl refl c.apply_text.ensures.began
 
 pub returns-in-ChangeDirProp-clause-pools : goal.returns-in-ChangeDirProp-clause-pools
-returns-in-ChangeDirProp-clause-pools c = map_err c.change_prop.result c.change_prop.ensures.began (λ began mode calls next.
-    let old = c.args.self.now in
+returns-in-ChangeDirProp-clause-pools c =
     let x = c.in-ChangeDirProp in
-    let new = c.change_prop.new.self in
-    let b = note_baton mode old new calls (ChangeDirProp x.token x.name x.value) c.args.call.now x.token Directory
-    (Change Directory (x.name, x.value)) x.is next refl refl in
-    began_left old new calls c.args.call.now x.token b.0 _ next.holds.batons b.1
-    (ap (λ (y : Call). call_strings y x.token) x.is ∙ ap (λ same. cond same (x.name ∷ strings_of_value x.value) [])
-    (eq_true x.token x.token refl) ∙ ap (λ (v : Option (List ℕ)). x.name ∷ strings_of_value v) (sym c.as_ref.ensures.value))
-    (began b.0 b.1))
+    said_left c.args.self.now c.change_prop.new.self (ChangeDirProp x.token x.name x.value) c.args.call.now x.token Directory _
+    c.change_prop.result x.is refl refl refl c.change_prop.ensures.began
 
 pub returns-in-ChangeFileProp-clause-pools : goal.returns-in-ChangeFileProp-clause-pools
-returns-in-ChangeFileProp-clause-pools c = map_err c.change_prop-in-ChangeFileProp.result c.change_prop-in-ChangeFileProp.ensures.began (λ began mode calls next.
-    let old = c.args.self.now in
+returns-in-ChangeFileProp-clause-pools c =
     let x = c.in-ChangeFileProp in
-    let new = c.change_prop-in-ChangeFileProp.new.self in
-    let b = note_baton mode old new calls (ChangeFileProp x.token x.name x.value) c.args.call.now x.token File
-    (Change File (x.name, x.value)) x.is next refl refl in
-    began_left old new calls c.args.call.now x.token b.0 _ next.holds.batons b.1
-    (ap (λ (y : Call). call_strings y x.token) x.is ∙ ap (λ same. cond same (x.name ∷ strings_of_value x.value) [])
-    (eq_true x.token x.token refl) ∙ ap (λ (v : Option (List ℕ)). x.name ∷ strings_of_value v) (sym c.as_ref-in-ChangeFileProp.ensures.value))
-    (began b.0 b.1))
+    said_left c.args.self.now c.change_prop-in-ChangeFileProp.new.self (ChangeFileProp x.token x.name x.value) c.args.call.now x.token
+    File _ c.change_prop-in-ChangeFileProp.result x.is refl refl refl c.change_prop-in-ChangeFileProp.ensures.began

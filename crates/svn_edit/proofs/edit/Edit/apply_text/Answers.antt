@@ -1,10 +1,5 @@
-use Rattle.std.proofs.Common.{nat_eq, ◌≡◌, Some, ◌∷◌, [], refl, ap, subst, ◌∙◌, rules}
-use Rattle.std.proofs.lemmas.Option.{same_Some}
-use Rattle.std.specs.HashMap.{Updates, get}
-use Rattle.svn_edit.specs.declared.baton.Baton.{Baton}
-use Rattle.svn_edit.specs.declared.baton.Note.TheVariants.{Text as NewText}
-use Rattle.svn_edit.specs.Applying.{BatonSaid}
-use Rattle.svn_edit.specs.Leaving.{BatonBegan}
+use Rattle.std.proofs.Common.{nat_eq, ◌∷◌, [], refl, ap, ◌∙◌, rules}
+use Rattle.std.specs.HashMap.{get}
 use Rattle.svn_edit.proofs.Holding.{map_ok, map_err}
 use Rattle.svn_edit.proofs.Closes.{pass_ok, pass_err, noted_of}
 use Rattle.svn_edit.proofs.LeftPools.{none_began, unbegun, began_of, no_baton}
@@ -13,18 +8,10 @@ use Rattle.svn_edit.proofs.edit.Edit.apply_text.Goals as goal
 pub returns-else-is_wrong_base-clause-noted : goal.returns-else-is_wrong_base-clause-noted
 returns-else-is_wrong_base-clause-noted c =
     map_ok c.or_memory.result (pass_ok _ _ c.note_text.result c.or_memory.result c.or_memory.ensures.ok c.note_text.ensures.noted)
-    (λ said b there.
-    let key : c.token.inside.0 ≡ c.args.token = c.token.view_is in
-    let same : c.in-Some.baton.now ≡ b = same_Some c.in-Some.baton.now b (c.in-Some.ensures.value
-    ∙ ap (get nat_eq c.args.self.now.batons) key ∙ there) in
-    let written = c.get_mut.follows.holds c.note_text.new.self in
-    let updates = written.3 (rw (← c.in-Some.ensures.value) (search rules)) in
-    noted_of c.args.token NewText (c.args.text.now ∷ []) b c.note_text.new.self c.args.self.now.pools c.note_text.new.pools
-    c.args.self.now.batons (c.get_mut.follows.lender c.note_text.new.self)
-    (subst (λ (x : Baton). BatonSaid NewText (c.args.text.now ∷ []) x c.args.self.now.pools c.note_text.new.self c.note_text.new.pools) same
-    said)
-    (subst (λ k. Updates nat_eq c.args.self.now.batons (c.get_mut.follows.lender c.note_text.new.self) k (Some c.note_text.new.self)) key
-    updates))
+    (λ said. noted_of c.args.token c.token.inside.0 _ _ c.in-Some.baton.now c.note_text.new.self c.args.self.now.pools
+    c.note_text.new.pools c.args.self.now.batons (c.get_mut.follows.lender c.note_text.new.self) c.token.view_is c.in-Some.ensures.value
+    said
+    ((c.get_mut.follows.holds c.note_text.new.self).3 (rw (← c.in-Some.ensures.value) (search rules))))
 
 pub returns-then-is_too_long-clause-began : goal.returns-then-is_too_long-clause-began
 returns-then-is_too_long-clause-began c = λ b there. none_began c.args.token b _ c.args.self.now there
@@ -34,28 +21,16 @@ returns-in-None-clause-began c = λ b there.
     absurd (no_baton b (c.in-None.ensures.value ∙ ap (get nat_eq c.args.self.now.batons) c.token.view_is ∙ there))
 
 pub returns-then-is_wrong_base-clause-began : goal.returns-then-is_wrong_base-clause-began
-returns-then-is_wrong_base-clause-began c = λ b there.
-    let key : c.token.inside.0 ≡ c.args.token = c.token.view_is in
+returns-then-is_wrong_base-clause-began c =
     let d = c.in-Some.baton.now in
-    let same : d ≡ b = same_Some d b (c.in-Some.ensures.value ∙ ap (get nat_eq c.args.self.now.batons) key ∙ there) in
-    let written = c.get_mut.follows.holds d in
-    let updates = written.3 (rw (← c.in-Some.ensures.value) (search rules)) in
-    began_of c.args.token b d (c.args.text.now ∷ []) c.args.self.now _
-    (unbegun (c.args.text.now ∷ []) b d c.args.self.now.pools c.args.self.now.pools (ap (λ (x : Baton). x.path) same)
-    (ap (λ (x : Baton). x.pool.0) same) refl)
-    (subst (λ k. Updates nat_eq c.args.self.now.batons (c.get_mut.follows.lender d) k (Some d)) key updates)
+    let pools = c.args.self.now.pools in
+    began_of c.args.token c.token.inside.0 _ d d c.args.self.now _ c.token.view_is c.in-Some.ensures.value
+    (unbegun (c.args.text.now ∷ []) d d pools pools refl refl refl)
+    ((c.get_mut.follows.holds d).3 (rw (← c.in-Some.ensures.value) (search rules)))
 
 pub returns-else-is_wrong_base-clause-began : goal.returns-else-is_wrong_base-clause-began
 returns-else-is_wrong_base-clause-began c =
     map_err c.or_memory.result (pass_err _ _ c.note_text.result c.or_memory.result c.or_memory.ensures.same c.note_text.ensures.began)
-    (λ began b there.
-    let key : c.token.inside.0 ≡ c.args.token = c.token.view_is in
-    let same : c.in-Some.baton.now ≡ b = same_Some c.in-Some.baton.now b (c.in-Some.ensures.value
-    ∙ ap (get nat_eq c.args.self.now.batons) key ∙ there) in
-    let written = c.get_mut.follows.holds c.note_text.new.self in
-    let updates = written.3 (rw (← c.in-Some.ensures.value) (search rules)) in
-    began_of c.args.token b c.note_text.new.self (c.args.text.now ∷ []) c.args.self.now _
-    (subst (λ (x : Baton). BatonBegan (c.args.text.now ∷ []) x c.args.self.now.pools c.note_text.new.self c.note_text.new.pools) same
-    began)
-    (subst (λ k. Updates nat_eq c.args.self.now.batons (c.get_mut.follows.lender c.note_text.new.self) k (Some c.note_text.new.self)) key
-    updates))
+    (λ began. began_of c.args.token c.token.inside.0 _ c.in-Some.baton.now c.note_text.new.self c.args.self.now _ c.token.view_is
+    c.in-Some.ensures.value began
+    ((c.get_mut.follows.holds c.note_text.new.self).3 (rw (← c.in-Some.ensures.value) (search rules))))

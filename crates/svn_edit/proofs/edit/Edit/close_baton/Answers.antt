@@ -4,7 +4,7 @@ use Rattle.std.specs.HashMap.{Updates, get}
 use Rattle.svn_pool.specs.Pools.{pool_at}
 use Rattle.svn_pool.proofs.Edges.{updated_here, updated_away}
 use Rattle.svn_edit.specs.declared.baton.Baton.{Baton}
-use Rattle.svn_edit.specs.Applying.{IsLeaf}
+use Rattle.svn_edit.specs.Applying.{IsLeaf, PoolGone}
 use Rattle.svn_edit.proofs.edit.Edit.close_baton.Goals as goal
 
 pub returns-in-Some-clause-gone : goal.returns-in-Some-clause-gone
@@ -14,14 +14,10 @@ returns-in-Some-clause-gone c = λ b e there live leaf apart.
     let same : c.in-Some.baton ≡ b = same_Some c.in-Some.baton b (c.in-Some.ensures.value ∙ ap (get nat_eq c.args.self.now.batons) key
     ∙ there) in
     let pools = c.args.self.now.pools in
-    let gone = c.drop_pool.ensures e (ap (λ (x : Baton). pool_at pools x.pool.0) same ∙ live)
-    (subst (λ (x : Baton). IsLeaf pools x.pool.0) (sym same) leaf)
-    (λ z. apart (ap (λ (x : Baton). x.pool.0) (sym same) ∙ z)) in
     record {
-      gone = ap (λ (x : Baton). pool_at c.drop_pool.new.pools x.pool.0) (sym same) ∙ gone.gone;
-      others = λ q n. gone.others q (λ z. n (z ∙ ap (λ (x : Baton). x.pool.0) same));
-      root = gone.root;
-      count = gone.count;
+      pool = subst (λ (x : Baton). PoolGone x.pool.0 pools c.drop_pool.new.pools) same
+          (c.drop_pool.ensures e (ap (λ (x : Baton). pool_at pools x.pool.0) same ∙ live)
+          (subst (λ (x : Baton). IsLeaf pools x.pool.0) (sym same) leaf) (λ z. apart (ap (λ (x : Baton). x.pool.0) (sym same) ∙ z)));
       token = updated_here c.args.self.now.batons c.remove.new.self c.args.token None updates;
       tokens = updated_away c.args.self.now.batons c.remove.new.self c.args.token None updates;
     }

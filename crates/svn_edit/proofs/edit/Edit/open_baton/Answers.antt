@@ -8,21 +8,11 @@ use Rattle.svn_edit.proofs.edit.Edit.open_baton.Goals as goal
 
 pub returns-clause-opened : goal.returns-clause-opened
 returns-clause-opened c =
-    let begun = c.in-Ok.ensures.begun in
     let updates = subst (λ k. Updates nat_eq c.args.self.now.batons c.insert.new.self k (Some c.in-Ok.baton)) c.token.view_is
     c.in-Ok-insert.ensures.updates in
     record {
       baton = c.in-Ok.baton;
-      path = begun.path;
-      notes = begun.notes;
-      text = begun.text;
-      fresh = begun.fresh;
-      made = begun.made;
-      others = begun.others;
-      root = begun.root;
-      count = begun.count;
-      apart = begun.apart;
-      leaf = begun.leaf;
+      begun = c.in-Ok.ensures.begun;
       token = updated_here c.args.self.now.batons c.insert.new.self c.args.token (Some c.in-Ok.baton) updates;
       tokens = updated_away c.args.self.now.batons c.insert.new.self c.args.token (Some c.in-Ok.baton) updates;
     }

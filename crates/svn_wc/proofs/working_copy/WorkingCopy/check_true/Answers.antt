@@ -1,4 +1,4 @@
-use Rattle.std.proofs.Common.{◌≡◌, ◌∷◌, [], List, Option, None, sym, ap, subst, ◌∙◌, true≢false}
+use Rattle.std.proofs.Common.{◌≡◌, ◌∷◌, List, Option, None, sym, ap, subst, ◌∙◌, true≢false}
 use Rattle.std.specs.Option.{option_copied, option_or, is_some}
 use Rattle.svn_types.specs.Names.{Path}
 use Rattle.svn_model.specs.declared.base_node.BaseNode.{BaseNode}
@@ -29,10 +29,7 @@ returns-in-Some-first-clause-true_is_ok c = λ holds.
     let h = c.args.repo.now in
     let nodes = c.args.self.now in
     let order = subst InPathOrder c.self.view_is c.of-left.ensures.ordered in
-    let ended : c.nodes.left ≡ [] = c.in_default.ensures in
-    let first =
-    check_ends h nodes (option_copied c.nodes.first)
-    (subst (λ (l : List (Path × BaseNode)). Checked h nodes l (option_copied c.nodes.first)) ended c.nodes.invariant) in
+    let first = check_ends h nodes c.nodes.left (option_copied c.nodes.first) c.nodes.invariant c.in_default.ensures in
     let none : first_untrue h nodes ≡ None = (c.truth_is_tested.ensures h nodes order).1 holds in
     absurd (true≢false (sym (ap (λ o. is_some (option_copied o)) c.in-Some-first.is) ∙ ap is_some (first ∙ none)))
 
@@ -41,8 +38,5 @@ returns-in-None-clause-is_true c =
     let h = c.args.repo.now in
     let nodes = c.args.self.now in
     let order = subst InPathOrder c.self.view_is c.of-left.ensures.ordered in
-    let ended : c.nodes.left ≡ [] = c.in_default.ensures in
-    let first =
-    check_ends h nodes (option_copied c.nodes.first)
-    (subst (λ (l : List (Path × BaseNode)). Checked h nodes l (option_copied c.nodes.first)) ended c.nodes.invariant) in
+    let first = check_ends h nodes c.nodes.left (option_copied c.nodes.first) c.nodes.invariant c.in_default.ensures in
     (c.truth_is_tested.ensures h nodes order).0 (sym first ∙ ap option_copied c.in-None.is)

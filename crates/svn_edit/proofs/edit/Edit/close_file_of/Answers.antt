@@ -12,19 +12,19 @@ use Rattle.svn_edit.specs.Applying.{mode_of}
 use Rattle.svn_edit_law.proofs.Lookups.{get_in-updated}
 use Rattle.svn_edit.proofs.Holding.{ok_by, map_ok, map_err}
 use Rattle.svn_edit.proofs.FileCloses.{node_closed, nothing_closed}
-use Rattle.svn_edit.proofs.edit.Edit.close_present.Goals as goal
+use Rattle.svn_edit.proofs.edit.Edit.close_file_of.Goals as goal
 
-pub returns-in_default-clause-closed : goal.returns-in_default-clause-closed
-returns-in_default-clause-closed c =
+pub returns-in_default-get_mut-clause-closed : goal.returns-in_default-get_mut-clause-closed
+returns-in_default-get_mut-clause-closed c =
     ok_by c.close_nothing.result (λ ok said s.
     nothing_closed (mode_of c.args.self.now.root) c.args.self.now.target c.as_rel_path-path.result.now c.args.baton.now.path
     (filter_map change_in said) (filter_map text_in said) c.args.copy.now.entries _
-    c.as_rel_path-path.ensures c.in_default.ensures.value (search rules))
+    c.as_rel_path-path.ensures c.in_default-get_mut.ensures.value (search rules))
 
 pub returns-then-is_present-clause-answers : goal.returns-then-is_present-clause-answers
 returns-then-is_present-clause-answers c = λ said s.
     subst (λ (o : Option BaseNode). AnswersCall (sum_fault md5 c.args.text_md5.now (filter_map text_in said) o) c.close_opened.result)
-    (c.in-Some.ensures.value ∙ ap (get_in c.args.copy.now.entries) c.as_rel_path-path.ensures)
+    (c.in-Some-get_mut.ensures.value ∙ ap (get_in c.args.copy.now.entries) c.as_rel_path-path.ensures)
     (c.close_opened.ensures.answers said s)
 
 pub returns-then-is_present-clause-closed : goal.returns-then-is_present-clause-closed
@@ -35,29 +35,29 @@ returns-then-is_present-clause-closed c =
     let written = c.get_mut.follows.holds c.close_opened.new.node in
     map_ok c.close_opened.result c.close_opened.ensures.closed (λ closed said s.
     node_closed mode c.args.self.now.target at c.args.baton.now.path (filter_map change_in said) (filter_map text_in said) nodes _
-    c.in-Some.node.now c.close_opened.new.node c.as_rel_path-path.ensures c.in-Some.ensures.value
+    c.in-Some-get_mut.node.now c.close_opened.new.node c.as_rel_path-path.ensures c.in-Some-get_mut.ensures.value
     (closed said (moved_path mode (get_in nodes) at) (joined_path (get_in nodes) at) s c.moved_again-moved.ensures)
-    (get_in-updated nodes _ at (Some c.close_opened.new.node) (written.3 (rw (← c.in-Some.ensures.value) (search rules))).0))
+    (get_in-updated nodes _ at (Some c.close_opened.new.node) (written.3 (rw (← c.in-Some-get_mut.ensures.value) (search rules))).0))
 
 pub returns-then-is_present-clause-refused : goal.returns-then-is_present-clause-refused
 returns-then-is_present-clause-refused c =
     map_err c.close_opened.result c.close_opened.ensures.refused (λ same. (c.get_mut.follows.holds c.close_opened.new.node).0
-    ∙ set_value_same _ _ _ (sym c.in-Some.ensures.value ∙ ap Some (sym same)))
+    ∙ set_value_same _ _ _ (sym c.in-Some-get_mut.ensures.value ∙ ap Some (sym same)))
 
 pub returns-clause-answers : goal.returns-clause-answers
 returns-clause-answers c = λ said s.
-    let same = (c.get_mut.follows.holds c.in-Some.node.now).0 ∙ set_value_same _ _ _ (sym c.in-Some.ensures.value) in
+    let same = (c.get_mut.follows.holds c.in-Some-get_mut.node.now).0 ∙ set_value_same _ _ _ (sym c.in-Some-get_mut.ensures.value) in
     subst (λ (nodes : List (Path × BaseNode)). AnswersCall (sum_fault md5 c.args.text_md5.now (filter_map text_in said)
-    (get_in nodes c.args.baton.now.path)) c.close_joined.result) same (c.close_joined.ensures.answers said s)
+    (get_in nodes c.args.baton.now.path)) c.close_joined-2.result) same (c.close_joined-2.ensures.answers said s)
 
 pub returns-clause-closed : goal.returns-clause-closed
 returns-clause-closed c =
-    let same = (c.get_mut.follows.holds c.in-Some.node.now).0 ∙ set_value_same _ _ _ (sym c.in-Some.ensures.value) in
-    map_ok c.close_joined.result c.close_joined.ensures.closed (λ closed said s.
+    let same = (c.get_mut.follows.holds c.in-Some-get_mut.node.now).0 ∙ set_value_same _ _ _ (sym c.in-Some-get_mut.ensures.value) in
+    map_ok c.close_joined-2.result c.close_joined-2.ensures.closed (λ closed said s.
     subst (λ (nodes : List (Path × BaseNode)). FileIsClosed (mode_of c.args.self.now.root) c.args.self.now.target c.args.baton.now.path
-    (filter_map change_in said) (filter_map text_in said) nodes c.close_joined.new.copy.entries) same (closed said s))
+    (filter_map change_in said) (filter_map text_in said) nodes c.close_joined-2.new.copy.entries) same (closed said s))
 
 pub returns-clause-refused : goal.returns-clause-refused
 returns-clause-refused c =
-    let same = (c.get_mut.follows.holds c.in-Some.node.now).0 ∙ set_value_same _ _ _ (sym c.in-Some.ensures.value) in
-    map_err c.close_joined.result c.close_joined.ensures.refused (λ kept. kept ∙ same)
+    let same = (c.get_mut.follows.holds c.in-Some-get_mut.node.now).0 ∙ set_value_same _ _ _ (sym c.in-Some-get_mut.ensures.value) in
+    map_err c.close_joined-2.result c.close_joined-2.ensures.refused (λ kept. kept ∙ same)
