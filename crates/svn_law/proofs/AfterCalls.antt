@@ -4,6 +4,7 @@ use Rattle.std.proofs.Common.{◌≡◌, ℕ, zero, suc, Bool, true, false, ◌|
 use Rattle.std.proofs.Common.{append_assoc, append-nil, subst}
 use Rattle.std.specs.Prelude.{Option, Some, None, cond, map, slice_get, option_map, length, filter}
 use Rattle.std.specs.List.{list_any, cons_option}
+use Rattle.std.proofs.lemmas.List.{map-append}
 use Rattle.std.proofs.lemmas.List.Elements.{filter_map-append}
 use Rattle.svn_types.specs.Names.{Path}
 use Rattle.svn_types.specs.Paths.{path_eq, parent, is_root}
@@ -78,14 +79,9 @@ gives_more : (earlier : List Call) (opened : List Path) (c : Call) (p : Path) (a
     → GivesPaths (earlier ++ c ∷ []) (opened_after opened p a)
 gives_more earlier opened c p a g e =
     ap (map (λ (x : Given). x.path)) (filter_map-append given_by earlier (c ∷ []))
-    ∙ map-both (all_given earlier) (cons_option (given_by c) [])
+    ∙ map-append (λ (x : Given). x.path) (all_given earlier) (cons_option (given_by c) [])
     ∙ (λ i. g i ++ e i) ∙ after a
   where
-    map-both : (xs ys : List Given)
-        → map (λ (x : Given). x.path) (xs ++ ys) ≡ map (λ (x : Given). x.path) xs ++ map (λ (x : Given). x.path) ys
-    map-both [] ys = refl
-    map-both (x ∷ xs) ys = ap (λ (l : List Path). x.path ∷ l) (map-both xs ys)
-
     after : (a : Action) → opened ++ opened_after [] p a ≡ opened_after opened p a
     after (Delete r) = append-nil opened
     after (Open k r) = refl
