@@ -28,7 +28,7 @@ use Rattle.svn_model.specs.Effects.{settled, settled_path, after}
 use Rattle.svn_model.specs.Result.{result}
 use Rattle.svn_model.proofs.Names.{or_first, some_same}
 use Rattle.svn_law.proofs.Described.{Setting}
-use Rattle.svn_drive_law.proofs.Classes.{none_related, both_nodes, kept_related, switched_to}
+use Rattle.svn_drive_law.proofs.Classes.{none_related, kept_related, switched_to, untouched_same}
 use Rattle.svn_drive_law.proofs.Courses.{is_delete}
 use Rattle.svn_edit_law.proofs.Appending.{after_from-more}
 use Rattle.svn_law.proofs.States.{is_at, actions_at, actions_at-drive, acted, is_deleted_above, base, state, path_cut}
@@ -74,22 +74,6 @@ module _ (d : Request) (w : WorkingCopy) (setting : Setting d w) where
       ≡ Some (base_node_by k d.target (target_path d p) text props)
   settled_base p File text props = ap (λ q. Some (FileNode d.target q text props)) (settled_at p)
   settled_base p Directory text props = ap (λ q. Some (DirNode d.target q true props)) (settled_at p)
-
-  -- a kept path that isn't touched has one node in source and target, and is complete
-  pub untouched_same : (p : Path) → is_kept d p ≡ true → is_touched d p ≡ false
-      → (n : ℕ) × (source_node d p ≡ Some n) × (target_node d p ≡ Some n) × (starts_empty_at d p ≡ false)
-  untouched_same p k t =
-      let or1 =
-      or_parts (is_root p || not (number_eq (source_node d p) (target_node d p)) || starts_empty_at d p)
-      (has_entry_below d.report.entries p)
-      (sym (ap
-      (λ b. b && (is_root p || not (number_eq (source_node d p) (target_node d p)) || starts_empty_at d p
-      || has_entry_below d.report.entries p))
-      k) ∙ t) in
-      let or2 = or_parts (is_root p || not (number_eq (source_node d p) (target_node d p))) (starts_empty_at d p) or1.0 in
-      let or3 = or_parts (is_root p) (not (number_eq (source_node d p) (target_node d p))) or2.0 in
-      let both = both_nodes h (source_node d p) (target_node d p) (kept_related d setting.served p k) (not-false _ or3.1) in
-      (both.0, both.1, both.2, or2.1)
 
   -- what stands there is what the result has, but for its revision and path
   settled_untouched : (p : Path) (n : ℕ) (k : Kind) → source_node d p ≡ Some n → starts_empty_at d p ≡ false → is_kept d p ≡ true
@@ -218,7 +202,7 @@ module _ (d : Request) (w : WorkingCopy) (setting : Setting d w) where
       by (Some n) false false z u v =
           put n (is_touched d p || is_new d p) (ap (λ x. x || is_new d p) v ∙ ap (λ x. not x && is_some (target_node d p)) u ∙ ap is_some z)
       by (Some n) true false z u v =
-          let one = untouched_same p u v in
+          let one = untouched_same d setting.served p u v in
           let same : one.0 ≡ n = some_same one.0 n (sym one.2 ∙ z) in
           ap (λ x. settled d.mode d.target p (cond x (Some (base_node h d.target (target_path d p) n)) b))
           (ap (λ x. x || is_new d p) v ∙ ap (λ x. not x && is_some (target_node d p)) u)
