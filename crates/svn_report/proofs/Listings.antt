@@ -387,21 +387,14 @@ module _ (es : Entries) (p : Path) (e : ReportEntry) (old : AreLawfulEntries es)
     links_short = links_stay;
   }
 
--- ---- a path put into a set, and one taken out
+-- ---- a path put into a set, in whose order no other is level with it, and one taken out
 
-pub put_in : (old new : BTreeSet Path) (p q : Path) → contains path_cmp new q ≡ cond (is_at (path_cmp p) q) true (contains path_cmp old q)
-    → contains path_cmp new q ≡ (path_eq p q || contains path_cmp old q)
-put_in old new p q h = h ∙ ap (λ b. cond b true (contains path_cmp old q)) (at_path p q) ∙ by (path_eq p q)
+pub put_in : (order : Path → Path → Ordering) (old new : BTreeSet Path) (p q : Path) → is_at (order p) q ≡ path_eq p q
+    → contains order new q ≡ cond (is_at (order p) q) true (contains order old q)
+    → contains order new q ≡ (path_eq p q || contains order old q)
+put_in order old new p q level h = h ∙ ap (λ b. cond b true (contains order old q)) level ∙ by (path_eq p q)
   where
-    by : (b : Bool) → cond b true (contains path_cmp old q) ≡ (b || contains path_cmp old q)
-    by true = refl
-    by false = refl
-
-pub put_in_ends : (old new : BTreeSet Path) (p q : Path) → contains end_cmp new q ≡ cond (is_at (end_cmp p) q) true (contains end_cmp old q)
-    → contains end_cmp new q ≡ (path_eq p q || contains end_cmp old q)
-put_in_ends old new p q h = h ∙ ap (λ b. cond b true (contains end_cmp old q)) (end_tied p q) ∙ by (path_eq p q)
-  where
-    by : (b : Bool) → cond b true (contains end_cmp old q) ≡ (b || contains end_cmp old q)
+    by : (b : Bool) → cond b true (contains order old q) ≡ (b || contains order old q)
     by true = refl
     by false = refl
 
