@@ -27,11 +27,10 @@ use Rattle.svn_report.specs.LawfulReports.{IsRootFirst, AreLawfulEntries}
 use Rattle.std.specs.Prelude.{nat_eq}
 use Rattle.std.specs.Cmp.Lexicographic.{pointwise}
 use Rattle.indexmap.specs.IndexMap.{insert_entry}
-use Rattle.svn_report.specs.ReportOrder.{IsKept, IsNext, IsNextBy, IsPrevious, end_cmp}
+use Rattle.svn_report.specs.ReportOrder.{IsKept, IsNext, IsNextBy, IsPrevious}
 use Rattle.svn_types.proofs.PathLemmas.{same_path, path_eq-same, path_eq-symm, below_parts}
 use Rattle.svn_types.proofs.PathsInOrder.{paths_total, path_tie, at_path, before_apart, earlier, not_both, below_after, within_between}
 use Rattle.svn_editor.proofs.OneMore.{any_found}
-use Rattle.svn_report.proofs.EndOrder.{end_tied}
 use Rattle.svn_types.proofs.Places.{some_none, passed, get_cases}
 
 -- a look-up by the path is the entry there
