@@ -59,7 +59,8 @@ module _ (d : Request) where
 
   -- calls at a height and a visit's are the same below a path, where they are at each path's height
   pub below-open : (calls : ℕ → Path → ℕ → ℕ → List Call) (visit : Path → ℕ → ℕ → List Call)
-      → ((p : Path) (parent own h : ℕ) → height_at p ≡ h → visit p parent own ≡ calls h p parent own) → (p : Path) (own : ℕ) → length p ≤ 128
+      → ((p : Path) (parent own h : ℕ) → height_at p ≡ h → visit p parent own ≡ calls h p parent own)
+      → (p : Path) (own : ℕ) → length p ≤ 128
       → calls_below d (λ q n. calls (128 - length p) q own n) (tree_size d (128 - length p)) p (own + 1)
       ≡ calls_below d (λ q n. visit q own n) (visit_size d) p (own + 1)
   below-open calls visit at_height p own l = by (enters_directory d p)

@@ -3,7 +3,7 @@ use Rattle.std.proofs.Common.{◌≡◌, ℕ, Bool, true, false, ◌&&◌, ◌||
 use Rattle.std.proofs.Common.{append_assoc, append-nil}
 use Rattle.std.proofs.Math.Bool.{and-false, and-true, not-not}
 use Rattle.std.proofs.lemmas.Bool.{and_parts}
-use Rattle.std.specs.Prelude.{Option, Some, None, is_some, cond, map, bytes_eq}
+use Rattle.std.specs.Prelude.{Option, Some, None, is_some, cond, map, filter_map, bytes_eq}
 use Rattle.std.specs.List.{cons_option}
 use Rattle.std.proofs.lemmas.List.Elements.{filter_map-append}
 use Rattle.svn_types.specs.Names.{name_cmp, Path}
@@ -78,6 +78,12 @@ quiet_texts d k cs old new =
     by false = (refl, tt)
 
 -- ---- what some actions say for a close
+
+-- what neither some actions nor the next one say
+pub quietly : {X : Type 0} (say : Action → Option X) (before : List Action) (a : Action) → filter_map say before ≡ [] → say a ≡ None
+    → filter_map say (before ++ a ∷ []) ≡ []
+quietly say before a none quiet =
+    filter_map-append say before (a ∷ []) ∙ ap (λ l. l ++ filter_map say (a ∷ [])) none ∙ ap (λ o. cons_option o []) quiet
 
 -- changes say themselves, and no text
 pub changes_in-changes : (k : Kind) (cs : List PropChange) → changes_in (map (Change k) cs) ≡ cs
@@ -270,7 +276,7 @@ module _ (d : Request) (w : WorkingCopy) (setting : Setting d w) where
       (Close Directory None) (quiet_changes Directory cs)
       ∙ ap (λ l. Some (DirNode d.target (target_path d p) true (with_changes [] l)))
       (filter_map-append change_in (before ++ Add Directory ∷ []) (map (Change Directory) cs)
-      ∙ ap (λ l. l ++ changes_in (map (Change Directory) cs)) (filter_map-append change_in before (Add Directory ∷ []) ∙ ap (λ l. l ++ []) c)
+      ∙ ap (λ l. l ++ changes_in (map (Change Directory) cs)) (quietly change_in before (Add Directory) c refl)
       ∙ changes_in-changes Directory cs)
       ∙ ap (λ ps. Some (DirNode d.target (target_path d p) true ps))
       (with_changes-between [] (props_of h n) (sorted-nil name_cmp) (target_in_order p n t))
@@ -297,14 +303,14 @@ module _ (d : Request) (w : WorkingCopy) (setting : Setting d w) where
       changes_are : changes_in ((before ++ Add File ∷ []) ++ (map (Change File) cs ++ text ∷ [])) ≡ cs
       changes_are =
           filter_map-append change_in (before ++ Add File ∷ []) (map (Change File) cs ++ text ∷ [])
-          ∙ ap (λ l. l ++ changes_in (map (Change File) cs ++ text ∷ [])) (filter_map-append change_in before (Add File ∷ []) ∙ ap (λ l. l ++ []) c)
+          ∙ ap (λ l. l ++ changes_in (map (Change File) cs ++ text ∷ [])) (quietly change_in before (Add File) c refl)
           ∙ filter_map-append change_in (map (Change File) cs) (text ∷ []) ∙ append-nil (changes_in (map (Change File) cs))
           ∙ changes_in-changes File cs
 
       texts_are : texts_in ((before ++ Add File ∷ []) ++ (map (Change File) cs ++ text ∷ [])) ≡ text_of h n ∷ []
       texts_are =
           filter_map-append text_in (before ++ Add File ∷ []) (map (Change File) cs ++ text ∷ [])
-          ∙ ap (λ l. l ++ texts_in (map (Change File) cs ++ text ∷ [])) (filter_map-append text_in before (Add File ∷ []) ∙ ap (λ l. l ++ []) x)
+          ∙ ap (λ l. l ++ texts_in (map (Change File) cs ++ text ∷ [])) (quietly text_in before (Add File) x refl)
           ∙ filter_map-append text_in (map (Change File) cs) (text ∷ []) ∙ ap (λ l. l ++ text_of h n ∷ []) (texts_in-changes File cs)
 
   -- what a path has after all of its actions, of what it had before

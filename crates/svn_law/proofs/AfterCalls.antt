@@ -1,6 +1,6 @@
 -- Calls and steps: a drive's calls, read with paths in the place of tokens, are its steps. So after its first calls each path stands as its
 -- own actions say.
-use Rattle.std.proofs.Common.{◌≡◌, ℕ, zero, suc, Bool, true, false, ◌||◌, List, [], ◌∷◌, ◌++◌, refl, sym, ◌∙◌, ap, true≢false}
+use Rattle.std.proofs.Common.{◌≡◌, ℕ, suc, Bool, true, false, ◌||◌, List, [], ◌∷◌, ◌++◌, refl, sym, ◌∙◌, ap, true≢false}
 use Rattle.std.proofs.Common.{append_assoc, append-nil, subst}
 use Rattle.std.specs.Prelude.{Option, Some, None, cond, map, slice_get, option_map, length, filter}
 use Rattle.std.specs.List.{list_any, cons_option}
@@ -56,7 +56,8 @@ pub path_of-token : (earlier : List Call) (opened : List Path) → GivesPaths ea
     → path_of earlier (token_of opened p) ≡ p
 path_of-token earlier opened g p h =
     by (given earlier (token_of opened p))
-    (sym (slice_get-map (λ (g : Given). g.path) (all_given earlier) (token_of opened p)) ∙ ap (λ l. slice_get l (token_of opened p)) g ∙ find_path opened p h)
+    (sym (slice_get-map (λ (g : Given). g.path) (all_given earlier) (token_of opened p)) ∙ ap (λ l. slice_get l (token_of opened p)) g
+    ∙ find_path opened p h)
   where
     by : (o : Option Given) → option_map (λ (g : Given). g.path) o ≡ Some p → given_path o ≡ p
     by None e = absurd (none-some p e)

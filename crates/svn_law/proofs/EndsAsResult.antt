@@ -2,23 +2,21 @@
 use Rattle.std.proofs.Common.{◌≡◌, ℕ, Bool, true, false, ◌&&◌, ◌||◌, not, List, [], ◌∷◌, ◌++◌, refl, sym, ◌∙◌, ap, subst, true≢false}
 use Rattle.std.proofs.Common.{append-nil}
 use Rattle.std.proofs.Math.Bool.{and-false}
-use Rattle.std.proofs.lemmas.Bool.{false_from_ne_true, or_parts, not-false}
+use Rattle.std.proofs.lemmas.Bool.{false_from_ne_true}
 use Rattle.std.proofs.lemmas.List.Folds.{list_any-append}
 use Rattle.std.specs.Prelude.{Option, Some, None, is_some, option_map, cond, map, filter}
 use Rattle.std.specs.List.{list_any}
 use Rattle.svn_types.specs.Names.{Path}
-use Rattle.svn_types.specs.Paths.{path_eq, is_within, is_below, is_root}
+use Rattle.svn_types.specs.Paths.{path_eq, is_within, is_below}
 use Rattle.svn_types.specs.declared.kind.Kind.{Kind}
 use Rattle.svn_types.specs.declared.kind.Kind.TheVariants.{File, Directory}
 use Rattle.svn_types.proofs.PathLemmas.{same_path, path_eq-same}
 use Rattle.svn_repo.specs.History.{History}
 use Rattle.svn_repo.specs.Readings.{are_related, kind_of, text_of, props_of}
-use Rattle.svn_report.specs.Reports.{has_entry_below}
 use Rattle.svn_editor.specs.Steps.{Mode, Update, SwitchTo, Step}
 use Rattle.svn_editor.specs.declared.call.Call.{Call}
 use Rattle.svn_editor.specs.declared.call.Call.TheVariants.{SetTargetRevision, CloseEdit}
 use Rattle.svn_model.specs.Steps.{IsDriveOf, is_touched, is_new, is_gone, starts_empty_at, source_props, source_text, path_actions}
-use Rattle.svn_editor.specs.Calls.{number_eq}
 use Rattle.svn_model.specs.Follow.{Request, is_kept, target_path, source_node, target_node}
 use Rattle.svn_model.specs.Drive.{numbered, IsDrive}
 use Rattle.svn_model.specs.declared.base_node.BaseNode.{BaseNode}

@@ -34,7 +34,7 @@ use Rattle.svn_drive_law.proofs.Courses.{AllOf}
 use Rattle.svn_law.proofs.States.{actions_at, texts_at-actions, acted, act, texts_in, base, state, step_cut}
 use Rattle.svn_law.proofs.Deletes.{kept_above_child, none_deleted_above, kept_base}
 use Rattle.svn_law.proofs.AfterSteps.{kept_present, here, moved_is, joined_new, adds_new, entered_path, joined_next}
-use Rattle.svn_law.proofs.AfterAllSteps.{is_quiet, acted_quiet, quiet_changes, quiet_texts, texts_in-changes}
+use Rattle.svn_law.proofs.AfterAllSteps.{is_quiet, acted_quiet, quiet_changes, quiet_texts, quietly, texts_in-changes}
 use Rattle.svn_law.proofs.AfterAllSteps.{text_or-texts, KeptAs, kept_as, touched_kept, new_not_kept, kept_not_gone}
 use Rattle.svn_law.proofs.EndsAsResult.{nothing_left, deleted_next}
 
@@ -270,7 +270,7 @@ module _ (d : Request) (w : WorkingCopy) (setting : Setting d w) where
       )
         where
           silent : texts_in (before ++ Add File ∷ []) ≡ []
-          silent = filter_map-append text_in before (Add File ∷ []) ∙ ap (λ l. l ++ []) x
+          silent = quietly text_in before (Add File) x refl
 
           closed : text_or (texts_in (((before ++ Add File ∷ []) ++ map (Change File) cs) ++ Text None (text_of h n) ∷ [])) [] ≡ text_of h n
           closed =

@@ -42,7 +42,7 @@ use Rattle.svn_types.proofs.Places.{some_none}
 -- what stands at a place of one list has its like at that place of the other
 like_at : {X Y Z : Type 0} (f : X → Z) (g : Y → Z) (xs : List X) (ys : List Y) (i : ℕ) (y : Y) → map f xs ≡ map g ys
     → slice_get ys i ≡ Some y → (x : X) × (slice_get xs i ≡ Some x) × (f x ≡ g y)
-like_at f g xs ys i y e h =
+like_at {X = X} f g xs ys i y e h =
     by (slice_get xs i) refl
     (sym (slice_get-map f xs i) ∙ ap (λ zs. slice_get zs i) e ∙ slice_get-map g ys i ∙ ap (option_map g) h)
   where
