@@ -24,7 +24,7 @@ sizes-same : (s t : Path → ℕ) (p : Path) → ((m : Name) → s (child p m) �
 sizes-same s t p h [] = refl
 sizes-same s t p h (m ∷ ns) = ap (λ n. n + sizes s p ns) (h m) ∙ ap (λ n. t (child p m) + n) (sizes-same s t p h ns)
 
-pub in_turn-same : (f g : Path → ℕ → List Call) (s t : Path → ℕ) (p : Path) → ((m : Name) (n : ℕ) → f (child p m) n ≡ g (child p m) n)
+in_turn-same : (f g : Path → ℕ → List Call) (s t : Path → ℕ) (p : Path) → ((m : Name) (n : ℕ) → f (child p m) n ≡ g (child p m) n)
     → ((m : Name) → s (child p m) ≡ t (child p m)) → (ns : List Name) (next : ℕ) → in_turn f s p next ns ≡ in_turn g t p next ns
 in_turn-same f g s t p h k [] next = refl
 in_turn-same f g s t p h k (m ∷ ns) next =
@@ -39,7 +39,7 @@ module _ (d : Request) where
   unfolding visit_size
   visit_size-height p h e = ap (λ n. tree_size d n p) e
 
-  pub child_height : (p : Path) (m : Name) → length p ≤ 128 → height_at (child p m) ≡ 128 - length p
+  child_height : (p : Path) (m : Name) → length p ≤ 128 → height_at (child p m) ≡ 128 - length p
   child_height p m l = let one : length (child p m) ≡ length p + 1 = length-append p (m ∷ []) in omega arith
 
   pub own_height : (p : Path) → length p ≤ 128 → height_at p ≡ suc (128 - length p)
@@ -55,6 +55,27 @@ module _ (d : Request) where
       by true =
           sizes-same (tree_size d (128 - length p)) (visit_size d) p
           (λ m. sym (visit_size-height (child p m) (128 - length p) (child_height p m l))) (names_below d p)
+      by false = refl
+
+  -- calls at a height and a visit's are the same below a path, where they are at each path's height
+  pub below-open : (calls : ℕ → Path → ℕ → ℕ → List Call) (visit : Path → ℕ → ℕ → List Call)
+      → ((p : Path) (parent own h : ℕ) → height_at p ≡ h → visit p parent own ≡ calls h p parent own)
+      → (p : Path) (own : ℕ) → length p ≤ 128
+      → calls_below d (λ q n. calls (128 - length p) q own n) (tree_size d (128 - length p)) p (own + 1)
+      ≡ calls_below d (λ q n. visit q own n) (visit_size d) p (own + 1)
+  below-open calls visit at_height p own l = by (enters_directory d p)
+    where
+      h : ℕ
+      h = 128 - length p
+
+      by : (b : Bool)
+          → cond b (in_turn (λ q n. calls h q own n) (tree_size d h) p (own + 1) (names_below d p)) []
+          ≡ cond b (in_turn (λ q n. visit q own n) (visit_size d) p (own + 1) (names_below d p)) []
+      by true =
+          in_turn-same (λ q n. calls h q own n) (λ q n. visit q own n) (tree_size d h) (visit_size d) p
+          (λ m n. sym (at_height (child p m) own n h (child_height p m l)))
+          (λ m. sym (visit_size-height (child p m) h (child_height p m l)))
+          (names_below d p) (own + 1)
       by false = refl
 
   module _ (late : Bool) where
@@ -76,20 +97,7 @@ module _ (d : Request) where
     visit_calls-open p parent own l =
         visit_calls-height p parent own (suc (128 - length p)) (own_height p l)
         ∙ ap (λ x. calls_at p parent own (first_actions d late p) ++ (x ++ calls_at p parent own (last_actions d p)))
-        (by (enters_directory d p))
-      where
-        h : ℕ
-        h = 128 - length p
-
-        by : (b : Bool)
-            → cond b (in_turn (λ q n. tree_calls d late h q own n) (tree_size d h) p (own + 1) (names_below d p)) []
-            ≡ cond b (under p own (own + 1)) []
-        by true =
-            in_turn-same (λ q n. tree_calls d late h q own n) (λ q n. visit_calls d late q own n) (tree_size d h) (visit_size d) p
-            (λ m n. sym (visit_calls-height (child p m) own n h (child_height p m l)))
-            (λ m. sym (visit_size-height (child p m) h (child_height p m l)))
-            (names_below d p) (own + 1)
-        by false = refl
+        (below-open (tree_calls d late) (visit_calls d late) visit_calls-height p own l)
 
     -- what comes after the delete
     abbrev pub rest_of : Path → ℕ → ℕ → List Call

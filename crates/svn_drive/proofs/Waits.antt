@@ -22,7 +22,7 @@ use Rattle.svn_drive.specs.declared.walk.Walk.{Walk}
 use Rattle.svn_drive.specs.Walking.{IsEntered, IsTold, request_of, text_action, close_action, has_text_of}
 use Rattle.svn_model.proofs.Names.{Name}
 use Rattle.svn_drive.proofs.FileEnds.{ends_as, late_as}
-use Rattle.svn_drive.proofs.Visits.{child_height, own_height, in_turn-same, visit_size-height}
+use Rattle.svn_drive.proofs.Visits.{own_height, below-open}
 
 pub waiting-append : (h : History) (xs ys : List Texted) → waiting h (xs ++ ys) ≡ waiting h xs ++ waiting h ys
 waiting-append h [] ys = refl
@@ -125,20 +125,8 @@ module _ (d : Request) (late : Bool) where
       → visit_late d late p parent own ≡ calls_at p parent own (late_actions d late p) ++ (beneath p own ++ [])
   late-open p parent own l =
       late-height p parent own (suc (128 - length p)) (own_height d p l)
-      ∙ ap (λ x. calls_at p parent own (late_actions d late p) ++ (x ++ [])) (by (enters_directory d p))
-    where
-      h : ℕ
-      h = 128 - length p
-
-      by : (b : Bool)
-          → cond b (in_turn (λ q n. late_calls d late h q own n) (tree_size d h) p (own + 1) (names_below d p)) []
-          ≡ cond b (under p own (own + 1)) []
-      by true =
-          in_turn-same (λ q n. late_calls d late h q own n) (λ q n. visit_late d late q own n) (tree_size d h) (visit_size d) p
-          (λ m n. sym (late-height (child p m) own n h (child_height d p m l)))
-          (λ m. sym (visit_size-height d (child p m) h (child_height d p m l)))
-          (names_below d p) (own + 1)
-      by false = refl
+      ∙ ap (λ x. calls_at p parent own (late_actions d late p) ++ (x ++ []))
+      (below-open d (late_calls d late) (visit_late d late) late-height p own l)
 
   -- what isn't entered has nothing that waits
   pub late-not_entered : (p : Path) (parent own : ℕ) → length p ≤ 128 → is_entered d p ≡ false → visit_late d late p parent own ≡ []

@@ -155,6 +155,23 @@ module _ (d : Request) (setting : Served d) where
       (is_child d.report p name).repos_path ∙ ap (λ x. linked_or x (child (says p).repos_path name)) o
       ∙ ap (λ q. child q name) (sym (own_path e p k))
 
+  -- a kept path that isn't touched has one node in source and target, is complete, and has no entry below
+  pub untouched_same : (p : Path) → is_kept d p ≡ true → is_touched d p ≡ false
+      → (n : ℕ) × (source_node d p ≡ Some n) × (target_node d p ≡ Some n) × (starts_empty_at d p ≡ false)
+      × (has_entry_below d.report.entries p ≡ false)
+  untouched_same p k t =
+      let or1 =
+      or_parts (is_root p || not (number_eq (source_node d p) (target_node d p)) || starts_empty_at d p)
+      (has_entry_below d.report.entries p)
+      (sym (ap
+      (λ b. b && (is_root p || not (number_eq (source_node d p) (target_node d p)) || starts_empty_at d p
+      || has_entry_below d.report.entries p))
+      k) ∙ t) in
+      let or2 = or_parts (is_root p || not (number_eq (source_node d p) (target_node d p))) (starts_empty_at d p) or1.0 in
+      let or3 = or_parts (is_root p) (not (number_eq (source_node d p) (target_node d p))) or2.0 in
+      let both = both_nodes h (source_node d p) (target_node d p) (kept_related p k) (not-false _ or3.1) in
+      (both.0, both.1, both.2, or2.1, or1.1)
+
   -- the source and the target of a child are the entry of the node that both have at the path
   record SameBelow (p : Path) (name : Name) : Type 0 where
     node : Option ℕ
@@ -166,31 +183,22 @@ module _ (d : Request) (setting : Served d) where
 
   same_below : (p : Path) (name : Name) → is_kept d p ≡ true → is_touched d p ≡ false → SameBelow p name
   same_below p name k t =
-      let or1 =
-      or_parts (is_root p || not (number_eq (source_node d p) (target_node d p)) || starts_empty_at d p)
-      (has_entry_below d.report.entries p)
-      (sym (ap
-      (λ b. b && (is_root p || not (number_eq (source_node d p) (target_node d p)) || starts_empty_at d p
-      || has_entry_below d.report.entries p))
-      k) ∙ t) in
-      let or2 = or_parts (is_root p || not (number_eq (source_node d p) (target_node d p))) (starts_empty_at d p) or1.0 in
-      let or3 = or_parts (is_root p) (not (number_eq (source_node d p) (target_node d p))) or2.0 in
-      let both = both_nodes h (source_node d p) (target_node d p) (kept_related p k) (not-false _ or3.1) in
-      let n = both.0 in
-      let own : (says (child p name)).own ≡ None = own-is d.report (child p name) ∙ none_at-child d.report.entries p name or1.1 in
-      let src : source h (says p) ≡ Some n = sym (ap (source h) (follow-here d p)) ∙ both.1 in
+      let same = untouched_same p k t in
+      let n = same.0 in
+      let own : (says (child p name)).own ≡ None = own-is d.report (child p name) ∙ none_at-child d.report.entries p name same.4 in
+      let src : source h (says p) ≡ Some n = sym (ap (source h) (follow-here d p)) ∙ same.1 in
       let place : look h d.target (child (target_path d p) name) ≡ value_of (entries_of h n) name =
-      look-child h d.target (target_path d p) name ∙ ap (λ x. entry_below h x name) both.2 in
+      look-child h d.target (target_path d p) name ∙ ap (λ x. entry_below h x name) same.2 in
       record {
         node = value_of (entries_of h n) name;
         in_source =
             ap (source h) (follow-here d (child p name))
             ∙ from_source n own src (kind_of h n) refl
-            (sym (ap (λ b. starts_empty (follow d p).here.own && b) (ap (is_directory_at h) both.1)) ∙ or2.1) both.2;
+            (sym (ap (λ b. starts_empty (follow d p).here.own && b) (ap (is_directory_at h) same.1)) ∙ same.3) same.2;
         in_target = ap (look h d.target) (kept_path d.mode refl p k name own) ∙ place;
         in_place = place;
         no_entry = own;
-        none_below = none_below-child d.report.entries p name or1.1;
+        none_below = none_below-child d.report.entries p name same.4;
       }
     where
       from_source : (n : ℕ) → (says (child p name)).own ≡ None → source h (says p) ≡ Some n → (kind : Kind) → kind_of h n ≡ kind

@@ -4,6 +4,7 @@ use Rattle.std.proofs.Common.{length-append, arith}
 use Rattle.std.specs.Prelude.{Option, Some, None, is_some, is_none, cond, nat_lt}
 use Rattle.std.specs.Option.{option_or}
 use Rattle.std.proofs.lemmas.Bool.{and_parts, not-false}
+use Rattle.std.proofs.lemmas.Option.{none-some}
 use Rattle.svn_types.specs.Names.{Path}
 use Rattle.svn_types.specs.Paths.{path_eq, child, parent}
 use Rattle.svn_types.specs.declared.kind.Kind.{Kind}
@@ -11,6 +12,7 @@ use Rattle.svn_types.specs.declared.kind.Kind.TheVariants.{File, Directory}
 use Rattle.svn_types.specs.Pairs.{value_of}
 use Rattle.svn_types.proofs.NameLemmas.{Name}
 use Rattle.svn_types.proofs.PathLemmas.{same_path, path_ind, parent-child, is_root-child}
+use Rattle.svn_types.proofs.Places.{some_none, passed}
 use Rattle.svn_repo.specs.History.{History, look}
 use Rattle.svn_repo.specs.Readings.{IsHistory, is_directory, is_directory_at, are_related, kind_of, entries_of}
 use Rattle.svn_report.specs.declared.entry.ReportEntry.{ReportEntry}
@@ -40,43 +42,25 @@ use Rattle.svn_drive_law.proofs.TreeOrder.{in_key_order}
 pub no_fault : (h : History) (r : ReportView) (i : ℕ) (es : List (Path × ReportEntry)) (p : Path) (x : ReportEntry)
     → first_fault_from h r i es ≡ None → entry_at es p ≡ Some x
     → (j : ℕ) × (fault_of h r j p x ≡ None)
-no_fault h r i [] p x f e = absurd (none e)
-  where
-    none : None ≡ Some x → ⊥
-    none q = cc
+no_fault h r i [] p x f e = absurd (none-some x e)
 no_fault h r i (e ∷ es) p x f a = by (fault_of h r i e.0 e.1) refl f (path_eq e.0 p) refl a (no_fault h r (i + 1) es p x)
   where
     by : (o : Option ReportFault) → fault_of h r i e.0 e.1 ≡ o → option_or o (first_fault_from h r (i + 1) es) ≡ None → (b : Bool)
         → path_eq e.0 p ≡ b → cond b (Some e.1) (entry_at es p) ≡ Some x
         → (first_fault_from h r (i + 1) es ≡ None → entry_at es p ≡ Some x → (j : ℕ) × (fault_of h r j p x ≡ None))
         → (j : ℕ) × (fault_of h r j p x ≡ None)
-    by (Some u) q k b c y ih = absurd (some k)
-      where
-        some : Some u ≡ None → ⊥
-        some z = cc
+    by (Some u) q k b c y ih = absurd (some_none u k)
     by None q k true c y ih = (i, sym (λ z. fault_of h r i (same_path e.0 p c z) (some_same e.1 x y z)) ∙ q)
     by None q k false c y ih = ih k y
 
 -- what the four tests of an entry say, where it has no fault
 pub four_pass : (a b c d : Bool) (u v x y : ReportFault) → cond a (Some u) (cond b (Some v) (cond c (Some x) (cond d (Some y) None))) ≡ None
     → (a ≡ false) × (b ≡ false) × (c ≡ false) × (d ≡ false)
-four_pass true b c d u v x y e = absurd (some e)
-  where
-    some : Some u ≡ None → ⊥
-    some z = cc
-four_pass false true c d u v x y e = absurd (some e)
-  where
-    some : Some v ≡ None → ⊥
-    some z = cc
-four_pass false false true d u v x y e = absurd (some e)
-  where
-    some : Some x ≡ None → ⊥
-    some z = cc
-four_pass false false false true u v x y e = absurd (some e)
-  where
-    some : Some y ≡ None → ⊥
-    some z = cc
-four_pass false false false false u v x y e = (refl, refl, refl, refl)
+four_pass a b c d u v x y e =
+    let first = passed a u (cond b (Some v) (cond c (Some x) (cond d (Some y) None))) e in
+    let second = passed b v (cond c (Some x) (cond d (Some y) None)) first.1 in
+    let third = passed c x (cond d (Some y) None) second.1 in
+    (first.0, second.0, third.0, (passed d y None third.1).0)
 
 -- ---- targets
 
@@ -89,20 +73,11 @@ related_of d h =
     by (nat_lt d.target (length d.history.roots)) (is_none (target_node d []))
     (are_related d.history (source_node d []) (target_node d [])) h
   where
-    by : (a b c : Bool) → tested a b c ≡ None → c ≡ true
-    by true false true k = refl
-    by false b c k = absurd (none k)
-      where
-        none : Some NoSuchTarget ≡ None → ⊥
-        none q = cc
-    by true true c k = absurd (none k)
-      where
-        none : Some NoRoot ≡ None → ⊥
-        none q = cc
-    by true false false k = absurd (none k)
-      where
-        none : Some OtherRoot ≡ None → ⊥
-        none q = cc
+    by : (there none related : Bool) → tested there none related ≡ None → related ≡ true
+    by there none related k =
+        let first = passed (not there) NoSuchTarget (cond none (Some NoRoot) (cond (not related) (Some OtherRoot) None)) k in
+        let second = passed none NoRoot (cond (not related) (Some OtherRoot) None) first.1 in
+        not-false related (passed (not related) OtherRoot None second.1).0
 
 module _ (d : Request) (history : IsHistory d.history) (report : IsReport d.report) (checkable : IsCheckable d.history d.report) where
   abbrev h : History
@@ -135,10 +110,7 @@ module _ (d : Request) (history : IsHistory d.history) (report : IsReport d.repo
     where
       by : (k : Kind) → kind_of h n ≡ k → is_directory k ≡ true
       by Directory c = refl
-      by File c = absurd (none (sym (ap (λ es. value_of es name) (history.files_are_leaves r q n e c)) ∙ v))
-        where
-          none : None ≡ Some m → ⊥
-          none z = cc
+      by File c = absurd (none-some m (sym (ap (λ es. value_of es name) (history.files_are_leaves r q n e c)) ∙ v))
 
   -- where a child without an entry has a source, the path has a directory
   inherits_directory : (p : Path) (name : Name) (m : ℕ) → (says (child p name)).own ≡ None → source h (says (child p name)) ≡ Some m
@@ -148,14 +120,11 @@ module _ (d : Request) (history : IsHistory d.history) (report : IsReport d.repo
       c : IsChildOf (says p) (says (child p name)) name
       c = is_child d.report p name
 
-      none : None ≡ Some m → ⊥
-      none z = cc
-
       empty : starts_empty (says p).governing ≡ false
       empty = by (starts_empty (says p).governing) refl
         where
           by : (b : Bool) → starts_empty (says p).governing ≡ b → b ≡ false
-          by true e = absurd (none (sym (hidden_below h (says p) (says (child p name)) name c o e) ∙ s))
+          by true e = absurd (none-some m (sym (hidden_below h (says p) (says (child p name)) name c o e) ∙ s))
           by false e = refl
 
       -- the entry that governs both is a set or a link
@@ -179,12 +148,13 @@ module _ (d : Request) (history : IsHistory d.history) (report : IsReport d.repo
 
       by_place : (place : Option ℕ) → look h (governing_revision (says p)) (says p).repos_path ≡ place
           → is_directory_at h (source h (says p)) ≡ true
-      by_place None e = absurd (none (sym (source_below h (says p) (says (child p name)) name c o (ap (λ x. entry_below h x name) e)) ∙ s))
+      by_place None e =
+          absurd (none-some m (sym (source_below h (says p) (says (child p name)) name c o (ap (λ x. entry_below h x name) e)) ∙ s))
       by_place (Some n) e = by_entry (value_of (entries_of h n) name) refl
         where
           by_entry : (v : Option ℕ) → value_of (entries_of h n) name ≡ v → is_directory_at h (source h (says p)) ≡ true
           by_entry None v =
-              absurd (none (sym (source_below h (says p) (says (child p name)) name c o (ap (λ x. entry_below h x name) e ∙ v)) ∙ s))
+              absurd (none-some m (sym (source_below h (says p) (says (child p name)) name c o (ap (λ x. entry_below h x name) e ∙ v)) ∙ s))
           by_entry (Some k) v =
               ap (is_directory_at h) (at_path ∙ e) ∙ has_entries (governing_revision (says p)) (says p).repos_path n k name e v
 

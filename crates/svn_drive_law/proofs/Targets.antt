@@ -17,6 +17,7 @@ use Rattle.svn_model.specs.Sources.{reported, revision_of, is_set_or_link, sourc
 use Rattle.svn_model.specs.Follow.{Request, root_path, source_node, target_node}
 use Rattle.svn_drive_law.specs.Laws.{existing_targets_have_no_fault}
 use Rattle.svn_drive_law.proofs.Reporting.{shown_source}
+use Rattle.svn_types.proofs.Places.{some_none}
 use Rattle.svn_drive_law.proofs.ReportDrives.{from_start, no_fault, four_pass, tested}
 
 module _ (d : Request) (history : IsHistory d.history) (report : IsReport d.report)
@@ -30,10 +31,7 @@ module _ (d : Request) (history : IsHistory d.history) (report : IsReport d.repo
     where
       by : (es : List (Path × ReportEntry)) → IsRootFirst es → first_fault_in d.history d.report es ≡ None
           → (x : ReportEntry) × (entry_at es [] ≡ Some x) × (is_set x ≡ true)
-      by [] f none = absurd (missing none)
-        where
-          missing : Some NoEntries ≡ None → ⊥
-          missing q = cc
+      by [] f none = absurd (some_none NoEntries none)
       by (e ∷ es) f none = (e.1, ap (λ b. cond b (Some e.1) (entry_at es [])) (at_root e.0 f.0), f.1)
         where
           at_root : (p : Path) → is_root p ≡ true → path_eq p [] ≡ true

@@ -8,6 +8,7 @@ use Rattle.std.specs.declared.cmp.Ordering.{Ordering}
 use Rattle.std.specs.declared.cmp.Ordering.TheVariants.{Less, Equal, Greater}
 use Rattle.std.specs.Ordering.{is_lt, match_ordering}
 use Rattle.std.proofs.lemmas.List.Folds.{list_any-append}
+use Rattle.std.proofs.lemmas.Option.{none-some}
 use Rattle.std.proofs.lemmas.Bool.{or_left, or_right, or_parts, false_from_ne_true, not-false}
 use Rattle.svn_types.specs.Names.{Path, name_cmp}
 use Rattle.svn_types.specs.Paths.{path_eq, child}
@@ -85,10 +86,7 @@ ordered_below d q = ordered-fold (entry_names d (source_node d q) ++ entry_names
 
 pub named_below : (d : Request) (o : Option ℕ) (name : Name) (n : ℕ) → entry_below d.history o name ≡ Some n
     → has_name (entry_names d o) name ≡ true
-named_below d None name n h = absurd (none h)
-  where
-    none : None ≡ Some n → ⊥
-    none q = cc
+named_below d None name n h = absurd (none-some n h)
 named_below d (Some m) name n h = named_value (entries_of d.history m) name n h
 
 next_name-child : (p : Path) (name : Name) → next_name p (child p name) ≡ name ∷ []
@@ -97,10 +95,7 @@ next_name-child (m ∷ p) name = ap (λ b. cond b (next_name p (child p name)) [
 
 named_in : (p : Path) (name : Name) (es : List (Path × ReportEntry)) (x : ReportEntry) → entry_at es (child p name) ≡ Some x
     → has_name (names_in p es) name ≡ true
-named_in p name [] x h = absurd (none h)
-  where
-    none : None ≡ Some x → ⊥
-    none q = cc
+named_in p name [] x h = absurd (none-some x h)
 named_in p name (e ∷ es) x h =
     list_any-append (λ n. bytes_eq n name) (next_name p e.0) (names_in p es) ∙ by (path_eq e.0 (child p name)) refl h (named_in p name es x)
   where
@@ -143,15 +138,12 @@ module _ (d : Request) (setting : Served d) where
       here : source d.history (says (child q name)) ≡ Some n
       here = sym (ap (source d.history) (follow-here d (child q name))) ∙ s
 
-      none : None ≡ Some n → ⊥
-      none z = cc
-
       by_source : (says (child q name)).own ≡ None → (o : Option ℕ) (e : Bool) → source d.history (says q) ≡ o
           → starts_empty (says q).governing ≡ e → in_source q name ≡ true
       by_source own None e u v =
-          absurd (none (sym (source_inherits d.history (says q) (says (child q name)) name (is_child d.report q name) own u) ∙ here))
+          absurd (none-some n (sym (source_inherits d.history (says q) (says (child q name)) name (is_child d.report q name) own u) ∙ here))
       by_source own (Some m) true u v =
-          absurd (none (sym (hidden_below d.history (says q) (says (child q name)) name (is_child d.report q name) own v) ∙ here))
+          absurd (none-some n (sym (hidden_below d.history (says q) (says (child q name)) name (is_child d.report q name) own v) ∙ here))
       by_source own (Some m) false u v =
           ap (λ o. has_name (entry_names d o) name) (ap (source d.history) (follow-here d q) ∙ u)
           ∙ named_value (entries_of d.history m) name n
@@ -260,10 +252,7 @@ module _ (d : Request) (setting : Served d) where
       more p name ih n t = by (is_kept d (child p name)) refl
         where
           by_target : (o : Option ℕ) → target_node d p ≡ o → entry_below d.history o name ≡ Some n → (m : ℕ) × (o ≡ Some m)
-          by_target None e u = absurd (none u)
-            where
-              none : None ≡ Some n → ⊥
-              none q = cc
+          by_target None e u = absurd (none-some n u)
           by_target (Some k) e u = (k, refl)
 
           by : (k : Bool) → is_kept d (child p name) ≡ k → length (child p name) ≤ 64 + length (target_path d (child p name))

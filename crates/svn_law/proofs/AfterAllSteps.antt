@@ -3,8 +3,9 @@ use Rattle.std.proofs.Common.{◌≡◌, ℕ, Bool, true, false, ◌&&◌, ◌||
 use Rattle.std.proofs.Common.{append_assoc, append-nil}
 use Rattle.std.proofs.Math.Bool.{and-false, and-true, not-not}
 use Rattle.std.proofs.lemmas.Bool.{and_parts}
-use Rattle.std.specs.Prelude.{Option, Some, None, is_some, cond, map, bytes_eq}
+use Rattle.std.specs.Prelude.{Option, Some, None, is_some, cond, map, filter_map, bytes_eq}
 use Rattle.std.specs.List.{cons_option}
+use Rattle.std.proofs.lemmas.List.Elements.{filter_map-append}
 use Rattle.svn_types.specs.Names.{name_cmp, Path}
 use Rattle.svn_types.specs.Props.{PropChange, changes_between, with_changes}
 use Rattle.svn_types.specs.Pairs.{InNameOrder}
@@ -78,24 +79,11 @@ quiet_texts d k cs old new =
 
 -- ---- what some actions say for a close
 
--- two lists of actions say what each says
-pub changes_in-append : (xs ys : List Action) → changes_in (xs ++ ys) ≡ changes_in xs ++ changes_in ys
-changes_in-append [] ys = refl
-changes_in-append (x ∷ xs) ys = by (change_in x) (changes_in-append xs ys)
-  where
-    by : (o : Option PropChange) → changes_in (xs ++ ys) ≡ changes_in xs ++ changes_in ys
-        → cons_option o (changes_in (xs ++ ys)) ≡ cons_option o (changes_in xs) ++ changes_in ys
-    by None e = e
-    by (Some c) e = ap (λ (l : List PropChange). c ∷ l) e
-
-pub texts_in-append : (xs ys : List Action) → texts_in (xs ++ ys) ≡ texts_in xs ++ texts_in ys
-texts_in-append [] ys = refl
-texts_in-append (x ∷ xs) ys = by (text_in x) (texts_in-append xs ys)
-  where
-    by : (o : Option (List ℕ)) → texts_in (xs ++ ys) ≡ texts_in xs ++ texts_in ys
-        → cons_option o (texts_in (xs ++ ys)) ≡ cons_option o (texts_in xs) ++ texts_in ys
-    by None e = e
-    by (Some t) e = ap (λ (l : List (List ℕ)). t ∷ l) e
+-- what neither some actions nor the next one say
+pub quietly : {X : Type 0} (say : Action → Option X) (before : List Action) (a : Action) → filter_map say before ≡ [] → say a ≡ None
+    → filter_map say (before ++ a ∷ []) ≡ []
+quietly say before a none quiet =
+    filter_map-append say before (a ∷ []) ∙ ap (λ l. l ++ filter_map say (a ∷ [])) none ∙ ap (λ o. cons_option o []) quiet
 
 -- changes say themselves, and no text
 pub changes_in-changes : (k : Kind) (cs : List PropChange) → changes_in (map (Change k) cs) ≡ cs
@@ -110,7 +98,7 @@ texts_in-changes k (c ∷ cs) = texts_in-changes k cs
 pub changes_in-texts : (d : Request) (k : Kind) (cs : List PropChange) (old new : List ℕ)
     → changes_in (map (Change k) cs ++ text_actions d old new) ≡ cs
 changes_in-texts d k cs old new =
-    changes_in-append (map (Change k) cs) (text_actions d old new)
+    filter_map-append change_in (map (Change k) cs) (text_actions d old new)
     ∙ ap (λ l. l ++ changes_in (text_actions d old new)) (changes_in-changes k cs)
     ∙ ap (λ l. cs ++ l) (by (bytes_eq old new)) ∙ append-nil cs
   where
@@ -123,7 +111,7 @@ pub text_or-texts : (d : Request) (k : Kind) (cs : List PropChange) (old new : L
     → text_or (texts_in (map (Change k) cs ++ text_actions d old new)) old ≡ new
 text_or-texts d k cs old new =
     ap (λ ts. text_or ts old)
-    (texts_in-append (map (Change k) cs) (text_actions d old new)
+    (filter_map-append text_in (map (Change k) cs) (text_actions d old new)
     ∙ ap (λ l. l ++ texts_in (text_actions d old new)) (texts_in-changes k cs))
     ∙ by (bytes_eq old new) refl
   where
@@ -287,8 +275,8 @@ module _ (d : Request) (w : WorkingCopy) (setting : Setting d w) where
       acted_closed d p (before ++ Add Directory ∷ []) (map (Change Directory) cs) (Some (DirNode d.target (target_path d p) false []))
       (Close Directory None) (quiet_changes Directory cs)
       ∙ ap (λ l. Some (DirNode d.target (target_path d p) true (with_changes [] l)))
-      (changes_in-append (before ++ Add Directory ∷ []) (map (Change Directory) cs)
-      ∙ ap (λ l. l ++ changes_in (map (Change Directory) cs)) (changes_in-append before (Add Directory ∷ []) ∙ ap (λ l. l ++ []) c)
+      (filter_map-append change_in (before ++ Add Directory ∷ []) (map (Change Directory) cs)
+      ∙ ap (λ l. l ++ changes_in (map (Change Directory) cs)) (quietly change_in before (Add Directory) c refl)
       ∙ changes_in-changes Directory cs)
       ∙ ap (λ ps. Some (DirNode d.target (target_path d p) true ps))
       (with_changes-between [] (props_of h n) (sorted-nil name_cmp) (target_in_order p n t))
@@ -314,16 +302,16 @@ module _ (d : Request) (w : WorkingCopy) (setting : Setting d w) where
 
       changes_are : changes_in ((before ++ Add File ∷ []) ++ (map (Change File) cs ++ text ∷ [])) ≡ cs
       changes_are =
-          changes_in-append (before ++ Add File ∷ []) (map (Change File) cs ++ text ∷ [])
-          ∙ ap (λ l. l ++ changes_in (map (Change File) cs ++ text ∷ [])) (changes_in-append before (Add File ∷ []) ∙ ap (λ l. l ++ []) c)
-          ∙ changes_in-append (map (Change File) cs) (text ∷ []) ∙ append-nil (changes_in (map (Change File) cs))
+          filter_map-append change_in (before ++ Add File ∷ []) (map (Change File) cs ++ text ∷ [])
+          ∙ ap (λ l. l ++ changes_in (map (Change File) cs ++ text ∷ [])) (quietly change_in before (Add File) c refl)
+          ∙ filter_map-append change_in (map (Change File) cs) (text ∷ []) ∙ append-nil (changes_in (map (Change File) cs))
           ∙ changes_in-changes File cs
 
       texts_are : texts_in ((before ++ Add File ∷ []) ++ (map (Change File) cs ++ text ∷ [])) ≡ text_of h n ∷ []
       texts_are =
-          texts_in-append (before ++ Add File ∷ []) (map (Change File) cs ++ text ∷ [])
-          ∙ ap (λ l. l ++ texts_in (map (Change File) cs ++ text ∷ [])) (texts_in-append before (Add File ∷ []) ∙ ap (λ l. l ++ []) x)
-          ∙ texts_in-append (map (Change File) cs) (text ∷ []) ∙ ap (λ l. l ++ text_of h n ∷ []) (texts_in-changes File cs)
+          filter_map-append text_in (before ++ Add File ∷ []) (map (Change File) cs ++ text ∷ [])
+          ∙ ap (λ l. l ++ texts_in (map (Change File) cs ++ text ∷ [])) (quietly text_in before (Add File) x refl)
+          ∙ filter_map-append text_in (map (Change File) cs) (text ∷ []) ∙ ap (λ l. l ++ text_of h n ∷ []) (texts_in-changes File cs)
 
   -- what a path has after all of its actions, of what it had before
   abbrev pub entered_end : Path → Option ℕ → Option BaseNode → Option BaseNode

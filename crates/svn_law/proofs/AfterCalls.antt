@@ -1,9 +1,11 @@
 -- Calls and steps: a drive's calls, read with paths in the place of tokens, are its steps. So after its first calls each path stands as its
 -- own actions say.
-use Rattle.std.proofs.Common.{◌≡◌, ℕ, zero, suc, Bool, true, false, ◌||◌, List, [], ◌∷◌, ◌++◌, refl, sym, ◌∙◌, ap, true≢false}
+use Rattle.std.proofs.Common.{◌≡◌, ℕ, suc, Bool, true, false, ◌||◌, List, [], ◌∷◌, ◌++◌, refl, sym, ◌∙◌, ap, true≢false}
 use Rattle.std.proofs.Common.{append_assoc, append-nil, subst}
 use Rattle.std.specs.Prelude.{Option, Some, None, cond, map, slice_get, option_map, length, filter}
 use Rattle.std.specs.List.{list_any, cons_option}
+use Rattle.std.proofs.lemmas.List.{map-append}
+use Rattle.std.proofs.lemmas.Option.{none-some, same_Some, slice_get-map}
 use Rattle.std.proofs.lemmas.List.Elements.{filter_map-append}
 use Rattle.svn_types.specs.Names.{Path}
 use Rattle.svn_types.specs.Paths.{path_eq, parent, is_root}
@@ -49,27 +51,17 @@ find_path (q ∷ opened) p h = by (path_eq p q) refl h (find_path opened p)
     by true e h ih = ap Some (sym (same_path p q e))
     by false e h ih = ih h
 
-get-map : (gs : List Given) (t : ℕ) → slice_get (map (λ (g : Given). g.path) gs) t ≡ option_map (λ (g : Given). g.path) (slice_get gs t)
-get-map [] t = refl
-get-map (g ∷ gs) zero = refl
-get-map (g ∷ gs) (suc t) = get-map gs t
-
 -- the path of a token
 pub path_of-token : (earlier : List Call) (opened : List Path) → GivesPaths earlier opened → (p : Path) → is_opened opened p ≡ true
     → path_of earlier (token_of opened p) ≡ p
 path_of-token earlier opened g p h =
     by (given earlier (token_of opened p))
-    (sym (get-map (all_given earlier) (token_of opened p)) ∙ ap (λ l. slice_get l (token_of opened p)) g ∙ find_path opened p h)
+    (sym (slice_get-map (λ (g : Given). g.path) (all_given earlier) (token_of opened p)) ∙ ap (λ l. slice_get l (token_of opened p)) g
+    ∙ find_path opened p h)
   where
     by : (o : Option Given) → option_map (λ (g : Given). g.path) o ≡ Some p → given_path o ≡ p
-    by None e = absurd (none e)
-      where
-        none : None ≡ Some p → ⊥
-        none q = cc
-    by (Some k) e = some e
-      where
-        some : Some k.path ≡ Some p → k.path ≡ p
-        some q = cc
+    by None e = absurd (none-some p e)
+    by (Some k) e = same_Some k.path p e
 
 -- ---- one call read
 
@@ -78,14 +70,9 @@ gives_more : (earlier : List Call) (opened : List Path) (c : Call) (p : Path) (a
     → GivesPaths (earlier ++ c ∷ []) (opened_after opened p a)
 gives_more earlier opened c p a g e =
     ap (map (λ (x : Given). x.path)) (filter_map-append given_by earlier (c ∷ []))
-    ∙ map-both (all_given earlier) (cons_option (given_by c) [])
+    ∙ map-append (λ (x : Given). x.path) (all_given earlier) (cons_option (given_by c) [])
     ∙ (λ i. g i ++ e i) ∙ after a
   where
-    map-both : (xs ys : List Given)
-        → map (λ (x : Given). x.path) (xs ++ ys) ≡ map (λ (x : Given). x.path) xs ++ map (λ (x : Given). x.path) ys
-    map-both [] ys = refl
-    map-both (x ∷ xs) ys = ap (λ (l : List Path). x.path ∷ l) (map-both xs ys)
-
     after : (a : Action) → opened ++ opened_after [] p a ≡ opened_after opened p a
     after (Delete r) = append-nil opened
     after (Open k r) = refl
@@ -165,10 +152,7 @@ steps_after-append earlier (c ∷ xs) ys =
 
 pub effect-read : (mode : Mode) (earlier : List Call) (c : Call) (w : WorkingCopy) (x : Step) → step_of earlier c ≡ Some x
     → effect mode earlier c w ≡ step_effect mode (target_of earlier) (steps_of earlier) x w
-effect-read mode earlier CloseEdit w x e = absurd (none e)
-  where
-    none : None ≡ Some x → ⊥
-    none q = cc
+effect-read mode earlier CloseEdit w x e = absurd (none-some x e)
 effect-read mode earlier c w x e = ap (λ o. read_effect mode (target_of earlier) (steps_of earlier) o w) e
 
 -- the earlier calls are those of the steps done, and have given the tokens of the opened paths

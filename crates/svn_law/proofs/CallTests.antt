@@ -4,6 +4,8 @@ use Rattle.std.specs.Prelude.{Option, Some, None, cond, map, length, slice_get, 
 use Rattle.std.specs.List.{list_any, cons_option, AllByRecursion}
 use Rattle.std.proofs.Math.Bool.{and-false, and-true}
 use Rattle.std.proofs.lemmas.Bool.{or_right}
+use Rattle.std.proofs.lemmas.List.{map-append}
+use Rattle.std.proofs.lemmas.List.Elements.{filter_map-append}
 use Rattle.svn_types.specs.Names.{Path}
 use Rattle.svn_types.specs.Paths.{path_eq, parent, is_root}
 use Rattle.svn_types.specs.declared.kind.Kind.{Kind}
@@ -62,13 +64,9 @@ module _ (T : Path → ℕ) where
 
   -- what two lists give, one after the other
   pub gives-append : (xs ys : List Step) → gives (xs ++ ys) ≡ gives xs ++ gives ys
-  gives-append [] ys = refl
-  gives-append (x ∷ xs) ys = by (given_by (call_at T x)) (gives-append xs ys)
-    where
-      by : (o : Option Given) → gives (xs ++ ys) ≡ gives xs ++ gives ys
-          → cons_option o (gives (xs ++ ys)) ≡ cons_option o (gives xs) ++ gives ys
-      by None ih = ih
-      by (Some g) ih = ap (λ (l : List Given). g ∷ l) ih
+  gives-append xs ys =
+      ap (filter_map given_by) (map-append (call_at T) xs ys)
+      ∙ filter_map-append given_by (map (call_at T) xs) (map (call_at T) ys)
 
   -- a test that nothing given passes
   pub none_given : (f : Given → Bool) (xs : List Step) → AllByRecursion (λ x. on_given f (given_by (call_at T x)) ≡ false) xs
@@ -190,63 +188,39 @@ module _ (T : Path → ℕ) where
 
   -- ---- tests on one step's call
 
+  -- what asks for a path says nothing of another call, and of a call that it asks for whether that has the path
+  no : (p q : Path) → false ≡ (path_eq q p && false)
+  no p q = sym (and-false (path_eq q p))
+
+  yes : (p q : Path) → path_eq q p ≡ (path_eq q p && true)
+  yes p q = sym (and-true (path_eq q p))
+
   module _ (p : Path) (tells : Tells T p) where
-    -- a close of the token is one of the path
+    -- a close, a text and a change of a directory, each of the token
+    token_tests : (q : Path) (a : Action)
+        → (closes (T p) (call_by T q a) ≡ (path_eq q p && is_close a))
+        × (applies_text (T p) (call_by T q a) ≡ (path_eq q p && is_text a))
+        × (changes_dir (T p) (call_by T q a) ≡ (path_eq q p && is_change_of Directory a))
+    token_tests q (Delete r) = (no p q, no p q, no p q)
+    token_tests [] (Open Directory r) = (no p [], no p [], no p [])
+    token_tests (n ∷ q) (Open Directory r) = (no p (n ∷ q), no p (n ∷ q), no p (n ∷ q))
+    token_tests q (Open File r) = (no p q, no p q, no p q)
+    token_tests q (Add Directory) = (no p q, no p q, no p q)
+    token_tests q (Add File) = (no p q, no p q, no p q)
+    token_tests q (Change Directory c) = (no p q, no p q, tells q ∙ yes p q)
+    token_tests q (Change File c) = (no p q, no p q, no p q)
+    token_tests q (Text s t) = (no p q, tells q ∙ yes p q, no p q)
+    token_tests q (Close Directory c) = (tells q ∙ yes p q, no p q, no p q)
+    token_tests q (Close File c) = (tells q ∙ yes p q, no p q, no p q)
+
     pub closes-call : (x : Step) → closes (T p) (call_at T x) ≡ has is_close p x
-    closes-call x = by x.action
-      where
-        by : (a : Action) → closes (T p) (call_by T x.path a) ≡ (path_eq x.path p && is_close a)
-        by (Delete r) = sym (and-false (path_eq x.path p))
-        by (Open Directory r) =
-            either_call (closes (T p)) false (is_root x.path) (OpenRoot r (T x.path))
-            (OpenDirectory x.path (T (parent x.path)) r (T x.path)) refl refl
-            ∙ sym (and-false (path_eq x.path p))
-        by (Open File r) = sym (and-false (path_eq x.path p))
-        by (Add Directory) = sym (and-false (path_eq x.path p))
-        by (Add File) = sym (and-false (path_eq x.path p))
-        by (Change Directory c) = sym (and-false (path_eq x.path p))
-        by (Change File c) = sym (and-false (path_eq x.path p))
-        by (Text s t) = sym (and-false (path_eq x.path p))
-        by (Close Directory c) = tells x.path ∙ sym (and-true (path_eq x.path p))
-        by (Close File c) = tells x.path ∙ sym (and-true (path_eq x.path p))
+    closes-call x = (token_tests x.path x.action).0
 
-    -- a text for the token is one for the path
     pub applies_text-call : (x : Step) → applies_text (T p) (call_at T x) ≡ has is_text p x
-    applies_text-call x = by x.action
-      where
-        by : (a : Action) → applies_text (T p) (call_by T x.path a) ≡ (path_eq x.path p && is_text a)
-        by (Delete r) = sym (and-false (path_eq x.path p))
-        by (Open Directory r) =
-            either_call (applies_text (T p)) false (is_root x.path) (OpenRoot r (T x.path))
-            (OpenDirectory x.path (T (parent x.path)) r (T x.path)) refl refl
-            ∙ sym (and-false (path_eq x.path p))
-        by (Open File r) = sym (and-false (path_eq x.path p))
-        by (Add Directory) = sym (and-false (path_eq x.path p))
-        by (Add File) = sym (and-false (path_eq x.path p))
-        by (Change Directory c) = sym (and-false (path_eq x.path p))
-        by (Change File c) = sym (and-false (path_eq x.path p))
-        by (Text s t) = tells x.path ∙ sym (and-true (path_eq x.path p))
-        by (Close Directory c) = sym (and-false (path_eq x.path p))
-        by (Close File c) = sym (and-false (path_eq x.path p))
+    applies_text-call x = (token_tests x.path x.action).1
 
-    -- a change of the token's directory is one of the path's
     pub changes_dir-call : (x : Step) → changes_dir (T p) (call_at T x) ≡ has (is_change_of Directory) p x
-    changes_dir-call x = by x.action
-      where
-        by : (a : Action) → changes_dir (T p) (call_by T x.path a) ≡ (path_eq x.path p && is_change_of Directory a)
-        by (Delete r) = sym (and-false (path_eq x.path p))
-        by (Open Directory r) =
-            either_call (changes_dir (T p)) false (is_root x.path) (OpenRoot r (T x.path))
-            (OpenDirectory x.path (T (parent x.path)) r (T x.path)) refl refl
-            ∙ sym (and-false (path_eq x.path p))
-        by (Open File r) = sym (and-false (path_eq x.path p))
-        by (Add Directory) = sym (and-false (path_eq x.path p))
-        by (Add File) = sym (and-false (path_eq x.path p))
-        by (Change Directory c) = tells x.path ∙ sym (and-true (path_eq x.path p))
-        by (Change File c) = sym (and-false (path_eq x.path p))
-        by (Text s t) = sym (and-false (path_eq x.path p))
-        by (Close Directory c) = sym (and-false (path_eq x.path p))
-        by (Close File c) = sym (and-false (path_eq x.path p))
+    changes_dir-call x = (token_tests x.path x.action).2
 
     -- what is opened below the token is a subdirectory of the path
     pub sub-given : (x : Step) → on_given (opens_below (T p)) (given_by (call_at T x)) ≡ true → IsSubdirectory p x
@@ -293,71 +267,33 @@ module _ (T : Path → ℕ) where
     -- so says the other test of it
     pub opens_subdirectory-call : (x : Step)
         → opens_subdirectory (T p) (call_at T x) ≡ on_given (opens_below (T p)) (given_by (call_at T x))
-    opens_subdirectory-call x = by (call_at T x)
-      where
-        by : (c : Call) → opens_subdirectory (T p) c ≡ on_given (opens_below (T p)) (given_by c)
-        by c = each (given_by c)
-          where
-            each : (o : Option Given) → on_given (opens_below (T p)) o ≡ on_given (opens_below (T p)) o
-            each o = refl
+    opens_subdirectory-call x = refl
 
-  -- a delete of a path
+  -- a delete and an entry, each of the path; no step's call is the last
+  path_tests : (p q : Path) (a : Action)
+      → (deletes p (call_by T q a) ≡ (path_eq q p && is_delete a))
+      × (opens_entry p (call_by T q a) ≡ (path_eq q p && is_entry a))
+      × (is_last (call_by T q a) ≡ false)
+  path_tests p q (Delete r) = (yes p q, no p q, refl)
+  path_tests p [] (Open Directory r) = (no p [], yes p [], refl)
+  path_tests p (n ∷ q) (Open Directory r) = (no p (n ∷ q), yes p (n ∷ q), refl)
+  path_tests p q (Open File r) = (no p q, yes p q, refl)
+  path_tests p q (Add Directory) = (no p q, yes p q, refl)
+  path_tests p q (Add File) = (no p q, yes p q, refl)
+  path_tests p q (Change Directory c) = (no p q, no p q, refl)
+  path_tests p q (Change File c) = (no p q, no p q, refl)
+  path_tests p q (Text s t) = (no p q, no p q, refl)
+  path_tests p q (Close Directory c) = (no p q, no p q, refl)
+  path_tests p q (Close File c) = (no p q, no p q, refl)
+
   pub deletes-call : (p : Path) (x : Step) → deletes p (call_at T x) ≡ has is_delete p x
-  deletes-call p x = by x.action
-    where
-      by : (a : Action) → deletes p (call_by T x.path a) ≡ (path_eq x.path p && is_delete a)
-      by (Delete r) = sym (and-true (path_eq x.path p))
-      by (Open Directory r) =
-          either_call (deletes p) false (is_root x.path) (OpenRoot r (T x.path))
-          (OpenDirectory x.path (T (parent x.path)) r (T x.path)) refl refl
-          ∙ sym (and-false (path_eq x.path p))
-      by (Open File r) = sym (and-false (path_eq x.path p))
-      by (Add Directory) = sym (and-false (path_eq x.path p))
-      by (Add File) = sym (and-false (path_eq x.path p))
-      by (Change Directory c) = sym (and-false (path_eq x.path p))
-      by (Change File c) = sym (and-false (path_eq x.path p))
-      by (Text s t) = sym (and-false (path_eq x.path p))
-      by (Close Directory c) = sym (and-false (path_eq x.path p))
-      by (Close File c) = sym (and-false (path_eq x.path p))
+  deletes-call p x = (path_tests p x.path x.action).0
 
-  -- an entry of a path
   pub opens_entry-call : (p : Path) (x : Step) → opens_entry p (call_at T x) ≡ has is_entry p x
-  opens_entry-call p x = by x.action
-    where
-      root : (q : Path) (r t : ℕ)
-          → opens_entry p (cond (is_root q) (OpenRoot r t) (OpenDirectory q (T (parent q)) r t)) ≡ (path_eq q p && true)
-      root [] r t = sym (and-true (path_eq [] p))
-      root (n ∷ q) r t = sym (and-true (path_eq (n ∷ q) p))
+  opens_entry-call p x = (path_tests p x.path x.action).1
 
-      by : (a : Action) → opens_entry p (call_by T x.path a) ≡ (path_eq x.path p && is_entry a)
-      by (Delete r) = sym (and-false (path_eq x.path p))
-      by (Open Directory r) = root x.path r (T x.path)
-      by (Open File r) = sym (and-true (path_eq x.path p))
-      by (Add Directory) = sym (and-true (path_eq x.path p))
-      by (Add File) = sym (and-true (path_eq x.path p))
-      by (Change Directory c) = sym (and-false (path_eq x.path p))
-      by (Change File c) = sym (and-false (path_eq x.path p))
-      by (Text s t) = sym (and-false (path_eq x.path p))
-      by (Close Directory c) = sym (and-false (path_eq x.path p))
-      by (Close File c) = sym (and-false (path_eq x.path p))
-
-  -- no step's call is the last
   pub is_last-call : (x : Step) → is_last (call_at T x) ≡ false
-  is_last-call x = by x.action
-    where
-      by : (a : Action) → is_last (call_by T x.path a) ≡ false
-      by (Delete r) = refl
-      by (Open Directory r) =
-          either_call is_last false (is_root x.path) (OpenRoot r (T x.path))
-          (OpenDirectory x.path (T (parent x.path)) r (T x.path)) refl refl
-      by (Open File r) = refl
-      by (Add Directory) = refl
-      by (Add File) = refl
-      by (Change Directory c) = refl
-      by (Change File c) = refl
-      by (Text s t) = refl
-      by (Close Directory c) = refl
-      by (Close File c) = refl
+  is_last-call x = (path_tests x.path x.path x.action).2
 
 -- the last that passes the test is the one picked
 pub last_pick : (f : Given → Bool) (acc : Option ℕ) (xs : List Given) (g : Given) (ys : List Given) → f g ≡ true → list_any f ys ≡ false

@@ -2,23 +2,21 @@
 use Rattle.std.proofs.Common.{◌≡◌, ℕ, Bool, true, false, ◌&&◌, ◌||◌, not, List, [], ◌∷◌, ◌++◌, refl, sym, ◌∙◌, ap, subst, true≢false}
 use Rattle.std.proofs.Common.{append-nil}
 use Rattle.std.proofs.Math.Bool.{and-false}
-use Rattle.std.proofs.lemmas.Bool.{false_from_ne_true, or_parts, not-false}
+use Rattle.std.proofs.lemmas.Bool.{false_from_ne_true}
 use Rattle.std.proofs.lemmas.List.Folds.{list_any-append}
 use Rattle.std.specs.Prelude.{Option, Some, None, is_some, option_map, cond, map, filter}
 use Rattle.std.specs.List.{list_any}
 use Rattle.svn_types.specs.Names.{Path}
-use Rattle.svn_types.specs.Paths.{path_eq, is_within, is_below, is_root}
+use Rattle.svn_types.specs.Paths.{path_eq, is_within, is_below}
 use Rattle.svn_types.specs.declared.kind.Kind.{Kind}
 use Rattle.svn_types.specs.declared.kind.Kind.TheVariants.{File, Directory}
 use Rattle.svn_types.proofs.PathLemmas.{same_path, path_eq-same}
 use Rattle.svn_repo.specs.History.{History}
 use Rattle.svn_repo.specs.Readings.{are_related, kind_of, text_of, props_of}
-use Rattle.svn_report.specs.Reports.{has_entry_below}
 use Rattle.svn_editor.specs.Steps.{Mode, Update, SwitchTo, Step}
 use Rattle.svn_editor.specs.declared.call.Call.{Call}
 use Rattle.svn_editor.specs.declared.call.Call.TheVariants.{SetTargetRevision, CloseEdit}
 use Rattle.svn_model.specs.Steps.{IsDriveOf, is_touched, is_new, is_gone, starts_empty_at, source_props, source_text, path_actions}
-use Rattle.svn_editor.specs.Calls.{number_eq}
 use Rattle.svn_model.specs.Follow.{Request, is_kept, target_path, source_node, target_node}
 use Rattle.svn_model.specs.Drive.{numbered, IsDrive}
 use Rattle.svn_model.specs.declared.base_node.BaseNode.{BaseNode}
@@ -28,7 +26,7 @@ use Rattle.svn_model.specs.Effects.{settled, settled_path, after}
 use Rattle.svn_model.specs.Result.{result}
 use Rattle.svn_model.proofs.Names.{or_first, some_same}
 use Rattle.svn_law.proofs.Described.{Setting}
-use Rattle.svn_drive_law.proofs.Classes.{none_related, both_nodes, kept_related, switched_to}
+use Rattle.svn_drive_law.proofs.Classes.{none_related, kept_related, switched_to, untouched_same}
 use Rattle.svn_drive_law.proofs.Courses.{is_delete}
 use Rattle.svn_edit_law.proofs.Appending.{after_from-more}
 use Rattle.svn_law.proofs.States.{is_at, actions_at, actions_at-drive, acted, is_deleted_above, base, state, path_cut}
@@ -74,22 +72,6 @@ module _ (d : Request) (w : WorkingCopy) (setting : Setting d w) where
       ≡ Some (base_node_by k d.target (target_path d p) text props)
   settled_base p File text props = ap (λ q. Some (FileNode d.target q text props)) (settled_at p)
   settled_base p Directory text props = ap (λ q. Some (DirNode d.target q true props)) (settled_at p)
-
-  -- a kept path that isn't touched has one node in source and target, and is complete
-  pub untouched_same : (p : Path) → is_kept d p ≡ true → is_touched d p ≡ false
-      → (n : ℕ) × (source_node d p ≡ Some n) × (target_node d p ≡ Some n) × (starts_empty_at d p ≡ false)
-  untouched_same p k t =
-      let or1 =
-      or_parts (is_root p || not (number_eq (source_node d p) (target_node d p)) || starts_empty_at d p)
-      (has_entry_below d.report.entries p)
-      (sym (ap
-      (λ b. b && (is_root p || not (number_eq (source_node d p) (target_node d p)) || starts_empty_at d p
-      || has_entry_below d.report.entries p))
-      k) ∙ t) in
-      let or2 = or_parts (is_root p || not (number_eq (source_node d p) (target_node d p))) (starts_empty_at d p) or1.0 in
-      let or3 = or_parts (is_root p) (not (number_eq (source_node d p) (target_node d p))) or2.0 in
-      let both = both_nodes h (source_node d p) (target_node d p) (kept_related d setting.served p k) (not-false _ or3.1) in
-      (both.0, both.1, both.2, or2.1)
 
   -- what stands there is what the result has, but for its revision and path
   settled_untouched : (p : Path) (n : ℕ) (k : Kind) → source_node d p ≡ Some n → starts_empty_at d p ≡ false → is_kept d p ≡ true
@@ -218,7 +200,7 @@ module _ (d : Request) (w : WorkingCopy) (setting : Setting d w) where
       by (Some n) false false z u v =
           put n (is_touched d p || is_new d p) (ap (λ x. x || is_new d p) v ∙ ap (λ x. not x && is_some (target_node d p)) u ∙ ap is_some z)
       by (Some n) true false z u v =
-          let one = untouched_same p u v in
+          let one = untouched_same d setting.served p u v in
           let same : one.0 ≡ n = some_same one.0 n (sym one.2 ∙ z) in
           ap (λ x. settled d.mode d.target p (cond x (Some (base_node h d.target (target_path d p) n)) b))
           (ap (λ x. x || is_new d p) v ∙ ap (λ x. not x && is_some (target_node d p)) u)

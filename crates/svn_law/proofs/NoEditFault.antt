@@ -4,6 +4,7 @@ use Rattle.std.proofs.Common.{true≢false, append_assoc, append-nil, eq-eqb, in
 use Rattle.std.specs.Prelude.{Option, Some, None, is_some, cond, map, nat_eq, nat_lt, bytes_eq, filter_map}
 use Rattle.std.specs.List.{cons_option}
 use Rattle.std.proofs.lemmas.Bool.{le-ltb, and_parts}
+use Rattle.std.proofs.lemmas.List.Elements.{filter_map-append}
 use Rattle.svn_types.specs.Names.{Path}
 use Rattle.svn_types.specs.Paths.{is_below, child}
 use Rattle.svn_types.specs.Props.{PropChange, is_same_value, names_of_both, change_between, changes_between}
@@ -26,14 +27,14 @@ use Rattle.svn_model.specs.Steps.{touched_actions, new_actions, entered_actions,
 use Rattle.svn_model.specs.declared.base_node.BaseNode.{BaseNode}
 use Rattle.svn_model.specs.declared.base_node.BaseNode.TheVariants.{Dir as DirNode, NotPresent}
 use Rattle.svn_model.specs.Nodes.{WorkingCopy, is_present, node_revision, node_path, node_text}
-use Rattle.svn_model.specs.Effects.{is_too_long, is_wrong_sum, has_kind, text_or, moved_path, joined_path, step_fault}
+use Rattle.svn_model.specs.Effects.{is_too_long, is_wrong_sum, has_kind, text_in, text_or, moved_path, joined_path, step_fault}
 use Rattle.svn_model.proofs.Children.{follow-here, parent_is_kept-child}
 use Rattle.svn_law.proofs.Described.{Setting}
 use Rattle.svn_drive_law.proofs.Courses.{AllOf}
 use Rattle.svn_law.proofs.States.{actions_at, texts_at-actions, acted, act, texts_in, base, state, step_cut}
 use Rattle.svn_law.proofs.Deletes.{kept_above_child, none_deleted_above, kept_base}
 use Rattle.svn_law.proofs.AfterSteps.{kept_present, here, moved_is, joined_new, adds_new, entered_path, joined_next}
-use Rattle.svn_law.proofs.AfterAllSteps.{is_quiet, acted_quiet, quiet_changes, quiet_texts, texts_in-append, texts_in-changes}
+use Rattle.svn_law.proofs.AfterAllSteps.{is_quiet, acted_quiet, quiet_changes, quiet_texts, quietly, texts_in-changes}
 use Rattle.svn_law.proofs.AfterAllSteps.{text_or-texts, KeptAs, kept_as, touched_kept, new_not_kept, kept_not_gone}
 use Rattle.svn_law.proofs.EndsAsResult.{nothing_left, deleted_next}
 
@@ -269,14 +270,14 @@ module _ (d : Request) (w : WorkingCopy) (setting : Setting d w) where
       )
         where
           silent : texts_in (before ++ Add File ∷ []) ≡ []
-          silent = texts_in-append before (Add File ∷ []) ∙ ap (λ l. l ++ []) x
+          silent = quietly text_in before (Add File) x refl
 
           closed : text_or (texts_in (((before ++ Add File ∷ []) ++ map (Change File) cs) ++ Text None (text_of h n) ∷ [])) [] ≡ text_of h n
           closed =
               ap (λ ts. text_or ts [])
-              (texts_in-append ((before ++ Add File ∷ []) ++ map (Change File) cs) (Text None (text_of h n) ∷ [])
+              (filter_map-append text_in ((before ++ Add File ∷ []) ++ map (Change File) cs) (Text None (text_of h n) ∷ [])
               ∙ ap (λ l. l ++ text_of h n ∷ [])
-              (texts_in-append (before ++ Add File ∷ []) (map (Change File) cs) ∙ (λ i. silent i ++ texts_in-changes File cs i)))
+              (filter_map-append text_in (before ++ Add File ∷ []) (map (Change File) cs) ∙ (λ i. silent i ++ texts_in-changes File cs i)))
 
   -- what isn't kept, but in the source, is present
   source_present : (p : Path) → is_some (source_node d p) ≡ true → is_present (w p) ≡ true

@@ -2,8 +2,9 @@
 use Rattle.std.proofs.Common.{ℕ, ◌≡◌, Bool, true, false, ◌&&◌, ◌||◌, not, List, [], ◌∷◌, ◌++◌, refl, sym, ◌∙◌, ap, true≢false}
 use Rattle.std.proofs.Common.{append_assoc, append-nil}
 use Rattle.std.proofs.Math.Bool.{and-false, or-false, or-true}
-use Rattle.std.specs.Prelude.{Option, Some, None, cond, map, filter}
+use Rattle.std.specs.Prelude.{Option, Some, None, cond, map, filter, filter_map}
 use Rattle.std.specs.List.{list_any, cons_option}
+use Rattle.std.proofs.lemmas.List.{map-append}
 use Rattle.std.proofs.lemmas.List.Elements.{filter-append}
 use Rattle.std.proofs.lemmas.List.Folds.{list_any-append}
 use Rattle.svn_types.specs.Names.{Path}
@@ -29,12 +30,10 @@ actions_at p steps = map (λ (s : Step). s.action) (filter (is_at p) steps)
 -- ---- the state of a path, by its own actions alone
 
 abbrev pub changes_in : List Action → List PropChange
-changes_in [] = []
-changes_in (a ∷ acts) = cons_option (change_in a) (changes_in acts)
+changes_in = filter_map change_in
 
 abbrev pub texts_in : List Action → List (List ℕ)
-texts_in [] = []
-texts_in (a ∷ acts) = cons_option (text_in a) (texts_in acts)
+texts_in = filter_map text_in
 
 abbrev pub act : Request → Path → List Action → Action → Option BaseNode → Option BaseNode
 act d p before (Delete r) found = None
@@ -68,14 +67,10 @@ acted-append d p before (x ∷ xs) ys found =
 
 -- ---- the steps of one path
 
-map-append : (xs ys : List Step)
-    → map (λ (s : Step). s.action) (xs ++ ys) ≡ map (λ (s : Step). s.action) xs ++ map (λ (s : Step). s.action) ys
-map-append [] ys = refl
-map-append (x ∷ xs) ys = ap (λ (l : List Action). x.action ∷ l) (map-append xs ys)
-
 pub actions_at-append : (p : Path) (xs ys : List Step) → actions_at p (xs ++ ys) ≡ actions_at p xs ++ actions_at p ys
 actions_at-append p xs ys =
-    ap (map (λ (s : Step). s.action)) (filter-append (is_at p) xs ys) ∙ map-append (filter (is_at p) xs) (filter (is_at p) ys)
+    ap (map (λ (s : Step). s.action)) (filter-append (is_at p) xs ys)
+    ∙ map-append (λ (s : Step). s.action) (filter (is_at p) xs) (filter (is_at p) ys)
 
 actions-steps_at : (p : Path) (acts : List Action) → map (λ (s : Step). s.action) (steps_at p acts) ≡ acts
 actions-steps_at p [] = refl
@@ -85,25 +80,24 @@ pub actions_at-drive : (d : Request) (late : Bool) (steps : List Step) → IsDri
     → actions_at p steps ≡ path_actions d p
 actions_at-drive d late steps k p = ap (map (λ (s : Step). s.action)) (k.at_each_path p) ∙ actions-steps_at p (path_actions d p)
 
-pub changes_at-actions : (p : Path) (steps : List Step) → changes_at p steps ≡ changes_in (actions_at p steps)
-changes_at-actions p [] = refl
-changes_at-actions p (s ∷ steps) = by (path_eq s.path p) (changes_at-actions p steps)
+-- a list of what each step at the path says is one of what the path's actions say
+said_at : {X : Type 0} (said : List Step → List X) (say : Action → Option X) (p : Path) → said [] ≡ []
+    → ((s : Step) (steps : List Step) → said (s ∷ steps) ≡ cond (path_eq s.path p) (cons_option (say s.action) (said steps)) (said steps))
+    → (steps : List Step) → said steps ≡ filter_map say (actions_at p steps)
+said_at said say p none more [] = none
+said_at said say p none more (s ∷ steps) = more s steps ∙ by (path_eq s.path p) (said_at said say p none more steps)
   where
-    by : (b : Bool) → changes_at p steps ≡ changes_in (actions_at p steps)
-        → cond b (cons_option (change_in s.action) (changes_at p steps)) (changes_at p steps)
-        ≡ changes_in (map (λ (s : Step). s.action) (cond b (s ∷ filter (is_at p) steps) (filter (is_at p) steps)))
-    by true ih = ap (cons_option (change_in s.action)) ih
+    by : (b : Bool) → said steps ≡ filter_map say (actions_at p steps)
+        → cond b (cons_option (say s.action) (said steps)) (said steps)
+        ≡ filter_map say (map (λ (s : Step). s.action) (cond b (s ∷ filter (is_at p) steps) (filter (is_at p) steps)))
+    by true ih = ap (cons_option (say s.action)) ih
     by false ih = ih
 
+pub changes_at-actions : (p : Path) (steps : List Step) → changes_at p steps ≡ changes_in (actions_at p steps)
+changes_at-actions p = said_at (changes_at p) change_in p refl (λ s steps. refl)
+
 pub texts_at-actions : (p : Path) (steps : List Step) → texts_at p steps ≡ texts_in (actions_at p steps)
-texts_at-actions p [] = refl
-texts_at-actions p (s ∷ steps) = by (path_eq s.path p) (texts_at-actions p steps)
-  where
-    by : (b : Bool) → texts_at p steps ≡ texts_in (actions_at p steps)
-        → cond b (cons_option (text_in s.action) (texts_at p steps)) (texts_at p steps)
-        ≡ texts_in (map (λ (s : Step). s.action) (cond b (s ∷ filter (is_at p) steps) (filter (is_at p) steps)))
-    by true ih = ap (cons_option (text_in s.action)) ih
-    by false ih = ih
+texts_at-actions p = said_at (texts_at p) text_in p refl (λ s steps. refl)
 
 -- the actions of a path, cut behind the first steps of a drive
 pub path_cut : (d : Request) (late : Bool) (steps rest : List Step) → IsDriveOf d late (steps ++ rest) → (p : Path)

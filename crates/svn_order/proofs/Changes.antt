@@ -2,7 +2,7 @@
 use Rattle.std.proofs.Common.{◌≡◌, ℕ, zero, suc, ◌<◌, ◌≤◌, Bool, true, false, ◌||◌, List, [], ◌∷◌, ◌++◌, length, get_or, set, map}
 use Rattle.std.proofs.Common.{refl, sym, ◌∙◌, ap, subst, arith, IsTrue, ◌↔◌}
 use Rattle.std.specs.Prelude.{Some, None, slice_get}
-use Rattle.std.proofs.lemmas.Option.{same_Some}
+use Rattle.std.proofs.lemmas.Option.{none-some, same_Some}
 use Rattle.svn_types.specs.Names.{Path}
 use Rattle.svn_types.specs.Paths.{parent, is_root, path_eq}
 use Rattle.svn_types.proofs.PathLemmas.{same_path, path_eq_from}
@@ -22,10 +22,7 @@ get_past (y ∷ xs) zero h = absurd (omega arith)
 get_past (y ∷ xs) (suc i) h = get_past xs i (omega arith)
 
 pub get_within : {X : Type 0} (xs : List X) (i : ℕ) (x : X) → slice_get xs i ≡ Some x → i < length xs
-get_within [] i x h = absurd (none h)
-  where
-    none : None ≡ Some x → ⊥
-    none e = cc
+get_within [] i x h = absurd (none-some x h)
 get_within (y ∷ xs) zero x h = omega arith
 get_within (y ∷ xs) (suc i) x h = let l : i < length xs = get_within xs i x h in omega arith
 
@@ -114,15 +111,26 @@ ChangesAt-past : (Change : OpenedDirectory → OpenedDirectory → Type 0) (ds :
 ChangesAt-past Change ds i h = record {
   shown = refl;
   others = λ j x k n. k;
-  changed = λ x k. absurd (none (sym (get_past ds i h) ∙ k));
+  changed = λ x k. absurd (none-some x (sym (get_past ds i h) ∙ k));
 }
-  where
-    none : {x : OpenedDirectory} → None ≡ Some x → ⊥
-    none e = cc
 
 pub ChangesAt-beyond : (Change : OpenedDirectory → OpenedDirectory → Type 0) (ds : List OpenedDirectory) (i j : ℕ) → j ≡ i → length ds ≤ j
     → ChangesAt i Change ds ds
 ChangesAt-beyond Change ds i j p h = subst (λ (k : ℕ). ChangesAt k Change ds ds) p (ChangesAt-past Change ds j h)
+
+-- the directory in which an entry stands, by the parts of the entry's path
+pub entry_set : (Change : List ℕ → OpenedDirectory → OpenedDirectory → Type 0) (ds : List OpenedDirectory) (path above : Path)
+    (name : List ℕ) (b d : OpenedDirectory) → IsEntry path above name → length above < length ds → b ≡ get_or ds (length above) b
+    → shown d ≡ shown b → Change name b d
+    → ChangesAt (length (parent path)) (Change (entry_name path)) ds (set ds (length above) d)
+entry_set Change ds path above name b d at h e s r =
+    ChangesAt-set (Change (entry_name path)) ds (length (parent path)) (length above) b d (sym (ap length at.parent_is)) h e s
+    (subst (λ (n : List ℕ). Change n b d) (sym at.name_is) r)
+
+pub entry_beyond : (Change : OpenedDirectory → OpenedDirectory → Type 0) (ds : List OpenedDirectory) (path above : Path) (name : List ℕ)
+    → IsEntry path above name → length ds ≤ length above → ChangesAt (length (parent path)) Change ds ds
+entry_beyond Change ds path above name at h =
+    ChangesAt-beyond Change ds (length (parent path)) (length above) (sym (ap length at.parent_is)) h
 
 -- ---- names
 

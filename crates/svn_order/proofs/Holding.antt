@@ -54,26 +54,52 @@ begun_stage s t calls c h e a same = same ∙ h.stage ∙ begun calls c e a ∙ 
 length_one : {X : Type 0} (xs ys : List X) (x : X) → ys ≡ xs ++ x ∷ [] → length ys ≡ length xs + 1
 length_one xs ys x e = omega (arith, ap length e, length-append xs (x ∷ []))
 
+-- a call that gives a token, where the directories and the files are right
+given_held : (s t : OrderCheck) (calls : List Call) (c : Call) (g : Given) → Holds s calls → IsSound calls → IsAccepted calls c
+    → given_by c ≡ Some g → ((q : ℕ) → closes q c ≡ false) → ((q : ℕ) → applies_text q c ≡ false) → is_target_late [] c ≡ true
+    → t.stage ≡ s.stage → t.tokens.items ≡ s.tokens.items ++ token_of g.kind ∷ []
+    → map shown t.directories.items ≡ map token_and_path (open_directories (calls ++ c ∷ []))
+    → AreDirectories t.directories.items (calls ++ c ∷ []) → AreFiles t.open_files (calls ++ c ∷ [])
+    → t.current ≡ current_after s.current c → Holds t (calls ++ c ∷ [])
+given_held s t calls c g h sound a e no_close no_text first stage tokens nesting directories files current = record {
+  stage = begun_stage s t calls c h first a.target stage;
+  count = length_one s.tokens.items t.tokens.items (token_of g.kind) tokens ∙ count_given calls c g (length s.tokens.items) e h.count;
+  tokens =
+      subst (λ ns. AreTokens ns (calls ++ c ∷ [])) (sym tokens)
+      (tokens_given s.tokens.items calls c g sound h.count e no_close no_text h.tokens);
+  nesting = nesting;
+  directories = directories;
+  files = files;
+  current = current_is s calls c t.current h current;
+}
+
+-- a call that gives no token, closes none and gives none a text, where the directories are right
+still_held : (s t : OrderCheck) (calls : List Call) (c : Call) → Holds s calls → given_by c ≡ None → ((q : ℕ) → closes q c ≡ false)
+    → ((q : ℕ) → applies_text q c ≡ false) → t.stage ≡ stage_after (calls ++ c ∷ []) → t.tokens.items ≡ s.tokens.items
+    → map shown t.directories.items ≡ map shown s.directories.items → AreDirectories t.directories.items (calls ++ c ∷ [])
+    → t.open_files ≡ s.open_files → t.current ≡ current_file (calls ++ c ∷ []) → Holds t (calls ++ c ∷ [])
+still_held s t calls c h e no_close no_text stage tokens same_shown directories files current = record {
+  stage = stage;
+  count = ap length tokens ∙ count_still calls c (length s.tokens.items) e h.count;
+  tokens = subst (λ ns. AreTokens ns (calls ++ c ∷ [])) (sym tokens) (tokens_still s.tokens.items calls c e no_close no_text h.tokens);
+  nesting = same_shown ∙ h.nesting ∙ ap (map token_and_path) (sym (open_still calls c e no_close));
+  directories = directories;
+  files = subst (λ fs. AreFiles fs (calls ++ c ∷ [])) (sym files) (files_still s.open_files calls c e no_close h.files);
+  current = current;
+}
+
 -- ---- each kind of call
 
 root_held : (s t : OrderCheck) (calls : List Call) (base token : ℕ) → Holds s calls → IsSound calls → IsAccepted calls (OpenRoot base token)
     → Notes s (OpenRoot base token) t → Holds t (calls ++ OpenRoot base token ∷ [])
-root_held s t calls base token h sound a n = record {
-  stage = begun_stage s t calls c h refl a.target n.stage;
-  count =
-      length_one s.tokens.items t.tokens.items (token_of Directory) n.tokens_are
-      ∙ count_given calls c g (length s.tokens.items) refl h.count;
-  tokens = subst (λ ns. AreTokens ns (calls ++ c ∷ [])) (sym n.tokens_are)
-      (tokens_given s.tokens.items calls c g sound h.count refl (λ q. refl) (λ q. refl) h.tokens);
-  nesting =
-      shown_more s.directories.items t.directories.items (open_directories calls) g token [] h.nesting refl n.directories
-      ∙ ap (map token_and_path) (sym (open_given calls c g sound a refl));
-  directories = root_opened s t.directories.items calls base token h sound a.entry (numbered_next calls c g a refl) none n.directories;
-  files =
-      subst (λ fs. AreFiles fs (calls ++ c ∷ [])) (sym n.files)
-      (files_directory s.open_files calls c g sound refl refl (λ q. refl) h.files);
-  current = current_is s calls c t.current h n.current_is;
-}
+root_held s t calls base token h sound a n =
+    given_held s t calls c g h sound a refl (λ q. refl) (λ q. refl) refl n.stage n.tokens_are
+    (shown_more s.directories.items t.directories.items (open_directories calls) g token [] h.nesting refl n.directories
+    ∙ ap (map token_and_path) (sym (open_given calls c g sound a refl)))
+    (root_opened s t.directories.items calls base token h sound a.entry (numbered_next calls c g a refl) none n.directories)
+    (subst (λ fs. AreFiles fs (calls ++ c ∷ [])) (sym n.files)
+    (files_directory s.open_files calls c g sound refl refl (λ q. refl) h.files))
+    n.current_is
   where
     c : Call
     c = OpenRoot base token
@@ -94,21 +120,10 @@ delete_held : (s t : OrderCheck) (calls : List Call) (path : Path) (rev parent :
 delete_held s t calls path rev parent h sound a n =
     let k = known calls (DeleteEntry path rev parent) parent Directory a refl in
     let p = parent_of s calls parent path h sound k a.path in
-    record {
-      stage = begun_stage s t calls (DeleteEntry path rev parent) h refl a.target n.stage;
-      count = ap length n.tokens_are ∙ count_still calls (DeleteEntry path rev parent) (length s.tokens.items) refl h.count;
-      tokens =
-          subst (λ ns. AreTokens ns (calls ++ DeleteEntry path rev parent ∷ [])) (sym n.tokens_are)
-          (tokens_still s.tokens.items calls (DeleteEntry path rev parent) refl (λ q. refl) (λ q. refl) h.tokens);
-      nesting =
-          (n.directories p.below_root).shown ∙ h.nesting
-          ∙ ap (map token_and_path) (sym (open_still calls (DeleteEntry path rev parent) refl (λ q. refl)));
-      directories = entry_deleted s t.directories.items calls path rev parent h sound p (n.directories p.below_root);
-      files =
-          subst (λ fs. AreFiles fs (calls ++ DeleteEntry path rev parent ∷ [])) (sym n.files)
-          (files_still s.open_files calls (DeleteEntry path rev parent) refl (λ q. refl) h.files);
-      current = current_is s calls (DeleteEntry path rev parent) t.current h n.current_is;
-    }
+    still_held s t calls (DeleteEntry path rev parent) h refl (λ q. refl) (λ q. refl)
+    (begun_stage s t calls (DeleteEntry path rev parent) h refl a.target n.stage) n.tokens_are (n.directories p.below_root).shown
+    (entry_deleted s t.directories.items calls path rev parent h sound p (n.directories p.below_root)) n.files
+    (current_is s calls (DeleteEntry path rev parent) t.current h n.current_is)
 
 -- an open or an add of a directory in the innermost one
 directory_held : (s t : OrderCheck) (calls : List Call) (c : Call) (g : Given) (m : ℕ) → Holds s calls → IsSound calls → IsAccepted calls c
@@ -123,23 +138,15 @@ directory_held s t calls c g m h sound a e kind named inside inner o below no_cl
     let number = numbered_next calls c g a e in
     let is_directory : kind_eq g.kind Directory ≡ true = ap (λ x. kind_eq x Directory) kind in
     let no_file : kind_eq g.kind File ≡ false = ap (λ x. kind_eq x File) kind in
-    record {
-      stage = begun_stage s t calls c h first a.target n.stage;
-      count =
-          length_one s.tokens.items t.tokens.items (token_of Directory) n.tokens_are
-          ∙ count_given calls c g (length s.tokens.items) e h.count;
-      tokens = subst (λ ns. AreTokens ns (calls ++ c ∷ [])) (ap (λ x. s.tokens.items ++ token_of x ∷ []) kind ∙ sym n.tokens_are)
-          (tokens_given s.tokens.items calls c g sound h.count e no_close no_text h.tokens);
-      nesting = shown_more n.directories.marked t.directories.items (open_directories calls) g g.token g.path
-          (n.directories.subdirectory.shown ∙ (n.directories.entry p.below_root).shown ∙ h.nesting) refl n.directories.opened
-          ∙ ap (map token_and_path) (sym
-          (open_given calls c g sound a e ∙ ap (λ b. cond b (open_directories calls ++ g ∷ []) (open_directories calls)) is_directory));
-      directories = directory_opened s t.directories.items calls c m g.token g.path h sound p k inner o below fresh number n.directories;
-      files =
-          subst (λ fs. AreFiles fs (calls ++ c ∷ [])) (sym n.files)
-          (files_directory s.open_files calls c g sound e no_file no_close h.files);
-      current = current_is s calls c t.current h (n.current_is ∙ sym current);
-    }
+    given_held s t calls c g h sound a e no_close no_text first n.stage
+    (n.tokens_are ∙ ap (λ x. s.tokens.items ++ token_of x ∷ []) (sym kind))
+    (shown_more n.directories.marked t.directories.items (open_directories calls) g g.token g.path
+    (n.directories.subdirectory.shown ∙ (n.directories.entry p.below_root).shown ∙ h.nesting) refl n.directories.opened
+    ∙ ap (map token_and_path) (sym
+    (open_given calls c g sound a e ∙ ap (λ b. cond b (open_directories calls ++ g ∷ []) (open_directories calls)) is_directory)))
+    (directory_opened s t.directories.items calls c m g.token g.path h sound p k inner o below fresh number n.directories)
+    (subst (λ fs. AreFiles fs (calls ++ c ∷ [])) (sym n.files) (files_directory s.open_files calls c g sound e no_file no_close h.files))
+    (n.current_is ∙ sym current)
 
 -- an open or an add of a file
 file_held : (s t : OrderCheck) (calls : List Call) (c : Call) (g : Given) (m : ℕ) → Holds s calls → IsSound calls → IsAccepted calls c
@@ -152,19 +159,14 @@ file_held s t calls c g m h sound a e kind named inside o none no_close no_text 
     let number = numbered_next calls c g a e in
     let no_directory : kind_eq g.kind Directory ≡ false = ap (λ x. kind_eq x Directory) kind in
     let is_file : kind_eq g.kind File ≡ true = ap (λ x. kind_eq x File) kind in
-    record {
-      stage = begun_stage s t calls c h first a.target n.stage;
-      count =
-          length_one s.tokens.items t.tokens.items (token_of File) n.tokens_are ∙ count_given calls c g (length s.tokens.items) e h.count;
-      tokens = subst (λ ns. AreTokens ns (calls ++ c ∷ [])) (ap (λ x. s.tokens.items ++ token_of x ∷ []) kind ∙ sym n.tokens_are)
-          (tokens_given s.tokens.items calls c g sound h.count e no_close no_text h.tokens);
-      nesting = (n.directories p.below_root).shown ∙ h.nesting
-          ∙ ap (map token_and_path) (sym
-          (open_given calls c g sound a e ∙ ap (λ b. cond b (open_directories calls ++ g ∷ []) (open_directories calls)) no_directory));
-      directories = file_opened s t.directories.items calls c m g.path h sound p o none (n.directories p.below_root);
-      files = files_added s.open_files t.open_files calls c g g.token sound e is_file number no_close n.files h.files;
-      current = current_is s calls c t.current h (n.current_is ∙ sym current);
-    }
+    given_held s t calls c g h sound a e no_close no_text first n.stage
+    (n.tokens_are ∙ ap (λ x. s.tokens.items ++ token_of x ∷ []) (sym kind))
+    ((n.directories p.below_root).shown ∙ h.nesting
+    ∙ ap (map token_and_path) (sym
+    (open_given calls c g sound a e ∙ ap (λ b. cond b (open_directories calls ++ g ∷ []) (open_directories calls)) no_directory)))
+    (file_opened s t.directories.items calls c m g.path h sound p o none (n.directories p.below_root))
+    (files_added s.open_files t.open_files calls c g g.token sound e is_file number no_close n.files h.files)
+    (n.current_is ∙ sym current)
 
 change_held : (s t : OrderCheck) (calls : List Call) (token : ℕ) (name : List ℕ) (value : Option (List ℕ)) → Holds s calls → IsSound calls
     → IsAccepted calls (ChangeDirProp token name value) → Notes s (ChangeDirProp token name value) t
@@ -174,21 +176,10 @@ change_held s t calls token name value h sound a n =
     let inner : number_eq (innermost calls) (Some token) ≡ true =
     ap (λ o. number_eq o (Some token)) (sym (innermost_at s calls h))
     ∙ not_false (number_eq (innermost_of s.directories.items) (Some token)) (open_below_at s calls token h sound k ∙ a.prop) in
-    record {
-      stage = begun_stage s t calls (ChangeDirProp token name value) h refl a.target n.stage;
-      count = ap length n.tokens_are ∙ count_still calls (ChangeDirProp token name value) (length s.tokens.items) refl h.count;
-      tokens =
-          subst (λ ns. AreTokens ns (calls ++ ChangeDirProp token name value ∷ [])) (sym n.tokens_are)
-          (tokens_still s.tokens.items calls (ChangeDirProp token name value) refl (λ q. refl) (λ q. refl) h.tokens);
-      nesting =
-          n.directories.shown ∙ h.nesting
-          ∙ ap (map token_and_path) (sym (open_still calls (ChangeDirProp token name value) refl (λ q. refl)));
-      directories = prop_changed s t.directories.items calls token name value h sound k inner n.directories;
-      files =
-          subst (λ fs. AreFiles fs (calls ++ ChangeDirProp token name value ∷ [])) (sym n.files)
-          (files_still s.open_files calls (ChangeDirProp token name value) refl (λ q. refl) h.files);
-      current = current_is s calls (ChangeDirProp token name value) t.current h n.current_is;
-    }
+    still_held s t calls (ChangeDirProp token name value) h refl (λ q. refl) (λ q. refl)
+    (begun_stage s t calls (ChangeDirProp token name value) h refl a.target n.stage) n.tokens_are n.directories.shown
+    (prop_changed s t.directories.items calls token name value h sound k inner n.directories) n.files
+    (current_is s calls (ChangeDirProp token name value) t.current h n.current_is)
 
 close_held : (s t : OrderCheck) (calls : List Call) (token : ℕ) → Holds s calls → IsSound calls → IsAccepted calls (CloseDirectory token)
     → Notes s (CloseDirectory token) t → Holds t (calls ++ CloseDirectory token ∷ [])
@@ -264,17 +255,11 @@ quiet_held : (s t : OrderCheck) (calls : List Call) (c : Call) → Holds s calls
     → ((q : ℕ) → applies_text q c ≡ false) → ((d : OpenedDirectory) → IsApart c d) → t.stage ≡ stage_after (calls ++ c ∷ [])
     → t.tokens.items ≡ s.tokens.items → t.directories.items ≡ s.directories.items → t.open_files ≡ s.open_files
     → t.current ≡ current_file (calls ++ c ∷ []) → Holds t (calls ++ c ∷ [])
-quiet_held s t calls c h e no_close no_text apart stage tokens directories files current = record {
-  stage = stage;
-  count = ap length tokens ∙ count_still calls c (length s.tokens.items) e h.count;
-  tokens = subst (λ ns. AreTokens ns (calls ++ c ∷ [])) (sym tokens) (tokens_still s.tokens.items calls c e no_close no_text h.tokens);
-  nesting = ap (map shown) directories ∙ h.nesting ∙ ap (map token_and_path) (sym (open_still calls c e no_close));
-  directories =
-      subst (λ ds. AreDirectories ds (calls ++ c ∷ [])) (sym directories)
-      (directories_still s.directories.items calls c apart h.directories);
-  files = subst (λ fs. AreFiles fs (calls ++ c ∷ [])) (sym files) (files_still s.open_files calls c e no_close h.files);
-  current = current;
-}
+quiet_held s t calls c h e no_close no_text apart stage tokens directories files current =
+    still_held s t calls c h e no_close no_text stage tokens (ap (map shown) directories)
+    (subst (λ ds. AreDirectories ds (calls ++ c ∷ [])) (sym directories)
+    (directories_still s.directories.items calls c apart h.directories))
+    files current
 
 target_held : (s t : OrderCheck) (calls : List Call) (rev : ℕ) → Holds s calls → is_target_late calls (SetTargetRevision rev) ≡ false
     → t ≡ record s { stage = During } → Holds t (calls ++ SetTargetRevision rev ∷ [])

@@ -84,15 +84,18 @@ changed_other f (x ∷ ns) (suc i) (suc j) h = changed_other f ns i j (λ e. h (
 abbrev pub AreTokens : List GivenToken → List Call → Type 0
 AreTokens ns calls = (t : ℕ) (n : GivenToken) → slice_get ns t ≡ Some n → IsTokenOf calls t n
 
+-- a token of which a call says nothing
+token_still : (calls : List Call) (c : Call) (t : ℕ) (n : GivenToken) → given_by c ≡ None → closes t c ≡ false → applies_text t c ≡ false
+    → IsTokenOf calls t n → IsTokenOf (calls ++ c ∷ []) t n
+token_still calls c t n e no_close no_text was = record {
+  kind = λ k. ap (is_of_kind k) (given_still calls c t e) ∙ was.kind k;
+  closed = any_still (closes t) calls c no_close ∙ was.closed;
+  text = any_still (applies_text t) calls c no_text ∙ was.text;
+}
+
 pub tokens_still : (ns : List GivenToken) (calls : List Call) (c : Call) → given_by c ≡ None → ((t : ℕ) → closes t c ≡ false)
     → ((t : ℕ) → applies_text t c ≡ false) → AreTokens ns calls → AreTokens ns (calls ++ c ∷ [])
-tokens_still ns calls c e no_close no_text h t n at =
-    let was = h t n at in
-    record {
-      kind = λ k. ap (is_of_kind k) (given_still calls c t e) ∙ was.kind k;
-      closed = any_still (closes t) calls c (no_close t) ∙ was.closed;
-      text = any_still (applies_text t) calls c (no_text t) ∙ was.text;
-    }
+tokens_still ns calls c e no_close no_text h t n at = token_still calls c t n e (no_close t) (no_text t) (h t n at)
 
 pub tokens_given : (ns : List GivenToken) (calls : List Call) (c : Call) (g : Given) → IsSound calls → length ns ≡ length (all_given calls)
     → given_by c ≡ Some g → ((t : ℕ) → closes t c ≡ false) → ((t : ℕ) → applies_text t c ≡ false) → AreTokens ns calls
@@ -114,52 +117,43 @@ tokens_given ns calls c g sound count e no_close no_text h t n at = by (get_case
       text = any_still (applies_text t) calls c (no_text t) ∙ new_textless calls t sound (omega (arith, new.0));
     }
 
-pub tokens_closed : (ns : List GivenToken) (calls : List Call) (c : Call) (i : ℕ) → given_by c ≡ None → ((t : ℕ) → closes t c ≡ nat_eq i t)
-    → ((t : ℕ) → applies_text t c ≡ false) → AreTokens ns calls → AreTokens (with_closed ns i) (calls ++ c ∷ [])
-tokens_closed ns calls c i e close no_text h t n at = by (nat_eq i t) refl
+-- a call that says something of one token alone, where that is marked so
+tokens_marked : (mark : GivenToken → GivenToken) (ns : List GivenToken) (calls : List Call) (c : Call) (i : ℕ) → given_by c ≡ None
+    → ((t : ℕ) → nat_eq i t ≡ false → closes t c ≡ false) → ((t : ℕ) → nat_eq i t ≡ false → applies_text t c ≡ false)
+    → ((t : ℕ) (n : GivenToken) → nat_eq i t ≡ true → IsTokenOf calls t n → IsTokenOf (calls ++ c ∷ []) t (mark n))
+    → AreTokens ns calls → AreTokens (changed_at mark ns i) (calls ++ c ∷ [])
+tokens_marked mark ns calls c i e no_close no_text marked h t n at = by (nat_eq i t) refl
   where
     by : (b : Bool) → nat_eq i t ≡ b → IsTokenOf (calls ++ c ∷ []) t n
     by true q =
         let same : i ≡ t = true_eq i t q in
-        let r = changed_same (λ m. record m { is_closed = true }) ns t n (ap (λ j. slice_get (with_closed ns j) t) (sym same) ∙ at) in
-        let was = h t r.0 r.1 in
-        subst (IsTokenOf (calls ++ c ∷ []) t) r.2 record {
-          kind = λ k. ap (is_of_kind k) (given_still calls c t e) ∙ was.kind k;
-          closed = any_more (closes t) calls c ∙ ap (λ b. is_closed calls t || b) (close t ∙ q) ∙ or_true (is_closed calls t);
-          text = any_still (applies_text t) calls c (no_text t) ∙ was.text;
-        }
+        let r = changed_same mark ns t n (ap (λ j. slice_get (changed_at mark ns j) t) (sym same) ∙ at) in
+        subst (IsTokenOf (calls ++ c ∷ []) t) r.2 (marked t r.0 q (h t r.0 r.1))
     by false q =
-        let was =
-        h t n (sym (changed_other (λ m. record m { is_closed = true }) ns i t (λ s. true≢false (sym (eq_true i t s) ∙ q))) ∙ at) in
-        record {
-          kind = λ k. ap (is_of_kind k) (given_still calls c t e) ∙ was.kind k;
-          closed = any_still (closes t) calls c (close t ∙ q) ∙ was.closed;
-          text = any_still (applies_text t) calls c (no_text t) ∙ was.text;
-        }
+        token_still calls c t n e (no_close t q) (no_text t q)
+        (h t n (sym (changed_other mark ns i t (λ s. true≢false (sym (eq_true i t s) ∙ q))) ∙ at))
+
+pub tokens_closed : (ns : List GivenToken) (calls : List Call) (c : Call) (i : ℕ) → given_by c ≡ None → ((t : ℕ) → closes t c ≡ nat_eq i t)
+    → ((t : ℕ) → applies_text t c ≡ false) → AreTokens ns calls → AreTokens (with_closed ns i) (calls ++ c ∷ [])
+tokens_closed ns calls c i e close no_text =
+    tokens_marked (λ n. record n { is_closed = true }) ns calls c i e (λ t q. close t ∙ q) (λ t q. no_text t)
+    (λ t n q was. record {
+      kind = λ k. ap (is_of_kind k) (given_still calls c t e) ∙ was.kind k;
+      closed = any_more (closes t) calls c ∙ ap (λ b. is_closed calls t || b) (close t ∙ q) ∙ or_true (is_closed calls t);
+      text = any_still (applies_text t) calls c (no_text t) ∙ was.text;
+    })
 
 pub tokens_text : (ns : List GivenToken) (calls : List Call) (c : Call) (i : ℕ) → given_by c ≡ None → ((t : ℕ) → closes t c ≡ false)
     → ((t : ℕ) → applies_text t c ≡ nat_eq i t) → AreTokens ns calls → AreTokens (with_text ns i) (calls ++ c ∷ [])
-tokens_text ns calls c i e no_close text h t n at = by (nat_eq i t) refl
-  where
-    by : (b : Bool) → nat_eq i t ≡ b → IsTokenOf (calls ++ c ∷ []) t n
-    by true q =
-        let same : i ≡ t = true_eq i t q in
-        let r = changed_same (λ m. record m { has_text = true }) ns t n (ap (λ j. slice_get (with_text ns j) t) (sym same) ∙ at) in
-        let was = h t r.0 r.1 in
-        subst (IsTokenOf (calls ++ c ∷ []) t) r.2 record {
-          kind = λ k. ap (is_of_kind k) (given_still calls c t e) ∙ was.kind k;
-          closed = any_still (closes t) calls c (no_close t) ∙ was.closed;
-          text =
-              any_more (applies_text t) calls c ∙ ap (λ b. list_any (applies_text t) calls || b) (text t ∙ q)
-              ∙ or_true (list_any (applies_text t) calls);
-        }
-    by false q =
-        let was = h t n (sym (changed_other (λ m. record m { has_text = true }) ns i t (λ s. true≢false (sym (eq_true i t s) ∙ q))) ∙ at) in
-        record {
-          kind = λ k. ap (is_of_kind k) (given_still calls c t e) ∙ was.kind k;
-          closed = any_still (closes t) calls c (no_close t) ∙ was.closed;
-          text = any_still (applies_text t) calls c (text t ∙ q) ∙ was.text;
-        }
+tokens_text ns calls c i e no_close text =
+    tokens_marked (λ n. record n { has_text = true }) ns calls c i e (λ t q. no_close t) (λ t q. text t ∙ q)
+    (λ t n q was. record {
+      kind = λ k. ap (is_of_kind k) (given_still calls c t e) ∙ was.kind k;
+      closed = any_still (closes t) calls c (no_close t) ∙ was.closed;
+      text =
+          any_more (applies_text t) calls c ∙ ap (λ b. list_any (applies_text t) calls || b) (text t ∙ q)
+          ∙ or_true (list_any (applies_text t) calls);
+    })
 
 -- ---- the open files
 

@@ -10,7 +10,7 @@ use Rattle.std.specs.BTreeMap.{is_at}
 use Rattle.std.proofs.lemmas.Cmp.{tied_itself, nat_cmp_total}
 use Rattle.std.specs.BTreeSet.{contains, btree_set_len}
 use Rattle.std.proofs.lemmas.List.{length-map}
-use Rattle.std.proofs.lemmas.Option.{same_Some}
+use Rattle.std.proofs.lemmas.Option.{none-some, same_Some, slice_get-map}
 use Rattle.std.proofs.lemmas.Bool.Decides.{nat_tests}
 use Rattle.svn_types.specs.declared.kind.Kind.{Kind}
 use Rattle.svn_types.specs.declared.kind.Kind.TheVariants.{File, Directory}
@@ -39,10 +39,16 @@ use Rattle.svn_types.proofs.Places.{some_none}
 
 -- ---- places in two lists that show the same
 
-pub get_map : {X Y : Type 0} (f : X → Y) (xs : List X) (i : ℕ) → slice_get (map f xs) i ≡ option_map f (slice_get xs i)
-get_map f [] i = refl
-get_map f (x ∷ xs) zero = refl
-get_map f (x ∷ xs) (suc i) = get_map f xs i
+-- what stands at a place of one list has its like at that place of the other
+like_at : {X Y Z : Type 0} (f : X → Z) (g : Y → Z) (xs : List X) (ys : List Y) (i : ℕ) (y : Y) → map f xs ≡ map g ys
+    → slice_get ys i ≡ Some y → (x : X) × (slice_get xs i ≡ Some x) × (f x ≡ g y)
+like_at {X = X} f g xs ys i y e h =
+    by (slice_get xs i) refl
+    (sym (slice_get-map f xs i) ∙ ap (λ zs. slice_get zs i) e ∙ slice_get-map g ys i ∙ ap (option_map g) h)
+  where
+    by : (o : Option X) → slice_get xs i ≡ o → option_map f o ≡ Some (g y) → (x : X) × (slice_get xs i ≡ Some x) × (f x ≡ g y)
+    by None k q = absurd (none-some (g y) q)
+    by (Some x) k q = (x, k, same_Some (f x) (g y) q)
 
 pub record IsShown (ds : List OpenedDirectory) (i : ℕ) (g : Given) : Type 0 where
   pub directory : OpenedDirectory
@@ -53,14 +59,8 @@ pub record IsShown (ds : List OpenedDirectory) (i : ℕ) (g : Given) : Type 0 wh
 pub shown_at : (ds : List OpenedDirectory) (gs : List Given) (i : ℕ) (g : Given) → map shown ds ≡ map token_and_path gs
     → slice_get gs i ≡ Some g → IsShown ds i g
 shown_at ds gs i g e h =
-    by (slice_get ds i) refl (sym (get_map shown ds i) ∙ ap (λ (ps : List (ℕ × Path)). slice_get ps i) e ∙ get_map token_and_path gs i
-    ∙ ap (option_map token_and_path) h)
-  where
-    by : (o : Option OpenedDirectory) → slice_get ds i ≡ o → option_map shown o ≡ Some (token_and_path g) → IsShown ds i g
-    by None k q = absurd (some_none _ (sym q))
-    by (Some d) k q =
-        let s : shown d ≡ token_and_path g = same_Some _ _ q in
-        record { directory = d; is = k; token = ap (λ p. p.0) s; path = ap (λ p. p.1) s }
+    let d = like_at shown token_and_path ds gs i g e h in
+    record { directory = d.0; is = d.1; token = ap (λ p. p.0) d.2; path = ap (λ p. p.1) d.2 }
 
 pub record IsGivenAt (gs : List Given) (i : ℕ) (d : OpenedDirectory) : Type 0 where
   pub given_as : Given
@@ -71,14 +71,8 @@ pub record IsGivenAt (gs : List Given) (i : ℕ) (d : OpenedDirectory) : Type 0 
 pub given_at : (ds : List OpenedDirectory) (gs : List Given) (i : ℕ) (d : OpenedDirectory) → map shown ds ≡ map token_and_path gs
     → slice_get ds i ≡ Some d → IsGivenAt gs i d
 given_at ds gs i d e h =
-    by (slice_get gs i) refl (sym (get_map token_and_path gs i) ∙ ap (λ (ps : List (ℕ × Path)). slice_get ps i) (sym e) ∙ get_map shown ds i
-    ∙ ap (option_map shown) h)
-  where
-    by : (o : Option Given) → slice_get gs i ≡ o → option_map token_and_path o ≡ Some (shown d) → IsGivenAt gs i d
-    by None k q = absurd (some_none _ (sym q))
-    by (Some g) k q =
-        let s : token_and_path g ≡ shown d = same_Some _ _ q in
-        record { given_as = g; is = k; token = ap (λ p. p.0) (sym s); path = ap (λ p. p.1) (sym s) }
+    let g = like_at token_and_path shown gs ds i d (sym e) h in
+    record { given_as = g.0; is = g.1; token = ap (λ p. p.0) (sym g.2); path = ap (λ p. p.1) (sym g.2) }
 
 pub same_length : (ds : List OpenedDirectory) (gs : List Given) → map shown ds ≡ map token_and_path gs → length ds ≡ length gs
 same_length ds gs e = sym (length-map ds shown) ∙ ap length e ∙ length-map gs token_and_path
@@ -149,9 +143,9 @@ innermost_at s calls h =
         option_map shown (slice_get s.directories.items (length s.directories.items - 1))
         ≡ option_map token_and_path (slice_get (open_directories calls) (length (open_directories calls) - 1))
     same =
-        sym (get_map shown s.directories.items (length s.directories.items - 1))
+        sym (slice_get-map shown s.directories.items (length s.directories.items - 1))
         ∙ ap (λ (ps : List (ℕ × Path)). slice_get ps (length s.directories.items - 1)) h.nesting
-        ∙ get_map token_and_path (open_directories calls) (length s.directories.items - 1)
+        ∙ slice_get-map token_and_path (open_directories calls) (length s.directories.items - 1)
         ∙ ap (λ n. option_map token_and_path (slice_get (open_directories calls) (n - 1)))
         (same_length s.directories.items (open_directories calls) h.nesting)
 

@@ -104,39 +104,35 @@ end_tied (m ∷ p) (n ∷ q) = both_tied (name_cmp m n) (end_cmp p q) ∙ (λ i.
 
 -- ---- beneath two names of a path, both orders go by the names
 
-pub names_in_order : (p : Path) (m k : Name) (x y : Path) → is_within (child p m) x ≡ true → is_within (child p k) y ≡ true
-    → name_cmp m k ≡ Less → path_cmp x y ≡ Less
-names_in_order [] m k [] y w v l = absurd (true≢false (sym w))
-names_in_order [] m k (a ∷ x) [] w v l = absurd (true≢false (sym v))
-names_in_order [] m k (a ∷ x) (b ∷ y) w v l =
+-- in an order that goes by the first names first
+by_names : (order : Path → Path → Ordering)
+    → ((a b : Name) (x y : Path) → order (a ∷ x) (b ∷ y) ≡ ordering_then (name_cmp a b) (order x y))
+    → (p : Path) (m k : Name) (x y : Path) → is_within (child p m) x ≡ true → is_within (child p k) y ≡ true
+    → name_cmp m k ≡ Less → order x y ≡ Less
+by_names order first [] m k [] y w v l = absurd (true≢false (sym w))
+by_names order first [] m k (a ∷ x) [] w v l = absurd (true≢false (sym v))
+by_names order first [] m k (a ∷ x) (b ∷ y) w v l =
     let here = and_parts (bytes_eq m a) (is_within [] x) w in
     let there = and_parts (bytes_eq k b) (is_within [] y) v in
-    ap (λ o. ordering_then o (path_cmp x y))
+    first a b x y
+    ∙ ap (λ o. ordering_then o (order x y))
     (ap (λ (z : Name). name_cmp z b) (sym (same_bytes m a here.0)) ∙ ap (name_cmp m) (sym (same_bytes k b there.0)) ∙ l)
-names_in_order (c ∷ p) m k [] y w v l = absurd (true≢false (sym w))
-names_in_order (c ∷ p) m k (a ∷ x) [] w v l = absurd (true≢false (sym v))
-names_in_order (c ∷ p) m k (a ∷ x) (b ∷ y) w v l =
+by_names order first (c ∷ p) m k [] y w v l = absurd (true≢false (sym w))
+by_names order first (c ∷ p) m k (a ∷ x) [] w v l = absurd (true≢false (sym v))
+by_names order first (c ∷ p) m k (a ∷ x) (b ∷ y) w v l =
     let here = and_parts (bytes_eq c a) (is_within (child p m) x) w in
     let there = and_parts (bytes_eq c b) (is_within (child p k) y) v in
-    ap (λ o. ordering_then o (path_cmp x y)) (ap (name_cmp a) (sym (same_bytes c b there.0) ∙ same_bytes c a here.0) ∙ name_cmp-same a)
-    ∙ names_in_order p m k x y here.1 there.1 l
+    first a b x y
+    ∙ ap (λ o. ordering_then o (order x y)) (ap (name_cmp a) (sym (same_bytes c b there.0) ∙ same_bytes c a here.0) ∙ name_cmp-same a)
+    ∙ by_names order first p m k x y here.1 there.1 l
+
+pub names_in_order : (p : Path) (m k : Name) (x y : Path) → is_within (child p m) x ≡ true → is_within (child p k) y ≡ true
+    → name_cmp m k ≡ Less → path_cmp x y ≡ Less
+names_in_order = by_names path_cmp (λ a b x y. refl)
 
 pub names_end_in_order : (p : Path) (m k : Name) (x y : Path) → is_within (child p m) x ≡ true → is_within (child p k) y ≡ true
     → name_cmp m k ≡ Less → end_cmp x y ≡ Less
-names_end_in_order [] m k [] y w v l = absurd (true≢false (sym w))
-names_end_in_order [] m k (a ∷ x) [] w v l = absurd (true≢false (sym v))
-names_end_in_order [] m k (a ∷ x) (b ∷ y) w v l =
-    let here = and_parts (bytes_eq m a) (is_within [] x) w in
-    let there = and_parts (bytes_eq k b) (is_within [] y) v in
-    ap (λ o. ordering_then o (end_cmp x y))
-    (ap (λ (z : Name). name_cmp z b) (sym (same_bytes m a here.0)) ∙ ap (name_cmp m) (sym (same_bytes k b there.0)) ∙ l)
-names_end_in_order (c ∷ p) m k [] y w v l = absurd (true≢false (sym w))
-names_end_in_order (c ∷ p) m k (a ∷ x) [] w v l = absurd (true≢false (sym v))
-names_end_in_order (c ∷ p) m k (a ∷ x) (b ∷ y) w v l =
-    let here = and_parts (bytes_eq c a) (is_within (child p m) x) w in
-    let there = and_parts (bytes_eq c b) (is_within (child p k) y) v in
-    ap (λ o. ordering_then o (end_cmp x y)) (ap (name_cmp a) (sym (same_bytes c b there.0) ∙ same_bytes c a here.0) ∙ name_cmp-same a)
-    ∙ names_end_in_order p m k x y here.1 there.1 l
+names_end_in_order = by_names end_cmp (λ a b x y. refl)
 
 -- ---- what stands beneath a name
 

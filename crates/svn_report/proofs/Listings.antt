@@ -27,11 +27,10 @@ use Rattle.svn_report.specs.LawfulReports.{IsRootFirst, AreLawfulEntries}
 use Rattle.std.specs.Prelude.{nat_eq}
 use Rattle.std.specs.Cmp.Lexicographic.{pointwise}
 use Rattle.indexmap.specs.IndexMap.{insert_entry}
-use Rattle.svn_report.specs.ReportOrder.{IsKept, IsNext, IsNextBy, IsPrevious, end_cmp}
+use Rattle.svn_report.specs.ReportOrder.{IsKept, IsNext, IsNextBy, IsPrevious}
 use Rattle.svn_types.proofs.PathLemmas.{same_path, path_eq-same, path_eq-symm, below_parts}
 use Rattle.svn_types.proofs.PathsInOrder.{paths_total, path_tie, at_path, before_apart, earlier, not_both, below_after, within_between}
 use Rattle.svn_editor.proofs.OneMore.{any_found}
-use Rattle.svn_report.proofs.EndOrder.{end_tied}
 use Rattle.svn_types.proofs.Places.{some_none, passed, get_cases}
 
 -- a look-up by the path is the entry there
@@ -387,21 +386,14 @@ module _ (es : Entries) (p : Path) (e : ReportEntry) (old : AreLawfulEntries es)
     links_short = links_stay;
   }
 
--- ---- a path put into a set, and one taken out
+-- ---- a path put into a set, in whose order no other is level with it, and one taken out
 
-pub put_in : (old new : BTreeSet Path) (p q : Path) → contains path_cmp new q ≡ cond (is_at (path_cmp p) q) true (contains path_cmp old q)
-    → contains path_cmp new q ≡ (path_eq p q || contains path_cmp old q)
-put_in old new p q h = h ∙ ap (λ b. cond b true (contains path_cmp old q)) (at_path p q) ∙ by (path_eq p q)
+pub put_in : (order : Path → Path → Ordering) (old new : BTreeSet Path) (p q : Path) → is_at (order p) q ≡ path_eq p q
+    → contains order new q ≡ cond (is_at (order p) q) true (contains order old q)
+    → contains order new q ≡ (path_eq p q || contains order old q)
+put_in order old new p q level h = h ∙ ap (λ b. cond b true (contains order old q)) level ∙ by (path_eq p q)
   where
-    by : (b : Bool) → cond b true (contains path_cmp old q) ≡ (b || contains path_cmp old q)
-    by true = refl
-    by false = refl
-
-pub put_in_ends : (old new : BTreeSet Path) (p q : Path) → contains end_cmp new q ≡ cond (is_at (end_cmp p) q) true (contains end_cmp old q)
-    → contains end_cmp new q ≡ (path_eq p q || contains end_cmp old q)
-put_in_ends old new p q h = h ∙ ap (λ b. cond b true (contains end_cmp old q)) (end_tied p q) ∙ by (path_eq p q)
-  where
-    by : (b : Bool) → cond b true (contains end_cmp old q) ≡ (b || contains end_cmp old q)
+    by : (b : Bool) → cond b true (contains order old q) ≡ (b || contains order old q)
     by true = refl
     by false = refl
 
