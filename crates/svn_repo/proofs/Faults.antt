@@ -1,6 +1,6 @@
 -- The first fault on a way down, and what it means that there is none.
 use Rattle.std.proofs.Common.{◌≡◌, ℕ, zero, suc, ◌+◌, ◌<◌, ◌≤◌, Bool, true, false, cond, List, [], ◌∷◌, ◌++◌, length, take, drop, get_or}
-use Rattle.std.proofs.Common.{refl, arith, Option, Some, None, sym, ap, ◌∙◌, drop-cons, add-one}
+use Rattle.std.proofs.Common.{refl, arith, Option, Some, None, subst, sym, ap, ◌∙◌, drop-cons, add-one}
 use Rattle.std.specs.Prelude.{nat_lt}
 use Rattle.std.specs.List.{slice_get}
 use Rattle.std.specs.Option.{option_and_then, option_map, option_or, is_some}
@@ -99,7 +99,7 @@ pub some_directory : (o : Option Place) → is_directory_place o ≡ true → is
 some_directory None h = let bad : false ≡ true = h in cc
 some_directory (Some p) h = refl
 
-pub way_from_fault : (t : Tree) (p : Path) (name : List ℕ) → above_fault t (p ++ name ∷ []) ≡ None
+way_from_fault : (t : Tree) (p : Path) (name : List ℕ) → above_fault t (p ++ name ∷ []) ≡ None
     → IsWay t p × (is_directory_place (t p) ≡ true)
 way_from_fault t [] name h =
     let d = directory_by (t []) (or_none (directory_fault (t [])) None h).0 in
@@ -124,6 +124,11 @@ way_from_fault t (m ∷ p) name h =
     here : is_directory_place (t []) ≡ true → IsWay (λ q. t (m ∷ q)) p → (i : ℕ) → i ≤ length (m ∷ p) → is_some (t (take i (m ∷ p))) ≡ true
     here d w zero b = some_directory (t []) d
     here d w (suc i) b = w.present i (omega arith)
+
+-- the directories above the last name of a path that has no fault above it
+pub way_above : (t : Tree) (path above : Path) (last : List ℕ) → path ≡ above ++ last ∷ [] → above_fault t path ≡ None
+    → IsWay t above × (is_directory_place (t above) ≡ true)
+way_above t path above last split no_fault = way_from_fault t above last (subst (λ (p : Path). above_fault t p ≡ None) split no_fault)
 
 -- the way to a path that stands, with no fault above it
 pub way_whole : (t : Tree) (p : Path) → above_fault t p ≡ None → is_some (t p) ≡ true → IsWay t p

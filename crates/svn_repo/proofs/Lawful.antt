@@ -1,6 +1,6 @@
 -- What a commit makes is within the limits, and of its line's kind: a law of the definitions alone.
 use Rattle.std.proofs.Common.{◌≡◌, ℕ, zero, suc, ◌+◌, ◌-◌, ◌<◌, ◌≤◌, Bool, true, false, cond, ◌||◌, List, [], ◌∷◌, ◌++◌, length, refl}
-use Rattle.std.proofs.Common.{arith, Option, Some, None, subst, sym, ap, ◌∙◌, length-append, inl, inr}
+use Rattle.std.proofs.Common.{arith, Option, Some, None, subst, sym, ap, ◌∙◌, append-nil, length-append, inl, inr}
 use Rattle.std.specs.Prelude.{nat_lt, nat_eq}
 use Rattle.std.specs.List.{All, list_any, slice_get}
 use Rattle.std.specs.Map.{values_of}
@@ -138,12 +138,8 @@ leaf_lawful : (kinds : ℕ → Kind) (lines : ℕ) (p : Path) (y : Place) → Is
     → leaf y r ≡ Some x → IsLawfulPlace kinds lines (p ++ r) x
 leaf_lawful kinds lines p y l [] x e =
     let s : y ≡ x = cc in
-    let same : p ≡ p ++ [] = sym (append_nil p) in
+    let same : p ≡ p ++ [] = sym (append-nil p) in
     subst (λ z. IsLawfulPlace kinds lines z x) same (subst (IsLawfulPlace kinds lines p) s l)
-  where
-    append_nil : (xs : Path) → xs ++ [] ≡ xs
-    append_nil [] = refl
-    append_nil (x ∷ xs) = ap (λ ys. x ∷ ys) (append_nil xs)
 leaf_lawful kinds lines p y l (m ∷ r) x e = cc
 
 -- ---- what no fault means
@@ -236,10 +232,6 @@ prop_lawful : (kinds : ℕ → Kind) (lines : ℕ) (t : Tree) (p : Path) (name :
     → value_fault value ≡ None → (r : Path) (x : Place) → with_prop t p name value r ≡ Some x → IsLawfulPlace kinds lines (p ++ r) x
 prop_lawful kinds lines t p name value l h [] x e = by (t p) refl e
   where
-    append_nil : (xs : Path) → xs ++ [] ≡ xs
-    append_nil [] = refl
-    append_nil (x ∷ xs) = ap (λ ys. x ∷ ys) (append_nil xs)
-
     by : (o : Option Place) → t p ≡ o → option_map (place_with_prop name value) o ≡ Some x → IsLawfulPlace kinds lines (p ++ []) x
     by None here e = cc
     by (Some y) here e =
@@ -254,7 +246,7 @@ prop_lawful kinds lines t p name value l h [] x e = by (t p) refl e
           kind = was.kind;
           root_line = was.root_line;
         } in
-        subst (λ z. IsLawfulPlace kinds lines z x) (sym (append_nil p)) (subst (IsLawfulPlace kinds lines p) s now)
+        subst (λ z. IsLawfulPlace kinds lines z x) (sym (append-nil p)) (subst (IsLawfulPlace kinds lines p) s now)
 prop_lawful kinds lines t p name value l h (m ∷ r) x e = l (p ++ m ∷ r) x e
 
 copy_short : (h : History) (rev : ℕ) (source path r : Path) (x : Place) → copy_depth_fault (node_at h) (look h rev source) path ≡ None

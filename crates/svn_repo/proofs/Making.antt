@@ -10,6 +10,8 @@ use Rattle.svn_repo.specs.Walks.{rest_below, led}
 use Rattle.svn_repo.specs.Trees.{Place, Tree, place_of, place_at, touched, touch, is_within, leaf, IsWay, is_directory_place}
 use Rattle.svn_repo.specs.Drafts.{IsDraft, IsDraftEntries, PutsChild, shape_at, tree_in, IsThawed, IsGrafted, KeepsOld, old_part, IsOld}
 use Rattle.svn_repo.specs.Drafts.{IsListing}
+use Rattle.svn_repo.specs.Changes.{above_fault}
+use Rattle.svn_repo.proofs.Faults.{way_above}
 use Rattle.svn_repo.proofs.Walking.{and_then_same}
 use Rattle.svn_repo.proofs.Thawing.{StaysIn, walk_stays, walk_same, place_from_shape, place_fresh, touched_shape, rows-append, rows-push}
 use Rattle.svn_repo.proofs.Thawing.{closed_grown, walk_grown, in_range}
@@ -99,11 +101,17 @@ way_below_root base old mid from root p top way = record {
 }
 
 -- the last directory of a thawed way
-pub thawed_listing : (base : ℕ) (old mid : List Node) (from root at : ℕ) (p : Path) → IsThawed base old mid from root p at
+thawed_listing : (base : ℕ) (old mid : List Node) (from root at : ℕ) (p : Path) → IsThawed base old mid from root p at
     → is_directory_place (tree_in base old from p) ≡ true → IsListing mid at
 thawed_listing base old mid from root at p thawed h =
     listing_at base mid root at p thawed.here (ap is_directory_place (thawed.tree p) ∙ is_directory_place-touch (tree_in base old from) p p
     ∙ h)
+
+-- the directory above the last name of a path that has no fault above it
+pub thawed_above : (base : ℕ) (old mid : List Node) (from root at : ℕ) (path above : Path) (last : List ℕ) → path ≡ above ++ last ∷ []
+    → above_fault (tree_in base old from) path ≡ None → IsThawed base old mid from root above at → IsListing mid at
+thawed_above base old mid from root at path above last split no_fault thawed =
+    thawed_listing base old mid from root at above thawed (way_above (tree_in base old from) path above last split no_fault).1
 
 -- ---- a new node
 

@@ -1,6 +1,6 @@
 -- The laws of commits, from their definition.
 use Rattle.std.proofs.Common.{◌≡◌, ℕ, ◌<◌, true, false, cond, List, [], ◌∷◌, ◌++◌, length, refl, arith, Option, Some}
-use Rattle.std.proofs.Common.{None, subst, sym, ap, ◌∙◌, inl, inr}
+use Rattle.std.proofs.Common.{None, subst, sym, ap, ◌∙◌, append-nil, inl, inr}
 use Rattle.std.specs.Prelude.{nat_lt, IsSome}
 use Rattle.std.specs.List.{list_any, slice_get}
 use Rattle.std.specs.Option.{option_and_then, option_map, is_some}
@@ -17,7 +17,7 @@ use Rattle.svn_repo.specs.Changes.{Pending, latest_pending, after_change, after_
 use Rattle.svn_repo.specs.Laws.{RevisionsStay, CopiesKeepNodes, UntouchedPathsKeepNodes, touches, NodesExist, no_commit, one_more}
 use Rattle.svn_repo.specs.Laws.{latest_of}
 use Rattle.svn_repo.proofs.Walking.{and_then_parts, rest_below_is}
-use Rattle.svn_repo.proofs.Thawing.{append_nil, rest_below_self}
+use Rattle.svn_repo.proofs.Thawing.{rest_below_self}
 use Rattle.svn_repo.proofs.OldRevisions.{slice_get_in}
 use Rattle.std.proofs.lemmas.Bool.{or_parts}
 use Rattle.std.proofs.lemmas.Slice.Eq.{bytes_eq-Decides}
@@ -43,7 +43,7 @@ prop_apart t path name value p apart = by (rest_below path p) refl
     by : (o : Option Path) → rest_below path p ≡ o → led o (with_prop t path name value) (touch t path p) ≡ t p
     by None e = ap (λ b. cond b (option_map touched (t p)) (t p)) apart
     by (Some []) e =
-        let same : p ≡ path = rest_below_is path p [] e ∙ append_nil path in
+        let same : p ≡ path = rest_below_is path p [] e ∙ append-nil path in
         let bad : true ≡ false = sym (ap is_some (rest_below_self path)) ∙ ap (λ z. is_within z path) (sym same) ∙ apart in cc
     by (Some (m ∷ r)) e = ap t (sym (rest_below_is path p (m ∷ r) e))
 

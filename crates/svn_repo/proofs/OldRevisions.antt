@@ -9,7 +9,7 @@ use Rattle.std.proofs.lemmas.Option.{slice_get-map, slice_get_read, slice_get_wi
 use Rattle.std.proofs.lemmas.List.{length-map}
 use Rattle.svn_repo.specs.declared.store.Node.{Node}
 use Rattle.svn_repo.specs.declared.change.Change.{Change}
-use Rattle.svn_repo.specs.declared.change.CommitFault.TheVariants.{Exists, Missing, NoSuchRevision}
+use Rattle.svn_repo.specs.declared.change.CommitFault.TheVariants.{Exists, Missing, NoSuchRevision, TooDeep}
 use Rattle.svn_types.specs.Names.{Path}
 use Rattle.svn_repo.specs.History.{History, Nodes, node_at, child_in, walk, look, reaches}
 use Rattle.svn_types.specs.Limits.{path_limit}
@@ -175,12 +175,22 @@ slice_get_in [] i h = absurd (omega arith)
 slice_get_in (x ∷ xs) zero h = (x, refl)
 slice_get_in (x ∷ xs) (suc i) h = slice_get_in xs i (omega arith)
 
-pub copy_too_deep : (heights : List ℕ) (nodes : List Node) (n : ℕ) (p : Path) (deep : Bool) → IsOldPart heights nodes → root_fault p ≡ None
+copy_too_deep : (heights : List ℕ) (nodes : List Node) (n : ℕ) (p : Path) (deep : Bool) → IsOldPart heights nodes → root_fault p ≡ None
     → n < length heights → ((k : ℕ) → slice_get heights n ≡ Some k → deep ≡ nat_lt path_limit (length p + k))
     → reaches (rows (take (length heights) nodes)) (path_limit + 1 - length p) n ≡ deep
 copy_too_deep heights nodes n p deep old not_root inside test =
     let k = slice_get_in heights n inside in
     sym (test k.0 k.1 ∙ depth_by_height (rows (take (length heights) nodes)) n k.0 p (some_name p not_root) (old.known n k.0 k.1))
+
+-- what is wrong with a copy to a free path: that it is too deep, or nothing
+pub free_copy_fault : (heights : List ℕ) (nodes : List Node) (n : ℕ) (p : Path) (deep taken : Bool) → IsOldPart heights nodes
+    → root_fault p ≡ None → n < length heights → ((k : ℕ) → slice_get heights n ≡ Some k → deep ≡ nat_lt path_limit (length p + k))
+    → taken ≡ false → fault_if deep TooDeep ≡ option_or (fault_if taken Exists)
+    (fault_if (reaches (rows (take (length heights) nodes)) (path_limit + 1 - length p) n) TooDeep)
+free_copy_fault heights nodes n p deep taken old not_root inside test free =
+    sym (ap (λ b. option_or (fault_if b Exists)
+    (fault_if (reaches (rows (take (length heights) nodes)) (path_limit + 1 - length p) n) TooDeep)) free
+    ∙ ap (λ b. fault_if b TooDeep) (copy_too_deep heights nodes n p deep old not_root inside test))
 
 -- a walk without a fault leads to a node
 pub walk_stands : (base : ℕ) (nodes : List Node) (top : ℕ) (source : Path) → walk_fault (tree_in base nodes top) source ≡ None

@@ -1,6 +1,6 @@
 -- A property of one fresh node of a draft is set: the tree changes there alone.
 use Rattle.std.proofs.Common.{◌≡◌, ◌≢◌, ℕ, ◌≤◌, true, false, cond, List, [], ◌∷◌, ◌++◌, refl, arith, Option, Some, None, subst, sym, ap}
-use Rattle.std.proofs.Common.{◌∙◌, inl, inr}
+use Rattle.std.proofs.Common.{◌∙◌, append-nil, inl, inr}
 use Rattle.std.specs.Prelude.{bytes_eq}
 use Rattle.std.proofs.lemmas.Slice.Eq.{bytes_eq-Decides}
 use Rattle.std.specs.List.{slice_get, slice_set}
@@ -17,7 +17,7 @@ use Rattle.svn_repo.specs.Trees.{Place, place_of, place_at, touched, touch, graf
 use Rattle.svn_repo.specs.Drafts.{IsDraftEntries, SetsProp, shape_at, tree_in, IsThawed, IsGrafted}
 use Rattle.svn_repo.proofs.EntryWrites.{slice_get-set_other, slice_get-set_same}
 use Rattle.svn_repo.proofs.Walking.{and_then_same, rest_below_is}
-use Rattle.svn_repo.proofs.Thawing.{place_from_shape, place_fresh, rest_below_self, append_nil}
+use Rattle.svn_repo.proofs.Thawing.{place_from_shape, place_fresh, rest_below_self}
 
 same_name : (m : List ℕ) → bytes_eq m m ≡ true
 same_name m = (bytes_eq-Decides m m).1 refl
@@ -96,7 +96,7 @@ module _ (base : ℕ) (old mid new : List Node) (from root at : ℕ) (p : Path) 
           let ne : q ≢ p = λ s. (let bad : None ≡ Some [] = sym e ∙ ap (rest_below p) s ∙ rest_below_self p in cc) in
           prop_else q ne ∙ thawed.tree q
       by_rest (Some []) e =
-          let s : q ≡ p = rest_below_is p q [] e ∙ append_nil p in
+          let s : q ≡ p = rest_below_is p q [] e ∙ append-nil p in
           ap (tree_in base new root) s ∙ prop_here
       by_rest (Some (x ∷ r)) e =
           let s : q ≡ p ++ x ∷ r = rest_below_is p q (x ∷ r) e in

@@ -1,6 +1,6 @@
 -- What no change removes stands on, and keeps its line: the law of lines.
 use Rattle.std.proofs.Common.{◌≡◌, ℕ, Bool, true, false, cond, List, [], ◌∷◌, ◌++◌, append_assoc, length, refl, Option, Some, None, subst}
-use Rattle.std.proofs.Common.{sym, ap, ◌∙◌}
+use Rattle.std.proofs.Common.{sym, ap, ◌∙◌, append-nil}
 use Rattle.std.specs.Prelude.{nat_lt}
 use Rattle.std.specs.List.{list_any, slice_get}
 use Rattle.std.specs.Option.{option_and_then, option_map, option_or, is_some}
@@ -24,7 +24,6 @@ use Rattle.svn_repo.specs.Changes.{directory_fault_at, copy_fault, copy_depth_fa
 use Rattle.svn_repo.specs.Changes.{changes_fault, after_change, after_changes, with_text, IsCommit, IsRevision, StandsIn}
 use Rattle.svn_repo.specs.Laws.{ChangesKeepLines, AreCommits, NodesExist, no_commit, one_more, latest_of, removes}
 use Rattle.svn_repo.proofs.Walking.{and_then_parts, walk-append, rest_below_is}
-use Rattle.svn_repo.proofs.Thawing.{append_nil}
 use Rattle.svn_repo.proofs.Faults.{or_none, some_directory}
 use Rattle.svn_repo.proofs.Meanings.{rest_below_append, some_row, latest_after, stays}
 
@@ -123,7 +122,7 @@ graft_keeps t p part q x inner e = by (rest_below p q) refl
 
 -- the place at the end of the way is that at the path
 at_end : (t : Tree) (q p : Path) (x : Place) → t q ≡ Some x → q ≡ p ++ [] → t p ≡ Some x
-at_end t q p x e is = ap t (sym (append_nil p) ∙ sym is) ∙ e
+at_end t q p x e is = ap t (sym (append-nil p) ∙ sym is) ∙ e
 
 occupied : (t : Tree) (q p r : Path) (x : Place) → AreDirectories t q → t q ≡ Some x → q ≡ p ++ r → is_some (t p) ≡ true
 occupied t q p [] x above e is = ap is_some (at_end t q p x e is)

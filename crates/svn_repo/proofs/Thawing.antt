@@ -1,6 +1,6 @@
 -- One node made afresh: the tree stays as it was but for the number there, and the nodes still are a draft.
 use Rattle.std.proofs.Common.{◌≡◌, ◌≢◌, ℕ, ◌+◌, ◌<◌, ◌≤◌, true, false, cond, List, [], ◌∷◌, ◌++◌, length, refl, arith, Option, Some, None}
-use Rattle.std.proofs.Common.{subst, sym, ap, ◌∙◌, length-append, ◌⊎◌, inl, inr}
+use Rattle.std.proofs.Common.{subst, sym, ap, ◌∙◌, append-nil, length-append, ◌⊎◌, inl, inr}
 use Rattle.std.specs.Prelude.{bytes_eq, nat_lt}
 use Rattle.std.specs.Option.{option_and_then, option_map, is_some}
 use Rattle.std.specs.Cmp.Lexicographic.{pointwise}
@@ -29,10 +29,6 @@ path_cases p q =
       | inr f ↦ inr (λ e. let t : pointwise bytes_eq p q ≡ true = d.1 e in
           cc)
     ]
-
-pub append_nil : {X : Type 0} (xs : List X) → xs ++ [] ≡ xs
-append_nil [] = refl
-append_nil (x ∷ xs) = ap (λ ys. x ∷ ys) (append_nil xs)
 
 pub rest_below_self : (p : Path) → rest_below p p ≡ Some []
 rest_below_self [] = refl
@@ -231,7 +227,7 @@ module _ (base : ℕ) (old between new : List Node) (root at : ℕ) (p : Path) (
       by_rest None e = walk_between root q draft.root_in
       by_rest (Some []) e =
           let s : q ≡ (p ++ name ∷ []) ++ [] = rest_below_is (p ++ name ∷ []) q [] (sym e) in
-          absurd (ne (s ∙ append_nil (p ++ name ∷ [])))
+          absurd (ne (s ∙ append-nil (p ++ name ∷ [])))
       by_rest (Some (x ∷ r)) e =
           let s : q ≡ (p ++ name ∷ []) ++ x ∷ r = rest_below_is (p ++ name ∷ []) q (x ∷ r) (sym e) in
           copy_walk x r ∙ sym (ap (walk (rows old) root) s ∙ walk_on (rows old) root n (p ++ name ∷ []) (x ∷ r) way_child)

@@ -1,5 +1,5 @@
 //! The changes of a commit, made one after another on a draft.
-ghost use Rattle.std.specs.Prelude.{◌≡◌, ◌≤◌, ◌<◌, ℕ, IsSome, take, List, [], ◌∷◌, ◌++◌, Some, None, true, length, IfOk, IfErr, OnErr, ◌⊎◌, OnOk, ◌+◌, ◌^◌, if◌then◌else◌};
+ghost use Rattle.std.specs.Prelude.{◌≡◌, ◌≤◌, ◌<◌, ℕ, IsSome, take, List, [], ◌∷◌, ◌++◌, Some, None, true, length, slice_get, ◌-◌, IfOk, IfErr, OnErr, ◌⊎◌, OnOk, ◌+◌, ◌^◌, if◌then◌else◌};
 ghost use Rattle.std.specs.Option.{option_and_then, is_some};
 ghost use Rattle.svn_repo.specs.History.{History};
 ghost use Rattle.svn_repo.specs.Drafts.{IsDraft, IsGrafted, KeepsOld, AreRootsBelow, IsPast, look_in, old_part, past_in, tree_in};
@@ -172,6 +172,14 @@ fn make_all(
     Ok(draft)
 }
 
+// The root of the last revision.
+fn last_root(stored: &Stored) -> NodeId
+    requires { 1 ≤ length stored.now.roots.items }
+    ensures { slice_get stored.now.roots.items (length stored.now.roots.items - 1) ≡ Some result }
+{
+    stored.roots[stored.roots.len() - 1]
+}
+
 // Makes the changes in order on a draft over the last revision, puts its root behind the others, and answers the next line.
 fn push_revision(stored: &mut Stored, lines: u64, changes: &[Change]) -> Result<u64, CommitFault>
     requires { IsStored stored.old.roots.items stored.old.nodes.items lines stored.old.heights.items }
@@ -181,7 +189,7 @@ fn push_revision(stored: &mut Stored, lines: u64, changes: &[Change]) -> Result<
     ensures nodes_kept { OnErr result (KeepsOld (length stored.old.nodes.items) stored.old.nodes.items stored.new.nodes.items) }
     ensures heights_kept { OnErr result (take (length stored.old.nodes.items) stored.new.heights.items ≡ stored.old.heights.items) }
 {
-    let root = stored.roots[stored.roots.len() - 1];
+    let root = last_root(stored);
     let base = stored.nodes.len();
     let start = Draft { base, root, lines };
     let past = Past {

@@ -1,49 +1,28 @@
-use Rattle.std.proofs.Common.{rules, ◌≡◌, ℕ, ◌-◌, ◌<◌, Some, List, length, arith, refl, subst, sym, inl}
-use Rattle.std.specs.List.{slice_get}
+use Rattle.std.proofs.Common.{◌≡◌, ℕ, ◌<◌, List, length, arith, refl, subst, sym, inl}
 use Rattle.std.proofs.lemmas.Option.{slice_get_within}
 use Rattle.svn_repo.specs.declared.store.Node.{Node}
 use Rattle.svn_repo.specs.declared.change.CommitFault.TheVariants.{Memory}
 use Rattle.svn_repo.specs.Stored.{history_of, AreHeights}
 use Rattle.svn_repo.specs.Heights.{IsOrdered}
-use Rattle.svn_repo.specs.Changes.{AllMade, AreRefused, IsRefused, Pending, latest_pending, pending_in}
+use Rattle.svn_repo.specs.Changes.{AreRefused, IsRefused, Pending, latest_pending, pending_in}
 use Rattle.svn_repo.proofs.Runs.{handed_on, first_of}
-use Rattle.svn_repo.proofs.OldRevisions.{last_root}
 use Rattle.svn_repo.proofs.Tallest.{draft_ordered, heights_kept}
 use Rattle.svn_repo.proofs.Commits.{start_draft, start_past, start_pending, still_sound, no_fault, is_revision}
 use Rattle.svn_repo.proofs.commit.push_revision.Goals as goal
 
 pub make_all-requires-clause-draft : goal.make_all-requires-clause-draft
-make_all-requires-clause-draft c =
-    let roots = c.args.stored.now.roots.items in
-    let old = c.args.stored.now.nodes.items in
-    let from : ℕ = c.index-root.result.now in
-    let count : c.len.result ≡ length roots = search rules in
-    let sound = c.requires.repository in
-    let last : slice_get roots (length roots - 1) ≡ Some from =
-    last_root roots c.len.result from count sound.some_revision c.index-root.ensures in
-    start_draft roots old c.args.lines from sound last
+make_all-requires-clause-draft c = start_draft _ _ _ _ c.requires.repository c.last_root-root.ensures
 
 pub make_all-requires-clause-past : goal.make_all-requires-clause-past
 make_all-requires-clause-past c =
-    let roots = c.args.stored.now.roots.items in
-    let old = c.args.stored.now.nodes.items in
-    let from : ℕ = c.index-root.result.now in
-    let count : c.len.result ≡ length roots = search rules in
-    let sound = c.requires.repository in
-    let last : slice_get roots (length roots - 1) ≡ Some from =
-    last_root roots c.len.result from count sound.some_revision c.index-root.ensures in
     rw (c.deref.ensures.value, c.deref-2.ensures.value)
-    (start_past roots old c.args.lines from sound last c.args.stored.now.heights.items c.requires.known)
+    (start_past _ _ c.args.lines _ c.requires.repository c.last_root-root.ensures _ c.requires.known)
 
 pub returns-in_err-made-clause-fault : goal.returns-in_err-made-clause-fault
 returns-in_err-made-clause-fault c =
     let roots = c.args.stored.now.roots.items in
     let old = c.args.stored.now.nodes.items in
-    let from : ℕ = c.index-root.result.now in
-    let count : c.len.result ≡ length roots = search rules in
-    let sound = c.requires.repository in
-    let last : slice_get roots (length roots - 1) ≡ Some from =
-    last_root roots c.len.result from count sound.some_revision c.index-root.ensures in
+    let from = c.last_root-root.result in
     let h = history_of roots old c.args.lines in
     let told : AreRefused h (pending_in (length old) old from c.args.lines) c.args.changes.now c.in_err-made.field-0.0 =
     subst (λ (r : List ℕ). AreRefused (history_of r old c.args.lines)
@@ -51,7 +30,7 @@ returns-in_err-made-clause-fault c =
     c.in_err-made.ensures.err in
     let refused : IsRefused h c.args.changes.now c.in_err-made.field-0.0 =
     subst (λ (s : Pending). AreRefused h s c.args.changes.now c.in_err-made.field-0.0)
-    (sym (start_pending roots old c.args.lines from sound last)) told in
+    (sym (start_pending roots old c.args.lines from c.requires.repository c.last_root-root.ensures)) told in
     handed_on (λ e. e ≡ c.in_err-made.field-0.0) (IsRefused h c.args.changes.now) c.from_residual.result c.from_residual.ensures
     (λ e is. subst (IsRefused h c.args.changes.now) (sym is) refused)
 
@@ -70,67 +49,36 @@ add_heights-requires-clause-old c = λ n k e.
 
 pub returns-in-Ok-clause-ok : goal.returns-in-Ok-clause-ok
 returns-in-Ok-clause-ok c =
-    let roots = c.args.stored.now.roots.items in
-    let old = c.args.stored.now.nodes.items in
-    let from : ℕ = c.index-root.result.now in
-    let count : c.len.result ≡ length roots = search rules in
     let sound = c.requires.repository in
-    let last : slice_get roots (length roots - 1) ≡ Some from =
-    last_root roots c.len.result from count sound.some_revision c.index-root.ensures in
-    let new = c.make_all.new.nodes.items in
-    let root = c.in_ok-made.made.root in
-    let next = c.in_ok-made.made.lines in
-    let changes = c.args.changes.now in
+    let last = c.last_root-root.ensures in
     let kept = c.make_all.ensures.kept in
-    let made : AllMade roots old new from c.args.lines root next changes =
-    subst (λ (r : List ℕ). AllMade r old new from c.args.lines root next changes) c.deref.ensures.value c.in_ok-made.ensures.ok in
-    let known : AreHeights new c.add_heights.new.heights.items =
+    let made = rw c.deref.ensures.value at c.in_ok-made.ensures.ok in
+    let known : AreHeights c.make_all.new.nodes.items c.add_heights.new.heights.items =
     subst (λ (nodes : List Node). AreHeights nodes c.add_heights.new.heights.items) c.deref-3.ensures.value
     c.in_ok-add_heights.ensures.ok in
     rw c.in-Ok.ensures.items (
-      record { repository = still_sound roots old new c.args.lines next from root changes sound last made kept; known = known },
+      record { repository = still_sound _ _ _ _ _ _ _ _ sound last made kept; known = known },
       (
-        no_fault roots old new c.args.lines next from root changes sound last made kept,
-        is_revision roots old new c.args.lines next from root changes sound last made kept,
+        no_fault _ _ _ _ _ _ _ _ sound last made kept,
+        is_revision _ _ _ _ _ _ _ _ sound last made kept,
       ),
     )
 
 pub returns-in_err-add_heights-clause-fault : goal.returns-in_err-add_heights-clause-fault
 returns-in_err-add_heights-clause-fault c =
-    let roots = c.args.stored.now.roots.items in
-    let old = c.args.stored.now.nodes.items in
-    let from : ℕ = c.index-root.result.now in
-    let count : c.len.result ≡ length roots = search rules in
-    let sound = c.requires.repository in
-    let last : slice_get roots (length roots - 1) ≡ Some from =
-    last_root roots c.len.result from count sound.some_revision c.index-root.ensures in
-    let new = c.make_all.new.nodes.items in
-    let root = c.in_ok-made.made.root in
-    let next = c.in_ok-made.made.lines in
-    let changes = c.args.changes.now in
-    let kept = c.make_all.ensures.kept in
-    let made : AllMade roots old new from c.args.lines root next changes =
-    subst (λ (r : List ℕ). AllMade r old new from c.args.lines root next changes) c.deref.ensures.value c.in_ok-made.ensures.ok in
-    let h = history_of roots old c.args.lines in
-    let can = first_of h (latest_pending h) changes (no_fault roots old new c.args.lines next from root changes sound last made kept) in
-    handed_on (λ e. e ≡ Memory) (IsRefused h changes) c.from_residual-in_err-add_heights.result c.from_residual-in_err-add_heights.ensures
+    let made = rw c.deref.ensures.value at c.in_ok-made.ensures.ok in
+    let h = history_of c.args.stored.now.roots.items c.args.stored.now.nodes.items c.args.lines in
+    let can = first_of h (latest_pending h) c.args.changes.now (no_fault _ _ _ _ _ _ _ _ c.requires.repository c.last_root-root.ensures
+    made c.make_all.ensures.kept) in
+    handed_on (λ e. e ≡ Memory) (IsRefused h c.args.changes.now) c.from_residual-in_err-add_heights.result c.from_residual-in_err-add_heights.ensures
     (λ e is. inl (is, can))
 
 pub returns-in-Err-clause-fault : goal.returns-in-Err-clause-fault
 returns-in-Err-clause-fault c =
-    let roots = c.args.stored.now.roots.items in
-    let old = c.args.stored.now.nodes.items in
-    let from : ℕ = c.index-root.result.now in
-    let count : c.len.result ≡ length roots = search rules in
-    let sound = c.requires.repository in
-    let last : slice_get roots (length roots - 1) ≡ Some from =
-    last_root roots c.len.result from count sound.some_revision c.index-root.ensures in
-    let new = c.make_all.new.nodes.items in
-    let root = c.in_ok-made.made.root in
-    let next = c.in_ok-made.made.lines in
-    let changes = c.args.changes.now in
-    let kept = c.make_all.ensures.kept in
-    let made : AllMade roots old new from c.args.lines root next changes =
-    subst (λ (r : List ℕ). AllMade r old new from c.args.lines root next changes) c.deref.ensures.value c.in_ok-made.ensures.ok in
-    let h = history_of roots old c.args.lines in
-    inl (refl, first_of h (latest_pending h) changes (no_fault roots old new c.args.lines next from root changes sound last made kept))
+    let made = rw c.deref.ensures.value at c.in_ok-made.ensures.ok in
+    let h = history_of c.args.stored.now.roots.items c.args.stored.now.nodes.items c.args.lines in
+    inl (
+      refl,
+      first_of h (latest_pending h) c.args.changes.now (no_fault _ _ _ _ _ _ _ _ c.requires.repository c.last_root-root.ensures
+          made c.make_all.ensures.kept),
+    )
