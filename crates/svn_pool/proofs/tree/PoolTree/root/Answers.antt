@@ -9,7 +9,5 @@ pub returns-clause-live : goal.returns-clause-live
 returns-clause-live g c =
     let s = c.self.inside in
     let root : c.args.self.now.root ≡ s.root = sym (ap (λ (t : Pools). t.root) c.self.view_is) in
-    let at =
-    ap (pool_at c.args.self.now) root
-    ∙ pool_is s.root s.last (bare s.pools) s.stock.spare c.args.self.now c.self.view_is c.self.invariant.linked.unique s.root in
+    let at = ap (pool_at c.args.self.now) root ∙ pool_is c.self.invariant c.self.view_is s.root in
     subst IsSome (sym at) (live_root _ c.self.invariant.rooted)
