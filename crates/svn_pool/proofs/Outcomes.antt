@@ -116,7 +116,7 @@ module _ {root last used spare : ℕ} {pools end : LinkedMap} {old : Pools} (tre
           ∙ ap (λ (o : Option Entry). Some (record { parent = parent_of o; strings = [] })) (sym (at_old s));
       beneath = λ q b. at_new q ∙ pruned.beneath q (beneath_same (pool_at old) (live_at (bare mid)) parents s q b);
       rest = rest_kept (λ q apart not. pruned.others q
-      (λ b. not (beneath_same (live_at (bare mid)) (pool_at old) (λ k. sym (parents k)) s q b)) ∙ put.1 q apart);
+          (λ b. not (beneath_same (live_at (bare mid)) (pool_at old) (λ k. sym (parents k)) s q b)) ∙ put.1 q apart);
     }
 
   module _ {mid : LivePools} (pruned : IsPruned (bare pools) mid s) (gone : Changes mid (bare end) s None) where
@@ -132,7 +132,7 @@ module _ {root last used spare : ℕ} {pools end : LinkedMap} {old : Pools} (tre
             gone.1 q apart ∙ pruned.beneath q (beneath_same (pool_at old) (live_at (bare pools)) same_old s q b)
       ];
       rest = rest_kept (λ q apart not. gone.1 q apart
-      ∙ pruned.others q (λ b. not (beneath_same (live_at (bare pools)) (pool_at old) (λ k. sym (same_old k)) s q b)));
+          ∙ pruned.others q (λ b. not (beneath_same (live_at (bare pools)) (pool_at old) (λ k. sym (same_old k)) s q b)));
     }
 
 -- the tree's invariant stands again

@@ -1,6 +1,6 @@
-use Rattle.std.proofs.Common.{nat_eq, ◌≡◌, ◌+◌, ◌-◌, [], Option, Some, is_some, refl, sym, ap, subst, ◌∙◌, arith}
+use Rattle.std.proofs.Common.{nat_eq, ◌≡◌, ◌+◌, ◌-◌, [], Option, Some, is_some, sym, ap, subst, ◌∙◌, arith}
 use Rattle.std.specs.HashMap.{get}
-use Rattle.svn_pool.specs.Linked.{Changes, bare, live_at}
+use Rattle.svn_pool.specs.Linked.{Changes, bare}
 use Rattle.svn_pool.specs.Pools.{Entry, blocks_of, fixed_of, parent_of}
 use Rattle.svn_pool.specs.Stores.{Store}
 use Rattle.svn_pool.specs.declared.links.Linked.{Linked}

@@ -1,5 +1,4 @@
 use Rattle.std.proofs.Common.{◌≡◌, IsSome, sym, ap, subst, ◌∙◌}
-use Rattle.svn_pool.specs.Linked.{bare}
 use Rattle.svn_pool.specs.Pools.{Pools, pool_at}
 use Rattle.svn_pool.proofs.Outcomes.{live_root}
 use Rattle.svn_pool.proofs.Views.{pool_is}
