@@ -56,6 +56,14 @@ set-bare test (e ∷ es) w =
 pub live-bare : (m : LinkedMap) (q : ℕ) → live_at (bare m) q ≡ pool_in (get nat_eq m q)
 live-bare m q = lookup-bare q m.entries
 
+-- what a search finds in the map is live
+pub live-found : (m : LinkedMap) (q : ℕ) {l : Linked Entry} → Some l ≡ get nat_eq m q → live_at (bare m) q ≡ Some l.pool
+live-found m q found = live-bare m q ∙ ap pool_in (sym found)
+
+-- a pool has other contents, and its links are as they were
+abbrev pub holding : Linked Entry → Entry → Linked Entry
+holding l e = record { pool = e; first = l.first; next = l.next; before = l.before }
+
 is_some-pool : (o : Option (Linked Entry)) → is_some (pool_in o) ≡ is_some o
 is_some-pool None = refl
 is_some-pool (Some l) = refl

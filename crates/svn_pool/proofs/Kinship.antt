@@ -14,7 +14,7 @@ use Rattle.svn_pool.specs.Pools.{Entry, parent_of}
 use Rattle.svn_pool.specs.declared.links.Linked.{Linked}
 use Rattle.svn_pool.specs.declared.links.Place.{Place}
 use Rattle.svn_pool.specs.declared.links.Place.TheVariants.{First, Next}
-use Rattle.svn_pool.proofs.Bare.{changes-bare, is_some-bare, live-bare, pool_in, unique-bare}
+use Rattle.svn_pool.proofs.Bare.{changes-bare, holding, is_some-bare, live-bare, pool_in, unique-bare}
 use Rattle.svn_pool.proofs.Edges.{updated_here, updated_away}
 use Rattle.svn_pool.proofs.Siblings.{first_or_next, inverse_with, inverse_without, kin_with, kin_without, same_place}
 
@@ -100,25 +100,26 @@ linked-again m n linked same unique =
     (λ c. ap is_some (pool c)) (unique-bare n unique)
 
 -- one pool has other strings
-pub linked-written : (m n : LinkedMap) → IsLinked m → (s : ℕ) (d e : Linked Entry) → get nat_eq m s ≡ Some d → e.pool.parent ≡ d.pool.parent
-    → e.first ≡ d.first → e.next ≡ d.next → e.before ≡ d.before → Updates nat_eq m n s (Some e) → hash.IsUnique nat_eq n → IsLinked n
-linked-written m n linked s d e found parent first next before put unique =
+pub linked-written : (m n : LinkedMap) → IsLinked m → (s : ℕ) (l : Linked Entry) (w : Entry) → get nat_eq m s ≡ Some l
+    → w.parent ≡ l.pool.parent → Updates nat_eq m n s (Some (holding l w)) → hash.IsUnique nat_eq n → IsLinked n
+linked-written m n linked s l w found parent put unique =
+    let e : Linked Entry = holding l w in
     let here = updated_here m n s (Some e) put in
     let away : (c : ℕ) → c ≢ s → get nat_eq n c ≡ get nat_eq m c = updated_away m n s (Some e) put in
     let change = changes-bare m n s (Some e) put in
     let firsts : (c : ℕ) → first_of (get nat_eq n c) ≡ first_of (get nat_eq m c) = λ c. elim (cases_eq c s) [
-      | inl is ↦ ap (λ (k : ℕ). first_of (get nat_eq n k)) is ∙ ap first_of here ∙ first ∙ sym (ap first_of found)
+      | inl is ↦ ap (λ (k : ℕ). first_of (get nat_eq n k)) is ∙ ap first_of here ∙ sym (ap first_of found)
           ∙ ap (λ (k : ℕ). first_of (get nat_eq m k)) (sym is)
       | inr apart ↦ ap first_of (away c apart)
     ] in
     let nexts : (c : ℕ) → next_of (get nat_eq n c) ≡ next_of (get nat_eq m c) = λ c. elim (cases_eq c s) [
-      | inl is ↦ ap (λ (k : ℕ). next_of (get nat_eq n k)) is ∙ ap next_of here ∙ next ∙ sym (ap next_of found)
+      | inl is ↦ ap (λ (k : ℕ). next_of (get nat_eq n k)) is ∙ ap next_of here ∙ sym (ap next_of found)
           ∙ ap (λ (k : ℕ). next_of (get nat_eq m k)) (sym is)
       | inr apart ↦ ap next_of (away c apart)
     ] in
     linked-same m n linked (by firsts nexts)
     (λ c. elim (cases_eq c s) [
-      | inl is ↦ ap (place_of n) is ∙ ap place_in here ∙ (λ i. place_by (parent i) (before i)) ∙ sym (ap place_in found)
+      | inl is ↦ ap (place_of n) is ∙ ap place_in here ∙ (λ i. place_by (parent i) l.before) ∙ sym (ap place_in found)
           ∙ ap (place_of m) (sym is)
       | inr apart ↦ ap place_in (away c apart)
     ])

@@ -4,13 +4,15 @@ use Rattle.std.proofs.Common.{IsSome, is_some, refl, sym, ap, subst, ◌∙◌, 
 use Rattle.std.proofs.lemmas.Bool.{cases_eq, le-leb, eq-eqb, ne_eqb}
 use Rattle.std.proofs.lemmas.Bool.Decides.{leb_tells}
 use Rattle.std.specs.Option.{IsSomeAnd}
-use Rattle.svn_pool.specs.Ancestry.{IsAbove, IsBeneath, IsCleared, IsDestroyed}
-use Rattle.svn_pool.specs.Linked.{Changes, IsLinked, IsPruned, LinkedMap, LivePools, bare, live_at}
-use Rattle.svn_pool.specs.Pools.{Entry, Pools, pool_at, parent_of, fixed_in}
+use Rattle.svn_pool.specs.Ancestry.{IsAbove, IsBeneath, IsCleared, IsDestroyed, KeepsRest}
+use Rattle.svn_pool.specs.Linked.{Changes, IsLinked, IsPruned, IsTree, LinkedMap, LivePools, bare, blocks_held, fixed_held, live_at}
+use Rattle.svn_pool.specs.Pools.{Entry, Pools, pool_at, parent_of, fixed_of}
 use Rattle.svn_pool.specs.Refusals.{fault_if_live, create_fault, destroy_fault}
 use Rattle.svn_pool.specs.declared.fault.PoolFault.{PoolFault}
 use Rattle.svn_pool.specs.declared.fault.PoolFault.TheVariants.{Gone, IsRoot, Full}
+use Rattle.svn_pool.specs.Views.{seen}
 use Rattle.svn_pool.proofs.Kinship.{gone_is_none, none_is_gone}
+use Rattle.svn_pool.proofs.Views.{fixed_are, get-contents, pool_is, sum-contents}
 
 pub fault_if_gone : (o : Option Entry) (f : Entry → Option PoolFault) → o ≡ None → fault_if_live o f ≡ Some Gone
 fault_if_gone o f e = ap (λ (x : Option Entry). fault_if_live x f) e
@@ -61,28 +63,48 @@ pub parentless : (f : ℕ → Option Entry) (s n q : ℕ) → parent_of (f q) �
 parentless f s zero q none above = let no : None ≡ Some s = sym none ∙ above in cc
 parentless f s (suc n) q none above = let no : None ≡ Some above.0 = sym none ∙ above.1 in cc
 
-pub live_root : (o : Option Entry) → IsSomeAnd o (λ e. e.parent ≡ None) → IsSome o
+-- a live pool that has no parent
+abbrev IsRooted : Option Entry → Type 0
+IsRooted o = IsSomeAnd o (λ e. e.parent ≡ None)
+
+pub live_root : (o : Option Entry) → IsRooted o → IsSome o
 live_root None h = absurd h
 live_root (Some e) h = refl
 
-pub lone_root : (o : Option Entry) → IsSomeAnd o (λ e. e.parent ≡ None) → parent_of o ≡ None
+pub lone_root : (o : Option Entry) → IsRooted o → parent_of o ≡ None
 lone_root None h = refl
 lone_root (Some e) h = h
 
-root_from : (o : Option Entry) → IsSome o → parent_of o ≡ None → IsSomeAnd o (λ e. e.parent ≡ None)
-root_from None h none = let no : ⊥ = cc in absurd no
-root_from (Some e) h none = none
+-- a tree whose fields mean `old`, and after a clear or a destroy of s its pools, and how many blocks are spare then
+module _ {root last used spare : ℕ} {pools end : LinkedMap} {old : Pools} (tree : IsTree pools root last used)
+    (view : seen root last (bare pools) spare ≡ old) (late : IsLinked end) (left : ℕ)
+    (fixed : left + fixed_held (bare end) ≡ spare + fixed_held (bare pools)) (s : ℕ) where
+  abbrev new : Pools
+  new = seen root last (bare end) left
 
-module _ (old new : Pools) (s : ℕ) (roots : new.root ≡ old.root) (nexts : new.next ≡ old.next)
-    (blocks : new.spare + fixed_in new ≡ old.spare + fixed_in old) where
-  module _ (pools end : LivePools) (mid : LinkedMap) (linked : IsLinked mid)
-      (at_old : (q : ℕ) → pool_at old q ≡ live_at pools q) (at_new : (q : ℕ) → pool_at new q ≡ live_at end q)
-      (put : Changes pools (bare mid) s (Some (record { parent = parent_of (live_at pools s); strings = [] })))
-      (pruned : IsPruned (bare mid) end s) where
+  at_old : (q : ℕ) → pool_at old q ≡ live_at (bare pools) q
+  at_old = pool_is tree view
+
+  at_new : (q : ℕ) → pool_at new q ≡ live_at (bare end) q
+  at_new = get-contents (bare end) late.unique
+
+  rest_kept : ((q : ℕ) → q ≢ s → (IsBeneath (pool_at old) s q → ⊥) → live_at (bare end) q ≡ live_at (bare pools) q) → KeepsRest old new s
+  rest_kept others = record {
+    others = λ q apart not. at_new q ∙ others q apart not ∙ sym (at_old q);
+    root = ap (λ (t : Pools). t.root) view;
+    next = ap (λ (t : Pools). t.next) view;
+    blocks =
+        ap (λ (n : ℕ). left + n) (sum-contents (bare end) late.unique fixed_of) ∙ fixed
+        ∙ (λ i. (view i).spare + sym (fixed_are tree view) i);
+  }
+
+  module _ {mid : LinkedMap} (linked : IsLinked mid)
+      (put : Changes (bare pools) (bare mid) s (Some (record { parent = parent_of (live_at (bare pools) s); strings = [] })))
+      (pruned : IsPruned (bare mid) (bare end) s) where
     parents : (q : ℕ) → parent_of (pool_at old q) ≡ parent_of (live_at (bare mid) q)
     parents q = ap parent_of (at_old q) ∙ elim (cases_eq q s) [
       | inl is ↦
-          ap (λ (k : ℕ). parent_of (live_at pools k)) is
+          ap (λ (k : ℕ). parent_of (live_at (bare pools) k)) is
           ∙ sym (ap (λ (k : ℕ). parent_of (live_at (bare mid) k)) is ∙ ap parent_of put.0)
       | inr apart ↦ sym (ap parent_of (put.1 q apart))
     ]
@@ -93,91 +115,79 @@ module _ (old new : Pools) (s : ℕ) (roots : new.root ≡ old.root) (nexts : ne
           at_new s ∙ pruned.others s (not_beneath_itself mid linked s) ∙ put.0
           ∙ ap (λ (o : Option Entry). Some (record { parent = parent_of o; strings = [] })) (sym (at_old s));
       beneath = λ q b. at_new q ∙ pruned.beneath q (beneath_same (pool_at old) (live_at (bare mid)) parents s q b);
-      rest = record {
-        others =
-            λ q apart not. at_new q
-            ∙ pruned.others q (λ b. not (beneath_same (live_at (bare mid)) (pool_at old) (λ k. sym (parents k)) s q b))
-            ∙ put.1 q apart ∙ sym (at_old q);
-        root = roots;
-        next = nexts;
-        blocks = blocks;
-      };
+      rest = rest_kept (λ q apart not. pruned.others q
+          (λ b. not (beneath_same (live_at (bare mid)) (pool_at old) (λ k. sym (parents k)) s q b)) ∙ put.1 q apart);
     }
 
-  module _ (pools mid end : LivePools) (at_old : (q : ℕ) → pool_at old q ≡ live_at pools q)
-      (at_new : (q : ℕ) → pool_at new q ≡ live_at end q) (pruned : IsPruned pools mid s) (gone : Changes mid end s None) where
-    same_old : (q : ℕ) → parent_of (pool_at old q) ≡ parent_of (live_at pools q)
+  module _ {mid : LivePools} (pruned : IsPruned (bare pools) mid s) (gone : Changes mid (bare end) s None) where
+    same_old : (q : ℕ) → parent_of (pool_at old q) ≡ parent_of (live_at (bare pools) q)
     same_old q = ap parent_of (at_old q)
 
     pub destroyed : IsDestroyed old new s
     destroyed = record {
       gone = at_new s ∙ gone.0;
       beneath = λ q b. at_new q ∙ elim (cases_eq q s) [
-        | inl is ↦ ap (live_at end) is ∙ gone.0
+        | inl is ↦ ap (live_at (bare end)) is ∙ gone.0
         | inr apart ↦
-            gone.1 q apart ∙ pruned.beneath q (beneath_same (pool_at old) (live_at pools) same_old s q b)
+            gone.1 q apart ∙ pruned.beneath q (beneath_same (pool_at old) (live_at (bare pools)) same_old s q b)
       ];
-      rest = record {
-        others =
-            λ q apart not. at_new q ∙ gone.1 q apart
-            ∙ pruned.others q (λ b. not (beneath_same (live_at pools) (pool_at old) (λ k. sym (same_old k)) s q b)) ∙ sym (at_old q);
-        root = roots;
-        next = nexts;
-        blocks = blocks;
-      };
+      rest = rest_kept (λ q apart not. gone.1 q apart
+          ∙ pruned.others q (λ b. not (beneath_same (live_at (bare pools)) (pool_at old) (λ k. sym (same_old k)) s q b)));
     }
 
--- the tree's invariant after all beneath a pool are gone
-module _ (pools end : LivePools) (s root last : ℕ) (pruned : IsPruned pools end s)
-    (live : (q : ℕ) → IsSome (live_at pools q) → q ≤ last) where
-  still_live : (q : ℕ) → IsSome (live_at end q) → IsSome (live_at pools q)
-  still_live q h =
-      elim (is_some (live_at pools q)) as (λ (b : Bool). is_some (live_at pools q) ≡ b → is_some (live_at pools q) ≡ true) [
-        | true ↦ λ is. is
-        | false ↦
-            λ is. absurd (none_is_gone (live_at end q)
-            (pruned.fewer q (gone_is_none (live_at pools q) (λ live. let clash : false ≡ true = sym is ∙ live in let no : ⊥ = cc in no)))
-            h)
-      ] refl
+-- the tree's invariant stands again
+module _ {root last used after : ℕ} {pools end : LinkedMap} (tree : IsTree pools root last used) (linked : IsLinked end)
+    (counted : after ≡ blocks_held (bare end)) (s : ℕ) where
+  -- after all beneath a pool are gone
+  module _ (pruned : IsPruned (bare pools) (bare end) s) where
+    still_live : (q : ℕ) → IsSome (live_at (bare end) q) → IsSome (live_at (bare pools) q)
+    still_live q h =
+        elim (is_some (live_at (bare pools) q)) as
+        (λ (b : Bool). is_some (live_at (bare pools) q) ≡ b → is_some (live_at (bare pools) q) ≡ true) [
+          | true ↦ λ is. is
+          | false ↦
+              λ is. absurd (none_is_gone (live_at (bare end) q)
+              (pruned.fewer q
+              (gone_is_none (live_at (bare pools) q) (λ live. let clash : false ≡ true = sym is ∙ live in let no : ⊥ = cc in no)))
+              h)
+        ] refl
 
-  pub below-pruned : (q : ℕ) → IsSome (live_at end q) → q ≤ last
-  below-pruned q h = live q (still_live q h)
+    pub tree-pruned : IsTree end root last after
+    tree-pruned = record {
+      linked = linked;
+      rooted = subst IsRooted
+          (sym (pruned.others root
+          (λ b. parentless (live_at (bare pools)) s b.0 root (lone_root (live_at (bare pools) root) tree.rooted) b.1))) tree.rooted;
+      below = λ q h. tree.below q (still_live q h);
+      counted = counted;
+    }
 
-  pub rooted-pruned : IsSomeAnd (live_at pools root) (λ e. e.parent ≡ None) → IsSomeAnd (live_at end root) (λ e. e.parent ≡ None)
-  rooted-pruned rooted =
-      let same : live_at end root ≡ live_at pools root =
-      pruned.others root (λ b. parentless (live_at pools) s b.0 root (lone_root (live_at pools root) rooted) b.1) in
-      subst (λ (o : Option Entry). IsSomeAnd o (λ e. e.parent ≡ None)) (sym same) rooted
+  -- after one pool was emptied
+  pub tree-emptied : IsSome (live_at (bare pools) s)
+      → Changes (bare pools) (bare end) s (Some (record { parent = parent_of (live_at (bare pools) s); strings = [] }))
+      → IsTree end root last after
+  tree-emptied was put = record {
+    linked = linked;
+    rooted = elim (cases_eq root s) [
+      | inl is ↦ subst IsRooted (sym (ap (live_at (bare end)) is ∙ put.0))
+          (ap (λ (k : ℕ). parent_of (live_at (bare pools) k)) (sym is) ∙ lone_root (live_at (bare pools) root) tree.rooted)
+      | inr apart ↦ subst IsRooted (sym (put.1 root apart)) tree.rooted
+    ];
+    below = λ q h. elim (cases_eq q s) [
+      | inl is ↦ tree.below q (ap (λ (k : ℕ). is_some (live_at (bare pools) k)) is ∙ was)
+      | inr apart ↦ tree.below q (subst IsSome (put.1 q apart) h)
+    ];
+    counted = counted;
+  }
 
--- and after one pool was emptied
-module _ (pools new : LivePools) (s root last : ℕ) (was : IsSome (live_at pools s))
-    (put : Changes pools new s (Some (record { parent = parent_of (live_at pools s); strings = [] }))) where
-  pub below-emptied : ((q : ℕ) → IsSome (live_at pools q) → q ≤ last) → (q : ℕ) → IsSome (live_at new q) → q ≤ last
-  below-emptied live q h = elim (cases_eq q s) [
-    | inl is ↦ live q (ap (λ (k : ℕ). is_some (live_at pools k)) is ∙ was)
-    | inr apart ↦ live q (subst IsSome (put.1 q apart) h)
-  ]
-
-  pub rooted-emptied : IsSomeAnd (live_at pools root) (λ e. e.parent ≡ None) → IsSomeAnd (live_at new root) (λ e. e.parent ≡ None)
-  rooted-emptied rooted = elim (cases_eq root s) [
-    | inl is ↦
-        let here : live_at new root ≡ Some (record { parent = parent_of (live_at pools s); strings = [] }) =
-        ap (live_at new) is ∙ put.0 in
-        subst (λ (o : Option Entry). IsSomeAnd o (λ e. e.parent ≡ None)) (sym here)
-        (ap (λ (k : ℕ). parent_of (live_at pools k)) (sym is) ∙ lone_root (live_at pools root) rooted)
-    | inr apart ↦ subst (λ (o : Option Entry). IsSomeAnd o (λ e. e.parent ≡ None)) (sym (put.1 root apart)) rooted
-  ]
-
--- and after a pool that is not the root is gone
-module _ (pools new : LivePools) (s root last : ℕ) (gone : Changes pools new s None) where
-  pub below-removed : ((q : ℕ) → IsSome (live_at pools q) → q ≤ last) → (q : ℕ) → IsSome (live_at new q) → q ≤ last
-  below-removed live q h = elim (cases_eq q s) [
-    | inl is ↦ absurd (none_is_gone (live_at new q) (ap (live_at new) is ∙ gone.0) h)
-    | inr apart ↦ live q (subst IsSome (gone.1 q apart) h)
-  ]
-
-  pub rooted-removed : s ≢ root → IsSomeAnd (live_at pools root) (λ e. e.parent ≡ None)
-      → IsSomeAnd (live_at new root) (λ e. e.parent ≡ None)
-  rooted-removed apart rooted =
-      subst (λ (o : Option Entry). IsSomeAnd o (λ e. e.parent ≡ None))
-      (sym (gone.1 root (λ e. apart (sym e)))) rooted
+  -- after a pool that is not the root is gone
+  pub tree-removed : s ≢ root → Changes (bare pools) (bare end) s None → IsTree end root last after
+  tree-removed apart gone = record {
+    linked = linked;
+    rooted = subst IsRooted (sym (gone.1 root (λ e. apart (sym e)))) tree.rooted;
+    below = λ q h. elim (cases_eq q s) [
+      | inl is ↦ absurd (none_is_gone (live_at (bare end) q) (ap (live_at (bare end)) is ∙ gone.0) h)
+      | inr other ↦ tree.below q (subst IsSome (gone.1 q other) h)
+    ];
+    counted = counted;
+  }

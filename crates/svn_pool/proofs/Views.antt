@@ -13,7 +13,7 @@ use Rattle.std.specs.Map.{keys_of, lookup, values_of}
 use Rattle.std.specs.Ordering.{is_eq, nat_cmp, eq_by_cmp}
 use Rattle.std.specs.declared.cmp.Ordering.{Ordering}
 use Rattle.std.specs.declared.cmp.Ordering.TheVariants.{Less, Equal, Greater}
-use Rattle.svn_pool.specs.Linked.{Changes, IsUnique, LivePools, blocks_held, fixed_held, live_at}
+use Rattle.svn_pool.specs.Linked.{Changes, IsTree, IsUnique, LinkedMap, LivePools, bare, blocks_held, fixed_held, live_at}
 use Rattle.svn_pool.specs.Pools.{Entry, Pools, pool_at, parent_of, strings_of_pool, strings_at, blocks_of, fixed_of, blocks_in, fixed_in}
 use Rattle.svn_pool.specs.Pools.{store_of, created, pushed, root_alone}
 use Rattle.svn_pool.specs.Refusals.{fault_if_live, push_fault}
@@ -144,56 +144,60 @@ contents-put m n before after s e put =
       | inr apart ↦ put.1 q apart ∙ sym (get-contents m before q) ∙ sym (inserted_away (contents m) s e q apart)
     ])
 
-module _ (root last : ℕ) (pools : LivePools) (spare : ℕ) (t : Pools) (view : seen root last pools spare ≡ t)
-    (unique : IsUnique pools) where
-  pub pool_is : (q : ℕ) → pool_at t q ≡ live_at pools q
-  pool_is q = sym (ap (λ (u : Pools). pool_at u q) view) ∙ get-contents pools unique q
+-- what a tree's fields mean, where its invariant stands
+module _ {root last used spare : ℕ} {pools : LinkedMap} {t : Pools} (tree : IsTree pools root last used)
+    (view : seen root last (bare pools) spare ≡ t) where
+  pub pool_is : (q : ℕ) → pool_at t q ≡ live_at (bare pools) q
+  pool_is q = sym (ap (λ (u : Pools). pool_at u q) view) ∙ get-contents (bare pools) tree.linked.unique q
 
-  pub strings_are : (q : ℕ) → strings_at t q ≡ strings_of_pool (live_at pools q)
+  pub strings_are : (q : ℕ) → strings_at t q ≡ strings_of_pool (live_at (bare pools) q)
   strings_are q = ap strings_of_pool (pool_is q)
 
-  pub blocks_are : blocks_in t ≡ blocks_held pools
-  blocks_are = sym (ap blocks_in view) ∙ sum-contents pools unique blocks_of
+  pub blocks_are : blocks_in t ≡ blocks_held (bare pools)
+  blocks_are = sym (ap blocks_in view) ∙ sum-contents (bare pools) tree.linked.unique blocks_of
 
-  pub fixed_are : fixed_in t ≡ fixed_held pools
-  fixed_are = sym (ap fixed_in view) ∙ sum-contents pools unique fixed_of
+  pub fixed_are : fixed_in t ≡ fixed_held (bare pools)
+  fixed_are = sym (ap fixed_in view) ∙ sum-contents (bare pools) tree.linked.unique fixed_of
 
-  pub live_is : fin.len t.live ≡ length pools
-  live_is = sym (ap (λ (u : Pools). fin.len u.live) view) ∙ len-contents pools unique
+  pub live_is : fin.len t.live ≡ length (bare pools)
+  live_is = sym (ap (λ (u : Pools). fin.len u.live) view) ∙ len-contents (bare pools) tree.linked.unique
 
   pub created-view : (new : LivePools) (p : ℕ) → IsUnique new
-      → Changes pools new (last + 1) (Some (record { parent = Some p; strings = [] })) → seen root (last + 1) new spare ≡ created t p
+      → Changes (bare pools) new (last + 1) (Some (record { parent = Some p; strings = [] }))
+      → seen root (last + 1) new spare ≡ created t p
   created-view new p after put =
-      let live = contents-put pools new unique after (last + 1) (record { parent = Some p; strings = [] }) put in
+      let live =
+      contents-put (bare pools) new tree.linked.unique after (last + 1) (record { parent = Some p; strings = [] }) put in
       (λ i. record { root = root; next = last + 1 + 1; live = live i; spare = spare }) ∙ ap (λ (u : Pools). created u p) view
 
-module _ (root last : ℕ) (pools : LivePools) (stock : Store) (t : Pools) (view : seen root last pools stock.spare ≡ t)
-    (unique : IsUnique pools) (counted : stock.used ≡ blocks_held pools) where
+  abbrev stock : Store
+  stock = record { used = used; spare = spare }
+
   pub store_is : store_of t ≡ stock
   store_is =
-      let used : blocks_in t ≡ stock.used = blocks_are root last pools stock.spare t view unique ∙ sym counted in
-      let spare : t.spare ≡ stock.spare = sym (ap (λ (u : Pools). u.spare) view) in
-      (λ i. record { used = used i; spare = spare i })
+      let held : blocks_in t ≡ used = blocks_are ∙ sym tree.counted in
+      let left : t.spare ≡ spare = sym (ap (λ (u : Pools). u.spare) view) in
+      (λ i. record { used = held i; spare = left i })
 
-  pub push_fault_is : (s n : ℕ) → push_fault t s n ≡ fault_if_live (live_at pools s) (λ e. string_fault stock e.strings n)
-  push_fault_is s n =
-      (λ i. fault_if_live (pool_is root last pools stock.spare t view unique s i) (λ e. string_fault (store_is i) e.strings n))
+  pub push_fault_is : (s n : ℕ) → push_fault t s n ≡ fault_if_live (live_at (bare pools) s) (λ e. string_fault stock e.strings n)
+  push_fault_is s n = (λ i. fault_if_live (pool_is s i) (λ e. string_fault (store_is i) e.strings n))
 
-  pub pushed-view : (new : LivePools) (after : Store) (s : ℕ) (bs : List ℕ) → IsUnique new
-      → Changes pools new s
-      (Some (record { parent = parent_of (live_at pools s); strings = strings_of_pool (live_at pools s) ++ bs ∷ [] }))
-      → after.spare ≡ (stored stock (strings_of_pool (live_at pools s)) (length bs)).spare
-      → seen root last new after.spare ≡ pushed t s bs
-  pushed-view new after s bs late put spare =
-      let o : live_at pools s ≡ pool_at t s = sym (pool_is root last pools stock.spare t view unique s) in
-      let put_in =
-      contents-put pools new unique late s
-      (record { parent = parent_of (live_at pools s); strings = strings_of_pool (live_at pools s) ++ bs ∷ [] }) put in
-      let at_t : contents pools ≡ t.live = ap (λ (u : Pools). u.live) view in
+  pub pushed-view : (new : LivePools) (after s : ℕ) (bs : List ℕ) → IsUnique new
+      → Changes (bare pools) new s
+      (Some (record {
+        parent = parent_of (live_at (bare pools) s);
+        strings = strings_of_pool (live_at (bare pools) s) ++ bs ∷ [];
+      }))
+      → after ≡ (stored stock (strings_of_pool (live_at (bare pools) s)) (length bs)).spare
+      → seen root last new after ≡ pushed t s bs
+  pushed-view new after s bs late put left =
+      let o : live_at (bare pools) s ≡ pool_at t s = sym (pool_is s) in
+      let put_in = contents-put (bare pools) new tree.linked.unique late s _ put in
+      let at_t : contents (bare pools) ≡ t.live = ap (λ (u : Pools). u.live) view in
       let roots : root ≡ t.root = ap (λ (u : Pools). u.root) view in
       let nexts : last + 1 ≡ t.next = ap (λ (u : Pools). u.next) view in
       let b : stock ≡ store_of t = sym store_is in
-      (λ i. record { root = root; next = last + 1; live = put_in i; spare = spare i })
+      (λ i. record { root = root; next = last + 1; live = put_in i; spare = left i })
       ∙ (λ i. record {
         root = roots i;
         next = nexts i;

@@ -1,11 +1,11 @@
-use Rattle.std.proofs.Common.{nat_eq, ◌≡◌, ◌+◌, ◌-◌, [], Option, Some, is_some, refl, sym, ap, subst, ◌∙◌, arith}
+use Rattle.std.proofs.Common.{nat_eq, ◌≡◌, ◌+◌, ◌-◌, [], Option, Some, is_some, sym, ap, subst, ◌∙◌, arith}
 use Rattle.std.specs.HashMap.{get}
-use Rattle.svn_pool.specs.Linked.{Changes, bare, live_at}
+use Rattle.svn_pool.specs.Linked.{Changes, bare}
 use Rattle.svn_pool.specs.Pools.{Entry, blocks_of, fixed_of, parent_of}
 use Rattle.svn_pool.specs.Stores.{Store}
 use Rattle.svn_pool.specs.declared.links.Linked.{Linked}
-use Rattle.svn_pool.proofs.Bare.{changes-bare, live-bare, pool_in, written-bare}
-use Rattle.svn_pool.proofs.Counts.{sum_changed, sum_within}
+use Rattle.svn_pool.proofs.Bare.{changes-bare, holding, live-bare, live-found, pool_in}
+use Rattle.svn_pool.proofs.Counts.{sum_within, sum_written}
 use Rattle.svn_pool.proofs.Kinship.{linked-written}
 use Rattle.svn_pool.proofs.live.empty.Goals as goal
 
@@ -16,9 +16,7 @@ returns-in_default-clause-live g c =
 
 pub clear-requires : goal.clear-requires
 clear-requires g c =
-    let found : live_at (bare c.args.pools.now) c.args.serial ≡ Some c.in-Some.linked.now.pool =
-    live-bare c.args.pools.now c.args.serial ∙ ap pool_in (sym c.in-Some.ensures.value) in
-    let within = sum_within blocks_of (bare c.args.pools.now) (bare c.args.pools.now) c.args.serial c.in-Some.linked.now.pool found in
+    let within = sum_within blocks_of c.args.pools.now c.args.serial c.in-Some.ensures.value in
     let counted = c.requires.counted in
     omega (arith, within, counted)
 
@@ -30,22 +28,19 @@ returns-clause-live g c =
 pub returns-clause-linked : goal.returns-clause-linked
 returns-clause-linked g c =
     let l = c.in-Some.linked.now in
-    let w : Linked Entry = record { pool = c.clear.new.self; first = l.first; next = l.next; before = l.before } in
+    let w : Linked Entry = holding l c.clear.new.self in
     let found : get nat_eq c.args.pools.now c.args.serial ≡ Some l = sym c.in-Some.ensures.value in
     let end = c.get_mut.follows.holds w in
-    linked-written c.args.pools.now (c.get_mut.follows.lender w) c.requires.linked c.args.serial l w found
-    (ap (λ (e : Entry). e.parent) c.clear.ensures.emptied) refl refl refl (end.3 (ap is_some found)) end.4
+    linked-written c.args.pools.now (c.get_mut.follows.lender w) c.requires.linked c.args.serial l c.clear.new.self found
+    (ap (λ (e : Entry). e.parent) c.clear.ensures.emptied) (end.3 (ap is_some found)) end.4
 
 pub returns-clause-counted : goal.returns-clause-counted
 returns-clause-counted g c =
     let l = c.in-Some.linked.now in
-    let w : Linked Entry = record { pool = c.clear.new.self; first = l.first; next = l.next; before = l.before } in
-    let end = c.get_mut.follows.lender w in
-    let found : live_at (bare c.args.pools.now) c.args.serial ≡ Some l.pool =
-    live-bare c.args.pools.now c.args.serial ∙ ap pool_in (sym c.in-Some.ensures.value) in
+    let w : Linked Entry = holding l c.clear.new.self in
     let sum =
-    sum_changed blocks_of (bare c.args.pools.now) (bare end) c.args.serial c.clear.new.self l.pool
-    (written-bare c.args.pools.now end c.args.serial w (c.get_mut.follows.holds w).0) found in
+    sum_written blocks_of c.args.pools.now c.args.serial c.in-Some.ensures.value (c.get_mut.follows.lender w) c.clear.new.self
+    (c.get_mut.follows.holds w).0 in
     let none : blocks_of c.clear.new.self ≡ 0 = ap blocks_of c.clear.ensures.emptied in
     let used : c.clear.new.stock.used ≡ c.args.stock.now.used - blocks_of l.pool = ap (λ (b : Store). b.used) c.clear.ensures.counts in
     let counted = c.requires.counted in
@@ -54,13 +49,10 @@ returns-clause-counted g c =
 pub returns-clause-fixed : goal.returns-clause-fixed
 returns-clause-fixed g c =
     let l = c.in-Some.linked.now in
-    let w : Linked Entry = record { pool = c.clear.new.self; first = l.first; next = l.next; before = l.before } in
-    let end = c.get_mut.follows.lender w in
-    let found : live_at (bare c.args.pools.now) c.args.serial ≡ Some l.pool =
-    live-bare c.args.pools.now c.args.serial ∙ ap pool_in (sym c.in-Some.ensures.value) in
+    let w : Linked Entry = holding l c.clear.new.self in
     let sum =
-    sum_changed fixed_of (bare c.args.pools.now) (bare end) c.args.serial c.clear.new.self l.pool
-    (written-bare c.args.pools.now end c.args.serial w (c.get_mut.follows.holds w).0) found in
+    sum_written fixed_of c.args.pools.now c.args.serial c.in-Some.ensures.value (c.get_mut.follows.lender w) c.clear.new.self
+    (c.get_mut.follows.holds w).0 in
     let none : fixed_of c.clear.new.self ≡ 0 = ap fixed_of c.clear.ensures.emptied in
     let spare : c.clear.new.stock.spare ≡ c.args.stock.now.spare + fixed_of l.pool = ap (λ (b : Store). b.spare) c.clear.ensures.counts in
     omega (arith, sum, none, spare)
@@ -68,11 +60,11 @@ returns-clause-fixed g c =
 pub returns-clause-emptied : goal.returns-clause-emptied
 returns-clause-emptied g c =
     let l = c.in-Some.linked.now in
-    let w : Linked Entry = record { pool = c.clear.new.self; first = l.first; next = l.next; before = l.before } in
+    let w : Linked Entry = holding l c.clear.new.self in
     let end = c.get_mut.follows.lender w in
-    let found : get nat_eq c.args.pools.now c.args.serial ≡ Some l = sym c.in-Some.ensures.value in
     let change =
-    changes-bare c.args.pools.now end c.args.serial (Some w) ((c.get_mut.follows.holds w).3 (ap is_some found)) in
-    let parent = ap parent_of (live-bare c.args.pools.now c.args.serial ∙ ap pool_in found) in
+    changes-bare c.args.pools.now end c.args.serial (Some w)
+    ((c.get_mut.follows.holds w).3 (ap is_some (sym c.in-Some.ensures.value))) in
+    let parent = ap parent_of (live-found c.args.pools.now c.args.serial c.in-Some.ensures.value) in
     subst (λ (o : Option Entry). Changes (bare c.args.pools.now) (bare end) c.args.serial o)
     (ap Some (c.clear.ensures.emptied ∙ (λ i. record { parent = sym parent i; strings = [] }))) change

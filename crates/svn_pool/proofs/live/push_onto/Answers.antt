@@ -9,8 +9,8 @@ use Rattle.svn_pool.specs.Refusals.{fault_if_live}
 use Rattle.svn_pool.specs.Stores.{Store, needs_none, stored, string_fault}
 use Rattle.svn_pool.specs.declared.fault.PoolFault.TheVariants.{Gone}
 use Rattle.svn_pool.specs.declared.links.Linked.{Linked}
-use Rattle.svn_pool.proofs.Bare.{changes-bare, live-bare, pool_in, relinked-bare, written-bare}
-use Rattle.svn_pool.proofs.Counts.{sum_changed, sum_within}
+use Rattle.svn_pool.proofs.Bare.{changes-bare, holding, live-bare, live-found, pool_in, relinked-bare}
+use Rattle.svn_pool.proofs.Counts.{sum_within, sum_written}
 use Rattle.svn_pool.proofs.Kinship.{linked-written}
 use Rattle.svn_pool.proofs.live.push_onto.Goals as goal
 
@@ -42,66 +42,58 @@ returns-in_default-clause-served g c = λ fault _.
 
 pub push-requires : goal.push-requires
 push-requires g c =
-    let found : live_at (bare c.args.pools.now) c.args.serial ≡ Some c.in-Some.linked.now.pool =
-    live-bare c.args.pools.now c.args.serial ∙ ap pool_in (sym c.in-Some.ensures.value) in
-    let within = sum_within blocks_of (bare c.args.pools.now) (bare c.args.pools.now) c.args.serial c.in-Some.linked.now.pool found in
+    let within = sum_within blocks_of c.args.pools.now c.args.serial c.in-Some.ensures.value in
     let counted = c.requires.counted in
     omega (arith, within, counted)
 
 pub returns-clause-linked : goal.returns-clause-linked
 returns-clause-linked g c =
     let l = c.in-Some.linked.now in
-    let w : Linked Entry = record { pool = c.push.new.self; first = l.first; next = l.next; before = l.before } in
+    let w : Linked Entry = holding l c.push.new.self in
     let found : get nat_eq c.args.pools.now c.args.serial ≡ Some l = sym c.in-Some.ensures.value in
     let end = c.get_mut.follows.holds w in
-    linked-written c.args.pools.now (c.get_mut.follows.lender w) c.requires.linked c.args.serial l w found
-    c.push.ensures.parent refl refl refl (end.3 (ap is_some found)) end.4
+    linked-written c.args.pools.now (c.get_mut.follows.lender w) c.requires.linked c.args.serial l c.push.new.self found
+    c.push.ensures.parent (end.3 (ap is_some found)) end.4
 
 pub returns-clause-counted : goal.returns-clause-counted
 returns-clause-counted g c =
     let l = c.in-Some.linked.now in
-    let w : Linked Entry = record { pool = c.push.new.self; first = l.first; next = l.next; before = l.before } in
-    let end = c.get_mut.follows.lender w in
-    let found : live_at (bare c.args.pools.now) c.args.serial ≡ Some l.pool =
-    live-bare c.args.pools.now c.args.serial ∙ ap pool_in (sym c.in-Some.ensures.value) in
+    let w : Linked Entry = holding l c.push.new.self in
     let sum =
-    sum_changed blocks_of (bare c.args.pools.now) (bare end) c.args.serial c.push.new.self l.pool
-    (written-bare c.args.pools.now end c.args.serial w (c.get_mut.follows.holds w).0) found in
+    sum_written blocks_of c.args.pools.now c.args.serial c.in-Some.ensures.value (c.get_mut.follows.lender w) c.push.new.self
+    (c.get_mut.follows.holds w).0 in
     let counted = c.requires.counted in
     let blocks = c.push.ensures.blocks in
     omega (arith, sum, counted, blocks)
 
 pub returns-clause-answers : goal.returns-clause-answers
 returns-clause-answers g c =
-    let found : live_at (bare c.args.pools.now) c.args.serial ≡ Some c.in-Some.linked.now.pool =
-    live-bare c.args.pools.now c.args.serial ∙ ap pool_in (sym c.in-Some.ensures.value) in
+    let found = live-found c.args.pools.now c.args.serial c.in-Some.ensures.value in
     subst
     (λ (o : Option Entry). Answers (fault_if_live o (λ e. string_fault c.args.stock.now e.strings (length c.args.bytes.now))) c.push.result)
     (sym found) c.push.ensures.answers
 
 pub returns-clause-served : goal.returns-clause-served
 returns-clause-served g c =
-    let found : live_at (bare c.args.pools.now) c.args.serial ≡ Some c.in-Some.linked.now.pool =
-    live-bare c.args.pools.now c.args.serial ∙ ap pool_in (sym c.in-Some.ensures.value) in
+    let found = live-found c.args.pools.now c.args.serial c.in-Some.ensures.value in
     subst (λ (o : Option Entry). fault_if_live o (λ e. string_fault c.args.stock.now e.strings (length c.args.bytes.now)) ≡ None
     → needs_none c.args.stock.now (strings_of_pool o) (length c.args.bytes.now) ≡ true → IsOk c.push.result)
     (sym found) (λ fault none. c.push.ensures.served none fault)
 
 pub returns-clause-place : goal.returns-clause-place
 returns-clause-place g c =
-    let found : live_at (bare c.args.pools.now) c.args.serial ≡ Some c.in-Some.linked.now.pool =
-    live-bare c.args.pools.now c.args.serial ∙ ap pool_in (sym c.in-Some.ensures.value) in
+    let found = live-found c.args.pools.now c.args.serial c.in-Some.ensures.value in
     subst (λ (o : Option Entry). IfOk c.push.result (λ place. place ≡ length (strings_of_pool o))) (sym found) c.push.ensures.place
 
 pub returns-clause-pushed : goal.returns-clause-pushed
 returns-clause-pushed g c =
     let l = c.in-Some.linked.now in
-    let w : Linked Entry = record { pool = c.push.new.self; first = l.first; next = l.next; before = l.before } in
+    let w : Linked Entry = holding l c.push.new.self in
     let end = c.get_mut.follows.lender w in
-    let is : get nat_eq c.args.pools.now c.args.serial ≡ Some l = sym c.in-Some.ensures.value in
-    let found : live_at (bare c.args.pools.now) c.args.serial ≡ Some l.pool = live-bare c.args.pools.now c.args.serial ∙ ap pool_in is in
+    let found = live-found c.args.pools.now c.args.serial c.in-Some.ensures.value in
     let change =
-    changes-bare c.args.pools.now end c.args.serial (Some w) ((c.get_mut.follows.holds w).3 (ap is_some is)) in
+    changes-bare c.args.pools.now end c.args.serial (Some w)
+    ((c.get_mut.follows.holds w).3 (ap is_some (sym c.in-Some.ensures.value))) in
     on_ok c.push.result
     (λ pushed. subst (λ (o : Option Entry). Changes (bare c.args.pools.now) (bare end) c.args.serial
     (Some (record { parent = parent_of o; strings = strings_of_pool o ++ c.args.bytes.now ∷ [] })))
@@ -110,8 +102,7 @@ returns-clause-pushed g c =
 
 pub returns-clause-spare : goal.returns-clause-spare
 returns-clause-spare g c =
-    let found : live_at (bare c.args.pools.now) c.args.serial ≡ Some c.in-Some.linked.now.pool =
-    live-bare c.args.pools.now c.args.serial ∙ ap pool_in (sym c.in-Some.ensures.value) in
+    let found = live-found c.args.pools.now c.args.serial c.in-Some.ensures.value in
     on_ok c.push.result
     (λ counts. subst (λ (o : Option Entry).
     c.push.new.stock.spare ≡ (stored c.args.stock.now (strings_of_pool o) (length c.args.bytes.now)).spare) (sym found)
@@ -121,7 +112,7 @@ returns-clause-spare g c =
 pub returns-clause-refused : goal.returns-clause-refused
 returns-clause-refused g c =
     let l = c.in-Some.linked.now in
-    let w : Linked Entry = record { pool = c.push.new.self; first = l.first; next = l.next; before = l.before } in
+    let w : Linked Entry = holding l c.push.new.self in
     on_err c.push.result
     (λ same. relinked-bare c.args.pools.now (c.get_mut.follows.lender w) c.args.serial l w (sym c.in-Some.ensures.value) same
     (c.get_mut.follows.holds w).0)
