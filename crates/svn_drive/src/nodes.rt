@@ -1,9 +1,12 @@
 //! What nodes of a repository have.
 ghost use Rattle.std.specs.Prelude.{◌≡◌, [], IfOk};
+ghost use Rattle.md5.specs.Md5.{md5};
 ghost use Rattle.svn_repo.specs.History.{node_at, child_in};
 ghost use Rattle.svn_repo.specs.Readings.{are_related, is_directory_at, text_of, kind_of, props_of};
 
+use md5::{Digest as Hasher, Md5};
 use std::alloc::{AllocError, Global};
+use svn_editor::Digest;
 use svn_repo::{NodeId, Repo};
 use svn_types::{Kind, Name, Props, Text};
 
@@ -45,6 +48,23 @@ pub(crate) fn text_of(repo: &Repo, node: NodeId) -> &[u8]
         Some(text) => text,
         None => &[],
     }
+}
+
+/// Its checksum.
+pub(crate) fn checksum_of(repo: &Repo, node: NodeId) -> Digest
+    ensures { result ≡ md5 (text_of repo.now node) }
+{
+    match repo.shared_text(node) {
+        Some(text) => Digest(text.checksum()),
+        None => checksum_of_nothing(),
+    }
+}
+
+/// The checksum of a text without a byte.
+pub(crate) fn checksum_of_nothing() -> Digest
+    ensures { result ≡ md5 [] }
+{
+    Digest(Md5::digest(&[]))
 }
 
 /// The same as a text, which shares the repository's bytes.

@@ -16,10 +16,11 @@ ghost use Rattle.svn_drive.specs.Walking.{IsAt, IsEntered, IsTold, request_of, t
 
 use crate::entries::{revision_of, starts_empty};
 use crate::making::{Progress, make, make_opening};
-use crate::nodes::{is_directory, kind_of, props_of, shared_text, text_of};
+use crate::nodes::{
+    checksum_of, checksum_of_nothing, is_directory, kind_of, props_of, shared_text, text_of,
+};
 use crate::place::Place;
 use crate::walk::Walk;
-use md5::{Digest as Hasher, Md5};
 use std::alloc::AllocError;
 use svn_editor::{Call, Digest, Editor, Token};
 use svn_model::Stop;
@@ -62,10 +63,14 @@ fn postpone(later: &mut Vec<Texted>, file: Texted) -> Result<(), AllocError>
     Ok(())
 }
 
-fn checksum(text: &[u8]) -> Digest
-    ensures { result ≡ md5 text.now }
+fn old_checksum(repo: &Repo, file: &Texted) -> Digest
+    ensures { result ≡ md5 (old_text repo.now file.now) }
 {
-    Digest(Md5::digest(text))
+    if file.has_old {
+        checksum_of(repo, file.old)
+    } else {
+        checksum_of_nothing()
+    }
 }
 
 fn change_call(opened: &Opened, change: PropChange) -> Call
@@ -221,7 +226,7 @@ impl<'a> Walk<'a> {
         ensures { result ≡ (if file.now.is_opened then Some (md5 (old_text self.now.repo.now file.now)) else None) }
     {
         if file.is_opened {
-            Some(checksum(old_text(self.repo, file)))
+            Some(old_checksum(self.repo, file))
         } else {
             None
         }
@@ -256,7 +261,7 @@ impl<'a> Walk<'a> {
     {
         let call = Call::CloseFile {
             token: file.token,
-            text_md5: Some(checksum(text_of(self.repo, file.node))),
+            text_md5: Some(checksum_of(self.repo, file.node)),
         };
         make(self.limit, editor, progress, call)
     }

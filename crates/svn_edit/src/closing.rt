@@ -83,15 +83,14 @@ impl Edit {
         ensures checked { (said : List Action) → Says baton.now self.now.pools said → AnswersAs (sum_fault md5 text_md5.now (filter_map text_in said) (Some node.now)) result }
         ensures text { IfOk result (λ t. (said : List Action) → Says baton.now self.now.pools said → t ≡ first_of (filter_map text_in said)) }
     {
-        let new_text = baton.text(&self.pools);
-        let text = match new_text {
-            Some(text) => text,
-            None => nodes::text_of(Some(node)),
-        };
-        if nodes::is_wrong_sum(text_md5, text) {
-            return Err(EditFault::TextChecksum);
+        match baton.text(&self.pools) {
+            Some(bytes) => {
+                let text = nodes::tested_text(self.alloc, bytes, text_md5)?;
+                Ok(Some(text))
+            }
+            None if nodes::is_wrong_sum(text_md5, Some(node)) => Err(EditFault::TextChecksum),
+            None => Ok(None),
         }
-        or_memory(nodes::copied(self.alloc, new_text))
     }
 
     // Closes what stands as a file or a directory, with the repository path that it gets, if it gets one. On a refusal it is as it was.

@@ -9,7 +9,9 @@ ghost use Rattle.svn_model.specs.Nodes.{get_in, is_present, node_text};
 ghost use Rattle.svn_model.specs.Effects.{opened_directory, is_wrong_sum};
 ghost use Rattle.svn_model.specs.Answering.{AnswersCall};
 ghost use Rattle.svn_edit.specs.NodeTests.{delete_fault_of, open_fault_of};
+ghost use Rattle.svn_edit.specs.Applying.{AnswersAs};
 
+use crate::edit::or_memory;
 use md5::{Digest as Hasher, Md5};
 use std::alloc::{AllocError, Global};
 use std::collections::BTreeMap;
@@ -103,13 +105,13 @@ pub(crate) fn open_file_fault(node: Option<&BaseNode>, base: Rev) -> Option<Edit
     }
 }
 
-/// The text of a file, else nothing.
-pub(crate) fn text_of(node: Option<&BaseNode>) -> &[u8]
-    ensures { result.now ≡ node_text (option_copied node.entry) }
+// The checksum of a node's text: of what is no file, of no byte.
+fn checksum_of(node: Option<&BaseNode>) -> [u8; 16]
+    ensures { result ≡ md5 (node_text (option_copied node.entry)) }
 {
     match node {
-        Some(BaseNode::File { text, .. }) => text.as_slice(),
-        _ => &[],
+        Some(BaseNode::File { text, .. }) => text.checksum(),
+        Some(BaseNode::Dir { .. } | BaseNode::NotPresent) | None => Md5::digest(&[]),
     }
 }
 
@@ -182,25 +184,30 @@ pub(crate) fn delete_within(
     Ok(())
 }
 
-/// A copy of a string, if there is one.
-pub(crate) fn copied(alloc: Global, bytes: Option<&[u8]>) -> Result<Option<Text>, AllocError>
-    ensures { IfOk result (λ t. t ≡ option_copied bytes.entry) }
+/// The text of bytes that came, once they were tested: TextChecksum where a checksum is given, and is another; Memory.
+pub(crate) fn tested_text(
+    alloc: Global,
+    bytes: &[u8],
+    given: &Option<Digest>,
+) -> Result<Text, EditFault>
+    ensures tested { AnswersAs (if is_wrong_sum given.now (md5 bytes.now) then Some EditFault.TextChecksum else None) result }
+    ensures text { IfOk result (λ t. t ≡ bytes.now) }
 {
-    match bytes {
-        Some(bytes) => Ok(Some(Text::from_slice(alloc, bytes)?)),
-        None => Ok(None),
+    let Some(sum) = given else {
+        return or_memory(Text::from_slice(alloc, bytes));
+    };
+    match or_memory(Text::verified(alloc, bytes, &sum.0))? {
+        Some(text) => Ok(text),
+        None => Err(EditFault::TextChecksum),
     }
 }
 
-/// Whether a checksum is given, and is another.
-pub(crate) fn is_wrong_sum(given: &Option<Digest>, text: &[u8]) -> bool
-    ensures { result ≡ is_wrong_sum given.now (md5 text.now) }
+/// Whether a checksum is given, and is another than that of a node's text.
+pub(crate) fn is_wrong_sum(given: &Option<Digest>, node: Option<&BaseNode>) -> bool
+    ensures { result ≡ is_wrong_sum given.now (md5 (node_text (option_copied node.entry))) }
 {
     match given {
-        Some(sum) => {
-            let found: [u8; 16] = Md5::digest(text);
-            sum.0 != found
-        }
+        Some(sum) => sum.0 != checksum_of(node),
         None => false,
     }
 }
@@ -210,7 +217,7 @@ pub(crate) fn is_wrong_base(given: &Option<Digest>, nodes: &Nodes, path: &RelPat
     ensures { result ≡ is_wrong_sum given.now (md5 (node_text (get_in nodes.now.entries path.now))) }
 {
     match given {
-        Some(_) => is_wrong_sum(given, text_of(nodes.get(path))),
+        Some(_) => is_wrong_sum(given, nodes.get(path)),
         None => false,
     }
 }

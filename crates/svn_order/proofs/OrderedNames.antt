@@ -104,7 +104,8 @@ pub put_among : (xs : List Name) (old new : BTreeSet Name) (n : Name)
     → Inserts (xs ++ old.keys) n (xs ++ new.keys)
 put_among xs old new n updates m =
     list_any-append (bytes_eq m) xs new.keys
-    ∙ ap (λ b. list_any (bytes_eq m) xs || b) (by_order new.keys m ∙ updates m ∙ ap (cond (is_at (name_cmp n) m) true) (sym (by_order old.keys m)))
+    ∙ ap (λ b. list_any (bytes_eq m) xs || b)
+    (by_order new.keys m ∙ updates m ∙ ap (cond (is_at (name_cmp n) m) true) (sym (by_order old.keys m)))
     ∙ ap (λ b. list_any (bytes_eq m) xs || cond b true (list_any (bytes_eq m) old.keys)) (sym (texts_ties n m))
     ∙ by (list_any (bytes_eq m) xs) (bytes_eq n m) (list_any (bytes_eq m) old.keys)
     ∙ ap (λ b. b || bytes_eq n m) (sym (list_any-append (bytes_eq m) xs old.keys))

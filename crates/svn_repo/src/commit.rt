@@ -46,7 +46,7 @@ fn file_node(
     ensures place { IfOk result (λ n. (base : ℕ) → place_of None (row_of n) ≡ with_text lines (option_and_then (place_at (rows nodes.now.items) base) at) text.now) }
     ensures childless { IfOk result (λ n. entries_of n.content ≡ []) }
 {
-    let content = Content::Text(text.clone()?);
+    let content = Content::Text(text.clone_with_checksum(*nodes.allocator())?);
     match at {
         None => Ok(Node {
             line: lines,

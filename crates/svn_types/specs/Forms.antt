@@ -16,8 +16,9 @@ name_bytes (name.Long s) = arc_str_bytes s
 
 abbrev pub text_bytes : TextForm → List ℕ
 text_bytes (text.Short s) = s
+text_bytes (text.ShortSummed s) = s
 text_bytes (text.Own v) = v.items
-text_bytes (text.Shared a) = (arc_value a).items
+text_bytes (text.Shared a) = arc_value a
 
 abbrev pub key_bytes : KeyForm → List ℕ
 key_bytes (key.Short s) = s

@@ -37,6 +37,7 @@ mod short_bytes;
 mod short_key;
 mod short_path;
 mod small_text;
+mod summed;
 mod text;
 
 pub use bytes::split_once;

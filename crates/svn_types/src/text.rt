@@ -1,9 +1,12 @@
 //! Texts of files and values of properties.
-ghost use Rattle.std.specs.Prelude.{◌≡◌, ◌↔◌, IsTrue, [], length, nat_eq, IfOk};
+ghost use Rattle.std.specs.Prelude.{◌≡◌, ◌↔◌, IsTrue, [], length, nat_eq, bytes_eq, Some, None, IfSome, IfOk, IfErr, if◌then◌else◌};
 ghost use Rattle.std.specs.Cmp.Lexicographic.{pointwise, nat_list_eq_equiv};
 ghost use Rattle.std.specs.Cmp.{partial_equiv_from_equiv};
+ghost use Rattle.md5.specs.Md5.{md5};
 
 use crate::short_bytes::ShortBytes;
+use crate::summed::{LongBytes, ShortSummed};
+use md5::{Digest as Hasher, Md5};
 use std::alloc::{AllocError, Global};
 use std::fmt;
 use std::marker::Model;
@@ -13,16 +16,18 @@ use std::sync::Arc;
 const MAX_SHORT: usize = 30;
 
 // A short text lies in the value itself, and takes no memory. A long one stays in the vector that it came in; its first clone makes a copy,
-// which all further clones share.
+// which all further clones share. A checksum has room beside a very short text, and in what clones share.
 #[derive(Drop)]
 enum TextForm {
     Short(ShortBytes<30>),
+    ShortSummed(ShortSummed),
     Own(Vec<u8>),
-    Shared(Arc<Vec<u8>>),
+    Shared(Arc<LongBytes>),
 }
 
 /// The text of a file, or the value of a property (`svn_string_t` of `svn_string.h`): any bytes, of any number here; a commit, an edit and a pool
-/// refuse over 1,048,576. A contract sees it as their list. A clone of a long text may share its bytes.
+/// refuse over 1,048,576. A contract sees it as their list. A clone of a long text may share its bytes. A text may keep its checksum, and so do
+/// its clones then.
 pub struct Text {
     form: TextForm,
 }
@@ -65,6 +70,83 @@ impl Text {
         })
     }
 
+    // The text that has these bytes too, and keeps their checksum; from 15 to 30 bytes leave no room for it.
+    fn with_checksum(alloc: Global, bytes: &[u8], checksum: [u8; 16]) -> Result<Text, AllocError>
+        requires { checksum ≡ md5 bytes.now }
+        ensures { IfOk result (λ t. t ≡ bytes.now) }
+    {
+        if bytes.len() <= ShortSummed::MAX {
+            return Ok(Text {
+                form: TextForm::ShortSummed(ShortSummed::of(bytes, checksum)),
+            });
+        }
+        if bytes.len() <= MAX_SHORT {
+            return Text::from_slice(alloc, bytes);
+        }
+        let bytes = LongBytes::summed(Vec::from_slice(alloc, bytes)?, checksum);
+        Ok(Text {
+            form: TextForm::Shared(Arc::new(alloc, bytes)?),
+        })
+    }
+
+    /// The text that has these bytes too, if `checksum` is their MD5 checksum (RFC 1321), which it keeps then; None if they have another.
+    /// AllocError where a growth is refused; up to 30 bytes take no memory, and a wrong checksum is told without any.
+    pub fn verified(
+        alloc: Global,
+        bytes: &[u8],
+        checksum: &[u8; 16],
+    ) -> Result<Option<Text>, AllocError>
+        ensures told { IfOk result (λ t. t ≡ (if bytes_eq checksum.now (md5 bytes.now) then Some bytes.now else None)) }
+        ensures refused { IfErr result (λ _. checksum.now ≡ md5 bytes.now) }
+    {
+        let found: [u8; 16] = Md5::digest(bytes);
+        if *checksum != found {
+            return Ok(None);
+        }
+        let text = Text::with_checksum(alloc, bytes, found)?;
+        Ok(Some(text))
+    }
+
+    /// A clone that keeps the checksum, so that whoever asks it or a clone of it has no more to compute. A text that shares its bytes without one
+    /// is cloned as it is, and one of 15 to 30 bytes has no room. AllocError where a growth is refused; up to 30 bytes take no memory.
+    pub fn clone_with_checksum(&self, alloc: Global) -> Result<Text, AllocError>
+        ensures { IfOk result (λ t. t ≡ self.now) }
+    {
+        if self.has_room() {
+            return Text::with_checksum(alloc, self.as_slice(), self.checksum());
+        }
+        self.clone()
+    }
+
+    // Whether a clone has room for a checksum that isn't there yet.
+    fn has_room(&self) -> bool {
+        match &self.form {
+            TextForm::Short(bytes) => bytes.as_slice().len() <= ShortSummed::MAX,
+            TextForm::Own(_) => true,
+            TextForm::ShortSummed(_) | TextForm::Shared(_) => false,
+        }
+    }
+
+    /// Its MD5 checksum (RFC 1321): the one that it keeps, or computed from its bytes.
+    pub fn checksum(&self) -> [u8; 16]
+        ensures { result ≡ md5 self.now }
+    {
+        match self.kept_checksum() {
+            Some(checksum) => checksum,
+            None => Md5::digest(self.as_slice()),
+        }
+    }
+
+    fn kept_checksum(&self) -> Option<[u8; 16]>
+        ensures { IfSome result (λ sum. sum ≡ md5 self.now) }
+    {
+        match &self.form {
+            TextForm::ShortSummed(bytes) => Some(bytes.checksum()),
+            TextForm::Shared(bytes) => bytes.checksum(),
+            TextForm::Short(_) | TextForm::Own(_) => None,
+        }
+    }
+
     /// Its bytes in a vector of their own. AllocError where a growth is refused.
     pub fn to_vec(&self, alloc: Global) -> Result<Vec<u8>, AllocError>
         ensures { IfOk result (λ v. v.items ≡ self.now) }
@@ -78,8 +160,9 @@ impl Text {
     {
         match &self.form {
             TextForm::Short(bytes) => bytes.as_slice(),
+            TextForm::ShortSummed(bytes) => bytes.as_slice(),
             TextForm::Own(bytes) => bytes,
-            TextForm::Shared(bytes) => bytes,
+            TextForm::Shared(bytes) => bytes.as_slice(),
         }
     }
 
@@ -118,7 +201,11 @@ impl Clone for Text {
     fn clone(&self) -> Result<Text, AllocError> {
         let form = match &self.form {
             TextForm::Short(bytes) => TextForm::Short(bytes.copy()),
-            TextForm::Own(bytes) => TextForm::Shared(Arc::new(*bytes.allocator(), bytes.clone()?)?),
+            TextForm::ShortSummed(bytes) => TextForm::ShortSummed(bytes.copy()),
+            TextForm::Own(bytes) => {
+                let copy = LongBytes::new(bytes.clone()?);
+                TextForm::Shared(Arc::new(*bytes.allocator(), copy)?)
+            }
             TextForm::Shared(bytes) => TextForm::Shared(bytes.clone()?),
         };
         Ok(Text { form })

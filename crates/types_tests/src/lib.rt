@@ -1,5 +1,5 @@
 //! Tests of names, paths and properties: what is refused and why, the ways up and down, paths however they lie in memory, and the changes
-//! between two lists; and of bytes that are cut at a separator.
+//! between two lists; of texts with their checksums; and of bytes that are cut at a separator.
 #![tactic(auto)]
 
 #[cfg(test)]
@@ -12,3 +12,5 @@ mod forms;
 mod paths;
 #[cfg(test)]
 mod properties;
+#[cfg(test)]
+mod texts;

@@ -70,8 +70,8 @@ returns-in_err-add_heights-clause-fault c =
     let h = history_of c.args.stored.now.roots.items c.args.stored.now.nodes.items c.args.lines in
     let can = first_of h (latest_pending h) c.args.changes.now (no_fault _ _ _ _ _ _ _ _ c.requires.repository c.last_root-root.ensures
     made c.make_all.ensures.kept) in
-    handed_on (λ e. e ≡ Memory) (IsRefused h c.args.changes.now) c.from_residual-in_err-add_heights.result c.from_residual-in_err-add_heights.ensures
-    (λ e is. inl (is, can))
+    handed_on (λ e. e ≡ Memory) (IsRefused h c.args.changes.now) c.from_residual-in_err-add_heights.result
+    c.from_residual-in_err-add_heights.ensures (λ e is. inl (is, can))
 
 pub returns-in-Err-clause-fault : goal.returns-in-Err-clause-fault
 returns-in-Err-clause-fault c =

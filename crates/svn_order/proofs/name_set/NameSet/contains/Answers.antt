@@ -10,6 +10,7 @@ pub returns-else-is_among : goal.returns-else-is_among
 returns-else-is_among c =
     let name = c.args.name.now in
     c.contains.ensures
-    ∙ ap (λ b. b || contains name_cmp c.self.inside.others name) (c.if-is_among.ensures ∙ ap (list_any (bytes_eq name)) c.deref.ensures.value)
+    ∙ ap (λ b. b || contains name_cmp c.self.inside.others name)
+    (c.if-is_among.ensures ∙ ap (list_any (bytes_eq name)) c.deref.ensures.value)
     ∙ sym (among_both c.self.inside.in_order.items c.self.inside.others name)
     ∙ ap (λ (s : List (List ℕ)). has_name s name) c.self.view_is

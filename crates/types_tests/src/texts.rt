@@ -1,0 +1,102 @@
+//! Texts and their checksums. A checksum has room beside up to 14 bytes and beside over 30, and is computed anew from 15 to 30.
+use std::alloc::Global;
+use std::test::Fail;
+use svn_types::Text;
+
+// The examples of RFC 1321.
+const ROWS: [(&str, [u8; 16]); 7] = [
+    (
+        "",
+        [
+            0xd4, 0x1d, 0x8c, 0xd9, 0x8f, 0x00, 0xb2, 0x04, 0xe9, 0x80, 0x09, 0x98, 0xec, 0xf8,
+            0x42, 0x7e,
+        ],
+    ),
+    (
+        "a",
+        [
+            0x0c, 0xc1, 0x75, 0xb9, 0xc0, 0xf1, 0xb6, 0xa8, 0x31, 0xc3, 0x99, 0xe2, 0x69, 0x77,
+            0x26, 0x61,
+        ],
+    ),
+    (
+        "abc",
+        [
+            0x90, 0x01, 0x50, 0x98, 0x3c, 0xd2, 0x4f, 0xb0, 0xd6, 0x96, 0x3f, 0x7d, 0x28, 0xe1,
+            0x7f, 0x72,
+        ],
+    ),
+    (
+        "message digest",
+        [
+            0xf9, 0x6b, 0x69, 0x7d, 0x7c, 0xb7, 0x93, 0x8d, 0x52, 0x5a, 0x2f, 0x31, 0xaa, 0xf1,
+            0x61, 0xd0,
+        ],
+    ),
+    (
+        "abcdefghijklmnopqrstuvwxyz",
+        [
+            0xc3, 0xfc, 0xd3, 0xd7, 0x61, 0x92, 0xe4, 0x00, 0x7d, 0xfb, 0x49, 0x6c, 0xca, 0x67,
+            0xe1, 0x3b,
+        ],
+    ),
+    (
+        "ABCDEFGHIJKLMNOPQRSTUVWXYZabcdefghijklmnopqrstuvwxyz0123456789",
+        [
+            0xd1, 0x74, 0xab, 0x98, 0xd2, 0x77, 0xd9, 0xf5, 0xa5, 0x61, 0x1c, 0x2c, 0x9f, 0x41,
+            0x9d, 0x9f,
+        ],
+    ),
+    (
+        "12345678901234567890123456789012345678901234567890123456789012345678901234567890",
+        [
+            0x57, 0xed, 0xf4, 0xa2, 0x2b, 0xe3, 0xc9, 0x55, 0xac, 0x49, 0xda, 0x2e, 0x21, 0x07,
+            0xb6, 0x7a,
+        ],
+    ),
+];
+
+fn text(alloc: Global, bytes: &str) -> Result<Text, Fail> {
+    Ok(Text::new(Vec::from_slice(alloc, bytes.as_bytes())?))
+}
+
+// Whether a text, and its clone, is of these bytes and this checksum.
+fn is_text(text: &Text, bytes: &str, checksum: &[u8; 16]) -> Result<bool, Fail> {
+    let clone = text.clone()?;
+    let is_same = text.as_slice() == bytes.as_bytes() && clone == *text;
+    Ok(is_same && text.checksum() == *checksum && clone.checksum() == *checksum)
+}
+
+#[test]
+fn a_text_has_its_checksum_whether_it_keeps_it_or_not(rt: HostRuntime) -> Result<(), Fail> {
+    let alloc = rt.alloc();
+    for (bytes, checksum) in &ROWS {
+        let plain = text(alloc, bytes)?;
+        assert!(rt; is_text(&plain, bytes, checksum)?, "{bytes}");
+        let kept = plain.clone_with_checksum(alloc)?;
+        assert!(rt; is_text(&kept, bytes, checksum)?, "{bytes}, kept");
+        let of_clone = plain.clone()?.clone_with_checksum(alloc)?;
+        assert!(rt; is_text(&of_clone, bytes, checksum)?, "{bytes}, of a clone");
+        let again = kept.clone_with_checksum(alloc)?;
+        assert!(rt; is_text(&again, bytes, checksum)?, "{bytes}, again");
+    }
+    Ok(())
+}
+
+#[test]
+fn bytes_are_verified_by_their_checksum(rt: HostRuntime) -> Result<(), Fail> {
+    let alloc = rt.alloc();
+    let mut other = [0; 16];
+    for (bytes, checksum) in &ROWS {
+        match Text::verified(alloc, bytes.as_bytes(), checksum)? {
+            Some(text) => assert!(rt; is_text(&text, bytes, checksum)?, "{bytes}"),
+            None => assert!(rt; false, "{bytes} is refused"),
+        }
+        assert!(rt;
+            Text::verified(alloc, bytes.as_bytes(), &other)?.is_none(),
+            "{bytes}"
+        );
+        other = *checksum;
+    }
+    Ok(())
+}
