@@ -50,7 +50,7 @@ pub(crate) fn text_of(repo: &Repo, node: NodeId) -> &[u8]
     }
 }
 
-/// Its checksum.
+/// The checksum of the text of a file; of what is none, that of no byte.
 pub(crate) fn checksum_of(repo: &Repo, node: NodeId) -> Digest
     ensures { result ≡ md5 (text_of repo.now node) }
 {
@@ -67,7 +67,7 @@ pub(crate) fn checksum_of_nothing() -> Digest
     Digest(Md5::digest(&[]))
 }
 
-/// The same as a text, which shares the repository's bytes.
+/// The text of a file, which shares the repository's bytes; of what is none, no byte.
 pub(crate) fn shared_text(alloc: Global, repo: &Repo, node: NodeId) -> Result<Text, AllocError>
     ensures { IfOk result (λ t. t ≡ text_of repo.now node) }
 {

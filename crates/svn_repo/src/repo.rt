@@ -185,7 +185,8 @@ impl Repo {
     /// the fault, and then nothing has changed; Memory comes only where the first change can be made. No changes make a revision with
     /// the same root node.
     ///
-    /// It costs what the nodes cost that the changes make: those at their paths and the directories above, each once.
+    /// It costs what the nodes cost that the changes make, those at their paths and the directories above, each once; and for each text that is
+    /// put its checksum, which the stored text keeps where it has room.
     pub fn commit(&mut self, changes: &[Change]) -> Result<Rev, CommitFault>
         ensures ok { IfOk result (λ r. (r ≡ length self.old.roots) × IsCommit self.old self.new changes.now) }
         ensures fault { IfErr result (λ e. (e ≡ CommitFault.Memory) ⊎ (commit_fault self.old changes.now ≡ Some e)) }

@@ -16,7 +16,7 @@
 //! Promises: `parse` and `join` answer the value, or exactly the first fault in the order of the definition, want of memory last
 //! (`AnswersPath`, with `name_fault`, `prop_name_fault`, `path_fault` and `count_fault` of `specs/NameFaults.antt`). Orders and equalities are
 //! those of the lists that contracts see (the `cmp` and `eq` of each type). `Props` are a map in name order, and `changes_to` gives
-//! `changes_between` of `specs/Props.antt`. How a value lies in memory no contract says.
+//! `changes_between` of `specs/Props.antt`. A `Text` is verified by its checksum exactly where that is the MD5 of its bytes. How a value lies in memory no contract says.
 #![tactic(auto)]
 
 mod bytes;

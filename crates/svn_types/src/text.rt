@@ -15,8 +15,8 @@ use std::sync::Arc;
 // The longest text that lies in the value itself. With it a `Text` has 32 bytes.
 const MAX_SHORT: usize = 30;
 
-// A short text lies in the value itself, and takes no memory. A long one stays in the vector that it came in; its first clone makes a copy,
-// which all further clones share. A checksum has room beside a very short text, and in what clones share.
+// A short text lies in the value itself, and takes no memory. A long one stays in the vector that it came in; a clone of it is a copy, and all
+// clones of that copy share its bytes. A checksum has room beside a very short text, and in what clones share.
 #[derive(Drop)]
 enum TextForm {
     Short(ShortBytes<30>),
