@@ -19,25 +19,19 @@ fn is_shown(byte: u8) -> bool
     33 <= byte && byte <= 126 && byte != b'%' && byte != b'"'
 }
 
-fn hex_glyph(digit: u8, upper: bool) -> char
+fn hex_digit(digit: u8, upper: bool) -> u8
     requires { digit < 16 }
     ensures value { result ≡ digit_glyph upper digit }
     ensures ascii { result < 128 }
+    ensures shown { is_shown result ≡ true }
 {
     if digit < 10 {
-        char::from(b'0' + digit)
+        b'0' + digit
     } else if upper {
-        char::from(b'A' + (digit - 10))
+        b'A' + (digit - 10)
     } else {
-        char::from(b'a' + (digit - 10))
+        b'a' + (digit - 10)
     }
-}
-
-fn write_hex<W: fmt::Write>(byte: u8, upper: bool, f: &mut fmt::Formatter<W>) -> fmt::Result
-    ensures { DisplaysOnOk W.write_str_gives f.old result (Some (hex_pair upper byte)) f.new }
-{
-    f.write_char(hex_glyph(byte / 16, upper))?;
-    f.write_char(hex_glyph(byte % 16, upper))
 }
 
 // A byte within a word.
@@ -53,7 +47,8 @@ impl fmt::Display for EscapedByte {
             f.write_char(char::from(byte))
         } else {
             f.write_str("%")?;
-            write_hex(byte, true, f)
+            f.write_char(char::from(hex_digit(byte / 16, true)))?;
+            f.write_char(char::from(hex_digit(byte % 16, true)))
         }
     }
 }
@@ -183,15 +178,26 @@ impl fmt::Display for Token {
     }
 }
 
+// The digits of a checksum, so that one write prints them.
+fn digits_of(bytes: &[u8; 16]) -> [u8; 32]
+    ensures digits { result ≡ digest_word bytes.now }
+    ensures shown { list_all is_shown result ≡ true }
+{
+    let mut digits = [0; 32];
+    'byte: for i in 0..16 {
+        let byte = bytes[i];
+        digits[2 * i] = hex_digit(byte / 16, false);
+        digits[2 * i + 1] = hex_digit(byte % 16, false);
+    }
+    digits
+}
+
 /// A checksum is printed as 32 lower-case hexadecimal digits.
 impl fmt::Display for Digest {
     ghost output = { λ d. Some (digest_word d) };
 
     fn fmt<W: fmt::Write>(&self, f: &mut fmt::Formatter<W>) -> fmt::Result {
-        for byte in &self.0 {
-            write_hex(*byte, false, f)?;
-        }
-        Ok(())
+        write_shown(&digits_of(&self.0), f)
     }
 }
 

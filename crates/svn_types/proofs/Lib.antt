@@ -4,6 +4,8 @@ pub mod Splits
 pub mod NameLemmas
 -- names put one by one into a set
 pub mod NameSets
+-- two lists of properties, of which the first name of either is taken
+pub mod Merges
 -- paths: their parts, and paths above and below one another
 pub mod PathLemmas
 -- paths in their order, and what is below a path directly after it

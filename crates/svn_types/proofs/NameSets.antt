@@ -1,12 +1,11 @@
 -- Names in their order, put one by one into a set.
 use Rattle.std.proofs.Common.{◌≡◌, List, [], ◌∷◌, ◌++◌, refl, sym, ◌∙◌, ap, append_assoc, append-nil}
-use denote.Ref.{Bor}
-use Rattle.std.specs.Prelude.{fold, map}
+use Rattle.std.specs.Prelude.{fold}
 use Rattle.std.specs.List.{AllByRecursion}
 use Rattle.std.specs.List.Sorted.{IsStrictlySortedBy}
 use Rattle.std.specs.BTreeSet.{insert_key}
 use Rattle.std.specs.declared.cmp.Ordering.{Ordering}
-use Rattle.std.specs.declared.cmp.Ordering.TheVariants.{Less, Equal, Greater}
+use Rattle.std.specs.declared.cmp.Ordering.TheVariants.{Less, Greater}
 use Rattle.std.specs.Ordering.{ordering_reverse, match_ordering}
 use Rattle.std.specs.Cmp.Lexicographic.{nat_list_cmp_total}
 use Rattle.svn_types.specs.Names.{name_cmp}
@@ -49,30 +48,3 @@ none_above (k ∷ ks) = (tt, none_above ks)
 -- sorted names, put into the empty set one by one, are the set
 pub fold_sorted : (ks : List Name) → IsStrictlySortedBy name_cmp ks → fold (insert_key name_cmp) [] ks ≡ ks
 fold_sorted ks sorted = fold_from ks [] sorted (none_above ks)
-
--- ---- borrowed names
-
--- what the borrowed names are
-abbrev pub names_read : List (Bor Name) → List Name
-names_read = map (λ (n : Bor Name). n.now)
-
-insert_read : (ks : List (Bor Name)) (k : Bor Name)
-    → names_read (insert_key (λ (x y : Bor Name). name_cmp x.now y.now) ks k) ≡ insert_key name_cmp (names_read ks) k.now
-insert_read [] k = refl
-insert_read (x ∷ ks) k = by (name_cmp k.now x.now) (insert_read ks k)
-  where
-    put : List (Bor Name)
-    put = insert_key (λ (x y : Bor Name). name_cmp x.now y.now) ks k
-
-    by : (o : Ordering) → names_read put ≡ insert_key name_cmp (names_read ks) k.now
-        → names_read (match_ordering o (k ∷ x ∷ ks) (x ∷ ks) (x ∷ put))
-        ≡ match_ordering o (k.now ∷ x.now ∷ names_read ks) (x.now ∷ names_read ks) (x.now ∷ insert_key name_cmp (names_read ks) k.now)
-    by Less ih = refl
-    by Equal ih = refl
-    by Greater ih = ap (λ (l : List Name). x.now ∷ l) ih
-
--- one more name is put
-pub put_next : (all : List Name) (before after : List (Bor Name)) (put : Bor Name) (rest : List Name)
-    → after ≡ insert_key (λ (x y : Bor Name). name_cmp x.now y.now) before put
-    → fold (insert_key name_cmp) (names_read before) (put.now ∷ rest) ≡ all → fold (insert_key name_cmp) (names_read after) rest ≡ all
-put_next all before after put rest e h = ap (λ l. fold (insert_key name_cmp) l rest) (ap names_read e ∙ insert_read before put) ∙ h

@@ -1,11 +1,13 @@
 -- Lists that are cut at the elements that pass a test: bytes at a separator, a text at its first slash.
 use Rattle.std.proofs.Common.{◌≡◌, ℕ, ◌<◌, ◌≤◌, Bool, true, false, cond, not, List, [], ◌∷◌, length, refl, arith}
-use Rattle.std.proofs.Common.{Option, Some, None, MatchOption, ◌+◌, length-drop, ap, sym, ◌∙◌, take, drop, nat_lt}
+use Rattle.std.proofs.Common.{Option, Some, None, MatchOption, ◌+◌, length-drop, ap, sym, ◌∙◌, take, drop, nat_eq, nat_lt, get_or}
 use Rattle.std.specs.List.{slice_split, onto_first, position, position_or_len, prefix_len, before_first, after_first}
 use Rattle.std.proofs.lemmas.List.Splits.{slice_split_first, length-slice_split}
 use Rattle.std.proofs.lemmas.List.Sums.{position_or_len_is}
 use Rattle.std.proofs.lemmas.List.Quantifiers.{position-Some}
 use Rattle.std.proofs.lemmas.Bool.Decides.{nat_tests}
+use Rattle.std.proofs.lemmas.Bool.{lt-ltb}
+use Rattle.memchr.specs.Find.{IsFirstByte, is_byte}
 use denote.Ref.{Bor}
 use Rattle.svn_types.specs.Names.{is_slash}
 use Rattle.svn_types.specs.NameSplits.{IsNameSplit}
@@ -16,6 +18,28 @@ test_none false n e = refl
 
 pub not_less : (n m : ℕ) → nat_lt n m ≡ false → m ≤ n
 not_less n m e = grind (arith, nat_tests)
+
+fails : (b : Bool) → (b ≡ true → ⊥) → b ≡ false
+fails true f = absurd (f refl)
+fails false f = refl
+
+not_less_itself : (n : ℕ) → nat_lt n n ≡ false
+not_less_itself n = grind (arith, nat_tests)
+
+stands_at : (p : ℕ → Bool) (xs : List ℕ) (i : ℕ) → i ≤ length xs → ((k : ℕ) → k < i → p (get_or xs k 0) ≡ true → ⊥)
+    → (i < length xs → p (get_or xs i 0) ≡ true) → position p xs ≡ cond (nat_lt i (length xs)) (Some i) None
+stands_at p xs i l before here =
+    ap (λ n. cond (nat_lt n (length xs)) (Some n) None)
+    (position_or_len_is p xs i 0 l (λ k m. fails (p (get_or xs k 0)) (before k m)) here)
+
+-- the first place of a byte, as a search tells it
+pub first_place : (b : ℕ) (xs : List ℕ) (r : Option ℕ) → IsFirstByte (is_byte b) xs r → r ≡ position (λ x. nat_eq x b) xs
+first_place b xs None h =
+    sym (stands_at (λ x. nat_eq x b) xs (length xs) (omega arith) (λ k. h k (omega arith)) (λ l. absurd (omega (arith, l)))
+    ∙ ap (λ c. cond c (Some (length xs)) None) (not_less_itself (length xs)))
+first_place b xs (Some i) h =
+    sym (stands_at (λ x. nat_eq x b) xs i (omega (arith, h.0.high)) (λ k. h.0.before k (omega arith)) (λ _. h.1)
+    ∙ ap (λ c. cond c (Some i) None) (lt-ltb i (length xs) h.0.high))
 
 nowhere : {X : Type 0} (p : X → Bool) (xs : List X) → length xs ≤ position_or_len p xs → slice_split p xs ≡ xs ∷ []
 nowhere p [] h = refl

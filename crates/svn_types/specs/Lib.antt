@@ -5,6 +5,7 @@ pub mod NameSplits
 pub mod Paths
 pub mod Pairs
 pub mod Props
+pub mod Merging
 pub mod PathHash
 pub mod PathKeys
 pub mod PathHeads

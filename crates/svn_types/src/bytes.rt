@@ -2,12 +2,14 @@
 ghost use Rattle.std.specs.Prelude.{◌≡◌, ℕ, ◌+◌, ◌<◌, ◌∷◌, [], length, take, drop, nat_eq, position, Some, None, IfSome, MatchOption};
 ghost use Rattle.std.specs.List.{slice_split};
 
+use memchr::memchr;
+
 // The place of the first such byte.
 fn find_byte(text: &[u8], byte: u8) -> Option<usize>
     ensures place { result ≡ position (λ b. nat_eq b byte) text.now }
     ensures bounded { IfSome result (λ i. i < length text.now) }
 {
-    text.iter().position(|b| *b == byte)
+    memchr(byte, text)
 }
 
 /// The bytes before the first separator and those behind it, if there is one. It takes no memory.

@@ -31,6 +31,7 @@ mod path_key;
 mod path_parts;
 mod prop_name;
 mod props;
+mod props_left;
 mod rel_path;
 mod rev;
 mod short_bytes;

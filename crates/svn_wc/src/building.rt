@@ -24,9 +24,7 @@ use svn_edit::{Nodes, child_path, parent_path};
 use svn_edit_law::{a_checkout_is_a_true_copy, placing_keeps_a_copy, switching_keeps_a_copy};
 use svn_model::{BaseNode, WcFault};
 use svn_repo::{NodeId, Repo};
-use svn_types::{Kind, RelPath, Rev};
-
-const MAX_NAMES: usize = 64;
+use svn_types::{Kind, MAX_DEPTH, RelPath, Rev};
 
 fn is_missing(repo: &Repo, rev: Rev) -> bool
     ensures { result ≡ is_missing_revision repo.now rev }
@@ -45,7 +43,7 @@ pub(crate) fn is_too_deep(path: &RelPath, repos_path: &RelPath) -> bool
     ensures { result ≡ is_too_deep path.now repos_path.now }
 {
     let names = repos_path.components().len();
-    names > MAX_NAMES || path.components().len() > MAX_NAMES + names
+    names > MAX_DEPTH || path.components().len() > MAX_DEPTH + names
 }
 
 // The tree at a path of the repository, as nodes at a path of the copy and below.
