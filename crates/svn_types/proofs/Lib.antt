@@ -16,5 +16,7 @@ pub mod Places
 pub mod PathKeys
 -- heads of keys, which decide most comparisons
 pub mod PathHeads
+-- bytes in place, of which two words tell the order
+pub mod ShortWords
 -- keys of paths, which are texts
 pub mod KeyTexts

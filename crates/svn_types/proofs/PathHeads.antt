@@ -7,16 +7,17 @@ use Rattle.std.specs.Cmp.Lexicographic.{slice_cmp}
 use Rattle.std.proofs.lemmas.Cmp.{nat_list_cmp_total}
 use Rattle.std.proofs.Math.Nat.{pow-suc, pow-le-pow_right}
 use Rattle.svn_types.specs.Names.{Path}
-use Rattle.svn_types.specs.PathHeads.{IsByteList, IsHeadOf, leading}
+use Rattle.svn_types.specs.LeadingBytes.{IsByteList, leading}
+use Rattle.svn_types.specs.PathHeads.{IsHeadOf}
 use Rattle.svn_types.specs.PathKeys.{path_key}
 use Rattle.svn_types.proofs.PathKeys.{key_order}
 
-drop_next : (i : ℕ) (s : List ℕ) → drop 1 (drop i s) ≡ drop (suc i) s
+pub drop_next : (i : ℕ) (s : List ℕ) → drop 1 (drop i s) ≡ drop (suc i) s
 drop_next zero s = refl
 drop_next (suc i) [] = refl
 drop_next (suc i) (b ∷ s) = drop_next i s
 
-first_left : (i : ℕ) (s : List ℕ) → get_or (drop i s) 0 0 ≡ get_or s i 0
+pub first_left : (i : ℕ) (s : List ℕ) → get_or (drop i s) 0 0 ≡ get_or s i 0
 first_left zero s = refl
 first_left (suc i) [] = refl
 first_left (suc i) (b ∷ s) = first_left i s
@@ -72,7 +73,7 @@ unfolding leading
 leading_nil zero = refl
 leading_nil (suc n) = omega (arith, leading_nil n)
 
-leading_bounded : (n : ℕ) (s : List ℕ) → IsByteList s → leading n s < 256 ^ n
+pub leading_bounded : (n : ℕ) (s : List ℕ) → IsByteList s → leading n s < 256 ^ n
 unfolding leading
 leading_bounded zero s small = omega arith
 leading_bounded (suc n) [] small =
@@ -80,13 +81,13 @@ leading_bounded (suc n) [] small =
 leading_bounded (suc n) (b ∷ s) small =
     digit_below b (256 ^ n) (leading n s) (256 ^ suc n) (pow-suc 256 n) (small 0) (leading_bounded n s (λ i. small (suc i)))
 
-less_than : (b c : ℕ) → Less ≡ nat_cmp b c → b < c
+pub less_than : (b c : ℕ) → Less ≡ nat_cmp b c → b < c
 less_than b c e = grind (arith, e)
 
-same_as : (b c : ℕ) → Equal ≡ nat_cmp b c → b ≡ c
+pub same_as : (b c : ℕ) → Equal ≡ nat_cmp b c → b ≡ c
 same_as b c e = grind (arith, e)
 
-more_than : (b c : ℕ) → Greater ≡ nat_cmp b c → c < b
+pub more_than : (b c : ℕ) → Greater ≡ nat_cmp b c → c < b
 more_than b c e = grind (arith, e)
 
 -- the first digit decides
@@ -113,7 +114,7 @@ heads_below (suc n) (b ∷ s) (c ∷ t) small below =
     (λ above. no_higher b c (256 ^ n) (leading n s) (leading n t) above (leading_bounded n t rest) below)
 
 -- lists with unlike heads are ordered as these are
-heads_order : (n : ℕ) (s t : List ℕ) → IsByteList s → IsByteList t
+pub heads_order : (n : ℕ) (s t : List ℕ) → IsByteList s → IsByteList t
     → (o : Ordering) → o ≡ nat_cmp (leading n s) (leading n t) → o ≢ Equal → slice_cmp nat_cmp s t ≡ o
 heads_order n s t small_s small_t Less e unlike = heads_below n s t small_t (less_than (leading n s) (leading n t) e)
 heads_order n s t small_s small_t Equal e unlike = absurd (unlike refl)

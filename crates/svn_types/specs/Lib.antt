@@ -8,5 +8,6 @@ pub mod Props
 pub mod Merging
 pub mod PathHash
 pub mod PathKeys
+pub mod LeadingBytes
 pub mod PathHeads
 pub mod Forms

@@ -23,6 +23,7 @@ mod bytes;
 mod changes;
 mod fault;
 mod kind;
+mod leading_bytes;
 mod limits;
 mod lineage;
 mod name;

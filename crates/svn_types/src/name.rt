@@ -127,7 +127,7 @@ impl PartialEq for Name {
     ghost laws = { partial_equiv_from_equiv nat_list_eq_equiv };
 
     fn eq(&self, other: &Name) -> bool {
-        self.as_str() == other.as_str()
+        self.text.is_same(&other.text)
     }
 }
 
@@ -155,7 +155,7 @@ impl Ord for Name {
     ghost matches_eq = { texts_ties };
 
     fn cmp(&self, other: &Name) -> Ordering {
-        self.as_str().cmp(other.as_str())
+        self.text.order(&other.text)
     }
 }
 

@@ -1,6 +1,8 @@
 //! The first bytes of a path's key as one number, which compares in one step.
 ghost use Rattle.std.specs.Prelude.{◌≡◌, get_or};
-ghost use Rattle.svn_types.specs.PathHeads.{IsByteList, leading};
+ghost use Rattle.svn_types.specs.LeadingBytes.{IsByteList, leading};
+
+use crate::leading_bytes::word_at;
 
 // How many bytes of a key make its head.
 const HEAD: usize = 8;
@@ -21,6 +23,9 @@ pub(crate) fn head_of(key: &str) -> u64
     ensures bytes { IsByteList key.now }
 {
     let bytes = key.as_bytes();
+    if bytes.len() >= HEAD {
+        return word_at(bytes, 0);
+    }
     let mut head = 0u64;
     'byte: for place in 0..HEAD {
         head = head * 256 + u64::from(byte_at(bytes, place));

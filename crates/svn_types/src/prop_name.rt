@@ -129,7 +129,7 @@ impl PartialEq for PropName {
     ghost laws = { partial_equiv_from_equiv nat_list_eq_equiv };
 
     fn eq(&self, other: &PropName) -> bool {
-        self.as_str() == other.as_str()
+        self.text.is_same(&other.text)
     }
 }
 
@@ -157,7 +157,7 @@ impl Ord for PropName {
     ghost matches_eq = { texts_ties };
 
     fn cmp(&self, other: &PropName) -> Ordering {
-        self.as_str().cmp(other.as_str())
+        self.text.order(&other.text)
     }
 }
 

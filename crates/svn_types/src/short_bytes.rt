@@ -1,9 +1,13 @@
 //! A few bytes that lie in the value itself.
-ghost use Rattle.std.specs.Prelude.{◌≡◌, ◌+◌, ◌<◌, ◌≤◌, ◌++◌, [], length, take};
+ghost use Rattle.std.specs.Prelude.{◌≡◌, ◌+◌, ◌<◌, ◌≤◌, ℕ, ◌++◌, [], length, take, drop, get_or, nat_eq};
+ghost use Rattle.std.specs.Ordering.{nat_cmp};
+ghost use Rattle.std.specs.Cmp.Lexicographic.{pointwise, slice_cmp};
 
+use crate::leading_bytes::word_at;
+use std::cmp::Ordering;
 use std::marker::Model;
 
-/// At most `N` bytes, which take no memory of their own. `N` is below 256. A contract sees them as their list.
+/// At most `N` bytes, which take no memory of their own. `N` is below 256. Zeros lie behind them. A contract sees them as their list.
 #[derive(Drop)]
 pub(crate) struct ShortBytes<const N: usize> {
     len: u8,
@@ -12,12 +16,13 @@ pub(crate) struct ShortBytes<const N: usize> {
 
 impl<const N: usize> Model for ShortBytes<N> {
     ghost use Rattle.std.specs.Prelude.{◌≡◌, ◌≤◌, ℕ, List, length, take};
+    ghost use Rattle.svn_types.specs.LeadingBytes.{IsZeroFrom};
 
     ghost Value = { List ℕ };
 
     ghost view = { λ s. take s.len s.room };
 
-    ghost invariant = { λ s. (s.len ≤ N) × (length s.room ≡ N) };
+    ghost invariant = { λ s. (s.len ≤ N) × (length s.room ≡ N) × IsZeroFrom s.len s.room };
 }
 
 // Writes bytes over those from `start` on.
@@ -25,6 +30,7 @@ fn write_at<const N: usize>(room: &mut [u8; N], start: usize, source: &[u8])
     requires { start + length source.now ≤ N }
     ensures front { take (start + length source.now) room.new ≡ take start room.old ++ source.now }
     ensures len { length room.new ≡ N }
+    ensures behind { (i : ℕ) → start + length source.now ≤ i → get_or room.new i 0 ≡ get_or room.old i 0 }
 {
     'byte: for i in 0..source.len() {
         room[start + i] = source[i];
@@ -69,6 +75,23 @@ impl<const N: usize> ShortBytes<N> {
         ensures { result.now ≡ self.now }
     {
         &self.room[..self.len as usize]
+    }
+
+    /// How they stand to others in the order of bytes. The first eight bytes are compared as one number, and the last eight that there is room
+    /// for: where all are equal, the shorter ones are a prefix.
+    pub(crate) fn order(&self, other: &ShortBytes<N>) -> Ordering
+        requires { (8 ≤ N) × (N ≤ 16) }
+        ensures { result ≡ slice_cmp nat_cmp self.now other.now }
+    {
+        let (one, two) = (word_at(&self.room, 0), word_at(&other.room, 0));
+        if one != two {
+            return one.cmp(&two);
+        }
+        let (one, two) = (word_at(&self.room, N - 8), word_at(&other.room, N - 8));
+        if one != two {
+            return one.cmp(&two);
+        }
+        self.len.cmp(&other.len)
     }
 
     /// The same bytes.

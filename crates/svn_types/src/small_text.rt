@@ -1,8 +1,11 @@
 //! Texts of names, which are cheap to clone.
-ghost use Rattle.std.specs.Prelude.{◌≡◌, IfOk};
+ghost use Rattle.std.specs.Prelude.{◌≡◌, nat_eq, IfOk};
+ghost use Rattle.std.specs.Ordering.{nat_cmp};
+ghost use Rattle.std.specs.Cmp.Lexicographic.{pointwise, slice_cmp};
 
 use crate::short_bytes::ShortBytes;
 use std::alloc::{AllocError, Global};
+use std::cmp::Ordering;
 use std::marker::Model;
 use std::sync::ArcStr;
 use std::{fmt, str};
@@ -46,6 +49,23 @@ impl SmallText {
         Ok(SmallText {
             form: NameForm::Long(ArcStr::from_str(alloc, text)?),
         })
+    }
+
+    /// How it stands to another in the order of bytes.
+    pub(crate) fn order(&self, other: &SmallText) -> Ordering
+        ensures { result ≡ slice_cmp nat_cmp self.now other.now }
+    {
+        match (&self.form, &other.form) {
+            (NameForm::Short(bytes), NameForm::Short(others)) => bytes.order(others),
+            _ => self.as_str().cmp(other.as_str()),
+        }
+    }
+
+    /// Whether they are the same bytes.
+    pub(crate) fn is_same(&self, other: &SmallText) -> bool
+        ensures { result ≡ pointwise nat_eq self.now other.now }
+    {
+        self.order(other).is_eq()
     }
 
     pub(crate) fn as_str(&self) -> &str

@@ -1,5 +1,5 @@
 use Rattle.std.proofs.Common.{◌≡◌, ◌*◌, ◌+◌, ◌-◌, ◌^◌, drop, get_or, ap, ◌∙◌, arith}
-use Rattle.svn_types.specs.PathHeads.{leading}
+use Rattle.svn_types.specs.LeadingBytes.{leading}
 use Rattle.svn_types.proofs.PathHeads.{leading_read, leading_whole, read_bounded, read_fits}
 use Rattle.svn_types.proofs.path_head.head_of.Goals as goal
 

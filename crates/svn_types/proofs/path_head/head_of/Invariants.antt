@@ -1,5 +1,5 @@
 use Rattle.std.proofs.Common.{◌≡◌, ◌+◌, ◌-◌, ◌*◌, ◌^◌, ◌<◌, drop}
-use Rattle.svn_types.specs.PathHeads.{leading}
+use Rattle.svn_types.specs.LeadingBytes.{leading}
 use Rattle.svn_types.proofs.path_head.head_of.Given as goal
 
 -- what was read, and behind it the digits that are left

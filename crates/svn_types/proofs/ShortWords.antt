@@ -1,0 +1,216 @@
+-- Bytes with zeros behind them: words of eight of them tell their order.
+use Rattle.std.proofs.Common.{◌≡◌, ◌≢◌, ℕ, zero, suc, ◌+◌, ◌-◌, ◌*◌, ◌^◌, ◌<◌, ◌≤◌, List, [], ◌∷◌, length, take, drop, get_or, refl, ap, sym, subst, ◌∙◌, arith}
+use Rattle.std.specs.declared.cmp.Ordering.{Ordering}
+use Rattle.std.specs.declared.cmp.Ordering.TheVariants.{Less, Equal, Greater}
+use Rattle.std.specs.Ordering.{ordering_then, nat_cmp}
+use Rattle.std.specs.Cmp.Lexicographic.{slice_cmp}
+use Rattle.std.proofs.lemmas.List.{get_or-take, get_or-drop, get_or_past, length-take-le}
+use Rattle.std.proofs.lemmas.Nat.{pow-add}
+use Rattle.svn_types.specs.LeadingBytes.{IsByteList, IsZeroFrom, leading}
+use Rattle.svn_types.proofs.PathHeads.{heads_order, leading_bounded, less_than, same_as, more_than, drop_next, first_left}
+
+-- the digit at a place, and those behind it
+leading_at : (n j next : ℕ) (s : List ℕ) → next ≡ suc j → leading (suc n) (drop j s) ≡ get_or s j 0 * 256 ^ n + leading n (drop next s)
+unfolding leading
+leading_at n j next s behind =
+    (λ i. first_left j s i * 256 ^ n + leading n (drop_next j s i))
+    ∙ ap (λ k. get_or s j 0 * 256 ^ n + leading n (drop k s)) (sym behind)
+
+-- eight bytes from a place on as one number
+pub eight_bytes : (i : ℕ) (s : List ℕ)
+    → get_or s i 0 * 72057594037927936 + get_or s (i + 1) 0 * 281474976710656 + get_or s (i + 2) 0 * 1099511627776
+    + get_or s (i + 3) 0 * 4294967296
+    + get_or s (i + 4) 0 * 16777216
+    + get_or s (i + 5) 0 * 65536
+    + get_or s (i + 6) 0 * 256
+    + get_or s (i + 7) 0 ≡ leading 8 (drop i s)
+unfolding leading
+eight_bytes i s =
+    omega (
+      arith,
+      leading_at 7 i (i + 1) s (omega arith),
+      leading_at 6 (i + 1) (i + 2) s (omega arith),
+      leading_at 5 (i + 2) (i + 3) s (omega arith),
+      leading_at 4 (i + 3) (i + 4) s (omega arith),
+      leading_at 3 (i + 4) (i + 5) s (omega arith),
+      leading_at 2 (i + 5) (i + 6) s (omega arith),
+      leading_at 1 (i + 6) (i + 7) s (omega arith),
+      leading_at 0 (i + 7) (i + 8) s (omega arith),
+    )
+
+-- a list is read as another that has the same at each place
+leading_same : (n : ℕ) (s t : List ℕ) → ((i : ℕ) → get_or s i 0 ≡ get_or t i 0) → leading n s ≡ leading n t
+unfolding leading
+leading_same zero s t same = refl
+leading_same (suc n) s t same =
+    let rest : (i : ℕ) → get_or (drop 1 s) i 0 ≡ get_or (drop 1 t) i 0 = λ i. get_or-drop 1 s i 0 ∙ same (1 + i) ∙ sym (get_or-drop 1 t i 0) in
+    (λ k. same 0 k * 256 ^ n + leading_same n (drop 1 s) (drop 1 t) rest k)
+
+spread : (b p q l m r : ℕ) → r ≡ p * q → b * r + (l * q + m) ≡ (b * p + l) * q + m
+spread b p q l m r is = omega (arith, ap (λ x. b * x) is)
+
+abbrev no_bytes : List ℕ
+no_bytes = []
+
+drop_nothing : (k : ℕ) → drop k no_bytes ≡ drop (suc k) no_bytes
+drop_nothing zero = refl
+drop_nothing (suc k) = refl
+
+-- the digits of a list in two parts
+leading_split : (k n : ℕ) (s : List ℕ) → leading (k + n) s ≡ leading k s * 256 ^ n + leading n (drop k s)
+unfolding leading
+leading_split zero n s =
+    let all : zero + n ≡ n = omega arith in
+    ap (λ m. leading m s) all ∙ omega arith
+leading_split (suc k) n [] =
+    let all : suc k + n ≡ suc (k + n) = omega arith in
+    ap (λ m. leading m []) all
+    ∙ (λ i. 0 * 256 ^ (k + n) + leading_split k n [] i)
+    ∙ spread 0 (256 ^ k) (256 ^ n) (leading k []) (leading n (drop k [])) (256 ^ (k + n)) (pow-add 256 k n)
+    ∙ (λ i. (0 * 256 ^ k + leading k []) * 256 ^ n + leading n (drop_nothing k i))
+leading_split (suc k) n (b ∷ s) =
+    let all : suc k + n ≡ suc (k + n) = omega arith in
+    ap (λ m. leading m (b ∷ s)) all
+    ∙ (λ i. b * 256 ^ (k + n) + leading_split k n s i)
+    ∙ spread b (256 ^ k) (256 ^ n) (leading k s) (leading n (drop k s)) (256 ^ (k + n)) (pow-add 256 k n)
+
+-- a number has one first digit and one rest
+not_higher : (b c p l m : ℕ) → c < b → m < p → b * p + l ≡ c * p + m → ⊥
+not_higher b c p l m above small same = grind (arith, above, small, same)
+
+same_front : (b c p l m : ℕ) → l < p → m < p → b * p + l ≡ c * p + m → b ≡ c
+same_front b c p l m below small same = by (nat_cmp b c) refl
+  where
+    by : (o : Ordering) → o ≡ nat_cmp b c → b ≡ c
+    by Less e = absurd (not_higher c b p m l (less_than b c e) below (sym same))
+    by Equal e = same_as b c e
+    by Greater e = absurd (not_higher b c p l m (more_than b c e) small same)
+
+same_rest : (b c p l m : ℕ) → b ≡ c → b * p + l ≡ c * p + m → l ≡ m
+same_rest b c p l m front same = omega (arith, same, ap (λ d. d * p) front)
+
+dropped : (k : ℕ) (s : List ℕ) → IsByteList s → IsByteList (drop k s)
+dropped k s small i = subst (λ n. n < 256) (sym (get_or-drop k s i 0)) (small (k + i))
+
+-- lists that have the same first bytes have the same fewer ones
+same_start : (k n : ℕ) (s t : List ℕ) → IsByteList s → IsByteList t → leading (k + n) s ≡ leading (k + n) t → leading k s ≡ leading k t
+same_start k n s t small_s small_t same =
+    same_front (leading k s) (leading k t) (256 ^ n) (leading n (drop k s)) (leading n (drop k t))
+    (leading_bounded n (drop k s) (dropped k s small_s))
+    (leading_bounded n (drop k t) (dropped k t small_t))
+    (sym (leading_split k n s) ∙ same ∙ leading_split k n t)
+
+-- lists of so many bytes at most that have the same ones are ordered as their lengths are
+both_longer : (m n : ℕ) → nat_cmp m n ≡ nat_cmp (suc m) (suc n)
+both_longer m n = grind arith
+
+longer : (n : ℕ) → nat_cmp 0 (suc n) ≡ Less
+longer n = grind arith
+
+shorter : (n : ℕ) → nat_cmp (suc n) 0 ≡ Greater
+shorter n = grind arith
+
+level : (b c : ℕ) → b ≡ c → nat_cmp b c ≡ Equal
+level b c e = grind (arith, e)
+
+lengths_order : (n : ℕ) (s t : List ℕ) → length s ≤ n → length t ≤ n → IsByteList s → IsByteList t → leading n s ≡ leading n t
+    → slice_cmp nat_cmp s t ≡ nat_cmp (length s) (length t)
+unfolding leading
+lengths_order n [] [] short_s short_t small_s small_t same = refl
+lengths_order n [] (c ∷ t) short_s short_t small_s small_t same = sym (longer (length t))
+lengths_order n (b ∷ s) [] short_s short_t small_s small_t same = sym (shorter (length s))
+lengths_order zero (b ∷ s) (c ∷ t) short_s short_t small_s small_t same = absurd (omega arith)
+lengths_order (suc n) (b ∷ s) (c ∷ t) short_s short_t small_s small_t same =
+    let rest_s : IsByteList s = λ i. small_s (suc i) in
+    let rest_t : IsByteList t = λ i. small_t (suc i) in
+    let first : b ≡ c =
+    same_front b c (256 ^ n) (leading n s) (leading n t) (leading_bounded n s rest_s) (leading_bounded n t rest_t) same in
+    ap (λ o. ordering_then o (slice_cmp nat_cmp s t)) (level b c first)
+    ∙ lengths_order n s t (omega arith) (omega arith) rest_s rest_t (same_rest b c (256 ^ n) (leading n s) (leading n t) first same)
+    ∙ both_longer (length s) (length t)
+
+-- what stands in a room: its first bytes, with zeros behind them
+pub shown_at : (n : ℕ) (room : List ℕ) → IsZeroFrom n room → n ≤ length room → (i : ℕ) → get_or room i 0 ≡ get_or (take n room) i 0
+shown_at n room zeros fits i = by (nat_cmp i n) refl
+  where
+    past : n ≤ i → get_or room i 0 ≡ get_or (take n room) i 0
+    past behind = zeros i behind ∙ sym (get_or_past (take n room) i 0 (omega (arith, length-take-le n room fits)))
+
+    by : (o : Ordering) → o ≡ nat_cmp i n → get_or room i 0 ≡ get_or (take n room) i 0
+    by Less e = sym (get_or-take n room i 0 (less_than i n e))
+    by Equal e = past (omega (arith, same_as i n e))
+    by Greater e = past (omega (arith, more_than i n e))
+
+-- bytes with zeros behind them, in rooms of one size
+pub record InRoom (size len : ℕ) (room : List ℕ) : Type 0 where
+  pub fits : len ≤ size
+  pub whole : length room ≡ size
+  pub zeros : IsZeroFrom len room
+  pub small : IsByteList room
+
+pub in_room : (size len : ℕ) (room : List ℕ) → (len ≤ size) × (length room ≡ size) × IsZeroFrom len room → IsByteList room → InRoom size len room
+in_room size len room holds small = record { fits = holds.0; whole = holds.1; zeros = holds.2; small = small }
+
+shown_bytes : (size n : ℕ) (room : List ℕ) → InRoom size n room → IsByteList (take n room)
+shown_bytes size n room r i = subst (λ b. b < 256) (shown_at n room r.zeros (omega (arith, r.fits, r.whole)) i) (r.small i)
+
+-- a word of a room is one of its bytes
+word_shown : (size n k : ℕ) (room : List ℕ) → InRoom size n room → leading 8 (drop k room) ≡ leading 8 (drop k (take n room))
+word_shown size n k room r =
+    leading_same 8 (drop k room) (drop k (take n room))
+    (λ i. get_or-drop k room i 0
+    ∙ shown_at n room r.zeros (omega (arith, r.fits, r.whole)) (k + i)
+    ∙ sym (get_or-drop k (take n room) i 0))
+
+-- two first words that are unlike tell the order
+pub first_words : (size m n : ℕ) (one two : List ℕ) → InRoom size m one → InRoom size n two
+    → (o : Ordering) → o ≡ nat_cmp (leading 8 one) (leading 8 two) → o ≢ Equal → o ≡ slice_cmp nat_cmp (take m one) (take n two)
+first_words size m n one two r s o is unlike =
+    sym (heads_order 8 (take m one) (take n two) (shown_bytes size m one r) (shown_bytes size n two s) o
+    (is ∙ (λ i. nat_cmp (word_shown size m 0 one r i) (word_shown size n 0 two s i))) unlike)
+
+-- what stands in two rooms with the same first words begins with the same bytes
+same_fronts : (size k m n : ℕ) (one two : List ℕ) → k ≤ 8 → InRoom size m one → InRoom size n two → leading 8 one ≡ leading 8 two
+    → leading k (take m one) ≡ leading k (take n two)
+same_fronts size k m n one two within r s same =
+    let all : 8 ≡ k + (8 - k) = omega arith in
+    let starts : leading 8 (take m one) ≡ leading 8 (take n two) =
+    sym (word_shown size m 0 one r) ∙ same ∙ word_shown size n 0 two s in
+    same_start k (8 - k) (take m one) (take n two) (shown_bytes size m one r) (shown_bytes size n two s)
+    (subst (λ l. leading l (take m one) ≡ leading l (take n two)) all starts)
+
+same_behind : (b c p l m : ℕ) → b ≡ c → nat_cmp l m ≡ nat_cmp (b * p + l) (c * p + m)
+same_behind b c p l m e = grind (arith, ap (λ d. d * p) e)
+
+-- behind the same first words two last ones tell the order
+pub last_words : (size m n : ℕ) (one two : List ℕ) → 8 ≤ size → size ≤ 16 → InRoom size m one → InRoom size n two → leading 8 one ≡ leading 8 two
+    → (o : Ordering) → o ≡ nat_cmp (leading 8 (drop (size - 8) one)) (leading 8 (drop (size - 8) two)) → o ≢ Equal
+    → o ≡ slice_cmp nat_cmp (take m one) (take n two)
+last_words size m n one two least most r s same o is unlike =
+    let k : ℕ = size - 8 in
+    let front : leading k (take m one) ≡ leading k (take n two) = same_fronts size k m n one two (omega arith) r s same in
+    let whole : nat_cmp (leading 8 (drop k (take m one))) (leading 8 (drop k (take n two)))
+    ≡ nat_cmp (leading (k + 8) (take m one)) (leading (k + 8) (take n two)) =
+    same_behind (leading k (take m one)) (leading k (take n two)) (256 ^ 8) _ _ front
+    ∙ (λ i. nat_cmp (sym (leading_split k 8 (take m one)) i) (sym (leading_split k 8 (take n two)) i)) in
+    sym (heads_order (k + 8) (take m one) (take n two) (shown_bytes size m one r) (shown_bytes size n two s) o
+    (is ∙ (λ i. nat_cmp (word_shown size m k one r i) (word_shown size n k two s i)) ∙ whole) unlike)
+
+-- and behind the same words the lengths
+pub last_lengths : (size m n : ℕ) (one two : List ℕ) → 8 ≤ size → size ≤ 16 → InRoom size m one → InRoom size n two → leading 8 one ≡ leading 8 two
+    → leading 8 (drop (size - 8) one) ≡ leading 8 (drop (size - 8) two) → nat_cmp m n ≡ slice_cmp nat_cmp (take m one) (take n two)
+last_lengths size m n one two least most r s same last =
+    let k : ℕ = size - 8 in
+    let len_r : length (take m one) ≡ m = length-take-le m one (omega (arith, r.fits, r.whole)) in
+    let len_s : length (take n two) ≡ n = length-take-le n two (omega (arith, s.fits, s.whole)) in
+    let front : leading k (take m one) ≡ leading k (take n two) = same_fronts size k m n one two (omega arith) r s same in
+    let back : leading 8 (drop k (take m one)) ≡ leading 8 (drop k (take n two)) =
+    sym (word_shown size m k one r) ∙ last ∙ word_shown size n k two s in
+    let whole : leading (k + 8) (take m one) ≡ leading (k + 8) (take n two) =
+    leading_split k 8 (take m one) ∙ (λ i. front i * 256 ^ 8 + back i) ∙ sym (leading_split k 8 (take n two)) in
+    (λ i. nat_cmp (sym len_r i) (sym len_s i))
+    ∙ sym (lengths_order (k + 8) (take m one) (take n two) (omega (arith, len_r, r.fits)) (omega (arith, len_s, s.fits))
+    (shown_bytes size m one r) (shown_bytes size n two s) whole)
+
+pub unlike_numbers : (x y : ℕ) (o : Ordering) → o ≡ nat_cmp x y → (x ≡ y → ⊥) → o ≢ Equal
+unlike_numbers x y o is unlike equal = unlike (same_as x y (sym equal ∙ is))
