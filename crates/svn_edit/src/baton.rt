@@ -141,10 +141,7 @@ fn prop_name(alloc: Global, bytes: Option<&[u8]>) -> Result<PropName, AllocError
     let Some(bytes) = bytes else {
         return Err(AllocError);
     };
-    let Ok(text) = std::str::from_utf8(bytes) else {
-        return Err(AllocError);
-    };
-    match PropName::parse(alloc, text) {
+    match PropName::from_bytes(alloc, bytes) {
         Ok(name) => Ok(name),
         Err(_) => Err(AllocError),
     }

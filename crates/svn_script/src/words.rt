@@ -208,23 +208,13 @@ pub(crate) fn read_path(alloc: Global, word: &[u8]) -> Result<RelPath, LineFault
     }
 }
 
-// The property name that a text is.
-fn parse_prop_name(alloc: Global, text: &str) -> Result<PropName, LineFault>
-    ensures { Gives (λ n. n) result (prop_name_of_bytes text.now) }
-{
-    match PropName::parse(alloc, text) {
-        Ok(name) => Ok(name),
-        Err(PathFault::Memory) => Err(LineFault::Memory),
-        Err(_) => Err(LineFault::Bad),
-    }
-}
-
 // The property name that bytes are.
-fn parse_prop_name_bytes(alloc: Global, bytes: &[u8]) -> Result<PropName, LineFault>
+fn parse_prop_name(alloc: Global, bytes: &[u8]) -> Result<PropName, LineFault>
     ensures { Gives (λ n. n) result (prop_name_of_bytes bytes.now) }
 {
-    match str::from_utf8(bytes) {
-        Ok(text) => parse_prop_name(alloc, text),
+    match PropName::from_bytes(alloc, bytes) {
+        Ok(name) => Ok(name),
+        Err(PathFault::Memory) => Err(LineFault::Memory),
         Err(_) => Err(LineFault::Bad),
     }
 }
@@ -234,7 +224,7 @@ pub(crate) fn read_prop_name(alloc: Global, word: &[u8]) -> Result<PropName, Lin
     ensures { Gives (λ n. n) result (prop_name_of word.now) }
 {
     match plain_bytes(word) {
-        Some(bytes) => parse_prop_name_bytes(alloc, bytes),
-        None => parse_prop_name_bytes(alloc, &unescape(alloc, word)?),
+        Some(bytes) => parse_prop_name(alloc, bytes),
+        None => parse_prop_name(alloc, &unescape(alloc, word)?),
     }
 }

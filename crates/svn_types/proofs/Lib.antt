@@ -2,6 +2,8 @@
 pub mod Splits
 -- names: tests on them, their order, and what is found under them
 pub mod NameLemmas
+-- names of properties, which are ASCII
+pub mod PropNames
 -- names put one by one into a set
 pub mod NameSets
 -- two lists of properties, of which the first name of either is taken

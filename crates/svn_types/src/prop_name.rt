@@ -13,8 +13,8 @@ use crate::small_text::SmallText;
 use std::alloc::{AllocError, Global};
 use std::cmp::Ordering;
 use std::convert::AsStr;
-use std::fmt;
 use std::marker::Model;
+use std::{fmt, str};
 
 /// The name of a property: 1 to 255 ASCII characters, the first a letter, `:` or `_`, the rest letters, digits, `:`, `_`, `-` and `.`
 /// (`svn_prop_name_is_valid` of `svn_props.h`, which has no limit of length).
@@ -62,14 +62,14 @@ fn is_prop_name(bytes: &[u8]) -> bool
     }
 }
 
-fn fault_of_prop_name(text: &str) -> Option<PathFault>
-    ensures { result ≡ prop_name_fault text.now }
+fn fault_of_prop_name(bytes: &[u8]) -> Option<PathFault>
+    ensures { result ≡ prop_name_fault bytes.now }
 {
-    if text.len() == 0 {
+    if bytes.is_empty() {
         Some(PathFault::EmptyComponent)
-    } else if text.len() > MAX_NAME_LEN {
+    } else if bytes.len() > MAX_NAME_LEN {
         Some(PathFault::NameTooLong)
-    } else if is_prop_name(text.as_bytes()) {
+    } else if is_prop_name(bytes) {
         None
     } else {
         Some(PathFault::BadCharacter)
@@ -81,16 +81,24 @@ impl PropName {
     pub fn parse(alloc: Global, text: &str) -> Result<PropName, PathFault>
         ensures { AnswersPath (prop_name_fault text.now) text.now result }
     {
-        match fault_of_prop_name(text) {
+        PropName::from_bytes(alloc, text.as_bytes())
+    }
+
+    /// The same of bytes, which are no name where they are no text, since a name is ASCII.
+    pub fn from_bytes(alloc: Global, bytes: &[u8]) -> Result<PropName, PathFault>
+        ensures { AnswersPath (prop_name_fault bytes.now) bytes.now result }
+    {
+        match fault_of_prop_name(bytes) {
             Some(fault) => Err(fault),
-            None => Ok(PropName::from_checked(alloc, text)?),
+            None => Ok(PropName::from_checked(alloc, bytes)?),
         }
     }
 
-    fn from_checked(alloc: Global, text: &str) -> Result<PropName, AllocError>
-        requires { prop_name_fault text.now ≡ None }
-        ensures { IfOk result (λ n. n ≡ text.now) }
+    fn from_checked(alloc: Global, bytes: &[u8]) -> Result<PropName, AllocError>
+        requires { prop_name_fault bytes.now ≡ None }
+        ensures { IfOk result (λ n. n ≡ bytes.now) }
     {
+        let text = unsafe { str::from_utf8_unchecked(bytes) };
         Ok(PropName {
             text: SmallText::from_str(alloc, text)?,
         })

@@ -38,6 +38,28 @@ fn names_of_properties_are_parsed(rt: HostRuntime) {
     }
 }
 
+// The number for bytes, of which those of a name of a property are ASCII.
+fn prop_bytes_number(alloc: Global, bytes: &[u8]) -> u32 {
+    match PropName::from_bytes(alloc, bytes) {
+        Ok(_) => 0,
+        Err(fault) => fault.number(),
+    }
+}
+
+const BYTES: [(&[u8], u32); 4] = [
+    (b"svn:eol-style", 0),
+    (b"", 1),
+    (b"p\xff", 3),
+    (b"p\xc3\xa9", 3),
+];
+
+#[test]
+fn names_of_properties_are_read_from_bytes(rt: HostRuntime) {
+    for (bytes, number) in BYTES {
+        assert_eq!(rt; prop_bytes_number(rt.alloc(), bytes), number, "{bytes:?}");
+    }
+}
+
 #[test]
 fn paths_are_parsed(rt: HostRuntime) {
     for (text, number) in [
