@@ -1,5 +1,6 @@
 -- The heads of keys: how one is read byte by byte, and that keys with unlike heads are ordered as these are.
-use Rattle.std.proofs.Common.{◌≡◌, ◌≢◌, ℕ, zero, suc, ◌+◌, ◌-◌, ◌*◌, ◌^◌, ◌<◌, ◌≤◌, List, [], ◌∷◌, get_or, drop, refl, ap, sym, subst, ◌∙◌, arith}
+use Rattle.std.proofs.Common.{◌≡◌, ◌≢◌, ℕ, zero, suc, ◌+◌, ◌-◌, ◌*◌, ◌^◌, ◌<◌, ◌≤◌, refl, ap, sym, subst, ◌∙◌, arith}
+use Rattle.std.proofs.Common.{List, [], ◌∷◌, get_or, drop}
 use Rattle.std.specs.declared.cmp.Ordering.{Ordering}
 use Rattle.std.specs.declared.cmp.Ordering.TheVariants.{Less, Equal, Greater}
 use Rattle.std.specs.Ordering.{ordering_then, ordering_reverse, nat_cmp}
@@ -130,4 +131,5 @@ unlike_heads p q h k at_p at_q o is unlike =
     sym (heads_order 8 (path_key p) (path_key q) at_p.bytes at_q.bytes o heads unlike) ∙ key_order p q at_p.plain at_q.plain
 
 pub root_head : (p : Path) → p ≡ [] → IsHeadOf p 0
-root_head p root = subst (λ (q : Path). IsHeadOf q 0) (sym root) (record { head_is = sym (leading_nil 8); bytes = λ i. omega arith; plain = refl })
+root_head p root =
+    subst (λ (q : Path). IsHeadOf q 0) (sym root) (record { head_is = sym (leading_nil 8); bytes = λ i. omega arith; plain = refl })

@@ -1,5 +1,6 @@
 -- Bytes with zeros behind them: words of eight of them tell their order.
-use Rattle.std.proofs.Common.{◌≡◌, ◌≢◌, ℕ, zero, suc, ◌+◌, ◌-◌, ◌*◌, ◌^◌, ◌<◌, ◌≤◌, List, [], ◌∷◌, length, take, drop, get_or, refl, ap, sym, subst, ◌∙◌, arith}
+use Rattle.std.proofs.Common.{◌≡◌, ◌≢◌, ℕ, zero, suc, ◌+◌, ◌-◌, ◌*◌, ◌^◌, ◌<◌, ◌≤◌, refl, ap, sym, subst, ◌∙◌, arith}
+use Rattle.std.proofs.Common.{List, [], ◌∷◌, length, take, drop, get_or}
 use Rattle.std.specs.declared.cmp.Ordering.{Ordering}
 use Rattle.std.specs.declared.cmp.Ordering.TheVariants.{Less, Equal, Greater}
 use Rattle.std.specs.Ordering.{ordering_then, nat_cmp}
@@ -43,7 +44,8 @@ leading_same : (n : ℕ) (s t : List ℕ) → ((i : ℕ) → get_or s i 0 ≡ ge
 unfolding leading
 leading_same zero s t same = refl
 leading_same (suc n) s t same =
-    let rest : (i : ℕ) → get_or (drop 1 s) i 0 ≡ get_or (drop 1 t) i 0 = λ i. get_or-drop 1 s i 0 ∙ same (1 + i) ∙ sym (get_or-drop 1 t i 0) in
+    let rest : (i : ℕ) → get_or (drop 1 s) i 0 ≡ get_or (drop 1 t) i 0 =
+    λ i. get_or-drop 1 s i 0 ∙ same (1 + i) ∙ sym (get_or-drop 1 t i 0) in
     (λ k. same 0 k * 256 ^ n + leading_same n (drop 1 s) (drop 1 t) rest k)
 
 spread : (b p q l m r : ℕ) → r ≡ p * q → b * r + (l * q + m) ≡ (b * p + l) * q + m
@@ -148,7 +150,8 @@ pub record InRoom (size len : ℕ) (room : List ℕ) : Type 0 where
   pub zeros : IsZeroFrom len room
   pub small : IsByteList room
 
-pub in_room : (size len : ℕ) (room : List ℕ) → (len ≤ size) × (length room ≡ size) × IsZeroFrom len room → IsByteList room → InRoom size len room
+pub in_room : (size len : ℕ) (room : List ℕ) → (len ≤ size) × (length room ≡ size) × IsZeroFrom len room → IsByteList room
+    → InRoom size len room
 in_room size len room holds small = record { fits = holds.0; whole = holds.1; zeros = holds.2; small = small }
 
 shown_bytes : (size n : ℕ) (room : List ℕ) → InRoom size n room → IsByteList (take n room)
@@ -183,7 +186,8 @@ same_behind : (b c p l m : ℕ) → b ≡ c → nat_cmp l m ≡ nat_cmp (b * p +
 same_behind b c p l m e = grind (arith, ap (λ d. d * p) e)
 
 -- behind the same first words two last ones tell the order
-pub last_words : (size m n : ℕ) (one two : List ℕ) → 8 ≤ size → size ≤ 16 → InRoom size m one → InRoom size n two → leading 8 one ≡ leading 8 two
+pub last_words : (size m n : ℕ) (one two : List ℕ) → 8 ≤ size → size ≤ 16 → InRoom size m one → InRoom size n two
+    → leading 8 one ≡ leading 8 two
     → (o : Ordering) → o ≡ nat_cmp (leading 8 (drop (size - 8) one)) (leading 8 (drop (size - 8) two)) → o ≢ Equal
     → o ≡ slice_cmp nat_cmp (take m one) (take n two)
 last_words size m n one two least most r s same o is unlike =
@@ -197,7 +201,8 @@ last_words size m n one two least most r s same o is unlike =
     (is ∙ (λ i. nat_cmp (word_shown size m k one r i) (word_shown size n k two s i)) ∙ whole) unlike)
 
 -- and behind the same words the lengths
-pub last_lengths : (size m n : ℕ) (one two : List ℕ) → 8 ≤ size → size ≤ 16 → InRoom size m one → InRoom size n two → leading 8 one ≡ leading 8 two
+pub last_lengths : (size m n : ℕ) (one two : List ℕ) → 8 ≤ size → size ≤ 16 → InRoom size m one → InRoom size n two
+    → leading 8 one ≡ leading 8 two
     → leading 8 (drop (size - 8) one) ≡ leading 8 (drop (size - 8) two) → nat_cmp m n ≡ slice_cmp nat_cmp (take m one) (take n two)
 last_lengths size m n one two least most r s same last =
     let k : ℕ = size - 8 in
