@@ -103,9 +103,9 @@ def texts(files=7, size=1 << 20):
     yield "show", "copy", 5, ["show"] * 5
 
 
-def middling_texts():
+def middling_texts(files=900):
     """Nine hundred texts of 8,000 bytes, all changed."""
-    yield from texts(900, 8_000)
+    yield from texts(files, 8_000)
 
 
 def properties(files=2_000, count=40):
@@ -179,6 +179,25 @@ def reading(lines=50_000):
     """A hundred thousand lines that are read, and never committed."""
     yield "read", None, 1, [line for i in range(lines) for line in (f"mkdir d{i}", f"put d{i}/f text%20{i}")]
 
+
+# the sizes at which instructions are counted, which takes fifty times as long
+SMALLER = {
+    "one_directory": {"files": 5_000},
+    "bushy": {"files": 10_000},
+    "deep": {"files": 300},
+    "directories": {"count": 2_000},
+    "replaced": {"files": 4_000},
+    "texts": {"files": 3},
+    "middling_texts": {"files": 100},
+    "properties": {"files": 200},
+    "one_list": {"count": 8_000},
+    "come_and_go": {"files": 5_000},
+    "many_revisions": {"files": 2_000, "commits": 200, "places": 500},
+    "small_updates": {"times": 1_000},
+    "small_commits": {"files": 10_000, "commits": 2_000},
+    "whole_copy": {"files": 5_000, "changed": 10},
+    "reading": {"lines": 5_000},
+}
 
 WORKLOADS = {f.__name__: f for f in (one_directory, bushy, deep, directories, replaced, texts, middling_texts, properties, one_list,
                                      come_and_go, many_revisions, small_updates, small_commits, whole_copy, reading)}
