@@ -7,8 +7,8 @@ use Rattle.std.proofs.lemmas.Option.{none-some, same_Some}
 use Rattle.std.specs.HashMap as hash
 use Rattle.std.specs.HashMap.{get, Updates}
 use Rattle.std.specs.Map.{lookup}
-use Rattle.svn_pool.specs.Linked.{Changes, IsInverse, IsKin, IsLeaf, IsLinked, IsUnique, LinkedMap, LivePools, bare, bare_entry}
-use Rattle.svn_pool.specs.Linked.{first_of, holder, live_at, next_of}
+use Rattle.svn_pool.specs.Linked.{Changes, IsBeside, IsInverse, IsKin, IsLeaf, IsLinked, IsUnique, LinkedMap, LivePools, bare}
+use Rattle.svn_pool.specs.Linked.{bare_entry, first_of, holder, live_at, next_of}
 use Rattle.svn_pool.specs.Linked.{parent_in, place_by, place_in, place_of, standing}
 use Rattle.svn_pool.specs.Pools.{Entry, parent_of}
 use Rattle.svn_pool.specs.declared.links.Linked.{Linked}
@@ -216,6 +216,18 @@ led_again m l k n p y z led same again =
       pools = again.pools ∙ ap (λ (es : List (ℕ × Linked Entry)). map bare_entry es) same ∙ led.pools;
     }
 
+-- what follows a pool is beside it, and so is the pool whose link its place is
+pub next_beside : (m : LinkedMap) → IsLinked m → (s c : ℕ) → standing m (Next s) ≡ Some c → IsBeside (bare m) s c
+next_beside m linked s c e =
+    let its = linked.kin.next c s (linked.inverse.there (Next s) c e) in
+    inr (λ is. let lt = its.2 in omega (arith, is, lt), subst IsSome (sym its.1) its.0, sym its.1)
+
+pub holder_beside : (m : LinkedMap) → IsLinked m → (s : ℕ) (x : Place) → place_of m s ≡ Some x → IsBeside (bare m) s (holder x)
+holder_beside m linked s (First p) e = inl (linked.kin.first s p e)
+holder_beside m linked s (Next q) e =
+    let its = linked.kin.next s q e in
+    inr (λ is. let lt = its.2 in omega (arith, is, lt), its.0, its.1)
+
 -- the pool s is gone
 module _ (old mid : LinkedMap) (linked : IsLinked old) (s : ℕ) (leaf : IsLeaf (bare old) s) (l : Linked Entry)
     (found : get nat_eq old s ≡ Some l) (gone : Updates nat_eq old mid s None) (unique : hash.IsUnique nat_eq mid) where
@@ -309,12 +321,8 @@ module _ (old mid : LinkedMap) (linked : IsLinked old) (s : ℕ) (leaf : IsLeaf 
           let its = linked.kin.next c s (linked.inverse.there (Next s) c e) in
           absurd (none_is_gone (parent_in old c) (sym its.1 ∙ parent) its.0)
 
-  -- it stood at x, where the next stands now
-  module _ (closed new : LinkedMap) (x : Place) (at : place_by l.pool.parent l.before ≡ Some x) (put : IsStood mid closed x l.next)
-      (moved : IsMoved closed new l.next x) where
-    bare_same : bare new ≡ bare mid
-    bare_same = moved.pools ∙ put.pools
-
+  -- it stood at x
+  module _ (x : Place) (at : place_by l.pool.parent l.before ≡ Some x) where
     s_at : place_of old s ≡ Some x
     s_at = ap place_in found ∙ at
 
@@ -330,39 +338,47 @@ module _ (old mid : LinkedMap) (linked : IsLinked old) (s : ℕ) (leaf : IsLeaf 
     other_holder : holder x ≢ s
     other_holder is = elim (held_by x s is) [ inl first ↦ not_first first | inr next ↦ apart (sym next) ]
 
-    now : standing new x ≡ l.next
-    now = moved.standing x ∙ put.here (ap is_some (away (holder x) other_holder) ∙ holder_live old x s was)
+    pub holder_stays : IsSome (get nat_eq mid (holder x))
+    holder_stays = ap is_some (away (holder x) other_holder) ∙ holder_live old x s was
 
-    places_away : (c : ℕ) → c ≢ s → l.next ≢ Some c → place_of new c ≡ place_of old c
-    places_away c not_s not_next = moved.others c not_next ∙ put.places c ∙ ap place_in (away c not_s)
+    -- the next stands there now
+    module _ (closed new : LinkedMap) (put : IsStood mid closed x l.next) (moved : IsMoved closed new l.next x) where
+      bare_same : bare new ≡ bare mid
+      bare_same = moved.pools ∙ put.pools
 
-    next_moved : (c : ℕ) → l.next ≡ Some c → place_of new c ≡ Some x
-    next_moved c is =
-        let not_s : c ≢ s = λ same. not_next (is ∙ ap Some same) in
-        let follows : place_of old c ≡ Some (Next s) = linked.inverse.there (Next s) c (ap next_of found ∙ is) in
-        let live : IsSome (get nat_eq old c) = placed_live (get nat_eq old c) (Next s) follows in
-        moved.moved c is (live_after mid closed put.pools c (ap is_some (away c not_s) ∙ live))
-        (λ p first. ap (λ (ps : LivePools). parent_of (live_at ps c)) put.pools ∙ ap parent_of (change.1 c not_s)
-        ∙ sym (linked.kin.next c s follows).1 ∙ linked.kin.first s p (s_at ∙ ap Some first))
+      now : standing new x ≡ l.next
+      now = moved.standing x ∙ put.here holder_stays
 
-    none_there : place_of new s ≡ None
-    none_there = moved.others s not_next ∙ put.places s ∙ ap place_in at_s
+      places_away : (c : ℕ) → c ≢ s → l.next ≢ Some c → place_of new c ≡ place_of old c
+      places_away c not_s not_next = moved.others c not_next ∙ put.places c ∙ ap place_in (away c not_s)
 
-    free : standing new (Next s) ≡ None
-    free = moved.standing (Next s) ∙ put.others (Next s) apart ∙ ap next_of at_s
+      next_moved : (c : ℕ) → l.next ≡ Some c → place_of new c ≡ Some x
+      next_moved c is =
+          let not_s : c ≢ s = λ same. not_next (is ∙ ap Some same) in
+          let follows : place_of old c ≡ Some (Next s) = linked.inverse.there (Next s) c (ap next_of found ∙ is) in
+          let live : IsSome (get nat_eq old c) = placed_live (get nat_eq old c) (Next s) follows in
+          moved.moved c is (live_after mid closed put.pools c (ap is_some (away c not_s) ∙ live))
+          (λ p first. ap (λ (ps : LivePools). parent_of (live_at ps c)) put.pools ∙ ap parent_of (change.1 c not_s)
+          ∙ sym (linked.kin.next c s follows).1 ∙ linked.kin.first s p (s_at ∙ ap Some first))
 
-    standing_away : (y : Place) → y ≢ x → y ≢ Next s → standing new y ≡ standing old y
-    standing_away y not_x not_n = moved.standing y ∙ put.others y not_x ∙ same_standing y not_n
+      none_there : place_of new s ≡ None
+      none_there = moved.others s not_next ∙ put.places s ∙ ap place_in at_s
 
-    pub linked-remove : IsLinked new
-    linked-remove =
-        keeps_linked new bare_same
-        (inverse_without (standing old) (standing new) (place_of old) (place_of new) linked.inverse x s l.next apart standing_away
-        places_away was (ap next_of found) now free none_there next_moved)
-        (kin_without (standing old) (standing new) (place_of old) (place_of new) linked.inverse x s l.next apart standing_away
-        places_away was (ap next_of found) now free none_there next_moved (parent_in old) (parent_in new) linked.kin
-        (ap (λ (ps : LivePools). parent_of (live_at ps s)) bare_same ∙ ap parent_of change.0)
-        (λ c other. ap (λ (ps : LivePools). parent_of (live_at ps c)) bare_same ∙ ap parent_of (change.1 c other)))
+      free : standing new (Next s) ≡ None
+      free = moved.standing (Next s) ∙ put.others (Next s) apart ∙ ap next_of at_s
+
+      standing_away : (y : Place) → y ≢ x → y ≢ Next s → standing new y ≡ standing old y
+      standing_away y not_x not_n = moved.standing y ∙ put.others y not_x ∙ same_standing y not_n
+
+      pub linked-remove : IsLinked new
+      linked-remove =
+          keeps_linked new bare_same
+          (inverse_without (standing old) (standing new) (place_of old) (place_of new) linked.inverse x s l.next apart standing_away
+          places_away was (ap next_of found) now free none_there next_moved)
+          (kin_without (standing old) (standing new) (place_of old) (place_of new) linked.inverse x s l.next apart standing_away
+          places_away was (ap next_of found) now free none_there next_moved (parent_in old) (parent_in new) linked.kin
+          (ap (λ (ps : LivePools). parent_of (live_at ps s)) bare_same ∙ ap parent_of change.0)
+          (λ c other. ap (λ (ps : LivePools). parent_of (live_at ps c)) bare_same ∙ ap parent_of (change.1 c other)))
 
 -- the pool s is p's first child, and the newest pool
 module _ (old led mid : LinkedMap) (linked : IsLinked old) (s p : ℕ) (l : Linked Entry) (live : IsSome (get nat_eq old p))

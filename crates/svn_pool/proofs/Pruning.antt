@@ -1,11 +1,12 @@
 -- The removal of the pools beneath one, step by step.
-use Rattle.std.proofs.Common.{◌≡◌, ◌≢◌, ◌⊎◌, ℕ, zero, suc, ◌+◌, ◌<◌, None, Some, IsSome, refl, sym, ap, subst, ◌∙◌}
+use Rattle.std.proofs.Common.{nat_eq, ◌≡◌, ◌≢◌, ◌⊎◌, ℕ, zero, suc, ◌+◌, ◌<◌, Option, None, Some, IsSome, refl, sym, ap, subst, ◌∙◌}
 use Rattle.std.proofs.Common.{inl, inr, arith}
 use Rattle.std.proofs.lemmas.Bool.{cases_eq}
 use Rattle.std.proofs.lemmas.Option.{same_Some}
+use Rattle.std.specs.HashMap.{get}
 use Rattle.svn_pool.specs.Ancestry.{IsAbove, IsBeneath}
-use Rattle.svn_pool.specs.Linked.{Changes, IsLinked, IsLeaf, IsPruned, LinkedMap, LivePools, bare, blocks_held, fixed_held}
-use Rattle.svn_pool.specs.Linked.{live_at, parent_in, place_of, standing}
+use Rattle.svn_pool.specs.Linked.{Changes, IsBeside, IsLinked, IsLeaf, IsPruned, LinkedMap, LivePools, bare, blocks_held}
+use Rattle.svn_pool.specs.Linked.{first_of, fixed_held, live_at, parent_in, place_of, standing}
 use Rattle.svn_pool.specs.Pools.{parent_of}
 use Rattle.svn_pool.specs.Stores.{Store}
 use Rattle.svn_pool.proofs.Kinship.{live_child, none_is_gone}
@@ -19,11 +20,16 @@ pub record IsOnWay (old now : LivePools) (top at : ℕ) : Type 0 where
   pub place : (at ≡ top) ⊎ IsBeneath (live_at old) top at
 
 -- what the loop keeps
-pub record IsPruning (old now : LinkedMap) (before after : Store) (top at : ℕ) : Type 0 where
+pub record IsPruning (old now : LinkedMap) (before after : Store) (top at : ℕ) (child : Option ℕ) : Type 0 where
   pub way : IsOnWay (bare old) (bare now) top at
+  pub first : child ≡ first_of (get nat_eq now at)
   pub linked : IsLinked now
   pub counted : after.used ≡ blocks_held (bare now)
   pub fixed : after.spare + fixed_held (bare now) ≡ before.spare + fixed_held (bare old)
+
+some_value : (o : Option ℕ) → IsSome o → (p : ℕ) × (o ≡ Some p)
+some_value None h = absurd (let no : ⊥ = cc in no)
+some_value (Some p) h = (p, refl)
 
 module _ (old : LivePools) (top : ℕ) where
   pub way_starts : IsSome (live_at old top) → IsOnWay old old top top
@@ -65,11 +71,18 @@ module _ (old : LivePools) (top : ℕ) where
     up_to p e zero above = inl (same_Some p top (sym e ∙ above))
     up_to p e (suc n) above = inr (n, subst (λ (k : ℕ). IsAbove (live_at old) top n k) (same_Some above.0 p (sym above.1 ∙ e)) above.2)
 
-    pub way_up : (new : LivePools) (p : ℕ) → IsSome (live_at now p) × (p < at) → at ≢ top → Changes now new at None
-        → parent_of (live_at now at) ≡ Some p → IsOnWay old new top p
-    way_up new p parent apart gone e =
+    -- another child of the same parent lies as deep
+    aside : (c p : ℕ) → parent_of (live_at old c) ≡ Some p → parent_of (live_at old at) ≡ Some p → (n : ℕ)
+        → IsAbove (live_at old) top n at → IsAbove (live_at old) top n c
+    aside c p e is zero above = e ∙ sym is ∙ above
+    aside c p e is (suc n) above = (above.0, e ∙ sym is ∙ above.1, above.2)
+
+    -- at is removed, and the walk goes on beside it
+    pub way_on : (new : LivePools) (b : ℕ) → ((p : ℕ) → parent_of (live_at now at) ≡ Some p → IsSome (live_at now p) × (p < at))
+        → at ≢ top → Changes now new at None → IsBeside now at b → IsOnWay old new top b
+    way_on new b older apart gone beside =
         let beneath : IsBeneath (live_at old) top at = elim way.place [ inl is ↦ absurd (apart is) | inr b ↦ b ] in
-        let not_at : p ≢ at = λ is. let lt : p < at = parent.1 in omega (arith, is, lt) in
+        let near = by beneath beside in
         record {
           either = λ q. elim (cases_eq q at) [
             | inl is ↦
@@ -79,9 +92,22 @@ module _ (old : LivePools) (top : ℕ) where
               | inr was ↦ inr (gone.1 q other ∙ was.0, was.1)
             ]
           ];
-          here = subst IsSome (sym (gone.1 p not_at)) parent.0;
-          place = up_to p (unchanged at p e) beneath.0 beneath.1;
+          here = subst IsSome (sym (gone.1 b near.0)) near.1;
+          place = near.2;
         }
+      where
+        by : IsBeneath (live_at old) top at → IsBeside now at b
+            → (b ≢ at) × IsSome (live_at now b) × ((b ≡ top) ⊎ IsBeneath (live_at old) top b)
+        by beneath (inl parent) =
+            let above = older b parent in
+            (λ is. let lt = above.1 in omega (arith, is, lt), above.0, up_to b (unchanged at b parent) beneath.0 beneath.1)
+        by beneath (inr sibling) =
+            let p = some_value (parent_of (live_at now at)) sibling.1 in
+            let child = sibling.2 ∙ p.1 in (
+              sibling.0,
+              live_child (live_at now b) p.0 child,
+              inr (beneath.0, aside b p.0 (unchanged b p.0 child) (unchanged at p.0 p.1) beneath.0 beneath.1),
+            )
 
   module _ (now : LinkedMap) (linked : IsLinked now) (way : IsOnWay old (bare now) top top)
       (leaf : IsLeaf (bare now) top) where

@@ -1,5 +1,5 @@
 -- How the tree holds its pools: by their serials, each with links to its first child and to the siblings beside it.
-use Rattle.std.specs.Prelude.{nat_eq, ◌≡◌, ◌≢◌, ℕ, ◌<◌, ◌≤◌, List, map, Option, None, Some, IsSome, IsSomeAnd, option_map}
+use Rattle.std.specs.Prelude.{nat_eq, ◌≡◌, ◌≢◌, ◌⊎◌, ℕ, ◌<◌, ◌≤◌, List, map, Option, None, Some, IsSome, IsSomeAnd, option_map}
 use Rattle.std.specs.HashMap.{HashMap, get}
 use Rattle.std.specs.List.{sum_by, IsDistinct}
 use Rattle.std.specs.Map.{keys_of, lookup, values_of}
@@ -99,6 +99,12 @@ pub record IsLinked (pools : LinkedMap) : Type 0 where
 -- no live pool has the parent s
 abbrev pub IsLeaf : LivePools → ℕ → Type 0
 IsLeaf pools s = (c : ℕ) → parent_of (live_at pools c) ≢ Some s
+
+-- b is the parent of the pool s, or another child of that parent
+abbrev pub IsBeside : LivePools → ℕ → ℕ → Type 0
+IsBeside pools s b =
+    let parent = parent_of (live_at pools s) in
+    (parent ≡ Some b) ⊎ ((b ≢ s) × IsSome parent × (parent_of (live_at pools b) ≡ parent))
 
 abbrev pub blocks_held : LivePools → ℕ
 blocks_held pools = sum_by blocks_of (values_of pools)

@@ -1,8 +1,8 @@
 // The live pools by their serials, linked: each knows its first child and the siblings beside it.
-ghost use Rattle.std.specs.Prelude.{nat_eq, ◌≡◌, ◌≢◌, ℕ, ◌+◌, ◌<◌, [], length, Some, None, is_some, option_copied, IsSome, IfSome, OnOk, OnErr};
+ghost use Rattle.std.specs.Prelude.{nat_eq, ◌≡◌, ◌≢◌, ℕ, ◌+◌, ◌<◌, [], length, Some, None, is_some, option_copied, IsSome, IfSome, IfNone, OnOk, OnErr};
 ghost use Rattle.std.specs.HashMap.{get};
 ghost use Rattle.svn_pool.specs.Faults.{Answers};
-ghost use Rattle.svn_pool.specs.Linked.{Changes, IsLeaf, IsLinked, bare, blocks_held, fixed_held, first_of, holder, live_at, next_of, parent_in, place_by, place_in, place_of, sibling_before, standing};
+ghost use Rattle.svn_pool.specs.Linked.{Changes, IsBeside, IsLeaf, IsLinked, bare, blocks_held, fixed_held, first_of, holder, live_at, next_of, parent_in, place_by, place_in, place_of, sibling_before, standing};
 ghost use Rattle.svn_pool.specs.Pools.{parent_of};
 ghost use Rattle.svn_pool.specs.Refusals.{fault_if_live};
 
@@ -21,6 +21,13 @@ pub(crate) enum Place {
     First(u64),
     // The sibling that follows a pool.
     Next(u64),
+}
+
+// A live pool, and its first child.
+#[derive(Clone, Copy)]
+pub(crate) struct Beside {
+    pub(crate) serial: u64,
+    pub(crate) first: Option<u64>,
 }
 
 // A pool with its links. Its children are the first, the one that follows that, and so on, from the newest to the oldest.
@@ -95,16 +102,20 @@ fn set_first<A: Allocator + Copy>(
     Some(replace(&mut linked.first, first))
 }
 
-fn set_next<A: Allocator + Copy>(pools: &mut Live<A>, serial: u64, next: Option<u64>)
+// Sets the sibling that follows a pool, and tells the pool's first child.
+fn set_next<A: Allocator + Copy>(pools: &mut Live<A>, serial: u64, next: Option<u64>) -> Option<u64>
+    ensures child { result ≡ first_of (get nat_eq pools.old serial) }
     ensures next { IsSome (get nat_eq pools.old serial) → next_of (get nat_eq pools.new serial) ≡ next }
     ensures first { first_of (get nat_eq pools.new serial) ≡ first_of (get nat_eq pools.old serial) }
     ensures place { place_in (get nat_eq pools.new serial) ≡ place_in (get nat_eq pools.old serial) }
     ensures others { (q : ℕ) → q ≢ serial → get nat_eq pools.new q ≡ get nat_eq pools.old q }
     ensures pools { bare pools.new ≡ bare pools.old }
 {
-    if let Some(linked) = pools.get_mut(&serial) {
-        linked.next = next;
-    }
+    let Some(linked) = pools.get_mut(&serial) else {
+        return None;
+    };
+    linked.next = next;
+    linked.first
 }
 
 // Where a pool stands. The root, which has no parent, stands nowhere.
@@ -129,8 +140,10 @@ fn sibling_before(place: Place) -> Option<u64>
     }
 }
 
-// Sets what stands at a place.
-fn set_standing<A: Allocator + Copy>(pools: &mut Live<A>, place: Place, pool: Option<u64>)
+// Sets what stands at a place, and tells the pool whose link the place is, with its first child.
+fn set_standing<A: Allocator + Copy>(pools: &mut Live<A>, place: Place, pool: Option<u64>) -> Beside
+    ensures holder { result.serial ≡ holder place }
+    ensures first { IsSome (get nat_eq pools.old (holder place)) → result.first ≡ first_of (get nat_eq pools.new (holder place)) }
     ensures here { IsSome (get nat_eq pools.old (holder place)) → standing pools.new place ≡ pool }
     ensures standing { (x : Place) → x ≢ place → standing pools.new x ≡ standing pools.old x }
     ensures places { (c : ℕ) → place_of pools.new c ≡ place_of pools.old c }
@@ -139,13 +152,25 @@ fn set_standing<A: Allocator + Copy>(pools: &mut Live<A>, place: Place, pool: Op
     match place {
         Place::First(parent) => {
             set_first(pools, parent, pool);
+            Beside {
+                serial: parent,
+                first: pool,
+            }
         }
-        Place::Next(before) => set_next(pools, before, pool),
+        Place::Next(before) => Beside {
+            serial: before,
+            first: set_next(pools, before, pool),
+        },
     }
 }
 
-// Sets where a pool stands, if there is one: as the first child of its parent, or behind a sibling.
-fn move_to<A: Allocator + Copy>(pools: &mut Live<A>, pool: Option<u64>, place: Place)
+// Sets where a pool stands, if there is one: as the first child of its parent, or behind a sibling. It tells that pool.
+fn move_to<A: Allocator + Copy>(
+    pools: &mut Live<A>,
+    pool: Option<u64>,
+    place: Place,
+) -> Option<Beside>
+    ensures told { IfSome result (λ b. (pool ≡ Some b.serial) × (b.first ≡ first_of (get nat_eq pools.new b.serial))) }
     ensures moved { (c : ℕ) → pool ≡ Some c → IsSome (get nat_eq pools.old c) → ((p : ℕ) → place ≡ Place.First p → parent_in pools.old c ≡ Some p)
         → place_of pools.new c ≡ Some place }
     ensures others { (c : ℕ) → pool ≢ Some c → place_of pools.new c ≡ place_of pools.old c }
@@ -153,11 +178,16 @@ fn move_to<A: Allocator + Copy>(pools: &mut Live<A>, pool: Option<u64>, place: P
     ensures pools { bare pools.new ≡ bare pools.old }
 {
     let Some(serial) = pool else {
-        return;
+        return None;
     };
-    if let Some(linked) = pools.get_mut(&serial) {
-        linked.before = sibling_before(place);
-    }
+    let Some(linked) = pools.get_mut(&serial) else {
+        return None;
+    };
+    linked.before = sibling_before(place);
+    Some(Beside {
+        serial,
+        first: linked.first,
+    })
 }
 
 // Adds a child of a pool, before its other children. Its serial is greater than all others. The errors are `Gone` and `Memory`.
@@ -192,16 +222,19 @@ pub(crate) fn add_child<A: Allocator + Copy>(
     Ok(())
 }
 
-// Removes a pool without children, and tells its parent. Its fixed blocks become spare.
+// Removes a pool without children. Its fixed blocks become spare. It tells the pool that took its place, or else the one whose link
+// that place is: its parent or a sibling.
 pub(crate) fn remove_leaf<A: Allocator + Copy>(
     pools: &mut Live<A>,
     stock: &mut Stock<A>,
     serial: u64,
-) -> Option<u64>
+) -> Option<Beside>
     requires linked { IsLinked pools.old }
     requires leaf { IsLeaf (bare pools.old) serial }
     requires counted { stock.old.used ≡ blocks_held (bare pools.old) }
-    ensures parent { result ≡ parent_of (live_at (bare pools.old) serial) }
+    ensures root { IfNone result (parent_of (live_at (bare pools.old) serial) ≡ None) }
+    ensures beside { IfSome result (λ b. IsBeside (bare pools.old) serial b.serial) }
+    ensures first { IfSome result (λ b. b.first ≡ first_of (get nat_eq pools.new b.serial)) }
     ensures linked { IsLinked pools.new }
     ensures counted { stock.new.used ≡ blocks_held (bare pools.new) }
     ensures fixed { stock.new.spare + fixed_held (bare pools.new) ≡ stock.old.spare + fixed_held (bare pools.old) }
@@ -212,11 +245,10 @@ pub(crate) fn remove_leaf<A: Allocator + Copy>(
         return None;
     };
     linked.pool.clear(stock);
-    let parent = linked.pool.parent();
-    let Some(place) = place_by(parent, linked.before) else {
-        return parent;
+    let Some(place) = place_by(linked.pool.parent(), linked.before) else {
+        return None;
     };
-    set_standing(pools, place, linked.next);
-    move_to(pools, linked.next, place);
-    parent
+    let holder = set_standing(pools, place, linked.next);
+    let taken = move_to(pools, linked.next, place);
+    Some(taken.unwrap_or(holder))
 }

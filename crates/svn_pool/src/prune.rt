@@ -8,8 +8,8 @@ use crate::stock::Stock;
 use std::alloc::Allocator;
 
 // Removes the pools beneath `top`, of which `first` is its first child. It goes down to a pool without children, removes it and
-// goes on at that pool's parent, so each step goes down once or removes one: the steps are at most twice the pools that go, and
-// none takes memory.
+// goes on beside it: at its next sibling, or at its parent where none is left. So each step goes down once or removes one: the
+// steps are at most twice the pools that go, and none takes memory.
 pub(crate) fn prune<A: Allocator + Copy>(
     pools: &mut Live<A>,
     stock: &mut Stock<A>,
@@ -25,20 +25,21 @@ pub(crate) fn prune<A: Allocator + Copy>(
     ensures counted { stock.new.used ≡ blocks_held (bare pools.new) }
     ensures fixed { stock.new.spare + fixed_held (bare pools.new) ≡ stock.old.spare + fixed_held (bare pools.old) }
 {
-    let Some(mut at) = first else {
-        return;
-    };
+    let mut at = top;
+    let mut first = first;
     'walk: loop {
-        if let Some(child) = first_child(pools, at) {
+        if let Some(child) = first {
             at = child;
+            first = first_child(pools, at);
             continue 'walk;
         }
         if at == top {
             return;
         }
-        let Some(parent) = remove_leaf(pools, stock, at) else {
+        let Some(beside) = remove_leaf(pools, stock, at) else {
             return;
         };
-        at = parent;
+        at = beside.serial;
+        first = beside.first;
     }
 }

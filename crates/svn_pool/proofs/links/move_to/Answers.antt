@@ -21,8 +21,8 @@ moved_to m n s l w x found now pool before c is parent =
     λ p e. ap (λ (e : Entry). e.parent) pool ∙ sym (ap parent_of (live-bare m s ∙ ap pool_in found)) ∙ ap (parent_in m) is ∙ parent p e in
     ap (place_of n) (sym is) ∙ ap place_in now ∙ ap (place_by w.pool.parent) before ∙ seated x w.pool.parent mine
 
-pub returns-in-Some-get_mut-clause-moved : goal.returns-in-Some-get_mut-clause-moved
-returns-in-Some-get_mut-clause-moved g c = λ k is _ parent.
+pub returns-clause-moved : goal.returns-clause-moved
+returns-clause-moved g c = λ k is _ parent.
     let l = c.in-Some-get_mut.linked.now in
     let w : Linked Entry = record { pool = l.pool; first = l.first; next = l.next; before = c.sibling_before-linked.result } in
     let found : get nat_eq c.args.pools.now c.in-Some.serial ≡ Some l = sym c.in-Some-get_mut.ensures.value in
@@ -30,8 +30,8 @@ returns-in-Some-get_mut-clause-moved g c = λ k is _ parent.
     ((c.get_mut.follows.holds w).3 (ap is_some found)).1 refl c.sibling_before-linked.ensures k
     (same_Some c.in-Some.serial k (sym c.in-Some.is ∙ is)) parent
 
-pub returns-in-Some-get_mut-clause-pools : goal.returns-in-Some-get_mut-clause-pools
-returns-in-Some-get_mut-clause-pools g c =
+pub returns-clause-pools : goal.returns-clause-pools
+returns-clause-pools g c =
     let l = c.in-Some-get_mut.linked.now in
     let w : Linked Entry = record { pool = l.pool; first = l.first; next = l.next; before = c.sibling_before-linked.result } in
     relinked-bare c.args.pools.now (c.get_mut.follows.lender w) c.in-Some.serial l w (sym c.in-Some-get_mut.ensures.value) refl

@@ -1,14 +1,19 @@
-use Rattle.std.proofs.Common.{nat_eq, ◌≡◌, ◌+◌, ◌-◌, ◌≤◌, ℕ, List, Option, None, Some, sym, ap, subst, ◌∙◌, arith}
+use Rattle.std.proofs.Common.{nat_eq, ◌≡◌, ◌+◌, ◌-◌, ◌≤◌, ℕ, List, [], Option, None, Some, IfSome, sym, ap, subst, ◌∙◌, arith}
 use Rattle.std.specs.HashMap.{get}
 use Rattle.std.specs.List.Sorted.{IsPermutation}
 use Rattle.std.specs.Map.{lookup, remove_entry}
-use Rattle.svn_pool.specs.Linked.{Changes, LinkedMap, LivePools, bare, blocks_held, fixed_held, place_by}
-use Rattle.svn_pool.specs.Pools.{Entry, parent_of, blocks_of, fixed_of}
+use Rattle.std.specs.Option.{unwrap_or}
+use Rattle.svn_pool.specs.Linked.{Changes, IsBeside, LinkedMap, LivePools, bare, blocks_held, first_of, fixed_held, holder}
+use Rattle.svn_pool.specs.Linked.{next_of, place_by, place_in}
+use Rattle.svn_pool.specs.Pools.{Entry, blocks_of, fixed_of}
 use Rattle.svn_pool.specs.Stores.{Store, given_up}
+use Rattle.svn_pool.specs.declared.links.Beside.{Beside}
 use Rattle.svn_pool.specs.declared.links.Linked.{Linked}
+use Rattle.svn_pool.specs.declared.links.Place.{Place}
+use Rattle.svn_pool.specs.declared.links.Place.TheVariants.{First}
 use Rattle.svn_pool.proofs.Bare.{changes-bare, is_some-bare, live-bare, pool_in, removed-bare}
 use Rattle.svn_pool.proofs.Counts.{sum_without}
-use Rattle.svn_pool.proofs.Kinship.{linked-again, linked-remove, linked-unplaced, none_is_gone}
+use Rattle.svn_pool.proofs.Kinship.{holder_beside, holder_stays, linked-again, linked-remove, linked-unplaced, next_beside, none_is_gone}
 use Rattle.svn_pool.proofs.links.remove_leaf.Goals as goal
 
 module _ (old mid : LinkedMap) (s : ℕ) (l : Linked Entry) (found : get nat_eq old s ≡ Some l)
@@ -36,6 +41,18 @@ module _ (old mid : LinkedMap) (s : ℕ) (l : Linked Entry) (found : get nat_eq 
         let spare : after.spare ≡ before.spare + fixed_of l.pool = ap (λ (b : Store). b.spare) counts in
         omega (arith, fixed, spare)
 
+-- where the pool stood, as its links say, is where the walk finds it to stand, once its strings are given up
+place_found : (told before : Option ℕ) (w e : Entry) (x : Option Place) → told ≡ w.parent → w ≡ record { parent = e.parent; strings = [] }
+    → x ≡ place_by told before → place_by e.parent before ≡ x
+place_found told before w e x parent emptied is =
+    ap (λ (o : Option ℕ). place_by o before) (sym (parent ∙ ap (λ (f : Entry). f.parent) emptied)) ∙ sym is
+
+-- what holds of a pool that took a place, and of the one whose link the place is, holds of what is told
+told_of : (P Q : Beside → Type 0) (taken : Option Beside) (held : Beside) → IfSome taken Q → ((b : Beside) → Q b → P b) → P held
+    → P (unwrap_or taken held)
+told_of P Q None held its some none = none
+told_of P Q (Some b) held its some none = some b its
+
 pub returns-in_default-clause-linked : goal.returns-in_default-clause-linked
 returns-in_default-clause-linked g c =
     linked-again c.args.pools.now c.remove.new.self c.requires.linked
@@ -55,18 +72,11 @@ clear-requires g c =
     blocks_within c.args.pools.now c.remove.new.self c.args.serial c.in-Some.linked (sym c.in-Some.ensures.value) c.remove.ensures.entries
     c.args.stock.now c.requires.counted
 
-pub returns-in_default-place_by-clause-parent : goal.returns-in_default-place_by-clause-parent
-returns-in_default-place_by-clause-parent g c =
-    c.parent-parent.ensures ∙ ap (λ (e : Entry). e.parent) c.clear.ensures.emptied
-    ∙ sym (ap parent_of (live-bare c.args.pools.now c.args.serial ∙ ap pool_in (sym c.in-Some.ensures.value)))
-
 pub returns-in_default-place_by-clause-linked : goal.returns-in_default-place_by-clause-linked
 returns-in_default-place_by-clause-linked g c =
     linked-unplaced c.args.pools.now c.remove.new.self c.requires.linked c.args.serial c.requires.leaf c.in-Some.linked
     (sym c.in-Some.ensures.value) c.remove.ensures.updates c.remove.ensures.unique
-    (ap (λ (o : Option ℕ). place_by o c.in-Some.linked.before)
-    (sym (c.parent-parent.ensures ∙ ap (λ (e : Entry). e.parent) c.clear.ensures.emptied))
-    ∙ sym c.place_by.ensures ∙ c.in_default-place_by.is)
+    (place_found _ _ _ c.in-Some.linked.pool _ c.parent.ensures c.clear.ensures.emptied c.place_by.ensures ∙ c.in_default-place_by.is)
 
 pub returns-in_default-place_by-clause-counted : goal.returns-in_default-place_by-clause-counted
 returns-in_default-place_by-clause-counted g c =
@@ -82,21 +92,44 @@ pub returns-in_default-place_by-clause-gone : goal.returns-in_default-place_by-c
 returns-in_default-place_by-clause-gone g c =
     changes-bare c.args.pools.now c.remove.new.self c.args.serial None c.remove.ensures.updates
 
-pub returns-clause-parent : goal.returns-clause-parent
-returns-clause-parent g c =
-    c.parent-parent.ensures ∙ ap (λ (e : Entry). e.parent) c.clear.ensures.emptied
-    ∙ sym (ap parent_of (live-bare c.args.pools.now c.args.serial ∙ ap pool_in (sym c.in-Some.ensures.value)))
+pub returns-clause-beside : goal.returns-clause-beside
+returns-clause-beside g c =
+    let m = c.args.pools.now in
+    let linked = c.requires.linked in
+    let s = c.args.serial in
+    let found = sym c.in-Some.ensures.value in
+    let at =
+    place_found _ _ _ c.in-Some.linked.pool _ c.parent.ensures c.clear.ensures.emptied c.place_by.ensures ∙ c.in-Some-place_by.is in
+    subst (λ (b : Beside). IsBeside (bare m) s b.serial) (sym c.unwrap_or.ensures)
+    (told_of (λ b. IsBeside (bare m) s b.serial) _ c.move_to-taken.result c.set_standing-holder.result c.move_to-taken.ensures.told
+    (λ b told. next_beside m linked s b.serial (ap next_of found ∙ told.0))
+    (subst (IsBeside (bare m) s) (sym c.set_standing-holder.ensures.holder)
+    (holder_beside m linked s c.in-Some-place_by.place (ap place_in found ∙ at))))
+
+pub returns-clause-first : goal.returns-clause-first
+returns-clause-first g c =
+    let new = c.move_to-taken.new.pools in
+    let held = c.set_standing-holder in
+    let x = c.in-Some-place_by.place in
+    let at =
+    place_found _ _ _ c.in-Some.linked.pool _ c.parent.ensures c.clear.ensures.emptied c.place_by.ensures ∙ c.in-Some-place_by.is in
+    let stays =
+    holder_stays c.args.pools.now c.remove.new.self c.requires.linked c.args.serial c.requires.leaf c.in-Some.linked
+    (sym c.in-Some.ensures.value) c.remove.ensures.updates c.remove.ensures.unique x at in
+    subst (λ (b : Beside). b.first ≡ first_of (get nat_eq new b.serial)) (sym c.unwrap_or.ensures)
+    (told_of (λ b. b.first ≡ first_of (get nat_eq new b.serial)) _ c.move_to-taken.result held.result c.move_to-taken.ensures.told
+    (λ b told. told.1)
+    (held.ensures.first stays ∙ sym (c.move_to-taken.ensures.standing (First (holder x)))
+    ∙ ap (λ (k : ℕ). first_of (get nat_eq new k)) (sym held.ensures.holder)))
 
 pub returns-clause-linked : goal.returns-clause-linked
 returns-clause-linked g c =
-    let put = c.set_standing.ensures in
-    let moved = c.move_to.ensures in
+    let put = c.set_standing-holder.ensures in
+    let moved = c.move_to-taken.ensures in
     linked-remove c.args.pools.now c.remove.new.self c.requires.linked c.args.serial c.requires.leaf c.in-Some.linked
-    (sym c.in-Some.ensures.value) c.remove.ensures.updates c.remove.ensures.unique c.set_standing.new.pools c.move_to.new.pools
-    c.in-Some-place_by.place
-    (ap (λ (o : Option ℕ). place_by o c.in-Some.linked.before)
-    (sym (c.parent-parent.ensures ∙ ap (λ (e : Entry). e.parent) c.clear.ensures.emptied))
-    ∙ sym c.place_by.ensures ∙ c.in-Some-place_by.is)
+    (sym c.in-Some.ensures.value) c.remove.ensures.updates c.remove.ensures.unique c.in-Some-place_by.place
+    (place_found _ _ _ c.in-Some.linked.pool _ c.parent.ensures c.clear.ensures.emptied c.place_by.ensures ∙ c.in-Some-place_by.is)
+    c.set_standing-holder.new.pools c.move_to-taken.new.pools
     (record { here = put.here; others = put.standing; places = put.places; pools = put.pools })
     (record { moved = moved.moved; others = moved.others; standing = moved.standing; pools = moved.pools })
 
@@ -104,16 +137,16 @@ pub returns-clause-counted : goal.returns-clause-counted
 returns-clause-counted g c =
     blocks_left c.args.pools.now c.remove.new.self c.args.serial c.in-Some.linked (sym c.in-Some.ensures.value) c.remove.ensures.entries
     c.args.stock.now c.requires.counted c.clear.new.stock c.clear.ensures.counts
-    ∙ sym (ap blocks_held (c.move_to.ensures.pools ∙ c.set_standing.ensures.pools))
+    ∙ sym (ap blocks_held (c.move_to-taken.ensures.pools ∙ c.set_standing-holder.ensures.pools))
 
 pub returns-clause-fixed : goal.returns-clause-fixed
 returns-clause-fixed g c =
-    ap (λ (ps : LivePools). c.clear.new.stock.spare + fixed_held ps) (c.move_to.ensures.pools ∙ c.set_standing.ensures.pools)
+    ap (λ (ps : LivePools). c.clear.new.stock.spare + fixed_held ps) (c.move_to-taken.ensures.pools ∙ c.set_standing-holder.ensures.pools)
     ∙ fixed_left c.args.pools.now c.remove.new.self c.args.serial c.in-Some.linked (sym c.in-Some.ensures.value) c.remove.ensures.entries
     c.args.stock.now c.requires.counted c.clear.new.stock c.clear.ensures.counts
 
 pub returns-clause-gone : goal.returns-clause-gone
 returns-clause-gone g c =
     subst (λ (ps : LivePools). Changes (bare c.args.pools.now) ps c.args.serial None)
-    (sym (c.move_to.ensures.pools ∙ c.set_standing.ensures.pools))
+    (sym (c.move_to-taken.ensures.pools ∙ c.set_standing-holder.ensures.pools))
     (changes-bare c.args.pools.now c.remove.new.self c.args.serial None c.remove.ensures.updates)
