@@ -1,5 +1,5 @@
 -- What is counted over all pools, after one was put in, written or taken out.
-use Rattle.std.proofs.Common.{nat_eq, ◌≡◌, ℕ, ◌+◌, ◌≤◌, ◌∷◌, Option, Some, sym, ap, ◌∙◌, arith}
+use Rattle.std.proofs.Common.{nat_eq, ◌≡◌, ℕ, ◌+◌, ◌≤◌, List, ◌∷◌, Option, Some, sym, ap, ◌∙◌, arith}
 use Rattle.std.proofs.lemmas.List.Sums.{sum_by-cons}
 use Rattle.std.proofs.lemmas.Map.Entries.{sum_by-remove_entry, sum_by-set_value, sum_by_values_permutation}
 use Rattle.std.specs.List.{sum_by}
@@ -42,3 +42,7 @@ module _ (f : Entry → ℕ) (m : LinkedMap) (k : ℕ) {l : Linked Entry} (found
   sum_written n e entries =
       ap (λ (es : LivePools). sum_by f (values_of es) + f l.pool) (written-bare m n k (holding l e) entries)
       ∙ sum_by-set_value f (nat_eq k) (bare m) l.pool e (live-found m k found)
+
+-- what linked pools hold, in a list
+abbrev pub held_by : (Entry → ℕ) → List (Linked Entry) → ℕ
+held_by f ls = sum_by (λ l. f l.pool) ls

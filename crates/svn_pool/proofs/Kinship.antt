@@ -34,6 +34,10 @@ gone_from_test (Some e) h = let no : ⊥ = cc in absurd no
 pub none_is_gone : {X : Type 0} (o : Option X) → o ≡ None → IsSome o → ⊥
 none_is_gone o e live = let no : false ≡ true = sym (ap is_some e) ∙ live in let none : ⊥ = cc in none
 
+pub some_value : (o : Option ℕ) → IsSome o → (p : ℕ) × (o ≡ Some p)
+some_value None h = absurd (let no : ⊥ = cc in no)
+some_value (Some p) h = (p, refl)
+
 -- what has a place is live, and so is what holds one
 placed_live : (o : Option (Linked Entry)) (x : Place) → place_in o ≡ Some x → IsSome o
 placed_live None x e = absurd (none-some x e)

@@ -5,13 +5,16 @@ use Rattle.std.proofs.lemmas.Bool.{cases_eq, le-leb, eq-eqb, ne_eqb}
 use Rattle.std.proofs.lemmas.Bool.Decides.{leb_tells}
 use Rattle.std.specs.Option.{IsSomeAnd}
 use Rattle.svn_pool.specs.Ancestry.{IsAbove, IsBeneath, IsCleared, IsDestroyed, KeepsRest}
-use Rattle.svn_pool.specs.Linked.{Changes, IsLinked, IsPruned, IsTree, LinkedMap, LivePools, bare, blocks_held, fixed_held, live_at}
+use Rattle.svn_pool.specs.Linked.{Changes, IsAlone, IsLinked, IsPruned, IsTree, LinkedMap, LivePools, bare, blocks_held}
+use Rattle.svn_pool.specs.Linked.{fixed_held, live_at, parent_in}
 use Rattle.svn_pool.specs.Pools.{Entry, Pools, pool_at, parent_of, fixed_of}
 use Rattle.svn_pool.specs.Refusals.{fault_if_live, create_fault, destroy_fault}
 use Rattle.svn_pool.specs.declared.fault.PoolFault.{PoolFault}
 use Rattle.svn_pool.specs.declared.fault.PoolFault.TheVariants.{Gone, IsRoot, Full}
 use Rattle.svn_pool.specs.Views.{seen}
-use Rattle.svn_pool.proofs.Kinship.{gone_is_none, none_is_gone}
+use Rattle.svn_pool.proofs.Alone.{gone_elsewhere}
+use Rattle.svn_pool.proofs.Bare.{live-bare, pool_in}
+use Rattle.svn_pool.proofs.Kinship.{gone_is_none, none_is_gone, some_value}
 use Rattle.svn_pool.proofs.Views.{fixed_are, get-contents, pool_is, sum-contents}
 
 pub fault_if_gone : (o : Option Entry) (f : Entry → Option PoolFault) → o ≡ None → fault_if_live o f ≡ Some Gone
@@ -88,6 +91,9 @@ module _ {root last used spare : ℕ} {pools end : LinkedMap} {old : Pools} (tre
   at_new : (q : ℕ) → pool_at new q ≡ live_at (bare end) q
   at_new = get-contents (bare end) late.unique
 
+  parents_old : (q : ℕ) → parent_of (pool_at old q) ≡ parent_of (live_at (bare pools) q)
+  parents_old q = ap parent_of (at_old q)
+
   rest_kept : ((q : ℕ) → q ≢ s → (IsBeneath (pool_at old) s q → ⊥) → live_at (bare end) q ≡ live_at (bare pools) q) → KeepsRest old new s
   rest_kept others = record {
     others = λ q apart not. at_new q ∙ others q apart not ∙ sym (at_old q);
@@ -97,6 +103,34 @@ module _ {root last used spare : ℕ} {pools end : LinkedMap} {old : Pools} (tre
         ap (λ (n : ℕ). left + n) (sum-contents (bare end) late.unique fixed_of) ∙ fixed
         ∙ (λ i. (view i).spare + sym (fixed_are tree view) i);
   }
+
+  -- the root alone is left
+  module _ (is_root : s ≡ root) (alone : IsAlone end s) where
+    all_beneath : (n q : ℕ) → q < n → IsSome (live_at (bare pools) q) → q ≢ s → IsBeneath (live_at (bare pools)) s q
+    all_beneath zero q lt live apart = absurd (omega (arith, lt))
+    all_beneath (suc n) q lt live apart =
+        let p = some_value (parent_in pools q) (tree.others q live (λ is. apart (is ∙ sym is_root))) in
+        let older = tree.linked.older p.0 q p.1 in
+        elim (cases_eq p.0 s) [
+          | inl is ↦ (zero, p.1 ∙ ap Some is)
+          | inr other ↦
+              let above = all_beneath n p.0 (let first = older.1 in omega (arith, first, lt)) older.0 other in
+              (suc above.0, (p.0, p.1, above.1))
+        ]
+
+    pub cleared_root : IsCleared old new s
+    cleared_root = record {
+      emptied =
+          at_new s ∙ live-bare end s ∙ ap pool_in alone.here
+          ∙ ap (λ (o : Option ℕ). Some (record { parent = o; strings = [] }))
+          (sym (ap parent_of (at_old s ∙ ap (live_at (bare pools)) is_root) ∙ lone_root (live_at (bare pools) root) tree.rooted));
+      beneath = λ q b. at_new q ∙ gone_elsewhere end s alone q
+          (λ is. not_beneath_itself pools tree.linked s
+          (subst (IsBeneath (live_at (bare pools)) s) is (beneath_same (pool_at old) (live_at (bare pools)) parents_old s q b)));
+      rest = rest_kept (λ q apart not. gone_elsewhere end s alone q apart ∙ sym (gone_is_none (live_at (bare pools) q)
+          (λ live. not (beneath_same (live_at (bare pools)) (pool_at old) (λ k. sym (parents_old k)) s q
+          (all_beneath (suc q) q (omega arith) live apart)))));
+    }
 
   module _ {mid : LinkedMap} (linked : IsLinked mid)
       (put : Changes (bare pools) (bare mid) s (Some (record { parent = parent_of (live_at (bare pools) s); strings = [] })))
@@ -120,19 +154,16 @@ module _ {root last used spare : ℕ} {pools end : LinkedMap} {old : Pools} (tre
     }
 
   module _ {mid : LivePools} (pruned : IsPruned (bare pools) mid s) (gone : Changes mid (bare end) s None) where
-    same_old : (q : ℕ) → parent_of (pool_at old q) ≡ parent_of (live_at (bare pools) q)
-    same_old q = ap parent_of (at_old q)
-
     pub destroyed : IsDestroyed old new s
     destroyed = record {
       gone = at_new s ∙ gone.0;
       beneath = λ q b. at_new q ∙ elim (cases_eq q s) [
         | inl is ↦ ap (live_at (bare end)) is ∙ gone.0
         | inr apart ↦
-            gone.1 q apart ∙ pruned.beneath q (beneath_same (pool_at old) (live_at (bare pools)) same_old s q b)
+            gone.1 q apart ∙ pruned.beneath q (beneath_same (pool_at old) (live_at (bare pools)) parents_old s q b)
       ];
       rest = rest_kept (λ q apart not. gone.1 q apart
-          ∙ pruned.others q (λ b. not (beneath_same (live_at (bare pools)) (pool_at old) (λ k. sym (same_old k)) s q b)));
+          ∙ pruned.others q (λ b. not (beneath_same (live_at (bare pools)) (pool_at old) (λ k. sym (parents_old k)) s q b)));
     }
 
 -- the tree's invariant stands again
@@ -158,6 +189,10 @@ module _ {root last used after : ℕ} {pools end : LinkedMap} (tree : IsTree poo
       rooted = subst IsRooted
           (sym (pruned.others root
           (λ b. parentless (live_at (bare pools)) s b.0 root (lone_root (live_at (bare pools) root) tree.rooted) b.1))) tree.rooted;
+      others = λ q h apart.
+          let kept : live_at (bare end) q ≡ live_at (bare pools) q =
+          pruned.others q (λ b. none_is_gone (live_at (bare end) q) (pruned.beneath q b) h) in
+          ap (λ (o : Option Entry). is_some (parent_of o)) kept ∙ tree.others q (still_live q h) apart;
       below = λ q h. tree.below q (still_live q h);
       counted = counted;
     }
@@ -173,6 +208,14 @@ module _ {root last used after : ℕ} {pools end : LinkedMap} (tree : IsTree poo
           (ap (λ (k : ℕ). parent_of (live_at (bare pools) k)) (sym is) ∙ lone_root (live_at (bare pools) root) tree.rooted)
       | inr apart ↦ subst IsRooted (sym (put.1 root apart)) tree.rooted
     ];
+    others = λ q h apart. elim (cases_eq q s) [
+      | inl is ↦
+          ap (λ (k : ℕ). is_some (parent_in end k)) is ∙ ap (λ (o : Option Entry). is_some (parent_of o)) put.0
+          ∙ ap (λ (k : ℕ). is_some (parent_in pools k)) (sym is)
+          ∙ tree.others q (ap (λ (k : ℕ). is_some (live_at (bare pools) k)) is ∙ was) apart
+      | inr other ↦
+          ap (λ (o : Option Entry). is_some (parent_of o)) (put.1 q other) ∙ tree.others q (subst IsSome (put.1 q other) h) apart
+    ];
     below = λ q h. elim (cases_eq q s) [
       | inl is ↦ tree.below q (ap (λ (k : ℕ). is_some (live_at (bare pools) k)) is ∙ was)
       | inr apart ↦ tree.below q (subst IsSome (put.1 q apart) h)
@@ -185,6 +228,11 @@ module _ {root last used after : ℕ} {pools end : LinkedMap} (tree : IsTree poo
   tree-removed apart gone = record {
     linked = linked;
     rooted = subst IsRooted (sym (gone.1 root (λ e. apart (sym e)))) tree.rooted;
+    others = λ q h not_root. elim (cases_eq q s) [
+      | inl is ↦ absurd (none_is_gone (live_at (bare end) q) (ap (live_at (bare end)) is ∙ gone.0) h)
+      | inr other ↦
+          ap (λ (o : Option Entry). is_some (parent_of o)) (gone.1 q other) ∙ tree.others q (subst IsSome (gone.1 q other) h) not_root
+    ];
     below = λ q h. elim (cases_eq q s) [
       | inl is ↦ absurd (none_is_gone (live_at (bare end) q) (ap (live_at (bare end)) is ∙ gone.0) h)
       | inr other ↦ tree.below q (subst IsSome (gone.1 q other) h)

@@ -9,7 +9,7 @@ use Rattle.svn_pool.specs.Linked.{Changes, IsBeside, IsLinked, IsLeaf, IsPruned,
 use Rattle.svn_pool.specs.Linked.{first_of, fixed_held, live_at, parent_in, place_of, standing}
 use Rattle.svn_pool.specs.Pools.{parent_of}
 use Rattle.svn_pool.specs.Stores.{Store}
-use Rattle.svn_pool.proofs.Kinship.{live_child, none_is_gone}
+use Rattle.svn_pool.proofs.Kinship.{live_child, none_is_gone, some_value}
 use Rattle.svn_pool.proofs.Siblings.{no_child}
 use Rattle.svn_pool.specs.declared.links.Place.TheVariants.{First}
 
@@ -26,10 +26,6 @@ pub record IsPruning (old now : LinkedMap) (before after : Store) (top at : ℕ)
   pub linked : IsLinked now
   pub counted : after.used ≡ blocks_held (bare now)
   pub fixed : after.spare + fixed_held (bare now) ≡ before.spare + fixed_held (bare old)
-
-some_value : (o : Option ℕ) → IsSome o → (p : ℕ) × (o ≡ Some p)
-some_value None h = absurd (let no : ⊥ = cc in no)
-some_value (Some p) h = (p, refl)
 
 module _ (old : LivePools) (top : ℕ) where
   pub way_starts : IsSome (live_at old top) → IsOnWay old old top top

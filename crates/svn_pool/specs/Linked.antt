@@ -1,5 +1,5 @@
 -- How the tree holds its pools: by their serials, each with links to its first child and to the siblings beside it.
-use Rattle.std.specs.Prelude.{nat_eq, ◌≡◌, ◌≢◌, ◌⊎◌, ℕ, ◌<◌, ◌≤◌, List, map, Option, None, Some, IsSome, IsSomeAnd, option_map}
+use Rattle.std.specs.Prelude.{nat_eq, ◌≡◌, ◌≢◌, ◌⊎◌, ℕ, ◌<◌, ◌≤◌, List, [], map, Option, None, Some, IsSome, IsSomeAnd, option_map}
 use Rattle.std.specs.HashMap.{HashMap, get}
 use Rattle.std.specs.List.{sum_by, IsDistinct}
 use Rattle.std.specs.Map.{keys_of, lookup, values_of}
@@ -119,9 +119,18 @@ pub record IsPruned (old new : LivePools) (s : ℕ) : Type 0 where
   pub fewer : (q : ℕ) → live_at old q ≡ None → live_at new q ≡ None
   pub leaf : IsLeaf new s
 
+-- the pool s is there alone, without parent, strings and links
+pub record IsAlone (pools : LinkedMap) (s : ℕ) : Type 0 where
+  pub here : get nat_eq pools s ≡ Some (record { pool = record { parent = None; strings = [] }; first = None; next = None; before = None })
+  pub others : (q : ℕ) → q ≢ s → get nat_eq pools q ≡ None
+  pub unique : IsUnique (bare pools)
+  pub blocks : blocks_held (bare pools) ≡ 0
+  pub fixed : fixed_held (bare pools) ≡ 0
+
 -- what the tree keeps of its fields
 pub record IsTree (pools : LinkedMap) (root last used : ℕ) : Type 0 where
   pub linked : IsLinked pools
   pub rooted : IsSomeAnd (live_at (bare pools) root) (λ e. e.parent ≡ None)
+  pub others : (s : ℕ) → IsSome (live_at (bare pools) s) → s ≢ root → IsSome (parent_in pools s)
   pub below : (s : ℕ) → IsSome (live_at (bare pools) s) → s ≤ last
   pub counted : used ≡ blocks_held (bare pools)
