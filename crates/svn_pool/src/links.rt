@@ -223,7 +223,8 @@ pub(crate) fn add_child<A: Allocator + Copy>(
 }
 
 // Removes a pool without children. Its fixed blocks become spare. It tells the pool that took its place, or else the one whose link
-// that place is: its parent or a sibling.
+// that place is: its parent or a sibling. Inlined, since `destroy` has no use for what is told.
+#[inline(always)]
 pub(crate) fn remove_leaf<A: Allocator + Copy>(
     pools: &mut Live<A>,
     stock: &mut Stock<A>,
