@@ -2,10 +2,14 @@
 pub mod Trees
 -- One entry of a directory after the other.
 pub mod Sweeps
+-- Directories whose repository path is their own path, and what is below a directory.
+pub mod OwnPaths
 -- The nodes on the way down to a path.
 pub mod PathLines
 -- The entries of a directory, gone through beside the nodes below it.
 pub mod Merging
+-- The next node behind those below a path: it is below too exactly where it has more names.
+pub mod Deeper
 -- A copy is compared with the repository, the nodes below a path one after the other.
 pub mod Truly
 -- A tree of the repository is gathered: its node first, and then the entries in order of their names.

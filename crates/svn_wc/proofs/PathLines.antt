@@ -18,7 +18,9 @@ use Rattle.svn_report.specs.Reports.{ReportView}
 use Rattle.svn_model.specs.declared.base_node.BaseNode.{BaseNode}
 use Rattle.svn_model.specs.Nodes.{get_in, InPathOrder, IsWorkingCopy, is_dir, node_path}
 use Rattle.svn_model.specs.Crawl.{entry_for, reported_at, crawl}
-use Rattle.svn_wc.specs.Crawling.{with_reported, IsBelow}
+use Rattle.svn_wc.specs.Aboves.{has_own_path, IsBelow}
+use Rattle.svn_wc.specs.Crawling.{with_reported}
+use Rattle.svn_wc.proofs.OwnPaths.{own_path}
 use Rattle.svn_edit_law.proofs.Lookups.{at_path, get_in-append}
 use Rattle.svn_edit.proofs.NodeOrder.{at_first, first_or_after, before_behind, order_behind, some_behind}
 use Rattle.svn_types.proofs.PathsInOrder.{not_before_itself, not_both, below_after, within_between}
@@ -83,22 +85,32 @@ prefixes-last q = by (path_cases q)
 
 -- ---- a crawl, node by node
 
+-- what stands at a path, as what is below is compared with it
+abbrev pub above_at : List (Path × BaseNode) → Path → Option (BaseNode × Bool)
+above_at nodes p = option_map (λ n. (n, has_own_path p n)) (get_in nodes p)
+
 -- the nodes on the way down to the last node that was taken, if one was
-pub data IsLine (nodes done : List (Path × BaseNode)) (line : List BaseNode) : Type 0 where
+pub data IsLine (nodes done : List (Path × BaseNode)) (line : List (BaseNode × Bool)) : Type 0 where
   none_yet : done ≡ [] → line ≡ [] → IsLine nodes done line
   last_at : (front : List (Path × BaseNode)) (e : Path × BaseNode) → done ≡ front ++ e ∷ []
-      → map (λ n. Some n) line ≡ map (get_in nodes) (prefixes e.0) → IsLine nodes done line
+      → map (λ a. Some a) line ≡ map (above_at nodes) (prefixes e.0) → IsLine nodes done line
 
-pub record IsCrawled (nodes : List (Path × BaseNode)) (line : List BaseNode) (r : ReportView) (left : List (Path × BaseNode)) : Type 0 where
+pub record IsCrawled (nodes : List (Path × BaseNode)) (line : List (BaseNode × Bool)) (r : ReportView) (left : List (Path × BaseNode))
+    : Type 0 where
   pub done : List (Path × BaseNode)
   pub parts : nodes ≡ done ++ left
   pub line_is : IsLine nodes done line
   pub root : r.root ≡ node_path (get_in nodes [])
   pub entries : r.entries ≡ filter_map (reported_at nodes) done
 
-dir_some : (o : Option BaseNode) → is_dir o ≡ true → is_some o ≡ true
+pub dir_some : (o : Option BaseNode) → is_dir o ≡ true → is_some o ≡ true
 dir_some None d = absurd (true≢false (sym d))
 dir_some (Some n) d = refl
+
+-- the node of what stands at a path
+node_of : (o : Option BaseNode) (p : Path) → option_map (λ (a : BaseNode × Bool). a.0) (option_map (λ n. (n, has_own_path p n)) o) ≡ o
+node_of None p = refl
+node_of (Some n) p = refl
 
 pub crawled_first : (nodes : List (Path × BaseNode)) (r : ReportView) → r.root ≡ node_path (get_in nodes []) → r.entries ≡ []
     → IsCrawled nodes [] r nodes
@@ -118,13 +130,14 @@ append_one : {X : Type 0} (xs : List X) (y : X) (ys : List X) → xs ++ y ∷ ys
 append_one [] y ys = refl
 append_one (x ∷ xs) y ys = ap (λ l. x ∷ l) (append_one xs y ys)
 
-pub crawled_last : (nodes : List (Path × BaseNode)) (line : List BaseNode) (r : ReportView) → IsCrawled nodes line r [] → r ≡ crawl nodes
+pub crawled_last : (nodes : List (Path × BaseNode)) (line : List (BaseNode × Bool)) (r : ReportView) → IsCrawled nodes line r []
+    → r ≡ crawl nodes
 crawled_last nodes line r c =
     let all : c.done ≡ nodes = sym (append-nil c.done) ∙ sym c.parts in
     let es : r.entries ≡ filter_map (reported_at nodes) nodes = c.entries ∙ ap (filter_map (reported_at nodes)) all in
     λ i. record { root = c.root i; entries = es i }
 
-module _ (nodes : List (Path × BaseNode)) (order : InPathOrder nodes) (line : List BaseNode) (r : ReportView) (e : Path × BaseNode)
+module _ (nodes : List (Path × BaseNode)) (order : InPathOrder nodes) (line : List (BaseNode × Bool)) (r : ReportView) (e : Path × BaseNode)
     (left : List (Path × BaseNode))
     (c : IsCrawled nodes line r (e ∷ left)) where
   whole : InPathOrder (c.done ++ e ∷ left)
@@ -145,6 +158,9 @@ module _ (nodes : List (Path × BaseNode)) (order : InPathOrder nodes) (line : L
       by None h = at_first e left
       by (Some x) h =
           absurd (not_before_itself e.0 (before_behind c.done (e ∷ left) whole e.0 e.0 (ap is_some h) (ap is_some (at_first e left))))
+
+  stands_above : above_at nodes e.0 ≡ Some (e.1, has_own_path e.0 e.1)
+  stands_above = ap (option_map (λ n. (n, has_own_path e.0 n))) stands
 
   -- a directory above the next node was taken
   taken : (q r : Path) (name : List ℕ) → e.0 ≡ q ++ name ∷ r → is_some (get_in nodes q) ≡ true → is_some (get_in c.done q) ≡ true
@@ -192,13 +208,13 @@ module _ (nodes : List (Path × BaseNode)) (order : InPathOrder nodes) (line : L
     above_taken : is_some (get_in c.done q) ≡ true
     above_taken = taken q [] name is (dir_some (get_in nodes q) directory)
 
-    down_to : take (length e.0) (map (λ n. Some n) line) ≡ map (get_in nodes) (prefixes q)
+    down_to : take (length e.0) (map (λ a. Some a) line) ≡ map (above_at nodes) (prefixes q)
     down_to = by c.line_is
       where
         depth : length e.0 ≡ suc (length q)
         depth = let d : length e.0 ≡ length q + 1 = ap length is ∙ length_push q name in omega arith
 
-        by : IsLine nodes c.done line → take (length e.0) (map (λ n. Some n) line) ≡ map (get_in nodes) (prefixes q)
+        by : IsLine nodes c.done line → take (length e.0) (map (λ a. Some a) line) ≡ map (above_at nodes) (prefixes q)
         by (none_yet d l) = absurd (true≢false (sym above_taken ∙ ap (λ xs. is_some (get_in xs q)) d))
         by (last_at front l d m) =
             let within : is_within q l.0 ≡ true =
@@ -207,71 +223,77 @@ module _ (nodes : List (Path × BaseNode)) (order : InPathOrder nodes) (line : L
             (λ before. within_between q l.0 e.0 before (λ after. not_both l.0 e.0 (last_before front l d) after)
             (subst (λ (p : Path). is_within q p ≡ true) (sym is) (within_append q (name ∷ [])))) in
             let parts = split_within q l.0 within in
-            ap (λ k. take k (map (λ n. Some n) line)) depth ∙ ap (take (suc (length q))) m
-            ∙ ap (λ (p : Path). take (suc (length q)) (map (get_in nodes) (prefixes p))) parts.1
-            ∙ take-map (get_in nodes) (suc (length q)) (prefixes (q ++ parts.0)) ∙ ap (map (get_in nodes)) (take-prefixes q parts.0)
+            ap (λ k. take k (map (λ a. Some a) line)) depth ∙ ap (take (suc (length q))) m
+            ∙ ap (λ (p : Path). take (suc (length q)) (map (above_at nodes) (prefixes p))) parts.1
+            ∙ take-map (above_at nodes) (suc (length q)) (prefixes (q ++ parts.0)) ∙ ap (map (above_at nodes)) (take-prefixes q parts.0)
 
-    kept : map (λ n. Some n) (take (length e.0) line) ≡ map (get_in nodes) (prefixes q)
-    kept = sym (take-map (λ (n : BaseNode). Some n) (length e.0) line) ∙ down_to
+    kept : map (λ a. Some a) (take (length e.0) line) ≡ map (above_at nodes) (prefixes q)
+    kept = sym (take-map (λ (a : BaseNode × Bool). Some a) (length e.0) line) ∙ down_to
 
     -- the last of them is the directory above
-    last_is_above : slice_get (take (length e.0) line) (length (take (length e.0) line) - 1) ≡ get_in nodes q
+    last_is_above : slice_get (take (length e.0) line) (length (take (length e.0) line) - 1) ≡ above_at nodes q
     last_is_above =
         let last = prefixes-last q in
-        last_known (take (length e.0) line) (map (get_in nodes) last.0) (get_in nodes q)
-        (kept ∙ ap (map (get_in nodes)) last.1 ∙ map-append (get_in nodes) last.0 (q ∷ []))
+        last_known (take (length e.0) line) (map (above_at nodes) last.0) (above_at nodes q)
+        (kept ∙ ap (map (above_at nodes)) last.1 ∙ map-append (above_at nodes) last.0 (q ∷ []))
 
-    line_on : map (λ n. Some n) (take (length e.0) line ++ e.1 ∷ []) ≡ map (get_in nodes) (prefixes e.0)
+    line_on : map (λ a. Some a) (take (length e.0) line ++ (e.1, has_own_path e.0 e.1) ∷ []) ≡ map (above_at nodes) (prefixes e.0)
     line_on =
-        map-append (λ (n : BaseNode). Some n) (take (length e.0) line) (e.1 ∷ [])
-        ∙ (λ i. kept i ++ sym (sym (ap (get_in nodes) is) ∙ stands) i ∷ [])
-        ∙ sym (map-append (get_in nodes) (prefixes q) (child q name ∷ []))
-        ∙ ap (map (get_in nodes)) (sym (prefixes-child q name)) ∙ ap (λ (p : Path). map (get_in nodes) (prefixes p)) (sym is)
-
-  above : Option BaseNode
-  above = slice_get (take (length e.0) line) (length (take (length e.0) line) - 1)
+        map-append (λ (a : BaseNode × Bool). Some a) (take (length e.0) line) ((e.1, has_own_path e.0 e.1) ∷ [])
+        ∙ (λ i. kept i ++ sym (sym (ap (above_at nodes) is) ∙ stands_above) i ∷ [])
+        ∙ sym (map-append (above_at nodes) (prefixes q) (child q name ∷ []))
+        ∙ ap (map (above_at nodes)) (sym (prefixes-child q name)) ∙ ap (λ (p : Path). map (above_at nodes) (prefixes p)) (sym is)
 
   -- the next node is the root, or a directory is above it
-  pub next_below : IsWorkingCopy (get_in nodes) → (o : Option BaseNode)
+  pub next_below : IsWorkingCopy (get_in nodes) → (o : Option (BaseNode × Bool))
       → o ≡ slice_get (take (length e.0) line) (length (take (length e.0) line) - 1) → IsBelow e.0 o
   next_below w o same = by (path_cases e.0)
     where
-      as_below : (p : Path) (u : Option BaseNode) → is_root p ≡ false → is_dir u ≡ true → IsBelow p u
-      as_below p None root dir = absurd (true≢false (sym dir))
-      as_below p (Some n) root dir = (root, dir)
+      -- what stands there is a directory, and is marked as one of its own path where it has that
+      at_node : (q : Path) (n : Option BaseNode) → is_root e.0 ≡ false → is_dir n ≡ true → parent e.0 ≡ q
+          → IsBelow e.0 (option_map (λ n. (n, has_own_path q n)) n)
+      at_node q None root dir front = absurd (true≢false (sym dir))
+      at_node q (Some n) root dir front = (root, dir, λ own. own_path q n own ∙ sym front)
 
       by : PathCases e.0 → IsBelow e.0 o
       by (inl is) =
-          subst (λ (u : Option BaseNode). IsBelow e.0 u)
+          subst (λ (u : Option (BaseNode × Bool)). IsBelow e.0 u)
           (sym (same ∙ (λ i. slice_get (take (length (is i)) line) (length (take (length (is i)) line) - 1)))) (ap is_root is)
       by (inr (q, name, is)) =
-          as_below e.0 o (ap is_root is ∙ is_root-child q name) (ap is_dir (same ∙ last_is_above w q name is) ∙ directory w q name is)
+          subst (λ (u : Option (BaseNode × Bool)). IsBelow e.0 u) (sym (same ∙ last_is_above w q name is))
+          (at_node q (get_in nodes q) (ap is_root is ∙ is_root-child q name) (directory w q name is) (ap parent is ∙ parent-child q name))
 
-  entry_is : IsWorkingCopy (get_in nodes) → (o : Option BaseNode)
+  entry_is : IsWorkingCopy (get_in nodes) → (o : Option (BaseNode × Bool))
       → o ≡ slice_get (take (length e.0) line) (length (take (length e.0) line) - 1)
-      → entry_for e.0 o (Some e.1) ≡ entry_for e.0 (get_in nodes (parent e.0)) (Some e.1)
+      → entry_for e.0 (option_map (λ a. a.0) o) (Some e.1) ≡ entry_for e.0 (get_in nodes (parent e.0)) (Some e.1)
   entry_is w o same = by (path_cases e.0)
     where
-      by : PathCases e.0 → entry_for e.0 o (Some e.1) ≡ entry_for e.0 (get_in nodes (parent e.0)) (Some e.1)
-      by (inl is) = (λ i. entry_for (is i) o (Some e.1)) ∙ sym (λ i. entry_for (is i) (get_in nodes (parent e.0)) (Some e.1))
+      by : PathCases e.0 → entry_for e.0 (option_map (λ a. a.0) o) (Some e.1) ≡ entry_for e.0 (get_in nodes (parent e.0)) (Some e.1)
+      by (inl is) =
+          (λ i. entry_for (is i) (option_map (λ a. a.0) o) (Some e.1)) ∙ sym (λ i. entry_for (is i) (get_in nodes (parent e.0)) (Some e.1))
       by (inr (q, name, is)) =
           ap (λ (u : Option BaseNode). entry_for e.0 u (Some e.1))
-          (same ∙ last_is_above w q name is ∙ ap (get_in nodes) (sym (ap parent is ∙ parent-child q name)))
+          (ap (option_map (λ a. a.0)) (same ∙ last_is_above w q name is) ∙ node_of (get_in nodes q) q
+          ∙ ap (get_in nodes) (sym (ap parent is ∙ parent-child q name)))
 
-  pub crawled_next : IsWorkingCopy (get_in nodes) → (o : Option BaseNode)
+  pub crawled_next : IsWorkingCopy (get_in nodes) → (o : Option (BaseNode × Bool))
       → o ≡ slice_get (take (length e.0) line) (length (take (length e.0) line) - 1) → (r2 : ReportView)
-      → r2 ≡ with_reported r e.0 (entry_for e.0 o (Some e.1)) → IsCrawled nodes (take (length e.0) line ++ e.1 ∷ []) r2 left
+      → r2 ≡ with_reported r e.0 (entry_for e.0 (option_map (λ a. a.0) o) (Some e.1))
+      → IsCrawled nodes (take (length e.0) line ++ (e.1, has_own_path e.0 e.1) ∷ []) r2 left
   crawled_next w o same r2 made = record {
     done = c.done ++ e ∷ [];
     parts = c.parts ∙ append_one c.done e left;
     line_is = last_at c.done e refl (by (path_cases e.0));
-    root = ap (λ (v : ReportView). v.root) made ∙ same_root (entry_for e.0 o (Some e.1)) ∙ c.root;
+    root = ap (λ (v : ReportView). v.root) made ∙ same_root entry ∙ c.root;
     entries =
-        ap (λ (v : ReportView). v.entries) made ∙ more (entry_for e.0 o (Some e.1))
+        ap (λ (v : ReportView). v.entries) made ∙ more entry
         ∙ (λ i. c.entries i ++ cons_option (option_map (λ entry. (e.0, entry)) (entry_is w o same i)) [])
         ∙ sym (filter_map-push (reported_at nodes) c.done e);
   }
     where
+      entry : Option ReportEntry
+      entry = entry_for e.0 (option_map (λ a. a.0) o) (Some e.1)
+
       same_root : (u : Option ReportEntry) → (with_reported r e.0 u).root ≡ r.root
       same_root None = refl
       same_root (Some x) = refl
@@ -280,40 +302,18 @@ module _ (nodes : List (Path × BaseNode)) (order : InPathOrder nodes) (line : L
       more None = sym (append-nil r.entries)
       more (Some x) = refl
 
-      by : PathCases e.0 → map (λ n. Some n) (take (length e.0) line ++ e.1 ∷ []) ≡ map (get_in nodes) (prefixes e.0)
+      own : BaseNode × Bool
+      own = (e.1, has_own_path e.0 e.1)
+
+      by : PathCases e.0 → map (λ a. Some a) (take (length e.0) line ++ own ∷ []) ≡ map (above_at nodes) (prefixes e.0)
       by (inr (q, name, is)) = line_on w q name is
       by (inl is) =
-          ap (λ (p : Path). map (λ n. Some n) (take (length p) line ++ e.1 ∷ [])) is
-          ∙ (λ i. sym (sym (ap (get_in nodes) is) ∙ stands) i ∷ [])
-          ∙ ap (λ (p : Path). map (get_in nodes) (prefixes p)) (sym is)
+          ap (λ (p : Path). map (λ a. Some a) (take (length p) line ++ own ∷ [])) is
+          ∙ (λ i. sym (sym (ap (above_at nodes) is) ∙ stands_above) i ∷ [])
+          ∙ ap (λ (p : Path). map (above_at nodes) (prefixes p)) (sym is)
 
 -- ---- answers
 
 pub if_ok_same : {X E : Type 0} (r : Result X E) (P : E → Type 0) (x y : X) → x ≡ y → MatchResult r (λ v. v ≡ x) P → IfOk r (λ v. v ≡ y)
 if_ok_same (Ok v) P x y e h = h ∙ e
 if_ok_same (Err v) P x y e h = tt
-
--- a test that is passed exactly by the same path is the test of equal paths
-pub tests_path : (b : Bool) (p q : Path) → (b ≡ true → p ≡ q) → (p ≡ q → b ≡ true) → b ≡ path_eq p q
-tests_path b p q f g = both_ways b (path_eq p q) (λ e. ap (path_eq p) (sym (f e)) ∙ path_eq-same p) (λ e. g (same_path p q e))
-
--- what stands behind the last reference of a list
-pub last_behind : {X : Type 0} (refs : List (Bor X)) (n : ℕ) (kept : List (Bor X)) → kept ≡ take n refs
-    → option_copied (slice_get kept (length kept - 1))
-    ≡ slice_get (take n (map (λ r. r.now) refs)) (length (take n (map (λ r. r.now) refs)) - 1)
-last_behind {X} refs n kept is =
-    let all : take n (map (λ (r : Bor X). r.now) refs) ≡ map (λ (r : Bor X). r.now) kept =
-    take-map (λ (r : Bor X). r.now) n refs ∙ ap (map (λ (r : Bor X). r.now)) (sym is) in
-    copied (slice_get kept (length kept - 1)) ∙ sym (slice_get-map (λ (r : Bor X). r.now) kept (length kept - 1))
-    ∙ ap (λ k. slice_get (map (λ (r : Bor X). r.now) kept) (k - 1)) (sym (length-map kept (λ (r : Bor X). r.now)))
-    ∙ ap (λ (l : List X). slice_get l (length l - 1)) (sym all)
-  where
-    copied : (o : Option (Bor X)) → option_copied o ≡ option_map (λ r. r.now) o
-    copied None = refl
-    copied (Some r) = refl
-
-pub pushed_behind : {X : Type 0} (refs : List (Bor X)) (n : ℕ) (kept more : List (Bor X)) (r : Bor X) → kept ≡ take n refs
-    → more ≡ kept ++ r ∷ [] → map (λ r. r.now) more ≡ take n (map (λ r. r.now) refs) ++ r.now ∷ []
-pushed_behind {X} refs n kept more r is items =
-    ap (map (λ (r : Bor X). r.now)) items ∙ map-append (λ (r : Bor X). r.now) kept (r ∷ [])
-    ∙ ap (λ (l : List X). l ++ r.now ∷ []) (ap (map (λ (r : Bor X). r.now)) is ∙ sym (take-map (λ (r : Bor X). r.now) n refs))

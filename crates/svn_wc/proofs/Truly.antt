@@ -28,6 +28,7 @@ use Rattle.svn_model.specs.Nodes.{WorkingCopy, get_in, InPathOrder}
 use Rattle.svn_model.specs.Tree.{names_at}
 use Rattle.svn_model.specs.Truth.{Properties, props_eq, is_untrue, lacks_entry, first_untrue_in, first_untrue}
 use Rattle.svn_model.proofs.Children.{entry_below, look-child}
+use Rattle.svn_wc.specs.Aboves.{KnowsOwnPath}
 use Rattle.svn_wc.specs.Truths.{looked, entries_at, entry_in, HasNoEntries, CountsMissing, IsStep, IsNameBelow, PassesTo, IsRest}
 use Rattle.svn_wc.specs.Truths.{all_below, IsPast, HasWalked}
 use Rattle.svn_wc.proofs.Placing.{entry_is_below}
@@ -120,7 +121,7 @@ all-append f [] ys h g = g
 all-append f (x ∷ xs) ys h g =
     let parts = and_parts (f x) (list_all f xs) h in and_from (f x) (list_all f (xs ++ ys)) parts.0 (all-append f xs ys parts.1 g)
 
-below_extended : (p : Path) (x : List ℕ) (r : Path) → is_below p (p ++ x ∷ r) ≡ true
+pub below_extended : (p : Path) (x : List ℕ) (r : Path) → is_below p (p ++ x ∷ r) ≡ true
 below_extended p x r = below_from p (p ++ x ∷ r) (within_append p (x ∷ r)) (path_eq-longer p x r)
 
 -- it goes on from the path by a name at least
@@ -148,7 +149,7 @@ all_below_below p c (e ∷ es) h g =
     and_from (is_below p e.0) (all_below p es) (below_below p c e.0 h parts.0) (all_below_below p c es h parts.1)
 
 -- what is found among nodes that are all below a path is below it
-found_below : (p : Path) (es : List (Path × BaseNode)) (q : Path) → all_below p es ≡ true → is_some (get_in es q) ≡ true
+pub found_below : (p : Path) (es : List (Path × BaseNode)) (q : Path) → all_below p es ≡ true → is_some (get_in es q) ≡ true
     → is_below p q ≡ true
 found_below p [] q all some = absurd (true≢false (sym some))
 found_below p (e ∷ es) q all some = by (is_at (path_cmp q) e.0) refl some (found_below p es q parts.1)
@@ -396,12 +397,6 @@ pub copied_if : {X : Type 0} (b : Bool) (x : Bor X) → option_copied (then_some
 copied_if true x = refl
 copied_if false x = refl
 
--- one name below a path
-pub within_by_name : (p q : Path) (name : Option (Bor (List ℕ))) → IsNameBelow p q (option_copied name) → is_some name ≡ true
-    → is_within p q ≡ true
-within_by_name p q None named some = absurd (true≢false (sym some))
-within_by_name p q (Some n) named some = subst (λ (z : Path). is_within p z ≡ true) (sym named) (is_within-child p n.now)
-
 -- ---- what the repository has
 
 -- two tests of one thing
@@ -428,6 +423,16 @@ step_found h (FileNode r q text props) rev p name o step found = absurd step
 step_found h (DirNode r q complete props) rev p name o step found =
     entry_is_below h o name ∙ ap (λ u. entry_below h u name) found ∙ sym (look-child h r q name) ∙ (λ i. look h (step.0 i) (sym step.1 i))
 step_found h NotPresent rev p name o step found = absurd step
+
+-- the same of a node that stands there
+pub found_beside : (h : History) (above : BaseNode × Bool) (node : BaseNode) (rev : ℕ) (p at q : Path) (name : Option (Bor (List ℕ)))
+    (id entry : Option ℕ) → is_some name ≡ true → looked h node ≡ look h rev p
+    → ((at : Path) (x : List ℕ) → KnowsOwnPath at above → q ≡ child at x → IsStep above.0 rev p x)
+    → KnowsOwnPath at above → id ≡ looked h above.0 → IsNameBelow at q (option_copied name)
+    → IfSome name (λ n. entry ≡ entry_in h id n.now) → entry ≡ looked h node
+found_beside h above node rev p at q None id entry some place step known found named is = absurd (true≢false (sym some))
+found_beside h above node rev p at q (Some n) id entry some place step known found named is =
+    is ∙ step_found h above.0 rev p n.now id (step at n.now known named) found ∙ sym place
 
 -- a name is one of an entry exactly where a child of that path is looked for
 pub entry_child : (h : History) (o : Option ℕ) (p : Path) (name : List ℕ)

@@ -1,3 +1,4 @@
+pub mod Aboves
 pub mod Crawling
 pub mod Standing
 pub mod Taking

@@ -1,11 +1,11 @@
 -- How a copy is compared with the repository, node by node in path order.
 --     looked h node      what the repository has in a node's place, by its revision and repository path
 --     HasWalked h nodes e old found new      the nodes at and below a path were compared
-use Rattle.std.specs.Prelude.{◌≡◌, ℕ, Bool, true, false, List, [], ◌∷◌, ◌++◌, Option, Some, None, option_and_then, nat_lt}
+use Rattle.std.specs.Prelude.{◌≡◌, ℕ, ◌+◌, ◌<◌, ◌≤◌, length, Bool, true, false, List, [], ◌∷◌, ◌++◌, Option, Some, None, option_and_then, nat_lt}
 use Rattle.std.specs.List.{list_all, AllByRecursion}
 use Rattle.std.specs.declared.cmp.Ordering.TheVariants.{Less}
 use Rattle.svn_types.specs.Names.{Path, name_cmp}
-use Rattle.svn_types.specs.Paths.{child, is_within, is_below}
+use Rattle.svn_types.specs.Paths.{child, parent, is_within, is_below}
 use Rattle.svn_types.specs.Pairs.{InNameOrder, value_of}
 use Rattle.svn_repo.specs.History.{History, look}
 use Rattle.svn_repo.specs.Readings.{entries_of}
@@ -69,10 +69,20 @@ abbrev pub IsPast : Path → List (Path × BaseNode) → Type 0
 IsPast p [] = Unit {0}
 IsPast p (e ∷ es) = is_within p e.0 ≡ false
 
--- the first node was taken, which stands at the path or below; or none does
-abbrev pub TakesNext : Path → List (Path × BaseNode) → Option (Path × BaseNode) → List (Path × BaseNode) → Type 0
-TakesNext p old None new = IsPast p old × (new ≡ old)
-TakesNext p old (Some e) new = (old ≡ e ∷ new) × (is_within p e.0 ≡ true)
+-- the first of the nodes has no more names than that
+abbrev pub IsNoDeeper : ℕ → List (Path × BaseNode) → Type 0
+IsNoDeeper depth [] = Unit {0}
+IsNoDeeper depth (e ∷ es) = length e.0 ≤ depth
+
+-- the first node was taken, which has more names than that; or it hasn't
+abbrev pub TakesDeeper : ℕ → List (Path × BaseNode) → Option (Path × BaseNode) → List (Path × BaseNode) → Type 0
+TakesDeeper depth old None new = IsNoDeeper depth old × (new ≡ old)
+TakesDeeper depth old (Some e) new = (old ≡ e ∷ new) × (depth < length e.0)
+
+-- the last name of a path that has one name more than that; with no name, it hasn't
+abbrev pub IsLastName : ℕ → Path → Option (List ℕ) → Type 0
+IsLastName depth q None = length q ≡ depth + 1 → ⊥
+IsLastName depth q (Some name) = (length q ≡ depth + 1) × (q ≡ child (parent q) name)
 
 -- a prefix was taken away
 abbrev pub IsRest : List (Path × BaseNode) → List (Path × BaseNode) → Type 0

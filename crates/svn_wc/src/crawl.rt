@@ -1,12 +1,13 @@
 //! What a copy reports.
 ghost use Rattle.std.specs.Prelude.{◌≡◌, ◌++◌, [], not, Some, IsOk, IfOk, IfErr, OnOk, true, false};
-ghost use Rattle.std.specs.Option.{option_copied};
+ghost use Rattle.std.specs.Option.{option_copied, option_map};
 ghost use Rattle.svn_types.specs.Paths.{path_eq, last_name, is_root};
 ghost use Rattle.svn_model.specs.Nodes.{get_in, is_dir, is_present, is_incomplete, node_revision, node_path};
 ghost use Rattle.svn_model.specs.Crawl.{entry_for, crawl};
-ghost use Rattle.svn_wc.specs.Crawling.{with_reported, IsBelow};
+ghost use Rattle.svn_wc.specs.Aboves.{IsBelow};
+ghost use Rattle.svn_wc.specs.Crawling.{with_reported};
 
-use crate::paths::is_child;
+use crate::above::Above;
 use crate::working_copy::WorkingCopy;
 use std::alloc::{AllocError, Global};
 use svn_model::{BaseNode, WcFault};
@@ -43,40 +44,24 @@ fn revision(node: &BaseNode) -> Rev
     }
 }
 
-// Whether the repository path of a node isn't that of the directory above with the node's name behind it.
-fn is_switched(above: &BaseNode, path: &RelPath, repos_path: &RelPath) -> bool
-    ensures { IsBelow path.now (Some above.now) → result ≡ not (path_eq repos_path.now (node_path (Some above.now) ++ last_name path.now)) }
-{
-    match (above, path.components().last()) {
-        (
-            BaseNode::Dir {
-                repos_path: front,
-                ..
-            },
-            Some(name),
-        ) => !is_child(front, name, repos_path),
-        _ => true,
-    }
-}
-
 // Reports a present node below a directory, where it isn't what the directory's own entry says.
 fn report_present(
     reporter: &mut Reporter,
     path: &RelPath,
-    above: &BaseNode,
+    above: &Above<'_>,
     node: &BaseNode,
     repos_path: &RelPath,
 ) -> Result<(), WcFault>
     requires present { is_present (Some node.now) ≡ true }
     requires repos_path { repos_path.now ≡ node_path (Some node.now) }
-    ensures reported { OnOk result (IsBelow path.now (Some above.now) → reporter.new ≡ with_reported reporter.old path.now (entry_for path.now (Some above.now) (Some node.now))) }
+    ensures reported { OnOk result (IsBelow path.now (Some above.now) → reporter.new ≡ with_reported reporter.old path.now (entry_for path.now (Some above.now.0) (Some node.now))) }
     ensures fault { IfErr result (λ e. e ≡ WcFault.Memory) }
 {
     let (rev, incomplete) = (revision(node), is_incomplete(node));
-    if is_switched(above, path, repos_path) {
+    if !above.is_unswitched(path, repos_path) {
         return or_memory(reporter.link_path(path, repos_path.clone()?, rev, incomplete));
     }
-    if is_incomplete(above) || incomplete || rev != revision(above) {
+    if is_incomplete(above.node()) || incomplete || rev != revision(above.node()) {
         return or_memory(reporter.set_path(path, rev, incomplete));
     }
     Ok(())
@@ -86,10 +71,10 @@ fn report_present(
 fn report_below(
     reporter: &mut Reporter,
     path: &RelPath,
-    above: &BaseNode,
+    above: &Above<'_>,
     node: &BaseNode,
 ) -> Result<(), WcFault>
-    ensures reported { OnOk result (IsBelow path.now (Some above.now) → reporter.new ≡ with_reported reporter.old path.now (entry_for path.now (Some above.now) (Some node.now))) }
+    ensures reported { OnOk result (IsBelow path.now (Some above.now) → reporter.new ≡ with_reported reporter.old path.now (entry_for path.now (Some above.now.0) (Some node.now))) }
     ensures fault { IfErr result (λ e. e ≡ WcFault.Memory) }
 {
     match node {
@@ -98,7 +83,7 @@ fn report_below(
         ),
         BaseNode::Dir { repos_path, .. } => report_present(reporter, path, above, node, repos_path),
         BaseNode::NotPresent => {
-            if is_incomplete(above) {
+            if is_incomplete(above.node()) {
                 Ok(())
             } else {
                 or_memory(reporter.delete_path(path))
@@ -111,10 +96,10 @@ fn report_below(
 fn report_node(
     reporter: &mut Reporter,
     path: &RelPath,
-    above: Option<&BaseNode>,
+    above: Option<&Above<'_>>,
     node: &BaseNode,
 ) -> Result<(), WcFault>
-    ensures reported { OnOk result (IsBelow path.now (option_copied above.entry) → reporter.new ≡ with_reported reporter.old path.now (entry_for path.now (option_copied above.entry) (Some node.now))) }
+    ensures reported { OnOk result (IsBelow path.now (option_copied above.entry) → reporter.new ≡ with_reported reporter.old path.now (entry_for path.now (option_map (λ a. a.0) (option_copied above.entry)) (Some node.now))) }
     ensures fault { IfErr result (λ e. e ≡ WcFault.Memory) }
 {
     match above {
@@ -150,8 +135,8 @@ impl WorkingCopy {
         let mut line = Vec::new(alloc);
         for (path, node) in &self.nodes {
             line.truncate(path.components().len());
-            report_node(&mut reporter, path, line.last().copied(), node)?;
-            let Ok(()) = line.push(node) else {
+            report_node(&mut reporter, path, line.last(), node)?;
+            let Ok(()) = line.push(Above::of(path, node)) else {
                 return Err(WcFault::Memory);
             };
         }

@@ -24,6 +24,7 @@
 //! `Editor`).
 #![tactic(auto)]
 
+mod above;
 mod ahead;
 mod applier;
 mod building;

@@ -1,19 +1,11 @@
 //! Paths beside one another.
-ghost use Rattle.std.specs.Prelude.{◌≡◌, ◌≤◌, ◌↔◌, ◌∷◌, ◌++◌, [], IsTrue, length};
-ghost use Rattle.svn_types.specs.Names.{depth_limit, path_cmp};
+ghost use Rattle.std.specs.Prelude.{◌≡◌};
+ghost use Rattle.svn_types.specs.Names.{path_cmp};
 ghost use Rattle.svn_types.specs.Paths.{parent};
 ghost use Rattle.svn_edit_law.specs.Laws.{EndsNamed};
 
 use std::cmp::Ordering;
-use svn_types::{Name, RelPath};
-
-/// Whether a path is another one with a name more.
-pub(crate) fn is_child(path: &RelPath, name: &Name, below: &RelPath) -> bool
-    ensures child { IsTrue result ↔ (below.now ≡ path.now ++ name.now ∷ []) }
-    ensures bounded { length below.now ≤ depth_limit }
-{
-    below.is_child_of(path, name)
-}
+use svn_types::RelPath;
 
 /// The last name of a path is an allowed one.
 pub(crate) fn last_name_allowed(path: &RelPath)

@@ -2,17 +2,18 @@
 ghost use Rattle.std.specs.Prelude.{◌≡◌, ◌-◌, ◌++◌, ◌∷◌, ◌&&◌, not, IsOk, IsSome, IsTrue, IfSome, OnOk, MatchResult, MatchOption, Option, Some, None, is_some, nat_lt, if◌then◌else◌, ℕ, List, bytes_eq};
 ghost use Rattle.std.specs.Option.{option_copied, option_map};
 ghost use Rattle.svn_types.specs.Names.{Path};
-ghost use Rattle.svn_types.specs.Paths.{is_within};
-ghost use Rattle.svn_repo.specs.History.{node_at, look};
+ghost use Rattle.svn_types.specs.Paths.{child};
+ghost use Rattle.svn_repo.specs.History.{History, node_at, look};
 ghost use Rattle.svn_repo.specs.Readings.{kind_of, text_of, props_of, is_directory};
 ghost use Rattle.svn_model.specs.declared.base_node.BaseNode.{BaseNode};
-ghost use Rattle.svn_model.specs.Nodes.{WorkingCopy as CopyMap, get_in, InPathOrder, IsTrueOf};
+ghost use Rattle.svn_model.specs.Nodes.{WorkingCopy as CopyMap, get_in, InPathOrder, IsTrueOf, IsWorkingCopy};
 ghost use Rattle.svn_model.specs.Tree.{names_at};
 ghost use Rattle.svn_model.specs.Truth.{props_eq, is_untrue_file, is_untrue_dir, is_untrue, lacks_entry, first_untrue};
-ghost use Rattle.svn_wc.specs.Truths.{looked, entries_at, entry_in, HasNoEntries, CountsMissing, IsStep, IsNameBelow, TakesNext, PassesTo, HasWalked, IsRest};
+ghost use Rattle.svn_wc.specs.Truths.{looked, entries_at, entry_in, HasNoEntries, CountsMissing, IsStep, IsNameBelow, IsLastName, TakesDeeper, PassesTo, HasWalked, IsRest};
+ghost use Rattle.svn_wc.specs.Aboves.{KnowsOwnPath};
 
+use crate::above::Above;
 use crate::ahead::Ahead;
-use crate::paths::is_child;
 use crate::working_copy::WorkingCopy;
 use std::cmp::Ordering;
 use svn_edit_law::truth_is_tested;
@@ -115,54 +116,34 @@ pub(crate) fn entry_under(repo: &Repo, id: &Option<NodeId>, name: &Name) -> Opti
     }
 }
 
-// What is known of a node below a directory before it is looked at: the directory's node, the node's name where it is one name below, and the
-// entry under that.
+// The revision and the path at which the repository has a node.
 #[derive(Drop)]
-struct Beside<'a> {
-    above: &'a BaseNode,
-    name: Option<&'a Name>,
-    entry: Option<NodeId>,
+struct Place<'a> {
+    rev: Rev,
+    repos_path: &'a RelPath,
 }
 
-// Whether a repository path is that of the directory above with the name behind it, in the same revision.
-fn is_step(above: &BaseNode, name: &Name, rev: Rev, repos_path: &RelPath) -> bool
-    ensures { IsTrue result → IsStep above.now rev repos_path.now name.now }
-{
-    match above {
-        BaseNode::Dir {
-            rev: same,
-            repos_path: front,
-            ..
-        } => *same == rev && is_child(front, name, repos_path),
-        BaseNode::File { .. } | BaseNode::NotPresent => false,
-    }
-}
-
-// The node at a path of a revision: the entry beside it, if the path is one name behind the directory's.
-fn find(repo: &Repo, beside: &Beside<'_>, rev: Rev, repos_path: &RelPath) -> Option<NodeId>
-    ensures { (id : Option ℕ) → id ≡ looked repo.now beside.now.above.now → IfSome beside.now.name (λ name. beside.now.entry ≡ entry_in repo.now id name.now) → result ≡ look repo.now rev repos_path.now }
-{
-    match beside.name {
-        Some(name) if is_step(beside.above, name, rev, repos_path) => beside.entry,
-        _ => repo.lookup(rev, repos_path),
-    }
-}
-
-// What the repository has in the place of a node.
-fn find_below(repo: &Repo, beside: &Beside<'_>, node: &BaseNode) -> Option<NodeId>
-    ensures { (id : Option ℕ) → id ≡ looked repo.now beside.now.above.now → IfSome beside.now.name (λ name. beside.now.entry ≡ entry_in repo.now id name.now) → result ≡ looked repo.now node.now }
+// The place of a present node.
+fn place_of(node: &BaseNode) -> Option<Place<'_>>
+    ensures { (h : History) → MatchOption result (looked h node.now ≡ None) (λ place. looked h node.now ≡ look h place.rev place.repos_path.now) }
 {
     match node {
         BaseNode::File {
             rev,
             repos_path,
             ..
-        } => find(repo, beside, *rev, repos_path),
+        } => Some(Place {
+            rev: *rev,
+            repos_path,
+        }),
         BaseNode::Dir {
             rev,
             repos_path,
             ..
-        } => find(repo, beside, *rev, repos_path),
+        } => Some(Place {
+            rev: *rev,
+            repos_path,
+        }),
         BaseNode::NotPresent => None,
     }
 }
@@ -171,30 +152,25 @@ fn find_below(repo: &Repo, beside: &Beside<'_>, node: &BaseNode) -> Option<NodeI
 fn look_up(repo: &Repo, node: &BaseNode) -> Option<NodeId>
     ensures { result ≡ looked repo.now node.now }
 {
-    match node {
-        BaseNode::File {
-            rev,
-            repos_path,
-            ..
-        } => repo.lookup(*rev, repos_path),
-        BaseNode::Dir {
-            rev,
-            repos_path,
-            ..
-        } => repo.lookup(*rev, repos_path),
-        BaseNode::NotPresent => None,
+    match place_of(node) {
+        Some(place) => repo.lookup(place.rev, place.repos_path),
+        None => None,
     }
 }
 
-// The last name of a path, if the rest is the other path.
-fn name_below<'a>(path: &RelPath, below: &'a RelPath) -> Option<&'a Name>
-    ensures { IsNameBelow path.now below.now (option_copied result) }
+// Whether a node one name below a directory has the directory's revision, and its repository path with that name behind it.
+fn is_step(above: &Above<'_>, path: &RelPath, place: &Place<'_>) -> bool
+    ensures { (at : Path) (name : List ℕ) → KnowsOwnPath at above.now → path.now ≡ child at name → IsTrue result → IsStep above.now.0 place.now.rev place.now.repos_path.now name }
 {
-    let name = below.components().last()?;
-    is_child(path, name, below).then_some(name)
+    match above.node() {
+        BaseNode::Dir { rev, .. } => {
+            *rev == place.rev && above.is_unswitched(path, place.repos_path)
+        }
+        BaseNode::File { .. } | BaseNode::NotPresent => false,
+    }
 }
 
-// A node at a path or below, with its name where it is one name below.
+// A node below a path, with its name where it is one name below.
 #[derive(Drop)]
 struct Below<'a> {
     path: &'a RelPath,
@@ -202,22 +178,41 @@ struct Below<'a> {
     name: Option<&'a Name>,
 }
 
-// The next node, if it stands at the path or below: it is taken.
-fn next_within<'a>(path: &RelPath, left: &mut Ahead<'a, RelPath, BaseNode>) -> Option<Below<'a>>
-    ensures taken { TakesNext path.now left.old (option_map (λ b. (b.path.now, b.node.now)) result) left.new }
-    ensures name { IfSome result (λ b. IsNameBelow path.now b.path.now (option_copied b.name)) }
+// What the repository has in the place of a node below a directory: the entry under its name, if it is a step from there.
+fn find_below(
+    repo: &Repo,
+    above: &Above<'_>,
+    below: &Below<'_>,
+    entry: Option<NodeId>,
+) -> Option<NodeId>
+    ensures { (at : Path) (id : Option ℕ) → KnowsOwnPath at above.now → id ≡ looked repo.now above.now.0 → IsNameBelow at below.now.path.now (option_copied below.now.name) → IfSome below.now.name (λ name. entry ≡ entry_in repo.now id name.now) → result ≡ looked repo.now below.now.node.now }
 {
-    let (below, node) = left.first()?;
-    let name = name_below(path, below);
-    if name.is_none() && !below.is_within(path) {
+    let Some(place) = place_of(below.node) else {
+        return None;
+    };
+    if below.name.is_some() && is_step(above, below.path, &place) {
+        return entry;
+    }
+    repo.lookup(place.rev, place.repos_path)
+}
+
+// The next node, if it has more names than that: it is taken. Its name is told if there is one more.
+fn next_deeper<'a>(depth: usize, left: &mut Ahead<'a, RelPath, BaseNode>) -> Option<Below<'a>>
+    ensures taken { TakesDeeper depth left.old (option_map (λ b. (b.path.now, b.node.now)) result) left.new }
+    ensures name { IfSome result (λ b. IsLastName depth b.path.now (option_copied b.name)) }
+{
+    let (path, node) = left.first()?;
+    let names = path.components();
+    if names.len() <= depth {
         return None;
     }
     left.advance();
-    Some(Below {
-        path: below,
-        node,
-        name,
-    })
+    let name = if names.len() - depth == 1 {
+        names.last()
+    } else {
+        None
+    };
+    Some(Below { path, node, name })
 }
 
 // The node under a name, which is passed with the entries before it.
@@ -259,7 +254,7 @@ fn missing_without(entry: &Option<NodeId>, missing: usize) -> usize
 }
 
 // The first untrue path among a node's, beside which stands what the repository has in its place, and those below, which are taken. Beside the
-// nodes below a directory its entries are gone through.
+// nodes below a directory its entries are gone through. In path order these are the next that have more names, since each stands below a directory.
 fn first_untrue_within<'a>(
     repo: &Repo,
     path: &'a RelPath,
@@ -268,24 +263,21 @@ fn first_untrue_within<'a>(
     left: &mut Ahead<'a, RelPath, BaseNode>,
 ) -> Option<&'a RelPath>
     ensures rest { IsRest left.old left.new }
-    ensures walked { (nodes before : List (Path × BaseNode)) → InPathOrder nodes → nodes ≡ before ++ (path.now, node.now) ∷ left.old → id.now ≡ looked repo.now node.now → HasWalked repo.now nodes (path.now, node.now) left.old (option_copied result) left.new }
+    ensures walked { (nodes before : List (Path × BaseNode)) → InPathOrder nodes → IsWorkingCopy (get_in nodes) → nodes ≡ before ++ (path.now, node.now) ∷ left.old → id.now ≡ looked repo.now node.now → HasWalked repo.now nodes (path.now, node.now) left.old (option_copied result) left.new }
 {
     repo.law();
     let Some(listing) = listing_of(repo, node, id) else {
         return is_untrue(repo, node, id, 0).then_some(path);
     };
+    let above = Above::of(path, node);
+    let depth = path.components().len();
     let mut entries = Ahead::of(listing.as_map());
     let mut missing = listing.len();
     let mut first = None;
-    'below: while let Some(below) = next_within(path, left) {
+    'below: while let Some(below) = next_deeper(depth, left) {
         let entry = take_entry(&mut entries, below.name);
         missing = missing_without(&entry, missing);
-        let beside = Beside {
-            above: node,
-            name: below.name,
-            entry,
-        };
-        let there = find_below(repo, &beside, below.node);
+        let there = find_below(repo, &above, &below, entry);
         let untrue = first_untrue_within(repo, below.path, below.node, &there, left);
         first = first.or(untrue);
     }
@@ -306,6 +298,7 @@ impl WorkingCopy {
         ensures true_is_ok { IsTrueOf repo.now (get_in self.now) → IsOk result }
     {
         truth_is_tested();
+        self.law();
         let mut left = Ahead::of(&self.nodes);
         let mut first = None;
         'nodes: while let Some((path, node)) = left.first() {

@@ -16,7 +16,7 @@ nodes-preserved c =
     c.in-Some.ensures ∙ ap (λ (l : List (Path × BaseNode)). e ∷ l) (sym c.advance.ensures) in
     let s = subst (λ (l : List (Path × BaseNode)). Checked h nodes l (option_copied c.nodes.first)) step c.nodes.invariant in
     let order = subst InPathOrder c.self.view_is c.of-left.ensures.ordered in
-    let walked = c.first_untrue_within-untrue.ensures.walked nodes s.done order s.parts c.look_up-id.ensures in
+    let walked = c.first_untrue_within-untrue.ensures.walked nodes s.done order c.law.ensures.shape s.parts c.look_up-id.ensures in
     let first : option_or (option_copied c.nodes.first) (option_copied c.first_untrue_within-untrue.result)
     ≡ option_copied c.or-first.result =
     sym (ap option_copied c.or-first.ensures ∙ option_or-copied c.nodes.first c.first_untrue_within-untrue.result) in
