@@ -1,5 +1,5 @@
 -- The nodes behind a path and those below it, in path order: the next one is below it too exactly where it has more names.
-use Rattle.std.proofs.Common.{◌≡◌, ℕ, ◌+◌, ◌-◌, ◌<◌, ◌≤◌, Bool, true, false, cond, List, [], ◌∷◌, ◌++◌, length, take, drop, refl, sym, ap, subst}
+use Rattle.std.proofs.Common.{◌≡◌, ℕ, ◌-◌, ◌<◌, ◌≤◌, Bool, true, false, cond, List, [], ◌∷◌, ◌++◌, length, take, drop, refl, sym, ap, subst}
 use Rattle.std.proofs.Common.{◌∙◌, Option, Some, None, true≢false, arith, append_assoc, length-append}
 use Rattle.std.specs.Prelude.{slice_get}
 use Rattle.std.specs.Option.{is_some, option_or, option_copied}

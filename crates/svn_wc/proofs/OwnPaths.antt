@@ -1,9 +1,9 @@
 -- Directories whose repository path is their own path, and what is below a directory.
-use Rattle.std.proofs.Common.{◌≡◌, ◌↔◌, Bool, true, false, List, ℕ, ◌∷◌, [], ◌++◌, refl, sym, ap, subst, ◌∙◌, Some, true≢false}
+use Rattle.std.proofs.Common.{◌≡◌, Bool, true, List, ℕ, ◌++◌, sym, ap, ◌∙◌, Some, true≢false}
 use Rattle.std.specs.Cmp.{both_ways}
 use Rattle.svn_types.specs.Names.{Path}
 use Rattle.svn_types.specs.Paths.{path_eq, is_root, parent, last_name, child}
-use Rattle.svn_types.proofs.PathLemmas.{same_path, path_eq-same, is_root-child, parent-child, last_name-child, parent_and_last}
+use Rattle.svn_types.proofs.PathLemmas.{same_path, path_eq-same, is_root-child, parent-child, parent_and_last}
 use Rattle.svn_model.specs.declared.base_node.BaseNode.{BaseNode}
 use Rattle.svn_model.specs.declared.base_node.BaseNode.TheVariants.{File as FileNode, Dir as DirNode, NotPresent}
 use Rattle.svn_model.specs.Nodes.{is_dir, node_path}

@@ -4,15 +4,13 @@ use Rattle.std.proofs.Common.{◌≡◌, ℕ, suc, ◌+◌, ◌-◌, Bool, true,
 use Rattle.std.proofs.Common.{◌∙◌, ◌⊎◌, inl, inr, Option, Some, None, true≢false, arith}
 use Rattle.std.specs.Prelude.{filter_map, slice_get, Result, Ok, Err, IfOk, MatchResult}
 use Rattle.std.specs.List.{cons_option}
-use Rattle.std.specs.Option.{is_some, option_map, option_or, option_copied}
-use Rattle.std.specs.Borrow.{Bor}
-use Rattle.std.specs.Cmp.{both_ways}
+use Rattle.std.specs.Option.{is_some, option_map, option_or}
 use Rattle.std.specs.BTreeMap.{is_at}
 use Rattle.std.specs.declared.cmp.Ordering.TheVariants.{Less}
 use Rattle.std.proofs.lemmas.List.{append-nil, map-append, take-map, length-map, length_push}
 use Rattle.std.proofs.lemmas.Option.{same_Some, slice_get-map}
 use Rattle.svn_types.specs.Names.{Path, path_cmp}
-use Rattle.svn_types.specs.Paths.{is_within, is_root, parent, path_eq, child}
+use Rattle.svn_types.specs.Paths.{is_within, is_root, parent, child}
 use Rattle.svn_report.specs.declared.entry.ReportEntry.{ReportEntry}
 use Rattle.svn_report.specs.Reports.{ReportView}
 use Rattle.svn_model.specs.declared.base_node.BaseNode.{BaseNode}
@@ -25,7 +23,7 @@ use Rattle.svn_edit_law.proofs.Lookups.{at_path, get_in-append}
 use Rattle.svn_edit.proofs.NodeOrder.{at_first, first_or_after, before_behind, order_behind, some_behind}
 use Rattle.svn_types.proofs.PathsInOrder.{not_before_itself, not_both, below_after, within_between}
 use Rattle.svn_types.proofs.PathLemmas.{is_root-child, parent-child, path_cases, split_within, within_append}
-use Rattle.svn_types.proofs.PathLemmas.{path_eq-longer, same_path, path_eq-same}
+use Rattle.svn_types.proofs.PathLemmas.{path_eq-longer, same_path}
 
 -- ---- paths
 

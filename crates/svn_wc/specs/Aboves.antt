@@ -6,7 +6,7 @@ use Rattle.std.specs.Prelude.{◌≡◌, Bool, true, false, Option, Some, None}
 use Rattle.svn_types.specs.Names.{Path}
 use Rattle.svn_types.specs.Paths.{path_eq, is_root, parent}
 use Rattle.svn_model.specs.declared.base_node.BaseNode.{BaseNode}
-use Rattle.svn_model.specs.declared.base_node.BaseNode.TheVariants.{File as FileNode, Dir as DirNode, NotPresent}
+use Rattle.svn_model.specs.declared.base_node.BaseNode.TheVariants.{Dir as DirNode}
 use Rattle.svn_model.specs.Nodes.{is_dir, node_path}
 
 abbrev pub has_own_path : Path → BaseNode → Bool

@@ -1,5 +1,5 @@
 //! Whether a copy is true of a repository.
-ghost use Rattle.std.specs.Prelude.{◌≡◌, ◌-◌, ◌++◌, ◌∷◌, ◌&&◌, not, IsOk, IsSome, IsTrue, IfSome, OnOk, MatchResult, MatchOption, Option, Some, None, is_some, nat_lt, if◌then◌else◌, ℕ, List, bytes_eq};
+ghost use Rattle.std.specs.Prelude.{◌≡◌, ◌↔◌, ◌-◌, ◌++◌, ◌∷◌, ◌&&◌, not, IsOk, IsSome, IsTrue, IfSome, OnOk, MatchResult, MatchOption, Option, Some, None, is_some, nat_lt, if◌then◌else◌, ℕ, List, bytes_eq};
 ghost use Rattle.std.specs.Option.{option_copied, option_map};
 ghost use Rattle.svn_types.specs.Names.{Path};
 ghost use Rattle.svn_types.specs.Paths.{child};
@@ -21,12 +21,23 @@ use svn_model::BaseNode;
 use svn_repo::{Entries, NodeId, Repo};
 use svn_types::{Kind, Name, Props, RelPath, Rev, Text};
 
+// Whether properties are the same ones. Most nodes have none, which is told without going through two maps.
+fn are_same(props: &Props, others: &Props) -> bool
+    ensures { IsTrue result ↔ (props.now ≡ others.now) }
+{
+    if props.is_empty() {
+        others.is_empty()
+    } else {
+        props.is_same(others)
+    }
+}
+
 // Whether properties are those of a node of the repository.
 fn has_props(repo: &Repo, id: NodeId, props: &Props) -> bool
     ensures { IsSome (node_at repo.now id) → result ≡ props_eq props.now (props_of repo.now id) }
 {
     match repo.props(id) {
-        Some(others) => props.is_same(others),
+        Some(others) => are_same(props, others),
         None => false,
     }
 }

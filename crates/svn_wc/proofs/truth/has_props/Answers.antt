@@ -3,5 +3,5 @@ use Rattle.svn_wc.proofs.truth.has_props.Goals as goal
 
 pub returns-in-Some : goal.returns-in-Some
 returns-in-Some c = λ there.
-    tests_props c.args.repo.now c.args.id c.is_same.result c.args.props.now c.in-Some.others.now c.in-Some.ensures c.is_same.ensures.0
-    c.is_same.ensures.1
+    tests_props c.args.repo.now c.args.id c.are_same.result c.args.props.now c.in-Some.others.now c.in-Some.ensures c.are_same.ensures.0
+    c.are_same.ensures.1

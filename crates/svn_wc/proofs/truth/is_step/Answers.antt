@@ -1,6 +1,5 @@
 use Rattle.std.proofs.Common.{◌≡◌, ◌++◌, true, Some, sym, ap, subst, ◌∙◌}
 use Rattle.std.proofs.lemmas.Bool.{eqb-true}
-use Rattle.svn_types.specs.Names.{Path}
 use Rattle.svn_types.specs.Paths.{child, last_name}
 use Rattle.svn_types.proofs.PathLemmas.{same_path, last_name-child}
 use Rattle.svn_model.specs.declared.base_node.BaseNode.{BaseNode}
