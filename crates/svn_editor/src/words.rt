@@ -16,7 +16,7 @@ const PIECE: usize = 64;
 fn is_shown(byte: u8) -> bool
     ensures { result ≡ is_shown byte }
 {
-    33 <= byte && byte <= 126 && byte != b'%' && byte != b'"'
+    (33 <= byte) & (byte <= 126) & (byte != b'%') & (byte != b'"')
 }
 
 fn hex_digit(digit: u8, upper: bool) -> u8
@@ -53,6 +53,17 @@ impl fmt::Display for EscapedByte {
     }
 }
 
+// Whether all bytes are printed as they are. It goes on after one that isn't, so that many are looked at at a time.
+fn are_shown(bytes: &[u8]) -> bool
+    ensures { result ≡ list_all is_shown bytes.now }
+{
+    let mut all = true;
+    for byte in bytes {
+        all &= is_shown(*byte);
+    }
+    all
+}
+
 // How many bytes, from the first on, are printed as they are.
 fn shown_count(bytes: &[u8]) -> usize
     ensures bounded { result ≤ length bytes.now }
@@ -73,14 +84,12 @@ fn write_shown<W: fmt::Write>(bytes: &[u8], f: &mut fmt::Formatter<W>) -> fmt::R
     requires { list_all is_shown bytes.now ≡ true }
     ensures { DisplaysOnOk W.write_str_gives f.old result (Some (flat_map escaped bytes.now)) f.new }
 {
-    match str::from_utf8(bytes) {
-        Ok(text) => f.write_str(text),
-        // they are ASCII
-        Err(_) => unreachable!(),
-    }
+    // they are ASCII
+    f.write_str(unsafe { str::from_utf8_unchecked(bytes) })
 }
 
-fn write_escaped<W: fmt::Write>(bytes: &[u8], f: &mut fmt::Formatter<W>) -> fmt::Result
+// A run of bytes that are printed as they are by one write, then the byte behind it, and so on.
+fn write_runs<W: fmt::Write>(bytes: &[u8], f: &mut fmt::Formatter<W>) -> fmt::Result
     ensures { DisplaysOnOk W.write_str_gives f.old result (Some (flat_map escaped bytes.now)) f.new }
 {
     let mut rest = bytes;
@@ -94,6 +103,17 @@ fn write_escaped<W: fmt::Write>(bytes: &[u8], f: &mut fmt::Formatter<W>) -> fmt:
         }
     }
     Ok(())
+}
+
+// Most words have no byte that is escaped.
+fn write_escaped<W: fmt::Write>(bytes: &[u8], f: &mut fmt::Formatter<W>) -> fmt::Result
+    ensures { DisplaysOnOk W.write_str_gives f.old result (Some (flat_map escaped bytes.now)) f.new }
+{
+    if are_shown(bytes) {
+        write_shown(bytes, f)
+    } else {
+        write_runs(bytes, f)
+    }
 }
 
 /// Prints bytes as one word: those from 0x21 to 0x7E but for `%` and `"` as they are, any other as `%` and two upper-case hexadecimal
@@ -120,13 +140,12 @@ fn path_byte(byte: u8) -> u8
     if byte == 1 { b'/' } else { byte }
 }
 
-// Writes what a part of a key stands for over the first bytes.
-fn put_names(key: &[u8], text: &mut [u8; 64])
-    requires { length key.now ≤ 64 }
-    ensures { take (length key.now) text.new ≡ map path_byte key.now }
+// Puts the text of a part of a key in its place.
+fn put_slashes(text: &mut [u8; 64])
+    ensures { text.new ≡ map path_byte text.old }
 {
-    'byte: for i in 0..key.len() {
-        text[i] = path_byte(key[i]);
+    for byte in text.iter_mut() {
+        *byte = path_byte(*byte);
     }
 }
 
@@ -135,9 +154,16 @@ fn write_piece<W: fmt::Write>(key: &[u8], f: &mut fmt::Formatter<W>) -> fmt::Res
     requires { length key.now ≤ 64 }
     ensures { DisplaysOnOk W.write_str_gives f.old result (Some (flat_map escaped (map path_byte key.now))) f.new }
 {
-    let mut text = [0; PIECE];
-    put_names(key, &mut text);
-    write_escaped(&text[..key.len()], f)
+    // what stands behind the key is printed as it is, so that all of the array can be looked at
+    let mut text = [b'/'; PIECE];
+    text[..key.len()].copy_from_slice(key);
+    put_slashes(&mut text);
+    let names = &text[..key.len()];
+    if are_shown(&text) {
+        write_shown(names, f)
+    } else {
+        write_runs(names, f)
+    }
 }
 
 // The names of a path, of whose key this is all but the last byte.

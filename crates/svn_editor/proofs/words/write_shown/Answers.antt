@@ -5,8 +5,8 @@ use Rattle.svn_editor.proofs.words.write_shown.Goals as goal
 
 pub returns : goal.returns
 returns g c = λ plain ok.
-    has_written_of_eq _ _ _ _ _ (c.in-Ok.ensures.cases.0 ∙ sym (shown_text c.args.bytes.now c.requires))
+    has_written_of_eq _ _ _ _ _ (c.from_utf8_unchecked.ensures ∙ sym (shown_text c.args.bytes.now c.requires))
     (c.write_str.ensures.writes plain ok)
 
-pub unreachable-requires : goal.unreachable-requires
-unreachable-requires g c = c.in-Err.ensures.cases.0 (shown_utf8 c.args.bytes.now c.requires)
+pub from_utf8_unchecked-requires : goal.from_utf8_unchecked-requires
+from_utf8_unchecked-requires g c = shown_utf8 c.args.bytes.now c.requires

@@ -3,7 +3,7 @@ use Rattle.std.specs.List.{flat_map}
 use Rattle.std.proofs.Output.{has_written_append}
 use Rattle.svn_editor.specs.Words.{escaped}
 use Rattle.svn_editor.proofs.PrintedWords.{behind_byte, behind_shown}
-use Rattle.svn_editor.proofs.words.write_escaped.Goals as goal
+use Rattle.svn_editor.proofs.words.write_runs.Goals as goal
 
 pub rest-preserved : goal.rest-preserved
 rest-preserved g c =
