@@ -1,5 +1,5 @@
 -- What the word of a path is, from its key, and what bytes are that are printed as they are.
-use Rattle.std.proofs.Common.{◌≡◌, ℕ, ◌<◌, Bool, true, false, ◌&&◌, List, [], ◌∷◌, ◌++◌, length, map, take, get_or, append_assoc}
+use Rattle.std.proofs.Common.{◌≡◌, ℕ, ◌+◌, ◌<◌, Bool, true, false, ◌&&◌, List, [], ◌∷◌, ◌++◌, length, map, take, get_or, append_assoc}
 use Rattle.std.proofs.Common.{refl, sym, ap, ◌∙◌, arith, true≢false}
 use Rattle.std.specs.Prelude.{All, if◌then◌else◌, nat_le}
 use Rattle.std.specs.List.{flat_map, list_all}
@@ -10,7 +10,7 @@ use Rattle.std.proofs.lemmas.Bool.{and_parts}
 use Rattle.std.proofs.lemmas.Bool.Decides.{nat_tests}
 use Rattle.std.proofs.lemmas.List.Concat.{flat_map-append}
 use Rattle.std.proofs.lemmas.List.Folds.{list_all_at}
-use Rattle.std.proofs.lemmas.List.{length-append, map-append}
+use Rattle.std.proofs.lemmas.List.{flat_map_more, length-append, map-append, take_more}
 use Rattle.std.proofs.Math.Seq.{take-append_seam}
 use Rattle.svn_types.specs.Names.{Path, is_plain}
 use Rattle.svn_types.specs.PathKeys.{path_key, is_plain_name, is_plain_path}
@@ -88,13 +88,13 @@ shown_utf8 bs h = IsUtf8-from_ascii bs (IsAscii-from_all bs (shown_all bs h))
 
 -- ---- a word that is printed part by part
 
+-- one byte more
+pub escaped_more : (bs : List ℕ) (i : ℕ) → i < length bs
+    → flat_map escaped (take (i + 1) bs) ≡ flat_map escaped (take i bs) ++ escaped (get_or bs i 0)
+escaped_more bs i h = ap (flat_map escaped) (take_more bs i 0 h) ∙ sym (flat_map_more escaped [] (take i bs) (get_or bs i 0))
+
 pub behind_shown : (done rest shown others all : List ℕ) → rest ≡ shown ++ others → done ++ flat_map escaped rest ≡ all
     → (done ++ flat_map escaped shown) ++ flat_map escaped others ≡ all
 behind_shown done rest shown others all parts e =
     append_assoc done (flat_map escaped shown) (flat_map escaped others)
     ∙ ap (λ (l : List ℕ). done ++ l) (sym (flat_map-append escaped shown others) ∙ ap (flat_map escaped) (sym parts)) ∙ e
-
-pub behind_byte : (done others behind all : List ℕ) (b : ℕ) → others ≡ b ∷ behind → done ++ flat_map escaped others ≡ all
-    → (done ++ escaped b) ++ flat_map escaped behind ≡ all
-behind_byte done others behind all b parts e =
-    append_assoc done (escaped b) (flat_map escaped behind) ∙ ap (λ (l : List ℕ). done ++ flat_map escaped l) (sym parts) ∙ e

@@ -1,6 +1,7 @@
 //! The words of printed lines.
-ghost use Rattle.std.specs.Prelude.{◌≡◌, ◌<◌, ◌≤◌, Some, true, length, map, take};
+ghost use Rattle.std.specs.Prelude.{◌≡◌, ◌+◌, ◌<◌, ◌≤◌, ◌++◌, Some, true, length, map, take};
 ghost use Rattle.std.specs.List.{flat_map, list_all};
+ghost use Rattle.std.specs.Str.{IsAscii};
 ghost use Rattle.std.specs.Fmt.{DisplaysOnOk, digit_glyph};
 ghost use Rattle.svn_editor.specs.Words.{is_shown, escaped, hex_pair, word, path_byte, path_word, token_word, digest_word, checksum_word};
 
@@ -10,8 +11,11 @@ use std::fmt::Display;
 use std::{fmt, str};
 use svn_types::RelPath;
 
-// How many bytes of a path are printed at a time.
+// How many bytes of a path, or of a word with bytes that are escaped, are printed at a time.
 const PIECE: usize = 64;
+
+// How many bytes these are printed as at most.
+const MAX_ESCAPED: usize = 3 * PIECE;
 
 fn is_shown(byte: u8) -> bool
     ensures { result ≡ is_shown byte }
@@ -34,25 +38,6 @@ fn hex_digit(digit: u8, upper: bool) -> u8
     }
 }
 
-// A byte within a word.
-#[derive(Clone, Copy)]
-struct EscapedByte(u8);
-
-impl fmt::Display for EscapedByte {
-    ghost output = { λ b. Some (escaped b.0) };
-
-    fn fmt<W: fmt::Write>(&self, f: &mut fmt::Formatter<W>) -> fmt::Result {
-        let byte = self.0;
-        if is_shown(byte) {
-            f.write_char(char::from(byte))
-        } else {
-            f.write_str("%")?;
-            f.write_char(char::from(hex_digit(byte / 16, true)))?;
-            f.write_char(char::from(hex_digit(byte % 16, true)))
-        }
-    }
-}
-
 // Whether all bytes are printed as they are. It goes on after one that isn't, so that many are looked at at a time.
 fn are_shown(bytes: &[u8]) -> bool
     ensures { result ≡ list_all is_shown bytes.now }
@@ -64,21 +49,6 @@ fn are_shown(bytes: &[u8]) -> bool
     all
 }
 
-// How many bytes, from the first on, are printed as they are.
-fn shown_count(bytes: &[u8]) -> usize
-    ensures bounded { result ≤ length bytes.now }
-    ensures shown { list_all is_shown (take result bytes.now) ≡ true }
-{
-    let mut count = 0;
-    for byte in bytes {
-        if !is_shown(*byte) {
-            break;
-        }
-        count += 1;
-    }
-    count
-}
-
 // Bytes that are printed as they are, all at once.
 fn write_shown<W: fmt::Write>(bytes: &[u8], f: &mut fmt::Formatter<W>) -> fmt::Result
     requires { list_all is_shown bytes.now ≡ true }
@@ -88,19 +58,59 @@ fn write_shown<W: fmt::Write>(bytes: &[u8], f: &mut fmt::Formatter<W>) -> fmt::R
     f.write_str(unsafe { str::from_utf8_unchecked(bytes) })
 }
 
-// A run of bytes that are printed as they are by one write, then the byte behind it, and so on.
-fn write_runs<W: fmt::Write>(bytes: &[u8], f: &mut fmt::Formatter<W>) -> fmt::Result
+// Puts what a byte is printed as behind the first bytes of a text, and answers how many they are then.
+fn put_byte(byte: u8, text: &mut [u8; 192], len: usize) -> usize
+    requires { len + 3 ≤ 192 }
+    ensures bounded { result ≤ len + 3 }
+    ensures text { take result text.new ≡ take len text.old ++ escaped byte }
+    ensures ascii { IsAscii (escaped byte) }
+{
+    if is_shown(byte) {
+        text[len] = byte;
+        len + 1
+    } else {
+        text[len] = b'%';
+        text[len + 1] = hex_digit(byte / 16, true);
+        text[len + 2] = hex_digit(byte % 16, true);
+        len + 3
+    }
+}
+
+// Puts what a part of a word is printed as at the beginning of a text, and answers how many bytes that is.
+fn put_escaped(piece: &[u8], text: &mut [u8; 192]) -> usize
+    requires { length piece.now ≤ 64 }
+    ensures bounded { result ≤ 192 }
+    ensures text { take result text.new ≡ flat_map escaped piece.now }
+    ensures ascii { IsAscii (flat_map escaped piece.now) }
+{
+    let mut len = 0;
+    for byte in piece {
+        len = put_byte(*byte, text, len);
+    }
+    len
+}
+
+// A part of a word is printed by one write.
+fn write_piece<W: fmt::Write>(piece: &[u8], f: &mut fmt::Formatter<W>) -> fmt::Result
+    requires { length piece.now ≤ 64 }
+    ensures { DisplaysOnOk W.write_str_gives f.old result (Some (flat_map escaped piece.now)) f.new }
+{
+    if are_shown(piece) {
+        return write_shown(piece, f);
+    }
+    let mut text = [0; MAX_ESCAPED];
+    let len = put_escaped(piece, &mut text);
+    f.write_str(unsafe { str::from_utf8_unchecked(&text[..len]) })
+}
+
+fn write_pieces<W: fmt::Write>(bytes: &[u8], f: &mut fmt::Formatter<W>) -> fmt::Result
     ensures { DisplaysOnOk W.write_str_gives f.old result (Some (flat_map escaped bytes.now)) f.new }
 {
     let mut rest = bytes;
     'rest: while !rest.is_empty() {
-        let (shown, others) = rest.split_at(shown_count(rest));
-        write_shown(shown, f)?;
-        rest = others;
-        if let Some((byte, behind)) = others.split_first() {
-            EscapedByte(*byte).fmt(f)?;
-            rest = behind;
-        }
+        let (piece, behind) = rest.split_at(rest.len().min(PIECE));
+        write_piece(piece, f)?;
+        rest = behind;
     }
     Ok(())
 }
@@ -112,7 +122,7 @@ fn write_escaped<W: fmt::Write>(bytes: &[u8], f: &mut fmt::Formatter<W>) -> fmt:
     if are_shown(bytes) {
         write_shown(bytes, f)
     } else {
-        write_runs(bytes, f)
+        write_pieces(bytes, f)
     }
 }
 
@@ -149,8 +159,8 @@ fn put_slashes(text: &mut [u8; 64])
     }
 }
 
-// A part of a key is printed by one write, unless a byte of it is escaped.
-fn write_piece<W: fmt::Write>(key: &[u8], f: &mut fmt::Formatter<W>) -> fmt::Result
+// A part of a key is printed by one write.
+fn write_key_piece<W: fmt::Write>(key: &[u8], f: &mut fmt::Formatter<W>) -> fmt::Result
     requires { length key.now ≤ 64 }
     ensures { DisplaysOnOk W.write_str_gives f.old result (Some (flat_map escaped (map path_byte key.now))) f.new }
 {
@@ -162,7 +172,7 @@ fn write_piece<W: fmt::Write>(key: &[u8], f: &mut fmt::Formatter<W>) -> fmt::Res
     if are_shown(&text) {
         write_shown(names, f)
     } else {
-        write_runs(names, f)
+        write_piece(names, f)
     }
 }
 
@@ -173,7 +183,7 @@ fn write_names<W: fmt::Write>(key: &[u8], f: &mut fmt::Formatter<W>) -> fmt::Res
     let mut rest = key;
     'rest: while !rest.is_empty() {
         let (piece, behind) = rest.split_at(rest.len().min(PIECE));
-        write_piece(piece, f)?;
+        write_key_piece(piece, f)?;
         rest = behind;
     }
     Ok(())

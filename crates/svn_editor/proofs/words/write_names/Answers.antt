@@ -15,5 +15,5 @@ rest-preserved g c =
       behind_shown inv.0 (map path_byte c.rest.rest.now) (map path_byte piece) (map path_byte behind)
           (flat_map escaped (map path_byte c.args.key.now))
           (ap (map path_byte) c.split_at.ensures.by_index.0 ∙ map-append path_byte piece behind) inv.1,
-      λ plain. let before = inv.2 plain in has_written_append _ _ _ _ _ _ before (c.in_ok-write_piece.ensures before.plain refl),
+      λ plain. let before = inv.2 plain in has_written_append _ _ _ _ _ _ before (c.in_ok-write_key_piece.ensures before.plain refl),
     )

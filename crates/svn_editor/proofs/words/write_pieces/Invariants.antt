@@ -2,7 +2,7 @@ use Rattle.std.proofs.Common.{◌≡◌, ◌++◌, ℕ, List, length}
 use Rattle.std.specs.List.{flat_map}
 use Rattle.std.specs.Fmt.{HasWritten, IsPlainFormatter}
 use Rattle.svn_editor.specs.Words.{escaped}
-use Rattle.svn_editor.proofs.words.write_runs.Given as goal
+use Rattle.svn_editor.proofs.words.write_pieces.Given as goal
 
 abbrev pub decreases-rest : goal.decreases-rest
 decreases-rest g l = length l.rest
