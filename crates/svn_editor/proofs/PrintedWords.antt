@@ -1,20 +1,23 @@
--- What the word of a path is, from its key, and what bytes are that are printed as they are.
-use Rattle.std.proofs.Common.{◌≡◌, ℕ, ◌+◌, ◌<◌, Bool, true, false, ◌&&◌, List, [], ◌∷◌, ◌++◌, length, map, take, get_or, append_assoc}
-use Rattle.std.proofs.Common.{refl, sym, ap, ◌∙◌, arith, true≢false}
+-- What the word of a path is, from its key, what bytes are that are printed as they are, and the word of a token.
+use Rattle.std.proofs.Common.{◌≡◌, ℕ, ◌+◌, ◌-◌, ◌^◌, ◌<◌, ◌≤◌, Bool, true, false, ◌&&◌}
+use Rattle.std.proofs.Common.{List, [], ◌∷◌, ◌++◌, length, map, take, drop, set, get_or, append_assoc}
+use Rattle.std.proofs.Common.{refl, sym, ap, ◌∙◌, arith, rules, true≢false}
 use Rattle.std.specs.Prelude.{All, if◌then◌else◌, nat_le}
 use Rattle.std.specs.List.{flat_map, list_all}
+use Rattle.std.specs.Fmt.{decimal}
 use Rattle.std.specs.Str.{IsUtf8}
+use Rattle.std.proofs.lemmas.Fmt.{IsAscii-decimal, length-decimal-le}
 use Rattle.std.proofs.lemmas.Str.{IsUtf8-from_ascii}
-use Rattle.std.proofs.lemmas.Str.Ascii.{IsAscii-from_all}
+use Rattle.std.proofs.lemmas.Str.Ascii.{IsAscii-cons, IsAscii-from_all}
 use Rattle.std.proofs.lemmas.Bool.{and_parts}
 use Rattle.std.proofs.lemmas.Bool.Decides.{nat_tests}
 use Rattle.std.proofs.lemmas.List.Concat.{flat_map-append}
 use Rattle.std.proofs.lemmas.List.Folds.{list_all_at}
-use Rattle.std.proofs.lemmas.List.{flat_map_more, length-append, map-append, take_more}
+use Rattle.std.proofs.lemmas.List.{append-nil, drop-set, drop_all, flat_map_more, length-append, map-append, take_more, take_rest}
 use Rattle.std.proofs.Math.Seq.{take-append_seam}
 use Rattle.svn_types.specs.Names.{Path, is_plain}
 use Rattle.svn_types.specs.PathKeys.{path_key, is_plain_name, is_plain_path}
-use Rattle.svn_editor.specs.Words.{escaped, hex_pair, is_shown, path_byte, path_text, path_word}
+use Rattle.svn_editor.specs.Words.{escaped, hex_pair, is_shown, path_byte, path_text, path_word, token_word}
 
 -- ---- the names of a path, printed from its key
 
@@ -93,8 +96,26 @@ pub escaped_more : (bs : List ℕ) (i : ℕ) → i < length bs
     → flat_map escaped (take (i + 1) bs) ≡ flat_map escaped (take i bs) ++ escaped (get_or bs i 0)
 escaped_more bs i h = ap (flat_map escaped) (take_more bs i 0 h) ∙ sym (flat_map_more escaped [] (take i bs) (get_or bs i 0))
 
-pub behind_shown : (done rest shown others all : List ℕ) → rest ≡ shown ++ others → done ++ flat_map escaped rest ≡ all
-    → (done ++ flat_map escaped shown) ++ flat_map escaped others ≡ all
-behind_shown done rest shown others all parts e =
-    append_assoc done (flat_map escaped shown) (flat_map escaped others)
-    ∙ ap (λ (l : List ℕ). done ++ l) (sym (flat_map-append escaped shown others) ∙ ap (flat_map escaped) (sym parts)) ∙ e
+-- what is printed behind a part
+pub behind_piece : (done rest piece behind all : List ℕ) → rest ≡ piece ++ behind → done ++ flat_map escaped rest ≡ all
+    → (done ++ flat_map escaped piece) ++ flat_map escaped behind ≡ all
+behind_piece done rest piece behind all parts e =
+    append_assoc done (flat_map escaped piece) (flat_map escaped behind)
+    ∙ ap (λ (l : List ℕ). done ++ l) (sym (flat_map-append escaped piece behind) ∙ ap (flat_map escaped) (sym parts)) ∙ e
+
+-- ---- the word of a token, its digits at the end of a text and the sign before them
+
+pub few_digits : (n : ℕ) → n < 2 ^ 64 → length (decimal n) ≤ 20
+few_digits n h = search (rules, length-decimal-le 20)
+
+pub token_utf8 : (n : ℕ) → n < 2 ^ 64 → IsUtf8 (token_word n)
+token_utf8 n h = IsUtf8-from_ascii (token_word n) (IsAscii-cons 35 (decimal n) (omega arith) (IsAscii-decimal n h))
+
+pub token_at_end : (old text : List ℕ) (start n : ℕ) → length old ≤ 21 → 0 < start → start ≤ length text
+    → drop start text ≡ decimal n ++ drop 21 old
+    → take (length (set text (start - 1) 35) - (start - 1)) (drop (start - 1) (set text (start - 1) 35)) ≡ token_word n
+token_at_end old text start n short some within digits =
+    let next : (start - 1) + 1 ≡ start = omega arith in
+    take_rest (set text (start - 1) 35) (start - 1) ∙ drop-set text (start - 1) 35 (omega arith)
+    ∙ ap (λ (l : List ℕ). 35 ∷ l)
+    (ap (λ (k : ℕ). drop k text) next ∙ digits ∙ ap (λ (l : List ℕ). decimal n ++ l) (drop_all 21 old short) ∙ append-nil (decimal n))

@@ -7,6 +7,7 @@ ghost use Rattle.svn_editor.specs.Words.{is_shown, escaped, hex_pair, word, path
 
 use crate::digest::Digest;
 use crate::token::Token;
+use itoa::write_digits;
 use std::fmt::Display;
 use std::{fmt, str};
 use svn_types::RelPath;
@@ -16,6 +17,9 @@ const PIECE: usize = 64;
 
 // How many bytes these are printed as at most.
 const MAX_ESCAPED: usize = 3 * PIECE;
+
+// How many bytes a token is printed as at most: `#` and 20 digits.
+const MAX_TOKEN: usize = 21;
 
 fn is_shown(byte: u8) -> bool
     ensures { result ≡ is_shown byte }
@@ -204,13 +208,23 @@ impl fmt::Display for PathWord<'_> {
     }
 }
 
+// The word of a token, at the end of a text that has room for it.
+fn token_text(number: u64, text: &mut [u8; 21]) -> &str
+    ensures { result.now ≡ token_word number }
+{
+    let start = write_digits(number, text, MAX_TOKEN) - 1;
+    text[start] = b'#';
+    let all = &text[..];
+    unsafe { str::from_utf8_unchecked(&all[start..]) }
+}
+
 /// A token is printed as `#` and its number.
 impl fmt::Display for Token {
     ghost output = { λ t. Some (token_word t) };
 
     fn fmt<W: fmt::Write>(&self, f: &mut fmt::Formatter<W>) -> fmt::Result {
-        let number = self.0;
-        write!(f, "#{number}")
+        let mut text = [0; MAX_TOKEN];
+        f.write_str(token_text(self.0, &mut text))
     }
 }
 

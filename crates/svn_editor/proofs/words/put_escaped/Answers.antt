@@ -14,5 +14,6 @@ loop-byte-preserved c =
     record {
       bounded = omega arith;
       text = c.put_byte-len.ensures.text ∙ ap (λ (l : List ℕ). l ++ escaped (get_or piece i 0)) inv.text ∙ sym more;
-      ascii = rw more (IsAscii-append (flat_map escaped (take i piece)) (escaped (get_or piece i 0)) inv.ascii c.put_byte-len.ensures.ascii);
+      ascii =
+          rw more (IsAscii-append (flat_map escaped (take i piece)) (escaped (get_or piece i 0)) inv.ascii c.put_byte-len.ensures.ascii);
     }
