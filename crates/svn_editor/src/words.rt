@@ -104,6 +104,7 @@ fn write_piece<W: fmt::Write>(piece: &[u8], f: &mut fmt::Formatter<W>) -> fmt::R
     }
     let mut text = [0; MAX_ESCAPED];
     let len = put_escaped(piece, &mut text);
+    // what bytes are escaped to is ASCII
     f.write_str(unsafe { str::from_utf8_unchecked(&text[..len]) })
 }
 
@@ -214,6 +215,7 @@ fn token_text(number: u64, text: &mut [u8; 21]) -> &str
 {
     let start = write_digits(number, text, MAX_TOKEN) - 1;
     text[start] = b'#';
+    // a sign and digits are ASCII
     let all = &text[..];
     unsafe { str::from_utf8_unchecked(&all[start..]) }
 }
