@@ -2,7 +2,6 @@
 use Rattle.std.proofs.Common.{◌≡◌, ℕ, Bool, true, false, ◌&&◌, ◌||◌, not, cond, List, [], ◌∷◌, length, refl, sym, ◌∙◌, ap, arith}
 use Rattle.std.specs.Prelude.{Option, Some, None, is_some, slice_get, nat_eq}
 use Rattle.std.specs.List.{list_any}
-use Rattle.std.specs.BTreeSet.{btree_set_len}
 use Rattle.std.proofs.lemmas.Bool.Decides.{nat_tests}
 use Rattle.std.specs.Option.{option_or, option_map}
 use Rattle.svn_types.specs.declared.kind.Kind.{Kind}
@@ -22,6 +21,7 @@ use Rattle.svn_editor.specs.Order.{is_path_wrong, is_outside, is_elsewhere, is_f
 use Rattle.svn_editor.specs.Order.{is_open_below, is_prop_late, is_delete_late, is_entry_again, is_text_again, is_root_unclosed}
 use Rattle.svn_editor.specs.Order.{fault_in_order}
 use Rattle.svn_order.specs.Directories.{is_deleted_in}
+use Rattle.svn_order.specs.Tokens.{is_unclosed_file}
 use Rattle.svn_order.specs.OrderState.{target_late, unknown_in, closed_in, misnumbered_in, outside_in, current_text, elsewhere, none_open}
 use Rattle.svn_order.specs.OrderState.{too_early, not_innermost, open_below, prop_late, delete_late, entry_again, text_again, root_unclosed}
 use Rattle.svn_order.specs.OrderState.{fault_in}
@@ -176,9 +176,9 @@ text_same s calls _ h sound = refl
 
 root_same : (s : OrderCheck) (calls : List Call) (c : Call) → Holds s calls → IsSound calls → root_unclosed s c ≡ is_root_unclosed calls c
 root_same s calls CloseEdit h sound =
-    ap (λ n. nat_eq n 0 || not (none_open s.directories.items) || not (nat_eq (btree_set_len s.open_files) 0)) h.count
-    ∙ ap (λ b. b || not (none_open s.directories.items) || not (nat_eq (btree_set_len s.open_files) 0)) (first (all_given calls))
-    ∙ ap (λ b. not (is_some (given calls 0)) || b || not (nat_eq (btree_set_len s.open_files) 0)) (none_open_at s calls h)
+    ap (λ n. nat_eq n 0 || not (none_open s.directories.items) || list_any is_unclosed_file s.tokens.items) h.count
+    ∙ ap (λ b. b || not (none_open s.directories.items) || list_any is_unclosed_file s.tokens.items) (first (all_given calls))
+    ∙ ap (λ b. not (is_some (given calls 0)) || b || list_any is_unclosed_file s.tokens.items) (none_open_at s calls h)
     ∙ ap (λ b. not (is_some (given calls 0)) || a_directory_is_open calls || b) (files_at s calls h sound)
   where
     first : (gs : List Given) → nat_eq (length gs) 0 ≡ not (is_some (slice_get gs 0))

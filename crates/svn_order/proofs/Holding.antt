@@ -27,8 +27,7 @@ use Rattle.svn_editor.proofs.Accepted.{IsAccepted}
 use Rattle.svn_order.proofs.Sound.{IsSound, known, numbered_next}
 use Rattle.svn_order.proofs.OpenDirectories.{open_still, open_given, open_closed, open_file_closed}
 use Rattle.svn_order.proofs.Looking.{parent_of, open_below_at, same_length, innermost_at}
-use Rattle.svn_order.proofs.HoldingTokens.{during, begun, length-changed, AreTokens, AreFiles, tokens_still, tokens_given, tokens_closed}
-use Rattle.svn_order.proofs.HoldingTokens.{tokens_text, files_still, files_directory, files_added, files_removed, files_closed}
+use Rattle.svn_order.proofs.HoldingTokens.{during, begun, length-changed, AreTokens, tokens_still, tokens_given, tokens_closed, tokens_text}
 use Rattle.svn_order.proofs.HoldingDirectories.{AreDirectories, IsApart, IsOpenOf, directories_still, file_opened, entry_deleted}
 use Rattle.svn_order.proofs.HoldingDirectories.{prop_changed, root_opened, directory_opened, directory_closed, shown_more, shown_less}
 
@@ -54,14 +53,13 @@ begun_stage s t calls c h e a same = same ∙ h.stage ∙ begun calls c e a ∙ 
 length_one : {X : Type 0} (xs ys : List X) (x : X) → ys ≡ xs ++ x ∷ [] → length ys ≡ length xs + 1
 length_one xs ys x e = omega (arith, ap length e, length-append xs (x ∷ []))
 
--- a call that gives a token, where the directories and the files are right
+-- a call that gives a token, where the directories are right
 given_held : (s t : OrderCheck) (calls : List Call) (c : Call) (g : Given) → Holds s calls → IsSound calls → IsAccepted calls c
     → given_by c ≡ Some g → ((q : ℕ) → closes q c ≡ false) → ((q : ℕ) → applies_text q c ≡ false) → is_target_late [] c ≡ true
     → t.stage ≡ s.stage → t.tokens.items ≡ s.tokens.items ++ token_of g.kind ∷ []
     → map shown t.directories.items ≡ map token_and_path (open_directories (calls ++ c ∷ []))
-    → AreDirectories t.directories.items (calls ++ c ∷ []) → AreFiles t.open_files (calls ++ c ∷ [])
-    → t.current ≡ current_after s.current c → Holds t (calls ++ c ∷ [])
-given_held s t calls c g h sound a e no_close no_text first stage tokens nesting directories files current = record {
+    → AreDirectories t.directories.items (calls ++ c ∷ []) → t.current ≡ current_after s.current c → Holds t (calls ++ c ∷ [])
+given_held s t calls c g h sound a e no_close no_text first stage tokens nesting directories current = record {
   stage = begun_stage s t calls c h first a.target stage;
   count = length_one s.tokens.items t.tokens.items (token_of g.kind) tokens ∙ count_given calls c g (length s.tokens.items) e h.count;
   tokens =
@@ -69,7 +67,6 @@ given_held s t calls c g h sound a e no_close no_text first stage tokens nesting
       (tokens_given s.tokens.items calls c g sound h.count e no_close no_text h.tokens);
   nesting = nesting;
   directories = directories;
-  files = files;
   current = current_is s calls c t.current h current;
 }
 
@@ -77,14 +74,13 @@ given_held s t calls c g h sound a e no_close no_text first stage tokens nesting
 still_held : (s t : OrderCheck) (calls : List Call) (c : Call) → Holds s calls → given_by c ≡ None → ((q : ℕ) → closes q c ≡ false)
     → ((q : ℕ) → applies_text q c ≡ false) → t.stage ≡ stage_after (calls ++ c ∷ []) → t.tokens.items ≡ s.tokens.items
     → map shown t.directories.items ≡ map shown s.directories.items → AreDirectories t.directories.items (calls ++ c ∷ [])
-    → t.open_files ≡ s.open_files → t.current ≡ current_file (calls ++ c ∷ []) → Holds t (calls ++ c ∷ [])
-still_held s t calls c h e no_close no_text stage tokens same_shown directories files current = record {
+    → t.current ≡ current_file (calls ++ c ∷ []) → Holds t (calls ++ c ∷ [])
+still_held s t calls c h e no_close no_text stage tokens same_shown directories current = record {
   stage = stage;
   count = ap length tokens ∙ count_still calls c (length s.tokens.items) e h.count;
   tokens = subst (λ ns. AreTokens ns (calls ++ c ∷ [])) (sym tokens) (tokens_still s.tokens.items calls c e no_close no_text h.tokens);
   nesting = same_shown ∙ h.nesting ∙ ap (map token_and_path) (sym (open_still calls c e no_close));
   directories = directories;
-  files = subst (λ fs. AreFiles fs (calls ++ c ∷ [])) (sym files) (files_still s.open_files calls c e no_close h.files);
   current = current;
 }
 
@@ -97,8 +93,6 @@ root_held s t calls base token h sound a n =
     (shown_more s.directories.items t.directories.items (open_directories calls) g token [] h.nesting refl n.directories
     ∙ ap (map token_and_path) (sym (open_given calls c g sound a refl)))
     (root_opened s t.directories.items calls base token h sound a.entry (numbered_next calls c g a refl) none n.directories)
-    (subst (λ fs. AreFiles fs (calls ++ c ∷ [])) (sym n.files)
-    (files_directory s.open_files calls c g sound refl refl (λ q. refl) h.files))
     n.current_is
   where
     c : Call
@@ -122,7 +116,7 @@ delete_held s t calls path rev parent h sound a n =
     let p = parent_of s calls parent path h sound k a.path in
     still_held s t calls (DeleteEntry path rev parent) h refl (λ q. refl) (λ q. refl)
     (begun_stage s t calls (DeleteEntry path rev parent) h refl a.target n.stage) n.tokens_are (n.directories p.below_root).shown
-    (entry_deleted s t.directories.items calls path rev parent h sound p (n.directories p.below_root)) n.files
+    (entry_deleted s t.directories.items calls path rev parent h sound p (n.directories p.below_root))
     (current_is s calls (DeleteEntry path rev parent) t.current h n.current_is)
 
 -- an open or an add of a directory in the innermost one
@@ -137,7 +131,6 @@ directory_held s t calls c g m h sound a e kind named inside inner o below no_cl
     let p = parent_of s calls m g.path h sound k inside in
     let number = numbered_next calls c g a e in
     let is_directory : kind_eq g.kind Directory ≡ true = ap (λ x. kind_eq x Directory) kind in
-    let no_file : kind_eq g.kind File ≡ false = ap (λ x. kind_eq x File) kind in
     given_held s t calls c g h sound a e no_close no_text first n.stage
     (n.tokens_are ∙ ap (λ x. s.tokens.items ++ token_of x ∷ []) (sym kind))
     (shown_more n.directories.marked t.directories.items (open_directories calls) g g.token g.path
@@ -145,7 +138,6 @@ directory_held s t calls c g m h sound a e kind named inside inner o below no_cl
     ∙ ap (map token_and_path) (sym
     (open_given calls c g sound a e ∙ ap (λ b. cond b (open_directories calls ++ g ∷ []) (open_directories calls)) is_directory)))
     (directory_opened s t.directories.items calls c m g.token g.path h sound p k inner o below fresh number n.directories)
-    (subst (λ fs. AreFiles fs (calls ++ c ∷ [])) (sym n.files) (files_directory s.open_files calls c g sound e no_file no_close h.files))
     (n.current_is ∙ sym current)
 
 -- an open or an add of a file
@@ -156,16 +148,13 @@ file_held : (s t : OrderCheck) (calls : List Call) (c : Call) (g : Given) (m : �
 file_held s t calls c g m h sound a e kind named inside o none no_close no_text first current n =
     let k = known calls c m Directory a named in
     let p = parent_of s calls m g.path h sound k inside in
-    let number = numbered_next calls c g a e in
     let no_directory : kind_eq g.kind Directory ≡ false = ap (λ x. kind_eq x Directory) kind in
-    let is_file : kind_eq g.kind File ≡ true = ap (λ x. kind_eq x File) kind in
     given_held s t calls c g h sound a e no_close no_text first n.stage
     (n.tokens_are ∙ ap (λ x. s.tokens.items ++ token_of x ∷ []) (sym kind))
     ((n.directories p.below_root).shown ∙ h.nesting
     ∙ ap (map token_and_path) (sym
     (open_given calls c g sound a e ∙ ap (λ b. cond b (open_directories calls ++ g ∷ []) (open_directories calls)) no_directory)))
     (file_opened s t.directories.items calls c m g.path h sound p o none (n.directories p.below_root))
-    (files_added s.open_files t.open_files calls c g g.token sound e is_file number no_close n.files h.files)
     (n.current_is ∙ sym current)
 
 change_held : (s t : OrderCheck) (calls : List Call) (token : ℕ) (name : List ℕ) (value : Option (List ℕ)) → Holds s calls → IsSound calls
@@ -178,7 +167,7 @@ change_held s t calls token name value h sound a n =
     ∙ not_false (number_eq (innermost_of s.directories.items) (Some token)) (open_below_at s calls token h sound k ∙ a.prop) in
     still_held s t calls (ChangeDirProp token name value) h refl (λ q. refl) (λ q. refl)
     (begun_stage s t calls (ChangeDirProp token name value) h refl a.target n.stage) n.tokens_are n.directories.shown
-    (prop_changed s t.directories.items calls token name value h sound k inner n.directories) n.files
+    (prop_changed s t.directories.items calls token name value h sound k inner n.directories)
     (current_is s calls (ChangeDirProp token name value) t.current h n.current_is)
 
 close_held : (s t : OrderCheck) (calls : List Call) (token : ℕ) → Holds s calls → IsSound calls → IsAccepted calls (CloseDirectory token)
@@ -198,9 +187,6 @@ close_held s t calls token h sound a n =
           shown_less s.directories.items t.directories.items (open_directories (calls ++ CloseDirectory token ∷ [])) last.closed
           (h.nesting ∙ ap (map token_and_path) last.before) n.directories;
       directories = directory_closed s t.directories.items calls token h n.directories;
-      files =
-          subst (λ fs. AreFiles fs (calls ++ CloseDirectory token ∷ [])) (sym n.files)
-          (files_closed s.open_files calls (CloseDirectory token) token refl k (λ q. refl) h.files);
       current = current_is s calls (CloseDirectory token) t.current h n.current_is;
     }
 
@@ -226,9 +212,6 @@ text_held s t calls token md5 text h sound a n = record {
   directories = subst (λ ds. AreDirectories ds (calls ++ ApplyText token md5 text ∷ [])) (sym n.directories)
       (directories_still s.directories.items calls (ApplyText token md5 text)
       (file_apart (ApplyText token md5 text) (λ q. refl) (λ q. refl) (λ p. refl) (λ p. refl)) h.directories);
-  files =
-      subst (λ fs. AreFiles fs (calls ++ ApplyText token md5 text ∷ [])) (sym n.files)
-      (files_still s.open_files calls (ApplyText token md5 text) refl (λ q. refl) h.files);
   current = current_is s calls (ApplyText token md5 text) t.current h n.current_is;
 }
 
@@ -246,20 +229,18 @@ file_close_held s t calls token md5 h sound a n = record {
   directories = subst (λ ds. AreDirectories ds (calls ++ CloseFile token md5 ∷ [])) (sym n.directories)
       (directories_still s.directories.items calls (CloseFile token md5)
       (file_apart (CloseFile token md5) (λ q. refl) (λ q. refl) (λ p. refl) (λ p. refl)) h.directories);
-  files = files_removed s.open_files t.open_files calls (CloseFile token md5) token refl (λ q. refl) n.files h.files;
   current = current_is s calls (CloseFile token md5) t.current h n.current_is;
 }
 
 -- a call of which no part of the check takes note
 quiet_held : (s t : OrderCheck) (calls : List Call) (c : Call) → Holds s calls → given_by c ≡ None → ((q : ℕ) → closes q c ≡ false)
     → ((q : ℕ) → applies_text q c ≡ false) → ((d : OpenedDirectory) → IsApart c d) → t.stage ≡ stage_after (calls ++ c ∷ [])
-    → t.tokens.items ≡ s.tokens.items → t.directories.items ≡ s.directories.items → t.open_files ≡ s.open_files
-    → t.current ≡ current_file (calls ++ c ∷ []) → Holds t (calls ++ c ∷ [])
-quiet_held s t calls c h e no_close no_text apart stage tokens directories files current =
+    → t.tokens.items ≡ s.tokens.items → t.directories.items ≡ s.directories.items → t.current ≡ current_file (calls ++ c ∷ []) → Holds t (calls ++ c ∷ [])
+quiet_held s t calls c h e no_close no_text apart stage tokens directories current =
     still_held s t calls c h e no_close no_text stage tokens (ap (map shown) directories)
     (subst (λ ds. AreDirectories ds (calls ++ c ∷ [])) (sym directories)
     (directories_still s.directories.items calls c apart h.directories))
-    files current
+    current
 
 target_held : (s t : OrderCheck) (calls : List Call) (rev : ℕ) → Holds s calls → is_target_late calls (SetTargetRevision rev) ≡ false
     → t ≡ record s { stage = During } → Holds t (calls ++ SetTargetRevision rev ∷ [])
@@ -267,7 +248,6 @@ target_held s t [] rev h a n =
     quiet_held s t [] (SetTargetRevision rev) h refl (λ q. refl) (λ q. refl)
     (file_apart (SetTargetRevision rev) (λ q. refl) (λ q. refl) (λ p. refl) (λ p. refl))
     (ap (λ (x : OrderCheck). x.stage) n) (ap (λ (x : OrderCheck). x.tokens.items) n) (ap (λ (x : OrderCheck). x.directories.items) n)
-    (ap (λ (x : OrderCheck). x.open_files) n)
     (ap (λ (x : OrderCheck). x.current) n ∙ h.current)
 target_held s t (x ∷ calls) rev h a n = absurd (true≢false a)
 
@@ -278,7 +258,7 @@ prop_held s t calls token name value h a n =
     (file_apart (ChangeFileProp token name value) (λ q. refl) (λ q. refl) (λ p. refl) (λ p. refl))
     (begun_stage s t calls (ChangeFileProp token name value) h refl a.target (ap (λ (x : OrderCheck). x.stage) n))
     (ap (λ (x : OrderCheck). x.tokens.items) n)
-    (ap (λ (x : OrderCheck). x.directories.items) n) (ap (λ (x : OrderCheck). x.open_files) n)
+    (ap (λ (x : OrderCheck). x.directories.items) n)
     (ap (λ (x : OrderCheck). x.current) n ∙ h.current
     ∙ sym (current_more calls (ChangeFileProp token name value)
     ∙ stays (current_file calls) (not_false (number_eq (current_file calls) (Some token)) a.prop)))

@@ -1,29 +1,22 @@
--- The tokens, the open files and the stage of an order check after one more call.
-use Rattle.std.proofs.Common.{◌≡◌, ℕ, suc, zero, ◌+◌, ◌<◌, ◌≤◌, Bool, true, false, ◌&&◌, ◌||◌, not, cond, List, [], ◌∷◌, ◌++◌, length, refl}
+-- The tokens and the stage of an order check after one more call.
+use Rattle.std.proofs.Common.{◌≡◌, ℕ, suc, zero, ◌<◌, Bool, true, false, ◌||◌, List, [], ◌∷◌, ◌++◌, length, refl}
 use Rattle.std.proofs.Common.{sym, ◌∙◌, ap, subst, inl, inr, true≢false, arith}
-use Rattle.std.specs.Prelude.{Option, Some, None, ◌⊎◌, slice_get, nat_eq}
+use Rattle.std.specs.Prelude.{Some, None, ◌⊎◌, slice_get, nat_eq}
 use Rattle.std.specs.List.{list_any}
-use Rattle.std.specs.Ordering.{nat_cmp}
-use Rattle.std.specs.BTreeMap.{is_at}
-use Rattle.std.specs.BTreeSet.{BTreeSet, contains}
-use Rattle.std.specs.Cmp.{unsigned_ties}
-use Rattle.std.proofs.lemmas.List.{length-append}
 use Rattle.std.proofs.lemmas.Option.{same_Some}
-use Rattle.svn_types.specs.declared.kind.Kind.TheVariants.{File, Directory}
 use Rattle.svn_editor.specs.declared.call.Call.{Call}
 use Rattle.svn_order.specs.declared.tokens.GivenToken.{GivenToken}
 use Rattle.svn_order.specs.declared.order.Stage.TheVariants.{During}
-use Rattle.svn_editor.specs.Calls.{Given, kind_eq, given_by, closes, applies_text, all_given, given, is_closed, is_of_kind}
+use Rattle.svn_editor.specs.Calls.{Given, given_by, closes, applies_text, all_given, given, is_closed, is_of_kind}
 use Rattle.svn_editor.specs.Order.{is_target_late}
 use Rattle.svn_order.specs.Tokens.{token_of, changed_at, with_closed, with_text}
-use Rattle.svn_order.specs.OrderChanges.{AddsFile, RemovesFile}
-use Rattle.svn_order.specs.StandsAfter.{stage_after, is_open_file_at, IsTokenOf}
+use Rattle.svn_order.specs.StandsAfter.{stage_after, IsTokenOf}
 use Rattle.svn_types.proofs.Places.{some_none, get_cases}
-use Rattle.svn_order.proofs.Changes.{get_within, get_past}
-use Rattle.svn_editor.proofs.OneMore.{or_false, or_true, and_false, any_more, any_still, given_none, given_one}
+use Rattle.svn_order.proofs.Changes.{get_within}
+use Rattle.svn_editor.proofs.OneMore.{or_true, any_more, any_still, given_none, given_one}
 use Rattle.svn_editor.proofs.Nested.{true_eq, eq_true}
-use Rattle.svn_order.proofs.Sound.{IsSound, IsKnown, other_kind}
-use Rattle.svn_order.proofs.OpenDirectories.{new_unclosed, new_textless, beyond}
+use Rattle.svn_order.proofs.Sound.{IsSound}
+use Rattle.svn_order.proofs.OpenDirectories.{new_unclosed, new_textless}
 
 -- ---- the stage
 
@@ -154,104 +147,3 @@ tokens_text ns calls c i e no_close text =
           any_more (applies_text t) calls c ∙ ap (λ b. list_any (applies_text t) calls || b) (text t ∙ q)
           ∙ or_true (list_any (applies_text t) calls);
     })
-
--- ---- the open files
-
-abbrev pub AreFiles : BTreeSet ℕ → List Call → Type 0
-AreFiles fs calls = (t : ℕ) → contains nat_cmp fs t ≡ is_open_file_at calls t
-
-tied_number : (m n : ℕ) → is_at (nat_cmp m) n ≡ nat_eq m n
-tied_number m n = sym (unsigned_ties m n)
-
-pub files_still : (fs : BTreeSet ℕ) (calls : List Call) (c : Call) → given_by c ≡ None → ((t : ℕ) → closes t c ≡ false) → AreFiles fs calls
-    → AreFiles fs (calls ++ c ∷ [])
-files_still fs calls c e no_close h t =
-    h t
-    ∙ sym (ap (λ o. is_of_kind File o && not (is_closed (calls ++ c ∷ []) t)) (given_still calls c t e)
-    ∙ ap (λ b. is_of_kind File (given calls t) && not b) (any_still (closes t) calls c (no_close t)))
-
--- a token that is given, to a file or to none
-pub files_given : (fs : BTreeSet ℕ) (calls : List Call) (c : Call) (g : Given) (t : ℕ) → IsSound calls → given_by c ≡ Some g
-    → ((t : ℕ) → closes t c ≡ false) → AreFiles fs calls
-    → cond (nat_eq (length (all_given calls)) t) (kind_eq g.kind File) (contains nat_cmp fs t) ≡ is_open_file_at (calls ++ c ∷ []) t
-files_given fs calls c g t sound e no_close h =
-    by (nat_eq (length (all_given calls)) t) refl
-    ∙ sym (ap (λ b. is_of_kind File (given (calls ++ c ∷ []) t) && not b) (any_still (closes t) calls c (no_close t)))
-  where
-    by : (b : Bool) → nat_eq (length (all_given calls)) t ≡ b
-        → cond b (kind_eq g.kind File) (contains nat_cmp fs t) ≡ (is_of_kind File (given (calls ++ c ∷ []) t) && not (is_closed calls t))
-    by true q =
-        let new : length (all_given calls) ≡ t = true_eq (length (all_given calls)) t q in
-        sym (ap (λ o. is_of_kind File o && not (is_closed calls t)) (given_now calls c g t e (sym new))
-        ∙ ap (λ b. kind_eq g.kind File && not b) (new_unclosed calls t sound (omega arith))
-        ∙ and_true (kind_eq g.kind File))
-      where
-        and_true : (a : Bool) → (a && true) ≡ a
-        and_true true = refl
-        and_true false = refl
-    by false q = h t ∙ ap (λ o. is_of_kind File o && not (is_closed calls t)) (at (given calls t) refl)
-      where
-        at : (o : Option Given) → given calls t ≡ o → given calls t ≡ given (calls ++ c ∷ []) t
-        at (Some x) k = sym (given_before calls c g t e (get_within (all_given calls) t x k))
-        at None k =
-            let l : length (all_given calls) ≤ t = beyond (all_given calls) t k in
-            k ∙ sym (ap (λ gs. slice_get gs t) (given_one calls c g e)
-            ∙ get_past (all_given calls ++ g ∷ []) t
-            (past (λ s. true≢false (sym (eq_true (length (all_given calls)) t s) ∙ q)) l (length-append (all_given calls) (g ∷ []))))
-          where
-            past : (length (all_given calls) ≡ t → ⊥) → length (all_given calls) ≤ t
-                → length (all_given calls ++ g ∷ []) ≡ length (all_given calls) + 1 → length (all_given calls ++ g ∷ []) ≤ t
-            past n l s = omega arith
-
-pub files_directory : (fs : BTreeSet ℕ) (calls : List Call) (c : Call) (g : Given) → IsSound calls → given_by c ≡ Some g
-    → kind_eq g.kind File ≡ false → ((t : ℕ) → closes t c ≡ false) → AreFiles fs calls → AreFiles fs (calls ++ c ∷ [])
-files_directory fs calls c g sound e kind no_close h t =
-    by (nat_eq (length (all_given calls)) t) refl ∙ files_given fs calls c g t sound e no_close h
-  where
-    by : (b : Bool) → nat_eq (length (all_given calls)) t ≡ b
-        → contains nat_cmp fs t ≡ cond (nat_eq (length (all_given calls)) t) (kind_eq g.kind File) (contains nat_cmp fs t)
-    by false q = sym (ap (λ x. cond x (kind_eq g.kind File) (contains nat_cmp fs t)) q)
-    by true q =
-        let new : length (all_given calls) ≡ t = true_eq (length (all_given calls)) t q in
-        h t ∙ ap (λ o. is_of_kind File o && not (is_closed calls t)) (get_past (all_given calls) t (omega arith))
-        ∙ sym (ap (λ x. cond x (kind_eq g.kind File) (contains nat_cmp fs t)) q ∙ kind)
-
-pub files_added : (fs gs : BTreeSet ℕ) (calls : List Call) (c : Call) (g : Given) (t : ℕ) → IsSound calls → given_by c ≡ Some g
-    → kind_eq g.kind File ≡ true → t ≡ length (all_given calls) → ((t : ℕ) → closes t c ≡ false) → AddsFile t fs gs → AreFiles fs calls
-    → AreFiles gs (calls ++ c ∷ [])
-files_added fs gs calls c g t sound e kind number no_close adds h q =
-    adds q ∙ ap (λ b. cond b true (contains nat_cmp fs q)) (tied_number t q ∙ ap (λ n. nat_eq n q) number)
-    ∙ ap (λ b. cond (nat_eq (length (all_given calls)) q) b (contains nat_cmp fs q)) (sym kind)
-    ∙ files_given fs calls c g q sound e no_close h
-
-pub files_removed : (fs gs : BTreeSet ℕ) (calls : List Call) (c : Call) (t : ℕ) → given_by c ≡ None → ((q : ℕ) → closes q c ≡ nat_eq t q)
-    → RemovesFile t fs gs → AreFiles fs calls → AreFiles gs (calls ++ c ∷ [])
-files_removed fs gs calls c t e close removes h q =
-    removes q ∙ ap (λ b. cond b false (contains nat_cmp fs q)) (tied_number t q) ∙ ap (λ b. cond (nat_eq t q) false b) (h q)
-    ∙ by (nat_eq t q) (is_of_kind File (given calls q)) (is_closed calls q)
-    ∙ sym (ap (λ o. is_of_kind File o && not (is_closed (calls ++ c ∷ []) q)) (given_still calls c q e)
-    ∙ ap (λ b. is_of_kind File (given calls q) && not b) (any_more (closes q) calls c ∙ ap (λ b. is_closed calls q || b) (close q)))
-  where
-    by : (b k d : Bool) → cond b false (k && not d) ≡ (k && not (d || b))
-    by true k d = sym (ap (λ x. k && not x) (or_true d) ∙ and_false k)
-    by false k d = ap (λ x. k && not x) (sym (or_false d))
-
--- the close of a directory closes no file
-pub files_closed : (fs : BTreeSet ℕ) (calls : List Call) (c : Call) (t : ℕ) → given_by c ≡ None → IsKnown calls t Directory
-    → ((q : ℕ) → closes q c ≡ nat_eq t q) → AreFiles fs calls → AreFiles fs (calls ++ c ∷ [])
-files_closed fs calls c t e known close h q =
-    h q ∙ by (nat_eq t q) refl
-    ∙ sym (ap (λ o. is_of_kind File o && not (is_closed (calls ++ c ∷ []) q)) (given_still calls c q e)
-    ∙ ap (λ b. is_of_kind File (given calls q) && not b) (any_more (closes q) calls c ∙ ap (λ b. is_closed calls q || b) (close q)))
-  where
-    by : (b : Bool) → nat_eq t q ≡ b
-        → (is_of_kind File (given calls q) && not (is_closed calls q))
-        ≡ (is_of_kind File (given calls q) && not (is_closed calls q || nat_eq t q))
-    by false k =
-        ap (λ x. is_of_kind File (given calls q) && not x) (sym (ap (λ b. is_closed calls q || b) k ∙ or_false (is_closed calls q)))
-    by true k =
-        let same : t ≡ q = true_eq t q k in
-        let none : is_of_kind File (given calls q) ≡ false =
-        ap (λ n. is_of_kind File (given calls n)) (sym same) ∙ ap (is_of_kind File) known.is
-        ∙ other_kind known.given_as.kind Directory File known.kind refl in
-        ap (λ b. b && not (is_closed calls q)) none ∙ sym (ap (λ b. b && not (is_closed calls q || nat_eq t q)) none)

@@ -12,7 +12,7 @@ pub mod Lawful
 pub mod Looking
 -- each test of the check is that of the calls before, and so is its first fault
 pub mod Answering
--- tokens, open files and stage after one more call
+-- tokens and stage after one more call
 pub mod HoldingTokens
 -- the open directories after one more call
 pub mod HoldingDirectories

@@ -4,14 +4,8 @@ use Rattle.std.proofs.Common.{ap, subst, true≢false, arith}
 use Rattle.std.specs.Prelude.{Option, Some, None, slice_get, nat_eq}
 use Rattle.std.specs.List.{list_any}
 use Rattle.std.specs.Option.{option_map}
-use Rattle.std.specs.Ordering.{nat_cmp}
-use Rattle.std.specs.Ordering.{is_eq}
-use Rattle.std.specs.BTreeMap.{is_at}
-use Rattle.std.proofs.lemmas.Cmp.{tied_itself, nat_cmp_total}
-use Rattle.std.specs.BTreeSet.{contains, btree_set_len}
 use Rattle.std.proofs.lemmas.List.{length-map}
 use Rattle.std.proofs.lemmas.Option.{none-some, same_Some, slice_get-map}
-use Rattle.std.proofs.lemmas.Bool.Decides.{nat_tests}
 use Rattle.svn_types.specs.declared.kind.Kind.{Kind}
 use Rattle.svn_types.specs.declared.kind.Kind.TheVariants.{File, Directory}
 use Rattle.svn_types.specs.Names.{Path}
@@ -24,7 +18,7 @@ use Rattle.svn_editor.specs.Calls.{Given, kind_eq, number_eq, opens_entry, delet
 use Rattle.svn_editor.specs.Calls.{path_of, is_of_kind, innermost, is_open_directory, is_open_file, opens_below, a_directory_is_open}
 use Rattle.svn_editor.specs.Calls.{a_file_is_open, a_subdirectory_is_open, changed_late}
 use Rattle.svn_editor.specs.Order.{is_outside}
-use Rattle.svn_order.specs.Tokens.{is_of_kind_in, is_closed_in, has_text_in, is_of_kind_at, is_closed_at, has_text_at}
+use Rattle.svn_order.specs.Tokens.{is_of_kind_in, is_closed_in, has_text_in, is_of_kind_at, is_closed_at, has_text_at, is_unclosed_file}
 use Rattle.svn_order.specs.Directories.{entry_name, shown, innermost_of, changed_late_of, changed_late_in, is_directory, holds_entry}
 use Rattle.svn_order.specs.Directories.{opened_of, deleted_of, is_opened_in, is_deleted_in}
 use Rattle.svn_order.specs.OrderState.{none_open}
@@ -302,34 +296,38 @@ late_at s calls t h sound k e =
 -- ---- open files
 
 pub files_at : (s : OrderCheck) (calls : List Call) → Holds s calls → IsSound calls
-    → not (nat_eq (btree_set_len s.open_files) 0) ≡ a_file_is_open calls
-files_at s calls h sound = same_truth _ _ (λ e. first s.open_files.keys refl e) back
+    → list_any is_unclosed_file s.tokens.items ≡ a_file_is_open calls
+files_at s calls h sound = same_truth _ _ forth back
   where
-    first : (ks : List ℕ) → s.open_files.keys ≡ ks → not (nat_eq (length s.open_files.keys) 0) ≡ true → a_file_is_open calls ≡ true
-    first [] k e = absurd (true≢false (sym (sym (ap (λ (xs : List ℕ). not (nat_eq (length xs) 0)) k) ∙ e)))
-    first (t ∷ ks) k e =
-        at (given calls t) refl (and_parts (is_of_kind File (given calls t)) (not (is_closed calls t)) (sym (h.files t) ∙ there))
+    forth : list_any is_unclosed_file s.tokens.items ≡ true → a_file_is_open calls ≡ true
+    forth e =
+        let m = any_found is_unclosed_file s.tokens.items e in
+        let parts = and_parts (kind_eq m.1.kind File) (not m.1.is_closed) m.3 in
+        let is = h.tokens m.0 m.1 m.2 in
+        at m.0 (given calls m.0) refl (is.kind File ∙ parts.0) (ap not is.closed ∙ parts.1)
       where
-        there : contains nat_cmp s.open_files t ≡ true
-        there = ap (list_any (is_at (nat_cmp t))) k ∙ ap (λ o. is_eq o || list_any (is_at (nat_cmp t)) ks) (tied_itself nat_cmp_total t)
-
-        at : (o : Option Given) → given calls t ≡ o → (is_of_kind File (given calls t) ≡ true) × (not (is_closed calls t) ≡ true)
+        at : (t : ℕ) (o : Option Given) → given calls t ≡ o → is_of_kind File (given calls t) ≡ true → not (is_closed calls t) ≡ true
             → a_file_is_open calls ≡ true
-        at None q p = absurd (true≢false (sym (sym (ap (is_of_kind File) q) ∙ p.0)))
-        at (Some g) q p =
+        at t None q kind unclosed = absurd (true≢false (sym (sym (ap (is_of_kind File) q) ∙ kind)))
+        at t (Some g) q kind unclosed =
             any_at (is_open_file calls) (all_given calls) t g q
             (ap (λ n. kind_eq g.kind File && not (is_closed calls n)) (sound.numbered t g q)
-            ∙ ap (λ b. b && not (is_closed calls t)) (sym (ap (is_of_kind File) q) ∙ p.0) ∙ p.1)
+            ∙ ap (λ b. b && not (is_closed calls t)) (sym (ap (is_of_kind File) q) ∙ kind) ∙ unclosed)
 
-    back : a_file_is_open calls ≡ true → not (nat_eq (length s.open_files.keys) 0) ≡ true
+    back : a_file_is_open calls ≡ true → list_any is_unclosed_file s.tokens.items ≡ true
     back e =
         let m = any_found (is_open_file calls) (all_given calls) e in
         let parts = and_parts (kind_eq m.1.kind File) (not (is_closed calls m.1.token)) m.3 in
-        let is : contains nat_cmp s.open_files m.0 ≡ true =
-        h.files m.0 ∙ ap (λ o. is_of_kind File o && not (is_closed calls m.0)) m.2 ∙ ap (λ b. b && not (is_closed calls m.0)) parts.0
-        ∙ ap (λ n. not (is_closed calls n)) (sym (sound.numbered m.0 m.1 m.2)) ∙ parts.1 in
-        some s.open_files.keys m.0 is
+        at m.0 m.1 m.2 parts.0 (ap (λ n. not (is_closed calls n)) (sym (sound.numbered m.0 m.1 m.2)) ∙ parts.1)
+        (slice_get s.tokens.items m.0) refl
       where
-        some : (ks : List ℕ) (t : ℕ) → list_any (is_at (nat_cmp t)) ks ≡ true → not (nat_eq (length ks) 0) ≡ true
-        some [] t q = absurd (true≢false (sym q))
-        some (k ∷ ks) t q = grind (arith, nat_tests)
+        at : (t : ℕ) (g : Given) → given calls t ≡ Some g → kind_eq g.kind File ≡ true → not (is_closed calls t) ≡ true
+            → (o : Option GivenToken) → slice_get s.tokens.items t ≡ o → list_any is_unclosed_file s.tokens.items ≡ true
+        at t g q kind unclosed None k =
+            let l = get_within (all_given calls) t g q in
+            let r = beyond s.tokens.items t k in
+            absurd (omega (arith, l, r, h.count))
+        at t g q kind unclosed (Some n) k =
+            let is = h.tokens t n k in
+            any_at is_unclosed_file s.tokens.items t n k
+            (ap (λ b. b && not n.is_closed) (sym (is.kind File) ∙ ap (is_of_kind File) q ∙ kind) ∙ ap not (sym is.closed) ∙ unclosed)

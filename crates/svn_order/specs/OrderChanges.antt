@@ -1,11 +1,8 @@
 -- What an order check does with a call that it accepts.
 --     Notes old c new      the check before, the call, and the check after
 --     Takes old c answer new      the same of any call while the edit goes on, with its answer
-use Rattle.std.specs.Prelude.{◌≡◌, ℕ, true, false, cond, List, [], ◌∷◌, ◌++◌, Option, Some, None, if◌then◌else◌, Result, Ok, Err}
+use Rattle.std.specs.Prelude.{◌≡◌, ℕ, false, List, [], ◌∷◌, ◌++◌, Option, Some, None, if◌then◌else◌, Result, Ok, Err}
 use Rattle.std.specs.Prelude.{MatchResult}
-use Rattle.std.specs.Ordering.{nat_cmp}
-use Rattle.std.specs.BTreeMap.{is_at}
-use Rattle.std.specs.BTreeSet.{BTreeSet, contains}
 use Rattle.svn_types.specs.declared.kind.Kind.TheVariants.{File, Directory}
 use Rattle.svn_types.specs.Names.{Path}
 use Rattle.svn_editor.specs.declared.call.Call.{Call}
@@ -29,19 +26,11 @@ Stays old new = new ≡ old
 
 -- each part of a check but its stage is so afterwards
 pub record Becomes (tokens : List GivenToken) (Directories : List OpenedDirectory → List OpenedDirectory → Type 0)
-    (Files : BTreeSet ℕ → BTreeSet ℕ → Type 0)
     (current : Option ℕ) (old new : OrderCheck) : Type 0 where
   pub stage : new.stage ≡ old.stage
   pub tokens_are : new.tokens.items ≡ tokens
   pub directories : Directories old.directories.items new.directories.items
-  pub files : Files old.open_files new.open_files
   pub current_is : new.current ≡ current
-
-abbrev pub AddsFile : ℕ → BTreeSet ℕ → BTreeSet ℕ → Type 0
-AddsFile t old new = (q : ℕ) → contains nat_cmp new q ≡ cond (is_at (nat_cmp t) q) true (contains nat_cmp old q)
-
-abbrev pub RemovesFile : ℕ → BTreeSet ℕ → BTreeSet ℕ → Type 0
-RemovesFile t old new = (q : ℕ) → contains nat_cmp new q ≡ cond (is_at (nat_cmp t) q) false (contains nat_cmp old q)
 
 -- a subdirectory of the innermost directory is opened
 pub record Enters (p : Path) (t : ℕ) (old new : List OpenedDirectory) : Type 0 where
@@ -52,29 +41,29 @@ pub record Enters (p : Path) (t : ℕ) (old new : List OpenedDirectory) : Type 0
   pub opened : Opens marked p t new
 
 abbrev pub NotesRoot : ℕ → OrderCheck → OrderCheck → Type 0
-NotesRoot t old new = Becomes (old.tokens.items ++ token_of Directory ∷ []) (λ ds es. Opens ds [] t es) Stays None old new
+NotesRoot t old new = Becomes (old.tokens.items ++ token_of Directory ∷ []) (λ ds es. Opens ds [] t es) None old new
 
 abbrev pub NotesDelete : Path → OrderCheck → OrderCheck → Type 0
-NotesDelete p old new = Becomes old.tokens.items (λ ds es. DeletesEntry ds p es) Stays None old new
+NotesDelete p old new = Becomes old.tokens.items (λ ds es. DeletesEntry ds p es) None old new
 
 abbrev pub NotesDirectory : Path → ℕ → OrderCheck → OrderCheck → Type 0
-NotesDirectory p t old new = Becomes (old.tokens.items ++ token_of Directory ∷ []) (Enters p t) Stays None old new
+NotesDirectory p t old new = Becomes (old.tokens.items ++ token_of Directory ∷ []) (Enters p t) None old new
 
 abbrev pub NotesChange : OrderCheck → OrderCheck → Type 0
-NotesChange old new = Becomes old.tokens.items ChangesProp Stays None old new
+NotesChange old new = Becomes old.tokens.items ChangesProp None old new
 
 abbrev pub NotesDirectoryClose : ℕ → OrderCheck → OrderCheck → Type 0
-NotesDirectoryClose t old new = Becomes (with_closed old.tokens.items t) (λ ds es. es ≡ without_last ds) Stays None old new
+NotesDirectoryClose t old new = Becomes (with_closed old.tokens.items t) (λ ds es. es ≡ without_last ds) None old new
 
 abbrev pub NotesFile : Path → ℕ → OrderCheck → OrderCheck → Type 0
-NotesFile p t old new = Becomes (old.tokens.items ++ token_of File ∷ []) (λ ds es. OpensEntry ds p es) (AddsFile t) (Some t) old new
+NotesFile p t old new = Becomes (old.tokens.items ++ token_of File ∷ []) (λ ds es. OpensEntry ds p es) (Some t) old new
 
 abbrev pub NotesText : ℕ → OrderCheck → OrderCheck → Type 0
 NotesText t old new =
-    Becomes (with_text old.tokens.items t) Stays Stays (if number_eq old.current (Some t) then old.current else None) old new
+    Becomes (with_text old.tokens.items t) Stays (if number_eq old.current (Some t) then old.current else None) old new
 
 abbrev pub NotesFileClose : ℕ → OrderCheck → OrderCheck → Type 0
-NotesFileClose t old new = Becomes (with_closed old.tokens.items t) Stays (RemovesFile t) None old new
+NotesFileClose t old new = Becomes (with_closed old.tokens.items t) Stays None old new
 
 abbrev pub Notes : OrderCheck → Call → OrderCheck → Type 0
 Notes old (SetTargetRevision rev) new = new ≡ record old { stage = During }

@@ -1,7 +1,7 @@
 -- The test of each rule, asked of what an order check holds in the place of the calls before.
 use Rattle.std.specs.Prelude.{ℕ, Bool, true, false, ◌&&◌, ◌||◌, not, List, length, nat_eq, Option, Some, None, if◌then◌else◌}
+use Rattle.std.specs.List.{list_any}
 use Rattle.std.specs.Option.{option_map, option_or}
-use Rattle.std.specs.BTreeSet.{btree_set_len}
 use Rattle.svn_types.specs.declared.kind.Kind.{Kind}
 use Rattle.svn_types.specs.Names.{Path}
 use Rattle.svn_editor.specs.declared.call.Call.{Call}
@@ -18,7 +18,7 @@ use Rattle.svn_order.specs.declared.order.OrderCheck.{OrderCheck}
 use Rattle.svn_order.specs.declared.order.Stage.{Stage}
 use Rattle.svn_order.specs.declared.order.Stage.TheVariants.{Before}
 use Rattle.svn_editor.specs.Calls.{given_by, named_by, entry_of, number_eq}
-use Rattle.svn_order.specs.Tokens.{is_of_kind_at, is_closed_at, has_text_at}
+use Rattle.svn_order.specs.Tokens.{is_of_kind_at, is_closed_at, has_text_at, is_unclosed_file}
 use Rattle.svn_order.specs.Directories.{innermost_of, changed_late_in, holds_entry, is_opened_in, is_deleted_in}
 
 abbrev pub is_before : Stage → Bool
@@ -103,7 +103,7 @@ text_again tokens _ = false
 
 abbrev pub root_unclosed : OrderCheck → Call → Bool
 root_unclosed s CloseEdit =
-    nat_eq (length s.tokens.items) 0 || not (none_open s.directories.items) || not (nat_eq (btree_set_len s.open_files) 0)
+    nat_eq (length s.tokens.items) 0 || not (none_open s.directories.items) || list_any is_unclosed_file s.tokens.items
 root_unclosed s _ = false
 
 -- of what the call names

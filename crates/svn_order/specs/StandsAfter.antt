@@ -2,12 +2,9 @@
 --     open_directories calls      the directories that are open, in the order in which they were opened
 --     StandsAfter check calls      the check was given these calls, and accepted each
 --     IsDead check, HasEnded check      a call was refused; the edit was ended or given up
-use Rattle.std.specs.Prelude.{◌≡◌, ℕ, Bool, true, false, ◌&&◌, not, List, [], ◌∷◌, length, map, filter, Some, slice_get, Result, Ok, Err}
+use Rattle.std.specs.Prelude.{◌≡◌, ℕ, true, false, List, [], ◌∷◌, length, map, filter, Some, slice_get, Result, Ok, Err}
 use Rattle.std.specs.List.{list_any}
-use Rattle.std.specs.Ordering.{nat_cmp}
-use Rattle.std.specs.BTreeSet.{contains}
 use Rattle.svn_types.specs.declared.kind.Kind.{Kind}
-use Rattle.svn_types.specs.declared.kind.Kind.TheVariants.{File}
 use Rattle.svn_types.specs.Names.{Path}
 use Rattle.svn_types.specs.Paths.{child}
 use Rattle.svn_editor.specs.declared.call.Call.{Call}
@@ -31,9 +28,6 @@ open_directories calls = filter (is_open_directory calls) (all_given calls)
 abbrev pub token_and_path : Given → ℕ × Path
 token_and_path g = (g.token, g.path)
 
-abbrev pub is_open_file_at : List Call → ℕ → Bool
-is_open_file_at calls t = is_of_kind File (given calls t) && not (is_closed calls t)
-
 abbrev pub stage_after : List Call → Stage
 stage_after [] = Before
 stage_after (c ∷ calls) = During
@@ -56,7 +50,6 @@ pub record Holds (check : OrderCheck) (calls : List Call) : Type 0 where
   pub tokens : (t : ℕ) (n : GivenToken) → slice_get check.tokens.items t ≡ Some n → IsTokenOf calls t n
   pub nesting : map shown check.directories.items ≡ map token_and_path (open_directories calls)
   pub directories : (i : ℕ) (d : OpenedDirectory) → slice_get check.directories.items i ≡ Some d → IsDirectoryOf calls d
-  pub files : (t : ℕ) → contains nat_cmp check.open_files t ≡ is_open_file_at calls t
   pub current : check.current ≡ current_file calls
 
 abbrev pub HasEnded : OrderCheck → Type 0

@@ -1,6 +1,7 @@
 -- What is remembered of the tokens of an edit: of each its kind, whether it was closed, whether it had a text.
-use Rattle.std.specs.Prelude.{ℕ, suc, zero, Bool, true, false, List, [], ◌∷◌, Option, Some, None, slice_get}
+use Rattle.std.specs.Prelude.{ℕ, suc, zero, Bool, true, false, ◌&&◌, not, List, [], ◌∷◌, Option, Some, None, slice_get}
 use Rattle.svn_types.specs.declared.kind.Kind.{Kind}
+use Rattle.svn_types.specs.declared.kind.Kind.TheVariants.{File}
 use Rattle.svn_order.specs.declared.tokens.GivenToken.{GivenToken}
 use Rattle.svn_editor.specs.Calls.{kind_eq}
 
@@ -24,6 +25,10 @@ is_closed_at tokens t = is_closed_in (slice_get tokens t)
 
 abbrev pub has_text_at : List GivenToken → ℕ → Bool
 has_text_at tokens t = has_text_in (slice_get tokens t)
+
+-- it was given to a file that isn't closed
+abbrev pub is_unclosed_file : GivenToken → Bool
+is_unclosed_file n = kind_eq n.kind File && not n.is_closed
 
 -- a token that was just given
 abbrev pub token_of : Kind → GivenToken

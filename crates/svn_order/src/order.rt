@@ -14,7 +14,6 @@ use crate::directories::OpenedDirectory;
 use crate::tokens::GivenToken;
 use crate::{directories, tokens};
 use std::alloc::{AllocError, Global};
-use std::collections::BTreeSet;
 use svn_editor::{Call, OrderFault, Token};
 use svn_types::{Kind, RelPath};
 
@@ -34,13 +33,13 @@ pub enum Stage {
 /// Tells which calls of an edit are in order, by the rules of `svn_delta.h`, which are prose at `svn_editor::Editor`.
 ///
 /// It remembers a few bytes of each token, and of the directories that are open their paths and the names of the entries that calls were
-/// about. The cost of a step grows with the length of the path that the call has, and with the logarithm of the entries of its directory.
+/// about. The cost of a step grows with the length of the path that the call has, and with the logarithm of the entries of its directory;
+/// `CloseEdit`, which comes once, goes over the tokens.
 #[derive(Debug, Drop)]
 pub struct OrderCheck {
     pub(crate) stage: Stage,
     pub(crate) tokens: Vec<GivenToken>,
     pub(crate) directories: Vec<OpenedDirectory>,
-    pub(crate) open_files: BTreeSet<u64>,
     pub(crate) current: Option<Token>,
     pub(crate) alloc: Global,
 }
@@ -54,7 +53,6 @@ impl OrderCheck {
             stage: Stage::Before,
             tokens: Vec::new(alloc),
             directories: Vec::new(alloc),
-            open_files: BTreeSet::new(alloc),
             current: None,
             alloc,
         }
@@ -158,7 +156,7 @@ impl OrderCheck {
     }
 
     fn open_directory(&mut self, path: &RelPath, token: Token) -> Result<(), AllocError>
-        ensures { OnOk result (Becomes (self.old.tokens.items ++ token_of Directory ∷ []) (λ ds es. Opens ds path.now token es) Stays None self.old self.new) }
+        ensures { OnOk result (Becomes (self.old.tokens.items ++ token_of Directory ∷ []) (λ ds es. Opens ds path.now token es) None self.old self.new) }
     {
         let path = path.clone()?;
         tokens::give(&mut self.tokens, Kind::Directory)?;
@@ -203,7 +201,6 @@ impl OrderCheck {
     {
         directories::open_entry(&mut self.directories, path)?;
         tokens::give(&mut self.tokens, Kind::File)?;
-        self.open_files.insert(token.0)?;
         self.current = Some(token);
         Ok(())
     }
@@ -221,7 +218,6 @@ impl OrderCheck {
         ensures { NotesFileClose token self.old self.new }
     {
         tokens::close(&mut self.tokens, token);
-        self.open_files.remove(&token.0);
         self.current = None;
     }
 }

@@ -315,7 +315,7 @@ impl OrderCheck {
             Call::CloseEdit => {
                 self.tokens.is_empty()
                     || !self.directories.is_empty()
-                    || !self.open_files.is_empty()
+                    || tokens::has_unclosed_file(&self.tokens)
             }
             _ => false,
         }

@@ -1,7 +1,8 @@
 //! What is remembered of the tokens of an edit, in the order in which they were given.
 ghost use Rattle.std.specs.Prelude.{◌≡◌, ◌++◌, ◌∷◌, [], OnOk};
 ghost use Rattle.svn_editor.specs.Calls.{kind_eq};
-ghost use Rattle.svn_order.specs.Tokens.{is_of_kind_at, is_closed_at, has_text_at, token_of, with_closed, with_text};
+ghost use Rattle.std.specs.List.{list_any};
+ghost use Rattle.svn_order.specs.Tokens.{is_of_kind_at, is_closed_at, has_text_at, is_unclosed_file, token_of, with_closed, with_text};
 
 use std::alloc::AllocError;
 use svn_editor::Token;
@@ -55,6 +56,20 @@ pub fn has_text(tokens: &[GivenToken], token: Token) -> bool
         Some(given) => given.has_text,
         None => false,
     }
+}
+
+// Whether a token was given to a file that isn't closed.
+fn is_unclosed_file(token: &GivenToken) -> bool
+    ensures { result ≡ is_unclosed_file token.now }
+{
+    same_kind(token.kind, Kind::File) && !token.is_closed
+}
+
+/// Whether one of the tokens was given to a file that isn't closed.
+pub fn has_unclosed_file(tokens: &[GivenToken]) -> bool
+    ensures { result ≡ list_any is_unclosed_file tokens.now }
+{
+    tokens.iter().any(is_unclosed_file)
 }
 
 /// Gives the next token, to a node of this kind. AllocError where a growth is refused.
