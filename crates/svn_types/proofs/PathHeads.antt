@@ -1,15 +1,17 @@
--- The heads of keys: how one is read byte by byte, and that keys with unlike heads are ordered as these are.
-use Rattle.std.proofs.Common.{◌≡◌, ◌≢◌, ℕ, zero, suc, ◌+◌, ◌-◌, ◌*◌, ◌^◌, ◌<◌, ◌≤◌, refl, ap, sym, subst, ◌∙◌, arith}
-use Rattle.std.proofs.Common.{List, [], ◌∷◌, get_or, drop}
+-- The heads of keys: keys with unlike heads are ordered as these are.
+use Rattle.std.proofs.Common.{◌≡◌, ◌≢◌, ℕ, zero, suc, ◌+◌, ◌*◌, ◌^◌, ◌<◌, ◌≤◌, refl, ap, sym, subst, ◌∙◌, arith}
+use Rattle.std.proofs.Common.{List, [], ◌∷◌, length, get_or, drop}
 use Rattle.std.specs.declared.cmp.Ordering.{Ordering}
 use Rattle.std.specs.declared.cmp.Ordering.TheVariants.{Less, Equal, Greater}
 use Rattle.std.specs.Ordering.{ordering_then, ordering_reverse, nat_cmp}
 use Rattle.std.specs.Cmp.Lexicographic.{slice_cmp}
 use Rattle.std.proofs.lemmas.Cmp.{nat_list_cmp_total}
-use Rattle.std.proofs.Math.Nat.{pow-suc, pow-le-pow_right}
+use Rattle.std.proofs.Math.Nat.{pow-suc}
+use Rattle.std.proofs.Math.ListN.{drop_of_length-le}
 use Rattle.svn_types.specs.Names.{Path}
 use Rattle.svn_types.specs.LeadingBytes.{IsByteList, leading}
-use Rattle.svn_types.specs.PathHeads.{IsHeadOf}
+use Rattle.svn_types.specs.PathHeads.{IsHeadOf, head_number}
+use Rattle.svn_types.specs.declared.path_head.Head.{Head}
 use Rattle.svn_types.specs.PathKeys.{path_key}
 use Rattle.svn_types.proofs.PathKeys.{key_order}
 
@@ -23,56 +25,17 @@ first_left zero s = refl
 first_left (suc i) [] = refl
 first_left (suc i) (b ∷ s) = first_left i s
 
-moved_up : (h b p l q : ℕ) → q ≡ p * 256 → (h * 256 + b) * p + l ≡ h * q + (b * p + l)
-moved_up h b p l q is = omega (arith, ap (λ r. h * r) is)
-
--- the next byte of a list, read behind a number
-leading_next : (n h i : ℕ) (s : List ℕ)
-    → (h * 256 + get_or s i 0) * 256 ^ n + leading n (drop (suc i) s) ≡ h * 256 ^ suc n + leading (suc n) (drop i s)
-unfolding leading
-leading_next n h i s =
-    moved_up h (get_or s i 0) (256 ^ n) (leading n (drop (suc i) s)) (256 ^ suc n) (pow-suc 256 n)
-    ∙ (λ k. h * 256 ^ suc n + (sym (first_left i s) k * 256 ^ n + leading n (sym (drop_next i s) k)))
-
--- the same, so many bytes being left
-pub leading_read : (i h whole : ℕ) (s : List ℕ) → i < 8 → h * 256 ^ (8 - i) + leading (8 - i) (drop i s) ≡ whole
-    → (h * 256 + get_or s i 0) * 256 ^ (8 - (i + 1)) + leading (8 - (i + 1)) (drop (i + 1) s) ≡ whole
-leading_read i h whole s within so_far =
-    let left : 8 - i ≡ suc (8 - (i + 1)) = omega arith in
-    let next : i + 1 ≡ suc i = omega arith in
-    (λ k. (h * 256 + get_or s i 0) * 256 ^ (8 - (i + 1)) + leading (8 - (i + 1)) (drop (next k) s))
-    ∙ leading_next (8 - (i + 1)) h i s
-    ∙ (λ k. h * 256 ^ sym left k + leading (sym left k) (drop i s))
-    ∙ so_far
-
-pub leading_whole : (i h whole : ℕ) (s : List ℕ) → i ≡ 8 → h * 256 ^ (8 - i) + leading (8 - i) (drop i s) ≡ whole → h ≡ whole
-unfolding leading
-leading_whole i h whole s end so_far =
-    let all : h * 256 ^ (8 - 8) + leading (8 - 8) (drop 8 s) ≡ whole =
-    (λ k. h * 256 ^ (8 - sym end k) + leading (8 - sym end k) (drop (sym end k) s)) ∙ so_far in
-    omega (arith, all)
-
 digit_below : (b p l q : ℕ) → q ≡ p * 256 → b < 256 → l < p → b * p + l < q
 digit_below b p l q is small below = grind (arith, is, small, below)
 
-read_below : (h b p q : ℕ) → q ≡ p * 256 → h < p → b < 256 → h * 256 + b < q
-read_below h b p q is below small = omega arith
-
--- what was read stays below the number of digits
-pub read_bounded : (i h b : ℕ) → h < 256 ^ i → b < 256 → h * 256 + b < 256 ^ (i + 1)
-read_bounded i h b below small =
-    let next : i + 1 ≡ suc i = omega arith in
-    read_below h b (256 ^ i) (256 ^ (i + 1)) (ap (λ n. 256 ^ n) next ∙ pow-suc 256 i) below small
-
-pub read_fits : (i n : ℕ) → i < 8 → n < 256 ^ (i + 1) → n < 2 ^ 64
-read_fits i n within below =
-    let most : 256 ^ (i + 1) ≤ 256 ^ 8 = pow-le-pow_right {n = 256} (omega arith) {i = i + 1} {j = 8} (omega arith) in
-    omega arith
-
-leading_nil : (n : ℕ) → leading n [] ≡ 0
+pub leading_nil : (n : ℕ) → leading n [] ≡ 0
 unfolding leading
 leading_nil zero = refl
 leading_nil (suc n) = omega (arith, leading_nil n)
+
+-- behind its last byte nothing is left of a list
+pub no_second_word : (s : List ℕ) → length s ≤ 8 → leading 8 (drop 8 s) ≡ 0
+no_second_word s short = ap (leading 8) (drop_of_length-le s short) ∙ leading_nil 8
 
 pub leading_bounded : (n : ℕ) (s : List ℕ) → IsByteList s → leading n s < 256 ^ n
 unfolding leading
@@ -90,6 +53,15 @@ same_as b c e = grind (arith, e)
 
 pub more_than : (b c : ℕ) → Greater ≡ nat_cmp b c → c < b
 more_than b c e = grind (arith, e)
+
+less : (x y : ℕ) → x < y → Less ≡ nat_cmp x y
+less x y below = grind (arith, below)
+
+greater : (x y : ℕ) → y < x → Greater ≡ nat_cmp x y
+greater x y above = grind (arith, above)
+
+first_below : (b c p l m : ℕ) → b < c → l < p → b * p + l < c * p + m
+first_below b c p l m below small = grind (arith, below, small)
 
 -- the first digit decides
 no_higher : (b c p l m : ℕ) → c < b → m < p → b * p + l < c * p + m → ⊥
@@ -123,13 +95,22 @@ heads_order n s t small_s small_t Greater e unlike =
     nat_list_cmp_total.antisymm s t
     ∙ ap ordering_reverse (heads_below n t s small_s (more_than (leading n s) (leading n t) e))
 
--- so are paths
-pub unlike_heads : (p q : Path) (h k : ℕ) → IsHeadOf p h → IsHeadOf q k → (o : Ordering) → o ≡ nat_cmp h k → o ≢ Equal
-    → o ≡ slice_cmp (slice_cmp nat_cmp) p q
-unlike_heads p q h k at_p at_q o is unlike =
-    let heads : o ≡ nat_cmp (leading 8 (path_key p)) (leading 8 (path_key q)) = is ∙ (λ i. nat_cmp (at_p.head_is i) (at_q.head_is i)) in
-    sym (heads_order 8 (path_key p) (path_key q) at_p.bytes at_q.bytes o heads unlike) ∙ key_order p q at_p.plain at_q.plain
+-- the first words decide, and behind equal ones the second
+pub by_first_word : (b c p l m : ℕ) → l < p → m < p → (o : Ordering) → o ≡ nat_cmp b c → o ≢ Equal → o ≡ nat_cmp (b * p + l) (c * p + m)
+by_first_word b c p l m small below Less e unlike = less (b * p + l) (c * p + m) (first_below b c p l m (less_than b c e) small)
+by_first_word b c p l m small below Equal e unlike = absurd (unlike refl)
+by_first_word b c p l m small below Greater e unlike = greater (b * p + l) (c * p + m) (first_below c b p m l (more_than b c e) below)
 
-pub root_head : (p : Path) → p ≡ [] → IsHeadOf p 0
-root_head p root =
-    subst (λ (q : Path). IsHeadOf q 0) (sym root) (record { head_is = sym (leading_nil 8); bytes = λ i. omega arith; plain = refl })
+pub by_second_word : (b c p l m : ℕ) → b ≡ c → nat_cmp l m ≡ nat_cmp (b * p + l) (c * p + m)
+by_second_word b c p l m e = grind (arith, ap (λ d. d * p) e)
+
+-- so are paths
+pub unlike_heads : (p q : Path) (h k : Head) → IsHeadOf p h → IsHeadOf q k → (o : Ordering) → o ≡ nat_cmp (head_number h) (head_number k)
+    → o ≢ Equal → o ≡ slice_cmp (slice_cmp nat_cmp) p q
+unlike_heads p q h k at_p at_q o is unlike =
+    let heads : o ≡ nat_cmp (leading 16 (path_key p)) (leading 16 (path_key q)) = is ∙ (λ i. nat_cmp (at_p.head_is i) (at_q.head_is i)) in
+    sym (heads_order 16 (path_key p) (path_key q) at_p.bytes at_q.bytes o heads unlike) ∙ key_order p q at_p.plain at_q.plain
+
+pub root_head : (p : Path) (h : Head) → head_number h ≡ 0 → p ≡ [] → IsHeadOf p h
+root_head p h nothing root =
+    subst (λ (q : Path). IsHeadOf q h) (sym root) (record { head_is = nothing ∙ sym (leading_nil 16); bytes = λ i. omega arith; plain = refl })

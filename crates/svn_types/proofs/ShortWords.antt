@@ -8,7 +8,7 @@ use Rattle.std.specs.Cmp.Lexicographic.{slice_cmp}
 use Rattle.std.proofs.lemmas.List.{get_or-take, get_or-drop, get_or_past, length-take-le}
 use Rattle.std.proofs.lemmas.Nat.{pow-add}
 use Rattle.svn_types.specs.LeadingBytes.{IsByteList, IsZeroFrom, leading}
-use Rattle.svn_types.proofs.PathHeads.{heads_order, leading_bounded, less_than, same_as, more_than, drop_next, first_left}
+use Rattle.svn_types.proofs.PathHeads.{heads_order, leading_bounded, less_than, same_as, more_than, drop_next, first_left, by_second_word}
 
 -- the digit at a place, and those behind it
 leading_at : (n j next : ℕ) (s : List ℕ) → next ≡ suc j → leading (suc n) (drop j s) ≡ get_or s j 0 * 256 ^ n + leading n (drop next s)
@@ -59,7 +59,7 @@ drop_nothing zero = refl
 drop_nothing (suc k) = refl
 
 -- the digits of a list in two parts
-leading_split : (k n : ℕ) (s : List ℕ) → leading (k + n) s ≡ leading k s * 256 ^ n + leading n (drop k s)
+pub leading_split : (k n : ℕ) (s : List ℕ) → leading (k + n) s ≡ leading k s * 256 ^ n + leading n (drop k s)
 unfolding leading
 leading_split zero n s =
     let all : zero + n ≡ n = omega arith in
@@ -158,7 +158,7 @@ shown_bytes : (size n : ℕ) (room : List ℕ) → InRoom size n room → IsByte
 shown_bytes size n room r i = subst (λ b. b < 256) (shown_at n room r.zeros (omega (arith, r.fits, r.whole)) i) (r.small i)
 
 -- a word of a room is one of its bytes
-word_shown : (size n k : ℕ) (room : List ℕ) → InRoom size n room → leading 8 (drop k room) ≡ leading 8 (drop k (take n room))
+pub word_shown : (size n k : ℕ) (room : List ℕ) → InRoom size n room → leading 8 (drop k room) ≡ leading 8 (drop k (take n room))
 word_shown size n k room r =
     leading_same 8 (drop k room) (drop k (take n room))
     (λ i. get_or-drop k room i 0
@@ -182,9 +182,6 @@ same_fronts size k m n one two within r s same =
     same_start k (8 - k) (take m one) (take n two) (shown_bytes size m one r) (shown_bytes size n two s)
     (subst (λ l. leading l (take m one) ≡ leading l (take n two)) all starts)
 
-same_behind : (b c p l m : ℕ) → b ≡ c → nat_cmp l m ≡ nat_cmp (b * p + l) (c * p + m)
-same_behind b c p l m e = grind (arith, ap (λ d. d * p) e)
-
 -- behind the same first words two last ones tell the order
 pub last_words : (size m n : ℕ) (one two : List ℕ) → 8 ≤ size → size ≤ 16 → InRoom size m one → InRoom size n two
     → leading 8 one ≡ leading 8 two
@@ -195,7 +192,7 @@ last_words size m n one two least most r s same o is unlike =
     let front : leading k (take m one) ≡ leading k (take n two) = same_fronts size k m n one two (omega arith) r s same in
     let whole : nat_cmp (leading 8 (drop k (take m one))) (leading 8 (drop k (take n two)))
     ≡ nat_cmp (leading (k + 8) (take m one)) (leading (k + 8) (take n two)) =
-    same_behind (leading k (take m one)) (leading k (take n two)) (256 ^ 8) _ _ front
+    by_second_word (leading k (take m one)) (leading k (take n two)) (256 ^ 8) _ _ front
     ∙ (λ i. nat_cmp (sym (leading_split k 8 (take m one)) i) (sym (leading_split k 8 (take n two)) i)) in
     sym (heads_order (k + 8) (take m one) (take n two) (shown_bytes size m one r) (shown_bytes size n two s) o
     (is ∙ (λ i. nat_cmp (word_shown size m k one r i) (word_shown size n k two s i)) ∙ whole) unlike)

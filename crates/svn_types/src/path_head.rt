@@ -1,34 +1,64 @@
-//! The first bytes of a path's key as one number, which compares in one step.
-ghost use Rattle.std.specs.Prelude.{◌≡◌, get_or};
+//! The first bytes of a path's key as two numbers, which compare in a step or two.
+ghost use Rattle.std.specs.Prelude.{◌≡◌, drop};
+ghost use Rattle.std.specs.Ordering.{nat_cmp};
 ghost use Rattle.svn_types.specs.LeadingBytes.{IsByteList, leading};
+ghost use Rattle.svn_types.specs.PathHeads.{head_number};
 
 use crate::leading_bytes::word_at;
+use crate::short_bytes::ShortBytes;
+use std::cmp::Ordering;
 
-// How many bytes of a key make its head.
-const HEAD: usize = 8;
+// How many bytes of a key make one number.
+const WORD: usize = 8;
 
-// The byte at a place, zero behind the last.
-fn byte_at(bytes: &[u8], place: usize) -> u8
-    ensures { result ≡ get_or bytes.now place 0 }
-{
-    match bytes.get(place) {
-        Some(byte) => *byte,
-        None => 0,
-    }
+/// The first 16 bytes of a key, the first byte the highest. Zeros stand behind a shorter key.
+#[derive(Clone, Copy)]
+pub(crate) struct Head {
+    pub(crate) first: u64,
+    pub(crate) second: u64,
 }
 
-/// The first 8 bytes of a key as one number, the first byte the highest. Zeros stand behind a shorter key.
-pub(crate) fn head_of(key: &str) -> u64
-    ensures head { result ≡ leading 8 key.now }
+// The first 8 bytes as one number, zeros behind fewer.
+fn word_of(bytes: &[u8]) -> u64
+    ensures { result ≡ leading 8 bytes.now }
+{
+    if bytes.len() >= WORD {
+        return word_at(bytes, 0);
+    }
+    ShortBytes::<8>::of(bytes).first_word()
+}
+
+// The next 8 bytes.
+fn second_word_of(bytes: &[u8]) -> u64
+    ensures { result ≡ leading 8 (drop 8 bytes.now) }
+{
+    if bytes.len() <= WORD {
+        return 0;
+    }
+    let (_, behind) = bytes.split_at(WORD);
+    word_of(behind)
+}
+
+/// The head of a key.
+pub(crate) fn head_of(key: &str) -> Head
+    ensures head { head_number result ≡ leading 16 key.now }
     ensures bytes { IsByteList key.now }
 {
     let bytes = key.as_bytes();
-    if bytes.len() >= HEAD {
-        return word_at(bytes, 0);
+    Head {
+        first: word_of(bytes),
+        second: second_word_of(bytes),
     }
-    let mut head = 0u64;
-    'byte: for place in 0..HEAD {
-        head = head * 256 + u64::from(byte_at(bytes, place));
+}
+
+impl Head {
+    /// How it stands to another, as one number of 16 bytes.
+    pub(crate) fn order(self, other: Head) -> Ordering
+        ensures { result ≡ nat_cmp (head_number self) (head_number other) }
+    {
+        match self.first.cmp(&other.first) {
+            Ordering::Equal => self.second.cmp(&other.second),
+            unlike => unlike,
+        }
     }
-    head
 }

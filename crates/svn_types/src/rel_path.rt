@@ -16,7 +16,7 @@ use crate::bytes::split_once;
 use crate::fault::PathFault;
 use crate::limits::MAX_COMPONENTS;
 use crate::name::{Name, fault_of_name};
-use crate::path_head::head_of;
+use crate::path_head::{Head, head_of};
 use crate::path_parts::PathParts;
 use std::alloc::{AllocError, Global};
 use std::cmp::Ordering;
@@ -28,7 +28,7 @@ use std::marker::Model;
 /// so a directory stands directly before what is beneath it. A contract sees a path as the list of its names. A clone shares them.
 pub struct RelPath {
     // The first bytes of its key, by which most comparisons are decided without a look into another block.
-    head: u64,
+    head: Head,
     parts: PathParts,
 }
 
@@ -165,7 +165,7 @@ impl RelPath {
     }
 
     // The first bytes of its key.
-    fn head(&self) -> u64
+    fn head(&self) -> Head
         ensures { IsHeadOf self.now result }
     {
         self.head
@@ -176,7 +176,10 @@ impl RelPath {
         ensures { result ≡ [] }
     {
         RelPath {
-            head: 0,
+            head: Head {
+                first: 0,
+                second: 0,
+            },
             parts: PathParts::root(),
         }
     }
@@ -328,7 +331,7 @@ impl Ord for RelPath {
     ghost matches_eq = { λ x y. lists_ties (slice_cmp nat_cmp) texts_ties x y };
 
     fn cmp(&self, other: &RelPath) -> Ordering {
-        match self.head().cmp(&other.head()) {
+        match self.head().order(other.head()) {
             Ordering::Equal => self.key().cmp(other.key()),
             unlike => unlike,
         }

@@ -2,6 +2,7 @@
 ghost use Rattle.std.specs.Prelude.{◌≡◌, ◌+◌, ◌<◌, ◌≤◌, ℕ, ◌++◌, [], length, take, drop, get_or, nat_eq};
 ghost use Rattle.std.specs.Ordering.{nat_cmp};
 ghost use Rattle.std.specs.Cmp.Lexicographic.{pointwise, slice_cmp};
+ghost use Rattle.svn_types.specs.LeadingBytes.{leading};
 
 use crate::leading_bytes::word_at;
 use std::cmp::Ordering;
@@ -75,6 +76,14 @@ impl<const N: usize> ShortBytes<N> {
         ensures { result.now ≡ self.now }
     {
         &self.room[..self.len as usize]
+    }
+
+    /// The first eight bytes as one number, zeros behind fewer.
+    pub(crate) fn first_word(&self) -> u64
+        requires { 8 ≤ N }
+        ensures { result ≡ leading 8 self.now }
+    {
+        word_at(&self.room, 0)
     }
 
     /// How they stand to others in the order of bytes. The first eight bytes are compared as one number, and the last eight that there is room

@@ -1,6 +1,6 @@
-use Rattle.std.proofs.Common.{ap, length, arith}
+use Rattle.std.proofs.Common.{ap, length, refl, arith}
 use Rattle.svn_types.proofs.PathHeads.{root_head}
 use Rattle.svn_types.proofs.rel_path.RelPath.root.Goals as goal
 
 pub invariant_of-result : goal.invariant_of-result
-invariant_of-result c = (omega (arith, ap length c.root.ensures), root_head c.root.result c.root.ensures)
+invariant_of-result c = (omega (arith, ap length c.root.ensures), root_head c.root.result _ refl c.root.ensures)
