@@ -1,12 +1,10 @@
 //! The first bytes of a path's key as two numbers, which compare in a step or two.
 ghost use Rattle.std.specs.Prelude.{◌≡◌, drop};
-ghost use Rattle.std.specs.Ordering.{nat_cmp};
 ghost use Rattle.svn_types.specs.LeadingBytes.{IsByteList, leading};
 ghost use Rattle.svn_types.specs.PathHeads.{head_number};
 
 use crate::leading_bytes::word_at;
 use crate::short_bytes::ShortBytes;
-use std::cmp::Ordering;
 
 // How many bytes of a key make one number.
 const WORD: usize = 8;
@@ -48,17 +46,5 @@ pub(crate) fn head_of(key: &str) -> Head
     Head {
         first: word_of(bytes),
         second: second_word_of(bytes),
-    }
-}
-
-impl Head {
-    /// How it stands to another, as one number of 16 bytes.
-    pub(crate) fn order(self, other: Head) -> Ordering
-        ensures { result ≡ nat_cmp (head_number self) (head_number other) }
-    {
-        match self.first.cmp(&other.first) {
-            Ordering::Equal => self.second.cmp(&other.second),
-            unlike => unlike,
-        }
     }
 }

@@ -331,10 +331,14 @@ impl Ord for RelPath {
     ghost matches_eq = { λ x y. lists_ties (slice_cmp nat_cmp) texts_ties x y };
 
     fn cmp(&self, other: &RelPath) -> Ordering {
-        match self.head().order(other.head()) {
-            Ordering::Equal => self.key().cmp(other.key()),
-            unlike => unlike,
+        let (one, two) = (self.head(), other.head());
+        if one.first != two.first {
+            return one.first.cmp(&two.first);
         }
+        if one.second != two.second {
+            return one.second.cmp(&two.second);
+        }
+        self.key().cmp(other.key())
     }
 }
 
