@@ -149,4 +149,5 @@ module _ (nodes : List (Path × BaseNode)) (order : InPathOrder nodes) (before :
       by : (b : Bool) → is_within e.0 c.0 ≡ b → b ≡ false
       by false within = refl
       by true within =
-          absurd (not_before_itself e.0 (ap (path_cmp e.0) (sym (within_as_long e.0 c.0 within (omega (arith, short, is_depth)))) ∙ own_earlier c left whole))
+          let same : c.0 ≡ e.0 = within_as_long e.0 c.0 within (omega (arith, short, is_depth)) in
+          absurd (not_before_itself e.0 (ap (path_cmp e.0) (sym same) ∙ own_earlier c left whole))

@@ -10,7 +10,7 @@ use Rattle.std.specs.declared.cmp.Ordering.TheVariants.{Less}
 use Rattle.std.proofs.lemmas.List.{append-nil, map-append, take-map, length-map, length_push}
 use Rattle.std.proofs.lemmas.Option.{same_Some, slice_get-map}
 use Rattle.svn_types.specs.Names.{Path, path_cmp}
-use Rattle.svn_types.specs.Paths.{is_within, is_root, parent, child}
+use Rattle.svn_types.specs.Paths.{is_within, is_root, parent, path_eq, child}
 use Rattle.svn_report.specs.declared.entry.ReportEntry.{ReportEntry}
 use Rattle.svn_report.specs.Reports.{ReportView}
 use Rattle.svn_model.specs.declared.base_node.BaseNode.{BaseNode}
@@ -22,7 +22,7 @@ use Rattle.svn_wc.proofs.OwnPaths.{own_path}
 use Rattle.svn_edit_law.proofs.Lookups.{at_path, get_in-append}
 use Rattle.svn_edit.proofs.NodeOrder.{at_first, first_or_after, before_behind, order_behind, some_behind}
 use Rattle.svn_types.proofs.PathsInOrder.{not_before_itself, not_both, below_after, within_between}
-use Rattle.svn_types.proofs.PathLemmas.{is_root-child, parent-child, path_cases, split_within, within_append}
+use Rattle.svn_types.proofs.PathLemmas.{is_root-child, parent-child, path_cases, split_within, within_append, within_child}
 use Rattle.svn_types.proofs.PathLemmas.{path_eq-longer, same_path}
 
 -- ---- paths
@@ -87,11 +87,15 @@ prefixes-last q = by (path_cases q)
 abbrev pub above_at : List (Path × BaseNode) → Path → Option (BaseNode × Bool)
 above_at nodes p = option_map (λ n. (n, has_own_path p n)) (get_in nodes p)
 
--- the nodes on the way down to the last node that was taken, if one was
+-- each directory on the way down to the one path is on the way down to the other
+abbrev pub LeadsTo : List (Path × BaseNode) → Path → Path → Type 0
+LeadsTo nodes k p = (q : Path) → is_within q k ≡ true → is_dir (get_in nodes q) ≡ true → is_within q p ≡ true
+
+-- the directories on the way down to the last node that was taken, if one was
 pub data IsLine (nodes done : List (Path × BaseNode)) (line : List (BaseNode × Bool)) : Type 0 where
   none_yet : done ≡ [] → line ≡ [] → IsLine nodes done line
-  last_at : (front : List (Path × BaseNode)) (e : Path × BaseNode) → done ≡ front ++ e ∷ []
-      → map (λ a. Some a) line ≡ map (above_at nodes) (prefixes e.0) → IsLine nodes done line
+  last_at : (front : List (Path × BaseNode)) (e : Path × BaseNode) (p : Path) → done ≡ front ++ e ∷ [] → LeadsTo nodes e.0 p
+      → map (λ a. Some a) line ≡ map (above_at nodes) (prefixes p) → IsLine nodes done line
 
 pub record IsCrawled (nodes : List (Path × BaseNode)) (line : List (BaseNode × Bool)) (r : ReportView) (left : List (Path × BaseNode))
     : Type 0 where
@@ -214,13 +218,13 @@ module _ (nodes : List (Path × BaseNode)) (order : InPathOrder nodes) (line : L
 
         by : IsLine nodes c.done line → take (length e.0) (map (λ a. Some a) line) ≡ map (above_at nodes) (prefixes q)
         by (none_yet d l) = absurd (true≢false (sym above_taken ∙ ap (λ xs. is_some (get_in xs q)) d))
-        by (last_at front l d m) =
+        by (last_at front l end d leads m) =
             let within : is_within q l.0 ≡ true =
             taken_before (is_within q l.0 ≡ true) front l d q above_taken
             (λ same. subst (λ (p : Path). is_within q p ≡ true) (append-nil q ∙ same) (within_append q []))
             (λ before. within_between q l.0 e.0 before (λ after. not_both l.0 e.0 (last_before front l d) after)
             (subst (λ (p : Path). is_within q p ≡ true) (sym is) (within_append q (name ∷ [])))) in
-            let parts = split_within q l.0 within in
+            let parts = split_within q end (leads q within directory) in
             ap (λ k. take k (map (λ a. Some a) line)) depth ∙ ap (take (suc (length q))) m
             ∙ ap (λ (p : Path). take (suc (length q)) (map (above_at nodes) (prefixes p))) parts.1
             ∙ take-map (above_at nodes) (suc (length q)) (prefixes (q ++ parts.0)) ∙ ap (map (above_at nodes)) (take-prefixes q parts.0)
@@ -243,7 +247,7 @@ module _ (nodes : List (Path × BaseNode)) (order : InPathOrder nodes) (line : L
         ∙ ap (map (above_at nodes)) (sym (prefixes-child q name)) ∙ ap (λ (p : Path). map (above_at nodes) (prefixes p)) (sym is)
 
   -- the next node is the root, or a directory is above it
-  pub next_below : IsWorkingCopy (get_in nodes) → (o : Option (BaseNode × Bool))
+  next_below : IsWorkingCopy (get_in nodes) → (o : Option (BaseNode × Bool))
       → o ≡ slice_get (take (length e.0) line) (length (take (length e.0) line) - 1) → IsBelow e.0 o
   next_below w o same = by (path_cases e.0)
     where
@@ -274,14 +278,47 @@ module _ (nodes : List (Path × BaseNode)) (order : InPathOrder nodes) (line : L
           (ap (option_map (λ a. a.0)) (same ∙ last_is_above w q name is) ∙ node_of (get_in nodes q) q
           ∙ ap (get_in nodes) (sym (ap parent is ∙ parent-child q name)))
 
-  pub crawled_next : IsWorkingCopy (get_in nodes) → (o : Option (BaseNode × Bool))
+  -- a directory is behind the line then, and what is none is not
+  line_of_directory : IsWorkingCopy (get_in nodes)
+      → IsLine nodes (c.done ++ e ∷ []) (take (length e.0) line ++ (e.1, has_own_path e.0 e.1) ∷ [])
+  line_of_directory w = last_at c.done e e.0 refl (λ q within dir. within) (by (path_cases e.0))
+    where
+      own : BaseNode × Bool
+      own = (e.1, has_own_path e.0 e.1)
+
+      by : PathCases e.0 → map (λ a. Some a) (take (length e.0) line ++ own ∷ []) ≡ map (above_at nodes) (prefixes e.0)
+      by (inr (q, name, is)) = line_on w q name is
+      by (inl is) =
+          ap (λ (p : Path). map (λ a. Some a) (take (length p) line ++ own ∷ [])) is
+          ∙ (λ i. sym (sym (ap (above_at nodes) is) ∙ stands_above) i ∷ [])
+          ∙ ap (λ (p : Path). map (above_at nodes) (prefixes p)) (sym is)
+
+  line_of_leaf : IsWorkingCopy (get_in nodes) → is_dir (Some e.1) ≡ false → IsLine nodes (c.done ++ e ∷ []) (take (length e.0) line)
+  line_of_leaf w leaf = by (path_cases e.0)
+    where
+      no_directory : (p : Path) → p ≡ e.0 → is_dir (get_in nodes p) ≡ true → ⊥
+      no_directory p is dir = true≢false (sym dir ∙ ap (λ (q : Path). is_dir (get_in nodes q)) is ∙ ap is_dir stands ∙ leaf)
+
+      by : PathCases e.0 → IsLine nodes (c.done ++ e ∷ []) (take (length e.0) line)
+      by (inl is) = absurd (no_directory [] (sym is) w.root)
+      by (inr (q, name, is)) = last_at c.done e q refl leads (kept w q name is)
+        where
+          other : (p : Path) → is_dir (get_in nodes p) ≡ true → (b : Bool) → path_eq p (child q name) ≡ b → b ≡ false
+          other p dir false same = refl
+          other p dir true same = absurd (no_directory p (same_path p (child q name) same ∙ sym is) dir)
+
+          leads : LeadsTo nodes e.0 q
+          leads p within dir =
+              within_child p q name (ap (is_within p) (sym is) ∙ within) (other p dir (path_eq p (child q name)) refl)
+
+  crawled_next : IsWorkingCopy (get_in nodes) → (o : Option (BaseNode × Bool))
       → o ≡ slice_get (take (length e.0) line) (length (take (length e.0) line) - 1) → (r2 : ReportView)
       → r2 ≡ with_reported r e.0 (entry_for e.0 (option_map (λ a. a.0) o) (Some e.1))
-      → IsCrawled nodes (take (length e.0) line ++ (e.1, has_own_path e.0 e.1) ∷ []) r2 left
-  crawled_next w o same r2 made = record {
+      → (line2 : List (BaseNode × Bool)) → IsLine nodes (c.done ++ e ∷ []) line2 → IsCrawled nodes line2 r2 left
+  crawled_next w o same r2 made line2 next = record {
     done = c.done ++ e ∷ [];
     parts = c.parts ∙ append_one c.done e left;
-    line_is = last_at c.done e refl (by (path_cases e.0));
+    line_is = next;
     root = ap (λ (v : ReportView). v.root) made ∙ same_root entry ∙ c.root;
     entries =
         ap (λ (v : ReportView). v.entries) made ∙ more entry
@@ -300,15 +337,31 @@ module _ (nodes : List (Path × BaseNode)) (order : InPathOrder nodes) (line : L
       more None = sym (append-nil r.entries)
       more (Some x) = refl
 
-      own : BaseNode × Bool
-      own = (e.1, has_own_path e.0 e.1)
+-- the next node was reported below the last of the line, cut to its depth; a directory is then put behind that
+pub crawled_on : (nodes : List (Path × BaseNode)) → InPathOrder nodes → IsWorkingCopy (get_in nodes) → (line : List (BaseNode × Bool))
+    (r : ReportView) (e : Path × BaseNode) (all left : List (Path × BaseNode)) → all ≡ e ∷ left → IsCrawled nodes line r all
+    → (kept : List (BaseNode × Bool)) → kept ≡ take (length e.0) line
+    → (o : Option (BaseNode × Bool)) → o ≡ slice_get kept (length kept - 1)
+    → (r2 : ReportView) → (IsBelow e.0 o → r2 ≡ with_reported r e.0 (entry_for e.0 (option_map (λ a. a.0) o) (Some e.1)))
+    → (is_dir (Some e.1) ≡ false → IsCrawled nodes kept r2 left) × IsCrawled nodes (kept ++ (e.1, has_own_path e.0 e.1) ∷ []) r2 left
+crawled_on nodes order w line r e all left step crawled kept cut o last r2 report = (
+  λ leaf. next kept (subst (IsLine nodes (c.done ++ e ∷ [])) (sym cut) (line_of_leaf nodes order line r e left c w leaf)),
+  next (kept ++ own ∷ [])
+      (subst (λ (l : List (BaseNode × Bool)). IsLine nodes (c.done ++ e ∷ []) (l ++ own ∷ [])) (sym cut)
+      (line_of_directory nodes order line r e left c w)),
+)
+  where
+    own : BaseNode × Bool
+    own = (e.1, has_own_path e.0 e.1)
 
-      by : PathCases e.0 → map (λ a. Some a) (take (length e.0) line ++ own ∷ []) ≡ map (above_at nodes) (prefixes e.0)
-      by (inr (q, name, is)) = line_on w q name is
-      by (inl is) =
-          ap (λ (p : Path). map (λ a. Some a) (take (length p) line ++ own ∷ [])) is
-          ∙ (λ i. sym (sym (ap (above_at nodes) is) ∙ stands_above) i ∷ [])
-          ∙ ap (λ (p : Path). map (above_at nodes) (prefixes p)) (sym is)
+    c : IsCrawled nodes line r (e ∷ left)
+    c = subst (IsCrawled nodes line r) step crawled
+
+    above : o ≡ slice_get (take (length e.0) line) (length (take (length e.0) line) - 1)
+    above = last ∙ ap (λ (l : List (BaseNode × Bool)). slice_get l (length l - 1)) cut
+
+    next : (line2 : List (BaseNode × Bool)) → IsLine nodes (c.done ++ e ∷ []) line2 → IsCrawled nodes line2 r2 left
+    next = crawled_next nodes order line r e left c w o above r2 (report (next_below nodes order line r e left c w o above))
 
 -- ---- answers
 

@@ -25,6 +25,12 @@ fn or_memory(answer: Result<(), ReporterFault>) -> Result<(), WcFault>
     }
 }
 
+fn is_directory(node: &BaseNode) -> bool
+    ensures { result ≡ is_dir (Some node.now) }
+{
+    matches!(node, BaseNode::Dir { .. })
+}
+
 fn is_incomplete(node: &BaseNode) -> bool
     ensures { result ≡ is_incomplete (Some node.now) }
 {
@@ -131,14 +137,16 @@ impl WorkingCopy {
     {
         self.law();
         let mut reporter = Reporter::new_at(alloc, self.root_path(alloc)?);
-        // the nodes at the root, and at each path down to the last one
+        // the directories at the root, and at each path down to the last one
         let mut line = Vec::new(alloc);
         for (path, node) in &self.nodes {
             line.truncate(path.components().len());
             report_node(&mut reporter, path, line.last(), node)?;
-            let Ok(()) = line.push(Above::of(path, node)) else {
-                return Err(WcFault::Memory);
-            };
+            if is_directory(node) {
+                let Ok(()) = line.push(Above::of(path, node)) else {
+                    return Err(WcFault::Memory);
+                };
+            }
         }
         Ok(reporter.finish_report())
     }

@@ -15,7 +15,8 @@ decreases-first_untrue_within l = length l.left.now
 abbrev pub invariant-below : goal.invariant-below
 invariant-below l =
     IsRest l.initial.left l.left
-    × ((nodes before : List (Path × BaseNode)) → InPathOrder nodes → IsWorkingCopy (get_in nodes) → nodes ≡ before ++ (l.path, l.node) ∷ l.initial.left
+    × ((nodes before : List (Path × BaseNode)) → InPathOrder nodes → IsWorkingCopy (get_in nodes)
+    → nodes ≡ before ++ (l.path, l.node) ∷ l.initial.left
     → l.id ≡ looked l.repo l.node
     → SoFar l.repo nodes l.path l.initial.left (names_at l.repo l.id) l.left (option_copied l.first) l.missing
     × EntriesBeside l.path (entries_at l.repo l.id) l.entries l.left)

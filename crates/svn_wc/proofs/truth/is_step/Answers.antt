@@ -20,4 +20,5 @@ returns-then-eq c = λ at name known is unswitched.
     let step : p ≡ child c.in-Dir.repos_path name =
     same_path p (node_path (Some above.0) ++ last_name c.args.path.now) (sym (c.is_unswitched.ensures below) ∙ unswitched)
     ∙ (λ i. front i ++ last i) in
-    subst (λ (n : BaseNode). IsStep n c.args.place.now.rev p name) (sym node) (eqb-true c.in-Dir.rev c.args.place.now.rev (sym c.if-eq.ensures), step)
+    subst (λ (n : BaseNode). IsStep n c.args.place.now.rev p name) (sym node)
+    (eqb-true c.in-Dir.rev c.args.place.now.rev (sym c.if-eq.ensures), step)

@@ -14,7 +14,8 @@ pub returns-in-Dir-Some : goal.returns-in-Dir-Some
 returns-in-Dir-Some c = λ below.
     let last : last_name c.args.path.now ≡ c.in-Dir-Some.name.now ∷ [] = c.in-Dir-Some.ensures.name in
     let front : node_path (Some c.args.self.now.0) ≡ c.in-Dir-Some.front =
-    ap (λ (a : BaseNode × Bool). node_path (Some a.0)) (sym c.self.view_is) ∙ ap (λ (n : BaseNode). node_path (Some n)) c.in-Dir-Some.is-0 in
+    ap (λ (a : BaseNode × Bool). node_path (Some a.0)) (sym c.self.view_is)
+    ∙ ap (λ (n : BaseNode). node_path (Some n)) c.in-Dir-Some.is-0 in
     tests_path c.is_child_of.result c.args.repos_path.now
     (c.in-Dir-Some.front ++ c.in-Dir-Some.name.now ∷ []) c.is_child_of.ensures.child.0 c.is_child_of.ensures.child.1
     ∙ (λ i. path_eq c.args.repos_path.now (sym front i ++ sym last i))
