@@ -15,18 +15,20 @@ ghost use Rattle.svn_edit.specs.Leaving.{SamePools, BatonBegan};
 ghost use Rattle.svn_edit.specs.Applying.{BatonBegun, BatonSaid, Says, IsLeaf, PoolGone, Properties, StillSaid};
 
 use crate::open_path::OpenPath;
+use smallvec::SmallVec;
 use std::alloc::{AllocError, Global};
 use svn_pool::{PoolId, PoolTree, Reader};
 use svn_types::{PropName, Props, Text};
 
 /// What the strings of a baton's pool say, behind the first, which is the path's key.
-#[derive(Clone, Copy, Debug)]
+#[derive(Clone, Copy, Debug, Default)]
 pub(crate) enum Note {
     /// Two strings: the name of a property, and its new value.
     Set,
     /// One string: the name of a property that goes.
     Remove,
-    /// One string: the text.
+    /// One string: the text. A place that holds no note yet holds this.
+    #[default]
     Text,
 }
 
@@ -39,12 +41,15 @@ fn has_change(notes: &[Note]) -> bool
         .any(|note| matches!(note, Note::Set | Note::Remove))
 }
 
+// How many notes a baton holds in place: a text or a few properties take no block beside it.
+const FEW_NOTES: usize = 8;
+
 /// An open file or directory.
 #[derive(Drop)]
 pub(crate) struct Baton {
     pub(crate) path: OpenPath,
     pub(crate) pool: PoolId,
-    pub(crate) notes: Vec<Note>,
+    pub(crate) notes: SmallVec<Note, FEW_NOTES>,
     /// The place of the text among the strings of the pool.
     pub(crate) text: Option<u32>,
 }
@@ -92,7 +97,7 @@ impl Baton {
         Ok(Baton {
             path,
             pool,
-            notes: Vec::new(alloc),
+            notes: SmallVec::new(alloc),
             text: None,
         })
     }
@@ -209,7 +214,7 @@ impl Baton {
             return Err(AllocError);
         };
         let _path = strings.next();
-        for note in &self.notes {
+        for note in self.notes.as_slice() {
             make_change(alloc, *note, &mut strings, props)?;
         }
         Ok(())
@@ -224,7 +229,7 @@ impl Baton {
     ) -> Result<Option<Props>, AllocError>
         ensures { IfOk result (λ c. (said : List Action) → Says self.now pools.now said → unwrap_or c props.now ≡ with_changes props.now (filter_map change_in said)) }
     {
-        if !has_change(&self.notes) {
+        if !has_change(self.notes.as_slice()) {
             return Ok(None);
         }
         let mut changed = props.clone()?;

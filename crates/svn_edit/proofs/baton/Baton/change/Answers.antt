@@ -4,6 +4,6 @@ use Rattle.svn_edit.proofs.baton.Baton.change.Goals as goal
 
 pub returns : goal.returns
 returns c = λ said s.
-    let over : length c.deref-note-items.result.now ≤ c.loop-note.note-index = omega arith in
-    said_done c.args.props.now c.loop-note.props said (drop c.loop-note.note-index c.deref-note-items.result.now) c.loop-note.strings
-    (c.loop-note.invariant said s) (all_dropped c.deref-note-items.result.now c.loop-note.note-index over)
+    let over : length c.as_slice-note-items.result.now ≤ c.loop-note.note-index = omega arith in
+    said_done c.args.props.now c.loop-note.props said (drop c.loop-note.note-index c.as_slice-note-items.result.now) c.loop-note.strings
+    (c.loop-note.invariant said s) (all_dropped c.as_slice-note-items.result.now c.loop-note.note-index over)

@@ -11,7 +11,7 @@ pub returns-clause-noted : goal.returns-clause-noted
 returns-clause-noted c =
     let old = c.args.self.now in
     said_one old (record old { notes = c.push-2.new.self; text = c.or-self.result }) c.args.pools.now c.push.new.pools NewText
-    c.args.text.now refl refl c.in_ok-push.ensures.items
+    c.args.text.now refl refl c.in_ok-push.ensures.ok
     (c.or-self.ensures ∙ ap (λ n. option_or old.text (Some n)) c.in_ok-place.ensures.place)
     (c.in_ok-place.ensures.pushed ∙ ap (pushed c.args.pools.now old.pool.0) c.as_slice.ensures)
 
