@@ -331,6 +331,7 @@ impl Ord for RelPath {
     ghost matches_eq = { λ x y. lists_ties (slice_cmp nat_cmp) texts_ties x y };
 
     fn cmp(&self, other: &RelPath) -> Ordering {
+        // returns, and no `match` on the first order: that would compare both numbers each time
         let (one, two) = (self.head(), other.head());
         if one.first != two.first {
             return one.first.cmp(&two.first);
