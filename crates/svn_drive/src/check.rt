@@ -106,6 +106,7 @@ impl<'a> Check<'a> {
     }
 
     /// What it says of a child, and whether anything is reported there or below may be known.
+    #[inline(always)]
     pub(crate) fn seen_child(
         &self,
         above: &Seen<'a>,

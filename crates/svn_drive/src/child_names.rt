@@ -19,6 +19,7 @@ pub(crate) struct Below<'a> {
 }
 
 // The earlier of two names.
+#[inline(always)]
 fn earlier<'a>(first: Option<&'a Name>, second: Option<&'a Name>) -> Option<&'a Name>
     ensures { option_copied result ≡ earlier (option_copied first.entry) (option_copied second.entry) }
 {
@@ -41,6 +42,7 @@ pub(crate) struct NamesLeft<'a> {
 
 impl<'a> NamesLeft<'a> {
     /// The first name of all.
+    #[inline(always)]
     pub(crate) fn first_name(&self) -> Option<&'a Name>
         ensures { option_copied result ≡ first_name self.now }
     {
@@ -49,6 +51,7 @@ impl<'a> NamesLeft<'a> {
     }
 
     /// Takes the first name of all, with what stands under it. It takes memory where the name is reported.
+    #[inline(always)]
     pub(crate) fn take(&mut self, name: &'a Name) -> Result<Below<'a>, AllocError>
         requires { first_name self.old ≡ Some name.now }
         ensures { IfOk result (λ below. TakesChild self.old name.now below self.new) }

@@ -18,6 +18,7 @@ use svn_types::MAX_COMPONENTS;
 
 impl<'a> Walk<'a> {
     // Whether a child of a kept place is one node on both sides, with nothing reported there, so that nothing is done at it.
+    #[inline(always)]
     fn is_same_child(&self, place: &Place<'a>, below: &Below<'a>) -> bool
         requires at { IsAt (request_of self.now) place.now }
         requires kept { IsTrue place.now.is_kept }
@@ -36,6 +37,7 @@ impl<'a> Walk<'a> {
     }
 
     // Whether nothing is done at a child: it is the same, the target has nothing there below what isn't kept, or its path would be too long.
+    #[inline(always)]
     fn is_idle_child(&self, place: &Place<'a>, below: &Below<'a>) -> bool
         requires at { IsAt (request_of self.now) place.now }
         requires below { IsBelow (request_of self.now) place.now below.now }

@@ -1,4 +1,4 @@
-//! Calls, one by one, and their count.
+//! Calls, one by one, and their count. They are made inline: a call that is handed on by value is copied in pieces, at each hand once more.
 ghost use Rattle.std.specs.Prelude.{◌≡◌, ◌+◌, ◌∷◌, [], OnOk, OnErr, IfOk};
 ghost use Rattle.svn_model.specs.Ends.{Runs};
 
@@ -51,6 +51,7 @@ impl Progress {
 }
 
 /// Makes a call that isn't the last, if one more may be made.
+#[inline(always)]
 pub(crate) fn make<E: Editor>(
     limit: Option<u64>,
     editor: &mut E,
@@ -76,6 +77,7 @@ pub(crate) fn make<E: Editor>(
 }
 
 /// Makes a call that gives the next token.
+#[inline(always)]
 pub(crate) fn make_opening<E: Editor>(
     limit: Option<u64>,
     editor: &mut E,

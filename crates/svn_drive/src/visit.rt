@@ -86,6 +86,7 @@ fn change_call(opened: &Opened, change: PropChange) -> Call
 
 impl<'a> Walk<'a> {
     // The call that opens or adds a place.
+    #[inline(always)]
     fn entry_call(&self, place: &Place<'a>, opened: &Opened) -> Result<Call, AllocError>
         requires { IsAt (request_of self.now) place.now }
         ensures { IfOk result (λ c. c ≡ call_at place.now.here.path place.now.parent opened.now.token (enter_action (request_of self.now) place.now.here.path opened.now.kind)) }
@@ -146,6 +147,7 @@ impl<'a> Walk<'a> {
     }
 
     // The properties that the receiver has where the place is opened, as changes to those of the target.
+    #[inline(always)]
     fn changes(&self, place: &Place<'a>, node: NodeId) -> Result<Vec<PropChange>, AllocError>
         requires { IsAt (request_of self.now) place.now }
         ensures { IfOk result (λ v. v.items ≡ changes_between (old_props (request_of self.now) place.now.here.path) (props_of self.now.repo.now node)) }
@@ -174,6 +176,7 @@ impl<'a> Walk<'a> {
     }
 
     // Opens or adds a place, and changes its properties.
+    #[inline(always)]
     fn enter<E: Editor>(
         &self,
         place: &Place<'a>,
@@ -192,6 +195,7 @@ impl<'a> Walk<'a> {
     }
 
     // Deletes what is gone.
+    #[inline(always)]
     fn delete_gone<E: Editor>(
         &self,
         place: &Place<'a>,
@@ -233,6 +237,7 @@ impl<'a> Walk<'a> {
     }
 
     // Gives a file its text.
+    #[inline(always)]
     fn give_text<E: Editor>(
         &self,
         file: &Texted,
@@ -250,6 +255,7 @@ impl<'a> Walk<'a> {
         make(self.limit, editor, progress, call)
     }
 
+    #[inline(always)]
     fn close_file<E: Editor>(
         &self,
         file: &Texted,
@@ -285,6 +291,7 @@ impl<'a> Walk<'a> {
     }
 
     // Ends a file: its text, where that differs, and its close, or both later.
+    #[inline(always)]
     fn end_file<E: Editor>(
         &self,
         place: &Place<'a>,

@@ -1,4 +1,4 @@
-//! What a drive is made from, and the places that it walks over.
+//! What a drive is made from, and the places that it walks over. A place is made inline, where it stays.
 ghost use Rattle.std.specs.Prelude.{◌≡◌, ◌&&◌, not, true, is_some, ◌<◌, ◌≤◌, length, if◌then◌else◌, IfOk, [], ◌∷◌, ◌++◌};
 ghost use Rattle.std.specs.Option.{option_copied};
 ghost use Rattle.svn_types.specs.Names.{depth_limit};
@@ -54,6 +54,7 @@ impl<'a> Walk<'a> {
     }
 
     // Whether something is to be done at a kept path, or below it.
+    #[inline(always)]
     fn is_changed(&self, place: &Place<'a>) -> bool
         ensures { result ≡ is_changed_at (request_of self.now) place.now }
     {
@@ -64,6 +65,7 @@ impl<'a> Walk<'a> {
     }
 
     // With the one test that is left.
+    #[inline(always)]
     fn with_test(&self, place: Place<'a>) -> Place<'a>
         requires { IsNearlyAt (request_of self.now) place }
         ensures at { IsAt (request_of self.now) result }
@@ -108,6 +110,7 @@ impl<'a> Walk<'a> {
     }
 
     // The node that the client has at a child: the entry of its parent's node, but where the report has an entry of its own.
+    #[inline(always)]
     fn child_source(&self, above: &Place<'a>, here: &Seen<'a>, below: &Below<'a>) -> Option<NodeId>
         requires at { IsAt (request_of self.now) above.now }
         requires below { IsBelow (request_of self.now) above.now below.now }
@@ -125,6 +128,7 @@ impl<'a> Walk<'a> {
     }
 
     // The node in the target where a link leads; without one the node given.
+    #[inline(always)]
     fn linked_node(&self, own: Option<&ReportEntry>, beneath: &Option<NodeId>) -> Option<NodeId>
         ensures { result ≡ linked_node (request_of self.now) (option_copied own.entry) beneath.now }
     {
@@ -137,6 +141,7 @@ impl<'a> Walk<'a> {
     }
 
     // The node in the target that would keep a child of a kept place, by the one beneath its parent's: only an update follows links.
+    #[inline(always)]
     fn candidate(&self, here: &Seen<'a>, beneath: &Option<NodeId>) -> Option<NodeId>
         ensures { result ≡ candidate_node (request_of self.now) (mode_of (option_copied self.now.switch_to)) (option_copied here.now.own) beneath.now }
     {
@@ -147,6 +152,7 @@ impl<'a> Walk<'a> {
     }
 
     // The child of a place, by what the report says of it.
+    #[inline(always)]
     fn child_seen(
         &self,
         above: &Place<'a>,
@@ -180,6 +186,7 @@ impl<'a> Walk<'a> {
     }
 
     /// The child of a place, by its name and what stands under that.
+    #[inline(always)]
     pub(crate) fn child(
         &self,
         above: &Place<'a>,

@@ -11,6 +11,7 @@ use svn_editor::{Call, OrderFault, Token};
 use svn_types::{Kind, RelPath};
 
 // The token that a call is about, and of which kind of node it has to be: its own or, of an open, an add or a delete, the parent's.
+#[inline(always)]
 fn named_by(call: &Call) -> Option<(Token, Kind)>
     ensures { result ≡ named_by call.now }
 {
@@ -31,6 +32,7 @@ fn named_by(call: &Call) -> Option<(Token, Kind)>
 }
 
 // The token that an open or an add gives.
+#[inline(always)]
 fn given_by(call: &Call) -> Option<Token>
     ensures { result ≡ given_token call.now }
 {
@@ -45,6 +47,7 @@ fn given_by(call: &Call) -> Option<Token>
 }
 
 // The entry of its parent that a call opens, adds or deletes.
+#[inline(always)]
 fn entry_of(call: &Call) -> Option<&RelPath>
     ensures { option_copied result ≡ entry_of call.now }
 {
@@ -59,8 +62,29 @@ fn entry_of(call: &Call) -> Option<&RelPath>
 }
 
 impl OrderCheck {
-    // The first fault that the call has, want of memory aside.
+    // The first fault that the call has, want of memory aside. Each arm is compiled for its kind of call alone: the rules, which are inlined, then
+    // don't ask again which it is.
     pub(crate) fn fault_of(&self, call: &Call) -> Option<OrderFault>
+        ensures { result ≡ fault_in self.now call.now }
+    {
+        match call {
+            Call::OpenFile { .. } => self.first_fault(call),
+            Call::AddFile { .. } => self.first_fault(call),
+            Call::ApplyText { .. } => self.first_fault(call),
+            Call::CloseFile { .. } => self.first_fault(call),
+            Call::ChangeFileProp { .. } => self.first_fault(call),
+            Call::OpenDirectory { .. } => self.first_fault(call),
+            Call::AddDirectory { .. } => self.first_fault(call),
+            Call::ChangeDirProp { .. } => self.first_fault(call),
+            Call::CloseDirectory { .. } => self.first_fault(call),
+            Call::DeleteEntry { .. } => self.first_fault(call),
+            _ => self.first_fault(call),
+        }
+    }
+
+    // The rules one after the other.
+    #[inline(always)]
+    fn first_fault(&self, call: &Call) -> Option<OrderFault>
         ensures { result ≡ fault_in self.now call.now }
     {
         if let Some(fault) = self.naming_fault(call) {
@@ -73,6 +97,7 @@ impl OrderCheck {
     }
 
     // Of what the call names.
+    #[inline(always)]
     fn naming_fault(&self, call: &Call) -> Option<OrderFault>
         ensures { result ≡ naming_fault self.now call.now }
     {
@@ -92,6 +117,7 @@ impl OrderCheck {
     }
 
     // Of what is open.
+    #[inline(always)]
     fn nesting_fault(&self, call: &Call) -> Option<OrderFault>
         ensures { result ≡ nesting_fault self.now call.now }
     {
@@ -111,6 +137,7 @@ impl OrderCheck {
     }
 
     // Of what was done before.
+    #[inline(always)]
     fn repeating_fault(&self, call: &Call) -> Option<OrderFault>
         ensures { result ≡ repeating_fault self.now call.now }
     {
@@ -128,6 +155,7 @@ impl OrderCheck {
     }
 
     // The target revision is set once, by the first call.
+    #[inline(always)]
     fn is_target_late(&self, call: &Call) -> bool
         ensures { result ≡ target_late self.now.stage call.now }
     {
@@ -139,6 +167,7 @@ impl OrderCheck {
     }
 
     // The token was never given, or was given to a node of the other kind.
+    #[inline(always)]
     fn is_token_unknown(&self, call: &Call) -> bool
         ensures { result ≡ unknown_in self.now.tokens.items (named_by call.now) }
     {
@@ -149,6 +178,7 @@ impl OrderCheck {
     }
 
     // The file or the directory was closed.
+    #[inline(always)]
     fn is_token_closed(&self, call: &Call) -> bool
         ensures { result ≡ closed_in self.now.tokens.items (named_by call.now) }
     {
@@ -159,6 +189,7 @@ impl OrderCheck {
     }
 
     // A new token isn't the number of tokens given so far.
+    #[inline(always)]
     fn is_token_misnumbered(&self, call: &Call) -> bool
         ensures { result ≡ misnumbered_in self.now.tokens.items (given_token call.now) }
     {
@@ -169,6 +200,7 @@ impl OrderCheck {
     }
 
     // The path isn't that of an entry of the parent.
+    #[inline(always)]
     fn is_path_wrong(&self, call: &Call) -> bool
         ensures { result ≡ outside_in self.now.directories.items (named_by call.now) (entry_of call.now) }
     {
@@ -180,6 +212,7 @@ impl OrderCheck {
         }
     }
 
+    #[inline(always)]
     pub(crate) fn is_current(&self, token: Token) -> bool
         ensures { result ≡ number_eq self.now.current (Some token) }
     {
@@ -190,6 +223,7 @@ impl OrderCheck {
     }
 
     // A call on another file or on a directory.
+    #[inline(always)]
     fn is_elsewhere(&self, call: &Call) -> bool
         ensures { result ≡ elsewhere self.now.current call.now }
     {
@@ -203,6 +237,7 @@ impl OrderCheck {
     }
 
     // The current file has its text and isn't closed, and the call is about something else.
+    #[inline(always)]
     fn is_file_unfinished(&self, call: &Call) -> bool
         ensures { result ≡ (current_text self.now.tokens.items self.now.current && elsewhere self.now.current call.now) }
     {
@@ -213,6 +248,7 @@ impl OrderCheck {
     }
 
     // The text or the close of a postponed file comes while a directory is open.
+    #[inline(always)]
     fn is_too_early(&self, call: &Call) -> bool
         ensures { result ≡ too_early self.now call.now }
     {
@@ -224,6 +260,7 @@ impl OrderCheck {
         }
     }
 
+    #[inline(always)]
     fn is_innermost(&self, token: Token) -> bool
         ensures { result ≡ number_eq (innermost_of self.now.directories.items) (Some token) }
     {
@@ -234,6 +271,7 @@ impl OrderCheck {
     }
 
     // The parent of an opened or added directory isn't the innermost one. Files and deletes may name any open directory.
+    #[inline(always)]
     fn is_not_innermost(&self, call: &Call) -> bool
         ensures { result ≡ not_innermost self.now.directories.items call.now }
     {
@@ -246,6 +284,7 @@ impl OrderCheck {
     }
 
     // A directory is closed before one in it: the open directories are nested, so each but the innermost has one.
+    #[inline(always)]
     fn is_open_below(&self, call: &Call) -> bool
         ensures { result ≡ open_below self.now.directories.items call.now }
     {
@@ -256,6 +295,7 @@ impl OrderCheck {
     }
 
     // A property change comes while a subdirectory is open or on a postponed file, or a subdirectory after a change that came after one.
+    #[inline(always)]
     fn is_prop_late(&self, call: &Call) -> bool
         ensures { result ≡ prop_late self.now call.now }
     {
@@ -270,6 +310,7 @@ impl OrderCheck {
     }
 
     // A delete comes after an open or an add of the entry.
+    #[inline(always)]
     fn is_delete_late(&self, call: &Call) -> bool
         ensures { result ≡ delete_late self.now.directories.items call.now }
     {
@@ -280,6 +321,7 @@ impl OrderCheck {
     }
 
     // An entry is opened or added twice, deleted twice, or opened after its delete. A deleted entry may be added.
+    #[inline(always)]
     fn is_entry_again(&self, call: &Call) -> bool
         ensures { result ≡ entry_again self.now call.now }
     {
@@ -298,6 +340,7 @@ impl OrderCheck {
     }
 
     // A file has its text.
+    #[inline(always)]
     fn is_text_again(&self, call: &Call) -> bool
         ensures { result ≡ text_again self.now.tokens.items call.now }
     {
@@ -308,6 +351,7 @@ impl OrderCheck {
     }
 
     // The edit ends before the root was opened, or while a directory or a file is open.
+    #[inline(always)]
     fn is_root_unclosed(&self, call: &Call) -> bool
         ensures { result ≡ root_unclosed self.now call.now }
     {

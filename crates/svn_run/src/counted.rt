@@ -21,6 +21,8 @@ impl<'a> Editor for Counted<'a> {
         CountsCall before.applier.edit before.applier.copy.now before.made before.accepted call answer after.applier.edit after.applier.copy.now after.made after.accepted
         × (after.applier.copy.ghost_name ≡ before.applier.copy.ghost_name) };
 
+    // Inlined, as what makes the call and what takes it: it is then handed on without a copy.
+    #[inline(always)]
     fn call(&mut self, call: Call) -> Result<(), EditFault> {
         if is_abort(&call) {
             return self.applier.call(call);

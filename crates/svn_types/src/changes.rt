@@ -27,6 +27,10 @@ impl Props {
     pub fn changes_to(&self, alloc: Global, new: &Props) -> Result<Vec<PropChange>, AllocError>
         ensures { IfOk result (λ v. v.items ≡ changes_between self.now new.now) }
     {
+        // most nodes have none
+        if self.is_empty() && new.is_empty() {
+            return Ok(Vec::new(alloc));
+        }
         let mut changes = Vec::new(alloc);
         let mut left = PropsLeft::of(self, new);
         'names: while let Some((name, was, value)) = left.take() {

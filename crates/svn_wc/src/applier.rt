@@ -83,7 +83,8 @@ impl<'a> Applier<'a> {
         Ok(Applier { copy, edit })
     }
 
-    // Takes the next call.
+    // Takes the next call. Inlined, so that the call stays where it was made until the edit has looked at it.
+    #[inline(always)]
     fn take(&mut self, call: Call) -> Result<(), EditFault>
         ensures answers { (mode : Mode) (w0 : CopyMap) (calls : List Call) → StandsAfter mode w0 self.old.edit self.old.copy.now calls → AnswersCall (refusal md5 mode calls call self.old.copy.now) result }
         ensures accepted { OnOk result ((mode : Mode) (w0 : CopyMap) (calls : List Call) → StandsAfter mode w0 self.old.edit self.old.copy.now calls → StandsAfter mode w0 self.new.edit self.new.copy.now (calls ++ call ∷ [])) }
@@ -122,6 +123,7 @@ impl<'a> Editor for Applier<'a> {
 
     /// Takes the next call, and changes the copy as it says. The faults come in the order that `svn_edit::Edit::call` names. After a refusal
     /// the copy is as it was, and every call but AbortEdit is refused: Dead. After the last call each is Ended.
+    #[inline(always)]
     fn call(&mut self, call: Call) -> Result<(), EditFault> {
         self.take(call)
     }
