@@ -3,9 +3,10 @@
 --     left_step      the names that are left are the one that was taken, and those that are left then
 --     step_under      what stands under the name that was taken
 --     step_kept      what is left then is in order, and has what stands under each name
+--     behind_another      a name is another than one behind it
 use Rattle.std.proofs.Common.{◌≡◌, ◌≢◌, ◌⊎◌, inl, inr, ℕ, Bool, true, false, ◌&&◌, ◌||◌, List, [], ◌∷◌, ◌++◌, refl, sym, ◌∙◌, ap}
 use Rattle.std.proofs.Common.{subst, true≢false}
-use Rattle.std.specs.Prelude.{Option, Some, None, cond, is_some, fold, bytes_eq}
+use Rattle.std.specs.Prelude.{Option, Some, None, cond, is_some, unwrap_or, fold, bytes_eq}
 use Rattle.std.specs.List.{list_any}
 use Rattle.std.specs.Map.{keys_of}
 use Rattle.std.specs.BTreeSet.{insert_key}
@@ -96,6 +97,11 @@ after_each n (k ∷ ns) h f = all_after n k ns (f k (has_own k ns)) h
 
 not_self : (n : Name) → is_lt (name_cmp n n) ≡ false
 not_self n = ap is_lt (name_cmp-same n)
+
+-- a name is another than one that stands behind it
+pub behind_another : (n m : Name) → name_cmp n m ≡ Less → Some m ≢ Some n
+behind_another n m l q =
+    true≢false (sym (ap is_lt l) ∙ ap (λ (o : Option Name). is_lt (name_cmp n (unwrap_or o n))) q ∙ not_self n)
 
 -- there is a name, and it isn't before the other
 abbrev NotBefore : Option Name → Name → Type 0

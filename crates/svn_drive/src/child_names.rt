@@ -1,11 +1,12 @@
 //! The names directly below a path, in order, and what stands under each.
-ghost use Rattle.std.specs.Prelude.{◌≡◌, Some, IfOk};
+ghost use Rattle.std.specs.Prelude.{◌≡◌, [], Some, None, IfOk, MatchOption, false};
 ghost use Rattle.std.specs.Option.{option_copied};
 ghost use Rattle.svn_drive.specs.Firsts.{earlier};
 ghost use Rattle.svn_drive.specs.NamesLeft.{first_name, TakesChild};
 
 use crate::lists_left::{EntriesLeft, ReportedLeft};
 use std::alloc::AllocError;
+use std::cmp::Ordering;
 use svn_repo::NodeId;
 use svn_types::Name;
 
@@ -18,8 +19,26 @@ pub(crate) struct Below<'a> {
     pub(crate) is_reported: bool,
 }
 
+impl<'a> Below<'a> {
+    // What stands under a name at which and below which nothing is reported.
+    #[inline(always)]
+    fn unreported(
+        name: &'a Name,
+        source: Option<&'a NodeId>,
+        target: Option<&'a NodeId>,
+    ) -> Below<'a>
+        ensures { result ≡ record { name = name.entry; source = source.entry; target = target.entry; is_reported = false } }
+    {
+        Below {
+            name,
+            source,
+            target,
+            is_reported: false,
+        }
+    }
+}
+
 // The earlier of two names.
-#[inline(always)]
 fn earlier<'a>(first: Option<&'a Name>, second: Option<&'a Name>) -> Option<&'a Name>
     ensures { option_copied result ≡ earlier (option_copied first.entry) (option_copied second.entry) }
 {
@@ -41,18 +60,16 @@ pub(crate) struct NamesLeft<'a> {
 }
 
 impl<'a> NamesLeft<'a> {
-    /// The first name of all.
-    #[inline(always)]
-    pub(crate) fn first_name(&self) -> Option<&'a Name>
+    // The first name of all.
+    fn first_name(&self) -> Option<&'a Name>
         ensures { option_copied result ≡ first_name self.now }
     {
         let entries = earlier(self.source.first_name(), self.target.first_name());
         earlier(entries, self.reported.first_name())
     }
 
-    /// Takes the first name of all, with what stands under it. It takes memory where the name is reported.
-    #[inline(always)]
-    pub(crate) fn take(&mut self, name: &'a Name) -> Result<Below<'a>, AllocError>
+    // Takes the first name of all, with what stands under it. It takes memory where the name is reported.
+    fn take(&mut self, name: &'a Name) -> Result<Below<'a>, AllocError>
         requires { first_name self.old ≡ Some name.now }
         ensures { IfOk result (λ below. TakesChild self.old name.now below self.new) }
     {
@@ -65,5 +82,53 @@ impl<'a> NamesLeft<'a> {
             target,
             is_reported,
         })
+    }
+
+    // Takes the first name of both directories where none is reported: the two first names are compared once.
+    #[inline(always)]
+    fn take_entry(&mut self) -> Option<Below<'a>>
+        requires { self.old.reported ≡ [] }
+        ensures { MatchOption result (first_name self.old ≡ None) (λ below. TakesChild self.old below.name.now below self.new) }
+    {
+        match (self.source.first(), self.target.first()) {
+            (Some((name, old)), Some((other, new))) => match name.cmp(other) {
+                Ordering::Less => {
+                    self.source.pass();
+                    Some(Below::unreported(name, Some(old), None))
+                }
+                Ordering::Equal => {
+                    self.source.pass();
+                    self.target.pass();
+                    Some(Below::unreported(name, Some(old), Some(new)))
+                }
+                Ordering::Greater => {
+                    self.target.pass();
+                    Some(Below::unreported(other, None, Some(new)))
+                }
+            },
+            (Some((name, old)), None) => {
+                self.source.pass();
+                Some(Below::unreported(name, Some(old), None))
+            }
+            (None, Some((name, new))) => {
+                self.target.pass();
+                Some(Below::unreported(name, None, Some(new)))
+            }
+            (None, None) => None,
+        }
+    }
+
+    /// Takes the first name of all, if one is left, with what stands under it. It takes memory where the name is reported.
+    #[inline(always)]
+    pub(crate) fn take_first(&mut self) -> Result<Option<Below<'a>>, AllocError>
+        ensures { IfOk result (λ first. MatchOption first (first_name self.old ≡ None) (λ below. TakesChild self.old below.name.now below self.new)) }
+    {
+        if self.reported.first_name().is_none() {
+            return Ok(self.take_entry());
+        }
+        match self.first_name() {
+            Some(name) => Ok(Some(self.take(name)?)),
+            None => Ok(None),
+        }
     }
 }

@@ -79,8 +79,7 @@ impl<'a> Walk<'a> {
     {
         let mut children = Vec::new(self.alloc);
         let mut left = self.names_left(place)?;
-        'names: while let Some(name) = left.first_name() {
-            let below = left.take(name)?;
+        'names: while let Some(below) = left.take_first()? {
             if self.is_idle_child(place, &below) {
                 continue;
             }

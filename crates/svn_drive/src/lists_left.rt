@@ -1,5 +1,5 @@
 //! Names in order that are left, of a directory and of a report, of which the first is at hand.
-ghost use Rattle.std.specs.Prelude.{◌≡◌, [], unwrap_or, option_map, IfOk};
+ghost use Rattle.std.specs.Prelude.{◌≡◌, ◌∷◌, ℕ, List, [], drop, unwrap_or, option_map, IfOk, MatchOption};
 ghost use Rattle.std.specs.Option.{option_copied};
 ghost use Rattle.std.specs.Map.Iter.{TakesFirst};
 ghost use Rattle.svn_types.specs.Pairs.{InNameOrder};
@@ -81,6 +81,22 @@ impl<'a> EntriesLeft<'a> {
             Some((name, _)) => Some(name),
             None => None,
         }
+    }
+
+    /// The first entry.
+    #[inline(always)]
+    pub(crate) fn first(&self) -> Option<(&'a Name, &'a NodeId)>
+        ensures { MatchOption result (self.now ≡ []) (λ e. self.now ≡ shown_entry e ∷ drop 1 self.now) }
+    {
+        self.first
+    }
+
+    /// Passes the first entry.
+    #[inline(always)]
+    pub(crate) fn pass(&mut self)
+        ensures { (e : List ℕ × ℕ) (es : List (List ℕ × ℕ)) → self.old ≡ e ∷ es → self.new ≡ es }
+    {
+        self.first = next_entry(&mut self.rest);
     }
 
     /// The node under the name, if it is the first, which is then taken.

@@ -47,6 +47,7 @@ impl Editor for Recorder {
         MatchResult answer (λ _. after ≡ before ++ call ∷ [])
         (λ fault. (fault ≡ Memory) × (after ≡ before)) };
 
+    #[inline(always)]
     fn call(&mut self, call: Call) -> Result<(), EditFault> {
         match self.calls.push(call) {
             Ok(()) => Ok(()),

@@ -66,6 +66,7 @@ impl<'a, R: Wait, G: Gate> Editor for Line<'a, R, G> {
 
     ghost answers = { Answered };
 
+    #[inline(always)]
     fn call(&mut self, call: Call) -> Result<(), EditFault> {
         if let Some(n) = refused_call(self.rt, &mut self.watcher, &call) {
             return Err(EditFault::Late(n));

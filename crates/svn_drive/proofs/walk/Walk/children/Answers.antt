@@ -1,12 +1,11 @@
 use Rattle.std.proofs.Common.{rules, ◌≡◌, ◌<◌, suc, List, [], ◌∷◌, ◌++◌, length, append-nil, sym, ◌∙◌, ap, subst, arith}
 use Rattle.std.specs.List.{AllByRecursion}
-use Rattle.std.specs.Option.{option_copied}
 use Rattle.svn_types.specs.Paths.{child}
 use Rattle.svn_model.specs.Tree.{names_below}
 use Rattle.svn_drive_law.proofs.Lists.{all-append}
 use Rattle.svn_types.proofs.NameLemmas.{Name}
 use Rattle.svn_drive.specs.declared.child_names.Below.{Below}
-use Rattle.svn_drive.specs.NamesLeft.{names_left}
+use Rattle.svn_drive.specs.NamesLeft.{TakesChild, names_left}
 use Rattle.svn_drive.specs.Children.{IsChild, names_of}
 use Rattle.svn_drive.specs.Walking.{IsIdle, request_of}
 use Rattle.svn_drive.proofs.NamesLeft.{none_left, left_step, step_under, step_kept}
@@ -15,26 +14,29 @@ use Rattle.svn_drive.proofs.walk.Walk.children.Goals as goal
 
 pub is_idle_child-requires-clause-below : goal.is_idle_child-requires-clause-below
 is_idle_child-requires-clause-below c =
-    step_under (request_of c.args.self.now) c.args.place.now c.names.left c.in-Some.name.now c.in_ok-below.below c.take.new.self
-    c.names.invariant.left c.in_ok-below.ensures
+    let taken : TakesChild c.names.left c.in-Some.below.name.now c.in-Some.below c.take_first.new.self = search rules in
+    step_under (request_of c.args.self.now) c.args.place.now c.names.left c.in-Some.below.name.now c.in-Some.below c.take_first.new.self
+    c.names.invariant.left taken
 
 -- one name fewer is left
 pub names-smaller : goal.names-smaller
 names-smaller c =
-    let step : length (names_left c.names.left) ≡ suc (length (names_left c.take.new.self)) =
+    let taken : TakesChild c.names.left c.in-Some.below.name.now c.in-Some.below c.take_first.new.self = search rules in
+    let step : length (names_left c.names.left) ≡ suc (length (names_left c.take_first.new.self)) =
     ap length
-    (left_step (request_of c.args.self.now) c.args.place.now c.names.left c.in-Some.name.now c.in_ok-below.below c.take.new.self
-    c.names.invariant.left c.in_ok-below.ensures) in
-    let less : length (names_left c.take.new.self) < length (names_left c.names.left) = omega (arith, step) in
+    (left_step (request_of c.args.self.now) c.args.place.now c.names.left c.in-Some.below.name.now c.in-Some.below c.take_first.new.self
+    c.names.invariant.left taken) in
+    let less : length (names_left c.take_first.new.self) < length (names_left c.names.left) = omega (arith, step) in
     less
 
 pub names-smaller-then-is_idle_child : goal.names-smaller-then-is_idle_child
 names-smaller-then-is_idle_child c =
-    let step : length (names_left c.names.left) ≡ suc (length (names_left c.take.new.self)) =
+    let taken : TakesChild c.names.left c.in-Some.below.name.now c.in-Some.below c.take_first.new.self = search rules in
+    let step : length (names_left c.names.left) ≡ suc (length (names_left c.take_first.new.self)) =
     ap length
-    (left_step (request_of c.args.self.now) c.args.place.now c.names.left c.in-Some.name.now c.in_ok-below.below c.take.new.self
-    c.names.invariant.left c.in_ok-below.ensures) in
-    let less : length (names_left c.take.new.self) < length (names_left c.names.left) = omega (arith, step) in
+    (left_step (request_of c.args.self.now) c.args.place.now c.names.left c.in-Some.below.name.now c.in-Some.below c.take_first.new.self
+    c.names.invariant.left taken) in
+    let less : length (names_left c.take_first.new.self) < length (names_left c.names.left) = omega (arith, step) in
     less
 
 pub names-init : goal.names-init
@@ -52,30 +54,31 @@ names-init c =
 
 pub names-preserved : goal.names-preserved
 names-preserved c =
+    let taken : TakesChild c.names.left c.in-Some.below.name.now c.in-Some.below c.take_first.new.self = search rules in
     let d = request_of c.args.self.now in
     let inv = c.names.invariant in
-    let n : Name = c.in-Some.name.now in
+    let n : Name = c.in-Some.below.name.now in
     let done : List Name = names_of c.names.children.items in
-    let step : names_left c.names.left ≡ n ∷ names_left c.take.new.self =
-    left_step d c.args.place.now c.names.left n c.in_ok-below.below c.take.new.self inv.left c.in_ok-below.ensures in
-    let pushed : c.push.new.self.items ≡ c.names.children.items ++ c.in_ok-below.below ∷ [] = search rules in
+    let step : names_left c.names.left ≡ n ∷ names_left c.take_first.new.self =
+    left_step d c.args.place.now c.names.left n c.in-Some.below c.take_first.new.self inv.left taken in
+    let pushed : c.push.new.self.items ≡ c.names.children.items ++ c.in-Some.below ∷ [] = search rules in
     record {
-      left = step_kept d c.args.place.now c.names.left n c.in_ok-below.below c.take.new.self inv.left c.in_ok-below.ensures;
+      left = step_kept d c.args.place.now c.names.left n c.in-Some.below c.take_first.new.self inv.left taken;
       same =
           walk_then d c.args.place.now.here.path (names_below d c.args.place.now.here.path) (done ++ names_left c.names.left)
-          (names_of c.push.new.self.items ++ names_left c.take.new.self) inv.same
+          (names_of c.push.new.self.items ++ names_left c.take_first.new.self) inv.same
           (walk_same d c.args.place.now.here.path (done ++ names_left c.names.left)
-          (names_of c.push.new.self.items ++ names_left c.take.new.self)
+          (names_of c.push.new.self.items ++ names_left c.take_first.new.self)
           (ap (λ (l : List Name). done ++ l) step
-          ∙ ap (λ (m : Name). done ++ m ∷ names_left c.take.new.self) (sym c.in_ok-below.ensures.named)
-          ∙ kept_last c.names.children.items c.in_ok-below.below (names_left c.take.new.self)
-          ∙ ap (λ (l : List Below). names_of l ++ names_left c.take.new.self) (sym pushed)));
+          ∙ ap (λ (m : Name). done ++ m ∷ names_left c.take_first.new.self) (sym taken.named)
+          ∙ kept_last c.names.children.items c.in-Some.below (names_left c.take_first.new.self)
+          ∙ ap (λ (l : List Below). names_of l ++ names_left c.take_first.new.self) (sym pushed)));
       under =
           subst (AllByRecursion (IsChild d c.args.place.now)) (sym pushed)
-          (all-append (IsChild d c.args.place.now) c.names.children.items (c.in_ok-below.below ∷ []) inv.under (
+          (all-append (IsChild d c.args.place.now) c.names.children.items (c.in-Some.below ∷ []) inv.under (
             record {
               under =
-                  step_under d c.args.place.now c.names.left n c.in_ok-below.below c.take.new.self inv.left c.in_ok-below.ensures;
+                  step_under d c.args.place.now c.names.left n c.in-Some.below c.take_first.new.self inv.left taken;
               room = c.is_idle_child.ensures.room c.if-is_idle_child.false;
             },
             tt,
@@ -85,25 +88,26 @@ names-preserved c =
 -- a name that is passed over
 pub names-preserved-then-is_idle_child : goal.names-preserved-then-is_idle_child
 names-preserved-then-is_idle_child c =
+    let taken : TakesChild c.names.left c.in-Some.below.name.now c.in-Some.below c.take_first.new.self = search rules in
     let d = request_of c.args.self.now in
     let inv = c.names.invariant in
-    let n : Name = c.in-Some.name.now in
+    let n : Name = c.in-Some.below.name.now in
     let done : List Name = names_of c.names.children.items in
-    let step : names_left c.names.left ≡ n ∷ names_left c.take.new.self =
-    left_step d c.args.place.now c.names.left n c.in_ok-below.below c.take.new.self inv.left c.in_ok-below.ensures in
+    let step : names_left c.names.left ≡ n ∷ names_left c.take_first.new.self =
+    left_step d c.args.place.now c.names.left n c.in-Some.below c.take_first.new.self inv.left taken in
     let idle : IsIdle d (child c.args.place.now.here.path n) =
-    subst (λ (m : Name). IsIdle d (child c.args.place.now.here.path m)) c.in_ok-below.ensures.named
+    subst (λ (m : Name). IsIdle d (child c.args.place.now.here.path m)) taken.named
     (c.is_idle_child.ensures.idle c.if-is_idle_child.true) in
     record {
-      left = step_kept d c.args.place.now c.names.left n c.in_ok-below.below c.take.new.self inv.left c.in_ok-below.ensures;
+      left = step_kept d c.args.place.now c.names.left n c.in-Some.below c.take_first.new.self inv.left taken;
       same =
           walk_then d c.args.place.now.here.path (names_below d c.args.place.now.here.path) (done ++ names_left c.names.left)
-          (done ++ names_left c.take.new.self) inv.same
-          (walk_then d c.args.place.now.here.path (done ++ names_left c.names.left) (done ++ n ∷ names_left c.take.new.self)
-          (done ++ names_left c.take.new.self)
-          (walk_same d c.args.place.now.here.path (done ++ names_left c.names.left) (done ++ n ∷ names_left c.take.new.self)
+          (done ++ names_left c.take_first.new.self) inv.same
+          (walk_then d c.args.place.now.here.path (done ++ names_left c.names.left) (done ++ n ∷ names_left c.take_first.new.self)
+          (done ++ names_left c.take_first.new.self)
+          (walk_same d c.args.place.now.here.path (done ++ names_left c.names.left) (done ++ n ∷ names_left c.take_first.new.self)
           (ap (λ (l : List Name). done ++ l) step))
-          (walk_skips d c.args.place.now.here.path done n (names_left c.take.new.self) idle));
+          (walk_skips d c.args.place.now.here.path done n (names_left c.take_first.new.self) idle));
       under = inv.under;
     }
 
@@ -112,8 +116,7 @@ returns c =
     let d = request_of c.args.self.now in
     let inv = c.names.invariant in
     let done : List Name = names_of c.names.children.items in
-    let none : names_left c.names.left ≡ [] =
-    none_left c.names.left (sym c.first_name.ensures ∙ ap option_copied c.in_default.is) in
+    let none : names_left c.names.left ≡ [] = none_left c.names.left (search rules) in
     record {
       same =
           walk_then d c.args.place.now.here.path (names_below d c.args.place.now.here.path) (done ++ names_left c.names.left) done inv.same
