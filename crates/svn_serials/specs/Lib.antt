@@ -1,0 +1,3 @@
+pub mod Lends
+pub mod Serials
+pub mod Slots

@@ -1,0 +1,23 @@
+//! A map by serials: numbers that are mostly given in rising order, and of which mostly the newest is asked for.
+//!
+//! ```
+//! let mut map = SerialMap::new(alloc);
+//! map.insert(7, 'a')?;
+//! map.insert(8, 'b')?;
+//! assert_eq!(rt; map.remove(8), Some('b'));
+//! assert_eq!(rt; map.newest(), Some(7));
+//! ```
+//!
+//! A [`SerialMap`] is one vector of slots in the order of their serials. A value that is removed leaves its slot empty; empty slots at the
+//! end go at once, and all others as soon as more than half of the slots are empty. So an operation costs a constant on average where
+//! serials are given in rising order, and the memory in use is at most twice that of the values. A look-up tries the last slot,
+//! then the slot where the serial stands if none from it on was left out, and then searches by halves.
+//!
+//! Promises: a map is seen as the list of its pairs in rising order, and each call says what becomes of that list and no more
+//! (`value`, `put`, `removed`, `writes_back`); an insert that finds no memory changes nothing (`refused`).
+#![tactic(auto)]
+
+mod map;
+mod slots;
+
+pub use map::SerialMap;

@@ -1,0 +1,194 @@
+// Slots in the order of their serials, and where a serial stands among them.
+ghost use Rattle.std.specs.Prelude.{◌≡◌, ◌≢◌, ℕ, ◌-◌, ◌<◌, ◌≤◌, [], true, length, slice_index, IfOk, OnOk, OnErr, MatchOption};
+ghost use Rattle.std.specs.BTreeMap.{insert_entry};
+ghost use Rattle.std.specs.Ordering.{nat_cmp};
+ghost use Rattle.svn_serials.specs.Serials.{get};
+ghost use Rattle.svn_serials.specs.Slots.{EndsFilled, IsFilledAt, IsInOrder, held, serials_of};
+
+use std::alloc::{AllocError, Allocator};
+use std::mem::replace;
+
+// A serial, and its value if that was not removed.
+#[derive(Drop)]
+pub(crate) struct Slot<V> {
+    pub(crate) serial: u64,
+    pub(crate) value: Option<V>,
+}
+
+// The first place whose serial is not below this one.
+pub(crate) fn place_for<V>(slots: &[Slot<V>], serial: u64) -> usize
+    requires { IsInOrder slots.now }
+    ensures within { result ≤ length slots.now }
+    ensures below { (k : ℕ) → k < result → slice_index (serials_of slots.now) k < serial }
+    ensures from { (k : ℕ) → result ≤ k → k < length slots.now → serial ≤ slice_index (serials_of slots.now) k }
+{
+    slots.partition_point(|slot| slot.serial < serial)
+}
+
+// The serial of the last slot.
+#[inline(always)]
+pub(crate) fn last_serial<V>(slots: &[Slot<V>]) -> Option<u64>
+    ensures { MatchOption result (slots.now ≡ []) (λ s. (0 < length slots.now) × (slice_index (serials_of slots.now) (length slots.now - 1) ≡ s)) }
+{
+    if slots.is_empty() {
+        return None;
+    }
+    Some(slots[slots.len() - 1].serial)
+}
+
+// Where the value of a serial is. Inlined, since it is mostly the last.
+#[inline(always)]
+pub(crate) fn find<V>(slots: &[Slot<V>], serial: u64) -> Option<usize>
+    requires order { IsInOrder slots.now }
+    requires ends { EndsFilled slots.now }
+    ensures { MatchOption result (get (held slots.now) serial ≡ None) (IsFilledAt slots.now serial) }
+{
+    let Some(last) = last_serial(slots) else {
+        return None;
+    };
+    if last == serial {
+        return Some(slots.len() - 1);
+    }
+    find_before_last(slots, serial, last)
+}
+
+// Where the value of a serial is that is not the last.
+fn find_before_last<V>(slots: &[Slot<V>], serial: u64, last: u64) -> Option<usize>
+    requires { IsInOrder slots.now }
+    ensures { MatchOption result (get (held slots.now) serial ≡ None) (IsFilledAt slots.now serial) }
+{
+    let Some(place) = place_before_last(slots, serial, last) else {
+        return None;
+    };
+    if slots[place].value.is_some() {
+        Some(place)
+    } else {
+        None
+    }
+}
+
+// Where a serial stands that is not the last. If none from it on was left out, it is as far from the end as it is below the last.
+fn place_before_last<V>(slots: &[Slot<V>], serial: u64, last: u64) -> Option<usize>
+    requires { IsInOrder slots.now }
+    ensures { MatchOption result
+        ((k : ℕ) → k < length slots.now → slice_index (serials_of slots.now) k ≢ serial)
+        (λ place. (place < length slots.now) × (slice_index (serials_of slots.now) place ≡ serial)) }
+{
+    let back = last.saturating_sub(serial);
+    if back < slots.len() as u64 {
+        let place = slots.len() - 1 - back as usize;
+        if slots[place].serial == serial {
+            return Some(place);
+        }
+    }
+    let place = place_for(slots, serial);
+    if place < slots.len() && slots[place].serial == serial {
+        Some(place)
+    } else {
+        None
+    }
+}
+
+// Whether a serial is above those of all slots.
+#[inline(always)]
+fn is_above_all<V>(slots: &[Slot<V>], serial: u64) -> bool
+    requires { IsInOrder slots.now }
+    ensures { result ≡ true → (k : ℕ) → k < length slots.now → slice_index (serials_of slots.now) k < serial }
+{
+    match last_serial(slots) {
+        Some(last) => last < serial,
+        None => true,
+    }
+}
+
+// Puts a value in, and gives the one that the serial had. Inlined, since it mostly goes to the end.
+#[inline(always)]
+pub(crate) fn put<V: Drop, A: Allocator>(
+    slots: &mut Vec<Slot<V>, A>,
+    serial: u64,
+    value: V,
+) -> Result<Option<V>, AllocError>
+    requires order { IsInOrder slots.old.items }
+    requires ends { EndsFilled slots.old.items }
+    ensures was { IfOk result (λ was. was ≡ get (held slots.old.items) serial) }
+    ensures put { OnOk result (held slots.new.items ≡ insert_entry nat_cmp (held slots.old.items) serial value) }
+    ensures refused { OnErr result (slots.new.items ≡ slots.old.items) }
+    ensures order { IsInOrder slots.new.items }
+    ensures ends { EndsFilled slots.new.items }
+{
+    if !is_above_all(slots.as_slice(), serial) {
+        return put_before_end(slots, serial, value);
+    }
+    slots.push(Slot {
+        serial,
+        value: Some(value),
+    })?;
+    Ok(None)
+}
+
+// Puts a value in where its serial is not above all others.
+fn put_before_end<V: Drop, A: Allocator>(
+    slots: &mut Vec<Slot<V>, A>,
+    serial: u64,
+    value: V,
+) -> Result<Option<V>, AllocError>
+    requires order { IsInOrder slots.old.items }
+    requires ends { EndsFilled slots.old.items }
+    ensures was { IfOk result (λ was. was ≡ get (held slots.old.items) serial) }
+    ensures put { OnOk result (held slots.new.items ≡ insert_entry nat_cmp (held slots.old.items) serial value) }
+    ensures refused { OnErr result (slots.new.items ≡ slots.old.items) }
+    ensures order { IsInOrder slots.new.items }
+    ensures ends { EndsFilled slots.new.items }
+{
+    let slot = Slot {
+        serial,
+        value: Some(value),
+    };
+    let place = place_for(slots.as_slice(), serial);
+    if place < slots.len() && slots[place].serial == serial {
+        let Slot { serial: _, value } = replace(&mut slots[place], slot);
+        return Ok(value);
+    }
+    slots.insert(place, slot)?;
+    Ok(None)
+}
+
+// Removes the empty slots at the end, and all others where more than half are empty. Inlined, since it mostly removes the last alone.
+#[inline(always)]
+pub(crate) fn settle<V: Drop, A: Allocator>(slots: &mut Vec<Slot<V>, A>, filled: usize)
+    requires { IsInOrder slots.old.items }
+    ensures held { held slots.new.items ≡ held slots.old.items }
+    ensures order { IsInOrder slots.new.items }
+    ensures ends { EndsFilled slots.new.items }
+{
+    trim(slots);
+    if filled < slots.len() / 2 {
+        drop_empty(slots);
+    }
+}
+
+// Removes the empty slots at the end.
+#[inline(always)]
+fn trim<V: Drop, A: Allocator>(slots: &mut Vec<Slot<V>, A>)
+    requires { IsInOrder slots.old.items }
+    ensures held { held slots.new.items ≡ held slots.old.items }
+    ensures order { IsInOrder slots.new.items }
+    ensures ends { EndsFilled slots.new.items }
+{
+    'end: while let Some(last) = slots.last() {
+        if last.value.is_some() {
+            return;
+        }
+        slots.pop();
+    }
+}
+
+// Removes all empty slots.
+fn drop_empty<V: Drop, A: Allocator>(slots: &mut Vec<Slot<V>, A>)
+    requires { IsInOrder slots.old.items }
+    ensures held { held slots.new.items ≡ held slots.old.items }
+    ensures order { IsInOrder slots.new.items }
+    ensures ends { EndsFilled slots.new.items }
+{
+    slots.retain(|slot| slot.value.is_some());
+}
