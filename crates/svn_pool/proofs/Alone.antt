@@ -1,22 +1,19 @@
 -- A pool that is put into an empty map is there alone, and the tree of the root alone keeps what a tree keeps.
-use Rattle.std.proofs.Common.{◌≡◌, ◌≢◌, ℕ, ◌<◌, ◌≤◌, nat_eq, List, [], map, Option, None, Some, IsSome, refl, sym, ap, subst, ◌∙◌, inl}
+use Rattle.std.proofs.Common.{◌≡◌, ◌≢◌, ℕ, zero, suc, ◌+◌, ◌<◌, ◌≤◌, nat_eq, [], ◌∷◌, Option, None, Some, IsSome, refl, sym, ap, subst, ◌∙◌, inl}
 use Rattle.std.proofs.Common.{inr, arith}
-use Rattle.std.proofs.lemmas.Bool.{cases_eq}
+use Rattle.std.proofs.lemmas.Bool.{cases_eq, cond-true, cond-false, eq-eqb, ne_eqb}
+use Rattle.std.proofs.lemmas.Map.Keys.{IsDistinct-cons}
 use Rattle.std.proofs.lemmas.Option.{none-some}
-use Rattle.std.specs.HashMap as hash
-use Rattle.std.specs.HashMap.{get, PutsEntry, Updates}
-use Rattle.std.specs.List.{sum_by}
-use Rattle.std.specs.Map.{lookup, values_of}
+use Rattle.svn_serials.specs.Serials.{get}
+use Rattle.std.specs.List.{IsDistinct}
 use Rattle.std.specs.Option.{IsSomeAnd}
-use Rattle.svn_pool.specs.Linked.{Changes, IsAlone, IsLinked, IsTree, LinkedMap, bare, bare_entry, first_of, live_at, next_of}
+use Rattle.svn_pool.specs.Linked.{Changes, IsAlone, IsLinked, IsTree, IsUnique, LinkedMap, bare, blocks_held, first_of, fixed_held, live_at, next_of}
 use Rattle.svn_pool.specs.Linked.{parent_in, place_in, place_of, standing}
-use Rattle.svn_pool.specs.Pools.{Entry, parent_of, blocks_of, fixed_of}
+use Rattle.svn_pool.specs.Pools.{Entry, parent_of}
 use Rattle.svn_pool.specs.declared.links.Linked.{Linked}
 use Rattle.svn_pool.specs.declared.links.Place.{Place}
 use Rattle.svn_pool.specs.declared.links.Place.TheVariants.{First, Next}
-use Rattle.svn_pool.proofs.Bare.{changes-bare, live-bare, pool_in, put-new-bare, unique-bare}
-use Rattle.svn_pool.proofs.Counts.{sum_with}
-use Rattle.svn_pool.proofs.Edges.{updated_here, updated_away}
+use Rattle.svn_pool.proofs.Bare.{is_some-bare, live-bare, pool_in}
 use Rattle.svn_pool.proofs.Kinship.{none_is_gone}
 
 abbrev pub lone : Entry
@@ -25,34 +22,25 @@ lone = record { parent = None; strings = [] }
 abbrev pub rootlet : Linked Entry
 rootlet = record { pool = lone; first = None; next = None; before = None }
 
-module _ (none new : LinkedMap) (first : ℕ) (old : Option (Linked Entry)) (empty : none.entries ≡ [])
-    (put : Updates nat_eq none new first (Some rootlet)) where
-  at_first : get nat_eq new first ≡ Some rootlet
-  at_first = updated_here none new first (Some rootlet) put
+distinct_nil : IsDistinct nat_eq []
+unfolding IsDistinct
+distinct_nil = tt
 
-  elsewhere : (c : ℕ) → c ≢ first → get nat_eq new c ≡ None
-  elsewhere c apart = updated_away none new first (Some rootlet) put c apart ∙ ap (lookup (nat_eq c)) empty
-
-  pub change : Changes (bare none) (bare new) first (Some lone)
-  change = changes-bare none new first (Some rootlet) put
-
-  nothing_held : (f : Entry → ℕ) → f lone ≡ 0 → old ≡ get nat_eq none first → PutsEntry nat_eq none new first rootlet old
-      → sum_by f (values_of (bare new)) ≡ 0
-  nothing_held f is_zero is puts =
-      let entries = put-new-bare none new first rootlet old is (ap (lookup (nat_eq first)) empty) puts in
-      let sum = sum_with f (bare none) (bare new) first lone entries in
-      let zero : sum_by f (values_of (bare none)) ≡ 0 =
-      ap (λ (es : List (ℕ × Linked Entry)). sum_by f (values_of (map bare_entry es))) empty in
-      omega (arith, sum, zero, is_zero)
-
-  pub is_alone : hash.IsUnique nat_eq new → old ≡ get nat_eq none first → PutsEntry nat_eq none new first rootlet old → IsAlone new first
-  is_alone unique is puts = record {
-    here = at_first;
-    others = elsewhere;
-    unique = unique-bare new unique;
-    blocks = nothing_held blocks_of refl is puts;
-    fixed = nothing_held fixed_of refl is puts;
+module _ (new : LinkedMap) (first : ℕ) (is : new ≡ (first, rootlet) ∷ []) where
+  pub is_alone : IsAlone new first
+  is_alone = record {
+    here = ap (λ (es : LinkedMap). get es first) is ∙ cond-true (nat_eq first first) (Some rootlet) None (eq-eqb first first refl);
+    others = λ q apart. ap (λ (es : LinkedMap). get es q) is ∙ cond-false (nat_eq q first) (Some rootlet) None (ne_eqb q first apart);
+    unique = subst (λ (es : LinkedMap). IsUnique (bare es)) (sym is) (IsDistinct-cons nat_eq first [] tt distinct_nil);
+    blocks = ap (λ (es : LinkedMap). blocks_held (bare es)) is;
+    fixed = ap (λ (es : LinkedMap). fixed_held (bare es)) is;
   }
+
+  pub change : Changes [] (bare new) first (Some lone)
+  change = (
+    ap (λ (es : LinkedMap). live_at (bare es) first) is ∙ cond-true (nat_eq first first) (Some lone) None (eq-eqb first first refl),
+    λ q apart. ap (λ (es : LinkedMap). live_at (bare es) q) is ∙ cond-false (nat_eq q first) (Some lone) None (ne_eqb q first apart),
+  )
 
 module _ (new : LinkedMap) (first : ℕ) (alone : IsAlone new first) where
   here : live_at (bare new) first ≡ Some lone
@@ -61,10 +49,10 @@ module _ (new : LinkedMap) (first : ℕ) (alone : IsAlone new first) where
   pub gone_elsewhere : (c : ℕ) → c ≢ first → live_at (bare new) c ≡ None
   gone_elsewhere c apart = live-bare new c ∙ ap pool_in (alone.others c apart)
 
-  no_links : (c : ℕ) → (first_of (get nat_eq new c) ≡ None) × (next_of (get nat_eq new c) ≡ None) × (place_of new c ≡ None)
+  no_links : (c : ℕ) → (first_of (get new c) ≡ None) × (next_of (get new c) ≡ None) × (place_of new c ≡ None)
   no_links c = elim (cases_eq c first) [
     | inl is ↦
-        let at : get nat_eq new c ≡ Some rootlet = ap (get nat_eq new) is ∙ alone.here in
+        let at : get new c ≡ Some rootlet = ap (get new) is ∙ alone.here in
         (ap first_of at, ap next_of at, ap place_in at)
     | inr apart ↦ (ap first_of (alone.others c apart), ap next_of (alone.others c apart), ap place_in (alone.others c apart))
   ]
@@ -102,10 +90,30 @@ module _ (new : LinkedMap) (first : ℕ) (alone : IsAlone new first) where
   }
 
   pub tree_alone : (last used : ℕ) → first < 18446744073709551616 → first ≤ last → used ≡ 0 → IsTree new first last used
-  tree_alone last used small given zero = record {
+  tree_alone last used small given unused = record {
     linked = linked_alone small;
     rooted = subst (λ (o : Option Entry). IsSomeAnd o (λ e. e.parent ≡ None)) (sym here) refl;
     others = λ c live apart. absurd (apart (live_is_first c live));
     below = λ c live. let same = live_is_first c live in omega (arith, same, given);
-    counted = zero ∙ sym alone.blocks;
+    counted = unused ∙ sym alone.blocks;
   }
+
+-- the root is the oldest: each other live pool has a live parent that is older
+module _ (pools : LinkedMap) (root last used : ℕ) (tree : IsTree pools root last used) where
+  oldest_below : (n q : ℕ) → q < n → IsSome (live_at (bare pools) q) → root ≤ q
+  oldest_below zero q less live = absurd (omega arith)
+  oldest_below (suc n) q less live = elim (cases_eq q root) [
+    | inl is ↦ omega arith
+    | inr apart ↦
+        let parent = some_value (parent_in pools q) (tree.others q live apart) in
+        let older = tree.linked.older parent.0 q parent.1 in
+        let above = oldest_below n parent.0 (omega (arith, older.1)) older.0 in
+        omega (arith, older.1)
+  ]
+    where
+      some_value : (o : Option ℕ) → IsSome o → (p : ℕ) × (o ≡ Some p)
+      some_value None some = absurd (let no : ⊥ = cc in no)
+      some_value (Some p) some = (p, refl)
+
+  pub root_is_oldest : (q : ℕ) → IsSome (get pools q) → root ≤ q
+  root_is_oldest q live = oldest_below (q + 1) q (omega arith) (is_some-bare pools q ∙ live)

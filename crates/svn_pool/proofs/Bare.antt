@@ -4,16 +4,17 @@ use Rattle.std.proofs.Common.{refl, sym, ap, subst, ◌∙◌}
 use Rattle.std.proofs.lemmas.List.{length-map}
 use Rattle.std.proofs.lemmas.List.Sorted.{IsPermutation-map}
 use Rattle.std.proofs.lemmas.Map.Steps.{set_value_same}
-use Rattle.std.specs.HashMap as hash
-use Rattle.std.specs.HashMap.{get, hash_map_len, PutsEntry, Updates}
+use Rattle.svn_serials.specs.Serials.{IsRising, get}
+use Rattle.svn_serials.proofs.Pairs.{Updates, distinct_from_rising, put_new}
+use Rattle.std.specs.BTreeMap.{insert_entry}
 use Rattle.std.specs.List.{IsDistinct}
+use Rattle.std.specs.Ordering.{nat_cmp}
 use Rattle.std.specs.List.Sorted.{IsPermutation}
 use Rattle.std.specs.Map.{keys_of, lookup, remove_entry, set_value}
 use Rattle.std.specs.Option.{option_map}
-use Rattle.svn_pool.specs.Linked.{Changes, IsUnique, LinkedMap, LivePools, bare, bare_entry, live_at}
+use Rattle.svn_pool.specs.Linked.{Changes, IsUnique, LinkedMap, bare, bare_entry, live_at}
 use Rattle.svn_pool.specs.Pools.{Entry}
 use Rattle.svn_pool.specs.declared.links.Linked.{Linked}
-use Rattle.svn_pool.proofs.Edges.{updated_here, updated_away}
 
 abbrev pub pool_in : Option (Linked Entry) → Option Entry
 pool_in o = option_map (λ l. l.pool) o
@@ -53,11 +54,11 @@ set-bare test (e ∷ es) w =
       | false ↦ ap (λ (fs : List (ℕ × Entry)). bare_entry e ∷ fs) (set-bare test es w)
     ]
 
-pub live-bare : (m : LinkedMap) (q : ℕ) → live_at (bare m) q ≡ pool_in (get nat_eq m q)
-live-bare m q = lookup-bare q m.entries
+pub live-bare : (m : LinkedMap) (q : ℕ) → live_at (bare m) q ≡ pool_in (get m q)
+live-bare m q = lookup-bare q m
 
 -- what a search finds in the map is live
-pub live-found : (m : LinkedMap) (q : ℕ) {l : Linked Entry} → Some l ≡ get nat_eq m q → live_at (bare m) q ≡ Some l.pool
+pub live-found : (m : LinkedMap) (q : ℕ) {l : Linked Entry} → Some l ≡ get m q → live_at (bare m) q ≡ Some l.pool
 live-found m q found = live-bare m q ∙ ap pool_in (sym found)
 
 -- a pool has other contents, and its links are as they were
@@ -69,45 +70,35 @@ is_some-pool None = refl
 is_some-pool (Some l) = refl
 
 -- a pool is live where the map has its serial
-pub is_some-bare : (m : LinkedMap) (q : ℕ) → is_some (live_at (bare m) q) ≡ is_some (get nat_eq m q)
-is_some-bare m q = ap is_some (live-bare m q) ∙ is_some-pool (get nat_eq m q)
+pub is_some-bare : (m : LinkedMap) (q : ℕ) → is_some (live_at (bare m) q) ≡ is_some (get m q)
+is_some-bare m q = ap is_some (live-bare m q) ∙ is_some-pool (get m q)
 
-pub length-bare : (m : LinkedMap) → length (bare m) ≡ hash_map_len m
-length-bare m = length-map m.entries bare_entry
+pub length-bare : (m : LinkedMap) → length (bare m) ≡ length m
+length-bare m = length-map m bare_entry
 
-pub unique-bare : (m : LinkedMap) → hash.IsUnique nat_eq m → IsUnique (bare m)
-unique-bare m unique = subst (IsDistinct nat_eq) (sym (keys-bare m.entries)) unique
+pub unique-bare : (m : LinkedMap) → IsRising m → IsUnique (bare m)
+unique-bare m rising = subst (IsDistinct nat_eq) (sym (keys-bare m)) (distinct_from_rising m rising)
 
 module _ (m n : LinkedMap) (k : ℕ) where
-  pub changes-bare : (w : Option (Linked Entry)) → Updates nat_eq m n k w → Changes (bare m) (bare n) k (pool_in w)
-  changes-bare w h = (
-    live-bare n k ∙ ap pool_in (updated_here m n k w h),
-    λ q apart. live-bare n q ∙ ap pool_in (updated_away m n k w h q apart) ∙ sym (live-bare m q),
-  )
+  pub changes-bare : (w : Option (Linked Entry)) → Updates m n k w → Changes (bare m) (bare n) k (pool_in w)
+  changes-bare w h = (live-bare n k ∙ ap pool_in h.here, λ q apart. live-bare n q ∙ ap pool_in (h.away q apart) ∙ sym (live-bare m q))
 
   -- one is taken out
-  pub removed-bare : IsPermutation (remove_entry (nat_eq k) m.entries) n.entries → IsPermutation (remove_entry (nat_eq k) (bare m)) (bare n)
-  removed-bare h =
-      subst (λ (es : LivePools). IsPermutation es (bare n)) (remove-bare (nat_eq k) m.entries)
-      (IsPermutation-map bare_entry (remove_entry (nat_eq k) m.entries) n.entries h)
+  pub removed-bare : n ≡ remove_entry (nat_eq k) m → bare n ≡ remove_entry (nat_eq k) (bare m)
+  removed-bare h = ap (map bare_entry) h ∙ remove-bare (nat_eq k) m
 
   -- one is put in
-  pub put-bare : (w : Linked Entry) → IsPermutation ((k, w) ∷ m.entries) n.entries → IsPermutation ((k, w.pool) ∷ bare m) (bare n)
-  put-bare w h = IsPermutation-map bare_entry ((k, w) ∷ m.entries) n.entries h
+  pub put-bare : (w : Linked Entry) → get m k ≡ None → n ≡ insert_entry nat_cmp m k w → IsPermutation ((k, w.pool) ∷ bare m) (bare n)
+  put-bare w none h =
+      subst (λ (es : LinkedMap). IsPermutation ((k, w.pool) ∷ bare m) (map bare_entry es)) (sym h)
+      (IsPermutation-map bare_entry ((k, w) ∷ m) (insert_entry nat_cmp m k w) (put_new m k w none))
 
   -- one is written
-  pub written-bare : (w : Linked Entry) → n.entries ≡ set_value (nat_eq k) m.entries w → bare n ≡ set_value (nat_eq k) (bare m) w.pool
-  written-bare w h = ap (map bare_entry) h ∙ set-bare (nat_eq k) m.entries w
+  pub written-bare : (w : Linked Entry) → n ≡ set_value (nat_eq k) m w → bare n ≡ set_value (nat_eq k) (bare m) w.pool
+  written-bare w h = ap (map bare_entry) h ∙ set-bare (nat_eq k) m w
 
   -- and its links alone are others
-  pub relinked-bare : (v w : Linked Entry) → get nat_eq m k ≡ Some v → w.pool ≡ v.pool → n.entries ≡ set_value (nat_eq k) m.entries w
-      → bare n ≡ bare m
+  pub relinked-bare : (v w : Linked Entry) → get m k ≡ Some v → w.pool ≡ v.pool → n ≡ set_value (nat_eq k) m w → bare n ≡ bare m
   relinked-bare v w found same h =
       written-bare w h ∙ ap (set_value (nat_eq k) (bare m)) same
       ∙ set_value_same (nat_eq k) (bare m) v.pool (live-bare m k ∙ ap pool_in found)
-
--- one is put in under a new key
-pub put-new-bare : (m n : LinkedMap) (k : ℕ) (w : Linked Entry) (old : Option (Linked Entry)) → old ≡ get nat_eq m k → get nat_eq m k ≡ None
-    → PutsEntry nat_eq m n k w old → IsPermutation ((k, w.pool) ∷ bare m) (bare n)
-put-new-bare m n k w None is none h = put-bare m n k w h
-put-new-bare m n k w (Some l) is none h = absurd (let no : Some l ≡ None = is ∙ none in let clash : ⊥ = cc in clash)

@@ -4,8 +4,8 @@ use Rattle.std.proofs.Common.{ap, subst, ◌∙◌, inl, inr, arith}
 use Rattle.std.proofs.Math.Path.{transport}
 use Rattle.std.proofs.lemmas.Bool.{cases_eq}
 use Rattle.std.proofs.lemmas.Option.{none-some, same_Some}
-use Rattle.std.specs.HashMap as hash
-use Rattle.std.specs.HashMap.{get, Updates}
+use Rattle.svn_serials.specs.Serials.{IsRising, get}
+use Rattle.svn_serials.proofs.Pairs.{Updates}
 use Rattle.std.specs.Map.{lookup}
 use Rattle.svn_pool.specs.Linked.{Changes, IsBeside, IsInverse, IsKin, IsLeaf, IsLinked, IsUnique, LinkedMap, LivePools, bare}
 use Rattle.svn_pool.specs.Linked.{bare_entry, first_of, holder, live_at, next_of}
@@ -15,7 +15,6 @@ use Rattle.svn_pool.specs.declared.links.Linked.{Linked}
 use Rattle.svn_pool.specs.declared.links.Place.{Place}
 use Rattle.svn_pool.specs.declared.links.Place.TheVariants.{First, Next}
 use Rattle.svn_pool.proofs.Bare.{changes-bare, holding, is_some-bare, live-bare, pool_in, unique-bare}
-use Rattle.svn_pool.proofs.Edges.{updated_here, updated_away}
 use Rattle.svn_pool.proofs.Siblings.{first_or_next, inverse_with, inverse_without, kin_with, kin_without, same_place}
 
 -- what has a parent is live
@@ -51,16 +50,16 @@ next_live : (o : Option (Linked Entry)) (c : ℕ) → next_of o ≡ Some c → I
 next_live None c e = absurd (none-some c e)
 next_live (Some l) c e = refl
 
-holder_live : (m : LinkedMap) (x : Place) (c : ℕ) → standing m x ≡ Some c → IsSome (get nat_eq m (holder x))
-holder_live m (First p) c e = first_live (get nat_eq m p) c e
-holder_live m (Next q) c e = next_live (get nat_eq m q) c e
+holder_live : (m : LinkedMap) (x : Place) (c : ℕ) → standing m x ≡ Some c → IsSome (get m (holder x))
+holder_live m (First p) c e = first_live (get m p) c e
+holder_live m (Next q) c e = next_live (get m q) c e
 
 -- what stands at a place depends on its holder alone
-same_holder : (m n : LinkedMap) (x : Place) → get nat_eq n (holder x) ≡ get nat_eq m (holder x) → standing n x ≡ standing m x
+same_holder : (m n : LinkedMap) (x : Place) → get n (holder x) ≡ get m (holder x) → standing n x ≡ standing m x
 same_holder m n (First p) e = ap first_of e
 same_holder m n (Next q) e = ap next_of e
 
-unheld : (m : LinkedMap) (x : Place) → get nat_eq m (holder x) ≡ None → standing m x ≡ None
+unheld : (m : LinkedMap) (x : Place) → get m (holder x) ≡ None → standing m x ≡ None
 unheld m (First p) e = ap first_of e
 unheld m (Next q) e = ap next_of e
 
@@ -97,28 +96,28 @@ linked-same m n linked same moved parents live unique = record {
 }
 
 -- a map with the same entries
-pub linked-again : (m n : LinkedMap) → IsLinked m → ((c : ℕ) → get nat_eq n c ≡ get nat_eq m c) → hash.IsUnique nat_eq n → IsLinked n
+pub linked-again : (m n : LinkedMap) → IsLinked m → ((c : ℕ) → get n c ≡ get m c) → IsRising n → IsLinked n
 linked-again m n linked same unique =
     let pool : (c : ℕ) → live_at (bare n) c ≡ live_at (bare m) c = λ c. live-bare n c ∙ ap pool_in (same c) ∙ sym (live-bare m c) in
     linked-same m n linked (λ x. same_holder m n x (same (holder x))) (λ c. ap place_in (same c)) (λ c. ap parent_of (pool c))
     (λ c. ap is_some (pool c)) (unique-bare n unique)
 
 -- one pool has other strings
-pub linked-written : (m n : LinkedMap) → IsLinked m → (s : ℕ) (l : Linked Entry) (w : Entry) → get nat_eq m s ≡ Some l
-    → w.parent ≡ l.pool.parent → Updates nat_eq m n s (Some (holding l w)) → hash.IsUnique nat_eq n → IsLinked n
+pub linked-written : (m n : LinkedMap) → IsLinked m → (s : ℕ) (l : Linked Entry) (w : Entry) → get m s ≡ Some l
+    → w.parent ≡ l.pool.parent → Updates m n s (Some (holding l w)) → IsRising n → IsLinked n
 linked-written m n linked s l w found parent put unique =
     let e : Linked Entry = holding l w in
-    let here = updated_here m n s (Some e) put in
-    let away : (c : ℕ) → c ≢ s → get nat_eq n c ≡ get nat_eq m c = updated_away m n s (Some e) put in
+    let here = put.here in
+    let away : (c : ℕ) → c ≢ s → get n c ≡ get m c = put.away in
     let change = changes-bare m n s (Some e) put in
-    let firsts : (c : ℕ) → first_of (get nat_eq n c) ≡ first_of (get nat_eq m c) = λ c. elim (cases_eq c s) [
-      | inl is ↦ ap (λ (k : ℕ). first_of (get nat_eq n k)) is ∙ ap first_of here ∙ sym (ap first_of found)
-          ∙ ap (λ (k : ℕ). first_of (get nat_eq m k)) (sym is)
+    let firsts : (c : ℕ) → first_of (get n c) ≡ first_of (get m c) = λ c. elim (cases_eq c s) [
+      | inl is ↦ ap (λ (k : ℕ). first_of (get n k)) is ∙ ap first_of here ∙ sym (ap first_of found)
+          ∙ ap (λ (k : ℕ). first_of (get m k)) (sym is)
       | inr apart ↦ ap first_of (away c apart)
     ] in
-    let nexts : (c : ℕ) → next_of (get nat_eq n c) ≡ next_of (get nat_eq m c) = λ c. elim (cases_eq c s) [
-      | inl is ↦ ap (λ (k : ℕ). next_of (get nat_eq n k)) is ∙ ap next_of here ∙ sym (ap next_of found)
-          ∙ ap (λ (k : ℕ). next_of (get nat_eq m k)) (sym is)
+    let nexts : (c : ℕ) → next_of (get n c) ≡ next_of (get m c) = λ c. elim (cases_eq c s) [
+      | inl is ↦ ap (λ (k : ℕ). next_of (get n k)) is ∙ ap next_of here ∙ sym (ap next_of found)
+          ∙ ap (λ (k : ℕ). next_of (get m k)) (sym is)
       | inr apart ↦ ap next_of (away c apart)
     ] in
     linked-same m n linked (by firsts nexts)
@@ -141,45 +140,45 @@ linked-written m n linked s l w found parent put unique =
     ])
     (unique-bare n unique)
   where
-    by : ((c : ℕ) → first_of (get nat_eq n c) ≡ first_of (get nat_eq m c)) → ((c : ℕ) → next_of (get nat_eq n c) ≡ next_of (get nat_eq m c))
+    by : ((c : ℕ) → first_of (get n c) ≡ first_of (get m c)) → ((c : ℕ) → next_of (get n c) ≡ next_of (get m c))
         → (x : Place) → standing n x ≡ standing m x
     by firsts nexts (First p) = firsts p
     by firsts nexts (Next q) = nexts q
 
 -- the pool z stands at x, by the link of its holder
 pub record IsStood (m n : LinkedMap) (x : Place) (z : Option ℕ) : Type 0 where
-  pub here : IsSome (get nat_eq m (holder x)) → standing n x ≡ z
+  pub here : IsSome (get m (holder x)) → standing n x ≡ z
   pub others : (y : Place) → y ≢ x → standing n y ≡ standing m y
   pub places : (c : ℕ) → place_of n c ≡ place_of m c
   pub pools : bare n ≡ bare m
 
 -- and by its own
 pub record IsMoved (m n : LinkedMap) (z : Option ℕ) (x : Place) : Type 0 where
-  pub moved : (c : ℕ) → z ≡ Some c → IsSome (get nat_eq m c) → ((p : ℕ) → x ≡ First p → parent_in m c ≡ Some p) → place_of n c ≡ Some x
+  pub moved : (c : ℕ) → z ≡ Some c → IsSome (get m c) → ((p : ℕ) → x ≡ First p → parent_in m c ≡ Some p) → place_of n c ≡ Some x
   pub others : (c : ℕ) → z ≢ Some c → place_of n c ≡ place_of m c
   pub standing : (y : Place) → standing n y ≡ standing m y
   pub pools : bare n ≡ bare m
 
 -- which pools are live is seen without the links
-live_same : (m n : LinkedMap) → bare n ≡ bare m → (c : ℕ) → is_some (get nat_eq n c) ≡ is_some (get nat_eq m c)
+live_same : (m n : LinkedMap) → bare n ≡ bare m → (c : ℕ) → is_some (get n c) ≡ is_some (get m c)
 live_same m n same c = sym (is_some-bare n c) ∙ ap (λ (ps : LivePools). is_some (live_at ps c)) same ∙ is_some-bare m c
 
-pub live_after : (m n : LinkedMap) → bare n ≡ bare m → (c : ℕ) → IsSome (get nat_eq m c) → IsSome (get nat_eq n c)
+pub live_after : (m n : LinkedMap) → bare n ≡ bare m → (c : ℕ) → IsSome (get m c) → IsSome (get n c)
 live_after m n same c h = live_same m n same c ∙ h
 
 -- the links of a pool but for its first child are as they were, and so are all others
 pub record IsLed (m n : LinkedMap) (p : ℕ) (z : Option ℕ) : Type 0 where
-  pub first : IsSome (get nat_eq m p) → first_of (get nat_eq n p) ≡ z
-  pub next : next_of (get nat_eq n p) ≡ next_of (get nat_eq m p)
-  pub place : place_in (get nat_eq n p) ≡ place_in (get nat_eq m p)
-  pub others : (q : ℕ) → q ≢ p → get nat_eq n q ≡ get nat_eq m q
+  pub first : IsSome (get m p) → first_of (get n p) ≡ z
+  pub next : next_of (get n p) ≡ next_of (get m p)
+  pub place : place_in (get n p) ≡ place_in (get m p)
+  pub others : (q : ℕ) → q ≢ p → get n q ≡ get m q
   pub pools : bare n ≡ bare m
 
 module _ (m n : LinkedMap) (p : ℕ) (z : Option ℕ) (led : IsLed m n p z) where
   led_others : (y : Place) → y ≢ First p → standing n y ≡ standing m y
   led_others (First q) apart = ap first_of (led.others q (λ is. apart (ap First is)))
   led_others (Next q) apart = elim (cases_eq q p) [
-    | inl is ↦ ap (λ (k : ℕ). next_of (get nat_eq n k)) is ∙ led.next ∙ ap (λ (k : ℕ). next_of (get nat_eq m k)) (sym is)
+    | inl is ↦ ap (λ (k : ℕ). next_of (get n k)) is ∙ led.next ∙ ap (λ (k : ℕ). next_of (get m k)) (sym is)
     | inr other ↦ ap next_of (led.others q other)
   ]
 
@@ -193,25 +192,25 @@ module _ (m n : LinkedMap) (p : ℕ) (z : Option ℕ) (led : IsLed m n p z) wher
   led_stands = record { here = led.first; others = led_others; places = led_places; pools = led.pools }
 
   -- the same first child as before
-  pub linked-led : IsLinked m → (IsSome (get nat_eq m p) → standing m (First p) ≡ z) → IsLinked n
+  pub linked-led : IsLinked m → (IsSome (get m p) → standing m (First p) ≡ z) → IsLinked n
   linked-led linked same =
       linked-same m n linked
       (λ y. elim (same_place y (First p)) [
-        | inl is ↦ ap (standing n) is ∙ here (get nat_eq m p) refl ∙ ap (standing m) (sym is)
+        | inl is ↦ ap (standing n) is ∙ here (get m p) refl ∙ ap (standing m) (sym is)
         | inr apart ↦ led_others y apart
       ])
       led_places (λ c. ap (λ (ps : LivePools). parent_of (live_at ps c)) led.pools)
       (λ c. ap (λ (ps : LivePools). is_some (live_at ps c)) led.pools) (subst IsUnique (sym led.pools) linked.unique)
     where
-      here : (o : Option (Linked Entry)) → get nat_eq m p ≡ o → first_of (get nat_eq n p) ≡ first_of (get nat_eq m p)
+      here : (o : Option (Linked Entry)) → get m p ≡ o → first_of (get n p) ≡ first_of (get m p)
       here None none =
-          ap first_of (gone_from_test (get nat_eq n p) (live_same m n led.pools p ∙ ap is_some none)) ∙ sym (ap first_of none)
+          ap first_of (gone_from_test (get n p) (live_same m n led.pools p ∙ ap is_some none)) ∙ sym (ap first_of none)
       here (Some l) found = let live = ap is_some found in led.first live ∙ sym (same live)
 
 -- the first child is set again, in a map with the same entries
-pub led_again : (m l k n : LinkedMap) (p : ℕ) (y z : Option ℕ) → IsLed m l p y → k.entries ≡ l.entries → IsLed k n p z → IsLed m n p z
+pub led_again : (m l k n : LinkedMap) (p : ℕ) (y z : Option ℕ) → IsLed m l p y → k ≡ l → IsLed k n p z → IsLed m n p z
 led_again m l k n p y z led same again =
-    let at : (q : ℕ) → get nat_eq k q ≡ get nat_eq l q = λ q. ap (λ (es : List (ℕ × Linked Entry)). lookup (nat_eq q) es) same in
+    let at : (q : ℕ) → get k q ≡ get l q = λ q. ap (λ (es : List (ℕ × Linked Entry)). lookup (nat_eq q) es) same in
     record {
       first = λ live. again.first (ap is_some (at p) ∙ live_after m l led.pools p live);
       next = again.next ∙ ap next_of (at p) ∙ led.next;
@@ -234,12 +233,12 @@ holder_beside m linked s (Next q) e =
 
 -- the pool s is gone
 module _ (old mid : LinkedMap) (linked : IsLinked old) (s : ℕ) (leaf : IsLeaf (bare old) s) (l : Linked Entry)
-    (found : get nat_eq old s ≡ Some l) (gone : Updates nat_eq old mid s None) (unique : hash.IsUnique nat_eq mid) where
-  at_s : get nat_eq mid s ≡ None
-  at_s = updated_here old mid s None gone
+    (found : get old s ≡ Some l) (gone : Updates old mid s None) (unique : IsRising mid) where
+  at_s : get mid s ≡ None
+  at_s = gone.here
 
-  away : (c : ℕ) → c ≢ s → get nat_eq mid c ≡ get nat_eq old c
-  away = updated_away old mid s None gone
+  away : (c : ℕ) → c ≢ s → get mid c ≡ get old c
+  away = gone.away
 
   change : Changes (bare old) (bare mid) s None
   change = changes-bare old mid s None gone
@@ -263,7 +262,7 @@ module _ (old mid : LinkedMap) (linked : IsLinked old) (s : ℕ) (leaf : IsLeaf 
   same_standing : (y : Place) → y ≢ Next s → standing mid y ≡ standing old y
   same_standing y apart = elim (cases_eq (holder y) s) [
     | inl is ↦ elim (held_by y s is) [
-      | inl first ↦ unheld mid y (ap (get nat_eq mid) is ∙ at_s) ∙ sym (ap (standing old) first ∙ no_first)
+      | inl first ↦ unheld mid y (ap (get mid) is ∙ at_s) ∙ sym (ap (standing old) first ∙ no_first)
       | inr next ↦ absurd (apart next)
     ]
     | inr other ↦ same_holder old mid y (away (holder y) other)
@@ -299,8 +298,8 @@ module _ (old mid : LinkedMap) (linked : IsLinked old) (s : ℕ) (leaf : IsLeaf 
       let next : standing old (Next s) ≡ None = no_next place parent (standing old (Next s)) refl in
       let standings : (y : Place) → standing mid y ≡ standing old y = λ y. elim (cases_eq (holder y) s) [
         | inl is ↦ elim (held_by y s is) [
-          | inl first ↦ unheld mid y (ap (get nat_eq mid) is ∙ at_s) ∙ sym (ap (standing old) first ∙ no_first)
-          | inr at ↦ unheld mid y (ap (get nat_eq mid) is ∙ at_s) ∙ sym (ap (standing old) at ∙ next)
+          | inl first ↦ unheld mid y (ap (get mid) is ∙ at_s) ∙ sym (ap (standing old) first ∙ no_first)
+          | inr at ↦ unheld mid y (ap (get mid) is ∙ at_s) ∙ sym (ap (standing old) at ∙ next)
         ]
         | inr other ↦ same_holder old mid y (away (holder y) other)
       ] in
@@ -342,7 +341,7 @@ module _ (old mid : LinkedMap) (linked : IsLinked old) (s : ℕ) (leaf : IsLeaf 
     other_holder : holder x ≢ s
     other_holder is = elim (held_by x s is) [ inl first ↦ not_first first | inr next ↦ apart (sym next) ]
 
-    pub holder_stays : IsSome (get nat_eq mid (holder x))
+    pub holder_stays : IsSome (get mid (holder x))
     holder_stays = ap is_some (away (holder x) other_holder) ∙ holder_live old x s was
 
     -- the next stands there now
@@ -360,7 +359,7 @@ module _ (old mid : LinkedMap) (linked : IsLinked old) (s : ℕ) (leaf : IsLeaf 
       next_moved c is =
           let not_s : c ≢ s = λ same. not_next (is ∙ ap Some same) in
           let follows : place_of old c ≡ Some (Next s) = linked.inverse.there (Next s) c (ap next_of found ∙ is) in
-          let live : IsSome (get nat_eq old c) = placed_live (get nat_eq old c) (Next s) follows in
+          let live : IsSome (get old c) = placed_live (get old c) (Next s) follows in
           moved.moved c is (live_after mid closed put.pools c (ap is_some (away c not_s) ∙ live))
           (λ p first. ap (λ (ps : LivePools). parent_of (live_at ps c)) put.pools ∙ ap parent_of (change.1 c not_s)
           ∙ sym (linked.kin.next c s follows).1 ∙ linked.kin.first s p (s_at ∙ ap Some first))
@@ -385,18 +384,18 @@ module _ (old mid : LinkedMap) (linked : IsLinked old) (s : ℕ) (leaf : IsLeaf 
           (λ c other. ap (λ (ps : LivePools). parent_of (live_at ps c)) bare_same ∙ ap parent_of (change.1 c other)))
 
 -- the pool s is p's first child, and the newest pool
-module _ (old led mid : LinkedMap) (linked : IsLinked old) (s p : ℕ) (l : Linked Entry) (live : IsSome (get nat_eq old p))
+module _ (old led mid : LinkedMap) (linked : IsLinked old) (s p : ℕ) (l : Linked Entry) (live : IsSome (get old p))
     (fresh : (c : ℕ) → IsSome (live_at (bare old) c) → c < s) (small : s < 18446744073709551616)
     (child : l ≡ record {
       pool = record { parent = Some p; strings = [] };
       first = None;
-      next = first_of (get nat_eq old p);
+      next = first_of (get old p);
       before = None;
     })
-    (lead : IsLed old led p (Some s)) (put_in : Updates nat_eq led mid s (Some l)) (unique : hash.IsUnique nat_eq mid) (new : LinkedMap)
-    (moved : IsMoved mid new (first_of (get nat_eq old p)) (Next s)) where
+    (lead : IsLed old led p (Some s)) (put_in : Updates led mid s (Some l)) (unique : IsRising mid) (new : LinkedMap)
+    (moved : IsMoved mid new (first_of (get old p)) (Next s)) where
   abbrev z : Option ℕ
-  z = first_of (get nat_eq old p)
+  z = first_of (get old p)
 
   abbrev lone : Entry
   lone = record { parent = Some p; strings = [] }
@@ -404,20 +403,20 @@ module _ (old led mid : LinkedMap) (linked : IsLinked old) (s p : ℕ) (l : Link
   put : IsStood old led (First p) (Some s)
   put = led_stands old led p (Some s) lead
 
-  here_s : get nat_eq mid s ≡ Some l
-  here_s = updated_here led mid s (Some l) put_in
+  here_s : get mid s ≡ Some l
+  here_s = put_in.here
 
-  away_s : (c : ℕ) → c ≢ s → get nat_eq mid c ≡ get nat_eq led c
-  away_s = updated_away led mid s (Some l) put_in
+  away_s : (c : ℕ) → c ≢ s → get mid c ≡ get led c
+  away_s = put_in.away
 
-  live_old : (c : ℕ) → IsSome (get nat_eq old c) → c < s
+  live_old : (c : ℕ) → IsSome (get old c) → c < s
   live_old c h = fresh c (is_some-bare old c ∙ h)
 
-  no_s : get nat_eq old s ≡ None
-  no_s = gone_is_none (get nat_eq old s) (λ h. let lt = live_old s h in omega (arith, lt))
+  no_s : get old s ≡ None
+  no_s = gone_is_none (get old s) (λ h. let lt = live_old s h in omega (arith, lt))
 
-  no_s_led : get nat_eq led s ≡ None
-  no_s_led = gone_from_test (get nat_eq led s) (live_same old led put.pools s ∙ ap is_some no_s)
+  no_s_led : get led s ≡ None
+  no_s_led = gone_from_test (get led s) (live_same old led put.pools s ∙ ap is_some no_s)
 
   added : Changes (bare old) (bare new) s (Some lone)
   added =
@@ -428,7 +427,7 @@ module _ (old led mid : LinkedMap) (linked : IsLinked old) (s p : ℕ) (l : Link
     | inl is ↦ elim (held_by y s is) [
       | inl first ↦
           ap (standing mid) first ∙ ap first_of here_s ∙ ap (λ (e : Linked Entry). e.first) child
-          ∙ sym (unheld led y (ap (get nat_eq led) is ∙ no_s_led))
+          ∙ sym (unheld led y (ap (get led) is ∙ no_s_led))
       | inr next ↦ absurd (apart next)
     ]
     | inr other ↦ same_holder led mid y (away_s (holder y) other)
@@ -451,7 +450,7 @@ module _ (old led mid : LinkedMap) (linked : IsLinked old) (s p : ℕ) (l : Link
 
   z_moved : (c : ℕ) → z ≡ Some c → place_of new c ≡ Some (Next s)
   z_moved c is =
-      let was : IsSome (get nat_eq old c) = placed_live (get nat_eq old c) (First p) (linked.inverse.there (First p) c is) in
+      let was : IsSome (get old c) = placed_live (get old c) (First p) (linked.inverse.there (First p) c is) in
       let other : c ≢ s = λ same. not_z (is ∙ ap Some same) in
       moved.moved c is (ap is_some (away_s c other) ∙ live_after old led put.pools c was)
       (λ q first. absurd (first_or_next q s (sym first)))

@@ -1,9 +1,9 @@
 -- The removal of the pools beneath one, step by step.
-use Rattle.std.proofs.Common.{nat_eq, ◌≡◌, ◌≢◌, ◌⊎◌, ℕ, zero, suc, ◌+◌, ◌<◌, Option, None, Some, IsSome, refl, sym, ap, subst, ◌∙◌}
+use Rattle.std.proofs.Common.{◌≡◌, ◌≢◌, ◌⊎◌, ℕ, zero, suc, ◌+◌, ◌<◌, Option, None, Some, IsSome, refl, sym, ap, subst, ◌∙◌}
 use Rattle.std.proofs.Common.{inl, inr, arith}
 use Rattle.std.proofs.lemmas.Bool.{cases_eq}
 use Rattle.std.proofs.lemmas.Option.{same_Some}
-use Rattle.std.specs.HashMap.{get}
+use Rattle.svn_serials.specs.Serials.{get}
 use Rattle.svn_pool.specs.Ancestry.{IsAbove, IsBeneath}
 use Rattle.svn_pool.specs.Linked.{Changes, IsBeside, IsLinked, IsLeaf, IsPruned, LinkedMap, LivePools, bare, blocks_held}
 use Rattle.svn_pool.specs.Linked.{first_of, fixed_held, live_at, parent_in, place_of, standing}
@@ -22,7 +22,7 @@ pub record IsOnWay (old now : LivePools) (top at : ℕ) : Type 0 where
 -- what the loop keeps
 pub record IsPruning (old now : LinkedMap) (before after : Store) (top at : ℕ) (child : Option ℕ) : Type 0 where
   pub way : IsOnWay (bare old) (bare now) top at
-  pub first : child ≡ first_of (get nat_eq now at)
+  pub first : child ≡ first_of (get now at)
   pub linked : IsLinked now
   pub counted : after.used ≡ blocks_held (bare now)
   pub fixed : after.spare + fixed_held (bare now) ≡ before.spare + fixed_held (bare old)

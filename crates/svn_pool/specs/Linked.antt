@@ -1,10 +1,8 @@
 -- How the tree holds its pools: by their serials, each with links to its first child and to the siblings beside it.
 use Rattle.std.specs.Prelude.{nat_eq, ◌≡◌, ◌≢◌, ◌⊎◌, ℕ, ◌<◌, ◌≤◌, List, [], map, Option, None, Some, IsSome, IsSomeAnd, option_map}
-use Rattle.std.specs.HashMap.{HashMap, get}
+use Rattle.svn_serials.specs.Serials.{get}
 use Rattle.std.specs.List.{sum_by, IsDistinct}
 use Rattle.std.specs.Map.{keys_of, lookup, values_of}
-use Rattle.std.specs.declared.hash.BuildHasherDefault.{BuildHasherDefault}
-use Rattle.std.specs.declared.hash.FoldHasher.{FoldHasher}
 use Rattle.svn_pool.specs.Ancestry.{IsBeneath}
 use Rattle.svn_pool.specs.Pools.{Entry, parent_of, blocks_of, fixed_of}
 use Rattle.svn_pool.specs.declared.links.Linked.{Linked}
@@ -13,9 +11,9 @@ use Rattle.svn_pool.specs.declared.links.Place.TheVariants.{First, Next}
 
 -- the live pools by their serials, each with its links
 abbrev pub LinkedMap : Type 0
-LinkedMap = HashMap ℕ (Linked Entry) (BuildHasherDefault FoldHasher)
+LinkedMap = List (ℕ × Linked Entry)
 
--- the live pools with their serials, in no order
+-- the live pools with their serials
 abbrev pub LivePools : Type 0
 LivePools = List (ℕ × Entry)
 
@@ -24,7 +22,7 @@ bare_entry e = (e.0, e.1.pool)
 
 -- the pools of a map, without their links
 abbrev pub bare : LinkedMap → LivePools
-bare pools = map bare_entry pools.entries
+bare pools = map bare_entry pools
 
 -- the live pool of serial s
 abbrev pub live_at : LivePools → ℕ → Option Entry
@@ -67,12 +65,12 @@ holder (Next q) = q
 
 -- the pool that stands at a place
 abbrev pub standing : LinkedMap → Place → Option ℕ
-standing pools (First p) = first_of (get nat_eq pools p)
-standing pools (Next q) = next_of (get nat_eq pools q)
+standing pools (First p) = first_of (get pools p)
+standing pools (Next q) = next_of (get pools q)
 
 -- where a pool stands
 abbrev pub place_of : LinkedMap → ℕ → Option Place
-place_of pools c = place_in (get nat_eq pools c)
+place_of pools c = place_in (get pools c)
 
 abbrev pub parent_in : LinkedMap → ℕ → Option ℕ
 parent_in pools c = parent_of (live_at (bare pools) c)
@@ -121,8 +119,8 @@ pub record IsPruned (old new : LivePools) (s : ℕ) : Type 0 where
 
 -- the pool s is there alone, without parent, strings and links
 pub record IsAlone (pools : LinkedMap) (s : ℕ) : Type 0 where
-  pub here : get nat_eq pools s ≡ Some (record { pool = record { parent = None; strings = [] }; first = None; next = None; before = None })
-  pub others : (q : ℕ) → q ≢ s → get nat_eq pools q ≡ None
+  pub here : get pools s ≡ Some (record { pool = record { parent = None; strings = [] }; first = None; next = None; before = None })
+  pub others : (q : ℕ) → q ≢ s → get pools q ≡ None
   pub unique : IsUnique (bare pools)
   pub blocks : blocks_held (bare pools) ≡ 0
   pub fixed : fixed_held (bare pools) ≡ 0

@@ -1,6 +1,6 @@
 // The live pools by their serials, linked: each knows its first child and the siblings beside it.
-ghost use Rattle.std.specs.Prelude.{nat_eq, ◌≡◌, ◌≢◌, ℕ, ◌+◌, ◌<◌, [], length, Some, None, is_some, option_copied, IsSome, IfSome, IfNone, OnOk, OnErr};
-ghost use Rattle.std.specs.HashMap.{get};
+ghost use Rattle.std.specs.Prelude.{◌≡◌, ◌≢◌, ℕ, ◌+◌, ◌<◌, [], length, Some, None, is_some, option_copied, IsSome, IfSome, IfNone, OnOk, OnErr};
+ghost use Rattle.svn_serials.specs.Serials.{get};
 ghost use Rattle.svn_pool.specs.Faults.{Answers};
 ghost use Rattle.svn_pool.specs.Linked.{Changes, IsBeside, IsLeaf, IsLinked, bare, blocks_held, fixed_held, first_of, holder, live_at, next_of, parent_in, place_by, place_in, place_of, sibling_before, standing};
 ghost use Rattle.svn_pool.specs.Pools.{parent_of};
@@ -10,9 +10,8 @@ use crate::fault::PoolFault;
 use crate::pool::Pool;
 use crate::stock::Stock;
 use std::alloc::Allocator;
-use std::collections::HashMap;
-use std::hash::{BuildHasherDefault, FoldHasher};
 use std::mem::replace;
+use svn_serials::SerialMap;
 
 // A place for one pool.
 #[derive(Clone, Copy)]
@@ -40,7 +39,7 @@ pub(crate) struct Linked<P> {
     before: Option<u64>,
 }
 
-pub(crate) type Live<A> = HashMap<u64, Linked<Pool<A>>, BuildHasherDefault<FoldHasher>, A>;
+pub(crate) type Live<A> = SerialMap<Linked<Pool<A>>, A>;
 
 // A pool without children and siblings, which stands nowhere.
 pub(crate) fn unlinked<P>(pool: P) -> Linked<P>
@@ -57,7 +56,7 @@ pub(crate) fn unlinked<P>(pool: P) -> Linked<P>
 pub(crate) fn is_live<A: Allocator + Copy>(pools: &Live<A>, serial: u64) -> bool
     ensures { result ≡ is_some (live_at (bare pools.now) serial) }
 {
-    pools.contains_key(&serial)
+    pools.get(serial).is_some()
 }
 
 pub(crate) fn live_pool<'a, A: Allocator + Copy>(
@@ -66,7 +65,7 @@ pub(crate) fn live_pool<'a, A: Allocator + Copy>(
 ) -> Option<&'a Pool<A>>
     ensures { option_copied result ≡ live_at (bare pools.now) serial }
 {
-    let Some(linked) = pools.get(&serial) else {
+    let Some(linked) = pools.get(serial) else {
         return None;
     };
     Some(&linked.pool)
@@ -74,9 +73,9 @@ pub(crate) fn live_pool<'a, A: Allocator + Copy>(
 
 // The newest child of a pool.
 pub(crate) fn first_child<A: Allocator + Copy>(pools: &Live<A>, parent: u64) -> Option<u64>
-    ensures { result ≡ first_of (get nat_eq pools.now parent) }
+    ensures { result ≡ first_of (get pools.now parent) }
 {
-    let Some(linked) = pools.get(&parent) else {
+    let Some(linked) = pools.get(parent) else {
         return None;
     };
     linked.first
@@ -88,15 +87,15 @@ fn set_first<A: Allocator + Copy>(
     serial: u64,
     first: Option<u64>,
 ) -> Option<Option<u64>>
-    ensures live { is_some result ≡ is_some (get nat_eq pools.old serial) }
-    ensures was { IfSome result (λ was. was ≡ first_of (get nat_eq pools.old serial)) }
-    ensures first { IsSome (get nat_eq pools.old serial) → first_of (get nat_eq pools.new serial) ≡ first }
-    ensures next { next_of (get nat_eq pools.new serial) ≡ next_of (get nat_eq pools.old serial) }
-    ensures place { place_in (get nat_eq pools.new serial) ≡ place_in (get nat_eq pools.old serial) }
-    ensures others { (q : ℕ) → q ≢ serial → get nat_eq pools.new q ≡ get nat_eq pools.old q }
+    ensures live { is_some result ≡ is_some (get pools.old serial) }
+    ensures was { IfSome result (λ was. was ≡ first_of (get pools.old serial)) }
+    ensures first { IsSome (get pools.old serial) → first_of (get pools.new serial) ≡ first }
+    ensures next { next_of (get pools.new serial) ≡ next_of (get pools.old serial) }
+    ensures place { place_in (get pools.new serial) ≡ place_in (get pools.old serial) }
+    ensures others { (q : ℕ) → q ≢ serial → get pools.new q ≡ get pools.old q }
     ensures pools { bare pools.new ≡ bare pools.old }
 {
-    let Some(linked) = pools.get_mut(&serial) else {
+    let Some(linked) = pools.get_mut(serial) else {
         return None;
     };
     Some(replace(&mut linked.first, first))
@@ -104,14 +103,14 @@ fn set_first<A: Allocator + Copy>(
 
 // Sets the sibling that follows a pool, and tells the pool's first child.
 fn set_next<A: Allocator + Copy>(pools: &mut Live<A>, serial: u64, next: Option<u64>) -> Option<u64>
-    ensures child { result ≡ first_of (get nat_eq pools.old serial) }
-    ensures next { IsSome (get nat_eq pools.old serial) → next_of (get nat_eq pools.new serial) ≡ next }
-    ensures first { first_of (get nat_eq pools.new serial) ≡ first_of (get nat_eq pools.old serial) }
-    ensures place { place_in (get nat_eq pools.new serial) ≡ place_in (get nat_eq pools.old serial) }
-    ensures others { (q : ℕ) → q ≢ serial → get nat_eq pools.new q ≡ get nat_eq pools.old q }
+    ensures child { result ≡ first_of (get pools.old serial) }
+    ensures next { IsSome (get pools.old serial) → next_of (get pools.new serial) ≡ next }
+    ensures first { first_of (get pools.new serial) ≡ first_of (get pools.old serial) }
+    ensures place { place_in (get pools.new serial) ≡ place_in (get pools.old serial) }
+    ensures others { (q : ℕ) → q ≢ serial → get pools.new q ≡ get pools.old q }
     ensures pools { bare pools.new ≡ bare pools.old }
 {
-    let Some(linked) = pools.get_mut(&serial) else {
+    let Some(linked) = pools.get_mut(serial) else {
         return None;
     };
     linked.next = next;
@@ -143,8 +142,8 @@ fn sibling_before(place: Place) -> Option<u64>
 // Sets what stands at a place, and tells the pool whose link the place is, with its first child.
 fn set_standing<A: Allocator + Copy>(pools: &mut Live<A>, place: Place, pool: Option<u64>) -> Beside
     ensures holder { result.serial ≡ holder place }
-    ensures first { IsSome (get nat_eq pools.old (holder place)) → result.first ≡ first_of (get nat_eq pools.new (holder place)) }
-    ensures here { IsSome (get nat_eq pools.old (holder place)) → standing pools.new place ≡ pool }
+    ensures first { IsSome (get pools.old (holder place)) → result.first ≡ first_of (get pools.new (holder place)) }
+    ensures here { IsSome (get pools.old (holder place)) → standing pools.new place ≡ pool }
     ensures standing { (x : Place) → x ≢ place → standing pools.new x ≡ standing pools.old x }
     ensures places { (c : ℕ) → place_of pools.new c ≡ place_of pools.old c }
     ensures pools { bare pools.new ≡ bare pools.old }
@@ -170,8 +169,8 @@ fn move_to<A: Allocator + Copy>(
     pool: Option<u64>,
     place: Place,
 ) -> Option<Beside>
-    ensures told { IfSome result (λ b. (pool ≡ Some b.serial) × (b.first ≡ first_of (get nat_eq pools.new b.serial))) }
-    ensures moved { (c : ℕ) → pool ≡ Some c → IsSome (get nat_eq pools.old c) → ((p : ℕ) → place ≡ Place.First p → parent_in pools.old c ≡ Some p)
+    ensures told { IfSome result (λ b. (pool ≡ Some b.serial) × (b.first ≡ first_of (get pools.new b.serial))) }
+    ensures moved { (c : ℕ) → pool ≡ Some c → IsSome (get pools.old c) → ((p : ℕ) → place ≡ Place.First p → parent_in pools.old c ≡ Some p)
         → place_of pools.new c ≡ Some place }
     ensures others { (c : ℕ) → pool ≢ Some c → place_of pools.new c ≡ place_of pools.old c }
     ensures standing { (x : Place) → standing pools.new x ≡ standing pools.old x }
@@ -180,7 +179,7 @@ fn move_to<A: Allocator + Copy>(
     let Some(serial) = pool else {
         return None;
     };
-    let Some(linked) = pools.get_mut(&serial) else {
+    let Some(linked) = pools.get_mut(serial) else {
         return None;
     };
     linked.before = sibling_before(place);
@@ -235,14 +234,14 @@ pub(crate) fn remove_leaf<A: Allocator + Copy>(
     requires counted { stock.old.used ≡ blocks_held (bare pools.old) }
     ensures root { IfNone result (parent_of (live_at (bare pools.old) serial) ≡ None) }
     ensures beside { IfSome result (λ b. IsBeside (bare pools.old) serial b.serial) }
-    ensures first { IfSome result (λ b. b.first ≡ first_of (get nat_eq pools.new b.serial)) }
+    ensures first { IfSome result (λ b. b.first ≡ first_of (get pools.new b.serial)) }
     ensures linked { IsLinked pools.new }
     ensures counted { stock.new.used ≡ blocks_held (bare pools.new) }
     ensures fixed { stock.new.spare + fixed_held (bare pools.new) ≡ stock.old.spare + fixed_held (bare pools.old) }
     ensures gone { Changes (bare pools.old) (bare pools.new) serial None }
     ensures fewer { IsSome (live_at (bare pools.old) serial) → length (bare pools.new) + 1 ≡ length (bare pools.old) }
 {
-    let Some(mut linked) = pools.remove(&serial) else {
+    let Some(mut linked) = pools.remove(serial) else {
         return None;
     };
     linked.pool.clear(stock);

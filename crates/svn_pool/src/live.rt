@@ -1,6 +1,6 @@
 // What changes one live pool and leaves the others.
-ghost use Rattle.std.specs.Prelude.{nat_eq, ◌≡◌, ◌+◌, ◌++◌, [], ◌∷◌, true, length, is_some, Some, None, IfSome, OnSome, IfNone, IfOk, IsOk, OnOk, OnErr};
-ghost use Rattle.std.specs.HashMap.{get};
+ghost use Rattle.std.specs.Prelude.{◌≡◌, ◌+◌, ◌++◌, [], ◌∷◌, true, length, is_some, Some, None, IfSome, OnSome, IfNone, IfOk, IsOk, OnOk, OnErr};
+ghost use Rattle.svn_serials.specs.Serials.{get};
 ghost use Rattle.svn_pool.specs.Faults.{Answers};
 ghost use Rattle.svn_pool.specs.Linked.{Changes, IsLinked, bare, blocks_held, first_of, fixed_held, live_at};
 ghost use Rattle.svn_pool.specs.Pools.{parent_of, strings_of_pool};
@@ -33,7 +33,7 @@ pub(crate) fn push_onto<A: Allocator + Copy>(
     ensures refused { OnErr result (bare pools.new ≡ bare pools.old) }
     ensures refused_stock { OnErr result (stock.new ≡ stock.old) }
 {
-    let Some(linked) = pools.get_mut(&serial) else {
+    let Some(linked) = pools.get_mut(serial) else {
         return Err(PoolFault::Gone);
     };
     linked.pool.push(stock, bytes)
@@ -48,7 +48,7 @@ pub(crate) fn empty<A: Allocator + Copy>(
     requires linked { IsLinked pools.old }
     requires counted { stock.old.used ≡ blocks_held (bare pools.old) }
     ensures live { is_some result ≡ is_some (live_at (bare pools.old) serial) }
-    ensures first { IfSome result (λ first. first ≡ first_of (get nat_eq pools.new serial)) }
+    ensures first { IfSome result (λ first. first ≡ first_of (get pools.new serial)) }
     ensures linked { IsLinked pools.new }
     ensures counted { stock.new.used ≡ blocks_held (bare pools.new) }
     ensures fixed { stock.new.spare + fixed_held (bare pools.new) ≡ stock.old.spare + fixed_held (bare pools.old) }
@@ -56,7 +56,7 @@ pub(crate) fn empty<A: Allocator + Copy>(
     ensures gone { IfNone result (bare pools.new ≡ bare pools.old) }
     ensures gone_stock { IfNone result (stock.new ≡ stock.old) }
 {
-    let Some(linked) = pools.get_mut(&serial) else {
+    let Some(linked) = pools.get_mut(serial) else {
         return None;
     };
     linked.pool.clear(stock);

@@ -1,6 +1,6 @@
 // How all pools beneath one are removed: step by step, or all at once where that is the root.
-ghost use Rattle.std.specs.Prelude.{nat_eq, ◌≡◌, ◌+◌, IsSome};
-ghost use Rattle.std.specs.HashMap.{get, hash_map_len};
+ghost use Rattle.std.specs.Prelude.{◌≡◌, ℕ, ◌+◌, ◌<◌, ◌≤◌, None, IsSome};
+ghost use Rattle.svn_serials.specs.Serials.{get};
 ghost use Rattle.svn_pool.specs.Linked.{IsAlone, IsLinked, IsPruned, bare, blocks_held, first_of, fixed_held, live_at};
 
 use crate::links::{Live, first_child, remove_leaf, unlinked};
@@ -20,7 +20,7 @@ pub(crate) fn prune<A: Allocator + Copy>(
 )
     requires linked { IsLinked pools.old }
     requires live { IsSome (live_at (bare pools.old) top) }
-    requires first { first ≡ first_of (get nat_eq pools.old top) }
+    requires first { first ≡ first_of (get pools.old top) }
     requires counted { stock.old.used ≡ blocks_held (bare pools.old) }
     ensures pruned { IsPruned (bare pools.old) (bare pools.new) top }
     ensures linked { IsLinked pools.new }
@@ -46,36 +46,38 @@ pub(crate) fn prune<A: Allocator + Copy>(
     }
 }
 
-// Gives up the strings of all pools, in the order in which they lie in memory.
-fn give_up<A: Allocator + Copy>(pools: &mut Live<A>, stock: &mut Stock<A>)
+// Removes all pools whose serials are above one, from the newest on. No link is followed, and none is mended.
+fn remove_newer<A: Allocator + Copy>(pools: &mut Live<A>, stock: &mut Stock<A>, last: u64)
     requires counted { stock.old.used ≡ blocks_held (bare pools.old) }
-    ensures used { stock.new.used ≡ 0 }
-    ensures spare { stock.new.spare ≡ stock.old.spare + fixed_held (bare pools.old) }
-    ensures len { hash_map_len pools.new ≡ hash_map_len pools.old }
+    ensures older { (q : ℕ) → q ≤ last → get pools.new q ≡ get pools.old q }
+    ensures newer { (q : ℕ) → last < q → get pools.new q ≡ None }
+    ensures counted { stock.new.used ≡ blocks_held (bare pools.new) }
+    ensures fixed { stock.new.spare + fixed_held (bare pools.new) ≡ stock.old.spare + fixed_held (bare pools.old) }
 {
-    for linked in pools.values_mut() {
+    'newest: while let Some(serial) = pools.newest() {
+        if serial <= last {
+            return;
+        }
+        let Some(mut linked) = pools.remove(serial) else {
+            return;
+        };
         linked.pool.clear(stock);
     }
 }
 
-// Whether at least an eighth of the map's places is taken: to remove all pools at once looks at each place, and the cost of a
-// removal has to be that of what goes.
-pub(crate) fn is_dense<A: Allocator + Copy>(pools: &Live<A>) -> bool {
-    pools.capacity() / 8 <= pools.len()
-}
-
-// Empties the root and removes all others: what `prune` would leave of a whole tree. No link is followed, since none is left, and
-// the map keeps its memory, so that the root finds room in it.
+// Empties the root and removes all others: what `prune` would leave of a whole tree. No link is followed, since none is left.
 pub(crate) fn leave_root<A: Allocator + Copy>(pools: &mut Live<A>, stock: &mut Stock<A>, root: u64)
-    requires live { IsSome (get nat_eq pools.old root) }
+    requires live { IsSome (get pools.old root) }
+    requires lowest { (q : ℕ) → IsSome (get pools.old q) → root ≤ q }
     requires counted { stock.old.used ≡ blocks_held (bare pools.old) }
     ensures alone { IsAlone pools.new root }
     ensures used { stock.new.used ≡ 0 }
     ensures spare { stock.new.spare ≡ stock.old.spare + fixed_held (bare pools.old) }
 {
-    give_up(pools, stock);
-    pools.clear();
-    let Ok(_) = pools.insert(root, unlinked(Pool::new(None))) else {
+    remove_newer(pools, stock, root);
+    let Some(linked) = pools.get_mut(root) else {
         return;
     };
+    linked.pool.clear(stock);
+    *linked = unlinked(Pool::new(None));
 }

@@ -1,6 +1,8 @@
-use Rattle.std.proofs.Common.{nat_eq, ◌≡◌, ◌+◌, ◌-◌, [], Option, Some, is_some, sym, ap, subst, ◌∙◌, arith}
-use Rattle.std.specs.HashMap.{get}
-use Rattle.svn_pool.specs.Linked.{Changes, bare}
+use Rattle.std.proofs.Common.{nat_eq, ◌≡◌, ◌+◌, ◌-◌, [], Option, Some, is_some, refl, sym, ap, subst, ◌∙◌, arith}
+use Rattle.svn_serials.specs.Serials.{get}
+use Rattle.std.specs.Map.{set_value}
+use Rattle.svn_serials.proofs.Pairs.{rising_written, updates_written}
+use Rattle.svn_pool.specs.Linked.{Changes, bare, first_of}
 use Rattle.svn_pool.specs.Pools.{Entry, blocks_of, fixed_of, parent_of}
 use Rattle.svn_pool.specs.Stores.{Store}
 use Rattle.svn_pool.specs.declared.links.Linked.{Linked}
@@ -25,22 +27,27 @@ returns-clause-live g c =
     ap (λ (o : Option (Linked Entry)). is_some (pool_in o)) c.in-Some.ensures.value
     ∙ sym (ap is_some (live-bare c.args.pools.now c.args.serial))
 
+pub returns-clause-first : goal.returns-clause-first
+returns-clause-first g c =
+    let w : Linked Entry = holding c.in-Some.linked.now c.clear.new.self in
+    sym (ap first_of (updates_written c.args.pools.now c.args.serial w (ap is_some (sym c.in-Some.ensures.value))).here)
+
 pub returns-clause-linked : goal.returns-clause-linked
 returns-clause-linked g c =
     let l = c.in-Some.linked.now in
     let w : Linked Entry = holding l c.clear.new.self in
-    let found : get nat_eq c.args.pools.now c.args.serial ≡ Some l = sym c.in-Some.ensures.value in
-    let end = c.get_mut.follows.holds w in
-    linked-written c.args.pools.now (c.get_mut.follows.lender w) c.requires.linked c.args.serial l c.clear.new.self found
-    (ap (λ (e : Entry). e.parent) c.clear.ensures.emptied) (end.3 (ap is_some found)) end.4
+    let found : get c.args.pools.now c.args.serial ≡ Some l = sym c.in-Some.ensures.value in
+    linked-written c.args.pools.now (set_value (nat_eq c.args.serial) c.args.pools.now w) c.requires.linked c.args.serial l c.clear.new.self found
+    (ap (λ (e : Entry). e.parent) c.clear.ensures.emptied) (updates_written c.args.pools.now c.args.serial w (ap is_some found))
+    (rising_written c.args.pools.now c.args.serial w c.get_mut.ensures.rising)
 
 pub returns-clause-counted : goal.returns-clause-counted
 returns-clause-counted g c =
     let l = c.in-Some.linked.now in
     let w : Linked Entry = holding l c.clear.new.self in
     let sum =
-    sum_written blocks_of c.args.pools.now c.args.serial c.in-Some.ensures.value (c.get_mut.follows.lender w) c.clear.new.self
-    (c.get_mut.follows.holds w).0 in
+    sum_written blocks_of c.args.pools.now c.args.serial c.in-Some.ensures.value (set_value (nat_eq c.args.serial) c.args.pools.now w) c.clear.new.self
+    refl in
     let none : blocks_of c.clear.new.self ≡ 0 = ap blocks_of c.clear.ensures.emptied in
     let used : c.clear.new.stock.used ≡ c.args.stock.now.used - blocks_of l.pool = ap (λ (b : Store). b.used) c.clear.ensures.counts in
     let counted = c.requires.counted in
@@ -51,8 +58,8 @@ returns-clause-fixed g c =
     let l = c.in-Some.linked.now in
     let w : Linked Entry = holding l c.clear.new.self in
     let sum =
-    sum_written fixed_of c.args.pools.now c.args.serial c.in-Some.ensures.value (c.get_mut.follows.lender w) c.clear.new.self
-    (c.get_mut.follows.holds w).0 in
+    sum_written fixed_of c.args.pools.now c.args.serial c.in-Some.ensures.value (set_value (nat_eq c.args.serial) c.args.pools.now w) c.clear.new.self
+    refl in
     let none : fixed_of c.clear.new.self ≡ 0 = ap fixed_of c.clear.ensures.emptied in
     let spare : c.clear.new.stock.spare ≡ c.args.stock.now.spare + fixed_of l.pool = ap (λ (b : Store). b.spare) c.clear.ensures.counts in
     omega (arith, sum, none, spare)
@@ -61,10 +68,10 @@ pub returns-clause-emptied : goal.returns-clause-emptied
 returns-clause-emptied g c =
     let l = c.in-Some.linked.now in
     let w : Linked Entry = holding l c.clear.new.self in
-    let end = c.get_mut.follows.lender w in
+    let end = set_value (nat_eq c.args.serial) c.args.pools.now w in
     let change =
     changes-bare c.args.pools.now end c.args.serial (Some w)
-    ((c.get_mut.follows.holds w).3 (ap is_some (sym c.in-Some.ensures.value))) in
+    (updates_written c.args.pools.now c.args.serial w (ap is_some (sym c.in-Some.ensures.value))) in
     let parent = ap parent_of (live-found c.args.pools.now c.args.serial c.in-Some.ensures.value) in
     subst (λ (o : Option Entry). Changes (bare c.args.pools.now) (bare end) c.args.serial o)
     (ap Some (c.clear.ensures.emptied ∙ (λ i. record { parent = sym parent i; strings = [] }))) change

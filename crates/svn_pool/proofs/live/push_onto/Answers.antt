@@ -1,7 +1,9 @@
 use Rattle.std.proofs.Common.{nat_eq, ◌≡◌, ℕ, ◌++◌, [], ◌∷◌, true, length, Option, None, Some, is_some, Result, Ok, Err, IfOk}
 use Rattle.std.proofs.Common.{IsOk, OnOk, OnErr, refl, sym, ap, subst}
 use Rattle.std.proofs.Common.{◌∙◌, arith}
-use Rattle.std.specs.HashMap.{get}
+use Rattle.svn_serials.specs.Serials.{get}
+use Rattle.std.specs.Map.{set_value}
+use Rattle.svn_serials.proofs.Pairs.{rising_written, updates_written}
 use Rattle.svn_pool.specs.Faults.{Answers}
 use Rattle.svn_pool.specs.Linked.{Changes, bare, live_at}
 use Rattle.svn_pool.specs.Pools.{Entry, blocks_of, parent_of, strings_of_pool}
@@ -50,18 +52,18 @@ pub returns-clause-linked : goal.returns-clause-linked
 returns-clause-linked g c =
     let l = c.in-Some.linked.now in
     let w : Linked Entry = holding l c.push.new.self in
-    let found : get nat_eq c.args.pools.now c.args.serial ≡ Some l = sym c.in-Some.ensures.value in
-    let end = c.get_mut.follows.holds w in
-    linked-written c.args.pools.now (c.get_mut.follows.lender w) c.requires.linked c.args.serial l c.push.new.self found
-    c.push.ensures.parent (end.3 (ap is_some found)) end.4
+    let found : get c.args.pools.now c.args.serial ≡ Some l = sym c.in-Some.ensures.value in
+    linked-written c.args.pools.now (set_value (nat_eq c.args.serial) c.args.pools.now w) c.requires.linked c.args.serial l c.push.new.self found
+    c.push.ensures.parent (updates_written c.args.pools.now c.args.serial w (ap is_some found))
+    (rising_written c.args.pools.now c.args.serial w c.get_mut.ensures.rising)
 
 pub returns-clause-counted : goal.returns-clause-counted
 returns-clause-counted g c =
     let l = c.in-Some.linked.now in
     let w : Linked Entry = holding l c.push.new.self in
     let sum =
-    sum_written blocks_of c.args.pools.now c.args.serial c.in-Some.ensures.value (c.get_mut.follows.lender w) c.push.new.self
-    (c.get_mut.follows.holds w).0 in
+    sum_written blocks_of c.args.pools.now c.args.serial c.in-Some.ensures.value (set_value (nat_eq c.args.serial) c.args.pools.now w) c.push.new.self
+    refl in
     let counted = c.requires.counted in
     let blocks = c.push.ensures.blocks in
     omega (arith, sum, counted, blocks)
@@ -89,11 +91,11 @@ pub returns-clause-pushed : goal.returns-clause-pushed
 returns-clause-pushed g c =
     let l = c.in-Some.linked.now in
     let w : Linked Entry = holding l c.push.new.self in
-    let end = c.get_mut.follows.lender w in
+    let end = set_value (nat_eq c.args.serial) c.args.pools.now w in
     let found = live-found c.args.pools.now c.args.serial c.in-Some.ensures.value in
     let change =
     changes-bare c.args.pools.now end c.args.serial (Some w)
-    ((c.get_mut.follows.holds w).3 (ap is_some (sym c.in-Some.ensures.value))) in
+    (updates_written c.args.pools.now c.args.serial w (ap is_some (sym c.in-Some.ensures.value))) in
     on_ok c.push.result
     (λ pushed. subst (λ (o : Option Entry). Changes (bare c.args.pools.now) (bare end) c.args.serial
     (Some (record { parent = parent_of o; strings = strings_of_pool o ++ c.args.bytes.now ∷ [] })))
@@ -114,6 +116,6 @@ returns-clause-refused g c =
     let l = c.in-Some.linked.now in
     let w : Linked Entry = holding l c.push.new.self in
     on_err c.push.result
-    (λ same. relinked-bare c.args.pools.now (c.get_mut.follows.lender w) c.args.serial l w (sym c.in-Some.ensures.value) same
-    (c.get_mut.follows.holds w).0)
+    (λ same. relinked-bare c.args.pools.now (set_value (nat_eq c.args.serial) c.args.pools.now w) c.args.serial l w (sym c.in-Some.ensures.value) same
+    refl)
     c.push.ensures.refused
