@@ -1,5 +1,7 @@
 -- What writing the entries of one directory does to the nodes.
-use Rattle.std.proofs.Common.{◌≡◌, ◌≢◌, ℕ, zero, suc, ◌<◌, ◌++◌, List, ◌∷◌, [], length, refl, ap, ◌∙◌, Option, Some, arith, Result, Ok, Err}
+use Rattle.std.proofs.Common.{◌≡◌, ◌≢◌, ℕ, zero, suc, ◌-◌, ◌<◌, ◌≤◌, ◌++◌, List, ◌∷◌, [], length, refl, ap, sym, subst, ◌∙◌, Option, Some, arith}
+use Rattle.std.proofs.Common.{Result, Ok, Err, inl, inr, length-append}
+use Rattle.std.proofs.lemmas.Bool.{cases_lt}
 use Rattle.std.specs.Prelude.{OnOk}
 use Rattle.std.specs.List.{slice_get, slice_set}
 use Rattle.std.specs.Option.{option_map}
@@ -9,8 +11,9 @@ use Rattle.svn_repo.specs.declared.store.Node.{Node}
 use Rattle.svn_repo.specs.declared.store.Content.TheVariants.{Listing}
 use Rattle.svn_types.specs.Names.{IsName}
 use Rattle.svn_types.specs.Pairs.{ChangesOnly, with_value}
+use Rattle.svn_repo.specs.History.{child_in}
 use Rattle.svn_repo.specs.Stored.{row_of, rows}
-use Rattle.svn_repo.specs.Drafts.{PutsChild}
+use Rattle.svn_repo.specs.Drafts.{PutsChild, ThawsChild, copied}
 
 pub slice_get-set_other : {X : Type 0} (xs : List X) (i : ℕ) (v : X) (m : ℕ) → m ≢ i → slice_get (slice_set xs i v) m ≡ slice_get xs m
 slice_get-set_other xs i v m ne = grind (arith, common_steps, gets)
@@ -52,3 +55,41 @@ slice_get-push (y ∷ xs) x = slice_get-push xs x
 pub both_ok : {T E : Type 0} (P Q : Type 0) (r : Result T E) → OnOk r P → OnOk r Q → OnOk r (P × Q)
 both_ok P Q (Ok x) p q = (p, q)
 both_ok P Q (Err e) p q = p
+
+slice_get-behind : {X : Type 0} (xs ys : List X) (m : ℕ) → length xs ≤ m → slice_get (xs ++ ys) m ≡ slice_get ys (m - length xs)
+slice_get-behind [] ys m h = (let all : m - 0 ≡ m = omega arith in rw all refl)
+slice_get-behind (x ∷ xs) ys zero h = absurd (omega arith)
+slice_get-behind (x ∷ xs) ys (suc m) h =
+    (let less : suc m - suc (length xs) ≡ m - length xs = omega arith in rw less (slice_get-behind xs ys m (omega arith)))
+
+-- a child is put, and then a node behind the others: in the other order all is the same
+pub puts_pushed : (old new : List Node) (node : Node) (at : ℕ) (name : List ℕ) (child : Option ℕ) → at < length old
+    → PutsChild old new at name child → PutsChild (old ++ node ∷ []) (new ++ node ∷ []) at name child
+puts_pushed old new node at name child below put =
+    let was : slice_get (old ++ node ∷ []) at ≡ slice_get old at = slice_get-append old (node ∷ []) at below in
+    let now : slice_get (new ++ node ∷ []) at ≡ slice_get new at = slice_get-append new (node ∷ []) at (omega (arith, below, put.size)) in
+    let row_was : rows (old ++ node ∷ []) at ≡ rows old at = ap (option_map row_of) was in
+    let row_now : rows (new ++ node ∷ []) at ≡ rows new at = ap (option_map row_of) now in
+    record {
+      size = omega (arith, put.size, length-append old (node ∷ []), length-append new (node ∷ []));
+      others = λ m ne. elim (cases_lt m (length old)) [
+        | inl h ↦
+            slice_get-append new (node ∷ []) m (omega (arith, h, put.size)) ∙ put.others m ne ∙ sym (slice_get-append old (node ∷ []) m h)
+        | inr h ↦
+            slice_get-behind new (node ∷ []) m (omega (arith, h, put.size)) ∙ ap (λ k. slice_get (node ∷ []) (m - k)) put.size
+            ∙ sym (slice_get-behind old (node ∷ []) m h)
+      ];
+      shape = rw (row_now, row_was) put.shape;
+      children = λ x. rw (row_now, row_was) (put.children x);
+      entries = rw (row_now, row_was) put.entries;
+      named = put.named;
+    }
+
+-- the name of an old child is made to lead to its copy, and then the copy is put behind the others
+pub copied_behind : (base : ℕ) (old mid new : List Node) (at n : ℕ) (name : List ℕ) (node : Node)
+    → child_in (rows old at) name ≡ Some n → n < base → base ≤ at → at < length old → PutsChild old mid at name (Some (length old))
+    → new ≡ mid ++ node ∷ [] → rows mid n ≡ Some (row_of node) → ThawsChild base old new at name (length old)
+copied_behind base old mid new at n name node found is_old fresh below put pushed row =
+    let same : rows mid n ≡ rows old n = ap (option_map row_of) (put.others n (λ e. absurd (omega arith))) in
+    subst (λ nodes. ThawsChild base old nodes at name (length old)) (sym pushed)
+    (copied n (old ++ node ∷ []) found is_old refl (node, refl, sym same ∙ row) (puts_pushed old mid node at name (Some (length old)) below put))

@@ -19,7 +19,7 @@ use Rattle.svn_types.specs.Pairs.{InNameOrder, value_of, with_value}
 
 -- ---- order
 
-below_all : (k m : List ℕ) (ks : List (List ℕ)) → name_cmp k m ≡ Less → AllByRecursion (λ y. name_cmp m y ≡ Less) ks
+pub below_all : (k m : List ℕ) (ks : List (List ℕ)) → name_cmp k m ≡ Less → AllByRecursion (λ y. name_cmp m y ≡ Less) ks
     → AllByRecursion (λ y. name_cmp k y ≡ Less) ks
 below_all k m [] h a = tt
 below_all k m (x ∷ ks) h a = (nat_list_cmp_total.trans k m x h a.0, below_all k m ks h a.1)

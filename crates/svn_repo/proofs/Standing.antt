@@ -23,7 +23,7 @@ is_some-maps number (Some x) = refl
 pub is_some-place_at : (base : ℕ) (nodes : List Node) (n : ℕ) → n < length nodes → is_some (place_at (rows nodes) base n) ≡ true
 is_some-place_at base nodes n h = is_some-maps (cond (nat_lt n base) (Some n) None) (slice_get nodes n) ∙ slice_get_inside nodes n h
 
-by_walk : (base : ℕ) (nodes : List Node) (o : Option ℕ) → ((n : ℕ) → o ≡ Some n → n < length nodes)
+pub by_walk : (base : ℕ) (nodes : List Node) (o : Option ℕ) → ((n : ℕ) → o ≡ Some n → n < length nodes)
     → is_some o ≡ is_some (option_and_then (place_at (rows nodes) base) o)
 by_walk base nodes None h = refl
 by_walk base nodes (Some n) h = sym (is_some-place_at base nodes n (h n refl))

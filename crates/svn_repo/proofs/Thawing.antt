@@ -350,7 +350,7 @@ within_more (n ∷ p) name (m ∷ q) ne = elim (cases_Bool (bytes_eq m n)) [
 pub within_self : (p : Path) → is_within p p ≡ true
 within_self p = ap is_some (rest_below_self p)
 
-not_within_longer : (p : Path) (name : List ℕ) → is_within (p ++ name ∷ []) p ≡ false
+pub not_within_longer : (p : Path) (name : List ℕ) → is_within (p ++ name ∷ []) p ≡ false
 not_within_longer [] name = refl
 not_within_longer (m ∷ p) name = rw ((bytes_eq-Decides m m).1 refl) (not_within_longer p name)
 

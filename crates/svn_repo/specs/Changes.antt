@@ -4,7 +4,7 @@
 --     IsCommit h h' changes      h' is h with one more revision, made by the changes
 use Rattle.std.specs.Prelude.{◌≡◌, ℕ, ◌+◌, ◌-◌, ◌≤◌, ◌<◌, Bool, true, List, [], ◌∷◌, ◌++◌, length, take, nat_lt, nat_le, Option, Some, None}
 use Rattle.std.specs.Prelude.{MatchOption, is_some, if◌then◌else◌, ◌⊎◌}
-use Rattle.std.specs.Option.{option_or}
+use Rattle.std.specs.Option.{option_and_then, option_or}
 use Rattle.svn_types.specs.declared.kind.Kind.TheVariants.{File, Directory}
 use Rattle.svn_repo.specs.declared.change.Change.{Change}
 use Rattle.svn_repo.specs.declared.change.Change.TheVariants.{MakeDir, PutFile, SetProp, Remove, CopyFrom}
@@ -12,12 +12,12 @@ use Rattle.svn_repo.specs.declared.change.CommitFault.{CommitFault}
 use Rattle.svn_repo.specs.declared.change.CommitFault.TheVariants.{Exists, Missing, NotDir, NotFile, IsRoot, TooDeep, NoSuchRevision}
 use Rattle.svn_repo.specs.declared.change.CommitFault.TheVariants.{TooLong, Full, Memory}
 use Rattle.svn_repo.specs.declared.store.Node.{Node}
-use Rattle.svn_repo.specs.Drafts.{IsDraft, tree_in, past_in}
-use Rattle.svn_repo.specs.Stored.{history_of, IsStored}
+use Rattle.svn_repo.specs.Drafts.{IsDraft, PutsChild, tree_in, past_in}
+use Rattle.svn_repo.specs.Stored.{row_of, rows, entries_of, history_of, IsStored}
 use Rattle.svn_types.specs.Names.{Path}
-use Rattle.svn_repo.specs.History.{NodeRow, History, Nodes, node_at, look, reaches}
+use Rattle.svn_repo.specs.History.{NodeRow, History, Nodes, node_at, child_in, look, reaches}
 use Rattle.svn_types.specs.Limits.{path_limit, size_limit}
-use Rattle.svn_repo.specs.Trees.{Place, Tree, tree_at, graft, leaf, nothing, with_prop, is_directory_place}
+use Rattle.svn_repo.specs.Trees.{Place, Tree, place_of, place_at, tree_at, graft, leaf, nothing, with_prop, is_directory_place}
 
 -- the tree that the changes so far have made, and the next line
 pub record Pending : Type 0 where
@@ -172,6 +172,15 @@ IsExtended roots old lines roots' new heights' changes next =
     IsStored roots' new next heights' × IsCommit (history_of roots old lines) (history_of roots' new next) changes
 
 -- ---- changes on a draft
+
+-- a file with the text is put behind the nodes, and the name in the directory leads to it; where a file stood under the name, it keeps
+-- that one's line and properties
+pub record PutsText (lines : ℕ) (text : List ℕ) (old new : List Node) (at : ℕ) (name : List ℕ) : Type 0 where
+  pub node : Node
+  pub childless : entries_of node.content ≡ []
+  pub place : (base : ℕ) → place_of None (row_of node)
+      ≡ with_text lines (option_and_then (place_at (rows old) base) (child_in (rows old at) name)) text
+  pub put : PutsChild (old ++ node ∷ []) new at name (Some (length old))
 
 -- the change is made on a draft: the root and the next line after it
 pub record IsMade (base : ℕ) (roots : List ℕ) (old new : List Node) (from lines root next : ℕ) (change : Change) : Type 0 where

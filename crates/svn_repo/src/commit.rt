@@ -1,19 +1,19 @@
 //! The changes of a commit, made one after another on a draft.
 ghost use Rattle.std.specs.Prelude.{◌≡◌, ◌≤◌, ◌<◌, ℕ, IsSome, take, List, [], ◌∷◌, ◌++◌, Some, None, true, length, slice_get, ◌-◌, IfOk, IfErr, OnErr, ◌⊎◌, OnOk, ◌+◌, ◌^◌, if◌then◌else◌};
 ghost use Rattle.std.specs.Option.{option_and_then, is_some};
-ghost use Rattle.svn_repo.specs.History.{History};
-ghost use Rattle.svn_repo.specs.Drafts.{IsDraft, IsGrafted, KeepsOld, AreRootsBelow, IsPast, look_in, old_part, past_in, tree_in};
+ghost use Rattle.svn_repo.specs.History.{History, child_in};
+ghost use Rattle.svn_repo.specs.Drafts.{IsClosedIn, IsDraft, IsListing, IsGrafted, KeepsOld, AreRootsBelow, IsPast, look_in, old_part, past_in, tree_in};
 ghost use Rattle.svn_repo.specs.Stored.{rows, row_of, entries_of, history_of, IsStored};
 ghost use Rattle.svn_repo.specs.Trees.{leaf, nothing, place_at, place_of};
-ghost use Rattle.svn_repo.specs.Changes.{above_fault, change_fault, root_fault, pending_in, with_text, new_directory, IsMade, AllMade, AreRefused, IsRefused, IsExtended};
+ghost use Rattle.svn_repo.specs.Changes.{above_fault, change_fault, root_fault, pending_in, with_text, new_directory, IsMade, AllMade, AreRefused, IsRefused, IsExtended, PutsText};
 
 use crate::change::{Change, CommitFault};
 use crate::entries::{Entries, NodeId};
 use crate::heights::add_heights;
 use crate::refusal::fault_of;
 use crate::store::{
-    Content, Draft, Node, Past, PropSetting, Stored, lookup_in, node_below, put_made, put_old,
-    put_prop,
+    Content, Draft, Node, Past, PropSetting, Stored, child, lookup_in, push_child, put_made,
+    put_old, put_prop, split_path, thaw_path,
 };
 use std::alloc::AllocError;
 use svn_types::{Name, Props, Rev, Text};
@@ -64,6 +64,26 @@ fn file_node(
     }
 }
 
+// Puts a text under a name of a directory, and says whether a file stood there.
+fn put_text(
+    nodes: &mut Vec<Node>,
+    at: NodeId,
+    name: &Name,
+    lines: u64,
+    text: &Text,
+) -> Result<bool, AllocError>
+    requires listing { IsListing nodes.old.items at }
+    requires closed { IsClosedIn nodes.old.items }
+    ensures ok { OnOk result (PutsText lines text.now nodes.old.items nodes.new.items at name.now) }
+    ensures stood { IfOk result (λ stood. stood ≡ is_some (child_in (rows nodes.old.items at) name.now)) }
+    ensures kept { (base : ℕ) → base ≤ at → base ≤ length nodes.old.items → KeepsOld base nodes.old.items nodes.new.items }
+{
+    let old = child(nodes, at, name);
+    let node = file_node(nodes, old, lines, text)?;
+    push_child(nodes, at, name, node)?;
+    Ok(old.is_some())
+}
+
 // Puts a text at a path, and says whether a file stood there.
 fn put_file(
     nodes: &mut Vec<Node>,
@@ -79,10 +99,11 @@ fn put_file(
     ensures kept { KeepsOld draft.base nodes.old.items nodes.new.items }
     ensures grown { OnOk result (length nodes.old.items < length nodes.new.items) }
 {
-    let at = node_below(nodes, draft.root, names);
-    let node = file_node(nodes, at, draft.lines, text)?;
-    let root = put_made(nodes, draft, names, node)?;
-    Ok((root, at.is_some()))
+    let lines = draft.lines;
+    let (last, above) = split_path(names);
+    let (root, at) = thaw_path(nodes, draft, above)?;
+    let stood = put_text(nodes, at, last, lines, text)?;
+    Ok((root, stood))
 }
 
 // The next line after a text is put where something stood, or nothing.

@@ -1,5 +1,5 @@
 //! Node numbers, and the entries of a directory.
-ghost use Rattle.std.specs.Prelude.{◌≡◌, ◌↔◌, IsTrue, ℕ, ◌<◌, ◌^◌, List, [], length, OnOk, OnErr, Some, None};
+ghost use Rattle.std.specs.Prelude.{◌≡◌, ◌↔◌, IsTrue, ℕ, ◌<◌, ◌≤◌, ◌^◌, List, [], length, OnOk, OnErr, Some, None};
 ghost use Rattle.std.specs.List.{All};
 ghost use Rattle.std.specs.Map.Iter.{ShowsInOrder, deref_pair};
 ghost use Rattle.std.specs.Map.{lookup, remove_entry};
@@ -114,6 +114,22 @@ impl Entries {
     {
         self.map.insert(name, node)?;
         Ok(())
+    }
+
+    // Makes a name lead to another node, if it leads to one below a bound, and answers where it led. It takes no memory.
+    pub(crate) fn redirect(&mut self, name: &Name, bound: usize, node: NodeId) -> Option<NodeId>
+        ensures found { result ≡ value_of self.old name.now }
+        ensures stays { (n : ℕ) → result ≡ Some n → bound ≤ n → self.new ≡ self.old }
+        ensures leads { (n : ℕ) → result ≡ Some n → n < bound → self.new ≡ insert_entry name_cmp self.old name.now node }
+        ensures lookups { (n : ℕ) → result ≡ Some n → n < bound → ChangesOnly self.old self.new name.now (Some node) }
+    {
+        let slot = self.map.get_mut(name)?;
+        let found = *slot;
+        if found.index >= bound {
+            return Some(found);
+        }
+        *slot = node;
+        Some(found)
     }
 
     pub(crate) fn remove(&mut self, name: &Name)

@@ -175,7 +175,31 @@ fn put_child(
     }
 }
 
-// Makes the child of a directory afresh, where it isn't yet.
+// Makes a name of a directory lead to another node, if it leads to an old one, and answers where it led.
+fn redirect_child(
+    nodes: &mut Vec<Node>,
+    base: usize,
+    at: NodeId,
+    name: &Name,
+    child: NodeId,
+) -> Option<NodeId>
+    requires { IsListing nodes.old.items at }
+    ensures found { result ≡ child_in (rows nodes.old.items at) name.now }
+    ensures stays { (n : ℕ) → result ≡ Some n → base ≤ n → nodes.new.items ≡ nodes.old.items }
+    ensures leads { (n : ℕ) → result ≡ Some n → n < base → PutsChild nodes.old.items nodes.new.items at name.now (Some child) }
+    ensures others { (m : ℕ) → m ≢ at → slice_get nodes.new.items m ≡ slice_get nodes.old.items m }
+    ensures size { length nodes.new.items ≡ length nodes.old.items }
+{
+    // So that the proof has the law of names.
+    let _text = name.as_str();
+    let node = &mut nodes[at.index];
+    match &mut node.content {
+        Content::Text(_) => None,
+        Content::Listing(entries) => entries.redirect(name, base, child),
+    }
+}
+
+// Makes the child of a directory afresh, where it isn't yet. The name leads to the copy before it is made, so that it is looked up once.
 fn thaw_child(
     nodes: &mut Vec<Node>,
     base: usize,
@@ -185,16 +209,17 @@ fn thaw_child(
     requires listing { IsListing nodes.old.items at }
     requires closed { IsClosedIn nodes.old.items }
     requires present { IsSome (child_in (rows nodes.old.items at) name.now) }
+    requires fresh { base ≤ at }
     ensures ok { IfOk result (ThawsChild base nodes.old.items nodes.new.items at name.now) }
     ensures kept { (m : ℕ) → m < length nodes.old.items → m ≢ at → slice_get nodes.new.items m ≡ slice_get nodes.old.items m }
     ensures grown { length nodes.old.items ≤ length nodes.new.items }
 {
-    let found = child(nodes, at, name).unwrap();
+    let index = nodes.len();
+    let found = redirect_child(nodes, base, at, name, NodeId { index }).unwrap();
     if found.index >= base {
         return Ok(found);
     }
     let copy = copy_node(nodes, found)?;
-    put_child(nodes, at, name, Some(copy))?;
     Ok(copy)
 }
 
@@ -231,7 +256,7 @@ fn thaw_root(nodes: &mut Vec<Node>, draft: Draft) -> Result<NodeId, AllocError>
 }
 
 // Makes afresh every node from the root to a path, and answers the new root and the last of these nodes.
-fn thaw_path(
+pub(crate) fn thaw_path(
     nodes: &mut Vec<Node>,
     draft: Draft,
     names: &[Name],
@@ -248,7 +273,7 @@ fn thaw_path(
 }
 
 // The last name of a path that isn't the root, and the names above.
-fn split_path(names: &[Name]) -> (&Name, &[Name])
+pub(crate) fn split_path(names: &[Name]) -> (&Name, &[Name])
     requires { root_fault names.now ≡ None }
     ensures { names.now ≡ result.1.now ++ result.0.now ∷ [] }
 {
@@ -256,6 +281,22 @@ fn split_path(names: &[Name]) -> (&Name, &[Name])
         unreachable!()
     };
     (last, above)
+}
+
+/// Puts a new node behind the others, and makes a name of a directory lead to it.
+pub(crate) fn push_child(
+    nodes: &mut Vec<Node>,
+    at: NodeId,
+    name: &Name,
+    node: Node,
+) -> Result<(), AllocError>
+    requires { IsListing nodes.old.items at }
+    ensures ok { OnOk result (PutsChild (nodes.old.items ++ node ∷ []) nodes.new.items at name.now (Some (length nodes.old.items))) }
+    ensures kept { (base : ℕ) → base ≤ at → base ≤ length nodes.old.items → KeepsOld base nodes.old.items nodes.new.items }
+{
+    let index = nodes.len();
+    nodes.push(node)?;
+    put_child(nodes, at, name, Some(NodeId { index }))
 }
 
 /// Puts a new node at a path of a draft, and answers the new root.
@@ -275,9 +316,7 @@ pub(crate) fn put_made(
 {
     let (last, above) = split_path(names);
     let (top, at) = thaw_path(nodes, draft, above)?;
-    let index = nodes.len();
-    nodes.push(node)?;
-    put_child(nodes, at, last, Some(NodeId { index }))?;
+    push_child(nodes, at, last, node)?;
     Ok(top)
 }
 
