@@ -2,18 +2,17 @@
 use Rattle.std.proofs.Common.{◌≡◌, ◌≢◌, ℕ, ◌+◌, cond, List, [], sym, ◌∙◌, ap}
 use Rattle.std.proofs.lemmas.Cmp.{nat_cmp_total}
 use Rattle.std.proofs.lemmas.Option.{none-some}
-use Rattle.std.specs.Prelude.{Some, None, is_some, nat_eq}
+use Rattle.std.specs.Prelude.{Some, None, is_some}
 use Rattle.std.specs.Ordering.{nat_cmp}
-use Rattle.std.specs.HashMap.{get}
-use Rattle.std.specs.Map.{lookup}
+use Rattle.svn_serials.specs.Serials.{get}
 use Rattle.std.specs.FinMap as map
 use Rattle.svn_pool.specs.Pools.{Entry, Pools, pool_at, root_alone}
 use Rattle.svn_pool.proofs.Views.{inserted_here, inserted_away}
 use Rattle.svn_edit.specs.declared.baton.Baton.{Baton}
 use Rattle.svn_edit.specs.Applying.{BatonMap, HoldsBatons}
 
-pub begun_batons : (pools : Pools) (batons : BatonMap) → pools ≡ root_alone 0 → batons.entries ≡ []
-    → HoldsBatons pools (get nat_eq batons) []
+pub begun_batons : (pools : Pools) (batons : BatonMap) → pools ≡ root_alone 0 → batons ≡ []
+    → HoldsBatons pools (get batons) []
 begun_batons pools batons is empty = record {
   opened = λ t. ap is_some (nothing t);
   each = λ t b e. absurd (none-some b (sym (nothing t) ∙ e));
@@ -31,5 +30,5 @@ begun_batons pools batons is empty = record {
         none-some e (sym (ap (λ (p : Pools). pool_at p s) is ∙ inserted_away map.empty 0 (record { parent = None; strings = [] }) s
         (λ z. apart (z ∙ sym (ap (λ (p : Pools). p.root) is))) ∙ map.get-empty nat_cmp s) ∙ there)
 
-    nothing : (t : ℕ) → get nat_eq batons t ≡ None
-    nothing t = ap (λ (l : List (ℕ × Baton)). lookup (nat_eq t) l) empty
+    nothing : (t : ℕ) → get batons t ≡ None
+    nothing t = ap (λ (l : List (ℕ × Baton)). get l t) empty

@@ -26,8 +26,8 @@ use Rattle.svn_order.proofs.Lawful.{sound}
 use Rattle.svn_model.specs.declared.base_node.BaseNode.{BaseNode}
 use Rattle.svn_edit.specs.declared.baton.Baton.{Baton}
 use Rattle.svn_edit.specs.declared.edit.Edit.{Edit}
-use Rattle.std.specs.HashMap.{Updates, get}
-use Rattle.svn_pool.proofs.Edges.{updated_here, updated_away}
+use Rattle.svn_serials.specs.Serials.{get}
+use Rattle.svn_serials.proofs.Pairs.{Updates}
 use Rattle.svn_edit.specs.declared.baton.Note.{Note}
 use Rattle.svn_edit_law.proofs.Appending.{next_target}
 use Rattle.svn_edit_law.proofs.OnePath.{noted, pathed}
@@ -197,15 +197,15 @@ pass_err A B (Err x) (Err e) same h = h
 
 -- what was said of the baton that a look-up lent
 pub noted_of : (t u : ℕ) (note : Note) (strings : List (List ℕ)) (x d : Baton) (pools pools2 : Pools) (m n : BatonMap)
-    → u ≡ t → Some x ≡ get nat_eq m u → BatonSaid note strings x pools d pools2 → Updates nat_eq m n u (Some d) → (b : Baton)
-    → get nat_eq m t ≡ Some b → BatonNoted t b note strings pools (get nat_eq m) pools2 (get nat_eq n)
+    → u ≡ t → Some x ≡ get m u → BatonSaid note strings x pools d pools2 → Updates m n u (Some d) → (b : Baton)
+    → get m t ≡ Some b → BatonNoted t b note strings pools (get m) pools2 (get n)
 noted_of t u note strings x d pools pools2 m n key lent said updates b there =
-    let written = subst (λ k. Updates nat_eq m n k (Some d)) key updates in
+    let written = subst (λ k. Updates m n k (Some d)) key updates in
     record {
       baton = d;
-      said = subst (λ (y : Baton). BatonSaid note strings y pools d pools2) (same_Some x b (lent ∙ ap (get nat_eq m) key ∙ there)) said;
-      token = updated_here m n t (Some d) written;
-      tokens = updated_away m n t (Some d) written;
+      said = subst (λ (y : Baton). BatonSaid note strings y pools d pools2) (same_Some x b (lent ∙ ap (get m) key ∙ there)) said;
+      token = written.here;
+      tokens = written.away;
     }
 
 pub applied_same : (fault : Option EditFault) (w : WorkingCopy) (nodes : List (Path × BaseNode)) (r : Result (Unit {0}) EditFault)

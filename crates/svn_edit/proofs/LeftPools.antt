@@ -2,7 +2,7 @@
 use Rattle.std.proofs.Common.{nat_eq, ◌≡◌, ◌≢◌, ℕ, ◌+◌, false, cond, List, [], ◌∷◌, ◌++◌, length, refl, sym, ◌∙◌, ap, subst, inl, inr}
 use Rattle.std.proofs.Common.{append_assoc, append-nil, arith, true≢false}
 use Rattle.std.specs.Prelude.{Option, Some, None, is_some, ◌⊎◌, Result, Err, OnErr}
-use Rattle.std.specs.HashMap.{Updates}
+use Rattle.svn_serials.proofs.Pairs.{Updates}
 use Rattle.std.specs.List.{list_any}
 use Rattle.std.specs.FinMap as map_of
 use Rattle.std.proofs.lemmas.Bool.{cases_eq}
@@ -10,7 +10,6 @@ use Rattle.std.proofs.lemmas.Option.{same_Some}
 use Rattle.svn_types.specs.Names.{Path}
 use Rattle.svn_pool.specs.Pools.{Entry, Pools, pool_at, parent_of, strings_of_pool, strings_at, created, pushed}
 use Rattle.svn_pool.specs.Ancestry.{IsBeneath}
-use Rattle.svn_pool.proofs.Edges.{updated_here, updated_away}
 use Rattle.svn_pool.proofs.Views.{inserted_here, inserted_away}
 use Rattle.svn_editor.specs.declared.call.Call.{Call}
 use Rattle.svn_editor.specs.declared.call.Call.TheVariants.{AbortEdit}
@@ -310,16 +309,16 @@ none_began t b strings edit there = record {
 
 -- what was begun with the baton that a look-up lent
 pub began_of : (t u : ℕ) (strings : List (List ℕ)) (x d : Baton) (old new : Edit) → u ≡ t → Some x ≡ batons_of old u
-    → BatonBegan strings x old.pools d new.pools → Updates nat_eq old.batons new.batons u (Some d) → (b : Baton)
+    → BatonBegan strings x old.pools d new.pools → Updates old.batons new.batons u (Some d) → (b : Baton)
     → batons_of old t ≡ Some b → NoteBegan t b strings old new
 began_of t u strings x d old new key lent began updates b there =
-    let written = subst (λ k. Updates nat_eq old.batons new.batons k (Some d)) key updates in
+    let written = subst (λ k. Updates old.batons new.batons k (Some d)) key updates in
     record {
       baton = d;
       began = subst (λ (y : Baton). BatonBegan strings y old.pools d new.pools) (same_Some x b (lent ∙ ap (batons_of old) key ∙ there))
           began;
-      token = updated_here old.batons new.batons t (Some d) written;
-      tokens = updated_away old.batons new.batons t (Some d) written;
+      token = written.here;
+      tokens = written.away;
     }
 
 -- ---- a token that wasn't given

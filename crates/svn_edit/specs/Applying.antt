@@ -1,12 +1,10 @@
 -- An applier with its copy, after a list of calls.
 --     StandsAfter mode w0 edit nodes calls      the edit began with the copy w0, and took these calls
 use Rattle.std.specs.Prelude.{◌≡◌, ◌≢◌, ℕ, ◌+◌, ◌<◌, Bool, true, false, ◌&&◌, not, List, [], ◌∷◌, ◌++◌, length, map, Option, Some, None}
-use Rattle.std.specs.Prelude.{nat_eq, is_some, filter_map, Result, Ok, Err, get_or, count_by, if◌then◌else◌}
+use Rattle.std.specs.Prelude.{is_some, filter_map, Result, Ok, Err, get_or, count_by, if◌then◌else◌}
 use Rattle.std.specs.List.{list_any, flat_map}
 use Rattle.std.specs.Option.{option_or}
-use Rattle.std.specs.HashMap.{HashMap, get}
-use Rattle.std.specs.declared.hash.BuildHasherDefault.{BuildHasherDefault}
-use Rattle.std.specs.declared.hash.FoldHasher.{FoldHasher}
+use Rattle.svn_serials.specs.Serials.{get}
 use Rattle.std.specs.FinMap as map
 use Rattle.svn_types.specs.declared.kind.Kind.{Kind}
 use Rattle.svn_types.specs.declared.kind.Kind.TheVariants.{File, Directory}
@@ -75,9 +73,9 @@ MakesNode p fault node (Err e) = IsAnswer fault e
 abbrev pub Batons : Type 0
 Batons = ℕ → Option Baton
 
--- the batons by their tokens, in no order
+-- the batons by their tokens
 abbrev pub BatonMap : Type 0
-BatonMap = HashMap ℕ Baton (BuildHasherDefault FoldHasher)
+BatonMap = List (ℕ × Baton)
 
 -- the token was given, and was not closed
 abbrev pub is_open : List Call → ℕ → Bool
@@ -222,7 +220,7 @@ pub record KeepsEdit (old new : Edit) : Type 0 where
   pub root : new.root ≡ old.root
 
 abbrev pub batons_of : Edit → Batons
-batons_of edit = get nat_eq edit.batons
+batons_of edit = get edit.batons
 
 -- a token's baton goes, and its pool, where none lies beneath that
 abbrev pub LetsGo : ℕ → Edit → Edit → Type 0

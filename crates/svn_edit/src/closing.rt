@@ -27,7 +27,7 @@ impl Edit {
         ensures gone { LetsGo token self.old self.new }
         ensures keeps { KeepsEdit self.old self.new }
     {
-        if let Some(baton) = self.batons.remove(&token.0) {
+        if let Some(baton) = self.batons.remove(token.0) {
             drop_pool(&mut self.pools, baton.pool);
         }
     }
@@ -63,7 +63,7 @@ impl Edit {
         ensures refused { IfErr result (λ e. (e ≡ EditFault.Memory) × (copy.new.entries ≡ copy.old.entries)) }
         ensures unchanged { OnErr result (self.new ≡ self.old) }
     {
-        let Some(baton) = self.batons.get(&token.0) else {
+        let Some(baton) = self.batons.get(token.0) else {
             return Err(EditFault::Memory);
         };
         if let Some(node) = copy.get_mut(baton.path.as_rel_path()) {
@@ -246,7 +246,7 @@ impl Edit {
         ensures refused { OnErr result (copy.new.entries ≡ copy.old.entries) }
         ensures unchanged { OnErr result (self.new ≡ self.old) }
     {
-        let Some(baton) = self.batons.get(&token.0) else {
+        let Some(baton) = self.batons.get(token.0) else {
             return Err(EditFault::Memory);
         };
         self.close_file_of(copy, baton, text_md5)?;

@@ -27,11 +27,11 @@ use crate::nodes::Nodes;
 use crate::open_path::OpenPath;
 use crate::{nodes, paths};
 use std::alloc::{AllocError, Global};
-use std::collections::HashMap;
 use svn_editor::{Call, Digest, EditFault, OrderFault, Token};
 use svn_model::BaseNode;
 use svn_order::OrderCheck;
 use svn_pool::{PoolId, PoolTree};
+use svn_serials::SerialMap;
 use svn_types::{MAX_SIZE, PropName, Props, RelPath, Rev, Text};
 
 /// How far an edit is.
@@ -57,7 +57,7 @@ pub struct Edit {
     pub(crate) pools: PoolTree<Global>,
     // The token that a call in order names has a baton. But the calls so far, from which that follows, stand in no field and in no
     // condition of a call, so where a baton is looked up the branch without one stays, and answers Memory.
-    pub(crate) batons: HashMap<u64, Baton>,
+    pub(crate) batons: SerialMap<Baton, Global>,
     pub(crate) alloc: Global,
 }
 
@@ -107,7 +107,7 @@ impl Edit {
             target: Rev(0),
             root,
             pools,
-            batons: HashMap::new(alloc),
+            batons: SerialMap::new(alloc),
             alloc,
         })
     }
@@ -306,7 +306,7 @@ impl Edit {
         if is_too_long(value.as_ref()) {
             return Err(EditFault::TooLong);
         }
-        match self.batons.get_mut(&token.0) {
+        match self.batons.get_mut(token.0) {
             Some(baton) => or_memory(baton.note_change(&mut self.pools, name, value)),
             None => Err(EditFault::Memory),
         }
@@ -327,7 +327,7 @@ impl Edit {
         if is_too_long(Some(text)) {
             return Err(EditFault::TooLong);
         }
-        match self.batons.get_mut(&token.0) {
+        match self.batons.get_mut(token.0) {
             Some(baton) => {
                 if nodes::is_wrong_base(base_md5, copy, baton.path.as_rel_path()) {
                     return Err(EditFault::BaseChecksum);

@@ -37,7 +37,7 @@ impl Edit {
         ensures { let root = self.now.pools.root in pool_or root (option_copied result) ≡ pool_of_parent root (batons_of self.now) parent }
     {
         match parent {
-            Some(parent) => self.batons.get(&parent.0),
+            Some(parent) => self.batons.get(parent.0),
             None => None,
         }
     }
@@ -171,7 +171,7 @@ impl Edit {
         if let Some(fault) = nodes::open_file_fault(node, base) {
             return Err(fault);
         }
-        self.test_moved(copy, path, self.batons.get(&parent.0), node)?;
+        self.test_moved(copy, path, self.batons.get(parent.0), node)?;
         let open = or_memory(OpenPath::opened(path))?;
         let root = self.pools.root();
         self.open_baton(root, open, token)
@@ -278,7 +278,7 @@ impl Edit {
         ensures unchanged { batons_of self.old token ≡ None → OnErr result (KeepsPools self.old self.new) }
         ensures applied { let a = Add Directory in let w = get_in copy.old.entries in Applied (step_fault md5 (mode_of self.old.root) [] w path.now a) (step_effect (mode_of self.old.root) self.old.target [] (record { path = path.now; action = a }) w) copy.old.entries result copy.new.entries }
     {
-        let parent = self.batons.get(&parent.0);
+        let parent = self.batons.get(parent.0);
         let beneath = self.pool_of(parent);
         let new = self.new_directory(copy, path, parent);
         self.add(copy, path, new, beneath, token)
@@ -297,7 +297,7 @@ impl Edit {
         ensures applied { let a = Add File in let w = get_in copy.old.entries in Applied (step_fault md5 (mode_of self.old.root) [] w path.now a) (step_effect (mode_of self.old.root) self.old.target [] (record { path = path.now; action = a }) w) copy.old.entries result copy.new.entries }
     {
         let root = self.pools.root();
-        let new = self.new_file(copy, path, self.batons.get(&parent.0));
+        let new = self.new_file(copy, path, self.batons.get(parent.0));
         self.add(copy, path, new, root, token)
     }
 }

@@ -1,8 +1,8 @@
-use Rattle.std.proofs.Common.{nat_eq, ◌≡◌, None, sym, ap, ◌∙◌, subst}
+use Rattle.std.proofs.Common.{◌≡◌, None, sym, ap, ◌∙◌, subst}
 use Rattle.std.proofs.lemmas.Option.{same_Some}
-use Rattle.std.specs.HashMap.{Updates, get}
+use Rattle.svn_serials.specs.Serials.{get}
+use Rattle.svn_serials.proofs.Pairs.{Updates, updates_removed}
 use Rattle.svn_pool.specs.Pools.{pool_at}
-use Rattle.svn_pool.proofs.Edges.{updated_here, updated_away}
 use Rattle.svn_edit.specs.declared.baton.Baton.{Baton}
 use Rattle.svn_edit.specs.Applying.{IsLeaf, PoolGone}
 use Rattle.svn_edit.proofs.edit.Edit.close_baton.Goals as goal
@@ -10,14 +10,15 @@ use Rattle.svn_edit.proofs.edit.Edit.close_baton.Goals as goal
 pub returns-in-Some-clause-gone : goal.returns-in-Some-clause-gone
 returns-in-Some-clause-gone c = λ b e there live leaf apart.
     let key : c.token.inside.0 ≡ c.args.token = c.token.view_is in
-    let updates = subst (λ k. Updates nat_eq c.args.self.now.batons c.remove.new.self k None) key c.remove.ensures.updates in
-    let same : c.in-Some.baton ≡ b = same_Some c.in-Some.baton b (c.in-Some.ensures.value ∙ ap (get nat_eq c.args.self.now.batons) key
+    let updates = subst (λ k. Updates c.args.self.now.batons c.remove.new.self k None) key
+    (updates_removed c.args.self.now.batons c.remove.new.self c.token.inside.0 c.remove.ensures.was_rising c.remove.ensures.removed) in
+    let same : c.in-Some.baton ≡ b = same_Some c.in-Some.baton b (c.in-Some.ensures.value ∙ ap (get c.args.self.now.batons) key
     ∙ there) in
     let pools = c.args.self.now.pools in
     record {
       pool = subst (λ (x : Baton). PoolGone x.pool.0 pools c.drop_pool.new.pools) same
           (c.drop_pool.ensures e (ap (λ (x : Baton). pool_at pools x.pool.0) same ∙ live)
           (subst (λ (x : Baton). IsLeaf pools x.pool.0) (sym same) leaf) (λ z. apart (ap (λ (x : Baton). x.pool.0) (sym same) ∙ z)));
-      token = updated_here c.args.self.now.batons c.remove.new.self c.args.token None updates;
-      tokens = updated_away c.args.self.now.batons c.remove.new.self c.args.token None updates;
+      token = updates.here;
+      tokens = updates.away;
     }

@@ -1,6 +1,6 @@
 use Rattle.std.proofs.Common.{◌≡◌, Some, cond, sym, ap, subst, ◌∙◌, refl, rules}
-use Rattle.std.specs.Prelude.{Result, Err, IfErr, filter_map, nat_eq}
-use Rattle.std.specs.HashMap.{get}
+use Rattle.std.specs.Prelude.{Result, Err, IfErr, filter_map}
+use Rattle.svn_serials.specs.Serials.{get}
 use Rattle.std.proofs.lemmas.Option.{same_Some}
 use Rattle.std.proofs.lemmas.Map.Steps.{set_value_same}
 use Rattle.svn_types.specs.Names.{Path}
@@ -30,7 +30,7 @@ returns-clause-closed c = λ b said there s.
     let old = c.args.self.now in
     let nodes = c.args.copy.now.entries in
     let same : c.in-Some.baton.now ≡ b = same_Some c.in-Some.baton.now b (c.in-Some.ensures.value
-    ∙ ap (get nat_eq old.batons) c.token.view_is ∙ there) in
+    ∙ ap (get old.batons) c.token.view_is ∙ there) in
     let at = c.as_rel_path.result.now in
     let closed = closed_directory (filter_map change_in said) in
     subst (λ (x : Baton). (p : Path) → get_in c.match-get_mut.copy.entries p ≡ cond (path_eq x.path p) (closed (get_in nodes x.path))

@@ -10,8 +10,7 @@ returns-clause-begun c = λ mode nodes is. record {
     stage = refl;
     root = is;
     target = refl;
-    batons = begun_batons c.in-Ok.pools c.new-3.result c.in-Ok.ensures.made
-        c.new-3.ensures.empty;
+    batons = begun_batons c.in-Ok.pools c.new-3.result c.in-Ok.ensures.made c.new-3.ensures;
   };
   ended = λ h. absurd (true≢false (sym h));
   left = λ h. absurd (true≢false (sym h));
