@@ -1,5 +1,5 @@
 //! How deep the tree below each node is, so that a copy needs no walk to know whether it would go too deep.
-ghost use Rattle.std.specs.Prelude.{◌≡◌, ◌≤◌, ℕ, OnOk, OnErr, length, slice_get, take};
+ghost use Rattle.std.specs.Prelude.{◌≡◌, ◌≤◌, ℕ, OnOk, OnErr, length, max, slice_get, take};
 ghost use Rattle.svn_repo.specs.Stored.{rows, entries_of, IsHeight, AreHeights};
 ghost use Rattle.svn_repo.specs.Heights.{height_above, height_from, IsOrdered};
 
@@ -8,13 +8,15 @@ use crate::store::{Content, Node};
 use std::alloc::AllocError;
 use svn_types::MAX_DEPTH;
 
-// The height of a directory with one child. What is deeper than a path may be counts as the longest path.
-fn height_above_child(heights: &[u8], child: NodeId) -> u8
-    ensures { result ≡ height_above (slice_get heights.now child) }
+// The height of a directory that is at least this high, with one child more. What is deeper than a path may be counts as the longest path.
+// Most children are lower than the tallest one before, and are passed over by one comparison.
+fn height_with_child(height: u8, heights: &[u8], child: NodeId) -> u8
+    ensures { result ≡ max height (height_above (slice_get heights.now child)) }
 {
     match heights.get(child.index) {
-        Some(height) if (*height as usize) < MAX_DEPTH => *height + 1,
-        _ => MAX_DEPTH as u8,
+        Some(below) if *below < height => height,
+        Some(below) if (*below as usize) < MAX_DEPTH => *below + 1,
+        _ => height.max(MAX_DEPTH as u8),
     }
 }
 
@@ -23,7 +25,7 @@ fn height_of_directory(entries: &Entries, heights: &[u8]) -> u8
 {
     let mut height = 0;
     for (_, child) in entries.iter() {
-        height = height.max(height_above_child(heights, *child));
+        height = height_with_child(height, heights, *child);
     }
     height
 }
