@@ -34,3 +34,5 @@ pub mod NodeRanges
 pub mod Comparing
 -- Texts that are printed item by item.
 pub mod Printing
+-- The line of a property, from its beginning and the name, which has no byte that is escaped.
+pub mod PropLines

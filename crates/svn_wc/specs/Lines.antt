@@ -22,6 +22,10 @@ node_words p (File rev from text props) = path_word p ∷ codes "file" ∷ decim
 node_words p (Dir rev from complete props) = path_word p ∷ codes "dir" ∷ decimal rev ∷ path_word from ∷ complete_words complete
 node_words p NotPresent = path_word p ∷ codes "not-present" ∷ []
 
+-- what stands before a property of the node at the path
+abbrev pub prop_start : Path → List ℕ
+prop_start p = path_word p ++ codes " prop "
+
 abbrev pub prop_line : Path → List ℕ × List ℕ → List ℕ
 prop_line p e = line (path_word p ∷ codes "prop" ∷ word e.0 ∷ word e.1 ∷ [])
 

@@ -1,6 +1,7 @@
 use Rattle.std.proofs.Common.{◌≡◌, ◌++◌, [], rules, refl, ap, ◌∙◌}
 use Rattle.std.specs.List.{flat_map}
 use Rattle.std.proofs.Output.{has_written_append, has_written_of_eq}
+use Rattle.svn_types.specs.Names.{Path}
 use Rattle.svn_wc.specs.Lines.{prop_line}
 use Rattle.svn_wc.proofs.Printing.{next_item, no_item}
 use Rattle.svn_wc.proofs.lines.write_props.Goals as goal
@@ -18,7 +19,10 @@ loop-name-preserved g c =
       inv.0 ++ text,
       next_item (prop_line c.args.path.now) inv.0 (c.in-Some.name.now, c.in-Some.value.now) c.next.new.self c.loop-name.name-iterator
           (flat_map (prop_line c.args.path.now) c.args.props.now) c.in-Some.ensures.steps inv.1,
-      λ plain. let before = inv.2 plain in has_written_append _ _ _ _ _ _ before (c.in_ok-write_prop.ensures before.plain refl),
+      λ plain. let before = inv.2 plain in has_written_append _ _ _ _ _ _ before
+          (has_written_of_eq _ _ _ _ _
+          (ap (λ (p : Path). prop_line p (c.in-Some.name.now, c.in-Some.value.now)) c.of-start.ensures)
+          (c.in_ok-write_prop.ensures before.plain refl)),
     )
 
 pub returns : goal.returns
