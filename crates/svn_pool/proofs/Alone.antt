@@ -1,5 +1,6 @@
 -- A pool that is put into an empty map is there alone, and the tree of the root alone keeps what a tree keeps.
-use Rattle.std.proofs.Common.{◌≡◌, ◌≢◌, ℕ, zero, suc, ◌+◌, ◌<◌, ◌≤◌, nat_eq, [], ◌∷◌, Option, None, Some, IsSome, refl, sym, ap, subst, ◌∙◌, inl}
+use Rattle.std.proofs.Common.{◌≡◌, ◌≢◌, ℕ, zero, suc, ◌+◌, ◌<◌, ◌≤◌, nat_eq, [], ◌∷◌, Option, None, Some, IsSome, refl, sym, ap, subst}
+use Rattle.std.proofs.Common.{◌∙◌, inl}
 use Rattle.std.proofs.Common.{inr, arith}
 use Rattle.std.proofs.lemmas.Bool.{cases_eq, cond-true, cond-false, eq-eqb, ne_eqb}
 use Rattle.std.proofs.lemmas.Map.Keys.{IsDistinct-cons}
@@ -7,7 +8,8 @@ use Rattle.std.proofs.lemmas.Option.{none-some}
 use Rattle.svn_serials.specs.Serials.{get}
 use Rattle.std.specs.List.{IsDistinct}
 use Rattle.std.specs.Option.{IsSomeAnd}
-use Rattle.svn_pool.specs.Linked.{Changes, IsAlone, IsLinked, IsTree, IsUnique, LinkedMap, bare, blocks_held, first_of, fixed_held, live_at, next_of}
+use Rattle.svn_pool.specs.Linked.{Changes, IsAlone, IsLinked, IsTree, IsUnique, LinkedMap, bare, blocks_held, first_of, fixed_held}
+use Rattle.svn_pool.specs.Linked.{live_at, next_of}
 use Rattle.svn_pool.specs.Linked.{parent_in, place_in, place_of, standing}
 use Rattle.svn_pool.specs.Pools.{Entry, parent_of}
 use Rattle.svn_pool.specs.declared.links.Linked.{Linked}

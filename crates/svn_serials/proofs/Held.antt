@@ -24,12 +24,14 @@ module _ {V : Type 0} where
   slot q o = record { serial = q; value = o }
 
   -- a look-up passes a slot of another serial
-  missed : (q k : ℕ) (o : Option V) (ss : List (Slot V)) → nat_eq q k ≡ false → lookup (nat_eq q) (held (slot k o ∷ ss)) ≡ lookup (nat_eq q) (held ss)
+  missed : (q k : ℕ) (o : Option V) (ss : List (Slot V)) → nat_eq q k ≡ false → lookup (nat_eq q) (held (slot k o ∷ ss)) ≡ lookup
+      (nat_eq q) (held ss)
   missed q k None ss miss = refl
   missed q k (Some v) ss miss = lookup_tail (nat_eq q) (k, v) (held ss) miss
 
   -- a serial that no slot has is not in the map
-  pub absent : (q : ℕ) (ss : List (Slot V)) → ((k : ℕ) → k < length ss → get_or (serials_of ss) k 0 ≢ q) → lookup (nat_eq q) (held ss) ≡ None
+  pub absent : (q : ℕ) (ss : List (Slot V)) → ((k : ℕ) → k < length ss → get_or (serials_of ss) k 0 ≢ q)
+      → lookup (nat_eq q) (held ss) ≡ None
   absent q [] h = refl
   absent q (s ∷ ss) h =
       missed q s.serial s.value ss (ne_eqb q s.serial (λ e. h 0 (omega arith) (sym e))) ∙ absent q ss (λ i below. h (suc i) (omega arith))
@@ -37,10 +39,12 @@ module _ {V : Type 0} where
   -- the first slot is below all others
   first_below : (s : Slot V) (ss : List (Slot V)) → IsInOrder (s ∷ ss) → (i : ℕ) → i < length ss → s.serial < get_or (serials_of ss) i 0
   first_below s ss order i within =
-      below_from_sorted (serials_of (s ∷ ss)) 0 (suc i) 0 order (omega arith) (let len = length-map ss (λ (s : Slot V). s.serial) in omega arith)
+      below_from_sorted (serials_of (s ∷ ss)) 0 (suc i) 0 order (omega arith) (let len = length-map ss (λ
+      (s : Slot V). s.serial) in omega arith)
 
   -- a place that a slot with that serial has is past the first, so the first has another
-  first_misses : (q : ℕ) (s : Slot V) (ss : List (Slot V)) → IsInOrder (s ∷ ss) → (i : ℕ) → i < length ss → get_or (serials_of ss) i 0 ≡ q → s.serial < q
+  first_misses : (q : ℕ) (s : Slot V) (ss : List (Slot V)) → IsInOrder (s ∷ ss) → (i : ℕ) → i < length ss
+      → get_or (serials_of ss) i 0 ≡ q → s.serial < q
   first_misses q s ss order i within is = let less = first_below s ss order i within in omega arith
 
   none_behind : (q : ℕ) (s : Slot V) (ss : List (Slot V)) → IsInOrder (s ∷ ss) → s.serial ≡ q → lookup (nat_eq q) (held ss) ≡ None
@@ -63,21 +67,26 @@ module _ {V : Type 0} where
 
   put_first : (q k : ℕ) (v w : V) (es : List (ℕ × V)) → q < k → insert_entry nat_cmp ((k, v) ∷ es) q w ≡ (q, w) ∷ (k, v) ∷ es
   put_first q k v w es less =
-      ap (λ (c : Ordering). match_ordering c ((q, w) ∷ (k, v) ∷ es) ((k, w) ∷ es) ((k, v) ∷ insert_entry nat_cmp es q w)) (cmp_less q k less)
+      ap (λ (c : Ordering). match_ordering c ((q, w) ∷ (k, v) ∷ es) ((k, w) ∷ es) ((k, v) ∷ insert_entry nat_cmp es q w))
+      (cmp_less q k less)
 
   put_here : (q k : ℕ) (v w : V) (es : List (ℕ × V)) → q ≡ k → insert_entry nat_cmp ((k, v) ∷ es) q w ≡ (k, w) ∷ es
   put_here q k v w es same =
-      ap (λ (c : Ordering). match_ordering c ((q, w) ∷ (k, v) ∷ es) ((k, w) ∷ es) ((k, v) ∷ insert_entry nat_cmp es q w)) (cmp_equal q k same)
+      ap (λ (c : Ordering). match_ordering c ((q, w) ∷ (k, v) ∷ es) ((k, w) ∷ es) ((k, v) ∷ insert_entry nat_cmp es q w))
+      (cmp_equal q k same)
 
-  put_later : (q k : ℕ) (v w : V) (es : List (ℕ × V)) → k < q → insert_entry nat_cmp ((k, v) ∷ es) q w ≡ (k, v) ∷ insert_entry nat_cmp es q w
+  put_later : (q k : ℕ) (v w : V) (es : List (ℕ × V)) → k < q → insert_entry nat_cmp ((k, v) ∷ es) q w ≡
+      (k, v) ∷ insert_entry nat_cmp es q w
   put_later q k v w es less =
-      ap (λ (c : Ordering). match_ordering c ((q, w) ∷ (k, v) ∷ es) ((k, w) ∷ es) ((k, v) ∷ insert_entry nat_cmp es q w)) (cmp_greater q k less)
+      ap (λ (c : Ordering). match_ordering c ((q, w) ∷ (k, v) ∷ es) ((k, w) ∷ es) ((k, v) ∷ insert_entry nat_cmp es q w))
+      (cmp_greater q k less)
 
   -- before slots that are all above
   put_before : (q : ℕ) (w : V) (ss : List (Slot V)) → ((i : ℕ) → i < length ss → q < get_or (serials_of ss) i 0)
       → insert_entry nat_cmp (held ss) q w ≡ (q, w) ∷ held ss
   put_before q w [] above = refl
-  put_before q w (s ∷ ss) above = by_value s.serial s.value (above 0 (omega arith)) (put_before q w ss (λ i within. above (suc i) (omega arith)))
+  put_before q w (s ∷ ss) above = by_value s.serial s.value (above 0 (omega arith)) (put_before q w ss (λ i within. above (suc i)
+      (omega arith)))
     where
       by_value : (k : ℕ) (o : Option V) → q < k → insert_entry nat_cmp (held ss) q w ≡ (q, w) ∷ held ss
           → insert_entry nat_cmp (held (slot k o ∷ ss)) q w ≡ (q, w) ∷ held (slot k o ∷ ss)
@@ -92,12 +101,14 @@ module _ {V : Type 0} where
 
   -- in a new slot
   pub held_insert : (q : ℕ) (w : V) (ss : List (Slot V)) (p : ℕ) → ((i : ℕ) → i < p → i < length ss → get_or (serials_of ss) i 0 < q)
-      → ((i : ℕ) → p ≤ i → i < length ss → q < get_or (serials_of ss) i 0) → held (insert ss p (slot q (Some w))) ≡ insert_entry nat_cmp (held ss) q w
+      → ((i : ℕ) → p ≤ i → i < length ss → q < get_or (serials_of ss) i 0) → held (insert ss p (slot q (Some w))) ≡ insert_entry nat_cmp
+      (held ss) q w
   held_insert q w ss zero below from = sym (put_before q w ss (λ i within. from i (omega arith) within))
   held_insert q w [] (suc p) below from = refl
   held_insert q w (s ∷ ss) (suc p) below from =
       put_behind q w s.serial s.value ss (insert ss p (slot q (Some w))) (below 0 (omega arith) (omega arith))
-      (held_insert q w ss p (λ i before within. below (suc i) (omega arith) (omega arith)) (λ i after within. from (suc i) (omega arith) (omega arith)))
+      (held_insert q w ss p (λ i before within. below (suc i) (omega arith) (omega arith)) (λ i after within. from (suc i) (omega arith)
+      (omega arith)))
 
   -- in the slot that the serial has
   pub held_put : (q : ℕ) (w : V) (ss : List (Slot V)) (i : ℕ) → IsInOrder ss → i < length ss → get_or (serials_of ss) i 0 ≡ q
@@ -164,12 +175,14 @@ module _ {V : Type 0} where
   held_filter [] = refl
   held_filter (s ∷ ss) = by_value s.serial s.value (held_filter ss)
     where
-      by_value : (k : ℕ) (o : Option V) → held (filter has_value ss) ≡ held ss → held (filter has_value (slot k o ∷ ss)) ≡ held (slot k o ∷ ss)
+      by_value : (k : ℕ) (o : Option V) → held (filter has_value ss) ≡ held ss → held (filter has_value (slot k o ∷ ss)) ≡ held
+          (slot k o ∷ ss)
       by_value k None rest = rest
       by_value k (Some v) rest = ap (λ (es : List (ℕ × V)). (k, v) ∷ es) rest
 
   -- the last slot, which is empty, is popped
-  module _ (ss ts : List (Slot V)) (last : Slot V) (is_last : Some last ≡ slice_get ss (length ss - 1)) (empty : is_some last.value ≡ false) where
+  module _ (ss ts : List (Slot V)) (last : Slot V) (is_last : Some last ≡ slice_get ss (length ss - 1))
+      (empty : is_some last.value ≡ false) where
     popped_slot : (s : Slot V) → ss ≡ ts ++ s ∷ [] → held (ts ++ s ∷ []) ≡ held ts
     popped_slot s split =
         let len = ap length split ∙ length_push ts s in

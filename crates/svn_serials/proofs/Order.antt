@@ -2,9 +2,11 @@
 use Rattle.std.proofs.Common.{◌≡◌, ℕ, zero, suc, ◌+◌, ◌-◌, ◌<◌, ◌≤◌, List, [], ◌∷◌, ◌++◌, length, get_or, set, Option, None, Some}
 use Rattle.std.proofs.Common.{IsSome, is_some, Bool, true, false, cond, refl, sym, ap, subst, ◌∙◌, arith}
 use Rattle.std.proofs.Common.{◌≢◌, ltb, MatchOption, IfSome, inl, inr}
-use Rattle.std.proofs.lemmas.Bool.{cases_eq, cases_lt, cond-true, cond-false, lt-ltb, le-ltb, eq-eqb, false≢true, ne_eqb, ltb-true, ltb-false}
+use Rattle.std.proofs.lemmas.Bool.{cases_eq, cases_lt, cond-true, cond-false, lt-ltb, le-ltb, eq-eqb, false≢true, ne_eqb, ltb-true}
+use Rattle.std.proofs.lemmas.Bool.{ltb-false}
 use Rattle.std.proofs.lemmas.Bool.Decides.{nat_tests}
-use Rattle.std.proofs.lemmas.List.{map-set, set-get_or, get_or-map, get_or-set_same, get_or-set_other, length-map, length-set, get_or_push, length_push}
+use Rattle.std.proofs.lemmas.List.{map-set, set-get_or, get_or-map, get_or-set_same, get_or-set_other, length-map, length-set}
+use Rattle.std.proofs.lemmas.List.{get_or_push, length_push}
 use Rattle.std.proofs.lemmas.List.Edits.{get_or-insert_above, get_or-insert_at, length-insert}
 use Rattle.std.proofs.lemmas.Map.Keys.{sorted_head, sorted_tail, below_from_sorted}
 use Rattle.std.proofs.lemmas.Option.{get_or_from_slice_get}
@@ -77,7 +79,8 @@ above_front n (k ∷ ks) js above = (above.0, above_front n ks js above.1)
 pub sorted_front : (ks js : List ℕ) → IsStrictlySortedBy nat_cmp (ks ++ js) → IsStrictlySortedBy nat_cmp ks
 sorted_front [] js sorted = sorted_nil
 sorted_front (k ∷ ks) js sorted =
-    sorted_cons k ks (above_front k ks js (sorted_head nat_cmp k (ks ++ js) sorted)) (sorted_front ks js (sorted_tail nat_cmp k (ks ++ js) sorted))
+    sorted_cons k ks (above_front k ks js (sorted_head nat_cmp k (ks ++ js) sorted)) (sorted_front ks js (sorted_tail nat_cmp k
+    (ks ++ js) sorted))
 
 -- ---- slots
 
@@ -95,7 +98,8 @@ module _ {V : Type 0} where
   serials_insert (s ∷ ss) (suc p) t = ap (λ (ks : List ℕ). s.serial ∷ ks) (serials_insert ss p t)
 
   -- a slot is written, and its serial stays
-  pub serials_set : (ss : List (Slot V)) (i : ℕ) (t : Slot V) → get_or (serials_of ss) i 0 ≡ t.serial → serials_of (set ss i t) ≡ serials_of ss
+  pub serials_set : (ss : List (Slot V)) (i : ℕ) (t : Slot V) → get_or (serials_of ss) i 0 ≡ t.serial
+      → serials_of (set ss i t) ≡ serials_of ss
   serials_set ss i t same =
       map-set (λ s. s.serial) ss i t ∙ ap (set (serials_of ss) i) (sym same) ∙ set-get_or (serials_of ss) i 0
 
@@ -108,7 +112,8 @@ module _ {V : Type 0} where
   order_insert ss p t order below from =
       let len = length-map ss (λ (s : Slot V). s.serial) in
       subst (IsStrictlySortedBy nat_cmp) (sym (serials_insert ss p t))
-      (sorted_insert t.serial (serials_of ss) p order (λ i before within. below i before (omega arith)) (λ i after within. from i after (omega arith)))
+      (sorted_insert t.serial (serials_of ss) p order (λ i before within. below i before (omega arith)) (λ i after within. from i after
+      (omega arith)))
 
   pub order_front : (ss ts : List (Slot V)) → IsInOrder (ss ++ ts) → IsInOrder ss
   order_front ss ts order = sorted_front (serials_of ss) (serials_of ts) (subst (IsStrictlySortedBy nat_cmp) (serials_append ss ts) order)
@@ -127,7 +132,8 @@ module _ {V : Type 0} where
       let rest = order_filter ss (sorted_tail nat_cmp s.serial (serials_of ss) order) in
       elim (has_value s) as (λ (b : Bool). IsInOrder (cond b (s ∷ filter has_value ss) (filter has_value ss))) [
         | true ↦
-            sorted_cons s.serial (serials_of (filter has_value ss)) (above_filter s.serial ss (sorted_head nat_cmp s.serial (serials_of ss) order)) rest
+            sorted_cons s.serial (serials_of (filter has_value ss)) (above_filter s.serial ss (sorted_head nat_cmp s.serial
+            (serials_of ss) order)) rest
         | false ↦ rest
       ]
 
@@ -144,9 +150,11 @@ module _ {V : Type 0} where
   pub rising_held : (ss : List (Slot V)) → IsInOrder ss → IsRising (held ss)
   rising_held [] order = sorted_nil
   rising_held (s ∷ ss) order =
-      by_value s.serial s.value (sorted_head nat_cmp s.serial (serials_of ss) order) (rising_held ss (sorted_tail nat_cmp s.serial (serials_of ss) order))
+      by_value s.serial s.value (sorted_head nat_cmp s.serial (serials_of ss) order) (rising_held ss (sorted_tail nat_cmp s.serial
+      (serials_of ss) order))
     where
-      by_value : (k : ℕ) (o : Option V) → AllAbove k (serials_of ss) → IsRising (held ss) → IsRising (held (record { serial = k; value = o } ∷ ss))
+      by_value : (k : ℕ) (o : Option V) → AllAbove k (serials_of ss) → IsRising (held ss) → IsRising (held
+          (record { serial = k; value = o } ∷ ss))
       by_value k None above rest = rest
       by_value k (Some v) above rest = sorted_cons k (keys_of (held ss)) (above_held k ss above) rest
 
@@ -217,12 +225,14 @@ module _ {V : Type 0} where
   ]
 
   -- what holds of a slot at a place, whatever stands for a place that is not there
-  with_first : {q : ℕ} (ss : List (Slot V)) (k : ℕ) → k < length ss → ((d : Slot V) → (get_or ss k d).serial < q) → get_or (serials_of ss) k 0 < q
+  with_first : {q : ℕ} (ss : List (Slot V)) (k : ℕ) → k < length ss → ((d : Slot V) → (get_or ss k d).serial < q)
+      → get_or (serials_of ss) k 0 < q
   with_first [] k within h = absurd (omega arith)
   with_first (s ∷ ss) k within h =
       let at = get_or-map (λ (t : Slot V). t.serial) (s ∷ ss) k s 0 within in let less = h s in omega arith
 
-  with_first' : {q : ℕ} (ss : List (Slot V)) (k : ℕ) → k < length ss → ((d : Slot V) → q ≤ (get_or ss k d).serial) → q ≤ get_or (serials_of ss) k 0
+  with_first' : {q : ℕ} (ss : List (Slot V)) (k : ℕ) → k < length ss → ((d : Slot V) → q ≤ (get_or ss k d).serial)
+      → q ≤ get_or (serials_of ss) k 0
   with_first' [] k within h = absurd (omega arith)
   with_first' (s ∷ ss) k within h =
       let at = get_or-map (λ (t : Slot V). t.serial) (s ∷ ss) k s 0 within in let least = h s in omega arith
@@ -245,7 +255,8 @@ module _ {V : Type 0} where
   filter_filled [] i within = absurd (omega arith)
   filter_filled (s ∷ ss) i within = by_value s.serial s.value (filter_filled ss) i within
     where
-      by_value : (k : ℕ) (o : Option V) → ((i : ℕ) → i < length (filter has_value ss) → IsSome (get_or (values_in (filter has_value ss)) i None))
+      by_value : (k : ℕ) (o : Option V) → ((i : ℕ) → i < length (filter has_value ss) → IsSome (get_or (values_in
+          (filter has_value ss)) i None))
           → (i : ℕ) → i < length (filter has_value (record { serial = k; value = o } ∷ ss))
           → IsSome (get_or (values_in (filter has_value (record { serial = k; value = o } ∷ ss))) i None)
       by_value k None rest i inside = rest i inside
@@ -289,12 +300,15 @@ module _ {V : Type 0} where
       let len = length-insert ss p s bound in
       let count = length-map ss (λ (t : Slot V). t.value) in
       let last : length (insert ss p s) - 1 ≡ length ss = omega arith in
-      let here : get_or (values_in (insert ss p s)) (length (insert ss p s) - 1) None ≡ get_or (insert (values_in ss) p s.value) (length ss) None =
-      ap (λ (k : ℕ). get_or (values_in (insert ss p s)) k None) last ∙ ap (λ (vs : List (Option V)). get_or vs (length ss) None) (values_insert ss p s) in
+      let here : get_or (values_in (insert ss p s)) (length (insert ss p s) - 1) None ≡ get_or (insert (values_in ss) p s.value)
+      (length ss) None =
+      ap (λ (k : ℕ). get_or (values_in (insert ss p s)) k None) last ∙ ap (λ (vs : List (Option V)). get_or vs (length ss) None)
+      (values_insert ss p s) in
       subst IsSome (sym here) (elim (cases_eq p (length ss)) [
         | inl same ↦
             let at : get_or (insert (values_in ss) p s.value) (length ss) None ≡ s.value =
-            ap (λ (k : ℕ). get_or (insert (values_in ss) p s.value) k None) (sym same) ∙ get_or-insert_at (values_in ss) p s.value None (omega arith) in
+            ap (λ (k : ℕ). get_or (insert (values_in ss) p s.value) k None) (sym same) ∙ get_or-insert_at (values_in ss) p s.value None
+            (omega arith) in
             subst IsSome (sym at) filled
         | inr apart ↦
             let before : length ss ≡ length ss - 1 + 1 = omega arith in

@@ -1,8 +1,10 @@
 -- For callers: a map by its pairs, after one is put in, written or removed.
-use Rattle.std.proofs.Common.{nat_eq, ◌≡◌, ◌≢◌, ℕ, suc, ◌+◌, ◌<◌, List, [], ◌∷◌, length, Option, None, Some, IsSome, is_some, Bool, true, false, cond}
+use Rattle.std.proofs.Common.{nat_eq, ◌≡◌, ◌≢◌, ℕ, suc, ◌+◌, ◌<◌, List, [], ◌∷◌, length, Option, None, Some, IsSome, is_some, Bool}
+use Rattle.std.proofs.Common.{true, false, cond}
 use Rattle.std.proofs.Common.{refl, sym, ap, subst, ◌∙◌, arith, inl, inr}
 use Rattle.std.proofs.lemmas.Bool.{cases_eq, cases_order, cond-true, cond-false, eq-eqb, eqb-true, ne_eqb, false≢true}
-use Rattle.std.proofs.lemmas.List.Sorted.{IsPermutation-cons, IsPermutation-middle, IsPermutation-refl, IsPermutation-sym, IsPermutation-trans}
+use Rattle.std.proofs.lemmas.List.Sorted.{IsPermutation-cons, IsPermutation-middle, IsPermutation-refl, IsPermutation-sym}
+use Rattle.std.proofs.lemmas.List.Sorted.{IsPermutation-trans}
 use Rattle.std.proofs.lemmas.List.Sorted.{length_permutation}
 use Rattle.std.proofs.lemmas.Map.{NonePasses, keys-set_value, lookup-none, lookup-remove_entry, lookup-set_value}
 use Rattle.std.proofs.lemmas.Map.Keys.{sorted_head, sorted_tail}
@@ -70,7 +72,8 @@ module _ {V : Type 0} where
   removed : (es : List (ℕ × V)) (k q : ℕ) → IsRising es
       → get (remove_entry (nat_eq k) es) q ≡ cond (nat_eq k q) None (get es q)
   removed es k q rising =
-      lookup-remove_entry nat_eq_equiv (nat_eq k) (λ x y is. ap (λ (z : ℕ). nat_eq z y) (eqb-true k x is)) q es (distinct_from_rising es rising)
+      lookup-remove_entry nat_eq_equiv (nat_eq k) (λ x y is. ap (λ (z : ℕ). nat_eq z y) (eqb-true k x is)) q es
+      (distinct_from_rising es rising)
 
   pub removed_here : (es : List (ℕ × V)) (k : ℕ) → IsRising es → get (remove_entry (nat_eq k) es) k ≡ None
   removed_here es k rising = removed es k k rising ∙ cond-true (nat_eq k k) None (get es k) (eq-eqb k k refl)
@@ -109,7 +112,8 @@ module _ {V : Type 0} where
   length_put_new es k w none =
       let same = length_permutation ((k, w) ∷ es) (insert_entry nat_cmp es k w) (put_new es k w none) in omega arith
 
-  pub length_put_known : (es : List (ℕ × V)) (k : ℕ) (v w : V) → IsRising es → get es k ≡ Some v → length (insert_entry nat_cmp es k w) ≡ length es
+  pub length_put_known : (es : List (ℕ × V)) (k : ℕ) (v w : V) → IsRising es → get es k ≡ Some v
+      → length (insert_entry nat_cmp es k w) ≡ length es
   length_put_known [] k v w rising is = absurd (none-some v is)
   length_put_known (e ∷ es) k v w rising is =
       put_cases (λ fs. length fs ≡ suc (length es)) k w e es (λ less. absurd (none-some v (sym (none_before less) ∙ is))) (λ _. refl)
@@ -124,7 +128,8 @@ module _ {V : Type 0} where
   length_removed [] k some = absurd (false≢true some)
   length_removed (e ∷ es) k some =
       elim (nat_eq k e.0) as
-      (λ (b : Bool). is_some (cond b (Some e.1) (get es k)) ≡ true → length (cond b es (e ∷ remove_entry (nat_eq k) es)) + 1 ≡ suc (length es)) [
+      (λ (b : Bool). is_some (cond b (Some e.1) (get es k)) ≡ true → length (cond b es (e ∷ remove_entry (nat_eq k) es)) + 1
+      ≡ suc (length es)) [
         | true ↦ λ _. omega arith
         | false ↦ λ rest. let fewer = length_removed es k rest in omega arith
       ] some
@@ -148,10 +153,12 @@ module _ {V : Type 0} where
       let apart : first.0 ≢ k = λ is. omega arith in
       let miss = ne_eqb first.0 e.0 (λ is. omega arith) in
       none-some first.1 (sym (others first.0 apart) ∙ cond-false (nat_eq first.0 e.0) (Some e.1) (get es first.0) miss
-      ∙ ap (λ (gs : List (ℕ × V)). get gs first.0) split ∙ cond-true (nat_eq first.0 first.0) (Some first.1) (get fs first.0) (eq-eqb first.0 first.0 refl))
+      ∙ ap (λ (gs : List (ℕ × V)). get gs first.0) split ∙ cond-true (nat_eq first.0 first.0) (Some first.1) (get fs first.0)
+      (eq-eqb first.0 first.0 refl))
 
   -- one serial alone has a value
-  pub only_pair : (es : List (ℕ × V)) (k : ℕ) (v : V) → IsRising es → get es k ≡ Some v → ((q : ℕ) → q ≢ k → get es q ≡ None) → es ≡ (k, v) ∷ []
+  pub only_pair : (es : List (ℕ × V)) (k : ℕ) (v : V) → IsRising es → get es k ≡ Some v → ((q : ℕ) → q ≢ k → get es q ≡ None)
+      → es ≡ (k, v) ∷ []
   only_pair [] k v rising is others = absurd (none-some v is)
   only_pair (e ∷ es) k v rising is others = elim (cases_eq e.0 k) [
     | inl same ↦
@@ -175,7 +182,11 @@ module _ {V : Type 0} where
 
   pub updates_put : (es fs : List (ℕ × V)) (k : ℕ) (w : V) → fs ≡ insert_entry nat_cmp es k w → Updates es fs k (Some w)
   updates_put es fs k w is =
-      record { here = ap (λ (gs : List (ℕ × V)). get gs k) is ∙ put_here es k w; away = λ q apart. ap (λ (gs : List (ℕ × V)). get gs q) is ∙ put_apart es k w q apart }
+      record {
+        here = ap (λ (gs : List (ℕ × V)). get gs k) is ∙ put_here es k w;
+        away = λ q apart. ap (λ (gs : List
+            (ℕ × V)). get gs q) is ∙ put_apart es k w q apart;
+      }
 
   pub updates_removed : (es fs : List (ℕ × V)) (k : ℕ) → IsRising es → fs ≡ remove_entry (nat_eq k) es → Updates es fs k None
   updates_removed es fs k rising is =

@@ -1,5 +1,6 @@
 -- What a map keeps of its fields, after each change of them.
-use Rattle.std.proofs.Common.{nat_eq, ◌≡◌, ◌≢◌, ℕ, ◌+◌, ◌-◌, ◌<◌, ◌≤◌, List, [], length, get_or, set, Option, None, Some, IsSome, is_some, cond}
+use Rattle.std.proofs.Common.{nat_eq, ◌≡◌, ◌≢◌, ℕ, ◌+◌, ◌-◌, ◌<◌, ◌≤◌, List, [], length, get_or, set, Option, None, Some, IsSome}
+use Rattle.std.proofs.Common.{is_some, cond}
 use Rattle.std.proofs.Common.{Bool, true, false, not, MatchOption, inl, inr, lit≤}
 use Rattle.std.proofs.lemmas.Bool.{cases_lt, false≢true}
 use mir.Val.{bool_byte}
@@ -39,7 +40,8 @@ module _ {V : Type 0} where
       let counted = sound.counted in
       omega arith
 
-  pub sound_take : (ss ts : List (Slot V)) (n q i : ℕ) → IsSound ss n → IsFilledAt ss q i → held ts ≡ remove_entry (nat_eq q) (held ss) → IsInOrder ts
+  pub sound_take : (ss ts : List (Slot V)) (n q i : ℕ) → IsSound ss n → IsFilledAt ss q i → held ts ≡ remove_entry (nat_eq q)
+      (held ss) → IsInOrder ts
       → EndsFilled ts → IsSound ts (n - 1)
   sound_take ss ts n q i sound at removed order ends =
       let some = subst IsSome (sym (found q ss i sound.order at.within at.serial)) at.value in

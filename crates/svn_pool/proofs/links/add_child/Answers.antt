@@ -86,7 +86,8 @@ pub returns-clause-added : goal.returns-clause-added
 returns-clause-added g c =
     transport
     (λ i. Changes (c.set_first.ensures.pools i) (sym c.move_to.ensures.pools i) c.args.serial (Some (c.new.ensures i)))
-    (changes-bare c.set_first.new.pools c.insert.new.self c.args.serial _ (updates_put c.set_first.new.pools c.insert.new.self c.args.serial _ c.in-Ok.ensures.put))
+    (changes-bare c.set_first.new.pools c.insert.new.self c.args.serial _
+    (updates_put c.set_first.new.pools c.insert.new.self c.args.serial _ c.in-Ok.ensures.put))
 
 pub returns-clause-blocks : goal.returns-clause-blocks
 returns-clause-blocks g c =

@@ -25,7 +25,8 @@ moved_to m n s l w x found now pool before c is parent =
     ap (place_of n) (sym is) ∙ ap place_in now ∙ ap (place_by w.pool.parent) before ∙ seated x w.pool.parent mine
 
 -- a pool whose links alone are others: what stands at a place stays, where first child and next sibling do
-standing_stays : (m n : LinkedMap) (s : ℕ) (l w : Linked Entry) → get m s ≡ Some l → Updates m n s (Some w) → w.first ≡ l.first → w.next ≡ l.next
+standing_stays : (m n : LinkedMap) (s : ℕ) (l w : Linked Entry) → get m s ≡ Some l → Updates m n s (Some w) → w.first ≡ l.first
+    → w.next ≡ l.next
     → (x : Place) → standing n x ≡ standing m x
 standing_stays m n s l w found up first next (First p) = elim (cases_eq p s) [
   | inl is ↦
@@ -74,5 +75,6 @@ pub returns-clause-pools : goal.returns-clause-pools
 returns-clause-pools g c =
     let l = c.in-Some-get_mut.linked.now in
     let w : Linked Entry = record { pool = l.pool; first = l.first; next = l.next; before = c.sibling_before-linked.result } in
-    relinked-bare c.args.pools.now (set_value (nat_eq c.in-Some.serial) c.args.pools.now w) c.in-Some.serial l w (sym c.in-Some-get_mut.ensures.value) refl
+    relinked-bare c.args.pools.now (set_value (nat_eq c.in-Some.serial) c.args.pools.now w) c.in-Some.serial l w
+    (sym c.in-Some-get_mut.ensures.value) refl
     refl

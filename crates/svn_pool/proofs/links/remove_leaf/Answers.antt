@@ -47,7 +47,8 @@ returns-in_default-clause-fixed g c =
 
 pub returns-in_default-clause-gone : goal.returns-in_default-clause-gone
 returns-in_default-clause-gone g c =
-    changes-bare c.args.pools.now c.remove.new.self c.args.serial None (updates_removed c.args.pools.now c.remove.new.self c.args.serial c.remove.ensures.was_rising c.remove.ensures.removed)
+    changes-bare c.args.pools.now c.remove.new.self c.args.serial None
+    (updates_removed c.args.pools.now c.remove.new.self c.args.serial c.remove.ensures.was_rising c.remove.ensures.removed)
 
 pub returns-in_default-clause-fewer : goal.returns-in_default-clause-fewer
 returns-in_default-clause-fewer g c = λ live.
@@ -55,7 +56,8 @@ returns-in_default-clause-fewer g c = λ live.
     (sym (is_some-bare c.args.pools.now c.args.serial) ∙ live))
 
 -- there is one pool fewer
-one_fewer : (old mid new : LinkedMap) (s : ℕ) (l : Linked Entry) → get old s ≡ Some l → mid ≡ remove_entry (nat_eq s) old → bare new ≡ bare mid
+one_fewer : (old mid new : LinkedMap) (s : ℕ) (l : Linked Entry) → get old s ≡ Some l → mid ≡ remove_entry (nat_eq s) old
+    → bare new ≡ bare mid
     → length (bare new) + 1 ≡ length (bare old)
 one_fewer old mid new s l found removed same =
     let fewer = length_removed old s (ap is_some found) in
@@ -71,7 +73,9 @@ clear-requires g c =
 pub returns-in_default-place_by-clause-linked : goal.returns-in_default-place_by-clause-linked
 returns-in_default-place_by-clause-linked g c =
     linked-unplaced c.args.pools.now c.remove.new.self c.requires.linked c.args.serial c.requires.leaf c.in-Some.linked
-    (sym c.in-Some.ensures.value) (updates_removed c.args.pools.now c.remove.new.self c.args.serial c.remove.ensures.was_rising c.remove.ensures.removed) c.remove.ensures.rising
+    (sym c.in-Some.ensures.value)
+    (updates_removed c.args.pools.now c.remove.new.self c.args.serial c.remove.ensures.was_rising c.remove.ensures.removed)
+    c.remove.ensures.rising
     (place_found _ _ _ c.in-Some.linked.pool _ c.parent.ensures c.clear.ensures.emptied c.place_by.ensures ∙ c.in_default-place_by.is)
 
 pub returns-in_default-place_by-clause-counted : goal.returns-in_default-place_by-clause-counted
@@ -86,7 +90,8 @@ returns-in_default-place_by-clause-fixed g c =
 
 pub returns-in_default-place_by-clause-gone : goal.returns-in_default-place_by-clause-gone
 returns-in_default-place_by-clause-gone g c =
-    changes-bare c.args.pools.now c.remove.new.self c.args.serial None (updates_removed c.args.pools.now c.remove.new.self c.args.serial c.remove.ensures.was_rising c.remove.ensures.removed)
+    changes-bare c.args.pools.now c.remove.new.self c.args.serial None
+    (updates_removed c.args.pools.now c.remove.new.self c.args.serial c.remove.ensures.was_rising c.remove.ensures.removed)
 
 pub returns-clause-beside : goal.returns-clause-beside
 returns-clause-beside g c =
@@ -111,7 +116,9 @@ returns-clause-first g c =
     place_found _ _ _ c.in-Some.linked.pool _ c.parent.ensures c.clear.ensures.emptied c.place_by.ensures ∙ c.in-Some-place_by.is in
     let stays =
     holder_stays c.args.pools.now c.remove.new.self c.requires.linked c.args.serial c.requires.leaf c.in-Some.linked
-    (sym c.in-Some.ensures.value) (updates_removed c.args.pools.now c.remove.new.self c.args.serial c.remove.ensures.was_rising c.remove.ensures.removed) c.remove.ensures.rising x at in
+    (sym c.in-Some.ensures.value)
+    (updates_removed c.args.pools.now c.remove.new.self c.args.serial c.remove.ensures.was_rising c.remove.ensures.removed)
+    c.remove.ensures.rising x at in
     subst (λ (b : Beside). b.first ≡ first_of (get new b.serial)) (sym c.unwrap_or.ensures)
     (told_of (λ b. b.first ≡ first_of (get new b.serial)) _ c.move_to-taken.result held.result c.move_to-taken.ensures.told
     (λ b told. told.1)
@@ -123,7 +130,9 @@ returns-clause-linked g c =
     let put = c.set_standing-holder.ensures in
     let moved = c.move_to-taken.ensures in
     linked-remove c.args.pools.now c.remove.new.self c.requires.linked c.args.serial c.requires.leaf c.in-Some.linked
-    (sym c.in-Some.ensures.value) (updates_removed c.args.pools.now c.remove.new.self c.args.serial c.remove.ensures.was_rising c.remove.ensures.removed) c.remove.ensures.rising c.in-Some-place_by.place
+    (sym c.in-Some.ensures.value)
+    (updates_removed c.args.pools.now c.remove.new.self c.args.serial c.remove.ensures.was_rising c.remove.ensures.removed)
+    c.remove.ensures.rising c.in-Some-place_by.place
     (place_found _ _ _ c.in-Some.linked.pool _ c.parent.ensures c.clear.ensures.emptied c.place_by.ensures ∙ c.in-Some-place_by.is)
     c.set_standing-holder.new.pools c.move_to-taken.new.pools
     (record { here = put.here; others = put.standing; places = put.places; pools = put.pools })
@@ -145,7 +154,8 @@ pub returns-clause-gone : goal.returns-clause-gone
 returns-clause-gone g c =
     subst (λ (ps : LivePools). Changes (bare c.args.pools.now) ps c.args.serial None)
     (sym (c.move_to-taken.ensures.pools ∙ c.set_standing-holder.ensures.pools))
-    (changes-bare c.args.pools.now c.remove.new.self c.args.serial None (updates_removed c.args.pools.now c.remove.new.self c.args.serial c.remove.ensures.was_rising c.remove.ensures.removed))
+    (changes-bare c.args.pools.now c.remove.new.self c.args.serial None
+    (updates_removed c.args.pools.now c.remove.new.self c.args.serial c.remove.ensures.was_rising c.remove.ensures.removed))
 
 pub returns-in_default-place_by-clause-fewer : goal.returns-in_default-place_by-clause-fewer
 returns-in_default-place_by-clause-fewer g c = λ _.

@@ -37,7 +37,8 @@ returns-clause-linked g c =
     let l = c.in-Some.linked.now in
     let w : Linked Entry = holding l c.clear.new.self in
     let found : get c.args.pools.now c.args.serial ≡ Some l = sym c.in-Some.ensures.value in
-    linked-written c.args.pools.now (set_value (nat_eq c.args.serial) c.args.pools.now w) c.requires.linked c.args.serial l c.clear.new.self found
+    linked-written c.args.pools.now
+    (set_value (nat_eq c.args.serial) c.args.pools.now w) c.requires.linked c.args.serial l c.clear.new.self found
     (ap (λ (e : Entry). e.parent) c.clear.ensures.emptied) (updates_written c.args.pools.now c.args.serial w (ap is_some found))
     (rising_written c.args.pools.now c.args.serial w c.get_mut.ensures.rising)
 
@@ -46,7 +47,8 @@ returns-clause-counted g c =
     let l = c.in-Some.linked.now in
     let w : Linked Entry = holding l c.clear.new.self in
     let sum =
-    sum_written blocks_of c.args.pools.now c.args.serial c.in-Some.ensures.value (set_value (nat_eq c.args.serial) c.args.pools.now w) c.clear.new.self
+    sum_written blocks_of c.args.pools.now c.args.serial c.in-Some.ensures.value
+    (set_value (nat_eq c.args.serial) c.args.pools.now w) c.clear.new.self
     refl in
     let none : blocks_of c.clear.new.self ≡ 0 = ap blocks_of c.clear.ensures.emptied in
     let used : c.clear.new.stock.used ≡ c.args.stock.now.used - blocks_of l.pool = ap (λ (b : Store). b.used) c.clear.ensures.counts in
@@ -58,7 +60,8 @@ returns-clause-fixed g c =
     let l = c.in-Some.linked.now in
     let w : Linked Entry = holding l c.clear.new.self in
     let sum =
-    sum_written fixed_of c.args.pools.now c.args.serial c.in-Some.ensures.value (set_value (nat_eq c.args.serial) c.args.pools.now w) c.clear.new.self
+    sum_written fixed_of c.args.pools.now c.args.serial c.in-Some.ensures.value
+    (set_value (nat_eq c.args.serial) c.args.pools.now w) c.clear.new.self
     refl in
     let none : fixed_of c.clear.new.self ≡ 0 = ap fixed_of c.clear.ensures.emptied in
     let spare : c.clear.new.stock.spare ≡ c.args.stock.now.spare + fixed_of l.pool = ap (λ (b : Store). b.spare) c.clear.ensures.counts in

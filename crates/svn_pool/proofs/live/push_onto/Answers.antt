@@ -53,7 +53,8 @@ returns-clause-linked g c =
     let l = c.in-Some.linked.now in
     let w : Linked Entry = holding l c.push.new.self in
     let found : get c.args.pools.now c.args.serial ≡ Some l = sym c.in-Some.ensures.value in
-    linked-written c.args.pools.now (set_value (nat_eq c.args.serial) c.args.pools.now w) c.requires.linked c.args.serial l c.push.new.self found
+    linked-written c.args.pools.now
+    (set_value (nat_eq c.args.serial) c.args.pools.now w) c.requires.linked c.args.serial l c.push.new.self found
     c.push.ensures.parent (updates_written c.args.pools.now c.args.serial w (ap is_some found))
     (rising_written c.args.pools.now c.args.serial w c.get_mut.ensures.rising)
 
@@ -62,7 +63,8 @@ returns-clause-counted g c =
     let l = c.in-Some.linked.now in
     let w : Linked Entry = holding l c.push.new.self in
     let sum =
-    sum_written blocks_of c.args.pools.now c.args.serial c.in-Some.ensures.value (set_value (nat_eq c.args.serial) c.args.pools.now w) c.push.new.self
+    sum_written blocks_of c.args.pools.now c.args.serial c.in-Some.ensures.value
+    (set_value (nat_eq c.args.serial) c.args.pools.now w) c.push.new.self
     refl in
     let counted = c.requires.counted in
     let blocks = c.push.ensures.blocks in
@@ -116,6 +118,7 @@ returns-clause-refused g c =
     let l = c.in-Some.linked.now in
     let w : Linked Entry = holding l c.push.new.self in
     on_err c.push.result
-    (λ same. relinked-bare c.args.pools.now (set_value (nat_eq c.args.serial) c.args.pools.now w) c.args.serial l w (sym c.in-Some.ensures.value) same
+    (λ same. relinked-bare c.args.pools.now (set_value (nat_eq c.args.serial) c.args.pools.now w) c.args.serial l w
+    (sym c.in-Some.ensures.value) same
     refl)
     c.push.ensures.refused

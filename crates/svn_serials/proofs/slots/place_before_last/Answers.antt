@@ -1,7 +1,8 @@
 use Rattle.std.proofs.Common.{◌≡◌, ◌<◌, length, get_or, sym, ◌∙◌, arith}
 use Rattle.svn_serials.specs.Slots.{serials_of}
 use Rattle.svn_serials.proofs.Order.{nowhere, serial_in}
-use Rattle.svn_serials.proofs.slots.place_before_last.Goals.{else-place-slots-via-then-place-slots+else-slots-place-2, else-place-slots-via-else-place-slots}
+use Rattle.svn_serials.proofs.slots.place_before_last.Goals.{else-place-slots-via-then-place-slots+else-slots-place-2}
+use Rattle.svn_serials.proofs.slots.place_before_last.Goals.{else-place-slots-via-else-place-slots}
 use Rattle.svn_serials.proofs.slots.place_before_last.Goals as goal
 
 pub returns-else-place-slots : goal.returns-else-place-slots

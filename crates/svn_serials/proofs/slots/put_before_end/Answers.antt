@@ -3,7 +3,8 @@ use Rattle.svn_serials.specs.Slots.{EndsFilled, IsInOrder, held, serials_of}
 use Rattle.svn_serials.specs.declared.slots.Slot.{Slot}
 use Rattle.svn_serials.proofs.Held.{absent, found, held_insert, held_put, slot}
 use Rattle.svn_serials.proofs.Order.{ends_insert, ends_set, nowhere, order_insert, order_set, serial_at, strictly_above, value_at}
-use Rattle.svn_serials.proofs.slots.put_before_end.Goals.{else-place-len-via-then-place-len+else-index-serial, else-place-len-via-else-place-len}
+use Rattle.svn_serials.proofs.slots.put_before_end.Goals.{else-place-len-via-then-place-len+else-index-serial}
+use Rattle.svn_serials.proofs.slots.put_before_end.Goals.{else-place-len-via-else-place-len}
 use Rattle.svn_serials.proofs.slots.put_before_end.Goals as goal
 
 pub returns-then-index-serial-clause-was : goal.returns-then-index-serial-clause-was
@@ -46,9 +47,11 @@ returns-clause-was g c =
           λ within is. w.if-index-serial.false (sym (serial_at ss p w.index.result.now within w.index.ensures) ∙ is)
       | else-place-len-via-else-place-len w ↦ λ within _. omega (arith, w.if-place-len.false)
     ] in
-    let below = subst (λ ts. (k : ℕ) → k < p → get_or (serials_of ts) k 0 < c.args.serial) c.as_slice.ensures.value c.place_for-place.ensures.below in
+    let below = subst (λ ts. (k : ℕ) → k < p → get_or
+    (serials_of ts) k 0 < c.args.serial) c.as_slice.ensures.value c.place_for-place.ensures.below in
     let from =
-    subst (λ ts. (k : ℕ) → p ≤ k → k < length ts → c.args.serial ≤ get_or (serials_of ts) k 0) c.as_slice.ensures.value c.place_for-place.ensures.from in
+    subst (λ ts. (k : ℕ) → p ≤ k → k < length ts → c.args.serial ≤ get_or
+    (serials_of ts) k 0) c.as_slice.ensures.value c.place_for-place.ensures.from in
     sym (absent c.args.serial ss (nowhere c.args.serial ss p c.requires.order below from other))
 
 pub returns-clause-put : goal.returns-clause-put
@@ -61,11 +64,14 @@ returns-clause-put g c =
           λ within is. w.if-index-serial.false (sym (serial_at ss p w.index.result.now within w.index.ensures) ∙ is)
       | else-place-len-via-else-place-len w ↦ λ within _. omega (arith, w.if-place-len.false)
     ] in
-    let below = subst (λ ts. (k : ℕ) → k < p → get_or (serials_of ts) k 0 < c.args.serial) c.as_slice.ensures.value c.place_for-place.ensures.below in
+    let below = subst (λ ts. (k : ℕ) → k < p → get_or
+    (serials_of ts) k 0 < c.args.serial) c.as_slice.ensures.value c.place_for-place.ensures.below in
     let from =
-    subst (λ ts. (k : ℕ) → p ≤ k → k < length ts → c.args.serial ≤ get_or (serials_of ts) k 0) c.as_slice.ensures.value c.place_for-place.ensures.from in
+    subst (λ ts. (k : ℕ) → p ≤ k → k < length ts → c.args.serial ≤ get_or
+    (serials_of ts) k 0) c.as_slice.ensures.value c.place_for-place.ensures.from in
     ap held c.in_ok-insert.ensures.items
-    ∙ held_insert c.args.serial c.args.value ss p (λ k before _. below k before) (strictly_above c.args.serial ss p c.requires.order below from other)
+    ∙ held_insert c.args.serial c.args.value ss p (λ k before _. below k before)
+    (strictly_above c.args.serial ss p c.requires.order below from other)
 
 pub returns-clause-order : goal.returns-clause-order
 returns-clause-order g c =
@@ -77,9 +83,11 @@ returns-clause-order g c =
           λ within is. w.if-index-serial.false (sym (serial_at ss p w.index.result.now within w.index.ensures) ∙ is)
       | else-place-len-via-else-place-len w ↦ λ within _. omega (arith, w.if-place-len.false)
     ] in
-    let below = subst (λ ts. (k : ℕ) → k < p → get_or (serials_of ts) k 0 < c.args.serial) c.as_slice.ensures.value c.place_for-place.ensures.below in
+    let below = subst (λ ts. (k : ℕ) → k < p → get_or
+    (serials_of ts) k 0 < c.args.serial) c.as_slice.ensures.value c.place_for-place.ensures.below in
     let from =
-    subst (λ ts. (k : ℕ) → p ≤ k → k < length ts → c.args.serial ≤ get_or (serials_of ts) k 0) c.as_slice.ensures.value c.place_for-place.ensures.from in
+    subst (λ ts. (k : ℕ) → p ≤ k → k < length ts → c.args.serial ≤ get_or
+    (serials_of ts) k 0) c.as_slice.ensures.value c.place_for-place.ensures.from in
     subst IsInOrder (sym c.in_ok-insert.ensures.items)
     (order_insert ss p (slot c.args.serial (Some c.args.value)) c.requires.order (λ k before _. below k before)
     (strictly_above c.args.serial ss p c.requires.order below from other))

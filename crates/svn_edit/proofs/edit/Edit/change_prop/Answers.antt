@@ -11,7 +11,8 @@ pub returns-in-Some-clause-noted : goal.returns-in-Some-clause-noted
 returns-in-Some-clause-noted c =
     map_ok c.or_memory.result (pass_ok _ _ c.note_change.result c.or_memory.result c.or_memory.ensures.ok c.note_change.ensures.noted)
     (λ said. noted_of c.args.token c.token.inside.0 _ _ c.in-Some.baton.now c.note_change.new.self c.args.self.now.pools
-    c.note_change.new.pools c.args.self.now.batons (set_value (nat_eq c.token.inside.0) c.args.self.now.batons c.note_change.new.self) c.token.view_is c.in-Some.ensures.value
+    c.note_change.new.pools c.args.self.now.batons
+    (set_value (nat_eq c.token.inside.0) c.args.self.now.batons c.note_change.new.self) c.token.view_is c.in-Some.ensures.value
     said
     (updates_written c.args.self.now.batons c.token.inside.0 c.note_change.new.self (ap is_some (sym c.in-Some.ensures.value))))
 

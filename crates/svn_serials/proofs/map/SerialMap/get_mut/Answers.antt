@@ -41,7 +41,8 @@ returns-in-Some g c =
       record {
         writes_back = tt;
         value =
-            c.as_mut.ensures.value ∙ sym (value_at ss i s at.within c.index_mut.ensures.value) ∙ sym (get_at q i ss c.self.invariant.order at)
+            c.as_mut.ensures.value ∙ sym (value_at ss i s at.within c.index_mut.ensures.value)
+            ∙ sym (get_at q i ss c.self.invariant.order at)
             ∙ ap (λ es. get es q) c.self.view_is;
         rising = subst IsRising c.self.view_is (rising_held ss c.self.invariant.order);
       },

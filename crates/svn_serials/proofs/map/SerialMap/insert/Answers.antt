@@ -22,8 +22,8 @@ invariant_of-self-2 g c =
     let said = c.in_ok-was.ensures in
     let more = c.from.ensures ∙ more_of c.in_ok-was.was' c.is_none.result c.is_none.ensures in
     subst (λ n. IsSound c.put.new.slots.items (c.self.inside.filled + n)) (sym more)
-    (sound_put c.self.inside.slots.items c.put.new.slots.items c.self.inside.filled c.args.serial c.args.value c.in_ok-was.was' c.self.invariant
-    said.was said.put c.put.ensures.order c.put.ensures.ends)
+    (sound_put c.self.inside.slots.items c.put.new.slots.items c.self.inside.filled c.args.serial c.args.value
+    c.in_ok-was.was' c.self.invariant said.was said.put c.put.ensures.order c.put.ensures.ends)
 
 pub returns-clause-rising : goal.returns-clause-rising
 returns-clause-rising g c = rising_held c.put.new.slots.items c.put.ensures.order
