@@ -17,4 +17,6 @@ mod rows;
 #[cfg(test)]
 mod scarce;
 #[cfg(test)]
+mod serials;
+#[cfg(test)]
 mod tests;
