@@ -2,7 +2,7 @@
 use Rattle.std.proofs.Common.{◌≡◌, ℕ, cond, List, [], ◌∷◌, Option, Some, None, ap, sym, refl, ◌∙◌}
 use Rattle.std.specs.List.{AllByRecursion}
 use Rattle.std.specs.List.Sorted.{IsStrictlySortedBy}
-use Rattle.std.specs.Map.{keys_of, set_value}
+use Rattle.std.specs.Map.{keys_of, lookup, set_value}
 use Rattle.std.specs.BTreeMap.{is_at, insert_entry}
 use Rattle.std.specs.Ordering.{is_eq, match_ordering}
 use Rattle.std.specs.declared.cmp.Ordering.{Ordering}
@@ -16,6 +16,11 @@ use Rattle.svn_repo.proofs.Pairs.{below_all}
 pub changes_only : {V : Type 0} (old new : List (List ℕ × V)) (name : List ℕ) (value : Option V)
     → ((x : List ℕ) → value_of new x ≡ cond (is_at (name_cmp name) x) value (value_of old x)) → ChangesOnly old new name value
 changes_only old new name value h x = h x ∙ ap (λ b. cond b value (value_of old x)) (sym (texts_ties name x))
+
+-- what is found under one of two equal names
+pub found_last : {V : Type 0} (es : List (List ℕ × V)) (last name : List ℕ) (value : V) → last ≡ name
+    → lookup (is_at (name_cmp last)) es ≡ Some value → Some value ≡ lookup (is_at (name_cmp name)) es
+found_last es last name value same e = sym e ∙ ap (λ (k : List ℕ). lookup (is_at (name_cmp k)) es) same
 
 -- ---- a value written over another
 
