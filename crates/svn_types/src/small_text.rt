@@ -1,5 +1,6 @@
 //! Texts of names, which are cheap to clone.
 ghost use Rattle.std.specs.Prelude.{◌≡◌, nat_eq, IfOk};
+ghost use Rattle.std.specs.Arc.{arc_str_bytes};
 ghost use Rattle.std.specs.Ordering.{nat_cmp};
 ghost use Rattle.std.specs.Cmp.Lexicographic.{pointwise, slice_cmp};
 
@@ -78,6 +79,16 @@ impl SmallText {
     }
 }
 
+// A text that shares its bytes. It is apart from `clone`, so that a short text, as most are, is copied as a whole.
+#[inline(never)]
+fn shared(text: &ArcStr) -> Result<SmallText, AllocError>
+    ensures { IfOk result (λ t. t ≡ arc_str_bytes text.now) }
+{
+    Ok(SmallText {
+        form: NameForm::Long(text.clone()?),
+    })
+}
+
 // So that a caller's proof sees a call, and no case of where the text lies.
 impl Drop for SmallText {
     fn drop(self) {
@@ -94,9 +105,7 @@ impl Clone for SmallText {
             NameForm::Short(bytes) => Ok(SmallText {
                 form: NameForm::Short(bytes.copy()),
             }),
-            NameForm::Long(text) => Ok(SmallText {
-                form: NameForm::Long(text.clone()?),
-            }),
+            NameForm::Long(text) => shared(text),
         }
     }
 }
