@@ -1,4 +1,4 @@
-use Rattle.std.proofs.Common.{◌≡◌, ◌++◌, ℕ, List, ap, ◌∙◌}
+use Rattle.std.proofs.Common.{◌++◌, ℕ, List, ap, ◌∙◌}
 use Rattle.std.proofs.Output.{contents_after_writes}
 use Rattle.svn_wc.specs.Lines.{prop_start}
 use Rattle.svn_wc.proofs.lines.start_text.Goals as goal
