@@ -1,11 +1,12 @@
 -- What an edit holds after one more call.
-use Rattle.std.proofs.Common.{◌≡◌, ℕ, Bool, true, false, cond, List, [], ◌∷◌, ◌++◌, refl, sym, ◌∙◌, ap, subst}
+use Rattle.std.proofs.Common.{◌≡◌, ℕ, Bool, true, false, true≢false, cond, List, [], ◌∷◌, ◌++◌, refl, sym, ◌∙◌, ap, subst}
 use Rattle.std.specs.Prelude.{Option, Some, None, Result, Ok, Err, OnOk, OnErr, IfErr}
 use Rattle.std.specs.Option.{option_or, option_map}
 use Rattle.svn_types.specs.Names.{Path}
 use Rattle.svn_editor.specs.declared.call.Call.{Call}
 use Rattle.svn_editor.specs.declared.fault.EditFault.{EditFault}
 use Rattle.svn_editor.specs.declared.fault.EditFault.TheVariants.{EntryExists, Memory, Order}
+use Rattle.svn_editor.specs.declared.call.Call.TheVariants.{AbortEdit}
 use Rattle.svn_editor.specs.declared.fault.OrderFault.{OrderFault}
 use Rattle.svn_editor.specs.declared.fault.OrderFault.TheVariants.{Memory as NoMemory}
 use Rattle.svn_editor.specs.Calls.{Given, given_by, closes, is_abort, is_last}
@@ -206,3 +207,7 @@ map_err (Err e) h f = f h
 pub not_memory : (e : OrderFault) (r : EditFault) → RefusedAs e r → (e ≡ NoMemory → ⊥) → r ≡ Memory → ⊥
 not_memory NoMemory r h n = absurd (n refl)
 not_memory e r h n = λ m. cc
+
+pub abort_is_last : (c : Call) → is_abort c ≡ true → is_last c ≡ true
+abort_is_last AbortEdit h = refl
+abort_is_last _ h = absurd (true≢false (sym h))

@@ -5,7 +5,7 @@ ghost use Rattle.svn_types.specs.Names.{Path};
 ghost use Rattle.svn_types.specs.Paths.{path_eq};
 ghost use Rattle.svn_types.specs.declared.kind.Kind.TheVariants.{File, Directory};
 ghost use Rattle.svn_pool.specs.Pools.{Entry, pool_at};
-ghost use Rattle.svn_editor.specs.Calls.{is_last};
+ghost use Rattle.svn_editor.specs.Calls.{is_last, is_abort};
 ghost use Rattle.std.specs.Option.{option_copied};
 ghost use Rattle.std.specs.List.{list_any};
 ghost use Rattle.svn_editor.specs.Steps.{Mode, Action, Delete, Open, Add, Text as TextOf, Update, SwitchTo};
@@ -124,6 +124,7 @@ impl Edit {
         ensures dead { LeavesRefused self.old.stage result self.new }
         ensures was_refused { IsRefused self.old → StaysRefused call.now result self.new × (copy.new ≡ copy.old) }
         ensures last { is_last call.now ≡ true → mode_of self.old.root ≡ Update → IfErr result (λ e. e ≢ EditFault.Memory) }
+        ensures abort { is_abort call.now ≡ true → IfErr result (λ e. e ≢ EditFault.Memory) }
         ensures ended { HasEnded self.old → StaysEnded self.old result self.new × (copy.new ≡ copy.old) }
         ensures pools { PoolsAfter self.old copy.old.entries call.now result self.new }
     {
@@ -164,6 +165,7 @@ impl Edit {
         ensures accepted { OnOk result ((mode : Mode) (w0 : WorkingCopy) (calls : List Call) → StandsAfter mode w0 self.old copy.old.entries calls → StandsAfter mode w0 self.new copy.new.entries (calls ++ call.now ∷ [])) }
         ensures refused { OnErr result ((mode : Mode) (w0 : WorkingCopy) (calls : List Call) → StandsAfter mode w0 self.old copy.old.entries calls → copy.new.entries ≡ copy.old.entries) }
         ensures last { is_last call.now ≡ true → mode_of self.old.root ≡ Update → IfErr result (λ e. e ≢ EditFault.Memory) }
+        ensures abort { is_abort call.now ≡ true → IfErr result (λ e. e ≢ EditFault.Memory) }
         ensures dead { OnErr result (IsRefused self.new) }
         ensures left { OnErr result ((mode : Mode) (w0 : WorkingCopy) (calls : List Call) → StandsAfter mode w0 self.old copy.old.entries calls → list_any is_last calls ≡ false → HoldsPools self.new.pools (batons_of self.new) calls call.now) }
     {
@@ -180,6 +182,7 @@ impl Edit {
         ensures answers { (mode : Mode) (w0 : WorkingCopy) (calls : List Call) → StandsAfter mode w0 self.old copy.old.entries calls → AnswersCall (refusal md5 mode calls call.now copy.old.entries) result }
         ensures accepted { OnOk result ((mode : Mode) (w0 : WorkingCopy) (calls : List Call) → StandsAfter mode w0 self.old copy.old.entries calls → TakenInOrder mode w0 self.new copy.new.entries calls call.now) }
         ensures last { is_last call.now ≡ true → mode_of self.old.root ≡ Update → IfErr result (λ e. e ≢ EditFault.Memory) }
+        ensures abort { is_abort call.now ≡ true → IfErr result (λ e. e ≢ EditFault.Memory) }
         ensures refused { OnErr result ((mode : Mode) (w0 : WorkingCopy) (calls : List Call) → StandsAfter mode w0 self.old copy.old.entries calls → copy.new.entries ≡ copy.old.entries) }
         ensures pools { OnErr result ((mode : Mode) (w0 : WorkingCopy) (calls : List Call) → StandsAfter mode w0 self.old copy.old.entries calls → list_any is_last calls ≡ false → HoldsPools self.new.pools (batons_of self.new) calls call.now) }
     {
@@ -194,6 +197,7 @@ impl Edit {
         ensures applied { (mode : Mode) (calls : List Call) → IsNext mode self.old calls call.now → Applied (edit_fault md5 mode calls call.now copy.old.entries) (effect mode calls call.now (get_in copy.old.entries)) copy.old.entries result copy.new.entries }
         ensures holds { OnOk result ((mode : Mode) (calls : List Call) → IsNext mode self.old calls call.now → is_last call.now ≡ false → Holds mode self.new (calls ++ call.now ∷ [])) }
         ensures last { is_last call.now ≡ true → mode_of self.old.root ≡ Update → IfErr result (λ e. e ≢ EditFault.Memory) }
+        ensures abort { is_abort call.now ≡ true → IfErr result (λ e. e ≢ EditFault.Memory) }
         ensures left { is_last call.now ≡ true → OnOk result ((mode : Mode) (calls : List Call) → IsNext mode self.old calls call.now → OneIsLeft self.new) }
         ensures order { self.new.order ≡ self.old.order }
         ensures pools { OnErr result ((mode : Mode) (calls : List Call) → IsNext mode self.old calls call.now → HoldsPools self.new.pools (batons_of self.new) calls call.now) }

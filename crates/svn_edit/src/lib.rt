@@ -14,7 +14,7 @@
 //! Promises, all of `Edit::call`, for every list of calls after which the edit stands (`StandsAfter` of `specs/Applying.antt`), in an update and a
 //! switch: the next call is answered as the rules of the edit demand, or Memory (`answers`); accepted, the nodes are what the definition's
 //! effect makes of them (`accepted`); refused, they are as they were (`refused`), and only giving up is left (`dead`, `was_refused`); after
-//! the end each call is Ended (`ended`). `CloseEdit` of an update and `AbortEdit` take no memory (`last`).
+//! the end each call is Ended (`ended`). `CloseEdit` of an update and `AbortEdit` take no memory (`last`, `abort`).
 #![tactic(auto)]
 
 mod baton;

@@ -9,7 +9,7 @@ use Rattle.svn_editor.specs.declared.call.Call.{Call}
 use Rattle.svn_editor.specs.declared.call.Call.TheVariants.{AbortEdit}
 use Rattle.svn_editor.specs.declared.fault.EditFault.{EditFault}
 use Rattle.svn_editor.specs.declared.fault.EditFault.TheVariants.{Memory}
-use Rattle.svn_editor.specs.Calls.{is_last}
+use Rattle.svn_editor.specs.Calls.{is_last, is_abort}
 use Rattle.svn_editor.specs.Steps.{Mode, Update}
 use Rattle.svn_model.specs.declared.base_node.BaseNode.{BaseNode}
 use Rattle.svn_model.specs.Nodes.{WorkingCopy, get_in, IsWorkingCopy}
@@ -70,8 +70,9 @@ pub taken : (answer : Result (Unit {0}) EditFault) (old new : Edit) (m m' : BTre
     → (HasEnded old → StaysEnded old answer new × (m' ≡ m))
     → PoolsAfter old m.entries c answer new
     → (is_last c ≡ true → mode_of old.root ≡ Update → IfErr answer (λ e. e ≢ Memory))
+    → (is_abort c ≡ true → IfErr answer (λ e. e ≢ Memory))
     → TakesCall old m.entries c answer new m'.entries
-taken answer old new m m' c named answers accepted refused dead was_refused ended pools last = record {
+taken answer old new m m' c named answers accepted refused dead was_refused ended pools last abort = record {
   answers = answers;
   accepted = accepted;
   shape = shaped_call answer old new m.entries m'.entries c named accepted answers;
@@ -81,6 +82,7 @@ taken answer old new m m' c named answers accepted refused dead was_refused ende
   ended = λ h. let r = ended h in (r.0, ap (λ (x : BTreeMap Path BaseNode). x.entries) r.1);
   pools = pools;
   last = last;
+  abort = abort;
 }
 
 not_going : (edit : Edit) (stage : Stage) → edit.stage ≡ stage → stage ≢ Going → (nodes : List (Path × BaseNode)) → IsInShape edit nodes

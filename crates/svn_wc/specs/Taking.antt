@@ -8,7 +8,7 @@ use Rattle.svn_types.specs.Names.{Path}
 use Rattle.svn_editor.specs.declared.call.Call.{Call}
 use Rattle.svn_editor.specs.declared.fault.EditFault.{EditFault}
 use Rattle.svn_editor.specs.declared.fault.EditFault.TheVariants.{Memory}
-use Rattle.svn_editor.specs.Calls.{is_last}
+use Rattle.svn_editor.specs.Calls.{is_last, is_abort}
 use Rattle.svn_editor.specs.Steps.{Mode, Update}
 use Rattle.svn_model.specs.declared.base_node.BaseNode.{BaseNode}
 use Rattle.svn_model.specs.Nodes.{WorkingCopy, get_in}
@@ -36,6 +36,8 @@ pub record TakesCall (old : Edit) (w : List (Path × BaseNode)) (call : Call) (a
   pub pools : PoolsAfter old w call answer new
   -- want of memory isn't answered to the last call of an update
   pub last : is_last call ≡ true → mode_of old.root ≡ Update → IfErr answer (λ e. e ≢ Memory)
+  -- nor to giving up
+  pub abort : is_abort call ≡ true → IfErr answer (λ e. e ≢ Memory)
 
 abbrev pub IsBegun : Edit → List (Path × BaseNode) → Type 0
 IsBegun edit nodes = (mode : Mode) × StandsAfter mode (get_in nodes) edit nodes []

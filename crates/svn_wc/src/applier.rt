@@ -3,7 +3,7 @@ ghost use Rattle.std.specs.Prelude.{◌≡◌, ◌≢◌, ◌+◌, true, [], ◌
 ghost use Rattle.md5.specs.Md5.{md5};
 ghost use Rattle.svn_editor.specs.declared.call.Call.{Call};
 ghost use Rattle.svn_editor.specs.declared.fault.EditFault.TheVariants.{Memory};
-ghost use Rattle.svn_editor.specs.Calls.{is_last};
+ghost use Rattle.svn_editor.specs.Calls.{is_last, is_abort};
 ghost use Rattle.svn_editor.specs.Steps.{Mode, Update, SwitchTo};
 ghost use Rattle.svn_model.specs.Nodes.{WorkingCopy as CopyMap, get_in};
 ghost use Rattle.svn_model.specs.Effects.{refusal};
@@ -95,6 +95,7 @@ impl<'a> Applier<'a> {
         ensures ended { HasEnded self.old.edit → StaysEnded self.old.edit result self.new.edit × (self.new.copy.now ≡ self.old.copy.now) }
         ensures pools { PoolsAfter self.old.edit self.old.copy.now call result self.new.edit }
         ensures last { is_last call ≡ true → mode_of self.old.edit.root ≡ Update → IfErr result (λ e. e ≢ Memory) }
+        ensures abort { is_abort call ≡ true → IfErr result (λ e. e ≢ Memory) }
         ensures same_copy { self.new.copy.ghost_name ≡ self.old.copy.ghost_name }
     {
         opens_allowed(&call);

@@ -8,7 +8,7 @@ use Rattle.svn_order.specs.StandsAfter as order
 use Rattle.svn_editor.proofs.Accepted.{not_ended}
 use Rattle.svn_model.specs.Effects.{edit_fault}
 use Rattle.svn_model.specs.Answering.{AnswersCall}
-use Rattle.svn_edit.proofs.Holding.{ok_by, at_ok, err_by, order_none, order_refused, not_memory, refusal_is, applied_answer, applied_copy}
+use Rattle.svn_edit.proofs.Holding.{ok_by, at_ok, err_by, order_none, order_refused, not_memory, refusal_is, applied_answer, applied_copy, abort_is_last}
 use Rattle.svn_edit.proofs.Holding.{applied_err, at_err, copy_more, next_is}
 use Rattle.svn_edit.specs.Applying.{batons_of}
 use Rattle.svn_edit.proofs.LeftPools.{same_left, pools_same}
@@ -66,6 +66,7 @@ returns-in-Err c = record {
       (edit_fault md5 mode calls c.args.call.now c.args.copy.now.entries) (c.in-Err.ensures.answers calls s.order) c.refused_as.ensures;
   accepted = tt;
   last = λ h update. not_memory c.in-Err.fault c.refused_as.result c.refused_as.ensures (c.in-Err.ensures.last h);
+  abort = λ h. not_memory c.in-Err.fault c.refused_as.result c.refused_as.ensures (c.in-Err.ensures.last (abort_is_last c.args.call.now h));
   refused = λ mode w0 calls s. refl;
   pools = λ mode w0 calls s going.
       let old = c.args.self.now in

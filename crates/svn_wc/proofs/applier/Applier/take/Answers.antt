@@ -58,7 +58,7 @@ invariant_of-copy c =
     (taken c.call.result c.args.self.now.edit c.call.new.self c.copy.inside.nodes c.call.new.copy c.args.call c.opens_allowed.ensures
     c.call.ensures.answers
     c.call.ensures.accepted c.call.ensures.refused c.call.ensures.dead c.call.ensures.was_refused c.call.ensures.ended
-    c.call.ensures.pools c.call.ensures.last)
+    c.call.ensures.pools c.call.ensures.last c.call.ensures.abort)
     shape c.copy.invariant).1)
 
 pub invariant_of-self : goal.invariant_of-self
@@ -70,6 +70,6 @@ invariant_of-self c =
     (taken c.call.result c.args.self.now.edit c.call.new.self c.copy.inside.nodes c.call.new.copy c.args.call c.opens_allowed.ensures
     c.call.ensures.answers
     c.call.ensures.accepted c.call.ensures.refused c.call.ensures.dead c.call.ensures.was_refused c.call.ensures.ended
-    c.call.ensures.pools c.call.ensures.last)
+    c.call.ensures.pools c.call.ensures.last c.call.ensures.abort)
     shape c.copy.invariant).0) in
     record { in_shape = after }
