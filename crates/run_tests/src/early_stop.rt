@@ -94,6 +94,7 @@ fn run_in_step<R: Threads + Wait + Sync>(
     Ok((answer, copy.check_true(repo).is_ok()))
 }
 
+// In the gate no memory is refused, and it closes after all its calls; `rt try --test --fail-alloc` refuses some call.
 #[test]
 fn a_refused_call_stops_the_driver(rt: HostRuntime) -> Result<(), Fail> {
     let repo = put_twice(rt.alloc())?;

@@ -6,7 +6,7 @@ ghost use Rattle.svn_edit.specs.Applying.{StandsAfter};
 ghost use Rattle.svn_model.specs.Checks.{target_fault};
 ghost use Rattle.svn_model.specs.Ends.{Drives};
 ghost use Rattle.svn_model.specs.TreeCalls.{drive_calls};
-ghost use Rattle.svn_repo.specs.Readings.{are_related, line_of};
+ghost use Rattle.svn_repo.specs.Readings.{are_related};
 ghost use Rattle.svn_model.specs.Nodes.{get_in, is_dir};
 ghost use Rattle.svn_run.specs.UpdateTheorem.{Nodes};
 ghost use Rattle.svn_run.specs.Goals.{mode_of, fault_at};
@@ -101,17 +101,7 @@ fn are_related(repo: &Repo, from: Option<NodeId>, to: Option<NodeId>) -> bool
     ensures { result ≡ are_related repo.now from to }
 {
     match (from, to) {
-        (Some(old), Some(new)) => line_of(repo, old) == line_of(repo, new),
+        (Some(old), Some(new)) => repo.are_related(old, new),
         _ => false,
-    }
-}
-
-// The line of a node; 0 where there is none.
-fn line_of(repo: &Repo, node: NodeId) -> u64
-    ensures { result ≡ line_of repo.now node }
-{
-    match repo.line(node) {
-        Some(line) => line,
-        None => 0,
     }
 }

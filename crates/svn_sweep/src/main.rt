@@ -74,7 +74,8 @@ fn run_row<R: Threads + Wait + Sync>(
         "calls-of-many" => calls::call_row(rt, alloc, row, Form::InThreads(64)),
         "readers" => streams::readers(rt, alloc, row),
         "writers" => streams::writers(rt, alloc, row),
-        _ => streams::cuts(rt, alloc, row),
+        "cuts" => streams::cuts(rt, alloc, row),
+        _ => Err(Trouble::Other("there is no such way")),
     }
 }
 
@@ -88,7 +89,8 @@ fn run_part<R: Wait>(rt: &R, alloc: Global, part: &str) -> Result<(), Trouble> {
         "reporter" => reports::reporter(alloc),
         "reports" => reports::reports(alloc),
         "nodes" => reports::nodes(alloc),
-        _ => links::links(rt, alloc),
+        "links" => links::links(rt, alloc),
+        _ => Err(Trouble::Other("there is no such row")),
     }
 }
 
