@@ -10,7 +10,7 @@ ghost use Rattle.svn_model.specs.Nodes.{get_in, is_present, node_path};
 ghost use Rattle.svn_model.specs.Effects.{added_node, joined_path, moved_path, step_effect, step_fault};
 ghost use Rattle.svn_model.specs.Answering.{AnswersCall};
 ghost use Rattle.svn_edit.specs.NodeTests.{open_fault_of, deep_fault};
-ghost use Rattle.svn_edit.specs.Applying.{mode_of, pool_or, pool_of_parent, batons_of, Gives, Applied, AnswersAs, KeepsEdit, MakesBaton, MakesNode, MovesBy};
+ghost use Rattle.svn_edit.specs.Applying.{mode_of, pool_or, pool_of_parent, batons_of, Applied, AnswersAs, KeepsEdit, MakesBaton, MakesNode, MovesBy};
 ghost use Rattle.svn_edit.specs.Leaving.{KeepsPools};
 
 use crate::baton::Baton;
@@ -97,7 +97,7 @@ impl Edit {
         &self,
         copy: &Nodes,
         path: &RelPath,
-        parent: Option<&Baton>,
+        parent: Token,
         node: Option<&BaseNode>,
     ) -> Result<(), EditFault>
         requires { option_copied node ≡ get_in copy.now.entries path.now }
@@ -109,6 +109,7 @@ impl Edit {
         if path.is_root() {
             return paths::test_path(root);
         }
+        let parent = self.batons.get(parent.0);
         let above = or_memory(paths::above(self.alloc, path, parent))?;
         paths::test_joined(self.alloc, copy, &above, path)
     }
@@ -171,7 +172,7 @@ impl Edit {
         if let Some(fault) = nodes::open_file_fault(node, base) {
             return Err(fault);
         }
-        self.test_moved(copy, path, self.batons.get(parent.0), node)?;
+        self.test_moved(copy, path, parent, node)?;
         let open = or_memory(OpenPath::opened(path))?;
         let root = self.pools.root();
         self.open_baton(root, open, token)
