@@ -11,6 +11,7 @@ use Rattle.svn_editor.specs.declared.fault.OrderFault.{OrderFault}
 use Rattle.svn_editor.specs.declared.fault.OrderFault.TheVariants.{Memory as NoMemory}
 use Rattle.svn_editor.specs.Calls.{Given, given_by, closes, is_abort, is_last}
 use Rattle.svn_editor.specs.Order.{order_fault, Answers}
+use Rattle.svn_editor.specs.Faults.{as_edit_fault}
 use Rattle.svn_types.specs.declared.kind.Kind.{Kind}
 use Rattle.svn_types.specs.Paths.{path_eq}
 use Rattle.svn_editor.specs.Steps.{Mode, Add, target_of}
@@ -21,7 +22,7 @@ use Rattle.svn_edit.specs.declared.edit.Edit.{Edit}
 use Rattle.svn_model.specs.Nodes.{WorkingCopy, get_in, is_present}
 use Rattle.svn_model.specs.Effects.{effect, after, edit_fault, refusal, added_node, joined_path, step_fault, step_effect}
 use Rattle.svn_edit.specs.NodeTests.{deep_fault}
-use Rattle.svn_edit.specs.Applying.{RefusedAs, Applied, KeepsEdit, MakesBaton, batons_of, mode_of, pool_above, Holds, IsNext, StandsAfter}
+use Rattle.svn_edit.specs.Applying.{Applied, KeepsEdit, MakesBaton, batons_of, mode_of, pool_above, Holds, IsNext, StandsAfter}
 use Rattle.svn_edit.specs.Applying.{HoldsBatons}
 use Rattle.svn_model.specs.Answering.{IsAnswer, AnswersCall}
 use Rattle.svn_edit_law.proofs.Appending.{after-more, next_target, target-more}
@@ -170,16 +171,12 @@ applied_err fault w nodes nodes2 r e is h = (subst (λ (x : Result (Unit {0}) Ed
 abbrev pub refused_by : OrderFault → Result (Unit {0}) OrderFault
 refused_by e = Err e
 
-pub refused_other : (e : OrderFault) → (e ≡ NoMemory → ⊥) → RefusedAs e (Order e)
-refused_other NoMemory n = absurd (n refl)
-refused_other e n = refl
-
 -- an order fault is the refusal
-pub order_refused : (fault : Option OrderFault) (e : OrderFault) (r : EditFault) (rest : Option EditFault) → Answers fault (refused_by e)
-    → RefusedAs e r → IsAnswer (option_or (option_map Order fault) rest) r
-order_refused fault NoMemory r rest h n = subst (IsAnswer (option_or (option_map Order fault) rest)) (sym n) tt
-order_refused None e r rest h n = cc
-order_refused (Some f) e r rest h n = subst (IsAnswer (Some (Order f))) (sym n) (ap (λ (x : OrderFault). Some (Order x)) (sym h))
+pub order_refused : (fault : Option OrderFault) (e : OrderFault) (rest : Option EditFault) → Answers fault (refused_by e)
+    → IsAnswer (option_or (option_map Order fault) rest) (as_edit_fault e)
+order_refused fault NoMemory rest h = tt
+order_refused None e rest h = cc
+order_refused (Some f) e rest h = ap (λ (x : OrderFault). Some (Order x)) (sym h)
 
 -- ---- one step read with the mode and the target of the edit
 
@@ -204,9 +201,9 @@ map_err (Ok done) h f = tt
 map_err (Err e) h f = f h
 
 -- what isn't want of memory isn't answered as such
-pub not_memory : (e : OrderFault) (r : EditFault) → RefusedAs e r → (e ≡ NoMemory → ⊥) → r ≡ Memory → ⊥
-not_memory NoMemory r h n = absurd (n refl)
-not_memory e r h n = λ m. cc
+pub not_memory : (e : OrderFault) → (e ≡ NoMemory → ⊥) → as_edit_fault e ≡ Memory → ⊥
+not_memory NoMemory n = absurd (n refl)
+not_memory e n = λ m. cc
 
 pub abort_is_last : (c : Call) → is_abort c ≡ true → is_last c ≡ true
 abort_is_last AbortEdit h = refl

@@ -14,9 +14,8 @@ use Rattle.svn_pool.specs.Pools.{Entry, Pools, pool_at, parent_of, strings_at}
 use Rattle.svn_pool.specs.Ancestry.{IsBeneath}
 use Rattle.svn_editor.specs.declared.call.Call.{Call}
 use Rattle.svn_editor.specs.declared.fault.EditFault.{EditFault}
-use Rattle.svn_editor.specs.declared.fault.EditFault.TheVariants.{Memory, Order}
-use Rattle.svn_editor.specs.declared.fault.OrderFault.{OrderFault}
-use Rattle.svn_editor.specs.declared.fault.OrderFault.TheVariants.{Dead, Ended as TooLate, Memory as NoMemory}
+use Rattle.svn_editor.specs.declared.fault.EditFault.TheVariants.{Order}
+use Rattle.svn_editor.specs.declared.fault.OrderFault.TheVariants.{Dead, Ended as TooLate}
 use Rattle.svn_editor.specs.declared.call.Call.TheVariants.{AbortEdit}
 use Rattle.svn_editor.specs.Order.{IsLawful, order_fault}
 use Rattle.svn_edit.specs.declared.edit.Stage.{Stage}
@@ -42,12 +41,7 @@ abbrev pub mode_of : Option Path → Mode
 mode_of None = Update
 mode_of (Some root) = SwitchTo root
 
--- the fault of a call that is out of order, but for want of memory
-abbrev pub RefusedAs : OrderFault → EditFault → Type 0
-RefusedAs NoMemory r = r ≡ Memory
-RefusedAs e r = r ≡ Order e
-
--- the same of a call that gives a value
+-- the answer of a call that gives a value: that fault, or there is none and the value is this one
 abbrev pub Gives : {T : Type 0} → Option EditFault → T → Result T EditFault → Type 0
 Gives fault value (Ok v) = (fault ≡ None) × (v ≡ value)
 Gives fault value (Err e) = IsAnswer fault e

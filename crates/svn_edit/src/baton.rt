@@ -1,11 +1,10 @@
 //! What an edit keeps of an open file or directory.
-ghost use Rattle.std.specs.Prelude.{◌≡◌, ◌≢◌, ◌+◌, ◌++◌, ◌∷◌, [], List, length, IfOk, OnOk, OnErr, Some, None, filter_map, unwrap_or};
+ghost use Rattle.std.specs.Prelude.{◌≡◌, ◌≢◌, ◌∷◌, [], List, length, IfOk, OnOk, OnErr, Some, filter_map, unwrap_or};
 ghost use Rattle.std.specs.Option.{option_copied};
 ghost use Rattle.std.specs.List.{list_any};
 ghost use Rattle.svn_types.specs.Props.{with_changes};
-ghost use Rattle.svn_types.specs.declared.kind.Kind.TheVariants.{Directory};
 ghost use Rattle.svn_pool.specs.Pools.{Entry, pool_at, strings_at, pushed};
-ghost use Rattle.svn_editor.specs.Steps.{Action, Change};
+ghost use Rattle.svn_editor.specs.Steps.{Action};
 ghost use Rattle.svn_edit.specs.declared.baton.Note.{Note as NoteOf};
 ghost use Rattle.svn_edit.specs.declared.baton.Note.TheVariants.{Text as NewText};
 ghost use Rattle.svn_model.specs.Effects.{change_in, text_in};

@@ -2,21 +2,17 @@
 ghost use Rattle.std.specs.Prelude.{◌≡◌, ◌≢◌, ◌+◌, is_ok, [], ◌∷◌, ◌++◌, List, IfOk, IfErr, OnOk, OnErr, Ok, Some, None, true, false, if◌then◌else◌};
 ghost use Rattle.md5.specs.Md5.{md5};
 ghost use Rattle.svn_types.specs.Names.{Path};
-ghost use Rattle.svn_types.specs.Paths.{path_eq};
-ghost use Rattle.svn_types.specs.declared.kind.Kind.TheVariants.{File, Directory};
-ghost use Rattle.svn_pool.specs.Pools.{Entry, pool_at};
 ghost use Rattle.svn_editor.specs.Calls.{is_last, is_abort};
 ghost use Rattle.std.specs.Option.{option_copied};
 ghost use Rattle.std.specs.List.{list_any};
-ghost use Rattle.svn_editor.specs.Steps.{Mode, Action, Delete, Open, Add, Text as TextOf, Update, SwitchTo};
+ghost use Rattle.svn_editor.specs.Steps.{Mode, Delete, Text as TextOf, Update};
 ghost use Rattle.svn_edit.specs.declared.baton.Note.TheVariants.{Text as NewText};
 ghost use Rattle.svn_edit.specs.Noted.{note_of_value, strings_of_value};
 ghost use Rattle.svn_edit.specs.declared.baton.Baton.{Baton};
 ghost use Rattle.svn_model.specs.declared.base_node.BaseNode.{BaseNode};
-ghost use Rattle.svn_model.specs.declared.base_node.BaseNode.TheVariants.{NotPresent as NoNode};
 ghost use Rattle.svn_model.specs.Nodes.{WorkingCopy, get_in};
-ghost use Rattle.svn_model.specs.Effects.{change_in, text_in, is_too_long, closed_directory, settled, settle_fault, step_effect, step_fault, effect, edit_fault, refusal};
-ghost use Rattle.svn_edit.specs.Applying.{mode_of, Applied, KeepsEdit, MakesBaton, RefusedAs, BatonGone, BatonNoted, TakenInOrder, IsLeaf, Says, batons_of, Holds, IsNext, StandsAfter, AnswersAs, OneIsLeft, live_count, open_count, HasEnded, IsRefused, StaysRefused, StaysEnded, LeavesRefused};
+ghost use Rattle.svn_model.specs.Effects.{is_too_long, step_effect, step_fault, effect, edit_fault, refusal};
+ghost use Rattle.svn_edit.specs.Applying.{mode_of, Applied, KeepsEdit, MakesBaton, BatonNoted, TakenInOrder, batons_of, Holds, IsNext, StandsAfter, OneIsLeft, live_count, open_count, HasEnded, IsRefused, StaysRefused, StaysEnded, LeavesRefused};
 ghost use Rattle.svn_edit.specs.Leaving.{HoldsPools, IsLeft, LeavesPools, PoolsAfter, KeepsPools, NoteBegan};
 ghost use Rattle.svn_model.specs.Answering.{AnswersCall};
 ghost use Rattle.std.specs.FinMap as map;
@@ -78,16 +74,6 @@ pub(crate) fn or_memory<T>(answer: Result<T, AllocError>) -> Result<T, EditFault
     match answer {
         Ok(value) => Ok(value),
         Err(_) => Err(EditFault::Memory),
-    }
-}
-
-// Want of memory is one fault, whoever met it.
-fn refused_as(fault: OrderFault) -> EditFault
-    ensures { RefusedAs fault result }
-{
-    match fault {
-        OrderFault::Memory => EditFault::Memory,
-        _ => EditFault::Order(fault),
     }
 }
 
@@ -186,10 +172,8 @@ impl Edit {
         ensures refused { OnErr result ((mode : Mode) (w0 : WorkingCopy) (calls : List Call) → StandsAfter mode w0 self.old copy.old.entries calls → copy.new.entries ≡ copy.old.entries) }
         ensures pools { OnErr result ((mode : Mode) (w0 : WorkingCopy) (calls : List Call) → StandsAfter mode w0 self.old copy.old.entries calls → list_any is_last calls ≡ false → HoldsPools self.new.pools (batons_of self.new) calls call.now) }
     {
-        match self.order.step(call) {
-            Ok(()) => self.apply(copy, call),
-            Err(fault) => Err(refused_as(fault)),
-        }
+        self.order.step(call)?;
+        self.apply(copy, call)
     }
 
     // Applies a call that is in order.

@@ -1,39 +1,41 @@
-use Rattle.std.proofs.Common.{◌≡◌, ◌++◌, ◌∷◌, [], None, refl, sym, subst}
-use Rattle.std.specs.Prelude.{Option}
+use Rattle.std.proofs.Common.{◌≡◌, ◌≢◌, ◌++◌, ◌∷◌, [], None, refl, sym, subst, rules}
+use Rattle.std.specs.Prelude.{Option, Result, Err, IfErr}
 use Rattle.md5.specs.Md5.{md5}
 use Rattle.svn_editor.specs.declared.fault.EditFault.{EditFault}
+use Rattle.svn_editor.specs.declared.fault.EditFault.TheVariants.{Memory}
+use Rattle.svn_editor.specs.Faults.{as_edit_fault}
 use Rattle.svn_order.specs.declared.order.OrderCheck.{OrderCheck}
 use Rattle.svn_editor.specs.Order.{order_fault}
 use Rattle.svn_order.specs.StandsAfter as order
 use Rattle.svn_editor.proofs.Accepted.{not_ended}
-use Rattle.svn_model.specs.Effects.{edit_fault}
+use Rattle.svn_model.specs.Effects.{edit_fault, refusal}
 use Rattle.svn_model.specs.Answering.{AnswersCall}
-use Rattle.svn_edit.proofs.Holding.{ok_by, at_ok, err_by, order_none, order_refused, not_memory, refusal_is, applied_answer, applied_copy, abort_is_last}
+use Rattle.svn_edit.proofs.Holding.{ok_by, at_ok, err_by, on_err, order_none, order_refused, not_memory, refusal_is, applied_answer, applied_copy, abort_is_last}
 use Rattle.svn_edit.proofs.Holding.{applied_err, at_err, copy_more, next_is}
 use Rattle.svn_edit.specs.Applying.{batons_of}
 use Rattle.svn_edit.proofs.LeftPools.{same_left, pools_same}
 use Rattle.svn_edit.proofs.edit.Edit.take_in_order.Goals as goal
 
-pub returns-in-Ok-clause-answers : goal.returns-in-Ok-clause-answers
-returns-in-Ok-clause-answers c = λ mode w0 calls s.
+pub returns-clause-answers : goal.returns-clause-answers
+returns-clause-answers c = λ mode w0 calls s.
     let call = c.args.call.now in
-    let none : order_fault calls call ≡ None = order_none (order_fault calls call) (c.in-Ok.ensures.answers calls s.order) in
+    let none : order_fault calls call ≡ None = order_none (order_fault calls call) (c.in_ok-step.ensures.answers calls s.order) in
     let next = next_is mode w0 c.args.self.now (record c.args.self.now { order = c.step.new.self }) c.args.copy.now.entries calls call s
     none
     (λ h. record { stage = h.stage; root = h.root; target = h.target; batons = h.batons }) in
     subst (λ (f : Option EditFault). AnswersCall f c.apply.result) (sym (refusal_is md5 mode calls call c.args.copy.now.entries none))
     (applied_answer _ _ _ _ c.apply.result (c.apply.ensures.applied mode calls next))
 
-pub returns-in-Ok-clause-accepted : goal.returns-in-Ok-clause-accepted
-returns-in-Ok-clause-accepted c = ok_by c.apply.result (λ ok mode w0 calls s.
+pub returns-clause-accepted : goal.returns-clause-accepted
+returns-clause-accepted c = ok_by c.apply.result (λ ok mode w0 calls s.
     let call = c.args.call.now in
-    let none : order_fault calls call ≡ None = order_none (order_fault calls call) (c.in-Ok.ensures.answers calls s.order) in
+    let none : order_fault calls call ≡ None = order_none (order_fault calls call) (c.in_ok-step.ensures.answers calls s.order) in
     let next = next_is mode w0 c.args.self.now (record c.args.self.now { order = c.step.new.self }) c.args.copy.now.entries calls call s
     none
     (λ h. record { stage = h.stage; root = h.root; target = h.target; batons = h.batons }) in
     record {
       order = subst (λ (o : OrderCheck). order.StandsAfter o (calls ++ call ∷ [])) (sym c.apply.ensures.order)
-          (c.in-Ok.ensures.accepted calls s.order);
+          (c.in_ok-step.ensures.accepted calls s.order);
       copy = copy_more mode w0 calls call c.args.copy.now.entries c.apply.new.copy.entries s.copy
           (at_ok c.apply.result ok (applied_copy _ _ _ _ c.apply.result (c.apply.ensures.applied mode calls next)));
       holds = λ going. at_ok c.apply.result ok c.apply.ensures.holds mode calls next going;
@@ -41,35 +43,51 @@ returns-in-Ok-clause-accepted c = ok_by c.apply.result (λ ok mode w0 calls s.
       earlier = not_ended calls call none;
     })
 
-pub returns-in-Ok-clause-refused : goal.returns-in-Ok-clause-refused
-returns-in-Ok-clause-refused c = err_by c.apply.result (λ e bad mode w0 calls s.
+pub returns-clause-refused : goal.returns-clause-refused
+returns-clause-refused c = err_by c.apply.result (λ e bad mode w0 calls s.
     let call = c.args.call.now in
-    let none : order_fault calls call ≡ None = order_none (order_fault calls call) (c.in-Ok.ensures.answers calls s.order) in
+    let none : order_fault calls call ≡ None = order_none (order_fault calls call) (c.in_ok-step.ensures.answers calls s.order) in
     let next = next_is mode w0 c.args.self.now (record c.args.self.now { order = c.step.new.self }) c.args.copy.now.entries calls call s
     none
     (λ h. record { stage = h.stage; root = h.root; target = h.target; batons = h.batons }) in
     applied_err _ _ _ _ c.apply.result e bad (c.apply.ensures.applied mode calls next))
 
-pub returns-in-Ok-clause-pools : goal.returns-in-Ok-clause-pools
-returns-in-Ok-clause-pools c = err_by c.apply.result (λ e bad mode w0 calls s going.
+pub returns-clause-pools : goal.returns-clause-pools
+returns-clause-pools c = err_by c.apply.result (λ e bad mode w0 calls s going.
     let call = c.args.call.now in
-    let none : order_fault calls call ≡ None = order_none (order_fault calls call) (c.in-Ok.ensures.answers calls s.order) in
+    let none : order_fault calls call ≡ None = order_none (order_fault calls call) (c.in_ok-step.ensures.answers calls s.order) in
     let next = next_is mode w0 c.args.self.now (record c.args.self.now { order = c.step.new.self }) c.args.copy.now.entries calls call s
     none
     (λ h. record { stage = h.stage; root = h.root; target = h.target; batons = h.batons }) in
     at_err c.apply.result e bad c.apply.ensures.pools mode calls next)
 
-pub returns-in-Err : goal.returns-in-Err
-returns-in-Err c = record {
-  answers = λ mode w0 calls s.
-      order_refused (order_fault calls c.args.call.now) c.in-Err.fault c.refused_as.result
-      (edit_fault md5 mode calls c.args.call.now c.args.copy.now.entries) (c.in-Err.ensures.answers calls s.order) c.refused_as.ensures;
-  accepted = tt;
-  last = λ h update. not_memory c.in-Err.fault c.refused_as.result c.refused_as.ensures (c.in-Err.ensures.last h);
-  abort = λ h. not_memory c.in-Err.fault c.refused_as.result c.refused_as.ensures (c.in-Err.ensures.last (abort_is_last c.args.call.now h));
-  refused = λ mode w0 calls s. refl;
-  pools = λ mode w0 calls s going.
-      let old = c.args.self.now in
-      same_left old.pools old.pools (batons_of old) (batons_of old) calls c.args.call.now (s.going going).batons (pools_same old.pools)
-      (λ t. refl);
-}
+-- ---- a call out of order
+
+pub returns-in_err-step-clause-answers : goal.returns-in_err-step-clause-answers
+returns-in_err-step-clause-answers c = λ mode w0 calls s.
+    let call = c.args.call.now in
+    let fault = c.in_err-step.field-0.0 in
+    let nodes = c.args.copy.now.entries in
+    let refused : c.from_residual.result ≡ Err (as_edit_fault fault) = search rules in
+    subst (λ (r : Result (Unit {0}) EditFault). AnswersCall (refusal md5 mode calls call nodes) r) (sym refused)
+    (order_refused (order_fault calls call) fault (edit_fault md5 mode calls call nodes) (c.in_err-step.ensures.answers calls s.order))
+
+pub returns-in_err-step-clause-last : goal.returns-in_err-step-clause-last
+returns-in_err-step-clause-last c =
+    let fault = c.in_err-step.field-0.0 in
+    let refused : c.from_residual.result ≡ Err (as_edit_fault fault) = search rules in
+    λ last update. subst (λ (r : Result (Unit {0}) EditFault). IfErr r (λ e. e ≢ Memory)) (sym refused)
+    (not_memory fault (c.in_err-step.ensures.last last))
+
+pub returns-in_err-step-clause-abort : goal.returns-in_err-step-clause-abort
+returns-in_err-step-clause-abort c =
+    let fault = c.in_err-step.field-0.0 in
+    let refused : c.from_residual.result ≡ Err (as_edit_fault fault) = search rules in
+    λ aborts. subst (λ (r : Result (Unit {0}) EditFault). IfErr r (λ e. e ≢ Memory)) (sym refused)
+    (not_memory fault (c.in_err-step.ensures.last (abort_is_last c.args.call.now aborts)))
+
+pub returns-in_err-step-clause-pools : goal.returns-in_err-step-clause-pools
+returns-in_err-step-clause-pools c = on_err c.from_residual.result (λ mode w0 calls s going.
+    let old = c.args.self.now in
+    same_left old.pools old.pools (batons_of old) (batons_of old) calls c.args.call.now (s.going going).batons (pools_same old.pools)
+    (λ t. refl))
