@@ -1,11 +1,12 @@
 -- An applier with its copy, after a list of calls.
 --     StandsAfter mode w0 edit nodes calls      the edit began with the copy w0, and took these calls
 use Rattle.std.specs.Prelude.{◌≡◌, ◌≢◌, ℕ, ◌+◌, ◌<◌, Bool, true, false, ◌&&◌, not, List, [], ◌∷◌, ◌++◌, length, map, Option, Some, None}
-use Rattle.std.specs.Prelude.{is_some, filter_map, Result, Ok, Err, get_or, count_by, if◌then◌else◌}
+use Rattle.std.specs.Prelude.{is_some, filter_map, Result, Ok, Err, IfSome, get_or, count_by, if◌then◌else◌}
 use Rattle.std.specs.List.{list_any, flat_map}
 use Rattle.std.specs.Option.{option_or}
 use Rattle.svn_serials.specs.Serials.{get}
 use Rattle.std.specs.FinMap as map
+use Rattle.md5.specs.Md5.{md5}
 use Rattle.svn_types.specs.declared.kind.Kind.{Kind}
 use Rattle.svn_types.specs.declared.kind.Kind.TheVariants.{File, Directory}
 use Rattle.svn_types.specs.Names.{Path}
@@ -16,7 +17,7 @@ use Rattle.svn_editor.specs.declared.call.Call.{Call}
 use Rattle.svn_editor.specs.declared.fault.EditFault.{EditFault}
 use Rattle.svn_editor.specs.declared.fault.EditFault.TheVariants.{Order}
 use Rattle.svn_editor.specs.declared.fault.OrderFault.TheVariants.{Dead, Ended as TooLate}
-use Rattle.svn_editor.specs.declared.call.Call.TheVariants.{AbortEdit}
+use Rattle.svn_editor.specs.declared.call.Call.TheVariants.{AbortEdit, OpenFile}
 use Rattle.svn_editor.specs.Order.{IsLawful, order_fault}
 use Rattle.svn_edit.specs.declared.edit.Stage.{Stage}
 use Rattle.svn_edit.specs.declared.opening.NewNode.{NewNode}
@@ -28,8 +29,9 @@ use Rattle.svn_edit.specs.declared.baton.Baton.{Baton}
 use Rattle.svn_edit.specs.declared.baton.Note.{Note}
 use Rattle.svn_edit.specs.declared.baton.Note.TheVariants.{Text as NewText}
 use Rattle.svn_edit.specs.declared.edit.Edit.{Edit}
+use Rattle.svn_edit.specs.declared.edit.OpenedFile.{OpenedFile}
 use Rattle.svn_edit.specs.declared.edit.Stage.TheVariants.{Going, Refused, Ended}
-use Rattle.svn_model.specs.Nodes.{WorkingCopy, get_in}
+use Rattle.svn_model.specs.Nodes.{WorkingCopy, get_in, node_text}
 use Rattle.svn_types.specs.Props.{with_changes}
 use Rattle.svn_model.specs.Effects.{after, change_in, text_in}
 use Rattle.svn_model.specs.Said.{said_at}
@@ -230,6 +232,20 @@ abbrev pub Applied : Option EditFault → WorkingCopy → List (Path × BaseNode
 Applied fault w nodes (Ok done) nodes2 = (fault ≡ None) × ((p : Path) → get_in nodes2 p ≡ w p)
 Applied fault w nodes (Err e) nodes2 = IsAnswer fault e × (nodes2 ≡ nodes)
 
+-- ---- what is noted of the file that the last call opened
+
+abbrev pub opens_file : Call → Bool
+opens_file (OpenFile path parent base token) = true
+opens_file _ = false
+
+-- the checksum, if there is one, is that of the text at the path
+abbrev pub IsSumOf : Option (List ℕ) → List (Path × BaseNode) → Path → Type 0
+IsSumOf sum nodes p = IfSome sum (λ s. s ≡ md5 (node_text (get_in nodes p)))
+
+-- the checksum that is noted, if one is, is that of the text at the path of its token's baton
+abbrev pub IsNoted : Option OpenedFile → Batons → List (Path × BaseNode) → Type 0
+IsNoted opened at nodes = IfSome opened (λ f. (b : Baton) → at f.token ≡ Some b → f.sum ≡ md5 (node_text (get_in nodes b.path)))
+
 -- ---- the whole
 
 pub record Holds (mode : Mode) (edit : Edit) (calls : List Call) : Type 0 where
@@ -248,6 +264,7 @@ pub record StandsAfter (mode : Mode) (w0 : WorkingCopy) (edit : Edit) (nodes : L
   pub going : list_any is_last calls ≡ false → Holds mode edit calls
   pub ended : list_any is_last calls ≡ true → edit.stage ≡ Ended
   pub left : list_any is_last calls ≡ true → OneIsLeft edit
+  pub noted : IsNoted edit.opened (batons_of edit) nodes
 
 -- the call was taken, and the stage is not yet noted
 pub record TakenInOrder (mode : Mode) (w0 : WorkingCopy) (edit : Edit) (nodes : List (Path × BaseNode)) (calls : List Call)
@@ -256,6 +273,7 @@ pub record TakenInOrder (mode : Mode) (w0 : WorkingCopy) (edit : Edit) (nodes : 
   pub copy : (p : Path) → get_in nodes p ≡ after mode w0 (calls ++ c ∷ []) p
   pub holds : is_last c ≡ false → Holds mode edit (calls ++ c ∷ [])
   pub left : is_last c ≡ true → OneIsLeft edit
+  pub noted : IsNoted edit.opened (batons_of edit) nodes
   pub earlier : list_any is_last calls ≡ false
 
 -- the calls so far are in order, and so is the next

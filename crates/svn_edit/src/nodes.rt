@@ -9,7 +9,7 @@ ghost use Rattle.svn_model.specs.Nodes.{get_in, is_present, node_text};
 ghost use Rattle.svn_model.specs.Effects.{opened_directory, is_wrong_sum};
 ghost use Rattle.svn_model.specs.Answering.{AnswersCall};
 ghost use Rattle.svn_edit.specs.NodeTests.{delete_fault_of, open_fault_of};
-ghost use Rattle.svn_edit.specs.Applying.{AnswersAs};
+ghost use Rattle.svn_edit.specs.Applying.{AnswersAs, IsSumOf};
 
 use crate::edit::or_memory;
 use md5::{Digest as Hasher, Md5};
@@ -212,12 +212,27 @@ pub(crate) fn is_wrong_sum(given: &Option<Digest>, node: Option<&BaseNode>) -> b
     }
 }
 
-/// Whether a checksum is given, and is another than that of the text at a path. Without one nothing is looked up.
-pub(crate) fn is_wrong_base(given: &Option<Digest>, nodes: &Nodes, path: &RelPath) -> bool
-    ensures { result ≡ is_wrong_sum given.now (md5 (node_text (get_in nodes.now.entries path.now))) }
+// The checksum of the text at a path. A known one is believed, and nothing is looked up.
+fn sum_at(known: Option<Digest>, nodes: &Nodes, path: &RelPath) -> [u8; 16]
+    ensures { IsSumOf known nodes.now.entries path.now → result ≡ md5 (node_text (get_in nodes.now.entries path.now)) }
+{
+    match known {
+        Some(sum) => sum.0,
+        None => checksum_of(nodes.get(path)),
+    }
+}
+
+/// Whether a checksum is given, and is another than that of the text at a path, which may be known. Without one nothing is looked up.
+pub(crate) fn is_wrong_base(
+    given: &Option<Digest>,
+    known: Option<Digest>,
+    nodes: &Nodes,
+    path: &RelPath,
+) -> bool
+    ensures { IsSumOf known nodes.now.entries path.now → result ≡ is_wrong_sum given.now (md5 (node_text (get_in nodes.now.entries path.now))) }
 {
     match given {
-        Some(_) => is_wrong_sum(given, nodes.get(path)),
+        Some(sum) => sum.0 != sum_at(known, nodes, path),
         None => false,
     }
 }

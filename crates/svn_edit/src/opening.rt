@@ -10,11 +10,11 @@ ghost use Rattle.svn_model.specs.Nodes.{get_in, is_present, node_path};
 ghost use Rattle.svn_model.specs.Effects.{added_node, joined_path, moved_path, step_effect, step_fault};
 ghost use Rattle.svn_model.specs.Answering.{AnswersCall};
 ghost use Rattle.svn_edit.specs.NodeTests.{open_fault_of, deep_fault};
-ghost use Rattle.svn_edit.specs.Applying.{mode_of, pool_or, pool_of_parent, batons_of, Applied, AnswersAs, KeepsEdit, MakesBaton, MakesNode, MovesBy};
+ghost use Rattle.svn_edit.specs.Applying.{mode_of, pool_or, pool_of_parent, batons_of, Applied, AnswersAs, KeepsEdit, MakesBaton, MakesNode, MovesBy, IsNoted};
 ghost use Rattle.svn_edit.specs.Leaving.{KeepsPools};
 
 use crate::baton::Baton;
-use crate::edit::{Edit, or_memory};
+use crate::edit::{Edit, OpenedFile, or_memory};
 use crate::nodes::Nodes;
 use crate::open_path::OpenPath;
 use crate::{nodes, paths};
@@ -167,6 +167,7 @@ impl Edit {
         ensures keeps { KeepsEdit self.old self.new }
         ensures unchanged { OnErr result (KeepsPools self.old self.new) }
         ensures applied { let a = Open File base in let w = get_in copy.now.entries in Applied (step_fault md5 (mode_of self.old.root) [] w path.now a) (step_effect (mode_of self.old.root) self.old.target [] (record { path = path.now; action = a }) w) copy.now.entries result copy.now.entries }
+        ensures noted { OnOk result (IsNoted self.new.opened (batons_of self.new) copy.now.entries) }
     {
         let node = copy.get(path);
         if let Some(fault) = nodes::open_file_fault(node, base) {
@@ -175,7 +176,9 @@ impl Edit {
         self.test_moved(copy, path, parent, node)?;
         let open = or_memory(OpenPath::opened(path))?;
         let root = self.pools.root();
-        self.open_baton(root, open, token)
+        self.open_baton(root, open, token)?;
+        self.opened = OpenedFile::noted(token, node);
+        Ok(())
     }
 
     // What an added directory is made of.

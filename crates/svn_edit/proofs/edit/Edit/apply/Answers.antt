@@ -55,7 +55,7 @@ returns-in-DeleteEntry-clause-holds c = ok_by c.delete_entry.result (λ ok mode 
     c.in-DeleteEntry.is next refl refl refl (λ t. refl))
 
 pub returns-in-DeleteEntry-clause-applied : goal.returns-in-DeleteEntry-clause-applied
-returns-in-DeleteEntry-clause-applied c = λ mode calls next.
+returns-in-DeleteEntry-clause-applied c = λ mode calls next noted.
     let w = get_in c.args.copy.now.entries in
     applied_read md5 mode c.args.self.now calls (DeleteEntry c.in-DeleteEntry.path c.in-DeleteEntry.rev c.in-DeleteEntry.parent)
     c.args.call.now c.args.copy.now.entries c.delete_entry.new.copy.entries c.delete_entry.result c.in-DeleteEntry.is next
@@ -64,7 +64,7 @@ returns-in-DeleteEntry-clause-applied c = λ mode calls next.
     c.delete_entry.ensures
 
 pub returns-in-AddFile-clause-applied : goal.returns-in-AddFile-clause-applied
-returns-in-AddFile-clause-applied c = λ mode calls next.
+returns-in-AddFile-clause-applied c = λ mode calls next noted.
     let w = get_in c.args.copy.now.entries in
     applied_read md5 mode c.args.self.now calls (AddFile c.in-AddFile.path c.in-AddFile.parent c.in-AddFile.token) c.args.call.now
     c.args.copy.now.entries c.add_file.new.copy.entries c.add_file.result c.in-AddFile.is next
@@ -72,7 +72,7 @@ returns-in-AddFile-clause-applied c = λ mode calls next.
     (record { path = c.in-AddFile.path; action = Add File }) w) refl refl c.add_file.ensures.applied
 
 pub returns-in-OpenFile-clause-applied : goal.returns-in-OpenFile-clause-applied
-returns-in-OpenFile-clause-applied c = λ mode calls next.
+returns-in-OpenFile-clause-applied c = λ mode calls next noted.
     let w = get_in c.args.copy.now.entries in
     applied_read md5 mode c.args.self.now calls (OpenFile c.in-OpenFile.path c.in-OpenFile.parent c.in-OpenFile.base c.in-OpenFile.token)
     c.args.call.now c.args.copy.now.entries c.args.copy.now.entries c.open_file.result c.in-OpenFile.is next
@@ -81,7 +81,7 @@ returns-in-OpenFile-clause-applied c = λ mode calls next.
     c.open_file.ensures.applied
 
 pub returns-in-CloseDirectory-clause-applied : goal.returns-in-CloseDirectory-clause-applied
-returns-in-CloseDirectory-clause-applied c = λ mode calls next.
+returns-in-CloseDirectory-clause-applied c = λ mode calls next noted.
     close_applied mode c.args.self.now c.close_directory.new.self calls c.in-CloseDirectory.token c.args.call.now c.in-CloseDirectory.is
     next md5 c.args.copy.now.entries c.close_directory.new.copy.entries
     c.close_directory.result c.close_directory.ensures.closed c.close_directory.ensures.refused
@@ -92,9 +92,9 @@ returns-in-CloseDirectory-clause-holds c = map_ok c.close_directory.result c.clo
     c.close_directory.ensures.keeps gone)
 
 pub returns-in-ApplyText-clause-applied : goal.returns-in-ApplyText-clause-applied
-returns-in-ApplyText-clause-applied c = λ mode calls next.
+returns-in-ApplyText-clause-applied c = λ mode calls next noted.
     text_applied md5 mode c.args.self.now calls c.in-ApplyText.token c.in-ApplyText.base_md5 c.in-ApplyText.text c.args.call.now
-    c.args.copy.now.entries c.apply_text.result c.in-ApplyText.is next c.apply_text.ensures.answers
+    c.args.copy.now.entries c.apply_text.result c.in-ApplyText.is next (λ b there. c.apply_text.ensures.answers b there noted)
 
 pub returns-in-ApplyText-clause-holds : goal.returns-in-ApplyText-clause-holds
 returns-in-ApplyText-clause-holds c = map_ok c.apply_text.result c.apply_text.ensures.noted (λ notes mode calls next last.
@@ -104,7 +104,7 @@ returns-in-ApplyText-clause-holds c = map_ok c.apply_text.result c.apply_text.en
     (λ t. refl) c.apply_text.ensures.keeps notes)
 
 pub returns-in-CloseFile-clause-applied : goal.returns-in-CloseFile-clause-applied
-returns-in-CloseFile-clause-applied c = λ mode calls next.
+returns-in-CloseFile-clause-applied c = λ mode calls next noted.
     file_applied mode c.args.self.now c.close_file.new.self calls c.in-CloseFile.token c.in-CloseFile.text_md5 c.args.call.now
     c.in-CloseFile.is next md5 c.args.copy.now.entries c.close_file.new.copy.entries
     c.close_file.result c.close_file.ensures.answers c.close_file.ensures.closed c.close_file.ensures.refused
@@ -115,7 +115,7 @@ returns-in-CloseFile-clause-holds c = map_ok c.close_file.result c.close_file.en
     c.in-CloseFile.is next c.close_file.ensures.keeps gone)
 
 pub returns-in-CloseEdit-clause-applied : goal.returns-in-CloseEdit-clause-applied
-returns-in-CloseEdit-clause-applied c = λ mode calls next.
+returns-in-CloseEdit-clause-applied c = λ mode calls next noted.
     end_applied md5 mode c.args.self.now calls c.args.call.now c.args.copy.now.entries c.close_edit.new.copy.entries c.close_edit.result
     c.in-CloseEdit.is next c.close_edit.ensures.applied
 
@@ -129,7 +129,7 @@ returns-in-AbortEdit-clause-left c = λ last mode calls next.
     one_left c.args.self.now.pools c.drop_batons.new.self.pools _ held.root held.beneath c.drop_batons.ensures.cleared
 
 pub returns-in-ChangeDirProp-clause-applied : goal.returns-in-ChangeDirProp-clause-applied
-returns-in-ChangeDirProp-clause-applied c = λ mode calls next.
+returns-in-ChangeDirProp-clause-applied c = λ mode calls next noted.
     let x = c.in-ChangeDirProp in
     change_applied md5 mode c.args.self.now calls (ChangeDirProp x.token x.name x.value) c.args.call.now x.token Directory (x.name, x.value)
     c.args.copy.now.entries c.change_prop.result x.is refl refl c.change_prop.ensures.answers
@@ -142,7 +142,7 @@ returns-in-ChangeDirProp-clause-holds c =
     Directory (Change Directory (x.name, x.value)) x.is next refl refl refl refl refl (λ t. refl) c.change_prop.ensures.keeps notes)
 
 pub returns-in-ChangeFileProp-clause-applied : goal.returns-in-ChangeFileProp-clause-applied
-returns-in-ChangeFileProp-clause-applied c = λ mode calls next.
+returns-in-ChangeFileProp-clause-applied c = λ mode calls next noted.
     let x = c.in-ChangeFileProp in
     change_applied md5 mode c.args.self.now calls (ChangeFileProp x.token x.name x.value) c.args.call.now x.token File (x.name, x.value)
     c.args.copy.now.entries c.change_prop-in-ChangeFileProp.result x.is refl refl c.change_prop-in-ChangeFileProp.ensures.answers

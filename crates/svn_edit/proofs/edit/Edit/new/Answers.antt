@@ -14,4 +14,5 @@ returns-clause-begun c = λ mode nodes is. record {
   };
   ended = λ h. absurd (true≢false (sym h));
   left = λ h. absurd (true≢false (sym h));
+  noted = tt;
 }

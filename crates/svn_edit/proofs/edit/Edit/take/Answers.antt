@@ -12,7 +12,14 @@ returns-then-is_last-clause-accepted c = map_ok c.take_in_order-answer.result c.
     let last : is_last c.args.call.now ≡ true = sym c.is_last.ensures ∙ c.if-is_last.true in
     let ended : list_any is_last (calls ++ c.args.call.now ∷ []) ≡ true =
     any_more is_last calls c.args.call.now ∙ ap (λ b. list_any is_last calls || b) last ∙ or_true (list_any is_last calls) in
-    record { order = t.order; copy = t.copy; going = λ h. absurd (true≢false (sym ended ∙ h)); ended = λ h. refl; left = λ h. t.left last })
+    record {
+      order = t.order;
+      copy = t.copy;
+      going = λ h. absurd (true≢false (sym ended ∙ h));
+      ended = λ h. refl;
+      left = λ h. t.left last;
+      noted = t.noted;
+    })
 
 pub returns-else-is_last-clause-accepted : goal.returns-else-is_last-clause-accepted
 returns-else-is_last-clause-accepted c = map_ok c.take_in_order-answer.result c.take_in_order-answer.ensures.accepted
@@ -26,6 +33,6 @@ returns-else-is_last-clause-accepted c = map_ok c.take_in_order-answer.result c.
       copy = t.copy;
       going = λ h. t.holds going;
       ended = λ h. absurd (true≢false (sym h ∙ still));
-      left =
-          λ h. absurd (true≢false (sym h ∙ still));
+      left = λ h. absurd (true≢false (sym h ∙ still));
+      noted = t.noted;
     })
