@@ -2,6 +2,7 @@
 pub mod RunLemmas
 -- The calls of a visit: those of the path itself, of what is below it, and its close.
 pub mod Visits
+-- What the calls of a visit lead to, put together from its parts.
 pub mod VisitRuns
 -- What a place has, the root's and a child's by its parent's.
 pub mod ChildPlaces

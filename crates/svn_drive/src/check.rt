@@ -48,8 +48,8 @@ fn node_below(repo: &Repo, from: NodeId, names: &[Name]) -> Option<NodeId>
     Some(node)
 }
 
-#[tactic(auto, using(crate::proofs::Checks::below_none, crate::proofs::Checks::below_found))]
 // The node at a path of two parts in a revision.
+#[tactic(auto, using(crate::proofs::Checks::below_none, crate::proofs::Checks::below_found))]
 fn lookup_below(repo: &Repo, rev: Rev, base: &RelPath, names: &[Name]) -> Option<NodeId>
     ensures { result ≡ look repo.now rev (base.now ++ names.now) }
 {
@@ -57,13 +57,14 @@ fn lookup_below(repo: &Repo, rev: Rev, base: &RelPath, names: &[Name]) -> Option
     node_below(repo, from, names)
 }
 
+// As a function, so that a caller's proof sees one term and no branches.
 pub(crate) fn both(first: bool, second: bool) -> bool
     ensures { result ≡ (first && second) }
 {
     first && second
 }
 
-/// A path one name longer.
+// A path one name longer.
 fn child_path(alloc: Global, path: &RelPath, name: &Name) -> Result<RelPath, AllocError>
     requires short { length path.now < depth_limit }
     ensures { IfOk result (λ p. p ≡ path.now ++ name.now ∷ []) }
@@ -244,7 +245,7 @@ impl<'a> Check<'a> {
 /// Whether a repository can serve a report: Ok where it has all that the report says. NoEntries at an empty report; else the fault of the first
 /// entry that has one: NoSuchRevision, NoNode, at the root RootNotDir, below it ParentNotDir. Memory where memory is refused before that.
 ///
-/// It costs what the report's entries cost by their depth.
+/// It costs each entry the square of its depth: each path above it is made and looked for in the report.
 pub fn check_report(alloc: Global, repo: &Repo, report: &Report) -> Result<(), ReportFault>
     ensures answer { AnswersCheck (first_fault repo.now report.now) result }
 {

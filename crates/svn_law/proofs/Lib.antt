@@ -28,10 +28,10 @@ pub mod EndsAsResult
 pub mod NoEditFault
 -- which steps of a drive come before and after one of them, and which there are
 pub mod StepOrder
--- each test on earlier calls as a test on the steps
-pub mod CallTests
 -- a path's token is its place among all paths that the drive opens
 pub mod TokenNumbers
+-- each test on earlier calls as a test on the steps
+pub mod CallTests
 -- the directories that are open at a step of a drive are those above its path
 pub mod OpenDirectories
 -- the current file at a step of a drive

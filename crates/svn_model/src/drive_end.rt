@@ -3,8 +3,14 @@
 /// How a drive ended that neither was refused nor met a refusal.
 #[derive(Clone, Copy, Debug, PartialEq, Eq)]
 pub enum DriveEnd {
-    /// All calls were made and accepted, `CloseEdit` the last: so many, that one included.
-    Closed { calls: u64 },
-    /// So many calls were made and accepted, then `AbortEdit`, which isn't counted, since no more were asked for.
-    Cancelled { made: u64 },
+    /// All calls were made and accepted, `CloseEdit` the last.
+    Closed {
+        /// How many, `CloseEdit` included.
+        calls: u64,
+    },
+    /// As many calls as were asked for were made and accepted, then `AbortEdit`.
+    Cancelled {
+        /// How many, `AbortEdit` not included.
+        made: u64,
+    },
 }

@@ -1,6 +1,6 @@
 -- What a node is, read at any number, and what every repository meets.
 --     line_of h n, kind_of h n, text_of h n, props_of h n, entries_of h n      of a node that isn't there, those of an empty file of line 0
---     are_related h m n      both nodes are there, and of one line
+--     are_related h m n      both numbers are given, and their nodes are of one line
 --     IsHistory h      the laws of every repository
 use Rattle.std.specs.Prelude.{◌≡◌, ℕ, ◌<◌, ◌≤◌, Bool, true, false, List, [], ◌∷◌, length, nat_eq, Option, Some, None}
 use Rattle.svn_types.specs.declared.kind.Kind.{Kind}
@@ -37,7 +37,7 @@ abbrev pub is_directory_at : History → Option ℕ → Bool
 is_directory_at h None = false
 is_directory_at h (Some n) = is_directory (kind_of h n)
 
--- both nodes are there, and of one line
+-- both numbers are given, and their nodes are of one line
 abbrev pub are_related : History → Option ℕ → Option ℕ → Bool
 are_related h (Some m) (Some n) = nat_eq (line_of h m) (line_of h n)
 are_related h _ _ = false

@@ -1,5 +1,5 @@
 -- The tree of a revision while a commit is made: what stands at each path, with no shared nodes.
---     tree_of h r      the tree of a revision
+--     tree_at h r      the tree of a revision
 --     graft t p part      the part put at p, with every directory above p made afresh
 use Rattle.std.specs.Prelude.{◌≡◌, ℕ, ◌<◌, ◌≤◌, Bool, true, false, length, take, List, [], ◌∷◌, ◌++◌, Option, Some, None, option_map}
 use Rattle.std.specs.Prelude.{option_and_then, is_some, nat_lt, if◌then◌else◌}

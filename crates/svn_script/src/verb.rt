@@ -23,7 +23,7 @@ pub(crate) enum Verb {
     Show,
 }
 
-/// The command of this name, which is read letter by letter.
+/// The command of this name, which is taken as it stands: no escapes, and case counts.
 pub(crate) fn read_verb(name: &[u8]) -> Option<Verb>
     ensures { result ≡ verb_of name.now }
 {

@@ -54,7 +54,7 @@ impl<V, A: Allocator> SerialMap<V, A> {
         self.filled
     }
 
-    /// The greatest serial that has a value.
+    /// The greatest serial that has a value; None where there is none.
     #[inline(always)]
     pub fn newest(&self) -> Option<u64>
         ensures { MatchOption result (self.now ≡ []) (λ s. IsSome (get self.now s) × ((q : ℕ) → IsSome (get self.now q) → q ≤ s)) }
@@ -62,7 +62,7 @@ impl<V, A: Allocator> SerialMap<V, A> {
         last_serial(self.slots.as_slice())
     }
 
-    /// The value of a serial.
+    /// The value of a serial; None where it has none.
     #[inline(always)]
     pub fn get(&self, serial: u64) -> Option<&V>
         ensures value { option_copied result ≡ get self.now serial }
@@ -73,7 +73,7 @@ impl<V, A: Allocator> SerialMap<V, A> {
         self.slots[place].value.as_ref()
     }
 
-    /// The value of a serial, to be written.
+    /// The value of a serial, to be written; None where it has none.
     #[inline(always)]
     pub fn get_mut(&mut self, serial: u64) -> Option<&mut V>
         ensures* writes_back { sem 𝓛 (lends_value V.row A.row A.Allocator self.entry serial result) }
@@ -102,7 +102,7 @@ impl<V, A: Allocator> SerialMap<V, A> {
         Ok(was)
     }
 
-    /// Removes the value of a serial, and gives it.
+    /// Removes the value of a serial, and gives it; None where it has none.
     #[inline(always)]
     pub fn remove(&mut self, serial: u64) -> Option<V>
     where

@@ -4,7 +4,7 @@ use std::test::Fail;
 use svn_types::{PathFault, RelPath};
 
 // In path order. A name of 14 bytes is the longest that is short, and a path of one, two or three of them the longest that lies in one block.
-// The first 8 bytes of a key decide most comparisons: the last rows are alike in 7 or 8 of them.
+// The first 16 bytes of a key decide most comparisons, eight at a time: rows that begin with `abcdef` are alike in 6 to 8.
 const ROWS: [&str; 18] = [
     "",
     "a",
