@@ -7,13 +7,13 @@ use Rattle.std.specs.Option.{option_and_then, option_map, option_or, is_some}
 use Rattle.svn_types.specs.declared.kind.Kind.TheVariants.{File, Directory}
 use Rattle.svn_repo.specs.declared.store.Node.{Node}
 use Rattle.svn_repo.specs.declared.change.CommitFault.{CommitFault}
-use Rattle.svn_repo.specs.declared.change.CommitFault.TheVariants.{NotDir}
+use Rattle.svn_repo.specs.declared.change.CommitFault.TheVariants.{Exists, NotDir}
 use Rattle.svn_types.specs.Names.{Path}
 use Rattle.svn_repo.specs.History.{Nodes, child_in, walk}
 use Rattle.svn_repo.specs.Stored.{row_of, rows, kind_of}
 use Rattle.svn_repo.specs.Trees.{Place, Tree, place_of, place_at, IsWay, is_directory_place}
 use Rattle.svn_repo.specs.Drafts.{tree_in, old_part}
-use Rattle.svn_repo.specs.Changes.{above_fault, directory_fault}
+use Rattle.svn_repo.specs.Changes.{above_fault, directory_fault, fault_if}
 
 pub above_same : (t u : Tree) (p : Path) → ((q : Path) → t q ≡ u q) → above_fault t p ≡ above_fault u p
 above_same t u [] h = refl
@@ -151,3 +151,18 @@ way_whole t (m ∷ p) h stands =
     here : is_directory_place (t []) ≡ true → IsWay (λ q. t (m ∷ q)) p → (i : ℕ) → i ≤ length (m ∷ p) → is_some (t (take i (m ∷ p))) ≡ true
     here d w zero b = some_directory (t []) d
     here d w (suc i) b = w.present i (omega arith)
+
+-- ---- what is wrong with a path at which nothing may stand
+
+pub or_next : {A : Type 0} (a b : Option A) → a ≡ None → option_or a b ≡ b
+or_next a b e = ap (λ o. option_or o b) e
+
+pub taken_path : (t : Tree) (p : Path) (rest : Option CommitFault) → above_fault t p ≡ None → is_some (t p) ≡ true
+    → option_or (above_fault t p) (option_or (fault_if (is_some (t p)) Exists) rest) ≡ Some Exists
+taken_path t p rest above stands = or_next (above_fault t p) (option_or (fault_if (is_some (t p)) Exists) rest) above
+    ∙ ap (λ b. option_or (fault_if b Exists) rest) stands
+
+pub free_path : (t : Tree) (p : Path) (rest : Option CommitFault) → above_fault t p ≡ None → t p ≡ None
+    → option_or (above_fault t p) (option_or (fault_if (is_some (t p)) Exists) rest) ≡ rest
+free_path t p rest above gone = or_next (above_fault t p) (option_or (fault_if (is_some (t p)) Exists) rest) above
+    ∙ ap (λ o. option_or (fault_if (is_some o) Exists) rest) gone

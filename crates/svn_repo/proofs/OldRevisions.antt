@@ -1,5 +1,5 @@
 -- The revisions that a draft is made over, read from the nodes that have the draft's behind them.
-use Rattle.std.proofs.Common.{◌≡◌, ℕ, zero, suc, ◌+◌, ◌-◌, ◌<◌, ◌≤◌, Bool, true, false, cond, List, [], ◌∷◌, ◌++◌, length, take, map}
+use Rattle.std.proofs.Common.{◌≡◌, ℕ, zero, suc, ◌+◌, ◌-◌, ◌<◌, ◌≤◌, true, false, cond, List, [], ◌∷◌, ◌++◌, length, take, map}
 use Rattle.std.proofs.Common.{get_or, refl, arith, Option, Some, None, subst, sym, ap, ◌∙◌, length-take, inl, inr}
 use Rattle.std.specs.Prelude.{nat_lt, nat_le, IsSome}
 use Rattle.std.specs.List.{slice_get}
@@ -9,7 +9,8 @@ use Rattle.std.proofs.lemmas.Option.{slice_get-map, slice_get_read, slice_get_wi
 use Rattle.std.proofs.lemmas.List.{length-map}
 use Rattle.svn_repo.specs.declared.store.Node.{Node}
 use Rattle.svn_repo.specs.declared.change.Change.{Change}
-use Rattle.svn_repo.specs.declared.change.CommitFault.TheVariants.{Exists, Missing, NoSuchRevision, TooDeep}
+use Rattle.svn_repo.specs.declared.change.CommitFault.{CommitFault}
+use Rattle.svn_repo.specs.declared.change.CommitFault.TheVariants.{Exists, NoSuchRevision, TooDeep}
 use Rattle.svn_types.specs.Names.{Path}
 use Rattle.svn_repo.specs.History.{History, Nodes, node_at, child_in, walk, look, reaches}
 use Rattle.svn_types.specs.Limits.{path_limit}
@@ -20,7 +21,7 @@ use Rattle.svn_repo.specs.Changes.{pending_in, change_fault, root_fault, above_f
 use Rattle.svn_repo.specs.Changes.{copy_depth_fault, fault_if}
 use Rattle.svn_repo.proofs.Walking.{and_then_same, and_then_parts, walk_on}
 use Rattle.svn_repo.proofs.Thawing.{walk_stays, walk_same}
-use Rattle.svn_repo.proofs.Faults.{or_none, above_same}
+use Rattle.svn_repo.proofs.Faults.{above_same}
 
 pub kept_take : {X : Type 0} (old new : List X) → length old ≤ length new → ((m : ℕ) → m < length old → slice_get new m ≡ slice_get old m)
     → take (length old) new ≡ old
@@ -175,30 +176,15 @@ slice_get_in [] i h = absurd (omega arith)
 slice_get_in (x ∷ xs) zero h = (x, refl)
 slice_get_in (x ∷ xs) (suc i) h = slice_get_in xs i (omega arith)
 
-copy_too_deep : (heights : List ℕ) (nodes : List Node) (n : ℕ) (p : Path) (deep : Bool) → IsOldPart heights nodes → root_fault p ≡ None
-    → n < length heights → ((k : ℕ) → slice_get heights n ≡ Some k → deep ≡ nat_lt path_limit (length p + k))
-    → reaches (rows (take (length heights) nodes)) (path_limit + 1 - length p) n ≡ deep
-copy_too_deep heights nodes n p deep old not_root inside test =
+-- a fault by the node's height is that of its copy's depth
+pub copy_depth_by_height : (heights : List ℕ) (nodes : List Node) (n : ℕ) (p : Path) (fault : Option CommitFault)
+    → IsOldPart heights nodes → root_fault p ≡ None → n < length heights
+    → ((k : ℕ) → slice_get heights n ≡ Some k → fault ≡ fault_if (nat_lt path_limit (length p + k)) TooDeep)
+    → fault ≡ copy_depth_fault (rows (take (length heights) nodes)) (Some n) p
+copy_depth_by_height heights nodes n p fault old not_root inside test =
     let k = slice_get_in heights n inside in
-    sym (test k.0 k.1 ∙ depth_by_height (rows (take (length heights) nodes)) n k.0 p (some_name p not_root) (old.known n k.0 k.1))
-
--- what is wrong with a copy to a free path: that it is too deep, or nothing
-pub free_copy_fault : (heights : List ℕ) (nodes : List Node) (n : ℕ) (p : Path) (deep taken : Bool) → IsOldPart heights nodes
-    → root_fault p ≡ None → n < length heights → ((k : ℕ) → slice_get heights n ≡ Some k → deep ≡ nat_lt path_limit (length p + k))
-    → taken ≡ false → fault_if deep TooDeep ≡ option_or (fault_if taken Exists)
-    (fault_if (reaches (rows (take (length heights) nodes)) (path_limit + 1 - length p) n) TooDeep)
-free_copy_fault heights nodes n p deep taken old not_root inside test free =
-    sym (ap (λ b. option_or (fault_if b Exists)
-    (fault_if (reaches (rows (take (length heights) nodes)) (path_limit + 1 - length p) n) TooDeep)) free
-    ∙ ap (λ b. fault_if b TooDeep) (copy_too_deep heights nodes n p deep old not_root inside test))
-
--- a walk without a fault leads to a node
-pub walk_stands : (base : ℕ) (nodes : List Node) (top : ℕ) (source : Path) → walk_fault (tree_in base nodes top) source ≡ None
-    → walk (rows nodes) top source ≡ None → ⊥
-walk_stands base nodes top source fault none =
-    let parts = or_none (above_fault (tree_in base nodes top) source) (missing_fault (tree_in base nodes top source)) fault in
-    let gone : tree_in base nodes top source ≡ None = ap (option_and_then (place_at (rows nodes) base)) none in
-    let bad : Some Missing ≡ None = sym (ap missing_fault gone) ∙ parts.1 in cc
+    test k.0 k.1 ∙ ap (λ b. fault_if b TooDeep) (depth_by_height (rows (take (length heights) nodes)) n k.0 p (some_name p not_root)
+    (old.known n k.0 k.1))
 
 pub old_in : (heights : List ℕ) (nodes : List Node) (top n : ℕ) (source : Path) → IsOldPart heights nodes → top < length heights
     → walk (rows nodes) top source ≡ Some n → n < length heights

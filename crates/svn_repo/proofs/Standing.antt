@@ -1,5 +1,5 @@
 -- What stands at a path of a draft.
-use Rattle.std.proofs.Common.{◌≡◌, ℕ, ◌<◌, suc, zero, true, cond, List, [], ◌∷◌, length, refl, arith, Option, Some, None, sym, ◌∙◌}
+use Rattle.std.proofs.Common.{◌≡◌, ℕ, ◌<◌, suc, zero, true, cond, List, [], ◌∷◌, length, refl, arith, Option, Some, None, sym, ap, ◌∙◌}
 use Rattle.std.specs.Prelude.{nat_lt}
 use Rattle.std.specs.List.{slice_get}
 use Rattle.std.specs.Option.{option_and_then, option_map, is_some}
@@ -28,7 +28,8 @@ pub by_walk : (base : ℕ) (nodes : List Node) (o : Option ℕ) → ((n : ℕ) �
 by_walk base nodes None h = refl
 by_walk base nodes (Some n) h = sym (is_some-place_at base nodes n (h n refl))
 
-pub is_some-tree_in : (base : ℕ) (nodes : List Node) (root : ℕ) (q : Path) → root < length nodes → IsClosedIn nodes
-    → is_some (walk (rows nodes) root q) ≡ is_some (tree_in base nodes root q)
-is_some-tree_in base nodes root q inside closed = by_walk base nodes (walk (rows nodes) root q)
-    (λ n e. in_range nodes closed root n q inside e)
+-- where the way leads to a node, something stands
+pub stands_at : (base : ℕ) (nodes : List Node) (root n : ℕ) (p : Path) → root < length nodes → IsClosedIn nodes
+    → walk (rows nodes) root p ≡ Some n → is_some (tree_in base nodes root p) ≡ true
+stands_at base nodes root n p inside closed e = ap (λ o. is_some (option_and_then (place_at (rows nodes) base) o)) e
+    ∙ is_some-place_at base nodes n (in_range nodes closed root n p inside e)

@@ -7,11 +7,11 @@ ghost use Rattle.svn_types.specs.Limits.{path_limit};
 ghost use Rattle.svn_repo.specs.Stored.{rows};
 ghost use Rattle.svn_repo.specs.Drafts.{IsClosedIn, IsOldPart, IsPast, past_in, tree_in};
 ghost use Rattle.svn_repo.specs.Trees.{is_directory_place};
-ghost use Rattle.svn_repo.specs.Changes.{above_fault, change_fault, copy_fault, directory_fault_at, file_fault_at, copy_depth_fault, fault_if, depth_fault, size_fault, root_fault, missing_fault, walk_fault, value_fault, pending_in};
+ghost use Rattle.svn_repo.specs.Changes.{above_fault, change_fault, copy_fault, directory_fault_at, file_fault_at, copy_depth_fault, fault_if, depth_fault, size_fault, root_fault, walk_fault, value_fault, pending_in};
 
 use crate::change::{Change, CommitFault};
 use crate::entries::NodeId;
-use crate::store::{Node, Past, child, kind_at, node_below, root_of};
+use crate::store::{Node, Past, child, kind_at, root_of};
 use svn_types::{Kind, MAX_DEPTH, MAX_SIZE, Name, Rev, Text};
 
 // A path below a root.
@@ -49,24 +49,19 @@ fn find(nodes: &[Node], root: NodeId, names: &[Name]) -> Result<Option<NodeId>, 
     Ok(at)
 }
 
-fn fault_above(nodes: &[Node], root: NodeId, names: &[Name]) -> Option<CommitFault>
+// The node at a path where one has to stand: else the fault of the way there, or that nothing stands at its end.
+fn find_node(nodes: &[Node], root: NodeId, names: &[Name]) -> Result<NodeId, CommitFault>
     requires root_in { root < length nodes.now }
     requires closed { IsClosedIn nodes.now }
-    ensures { (base : ℕ) → result ≡ above_fault (tree_in base nodes.now root) names.now }
+    ensures found { IfOk result (λ node. walk (rows nodes.now) root names.now ≡ Some node) }
+    ensures stands { OnOk result ((base : ℕ) → walk_fault (tree_in base nodes.now root) names.now ≡ None) }
+    ensures fault { IfErr result (λ fault. (base : ℕ) → walk_fault (tree_in base nodes.now root) names.now ≡ Some fault) }
 {
     match find(nodes, root, names) {
-        Ok(_) => None,
-        Err(fault) => Some(fault),
+        Ok(Some(node)) => Ok(node),
+        Ok(None) => Err(CommitFault::Missing),
+        Err(fault) => Err(fault),
     }
-}
-
-/// Whether anything stands at a path.
-pub(crate) fn stands(nodes: &[Node], root: NodeId, names: &[Name]) -> bool
-    requires root_in { root < length nodes.now }
-    requires closed { IsClosedIn nodes.now }
-    ensures { (base : ℕ) → result ≡ is_some (tree_in base nodes.now root names.now) }
-{
-    node_below(nodes, root, names).is_some()
 }
 
 fn fault_of_depth(names: &[Name]) -> Option<CommitFault>
@@ -76,19 +71,6 @@ fn fault_of_depth(names: &[Name]) -> Option<CommitFault>
         Some(CommitFault::TooDeep)
     } else {
         None
-    }
-}
-
-// Why a path isn't one at which something stands.
-fn fault_at_present(nodes: &[Node], root: NodeId, names: &[Name]) -> Option<CommitFault>
-    requires root_in { root < length nodes.now }
-    requires closed { IsClosedIn nodes.now }
-    ensures { (base : ℕ) → result ≡ missing_fault (tree_in base nodes.now root names.now) }
-{
-    if stands(nodes, root, names) {
-        None
-    } else {
-        Some(CommitFault::Missing)
     }
 }
 
@@ -148,18 +130,6 @@ fn fault_of_file(nodes: &[Node], root: NodeId, names: &[Name], text: &Text) -> O
     fault_of_depth(names)
 }
 
-// Why the way to a path that has to stand can't be gone.
-fn fault_of_walk(nodes: &[Node], root: NodeId, names: &[Name]) -> Option<CommitFault>
-    requires root_in { root < length nodes.now }
-    requires closed { IsClosedIn nodes.now }
-    ensures { (base : ℕ) → result ≡ walk_fault (tree_in base nodes.now root) names.now }
-{
-    if let Some(fault) = fault_above(nodes, root, names) {
-        return Some(fault);
-    }
-    fault_at_present(nodes, root, names)
-}
-
 fn fault_of_removed(nodes: &[Node], root: NodeId, names: &[Name]) -> Option<CommitFault>
     requires root_in { root < length nodes.now }
     requires closed { IsClosedIn nodes.now }
@@ -168,7 +138,7 @@ fn fault_of_removed(nodes: &[Node], root: NodeId, names: &[Name]) -> Option<Comm
     if let Some(fault) = fault_of_root(names) {
         return Some(fault);
     }
-    fault_of_walk(nodes, root, names)
+    find_node(nodes, root, names).err()
 }
 
 fn fault_of_value(value: &Option<Text>) -> Option<CommitFault>
@@ -193,36 +163,16 @@ fn fault_of_prop(
     if let Some(fault) = fault_of_value(value) {
         return Some(fault);
     }
-    fault_of_walk(nodes, root, names)
+    find_node(nodes, root, names).err()
 }
 
-// Whether something below the node would stand too deep, were the node put at a path. The height of each old node is known.
-fn is_too_deep(heights: &[u8], node: NodeId, names: &[Name]) -> bool
+// Why a copy of a node can't be put at a path: something below it would stand too deep. The height of each old node is known.
+fn fault_of_height(heights: &[u8], node: NodeId, names: &[Name]) -> Option<CommitFault>
     requires node_in { node < length heights.now }
     requires depth { length names.now ≤ depth_limit }
-    ensures { (k : ℕ) → slice_get heights.now node ≡ Some k → result ≡ nat_lt path_limit (length names.now + k) }
+    ensures { (k : ℕ) → slice_get heights.now node ≡ Some k → result ≡ fault_if (nat_lt path_limit (length names.now + k)) CommitFault.TooDeep }
 {
-    names.len() + heights[node.index] as usize > MAX_DEPTH
-}
-
-// Why a copy of a node can't be put at a path below directories.
-fn fault_at_copy(
-    nodes: &[Node],
-    heights: &[u8],
-    node: NodeId,
-    to: &PathBelow<'_>,
-) -> Option<CommitFault>
-    requires root_in { to.now.root < length nodes.now }
-    requires closed { IsClosedIn nodes.now }
-    requires node_in { node < length heights.now }
-    requires depth { length to.now.names.now ≤ depth_limit }
-    requires not_root { root_fault to.now.names.now ≡ None }
-    requires past { IsOldPart heights.now nodes.now }
-    ensures { (base : ℕ) → let names = to.now.names.now in result ≡ option_or (fault_if (is_some (tree_in base nodes.now to.now.root names)) CommitFault.Exists) (copy_depth_fault (rows (take (length heights.now) nodes.now)) (Some node) names) }
-{
-    if stands(nodes, to.root, to.names) {
-        Some(CommitFault::Exists)
-    } else if is_too_deep(heights, node, to.names) {
+    if names.len() + heights[node.index] as usize > MAX_DEPTH {
         Some(CommitFault::TooDeep)
     } else {
         None
@@ -244,16 +194,15 @@ fn fault_below_top(
     requires past { IsOldPart heights.now nodes.now }
     ensures { (base : ℕ) → let t = tree_in base nodes.now to.now.root in let names = to.now.names.now in let top = source.now.root in let from = source.now.names.now in result ≡ option_or (walk_fault (tree_in base nodes.now top) from) (option_or (above_fault t names) (option_or (fault_if (is_some (t names)) CommitFault.Exists) (copy_depth_fault (rows (take (length heights.now) nodes.now)) (walk (rows nodes.now) top from) names))) }
 {
-    if let Some(fault) = fault_of_walk(nodes, source.root, source.names) {
-        return Some(fault);
-    }
-    if let Some(fault) = fault_above(nodes, to.root, to.names) {
-        return Some(fault);
-    }
-    let Some(node) = node_below(nodes, source.root, source.names) else {
-        unreachable!()
+    let node = match find_node(nodes, source.root, source.names) {
+        Ok(node) => node,
+        Err(fault) => return Some(fault),
     };
-    fault_at_copy(nodes, heights, node, to)
+    match find(nodes, to.root, to.names) {
+        Ok(Some(_)) => Some(CommitFault::Exists),
+        Ok(None) => fault_of_height(heights, node, to.names),
+        Err(fault) => Some(fault),
+    }
 }
 
 // Why what stands at a path of a revision can't be copied to a path.
