@@ -1,4 +1,4 @@
-//! Tests of what is read: names and paths, the commands that lines are, and the words of the command line.
+//! Tests of what is read: the faults of a script, the commands that lines are, and the words of the command line.
 #![tactic(auto)]
 
 #[cfg(test)]
@@ -7,5 +7,3 @@ mod command_line;
 mod faults;
 #[cfg(test)]
 mod forms;
-#[cfg(test)]
-mod names;

@@ -5,9 +5,9 @@
 #[cfg(test)]
 mod bytes;
 #[cfg(test)]
-mod faults;
-#[cfg(test)]
 mod forms;
+#[cfg(test)]
+mod names;
 #[cfg(test)]
 mod paths;
 #[cfg(test)]

@@ -1,5 +1,5 @@
-// What a path, a name and the name of a property may be. A fault is told by its number: 1 a component is empty, 2 it is `.` or `..`, 3 it has
-// a character that it may not have, 4 it is too long, 5 there are too many; 0 is none.
+//! What a path, a name and the name of a property may be. A fault is told by its number: 1 a component is empty, 2 it is `.` or `..`, 3 it has
+//! a character that it may not have, 4 it is too long, 5 there are too many; 0 is none.
 use std::alloc::Global;
 use std::test::Fail;
 use svn_types::{Name, PathFault, PropName, RelPath};
@@ -89,6 +89,7 @@ const NAMES: &[(&str, u32)] = &[
     ("..", 2),
     ("/", 3),
     ("a/", 3),
+    ("a/b", 3),
     ("\u{0}", 3),
     ("\u{1f}", 3),
     ("\u{7f}", 3),
@@ -133,6 +134,25 @@ fn texts_are_names_or_not(rt: HostRuntime) {
             number_of(PropName::parse(rt.alloc(), text)),
             *fault,
             "{text:?}"
+        );
+    }
+}
+
+// Bytes that need be no UTF-8.
+const PROP_BYTES: &[(&[u8], u32)] = &[
+    (b"svn:eol-style", 0),
+    (b"", 1),
+    (b"p\xff", 3),
+    (b"p\xc3\xa9", 3),
+];
+
+#[test]
+fn bytes_are_names_of_properties_or_not(rt: HostRuntime) {
+    for (bytes, fault) in PROP_BYTES {
+        assert_eq!(rt;
+            number_of(PropName::from_bytes(rt.alloc(), bytes)),
+            *fault,
+            "{bytes:?}"
         );
     }
 }
