@@ -1,5 +1,5 @@
 -- Another child put into a fresh directory of a draft: the tree has the child's part there, and nothing else changes.
-use Rattle.std.proofs.Common.{◌≡◌, ◌≢◌, ℕ, ◌<◌, ◌≤◌, cond, List, [], ◌∷◌, ◌++◌, length, refl, arith, Option, Some, None, subst, sym, ap}
+use Rattle.std.proofs.Common.{◌≡◌, ◌≢◌, ℕ, ◌<◌, ◌≤◌, cond, List, [], ◌∷◌, ◌++◌, length, refl, arith, Option, Some, None, sym, ap}
 use Rattle.std.proofs.Common.{◌∙◌, ◌⊎◌, inl, inr}
 use Rattle.std.specs.Prelude.{bytes_eq}
 use Rattle.std.specs.Option.{option_and_then, option_map}
@@ -9,10 +9,11 @@ use Rattle.svn_types.specs.Names.{Path}
 use Rattle.svn_repo.specs.History.{child_in, walk}
 use Rattle.svn_repo.specs.Stored.{row_of, rows}
 use Rattle.svn_repo.specs.Walks.{rest_below, led}
-use Rattle.svn_repo.specs.Trees.{Tree, place_of, place_at, touched, touch, graft}
-use Rattle.svn_repo.specs.Drafts.{IsDraft, IsClosedIn, PutsChild, shape_at, tree_in}
+use Rattle.svn_repo.specs.Trees.{Tree, place_at, touched, touch, graft}
+use Rattle.svn_repo.specs.Drafts.{IsDraft, IsClosedIn, PutsChild, tree_in}
 use Rattle.svn_repo.proofs.Walking.{SameBut, IsOnlyWay, and_then_same, and_then_parts, walk_after_put, rest_below_is}
 use Rattle.svn_repo.proofs.Entering.{each-put}
+use Rattle.svn_repo.proofs.EntryWrites.{shape_put}
 use Rattle.svn_repo.proofs.Thawing.{place_from_shape, within_more, rest_below_self}
 
 pub led_same : {T : Type 0} (o : Option Path) (u v : Path → T) (x y : T) → ((r : Path) → u r ≡ v r) → (o ≡ None → x ≡ y)
@@ -43,14 +44,8 @@ module _ (base : ℕ) (mid new : List Node) (root at : ℕ) (p : Path) (name : L
       (walk (rows mid) root q)
   walk_put = walk_after_put (rows mid) (rows new) at root p name w rows_but put.children only_way (λ c e r h. aside c at p r e fresh h way)
 
-  shape_put : (m : ℕ) → shape_at new m ≡ shape_at mid m
-  shape_put m = elim (cases_eq m at) [
-    | inl e ↦ subst (λ k. shape_at new k ≡ shape_at mid k) (sym e) put.shape
-    | inr ne ↦ ap (λ o. option_map (place_of None) (option_map row_of o)) (put.others m ne)
-  ]
-
   places : (o : Option ℕ) → option_and_then (place_at (rows new) base) o ≡ option_and_then (place_at (rows mid) base) o
-  places o = and_then_same (place_at (rows new) base) (place_at (rows mid) base) o (λ m e. place_from_shape new mid base m (shape_put m))
+  places o = and_then_same (place_at (rows new) base) (place_at (rows mid) base) o (λ m e. place_from_shape new mid base m (shape_put mid new at name w put m))
 
   part_tree : (r : Path) (v : Option ℕ) → option_and_then (place_at (rows mid) base)
       (option_and_then (λ c. walk (rows mid) c r) v) ≡ option_and_then (λ c. tree_in base mid c r) v

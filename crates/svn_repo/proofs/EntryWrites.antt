@@ -1,7 +1,7 @@
 -- What writing the entries of one directory does to the nodes.
-use Rattle.std.proofs.Common.{◌≡◌, ◌≢◌, ℕ, zero, suc, ◌-◌, ◌<◌, ◌≤◌, ◌++◌, List, ◌∷◌, [], length, refl, ap, sym, subst, ◌∙◌, Option, Some, arith}
+use Rattle.std.proofs.Common.{◌≡◌, ◌≢◌, ℕ, zero, suc, ◌-◌, ◌<◌, ◌≤◌, ◌++◌, List, ◌∷◌, [], length, refl, ap, sym, subst, ◌∙◌, Option, Some, None, arith}
 use Rattle.std.proofs.Common.{Result, Ok, Err, inl, inr, length-append}
-use Rattle.std.proofs.lemmas.Bool.{cases_lt}
+use Rattle.std.proofs.lemmas.Bool.{cases_lt, cases_eq}
 use Rattle.std.specs.Prelude.{OnOk}
 use Rattle.std.specs.List.{slice_get, slice_set}
 use Rattle.std.specs.Option.{option_map}
@@ -13,7 +13,8 @@ use Rattle.svn_types.specs.Names.{IsName}
 use Rattle.svn_types.specs.Pairs.{ChangesOnly, with_value}
 use Rattle.svn_repo.specs.History.{child_in}
 use Rattle.svn_repo.specs.Stored.{row_of, rows}
-use Rattle.svn_repo.specs.Drafts.{PutsChild, ThawsChild, copied}
+use Rattle.svn_repo.specs.Trees.{place_of}
+use Rattle.svn_repo.specs.Drafts.{PutsChild, ThawsChild, copied, shape_at}
 
 pub slice_get-set_other : {X : Type 0} (xs : List X) (i : ℕ) (v : X) (m : ℕ) → m ≢ i → slice_get (slice_set xs i v) m ≡ slice_get xs m
 slice_get-set_other xs i v m ne = grind (arith, common_steps, gets)
@@ -42,6 +43,14 @@ puts_child old at node es fs name child here is changes written is_name =
       entries = rw (row_now, row_was) written;
       named = is_name;
     }
+
+-- no node but for its entries changes
+pub shape_put : (old new : List Node) (at : ℕ) (name : List ℕ) (child : Option ℕ) → PutsChild old new at name child → (m : ℕ)
+    → shape_at new m ≡ shape_at old m
+shape_put old new at name child put m = elim (cases_eq m at) [
+  | inl e ↦ subst (λ k. shape_at new k ≡ shape_at old k) (sym e) put.shape
+  | inr ne ↦ ap (λ o. option_map (place_of None) (option_map row_of o)) (put.others m ne)
+]
 
 pub slice_get-append : {X : Type 0} (xs ys : List X) (m : ℕ) → m < length xs → slice_get (xs ++ ys) m ≡ slice_get xs m
 slice_get-append (x ∷ xs) ys zero h = refl

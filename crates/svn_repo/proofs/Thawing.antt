@@ -14,7 +14,7 @@ use Rattle.svn_repo.specs.Stored.{row_of, rows, entries_of}
 use Rattle.svn_repo.specs.Walks.{rest_below, led}
 use Rattle.svn_repo.specs.Trees.{Place, Tree, place_of, place_at, tree_below, touched, touch, is_within}
 use Rattle.svn_repo.specs.Drafts.{IsDraft, IsDraftEntries, IsClosedIn, ThawsChild, already, copied, PutsChild, shape_at, tree_in, IsThawed}
-use Rattle.svn_repo.proofs.EntryWrites.{slice_get-append, slice_get-push}
+use Rattle.svn_repo.proofs.EntryWrites.{slice_get-append, slice_get-push, shape_put}
 use Rattle.svn_repo.proofs.Entering.{old_entries, each-push, each-put}
 use Rattle.svn_repo.proofs.Walking.{SameBut, IsApart, IsOnlyWay, and_then_same, and_then_parts, walk_step, walk_on, walk_after_put}
 use Rattle.svn_repo.proofs.Walking.{rest_below_is}
@@ -233,10 +233,7 @@ module _ (base : ℕ) (old between new : List Node) (root at : ℕ) (p : Path) (
           copy_walk x r ∙ sym (ap (walk (rows old) root) s ∙ walk_on (rows old) root n (p ++ name ∷ []) (x ∷ r) way_child)
 
   shape_new : (m : ℕ) → shape_at new m ≡ shape_at between m
-  shape_new m = elim (cases_eq m at) [
-    | inl e ↦ subst (λ k. shape_at new k ≡ shape_at between k) (sym e) put.shape
-    | inr ne ↦ ap (λ o. option_map (place_of None) (option_map row_of o)) (put.others m ne)
-  ]
+  shape_new = shape_put between new at name (Some (length old)) put
 
   shape_old : (m : ℕ) → m < length old → shape_at new m ≡ shape_at old m
   shape_old m h = shape_new m ∙ ap (option_map (place_of None)) (rows_between m h)

@@ -12,8 +12,8 @@ use crate::entries::{Entries, NodeId};
 use crate::heights::add_heights;
 use crate::refusal::fault_of;
 use crate::store::{
-    Content, Draft, Node, Past, PropSetting, Stored, child, lookup_in, push_child, put_made,
-    put_old, put_prop, split_path, thaw_path,
+    Content, Draft, Node, Past, PropSetting, Stored, lookup_in, put_child, put_made, put_old,
+    put_prop, split_path, thaw_path,
 };
 use std::alloc::AllocError;
 use svn_types::{Name, Props, Rev, Text};
@@ -64,7 +64,8 @@ fn file_node(
     }
 }
 
-// Puts a text under a name of a directory, and says whether a file stood there.
+// Puts a text under a name of a directory, and says whether a file stood there. The name leads to the file before that is made, so that it is
+// looked up once.
 fn put_text(
     nodes: &mut Vec<Node>,
     at: NodeId,
@@ -78,9 +79,10 @@ fn put_text(
     ensures stood { IfOk result (λ stood. stood ≡ is_some (child_in (rows nodes.old.items at) name.now)) }
     ensures kept { (base : ℕ) → base ≤ at → base ≤ length nodes.old.items → KeepsOld base nodes.old.items nodes.new.items }
 {
-    let old = child(nodes, at, name);
+    let index = nodes.len();
+    let old = put_child(nodes, at, name, Some(NodeId { index }))?;
     let node = file_node(nodes, old, lines, text)?;
-    push_child(nodes, at, name, node)?;
+    nodes.push(node)?;
     Ok(old.is_some())
 }
 

@@ -1,5 +1,5 @@
 //! Node numbers, and the entries of a directory.
-ghost use Rattle.std.specs.Prelude.{◌≡◌, ◌↔◌, IsTrue, ℕ, ◌<◌, ◌≤◌, ◌^◌, List, [], length, OnOk, OnErr, IfSome, Some, None};
+ghost use Rattle.std.specs.Prelude.{◌≡◌, ◌↔◌, IsTrue, ℕ, ◌<◌, ◌≤◌, ◌^◌, List, [], length, IfOk, OnOk, OnErr, IfSome, Some, None};
 ghost use Rattle.std.specs.List.{All};
 ghost use Rattle.std.specs.Map.Iter.{ShowsInOrder, deref_pair};
 ghost use Rattle.std.specs.Map.{lookup, remove_entry};
@@ -107,13 +107,14 @@ impl Entries {
         &self.map
     }
 
-    pub(crate) fn insert(&mut self, name: Name, node: NodeId) -> Result<(), AllocError>
+    // Makes a name lead to a node, and answers where it led.
+    pub(crate) fn insert(&mut self, name: Name, node: NodeId) -> Result<Option<NodeId>, AllocError>
+        ensures found { IfOk result (λ found. found ≡ value_of self.old name) }
         ensures ok { OnOk result (self.new ≡ insert_entry name_cmp self.old name node) }
         ensures lookups { OnOk result (ChangesOnly self.old self.new name (Some node)) }
         ensures err { OnErr result (self.new ≡ self.old) }
     {
-        self.map.insert(name, node)?;
-        Ok(())
+        Ok(self.map.insert(name, node)?)
     }
 
     // The node under the last name, if it is this one.
@@ -148,11 +149,13 @@ impl Entries {
         Some(found)
     }
 
-    pub(crate) fn remove(&mut self, name: &Name)
+    // Makes a name lead nowhere, and answers where it led.
+    pub(crate) fn remove(&mut self, name: &Name) -> Option<NodeId>
+        ensures found { result ≡ value_of self.old name.now }
         ensures removed { self.new ≡ remove_entry (is_at (name_cmp name.now)) self.old }
         ensures lookups { ChangesOnly self.old self.new name.now None }
     {
-        self.map.remove(name);
+        self.map.remove(name)
     }
 }
 

@@ -1,7 +1,7 @@
 //! The stored nodes, each named by its place.
 ghost use Rattle.std.specs.Prelude.{◌≡◌, ◌≢◌, ℕ, ◌<◌, slice_get, length, vec_len, ◌≤◌, IsSome, IfOk, OnOk, OnErr, option_map, option_and_then, Some, None, true, List, [], ◌∷◌, ◌++◌};
 ghost use Rattle.svn_types.specs.Names.{IsName};
-ghost use Rattle.svn_types.specs.Pairs.{with_value, ChangesOnly};
+ghost use Rattle.svn_types.specs.Pairs.{with_value, value_of, ChangesOnly};
 ghost use Rattle.svn_repo.specs.History.{child_in, walk};
 ghost use Rattle.svn_repo.specs.Stored.{row_of, rows, kind_of, entries_of};
 ghost use Rattle.svn_repo.specs.Trees.{IsWay, is_directory_place, leaf, place_of, place_at, with_prop};
@@ -140,7 +140,12 @@ fn copy_node(nodes: &mut Vec<Node>, id: NodeId) -> Result<NodeId, AllocError>
     Ok(NodeId { index })
 }
 
-fn put_entry(entries: &mut Entries, name: &Name, child: Option<NodeId>) -> Result<(), AllocError>
+fn put_entry(
+    entries: &mut Entries,
+    name: &Name,
+    child: Option<NodeId>,
+) -> Result<Option<NodeId>, AllocError>
+    ensures found { IfOk result (λ found. found ≡ value_of entries.old name.now) }
     ensures ok { OnOk result (entries.new ≡ with_value entries.old name.now child) }
     ensures lookups { OnOk result (ChangesOnly entries.old entries.new name.now child) }
     ensures named { IsName name.now }
@@ -149,28 +154,26 @@ fn put_entry(entries: &mut Entries, name: &Name, child: Option<NodeId>) -> Resul
     let _text = name.as_str();
     match child {
         Some(child) => entries.insert(name.clone()?, child),
-        None => {
-            entries.remove(name);
-            Ok(())
-        }
+        None => Ok(entries.remove(name)),
     }
 }
 
-// Makes a name of a directory lead to a child, or nowhere.
-fn put_child(
+// Makes a name of a directory lead to a child, or nowhere, and answers where it led.
+pub(crate) fn put_child(
     nodes: &mut Vec<Node>,
     at: NodeId,
     name: &Name,
     child: Option<NodeId>,
-) -> Result<(), AllocError>
+) -> Result<Option<NodeId>, AllocError>
     requires { IsListing nodes.old.items at }
+    ensures found { IfOk result (λ found. found ≡ child_in (rows nodes.old.items at) name.now) }
     ensures ok { OnOk result (PutsChild nodes.old.items nodes.new.items at name.now child) }
     ensures others { (m : ℕ) → m ≢ at → slice_get nodes.new.items m ≡ slice_get nodes.old.items m }
     ensures size { length nodes.new.items ≡ length nodes.old.items }
 {
     let node = &mut nodes[at.index];
     match &mut node.content {
-        Content::Text(_) => Ok(()),
+        Content::Text(_) => Ok(None),
         Content::Listing(entries) => put_entry(entries, name, child),
     }
 }
@@ -283,20 +286,16 @@ pub(crate) fn split_path(names: &[Name]) -> (&Name, &[Name])
     (last, above)
 }
 
-/// Puts a new node behind the others, and makes a name of a directory lead to it.
-pub(crate) fn push_child(
-    nodes: &mut Vec<Node>,
-    at: NodeId,
-    name: &Name,
-    node: Node,
-) -> Result<(), AllocError>
+// Puts a new node behind the others, and makes a name of a directory lead to it.
+fn push_child(nodes: &mut Vec<Node>, at: NodeId, name: &Name, node: Node) -> Result<(), AllocError>
     requires { IsListing nodes.old.items at }
     ensures ok { OnOk result (PutsChild (nodes.old.items ++ node ∷ []) nodes.new.items at name.now (Some (length nodes.old.items))) }
     ensures kept { (base : ℕ) → base ≤ at → base ≤ length nodes.old.items → KeepsOld base nodes.old.items nodes.new.items }
 {
     let index = nodes.len();
     nodes.push(node)?;
-    put_child(nodes, at, name, Some(NodeId { index }))
+    put_child(nodes, at, name, Some(NodeId { index }))?;
+    Ok(())
 }
 
 /// Puts a new node at a path of a draft, and answers the new root.
