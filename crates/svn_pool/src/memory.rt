@@ -1,0 +1,89 @@
+// The bytes of a page: beside its block while they are few, and then in it. So many pools that hold little lie close together,
+// and of their blocks, which have to be there for what may come, no memory is touched.
+ghost use Rattle.std.specs.Prelude.{◌≡◌, ◌+◌, ◌^◌, ◌<◌, ◌≤◌, ◌++◌, [], length, IfSome};
+
+use crate::owned::Owned;
+use crate::source::Arena;
+use arrayvec::ArrayVec;
+use std::alloc::Allocator;
+use std::marker::Model;
+
+// How many bytes lie beside a block: a path and a short text.
+const FEW: usize = 112;
+
+#[derive(Drop)]
+pub(crate) struct Memory<A: Allocator + Copy> {
+    few: ArrayVec<u8, FEW>,
+    many: Owned<A>,
+}
+
+impl<A: Allocator + Copy> Model for Memory<A> {
+    ghost use Rattle.std.specs.Prelude.{◌≡◌, ◌⊎◌, ◌++◌, []};
+    ghost use Rattle.svn_pool.specs.Memory.{Written};
+
+    ghost Value = { Written };
+
+    ghost view = { λ m. record { cap = m.many.cap; bytes = m.few.items ++ m.many.bytes } };
+
+    ghost invariant = { λ m. (m.few.items ≡ []) ⊎ (m.many.bytes ≡ []) };
+}
+
+impl<A: Allocator + Copy> Memory<A> {
+    // Room for `cap` bytes, none of which is written, or `None` where the allocator refuses.
+    pub(crate) fn new(arena: Arena<A>, cap: usize) -> Option<Memory<A>>
+        requires { cap < 2 ^ 63 }
+        ensures { IfSome result (λ m. m ≡ record { cap = cap; bytes = [] }) }
+    {
+        let many = Owned::new(arena, cap)?;
+        Some(Memory {
+            few: ArrayVec::new(),
+            many,
+        })
+    }
+
+    pub(crate) fn capacity(&self) -> usize
+        ensures { result ≡ self.now.cap }
+    {
+        self.many.capacity()
+    }
+
+    // The bytes that are left.
+    pub(crate) fn room(&self) -> usize
+        requires { length self.now.bytes ≤ self.now.cap }
+        ensures { result + length self.now.bytes ≡ self.now.cap }
+    {
+        self.many.capacity() - (self.few.len() + self.many.len())
+    }
+
+    // The bytes that are written.
+    pub(crate) fn bytes(&self) -> &[u8]
+        ensures { result.now ≡ self.now.bytes }
+    {
+        if self.many.is_empty() {
+            return self.few.as_slice();
+        }
+        self.many.bytes()
+    }
+
+    // Writes bytes after those that are there.
+    pub(crate) fn append(&mut self, bytes: &[u8])
+        requires { length self.old.bytes + length bytes.now ≤ self.old.cap }
+        ensures { self.new ≡ record { cap = self.old.cap; bytes = self.old.bytes ++ bytes.now } }
+    {
+        if self.many.is_empty() && bytes.len() <= self.few.remaining_capacity() {
+            let _fits = self.few.try_extend_from_slice(bytes);
+            return;
+        }
+        self.many.append(self.few.as_slice());
+        self.few.clear();
+        self.many.append(bytes);
+    }
+
+    // Gives up all bytes that are written.
+    pub(crate) fn reset(&mut self)
+        ensures { self.new ≡ record { cap = self.old.cap; bytes = [] } }
+    {
+        self.few.clear();
+        self.many.reset();
+    }
+}
