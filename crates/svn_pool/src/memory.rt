@@ -74,6 +74,10 @@ impl<A: Allocator + Copy> Memory<A> {
             let _fits = self.few.try_extend_from_slice(bytes);
             return;
         }
+        if self.few.is_empty() {
+            self.many.append(bytes);
+            return;
+        }
         self.many.append(self.few.as_slice());
         self.few.clear();
         self.many.append(bytes);
