@@ -1,5 +1,5 @@
 // Slots in the order of their serials, and where a serial stands among them.
-ghost use Rattle.std.specs.Prelude.{◌≡◌, ◌≢◌, ℕ, ◌-◌, ◌<◌, ◌≤◌, [], true, length, slice_index, IfOk, OnOk, OnErr, MatchOption};
+ghost use Rattle.std.specs.Prelude.{◌≡◌, ◌≢◌, ℕ, ◌-◌, ◌<◌, ◌≤◌, [], true, false, length, slice_index, IfOk, OnOk, OnErr, MatchOption};
 ghost use Rattle.std.specs.BTreeMap.{insert_entry};
 ghost use Rattle.std.specs.Ordering.{nat_cmp};
 ghost use Rattle.svn_serials.specs.Serials.{get};
@@ -67,22 +67,55 @@ fn find_before_last<V>(slots: &[Slot<V>], serial: u64, last: u64) -> Option<usiz
     }
 }
 
+// Whether a serial stands at a place.
+#[inline(always)]
+fn stands_at<V>(slots: &[Slot<V>], place: usize, serial: u64) -> bool
+    ensures hit { result ≡ true → (place < length slots.now) × (slice_index (serials_of slots.now) place ≡ serial) }
+    ensures miss { result ≡ false → place < length slots.now → slice_index (serials_of slots.now) place ≢ serial }
+{
+    place < slots.len() && slots[place].serial == serial
+}
+
+// Where a serial stands, or just before that place, if slots are left out evenly between the first and the last of so many.
+fn even_place(first: u64, last: u64, serial: u64, count: usize) -> Option<usize> {
+    let ahead = serial.checked_sub(first)?;
+    let behind = last.checked_sub(first)?;
+    let place = ahead.checked_mul(count as u64)?.checked_div(behind)?;
+    Some(place as usize)
+}
+
 // Where a serial stands that is not the last. If none from it on was left out, it is as far from the end as it is below the last.
+// If every second was, say, or two of each three, its part of the way leads there.
 fn place_before_last<V>(slots: &[Slot<V>], serial: u64, last: u64) -> Option<usize>
     requires { IsInOrder slots.now }
     ensures { MatchOption result
         ((k : ℕ) → k < length slots.now → slice_index (serials_of slots.now) k ≢ serial)
         (λ place. (place < length slots.now) × (slice_index (serials_of slots.now) place ≡ serial)) }
 {
+    let end = slots.len().checked_sub(1)?;
     let back = last.saturating_sub(serial);
-    if back < slots.len() as u64 {
-        let place = slots.len() - 1 - back as usize;
-        if slots[place].serial == serial {
+    if back <= end as u64 && stands_at(slots, end - back as usize, serial) {
+        return Some(end - back as usize);
+    }
+    if let Some(place) = even_place(slots[0].serial, last, serial, end) {
+        if stands_at(slots, place, serial) {
             return Some(place);
         }
+        if stands_at(slots, place.saturating_add(1), serial) {
+            return Some(place.saturating_add(1));
+        }
     }
+    place_by_halves(slots, serial)
+}
+
+fn place_by_halves<V>(slots: &[Slot<V>], serial: u64) -> Option<usize>
+    requires { IsInOrder slots.now }
+    ensures { MatchOption result
+        ((k : ℕ) → k < length slots.now → slice_index (serials_of slots.now) k ≢ serial)
+        (λ place. (place < length slots.now) × (slice_index (serials_of slots.now) place ≡ serial)) }
+{
     let place = place_for(slots, serial);
-    if place < slots.len() && slots[place].serial == serial {
+    if stands_at(slots, place, serial) {
         Some(place)
     } else {
         None
