@@ -76,27 +76,33 @@ fn stands_at<V>(slots: &[Slot<V>], place: usize, serial: u64) -> bool
     place < slots.len() && slots[place].serial == serial
 }
 
-// Where a serial stands, or just before that place, if slots are left out evenly between the first and the last of so many.
-fn even_place(first: u64, last: u64, serial: u64, count: usize) -> Option<usize> {
-    let ahead = serial.checked_sub(first)?;
-    let behind = last.checked_sub(first)?;
-    let place = ahead.checked_mul(count as u64)?.checked_div(behind)?;
-    Some(place as usize)
-}
-
 // Where a serial stands that is not the last. If none from it on was left out, it is as far from the end as it is below the last.
-// If every second was, say, or two of each three, its part of the way leads there.
 fn place_before_last<V>(slots: &[Slot<V>], serial: u64, last: u64) -> Option<usize>
     requires { IsInOrder slots.now }
     ensures { MatchOption result
         ((k : ℕ) → k < length slots.now → slice_index (serials_of slots.now) k ≢ serial)
         (λ place. (place < length slots.now) × (slice_index (serials_of slots.now) place ≡ serial)) }
 {
-    let end = slots.len().checked_sub(1)?;
     let back = last.saturating_sub(serial);
-    if back <= end as u64 && stands_at(slots, end - back as usize, serial) {
-        return Some(end - back as usize);
+    if back < slots.len() as u64 {
+        let place = slots.len() - 1 - back as usize;
+        if stands_at(slots, place, serial) {
+            return Some(place);
+        }
     }
+    place_with_gaps(slots, serial, last)
+}
+
+// Where a serial stands among slots of which some were left out. If every second was, say, or two of each three, its part of the way
+// from the first to the last leads there. Not inlined, since most look-ups end before it.
+#[inline(never)]
+fn place_with_gaps<V>(slots: &[Slot<V>], serial: u64, last: u64) -> Option<usize>
+    requires { IsInOrder slots.now }
+    ensures { MatchOption result
+        ((k : ℕ) → k < length slots.now → slice_index (serials_of slots.now) k ≢ serial)
+        (λ place. (place < length slots.now) × (slice_index (serials_of slots.now) place ≡ serial)) }
+{
+    let end = slots.len().checked_sub(1)?;
     if let Some(place) = even_place(slots[0].serial, last, serial, end) {
         if stands_at(slots, place, serial) {
             return Some(place);
@@ -120,6 +126,14 @@ fn place_by_halves<V>(slots: &[Slot<V>], serial: u64) -> Option<usize>
     } else {
         None
     }
+}
+
+// Where a serial stands, or just before that place, if slots are left out evenly between the first and the last of so many.
+fn even_place(first: u64, last: u64, serial: u64, count: usize) -> Option<usize> {
+    let ahead = serial.checked_sub(first)?;
+    let behind = last.checked_sub(first)?;
+    let place = ahead.checked_mul(count as u64)?.checked_div(behind)?;
+    Some(place as usize)
 }
 
 // Whether a serial is above those of all slots.
