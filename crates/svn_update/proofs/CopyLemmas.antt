@@ -1,14 +1,16 @@
 -- Commands on the working copy, where there is one.
-use Rattle.std.proofs.Common.{◌≡◌, ℕ, Bool, true, false, ap, sym, subst, Option, Some, None, Result, Ok, Err}
-use Rattle.std.specs.Prelude.{IsOk, IfErr, OnOk, OnErr}
-use Rattle.std.specs.Result.{is_err}
+use Rattle.std.proofs.Common.{◌≡◌, ℕ, Bool, ap, sym, subst, Option, Some, None, Result, Ok, Err}
+use Rattle.std.specs.Prelude.{IfErr, OnOk, OnErr}
 use Rattle.svn_types.specs.Names.{Path}
 use Rattle.svn_repo.specs.History.{History}
 use Rattle.svn_model.specs.declared.wc_fault.WcFault.{WcFault}
 use Rattle.svn_model.specs.Follow.{Request}
 use Rattle.svn_model.specs.Nodes.{WorkingCopy, get_in, InPathOrder, IsTrueOf}
-use Rattle.svn_run.specs.UpdateTheorem.{Nodes}
-use Rattle.svn_editor.specs.Steps.{Update}
+use Rattle.svn_run.specs.declared.outcome.Outcome.{Outcome}
+use Rattle.svn_run.specs.declared.outcome.RunFault.{RunFault}
+use Rattle.svn_run.specs.UpdateTheorem.{Asked, Nodes, asked as asked_of}
+use Rattle.svn_editor.specs.Steps.{Mode, Update}
+use Rattle.svn_script.specs.declared.command_line.Settings.{Settings}
 use Rattle.svn_report.specs.Reports.{ReportView}
 use Rattle.svn_report.specs.LawfulReports.{IsReport}
 use Rattle.svn_model.specs.Checks.{IsCheckable, target_fault}
@@ -19,9 +21,11 @@ use Rattle.svn_drive.specs.Walking.{asked}
 use Rattle.svn_drive_law.specs.Laws.{the_calls_are_a_drive}
 use Rattle.svn_law.specs.Laws.{IsTrueCopy, crawl_says_what_stands}
 use Rattle.svn_update.specs.declared.answer.Answer.{Answer}
-use Rattle.svn_update.specs.declared.answer.Answer.TheVariants.{Driven, Refused}
-use Rattle.svn_update.specs.declared.answer.Refusal.TheVariants.{Drive as DriveRefused}
-use Rattle.svn_update.specs.Commands.{OnCopy, AnswersBuilder, AnswersDrive, IsRecorded, answer_built}
+use Rattle.svn_update.specs.declared.answer.Answer.TheVariants.{Driven, Ended, Refused}
+use Rattle.svn_update.specs.declared.answer.Refusal.TheVariants.{Drive as DriveRefused, Run as RunRefused}
+use Rattle.svn_update.specs.Commands.{OnCopy, AnswersBuilder, AnswersDrive, AnswersRun, IsRecorded, answer_built}
+use Rattle.svn_update.specs.Runs.{ScriptRun}
+use Rattle.svn_update.specs.ScriptStates.{ScriptState}
 
 -- what is answered for the copy that there is
 pub on_copy : (P : Nodes → Type 0) (old new : Option Nodes) (a : Answer) (w : Nodes) → old ≡ Some w → P w → OnCopy P old new a
@@ -35,21 +39,34 @@ on_changed before h copy w left r a Answers same there is did =
     on_copy (λ w. Answers h w a) copy (Some left) a w there
     (subst (Answers h w) (sym is) (subst (λ (h : History). Answers h w (answer_built r)) same did))
 
+-- how a run of a true copy is answered
+abbrev pub answer_run : Result Outcome RunFault → Answer
+answer_run (Ok outcome) = Ended outcome
+answer_run (Err fault) = Refused (RunRefused fault)
+
+pub run_answers : (s : Settings) (a : Asked) (left : Nodes) (r : Result Outcome RunFault) (answer : Answer) → answer ≡ answer_run r
+    → IsTrueOf a.history (get_in a.copy) → InPathOrder left → ScriptRun s a left r → AnswersRun s a (Some left) answer
+run_answers s a left (Ok outcome) answer is truth in_order ran =
+    subst (AnswersRun s a (Some left)) (sym is) (truth, ran.begun, (in_order, ran.ran))
+run_answers s a left (Err fault) answer is truth in_order ran =
+    subst (AnswersRun s a (Some left)) (sym is) (ap (λ (w : Nodes). Some w) ran.unchanged, truth, ran.refused)
+
+-- what a run of the copy that there is answers
+pub on_run : (s : Settings) (inside state : ScriptState) (target : ℕ) (mode : Mode) (late : Bool) (cancel : Option ℕ) (w : Nodes)
+    (left : Option Nodes) (a : Answer) → inside ≡ state → inside.copy ≡ Some w
+    → AnswersRun s (asked_of inside.repo w target mode late cancel) left a
+    → OnCopy (λ w. AnswersRun s (asked_of state.repo w target mode late cancel) left a) state.copy left a
+on_run s inside state target mode late cancel w left a is there did =
+    subst
+    (λ (t : ScriptState). OnCopy (λ w. AnswersRun s (asked_of t.repo w target mode late cancel) left a) t.copy left a)
+    is (on_copy (λ w. AnswersRun s (asked_of inside.repo w target mode late cancel) left a) inside.copy left a w there did)
+
 -- a copy that was to be changed is made as its definition says, or is as it was
 pub built : (fault : Option WcFault) (IsFault : WcFault → Type 0) (made : WorkingCopy) (old new : Nodes) (r : Result (Unit {0}) WcFault)
     → OnOk r ((p : Path) → get_in new p ≡ made p) → OnOk r (fault ≡ None) → IfErr r IsFault → OnErr r (new ≡ old) → InPathOrder new
     → AnswersBuilder fault IsFault made (Some old) (Some new) (answer_built r)
 built fault IsFault made old new (Ok x) nodes can f u in_order = (can, (in_order, nodes))
 built fault IsFault made old new (Err e) nodes can f u in_order = (ap (λ (w : Nodes). Some w) u, f)
-
--- a test that fails where the fact holds says that it doesn't
-pub not_true : {T E : Type 0} (r : Result T E) (P : Type 0) → (P → IsOk r) → is_err r ≡ true → P → ⊥
-not_true (Ok x) P test err p = absurd cc
-not_true (Err e) P test err p = let ok = test p in cc
-
-pub is_true : {T E : Type 0} (r : Result T E) (P : Type 0) → OnOk r P → is_err r ≡ false → P
-is_true (Ok x) P test ok = test
-is_true (Err e) P test ok = absurd cc
 
 -- the drive of a true copy
 pub drives : (h : History) (w : Nodes) (d : Request) (late : Bool) (a : Answer) → IsTrueOf h (get_in w) → IsRecorded d late a

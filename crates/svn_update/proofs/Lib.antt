@@ -6,3 +6,5 @@ pub mod DriveLemmas
 pub mod RunLemmas
 -- Lines that are done one after the other.
 pub mod ScriptLemmas
+-- The working copy of a script stays true of its repository.
+pub mod TruthLemmas

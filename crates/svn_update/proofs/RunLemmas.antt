@@ -10,15 +10,16 @@ use Rattle.svn_update.specs.Runs.{ThreadsRun, ScriptRun}
 -- what the two threads passed is left out
 pub outcome_alone : (a : Asked) (capacity : ℕ) (left : Nodes) (o : Outcome) (passed : Passed)
     → ThreadsTheorem a capacity left (Ok (o, passed)) → ThreadsRun a capacity left (Ok o)
-outcome_alone a capacity left o passed t = record { refused = tt; unchanged = tt; begun = t.begun; ran = t.ran.ran }
+outcome_alone a capacity left o passed t = record { refused = tt; unchanged = tt; begun = t.begun; ran = t.ran.ran; sound = t.sound }
 
 pub fault_alone : (a : Asked) (capacity : ℕ) (left : Nodes) (e : RunFault) → ThreadsTheorem a capacity left (Err e)
     → ThreadsRun a capacity left (Err e)
-fault_alone a capacity left e t = record { refused = t.refused; unchanged = t.unchanged; begun = tt; ran = tt }
+fault_alone a capacity left e t = record { refused = t.refused; unchanged = t.unchanged; begun = tt; ran = tt; sound = t.sound }
 
 pub run_in_turn : (s : Settings) (a : Asked) (left : Nodes) (answer : Result Outcome RunFault) → s.in_turn ≡ true
     → TurnTheorem a left answer → ScriptRun s a left answer
-run_in_turn s a left answer e t = rw e (record { refused = t.refused; unchanged = t.unchanged; begun = t.begun; ran = t.ran })
+run_in_turn s a left answer e t =
+    rw e (record { refused = t.refused; unchanged = t.unchanged; begun = t.begun; ran = t.ran; sound = t.sound })
 
 pub run_in_threads : (s : Settings) (a : Asked) (left : Nodes) (answer : Result Outcome RunFault) → s.in_turn ≡ false
     → ThreadsRun a s.capacity left answer → ScriptRun s a left answer

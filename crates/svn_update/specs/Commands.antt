@@ -30,7 +30,7 @@ use Rattle.svn_run.specs.UpdateTheorem.{Asked, Nodes, asked, IsRefusal, Ran}
 use Rattle.svn_script.specs.declared.command_line.Settings.{Settings}
 use Rattle.svn_script.specs.declared.command.Command.{Command}
 use Rattle.svn_script.specs.declared.command.Command.TheVariants as command
-use Rattle.svn_update.specs.declared.answer.Refusal.TheVariants.{NoCopy, Untrue, Memory as ListMemory, Commit as CommitRefused}
+use Rattle.svn_update.specs.declared.answer.Refusal.TheVariants.{NoCopy, Memory as ListMemory, Commit as CommitRefused}
 use Rattle.svn_update.specs.declared.answer.Refusal.TheVariants.{Copy as CopyRefused, Drive as DriveRefused, Run as RunRefused}
 use Rattle.svn_update.specs.declared.answer.Answer.{Answer}
 use Rattle.svn_update.specs.declared.answer.Answer.TheVariants.{Silent, Committed, Done, Reported, Driven, Ended, Nodes as NodesShown}
@@ -109,9 +109,8 @@ IsRecorded d late (Refused (DriveRefused e)) = (target_fault d ≡ Some e) ⊎ I
 IsRecorded d late (Driven calls) = (target_fault d ≡ None) × IsDrive d late calls
 IsRecorded d late _ = ⊥
 
--- the drive of what the copy reports
+-- the drive of what the copy reports, which is true of the repository
 abbrev pub AnswersDrive : History → Nodes → Request → Bool → Answer → Type 0
-AnswersDrive h w d late (Refused Untrue) = IsTrueOf h (get_in w) → ⊥
 AnswersDrive h w d late (Refused (CopyRefused e)) = IsTrueOf h (get_in w) × (e ≡ CopyMemory)
 AnswersDrive h w d late (Refused (DriveRefused e)) = IsTrueOf h (get_in w) × ((target_fault d ≡ Some e) ⊎ IsDriveWant d late e)
 AnswersDrive h w d late (Driven calls) = IsTrueOf h (get_in w) × (target_fault d ≡ None) × IsDrive d late calls
@@ -123,9 +122,8 @@ abbrev pub LeavesRan : Asked → Option Nodes → Outcome → Type 0
 LeavesRan a None o = ⊥
 LeavesRan a (Some left) o = InPathOrder left × Ran a left o
 
--- a copy that isn't true is refused, and no other is refused so; else the run ends as the update theorem says
+-- the copy is true of the repository, and the run ends as the update theorem says
 abbrev pub AnswersRun : Settings → Asked → Option Nodes → Answer → Type 0
-AnswersRun s a new (Refused Untrue) = (new ≡ Some a.copy) × (IsTrueOf a.history (get_in a.copy) → ⊥)
 AnswersRun s a new (Refused (RunRefused fault)) =
     (new ≡ Some a.copy) × IsTrueOf a.history (get_in a.copy) × IsRefusal (run_fault s a) (IsRunWant s.in_turn) fault
 AnswersRun s a new (Ended o) = IsTrueOf a.history (get_in a.copy) × (run_fault s a ≡ None) × LeavesRan a new o

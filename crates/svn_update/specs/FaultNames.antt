@@ -88,7 +88,6 @@ run_fault_name run.NoThread = codes "NoThread"
 
 abbrev pub refusal_name : Refusal → List ℕ
 refusal_name refusal.NoCopy = codes "NoCopy"
-refusal_name refusal.Untrue = codes "Untrue"
 refusal_name refusal.Memory = codes "Memory"
 refusal_name (refusal.Commit fault) = commit_fault_name fault
 refusal_name (refusal.Copy fault) = wc_fault_name fault

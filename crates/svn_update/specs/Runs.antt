@@ -5,7 +5,7 @@
 use Rattle.std.specs.Prelude.{◌≡◌, ℕ, Bool, true, false, Option, None, Result, IfOk, IfErr, OnOk, OnErr, if◌then◌else◌}
 use Rattle.svn_run.specs.declared.outcome.Outcome.{Outcome}
 use Rattle.svn_run.specs.declared.outcome.RunFault.{RunFault}
-use Rattle.svn_run.specs.UpdateTheorem.{Asked, Nodes, fault_in_turn, fault_in_threads, IsRefusal, IsWantOfMemory, IsWantInThreads, Ran}
+use Rattle.svn_run.specs.UpdateTheorem.{Asked, Nodes, fault_in_turn, fault_in_threads, IsRefusal, IsWantOfMemory, IsWantInThreads, IsSound, Ran}
 use Rattle.svn_script.specs.declared.command_line.Settings.{Settings}
 
 -- the capacity is looked at only where two threads run
@@ -24,6 +24,8 @@ pub record RunBy (fault : Option RunFault) (IsWant : RunFault → Type 0) (a : A
   pub unchanged : OnErr answer (left ≡ a.copy)
   pub begun : OnOk answer (fault ≡ None)
   pub ran : IfOk answer (Ran a left)
+  -- whatever the answer
+  pub sound : IsSound a left
 
 abbrev pub ThreadsRun : Asked → ℕ → Nodes → Result Outcome RunFault → Type 0
 ThreadsRun a capacity left answer = RunBy (fault_in_threads a capacity) IsWantInThreads a left answer

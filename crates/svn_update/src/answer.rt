@@ -21,8 +21,6 @@ use svn_wc::WorkingCopy;
 pub(crate) enum Refusal {
     /// There is no working copy yet.
     NoCopy,
-    /// The working copy isn't what a checkout gives.
-    Untrue,
     /// A growth of the list of changes was refused.
     Memory,
     /// `commit` was refused.

@@ -103,16 +103,13 @@ impl State {
         }
     }
 
-    /// Drives what the copy reports into a recorder. The copy has to be true.
+    /// Drives what the copy reports into a recorder.
     pub(crate) fn drive(&self, rev: Rev, late: bool) -> Answer
         ensures { OnCopy (λ w. AnswersDrive self.now.repo w (request_of self.now.repo w rev Update md5) late result) self.now.copy self.now.copy result }
     {
         let Some(copy) = &self.copy else {
             return Answer::Refused(Refusal::NoCopy);
         };
-        if copy.check_true(&self.repo).is_err() {
-            return Answer::Refused(Refusal::Untrue);
-        }
         self.repo.law();
         copy.law();
         crawl_says_what_stands();
@@ -139,7 +136,7 @@ impl State {
         }
     }
 
-    /// Updates the copy, or switches it whole. It has to be true.
+    /// Updates the copy, or switches it whole.
     pub(crate) fn run_to<T: Threads + Wait + Sync>(
         &mut self,
         rt: &T,
@@ -152,9 +149,6 @@ impl State {
         let Some(copy) = &mut self.copy else {
             return Answer::Refused(Refusal::NoCopy);
         };
-        if copy.check_true(&self.repo).is_err() {
-            return Answer::Refused(Refusal::Untrue);
-        }
         let ended = run_copy(rt, self.alloc, settings, &self.repo, copy, wanted);
         copy.law();
         match ended {

@@ -115,7 +115,6 @@ pub(crate) fn refusal_name(refusal: Refusal) -> &'static str
 {
     match refusal {
         Refusal::NoCopy => "NoCopy",
-        Refusal::Untrue => "Untrue",
         Refusal::Memory => "Memory",
         Refusal::Commit(fault) => commit_fault_name(fault),
         Refusal::Copy(fault) => wc_fault_name(fault),

@@ -13,11 +13,13 @@ use std::io::Write;
 use std::marker::Model;
 use std::sync::Wait;
 use std::thread::Threads;
+use svn_edit_law::commits_keep_copies_true;
 use svn_repo::{Change, CommitFault, Repo};
 use svn_script::{Command, Settings};
 use svn_wc::WorkingCopy;
 
-/// A repository, the changes for its next commit, and a working copy once one was checked out. A contract sees it as these three.
+/// A repository, the changes for its next commit, and a working copy once one was checked out. A contract sees it as these three. The copy is true
+/// of the repository at any moment, so no command tests it before a drive or a run.
 #[derive(Drop)]
 pub(crate) struct State {
     pub(crate) alloc: Global,
@@ -27,11 +29,13 @@ pub(crate) struct State {
 }
 
 impl Model for State {
-    ghost use Rattle.svn_update.specs.ScriptStates.{ScriptState};
+    ghost use Rattle.svn_update.specs.ScriptStates.{ScriptState, CopyIsTrue};
 
     ghost Value = { ScriptState };
 
     ghost view = { λ s. record { repo = s.repo; pending = s.pending.items; copy = s.copy } };
+
+    ghost invariant = { λ s. CopyIsTrue s.repo s.copy };
 }
 
 impl State {
@@ -70,6 +74,9 @@ impl State {
     fn commit(&mut self, settings: Settings) -> Answer
         ensures { Does settings Command.Commit self.old self.new result }
     {
+        // what the copy came from stands in the grown repository too
+        self.repo.law();
+        commits_keep_copies_true();
         let committed = self.repo.commit(&self.pending);
         self.pending.clear();
         match committed {

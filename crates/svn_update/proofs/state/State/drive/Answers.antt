@@ -8,15 +8,9 @@ use Rattle.svn_model.specs.Nodes.{get_in, IsTrueOf}
 use Rattle.svn_law.specs.Laws.{IsTrueCopy, request_of}
 use Rattle.svn_update.specs.Commands.{IsRecorded}
 use Rattle.svn_update.specs.ScriptStates.{ScriptState}
-use Rattle.svn_update.proofs.CopyLemmas.{drives, driven, is_true, not_true, on_copy}
+use Rattle.svn_update.proofs.CopyLemmas.{drives, driven, on_copy}
+use Rattle.svn_update.proofs.TruthLemmas.{found_true}
 use Rattle.svn_update.proofs.state.State.drive.Goals as goal
-
-pub returns-then-is_err : goal.returns-then-is_err
-returns-then-is_err c =
-    on_copy _ _ _ _ c.in-Some.copy (ap (λ (s : ScriptState). s.copy) (sym c.self.view_is) ∙ c.in-Some.is)
-    (subst (λ (h : History). IsTrueOf h (get_in c.in-Some.copy) → ⊥) (ap (λ (s : ScriptState). s.repo) c.self.view_is)
-    (not_true c.check_true.result (IsTrueOf c.self.inside.repo (get_in c.in-Some.copy)) c.check_true.ensures.true_is_ok
-    (sym c.is_err.ensures.value ∙ c.if-is_err.true)))
 
 pub drive_report-requires : goal.drive_report-requires
 drive_report-requires c =
@@ -26,9 +20,7 @@ drive_report-requires c =
       history = c.law.ensures.history;
       in_order = c.law-2.ensures.order;
       shape = c.law-2.ensures.shape;
-      true_of =
-          is_true c.check_true.result (IsTrueOf c.self.inside.repo (get_in c.in-Some.copy)) c.check_true.ensures.is_true
-          (sym c.is_err.ensures.value ∙ c.if-is_err.false);
+      true_of = found_true c.self.inside.repo c.self.inside.copy c.in-Some.copy c.self.invariant c.in-Some.is;
     }) in
     record {
       drive =
@@ -43,7 +35,14 @@ returns-in-Ok c =
     (drives c.args.self.now.repo c.in-Some.copy (request_of c.args.self.now.repo c.in-Some.copy c.args.rev Update md5) c.args.late
     c.drive_report.result
     (subst (λ (h : History). IsTrueOf h (get_in c.in-Some.copy)) same_repo
-    (is_true c.check_true.result (IsTrueOf c.self.inside.repo (get_in c.in-Some.copy)) c.check_true.ensures.is_true
-    (sym c.is_err.ensures.value ∙ c.if-is_err.false)))
+    (found_true c.self.inside.repo c.self.inside.copy c.in-Some.copy c.self.invariant c.in-Some.is))
     (subst (λ (r : ReportView). IsRecorded (asked c.args.self.now.repo r c.args.rev Update) c.args.late c.drive_report.result)
     c.in-Ok.ensures.report c.drive_report.ensures))
+
+pub returns-in-Err : goal.returns-in-Err
+returns-in-Err c =
+    on_copy _ _ _ _ c.in-Some.copy (ap (λ (s : ScriptState). s.copy) (sym c.self.view_is) ∙ c.in-Some.is) (
+      subst (λ (h : History). IsTrueOf h (get_in c.in-Some.copy)) (ap (λ (s : ScriptState). s.repo) c.self.view_is)
+          (found_true c.self.inside.repo c.self.inside.copy c.in-Some.copy c.self.invariant c.in-Some.is),
+      c.in-Err.ensures.fault,
+    )

@@ -5,6 +5,7 @@ use Rattle.svn_update.specs.declared.answer.Answer.{Answer}
 use Rattle.svn_update.specs.Commands.{AnswersPlace}
 use Rattle.svn_update.specs.ScriptStates.{ScriptState}
 use Rattle.svn_update.proofs.CopyLemmas.{built, on_changed}
+use Rattle.svn_update.proofs.TruthLemmas.{stays_true}
 use Rattle.svn_update.proofs.state.State.place.Goals as goal
 
 pub returns-clause-answer : goal.returns-clause-answer
@@ -16,3 +17,8 @@ returns-clause-answer c =
     (built _ _ _ c.in-Some.copy left c.place-placed.result
     c.place-placed.ensures.nodes c.place-placed.ensures.made c.place-placed.ensures.fault c.place-placed.ensures.unchanged
     c.law.ensures.order)
+
+pub invariant_of-self-2 : goal.invariant_of-self-2
+invariant_of-self-2 c =
+    stays_true c.self.inside.repo c.self.inside.copy c.in-Some.copy c.place-placed.new.self c.place-placed.result c.self.invariant c.in-Some.is
+    c.place-placed.ensures.truth c.place-placed.ensures.unchanged

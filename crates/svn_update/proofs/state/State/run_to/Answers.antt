@@ -1,15 +1,26 @@
-use Rattle.std.proofs.Common.{refl, ap, sym, subst, ◌∙◌}
-use Rattle.svn_repo.specs.History.{History}
-use Rattle.svn_model.specs.Nodes.{get_in, IsTrueOf}
-use Rattle.svn_update.specs.ScriptStates.{ScriptState}
-use Rattle.svn_update.proofs.CopyLemmas.{not_true, on_copy}
+use Rattle.std.proofs.Common.{◌≡◌, ap, sym, ◌∙◌, Some}
+use Rattle.std.specs.Option.{option_copied}
+use Rattle.svn_run.specs.Goals.{mode_of}
+use Rattle.svn_run.specs.UpdateTheorem.{asked}
+use Rattle.svn_update.proofs.CopyLemmas.{answer_run, on_run, run_answers}
+use Rattle.svn_update.proofs.TruthLemmas.{found_true}
+use Rattle.svn_update.proofs.state.State.run_to.Goals.{in-Ok, in-Err}
 use Rattle.svn_update.proofs.state.State.run_to.Goals as goal
 
-pub returns-then-is_err-clause-answer : goal.returns-then-is_err-clause-answer
-returns-then-is_err-clause-answer g c =
-    on_copy _ _ _ _ c.in-Some.copy (ap (λ (s : ScriptState). s.copy) (sym c.self.view_is) ∙ c.in-Some.is) (
-      refl,
-      subst (λ (h : History). IsTrueOf h (get_in c.in-Some.copy) → ⊥) (ap (λ (s : ScriptState). s.repo) c.self.view_is)
-          (not_true c.check_true.result (IsTrueOf c.self.inside.repo (get_in c.in-Some.copy)) c.check_true.ensures.true_is_ok
-          (sym c.is_err.ensures.value ∙ c.if-is_err.true)),
-    )
+pub returns-clause-answer : goal.returns-clause-answer
+returns-clause-answer g c =
+    let wanted = c.args.wanted.now in
+    let mode = mode_of (option_copied wanted.to) in
+    let left = c.run_copy-ended.new.copy in
+    let is : c.match-ended.result ≡ answer_run c.run_copy-ended.result =
+    elim c.match-ended.branch [
+      in-Ok w ↦ w.result-is ∙ sym (ap answer_run w.in-Ok.is)
+    | in-Err w ↦ w.result-is ∙ sym (ap answer_run w.in-Err.is)
+    ] in
+    on_run c.args.settings _ c.args.self.now wanted.rev mode wanted.late wanted.cancel_after c.in-Some.copy (Some left) c.match-ended.result
+    c.self.view_is c.in-Some.is
+    (run_answers c.args.settings
+    (asked c.self.inside.repo c.in-Some.copy wanted.rev mode wanted.late wanted.cancel_after) left c.run_copy-ended.result
+    c.match-ended.result is
+    (found_true c.self.inside.repo c.self.inside.copy c.in-Some.copy c.self.invariant c.in-Some.is) c.law.ensures.order
+    c.run_copy-ended.ensures)

@@ -5,6 +5,7 @@ use Rattle.svn_update.specs.declared.answer.Answer.{Answer}
 use Rattle.svn_update.specs.Commands.{AnswersSwitch}
 use Rattle.svn_update.specs.ScriptStates.{ScriptState}
 use Rattle.svn_update.proofs.CopyLemmas.{built, on_changed}
+use Rattle.svn_update.proofs.TruthLemmas.{stays_true}
 use Rattle.svn_update.proofs.state.State.switch.Goals as goal
 
 pub returns-clause-answer : goal.returns-clause-answer
@@ -16,3 +17,8 @@ returns-clause-answer c =
     (built _ _ _ c.in-Some.copy left c.switch-switched.result
     c.switch-switched.ensures.nodes c.switch-switched.ensures.made c.switch-switched.ensures.fault c.switch-switched.ensures.unchanged
     c.law.ensures.order)
+
+pub invariant_of-self-2 : goal.invariant_of-self-2
+invariant_of-self-2 c =
+    stays_true c.self.inside.repo c.self.inside.copy c.in-Some.copy c.switch-switched.new.self c.switch-switched.result c.self.invariant c.in-Some.is
+    c.switch-switched.ensures.truth c.switch-switched.ensures.unchanged
