@@ -14,8 +14,8 @@ returns-clause-answer g c =
     let left = c.run_copy-ended.new.copy in
     let is : c.match-ended.result ≡ answer_run c.run_copy-ended.result =
     elim c.match-ended.branch [
-      in-Ok w ↦ w.result-is ∙ sym (ap answer_run w.in-Ok.is)
-    | in-Err w ↦ w.result-is ∙ sym (ap answer_run w.in-Err.is)
+      | in-Ok w ↦ w.result-is ∙ sym (ap answer_run w.in-Ok.is)
+      | in-Err w ↦ w.result-is ∙ sym (ap answer_run w.in-Err.is)
     ] in
     on_run c.args.settings _ c.args.self.now wanted.rev mode wanted.late wanted.cancel_after c.in-Some.copy (Some left) c.match-ended.result
     c.self.view_is c.in-Some.is
