@@ -9,6 +9,8 @@ mod call;
 #[cfg(test)]
 mod giving_back;
 #[cfg(test)]
+mod many;
+#[cfg(test)]
 mod model;
 #[cfg(test)]
 mod orders;

@@ -13,6 +13,9 @@ const HEAP: usize = 65_536;
 // The heap gives memory in units of so many bytes.
 const UNIT: usize = 16;
 
+// By so many bytes a heap grows from one run of a row to the next. No allocation of a tree is smaller, so none is passed over.
+const STEP: usize = 32;
+
 // Memory that is kept from a tree until it is refused some.
 type Held<'a> = Option<Vec<u8, &'a LocalHeap>>;
 
@@ -58,28 +61,28 @@ impl<'a> Scarce<'a> {
     }
 }
 
-// Runs a row with so many units of the heap at first, and tells whether a call was refused.
+// Runs a row with so many steps of the heap at first, and tells whether a call was refused.
 fn is_refused<R: Abort>(
     rt: &R,
     alloc: Global,
-    units: usize,
+    steps: usize,
     row: &[(Call, Answer)],
 ) -> Result<bool, Fail> {
     let heap = LocalHeap::new(alloc, HEAP)?;
-    let held = Vec::with_capacity(&heap, HEAP.saturating_sub(units.saturating_mul(UNIT)))?;
+    let held = Vec::with_capacity(&heap, HEAP.saturating_sub(steps.saturating_mul(STEP)))?;
     let mut scarce = Scarce::new(&heap, held)?;
     for (call, want) in row {
         let got = scarce.answer(rt, alloc, *call)?;
-        assert_eq!(rt; got, *want, "{call:?} with {units} units");
+        assert_eq!(rt; got, *want, "{call:?} with {steps} steps");
     }
     Ok(scarce.held.is_none())
 }
 
 // Runs a row with ever more memory, so that each allocation is the first to be refused, until none is.
 fn sweep<R: Abort>(rt: &R, alloc: Global, row: &[(Call, Answer)]) -> Result<(), Fail> {
-    for units in 0..HEAP / UNIT {
-        if !is_refused(rt, alloc, units, row)? {
-            assert!(rt; units > 0);
+    for steps in 0..HEAP / STEP {
+        if !is_refused(rt, alloc, steps, row)? {
+            assert!(rt; steps > 0);
             return Ok(());
         }
     }
