@@ -26,7 +26,8 @@ use Rattle.svn_model.specs.Said.{says, said_at}
 use Rattle.svn_model.specs.Effects.{text_in}
 use Rattle.svn_edit.specs.NodeTests.{first_of}
 use Rattle.svn_edit.specs.Noted.{note_of, strings_of}
-use Rattle.svn_edit.specs.Applying.{Batons, is_open, open_count, IsTextAt, text_place, pool_or, pool_of_parent, pool_of_kind, pool_above}
+use Rattle.svn_edit.specs.declared.baton.NotedText.{NotedText}
+use Rattle.svn_edit.specs.Applying.{Batons, is_open, open_count, IsTextAt, NotesText, pool_or, pool_of_parent, pool_of_kind, pool_above}
 use Rattle.svn_edit.specs.Applying.{pool_entry, IsBaton, HoldsBatons, BatonMade, BatonNoted, BatonGone, IsLeaf}
 use Rattle.std.proofs.lemmas.List.{map-append}
 use Rattle.std.proofs.lemmas.List.Concat.{flat_map-append}
@@ -217,7 +218,7 @@ module _ (pools : Pools) (at : Batons) (calls : List Call) (c : Call) (g : Given
     notes = made.begun.notes ∙ sym (ap (λ (l : List Action). map note_of l) said_own);
     pool = made.begun.made ∙ (λ i. Some (pool_entry (sym above_now i) (path_key (given_path (sym given_here i)) ∷ flat_map strings_of
         (sym said_own i))));
-    text = subst (λ (o : Option ℕ). IsTextAt o _
+    text = subst (λ (o : Option NotedText). IsTextAt o _
         (first_of (filter_map text_in (said_at (path_of (calls ++ c ∷ []) g.token) (steps_of (calls ++ c ∷ [])))))) (sym made.begun.text)
         (ap (λ (l : List Action). first_of (filter_map text_in l)) said_own);
   }
@@ -338,13 +339,11 @@ module _ (pools : Pools) (at : Batons) (calls : List Call) (c : Call) (m : ℕ) 
     pool = ap (pool_at pools2) n.said.same_pool ∙ n.said.own ∙ (λ i. Some (record { parent = parent_now i; strings = strings_now i }));
     text =
         let texts = first_of (filter_map text_in (said_at (path_of (calls ++ c ∷ []) m) (steps_of (calls ++ c ∷ [])))) in
-        subst (λ (o : Option ℕ). IsTextAt o (path_key (path_of (calls ++ c ∷ []) m) ∷ flat_map strings_of
-        (said_at (path_of (calls ++ c ∷ []) m) (steps_of (calls ++ c ∷ [])))) texts)
-        (sym (n.said.text ∙ ap (λ (o : Option Entry). text_place (note_of act) (length (strings_of_pool o)) b.text) own.pool))
-        (subst (λ (l : List (List ℕ)). IsTextAt (text_place (note_of act) (length before) b.text) l texts) more
-        (subst (λ (l : List Action). IsTextAt (text_place (note_of act) (length before) b.text) (before ++ strings_of act)
-        (first_of (filter_map text_in l))) (sym said_now)
-        (text_more b.text before (said_at (path_of calls m) (steps_of calls)) act (noted_says c m act says) own.text)));
+        subst (λ (l : List (List ℕ)). IsTextAt n.baton.text l texts) more
+        (subst (λ (l : List Action). IsTextAt n.baton.text (before ++ strings_of act) (first_of (filter_map text_in l))) (sym said_now)
+        (text_more b.text n.baton.text before (said_at (path_of calls m) (steps_of calls)) act (noted_says c m act says) own.text
+        (subst (λ (o : Option Entry). NotesText (note_of act) (length (strings_of_pool o)) b.text n.baton.text) own.pool
+        n.said.text)));
   }
     where
       before : List (List ℕ)

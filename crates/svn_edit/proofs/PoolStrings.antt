@@ -19,7 +19,7 @@ use Rattle.svn_editor.proofs.Nested.{true_eq}
 use Rattle.svn_pool.proofs.Views.{inserted_here, inserted_away, removed_here, removed_away}
 use Rattle.svn_edit.specs.declared.baton.Baton.{Baton}
 use Rattle.svn_edit.specs.declared.baton.Note.{Note}
-use Rattle.svn_edit.specs.Applying.{pool_entry, text_place, BatonBegun, BatonSaid, IsLeaf, PoolGone}
+use Rattle.svn_edit.specs.Applying.{pool_entry, NotesText, BatonBegun, BatonSaid, IsLeaf, PoolGone}
 
 pub own_one : (t : Pools) (s : ℕ) (x : List ℕ) → pool_at (pushed t s x) s ≡ Some
     (record { parent = parent_of (pool_at t s); strings = strings_at t s ++ x ∷ [] })
@@ -57,7 +57,7 @@ len_removed m s e there =
 
 pub said_one : (b d : Baton) (t u : Pools) (note : Note) (x : List ℕ) → d.path ≡ b.path → d.pool.0 ≡ b.pool.0
     → d.notes.items ≡ b.notes.items ++ note ∷ []
-    → d.text ≡ text_place note (length (strings_at t b.pool.0)) b.text → u ≡ pushed t b.pool.0 x → BatonSaid note (x ∷ []) b t d u
+    → NotesText note (length (strings_at t b.pool.0)) b.text d.text → u ≡ pushed t b.pool.0 x → BatonSaid note (x ∷ []) b t d u
 said_one b d t u note x path pool notes text is = record {
   path = path;
   same_pool = pool;
@@ -71,7 +71,7 @@ said_one b d t u note x path pool notes text is = record {
 
 pub said_two : (b d : Baton) (t u : Pools) (note : Note) (x y : List ℕ) → d.path ≡ b.path → d.pool.0 ≡ b.pool.0
     → d.notes.items ≡ b.notes.items ++ note ∷ []
-    → d.text ≡ text_place note (length (strings_at t b.pool.0)) b.text → u ≡ pushed (pushed t b.pool.0 x) b.pool.0 y
+    → NotesText note (length (strings_at t b.pool.0)) b.text d.text → u ≡ pushed (pushed t b.pool.0 x) b.pool.0 y
     → BatonSaid note (x ∷ y ∷ []) b t d u
 said_two b d t u note x y path pool notes text is = record {
   path = path;

@@ -1,9 +1,9 @@
 -- What is said, read note by note.
 use Rattle.std.proofs.Common.{◌≡◌, ℕ, zero, suc, ◌<◌, ◌≤◌, true, arith, length, drop, get_or, List, [], ◌∷◌, ◌++◌, map, refl, sym, ◌∙◌, ap}
-use Rattle.std.proofs.Common.{false, ◌||◌, subst, true≢false, append-nil, length-append}
+use Rattle.std.proofs.Common.{Bool, false, not, ◌||◌, subst, true≢false, append-nil, length-append}
 use Rattle.std.proofs.lemmas.List.{get_or_append_left, get_or_push}
 use Rattle.std.proofs.lemmas.List.Elements.{filter_map-append}
-use Rattle.std.specs.Prelude.{Option, Some, None, MatchOption, filter_map}
+use Rattle.std.specs.Prelude.{Option, Some, None, is_some, MatchOption, filter_map}
 use Rattle.std.specs.Option.{option_copied}
 use Rattle.std.specs.Borrow.{Bor}
 use Rattle.std.proofs.lemmas.Option.{none-some, same_Some}
@@ -16,12 +16,13 @@ use Rattle.svn_editor.specs.declared.call.Call.TheVariants.{ChangeDirProp, Chang
 use Rattle.svn_edit_law.proofs.OnePath.{noted}
 use Rattle.svn_editor.specs.Steps.{Action, Change, Text}
 use Rattle.svn_edit.specs.declared.baton.Note.{Note}
+use Rattle.svn_edit.specs.declared.baton.NotedText.{NotedText}
 use Rattle.svn_edit.specs.declared.baton.Note.TheVariants.{Set, Remove, Text as NewText}
 use Rattle.svn_model.specs.Effects.{change_in, text_in}
 use Rattle.svn_model.specs.Said.{says}
 use Rattle.svn_edit.specs.NodeTests.{first_of}
 use Rattle.svn_edit.specs.Noted.{is_change, note_of_value, note_of, strings_of}
-use Rattle.svn_edit.specs.Applying.{IsTextAt, text_place, Properties, StillSaid}
+use Rattle.svn_edit.specs.Applying.{IsTextAt, NotesText, Properties, StillSaid}
 
 pub record AfterSet (before now : Properties) (said : List Action) (notes : List Note) (strings : List (List ℕ)) : Type 0 where
   pub name : List ℕ
@@ -185,19 +186,18 @@ no_change_said (_ ∷ said) h = no_change_said said h
 -- ---- the text
 
 -- the string at the place
-pub text_read : (place : ℕ) (strings : List (List ℕ)) (text : Option (List ℕ)) (r : Option (Bor (List ℕ)))
-    → IsTextAt (Some place) strings text
-    → MatchOption r (length strings ≤ place) (λ s. (place < length strings) × (s.now ≡ get_or strings place [])) → option_copied r ≡ text
-text_read place strings text None is h = let within : place < length strings = is.0 in absurd (omega arith)
-text_read place strings text (Some s) is h = ap Some h.1 ∙ sym is.1
+pub text_read : (t : NotedText) (strings : List (List ℕ)) (text : Option (List ℕ)) (r : Option (Bor (List ℕ))) → IsTextAt (Some t) strings text
+    → MatchOption r (length strings ≤ t.place) (λ s. (t.place < length strings) × (s.now ≡ get_or strings t.place [])) → option_copied r ≡ text
+text_read t strings text None is h = let within : t.place < length strings = is.0 in absurd (omega arith)
+text_read t strings text (Some s) is h = ap Some h.1 ∙ sym is.1
 
 -- it stays where it is when strings are pushed
-kept_place : (t : Option ℕ) (strings more : List (List ℕ)) (text : Option (List ℕ)) → IsTextAt t strings text
+kept_place : (t : Option NotedText) (strings more : List (List ℕ)) (text : Option (List ℕ)) → IsTextAt t strings text
     → IsTextAt t (strings ++ more) text
 kept_place None strings more text is = is
-kept_place (Some place) strings more text is =
-    let within : place < length strings = is.0 in
-    (omega (arith, length-append strings more), is.1 ∙ ap Some (sym (get_or_append_left strings more [] place within)))
+kept_place (Some t) strings more text is =
+    let within : t.place < length strings = is.0 in
+    (omega (arith, length-append strings more), is.1 ∙ ap Some (sym (get_or_append_left strings more [] t.place within)))
 
 texts_quiet : (said : List Action) (a : Action) → text_in a ≡ None → filter_map text_in (said ++ a ∷ []) ≡ filter_map text_in said
 texts_quiet said a h = filter_map-append text_in said (a ∷ []) ∙ ap (λ (o : Option (List ℕ)). filter_map text_in said ++ cons_option o []) h
@@ -211,28 +211,48 @@ first_some : (texts more : List (List ℕ)) (x : List ℕ) → first_of texts �
 first_some [] more x h = cc
 first_some (y ∷ texts) more x h = h
 
+-- nothing that was said changes where it is, but a first text
+text_stays : (t t2 : Option NotedText) (strings more : List (List ℕ)) (before after : List (List ℕ)) → after ≡ before → t2 ≡ t
+    → IsTextAt t strings (first_of before) → IsTextAt t2 (strings ++ more) (first_of after)
+text_stays t t2 strings more before after same kept is =
+    subst (λ (o : Option NotedText). IsTextAt o (strings ++ more) (first_of after)) (sym kept)
+    (subst (λ (l : List (List ℕ)). IsTextAt t (strings ++ more) (first_of l)) (sym same) (kept_place t strings more (first_of before) is))
+
 -- one more note
-pub text_more : (t : Option ℕ) (strings : List (List ℕ)) (said : List Action) (a : Action) → says a ≡ true
-    → IsTextAt t strings (first_of (filter_map text_in said))
-    → IsTextAt (text_place (note_of a) (length strings) t) (strings ++ strings_of a) (first_of (filter_map text_in (said ++ a ∷ [])))
-text_more t strings said (Change k (name, None)) h is =
-    subst (λ (l : List (List ℕ)). IsTextAt t (strings ++ name ∷ []) (first_of l)) (sym (texts_quiet said (Change k (name, None)) refl))
-    (kept_place t strings (name ∷ []) (first_of (filter_map text_in said)) is)
-text_more t strings said (Change k (name, Some v)) h is =
-    subst (λ (l : List (List ℕ)). IsTextAt t (strings ++ name ∷ v ∷ []) (first_of l))
-    (sym (texts_quiet said (Change k (name, Some v)) refl))
-    (kept_place t strings (name ∷ v ∷ []) (first_of (filter_map text_in said)) is)
-text_more None strings said (Text sum x) h is =
+pub text_more : (t t2 : Option NotedText) (strings : List (List ℕ)) (said : List Action) (a : Action) → says a ≡ true
+    → IsTextAt t strings (first_of (filter_map text_in said)) → NotesText (note_of a) (length strings) t t2
+    → IsTextAt t2 (strings ++ strings_of a) (first_of (filter_map text_in (said ++ a ∷ [])))
+text_more t t2 strings said (Change k (name, None)) h is new =
+    text_stays t t2 strings (name ∷ []) (filter_map text_in said) (filter_map text_in (said ++ Change k (name, None) ∷ []))
+    (texts_quiet said (Change k (name, None)) refl) new is
+text_more t t2 strings said (Change k (name, Some v)) h is new =
+    text_stays t t2 strings (name ∷ v ∷ []) (filter_map text_in said) (filter_map text_in (said ++ Change k (name, Some v) ∷ []))
+    (texts_quiet said (Change k (name, Some v)) refl) new is
+text_more None None strings said (Text sum x) h is new = absurd new
+text_more None (Some t2) strings said (Text sum x) h is new =
     let texts : filter_map text_in (said ++ Text sum x ∷ []) ≡ x ∷ [] = filter_map-append text_in said (Text sum x ∷ [])
     ∙ ap (λ (l : List (List ℕ)). l ++ x ∷ []) (first_none (filter_map text_in said) is) in
-    (omega (arith, length-append strings (x ∷ [])), ap first_of texts ∙ ap Some (sym (get_or_push strings x [] (length strings) refl)))
-text_more (Some place) strings said (Text sum x) h is =
-    let kept = kept_place (Some place) strings (x ∷ []) (first_of (filter_map text_in said)) is in
-    let first : first_of (filter_map text_in (said ++ Text sum x ∷ [])) ≡ Some (get_or strings place []) =
+    let place : t2.place ≡ length strings = new in
+    (omega (arith, length-append strings (x ∷ [])), ap first_of texts ∙ ap Some (sym (get_or_push strings x [] t2.place (sym place))))
+text_more (Some t) t2 strings said (Text sum x) h is new =
+    let first : first_of (filter_map text_in (said ++ Text sum x ∷ [])) ≡ first_of (filter_map text_in said) =
     ap first_of (filter_map-append text_in said (Text sum x ∷ [])) ∙ first_some (filter_map text_in said) (x ∷ [])
-    (get_or strings place []) is.1 in
-    (kept.0, first ∙ sym is.1 ∙ kept.1)
-text_more t strings said _ h is = absurd (true≢false (sym h))
+    (get_or strings t.place []) is.1 ∙ sym is.1 in
+    subst (λ (o : Option (List ℕ)). IsTextAt t2 (strings ++ x ∷ []) o) (sym first)
+    (subst (λ (o : Option NotedText). IsTextAt o (strings ++ x ∷ []) (first_of (filter_map text_in said))) (sym new)
+    (kept_place (Some t) strings (x ∷ []) (first_of (filter_map text_in said)) is))
+text_more t t2 strings said _ h is new = absurd (true≢false (sym h))
+
+-- the first text is noted, and no later one
+pub first_noted : (place : ℕ) (b : Bool) (old : Option NotedText) (t : NotedText) → is_some old ≡ not b → b ≡ true → t.place ≡ place
+    → NotesText NewText place old (Some t)
+first_noted place b None t is none at = at
+first_noted place b (Some o) t is none at = absurd (true≢false (is ∙ ap not none))
+
+pub later_passed : (place : ℕ) (b : Bool) (old : Option NotedText) → is_some old ≡ not b → b ≡ false
+    → NotesText NewText place old old
+later_passed place b None is some = absurd (true≢false (sym (ap not some) ∙ sym is))
+later_passed place b (Some o) is some = refl
 
 -- ---- the calls that say something
 

@@ -3,7 +3,6 @@
 use Rattle.std.specs.Prelude.{◌≡◌, ◌≢◌, ℕ, ◌+◌, ◌<◌, Bool, true, false, ◌&&◌, not, List, [], ◌∷◌, ◌++◌, length, map, Option, Some, None}
 use Rattle.std.specs.Prelude.{is_some, filter_map, Result, Ok, Err, IfSome, get_or, count_by, if◌then◌else◌}
 use Rattle.std.specs.List.{list_any, flat_map}
-use Rattle.std.specs.Option.{option_or}
 use Rattle.svn_serials.specs.Serials.{get}
 use Rattle.std.specs.FinMap as map
 use Rattle.md5.specs.Md5.{md5}
@@ -28,6 +27,7 @@ use Rattle.svn_model.specs.declared.base_node.BaseNode.{BaseNode}
 use Rattle.svn_edit.specs.declared.baton.Baton.{Baton}
 use Rattle.svn_edit.specs.declared.baton.Note.{Note}
 use Rattle.svn_edit.specs.declared.baton.Note.TheVariants.{Text as NewText}
+use Rattle.svn_edit.specs.declared.baton.NotedText.{NotedText}
 use Rattle.svn_edit.specs.declared.edit.Edit.{Edit}
 use Rattle.svn_edit.specs.declared.edit.OpenedFile.{OpenedFile}
 use Rattle.svn_edit.specs.declared.edit.Stage.TheVariants.{Going, Refused, Ended}
@@ -104,14 +104,15 @@ pool_entry above strings = record { parent = Some above; strings = strings }
 -- ---- where the text is among the strings of a pool
 
 -- the text, if there is one, is the string at that place
-abbrev pub IsTextAt : Option ℕ → List (List ℕ) → Option (List ℕ) → Type 0
+abbrev pub IsTextAt : Option NotedText → List (List ℕ) → Option (List ℕ) → Type 0
 IsTextAt None strings text = text ≡ None
-IsTextAt (Some place) strings text = (place < length strings) × (text ≡ Some (get_or strings place []))
+IsTextAt (Some t) strings text = (t.place < length strings) × (text ≡ Some (get_or strings t.place []))
 
--- where it is once a string with this note was pushed to that place
-abbrev pub text_place : Note → ℕ → Option ℕ → Option ℕ
-text_place NewText place found = option_or found (Some place)
-text_place note place found = found
+-- what is noted of it once a string with this note was pushed to that place: of several texts the first
+abbrev pub NotesText : Note → ℕ → Option NotedText → Option NotedText → Type 0
+NotesText NewText place None None = ⊥
+NotesText NewText place None (Some t) = t.place ≡ place
+NotesText note place old new = new ≡ old
 
 -- the baton of a token, and its pool
 pub record IsBaton (pools : Pools) (at : Batons) (calls : List Call) (t : ℕ) (b : Baton) : Type 0 where
@@ -157,7 +158,7 @@ pub record BatonSaid (note : Note) (strings : List (List ℕ)) (b : Baton) (old 
   pub path : d.path ≡ b.path
   pub same_pool : d.pool.0 ≡ b.pool.0
   pub notes : d.notes.items ≡ b.notes.items ++ note ∷ []
-  pub text : d.text ≡ text_place note (length (strings_at old b.pool.0)) b.text
+  pub text : NotesText note (length (strings_at old b.pool.0)) b.text d.text
   pub own : pool_at new b.pool.0 ≡ Some (record { parent = parent_of (pool_at old b.pool.0); strings = strings_at old b.pool.0 ++ strings })
   pub others : (s : ℕ) → s ≢ b.pool.0 → pool_at new s ≡ pool_at old s
   pub root : new.root ≡ old.root

@@ -43,14 +43,34 @@ fn has_change(notes: &[Note]) -> bool
 // How many notes a baton holds in place: a text or a few properties take no block beside it.
 const FEW_NOTES: usize = 8;
 
+/// Where the text that came for a file lies among the strings of its pool.
+#[derive(Drop)]
+pub(crate) struct NotedText {
+    place: u32,
+    // The same text once more, where a clone of it copies no bytes and knows their checksum.
+    kept: Option<Text>,
+}
+
+impl NotedText {
+    // What is noted of a text that lies at this place.
+    fn of(place: u32, text: &Text) -> NotedText
+        ensures { result.place ≡ place }
+    {
+        let kept = match text.kept_checksum() {
+            Some(_) => text.clone().ok(),
+            None => None,
+        };
+        NotedText { place, kept }
+    }
+}
+
 /// An open file or directory.
 #[derive(Drop)]
 pub(crate) struct Baton {
     pub(crate) path: OpenPath,
     pub(crate) pool: PoolId,
     pub(crate) notes: SmallVec<Note, FEW_NOTES>,
-    /// The place of the text among the strings of the pool.
-    pub(crate) text: Option<u32>,
+    pub(crate) text: Option<NotedText>,
 }
 
 // Pushes a string, and tells its place.
@@ -132,7 +152,9 @@ impl Baton {
     {
         let place = push(pools, self.pool, text.as_slice())?;
         self.notes.push(Note::Text)?;
-        self.text = self.text.or(Some(place));
+        if self.text.is_none() {
+            self.text = Some(NotedText::of(place, text));
+        }
         Ok(())
     }
 }
@@ -194,8 +216,16 @@ impl Baton {
     pub(crate) fn text<'a>(&self, pools: &'a PoolTree<Global>) -> Option<&'a [u8]>
         ensures { (said : List Action) → Says self.now pools.now said → option_copied result ≡ first_of (filter_map text_in said) }
     {
-        match self.text {
-            Some(place) => pools.get(self.pool, place),
+        match &self.text {
+            Some(noted) => pools.get(self.pool, noted.place),
+            None => None,
+        }
+    }
+
+    /// A text that may be the one that was noted, and then knows its checksum.
+    pub(crate) fn kept_text(&self) -> Option<&Text> {
+        match &self.text {
+            Some(noted) => noted.kept.as_ref(),
             None => None,
         }
     }

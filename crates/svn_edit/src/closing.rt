@@ -85,7 +85,7 @@ impl Edit {
     {
         match baton.text(&self.pools) {
             Some(bytes) => {
-                let text = nodes::tested_text(self.alloc, bytes, text_md5)?;
+                let text = nodes::tested_text(self.alloc, bytes, baton.kept_text(), text_md5)?;
                 Ok(Some(text))
             }
             None if nodes::is_wrong_sum(text_md5, Some(node)) => Err(EditFault::TextChecksum),

@@ -41,11 +41,7 @@ pub(crate) enum Stage {
     Ended,
 }
 
-// The longest text whose checksum is noted when its file is opened. That of a text that keeps none is computed for it, and the edit may bring
-// no other text: so that costs no more than a constant. A longer one that comes costs so much by itself that a look-up is little beside it.
-const MAX_NOTED: usize = 256;
-
-/// A file that a call opened, with the checksum of the text that its node has.
+/// A file that a call opened, with the checksum of the text that its node has, which that keeps.
 #[derive(Clone, Copy, Debug)]
 pub(crate) struct OpenedFile {
     token: Token,
@@ -58,10 +54,10 @@ impl OpenedFile {
         ensures { IfSome result (λ f. (f.token ≡ token) × (f.sum ≡ md5 (node_text (option_copied node.entry)))) }
     {
         match node {
-            Some(BaseNode::File { text, .. }) if text.len() <= MAX_NOTED => Some(OpenedFile {
-                token,
-                sum: Digest(text.checksum()),
-            }),
+            Some(BaseNode::File { text, .. }) => {
+                let sum = Digest(text.kept_checksum()?);
+                Some(OpenedFile { token, sum })
+            }
             _ => None,
         }
     }

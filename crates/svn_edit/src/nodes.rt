@@ -184,12 +184,19 @@ pub(crate) fn delete_within(
     Ok(())
 }
 
-/// The text of bytes that came, once they were tested: TextChecksum where a checksum is given, and is another; Memory.
-pub(crate) fn tested_text(
-    alloc: Global,
-    bytes: &[u8],
-    given: &Option<Digest>,
-) -> Result<Text, EditFault>
+// A clone of a text, once its checksum was tested.
+fn tested_clone(text: &Text, given: &Option<Digest>) -> Result<Text, EditFault>
+    ensures tested { AnswersAs (if is_wrong_sum given.now (md5 text.now) then Some EditFault.TextChecksum else None) result }
+    ensures text { IfOk result (λ t. t ≡ text.now) }
+{
+    match given {
+        Some(sum) if sum.0 != text.checksum() => Err(EditFault::TextChecksum),
+        _ => or_memory(text.clone()),
+    }
+}
+
+// The text of bytes, once their checksum was computed and tested.
+fn tested_bytes(alloc: Global, bytes: &[u8], given: &Option<Digest>) -> Result<Text, EditFault>
     ensures tested { AnswersAs (if is_wrong_sum given.now (md5 bytes.now) then Some EditFault.TextChecksum else None) result }
     ensures text { IfOk result (λ t. t ≡ bytes.now) }
 {
@@ -199,6 +206,23 @@ pub(crate) fn tested_text(
     match or_memory(Text::verified(alloc, bytes, &sum.0))? {
         Some(text) => Ok(text),
         None => Err(EditFault::TextChecksum),
+    }
+}
+
+/// The text of bytes that came, once they were tested: TextChecksum where a checksum is given, and is another; Memory. Where they are those of a
+/// text that was kept, that is cloned: it may know its checksum, and share its bytes.
+pub(crate) fn tested_text(
+    alloc: Global,
+    bytes: &[u8],
+    kept: Option<&Text>,
+    given: &Option<Digest>,
+) -> Result<Text, EditFault>
+    ensures tested { AnswersAs (if is_wrong_sum given.now (md5 bytes.now) then Some EditFault.TextChecksum else None) result }
+    ensures text { IfOk result (λ t. t ≡ bytes.now) }
+{
+    match kept {
+        Some(text) if text.as_slice() == bytes => tested_clone(text, given),
+        _ => tested_bytes(alloc, bytes, given),
     }
 }
 

@@ -137,7 +137,8 @@ impl Text {
         }
     }
 
-    fn kept_checksum(&self) -> Option<[u8; 16]>
+    /// The MD5 checksum that it keeps, if it keeps one. Nothing is computed, and a clone of a text that keeps one copies none of its bytes.
+    pub fn kept_checksum(&self) -> Option<[u8; 16]>
         ensures { IfSome result (λ sum. sum ≡ md5 self.now) }
     {
         match &self.form {

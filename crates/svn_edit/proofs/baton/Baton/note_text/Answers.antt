@@ -1,18 +1,28 @@
-use Rattle.std.proofs.Common.{[], Some, refl, ap, ◌∙◌}
-use Rattle.std.specs.Option.{option_or}
-use Rattle.svn_pool.specs.Pools.{pushed}
+use Rattle.std.proofs.Common.{[], Some, refl, ap, ◌∙◌, length}
+use Rattle.svn_pool.specs.Pools.{pushed, strings_at}
 use Rattle.svn_edit.specs.declared.baton.Note.TheVariants.{Text as NewText}
 use Rattle.svn_edit.proofs.PoolStrings.{said_one}
+use Rattle.svn_edit.proofs.Saying.{first_noted, later_passed}
 use Rattle.svn_edit.proofs.Holding.{on_err}
 use Rattle.svn_edit.proofs.LeftPools.{unbegun, began_one}
 use Rattle.svn_edit.proofs.baton.Baton.note_text.Goals as goal
 
-pub returns-clause-noted : goal.returns-clause-noted
-returns-clause-noted c =
+pub returns-then-is_none-clause-noted : goal.returns-then-is_none-clause-noted
+returns-then-is_none-clause-noted c =
     let old = c.args.self.now in
-    said_one old (record old { notes = c.push-2.new.self; text = c.or-self.result }) c.args.pools.now c.push.new.pools NewText
+    said_one old (record old { notes = c.push-2.new.self; text = Some c.of.result }) c.args.pools.now c.push.new.pools NewText
     c.args.text.now refl refl c.in_ok-push.ensures.ok
-    (c.or-self.ensures ∙ ap (λ n. option_or old.text (Some n)) c.in_ok-place.ensures.place)
+    (first_noted (length (strings_at c.args.pools.now old.pool.0)) c.is_none.result old.text c.of.result c.is_none.ensures
+    c.if-is_none.true (c.of.ensures ∙ c.in_ok-place.ensures.place))
+    (c.in_ok-place.ensures.pushed ∙ ap (pushed c.args.pools.now old.pool.0) c.as_slice.ensures)
+
+pub returns-else-is_none-clause-noted : goal.returns-else-is_none-clause-noted
+returns-else-is_none-clause-noted c =
+    let old = c.args.self.now in
+    said_one old (record old { notes = c.push-2.new.self }) c.args.pools.now c.push.new.pools NewText
+    c.args.text.now refl refl c.in_ok-push.ensures.ok
+    (later_passed (length (strings_at c.args.pools.now old.pool.0)) c.is_none.result old.text c.is_none.ensures
+    c.if-is_none.false)
     (c.in_ok-place.ensures.pushed ∙ ap (pushed c.args.pools.now old.pool.0) c.as_slice.ensures)
 
 -- ---- the string or the note was refused
