@@ -83,6 +83,27 @@ fn a_text_has_its_checksum_whether_it_keeps_it_or_not(rt: HostRuntime) -> Result
     Ok(())
 }
 
+// What a text keeps that was made to keep its checksum: from 15 to 30 bytes leave no room.
+fn kept_of(bytes: &str, checksum: &[u8; 16]) -> Option<[u8; 16]> {
+    if (15..=30).contains(&bytes.len()) {
+        None
+    } else {
+        Some(*checksum)
+    }
+}
+
+#[test]
+fn a_checksum_is_kept_where_there_is_room(rt: HostRuntime) -> Result<(), Fail> {
+    let alloc = rt.alloc();
+    for (bytes, checksum) in &ROWS {
+        let plain = text(alloc, bytes)?;
+        let kept = plain.clone_with_checksum(alloc)?.kept_checksum();
+        assert!(rt; plain.kept_checksum().is_none(), "{bytes}");
+        assert!(rt; kept == kept_of(bytes, checksum), "{bytes}");
+    }
+    Ok(())
+}
+
 #[test]
 fn bytes_are_verified_by_their_checksum(rt: HostRuntime) -> Result<(), Fail> {
     let alloc = rt.alloc();
