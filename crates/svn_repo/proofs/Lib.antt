@@ -29,6 +29,8 @@ pub mod Keeping
 pub mod Faults
 -- What stands at a path of a draft.
 pub mod Standing
+-- What follows where a node is known to stand at a path: no fault lies above it, and where it is fresh, all above it is fresh already.
+pub mod Known
 -- A change that is made by one graft.
 pub mod Pendings
 -- One more change of a list of changes.

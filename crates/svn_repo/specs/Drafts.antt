@@ -10,6 +10,9 @@ use Rattle.svn_types.specs.Pairs.{InNameOrder, with_value}
 use Rattle.svn_repo.specs.History.{History, entries_at, child_in, walk}
 use Rattle.svn_repo.specs.Stored.{row_of, rows, history_of, IsHeight}
 use Rattle.svn_repo.specs.Trees.{Place, place_of, Tree, tree_below, touch, graft, place_with_prop}
+use Rattle.svn_repo.specs.declared.change.Change.{Change}
+use Rattle.svn_repo.specs.declared.change.Change.TheVariants.{MakeDir, PutFile, SetProp, Remove, CopyFrom}
+use Rattle.svn_types.specs.Paths.{parent}
 
 -- each child is one of the nodes
 abbrev pub IsClosedIn : List Node → Type 0
@@ -65,6 +68,18 @@ pub record IsThawed (base : ℕ) (old new : List Node) (from root : ℕ) (p : Pa
   pub here : walk (rows new) root p ≡ Some n
   pub fresh : base ≤ n
   pub tree : (q : Path) → tree_in base new root q ≡ touch (tree_in base old from) p q
+
+-- what is known to stand at the path, if anything is
+abbrev pub IsFound : List Node → ℕ → Path → Option ℕ → Type 0
+IsFound nodes root p found = (n : ℕ) → found ≡ Some n → walk (rows nodes) root p ≡ Some n
+
+-- what is known to stand where a change works: the node whose property is set, and of other changes the directory above
+abbrev pub IsNear : List Node → ℕ → Change → Option ℕ → Type 0
+IsNear nodes root (MakeDir path) near = IsFound nodes root (parent path) near
+IsNear nodes root (PutFile path text) near = IsFound nodes root (parent path) near
+IsNear nodes root (SetProp path name value) near = IsFound nodes root path near
+IsNear nodes root (Remove path) near = near ≡ None
+IsNear nodes root (CopyFrom rev source path) near = near ≡ None
 
 -- the old nodes stay
 pub record KeepsOld (base : ℕ) (old new : List Node) : Type 0 where

@@ -1,8 +1,10 @@
 //! The changes of a commit, made one after another on a draft.
 ghost use Rattle.std.specs.Prelude.{◌≡◌, ◌≤◌, ◌<◌, ℕ, IsSome, take, List, [], ◌∷◌, ◌++◌, Some, None, true, length, slice_get, ◌-◌, IfOk, IfErr, OnErr, ◌⊎◌, OnOk, ◌+◌, ◌^◌, if◌then◌else◌};
 ghost use Rattle.std.specs.Option.{option_and_then, is_some};
+ghost use Rattle.std.specs.Result.{result_err};
 ghost use Rattle.svn_repo.specs.History.{History, child_in};
-ghost use Rattle.svn_repo.specs.Drafts.{IsClosedIn, IsDraft, IsListing, IsGrafted, KeepsOld, AreRootsBelow, IsPast, look_in, old_part, past_in, tree_in};
+ghost use Rattle.svn_types.specs.Paths.{parent};
+ghost use Rattle.svn_repo.specs.Drafts.{IsFound, IsNear, IsClosedIn, IsDraft, IsListing, IsGrafted, KeepsOld, AreRootsBelow, IsPast, look_in, old_part, past_in, tree_in};
 ghost use Rattle.svn_repo.specs.Stored.{rows, row_of, entries_of, history_of, IsStored};
 ghost use Rattle.svn_repo.specs.Trees.{leaf, nothing, place_at, place_of};
 ghost use Rattle.svn_repo.specs.Changes.{above_fault, change_fault, root_fault, pending_in, with_text, new_directory, IsMade, AllMade, AreRefused, IsRefused, IsExtended, PutsText};
@@ -10,6 +12,7 @@ ghost use Rattle.svn_repo.specs.Changes.{above_fault, change_fault, root_fault, 
 use crate::change::{Change, CommitFault};
 use crate::entries::{Entries, NodeId};
 use crate::heights::add_heights;
+use crate::near::find_near;
 use crate::refusal::fault_of;
 use crate::store::{
     Content, Draft, Node, Past, PropSetting, Stored, lookup_in, put_child, put_made, put_old,
@@ -18,8 +21,14 @@ use crate::store::{
 use std::alloc::AllocError;
 use svn_types::{Name, Props, Rev, Text};
 
-fn put_directory(nodes: &mut Vec<Node>, draft: Draft, names: &[Name]) -> Result<NodeId, AllocError>
+fn put_directory(
+    nodes: &mut Vec<Node>,
+    draft: Draft,
+    names: &[Name],
+    near: Option<NodeId>,
+) -> Result<NodeId, AllocError>
     requires draft { IsDraft draft.base nodes.old.items draft.root }
+    requires near { IsFound nodes.old.items draft.root (parent names.now) near }
     requires not_root { root_fault names.now ≡ None }
     requires above { above_fault (tree_in draft.base nodes.old.items draft.root) names.now ≡ None }
     ensures ok { IfOk result (λ n. IsGrafted draft.base nodes.old.items nodes.new.items draft.root n names.now (leaf (new_directory draft.lines))) }
@@ -32,7 +41,7 @@ fn put_directory(nodes: &mut Vec<Node>, draft: Draft, names: &[Name]) -> Result<
         props: Props::new(alloc),
         content: Content::Listing(Entries::new(alloc)),
     };
-    put_made(nodes, draft, names, node)
+    put_made(nodes, draft, names, near, node)
 }
 
 // A file with a text, which keeps the line and the properties of the file that stood there.
@@ -91,9 +100,11 @@ fn put_file(
     nodes: &mut Vec<Node>,
     draft: Draft,
     names: &[Name],
+    near: Option<NodeId>,
     text: &Text,
 ) -> Result<(NodeId, bool), AllocError>
     requires draft { IsDraft draft.base nodes.old.items draft.root }
+    requires near { IsFound nodes.old.items draft.root (parent names.now) near }
     requires not_root { root_fault names.now ≡ None }
     requires above { above_fault (tree_in draft.base nodes.old.items draft.root) names.now ≡ None }
     ensures ok { IfOk result (λ r. let t = tree_in draft.base nodes.old.items draft.root in IsGrafted draft.base nodes.old.items nodes.new.items draft.root r.0 names.now (leaf (with_text draft.lines (t names.now) text.now))) }
@@ -103,7 +114,7 @@ fn put_file(
 {
     let lines = draft.lines;
     let (last, above) = split_path(names);
-    let (root, at) = thaw_path(nodes, draft, above)?;
+    let (root, at) = thaw_path(nodes, draft, above, near)?;
     let stood = put_text(nodes, at, last, lines, text)?;
     Ok((root, stood))
 }
@@ -130,8 +141,10 @@ fn make(
     roots: &[NodeId],
     draft: Draft,
     change: &Change,
+    near: Option<NodeId>,
 ) -> Result<Draft, AllocError>
     requires draft { IsDraft draft.base nodes.old.items draft.root }
+    requires near { IsNear nodes.old.items draft.root change.now near }
     requires roots_in { AreRootsBelow draft.base roots.now }
     requires no_fault { (l : ℕ) → change_fault (past_in draft.base roots.now nodes.old.items l) (pending_in draft.base nodes.old.items draft.root draft.lines) change.now ≡ None }
     requires bounded { draft.lines ≤ length nodes.old.items }
@@ -143,18 +156,18 @@ fn make(
     let lines = draft.lines;
     match change {
         Change::MakeDir { path } => {
-            let root = put_directory(nodes, draft, path.components())?;
+            let root = put_directory(nodes, draft, path.components(), near)?;
             let lines = lines + 1;
             Ok(Draft { base, root, lines })
         }
         Change::PutFile { path, text } => {
-            let (root, stood) = put_file(nodes, draft, path.components(), text)?;
+            let (root, stood) = put_file(nodes, draft, path.components(), near, text)?;
             let lines = next_line(lines, stood);
             Ok(Draft { base, root, lines })
         }
         Change::SetProp { path, name, value } => {
             let setting = PropSetting { name, value };
-            let root = put_prop(nodes, draft, path.components(), &setting)?;
+            let root = put_prop(nodes, draft, path.components(), near, &setting)?;
             Ok(Draft { base, root, lines })
         }
         Change::Remove { path } => {
@@ -166,6 +179,26 @@ fn make(
             let root = put_old(nodes, draft, path.components(), Some(node))?;
             Ok(Draft { base, root, lines })
         }
+    }
+}
+
+// What is known to stand where a change works; or why it can't be made.
+fn examine(
+    nodes: &[Node],
+    past: &Past<'_>,
+    root: NodeId,
+    change: &Change,
+) -> Result<Option<NodeId>, CommitFault>
+    requires root_in { root < length nodes.now }
+    requires closed { IsClosedIn nodes.now }
+    requires past { IsPast past.now.roots.now past.now.heights.now nodes.now }
+    ensures near { IfOk result (λ near. IsNear nodes.now root change.now near) }
+    ensures fault { (l next : ℕ) → let base = length past.now.heights.now in result_err result ≡ change_fault (past_in base past.now.roots.now nodes.now l) (pending_in base nodes.now root next) change.now }
+{
+    let near = find_near(nodes, root, change);
+    match fault_of(nodes, past, root, change, &near) {
+        Some(fault) => Err(fault),
+        None => Ok(near),
     }
 }
 
@@ -187,10 +220,11 @@ fn make_all(
 {
     let mut draft = start;
     for change in changes {
-        if let Some(fault) = fault_of(nodes, past, draft.root, change) {
-            return Err(fault);
-        }
-        draft = make(nodes, past.roots, draft, change)?;
+        let near = match examine(nodes, past, draft.root, change) {
+            Ok(near) => near,
+            Err(fault) => return Err(fault),
+        };
+        draft = make(nodes, past.roots, draft, change, near)?;
     }
     Ok(draft)
 }

@@ -1,5 +1,5 @@
 //! Node numbers, and the entries of a directory.
-ghost use Rattle.std.specs.Prelude.{◌≡◌, ◌↔◌, IsTrue, ℕ, ◌<◌, ◌≤◌, ◌^◌, List, [], length, IfOk, OnOk, OnErr, IfSome, Some, None};
+ghost use Rattle.std.specs.Prelude.{◌≡◌, ◌↔◌, IsTrue, ℕ, ◌<◌, ◌≤◌, ◌^◌, List, [], length, IfOk, OnOk, OnErr, Some, None};
 ghost use Rattle.std.specs.List.{All};
 ghost use Rattle.std.specs.Map.Iter.{ShowsInOrder, deref_pair};
 ghost use Rattle.std.specs.Map.{lookup, remove_entry};
@@ -117,17 +117,6 @@ impl Entries {
         Ok(self.map.insert(name, node)?)
     }
 
-    // The node under the last name, if it is this one.
-    fn last_under(&self, name: &Name) -> Option<NodeId>
-        ensures { IfSome result (λ node. value_of self.now name.now ≡ Some node) }
-    {
-        let (last, node) = self.map.last_key_value()?;
-        match last.cmp(name) {
-            Ordering::Equal => Some(*node),
-            Ordering::Less | Ordering::Greater => None,
-        }
-    }
-
     // Makes a name lead to another node, if it leads to one below a bound, and answers where it led. It takes no memory.
     pub(crate) fn redirect(&mut self, name: &Name, bound: usize, node: NodeId) -> Option<NodeId>
         ensures found { result ≡ value_of self.old name.now }
@@ -135,11 +124,6 @@ impl Entries {
         ensures leads { (n : ℕ) → result ≡ Some n → n < bound → self.new ≡ insert_entry name_cmp self.old name.now node }
         ensures lookups { (n : ℕ) → result ≡ Some n → n < bound → ChangesOnly self.old self.new name.now (Some node) }
     {
-        // Names mostly come in their order, and then the last entry answers without a search.
-        match self.last_under(name) {
-            Some(last) if last.index >= bound => return Some(last),
-            _ => (),
-        }
         let slot = self.map.get_mut(name)?;
         let found = *slot;
         if found.index >= bound {

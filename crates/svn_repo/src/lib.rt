@@ -25,6 +25,7 @@ mod commit;
 mod entries;
 mod heights;
 mod laws;
+mod near;
 mod refusal;
 mod repo;
 mod store;

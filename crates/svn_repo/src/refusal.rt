@@ -5,7 +5,8 @@ ghost use Rattle.svn_types.specs.Names.{depth_limit};
 ghost use Rattle.svn_repo.specs.History.{walk};
 ghost use Rattle.svn_types.specs.Limits.{path_limit};
 ghost use Rattle.svn_repo.specs.Stored.{rows};
-ghost use Rattle.svn_repo.specs.Drafts.{IsClosedIn, IsOldPart, IsPast, past_in, tree_in};
+ghost use Rattle.svn_types.specs.Paths.{parent};
+ghost use Rattle.svn_repo.specs.Drafts.{IsClosedIn, IsFound, IsNear, IsOldPart, IsPast, past_in, tree_in};
 ghost use Rattle.svn_repo.specs.Trees.{is_directory_place};
 ghost use Rattle.svn_repo.specs.Changes.{above_fault, change_fault, copy_fault, directory_fault_at, file_fault_at, copy_depth_fault, fault_if, depth_fault, size_fault, root_fault, walk_fault, value_fault, pending_in};
 
@@ -47,6 +48,28 @@ fn find(nodes: &[Node], root: NodeId, names: &[Name]) -> Result<Option<NodeId>, 
         }
     }
     Ok(at)
+}
+
+// The same where the directory above may be known.
+fn find_from(
+    nodes: &[Node],
+    root: NodeId,
+    names: &[Name],
+    near: &Option<NodeId>,
+) -> Result<Option<NodeId>, CommitFault>
+    requires near { IsFound nodes.now root (parent names.now) near.now }
+    requires root_in { root < length nodes.now }
+    requires closed { IsClosedIn nodes.now }
+    ensures found { IfOk result (λ at. at ≡ walk (rows nodes.now) root names.now) }
+    ensures above { OnOk result ((base : ℕ) → above_fault (tree_in base nodes.now root) names.now ≡ None) }
+    ensures fault { IfErr result (λ fault. (base : ℕ) → above_fault (tree_in base nodes.now root) names.now ≡ Some fault) }
+{
+    if let (Some(at), Some(name)) = (near, names.last()) {
+        if nodes[at.index].kind() == Kind::Directory {
+            return Ok(child(nodes, *at, name));
+        }
+    }
+    find(nodes, root, names)
 }
 
 // The node at a path where one has to stand: else the fault of the way there, or that nothing stands at its end.
@@ -94,7 +117,13 @@ fn fault_of_root(names: &[Name]) -> Option<CommitFault>
     }
 }
 
-fn fault_of_dir(nodes: &[Node], root: NodeId, names: &[Name]) -> Option<CommitFault>
+fn fault_of_dir(
+    nodes: &[Node],
+    root: NodeId,
+    names: &[Name],
+    near: &Option<NodeId>,
+) -> Option<CommitFault>
+    requires near { IsFound nodes.now root (parent names.now) near.now }
     requires root_in { root < length nodes.now }
     requires closed { IsClosedIn nodes.now }
     ensures { (base : ℕ) → let t = tree_in base nodes.now root in result ≡ option_or (root_fault names.now) (directory_fault_at t names.now) }
@@ -102,14 +131,21 @@ fn fault_of_dir(nodes: &[Node], root: NodeId, names: &[Name]) -> Option<CommitFa
     if let Some(fault) = fault_of_root(names) {
         return Some(fault);
     }
-    match find(nodes, root, names) {
+    match find_from(nodes, root, names, near) {
         Ok(Some(_)) => Some(CommitFault::Exists),
         Ok(None) => fault_of_depth(names),
         Err(fault) => Some(fault),
     }
 }
 
-fn fault_of_file(nodes: &[Node], root: NodeId, names: &[Name], text: &Text) -> Option<CommitFault>
+fn fault_of_file(
+    nodes: &[Node],
+    root: NodeId,
+    names: &[Name],
+    near: &Option<NodeId>,
+    text: &Text,
+) -> Option<CommitFault>
+    requires near { IsFound nodes.now root (parent names.now) near.now }
     requires root_in { root < length nodes.now }
     requires closed { IsClosedIn nodes.now }
     ensures { (base : ℕ) → let t = tree_in base nodes.now root in result ≡ option_or (root_fault names.now) (option_or (size_fault text.now) (file_fault_at t names.now)) }
@@ -120,7 +156,7 @@ fn fault_of_file(nodes: &[Node], root: NodeId, names: &[Name], text: &Text) -> O
     if let Some(fault) = fault_of_size(text) {
         return Some(fault);
     }
-    let at = match find(nodes, root, names) {
+    let at = match find_from(nodes, root, names, near) {
         Ok(at) => at,
         Err(fault) => return Some(fault),
     };
@@ -154,14 +190,19 @@ fn fault_of_prop(
     nodes: &[Node],
     root: NodeId,
     names: &[Name],
+    near: &Option<NodeId>,
     value: &Option<Text>,
 ) -> Option<CommitFault>
+    requires near { IsFound nodes.now root names.now near.now }
     requires root_in { root < length nodes.now }
     requires closed { IsClosedIn nodes.now }
     ensures { (base : ℕ) → result ≡ option_or (value_fault value.now) (walk_fault (tree_in base nodes.now root) names.now) }
 {
     if let Some(fault) = fault_of_value(value) {
         return Some(fault);
+    }
+    if near.is_some() {
+        return None;
     }
     find_node(nodes, root, names).err()
 }
@@ -234,20 +275,22 @@ pub(crate) fn fault_of(
     past: &Past<'_>,
     root: NodeId,
     change: &Change,
+    near: &Option<NodeId>,
 ) -> Option<CommitFault>
+    requires near { IsNear nodes.now root change.now near.now }
     requires root_in { root < length nodes.now }
     requires closed { IsClosedIn nodes.now }
     requires past { IsPast past.now.roots.now past.now.heights.now nodes.now }
     ensures { (l next : ℕ) → let base = length past.now.heights.now in result ≡ change_fault (past_in base past.now.roots.now nodes.now l) (pending_in base nodes.now root next) change.now }
 {
     match change {
-        Change::MakeDir { path } => fault_of_dir(nodes, root, path.components()),
-        Change::PutFile { path, text } => fault_of_file(nodes, root, path.components(), text),
+        Change::MakeDir { path } => fault_of_dir(nodes, root, path.components(), near),
+        Change::PutFile { path, text } => fault_of_file(nodes, root, path.components(), near, text),
         Change::SetProp {
             path,
             name: _,
             value,
-        } => fault_of_prop(nodes, root, path.components(), value),
+        } => fault_of_prop(nodes, root, path.components(), near, value),
         Change::Remove { path } => fault_of_removed(nodes, root, path.components()),
         Change::CopyFrom { rev, source, path } => {
             let source = RevPath {

@@ -2,14 +2,15 @@
 ghost use Rattle.std.specs.Prelude.{◌≡◌, ◌≢◌, ℕ, ◌<◌, slice_get, length, vec_len, ◌≤◌, IsSome, IfOk, OnOk, OnErr, option_map, option_and_then, Some, None, true, List, [], ◌∷◌, ◌++◌};
 ghost use Rattle.svn_types.specs.Names.{IsName};
 ghost use Rattle.svn_types.specs.Pairs.{with_value, value_of, ChangesOnly};
+ghost use Rattle.svn_types.specs.Paths.{parent};
 ghost use Rattle.svn_repo.specs.History.{child_in, walk};
 ghost use Rattle.svn_repo.specs.Stored.{row_of, rows, kind_of, entries_of};
 ghost use Rattle.svn_repo.specs.Trees.{IsWay, is_directory_place, leaf, place_of, place_at, with_prop};
 ghost use Rattle.svn_repo.specs.Changes.{above_fault, root_fault};
-ghost use Rattle.svn_repo.specs.Drafts.{IsListing, PutsChild, SetsProp, CopiesNode, IsClosedIn, ThawsChild, IsDraft, IsThawed, KeepsOld, IsGrafted, IsOld, look_in, old_part, tree_in};
+ghost use Rattle.svn_repo.specs.Drafts.{IsListing, PutsChild, SetsProp, CopiesNode, IsClosedIn, ThawsChild, IsDraft, IsThawed, KeepsOld, IsFound, IsGrafted, IsOld, look_in, old_part, tree_in};
 
 use crate::entries::{Entries, NodeId};
-use std::alloc::AllocError;
+use std::alloc::{AllocError, Global};
 use svn_types::{Kind, Name, PropName, Props, Rev, Text};
 
 #[derive(Debug, Drop)]
@@ -123,16 +124,28 @@ impl Clone for Content {
     }
 }
 
+// A copy of properties. Most nodes have none, and then there is nothing to go over.
+fn copy_props(props: &Props, alloc: Global) -> Result<Props, AllocError>
+    ensures { IfOk result (λ copy. copy ≡ props.now) }
+{
+    if props.is_empty() {
+        Ok(Props::new(alloc))
+    } else {
+        props.clone()
+    }
+}
+
 // Makes a copy of a node.
 fn copy_node(nodes: &mut Vec<Node>, id: NodeId) -> Result<NodeId, AllocError>
     requires { id < vec_len nodes.old }
     ensures ok { IfOk result (λ n. (n ≡ length nodes.old.items) × CopiesNode nodes.old.items nodes.new.items id) }
     ensures err { OnErr result (nodes.new.items ≡ nodes.old.items) }
 {
+    let alloc = *nodes.allocator();
     let node = &nodes[id.index];
     let copy = Node {
         line: node.line,
-        props: node.props.clone()?,
+        props: copy_props(&node.props, alloc)?,
         content: node.content.clone()?,
     };
     let index = nodes.len();
@@ -258,18 +271,25 @@ fn thaw_root(nodes: &mut Vec<Node>, draft: Draft) -> Result<NodeId, AllocError>
     copy_node(nodes, draft.root)
 }
 
-// Makes afresh every node from the root to a path, and answers the new root and the last of these nodes.
+// Makes afresh every node from the root to a path, and answers the new root and the last of these nodes. Where that one is known, and is so
+// already, all above it are.
 pub(crate) fn thaw_path(
     nodes: &mut Vec<Node>,
     draft: Draft,
     names: &[Name],
+    near: Option<NodeId>,
 ) -> Result<(NodeId, NodeId), AllocError>
     requires draft { IsDraft draft.base nodes.old.items draft.root }
     requires way { IsWay (tree_in draft.base nodes.old.items draft.root) names.now }
+    requires near { IsFound nodes.old.items draft.root names.now near }
     ensures ok { IfOk result (λ r. (draft.base ≤ r.0) × IsThawed draft.base nodes.old.items nodes.new.items draft.root r.0 names.now r.1) }
     ensures kept { KeepsOld draft.base nodes.old.items nodes.new.items }
 {
     let base = draft.base;
+    match near {
+        Some(at) if at.index >= base => return Ok((draft.root, at)),
+        _ => (),
+    }
     let top = thaw_root(nodes, draft)?;
     let at = thaw(nodes, base, top, names)?;
     Ok((top, at))
@@ -303,9 +323,11 @@ pub(crate) fn put_made(
     nodes: &mut Vec<Node>,
     draft: Draft,
     names: &[Name],
+    near: Option<NodeId>,
     node: Node,
 ) -> Result<NodeId, AllocError>
     requires draft { IsDraft draft.base nodes.old.items draft.root }
+    requires near { IsFound nodes.old.items draft.root (parent names.now) near }
     requires not_root { root_fault names.now ≡ None }
     requires above { above_fault (tree_in draft.base nodes.old.items draft.root) names.now ≡ None }
     requires childless { entries_of node.content ≡ [] }
@@ -314,7 +336,7 @@ pub(crate) fn put_made(
     ensures grown { OnOk result (length nodes.old.items < length nodes.new.items) }
 {
     let (last, above) = split_path(names);
-    let (top, at) = thaw_path(nodes, draft, above)?;
+    let (top, at) = thaw_path(nodes, draft, above, near)?;
     push_child(nodes, at, last, node)?;
     Ok(top)
 }
@@ -334,7 +356,7 @@ pub(crate) fn put_old(
     ensures kept { KeepsOld draft.base nodes.old.items nodes.new.items }
 {
     let (last, above) = split_path(names);
-    let (top, at) = thaw_path(nodes, draft, above)?;
+    let (top, at) = thaw_path(nodes, draft, above, None)?;
     put_child(nodes, at, last, child)?;
     Ok(top)
 }
@@ -378,14 +400,16 @@ pub(crate) fn put_prop(
     nodes: &mut Vec<Node>,
     draft: Draft,
     names: &[Name],
+    near: Option<NodeId>,
     setting: &PropSetting<'_>,
 ) -> Result<NodeId, AllocError>
     requires draft { IsDraft draft.base nodes.old.items draft.root }
+    requires near { IsFound nodes.old.items draft.root names.now near }
     requires way { IsWay (tree_in draft.base nodes.old.items draft.root) names.now }
     ensures ok { IfOk result (λ n. IsGrafted draft.base nodes.old.items nodes.new.items draft.root n names.now (with_prop (tree_in draft.base nodes.old.items draft.root) names.now setting.now.name.now setting.now.value.now)) }
     ensures kept { KeepsOld draft.base nodes.old.items nodes.new.items }
 {
-    let (top, at) = thaw_path(nodes, draft, names)?;
+    let (top, at) = thaw_path(nodes, draft, names, near)?;
     set_value(nodes, at, setting)?;
     Ok(top)
 }

@@ -8,7 +8,7 @@ ghost use Rattle.svn_script.specs.Commands.{put_of, prop_of, unprop_of, copy_of}
 
 use crate::command::Command;
 use crate::operands::{last_path, last_three_words, last_two_words, read_rev};
-use crate::words::{LineFault, read_bytes, read_path, read_prop_name};
+use crate::words::{LineFault, read_bytes, read_path, read_prop_name, read_text};
 use std::alloc::Global;
 use svn_repo::Change;
 
@@ -28,7 +28,7 @@ pub(crate) fn read_put(alloc: Global, line: &[u8]) -> Result<Command, LineFault>
         return Err(LineFault::Bad);
     };
     let path = read_path(alloc, path)?;
-    let text = read_bytes(alloc, text)?;
+    let text = read_text(alloc, text)?;
     Ok(Command::Change(Change::PutFile { path, text }))
 }
 

@@ -87,7 +87,8 @@ pub enum Command {
     Show,
 }
 
-// A command that has no words behind its name.
+// A command that has no words behind its name. It is made inline, where the command is known, and needs no copy of it.
+#[inline(always)]
 fn alone(command: Command, line: &[u8]) -> Result<Command, LineFault>
     ensures { Gives (λ c. c) result (when_no_word command (words_of line.now)) }
 {

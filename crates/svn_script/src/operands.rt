@@ -13,7 +13,8 @@ use svn_types::{RelPath, Rev};
 pub(crate) fn is_blank(line: &[u8]) -> bool
     ensures { result ≡ no_words (words_of line.now) }
 {
-    next_word(line).is_none()
+    // Mostly nothing is left, and then there is nothing to look through.
+    line.is_empty() || next_word(line).is_none()
 }
 
 /// The one word that is left of a line.

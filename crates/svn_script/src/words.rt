@@ -26,6 +26,9 @@ impl From<AllocError> for LineFault {
     }
 }
 
+/// Up to so many bytes of a text are copied without memory.
+const FEW: usize = 30;
+
 /// The most digits of a number.
 const MAX_DIGITS: usize = 20;
 
@@ -164,6 +167,18 @@ pub(crate) fn read_bytes(alloc: Global, word: &[u8]) -> Result<Text, LineFault>
     match plain_bytes(word) {
         Some(bytes) => Ok(Text::from_slice(alloc, bytes)?),
         None => Ok(Text::new(unescape(alloc, word)?)),
+    }
+}
+
+/// Reads the text of a file. A long one keeps its checksum, and lies where its clones share it: so it isn't copied when it is committed.
+pub(crate) fn read_text(alloc: Global, word: &[u8]) -> Result<Text, LineFault>
+    ensures { Gives (λ t. t) result (bytes_of word.now) }
+{
+    let text = read_bytes(alloc, word)?;
+    if text.len() <= FEW {
+        Ok(text)
+    } else {
+        Ok(text.clone_with_checksum(alloc)?)
     }
 }
 

@@ -1,9 +1,11 @@
 use Rattle.std.proofs.Common.{◌∙◌, ◌++◌, ◌∷◌, [], Option, ap, sym, subst}
 use Rattle.std.specs.Option.{is_some}
 use Rattle.svn_types.specs.Names.{Path}
+use Rattle.svn_types.specs.Paths.{parent}
+use Rattle.svn_types.proofs.PathLemmas.{parent-child}
 use Rattle.svn_repo.specs.History.{child_in}
 use Rattle.svn_repo.specs.Stored.{rows}
-use Rattle.svn_repo.specs.Drafts.{IsGrafted, tree_in}
+use Rattle.svn_repo.specs.Drafts.{IsFound, IsGrafted, tree_in}
 use Rattle.svn_repo.specs.Trees.{Place, leaf}
 use Rattle.svn_repo.specs.Changes.{with_text}
 use Rattle.svn_repo.proofs.Faults.{way_above}
@@ -16,6 +18,10 @@ pub thaw_path-requires-clause-way : goal.thaw_path-requires-clause-way
 thaw_path-requires-clause-way c =
     (way_above (tree_in c.args.draft.base c.args.nodes.now.items c.args.draft.root) c.args.names.now c.split_path.result.1.now
     c.split_path.result.0.now c.split_path.ensures c.requires.above).0
+
+pub thaw_path-requires-clause-near : goal.thaw_path-requires-clause-near
+thaw_path-requires-clause-near c = subst (λ (p : Path). IsFound c.args.nodes.now.items c.args.draft.root p c.args.near)
+    (ap parent c.split_path.ensures ∙ parent-child c.split_path.result.1.now c.split_path.result.0.now) c.requires.near
 
 pub put_text-requires-clause-listing : goal.put_text-requires-clause-listing
 put_text-requires-clause-listing c =
@@ -53,6 +59,11 @@ returns-clause-stood c =
     ∙ by_walk base mid (child_in (rows mid at) last) (λ n e. thawed.draft.closed at n last e)
     ∙ ap is_some (found_above base c.args.nodes.now.items mid c.args.draft.root c.in_ok-root.root at c.split_path.result.1.now last thawed)
     ∙ ap (λ (p : Path). is_some (tree_in base c.args.nodes.now.items c.args.draft.root p)) (sym c.split_path.ensures)
+
+pub returns-in_err-stood-clause-kept : goal.returns-in_err-stood-clause-kept
+returns-in_err-stood-clause-kept c =
+    kept_through c.args.draft.base c.args.nodes.now.items c.thaw_path.new.nodes.items c.put_text.new.nodes.items c.thaw_path.ensures.kept
+    (c.put_text.ensures.kept c.args.draft.base c.in_ok-root.ensures.ok.1.fresh c.in_ok-root.ensures.ok.1.draft.base_in)
 
 pub returns-clause-kept : goal.returns-clause-kept
 returns-clause-kept c =
