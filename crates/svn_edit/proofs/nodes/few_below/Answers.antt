@@ -3,8 +3,8 @@ use Rattle.svn_types.specs.Names.{Path}
 use Rattle.svn_types.specs.Paths.{is_within}
 use Rattle.svn_model.specs.declared.base_node.BaseNode.{BaseNode}
 use Rattle.svn_model.specs.Nodes.{InPathOrder}
-use Rattle.svn_edit.proofs.Ranges.{from_path, nodes_behind, from_behind, below_there, Taken, taken_none, taken_more, IsPast, nothing_left, outside_next}
-use Rattle.svn_edit.proofs.Ranges.{paths_are, order_run}
+use Rattle.svn_edit.proofs.Ranges.{from_path, nodes_behind, from_behind, below_there, paths_are, order_run}
+use Rattle.svn_edit.proofs.Ranges.{Taken, taken_none, taken_more, IsPast, nothing_left, outside_next}
 use Rattle.svn_edit.proofs.nodes.few_below.Goals as goal
 use Rattle.svn_edit.proofs.nodes.few_below.Goals.{in-None, in-Some+then-not-is_within}
 
