@@ -8,15 +8,15 @@ use Rattle.std.specs.List.Sorted.{IsStrictlySortedBy}
 use Rattle.std.specs.Map.{keys_of}
 use Rattle.std.specs.BTreeMap.{is_at}
 use Rattle.std.specs.BTreeMap.Range.{entries_between}
-use Rattle.std.specs.declared.ops.Bound.TheVariants.{Included, Unbounded}
+use Rattle.std.specs.declared.ops.Bound.TheVariants.{Included, Excluded, Unbounded}
 use Rattle.std.specs.declared.cmp.Ordering.{Ordering}
 use Rattle.std.specs.declared.cmp.Ordering.TheVariants.{Less, Equal, Greater}
-use Rattle.std.specs.Ordering.{is_le, is_eq}
+use Rattle.std.specs.Ordering.{is_le, is_lt, is_eq}
 use Rattle.std.proofs.lemmas.List.{take-append-drop}
 use Rattle.std.proofs.lemmas.Map.Entries.{lookup-filter-keys}
 use Rattle.svn_types.specs.Names.{Path, path_cmp}
-use Rattle.svn_types.specs.Paths.{path_eq, is_within}
-use Rattle.svn_types.proofs.PathsInOrder.{paths_total, not_before_itself, within_after, within_between}
+use Rattle.svn_types.specs.Paths.{path_eq, is_within, is_below}
+use Rattle.svn_types.proofs.PathsInOrder.{paths_total, not_before_itself, within_after, within_between, below_after, before_apart}
 use Rattle.svn_model.specs.declared.base_node.BaseNode.{BaseNode}
 use Rattle.svn_model.specs.Nodes.{get_in, InPathOrder}
 use Rattle.svn_types.proofs.PathLemmas.{same_path, path_eq-symm, is_within-same}
@@ -163,6 +163,49 @@ module _ (path : Path) (es : List (Path × BaseNode)) (paths : List Path) (left 
           or_none None = refl
           or_none (Some x) = refl
 
+-- ---- the nodes below a path
+
+-- those behind the path
+abbrev pub nodes_behind : Path → List (Path × BaseNode) → List (Path × BaseNode)
+nodes_behind path es = entries_between path_cmp (Excluded path) Unbounded es
+
+-- those behind a path are from the path on
+pub from_behind : (path : Path) (es : List (Path × BaseNode)) → from_path path (nodes_behind path es) ≡ nodes_behind path es
+from_behind path [] = refl
+from_behind path (e ∷ es) = by (path_cmp path e.0) refl (from_behind path es)
+  where
+    by : (o : Ordering) → path_cmp path e.0 ≡ o → from_path path (nodes_behind path es) ≡ nodes_behind path es
+        → from_path path (cond (is_lt o && not false) (e ∷ nodes_behind path es) (nodes_behind path es))
+        ≡ cond (is_lt o && not false) (e ∷ nodes_behind path es) (nodes_behind path es)
+    by Less h rest =
+        ap (λ x. cond (is_le x && not false) (e ∷ from_path path (nodes_behind path es)) (from_path path (nodes_behind path es))) h
+        ∙ ap (λ (l : List (Path × BaseNode)). e ∷ l) rest
+    by Equal h rest = rest
+    by Greater h rest = rest
+
+-- what stands behind a path and within it stands below it
+pub below_there : (path p : Path) (es : List (Path × BaseNode))
+    → (is_within path p && is_some (get_in (nodes_behind path es) p)) ≡ (is_below path p && is_some (get_in es p))
+below_there path p es = by (is_within path p) refl (path_eq path p) refl
+  where
+    test : Path → Bool
+    test k = is_lt (path_cmp path k) && not false
+
+    found : (b : Bool) → test p ≡ b → get_in (nodes_behind path es) p ≡ cond b (get_in es p) None
+    found b h = lookup-filter-keys (is_at (path_cmp p)) (λ k. is_lt (path_cmp path k) && not false) b
+        (λ k at. ap test (sym (same_path p k (sym (at_path p k) ∙ at))) ∙ h) es
+
+    itself : path_eq path p ≡ true → (o : Ordering) → path_cmp path p ≡ o → (is_lt o && not false) ≡ false
+    itself same Less h = absurd (true≢false (sym same ∙ before_apart path p h))
+    itself same Equal h = refl
+    itself same Greater h = refl
+
+    by : (w : Bool) → is_within path p ≡ w → (s : Bool) → path_eq path p ≡ s
+        → (w && is_some (get_in (nodes_behind path es) p)) ≡ ((w && not s) && is_some (get_in es p))
+    by false w s same = refl
+    by true w true same = ap is_some (found false (itself same (path_cmp path p) refl))
+    by true w false same = ap is_some (found true (ap (λ o. is_lt o && not false) (below_after path p w same)))
+
 -- ---- a run of what is in order is in order
 
 order_front : (xs ys : List (Path × BaseNode)) → InPathOrder (xs ++ ys) → InPathOrder xs
@@ -188,11 +231,17 @@ removed_more true false old = refl
 removed_more false true old = refl
 removed_more false false old = refl
 
-pub removed_within : (path p : Path) (old : Option BaseNode) → cond (is_within path p && is_some old) None old ≡ cond
-    (is_within path p) None old
-removed_within path p old = by (is_within path p) old
+pub removed_where : (b : Bool) (old : Option BaseNode) → cond (b && is_some old) None old ≡ cond b None old
+removed_where true None = refl
+removed_where true (Some n) = refl
+removed_where false old = refl
+
+-- what is below a path, or is it, is within it
+pub below_or_same : (path p : Path) → (is_below path p || path_eq path p) ≡ is_within path p
+below_or_same path p = by (is_within path p) refl (path_eq path p) refl
   where
-    by : (b : Bool) (o : Option BaseNode) → cond (b && is_some o) None o ≡ cond b None o
-    by true None = refl
-    by true (Some n) = refl
-    by false o = refl
+    by : (w : Bool) → is_within path p ≡ w → (s : Bool) → path_eq path p ≡ s → ((w && not s) || s) ≡ w
+    by true w true same = refl
+    by true w false same = refl
+    by false w false same = refl
+    by false w true same = absurd (true≢false (sym (ap (is_within path) (sym (same_path path p same)) ∙ is_within-same path) ∙ w))

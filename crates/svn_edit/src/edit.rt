@@ -313,10 +313,8 @@ impl Edit {
         if let Some(fault) = nodes::delete_fault(copy.get(path), rev) {
             return Err(fault);
         }
-        match nodes::delete_within(self.alloc, copy, path) {
-            Ok(()) => Ok(()),
-            Err(_) => Err(EditFault::Memory),
-        }
+        nodes::delete_within(self.alloc, copy, path);
+        Ok(())
     }
 
     fn change_prop(

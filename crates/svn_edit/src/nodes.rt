@@ -1,10 +1,10 @@
 //! What an edit asks of the nodes of a copy, and what it does to them.
-ghost use Rattle.std.specs.Prelude.{◌≡◌, nat_eq, IfOk, OnOk, OnErr, Some, None, is_some, unwrap_or, if◌then◌else◌, ◌&&◌};
+ghost use Rattle.std.specs.Prelude.{◌≡◌, not, nat_eq, IfOk, IfSome, OnOk, OnErr, Some, None, is_some, unwrap_or, if◌then◌else◌, ◌&&◌};
 ghost use Rattle.std.specs.Option.{option_copied};
 ghost use Rattle.std.specs.List.{list_any};
 ghost use Rattle.md5.specs.Md5.{md5};
 ghost use Rattle.svn_types.specs.Names.{Path};
-ghost use Rattle.svn_types.specs.Paths.{path_eq, is_within};
+ghost use Rattle.svn_types.specs.Paths.{path_eq, is_within, is_below};
 ghost use Rattle.svn_model.specs.Nodes.{get_in, is_present, node_text};
 ghost use Rattle.svn_model.specs.Effects.{opened_directory, is_wrong_sum};
 ghost use Rattle.svn_model.specs.Answering.{AnswersCall};
@@ -16,6 +16,7 @@ use md5::{Digest as Hasher, Md5};
 use std::alloc::{AllocError, Global};
 use std::collections::BTreeMap;
 use std::collections::btree_map::Entry;
+use std::ops::Bound;
 use svn_editor::{Digest, EditFault};
 use svn_model::BaseNode;
 use svn_types::{Kind, Props, RelPath, Rev, Text};
@@ -143,24 +144,6 @@ pub(crate) fn open_directory(
     }
 }
 
-/// The paths of the nodes at a path and below, in path order. AllocError where a growth is refused.
-pub fn paths_within(
-    alloc: Global,
-    nodes: &Nodes,
-    path: &RelPath,
-) -> Result<Vec<RelPath>, AllocError>
-    ensures { IfOk result (λ v. (p : Path) → list_any (λ q. path_eq q p) v.items ≡ (is_within path.now p && is_some (get_in nodes.now.entries p))) }
-{
-    let mut paths = Vec::new(alloc);
-    for (other, _) in nodes.range(path.clone()?..) {
-        if !other.is_within(path) {
-            break;
-        }
-        paths.push(other.clone()?)?;
-    }
-    Ok(paths)
-}
-
 /// Removes what stands at these paths. It takes no memory.
 pub fn remove_all(nodes: &mut Nodes, paths: &[RelPath])
     ensures { (p : Path) → get_in nodes.new.entries p ≡ (if list_any (λ q. path_eq q p) paths.now then None else get_in nodes.old.entries p) }
@@ -170,18 +153,52 @@ pub fn remove_all(nodes: &mut Nodes, paths: &[RelPath])
     }
 }
 
-/// Removes what stands at a path and below.
-pub(crate) fn delete_within(
+// The paths of the nodes below a path, in path order: None where they are over a quarter of all. AllocError where a growth is refused.
+fn few_below(
     alloc: Global,
-    nodes: &mut Nodes,
+    nodes: &Nodes,
     path: &RelPath,
-) -> Result<(), AllocError>
-    ensures deleted { OnOk result ((p : Path) → get_in nodes.new.entries p ≡ (if is_within path.now p then None else get_in nodes.old.entries p)) }
-    ensures refused { OnErr result (nodes.new.entries ≡ nodes.old.entries) }
+) -> Result<Option<Vec<RelPath>>, AllocError>
+    ensures { IfOk result (λ found. IfSome found (λ v. (p : Path) → list_any (λ q. path_eq q p) v.items ≡ (is_below path.now p && is_some (get_in nodes.now.entries p)))) }
 {
-    let paths = paths_within(alloc, nodes, path)?;
-    remove_all(nodes, &paths);
-    Ok(())
+    let most = nodes.len() / 4;
+    let mut paths = Vec::new(alloc);
+    for (other, _) in nodes.range((Bound::Excluded(path), Bound::Unbounded)) {
+        if !other.is_within(path) {
+            break;
+        }
+        if paths.len() == most {
+            return Ok(None);
+        }
+        paths.push(other.clone()?)?;
+    }
+    Ok(Some(paths))
+}
+
+// Whether a path isn't below another.
+fn stays(path: &RelPath, other: &RelPath) -> bool
+    ensures { result ≡ not (is_below path.now other.now) }
+{
+    path == other || !other.is_within(path)
+}
+
+/// Removes what stands below a path, at the cost of what goes. It needs no memory: where that of a list is refused, each node is looked at.
+pub fn remove_below(alloc: Global, nodes: &mut Nodes, path: &RelPath)
+    ensures { (p : Path) → get_in nodes.new.entries p ≡ (if is_below path.now p then None else get_in nodes.old.entries p) }
+{
+    match few_below(alloc, nodes, path) {
+        Ok(Some(paths)) => remove_all(nodes, &paths),
+        // one pass over all is cheaper than to find so many of them one by one
+        _ => nodes.retain(|other, _| stays(path, other)),
+    }
+}
+
+/// Removes what stands at a path and below.
+pub(crate) fn delete_within(alloc: Global, nodes: &mut Nodes, path: &RelPath)
+    ensures { (p : Path) → get_in nodes.new.entries p ≡ (if is_within path.now p then None else get_in nodes.old.entries p) }
+{
+    remove_below(alloc, nodes, path);
+    nodes.remove(path);
 }
 
 // A clone of a text, once its checksum was tested.

@@ -5,11 +5,11 @@ use Rattle.svn_edit.specs.Applying.{mode_of}
 use Rattle.svn_edit_law.proofs.StepEffects.{effect_delete}
 use Rattle.svn_edit.proofs.edit.Edit.delete_entry.Goals as goal
 
-pub returns-in-Ok : goal.returns-in-Ok
-returns-in-Ok c =
+pub returns : goal.returns
+returns c =
     let w = get_in c.args.copy.now.entries in
     let shut : delete_fault_of (w c.args.path.now) c.args.rev ≡ None = search rules in (
       shut,
-      λ p. c.in-Ok.ensures.deleted p ∙ effect_delete (mode_of c.args.self.now.root) c.args.self.now.target [] c.args.path.now
+      λ p. c.delete_within.ensures p ∙ effect_delete (mode_of c.args.self.now.root) c.args.self.now.target [] c.args.path.now
           c.args.rev w p,
     )
