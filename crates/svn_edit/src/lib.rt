@@ -1,7 +1,7 @@
 //! Edits of a working copy's nodes: each editor call takes effect, or is refused and changes nothing (`svn_delta.h`, the receiver).
 //!
 //! [`Edit`] takes the calls of one edit and changes [`Nodes`], a map from paths to nodes, which it is given with each call. The `Applier` of
-//! `svn_wc` holds an edit beside its copy, and is an `Editor`. [`remove_all`], [`remove_below`], [`child_path`] and [`parent_path`] are what
+//! `svn_wc` holds an edit beside its copy, and is an `Editor`. [`remove_all`], [`sweep_below`], [`child_path`] and [`parent_path`] are what
 //! `svn_wc` needs of maps and paths too.
 //!
 //! ```
@@ -27,5 +27,5 @@ mod opening;
 mod paths;
 
 pub use edit::Edit;
-pub use nodes::{Nodes, remove_all, remove_below};
+pub use nodes::{Nodes, remove_all, sweep_below};
 pub use paths::{child_path, parent_path};

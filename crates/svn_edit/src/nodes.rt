@@ -182,14 +182,20 @@ fn stays(path: &RelPath, other: &RelPath) -> bool
     path == other || !other.is_within(path)
 }
 
-/// Removes what stands below a path, at the cost of what goes. It needs no memory: where that of a list is refused, each node is looked at.
-pub fn remove_below(alloc: Global, nodes: &mut Nodes, path: &RelPath)
+/// Removes what stands below a path in one pass over all nodes, which is cheaper than to find many of them one by one. It takes no memory.
+pub fn sweep_below(nodes: &mut Nodes, path: &RelPath)
+    ensures { (p : Path) → get_in nodes.new.entries p ≡ (if is_below path.now p then None else get_in nodes.old.entries p) }
+{
+    nodes.retain(|other, _| stays(path, other));
+}
+
+// Removes what stands below a path, at the cost of what goes. Where the memory of a list is refused, each node is looked at.
+fn remove_below(alloc: Global, nodes: &mut Nodes, path: &RelPath)
     ensures { (p : Path) → get_in nodes.new.entries p ≡ (if is_below path.now p then None else get_in nodes.old.entries p) }
 {
     match few_below(alloc, nodes, path) {
         Ok(Some(paths)) => remove_all(nodes, &paths),
-        // one pass over all is cheaper than to find so many of them one by one
-        _ => nodes.retain(|other, _| stays(path, other)),
+        _ => sweep_below(nodes, path),
     }
 }
 

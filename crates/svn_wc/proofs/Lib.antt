@@ -24,6 +24,8 @@ pub mod Placing
 pub mod EachOnce
 -- A call of an applier keeps the copy in its shape, whatever the call and its answer.
 pub mod ShapeKept
+-- The next node below a path, and what is left without it.
+pub mod Removing
 -- A list sorted by its paths: what stands twice, and what a search finds.
 pub mod SortedNodes
 -- Ranges of nodes, and how one is gone through from the last node back.

@@ -1,10 +1,9 @@
-use Rattle.std.proofs.Common.{List, cond, ap, ◌∙◌, not, None, rules}
+use Rattle.std.proofs.Common.{List, cond, ap, ◌∙◌, None}
 use Rattle.std.specs.List.{list_any}
 use Rattle.svn_types.specs.Names.{Path}
 use Rattle.svn_types.specs.Paths.{path_eq, is_below}
 use Rattle.svn_model.specs.Nodes.{get_in}
 use Rattle.svn_edit.proofs.Ranges.{removed_where}
-use Rattle.svn_edit.proofs.Retaining.{retained_by, left_out}
 use Rattle.svn_edit.proofs.nodes.remove_below.Goals as goal
 
 pub returns-in-Ok-Some : goal.returns-in-Ok-Some
@@ -14,10 +13,3 @@ returns-in-Ok-Some c = λ p.
     c.remove_all.ensures p ∙ ap (λ b. cond b None old)
     (ap (λ (l : List Path). list_any (λ q. path_eq q p) l) c.deref.ensures.value ∙ those p)
     ∙ removed_where (is_below c.args.path.now p) old
-
-pub returns-in_default : goal.returns-in_default
-returns-in_default c = λ p.
-    let path = c.args.path.now in
-    retained_by (λ q. not (is_below path q)) _ _ (λ k v b w f' t. search rules) c.args.nodes.now.entries
-    c.retain.new.self.entries c.retain.ensures.was_ordered c.retain.ensures.filtered p
-    ∙ left_out (is_below path p) (get_in c.args.nodes.now.entries p)
