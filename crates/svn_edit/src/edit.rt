@@ -19,16 +19,16 @@ ghost use Rattle.std.specs.FinMap as map;
 ghost use Rattle.svn_pool.specs.Ancestry.{IsCleared};
 
 use crate::baton::{Baton, drop_pool};
+use crate::nodes;
 use crate::nodes::Nodes;
 use crate::open_path::OpenPath;
-use crate::{nodes, paths};
 use std::alloc::{AllocError, Global};
 use svn_editor::{Call, Digest, EditFault, OrderFault, Token};
 use svn_model::BaseNode;
 use svn_order::OrderCheck;
 use svn_pool::{PoolId, PoolTree};
 use svn_serials::SerialMap;
-use svn_types::{MAX_SIZE, PropName, Props, RelPath, Rev, Text};
+use svn_types::{MAX_SIZE, PropName, RelPath, Rev, Text};
 
 /// How far an edit is.
 #[derive(Clone, Copy, Debug)]
