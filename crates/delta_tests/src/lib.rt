@@ -9,3 +9,5 @@ mod order;
 mod printing;
 #[cfg(test)]
 mod reporting;
+#[cfg(test)]
+mod words;

@@ -6,6 +6,8 @@ mod histories;
 #[cfg(test)]
 mod limits;
 #[cfg(test)]
+mod maps;
+#[cfg(test)]
 mod refusals;
 #[cfg(test)]
 mod steps;

@@ -7,16 +7,50 @@ ghost use Rattle.svn_drive.specs.NamesLeft.{first_name, TakesChild};
 use crate::lists_left::{EntriesLeft, ReportedLeft};
 use std::alloc::AllocError;
 use std::cmp::Ordering;
+use std::marker::Model;
 use svn_repo::NodeId;
 use svn_types::Name;
 
+/// A truth value as wide as what stands beside it. A `bool` is followed by bytes that hold nothing, and with them is copied in overlapping
+/// pieces, for which a processor waits. A contract sees it as the truth value.
+#[derive(Drop)]
+pub(crate) struct Mark {
+    word: u64,
+}
+
+impl Model for Mark {
+    ghost use Rattle.std.specs.Prelude.{Bool, not, nat_eq};
+
+    ghost Value = { Bool };
+
+    ghost view = { λ m. not (nat_eq m.word 0) };
+}
+
+impl Mark {
+    #[inline(always)]
+    pub(crate) fn of(value: bool) -> Mark
+        ensures { result ≡ value }
+    {
+        Mark {
+            word: if value { 1 } else { 0 },
+        }
+    }
+
+    #[inline(always)]
+    pub(crate) fn get(&self) -> bool
+        ensures { result ≡ self.now }
+    {
+        self.word != 0
+    }
+}
+
 /// What stands under a name below a place: the entries of the nodes on both sides, and whether the report has an entry at it or below it.
-#[derive(Clone, Copy)]
+#[derive(Drop)]
 pub(crate) struct Below<'a> {
     pub(crate) name: &'a Name,
     pub(crate) source: Option<&'a NodeId>,
     pub(crate) target: Option<&'a NodeId>,
-    pub(crate) is_reported: bool,
+    pub(crate) is_reported: Mark,
 }
 
 impl<'a> Below<'a> {
@@ -33,7 +67,7 @@ impl<'a> Below<'a> {
             name,
             source,
             target,
-            is_reported: false,
+            is_reported: Mark::of(false),
         }
     }
 }
@@ -80,7 +114,7 @@ impl<'a> NamesLeft<'a> {
             name,
             source,
             target,
-            is_reported,
+            is_reported: Mark::of(is_reported),
         })
     }
 

@@ -25,7 +25,7 @@ impl<'a> Walk<'a> {
         requires below { IsBelow (request_of self.now) place.now below.now }
         ensures { IsTrue result → IsIdle (request_of self.now) (place.now.here.path ++ below.now.name.now ∷ []) }
     {
-        if below.is_reported {
+        if below.is_reported.get() {
             false
         } else if starts_empty(place.here.governing) {
             false
@@ -44,13 +44,14 @@ impl<'a> Walk<'a> {
         ensures idle { IsTrue result → IsIdle (request_of self.now) (place.now.here.path ++ below.now.name.now ∷ []) }
         ensures room { IsFalse result → length place.now.here.path < depth_limit }
     {
-        if place.here.path.components().len() >= MAX_COMPONENTS {
-            true
-        } else if place.is_kept {
-            self.is_same_child(place, below)
-        } else {
-            below.target.is_none()
+        if place.is_kept {
+            if self.is_same_child(place, below) {
+                return true;
+            }
+        } else if below.target.is_none() {
+            return true;
         }
+        place.here.path.components().len() >= MAX_COMPONENTS
     }
 
     // The names below a place, of its entries on both sides and of those that are reported.

@@ -7,10 +7,9 @@ ghost use Rattle.svn_report.specs.ReportNames.{reported_names};
 ghost use Rattle.svn_drive.specs.Firsts.{entries_at, shown_entry, first_of, first_key, TakesName, TakesValue};
 
 use std::alloc::AllocError;
-use std::collections::BTreeMap;
-use std::collections::btree_map::Iter;
 use std::marker::Model;
-use svn_repo::{NodeId, Repo};
+use svn_name_map::Iter;
+use svn_repo::{Entries, NodeId, Repo};
 use svn_report::Report;
 use svn_types::{Name, RelPath};
 
@@ -19,7 +18,7 @@ use svn_types::{Name, RelPath};
 pub(crate) struct EntriesLeft<'a> {
     first: Option<(&'a Name, &'a NodeId)>,
     // where there is no directory, nothing is left
-    rest: Option<Iter<'a, Name, NodeId>>,
+    rest: Option<Iter<'a, NodeId>>,
 }
 
 impl<'a> Model for EntriesLeft<'a> {
@@ -34,8 +33,9 @@ impl<'a> Model for EntriesLeft<'a> {
     ghost invariant = { λ l. IfNone l.first (unwrap_or l.rest [] ≡ []) };
 }
 
-// Takes the next entry.
-fn next_entry<'a>(rest: &mut Option<Iter<'a, Name, NodeId>>) -> Option<(&'a Name, &'a NodeId)>
+// Takes the next entry. Inlined, so that what it answers stays where it is read.
+#[inline(always)]
+fn next_entry<'a>(rest: &mut Option<Iter<'a, NodeId>>) -> Option<(&'a Name, &'a NodeId)>
     ensures { TakesFirst shown_entry (unwrap_or rest.old []) result (unwrap_or rest.new []) }
 {
     let Some(entries) = rest else {
@@ -45,15 +45,14 @@ fn next_entry<'a>(rest: &mut Option<Iter<'a, Name, NodeId>>) -> Option<(&'a Name
 }
 
 /// The entries of a node, where it is a directory.
-pub(crate) fn entries_at(repo: &Repo, node: Option<NodeId>) -> Option<&BTreeMap<Name, NodeId>>
-    ensures { unwrap_or (option_map (λ m. m.now.entries) result) [] ≡ entries_at repo.now node }
+pub(crate) fn entries_at(repo: &Repo, node: Option<NodeId>) -> Option<&Entries>
+    ensures { unwrap_or (option_map (λ m. m.now) result) [] ≡ entries_at repo.now node }
 {
-    let entries = repo.entries(node?)?;
-    Some(entries.as_map())
+    repo.entries(node?)
 }
 
-fn iter_of<'a>(entries: Option<&'a BTreeMap<Name, NodeId>>) -> Option<Iter<'a, Name, NodeId>>
-    ensures all { unwrap_or result [] ≡ unwrap_or (option_map (λ m. m.now.entries) entries.entry) [] }
+fn iter_of<'a>(entries: Option<&'a Entries>) -> Option<Iter<'a, NodeId>>
+    ensures all { unwrap_or result [] ≡ unwrap_or (option_map (λ m. m.now) entries.entry) [] }
     ensures ordered { InNameOrder (unwrap_or result []) }
 {
     match entries {
@@ -64,8 +63,8 @@ fn iter_of<'a>(entries: Option<&'a BTreeMap<Name, NodeId>>) -> Option<Iter<'a, N
 
 impl<'a> EntriesLeft<'a> {
     /// All entries.
-    pub(crate) fn of(entries: Option<&'a BTreeMap<Name, NodeId>>) -> EntriesLeft<'a>
-        ensures all { result ≡ unwrap_or (option_map (λ m. m.now.entries) entries.entry) [] }
+    pub(crate) fn of(entries: Option<&'a Entries>) -> EntriesLeft<'a>
+        ensures all { result ≡ unwrap_or (option_map (λ m. m.now) entries.entry) [] }
         ensures ordered { InNameOrder result }
     {
         let mut rest = iter_of(entries);

@@ -56,9 +56,17 @@ fn old_text<'r>(repo: &'r Repo, file: &Texted) -> &'r [u8]
     }
 }
 
+// How many times as many files there is room for where there was none for one more. They may be those of a whole tree: so each is copied
+// a third of a time, and with twice as many once.
+const GROWTH: usize = 4;
+
 fn postpone(later: &mut Vec<Texted>, file: Texted) -> Result<(), AllocError>
     ensures { OnOk result (later.new.items ≡ later.old.items ++ (file ∷ [])) }
 {
+    if later.len() == later.capacity() {
+        let more = later.len().saturating_mul(GROWTH - 1);
+        let _has_room = later.reserve(more).is_ok();
+    }
     later.push(file)?;
     Ok(())
 }

@@ -202,7 +202,7 @@ impl<'a> Walk<'a> {
     {
         let here = self
             .reading()
-            .seen_child(&above.here, below.name, below.is_reported)?;
+            .seen_child(&above.here, below.name, below.is_reported.get())?;
         Ok(self.child_seen(above, here, below, parent))
     }
 

@@ -41,7 +41,7 @@ use Rattle.svn_edit_law.proofs.OnePath.{noted, said-quiet, said-own, said-other,
 -- ---- tokens
 
 -- all but the new token are as they were
-given_other : (calls : List Call) (c : Call) (g : Given) (t : ℕ) → given_by c ≡ Some g → t ≢ length (all_given calls)
+pub given_other : (calls : List Call) (c : Call) (g : Given) (t : ℕ) → given_by c ≡ Some g → t ≢ length (all_given calls)
     → given (calls ++ c ∷ []) t ≡ given calls t
 given_other calls c g t e n = ap (λ (gs : List Given). slice_get gs t) (given_one calls c g e) ∙ by (all_given calls) t n
   where
@@ -62,7 +62,7 @@ within calls m h = by (given calls m) refl h
 pub unopened : (calls : List Call) (t : ℕ) → length (all_given calls) ≤ t → is_open calls t ≡ false
 unopened calls t h = ap (λ (o : Option Given). is_some o && not (is_closed calls t)) (slice_get_past (all_given calls) t h)
 
-open_given : (calls : List Call) (t : ℕ) → is_open calls t ≡ true → (g : Given) × (given calls t ≡ Some g) × (is_closed calls t ≡ false)
+pub open_given : (calls : List Call) (t : ℕ) → is_open calls t ≡ true → (g : Given) × (given calls t ≡ Some g) × (is_closed calls t ≡ false)
 open_given calls t h = by (given calls t) refl (is_closed calls t) refl h
   where
     by : (o : Option Given) → given calls t ≡ o → (b : Bool) → is_closed calls t ≡ b → (is_some o && not b) ≡ true

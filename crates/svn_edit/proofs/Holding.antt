@@ -1,9 +1,7 @@
 -- What an edit holds after one more call.
 use Rattle.std.proofs.Common.{◌≡◌, ℕ, Bool, true, false, true≢false, cond, List, [], ◌∷◌, ◌++◌, refl, sym, ◌∙◌, ap, subst}
-use Rattle.std.specs.Prelude.{Option, Some, None, Result, Ok, Err, OnOk, OnErr, IfErr, IfSome}
+use Rattle.std.specs.Prelude.{Option, Some, None, Result, Ok, Err, OnOk, OnErr, IfErr}
 use Rattle.std.specs.Option.{option_or, option_map}
-use Rattle.std.proofs.lemmas.Option.{same_Some}
-use Rattle.md5.specs.Md5.{md5}
 use Rattle.svn_types.specs.Names.{Path}
 use Rattle.svn_editor.specs.declared.call.Call.{Call}
 use Rattle.svn_editor.specs.declared.fault.EditFault.{EditFault}
@@ -20,13 +18,11 @@ use Rattle.svn_editor.specs.Steps.{Mode, Add, target_of}
 use Rattle.svn_editor.proofs.Accepted.{accepted, not_ended}
 use Rattle.svn_order.proofs.Lawful.{sound}
 use Rattle.svn_model.specs.declared.base_node.BaseNode.{BaseNode}
-use Rattle.svn_edit.specs.declared.baton.Baton.{Baton}
 use Rattle.svn_edit.specs.declared.edit.Edit.{Edit}
-use Rattle.svn_edit.specs.declared.edit.OpenedFile.{OpenedFile}
-use Rattle.svn_model.specs.Nodes.{WorkingCopy, get_in, is_present, node_text}
+use Rattle.svn_model.specs.Nodes.{WorkingCopy, get_in, is_present}
 use Rattle.svn_model.specs.Effects.{effect, after, edit_fault, refusal, added_node, joined_path, step_fault, step_effect}
 use Rattle.svn_edit.specs.NodeTests.{deep_fault}
-use Rattle.svn_edit.specs.Applying.{Applied, KeepsEdit, MakesBaton, batons_of, mode_of, pool_above, Holds, IsNext, IsNoted, StandsAfter}
+use Rattle.svn_edit.specs.Applying.{Applied, KeepsEdit, MakesBaton, batons_of, mode_of, pool_above, Holds, IsNext, StandsAfter}
 use Rattle.svn_edit.specs.Applying.{HoldsBatons}
 use Rattle.svn_model.specs.Answering.{IsAnswer, AnswersCall}
 use Rattle.svn_edit_law.proofs.Appending.{after-more, next_target, target-more}
@@ -212,14 +208,3 @@ not_memory e n = λ m. cc
 pub abort_is_last : (c : Call) → is_abort c ≡ true → is_last c ≡ true
 abort_is_last AbortEdit h = refl
 abort_is_last _ h = absurd (true≢false (sym h))
-
--- ---- the file that was opened
-
--- what an open notes of the node is so of its new baton
-pub opened_noted : (beneath : ℕ) (p : Path) (t : ℕ) (old new : Edit) (nodes : List (Path × BaseNode)) (opened : Option OpenedFile)
-    → MakesBaton beneath p t old new
-    → IfSome opened (λ f. (f.token ≡ t) × (f.sum ≡ md5 (node_text (get_in nodes p)))) → IsNoted opened (batons_of new) nodes
-opened_noted beneath p t old new nodes None made is = tt
-opened_noted beneath p t old new nodes (Some f) made is = λ b there.
-    let same : made.baton ≡ b = same_Some made.baton b (sym made.token ∙ ap (batons_of new) (sym is.0) ∙ there) in
-    is.1 ∙ ap (λ (q : Path). md5 (node_text (get_in nodes q))) (sym made.begun.path ∙ ap (λ (x : Baton). x.path) same)

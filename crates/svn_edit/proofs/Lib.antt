@@ -22,6 +22,8 @@ pub mod Holding
 pub mod LeftPools
 -- The close of a directory: what was said of it is done, and its baton goes.
 pub mod Closes
+-- What is noted of the text that an open file has in the copy stays so.
+pub mod Bases
 -- The close of a file: its text is checked, what was said of it is done, and its baton goes.
 pub mod FileCloses
 -- The last call among the others: what it answers and leaves, and how many pools are live.

@@ -57,8 +57,10 @@ len_removed m s e there =
 
 pub said_one : (b d : Baton) (t u : Pools) (note : Note) (x : List ℕ) → d.path ≡ b.path → d.pool.0 ≡ b.pool.0
     → d.notes.items ≡ b.notes.items ++ note ∷ []
-    → NotesText note (length (strings_at t b.pool.0)) b.text d.text → u ≡ pushed t b.pool.0 x → BatonSaid note (x ∷ []) b t d u
-said_one b d t u note x path pool notes text is = record {
+    → NotesText note (length (strings_at t b.pool.0)) b.text d.text → d.base ≡ b.base → u ≡ pushed t b.pool.0 x
+    → BatonSaid note (x ∷ []) b t d u
+said_one b d t u note x path pool notes text base is = record {
+  base = base;
   path = path;
   same_pool = pool;
   notes = notes;
@@ -71,9 +73,10 @@ said_one b d t u note x path pool notes text is = record {
 
 pub said_two : (b d : Baton) (t u : Pools) (note : Note) (x y : List ℕ) → d.path ≡ b.path → d.pool.0 ≡ b.pool.0
     → d.notes.items ≡ b.notes.items ++ note ∷ []
-    → NotesText note (length (strings_at t b.pool.0)) b.text d.text → u ≡ pushed (pushed t b.pool.0 x) b.pool.0 y
-    → BatonSaid note (x ∷ y ∷ []) b t d u
-said_two b d t u note x y path pool notes text is = record {
+    → NotesText note (length (strings_at t b.pool.0)) b.text d.text → d.base ≡ b.base
+    → u ≡ pushed (pushed t b.pool.0 x) b.pool.0 y → BatonSaid note (x ∷ y ∷ []) b t d u
+said_two b d t u note x y path pool notes text base is = record {
+  base = base;
   path = path;
   same_pool = pool;
   notes = notes;

@@ -16,11 +16,11 @@ use Rattle.svn_editor.specs.declared.call.Call.{Call}
 use Rattle.svn_editor.specs.declared.fault.EditFault.{EditFault}
 use Rattle.svn_editor.specs.declared.fault.EditFault.TheVariants.{Order}
 use Rattle.svn_editor.specs.declared.fault.OrderFault.TheVariants.{Dead, Ended as TooLate}
-use Rattle.svn_editor.specs.declared.call.Call.TheVariants.{AbortEdit, OpenFile}
+use Rattle.svn_editor.specs.declared.call.Call.TheVariants.{AbortEdit}
 use Rattle.svn_editor.specs.Order.{IsLawful, order_fault}
 use Rattle.svn_edit.specs.declared.edit.Stage.{Stage}
 use Rattle.svn_edit.specs.declared.opening.NewNode.{NewNode}
-use Rattle.svn_editor.specs.Calls.{Given, given, all_given, is_closed, path_of, is_last}
+use Rattle.svn_editor.specs.Calls.{Given, given, given_by, all_given, is_closed, path_of, is_last}
 use Rattle.svn_editor.specs.Steps.{Mode, Update, SwitchTo, Action, steps_of, target_of}
 use Rattle.svn_order.specs.StandsAfter as order
 use Rattle.svn_model.specs.declared.base_node.BaseNode.{BaseNode}
@@ -29,7 +29,6 @@ use Rattle.svn_edit.specs.declared.baton.Note.{Note}
 use Rattle.svn_edit.specs.declared.baton.Note.TheVariants.{Text as NewText}
 use Rattle.svn_edit.specs.declared.baton.NotedText.{NotedText}
 use Rattle.svn_edit.specs.declared.edit.Edit.{Edit}
-use Rattle.svn_edit.specs.declared.edit.OpenedFile.{OpenedFile}
 use Rattle.svn_edit.specs.declared.edit.Stage.TheVariants.{Going, Refused, Ended}
 use Rattle.svn_model.specs.Nodes.{WorkingCopy, get_in, node_text}
 use Rattle.svn_types.specs.Props.{with_changes}
@@ -159,6 +158,7 @@ pub record BatonSaid (note : Note) (strings : List (List ℕ)) (b : Baton) (old 
   pub same_pool : d.pool.0 ≡ b.pool.0
   pub notes : d.notes.items ≡ b.notes.items ++ note ∷ []
   pub text : NotesText note (length (strings_at old b.pool.0)) b.text d.text
+  pub base : d.base ≡ b.base
   pub own : pool_at new b.pool.0 ≡ Some (record { parent = parent_of (pool_at old b.pool.0); strings = strings_at old b.pool.0 ++ strings })
   pub others : (s : ℕ) → s ≢ b.pool.0 → pool_at new s ≡ pool_at old s
   pub root : new.root ≡ old.root
@@ -233,19 +233,27 @@ abbrev pub Applied : Option EditFault → WorkingCopy → List (Path × BaseNode
 Applied fault w nodes (Ok done) nodes2 = (fault ≡ None) × ((p : Path) → get_in nodes2 p ≡ w p)
 Applied fault w nodes (Err e) nodes2 = IsAnswer fault e × (nodes2 ≡ nodes)
 
--- ---- what is noted of the file that the last call opened
-
-abbrev pub opens_file : Call → Bool
-opens_file (OpenFile path parent base token) = true
-opens_file _ = false
+-- ---- what is noted of the text that an open file has in the copy
 
 -- the checksum, if there is one, is that of the text at the path
 abbrev pub IsSumOf : Option (List ℕ) → List (Path × BaseNode) → Path → Type 0
 IsSumOf sum nodes p = IfSome sum (λ s. s ≡ md5 (node_text (get_in nodes p)))
 
--- the checksum that is noted, if one is, is that of the text at the path of its token's baton
-abbrev pub IsNoted : Option OpenedFile → Batons → List (Path × BaseNode) → Type 0
-IsNoted opened at nodes = IfSome opened (λ f. (b : Baton) → at f.token ≡ Some b → f.sum ≡ md5 (node_text (get_in nodes b.path)))
+-- so it is with what is noted at each file
+abbrev pub IsNoted : List Call → Batons → List (Path × BaseNode) → Type 0
+IsNoted calls at nodes =
+    (t : ℕ) (b : Baton) (g : Given) → at t ≡ Some b → given calls t ≡ Some g → g.kind ≡ File → IsSumOf b.base nodes b.path
+
+-- a baton that isn't that of the token which a call gives was there before, with its path and what is noted
+abbrev pub KeepsBases : Call → Batons → Batons → Type 0
+KeepsBases c at at2 =
+    (u : ℕ) (b : Baton) → at2 u ≡ Some b → ((g : Given) → given_by c ≡ Some g → g.token ≢ u)
+    → (d : Baton) × (at u ≡ Some d) × (d.path ≡ b.path) × (d.base ≡ b.base)
+
+-- and what is noted at a file that it opens is so
+abbrev pub OpensBase : Call → Batons → List (Path × BaseNode) → Type 0
+OpensBase c at nodes =
+    (g : Given) (b : Baton) → given_by c ≡ Some g → g.kind ≡ File → at g.token ≡ Some b → IsSumOf b.base nodes g.path
 
 -- ---- the whole
 
@@ -265,7 +273,7 @@ pub record StandsAfter (mode : Mode) (w0 : WorkingCopy) (edit : Edit) (nodes : L
   pub going : list_any is_last calls ≡ false → Holds mode edit calls
   pub ended : list_any is_last calls ≡ true → edit.stage ≡ Ended
   pub left : list_any is_last calls ≡ true → OneIsLeft edit
-  pub noted : IsNoted edit.opened (batons_of edit) nodes
+  pub noted : list_any is_last calls ≡ false → IsNoted calls (batons_of edit) nodes
 
 -- the call was taken, and the stage is not yet noted
 pub record TakenInOrder (mode : Mode) (w0 : WorkingCopy) (edit : Edit) (nodes : List (Path × BaseNode)) (calls : List Call)
@@ -274,7 +282,7 @@ pub record TakenInOrder (mode : Mode) (w0 : WorkingCopy) (edit : Edit) (nodes : 
   pub copy : (p : Path) → get_in nodes p ≡ after mode w0 (calls ++ c ∷ []) p
   pub holds : is_last c ≡ false → Holds mode edit (calls ++ c ∷ [])
   pub left : is_last c ≡ true → OneIsLeft edit
-  pub noted : IsNoted edit.opened (batons_of edit) nodes
+  pub noted : is_last c ≡ false → IsNoted (calls ++ c ∷ []) (batons_of edit) nodes
   pub earlier : list_any is_last calls ≡ false
 
 -- the calls so far are in order, and so is the next

@@ -16,6 +16,7 @@ ghost use Rattle.svn_edit.specs.Applying.{BatonBegun, BatonSaid, Says, IsLeaf, P
 use crate::open_path::OpenPath;
 use smallvec::SmallVec;
 use std::alloc::{AllocError, Global};
+use svn_editor::Digest;
 use svn_pool::{PoolId, PoolTree, Reader};
 use svn_types::{PropName, Props, Text};
 
@@ -44,33 +45,20 @@ fn has_change(notes: &[Note]) -> bool
 const FEW_NOTES: usize = 8;
 
 /// Where the text that came for a file lies among the strings of its pool.
-#[derive(Drop)]
+#[derive(Clone, Copy, Debug)]
 pub(crate) struct NotedText {
     place: u32,
-    // The same text once more, where a clone of it copies no bytes and knows their checksum.
-    kept: Option<Text>,
 }
 
-impl NotedText {
-    // What is noted of a text that lies at this place.
-    fn of(place: u32, text: &Text) -> NotedText
-        ensures { result.place ≡ place }
-    {
-        let kept = match text.kept_checksum() {
-            Some(_) => text.clone().ok(),
-            None => None,
-        };
-        NotedText { place, kept }
-    }
-}
-
-/// An open file or directory.
+/// An open file or directory. All files may be open at once, so it is small.
 #[derive(Drop)]
 pub(crate) struct Baton {
     pub(crate) path: OpenPath,
     pub(crate) pool: PoolId,
     pub(crate) notes: SmallVec<Note, FEW_NOTES>,
     pub(crate) text: Option<NotedText>,
+    /// Of a file that was opened, the checksum of the text that its node has, where that keeps it. No call but its close changes that node.
+    pub(crate) base: Option<Digest>,
 }
 
 // Pushes a string, and tells its place.
@@ -118,6 +106,7 @@ impl Baton {
             pool,
             notes: SmallVec::new(alloc),
             text: None,
+            base: None,
         })
     }
 
@@ -153,7 +142,7 @@ impl Baton {
         let place = push(pools, self.pool, text.as_slice())?;
         self.notes.push(Note::Text)?;
         if self.text.is_none() {
-            self.text = Some(NotedText::of(place, text));
+            self.text = Some(NotedText { place });
         }
         Ok(())
     }
@@ -218,14 +207,6 @@ impl Baton {
     {
         match &self.text {
             Some(noted) => pools.get(self.pool, noted.place),
-            None => None,
-        }
-    }
-
-    /// A text that may be the one that was noted, and then knows its checksum.
-    pub(crate) fn kept_text(&self) -> Option<&Text> {
-        match &self.text {
-            Some(noted) => noted.kept.as_ref(),
             None => None,
         }
     }

@@ -1,5 +1,5 @@
 //! The closes of an edit.
-ghost use Rattle.std.specs.Prelude.{◌≡◌, List, IfOk, IfErr, OnOk, OnErr, Ok, Some, None, filter_map, unwrap_or, true, if◌then◌else◌};
+ghost use Rattle.std.specs.Prelude.{◌≡◌, ℕ, List, IfOk, IfErr, OnOk, OnErr, Ok, Some, None, filter_map, unwrap_or, true, if◌then◌else◌};
 ghost use Rattle.md5.specs.Md5.{md5};
 ghost use Rattle.svn_types.specs.Names.{Path};
 ghost use Rattle.svn_types.specs.Paths.{path_eq};
@@ -25,6 +25,7 @@ impl Edit {
     // Lets go what an edit keeps of a token.
     pub(crate) fn close_baton(&mut self, token: Token)
         ensures gone { LetsGo token self.old self.new }
+        ensures others { (u : ℕ) (b : Baton) → batons_of self.new u ≡ Some b → batons_of self.old u ≡ Some b }
         ensures keeps { KeepsEdit self.old self.new }
     {
         if let Some(baton) = self.batons.remove(token.0) {
@@ -58,6 +59,7 @@ impl Edit {
         token: Token,
     ) -> Result<(), EditFault>
         ensures gone { OnOk result (LetsGo token self.old self.new) }
+        ensures others { OnOk result ((u : ℕ) (b : Baton) → batons_of self.new u ≡ Some b → batons_of self.old u ≡ Some b) }
         ensures keeps { KeepsEdit self.old self.new }
         ensures closed { OnOk result ((b : Baton) (said : List Action) → batons_of self.old token ≡ Some b → Says b self.old.pools said → (p : Path) → get_in copy.new.entries p ≡ (if path_eq b.path p then closed_directory (filter_map change_in said) (get_in copy.old.entries b.path) else get_in copy.old.entries p)) }
         ensures refused { IfErr result (λ e. (e ≡ EditFault.Memory) × (copy.new.entries ≡ copy.old.entries)) }
@@ -85,7 +87,7 @@ impl Edit {
     {
         match baton.text(&self.pools) {
             Some(bytes) => {
-                let text = nodes::tested_text(self.alloc, bytes, baton.kept_text(), text_md5)?;
+                let text = nodes::tested_text(self.alloc, bytes, self.given.as_ref(), text_md5)?;
                 Ok(Some(text))
             }
             None if nodes::is_wrong_sum(text_md5, Some(node)) => Err(EditFault::TextChecksum),
@@ -240,6 +242,7 @@ impl Edit {
         text_md5: &Option<Digest>,
     ) -> Result<(), EditFault>
         ensures gone { OnOk result (LetsGo token self.old self.new) }
+        ensures others { OnOk result ((u : ℕ) (b : Baton) → batons_of self.new u ≡ Some b → batons_of self.old u ≡ Some b) }
         ensures keeps { KeepsEdit self.old self.new }
         ensures answers { (b : Baton) (said : List Action) → batons_of self.old token ≡ Some b → Says b self.old.pools said → let w = get_in copy.old.entries in AnswersCall (sum_fault md5 text_md5.now (filter_map text_in said) (w b.path)) result }
         ensures closed { OnOk result ((b : Baton) (said : List Action) → batons_of self.old token ≡ Some b → Says b self.old.pools said → FileIsClosed (mode_of self.old.root) self.old.target b.path (filter_map change_in said) (filter_map text_in said) copy.old.entries copy.new.entries) }
@@ -250,6 +253,7 @@ impl Edit {
             return Err(EditFault::Memory);
         };
         self.close_file_of(copy, baton, text_md5)?;
+        self.given = None;
         self.close_baton(token);
         Ok(())
     }

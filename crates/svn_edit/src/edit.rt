@@ -1,5 +1,5 @@
 //! An edit of a copy, call by call.
-ghost use Rattle.std.specs.Prelude.{◌≡◌, ◌≢◌, ◌+◌, is_ok, [], ◌∷◌, ◌++◌, List, IfOk, IfErr, IfSome, OnOk, OnErr, Ok, Some, None, true, false, if◌then◌else◌};
+ghost use Rattle.std.specs.Prelude.{◌≡◌, ◌≢◌, ◌+◌, is_ok, [], ◌∷◌, ◌++◌, List, IfOk, IfErr, OnOk, OnErr, Ok, Some, None, true, false, if◌then◌else◌};
 ghost use Rattle.md5.specs.Md5.{md5};
 ghost use Rattle.svn_types.specs.Names.{Path};
 ghost use Rattle.svn_editor.specs.Calls.{is_last, is_abort};
@@ -10,9 +10,9 @@ ghost use Rattle.svn_edit.specs.declared.baton.Note.TheVariants.{Text as NewText
 ghost use Rattle.svn_edit.specs.Noted.{note_of_value, strings_of_value};
 ghost use Rattle.svn_edit.specs.declared.baton.Baton.{Baton};
 ghost use Rattle.svn_model.specs.declared.base_node.BaseNode.{BaseNode};
-ghost use Rattle.svn_model.specs.Nodes.{WorkingCopy, get_in, node_text};
+ghost use Rattle.svn_model.specs.Nodes.{WorkingCopy, get_in};
 ghost use Rattle.svn_model.specs.Effects.{is_too_long, step_effect, step_fault, effect, edit_fault, refusal};
-ghost use Rattle.svn_edit.specs.Applying.{mode_of, Applied, KeepsEdit, MakesBaton, BatonNoted, TakenInOrder, Batons, batons_of, opens_file, IsSumOf, IsNoted, Holds, IsNext, StandsAfter, OneIsLeft, live_count, open_count, HasEnded, IsRefused, StaysRefused, StaysEnded, LeavesRefused};
+ghost use Rattle.svn_edit.specs.Applying.{mode_of, Applied, KeepsEdit, MakesBaton, BatonNoted, TakenInOrder, batons_of, IsSumOf, IsNoted, KeepsBases, OpensBase, Holds, IsNext, StandsAfter, OneIsLeft, live_count, open_count, HasEnded, IsRefused, StaysRefused, StaysEnded, LeavesRefused};
 ghost use Rattle.svn_edit.specs.Leaving.{HoldsPools, IsLeft, LeavesPools, PoolsAfter, KeepsPools, NoteBegan};
 ghost use Rattle.svn_model.specs.Answering.{AnswersCall};
 ghost use Rattle.std.specs.FinMap as map;
@@ -24,7 +24,6 @@ use crate::nodes::Nodes;
 use crate::open_path::OpenPath;
 use std::alloc::{AllocError, Global};
 use svn_editor::{Call, Digest, EditFault, OrderFault, Token};
-use svn_model::BaseNode;
 use svn_order::OrderCheck;
 use svn_pool::{PoolId, PoolTree};
 use svn_serials::SerialMap;
@@ -41,28 +40,6 @@ pub(crate) enum Stage {
     Ended,
 }
 
-/// A file that a call opened, with the checksum of the text that its node has, which that keeps.
-#[derive(Clone, Copy, Debug)]
-pub(crate) struct OpenedFile {
-    token: Token,
-    sum: Digest,
-}
-
-impl OpenedFile {
-    /// What is noted of a file of which this is the node.
-    pub(crate) fn noted(token: Token, node: Option<&BaseNode>) -> Option<OpenedFile>
-        ensures { IfSome result (λ f. (f.token ≡ token) × (f.sum ≡ md5 (node_text (option_copied node.entry)))) }
-    {
-        match node {
-            Some(BaseNode::File { text, .. }) => {
-                let sum = Digest(text.kept_checksum()?);
-                Some(OpenedFile { token, sum })
-            }
-            _ => None,
-        }
-    }
-}
-
 /// An edit: how far it is, the check of the order of its calls, and a baton for each open file and directory: what is to be done at its close.
 /// The strings that it keeps until then lie in pools, one for each baton.
 #[derive(Drop)]
@@ -76,10 +53,18 @@ pub struct Edit {
     // The token that a call in order names has a baton. But the calls so far, from which that follows, stand in no field and in no
     // condition of a call, so where a baton is looked up the branch without one stays, and answers Memory.
     pub(crate) batons: SerialMap<Baton, Global>,
-    /// The file that the last call opened, if it opened one. The next call finds the copy as that one left it: a text that comes then is
-    /// tested without its node.
-    pub(crate) opened: Option<OpenedFile>,
+    /// The text that came last, from its call to the next close of a file, where a clone of it copies no bytes and knows their checksum.
+    /// That close may install it, once it is found to be what lies in the pool.
+    pub(crate) given: Option<Text>,
     pub(crate) alloc: Global,
+}
+
+// A clone of a text that copies no bytes and knows their checksum, where the text keeps that.
+fn kept(text: &Text) -> Option<Text> {
+    match text.kept_checksum() {
+        Some(_) => text.clone().ok(),
+        None => None,
+    }
 }
 
 fn is_too_long(value: Option<&Text>) -> bool
@@ -119,7 +104,7 @@ impl Edit {
             root,
             pools,
             batons: SerialMap::new(alloc),
-            opened: None,
+            given: None,
             alloc,
         })
     }
@@ -199,30 +184,19 @@ impl Edit {
         ensures pools { OnErr result ((mode : Mode) (w0 : WorkingCopy) (calls : List Call) → StandsAfter mode w0 self.old copy.old.entries calls → list_any is_last calls ≡ false → HoldsPools self.new.pools (batons_of self.new) calls call.now) }
     {
         self.order.step(call)?;
-        let answer = self.apply(copy, call);
-        self.opened = self.opened_by(call);
-        answer
-    }
-
-    // What stays noted of an opened file after a call: what that call noted, and nothing from before.
-    fn opened_by(&self, call: &Call) -> Option<OpenedFile>
-        ensures { (at : Batons) (nodes : List (Path × BaseNode)) → (opens_file call.now ≡ true → IsNoted self.now.opened at nodes) → IsNoted result at nodes }
-    {
-        match call {
-            Call::OpenFile { .. } => self.opened,
-            _ => None,
-        }
+        self.apply(copy, call)
     }
 
     // Applies a call that is in order.
     fn apply(&mut self, copy: &mut Nodes, call: &Call) -> Result<(), EditFault>
-        ensures applied { (mode : Mode) (calls : List Call) → IsNext mode self.old calls call.now → IsNoted self.old.opened (batons_of self.old) copy.old.entries → Applied (edit_fault md5 mode calls call.now copy.old.entries) (effect mode calls call.now (get_in copy.old.entries)) copy.old.entries result copy.new.entries }
+        ensures applied { (mode : Mode) (calls : List Call) → IsNext mode self.old calls call.now → IsNoted calls (batons_of self.old) copy.old.entries → Applied (edit_fault md5 mode calls call.now copy.old.entries) (effect mode calls call.now (get_in copy.old.entries)) copy.old.entries result copy.new.entries }
         ensures holds { OnOk result ((mode : Mode) (calls : List Call) → IsNext mode self.old calls call.now → is_last call.now ≡ false → Holds mode self.new (calls ++ call.now ∷ [])) }
         ensures last { is_last call.now ≡ true → mode_of self.old.root ≡ Update → IfErr result (λ e. e ≢ EditFault.Memory) }
         ensures abort { is_abort call.now ≡ true → IfErr result (λ e. e ≢ EditFault.Memory) }
         ensures left { is_last call.now ≡ true → OnOk result ((mode : Mode) (calls : List Call) → IsNext mode self.old calls call.now → OneIsLeft self.new) }
         ensures order { self.new.order ≡ self.old.order }
-        ensures noted { opens_file call.now ≡ true → OnOk result (IsNoted self.new.opened (batons_of self.new) copy.new.entries) }
+        ensures bases { OnOk result ((mode : Mode) (calls : List Call) → IsNext mode self.old calls call.now → is_last call.now ≡ false → KeepsBases call.now (batons_of self.old) (batons_of self.new)) }
+        ensures base { OnOk result (OpensBase call.now (batons_of self.new) copy.new.entries) }
         ensures pools { OnErr result ((mode : Mode) (calls : List Call) → IsNext mode self.old calls call.now → HoldsPools self.new.pools (batons_of self.new) calls call.now) }
     {
         match call {
@@ -284,21 +258,24 @@ impl Edit {
         }
     }
 
-    // Opens a baton.
+    // Opens a baton, with what is noted of the base of its text.
     pub(crate) fn open_baton(
         &mut self,
         beneath: PoolId,
         path: OpenPath,
         token: Token,
+        base: Option<Digest>,
     ) -> Result<(), EditFault>
         ensures opened { OnOk result (MakesBaton beneath.0 path token self.old self.new) }
+        ensures base { OnOk result ((b : Baton) → batons_of self.new token ≡ Some b → b.base ≡ base) }
         ensures keeps { KeepsEdit self.old self.new }
         ensures unchanged { OnErr result (KeepsPools self.old self.new) }
         ensures fault { IfErr result (λ e. e ≡ EditFault.Memory) }
     {
-        let Ok(baton) = Baton::open(self.alloc, &mut self.pools, beneath, path) else {
+        let Ok(mut baton) = Baton::open(self.alloc, &mut self.pools, beneath, path) else {
             return Err(EditFault::Memory);
         };
+        baton.base = base;
         let pool = baton.pool;
         let Ok(_) = self.batons.insert(token.0, baton) else {
             drop_pool(&mut self.pools, pool);
@@ -337,16 +314,6 @@ impl Edit {
         }
     }
 
-    // The checksum of the text that an open file has in the copy, if it is noted.
-    fn noted_sum(&self, token: Token) -> Option<Digest>
-        ensures { (at : Batons) (nodes : List (Path × BaseNode)) (b : Baton) → IsNoted self.now.opened at nodes → at token ≡ Some b → IsSumOf result nodes b.path }
-    {
-        match self.opened {
-            Some(file) if file.token == token => Some(file.sum),
-            _ => None,
-        }
-    }
-
     fn apply_text(
         &mut self,
         copy: &Nodes,
@@ -356,18 +323,18 @@ impl Edit {
     ) -> Result<(), EditFault>
         ensures keeps { KeepsEdit self.old self.new }
         ensures began { OnErr result ((b : Baton) → batons_of self.old token ≡ Some b → NoteBegan token b (text.now ∷ []) self.old self.new) }
-        ensures answers { (b : Baton) → batons_of self.old token ≡ Some b → IsNoted self.old.opened (batons_of self.old) copy.now.entries → AnswersCall (step_fault md5 Update [] (get_in copy.now.entries) b.path (TextOf base_md5.now text.now)) result }
+        ensures answers { (b : Baton) → batons_of self.old token ≡ Some b → IsSumOf b.base copy.now.entries b.path → AnswersCall (step_fault md5 Update [] (get_in copy.now.entries) b.path (TextOf base_md5.now text.now)) result }
         ensures noted { OnOk result ((b : Baton) → batons_of self.old token ≡ Some b → BatonNoted token b NewText (text.now ∷ []) self.old.pools (batons_of self.old) self.new.pools (batons_of self.new)) }
     {
         if is_too_long(Some(text)) {
             return Err(EditFault::TooLong);
         }
-        let sum = self.noted_sum(token);
         match self.batons.get_mut(token.0) {
             Some(baton) => {
-                if nodes::is_wrong_base(base_md5, sum, copy, baton.path.as_rel_path()) {
+                if nodes::is_wrong_base(base_md5, baton.base, copy, baton.path.as_rel_path()) {
                     return Err(EditFault::BaseChecksum);
                 }
+                self.given = kept(text);
                 or_memory(baton.note_text(&mut self.pools, text))
             }
             None => Err(EditFault::Memory),

@@ -24,6 +24,21 @@ use svn_types::{Kind, Props, RelPath, Rev, Text};
 /// The nodes of a copy, by their paths from its root, in path order.
 pub type Nodes = BTreeMap<RelPath, BaseNode>;
 
+/// A path, and the node that stands there. If one does, it is the copy's own path: a clone of that shares what the copy holds anyway, and
+/// what the other path holds goes with that.
+pub(crate) fn standing<'a>(
+    nodes: &'a Nodes,
+    path: &'a RelPath,
+) -> (&'a RelPath, Option<&'a BaseNode>)
+    ensures path { result.0.now ≡ path.now }
+    ensures node { option_copied result.1 ≡ get_in nodes.now.entries path.now }
+{
+    match nodes.get_key_value(path) {
+        Some((own, node)) => (own, Some(node)),
+        None => (path, None),
+    }
+}
+
 /// Whether a node is present.
 pub(crate) fn is_present(node: Option<&BaseNode>) -> bool
     ensures { result ≡ is_present (option_copied node.entry) }
@@ -113,6 +128,16 @@ fn checksum_of(node: Option<&BaseNode>) -> [u8; 16]
     match node {
         Some(BaseNode::File { text, .. }) => text.checksum(),
         Some(BaseNode::Dir { .. } | BaseNode::NotPresent) | None => Md5::digest(&[]),
+    }
+}
+
+/// The checksum of the text that a node has, where that keeps it.
+pub(crate) fn kept_sum(node: Option<&BaseNode>) -> Option<Digest>
+    ensures { IfSome result (λ sum. sum ≡ md5 (node_text (option_copied node.entry))) }
+{
+    match node {
+        Some(BaseNode::File { text, .. }) => Some(Digest(text.kept_checksum()?)),
+        _ => None,
     }
 }
 

@@ -10,11 +10,12 @@ ghost use Rattle.svn_model.specs.Nodes.{get_in, is_present, node_path};
 ghost use Rattle.svn_model.specs.Effects.{added_node, joined_path, moved_path, step_effect, step_fault};
 ghost use Rattle.svn_model.specs.Answering.{AnswersCall};
 ghost use Rattle.svn_edit.specs.NodeTests.{open_fault_of, deep_fault};
-ghost use Rattle.svn_edit.specs.Applying.{mode_of, pool_or, pool_of_parent, batons_of, Applied, AnswersAs, KeepsEdit, MakesBaton, MakesNode, MovesBy, IsNoted};
+ghost use Rattle.svn_edit.specs.Applying.{mode_of, pool_or, pool_of_parent, batons_of, Applied, AnswersAs, KeepsEdit, MakesBaton, MakesNode, MovesBy, IsSumOf};
+ghost use Rattle.svn_edit.specs.declared.baton.Baton.{Baton};
 ghost use Rattle.svn_edit.specs.Leaving.{KeepsPools};
 
 use crate::baton::Baton;
-use crate::edit::{Edit, OpenedFile, or_memory};
+use crate::edit::{Edit, or_memory};
 use crate::nodes::Nodes;
 use crate::open_path::OpenPath;
 use crate::{nodes, paths};
@@ -150,7 +151,7 @@ impl Edit {
         };
         let moved = self.moved_directory(node, base, moved)?;
         let open = or_memory(OpenPath::opened(path))?;
-        self.open_baton(beneath, open, token)?;
+        self.open_baton(beneath, open, token, None)?;
         nodes::open_directory(self.alloc, node, self.target, moved);
         Ok(())
     }
@@ -167,18 +168,16 @@ impl Edit {
         ensures keeps { KeepsEdit self.old self.new }
         ensures unchanged { OnErr result (KeepsPools self.old self.new) }
         ensures applied { let a = Open File base in let w = get_in copy.now.entries in Applied (step_fault md5 (mode_of self.old.root) [] w path.now a) (step_effect (mode_of self.old.root) self.old.target [] (record { path = path.now; action = a }) w) copy.now.entries result copy.now.entries }
-        ensures noted { OnOk result (IsNoted self.new.opened (batons_of self.new) copy.now.entries) }
+        ensures base { OnOk result ((b : Baton) → batons_of self.new token ≡ Some b → IsSumOf b.base copy.now.entries path.now) }
     {
-        let node = copy.get(path);
+        let (own, node) = nodes::standing(copy, path);
         if let Some(fault) = nodes::open_file_fault(node, base) {
             return Err(fault);
         }
         self.test_moved(copy, path, parent, node)?;
-        let open = or_memory(OpenPath::opened(path))?;
+        let open = or_memory(OpenPath::opened(own))?;
         let root = self.pools.root();
-        self.open_baton(root, open, token)?;
-        self.opened = OpenedFile::noted(token, node);
-        Ok(())
+        self.open_baton(root, open, token, nodes::kept_sum(node))
     }
 
     // What an added directory is made of.
@@ -231,6 +230,7 @@ impl Edit {
         token: Token,
     ) -> Result<(), EditFault>
         ensures opened { OnOk result (MakesBaton beneath.0 new.opened token self.old self.new) }
+        ensures base { OnOk result ((b : Baton) → batons_of self.new token ≡ Some b → b.base ≡ None) }
         ensures keeps { KeepsEdit self.old self.new }
         ensures unchanged { batons_of self.old token ≡ None → OnErr result (KeepsPools self.old self.new) }
         ensures answers { AnswersCall (if is_present (get_in copy.old.entries new.at) then Some EditFault.EntryExists else None) result }
@@ -238,7 +238,7 @@ impl Edit {
         ensures refused { OnErr result (copy.new.entries ≡ copy.old.entries) }
     {
         let NewNode { at, opened, node } = new;
-        self.open_baton(beneath, opened, token)?;
+        self.open_baton(beneath, opened, token, None)?;
         let added = nodes::add(copy, at, node);
         if added.is_err() {
             self.close_baton(token);
@@ -256,6 +256,7 @@ impl Edit {
         token: Token,
     ) -> Result<(), EditFault>
         ensures opened { IfOk new (λ n. n.opened ≡ path.now) → OnOk result (MakesBaton beneath.0 path.now token self.old self.new) }
+        ensures base { OnOk result ((b : Baton) → batons_of self.new token ≡ Some b → b.base ≡ None) }
         ensures keeps { KeepsEdit self.old self.new }
         ensures unchanged { batons_of self.old token ≡ None → OnErr result (KeepsPools self.old self.new) }
         ensures applied { (fault : Option EditFault) (node : BaseNode) → MakesNode path.now fault node new → let w = get_in copy.old.entries in Applied (if is_present (w path.now) then Some EditFault.EntryExists else fault) (λ p. if path_eq path.now p then Some node else w p) copy.old.entries result copy.new.entries }
@@ -296,6 +297,7 @@ impl Edit {
         token: Token,
     ) -> Result<(), EditFault>
         ensures opened { OnOk result (MakesBaton self.old.pools.root path.now token self.old self.new) }
+        ensures base { OnOk result ((b : Baton) → batons_of self.new token ≡ Some b → b.base ≡ None) }
         ensures keeps { KeepsEdit self.old self.new }
         ensures unchanged { batons_of self.old token ≡ None → OnErr result (KeepsPools self.old self.new) }
         ensures applied { let a = Add File in let w = get_in copy.old.entries in Applied (step_fault md5 (mode_of self.old.root) [] w path.now a) (step_effect (mode_of self.old.root) self.old.target [] (record { path = path.now; action = a }) w) copy.old.entries result copy.new.entries }

@@ -2,7 +2,8 @@
 //! The rules of their order are prose at [`Editor`] and a definition in `specs/Order.antt`; `svn_order` has the check.
 //!
 //! A driver makes [`Call`]s, which name what they opened by [`Token`]s, and gives them to an [`Editor`], which refuses one with an
-//! [`EditFault`]. [`Recorder`] is an editor that keeps the calls. [`Word`], [`PathWord`] and [`ChecksumWord`] print the words of lines.
+//! [`EditFault`]. [`Recorder`] is an editor that keeps the calls. [`Word`], [`PathWord`] and [`ChecksumWord`] print the words of lines;
+//! [`push_path`] and [`push_word`] put them behind a text, so that one write prints a line.
 //!
 //! ```
 //! let mut recorder = Recorder::new(alloc);
@@ -16,15 +17,16 @@
 //! prints `set_target_revision 2` and `open_root 1 #0`.
 //!
 //! Promises: a `Recorder` holds what it accepted, in order, and refuses for memory alone (its `answers`). `Display` of calls, words, paths,
-//! tokens and checksums has exactly the bytes of `specs/Lines.antt` and `specs/Words.antt` (the `output` of each). `is_last` and the
-//! numbers of the faults are as defined (`specs/Calls.antt`, `specs/FaultNumbers.antt`). What an editor makes of a call, each states
-//! itself as its `answers`.
+//! tokens and checksums has exactly the bytes of `specs/Lines.antt` and `specs/Words.antt` (the `output` of each), and what is put behind a
+//! text are the same words. `is_last` and the numbers of the faults are as defined (`specs/Calls.antt`, `specs/FaultNumbers.antt`). What an
+//! editor makes of a call, each states itself as its `answers`.
 #![tactic(auto)]
 
 mod call;
 mod digest;
 mod editor;
 mod fault;
+mod line_words;
 mod lines;
 mod recorder;
 mod token;
@@ -34,6 +36,7 @@ pub use call::Call;
 pub use digest::Digest;
 pub use editor::Editor;
 pub use fault::{EditFault, OrderFault};
+pub use line_words::{push_path, push_word};
 pub use recorder::Recorder;
 pub use token::Token;
 pub use words::{ChecksumWord, PathWord, Word};

@@ -21,7 +21,7 @@ const MAX_ESCAPED: usize = 3 * PIECE;
 // How many bytes a token is printed as at most: `#` and 20 digits.
 const MAX_TOKEN: usize = 21;
 
-fn is_shown(byte: u8) -> bool
+pub(crate) fn is_shown(byte: u8) -> bool
     ensures { result ≡ is_shown byte }
 {
     (33 <= byte) & (byte <= 126) & (byte != b'%') & (byte != b'"')
@@ -43,7 +43,7 @@ fn hex_digit(digit: u8, upper: bool) -> u8
 }
 
 // Whether all bytes are printed as they are. It goes on after one that isn't, so that many are looked at at a time.
-fn are_shown(bytes: &[u8]) -> bool
+pub(crate) fn are_shown(bytes: &[u8]) -> bool
     ensures { result ≡ list_all is_shown bytes.now }
 {
     let mut all = true;
@@ -149,7 +149,7 @@ impl fmt::Display for Word<'_> {
 }
 
 // A byte of a path's key as it is printed: a slash where a name ends.
-fn path_byte(byte: u8) -> u8
+pub(crate) fn path_byte(byte: u8) -> u8
     ensures { result ≡ path_byte byte }
 {
     if byte == 1 { b'/' } else { byte }

@@ -9,7 +9,7 @@ use std::alloc::Allocator;
 use std::marker::Model;
 
 // How many bytes lie beside a block: a path and a short text.
-const FEW: usize = 112;
+const FEW: usize = 104;
 
 #[derive(Drop)]
 pub(crate) struct Memory<A: Allocator + Copy> {

@@ -14,7 +14,7 @@ use Rattle.svn_repo.specs.History.{NodeRow, entries_at, child_in}
 use Rattle.svn_repo.specs.Stored.{row_of, rows, entries_of}
 use Rattle.svn_repo.specs.Drafts.{IsDraftEntries, PutsChild}
 use Rattle.svn_repo.proofs.EntryWrites.{slice_get-append, slice_get-push}
-use Rattle.svn_repo.proofs.Pairs.{in_order-nil, in_order-with_value, names-with_value, values-with_value, all_values}
+use Rattle.svn_name_map.proofs.Pairs.{in_order-nil, in_order-with_value, names-with_value, values-with_value, all_values}
 
 pub children_found : (o : Option NodeRow) (name : List ℕ) → value_of (entries_at o) name ≡ child_in o name
 children_found None name = refl

@@ -28,7 +28,7 @@ use Rattle.svn_repo.specs.Changes.{after_changes, new_directory, with_text, line
 use Rattle.svn_repo.proofs.Walking.{and_then_parts, walk_on, rest_below_is}
 use Rattle.svn_repo.proofs.Faults.{or_none}
 use Rattle.svn_repo.proofs.Pendings.{CanCopy, can_copy}
-use Rattle.svn_repo.proofs.Pairs.{in_order-nil, in_order-with_value, values-with_value}
+use Rattle.svn_name_map.proofs.Pairs.{in_order-nil, in_order-with_value, values-with_value}
 
 -- ---- a walk reaches as far as it is long
 

@@ -1,14 +1,10 @@
 -- The lemmas of this crate, from lists and paths up to whole repositories.
 -- The first repository, and what every repository tells its readers.
 pub mod Soundness
--- Pairs after a change of one name: they stay in order, and their names and values are those that were there or the new one.
-pub mod Pairs
 -- What holds of the entries of each node of a draft, after a node is added and after a child is put.
 pub mod Entering
 -- Where paths lead: a path in two parts, and after one node is changed in place, where the node is reached by one path alone.
 pub mod Walking
--- What a map from names has at a name after a change.
-pub mod Lookups
 -- What writing the entries of one directory does to the nodes.
 pub mod EntryWrites
 -- One node made afresh: the tree stays as it was but for the number there, and the nodes still are a draft.

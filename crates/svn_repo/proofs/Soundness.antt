@@ -17,7 +17,7 @@ use Rattle.svn_repo.specs.Readings.{IsHistory, StandsAt, AllNames, SmallValues, 
 use Rattle.svn_types.specs.Limits.{path_limit, size_limit}
 use Rattle.svn_repo.specs.Trees.{Place, place_of, place_at, tree_at}
 use Rattle.svn_repo.specs.Stored.{row_of, rows, IsRepository, IsLawfulRow, IsLawfulPlace, IsHeight, AreHeights}
-use Rattle.svn_repo.proofs.Pairs.{in_order-nil}
+use Rattle.svn_name_map.proofs.Pairs.{in_order-nil}
 use Rattle.svn_repo.proofs.Walking.{and_then_parts}
 use Rattle.svn_repo.proofs.Thawing.{walk_stays}
 use Rattle.svn_repo.proofs.OldRevisions.{nodes_are}

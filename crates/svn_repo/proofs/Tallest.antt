@@ -16,7 +16,7 @@ use Rattle.svn_types.specs.Limits.{path_limit}
 use Rattle.svn_repo.specs.Stored.{row_of, rows, IsHeight, AreHeights}
 use Rattle.svn_repo.specs.Heights.{height_above, height_from, IsOrdered}
 use Rattle.svn_repo.specs.Drafts.{IsDraft, KeepsOld}
-use Rattle.svn_repo.proofs.Pairs.{all_values}
+use Rattle.svn_name_map.proofs.Pairs.{all_values}
 use Rattle.svn_repo.proofs.Entering.{children_found}
 use Rattle.svn_repo.proofs.EntryWrites.{slice_get-append, slice_get-set_same, slice_get-set_other}
 use Rattle.svn_repo.proofs.OldRevisions.{slice_get-take, slice_get_in}

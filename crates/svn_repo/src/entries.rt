@@ -1,17 +1,14 @@
 //! Node numbers, and the entries of a directory.
 ghost use Rattle.std.specs.Prelude.{◌≡◌, ◌↔◌, IsTrue, ℕ, ◌<◌, ◌≤◌, ◌^◌, List, [], length, IfOk, OnOk, OnErr, Some, None};
 ghost use Rattle.std.specs.List.{All};
-ghost use Rattle.std.specs.Map.Iter.{ShowsInOrder, deref_pair};
 ghost use Rattle.std.specs.Map.{lookup, remove_entry};
 ghost use Rattle.std.specs.BTreeMap.{is_at, insert_entry};
 ghost use Rattle.svn_types.specs.Names.{name_cmp};
 ghost use Rattle.svn_types.specs.Pairs.{InNameOrder, ChangesOnly, value_of};
 
 use std::alloc::{AllocError, Global};
-use std::cmp::Ordering;
-use std::collections::BTreeMap;
-use std::collections::btree_map::Iter;
 use std::marker::Model;
+use svn_name_map::{Iter, NameMap};
 use svn_types::Name;
 
 /// Names a node revision of a repository (a node-revision ID, `svn_fs_id_t` of `svn_fs.h`). Two that are equal have one line, one content and one
@@ -35,18 +32,15 @@ impl Model for NodeId {
 /// node, in byte order of the names.
 #[derive(Debug, Drop)]
 pub struct Entries {
-    map: BTreeMap<Name, NodeId>,
+    map: NameMap<NodeId>,
 }
 
 impl Model for Entries {
     ghost use Rattle.std.specs.Prelude.{ℕ, List};
-    ghost use Rattle.svn_types.specs.Pairs.{InNameOrder};
 
     ghost Value = { List (List ℕ × ℕ) };
 
-    ghost view = { λ e. e.map.entries };
-
-    ghost invariant = { λ e. InNameOrder e.map.entries };
+    ghost view = { λ e. e.map };
 }
 
 impl Entries {
@@ -55,7 +49,7 @@ impl Entries {
         ensures { result ≡ [] }
     {
         Entries {
-            map: BTreeMap::new(alloc),
+            map: NameMap::new(alloc),
         }
     }
 
@@ -63,15 +57,7 @@ impl Entries {
     pub fn get(&self, name: &Name) -> Option<NodeId>
         ensures { result ≡ lookup (is_at (name_cmp name.now)) self.now }
     {
-        // Names mostly come in their order, and then the last entry answers without a search.
-        let Some((last, node)) = self.map.last_key_value() else {
-            return None;
-        };
-        match last.cmp(name) {
-            Ordering::Less => None,
-            Ordering::Equal => Some(*node),
-            Ordering::Greater => self.map.get(name).copied(),
-        }
+        self.map.get(name).copied()
     }
 
     /// How many entries there are.
@@ -89,22 +75,13 @@ impl Entries {
     }
 
     /// The names and nodes, in byte order of the names. It takes no memory.
-    pub fn iter(&self) -> Iter<'_, Name, NodeId>
+    pub fn iter(&self) -> Iter<'_, NodeId>
         ensures rest { result ≡ self.now }
-        ensures runs { ShowsInOrder (deref_pair {K = List ℕ} {X = ℕ}) }
         ensures ordered { InNameOrder self.now }
         ensures fits { length self.now < 2 ^ 63 }
         ensures found { All (λ e. value_of self.now e.0 ≡ Some e.1) self.now }
     {
         self.map.iter()
-    }
-
-    /// The entries as a map. It takes no memory.
-    pub fn as_map(&self) -> &BTreeMap<Name, NodeId>
-        ensures entries { result.now.entries ≡ self.now }
-        ensures ordered { InNameOrder self.now }
-    {
-        &self.map
     }
 
     // Makes a name lead to a node, and answers where it led.
@@ -124,20 +101,20 @@ impl Entries {
         ensures leads { (n : ℕ) → result ≡ Some n → n < bound → self.new ≡ insert_entry name_cmp self.old name.now node }
         ensures lookups { (n : ℕ) → result ≡ Some n → n < bound → ChangesOnly self.old self.new name.now (Some node) }
     {
-        let slot = self.map.get_mut(name)?;
-        let found = *slot;
-        if found.index >= bound {
+        let found = self.map.set(name, node)?;
+        if found.index < bound {
             return Some(found);
         }
-        *slot = node;
+        self.map.set(name, found);
         Some(found)
     }
 
     // Makes a name lead nowhere, and answers where it led.
-    pub(crate) fn remove(&mut self, name: &Name) -> Option<NodeId>
-        ensures found { result ≡ value_of self.old name.now }
-        ensures removed { self.new ≡ remove_entry (is_at (name_cmp name.now)) self.old }
-        ensures lookups { ChangesOnly self.old self.new name.now None }
+    pub(crate) fn remove(&mut self, name: &Name) -> Result<Option<NodeId>, AllocError>
+        ensures found { IfOk result (λ found. found ≡ value_of self.old name.now) }
+        ensures ok { OnOk result (self.new ≡ remove_entry (is_at (name_cmp name.now)) self.old) }
+        ensures lookups { OnOk result (ChangesOnly self.old self.new name.now None) }
+        ensures err { OnErr result (self.new ≡ self.old) }
     {
         self.map.remove(name)
     }

@@ -167,7 +167,7 @@ fn put_entry(
     let _text = name.as_str();
     match child {
         Some(child) => entries.insert(name.clone()?, child),
-        None => Ok(entries.remove(name)),
+        None => entries.remove(name),
     }
 }
 

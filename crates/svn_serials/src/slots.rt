@@ -1,5 +1,5 @@
 // Slots in the order of their serials, and where a serial stands among them.
-ghost use Rattle.std.specs.Prelude.{◌≡◌, ◌≢◌, ℕ, ◌-◌, ◌<◌, ◌≤◌, [], true, false, length, slice_index, IfOk, OnOk, OnErr, MatchOption};
+ghost use Rattle.std.specs.Prelude.{◌≡◌, ◌≢◌, ◌++◌, ◌∷◌, ℕ, ◌-◌, ◌<◌, ◌≤◌, [], true, false, length, slice_index, IfOk, OnOk, OnErr, MatchOption};
 ghost use Rattle.std.specs.BTreeMap.{insert_entry};
 ghost use Rattle.std.specs.Ordering.{nat_cmp};
 ghost use Rattle.svn_serials.specs.Serials.{get};
@@ -93,8 +93,7 @@ fn place_before_last<V>(slots: &[Slot<V>], serial: u64, last: u64) -> Option<usi
     place_with_gaps(slots, serial, last)
 }
 
-// Where a serial stands among slots of which some were left out. If every second was, say, or two of each three, its part of the way
-// from the first to the last leads there. Not inlined, since most look-ups end before it.
+// Where a serial stands among slots of which some were left out. Not inlined, since most look-ups end before it.
 #[inline(never)]
 fn place_with_gaps<V>(slots: &[Slot<V>], serial: u64, last: u64) -> Option<usize>
     requires { IsInOrder slots.now }
@@ -102,8 +101,7 @@ fn place_with_gaps<V>(slots: &[Slot<V>], serial: u64, last: u64) -> Option<usize
         ((k : ℕ) → k < length slots.now → slice_index (serials_of slots.now) k ≢ serial)
         (λ place. (place < length slots.now) × (slice_index (serials_of slots.now) place ≡ serial)) }
 {
-    let end = slots.len().checked_sub(1)?;
-    if let Some(place) = even_place(slots[0].serial, last, serial, end) {
+    if let Some(place) = likely_place(slots, serial, last) {
         if stands_at(slots, place, serial) {
             return Some(place);
         }
@@ -128,7 +126,18 @@ fn place_by_halves<V>(slots: &[Slot<V>], serial: u64) -> Option<usize>
     }
 }
 
-// Where a serial stands, or just before that place, if slots are left out evenly between the first and the last of so many.
+// Where a serial stands, or just before that place, if every second was left out, say, or two of each three: its part of the way to the last
+// leads there. The way begins at the second slot, since the first may be far below: a tree's root stays.
+fn likely_place<V>(slots: &[Slot<V>], serial: u64, last: u64) -> Option<usize> {
+    let steps = slots.len().checked_sub(2)?;
+    let second = slots[1].serial;
+    if serial < second {
+        return Some(0);
+    }
+    even_place(second, last, serial, steps)?.checked_add(1)
+}
+
+// How many slots behind the first a serial stands, or one fewer, if slots are left out evenly between the first and the last of so many.
 fn even_place(first: u64, last: u64, serial: u64, count: usize) -> Option<usize> {
     let ahead = serial.checked_sub(first)?;
     let behind = last.checked_sub(first)?;
@@ -146,6 +155,36 @@ fn is_above_all<V>(slots: &[Slot<V>], serial: u64) -> bool
         Some(last) => last < serial,
         None => true,
     }
+}
+
+// How many times as many slots there is room for where there was none for one more. What is there is then copied a third of a time for
+// each slot, with twice as many once; what isn't used of the room costs addresses alone.
+const GROWTH: usize = 4;
+
+// Makes room for more slots, if there is that much memory. Not inlined, since there mostly is some.
+#[cold]
+#[inline(never)]
+fn make_room<V, A: Allocator>(slots: &mut Vec<Slot<V>, A>)
+    ensures { slots.new.items ≡ slots.old.items }
+{
+    let more = slots.len().saturating_mul(GROWTH - 1);
+    let _has_room = slots.reserve(more).is_ok();
+}
+
+// Appends a slot.
+#[inline(always)]
+fn append<V: Drop, A: Allocator>(
+    slots: &mut Vec<Slot<V>, A>,
+    slot: Slot<V>,
+) -> Result<(), AllocError>
+    ensures items { OnOk result (slots.new.items ≡ slots.old.items ++ slot ∷ []) }
+    ensures refused { OnErr result (slots.new.items ≡ slots.old.items) }
+{
+    if slots.len() == slots.capacity() {
+        make_room(slots);
+    }
+    slots.push(slot)?;
+    Ok(())
 }
 
 // Puts a value in, and gives the one that the serial had. Inlined, since it mostly goes to the end.
@@ -166,10 +205,11 @@ pub(crate) fn put<V: Drop, A: Allocator>(
     if !is_above_all(slots.as_slice(), serial) {
         return put_before_end(slots, serial, value);
     }
-    slots.push(Slot {
+    let slot = Slot {
         serial,
         value: Some(value),
-    })?;
+    };
+    append(slots, slot)?;
     Ok(None)
 }
 

@@ -20,5 +20,7 @@ pub mod PathKeys
 pub mod PathHeads
 -- bytes in place, of which two words tell the order
 pub mod ShortWords
+-- heads that hold whole keys
+pub mod WholeHeads
 -- keys of paths, which are texts
 pub mod KeyTexts

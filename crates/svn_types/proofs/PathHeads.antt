@@ -60,7 +60,7 @@ less x y below = grind (arith, below)
 greater : (x y : ℕ) → y < x → Greater ≡ nat_cmp x y
 greater x y above = grind (arith, above)
 
-first_below : (b c p l m : ℕ) → b < c → l < p → b * p + l < c * p + m
+pub first_below : (b c p l m : ℕ) → b < c → l < p → b * p + l < c * p + m
 first_below b c p l m below small = grind (arith, below, small)
 
 -- the first digit decides

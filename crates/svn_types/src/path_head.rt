@@ -1,5 +1,5 @@
 //! The first bytes of a path's key as two numbers, which compare in a step or two.
-ghost use Rattle.std.specs.Prelude.{◌≡◌, drop};
+ghost use Rattle.std.specs.Prelude.{◌≡◌, ◌%◌, IsTrue, drop};
 ghost use Rattle.svn_types.specs.LeadingBytes.{IsByteList, leading};
 ghost use Rattle.svn_types.specs.PathHeads.{head_number};
 
@@ -35,6 +35,14 @@ fn second_word_of(bytes: &[u8]) -> u64
     }
     let (_, behind) = bytes.split_at(WORD);
     word_of(behind)
+}
+
+/// Whether all of a key lies in its head. No key has a zero byte, so that one at the end of the head stands behind the key.
+#[inline(always)]
+pub(crate) fn is_whole(head: Head) -> bool
+    ensures { IsTrue result → head.second % 256 ≡ 0 }
+{
+    head.second % 256 == 0
 }
 
 /// The head of a key.

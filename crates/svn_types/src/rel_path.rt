@@ -16,7 +16,7 @@ use crate::bytes::split_once;
 use crate::fault::PathFault;
 use crate::limits::MAX_COMPONENTS;
 use crate::name::{Name, fault_of_name};
-use crate::path_head::{Head, head_of};
+use crate::path_head::{Head, head_of, is_whole};
 use crate::path_parts::PathParts;
 use std::alloc::{AllocError, Global};
 use std::cmp::Ordering;
@@ -303,6 +303,16 @@ impl PartialEq for RelPath {
     ghost laws = { lists_per (partial_equiv_from_equiv nat_list_eq_equiv) };
 
     fn eq(&self, other: &RelPath) -> bool {
+        let (one, two) = (self.head(), other.head());
+        if one.first != two.first {
+            return false;
+        }
+        if one.second != two.second {
+            return false;
+        }
+        if is_whole(two) {
+            return true;
+        }
         self.key() == other.key()
     }
 }
@@ -338,6 +348,9 @@ impl Ord for RelPath {
         }
         if one.second != two.second {
             return one.second.cmp(&two.second);
+        }
+        if is_whole(two) {
+            return Ordering::Equal;
         }
         self.key().cmp(other.key())
     }

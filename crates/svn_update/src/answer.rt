@@ -1,13 +1,14 @@
 //! What the commands of a script print.
-ghost use Rattle.std.specs.Prelude.{◌≡◌, Some};
+ghost use Rattle.std.specs.Prelude.{◌≡◌, Some, OnOk};
 ghost use Rattle.std.specs.List.{flat_map};
 ghost use Rattle.std.specs.Fmt.{DisplaysOnOk};
 ghost use Rattle.svn_wc.specs.Lines.{line};
 ghost use Rattle.svn_update.specs.Answers.{answer_text, call_text, cause_name, outcome_words};
 
 use crate::fault_names::refusal_name;
+use arrayvec::ArrayString;
 use std::fmt;
-use std::fmt::Display;
+use std::fmt::{Display, Write};
 use svn_editor::{Call, Recorder};
 use svn_model::{DriveFault, WcFault};
 use svn_repo::CommitFault;
@@ -15,6 +16,11 @@ use svn_report::Report;
 use svn_run::{Cause, Outcome, RunFault};
 use svn_types::Rev;
 use svn_wc::WorkingCopy;
+
+// How long a call's line may be to be put together before it is written, and how long a text or a value in it.
+const MAX_LINE: usize = 512;
+
+const MAX_TEXT: usize = 128;
 
 /// Why a command did nothing.
 #[derive(Clone, Copy, Debug, PartialEq, Eq)]
@@ -88,10 +94,44 @@ fn write_outcome<W: fmt::Write>(outcome: Outcome, f: &mut fmt::Formatter<W>) -> 
     }
 }
 
-// A call, and a line feed.
-fn write_call<W: fmt::Write>(call: &Call, f: &mut fmt::Formatter<W>) -> fmt::Result
+// Whether a call's line may be short.
+fn may_be_short(call: &Call) -> bool {
+    match call {
+        Call::ApplyText { text, .. } => text.len() <= MAX_TEXT,
+        Call::ChangeDirProp {
+            value: Some(value),
+            ..
+        } => value.len() <= MAX_TEXT,
+        Call::ChangeFileProp {
+            value: Some(value),
+            ..
+        } => value.len() <= MAX_TEXT,
+        _ => true,
+    }
+}
+
+// Puts a call's line together, if there is room for it.
+fn put_call(call: &Call, text: &mut ArrayString<512>) -> fmt::Result
+    ensures { OnOk result (text.new.bytes ≡ call_text call.now) }
+{
+    text.clear();
+    match writeln!(text, "{call}") {
+        Ok(()) => Ok(()),
+        Err(error) => Err(error),
+    }
+}
+
+// A call, and a line feed. A short line is put together first, since one write costs less than many.
+fn write_call<W: fmt::Write>(
+    call: &Call,
+    text: &mut ArrayString<512>,
+    f: &mut fmt::Formatter<W>,
+) -> fmt::Result
     ensures { DisplaysOnOk W.write_str_gives f.old result (Some (call_text call.now)) f.new }
 {
+    if may_be_short(call) && put_call(call, text).is_ok() {
+        return f.write_str(text.as_str());
+    }
     writeln!(f, "{call}")
 }
 
@@ -99,8 +139,9 @@ fn write_call<W: fmt::Write>(call: &Call, f: &mut fmt::Formatter<W>) -> fmt::Res
 fn write_calls<W: fmt::Write>(calls: &[Call], f: &mut fmt::Formatter<W>) -> fmt::Result
     ensures { DisplaysOnOk W.write_str_gives f.old result (Some (flat_map call_text calls.now)) f.new }
 {
+    let mut text = ArrayString::<MAX_LINE>::new();
     for call in calls {
-        write_call(call, f)?;
+        write_call(call, &mut text, f)?;
     }
     Ok(())
 }

@@ -129,7 +129,7 @@ pub(crate) fn gather(
     let Some(entries) = from.repo.entries(id) else {
         return Ok(());
     };
-    for (name, child) in entries.as_map() {
+    for (name, child) in entries.iter() {
         let at_below = child_path(from.alloc, at, name)?;
         let below = repos_path_below(from, at, &at_below, repos_path, name)?;
         gather(from, &at_below, &below, *child, pairs)?;

@@ -1,17 +1,18 @@
 //! The printed lines of a working copy.
-ghost use Rattle.std.specs.Prelude.{◌≡◌, Some, IfSome};
-ghost use Rattle.std.specs.Fmt.{DisplaysOnOk};
+ghost use Rattle.std.specs.Prelude.{◌≡◌, ◌∷◌, ◌++◌, [], Some, IfSome, OnOk, codes};
+ghost use Rattle.std.specs.Fmt.{DisplaysOnOk, decimal};
 ghost use Rattle.std.specs.List.{flat_map};
-ghost use Rattle.svn_wc.specs.Lines.{copy_text, node_lines, prop_line, prop_start};
+ghost use Rattle.svn_editor.specs.Words.{path_word, word};
+ghost use Rattle.svn_wc.specs.Lines.{copy_text, line, node_lines, node_words, prop_line, prop_start};
 
 use crate::working_copy::WorkingCopy;
 use arrayvec::ArrayString;
 use std::fmt;
 use std::fmt::Write;
 use std::marker::Model;
-use svn_editor::{PathWord, Word};
+use svn_editor::{PathWord, Word, push_path, push_word};
 use svn_model::BaseNode;
-use svn_types::{PropName, Props, RelPath, Text};
+use svn_types::{PropName, Props, RelPath, Rev, Text};
 
 // How long the beginning of a property's line may be to be put together once for all properties of a node.
 const MAX_START: usize = 96;
@@ -103,42 +104,191 @@ fn write_props<W: fmt::Write>(
     Ok(())
 }
 
-// A node, and behind it its properties.
-fn write_node<W: fmt::Write>(
+// The line of a node, without the properties behind it.
+#[derive(Clone, Copy)]
+struct NodeLine<'a> {
+    path: &'a RelPath,
+    node: &'a BaseNode,
+}
+
+impl fmt::Display for NodeLine<'_> {
+    ghost output = { λ l. Some (line (node_words l.path.now l.node.now)) };
+
+    #[inline(always)]
+    fn fmt<W: fmt::Write>(&self, f: &mut fmt::Formatter<W>) -> fmt::Result {
+        let at = PathWord(self.path);
+        match self.node {
+            BaseNode::File {
+                rev,
+                repos_path,
+                text,
+                ..
+            } => {
+                let from = PathWord(repos_path);
+                let text = Word(text.as_slice());
+                writeln!(f, "{at} file {} {from} {text}", rev.0)
+            }
+            BaseNode::Dir {
+                rev,
+                repos_path,
+                complete,
+                ..
+            } => {
+                let from = PathWord(repos_path);
+                if *complete {
+                    writeln!(f, "{at} dir {} {from}", rev.0)
+                } else {
+                    writeln!(f, "{at} dir {} {from} incomplete", rev.0)
+                }
+            }
+            BaseNode::NotPresent => writeln!(f, "{at} not-present"),
+        }
+    }
+}
+
+// The texts of a node's line while it is put together: the word of its path, and the line.
+#[derive(Drop)]
+struct LineTexts {
+    at: ArrayString<1024>,
+    line: ArrayString<1024>,
+}
+
+impl LineTexts {
+    fn new() -> LineTexts {
+        LineTexts {
+            at: ArrayString::new(),
+            line: ArrayString::new(),
+        }
+    }
+}
+
+// Puts the word of a repository path behind a line. Mostly that is the path in the copy.
+fn put_from(
     path: &RelPath,
-    node: &BaseNode,
-    f: &mut fmt::Formatter<W>,
+    at: &ArrayString<1024>,
+    from: &RelPath,
+    line: &mut ArrayString<1024>,
 ) -> fmt::Result
-    ensures { DisplaysOnOk W.write_str_gives f.old result (Some (node_lines (path.now, node.now))) f.new }
+    requires { at.now.bytes ≡ path_word path.now }
+    ensures { OnOk result (line.new.bytes ≡ line.old.bytes ++ path_word from.now) }
 {
-    let at = PathWord(path);
+    if from == path {
+        line.write_str(at.as_str())?;
+        Ok(())
+    } else {
+        push_path(from, line)
+    }
+}
+
+// Puts the beginning of a node's line together: its path, what it is, and its revision.
+fn put_start(
+    at: &ArrayString<1024>,
+    kind: &str,
+    rev: Rev,
+    line: &mut ArrayString<1024>,
+) -> fmt::Result
+    ensures { OnOk result (line.new.bytes ≡ at.now.bytes ++ kind.now ++ decimal rev ++ 32 ∷ []) }
+{
+    line.clear();
+    line.write_str(at.as_str())?;
+    line.write_str(kind)?;
+    write!(line, "{} ", rev.0)?;
+    Ok(())
+}
+
+// Puts the line of a file together.
+fn put_file(
+    path: &RelPath,
+    rev: Rev,
+    from: &RelPath,
+    text: &Text,
+    texts: &mut LineTexts,
+) -> fmt::Result
+    ensures { OnOk result (texts.new.line.bytes ≡ line (path_word path.now ∷ codes "file" ∷ decimal rev ∷ path_word from.now ∷ word text.now ∷ [])) }
+{
+    let LineTexts { at, line } = texts;
+    at.clear();
+    push_path(path, at)?;
+    put_start(at, " file ", rev, line)?;
+    put_from(path, at, from, line)?;
+    line.write_str(" ")?;
+    push_word(text.as_slice(), line)?;
+    line.write_str("\n")?;
+    Ok(())
+}
+
+// Puts the line of a directory together that is complete.
+fn put_directory(path: &RelPath, rev: Rev, from: &RelPath, texts: &mut LineTexts) -> fmt::Result
+    ensures { OnOk result (texts.new.line.bytes ≡ line (path_word path.now ∷ codes "dir" ∷ decimal rev ∷ path_word from.now ∷ [])) }
+{
+    let LineTexts { at, line } = texts;
+    at.clear();
+    push_path(path, at)?;
+    put_start(at, " dir ", rev, line)?;
+    put_from(path, at, from, line)?;
+    line.write_str("\n")?;
+    Ok(())
+}
+
+// Puts a node's line together, if it is short, has no byte that is escaped, and is not of a kind that is seldom there.
+fn put_line(path: &RelPath, node: &BaseNode, texts: &mut LineTexts) -> fmt::Result
+    ensures { OnOk result (texts.new.line.bytes ≡ line (node_words path.now node.now)) }
+{
     match node {
         BaseNode::File {
             rev,
             repos_path,
             text,
-            props,
-        } => {
-            let from = PathWord(repos_path);
-            let text = Word(text.as_slice());
-            writeln!(f, "{at} file {} {from} {text}", rev.0)?;
-            write_props(path, props, f)
-        }
+            ..
+        } => put_file(path, *rev, repos_path, text, texts),
         BaseNode::Dir {
             rev,
             repos_path,
             complete,
-            props,
+            ..
         } => {
-            let from = PathWord(repos_path);
             if *complete {
-                writeln!(f, "{at} dir {} {from}", rev.0)?;
+                put_directory(path, *rev, repos_path, texts)
             } else {
-                writeln!(f, "{at} dir {} {from} incomplete", rev.0)?;
+                Err(fmt::Error)
             }
-            write_props(path, props, f)
         }
-        BaseNode::NotPresent => writeln!(f, "{at} not-present"),
+        BaseNode::NotPresent => Err(fmt::Error),
+    }
+}
+
+// A node's line. Most are put together first, since one write costs less than many.
+fn write_line<W: fmt::Write>(
+    path: &RelPath,
+    node: &BaseNode,
+    texts: &mut LineTexts,
+    f: &mut fmt::Formatter<W>,
+) -> fmt::Result
+    ensures { DisplaysOnOk W.write_str_gives f.old result (Some (line (node_words path.now node.now))) f.new }
+{
+    match put_line(path, node, texts) {
+        Ok(()) => f.write_str(texts.line.as_str()),
+        Err(_) => {
+            let line = NodeLine { path, node };
+            write!(f, "{line}")
+        }
+    }
+}
+
+// A node, and behind it its properties.
+fn write_node<W: fmt::Write>(
+    path: &RelPath,
+    node: &BaseNode,
+    texts: &mut LineTexts,
+    f: &mut fmt::Formatter<W>,
+) -> fmt::Result
+    ensures { DisplaysOnOk W.write_str_gives f.old result (Some (node_lines (path.now, node.now))) f.new }
+{
+    write_line(path, node, texts, f)?;
+    match node {
+        BaseNode::File { props, .. } => write_props(path, props, f),
+        BaseNode::Dir { props, .. } => write_props(path, props, f),
+        BaseNode::NotPresent => Ok(()),
     }
 }
 
@@ -146,8 +296,9 @@ fn write_node<W: fmt::Write>(
 fn write_nodes<W: fmt::Write>(copy: &WorkingCopy, f: &mut fmt::Formatter<W>) -> fmt::Result
     ensures { DisplaysOnOk W.write_str_gives f.old result (Some (copy_text copy.now)) f.new }
 {
+    let mut texts = LineTexts::new();
     for (path, node) in copy.nodes() {
-        write_node(path, node, f)?;
+        write_node(path, node, &mut texts, f)?;
     }
     Ok(())
 }

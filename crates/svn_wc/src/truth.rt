@@ -18,6 +18,7 @@ use crate::working_copy::WorkingCopy;
 use std::cmp::Ordering;
 use svn_edit_law::truth_is_tested;
 use svn_model::BaseNode;
+use svn_name_map::Iter;
 use svn_repo::{Entries, NodeId, Repo};
 use svn_types::{Kind, Name, Props, RelPath, Rev, Text};
 
@@ -227,7 +228,7 @@ fn next_deeper<'a>(depth: usize, left: &mut Ahead<'a, RelPath, BaseNode>) -> Opt
 }
 
 // The node under a name, which is passed with the entries before it.
-fn pass_to(entries: &mut Ahead<'_, Name, NodeId>, name: &Name) -> Option<NodeId>
+fn pass_to(entries: &mut Iter<'_, NodeId>, name: &Name) -> Option<NodeId>
     ensures { PassesTo name.now entries.old result entries.new }
 {
     'entries: while let Some((next, id)) = entries.first() {
@@ -244,7 +245,7 @@ fn pass_to(entries: &mut Ahead<'_, Name, NodeId>, name: &Name) -> Option<NodeId>
 }
 
 // The same where there is a name.
-fn take_entry(entries: &mut Ahead<'_, Name, NodeId>, name: Option<&Name>) -> Option<NodeId>
+fn take_entry(entries: &mut Iter<'_, NodeId>, name: Option<&Name>) -> Option<NodeId>
     ensures { MatchOption name.entry ((result ≡ None) × (entries.new ≡ entries.old)) (λ name. PassesTo name.now entries.old result entries.new) }
 {
     match name {
@@ -282,7 +283,7 @@ fn first_untrue_within<'a>(
     };
     let above = Above::of(path, node);
     let depth = path.components().len();
-    let mut entries = Ahead::of(listing.as_map());
+    let mut entries = listing.iter();
     let mut missing = listing.len();
     let mut first = None;
     'below: while let Some(below) = next_deeper(depth, left) {

@@ -10,6 +10,9 @@ use std::thread::Threads;
 use std::{env, io};
 use svn_update::{ScriptFault, Settings, WordsFault, read_words, run_script};
 
+// How many bytes are written at a time: as many as a pipe takes.
+const WRITTEN_AT_ONCE: usize = 1 << 16;
+
 // Why the system hands out no words.
 fn fault_of(error: &io::Error) -> ScriptFault {
     if error.kind() == io::ErrorKind::OutOfMemory {
@@ -45,7 +48,8 @@ fn run<T: Input + Print + AllocGlobal + Threads + Wait + Sync>(
     rt: &T,
     settings: &Settings,
 ) -> Result<(), ScriptFault> {
-    let Ok(mut writer) = BufWriter::new(rt.alloc(), io::writer(rt)) else {
+    let Ok(mut writer) = BufWriter::with_capacity(rt.alloc(), WRITTEN_AT_ONCE, io::writer(rt))
+    else {
         return Err(ScriptFault::Memory);
     };
     run_script(rt, rt.alloc(), &mut rt.reader(), &mut writer, settings)

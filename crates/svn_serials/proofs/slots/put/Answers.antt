@@ -20,7 +20,7 @@ returns-clause-put g c =
     subst (λ ts. (k : ℕ) → k < length ts → get_or (serials_of ts) k 0 < c.args.serial) c.as_slice.ensures.value
     (c.is_above_all.ensures c.if-not-is_above_all.false) in
     let s = slot c.args.serial (Some c.args.value) in
-    ap held (c.in_ok-push.ensures.items ∙ sym (insert_end ss s))
+    ap held (c.in_ok-append.ensures.items ∙ sym (insert_end ss s))
     ∙ held_insert c.args.serial c.args.value ss (length ss) (λ k _ within. below k within) (λ k past within. absurd (omega arith))
 
 pub returns-clause-order : goal.returns-clause-order
@@ -30,9 +30,9 @@ returns-clause-order g c =
     subst (λ ts. (k : ℕ) → k < length ts → get_or (serials_of ts) k 0 < c.args.serial) c.as_slice.ensures.value
     (c.is_above_all.ensures c.if-not-is_above_all.false) in
     let s = slot c.args.serial (Some c.args.value) in
-    subst IsInOrder (sym (c.in_ok-push.ensures.items ∙ sym (insert_end ss s)))
+    subst IsInOrder (sym (c.in_ok-append.ensures.items ∙ sym (insert_end ss s)))
     (order_insert ss (length ss) s c.requires.order (λ k _ within. below k within) (λ k past within. absurd (omega arith)))
 
 pub returns-clause-ends : goal.returns-clause-ends
 returns-clause-ends g c =
-    subst EndsFilled (sym c.in_ok-push.ensures.items) (ends_push c.args.slots.now.items (slot c.args.serial (Some c.args.value)) refl)
+    subst EndsFilled (sym c.in_ok-append.ensures.items) (ends_push c.args.slots.now.items (slot c.args.serial (Some c.args.value)) refl)

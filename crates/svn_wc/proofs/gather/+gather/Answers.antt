@@ -16,14 +16,13 @@ returns-in_default t c =
 
 pub loop-name-init : goal.loop-name-init
 loop-name-init t c =
-    let e1 : c.into_iter-name-iterator.result ≡ c.as_map-name-items.result.now.entries =
-    c.into_iter-name-iterator.ensures.into_iter_gives.0 in
-    let e2 : c.as_map-name-items.result.now.entries ≡ c.in-Some.entries.now = c.as_map-name-items.ensures.entries in
+    let e1 : c.into_iter-name-iterator.result ≡ c.iter-name-items.result = c.into_iter-name-iterator.ensures.into_iter_gives in
+    let e2 : c.iter-name-items.result ≡ c.in-Some.entries.now = c.iter-name-items.ensures.rest in
     let e3 : c.in-Some.entries.now ≡ entries_of c.args.from.now.repo.now c.args.id = c.in-Some.ensures.listing in
     fill_begins c.args.from.now.repo.now c.args.from.now.rev c.args.at.now c.args.repos_path.now c.args.id (gathered c.args.pairs.now.items)
     (gathered c.push_node.new.pairs.items)
     c.in_ok-push_node.ensures c.requires.free c.into_iter-name-iterator.result
-    (subst (λ (l : List (List ℕ × ℕ)). InNameOrder l) (sym (e1 ∙ e2)) c.as_map-name-items.ensures.ordered)
+    (subst (λ (l : List (List ℕ × ℕ)). InNameOrder l) (sym (e1 ∙ e2)) c.iter-name-items.ensures.ordered)
     (e1 ∙ e2 ∙ e3)
 
 pub gather-requires : goal.gather-requires

@@ -24,8 +24,7 @@ returns-in_default-clause-walked t c = λ nodes before order shape whole found.
 pub below-init : goal.below-init
 below-init t c =
     let h = c.args.repo.now in
-    let all : c.of-entries.result ≡ entries_at h c.args.id.now =
-    c.of-entries.ensures.all ∙ c.as_map.ensures.entries ∙ c.in-Some.ensures in (
+    let all : c.iter-entries.result ≡ entries_at h c.args.id.now = c.iter-entries.ensures.rest ∙ c.in-Some.ensures in (
       ([], refl),
       λ nodes before order shape whole found. (
         walk_begins h nodes c.args.path.now c.args.left.now (names_at h c.args.id.now) c.len-missing.result

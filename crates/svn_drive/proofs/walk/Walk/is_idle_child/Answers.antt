@@ -5,10 +5,10 @@ use Rattle.svn_drive.specs.Walking.{request_of}
 use Rattle.svn_drive.proofs.Idle.{idle_new, none_of}
 use Rattle.svn_drive.proofs.walk.Walk.is_idle_child.Goals as goal
 
-pub returns-else-place-clause-idle : goal.returns-else-place-clause-idle
-returns-else-place-clause-idle c = λ t.
+pub returns-then-is_none-clause-idle : goal.returns-then-is_none-clause-idle
+returns-then-is_none-clause-idle c = λ t.
     let out = sym (ap (λ (f : Followed). f.is_kept) c.requires.at.followed) ∙ c.if-place.false in
     inl
     (idle_new (request_of c.args.self.now) c.args.place.now.here.path c.args.below.now.name.now c.args.place.now.target out
     c.requires.at.target
-    (sym c.requires.below.target ∙ ap option_copied (none_of c.args.below.now.target c.is_none.result c.is_none.ensures t)))
+    (sym c.requires.below.target ∙ ap option_copied (none_of c.args.below.now.target c.is_none.result c.is_none.ensures c.if-is_none.true)))

@@ -15,7 +15,7 @@ returns-else-starts_empty c = λ t.
     record {
       kept = ap (λ (f : Followed). f.is_kept) followed ∙ c.requires.kept;
       shown = ap (λ (f : Followed). starts_empty f.here.governing) followed ∙ sym c.if-starts_empty.ensures;
-      unreported = sym c.requires.below.reported ∙ c.if-below.false;
+      unreported = sym c.requires.below.reported ∙ sym c.get.ensures ∙ c.if-get.false;
     } in
     let old = c.copied-source.ensures ∙ c.requires.below.source in
     let new = c.copied-target.ensures ∙ c.requires.below.target in

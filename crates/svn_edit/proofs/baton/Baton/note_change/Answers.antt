@@ -14,7 +14,7 @@ returns-in_default-clause-noted c =
     let new = record old { notes = c.push-in_default.new.self } in
     subst (λ (v : Option (List ℕ)). BatonSaid (note_of_value v) (c.args.name.now ∷ strings_of_value v) old c.args.pools.now new
     c.push.new.pools) (sym c.in_default.is)
-    (said_one old new c.args.pools.now c.push.new.pools Remove c.args.name.now refl refl c.in_ok-push-2.ensures.ok refl
+    (said_one old new c.args.pools.now c.push.new.pools Remove c.args.name.now refl refl c.in_ok-push-2.ensures.ok refl refl
     (c.in_ok-push.ensures.pushed ∙ ap (pushed c.args.pools.now old.pool.0) (c.as_bytes.ensures.value ∙ c.as_str.ensures.value)))
 
 pub returns-clause-noted : goal.returns-clause-noted
@@ -23,7 +23,7 @@ returns-clause-noted c =
     let new = record old { notes = c.push-3.new.self } in
     subst (λ (v : Option (List ℕ)). BatonSaid (note_of_value v) (c.args.name.now ∷ strings_of_value v) old c.args.pools.now new
     c.push-2.new.pools) (sym c.in-Some.is)
-    (said_two old new c.args.pools.now c.push-2.new.pools Set c.args.name.now c.in-Some.value refl refl c.in_ok-push-4.ensures.ok refl
+    (said_two old new c.args.pools.now c.push-2.new.pools Set c.args.name.now c.in-Some.value refl refl c.in_ok-push-4.ensures.ok refl refl
     (c.in_ok-push-3.ensures.pushed ∙ (λ i. pushed (c.in_ok-push.ensures.pushed i) old.pool.0 (c.as_slice.ensures i))
     ∙ ap (λ (x : List ℕ). pushed (pushed c.args.pools.now old.pool.0 x) old.pool.0 c.in-Some.value)
     (c.as_bytes.ensures.value ∙ c.as_str.ensures.value)))

@@ -10,10 +10,10 @@ use Rattle.svn_edit.proofs.baton.Baton.note_text.Goals as goal
 pub returns-then-is_none-clause-noted : goal.returns-then-is_none-clause-noted
 returns-then-is_none-clause-noted c =
     let old = c.args.self.now in
-    said_one old (record old { notes = c.push-2.new.self; text = Some c.of.result }) c.args.pools.now c.push.new.pools NewText
+    said_one old (record old { notes = c.push-2.new.self; text = Some (record { place = c.in_ok-place.place }) }) c.args.pools.now c.push.new.pools NewText
     c.args.text.now refl refl c.in_ok-push.ensures.ok
-    (first_noted (length (strings_at c.args.pools.now old.pool.0)) c.is_none.result old.text c.of.result c.is_none.ensures
-    c.if-is_none.true (c.of.ensures ∙ c.in_ok-place.ensures.place))
+    (first_noted (length (strings_at c.args.pools.now old.pool.0)) c.is_none.result old.text (record { place = c.in_ok-place.place }) c.is_none.ensures
+    c.if-is_none.true c.in_ok-place.ensures.place) refl
     (c.in_ok-place.ensures.pushed ∙ ap (pushed c.args.pools.now old.pool.0) c.as_slice.ensures)
 
 pub returns-else-is_none-clause-noted : goal.returns-else-is_none-clause-noted
@@ -22,7 +22,7 @@ returns-else-is_none-clause-noted c =
     said_one old (record old { notes = c.push-2.new.self }) c.args.pools.now c.push.new.pools NewText
     c.args.text.now refl refl c.in_ok-push.ensures.ok
     (later_passed (length (strings_at c.args.pools.now old.pool.0)) c.is_none.result old.text c.is_none.ensures
-    c.if-is_none.false)
+    c.if-is_none.false) refl
     (c.in_ok-place.ensures.pushed ∙ ap (pushed c.args.pools.now old.pool.0) c.as_slice.ensures)
 
 -- ---- the string or the note was refused

@@ -2,13 +2,14 @@ use Rattle.std.proofs.Common.{◌∷◌, [], None, Some, refl}
 use Rattle.md5.specs.Md5.{md5}
 use Rattle.svn_types.specs.declared.kind.Kind.TheVariants.{File, Directory}
 use Rattle.svn_editor.specs.declared.call.Call.TheVariants.{OpenRoot, DeleteEntry, AddDirectory, OpenDirectory, ChangeDirProp, AddFile}
-use Rattle.svn_editor.specs.declared.call.Call.TheVariants.{OpenFile, ChangeFileProp, ApplyText}
+use Rattle.svn_editor.specs.declared.call.Call.TheVariants.{OpenFile, ChangeFileProp, ApplyText, CloseDirectory, CloseFile}
 use Rattle.svn_editor.specs.Steps.{Delete, Open, Add, Change, Text}
 use Rattle.svn_model.specs.Nodes.{get_in}
 use Rattle.svn_model.specs.Effects.{step_fault, step_effect}
 use Rattle.svn_edit.proofs.Holding.{map_ok, on_err, ok_by, given_holds, holds_still, applied_read}
 use Rattle.svn_edit.proofs.PoolStrings.{one_left}
-use Rattle.svn_edit.proofs.Closes.{close_applied, close_holds, note_holds, change_applied, text_applied}
+use Rattle.svn_edit.proofs.Closes.{close_applied, close_holds, note_holds, change_applied, text_applied, named_known}
+use Rattle.svn_edit.proofs.Bases.{file_of, made_bases, said_bases, gone_bases, no_base, no_file_base, file_base, sum_of_none}
 use Rattle.svn_edit.proofs.FileCloses.{file_applied, file_holds}
 use Rattle.svn_edit.proofs.Switching.{end_applied, end_left}
 use Rattle.svn_edit.proofs.LeftPools.{kept_left, unchanged_left, given_left, said_left}
@@ -94,7 +95,10 @@ returns-in-CloseDirectory-clause-holds c = map_ok c.close_directory.result c.clo
 pub returns-in-ApplyText-clause-applied : goal.returns-in-ApplyText-clause-applied
 returns-in-ApplyText-clause-applied c = λ mode calls next noted.
     text_applied md5 mode c.args.self.now calls c.in-ApplyText.token c.in-ApplyText.base_md5 c.in-ApplyText.text c.args.call.now
-    c.args.copy.now.entries c.apply_text.result c.in-ApplyText.is next (λ b there. c.apply_text.ensures.answers b there noted)
+    c.args.copy.now.entries c.apply_text.result c.in-ApplyText.is next (λ b there.
+    let x = c.in-ApplyText in
+    let k = named_known mode c.args.self.now calls (ApplyText x.token x.base_md5 x.text) c.args.call.now x.token File x.is next refl refl in
+    c.apply_text.ensures.answers b there (noted x.token b k.given_as there k.is (file_of k.given_as.kind k.kind)))
 
 pub returns-in-ApplyText-clause-holds : goal.returns-in-ApplyText-clause-holds
 returns-in-ApplyText-clause-holds c = map_ok c.apply_text.result c.apply_text.ensures.noted (λ notes mode calls next last.
@@ -216,3 +220,118 @@ returns-in-ChangeFileProp-clause-pools c =
     let x = c.in-ChangeFileProp in
     said_left c.args.self.now c.change_prop-in-ChangeFileProp.new.self (ChangeFileProp x.token x.name x.value) c.args.call.now x.token
     File _ c.change_prop-in-ChangeFileProp.result x.is refl refl refl c.change_prop-in-ChangeFileProp.ensures.began
+
+-- ---- what is noted of the texts of open files
+
+pub returns-in-OpenRoot-clause-bases : goal.returns-in-OpenRoot-clause-bases
+returns-in-OpenRoot-clause-bases c =
+    let x = c.in-OpenRoot in
+    made_bases c.args.self.now c.open_root.new.self (OpenRoot x.base x.token) c.args.call.now
+    (record { kind = Directory; path = []; parent = None; token = x.token }) c.open_root.result _ x.is refl c.open_root.ensures.opened
+
+pub returns-in-OpenRoot-clause-base : goal.returns-in-OpenRoot-clause-base
+returns-in-OpenRoot-clause-base c =
+    let x = c.in-OpenRoot in
+    ok_by c.open_root.result (λ ok. no_file_base (OpenRoot x.base x.token) c.args.call.now
+    (record { kind = Directory; path = []; parent = None; token = x.token }) _ _ x.is refl refl)
+
+pub returns-in-AddDirectory-clause-bases : goal.returns-in-AddDirectory-clause-bases
+returns-in-AddDirectory-clause-bases c =
+    let x = c.in-AddDirectory in
+    made_bases c.args.self.now c.add_directory.new.self (AddDirectory x.path x.parent x.token) c.args.call.now
+    (record { kind = Directory; path = x.path; parent = Some x.parent; token = x.token }) c.add_directory.result _ x.is refl c.add_directory.ensures.opened
+
+pub returns-in-AddDirectory-clause-base : goal.returns-in-AddDirectory-clause-base
+returns-in-AddDirectory-clause-base c =
+    let x = c.in-AddDirectory in
+    ok_by c.add_directory.result (λ ok. no_file_base (AddDirectory x.path x.parent x.token) c.args.call.now
+    (record { kind = Directory; path = x.path; parent = Some x.parent; token = x.token }) _ _ x.is refl refl)
+
+pub returns-in-OpenDirectory-clause-bases : goal.returns-in-OpenDirectory-clause-bases
+returns-in-OpenDirectory-clause-bases c =
+    let x = c.in-OpenDirectory in
+    made_bases c.args.self.now c.open_directory.new.self (OpenDirectory x.path x.parent x.base x.token) c.args.call.now
+    (record { kind = Directory; path = x.path; parent = Some x.parent; token = x.token }) c.open_directory.result _ x.is refl c.open_directory.ensures.opened
+
+pub returns-in-OpenDirectory-clause-base : goal.returns-in-OpenDirectory-clause-base
+returns-in-OpenDirectory-clause-base c =
+    let x = c.in-OpenDirectory in
+    ok_by c.open_directory.result (λ ok. no_file_base (OpenDirectory x.path x.parent x.base x.token) c.args.call.now
+    (record { kind = Directory; path = x.path; parent = Some x.parent; token = x.token }) _ _ x.is refl refl)
+
+pub returns-in-AddFile-clause-bases : goal.returns-in-AddFile-clause-bases
+returns-in-AddFile-clause-bases c =
+    let x = c.in-AddFile in
+    made_bases c.args.self.now c.add_file.new.self (AddFile x.path x.parent x.token) c.args.call.now
+    (record { kind = File; path = x.path; parent = Some x.parent; token = x.token }) c.add_file.result _ x.is refl c.add_file.ensures.opened
+
+pub returns-in-AddFile-clause-base : goal.returns-in-AddFile-clause-base
+returns-in-AddFile-clause-base c =
+    let x = c.in-AddFile in
+    file_base (AddFile x.path x.parent x.token) c.args.call.now
+    (record { kind = File; path = x.path; parent = Some x.parent; token = x.token }) _ _ c.add_file.result x.is refl
+    (map_ok c.add_file.result c.add_file.ensures.base (λ h b there. sum_of_none b.base c.add_file.new.copy.entries x.path (h b there)))
+
+pub returns-in-OpenFile-clause-bases : goal.returns-in-OpenFile-clause-bases
+returns-in-OpenFile-clause-bases c =
+    let x = c.in-OpenFile in
+    made_bases c.args.self.now c.open_file.new.self (OpenFile x.path x.parent x.base x.token) c.args.call.now
+    (record { kind = File; path = x.path; parent = Some x.parent; token = x.token }) c.open_file.result _ x.is refl c.open_file.ensures.opened
+
+pub returns-in-OpenFile-clause-base : goal.returns-in-OpenFile-clause-base
+returns-in-OpenFile-clause-base c =
+    let x = c.in-OpenFile in
+    file_base (OpenFile x.path x.parent x.base x.token) c.args.call.now
+    (record { kind = File; path = x.path; parent = Some x.parent; token = x.token }) _ _ c.open_file.result x.is refl
+    c.open_file.ensures.base
+
+pub returns-in-ApplyText-clause-bases : goal.returns-in-ApplyText-clause-bases
+returns-in-ApplyText-clause-bases c =
+    let x = c.in-ApplyText in
+    said_bases c.args.self.now c.apply_text.new.self (ApplyText x.token x.base_md5 x.text) c.args.call.now x.token File _ _
+    c.apply_text.result x.is refl refl c.apply_text.ensures.noted
+
+pub returns-in-ApplyText-clause-base : goal.returns-in-ApplyText-clause-base
+returns-in-ApplyText-clause-base c =
+    let x = c.in-ApplyText in
+    ok_by c.apply_text.result (λ ok. no_base (ApplyText x.token x.base_md5 x.text) c.args.call.now _ _ x.is refl)
+
+pub returns-in-ChangeDirProp-clause-bases : goal.returns-in-ChangeDirProp-clause-bases
+returns-in-ChangeDirProp-clause-bases c =
+    let x = c.in-ChangeDirProp in
+    said_bases c.args.self.now c.change_prop.new.self (ChangeDirProp x.token x.name x.value) c.args.call.now x.token Directory _ _
+    c.change_prop.result x.is refl refl c.change_prop.ensures.noted
+
+pub returns-in-ChangeDirProp-clause-base : goal.returns-in-ChangeDirProp-clause-base
+returns-in-ChangeDirProp-clause-base c =
+    let x = c.in-ChangeDirProp in
+    ok_by c.change_prop.result (λ ok. no_base (ChangeDirProp x.token x.name x.value) c.args.call.now _ _ x.is refl)
+
+pub returns-in-ChangeFileProp-clause-bases : goal.returns-in-ChangeFileProp-clause-bases
+returns-in-ChangeFileProp-clause-bases c =
+    let x = c.in-ChangeFileProp in
+    said_bases c.args.self.now c.change_prop-in-ChangeFileProp.new.self (ChangeFileProp x.token x.name x.value) c.args.call.now x.token File _ _
+    c.change_prop-in-ChangeFileProp.result x.is refl refl c.change_prop-in-ChangeFileProp.ensures.noted
+
+pub returns-in-ChangeFileProp-clause-base : goal.returns-in-ChangeFileProp-clause-base
+returns-in-ChangeFileProp-clause-base c =
+    let x = c.in-ChangeFileProp in
+    ok_by c.change_prop-in-ChangeFileProp.result (λ ok. no_base (ChangeFileProp x.token x.name x.value) c.args.call.now _ _ x.is refl)
+
+pub returns-in-CloseDirectory-clause-bases : goal.returns-in-CloseDirectory-clause-bases
+returns-in-CloseDirectory-clause-bases c =
+    gone_bases c.args.self.now c.close_directory.new.self c.args.call.now c.close_directory.result c.close_directory.ensures.others
+
+pub returns-in-CloseDirectory-clause-base : goal.returns-in-CloseDirectory-clause-base
+returns-in-CloseDirectory-clause-base c =
+    let x = c.in-CloseDirectory in
+    ok_by c.close_directory.result (λ ok. no_base (CloseDirectory x.token) c.args.call.now _ _ x.is refl)
+
+pub returns-in-CloseFile-clause-bases : goal.returns-in-CloseFile-clause-bases
+returns-in-CloseFile-clause-bases c =
+    gone_bases c.args.self.now c.close_file.new.self c.args.call.now c.close_file.result c.close_file.ensures.others
+
+pub returns-in-CloseFile-clause-base : goal.returns-in-CloseFile-clause-base
+returns-in-CloseFile-clause-base c =
+    let x = c.in-CloseFile in
+    ok_by c.close_file.result (λ ok. no_base (CloseFile x.token x.text_md5) c.args.call.now _ _ x.is refl)

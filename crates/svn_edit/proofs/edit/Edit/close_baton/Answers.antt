@@ -5,6 +5,7 @@ use Rattle.svn_serials.proofs.Pairs.{Updates, updates_removed}
 use Rattle.svn_pool.specs.Pools.{pool_at}
 use Rattle.svn_edit.specs.declared.baton.Baton.{Baton}
 use Rattle.svn_edit.specs.Applying.{IsLeaf, PoolGone}
+use Rattle.svn_edit.proofs.Bases.{removed_others}
 use Rattle.svn_edit.proofs.edit.Edit.close_baton.Goals as goal
 
 pub returns-in-Some-clause-gone : goal.returns-in-Some-clause-gone
@@ -22,3 +23,11 @@ returns-in-Some-clause-gone c = λ b e there live leaf apart.
       token = updates.here;
       tokens = updates.away;
     }
+
+pub returns-in-Some-clause-others : goal.returns-in-Some-clause-others
+returns-in-Some-clause-others c =
+    removed_others c.args.self.now.batons c.remove.new.self c.token.inside.0 c.remove.ensures.was_rising c.remove.ensures.removed
+
+pub returns-in_default-clause-others : goal.returns-in_default-clause-others
+returns-in_default-clause-others c =
+    removed_others c.args.self.now.batons c.remove.new.self c.token.inside.0 c.remove.ensures.was_rising c.remove.ensures.removed

@@ -1,4 +1,7 @@
-use Rattle.std.proofs.Common.{refl, sym, true≢false}
+use Rattle.std.proofs.Common.{refl, sym, ap, ◌∙◌, true≢false}
+use Rattle.std.proofs.lemmas.Option.{none-some}
+use Rattle.svn_serials.specs.Serials.{get}
+use Rattle.svn_edit.specs.Applying.{BatonMap}
 use Rattle.svn_edit.proofs.Beginning.{begun_batons}
 use Rattle.svn_edit.proofs.edit.Edit.new.Goals as goal
 
@@ -14,5 +17,5 @@ returns-clause-begun c = λ mode nodes is. record {
   };
   ended = λ h. absurd (true≢false (sym h));
   left = λ h. absurd (true≢false (sym h));
-  noted = tt;
+  noted = λ h t b g there. absurd (none-some b (sym (ap (λ (m : BatonMap). get m t) c.new-3.ensures) ∙ there));
 }

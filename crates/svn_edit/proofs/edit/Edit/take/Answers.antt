@@ -18,7 +18,7 @@ returns-then-is_last-clause-accepted c = map_ok c.take_in_order-answer.result c.
       going = λ h. absurd (true≢false (sym ended ∙ h));
       ended = λ h. refl;
       left = λ h. t.left last;
-      noted = t.noted;
+      noted = λ h. absurd (true≢false (sym ended ∙ h));
     })
 
 pub returns-else-is_last-clause-accepted : goal.returns-else-is_last-clause-accepted
@@ -34,5 +34,5 @@ returns-else-is_last-clause-accepted c = map_ok c.take_in_order-answer.result c.
       going = λ h. t.holds going;
       ended = λ h. absurd (true≢false (sym h ∙ still));
       left = λ h. absurd (true≢false (sym h ∙ still));
-      noted = t.noted;
+      noted = λ h. t.noted going;
     })

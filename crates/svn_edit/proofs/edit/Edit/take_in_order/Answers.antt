@@ -13,6 +13,7 @@ use Rattle.svn_model.specs.Answering.{AnswersCall}
 use Rattle.svn_edit.proofs.Holding.{ok_by, at_ok, err_by, on_err, order_none, order_refused, not_memory, refusal_is, applied_answer, applied_copy, abort_is_last}
 use Rattle.svn_edit.proofs.Holding.{applied_err, at_err, copy_more, next_is}
 use Rattle.svn_edit.specs.Applying.{batons_of}
+use Rattle.svn_edit.proofs.Bases.{noted_more}
 use Rattle.svn_edit.proofs.LeftPools.{same_left, pools_same}
 use Rattle.svn_edit.proofs.edit.Edit.take_in_order.Goals as goal
 
@@ -23,47 +24,53 @@ returns-clause-answers c = λ mode w0 calls s.
     let next = next_is mode w0 c.args.self.now (record c.args.self.now { order = c.step.new.self }) c.args.copy.now.entries calls call s
     none
     (λ h. record { stage = h.stage; root = h.root; target = h.target; batons = h.batons }) in
-    subst (λ (f : Option EditFault). AnswersCall f c.apply-answer.result) (sym (refusal_is md5 mode calls call c.args.copy.now.entries none))
-    (applied_answer _ _ _ _ c.apply-answer.result (c.apply-answer.ensures.applied mode calls next s.noted))
+    subst (λ (f : Option EditFault). AnswersCall f c.apply.result) (sym (refusal_is md5 mode calls call c.args.copy.now.entries none))
+    (applied_answer _ _ _ _ c.apply.result (c.apply.ensures.applied mode calls next (s.noted (not_ended calls call none))))
 
 pub returns-clause-accepted : goal.returns-clause-accepted
-returns-clause-accepted c = ok_by c.apply-answer.result (λ ok mode w0 calls s.
+returns-clause-accepted c = ok_by c.apply.result (λ ok mode w0 calls s.
     let call = c.args.call.now in
     let none : order_fault calls call ≡ None = order_none (order_fault calls call) (c.in_ok-step.ensures.answers calls s.order) in
     let next = next_is mode w0 c.args.self.now (record c.args.self.now { order = c.step.new.self }) c.args.copy.now.entries calls call s
     none
     (λ h. record { stage = h.stage; root = h.root; target = h.target; batons = h.batons }) in
     record {
-      order = subst (λ (o : OrderCheck). order.StandsAfter o (calls ++ call ∷ [])) (sym c.apply-answer.ensures.order)
+      order = subst (λ (o : OrderCheck). order.StandsAfter o (calls ++ call ∷ [])) (sym c.apply.ensures.order)
           (c.in_ok-step.ensures.accepted calls s.order);
-      copy = copy_more mode w0 calls call c.args.copy.now.entries c.apply-answer.new.copy.entries s.copy
-          (at_ok c.apply-answer.result ok (applied_copy _ _ _ _ c.apply-answer.result (c.apply-answer.ensures.applied mode calls next s.noted)));
+      copy = copy_more mode w0 calls call c.args.copy.now.entries c.apply.new.copy.entries s.copy
+          (at_ok c.apply.result ok (applied_copy _ _ _ _ c.apply.result (c.apply.ensures.applied mode calls next (s.noted (not_ended calls call none)))));
       holds = λ going.
-          let h = at_ok c.apply-answer.result ok c.apply-answer.ensures.holds mode calls next going in
+          let h = at_ok c.apply.result ok c.apply.ensures.holds mode calls next going in
           record { stage = h.stage; root = h.root; target = h.target; batons = h.batons };
-      left = λ last. at_ok c.apply-answer.result ok (c.apply-answer.ensures.left last) mode calls next;
-      noted = c.opened_by-self.ensures (batons_of c.apply-answer.new.self) c.apply-answer.new.copy.entries
-          (λ opens. at_ok c.apply-answer.result ok (c.apply-answer.ensures.noted opens));
+      left = λ last. at_ok c.apply.result ok (c.apply.ensures.left last) mode calls next;
+      noted = λ going.
+          let h = at_ok c.apply.result ok c.apply.ensures.holds mode calls next going in
+          noted_more mode (record c.args.self.now { order = c.step.new.self }) c.apply.new.self calls call c.args.copy.now.entries
+          c.apply.new.copy.entries next going
+          (at_ok c.apply.result ok (applied_copy _ _ _ _ c.apply.result (c.apply.ensures.applied mode calls next
+          (s.noted (not_ended calls call none)))))
+          h (at_ok c.apply.result ok c.apply.ensures.bases mode calls next going) (at_ok c.apply.result ok c.apply.ensures.base)
+          (s.noted (not_ended calls call none));
       earlier = not_ended calls call none;
     })
 
 pub returns-clause-refused : goal.returns-clause-refused
-returns-clause-refused c = err_by c.apply-answer.result (λ e bad mode w0 calls s.
+returns-clause-refused c = err_by c.apply.result (λ e bad mode w0 calls s.
     let call = c.args.call.now in
     let none : order_fault calls call ≡ None = order_none (order_fault calls call) (c.in_ok-step.ensures.answers calls s.order) in
     let next = next_is mode w0 c.args.self.now (record c.args.self.now { order = c.step.new.self }) c.args.copy.now.entries calls call s
     none
     (λ h. record { stage = h.stage; root = h.root; target = h.target; batons = h.batons }) in
-    applied_err _ _ _ _ c.apply-answer.result e bad (c.apply-answer.ensures.applied mode calls next s.noted))
+    applied_err _ _ _ _ c.apply.result e bad (c.apply.ensures.applied mode calls next (s.noted (not_ended calls call none))))
 
 pub returns-clause-pools : goal.returns-clause-pools
-returns-clause-pools c = err_by c.apply-answer.result (λ e bad mode w0 calls s going.
+returns-clause-pools c = err_by c.apply.result (λ e bad mode w0 calls s going.
     let call = c.args.call.now in
     let none : order_fault calls call ≡ None = order_none (order_fault calls call) (c.in_ok-step.ensures.answers calls s.order) in
     let next = next_is mode w0 c.args.self.now (record c.args.self.now { order = c.step.new.self }) c.args.copy.now.entries calls call s
     none
     (λ h. record { stage = h.stage; root = h.root; target = h.target; batons = h.batons }) in
-    at_err c.apply-answer.result e bad c.apply-answer.ensures.pools mode calls next)
+    at_err c.apply.result e bad c.apply.ensures.pools mode calls next)
 
 -- ---- a call out of order
 

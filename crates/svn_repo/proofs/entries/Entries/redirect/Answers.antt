@@ -1,24 +1,21 @@
-use Rattle.std.proofs.Common.{◌≡◌, ◌∙◌, ◌<◌, arith, rules, sym, subst}
-use Rattle.std.proofs.lemmas.Map.Steps.{set_value_same}
-use Rattle.svn_repo.proofs.Lookups.{changes_only, written_over}
+use Rattle.std.proofs.Common.{◌≡◌, ℕ, List, Some, refl, sym, ap, ◌∙◌, cond}
+use Rattle.std.specs.BTreeMap.{insert_entry}
+use Rattle.svn_types.specs.Names.{name_cmp}
+use Rattle.svn_types.specs.Pairs.{value_of}
+use Rattle.svn_types.proofs.NameLemmas.{Name, bytes_eq-same}
+use Rattle.svn_name_map.proofs.Changed.{put_back}
 use Rattle.svn_repo.proofs.entries.Entries.redirect.Goals as goal
 
-pub returns-then-found-bound-clause-stays : goal.returns-then-found-bound-clause-stays
-returns-then-found-bound-clause-stays c = λ n e above.
-    rw (← c.self.view_is) ((c.get_mut.follows.holds c.in_ok-slot.slot.now).0 ∙ set_value_same _ _ _ (sym c.in_ok-slot.ensures.value))
-
+-- what was set is found, and set to what stood there before
 pub returns-clause-stays : goal.returns-clause-stays
-returns-clause-stays c = λ n e above.
-    (let led : c.in_ok-slot.slot.now ≡ n = cc in
-    let below : n < c.args.bound = subst (λ k. k < c.args.bound) (c.found.view_is ∙ led) c.if-found-bound.false in
-    absurd (omega arith))
-
-pub returns-clause-leads : goal.returns-clause-leads
-returns-clause-leads c = λ n e below.
+returns-clause-stays c = λ n is above.
+    let name = c.args.name.now in
+    let es : List (Name × ℕ) = c.self.inside.map in
+    let there : value_of c.set.new.self name ≡ Some c.args.node =
+    c.in_ok-found.ensures.lookups c.in_ok-found.found refl name
+    ∙ ap (λ b. cond b (Some c.args.node) (value_of es name)) (bytes_eq-same name) in
     rw (← c.self.view_is)
-    ((c.get_mut.follows.holds c.args.node).0 ∙ written_over _ _ c.in_ok-slot.slot.now _ c.self.invariant (sym c.in_ok-slot.ensures.value))
-
-pub returns-clause-lookups : goal.returns-clause-lookups
-returns-clause-lookups c = λ n e below.
-    rw (← c.self.view_is)
-    (changes_only _ _ _ _ ((c.get_mut.follows.holds c.args.node).3 (rw (← c.in_ok-slot.ensures.value) (search rules))).0)
+    (c.set-2.ensures.set c.args.node (c.set-2.ensures.before ∙ there)
+    ∙ ap (λ (l : List (Name × ℕ)). insert_entry name_cmp l name c.in_ok-found.found)
+    (c.in_ok-found.ensures.set c.in_ok-found.found refl)
+    ∙ put_back es name c.in_ok-found.found c.args.node c.set.ensures.ordered (sym c.in_ok-found.ensures.before))

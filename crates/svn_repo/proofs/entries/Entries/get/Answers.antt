@@ -1,9 +1,0 @@
-use Rattle.std.proofs.Common.{sym}
-use Rattle.svn_types.proofs.NameLemmas.{same_name}
-use Rattle.svn_repo.proofs.Lookups.{found_last}
-use Rattle.svn_repo.proofs.entries.Entries.get.Goals as goal
-
-pub returns-in-Equal : goal.returns-in-Equal
-returns-in-Equal c =
-    rw (← c.self.view_is) (found_last c.self.inside.map.entries c.in-Some.last.now c.args.name.now c.in-Some.node.now
-    (same_name c.in-Some.last.now c.args.name.now (sym c.in-Equal.ensures)) c.in-Some.ensures.value)
