@@ -54,7 +54,7 @@ fn report_of(rt: &impl Abort, alloc: Global, calls: &[Answered]) -> Result<Repor
 }
 
 // Calls, and what is printed of their report and of its entries.
-const ROWS: [(&[Answered], &str); 6] = [
+const ROWS: [(&[Answered], &str); 7] = [
     (
         &[
             (Set("", 2, true), Ok(())),
@@ -93,6 +93,19 @@ const ROWS: [(&[Answered], &str); 6] = [
             (Set("d", 1, false), Err(ParentLater)),
         ],
         "set . 1\nset d/e 1\n",
+    ),
+    // the same where the paths don't come in their order
+    (
+        &[
+            (Set("", 1, false), Ok(())),
+            (Set("d/e", 1, false), Ok(())),
+            (Delete("b"), Ok(())),
+            (Set("b", 2, false), Err(Repeated)),
+            (Set("b/c", 1, false), Err(UnderDeleted)),
+            (Set("d", 1, false), Err(ParentLater)),
+            (Link("c", "f", 2, false), Ok(())),
+        ],
+        "set . 1\nset d/e 1\ndelete b\nlink c f 2\n",
     ),
     // the root comes first
     (
@@ -220,6 +233,17 @@ const NESTED: [Answered; 7] = [
     (Set("d/e/a", 1, false), Ok(())),
 ];
 
+// The same in the order of their paths.
+const NESTED_IN_ORDER: [Answered; 7] = [
+    (Set("", 1, false), Ok(())),
+    (Set("b", 1, false), Ok(())),
+    (Set("b/x/y", 1, false), Ok(())),
+    (Set("b/y", 1, false), Ok(())),
+    (Set("b c", 1, false), Ok(())),
+    (Set("d/e/a", 1, false), Ok(())),
+    (Set("d/e/f", 1, false), Ok(())),
+];
+
 // The names beneath each path of their report, each with a comma behind it.
 const NAMES_BELOW: [(&str, &str); 6] = [
     ("", "b,b c,d,"),
@@ -262,11 +286,16 @@ fn names_are(
     Ok(())
 }
 
-#[test]
-fn names_beneath_a_path_come_in_their_order(rt: HostRuntime) -> Result<(), Fail> {
-    let report = report_of(&rt, rt.alloc(), &NESTED)?;
+fn all_names_are(rt: &impl Abort, alloc: Global, calls: &[Answered]) -> Result<(), Fail> {
+    let report = report_of(rt, alloc, calls)?;
     for (at, names) in &NAMES_BELOW {
-        names_are(&rt, rt.alloc(), &report, at, names)?;
+        names_are(rt, alloc, &report, at, names)?;
     }
     Ok(())
+}
+
+#[test]
+fn names_beneath_a_path_come_in_their_order(rt: HostRuntime) -> Result<(), Fail> {
+    all_names_are(&rt, rt.alloc(), &NESTED)?;
+    all_names_are(&rt, rt.alloc(), &NESTED_IN_ORDER)
 }

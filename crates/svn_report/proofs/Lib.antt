@@ -1,5 +1,7 @@
 -- entries found by their path and by what stands next to it; one more entry
 pub mod Listings
+-- entries in path order, and what stands next to a path there
+pub mod InOrder
 -- the order in which directories end
 pub mod EndOrder
 -- the next name beneath a path at which a report has entries

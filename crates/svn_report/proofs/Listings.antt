@@ -27,7 +27,7 @@ use Rattle.svn_report.specs.LawfulReports.{IsRootFirst, AreLawfulEntries}
 use Rattle.std.specs.Prelude.{nat_eq}
 use Rattle.std.specs.Cmp.Lexicographic.{pointwise}
 use Rattle.indexmap.specs.IndexMap.{insert_entry}
-use Rattle.svn_report.specs.ReportOrder.{IsKept, IsNext, IsNextBy, IsPrevious}
+use Rattle.svn_report.specs.ReportOrder.{IsIndexed, IsKept, IsNext, IsNextBy, IsNextEntry, IsPrevious, IsPreviousEntry, has_entry}
 use Rattle.svn_types.proofs.PathLemmas.{same_path, path_eq-same, path_eq-symm, below_parts}
 use Rattle.svn_types.proofs.PathsInOrder.{paths_total, path_tie, at_path, before_apart, earlier, not_both, below_after, within_between}
 use Rattle.svn_editor.proofs.OneMore.{any_found}
@@ -108,30 +108,44 @@ none_after paths p last greatest later = λ q l. by q (contains path_cmp paths q
     beyond q l Equal e h = ap (λ (z : Path). path_cmp z q) (path_tie last p e) ∙ l
     beyond q l Greater e h = absurd (true≢false (sym h))
 
+-- a path found in an index stands there among the paths of the entries
+
+pub next_kept : (order : Path → Path → Ordering) (paths : BTreeSet Path) (es : Entries) (p : Path) (found : Option Path)
+    → IsKept paths es → IsNextBy order (contains path_cmp paths) p found → IsNextBy order (has_entry es) p found
+next_kept order paths es p None kept next = λ q l. sym (kept.has q) ∙ next q l
+next_kept order paths es p (Some x) kept next = (next.0, sym (kept.has x) ∙ next.1, λ q l has. next.2 q l (kept.has q ∙ has))
+
+pub previous_kept : (paths : BTreeSet Path) (es : Entries) (p : Path) (found : Option Path) → IsKept paths es → IsPrevious paths p found
+    → IsPreviousEntry es p found
+previous_kept paths es p None kept previous = λ q l. sym (kept.has q) ∙ previous q l
+previous_kept paths es p (Some x) kept previous =
+    (previous.0, sym (kept.has x) ∙ previous.1, λ q l has. previous.2 q l (kept.has q ∙ has))
+
+pub lawful_kept : (index : Option (BTreeSet Path)) (es : Entries) → IsIndexed index es → AreLawfulEntries es
+lawful_kept None es kept = kept.1
+lawful_kept (Some paths) es kept = kept.lawful
+
 -- ---- what stands beneath a path
 
-pub next_below : (paths : BTreeSet Path) (es : Entries) (p n : Path) → IsKept paths es → IsNext paths p (Some n)
-    → is_within p n ≡ has_entry_below es p
-next_below paths es p n kept next = by (is_within p n) refl (has_entry_below es p) refl
+pub next_below : (es : Entries) (p n : Path) → IsNextEntry es p (Some n) → is_within p n ≡ has_entry_below es p
+next_below es p n next = by (is_within p n) refl (has_entry_below es p) refl
   where
     by : (a : Bool) → is_within p n ≡ a → (b : Bool) → has_entry_below es p ≡ b → a ≡ b
-    by true w b h = sym (sym h ∙ at_some (is_below p) es n (ap (λ x. x && not (path_eq p n)) w ∙ ap not (before_apart p n next.0))
-        (sym (kept.has n) ∙ next.1))
+    by true w b h = sym (sym h ∙ at_some (is_below p) es n (ap (λ x. x && not (path_eq p n)) w ∙ ap not (before_apart p n next.0)) next.1)
     by false w true h =
         let s = somewhere (is_below p) es h in
         let parts = below_parts p s.0 s.1 in
-        absurd (true≢false (sym (within_between p n s.0 next.0 (next.2 s.0 (below_after p s.0 parts.0 parts.1) (kept.has s.0 ∙ s.2))
-        parts.0) ∙ w))
+        absurd (true≢false (sym (within_between p n s.0 next.0 (next.2 s.0 (below_after p s.0 parts.0 parts.1) s.2) parts.0) ∙ w))
     by false w false h = refl
 
-pub none_below : (paths : BTreeSet Path) (es : Entries) (p : Path) → IsKept paths es → IsNext paths p None → false ≡ has_entry_below es p
-none_below paths es p kept next = by (has_entry_below es p) refl
+pub none_below : (es : Entries) (p : Path) → IsNextEntry es p None → false ≡ has_entry_below es p
+none_below es p next = by (has_entry_below es p) refl
   where
     by : (b : Bool) → has_entry_below es p ≡ b → false ≡ b
     by true h =
         let s = somewhere (is_below p) es h in
         let parts = below_parts p s.0 s.1 in
-        absurd (true≢false (sym s.2 ∙ sym (kept.has s.0) ∙ next s.0 (below_after p s.0 parts.0 parts.1)))
+        absurd (true≢false (sym s.2 ∙ next s.0 (below_after p s.0 parts.0 parts.1)))
     by false h = refl
 
 -- ---- what is deleted above a path
@@ -143,12 +157,12 @@ deleted_parts p q e h = by (is_delete e) (is_below q p) h
     by true b h = (refl, h)
     by false b h = absurd (true≢false (sym h))
 
-deleted_somewhere : (paths : BTreeSet Path) (es : Entries) (p : Path) → IsKept paths es → list_any (is_deleted_above p) es ≡ true
+deleted_somewhere : (es : Entries) (p : Path) → AreLawfulEntries es → list_any (is_deleted_above p) es ≡ true
     → (q : Path) × (is_below q p ≡ true) × (is_deleted_at (entry_at es q) ≡ true)
-deleted_somewhere paths es p kept h =
+deleted_somewhere es p lawful h =
     let r = any_found (is_deleted_above p) es h in
     let parts = deleted_parts p r.1.0 r.1.1 r.3 in
-    (r.1.0, parts.1, ap is_deleted_at (kept.lawful.each_once r.0 r.1 r.2) ∙ parts.0)
+    (r.1.0, parts.1, ap is_deleted_at (lawful.each_once r.0 r.1 r.2) ∙ parts.0)
 
 at_deleted : (es : Entries) (p q : Path) → is_deleted_at (entry_at es q) ≡ true → is_below q p ≡ true
     → list_any (is_deleted_above p) es ≡ true
@@ -171,9 +185,9 @@ some_deleted : (o : Option ReportEntry) → is_deleted_at o ≡ true → is_some
 some_deleted None h = absurd (true≢false (sym h))
 some_deleted (Some e) h = refl
 
-pub previous_deleted : (paths : BTreeSet Path) (es : Entries) (p n : Path) → IsKept paths es → IsPrevious paths p (Some n)
+pub previous_deleted : (es : Entries) (p n : Path) → AreLawfulEntries es → IsPreviousEntry es p (Some n)
     → (is_within n p && is_deleted_at (entry_at es n)) ≡ list_any (is_deleted_above p) es
-previous_deleted paths es p n kept previous =
+previous_deleted es p n lawful previous =
     by (is_within n p) refl (is_deleted_at (entry_at es n)) refl (list_any (is_deleted_above p) es) refl
   where
     -- the deleted path above is the one before
@@ -181,13 +195,13 @@ previous_deleted paths es p n kept previous =
     it h = same (path_eq r.0 n) refl
       where
         r : (q : Path) × (is_below q p ≡ true) × (is_deleted_at (entry_at es q) ≡ true)
-        r = deleted_somewhere paths es p kept h
+        r = deleted_somewhere es p lawful h
 
         above : (is_within r.0 p ≡ true) × (path_eq r.0 p ≡ false)
         above = below_parts r.0 p r.1
 
-        there : contains path_cmp paths r.0 ≡ true
-        there = kept.has r.0 ∙ some_deleted (entry_at es r.0) r.2
+        there : is_some (entry_at es r.0) ≡ true
+        there = some_deleted (entry_at es r.0) r.2
 
         not_later : path_cmp n r.0 ≡ Less → ⊥
         not_later = previous.2 r.0 (below_after r.0 p above.0 above.1) there
@@ -200,8 +214,8 @@ previous_deleted paths es p n kept previous =
         same false e =
             let less = earlier r.0 n e not_later in
             let inside = within_between r.0 n p less (λ k. not_both p n k previous.0) above.0 in
-            let nothing = kept.lawful.nothing_below r.0 n r.2 (ap (λ x. x && not (path_eq r.0 n)) inside ∙ ap not e) in
-            absurd (true≢false (sym previous.1 ∙ kept.has n ∙ ap is_some nothing))
+            let nothing = lawful.nothing_below r.0 n r.2 (ap (λ x. x && not (path_eq r.0 n)) inside ∙ ap not e) in
+            absurd (true≢false (sym previous.1 ∙ ap is_some nothing))
 
     by : (a : Bool) → is_within n p ≡ a → (b : Bool) → is_deleted_at (entry_at es n) ≡ b → (r : Bool)
         → list_any (is_deleted_above p) es ≡ r → (a && b) ≡ r
@@ -211,16 +225,14 @@ previous_deleted paths es p n kept previous =
     by false w b d true h = absurd (true≢false (sym (it h).0 ∙ w))
     by false w b d false h = refl
 
-pub previous_none : (paths : BTreeSet Path) (es : Entries) (p : Path) → IsKept paths es → IsPrevious paths p None
-    → false ≡ list_any (is_deleted_above p) es
-previous_none paths es p kept previous = by (list_any (is_deleted_above p) es) refl
+pub previous_none : (es : Entries) (p : Path) → AreLawfulEntries es → IsPreviousEntry es p None → false ≡ list_any (is_deleted_above p) es
+previous_none es p lawful previous = by (list_any (is_deleted_above p) es) refl
   where
     by : (b : Bool) → list_any (is_deleted_above p) es ≡ b → false ≡ b
     by true h =
-        let r = deleted_somewhere paths es p kept h in
+        let r = deleted_somewhere es p lawful h in
         let above = below_parts r.0 p r.1 in
-        absurd (true≢false (sym (some_deleted (entry_at es r.0) r.2) ∙ sym (kept.has r.0) ∙ previous r.0
-        (below_after r.0 p above.0 above.1)))
+        absurd (true≢false (sym (some_deleted (entry_at es r.0) r.2) ∙ previous r.0 (below_after r.0 p above.0 above.1)))
     by false h = refl
 
 -- ---- one more entry
@@ -386,6 +398,10 @@ module _ (es : Entries) (p : Path) (e : ReportEntry) (old : AreLawfulEntries es)
     links_short = links_stay;
   }
 
+pub lawful_added : (es : Entries) (p : Path) (e : ReportEntry) → AreLawfulEntries es → reporter_fault es p e ≡ None
+    → AreLawfulEntries (es ++ (p, e) ∷ [])
+lawful_added es p e old lawful = lawful_more es p e old (welcome es p e lawful)
+
 -- ---- a path put into a set, in whose order no other is level with it, and one taken out
 
 pub put_in : (order : Path → Path → Ordering) (old new : BTreeSet Path) (p q : Path) → is_at (order p) q ≡ path_eq p q
@@ -424,7 +440,7 @@ before_last (e ∷ es) x = ap (λ (fs : Entries). e ∷ fs) (before_last es x)
 
 pub kept_more : (old new : BTreeSet Path) (es : Entries) (p : Path) (e : ReportEntry) → IsKept old es → reporter_fault es p e ≡ None
     → ((q : Path) → contains path_cmp new q ≡ (path_eq p q || contains path_cmp old q)) → IsKept new (es ++ (p, e) ∷ [])
-kept_more old new es p e kept lawful added = record { has = has; lawful = lawful_more es p e kept.lawful (welcome es p e lawful) }
+kept_more old new es p e kept lawful added = record { has = has; lawful = lawful_added es p e kept.lawful lawful }
   where
     has : (q : Path) → contains path_cmp new q ≡ is_some (entry_at (es ++ (p, e) ∷ []) q)
     has q = added q ∙ ap (λ x. path_eq p q || x) (kept.has q) ∙ by (path_eq p q) (entry_at es q) ∙ sym (ap is_some (entry_at-more es p e q))
@@ -439,16 +455,13 @@ pub kept_same : (old new : BTreeSet Path) (es : Entries) → IsKept old es → (
     → IsKept new es
 kept_same old new es kept same = record { has = λ q. same q ∙ kept.has q; lawful = kept.lawful }
 
-pub kept_none : (paths : BTreeSet Path) → ((q : Path) → contains path_cmp paths q ≡ false) → IsKept paths []
-kept_none paths none = record {
-  has = none;
-  lawful = record {
-    root_first = tt;
-    each_once = λ i x h. absurd (nothing i x h);
-    parents_first = λ i j x y h k b. absurd (nothing i x h);
-    nothing_below = λ p q d b. refl;
-    links_short = λ p q rev start_empty h. absurd (some_none _ (sym h));
-  };
+pub none_lawful : AreLawfulEntries []
+none_lawful = record {
+  root_first = tt;
+  each_once = λ i x h. absurd (nothing i x h);
+  parents_first = λ i j x y h k b. absurd (nothing i x h);
+  nothing_below = λ p q d b. refl;
+  links_short = λ p q rev start_empty h. absurd (some_none _ (sym h));
 }
   where
     nothing : (i : ℕ) (x : Path × ReportEntry) → slice_get [] i ≡ Some x → ⊥

@@ -1,26 +1,27 @@
 -- The next name beneath a path at which a report has entries.
-use Rattle.std.proofs.Common.{◌≡◌, ℕ, ◌<◌, ◌≤◌, Bool, true, false, ◌&&◌, List, [], ◌∷◌, cond, length, refl, sym}
+use Rattle.std.proofs.Common.{◌≡◌, ℕ, ◌<◌, ◌≤◌, Bool, true, false, ◌&&◌, not, List, [], ◌∷◌, cond, length, refl, sym}
 use Rattle.std.proofs.Common.{◌∙◌, ap, true≢false, get_or, Bor}
 use Rattle.std.specs.Prelude.{Option, Some, None, Ok, bytes_eq, slice_get, IfSome, MatchOption}
 use Rattle.std.specs.List.{HoldsAt}
 use Rattle.std.proofs.lemmas.Bool.{and_parts}
 use Rattle.std.proofs.lemmas.Option.{slice_get_past, slice_get_read}
-use Rattle.std.specs.declared.cmp.Ordering.TheVariants.{Less}
-use Rattle.std.specs.Ordering.{ordering_then}
+use Rattle.std.specs.declared.cmp.Ordering.{Ordering}
+use Rattle.std.specs.declared.cmp.Ordering.TheVariants.{Less, Equal, Greater}
+use Rattle.std.specs.Ordering.{ordering_then, is_lt}
 use Rattle.std.specs.Option.{option_copied, option_to_list}
-use Rattle.std.specs.BTreeSet.{BTreeSet, contains}
-use Rattle.svn_types.specs.Names.{Path, path_cmp}
+use Rattle.svn_types.specs.Names.{Path, name_cmp, path_cmp}
 use Rattle.svn_types.specs.NameFaults.{AnswersPath}
 use Rattle.svn_types.specs.declared.fault.PathFault.{PathFault}
 use Rattle.svn_types.specs.Paths.{is_within, child}
 use Rattle.svn_report.specs.Reports.{Entries}
 use Rattle.svn_report.specs.ReportNames.{next_name, has_entry_within, IsNextName}
-use Rattle.svn_report.specs.ReportOrder.{IsKept, IsNext, IsNextBy, end_cmp}
-use Rattle.svn_types.proofs.NameLemmas.{level_names}
-use Rattle.svn_types.proofs.PathLemmas.{is_within-same, below_from_child}
-use Rattle.svn_types.proofs.PathsInOrder.{below_after, within_between}
+use Rattle.svn_report.specs.ReportOrder.{IsNextBy, IsNextEntry, IsFirstBehind, end_cmp, has_entry, is_behind_name}
+use Rattle.svn_types.proofs.NameLemmas.{Name, level_names, same_name, reversed, lt_apart}
+use Rattle.svn_types.proofs.PathLemmas.{is_within-same, below_from_child, children_apart}
+use Rattle.svn_types.proofs.PathsInOrder.{paths_total, not_both, below_after, within_between}
 use Rattle.svn_report.proofs.EndOrder.{names_in_order, names_end_in_order, within_named, later_named, named_ends_before}
 use Rattle.svn_report.proofs.Listings.{somewhere, at_some}
+use Rattle.svn_report.proofs.InOrder.{behind_parts}
 
 -- ---- the name that leads from a path down to another
 
@@ -56,72 +57,111 @@ joined (Some fault) p q h = absurd h
 -- ---- the first path behind a bound tells the next name
 
 -- nothing within a name, where each path there is ruled out
-nothing_at : (paths : BTreeSet Path) (es : Entries) (p : Path) (n : List ℕ) → IsKept paths es
-    → ((q : Path) → is_within (child p n) q ≡ true → contains path_cmp paths q ≡ true → ⊥) → has_entry_within es (child p n) ≡ false
-nothing_at paths es p n kept out = by (has_entry_within es (child p n)) refl
+nothing_at : (es : Entries) (p : Path) (n : List ℕ)
+    → ((q : Path) → is_within (child p n) q ≡ true → has_entry es q ≡ true → ⊥) → has_entry_within es (child p n) ≡ false
+nothing_at es p n out = by (has_entry_within es (child p n)) refl
   where
     by : (b : Bool) → has_entry_within es (child p n) ≡ b → b ≡ false
-    by true h = let s = somewhere (is_within (child p n)) es h in absurd (out s.0 s.1 (kept.has s.0 ∙ s.2))
+    by true h = let s = somewhere (is_within (child p n)) es h in absurd (out s.0 s.1 s.2)
     by false h = refl
 
--- the entry at a path of the set stands within the name that leads to it
-there : (paths : BTreeSet Path) (es : Entries) (p x : Path) (m : List ℕ) → IsKept paths es → contains path_cmp paths x ≡ true
-    → m ∷ [] ≡ next_name p x
-    → has_entry_within es (child p m) ≡ true
-there paths es p x m kept h e = at_some (is_within (child p m)) es x (within_named p m x e) (sym (kept.has x) ∙ h)
+-- a path with an entry stands within the name that leads to it
+there : (es : Entries) (p x : Path) (m : List ℕ) → has_entry es x ≡ true → m ∷ [] ≡ next_name p x → has_entry_within es (child p m) ≡ true
+there es p x m h e = at_some (is_within (child p m)) es x (within_named p m x e) h
 
 -- no name before one, where each path at or below it is ruled out
-least : (paths : BTreeSet Path) (es : Entries) (p : Path) (k : List ℕ) → IsKept paths es → has_entry_within es (child p k) ≡ true
-    → ((q : Path) → is_within (child p k) q ≡ true → contains path_cmp paths q ≡ true → ⊥) → ⊥
-least paths es p k kept h out = absurd (true≢false (sym h ∙ nothing_at paths es p k kept out))
+least : (es : Entries) (p : Path) (k : List ℕ) → has_entry_within es (child p k) ≡ true
+    → ((q : Path) → is_within (child p k) q ≡ true → has_entry es q ≡ true → ⊥) → ⊥
+least es p k h out = absurd (true≢false (sym h ∙ nothing_at es p k out))
 
 child_after : (p q : Path) (n : List ℕ) → is_within (child p n) q ≡ true → path_cmp p q ≡ Less
 child_after p q n w = let above = below_from_child p q n w in below_after p q above.0 above.1
 
-pub first_name : (paths : BTreeSet Path) (es : Entries) (p x : Path) (o : Option (List ℕ)) → IsKept paths es → IsNext paths p (Some x)
-    → option_to_list o ≡ next_name p x
-    → IsNextName p es None o
-first_name paths es p x None kept next named = λ n after. nothing_at paths es p n kept
-    (λ q w in_set. outside q n w in_set)
-  where
-    -- a path within another and behind it has a next name
-    unnamed : (r y : Path) → is_within r y ≡ true → [] ≡ next_name r y → path_cmp r y ≡ Less → ⊥
-    unnamed [] [] w h l = cc
-    unnamed [] (a ∷ y) w h l = cc
-    unnamed (c ∷ r) [] w h l = absurd (true≢false (sym w))
-    unnamed (c ∷ r) (a ∷ y) w h l =
-        let here = and_parts (bytes_eq c a) (is_within r y) w in
-        unnamed r y here.1 (h ∙ ap (λ b. cond b (next_name r y) []) here.0)
-        (sym (ap (λ o. ordering_then o (path_cmp r y)) (level_names c a here.0)) ∙ l)
+-- a path within another and behind it has a next name
+unnamed : (r y : Path) → is_within r y ≡ true → [] ≡ next_name r y → path_cmp r y ≡ Less → ⊥
+unnamed [] [] w h l = cc
+unnamed [] (a ∷ y) w h l = cc
+unnamed (c ∷ r) [] w h l = absurd (true≢false (sym w))
+unnamed (c ∷ r) (a ∷ y) w h l =
+    let here = and_parts (bytes_eq c a) (is_within r y) w in
+    unnamed r y here.1 (h ∙ ap (λ b. cond b (next_name r y) []) here.0)
+    (sym (ap (λ o. ordering_then o (path_cmp r y)) (level_names c a here.0)) ∙ l)
 
-    outside : (q : Path) (n : List ℕ) → is_within (child p n) q ≡ true → contains path_cmp paths q ≡ true → ⊥
-    outside q n w in_set =
-        unnamed p x (within_between p x q next.0 (next.2 q (child_after p q n w) in_set) (below_from_child p q n w).0) named next.0
-first_name paths es p x (Some m) kept next named = (
+pub first_name : (es : Entries) (p x : Path) (o : Option (List ℕ)) → IsNextEntry es p (Some x) → option_to_list o ≡ next_name p x
+    → IsNextName p es None o
+first_name es p x None next named = λ n after. nothing_at es p n
+    (λ q w has. unnamed p x
+    (within_between p x q next.0 (next.2 q (child_after p q n w) has) (below_from_child p q n w).0) named next.0)
+first_name es p x (Some m) next named = (
   tt,
-  there paths es p x m kept next.1 named,
-  λ k after h l. least paths es p k kept h
-      (λ q w in_set. next.2 q (child_after p q k w) in_set (names_in_order p k m q x w (within_named p m x named) l)),
+  there es p x m next.1 named,
+  λ k after h l. least es p k h
+      (λ q w has. next.2 q (child_after p q k w) has (names_in_order p k m q x w (within_named p m x named) l)),
 )
 
-pub no_first_name : (paths : BTreeSet Path) (es : Entries) (p : Path) → IsKept paths es → IsNext paths p None → IsNextName p es None None
-no_first_name paths es p kept next = λ n after. nothing_at paths es p n kept
-    (λ q w in_set. absurd (true≢false (sym in_set ∙ next q (child_after p q n w))))
+pub no_first_name : (es : Entries) (p : Path) → IsNextEntry es p None → IsNextName p es None None
+no_first_name es p next = λ n after. nothing_at es p n
+    (λ q w has. absurd (true≢false (sym has ∙ next q (child_after p q n w))))
 
-pub later_name : (paths : BTreeSet Path) (es : Entries) (p x : Path) (n : List ℕ) (o : Option (List ℕ)) → IsKept paths es
-    → IsNextBy end_cmp (contains path_cmp paths) (child p n) (Some x) → option_to_list o ≡ next_name p x → IsNextName p es (Some n) o
-later_name paths es p x n None kept next named = λ k after. nothing_at paths es p k kept
-    (λ q w in_set. next.2 q (names_end_in_order p n k (child p n) q (is_within-same (child p n)) w after) in_set
+-- ---- by the order in which directories end
+
+pub later_name : (es : Entries) (p x : Path) (n : List ℕ) (o : Option (List ℕ)) → IsNextBy end_cmp (has_entry es) (child p n) (Some x)
+    → option_to_list o ≡ next_name p x → IsNextName p es (Some n) o
+later_name es p x n None next named = λ k after. nothing_at es p k
+    (λ q w has. next.2 q (names_end_in_order p n k (child p n) q (is_within-same (child p n)) w after) has
     (named_ends_before p n k x q next.0 named w))
-later_name paths es p x n (Some m) kept next named = (
+later_name es p x n (Some m) next named = (
   later_named p n m x next.0 named,
-  there paths es p x m kept next.1 named,
-  λ k after h l. least paths es p k kept h
-      (λ q w in_set. next.2 q (names_end_in_order p n k (child p n) q (is_within-same (child p n)) w after) in_set
+  there es p x m next.1 named,
+  λ k after h l. least es p k h
+      (λ q w has. next.2 q (names_end_in_order p n k (child p n) q (is_within-same (child p n)) w after) has
       (names_end_in_order p k m q x w (within_named p m x named) l)),
 )
 
-pub no_later_name : (paths : BTreeSet Path) (es : Entries) (p : Path) (n : List ℕ) → IsKept paths es
-    → IsNextBy end_cmp (contains path_cmp paths) (child p n) None → IsNextName p es (Some n) None
-no_later_name paths es p n kept next = λ k after. nothing_at paths es p k kept
-    (λ q w in_set. absurd (true≢false (sym in_set ∙ next q (names_end_in_order p n k (child p n) q (is_within-same (child p n)) w after))))
+pub no_later_name : (es : Entries) (p : Path) (n : List ℕ) → IsNextBy end_cmp (has_entry es) (child p n) None → IsNextName p es (Some n) None
+no_later_name es p n next = λ k after. nothing_at es p k
+    (λ q w has. absurd (true≢false (sym has ∙ next q (names_end_in_order p n k (child p n) q (is_within-same (child p n)) w after))))
+
+-- ---- by the order of the paths
+
+-- what stands within a later name comes behind the name
+named_later : (p : Path) (n k : Name) (q : Path) → name_cmp n k ≡ Less → is_within (child p k) q ≡ true → is_behind_name p n q ≡ true
+named_later p n k q after w =
+    (λ i. is_lt (names_in_order p n k (child p n) q (is_within-same (child p n)) w after i)
+    && not (children_apart p k n q (lt_apart n k (ap is_lt after)) w i))
+
+pub name_behind : (es : Entries) (p x : Path) (n : List ℕ) (o : Option (List ℕ)) → IsFirstBehind es p n (Some x)
+    → option_to_list o ≡ next_name p x → IsNextName p es (Some n) o
+name_behind es p x n o first named = by o named
+  where
+    parts : (path_cmp (child p n) x ≡ Less) × (is_within (child p n) x ≡ false)
+    parts = behind_parts p n x first.0
+
+    p_before : path_cmp p x ≡ Less
+    p_before = paths_total.trans p (child p n) x (child_after p (child p n) n (is_within-same (child p n))) parts.0
+
+    by : (o : Option (List ℕ)) → option_to_list o ≡ next_name p x → IsNextName p es (Some n) o
+    by None named = λ k after. nothing_at es p k
+        (λ q w has. unnamed p x
+        (within_between p x q p_before (first.2 q (named_later p n k q after w) has) (below_from_child p q k w).0) named p_before)
+    by (Some m) named = (
+      later (name_cmp n m) refl,
+      there es p x m first.1 named,
+      λ k after h l. least es p k h
+          (λ q w has. first.2 q (named_later p n k q after w) has (names_in_order p k m q x w (within_named p m x named) l)),
+    )
+      where
+        inside : is_within (child p m) x ≡ true
+        inside = within_named p m x named
+
+        later : (c : Ordering) → name_cmp n m ≡ c → name_cmp n m ≡ Less
+        later Less e = e
+        later Equal e =
+            absurd (true≢false (sym (ap (λ (z : Name). is_within (child p z) x) (same_name n m e) ∙ inside) ∙ parts.1))
+        later Greater e =
+            absurd (not_both (child p n) x parts.0
+            (names_in_order p m n x (child p n) inside (is_within-same (child p n)) (reversed n m Greater e)))
+
+pub no_name_behind : (es : Entries) (p : Path) (n : List ℕ) → IsFirstBehind es p n None → IsNextName p es (Some n) None
+no_name_behind es p n first = λ k after. nothing_at es p k
+    (λ q w has. absurd (true≢false (sym has ∙ first q (named_later p n k q after w))))

@@ -23,6 +23,7 @@
 #![tactic(auto)]
 
 mod entry;
+mod in_order;
 mod lines;
 mod listing;
 mod path_index;

@@ -1,13 +1,15 @@
 //! Entries at paths, found by their place, by their path, and by what stands above or beneath a path.
-ghost use Rattle.std.specs.Prelude.{◌≡◌, ◌++◌, ◌∷◌, [], ℕ, length, slice_get, ◌<◌, IsTrue, ◌↔◌, OnOk, OnErr, IfOk, IfSome, Some, None};
+ghost use Rattle.std.specs.Prelude.{◌≡◌, ◌++◌, ◌∷◌, [], ℕ, length, slice_get, ◌<◌, IsTrue, ◌↔◌, OnOk, OnErr, IfOk, IfSome, MatchOption, is_some, Some, None};
 ghost use Rattle.std.specs.List.{list_any};
 ghost use Rattle.std.specs.Option.{option_copied, option_map, option_to_list};
 ghost use Rattle.svn_types.specs.Names.{depth_limit};
 ghost use Rattle.svn_report.specs.Reports.{entry_at, has_entry_below, is_deleted_above, is_deleted_at, is_link_too_deep, reporter_fault};
 ghost use Rattle.svn_report.specs.LawfulReports.{AreLawfulEntries};
 ghost use Rattle.svn_report.specs.ReportNames.{next_name, IsNextName};
+ghost use Rattle.svn_report.specs.ReportOrder.{ComesLast, InPathOrder, IsFirstBehind, IsIndexed, IsKept, IsNextEntry, IsPreviousEntry};
 
 use crate::entry::ReportEntry;
+use crate::in_order::{comes_last, first_behind, next_in_order, previous_in_order};
 use crate::path_index::PathIndex;
 use crate::reporter_fault::ReporterFault;
 use indexmap::IndexMap;
@@ -15,23 +17,24 @@ use std::alloc::{AllocError, Global};
 use std::marker::Model;
 use svn_types::{MAX_DEPTH, Name, PathFault, RelPath};
 
-/// The entries by path, in the order of the calls, and their paths in an index. A contract sees the list of entries.
+/// The entries by path, in the order of the calls. Mostly that is the order of their paths too, and else there is an index of these. A contract
+/// sees the list of entries.
 #[derive(Debug, Drop)]
 pub struct Listing {
     alloc: Global,
     entries: IndexMap<RelPath, ReportEntry>,
-    paths: PathIndex,
+    index: Option<PathIndex>,
 }
 
 impl Model for Listing {
     ghost use Rattle.svn_report.specs.Reports.{Entries};
-    ghost use Rattle.svn_report.specs.ReportOrder.{IsKept};
+    ghost use Rattle.svn_report.specs.ReportOrder.{IsIndexed};
 
     ghost Value = { Entries };
 
     ghost view = { λ l. l.entries.entries };
 
-    ghost invariant = { λ l. IsKept l.paths l.entries.entries };
+    ghost invariant = { λ l. IsIndexed l.index l.entries.entries };
 }
 
 // The name that leads from the first path down to the second, where that stands below it.
@@ -47,6 +50,24 @@ fn name_below<'n>(above: &RelPath, below: &'n RelPath) -> Option<&'n Name>
     }
 }
 
+// Makes the index, where there is none and the next path doesn't come behind those of all entries.
+fn leave_order(
+    alloc: Global,
+    entries: &IndexMap<RelPath, ReportEntry>,
+    index: &mut Option<PathIndex>,
+    path: &RelPath,
+) -> Result<(), AllocError>
+    requires { IsIndexed index.old entries.now.entries }
+    ensures kept { IsIndexed index.new entries.now.entries }
+    ensures last { OnOk result (MatchOption index.new (ComesLast entries.now.entries path.now) (λ _. Unit {0})) }
+{
+    if index.is_some() || comes_last(entries, path) {
+        return Ok(());
+    }
+    *index = Some(PathIndex::of(alloc, entries)?);
+    Ok(())
+}
+
 impl Listing {
     /// No entries. It takes no memory.
     pub fn new(alloc: Global) -> Listing
@@ -55,7 +76,7 @@ impl Listing {
         Listing {
             alloc,
             entries: IndexMap::new(alloc),
-            paths: PathIndex::new(alloc),
+            index: None,
         }
     }
 
@@ -95,11 +116,31 @@ impl Listing {
         self.entries.get(path)
     }
 
+    // The first path behind a path. What stands beneath it comes first.
+    fn next(&self, path: &RelPath) -> Option<&RelPath>
+        ensures { IsNextEntry self.now path.now (option_copied result) }
+    {
+        match &self.index {
+            Some(index) => index.next(path),
+            None => next_in_order(&self.entries, path),
+        }
+    }
+
+    // The last path before a path.
+    fn previous(&self, path: &RelPath) -> Option<&RelPath>
+        ensures { IsPreviousEntry self.now path.now (option_copied result) }
+    {
+        match &self.index {
+            Some(index) => index.previous(path),
+            None => previous_in_order(&self.entries, path),
+        }
+    }
+
     /// Whether an entry stands strictly beneath a path.
     pub fn has_entry_below(&self, path: &RelPath) -> bool
         ensures { result ≡ has_entry_below self.now path.now }
     {
-        match self.paths.next(path) {
+        match self.next(path) {
             Some(next) => next.is_within(path),
             None => false,
         }
@@ -110,14 +151,39 @@ impl Listing {
         ensures name { IsNextName path.now self.now None (option_copied result) }
         ensures bounded { IfSome result (λ _. length path.now < depth_limit) }
     {
-        match self.paths.next(path) {
+        match self.next(path) {
             Some(next) => name_below(path, next),
             None => None,
         }
     }
 
-    // The first such name that comes after a name.
-    fn name_below_after(&self, path: &RelPath, last: &Name) -> Result<Option<&Name>, AllocError>
+    // The first path behind a name beneath a path, where the entries are in path order.
+    fn first_behind(&self, path: &RelPath, last: &Name) -> Option<&RelPath>
+        requires { InPathOrder self.now }
+        ensures { IsFirstBehind self.now path.now last.now (option_copied result) }
+    {
+        first_behind(&self.entries, path, last)
+    }
+
+    // The first such name that comes after a name, where the entries are in path order.
+    fn name_in_order(&self, path: &RelPath, last: &Name) -> Option<&Name>
+        requires { InPathOrder self.now }
+        ensures { IsNextName path.now self.now (Some last.now) (option_copied result) }
+    {
+        match self.first_behind(path, last) {
+            Some(next) => name_below(path, next),
+            None => None,
+        }
+    }
+
+    // The same by an index of the paths.
+    fn name_by_index<'a>(
+        &'a self,
+        index: &'a PathIndex,
+        path: &RelPath,
+        last: &Name,
+    ) -> Result<Option<&'a Name>, AllocError>
+        requires { IsKept index.now self.now }
         ensures { IfOk result (λ found. IsNextName path.now self.now (Some last.now) (option_copied found)) }
     {
         let child = match path.join(self.alloc, last) {
@@ -126,9 +192,19 @@ impl Listing {
             // Beneath a path of 128 names nothing can stand, so there is no first name, and none after another.
             Err(_) => return Ok(self.first_name_below(path)),
         };
-        match self.paths.next_ending(child) {
+        match index.next_ending(child) {
             Some(next) => Ok(name_below(path, next)),
             None => Ok(None),
+        }
+    }
+
+    // The first such name that comes after a name.
+    fn name_below_after(&self, path: &RelPath, last: &Name) -> Result<Option<&Name>, AllocError>
+        ensures { IfOk result (λ found. IsNextName path.now self.now (Some last.now) (option_copied found)) }
+    {
+        match &self.index {
+            Some(index) => self.name_by_index(index, path, last),
+            None => Ok(self.name_in_order(path, last)),
         }
     }
 
@@ -150,7 +226,8 @@ impl Listing {
     fn is_under_deleted(&self, path: &RelPath) -> bool
         ensures { result ≡ list_any (is_deleted_above path.now) self.now }
     {
-        match self.paths.previous(path) {
+        self.law();
+        match self.previous(path) {
             Some(previous) => { path.is_within(previous) && self.is_deleted(previous) }
             None => false,
         }
@@ -162,13 +239,34 @@ impl Listing {
         matches!(self.entry_at(path), Some(ReportEntry::DeletePath))
     }
 
+    // Whether the entries are in path order, and the path comes behind theirs.
+    fn comes_last(&self, path: &RelPath) -> bool
+        ensures { IsTrue result → ComesLast self.now path.now }
+    {
+        match &self.index {
+            Some(_) => false,
+            None => comes_last(&self.entries, path),
+        }
+    }
+
+    #[tactic(auto, using(crate::proofs::InOrder::none_last))]
+    fn has_entry_at(&self, path: &RelPath) -> bool
+        ensures { result ≡ is_some (entry_at self.now path.now) }
+    {
+        if self.comes_last(path) {
+            false
+        } else {
+            self.entry_at(path).is_some()
+        }
+    }
+
     /// Why the entry can't be the next. It takes no memory.
     pub fn fault_of(&self, path: &RelPath, entry: &ReportEntry) -> Option<ReporterFault>
         ensures { result ≡ reporter_fault self.now path.now entry.now }
     {
         if self.is_empty() && !(path.is_root() && matches!(entry, ReportEntry::SetPath { .. })) {
             Some(ReporterFault::NotRootFirst)
-        } else if self.entry_at(path).is_some() {
+        } else if self.has_entry_at(path) {
             Some(ReporterFault::Repeated)
         } else if self.is_under_deleted(path) {
             Some(ReporterFault::UnderDeleted)
@@ -187,9 +285,13 @@ impl Listing {
         ensures ok { OnOk result (self.new ≡ self.old ++ (path.now, entry) ∷ []) }
         ensures err { OnErr result (self.new ≡ self.old) }
     {
+        leave_order(self.alloc, &self.entries, &mut self.index, path)?;
         let count = self.entries.len();
         self.entries.insert(path.clone()?, entry)?;
-        match self.paths.insert(path) {
+        let Some(index) = &mut self.index else {
+            return Ok(());
+        };
+        match index.insert(path) {
             Ok(()) => Ok(()),
             Err(_) => {
                 self.entries.truncate(count);

@@ -1,13 +1,15 @@
 //! Paths in two orders, found by what stands above, beneath or behind a path.
-ghost use Rattle.std.specs.Prelude.{◌≡◌, ◌||◌, ◌&&◌, not, false, Some, OnOk, OnErr};
+ghost use Rattle.std.specs.Prelude.{◌≡◌, ◌||◌, ◌&&◌, not, false, Some, IfOk, OnOk, OnErr};
 ghost use Rattle.std.specs.Ordering.{eq_by_cmp};
 ghost use Rattle.std.specs.Cmp.{partial_equiv_from_equiv, partial_order_from_total, eq_by_cmp_equiv};
 ghost use Rattle.std.specs.Option.{option_copied};
 ghost use Rattle.std.specs.BTreeSet.{BTreeSet, contains};
 ghost use Rattle.svn_types.specs.Names.{Path, path_cmp};
 ghost use Rattle.svn_types.specs.Paths.{path_eq, is_below};
-ghost use Rattle.svn_report.specs.ReportOrder.{end_cmp, end_total, IsNext, IsNextBy, IsPrevious};
+ghost use Rattle.svn_report.specs.ReportOrder.{end_cmp, end_total, has_entry, InPathOrder, IsNext, IsNextBy, IsPrevious};
 
+use crate::entry::ReportEntry;
+use indexmap::IndexMap;
 use std::alloc::{AllocError, Global};
 use std::cmp::Ordering;
 use std::collections::BTreeSet;
@@ -180,6 +182,25 @@ impl PathIndex {
             paths: BTreeSet::new(alloc),
             ends: BTreeSet::new(alloc),
         }
+    }
+
+    /// The paths of entries. AllocError where a growth is refused.
+    #[tactic(auto, using(crate::proofs::InOrder::taken_all))]
+    pub fn of(
+        alloc: Global,
+        entries: &IndexMap<RelPath, ReportEntry>,
+    ) -> Result<PathIndex, AllocError>
+        requires { InPathOrder entries.now.entries }
+        ensures { IfOk result (λ i. (q : Path) → contains path_cmp i q ≡ has_entry entries.now.entries q) }
+    {
+        let mut index = PathIndex::new(alloc);
+        for i in 0..entries.len() {
+            let Some((path, _)) = entries.get_index(i) else {
+                break;
+            };
+            index.insert(path)?;
+        }
+        Ok(index)
     }
 
     /// The first path behind a path. What stands beneath it comes first.

@@ -60,7 +60,7 @@ fn told(
     }
 }
 
-static CALLS: [(Entry, Option<ReporterFault>); 10] = [
+static CALLS: [(Entry, Option<ReporterFault>); 11] = [
     (Entry::Set("a", 1), Some(ReporterFault::NotRootFirst)),
     (Entry::Delete(""), Some(ReporterFault::NotRootFirst)),
     (Entry::Set("", 1), None),
@@ -71,6 +71,8 @@ static CALLS: [(Entry, Option<ReporterFault>); 10] = [
     (Entry::Set("d/e", 1), None),
     (Entry::Set("d", 1), Some(ReporterFault::ParentLater)),
     (Entry::Link("x", "a", 1), None),
+    // the first that comes behind a later path
+    (Entry::Set("c", 1), None),
 ];
 
 // `z` and so many names beneath it.
@@ -116,7 +118,7 @@ pub(crate) fn reporter(alloc: Global) -> Result<(), Trouble> {
     let mut reporter = Reporter::new(alloc);
     tell_all(alloc, &mut reporter)?;
     link_deepest(alloc, &mut reporter)?;
-    holds(entry_count(reporter) == 6, "a report has other entries")
+    holds(entry_count(reporter) == 7, "a report has other entries")
 }
 
 fn report_of(alloc: Global, entries: &[Entry]) -> Result<Report, Trouble> {

@@ -1,4 +1,4 @@
--- Drives into a recorder.
+-- Drives into an editor that keeps the calls.
 use Rattle.std.proofs.Common.{◌≡◌, ℕ, zero, suc, ◌≤◌, Bool, List, [], ◌∷◌, ◌++◌, length, ap, sym, subst, ◌∙◌, arith, inl, inr, append_assoc}
 use Rattle.std.proofs.Common.{None, Result, Ok, Err}
 use Rattle.std.specs.Prelude.{MatchResult}
@@ -27,7 +27,7 @@ use Rattle.svn_update.specs.Commands.{IsRecorded, IsDriveWant}
 abbrev pub records : List Call → Call → Result (Unit {0}) EditFault → List Call → Type 0
 records before call answer after = MatchResult answer (λ _. after ≡ before ++ call ∷ []) (λ fault. (fault ≡ EditMemory) × (after ≡ before))
 
--- a recorder has the calls that it accepted
+-- it has the calls that it accepted
 pub all_recorded : (calls e f : List Call) → Leads records calls e f → f ≡ e ++ calls
 all_recorded [] e f h = sym h ∙ sym (append-nil e)
 all_recorded (c ∷ calls) e f h = all_recorded calls h.0 f h.2 ∙ ap (λ (l : List Call). l ++ calls) h.1 ∙ append_assoc e (c ∷ []) calls
@@ -62,7 +62,7 @@ stops d late all zero calls e m made s is few h = stop_here d late all calls e m
 stops d late all (suc k) [] e m made s is few h = absurd h
 stops d late all (suc k) (c ∷ calls) e m made s is few h = stops d late all k calls h.0 m made s is few h.2
 
--- what a drive into a recorder answers
+-- what a drive into it answers
 abbrev pub AnswersRecorded : Request → Bool → List Call → Result DriveEnd DriveFault → Type 0
 AnswersRecorded d late f (Ok end) = IsRecorded d late (Driven f)
 AnswersRecorded d late f (Err e) = IsRecorded d late (Refused (DriveRefused e))
@@ -88,7 +88,7 @@ recorded d late calls f answer is (inr (inr h)) =
     stopped d late f calls answer
     (subst (IsStopAnswer d late calls) (sym h.5) (stops d late calls h.1 calls [] h.2 h.1 h.0 (is h.3) few h.4))
 
--- a recorder that had no call has the calls of the drive, or wants something
+-- one that had no call has the calls of the drive, or wants something
 pub drive_recorded : (before h : History) (r : ReportView) (target : ℕ) (late : Bool) (e f : List Call)
     (answer : Result DriveEnd DriveFault)
     → before ≡ h → e ≡ [] → (let d = asked h r target Update in target_fault d ≡ None → IsDrive d late (drive_calls d late))

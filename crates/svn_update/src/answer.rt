@@ -6,10 +6,11 @@ ghost use Rattle.svn_wc.specs.Lines.{line};
 ghost use Rattle.svn_update.specs.Answers.{answer_text, call_text, cause_name, outcome_words};
 
 use crate::fault_names::refusal_name;
+use crate::kept_calls::KeptCalls;
 use arrayvec::ArrayString;
 use std::fmt;
 use std::fmt::{Display, Write};
-use svn_editor::{Call, Recorder};
+use svn_editor::Call;
 use svn_model::{DriveFault, WcFault};
 use svn_repo::CommitFault;
 use svn_report::Report;
@@ -51,7 +52,7 @@ pub(crate) enum Answer {
     /// What the working copy reports.
     Reported(Report),
     /// The calls of a drive.
-    Driven(Recorder),
+    Driven(KeptCalls),
     /// How an update or a switch of the whole copy ended.
     Ended(Outcome),
     /// The nodes of the working copy.
@@ -135,15 +136,30 @@ fn write_call<W: fmt::Write>(
     writeln!(f, "{call}")
 }
 
-// The calls of a drive.
-fn write_calls<W: fmt::Write>(calls: &[Call], f: &mut fmt::Formatter<W>) -> fmt::Result
+// Calls of a list.
+fn write_calls<W: fmt::Write>(
+    calls: &[Call],
+    text: &mut ArrayString<512>,
+    f: &mut fmt::Formatter<W>,
+) -> fmt::Result
     ensures { DisplaysOnOk W.write_str_gives f.old result (Some (flat_map call_text calls.now)) f.new }
 {
-    let mut text = ArrayString::<MAX_LINE>::new();
     for call in calls {
-        write_call(call, &mut text, f)?;
+        write_call(call, text, f)?;
     }
     Ok(())
+}
+
+// The calls of a drive.
+fn write_kept<W: fmt::Write>(kept: &KeptCalls, f: &mut fmt::Formatter<W>) -> fmt::Result
+    ensures { DisplaysOnOk W.write_str_gives f.old result (Some (flat_map call_text kept.now)) f.new }
+{
+    let mut text = ArrayString::<MAX_LINE>::new();
+    let (full, last) = kept.lists();
+    for list in full {
+        write_calls(list, &mut text, f)?;
+    }
+    write_calls(last, &mut text, f)
 }
 
 impl fmt::Display for AnswerLines<'_> {
@@ -155,7 +171,7 @@ impl fmt::Display for AnswerLines<'_> {
             Answer::Committed(rev) => writeln!(f, "committed {}", rev.0),
             Answer::Done => writeln!(f, "ok"),
             Answer::Reported(report) => write!(f, "{report}"),
-            Answer::Driven(recorder) => write_calls(recorder.calls(), f),
+            Answer::Driven(kept) => write_kept(kept, f),
             Answer::Ended(outcome) => write_outcome(*outcome, f),
             Answer::Nodes => match self.copy {
                 Some(copy) => write!(f, "{copy}"),

@@ -13,13 +13,13 @@ ghost use Rattle.svn_update.specs.Commands.{AnswersCheckout, AnswersPlace, Answe
 ghost use Rattle.svn_drive.specs.Walking.{asked as driven_for};
 
 use crate::answer::{Answer, Refusal};
+use crate::kept_calls::KeptCalls;
 use crate::runs::{Wanted, run_copy};
 use crate::state::State;
 use std::sync::Wait;
 use std::thread::Threads;
 use svn_drive::{DriveOptions, drive};
 use svn_drive_law::the_calls_are_a_drive;
-use svn_editor::Recorder;
 use svn_law::crawl_says_what_stands;
 use svn_model::WcFault;
 use svn_report::Report;
@@ -103,7 +103,7 @@ impl State {
         }
     }
 
-    /// Drives what the copy reports into a recorder.
+    /// Drives what the copy reports, and keeps the calls.
     pub(crate) fn drive(&self, rev: Rev, late: bool) -> Answer
         ensures { OnCopy (λ w. AnswersDrive self.now.repo w (request_of self.now.repo w rev Update md5) late result) self.now.copy self.now.copy result }
     {
@@ -125,13 +125,13 @@ impl State {
         requires drive { let d = driven_for self.now.repo report.now rev Update in target_fault d ≡ None → IsDrive d late (drive_calls d late) }
         ensures { IsRecorded (driven_for self.now.repo report.now rev Update) late result }
     {
-        let mut recorder = Recorder::new(self.alloc);
+        let mut kept = KeptCalls::new(self.alloc);
         let options = DriveOptions {
             cancel_after: None,
             late_texts: late,
         };
-        match drive(self.alloc, &self.repo, report, rev, options, &mut recorder) {
-            Ok(_) => Answer::Driven(recorder),
+        match drive(self.alloc, &self.repo, report, rev, options, &mut kept) {
+            Ok(_) => Answer::Driven(kept),
             Err(fault) => Answer::Refused(Refusal::Drive(fault)),
         }
     }

@@ -19,6 +19,7 @@
 mod answer;
 mod copies;
 mod fault_names;
+mod kept_calls;
 mod runs;
 mod script;
 mod state;

@@ -8,13 +8,13 @@ use Rattle.svn_update.proofs.state.State.drive_report.Goals as goal
 pub returns-in-Ok : goal.returns-in-Ok
 returns-in-Ok c =
     subst (AnswersRecorded (asked c.args.self.now.repo c.args.report.now c.args.rev Update) c.args.late c.drive.new.editor) c.in-Ok.is
-    (drive_recorded c.self.inside.repo c.args.self.now.repo c.args.report.now c.args.rev c.args.late c.new-recorder.result
+    (drive_recorded c.self.inside.repo c.args.self.now.repo c.args.report.now c.args.rev c.args.late c.new-kept.result
     c.drive.new.editor c.drive.result
-    (ap (λ (s : ScriptState). s.repo) c.self.view_is) c.new-recorder.ensures c.requires.drive c.drive.ensures.calls)
+    (ap (λ (s : ScriptState). s.repo) c.self.view_is) c.new-kept.ensures c.requires.drive c.drive.ensures.calls)
 
 pub returns-in-Err : goal.returns-in-Err
 returns-in-Err c =
     subst (AnswersRecorded (asked c.args.self.now.repo c.args.report.now c.args.rev Update) c.args.late c.drive.new.editor) c.in-Err.is
-    (drive_recorded c.self.inside.repo c.args.self.now.repo c.args.report.now c.args.rev c.args.late c.new-recorder.result
+    (drive_recorded c.self.inside.repo c.args.self.now.repo c.args.report.now c.args.rev c.args.late c.new-kept.result
     c.drive.new.editor c.drive.result
-    (ap (λ (s : ScriptState). s.repo) c.self.view_is) c.new-recorder.ensures c.requires.drive c.drive.ensures.calls)
+    (ap (λ (s : ScriptState). s.repo) c.self.view_is) c.new-kept.ensures c.requires.drive c.drive.ensures.calls)

@@ -1,0 +1,113 @@
+//! Entries that came in the order of their paths: what stands next to a path is found by halves.
+ghost use Rattle.std.specs.Prelude.{◌≡◌, IsTrue};
+ghost use Rattle.std.specs.Option.{option_copied, option_map};
+ghost use Rattle.std.specs.Prelude.{slice_get};
+ghost use Rattle.std.specs.Ordering.{is_le, is_lt};
+ghost use Rattle.svn_types.specs.Names.{path_cmp};
+ghost use Rattle.svn_report.specs.LawfulReports.{AreLawfulEntries};
+ghost use Rattle.svn_report.specs.ReportOrder.{InPathOrder, ComesLast, IsNextEntry, IsPreviousEntry, IsFirstBehind, is_behind_name, is_ahead_of_name};
+
+use crate::entry::ReportEntry;
+use indexmap::IndexMap;
+use svn_types::{Name, RelPath};
+
+// The path of the i-th entry.
+fn path_at(entries: &IndexMap<RelPath, ReportEntry>, i: usize) -> Option<&RelPath>
+    ensures { option_copied result ≡ option_map (λ e. e.0) (slice_get entries.now.entries i) }
+{
+    match entries.get_index(i) {
+        Some((path, _)) => Some(path),
+        None => None,
+    }
+}
+
+/// The first path behind a path. Reports are mostly made in path order, so most calls ask behind the last path: that takes no search.
+pub(crate) fn next_in_order<'a>(
+    entries: &'a IndexMap<RelPath, ReportEntry>,
+    path: &RelPath,
+) -> Option<&'a RelPath>
+    requires ordered { InPathOrder entries.now.entries }
+    requires lawful { AreLawfulEntries entries.now.entries }
+    ensures { IsNextEntry entries.now.entries path.now (option_copied result) }
+{
+    let (last, _) = entries.last()?;
+    if last <= path {
+        return None;
+    }
+    let i = entries.partition_point(
+        |other: &RelPath, _entry: &ReportEntry| -> bool
+            ensures { result ≡ is_le (path_cmp other.now path.entry.now) }
+        { other <= path },
+    );
+    path_at(entries, i)
+}
+
+/// The last path before a path.
+pub(crate) fn previous_in_order<'a>(
+    entries: &'a IndexMap<RelPath, ReportEntry>,
+    path: &RelPath,
+) -> Option<&'a RelPath>
+    requires ordered { InPathOrder entries.now.entries }
+    requires lawful { AreLawfulEntries entries.now.entries }
+    ensures { IsPreviousEntry entries.now.entries path.now (option_copied result) }
+{
+    let (last, _) = entries.last()?;
+    // as in `next_in_order`
+    if last < path {
+        return Some(last);
+    }
+    let before = entries.partition_point(
+        |other: &RelPath, _entry: &ReportEntry| -> bool
+            ensures { result ≡ is_lt (path_cmp other.now path.entry.now) }
+        { other < path },
+    );
+    match before.checked_sub(1) {
+        Some(i) => path_at(entries, i),
+        None => None,
+    }
+}
+
+#[tactic(auto, using(crate::proofs::InOrder::outside_behind, crate::proofs::InOrder::named_behind, crate::proofs::InOrder::itself_behind))]
+// Whether a path comes behind a name beneath another path, and behind all that stands beneath that name.
+fn is_behind_name(other: &RelPath, path: &RelPath, name: &Name) -> bool
+    ensures { result ≡ is_behind_name path.now name.now other.now }
+{
+    if other.is_within(path) {
+        match other.components().get(path.components().len()) {
+            Some(next) => name < next,
+            None => false,
+        }
+    } else {
+        path < other
+    }
+}
+
+/// The first path behind a name beneath a path, and behind all that stands beneath that name.
+pub(crate) fn first_behind<'a>(
+    entries: &'a IndexMap<RelPath, ReportEntry>,
+    path: &RelPath,
+    name: &Name,
+) -> Option<&'a RelPath>
+    requires ordered { InPathOrder entries.now.entries }
+    requires lawful { AreLawfulEntries entries.now.entries }
+    ensures { IsFirstBehind entries.now.entries path.now name.now (option_copied result) }
+{
+    let i = entries.partition_point(
+        |other: &RelPath, _entry: &ReportEntry| -> bool
+            ensures { result ≡ is_ahead_of_name path.entry.now name.entry.now other.now }
+        { !is_behind_name(other, path, name) },
+    );
+    path_at(entries, i)
+}
+
+/// Whether a path comes behind the paths of all entries.
+#[tactic(auto, using(crate::proofs::InOrder::last_of_none))]
+pub(crate) fn comes_last(entries: &IndexMap<RelPath, ReportEntry>, path: &RelPath) -> bool
+    requires ordered { InPathOrder entries.now.entries }
+    ensures { IsTrue result → ComesLast entries.now.entries path.now }
+{
+    match entries.last() {
+        Some((last, _)) => last < path,
+        None => true,
+    }
+}
