@@ -102,7 +102,7 @@ impl<'a> NamesLeft<'a> {
         earlier(entries, self.reported.first_name())
     }
 
-    // Takes the first name of all, with what stands under it. It takes memory where the name is reported.
+    // Takes the first name of all, with what stands under it. It may take memory where the name is reported.
     fn take(&mut self, name: &'a Name) -> Result<Below<'a>, AllocError>
         requires { first_name self.old ≡ Some name.now }
         ensures { IfOk result (λ below. TakesChild self.old name.now below self.new) }
@@ -152,7 +152,7 @@ impl<'a> NamesLeft<'a> {
         }
     }
 
-    /// Takes the first name of all, if one is left, with what stands under it. It takes memory where the name is reported.
+    /// Takes the first name of all, if one is left, with what stands under it. It may take memory where the name is reported.
     #[inline(always)]
     pub(crate) fn take_first(&mut self) -> Result<Option<Below<'a>>, AllocError>
         ensures { IfOk result (λ first. MatchOption first (first_name self.old ≡ None) (λ below. TakesChild self.old below.name.now below self.new)) }

@@ -100,7 +100,7 @@ impl Ord for PathEnd {
     }
 }
 
-// Reports mostly come in path order, so most calls ask what stands next to a path behind the last one: that takes no search.
+// What stands next to a path behind the last one takes no search.
 fn next_path<'a>(paths: &'a BTreeSet<RelPath>, path: &RelPath) -> Option<&'a RelPath>
     ensures { IsNext paths.now path.now (option_copied result) }
 {

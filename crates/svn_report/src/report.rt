@@ -82,7 +82,8 @@ impl Report {
 
     /// The first name directly beneath a path, in the order of names, at or below which an entry stands; with `after` the first of those that
     /// come after it. Asked again and again after its own answer it gives each such name once. The cost grows with the logarithm of the report.
-    /// With `after` it takes memory for a path, and answers AllocError where that is refused; without it takes none.
+    /// With `after` it takes memory for a path where the entries didn't come in path order, and answers AllocError where that is refused; else it
+    /// takes none.
     pub fn next_name_below(
         &self,
         path: &RelPath,
