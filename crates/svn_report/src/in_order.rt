@@ -104,7 +104,8 @@ pub(crate) fn first_behind<'a>(
 #[tactic(auto, using(crate::proofs::InOrder::last_of_none))]
 pub(crate) fn comes_last(entries: &IndexMap<RelPath, ReportEntry>, path: &RelPath) -> bool
     requires ordered { InPathOrder entries.now.entries }
-    ensures { IsTrue result → ComesLast entries.now.entries path.now }
+    ensures last { IsTrue result → ComesLast entries.now.entries path.now }
+    ensures told { ComesLast entries.now.entries path.now → IsTrue result }
 {
     match entries.last() {
         Some((last, _)) => last < path,
