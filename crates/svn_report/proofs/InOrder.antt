@@ -7,6 +7,7 @@ use Rattle.std.specs.declared.cmp.Ordering.{Ordering}
 use Rattle.std.specs.declared.cmp.Ordering.TheVariants.{Less, Equal, Greater}
 use Rattle.std.specs.Ordering.{is_le, is_lt, ordering_then, ordering_reverse, is_eq}
 use Rattle.std.proofs.lemmas.Bool.{and_parts, cases_lt}
+use Rattle.std.proofs.lemmas.List.{take_all}
 use Rattle.std.proofs.lemmas.Option.{slice_get_within, slice_get-get_or, get_or_from_slice_get, same_Some}
 use Rattle.std.specs.Cmp.Lexicographic.{texts_ties}
 use Rattle.std.specs.Option.{option_to_list}
@@ -16,7 +17,7 @@ use Rattle.svn_report.specs.declared.entry.ReportEntry.{ReportEntry}
 use Rattle.svn_report.specs.Reports.{Entries, entry_at}
 use Rattle.svn_report.specs.LawfulReports.{AreLawfulEntries}
 use Rattle.svn_report.specs.ReportOrder.{InPathOrder, IsNextEntry, IsPreviousEntry, IsFirstBehind, ComesLast, has_entry, is_behind_name, is_ahead_of_name}
-use Rattle.svn_types.proofs.NameLemmas.{Name, level_names}
+use Rattle.svn_types.proofs.NameLemmas.{Name, is_less, level_names}
 use Rattle.svn_types.proofs.PathLemmas.{same_path}
 use Rattle.svn_types.proofs.Places.{some_none, get_cases, take_more}
 use Rattle.svn_types.proofs.PathsInOrder.{paths_total, path_tie, not_before_itself, not_both, within_between}
@@ -150,11 +151,6 @@ not_le_after p q h = by (path_cmp q p) refl h
     by Less e h = absurd (true≢false h)
     by Equal e h = absurd (true≢false h)
     by Greater e h = paths_total.antisymm p q ∙ ap ordering_reverse e
-
-is_less : (o : Ordering) → is_lt o ≡ true → o ≡ Less
-is_less Less h = refl
-is_less Equal h = absurd (true≢false (sym h))
-is_less Greater h = absurd (true≢false (sym h))
 
 pub le_parts : (p x y : Path) → path_cmp x y ≡ Less → is_le (path_cmp y p) ≡ true → is_le (path_cmp x p) ≡ true
 le_parts p x y l h = by (path_cmp y p) refl h
@@ -382,13 +378,7 @@ taken_without es i x ordered h = by (has_entry (take i es) x.0) refl
     by false has = refl
 
 pub taken_all : (es : Entries) (i : ℕ) (q : Path) → length es ≤ i → has_entry (take i es) q ≡ has_entry es q
-taken_all es i q l = ap (λ (fs : Entries). has_entry fs q) (all es i l)
-  where
-    all : (es : Entries) (i : ℕ) → length es ≤ i → take i es ≡ es
-    all [] zero l = refl
-    all [] (suc i) l = refl
-    all (e ∷ es) zero l = absurd (omega (arith, l))
-    all (e ∷ es) (suc i) l = ap (λ (fs : Entries). e ∷ fs) (all es i (omega (arith, l)))
+taken_all es i q l = ap (λ (fs : Entries). has_entry fs q) (take_all i es l)
 
 -- ---- one more entry in path order
 

@@ -1,7 +1,6 @@
 //! Entries that came in the order of their paths: what stands next to a path is found by halves.
-ghost use Rattle.std.specs.Prelude.{◌≡◌, IsTrue};
+ghost use Rattle.std.specs.Prelude.{◌≡◌, IsTrue, slice_get};
 ghost use Rattle.std.specs.Option.{option_copied, option_map};
-ghost use Rattle.std.specs.Prelude.{slice_get};
 ghost use Rattle.std.specs.Ordering.{is_le, is_lt};
 ghost use Rattle.svn_types.specs.Names.{path_cmp};
 ghost use Rattle.svn_report.specs.LawfulReports.{AreLawfulEntries};
@@ -67,8 +66,8 @@ pub(crate) fn previous_in_order<'a>(
     }
 }
 
-#[tactic(auto, using(crate::proofs::InOrder::outside_behind, crate::proofs::InOrder::named_behind, crate::proofs::InOrder::itself_behind))]
 // Whether a path comes behind a name beneath another path, and behind all that stands beneath that name.
+#[tactic(auto, using(crate::proofs::InOrder::outside_behind))]
 fn is_behind_name(other: &RelPath, path: &RelPath, name: &Name) -> bool
     ensures { result ≡ is_behind_name path.now name.now other.now }
 {
