@@ -24,3 +24,5 @@ pub mod ShortWords
 pub mod WholeHeads
 -- keys of paths, which are texts
 pub mod KeyTexts
+-- paths that leave out names at the front of their block
+pub mod Cuts

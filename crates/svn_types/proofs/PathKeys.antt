@@ -1,5 +1,5 @@
 -- The order of the keys of paths is the order of the paths.
-use Rattle.std.proofs.Common.{◌≡◌, ◌≢◌, ℕ, Bool, true, false, ◌&&◌, List, [], ◌∷◌, ◌++◌, refl, ap, sym, ◌∙◌, arith, nat_eq}
+use Rattle.std.proofs.Common.{◌≡◌, ◌≢◌, ℕ, ◌+◌, length, take, drop, Bool, true, false, ◌&&◌, List, [], ◌∷◌, ◌++◌, refl, ap, sym, ◌∙◌, arith, nat_eq}
 use Rattle.std.proofs.Common.{Option, Some, None, append_assoc, MatchOption, ◌↔◌}
 use Rattle.std.specs.declared.cmp.Ordering.{Ordering}
 use Rattle.std.specs.declared.cmp.Ordering.TheVariants.{Less, Equal, Greater}
@@ -7,7 +7,8 @@ use Rattle.std.specs.Ordering.{ordering_then, nat_cmp, is_eq}
 use Rattle.std.specs.Cmp.Lexicographic.{pointwise, pointwise_decides, bytes_decides, slice_cmp, texts_ties, lists_ties}
 use Rattle.std.specs.List.{list_all}
 use Rattle.std.proofs.lemmas.List.Folds.{list_all-append}
-use Rattle.std.proofs.lemmas.List.{append_cancel_left}
+use Rattle.std.proofs.Math.Seq.{take-add, drop-append_seam}
+use Rattle.std.proofs.lemmas.List.{append_cancel_left, length-append, take-append-drop}
 use Rattle.std.proofs.lemmas.Bool.{and_parts}
 use denote.Ref.{Bor}
 use Rattle.std.specs.Str.Pattern.{FindsTextPrefix, StripsPrefix}
@@ -178,3 +179,26 @@ within_by_keys p q hp hq None h = by (is_within p q) (within_key p q)
     by : (b : Bool) → (b ≡ true → (rest : List ℕ) × (path_key q ≡ path_key p ++ rest)) → false ≡ b
     by false w = refl
     by true w = absurd (h (w refl).0 (w refl).1)
+
+pub plain_append : (p q : Path) → is_plain_path p ≡ true → is_plain_path q ≡ true → is_plain_path (p ++ q) ≡ true
+plain_append p q hp hq = list_all-append is_plain_name p q ∙ (λ i. hp i && hq i)
+
+-- ---- a path without its first names
+
+-- the key without so many bytes as those names have
+pub key_cut : (k : ℕ) (p : Path) → drop (length (path_key (take k p))) (path_key p) ≡ path_key (drop k p)
+key_cut k p =
+    ap (drop (length (path_key (take k p)))) (ap path_key (sym (take-append-drop k p)) ∙ path_key-append (take k p) (drop k p))
+    ∙ drop-append_seam (path_key (take k p)) (path_key (drop k p))
+
+pub plain_cut : (k : ℕ) (p : Path) → is_plain_path p ≡ true → is_plain_path (drop k p) ≡ true
+plain_cut k p h =
+    (and_parts _ _ (sym (list_all-append is_plain_name (take k p) (drop k p)) ∙ ap is_plain_path (take-append-drop k p) ∙ h)).1
+
+-- the bytes of a key up to a place, and of some names behind it
+pub key_further : (j k : ℕ) (p : Path)
+    → length (path_key (take j p)) + length (path_key (take k (drop j p))) ≡ length (path_key (take (j + k) p))
+key_further j k p =
+    sym (length-append (path_key (take j p)) (path_key (take k (drop j p))))
+    ∙ ap length (sym (path_key-append (take j p) (take k (drop j p))))
+    ∙ ap (λ (q : Path). length (path_key q)) (sym (take-add j k p))

@@ -9,15 +9,6 @@ use crate::name::Name;
 use crate::rel_path::{RelPath, behind};
 use std::alloc::{AllocError, Global};
 
-// The names of one list, and behind them those of another.
-fn both_names(alloc: Global, above: &[Name], below: &[Name]) -> Result<Vec<Name>, AllocError>
-    ensures { IfOk result (λ v. v.items ≡ above.now ++ below.now) }
-{
-    let mut names = Vec::from_clones(alloc, above)?;
-    names.extend_with_clones(below)?;
-    Ok(names)
-}
-
 impl RelPath {
     /// The path without its last name, which is that of the directory where it stands; none for the root. AllocError where a growth is refused.
     pub fn parent(&self, alloc: Global) -> Result<Option<RelPath>, AllocError>
@@ -51,8 +42,6 @@ impl RelPath {
         if self.components().len() + below.components().len() > MAX_COMPONENTS {
             return Err(PathFault::TooManyComponents);
         }
-        let names = both_names(alloc, self.components(), below.components())?;
-        let len = self.key().len().saturating_add(below.key().len());
-        Ok(RelPath::from_vec(alloc, names, len)?)
+        Ok(self.joined(alloc, below)?)
     }
 }

@@ -94,6 +94,13 @@ impl Name {
         })
     }
 
+    /// A name that takes no memory, for a place that holds none yet.
+    pub(crate) fn blank() -> Name {
+        Name {
+            text: SmallText::of_byte(b'-'),
+        }
+    }
+
     /// Its text, of 1 to 255 bytes. It takes no memory.
     pub fn as_str(&self) -> &str
         ensures value { result.now ≡ self.now }

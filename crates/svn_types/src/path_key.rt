@@ -65,20 +65,28 @@ impl PathKey {
         })
     }
 
-    /// The key with one name more.
-    pub(crate) fn with_last(alloc: Global, above: &str, last: &str) -> Result<PathKey, AllocError>
-        ensures { IfOk result (λ k. k ≡ above.now ++ last.now ++ 1 ∷ []) }
+    /// The key that is these texts, one behind the other.
+    pub(crate) fn joined(
+        alloc: Global,
+        above: &str,
+        below: &str,
+        end: &str,
+    ) -> Result<PathKey, AllocError>
+        ensures { IfOk result (λ k. k ≡ above.now ++ below.now ++ end.now) }
     {
-        let len = above.len().saturating_add(last.len()).saturating_add(1);
+        let len = above
+            .len()
+            .saturating_add(below.len())
+            .saturating_add(end.len());
         if len <= MAX_SHORT {
             return Ok(PathKey {
-                form: KeyForm::Short(ShortKey::with_last(above, last)),
+                form: KeyForm::Short(ShortKey::joined(above, below, end)),
             });
         }
         let mut key = Vec::with_capacity(alloc, len)?;
         key.extend_from_slice(above.as_bytes())?;
-        key.extend_from_slice(last.as_bytes())?;
-        key.push(1)?;
+        key.extend_from_slice(below.as_bytes())?;
+        key.extend_from_slice(end.as_bytes())?;
         Ok(PathKey {
             form: KeyForm::Long(key),
         })

@@ -1,58 +1,18 @@
 //! The names of a path and its key, as the clones of the path share them.
-ghost use Rattle.std.specs.Prelude.{◌≡◌, ◌<◌, ◌∷◌, ◌++◌, [], length, true, IfOk};
-ghost use Rattle.svn_types.specs.Names.{depth_limit};
+ghost use Rattle.std.specs.Prelude.{◌≡◌, ◌∷◌, ◌++◌, [], length, drop, true, IfOk, IfSome};
+ghost use Rattle.svn_types.specs.Forms.{names_in, cut_in};
 ghost use Rattle.svn_types.specs.PathKeys.{path_key, is_plain_path};
 
+use crate::long_path::LongPath;
 use crate::name::Name;
-use crate::path_key::PathKey;
+use crate::path_form::{PathForm, UNCUT, key_len};
+use crate::pieces::Pieces;
 use crate::short_key::ShortKey;
 use crate::short_path::ShortPath;
 use std::alloc::{AllocError, Global};
 use std::marker::Model;
 use std::sync::Arc;
-
-// More names than a short path has, or longer ones.
-#[derive(Drop)]
-struct LongPath {
-    names: Vec<Name>,
-    key: PathKey,
-}
-
-impl Model for LongPath {
-    ghost use Rattle.std.specs.Prelude.{◌≡◌, ℕ, List, true};
-    ghost use Rattle.svn_types.specs.PathKeys.{path_key, is_plain_path};
-
-    ghost Value = { List (List ℕ) };
-
-    ghost view = { λ p. p.names.items };
-
-    ghost invariant = { λ p. (is_plain_path p.names.items ≡ true) × (p.key ≡ path_key p.names.items) };
-}
-
-impl LongPath {
-    fn names(&self) -> &[Name]
-        ensures { result.now ≡ self.now }
-    {
-        &self.names
-    }
-
-    fn key(&self) -> &str
-        ensures key { result.now ≡ path_key self.now }
-        ensures plain { is_plain_path self.now ≡ true }
-    {
-        self.key.as_str()
-    }
-}
-
-// One, two or three names of up to 14 bytes always have a key that fits: such a path is one block of 40, 72 or 104 bytes.
-#[derive(Drop)]
-enum PathForm {
-    Root,
-    One(Arc<ShortPath<1, 15>>),
-    Two(Arc<ShortPath<2, 31>>),
-    Three(Arc<ShortPath<3, 47>>),
-    Long(Arc<LongPath>),
-}
+use std::{slice, str};
 
 /// The names of a path, from the root down, and its key, by which paths are compared, however deep they are. A contract sees them as the list of
 /// the names.
@@ -62,39 +22,32 @@ pub(crate) struct PathParts {
 
 impl Model for PathParts {
     ghost use Rattle.std.specs.Prelude.{ℕ, List};
-    ghost use Rattle.svn_types.specs.Forms.{names_in};
+    ghost use Rattle.svn_types.specs.Forms.{path_in, IsCut};
 
     ghost Value = { List (List ℕ) };
 
-    ghost view = { λ p. names_in p.form };
+    ghost view = { λ p. path_in p.form };
+
+    ghost invariant = { λ p. IsCut p.form };
 }
 
-// These names and one more.
-fn pushed(alloc: Global, names: &[Name], last: &Name) -> Result<Vec<Name>, AllocError>
-    requires { length names.now < depth_limit }
-    ensures { IfOk result (λ v. v.items ≡ names.now ++ last.now ∷ []) }
-{
-    let mut all = Vec::with_capacity(alloc, names.len() + 1)?;
-    all.extend_with_clones(names)?;
-    all.push(last.clone()?)?;
-    Ok(all)
-}
-
-// The names that don't fit into a short path.
-fn long(alloc: Global, names: &[Name]) -> Result<PathParts, AllocError>
-    ensures { IfOk result (λ p. p ≡ names.now) }
-{
-    PathParts::many(alloc, Vec::from_clones(alloc, names)?, 0)
-}
+// The end of each name in a key.
+const END: &str = "\u{1}";
 
 impl PathParts {
+    // The path that a block has from its first name on.
+    fn whole(form: PathForm) -> PathParts
+        requires { cut_in form ≡ UNCUT }
+        ensures { result ≡ names_in form }
+    {
+        PathParts { form }
+    }
+
     /// No name.
     pub(crate) fn root() -> PathParts
         ensures { result ≡ [] }
     {
-        PathParts {
-            form: PathForm::Root,
-        }
+        PathParts::whole(PathForm::Root(UNCUT))
     }
 
     /// This name alone.
@@ -103,11 +56,9 @@ impl PathParts {
     {
         let names = [name];
         let Some(key) = ShortKey::of(&names) else {
-            return long(alloc, &names);
+            return PathParts::some(alloc, &names);
         };
-        Ok(PathParts {
-            form: PathForm::One(Arc::new(alloc, ShortPath { names, key })?),
-        })
+        Ok(PathParts::whole(PathForm::One(UNCUT, Arc::new(alloc, ShortPath { names, key })?)))
     }
 
     /// These two names.
@@ -116,11 +67,9 @@ impl PathParts {
     {
         let names = [first, second];
         let Some(key) = ShortKey::of(&names) else {
-            return long(alloc, &names);
+            return PathParts::some(alloc, &names);
         };
-        Ok(PathParts {
-            form: PathForm::Two(Arc::new(alloc, ShortPath { names, key })?),
-        })
+        Ok(PathParts::whole(PathForm::Two(UNCUT, Arc::new(alloc, ShortPath { names, key })?)))
     }
 
     /// These three names.
@@ -134,24 +83,31 @@ impl PathParts {
     {
         let names = [first, second, third];
         let Some(key) = ShortKey::of(&names) else {
-            return long(alloc, &names);
+            return PathParts::some(alloc, &names);
         };
-        Ok(PathParts {
-            form: PathForm::Three(Arc::new(alloc, ShortPath { names, key })?),
-        })
+        Ok(PathParts::whole(PathForm::Three(UNCUT, Arc::new(alloc, ShortPath { names, key })?)))
     }
 
-    /// These names, which stay in their block. A long key has room in that many bytes.
+    // These names, in one block where they fit.
+    fn some(alloc: Global, names: &[Name]) -> Result<PathParts, AllocError>
+        ensures { IfOk result (λ p. p ≡ names.now) }
+    {
+        let len = key_len(names).unwrap_or(u16::MAX);
+        PathParts::many(alloc, Vec::from_clones(alloc, names)?, usize::from(len))
+    }
+
+    /// These names, whose key has at most so many bytes. They stay where they are if one block hasn't room for them and their key.
     pub(crate) fn many(alloc: Global, names: Vec<Name>, len: usize) -> Result<PathParts, AllocError>
         ensures { IfOk result (λ p. p ≡ names.items) }
     {
-        let key = PathKey::of(alloc, &names, len)?;
-        Ok(PathParts {
-            form: PathForm::Long(Arc::new(alloc, LongPath { names, key })?),
-        })
+        if let Some(form) = PathForm::of_few(alloc, &names, len)? {
+            return Ok(PathParts::whole(form));
+        }
+        let path = LongPath::of_names(alloc, names, len)?;
+        Ok(PathParts::whole(PathForm::Long(UNCUT, Arc::new(alloc, path)?)))
     }
 
-    /// These names. A long key has room in that many bytes.
+    /// These names, whose key has at most so many bytes.
     pub(crate) fn of(alloc: Global, names: &[Name], len: usize) -> Result<PathParts, AllocError>
         ensures { IfOk result (λ p. p ≡ names.now) }
     {
@@ -171,21 +127,8 @@ impl PathParts {
         }
     }
 
-    // These names and one more, which are over three.
-    fn longer(&self, alloc: Global, last: &Name) -> Result<PathParts, AllocError>
-        requires { length self.now < depth_limit }
-        ensures { IfOk result (λ p. p ≡ self.now ++ last.now ∷ []) }
-    {
-        let names = pushed(alloc, self.names(), last)?;
-        let key = PathKey::with_last(alloc, self.key(), last.as_str())?;
-        Ok(PathParts {
-            form: PathForm::Long(Arc::new(alloc, LongPath { names, key })?),
-        })
-    }
-
     /// These names and one more.
     pub(crate) fn with_last(&self, alloc: Global, last: &Name) -> Result<PathParts, AllocError>
-        requires { length self.now < depth_limit }
         ensures { IfOk result (λ p. p ≡ self.now ++ last.now ∷ []) }
     {
         match self.names() {
@@ -199,7 +142,47 @@ impl PathParts {
                 let second = second.clone()?;
                 PathParts::three(alloc, first, second, last.clone()?)
             }
-            _ => self.longer(alloc, last),
+            names => {
+                let pieces = Pieces {
+                    names,
+                    more: slice::from_ref(last),
+                    above: self.key(),
+                    below: last.as_str(),
+                    end: END,
+                };
+                Ok(PathParts::whole(PathForm::of(alloc, &pieces)?))
+            }
+        }
+    }
+
+    /// These names and those of another path behind them.
+    pub(crate) fn joined(&self, alloc: Global, below: &PathParts) -> Result<PathParts, AllocError>
+        ensures { IfOk result (λ p. p ≡ self.now ++ below.now) }
+    {
+        let pieces = Pieces {
+            names: self.names(),
+            more: below.names(),
+            above: self.key(),
+            below: below.key(),
+            end: "",
+        };
+        Ok(PathParts::whole(PathForm::of(alloc, &pieces)?))
+    }
+
+    /// The names from a place on. Where this can be noted, they stay in the same block.
+    pub(crate) fn tail(&self, alloc: Global, count: usize) -> Result<PathParts, AllocError>
+        ensures { IfOk result (λ p. p ≡ drop count self.now) }
+    {
+        let names = self.names();
+        if count >= names.len() {
+            return Ok(PathParts::root());
+        }
+        let (front, rest) = names.split_at(count);
+        match self.form.cut().further(front) {
+            Some(cut) => Ok(PathParts {
+                form: self.form.with_cut(cut)?,
+            }),
+            None => PathParts::of(alloc, rest, self.key().len()),
         }
     }
 
@@ -207,13 +190,8 @@ impl PathParts {
     pub(crate) fn names(&self) -> &[Name]
         ensures { result.now ≡ self.now }
     {
-        match &self.form {
-            PathForm::Root => &[],
-            PathForm::One(path) => path.names(),
-            PathForm::Two(path) => path.names(),
-            PathForm::Three(path) => path.names(),
-            PathForm::Long(path) => path.names(),
-        }
+        let (_, names) = self.form.names().split_at(self.form.cut().names as usize);
+        names
     }
 
     /// Their key.
@@ -221,13 +199,12 @@ impl PathParts {
         ensures key { result.now ≡ path_key self.now }
         ensures plain { is_plain_path self.now ≡ true }
     {
-        match &self.form {
-            PathForm::Root => "",
-            PathForm::One(path) => path.key(),
-            PathForm::Two(path) => path.key(),
-            PathForm::Three(path) => path.key(),
-            PathForm::Long(path) => path.key(),
-        }
+        let (_, bytes) = self
+            .form
+            .key()
+            .as_bytes()
+            .split_at(self.form.cut().bytes as usize);
+        unsafe { str::from_utf8_unchecked(bytes) }
     }
 }
 
@@ -235,14 +212,9 @@ impl Clone for PathParts {
     ghost is_clone = { λ parts copy. copy ≡ parts };
 
     fn clone(&self) -> Result<PathParts, AllocError> {
-        let form = match &self.form {
-            PathForm::Root => PathForm::Root,
-            PathForm::One(path) => PathForm::One(path.clone()?),
-            PathForm::Two(path) => PathForm::Two(path.clone()?),
-            PathForm::Three(path) => PathForm::Three(path.clone()?),
-            PathForm::Long(path) => PathForm::Long(path.clone()?),
-        };
-        Ok(PathParts { form })
+        Ok(PathParts {
+            form: self.form.with_cut(self.form.cut())?,
+        })
     }
 }
 

@@ -1,5 +1,5 @@
 //! Paths, as lists of names.
-ghost use Rattle.std.specs.Prelude.{◌≡◌, ℕ, ◌+◌, ◌<◌, ◌≤◌, ◌∷◌, ◌++◌, [], length, refl, nat_eq, true, IfOk, Some, None, ◌↔◌, IsTrue, List, MatchOption, MatchResult};
+ghost use Rattle.std.specs.Prelude.{◌≡◌, ℕ, ◌+◌, ◌<◌, ◌≤◌, ◌∷◌, ◌++◌, [], length, drop, refl, nat_eq, true, IfOk, Some, None, ◌↔◌, IsTrue, List, MatchOption, MatchResult};
 ghost use Rattle.std.specs.List.{slice_split};
 ghost use Rattle.std.specs.Ordering.{nat_cmp};
 ghost use Rattle.std.specs.Cmp.Lexicographic.{pointwise, slice_cmp, nat_list_eq_equiv, nat_list_cmp_total, texts_ties, lists_per, lists_equiv, lists_total, lists_ties};
@@ -202,7 +202,7 @@ impl RelPath {
         Ok(RelPath::of_parts(parts_of(alloc, text, count)?))
     }
 
-    // The path of these names. A long key has room in that many bytes.
+    // The path of these names, whose key has at most so many bytes.
     pub(crate) fn from_names(
         alloc: Global,
         names: &[Name],
@@ -214,19 +214,20 @@ impl RelPath {
         Ok(RelPath::of_parts(PathParts::of(alloc, names, len)?))
     }
 
-    // The path of these names, which stay in their block. A long key has room in that many bytes.
-    pub(crate) fn from_vec(
-        alloc: Global,
-        names: Vec<Name>,
-        len: usize,
-    ) -> Result<RelPath, AllocError>
-        requires { length names.items ≤ depth_limit }
-        ensures { IfOk result (λ p. p ≡ names.items) }
+    // The path with the names of another one behind its own, which are few enough.
+    pub(crate) fn joined(&self, alloc: Global, below: &RelPath) -> Result<RelPath, AllocError>
+        requires { length self.now + length below.now ≤ depth_limit }
+        ensures { IfOk result (λ p. p ≡ self.now ++ below.now) }
     {
-        if names.len() <= 3 {
-            return RelPath::from_names(alloc, &names, len);
-        }
-        Ok(RelPath::of_parts(PathParts::many(alloc, names, len)?))
+        Ok(RelPath::of_parts(self.parts.joined(alloc, &below.parts)?))
+    }
+
+    /// The path without its first names, of which so many go; the root where it has no more. It shares the memory of this one where it can, so
+    /// that a path and one that ends like it lie in one place. AllocError where a growth is refused.
+    pub fn tail(&self, alloc: Global, count: usize) -> Result<RelPath, AllocError>
+        ensures { IfOk result (λ p. p ≡ drop count self.now) }
+    {
+        Ok(RelPath::of_parts(self.parts.tail(alloc, count)?))
     }
 
     /// The path with one more name: TooManyComponents at a path of 128 names, else Memory alone.

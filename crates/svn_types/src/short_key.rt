@@ -56,16 +56,16 @@ impl<const K: usize> ShortKey<K> {
         }
     }
 
-    /// A key with one name more, which has at most `K` bytes.
-    pub(crate) fn with_last(above: &str, last: &str) -> ShortKey<K>
+    /// The key that is these texts, one behind the other, which have at most `K` bytes.
+    pub(crate) fn joined(above: &str, below: &str, end: &str) -> ShortKey<K>
         requires small { K < 256 }
-        requires fits { length above.now + length last.now + 1 ≤ K }
-        ensures key { result ≡ above.now ++ last.now ++ 1 ∷ [] }
+        requires fits { length above.now + length below.now + length end.now ≤ K }
+        ensures key { result ≡ above.now ++ below.now ++ end.now }
         ensures text { ∥ IsUtf8 result ∥₁ }
     {
         let mut bytes = ShortBytes::of(above.as_bytes());
-        bytes.push_all(last.as_bytes());
-        bytes.push_all(&[1]);
+        bytes.push_all(below.as_bytes());
+        bytes.push_all(end.as_bytes());
         ShortKey { bytes }
     }
 

@@ -1,5 +1,5 @@
 //! Texts of names, which are cheap to clone.
-ghost use Rattle.std.specs.Prelude.{◌≡◌, nat_eq, IfOk};
+ghost use Rattle.std.specs.Prelude.{◌≡◌, ◌<◌, ◌∷◌, [], nat_eq, IfOk};
 ghost use Rattle.std.specs.Arc.{arc_str_bytes};
 ghost use Rattle.std.specs.Ordering.{nat_cmp};
 ghost use Rattle.std.specs.Cmp.Lexicographic.{pointwise, slice_cmp};
@@ -50,6 +50,16 @@ impl SmallText {
         Ok(SmallText {
             form: NameForm::Long(ArcStr::from_str(alloc, text)?),
         })
+    }
+
+    /// The text of one byte, which is ASCII. It takes no memory.
+    pub(crate) fn of_byte(byte: u8) -> SmallText
+        requires { byte < 128 }
+        ensures { result ≡ byte ∷ [] }
+    {
+        SmallText {
+            form: NameForm::Short(ShortBytes::of(&[byte])),
+        }
     }
 
     /// How it stands to another in the order of bytes.

@@ -1,6 +1,6 @@
 -- A tree of the repository is gathered: its node first, and then the entries in order of their names.
-use Rattle.std.proofs.Common.{◌≡◌, ℕ, true, false, cond, List, [], ◌∷◌, ◌++◌, refl, sym, ap, ◌∙◌, Option, Some, None, append_assoc}
-use Rattle.std.proofs.lemmas.List.{append-nil}
+use Rattle.std.proofs.Common.{◌≡◌, ℕ, ◌≤◌, length, arith, true, false, cond, List, [], ◌∷◌, ◌++◌, refl, sym, ap, ◌∙◌, Option, Some, None, append_assoc}
+use Rattle.std.proofs.lemmas.List.{append-nil, length-append, length-drop, drop-append-le}
 use Rattle.std.specs.Option.{is_some, IfNone}
 use Rattle.svn_types.specs.Names.{Path}
 use Rattle.svn_types.specs.Paths.{path_eq}
@@ -15,6 +15,7 @@ use Rattle.std.proofs.lemmas.Map.{update_all_push}
 use Rattle.svn_types.specs.Names.{path_cmp}
 use Rattle.svn_types.proofs.PathLemmas.{apart_paths, path_eq-same, path_eq-longer}
 use Rattle.svn_wc.specs.Gathered.{gathered}
+use Rattle.svn_wc.specs.Tails.{IsTail}
 use Rattle.svn_edit_law.proofs.Lookups.{at_path}
 use Rattle.svn_wc.proofs.Trees.{standing-here, standing-below}
 use Rattle.svn_wc.proofs.Sweeps.{swept_on, among_left, value_of-first}
@@ -107,3 +108,16 @@ gathered-pushed xs ys k n e p =
     ap (λ (l : List (Path × BaseNode)). gathered l p) e
     ∙ sym (update_all_push (eq_by_cmp path_cmp) (λ q. None) (gathered xs) xs (k, n) p refl)
     ∙ ap (λ b. cond b (Some n) (gathered xs p)) (at_path k p)
+
+-- ---- paths that are tails of others
+
+pub tail_child : (front : Option ℕ) (p q : Path) (name : List ℕ) → IsTail front p q → IsTail front (p ++ name ∷ []) (q ++ name ∷ [])
+tail_child None p q name tail = tt
+tail_child (Some k) p q name tail = (
+  omega (arith, tail.0, length-append q (name ∷ [])),
+  (λ i. tail.1 i ++ name ∷ []) ∙ sym (drop-append-le k q (name ∷ []) tail.0),
+)
+
+-- a tail is no longer
+pub tail_length : (k : ℕ) (p q : Path) → IsTail (Some k) p q → length p ≤ length q
+tail_length k p q tail = omega (arith, ap length tail.1, length-drop k q)

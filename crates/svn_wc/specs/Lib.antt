@@ -7,3 +7,4 @@ pub mod Gathered
 pub mod Building
 pub mod Listed
 pub mod Lines
+pub mod Tails

@@ -12,7 +12,7 @@ ghost use Rattle.svn_model.specs.Refusals.{is_missing_revision, is_file_kind, is
 ghost use Rattle.svn_edit_law.specs.Laws.{EndsNamed};
 ghost use Rattle.svn_wc.specs.Building.{Refuses, tree_at};
 
-use crate::gather::{Origin, gather, map_of};
+use crate::gather::{Origin, front_of, gather, map_of};
 use crate::paths::{compare_above, last_name_allowed};
 use crate::replace::replace_within;
 use crate::truth::entry_under;
@@ -56,8 +56,12 @@ pub(crate) fn tree_nodes(
     requires { look from.now.repo.now from.now.rev repos_path.now ≡ Some id }
     ensures { IfOk result (λ m. (p : Path) → get_in m.entries p ≡ tree_at from.now.repo.now at.now repos_path.now from.now.rev p) }
 {
+    let from = Origin {
+        front: front_of(from.alloc, at, repos_path)?,
+        ..*from
+    };
     let mut pairs = Vec::new(from.alloc);
-    gather(from, at, repos_path, id, &mut pairs)?;
+    gather(&from, at, repos_path, id, &mut pairs)?;
     map_of(from.alloc, pairs)
 }
 
@@ -117,7 +121,12 @@ impl WorkingCopy {
         repo.law();
         a_checkout_is_a_true_copy();
         let id = find_root(repo, root, rev)?;
-        let from = Origin { alloc, repo, rev };
+        let from = Origin {
+            alloc,
+            repo,
+            rev,
+            front: None,
+        };
         let nodes = tree_nodes(&from, &RelPath::root(alloc), root, id)?;
         Ok(WorkingCopy { alloc, nodes })
     }
@@ -242,6 +251,7 @@ impl WorkingCopy {
             alloc: self.alloc,
             repo,
             rev,
+            front: None,
         };
         self.put_tree(&from, path, &repos_path, id)?;
         Ok(())
@@ -271,6 +281,7 @@ impl WorkingCopy {
             alloc: self.alloc,
             repo,
             rev,
+            front: None,
         };
         self.put_tree(&from, path, repos_path, id)?;
         Ok(())

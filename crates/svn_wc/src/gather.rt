@@ -1,11 +1,12 @@
 //! Trees of the repository as lists of nodes, in path order.
-ghost use Rattle.std.specs.Prelude.{◌≡◌, ◌++◌, ◌∷◌, [], IfOk, OnOk, Some, None, if◌then◌else◌};
+ghost use Rattle.std.specs.Prelude.{◌≡◌, ◌+◌, ◌<◌, ◌++◌, ◌∷◌, [], length, IfOk, OnOk, Some, None, if◌then◌else◌};
 ghost use Rattle.std.specs.BTreeMap.{IsFromIterResult};
-ghost use Rattle.svn_types.specs.Names.{Path, path_cmp};
+ghost use Rattle.svn_types.specs.Names.{Path, path_cmp, depth_limit};
 ghost use Rattle.svn_types.specs.Paths.{path_eq};
 ghost use Rattle.svn_repo.specs.Readings.{kind_of, text_of, props_of};
 ghost use Rattle.svn_model.specs.Nodes.{base_node};
 ghost use Rattle.svn_wc.specs.Gathered.{gathered};
+ghost use Rattle.svn_wc.specs.Tails.{IsTail};
 ghost use Rattle.svn_wc.specs.Standing.{standing, Puts};
 
 use std::alloc::{AllocError, Global};
@@ -74,29 +75,56 @@ pub(crate) fn map_of(
     pairs.into_iter().collect(alloc)
 }
 
-/// Where a tree comes from.
+/// Where a tree comes from, and how many names the repository paths of its nodes have in front of their paths in the copy, if these are tails of
+/// those: then the two lie in the same memory.
 #[derive(Clone, Copy)]
 pub(crate) struct Origin<'a> {
     pub(crate) alloc: Global,
     pub(crate) repo: &'a Repo,
     pub(crate) rev: Rev,
+    pub(crate) front: Option<usize>,
 }
 
-// The repository path of an entry. Where that of the directory is its path in the copy, the two paths of the entry are one.
-fn repos_path_below(
+/// How many names a repository path has in front of a path in the copy, if that is its tail.
+pub(crate) fn front_of(
+    alloc: Global,
+    at: &RelPath,
+    repos_path: &RelPath,
+) -> Result<Option<usize>, AllocError>
+    ensures { IfOk result (λ f. IsTail f at.now repos_path.now) }
+{
+    let (own, names) = (at.components().len(), repos_path.components().len());
+    if own > names {
+        return Ok(None);
+    }
+    let front = names - own;
+    let tail = repos_path.tail(alloc, front)?;
+    if &tail == at {
+        Ok(Some(front))
+    } else {
+        Ok(None)
+    }
+}
+
+// The two paths of an entry.
+fn paths_below(
     from: &Origin<'_>,
     at: &RelPath,
-    at_below: &RelPath,
     repos_path: &RelPath,
     name: &Name,
-) -> Result<RelPath, AllocError>
-    requires { at_below.now ≡ at.now ++ name.now ∷ [] }
-    ensures path { IfOk result (λ p. p ≡ repos_path.now ++ name.now ∷ []) }
+) -> Result<(RelPath, RelPath), AllocError>
+    requires { IsTail from.now.front at.now repos_path.now }
+    ensures at { IfOk result (λ p. p.0 ≡ at.now ++ name.now ∷ []) }
+    ensures repos_path { IfOk result (λ p. p.1 ≡ repos_path.now ++ name.now ∷ []) }
+    ensures tail { IfOk result (λ p. IsTail from.now.front p.0 p.1) }
+    ensures bounded { OnOk result (length at.now + 1 < depth_limit + 1) }
 {
-    if at == repos_path {
-        return Ok(at_below.clone()?);
-    }
-    child_path(from.alloc, repos_path, name)
+    let below = child_path(from.alloc, repos_path, name)?;
+    let at_below = match from.front {
+        Some(front) => below.tail(from.alloc, front)?,
+        None => child_path(from.alloc, at, name)?,
+    };
+    Ok((at_below, below))
 }
 
 // Adds a node of the repository at a path of the copy.
@@ -123,6 +151,7 @@ pub(crate) fn gather(
     pairs: &mut Vec<(RelPath, BaseNode)>,
 ) -> Result<(), AllocError>
     requires free { (r : Path) → gathered pairs.old.items (at.now ++ r) ≡ None }
+    requires tail { IsTail from.now.front at.now repos_path.now }
     ensures { OnOk result (Puts (standing from.now.repo.now from.now.rev repos_path.now id) at.now (gathered pairs.old.items) (gathered pairs.new.items)) }
 {
     push_node(from, at, repos_path, id, pairs)?;
@@ -130,8 +159,7 @@ pub(crate) fn gather(
         return Ok(());
     };
     for (name, child) in entries.iter() {
-        let at_below = child_path(from.alloc, at, name)?;
-        let below = repos_path_below(from, at, &at_below, repos_path, name)?;
+        let (at_below, below) = paths_below(from, at, repos_path, name)?;
         gather(from, &at_below, &below, *child, pairs)?;
     }
     Ok(())

@@ -27,23 +27,26 @@ loop-name-init t c =
 
 pub gather-requires : goal.gather-requires
 gather-requires t c =
-    let below : c.in_ok-at_below.at_below ≡ c.args.at.now ++ c.in-Some-2.name.now ∷ [] = c.in_ok-at_below.ensures.path in
+    let below : c.in_ok-at_below.at_below ≡ c.args.at.now ++ c.in-Some-2.name.now ∷ [] = c.in_ok-at_below.ensures.at in
     let longer : length c.in_ok-at_below.at_below ≡ length c.args.at.now + 1 =
     ap length below ∙ length-append c.args.at.now (c.in-Some-2.name.now ∷ []) in
     let step : c.loop-name.name-iterator ≡ (c.in-Some-2.name.now, c.in-Some-2.child.now) ∷ c.next.new.self = c.in-Some-2.ensures.steps in
     let inv = rw step at c.loop-name.invariant in (
       omega (arith, longer, c.in_ok-at_below.ensures.bounded),
-      λ r. ap (λ (p : Path). gathered c.loop-name.pairs.items (p ++ r)) below
-          ∙ fill_free c.args.from.now.repo.now c.args.from.now.rev c.args.at.now c.args.repos_path.now c.args.id
-          (gathered c.args.pairs.now.items) (gathered c.push_node.new.pairs.items)
-          c.in_ok-push_node.ensures (c.in-Some-2.name.now, c.in-Some-2.child.now) c.next.new.self (gathered c.loop-name.pairs.items)
-          (gathered c.loop-name.pairs.items) inv.0 r,
+      (
+        λ r. ap (λ (p : Path). gathered c.loop-name.pairs.items (p ++ r)) below
+            ∙ fill_free c.args.from.now.repo.now c.args.from.now.rev c.args.at.now c.args.repos_path.now c.args.id
+            (gathered c.args.pairs.now.items) (gathered c.push_node.new.pairs.items)
+            c.in_ok-push_node.ensures (c.in-Some-2.name.now, c.in-Some-2.child.now) c.next.new.self (gathered c.loop-name.pairs.items)
+            (gathered c.loop-name.pairs.items) inv.0 r,
+        c.in_ok-at_below.ensures.tail,
+      ),
     )
 
 pub loop-name-preserved : goal.loop-name-preserved
 loop-name-preserved t c =
-    let at : c.in_ok-at_below.at_below ≡ c.args.at.now ++ c.in-Some-2.name.now ∷ [] = c.in_ok-at_below.ensures.path in
-    let below : c.in_ok-below.below ≡ c.args.repos_path.now ++ c.in-Some-2.name.now ∷ [] = c.in_ok-below.ensures.path in
+    let at : c.in_ok-at_below.at_below ≡ c.args.at.now ++ c.in-Some-2.name.now ∷ [] = c.in_ok-at_below.ensures.at in
+    let below : c.in_ok-at_below.below ≡ c.args.repos_path.now ++ c.in-Some-2.name.now ∷ [] = c.in_ok-at_below.ensures.repos_path in
     let step : c.loop-name.name-iterator ≡ (c.in-Some-2.name.now, c.in-Some-2.child.now) ∷ c.next.new.self = c.in-Some-2.ensures.steps in
     let inv = rw step at c.loop-name.invariant in
     fill_next c.args.from.now.repo.now c.args.from.now.rev c.args.at.now c.args.repos_path.now c.args.id (gathered c.args.pairs.now.items)
