@@ -1,5 +1,5 @@
 //! An edit of a copy, call by call.
-ghost use Rattle.std.specs.Prelude.{◌≡◌, ◌≢◌, ◌+◌, is_ok, [], ◌∷◌, ◌++◌, List, IfOk, IfErr, OnOk, OnErr, Ok, Some, None, true, false, if◌then◌else◌};
+ghost use Rattle.std.specs.Prelude.{◌≡◌, ◌≢◌, ◌+◌, ◌↔◌, IsTrue, is_ok, [], ◌∷◌, ◌++◌, List, IfOk, IfErr, OnOk, OnErr, Ok, Some, None, true, false, if◌then◌else◌};
 ghost use Rattle.md5.specs.Md5.{md5};
 ghost use Rattle.svn_types.specs.Names.{Path};
 ghost use Rattle.svn_editor.specs.Calls.{is_last, is_abort};
@@ -107,6 +107,13 @@ impl Edit {
             given: None,
             alloc,
         })
+    }
+
+    /// Whether it is an edit of an update, and not of a switch of the whole copy. It takes no memory.
+    pub fn is_update(&self) -> bool
+        ensures { IsTrue result ↔ (mode_of self.now.root ≡ Update) }
+    {
+        self.root.is_none()
     }
 
     /// Takes the next call, and changes the copy as it says. The order check's faults come first, then those of the copy: DeleteEntry

@@ -36,3 +36,9 @@ pub mod Comparing
 pub mod Printing
 -- The line of a property, from its beginning and the name, which has no byte that is escaped.
 pub mod PropLines
+-- Copies of which no path is switched stay so.
+pub mod Unswitched
+-- A call of an applier keeps what is known of a copy of which no path is switched.
+pub mod UnswitchedCalls
+-- What a copy reports if no path is switched and all nodes are of one revision: the root alone.
+pub mod LevelCrawl

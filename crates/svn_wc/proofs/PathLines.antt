@@ -128,7 +128,7 @@ filter_map-push {X} {Y} f (y ∷ xs) x = by (f y) (filter_map-push f xs x)
     by None h = h
     by (Some v) h = ap (λ l. v ∷ l) h
 
-append_one : {X : Type 0} (xs : List X) (y : X) (ys : List X) → xs ++ y ∷ ys ≡ (xs ++ y ∷ []) ++ ys
+pub append_one : {X : Type 0} (xs : List X) (y : X) (ys : List X) → xs ++ y ∷ ys ≡ (xs ++ y ∷ []) ++ ys
 append_one [] y ys = refl
 append_one (x ∷ xs) y ys = ap (λ l. x ∷ l) (append_one xs y ys)
 
@@ -138,6 +138,18 @@ crawled_last nodes line r c =
     let all : c.done ≡ nodes = sym (append-nil c.done) ∙ sym c.parts in
     let es : r.entries ≡ filter_map (reported_at nodes) nodes = c.entries ∙ ap (filter_map (reported_at nodes)) all in
     λ i. record { root = c.root i; entries = es i }
+
+-- what stands at a path of the list is the node there
+pub next_stands : (nodes done : List (Path × BaseNode)) (e : Path × BaseNode) (left : List (Path × BaseNode)) → nodes ≡ done ++ e ∷ left
+    → InPathOrder nodes → get_in nodes e.0 ≡ Some e.1
+next_stands nodes done e left parts order =
+    ap (λ l. get_in l e.0) parts ∙ get_in-append done (e ∷ left) e.0 ∙ by (get_in done e.0) refl
+  where
+    by : (o : Option BaseNode) → get_in done e.0 ≡ o → option_or o (get_in (e ∷ left) e.0) ≡ Some e.1
+    by None h = at_first e left
+    by (Some x) h =
+        absurd (not_before_itself e.0
+        (before_behind done (e ∷ left) (subst InPathOrder parts order) e.0 e.0 (ap is_some h) (ap is_some (at_first e left))))
 
 module _ (nodes : List (Path × BaseNode)) (order : InPathOrder nodes) (line : List (BaseNode × Bool)) (r : ReportView) (e : Path × BaseNode)
     (left : List (Path × BaseNode))
@@ -154,12 +166,7 @@ module _ (nodes : List (Path × BaseNode)) (order : InPathOrder nodes) (line : L
 
   -- what stands at the next path is the next node
   stands : get_in nodes e.0 ≡ Some e.1
-  stands = in_parts e.0 ∙ by (get_in c.done e.0) refl
-    where
-      by : (o : Option BaseNode) → get_in c.done e.0 ≡ o → option_or o (get_in (e ∷ left) e.0) ≡ Some e.1
-      by None h = at_first e left
-      by (Some x) h =
-          absurd (not_before_itself e.0 (before_behind c.done (e ∷ left) whole e.0 e.0 (ap is_some h) (ap is_some (at_first e left))))
+  stands = next_stands nodes c.done e left c.parts order
 
   stands_above : above_at nodes e.0 ≡ Some (e.1, has_own_path e.0 e.1)
   stands_above = ap (option_map (λ n. (n, has_own_path e.0 n))) stands

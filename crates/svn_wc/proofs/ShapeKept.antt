@@ -88,7 +88,7 @@ taken answer old new m m' c named answers accepted refused dead was_refused ende
 not_going : (edit : Edit) (stage : Stage) → edit.stage ≡ stage → stage ≢ Going → (nodes : List (Path × BaseNode)) → IsInShape edit nodes
 not_going edit stage is other nodes going = absurd (other (sym is ∙ going))
 
-ended_otherwise : Ended ≢ Going
+pub ended_otherwise : Ended ≢ Going
 ended_otherwise e = cc
 
 refused_otherwise : Refused ≢ Going

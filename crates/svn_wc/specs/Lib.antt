@@ -7,4 +7,5 @@ pub mod Gathered
 pub mod Building
 pub mod Listed
 pub mod Lines
+pub mod Unswitched
 pub mod Tails

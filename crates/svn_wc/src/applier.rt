@@ -1,5 +1,5 @@
 //! The editor that applies an edit to a working copy.
-ghost use Rattle.std.specs.Prelude.{◌≡◌, ◌≢◌, ◌+◌, true, [], ◌∷◌, ◌++◌, List, IfOk, IfErr, OnOk, OnErr, None, Some};
+ghost use Rattle.std.specs.Prelude.{◌≡◌, ◌≢◌, ◌+◌, true, [], ◌∷◌, ◌++◌, List, IfOk, IfErr, OnOk, OnErr, None, Some, Ok, false};
 ghost use Rattle.md5.specs.Md5.{md5};
 ghost use Rattle.svn_editor.specs.declared.call.Call.{Call};
 ghost use Rattle.svn_editor.specs.declared.fault.EditFault.TheVariants.{Memory};
@@ -99,8 +99,13 @@ impl<'a> Applier<'a> {
         ensures same_copy { self.new.copy.ghost_name ≡ self.old.copy.ghost_name }
     {
         opens_allowed(&call);
+        let is_update = self.edit.is_update();
         let copy = &mut *self.copy;
-        self.edit.call(&mut copy.nodes, &call)
+        let was_unswitched = copy.is_unswitched;
+        copy.is_unswitched = false;
+        let answer = self.edit.call(&mut copy.nodes, &call);
+        copy.is_unswitched = knows_unswitched(is_update, was_unswitched, &call, &answer);
+        answer
     }
 
     /// How many pools are live: one, and one for each file or directory that is open; after the last call one. It takes no memory.
@@ -127,6 +132,26 @@ impl<'a> Editor for Applier<'a> {
     #[inline(always)]
     fn call(&mut self, call: Call) -> Result<(), EditFault> {
         self.take(call)
+    }
+}
+
+// Whether it is known after a call that no path of the copy is switched: an update leaves that as it was, and the last call of a switch brings
+// each path under the new root.
+fn knows_unswitched(
+    is_update: bool,
+    was_unswitched: bool,
+    call: &Call,
+    answer: &Result<(), EditFault>,
+) -> bool
+    ensures update { is_update ≡ true → result ≡ was_unswitched }
+    ensures switch { is_update ≡ false → result ≡ true → (call.now ≡ Call.CloseEdit) × (answer.now ≡ Ok tt) }
+{
+    if is_update {
+        return was_unswitched;
+    }
+    match (call, answer) {
+        (Call::CloseEdit, Ok(())) => true,
+        _ => false,
     }
 }
 

@@ -128,7 +128,11 @@ impl WorkingCopy {
             front: None,
         };
         let nodes = tree_nodes(&from, &RelPath::root(alloc), root, id)?;
-        Ok(WorkingCopy { alloc, nodes })
+        Ok(WorkingCopy {
+            alloc,
+            nodes,
+            is_unswitched: true,
+        })
     }
 
     // What stands at the path above, looked for from a path back: what lies between them stands below it.
@@ -228,6 +232,7 @@ impl WorkingCopy {
         ensures unchanged { OnErr result (self.new ≡ self.old) }
     {
         let part = tree_nodes(from, path, repos_path, id)?;
+        self.is_unswitched = false;
         replace_within(self.alloc, &mut self.nodes, path, part)
     }
 

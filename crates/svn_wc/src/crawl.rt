@@ -1,15 +1,18 @@
 //! What a copy reports.
-ghost use Rattle.std.specs.Prelude.{◌≡◌, ◌++◌, [], not, Some, IsOk, IfOk, IfErr, OnOk, true, false};
+ghost use Rattle.std.specs.Prelude.{◌≡◌, ◌++◌, [], not, Some, IsOk, IfOk, IfErr, IfSome, OnOk, true, false};
+ghost use Rattle.std.specs.List.{list_all};
 ghost use Rattle.std.specs.Option.{option_copied, option_map};
 ghost use Rattle.svn_types.specs.Paths.{path_eq, last_name, is_root};
 ghost use Rattle.svn_model.specs.Nodes.{get_in, is_dir, is_present, is_incomplete, node_revision, node_path};
 ghost use Rattle.svn_model.specs.Crawl.{entry_for, crawl};
 ghost use Rattle.svn_wc.specs.Aboves.{IsBelow};
 ghost use Rattle.svn_wc.specs.Crawling.{with_reported};
+ghost use Rattle.svn_wc.specs.Unswitched.{is_level};
 
 use crate::above::Above;
 use crate::working_copy::WorkingCopy;
 use std::alloc::{AllocError, Global};
+use svn_edit::Nodes;
 use svn_model::{BaseNode, WcFault};
 use svn_report::{Report, Reporter, ReporterFault};
 use svn_types::{RelPath, Rev};
@@ -114,7 +117,55 @@ fn report_node(
     }
 }
 
+// Whether a node is present and complete, and has that revision.
+fn is_level(node: &BaseNode, rev: Rev) -> bool
+    ensures { result ≡ is_level rev node.now }
+{
+    match node {
+        BaseNode::File { rev: at, .. } => *at == rev,
+        BaseNode::Dir {
+            rev: at,
+            complete,
+            ..
+        } => *complete && *at == rev,
+        BaseNode::NotPresent => false,
+    }
+}
+
+// Whether all nodes are so.
+fn are_level(nodes: &Nodes, rev: Rev) -> bool
+    ensures { result ≡ list_all (λ e. is_level rev e.1) nodes.now.entries }
+{
+    for (_, node) in nodes {
+        if !is_level(node, rev) {
+            return false;
+        }
+    }
+    true
+}
+
 impl WorkingCopy {
+    // What the copy reports if no path is switched, and all nodes are present, complete and of one revision: the root alone.
+    fn crawl_level(&self, alloc: Global) -> Result<Option<Report>, WcFault>
+        ensures report { IfOk result (λ o. IfSome o (λ r. r ≡ crawl self.now)) }
+        ensures fault { IfErr result (λ e. e ≡ WcFault.Memory) }
+    {
+        self.law();
+        if !self.is_unswitched {
+            return Ok(None);
+        }
+        let root = RelPath::root(alloc);
+        let Some(node) = self.nodes.get(&root) else {
+            return Ok(None);
+        };
+        if !are_level(&self.nodes, revision(node)) {
+            return Ok(None);
+        }
+        let mut reporter = Reporter::new_at(alloc, self.root_path(alloc)?);
+        report_node(&mut reporter, &root, None, node)?;
+        Ok(Some(reporter.finish_report()))
+    }
+
     // The repository path of the root.
     fn root_path(&self, alloc: Global) -> Result<RelPath, AllocError>
         ensures { IfOk result (λ p. p ≡ node_path (get_in self.now [])) }
@@ -136,6 +187,9 @@ impl WorkingCopy {
         ensures fault { IfErr result (λ e. e ≡ WcFault.Memory) }
     {
         self.law();
+        if let Some(report) = self.crawl_level(alloc)? {
+            return Ok(report);
+        }
         let mut reporter = Reporter::new_at(alloc, self.root_path(alloc)?);
         // the directories at the root, and at each path down to the last one
         let mut line = Vec::new(alloc);

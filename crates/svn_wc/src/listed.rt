@@ -163,6 +163,10 @@ impl WorkingCopy {
             return Err(fault);
         }
         let map = map_of(alloc, nodes)?;
-        Ok(WorkingCopy { alloc, nodes: map })
+        Ok(WorkingCopy {
+            alloc,
+            nodes: map,
+            is_unswitched: false,
+        })
     }
 }

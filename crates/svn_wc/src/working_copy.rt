@@ -8,6 +8,7 @@ ghost use Rattle.svn_model.specs.Builders.{checkout};
 
 use std::alloc::Global;
 use std::collections::BTreeMap;
+use std::fmt;
 use std::marker::Model;
 use svn_model::{BaseNode, WcFault};
 use svn_repo::Repo;
@@ -16,10 +17,12 @@ use svn_types::{RelPath, Rev};
 /// What a client has of a repository: a node for each path that it knows, the root's being a directory, and each other's below one. A path has at
 /// most 64 names more than its node's repository path, and that at most 64. Nodes may be of several revisions, and switched. A contract sees a
 /// copy as the pairs of a path and its node, in path order.
-#[derive(Debug, Drop)]
+#[derive(Drop)]
 pub struct WorkingCopy {
     pub(crate) alloc: Global,
     pub(crate) nodes: BTreeMap<RelPath, BaseNode>,
+    // Whether it is known that no path is switched: then no two paths are compared where all nodes are of one revision.
+    pub(crate) is_unswitched: bool,
 }
 
 impl Model for WorkingCopy {
@@ -31,9 +34,20 @@ impl Model for WorkingCopy {
 
     ghost view = { λ w. w.nodes.entries };
 
+    ghost use Rattle.std.specs.Prelude.{◌≡◌, true};
     ghost use Rattle.svn_model.specs.Nodes.{get_in, IsWorkingCopy};
+    ghost use Rattle.svn_wc.specs.Unswitched.{IsUnswitched};
 
-    ghost invariant = { λ w. IsWorkingCopy (get_in w.nodes.entries) };
+    ghost invariant = { λ w. IsWorkingCopy (get_in w.nodes.entries) × (w.is_unswitched ≡ true → IsUnswitched (get_in w.nodes.entries)) };
+}
+
+impl fmt::Debug for WorkingCopy {
+    fn fmt<W: fmt::Write>(&self, f: &mut fmt::Formatter<W>) -> fmt::Result {
+        f.debug_struct("WorkingCopy")
+            .field("alloc", &self.alloc)
+            .field("nodes", &self.nodes)
+            .finish()
+    }
 }
 
 impl WorkingCopy {

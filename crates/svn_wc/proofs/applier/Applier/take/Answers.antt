@@ -11,65 +11,74 @@ use Rattle.svn_edit.proofs.Holding.{map_ok, map_err}
 use Rattle.svn_edit.proofs.ShapedCalls.{shaped_call}
 use Rattle.std.proofs.Math.Logic.{∥∥₁_elim, ∥∥₁_map}
 use Rattle.svn_wc.specs.Taking.{IsInShape}
+use Rattle.svn_model.specs.Nodes.{IsWorkingCopy, get_in}
 use Rattle.svn_wc.proofs.ShapeKept.{IsWorkingCopy-prop, taken, kept}
+use Rattle.svn_wc.proofs.UnswitchedCalls.{IsUnswitched-prop, still_unswitched}
 use Rattle.svn_wc.proofs.applier.Applier.take.Goals as goal
 
 pub returns-clause-answers : goal.returns-clause-answers
 returns-clause-answers c = λ mode w0 calls s.
-    subst (λ (n : List (Path × BaseNode)). AnswersCall (refusal md5 mode calls c.args.call n) c.call.result) c.copy.view_is
-    (c.call.ensures.answers mode w0 calls (subst (λ (n : List (Path × BaseNode)). StandsAfter mode w0 c.args.self.now.edit n calls)
+    subst (λ (n : List (Path × BaseNode)). AnswersCall (refusal md5 mode calls c.args.call n) c.call-answer.result) c.copy.view_is
+    (c.call-answer.ensures.answers mode w0 calls (subst (λ (n : List (Path × BaseNode)). StandsAfter mode w0 c.args.self.now.edit n calls)
     (sym c.copy.view_is) s))
 
 pub returns-clause-accepted : goal.returns-clause-accepted
-returns-clause-accepted c = map_ok c.call.result c.call.ensures.accepted (λ f mode w0 calls s.
+returns-clause-accepted c = map_ok c.call-answer.result c.call-answer.ensures.accepted (λ f mode w0 calls s.
     f mode w0 calls (subst (λ (n : List (Path × BaseNode)). StandsAfter mode w0 c.args.self.now.edit n calls) (sym c.copy.view_is) s))
 
 pub returns-clause-refused : goal.returns-clause-refused
-returns-clause-refused c = map_err c.call.result c.call.ensures.refused (λ f mode w0 calls s.
+returns-clause-refused c = map_err c.call-answer.result c.call-answer.ensures.refused (λ f mode w0 calls s.
     f mode w0 calls (subst (λ (n : List (Path × BaseNode)). StandsAfter mode w0 c.args.self.now.edit n calls) (sym c.copy.view_is) s)
     ∙ c.copy.view_is)
 
 pub returns-clause-shape : goal.returns-clause-shape
 returns-clause-shape c =
-    shaped_call c.call.result c.args.self.now.edit _ _ _ c.args.call c.opens_allowed.ensures (returns-clause-accepted c)
+    shaped_call c.call-answer.result c.args.self.now.edit _ _ _ c.args.call c.opens_allowed.ensures (returns-clause-accepted c)
     (returns-clause-answers c)
 
 pub returns-clause-was_refused : goal.returns-clause-was_refused
-returns-clause-was_refused c = λ h. let r = c.call.ensures.was_refused h in (
+returns-clause-was_refused c = λ h. let r = c.call-answer.ensures.was_refused h in (
   r.0,
   ap (λ (m : BTreeMap Path BaseNode). m.entries) r.1
       ∙ c.copy.view_is,
 )
 
 pub returns-clause-ended : goal.returns-clause-ended
-returns-clause-ended c = λ h. let r = c.call.ensures.ended h in (r.0, ap (λ (m : BTreeMap Path BaseNode). m.entries) r.1 ∙ c.copy.view_is)
+returns-clause-ended c = λ h. let r = c.call-answer.ensures.ended h in (r.0, ap (λ (m : BTreeMap Path BaseNode). m.entries) r.1 ∙ c.copy.view_is)
 
 pub returns-clause-pools : goal.returns-clause-pools
 returns-clause-pools c =
-    subst (λ (n : List (Path × BaseNode)). PoolsAfter c.args.self.now.edit n c.args.call c.call.result c.call.new.self) c.copy.view_is
-    c.call.ensures.pools
+    subst (λ (n : List (Path × BaseNode)). PoolsAfter c.args.self.now.edit n c.args.call c.call-answer.result c.call-answer.new.self) c.copy.view_is
+    c.call-answer.ensures.pools
 
 pub invariant_of-copy : goal.invariant_of-copy
 invariant_of-copy c =
     let before =
     subst (λ (n : List (Path × BaseNode)). ∥ IsInShape c.args.self.now.edit n ∥₁) (sym c.copy.view_is) c.args.self.now.in_shape in
-    ∥∥₁_elim before (IsWorkingCopy-prop _) (λ shape.
-    (kept c.args.self.now.edit c.call.new.self _ _ c.args.call c.opens_allowed.ensures c.call.result
-    (taken c.call.result c.args.self.now.edit c.call.new.self c.copy.inside.nodes c.call.new.copy c.args.call c.opens_allowed.ensures
-    c.call.ensures.answers
-    c.call.ensures.accepted c.call.ensures.refused c.call.ensures.dead c.call.ensures.was_refused c.call.ensures.ended
-    c.call.ensures.pools c.call.ensures.last c.call.ensures.abort)
-    shape c.copy.invariant).1)
+    let new = c.call-answer.new.copy in
+    let takes = taken c.call-answer.result c.args.self.now.edit c.call-answer.new.self c.copy.inside.nodes new c.args.call
+    c.opens_allowed.ensures c.call-answer.ensures.answers c.call-answer.ensures.accepted c.call-answer.ensures.refused
+    c.call-answer.ensures.dead c.call-answer.ensures.was_refused c.call-answer.ensures.ended c.call-answer.ensures.pools
+    c.call-answer.ensures.last c.call-answer.ensures.abort in
+    let shape : IsWorkingCopy (get_in new.entries) = ∥∥₁_elim before (IsWorkingCopy-prop _) (λ shape.
+    (kept c.args.self.now.edit c.call-answer.new.self _ _ c.args.call c.opens_allowed.ensures c.call-answer.result takes shape
+    c.copy.invariant.0).1) in (
+      shape,
+      λ known. ∥∥₁_elim before (IsUnswitched-prop (get_in new.entries)) (λ in_shape.
+          still_unswitched c.args.self.now.edit c.call-answer.new.self _ _ c.args.call c.call-answer.result takes in_shape shape
+          c.is_update-is_update.result c.is_update-is_update.ensures _ _ c.knows_unswitched-copy-inside.ensures.update
+          c.knows_unswitched-copy-inside.ensures.switch known c.copy.invariant.1),
+    )
 
 pub invariant_of-self : goal.invariant_of-self
 invariant_of-self c =
     let before =
     subst (λ (n : List (Path × BaseNode)). ∥ IsInShape c.args.self.now.edit n ∥₁) (sym c.copy.view_is) c.args.self.now.in_shape in
     let after = ∥∥₁_map before (λ shape.
-    (kept c.args.self.now.edit c.call.new.self _ _ c.args.call c.opens_allowed.ensures c.call.result
-    (taken c.call.result c.args.self.now.edit c.call.new.self c.copy.inside.nodes c.call.new.copy c.args.call c.opens_allowed.ensures
-    c.call.ensures.answers
-    c.call.ensures.accepted c.call.ensures.refused c.call.ensures.dead c.call.ensures.was_refused c.call.ensures.ended
-    c.call.ensures.pools c.call.ensures.last c.call.ensures.abort)
-    shape c.copy.invariant).0) in
+    (kept c.args.self.now.edit c.call-answer.new.self _ _ c.args.call c.opens_allowed.ensures c.call-answer.result
+    (taken c.call-answer.result c.args.self.now.edit c.call-answer.new.self c.copy.inside.nodes c.call-answer.new.copy c.args.call c.opens_allowed.ensures
+    c.call-answer.ensures.answers
+    c.call-answer.ensures.accepted c.call-answer.ensures.refused c.call-answer.ensures.dead c.call-answer.ensures.was_refused c.call-answer.ensures.ended
+    c.call-answer.ensures.pools c.call-answer.ensures.last c.call-answer.ensures.abort)
+    shape c.copy.invariant.0).0) in
     record { in_shape = after }

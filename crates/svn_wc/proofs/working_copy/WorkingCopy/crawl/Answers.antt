@@ -9,7 +9,7 @@ use Rattle.svn_wc.proofs.working_copy.WorkingCopy.crawl.Goals as goal
 pub loop-path-preserved : goal.loop-path-preserved
 loop-path-preserved c =
     (crawled_on c.args.self.now c.law.ensures.order c.law.ensures.shape c.loop-path.line.items c.loop-path.reporter
-    (c.in-Some.path.now, c.in-Some.node.now) c.loop-path.path-iterator c.next.new.self c.in-Some.ensures.steps c.loop-path.invariant
+    (c.in-Some-2.path.now, c.in-Some-2.node.now) c.loop-path.path-iterator c.next.new.self c.in-Some-2.ensures.steps c.loop-path.invariant
     c.truncate.new.self.items
     (c.truncate.ensures.items ∙ ap (λ (q : Path). take (length q) c.loop-path.line.items) c.components.ensures.names)
     (option_copied c.last.result)
@@ -23,7 +23,7 @@ loop-path-preserved-in-Ok-1 c =
     let pushed = c.in-Ok.ensures.items ∙ ap (λ (a : BaseNode × Bool). kept ++ a ∷ []) c.of.ensures in
     subst (λ (l : List (BaseNode × Bool)). IsCrawled c.args.self.now l c.report_node.new.reporter c.next.new.self) (sym pushed)
     (crawled_on c.args.self.now c.law.ensures.order c.law.ensures.shape c.loop-path.line.items c.loop-path.reporter
-    (c.in-Some.path.now, c.in-Some.node.now) c.loop-path.path-iterator c.next.new.self c.in-Some.ensures.steps c.loop-path.invariant
+    (c.in-Some-2.path.now, c.in-Some-2.node.now) c.loop-path.path-iterator c.next.new.self c.in-Some-2.ensures.steps c.loop-path.invariant
     kept
     (c.truncate.ensures.items ∙ ap (λ (q : Path). take (length q) c.loop-path.line.items) c.components.ensures.names)
     (option_copied c.last.result)

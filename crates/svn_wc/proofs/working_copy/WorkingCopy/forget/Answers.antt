@@ -6,6 +6,8 @@ use Rattle.svn_repo.specs.History.{new_history}
 use Rattle.svn_model.specs.declared.base_node.BaseNode.{BaseNode}
 use Rattle.svn_model.specs.declared.base_node.BaseNode.TheVariants.{NotPresent}
 use Rattle.svn_model.specs.Nodes.{WorkingCopy, get_in, is_present, IsWorkingCopy, IsTrueOf}
+use Rattle.svn_wc.specs.Unswitched.{IsUnswitched}
+use Rattle.svn_wc.proofs.Unswitched.{forgotten_unswitched}
 use Rattle.svn_wc.proofs.Forgetting.{absent_forgotten, not_root, may_forget}
 use Rattle.svn_wc.proofs.working_copy.WorkingCopy.forget.Goals as goal
 
@@ -28,10 +30,15 @@ invariant_of-self c =
     sym (ap (λ (l : List (Path × BaseNode)). is_present (get_in l at)) c.self.view_is) ∙ sym (ap is_present c.get.ensures.value)
     ∙ sym c.is_present.ensures ∙ c.if-not-is_present.false in
     let root : is_root at ≡ false = not_root at c.is_root.result c.is_root.ensures.1 c.if-is_root.false in
-    subst IsWorkingCopy (λ i p. sym (returns-clause-nodes c p) i)
+    let shape =
     (c.forgetting_keeps_a_copy.ensures new_history (get_in c.args.self.now) at
-    (subst (λ (l : List (Path × BaseNode)). IsWorkingCopy (get_in l)) c.self.view_is c.self.invariant)
-    (may_forget (get_in c.args.self.now) at root present)).shape
+    (subst (λ (l : List (Path × BaseNode)). IsWorkingCopy (get_in l)) c.self.view_is c.self.invariant.0)
+    (may_forget (get_in c.args.self.now) at root present)).shape in (
+      subst IsWorkingCopy (λ i p. sym (returns-clause-nodes c p) i) shape,
+      λ known. subst IsUnswitched (λ i p. sym (returns-clause-nodes c p) i)
+          (forgotten_unswitched (get_in c.args.self.now) at
+          (subst (λ (l : List (Path × BaseNode)). IsUnswitched (get_in l)) c.self.view_is (c.self.invariant.1 known)) shape),
+    )
 
 pub returns-clause-truth : goal.returns-clause-truth
 returns-clause-truth c = λ h t.
@@ -42,6 +49,6 @@ returns-clause-truth c = λ h t.
     let root : is_root at ≡ false = not_root at c.is_root.result c.is_root.ensures.1 c.if-is_root.false in
     subst (λ (w : WorkingCopy). IsTrueOf h w) (λ i p. sym (returns-clause-nodes c p) i)
     ((c.forgetting_keeps_a_copy.ensures h (get_in c.args.self.now) at
-    (subst (λ (l : List (Path × BaseNode)). IsWorkingCopy (get_in l)) c.self.view_is c.self.invariant)
+    (subst (λ (l : List (Path × BaseNode)). IsWorkingCopy (get_in l)) c.self.view_is c.self.invariant.0)
     (may_forget (get_in c.args.self.now) at root present)).true_of
     t)

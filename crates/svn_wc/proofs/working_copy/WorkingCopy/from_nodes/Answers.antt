@@ -1,4 +1,4 @@
-use Rattle.std.proofs.Common.{◌≡◌, None, sym, subst, ◌∙◌, rules}
+use Rattle.std.proofs.Common.{◌≡◌, None, sym, subst, ◌∙◌, rules, true≢false}
 use Rattle.svn_model.specs.declared.wc_fault.WcFault.TheVariants.{Twice}
 use Rattle.svn_model.specs.Nodes.{IsWorkingCopy}
 use Rattle.svn_model.specs.Refusals.{has_twice, nodes_fault}
@@ -17,6 +17,8 @@ returns-clause-nodes c = λ p.
 pub invariant_of-result : goal.invariant_of-result
 invariant_of-result c =
     let none : nodes_fault c.sorted-nodes.result.items ≡ None = search rules in
-    let named : AllEndNamed c.args.nodes.items = search rules in
-    subst IsWorkingCopy (λ i p. sym (returns-clause-nodes c p) i)
-    (c.nodes_make_a_copy.ensures c.args.nodes.items named (sym c.sorted-nodes.ensures.fault ∙ none))
+    let named : AllEndNamed c.args.nodes.items = search rules in (
+      subst IsWorkingCopy (λ i p. sym (returns-clause-nodes c p) i)
+          (c.nodes_make_a_copy.ensures c.args.nodes.items named (sym c.sorted-nodes.ensures.fault ∙ none)),
+      λ known. absurd (true≢false (sym known)),
+    )

@@ -7,5 +7,5 @@ use Rattle.svn_wc.proofs.working_copy.WorkingCopy.law.Goals as goal
 pub returns : goal.returns
 returns c = record {
   order = subst InPathOrder c.self.view_is c.iter-nodes.ensures.ordered;
-  shape = subst (λ (nodes : List (Path × BaseNode)). IsWorkingCopy (get_in nodes)) c.self.view_is c.self.invariant;
+  shape = subst (λ (nodes : List (Path × BaseNode)). IsWorkingCopy (get_in nodes)) c.self.view_is c.self.invariant.0;
 }

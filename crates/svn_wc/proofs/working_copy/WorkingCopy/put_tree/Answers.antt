@@ -1,4 +1,4 @@
-use Rattle.std.proofs.Common.{List, cond, ap, ◌∙◌}
+use Rattle.std.proofs.Common.{List, cond, ap, sym, ◌∙◌, true≢false}
 use Rattle.svn_types.specs.Names.{Path}
 use Rattle.svn_types.specs.Paths.{is_within}
 use Rattle.svn_model.specs.declared.base_node.BaseNode.{BaseNode}
@@ -14,6 +14,8 @@ returns-clause-nodes c = map_ok c.replace_within.result c.replace_within.ensures
     cond (is_within c.args.path.now q) (get_in c.in_ok-part.part.entries q) (get_in nodes q)) c.self.view_is) p)
 
 pub invariant_of-self : goal.invariant_of-self
-invariant_of-self c =
-    shape_after c.replace_within.result c.self.inside.nodes.entries c.replace_within.new.nodes.entries _ (returns-clause-nodes c)
-    c.replace_within.ensures.unchanged c.requires.shape c.self.invariant
+invariant_of-self c = (
+  shape_after c.replace_within.result c.self.inside.nodes.entries c.replace_within.new.nodes.entries _ (returns-clause-nodes c)
+      c.replace_within.ensures.unchanged c.requires.shape c.self.invariant.0,
+  λ known. absurd (true≢false (sym known)),
+)
