@@ -107,6 +107,30 @@ pub(crate) const LONG_AND_SHORT: [(Call, Answer); 6] = [
     (Counts, Counted(1, 0, 1)),
 ];
 
+// Pools of a few bytes, to which long strings come one after the other, each when the pool before has gone: its block serves the next.
+pub(crate) const ONE_BEHIND_THE_OTHER: [(Call, Answer); 20] = [
+    (Create(0), Serial(1)),
+    (Create(0), Serial(2)),
+    (Create(0), Serial(3)),
+    (Push(1, b'a', 8), Place(0)),
+    (Push(2, b'b', 8), Place(0)),
+    (Push(3, b'c', 8), Place(0)),
+    (Counts, Counted(4, 3, 0)),
+    (Push(1, b'd', 5000), Place(1)),
+    (Destroy(1), Done),
+    (Counts, Counted(3, 2, 1)),
+    (Push(2, b'e', 5000), Place(1)),
+    (Get(2, 0), Text(b'b', 8)),
+    (Get(2, 1), Text(b'e', 5000)),
+    (Get(3, 0), Text(b'c', 8)),
+    (Destroy(2), Done),
+    (Push(3, b'f', 5000), Place(1)),
+    (Strings(3), Read(2, 5008)),
+    (Get(3, 0), Text(b'c', 8)),
+    (Get(3, 1), Text(b'f', 5000)),
+    (Counts, Counted(2, 1, 2)),
+];
+
 // A tree whose root has the last serial.
 pub(crate) const LAST_SERIAL: [(Call, Answer); 4] = [
     (Root, Serial(18_446_744_073_709_551_615)),

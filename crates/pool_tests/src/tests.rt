@@ -1,7 +1,8 @@
 // The rows with ample memory.
 use crate::call::{Answer, Call, run};
 use crate::rows::{
-    BRANCH, HALVES, HALVES_AND_EMPTY, LAST_SERIAL, LENGTHS, LONG_AND_SHORT, REFUSALS,
+    BRANCH, HALVES, HALVES_AND_EMPTY, LAST_SERIAL, LENGTHS, LONG_AND_SHORT, ONE_BEHIND_THE_OTHER,
+    REFUSALS,
 };
 use std::alloc::Global;
 use std::process::Abort;
@@ -32,6 +33,11 @@ fn fills_blocks(rt: HostRuntime) -> Result<(), Fail> {
     from_new(&rt, rt.alloc(), &HALVES)?;
     from_new(&rt, rt.alloc(), &HALVES_AND_EMPTY)?;
     from_new(&rt, rt.alloc(), &LONG_AND_SHORT)
+}
+
+#[test]
+fn gives_a_block_to_the_next_pool(rt: HostRuntime) -> Result<(), Fail> {
+    from_new(&rt, rt.alloc(), &ONE_BEHIND_THE_OTHER)
 }
 
 #[test]

@@ -1,5 +1,6 @@
 // The bytes of a page: beside its block while they are few, and then in it. So many pools that hold little lie close together,
-// and of their blocks, which have to be there for what may come, no memory is touched.
+// and of their blocks, which have to be there for what may come, no memory is touched. Until a block is written it is as good as any
+// other that holds as much, and may be exchanged for one whose memory was touched before.
 ghost use Rattle.std.specs.Prelude.{◌≡◌, ◌+◌, ◌^◌, ◌<◌, ◌≤◌, ◌++◌, [], length, IfSome};
 
 use crate::owned::Owned;
@@ -7,9 +8,10 @@ use crate::source::Arena;
 use arrayvec::ArrayVec;
 use std::alloc::Allocator;
 use std::marker::Model;
+use std::mem::swap;
 
-// How many bytes lie beside a block: a path and a short text.
-const FEW: usize = 104;
+// How many bytes lie beside a block: a path of up to 148 bytes, or a shorter one and a short text.
+const FEW: usize = 152;
 
 #[derive(Drop)]
 pub(crate) struct Memory<A: Allocator + Copy> {
@@ -63,6 +65,22 @@ impl<A: Allocator + Copy> Memory<A> {
             return self.few.as_slice();
         }
         self.many.bytes()
+    }
+
+    // Whether so many bytes more would be the first in the block.
+    pub(crate) fn begins_block(&self, more: usize) -> bool {
+        self.many.is_empty() && more > self.few.remaining_capacity()
+    }
+
+    // Exchanges the blocks, where nothing is written in either and they hold as much: what they hold stays.
+    pub(crate) fn exchange(&mut self, other: &mut Memory<A>)
+        ensures same { self.new ≡ self.old }
+        ensures other { other.new ≡ other.old }
+    {
+        let are_blank = self.many.is_empty() && other.many.is_empty();
+        if are_blank && self.many.capacity() == other.many.capacity() {
+            swap(&mut self.many, &mut other.many);
+        }
     }
 
     // Writes bytes after those that are there.

@@ -13,8 +13,9 @@ returns-then-bytes-room-clause-blocks g c =
     let s = c.self.inside.strings in
     let fits : length c.args.bytes.now + 4 ≤ (layout s).room = omega (arith, c.room.ensures, c.if-bytes-room.true) in
     let before : blocks_of c.args.self.now ≡ blocks s = ap blocks_of (sym c.self.view_is) in
-    let after : blocks c.write.new.self ≡ blocks s = ap blocks c.write.ensures ∙ fits_blocks s c.args.bytes.now fits in
-    omega (arith, before, after)
+    let after : blocks c.write.new.strings ≡ blocks s = ap blocks c.write.ensures.written ∙ fits_blocks s c.args.bytes.now fits in
+    let same : c.write.new.self.used ≡ c.args.stock.now.used = ap (λ (b : Store). b.used) c.write.ensures.counts in
+    omega (arith, before, after, same)
 
 pub returns-clause-blocks : goal.returns-clause-blocks
 returns-clause-blocks g c =
