@@ -5,7 +5,7 @@ use std::alloc::Global;
 use std::process::Abort;
 use std::test::Fail;
 use svn_report::ReporterFault::{NotRootFirst, ParentLater, Repeated, TooDeep, UnderDeleted};
-use svn_report::{EntryLine, Report, Reporter, ReporterFault};
+use svn_report::{EntryLine, Report, ReportEntry, Reporter, ReporterFault};
 use svn_types::{Name, RelPath, Rev};
 
 // A call of a reporter, with texts in the place of paths. What it has stands in the order in which it is printed.
@@ -298,4 +298,185 @@ fn all_names_are(rt: &impl Abort, alloc: Global, calls: &[Answered]) -> Result<(
 fn names_beneath_a_path_come_in_their_order(rt: HostRuntime) -> Result<(), Fail> {
     all_names_are(&rt, rt.alloc(), &NESTED)?;
     all_names_are(&rt, rt.alloc(), &NESTED_IN_ORDER)
+}
+
+// What their report tells of each path: the names beneath it, whether an entry stands there, and its own entry.
+const TOLD: [(&str, &str); 9] = [
+    ("", "b,b c,d,below;set . 1"),
+    ("a", ""),
+    ("b", "x,y,below;set b 1"),
+    ("b/x", "y,below;"),
+    ("b/x/y", "set b/x/y 1"),
+    ("b/y", "set b/y 1"),
+    ("d", "e,below;"),
+    ("d/e", "a,f,below;"),
+    ("d/e/f", "set d/e/f 1"),
+];
+
+// Where their report is asked to look: at each entry, behind the last one, and far behind.
+const POSITIONS: [usize; 10] = [0, 1, 2, 3, 4, 5, 6, 7, 8, usize::MAX];
+
+fn push_told(
+    out: &mut String,
+    path: &RelPath,
+    below: bool,
+    entry: Option<&ReportEntry>,
+) -> Result<(), Fail> {
+    if below {
+        out.push_str("below;")?;
+    }
+    if let Some(entry) = entry {
+        let line = EntryLine { path, entry };
+        write!(out, "{line}")?;
+    }
+    Ok(())
+}
+
+fn told(alloc: Global, report: &Report, at: &str) -> Result<String, Fail> {
+    let at = path(alloc, at)?;
+    let mut out = String::new(alloc);
+    push_names(&mut out, report, &at)?;
+    push_told(
+        &mut out,
+        &at,
+        report.has_entry_below(&at),
+        report.entry_at(&at),
+    )?;
+    Ok(out)
+}
+
+// As `push_names` does, from a position on.
+fn push_names_near(
+    out: &mut String,
+    report: &Report,
+    path: &RelPath,
+    near: usize,
+) -> Result<(), Fail> {
+    let mut near = near;
+    let mut last: Option<Name> = None;
+    for _ in 0..=report.len() {
+        let Some(name) = report.next_name_near(path, last.as_ref(), &mut near)? else {
+            break;
+        };
+        out.push_str(name.as_str())?;
+        out.push(',')?;
+        last = Some(name.clone()?);
+    }
+    Ok(())
+}
+
+fn told_near(alloc: Global, report: &Report, at: &str, near: usize) -> Result<String, Fail> {
+    let at = path(alloc, at)?;
+    let mut out = String::new(alloc);
+    push_names_near(&mut out, report, &at, near)?;
+    push_told(
+        &mut out,
+        &at,
+        report.has_entry_below_near(&at, near),
+        report.entry_near(&at, near),
+    )?;
+    Ok(out)
+}
+
+fn is_told(
+    rt: &impl Abort,
+    alloc: Global,
+    report: &Report,
+    at: &str,
+    text: &str,
+) -> Result<(), Fail> {
+    let found = told(alloc, report, at)?;
+    assert_eq!(rt; found.as_str(), text, "at {at}");
+    Ok(())
+}
+
+fn is_told_near(
+    rt: &impl Abort,
+    alloc: Global,
+    report: &Report,
+    row: &(&str, &str),
+    near: usize,
+) -> Result<(), Fail> {
+    let (at, text) = row;
+    let found = told_near(alloc, report, at, near)?;
+    assert_eq!(rt; found.as_str(), *text, "at {at} near {near}");
+    Ok(())
+}
+
+fn is_told_anywhere(
+    rt: &impl Abort,
+    alloc: Global,
+    report: &Report,
+    row: &(&str, &str),
+) -> Result<(), Fail> {
+    is_told(rt, alloc, report, row.0, row.1)?;
+    for near in &POSITIONS {
+        is_told_near(rt, alloc, report, row, *near)?;
+    }
+    Ok(())
+}
+
+fn all_is_told(rt: &impl Abort, alloc: Global, calls: &[Answered]) -> Result<(), Fail> {
+    let report = report_of(rt, alloc, calls)?;
+    for row in &TOLD {
+        is_told_anywhere(rt, alloc, &report, row)?;
+    }
+    Ok(())
+}
+
+#[test]
+fn a_position_changes_no_answer(rt: HostRuntime) -> Result<(), Fail> {
+    all_is_told(&rt, rt.alloc(), &NESTED)?;
+    all_is_told(&rt, rt.alloc(), &NESTED_IN_ORDER)
+}
+
+// The positions at which the names beneath a path are found, from the first entry on, each with a comma; and the one behind them.
+fn push_positions(out: &mut String, report: &Report, path: &RelPath) -> Result<(), Fail> {
+    let mut near = 0;
+    let mut last: Option<Name> = None;
+    for _ in 0..=report.len() {
+        let name = report.next_name_near(path, last.as_ref(), &mut near)?;
+        write!(out, "{near},")?;
+        let Some(name) = name else {
+            break;
+        };
+        last = Some(name.clone()?);
+    }
+    Ok(())
+}
+
+fn positions(alloc: Global, report: &Report, at: &str) -> Result<String, Fail> {
+    let mut out = String::new(alloc);
+    push_positions(&mut out, report, &path(alloc, at)?)?;
+    Ok(out)
+}
+
+// The positions of the first entries under the names beneath a path, and of the first behind them.
+const FOUND_AT: [(&str, &str); 5] = [
+    ("", "1,4,5,7,"),
+    ("b", "2,3,4,"),
+    ("b/x", "2,3,"),
+    ("b c", "5,"),
+    ("d/e", "5,6,7,"),
+];
+
+fn are_found_at(
+    rt: &impl Abort,
+    alloc: Global,
+    report: &Report,
+    at: &str,
+    places: &str,
+) -> Result<(), Fail> {
+    let found = positions(alloc, report, at)?;
+    assert_eq!(rt; found.as_str(), places, "below {at}");
+    Ok(())
+}
+
+#[test]
+fn a_position_goes_along_with_the_names(rt: HostRuntime) -> Result<(), Fail> {
+    let report = report_of(&rt, rt.alloc(), &NESTED_IN_ORDER)?;
+    for (at, places) in &FOUND_AT {
+        are_found_at(&rt, rt.alloc(), &report, at, places)?;
+    }
+    Ok(())
 }

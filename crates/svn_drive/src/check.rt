@@ -19,7 +19,8 @@ use svn_report::{Report, ReportEntry};
 use svn_types::{Name, RelPath, Rev};
 
 /// What a report says of a path: its own entry, the nearest at or above it, and its repository path, which is `base` with the path's names from
-/// the `start`-th on. That may be more names than a path has, so it isn't built.
+/// the `start`-th on. That may be more names than a path has, so it isn't built. Near the position `near` the report is to look for what it has
+/// there or below.
 #[derive(Drop)]
 pub(crate) struct Seen<'a> {
     pub(crate) path: RelPath,
@@ -27,7 +28,11 @@ pub(crate) struct Seen<'a> {
     pub(crate) governing: Option<&'a ReportEntry>,
     pub(crate) base: &'a RelPath,
     pub(crate) start: usize,
+    pub(crate) near: usize,
 }
+
+// A position at which no report has an entry: nothing is looked at there.
+const NOWHERE: usize = usize::MAX;
 
 /// What a check reads.
 #[derive(Clone, Copy)]
@@ -83,36 +88,39 @@ impl<'a> Check<'a> {
         ensures start { result.start ≤ length result.path }
     {
         let path = RelPath::root(self.alloc);
-        let own = self.report.entry_at(&path);
+        // the root is reported first
+        let own = self.report.entry_near(&path, 0);
         Seen {
             path,
             own,
             governing: own,
             base: self.report.root(),
             start: 0,
+            near: 0,
         }
     }
 
-    // The entry at a path; where nothing is reported at it or below it, it isn't looked for.
+    // The entry at a path, looked for near a position first; where nothing is reported at it or below it, it isn't looked for.
     #[tactic(auto, using(crate::proofs::Idle::none_at))]
-    fn own_entry(&self, path: &RelPath, is_reported: bool) -> Option<&'a ReportEntry>
+    fn own_entry(&self, path: &RelPath, is_reported: bool, near: usize) -> Option<&'a ReportEntry>
         requires { IsFalse is_reported → has_entry_within self.now.report.now.entries path.now ≡ false }
         ensures { option_copied result ≡ entry_at self.now.report.now.entries path.now }
     {
         if is_reported {
-            self.report.entry_at(path)
+            self.report.entry_near(path, near)
         } else {
             None
         }
     }
 
-    /// What it says of a child, and whether anything is reported there or below may be known.
+    /// What it says of a child, and whether anything is reported there or below may be known. It is looked for near a position first.
     #[inline(always)]
     pub(crate) fn seen_child(
         &self,
         above: &Seen<'a>,
         name: &Name,
         is_reported: bool,
+        near: usize,
     ) -> Result<Seen<'a>, AllocError>
         requires start { above.now.start ≤ length above.now.path }
         requires short { length above.now.path < depth_limit }
@@ -121,7 +129,7 @@ impl<'a> Check<'a> {
         ensures start { IfOk result (λ s. s.start ≤ length s.path) }
     {
         let path = child_path(self.alloc, &above.path, name)?;
-        let own = self.own_entry(&path, is_reported);
+        let own = self.own_entry(&path, is_reported, near);
         let governing = own_or(own, above.governing);
         match own {
             Some(ReportEntry::LinkPath { repos_path, .. }) => {
@@ -132,6 +140,7 @@ impl<'a> Check<'a> {
                     governing,
                     base: repos_path,
                     start,
+                    near,
                 })
             }
             _ => Ok(Seen {
@@ -140,6 +149,7 @@ impl<'a> Check<'a> {
                 governing,
                 base: above.base,
                 start: above.start,
+                near,
             }),
         }
     }
@@ -152,7 +162,7 @@ impl<'a> Check<'a> {
     {
         let mut seen = self.seen_root();
         for name in names {
-            seen = self.seen_child(&seen, name, true)?;
+            seen = self.seen_child(&seen, name, true, NOWHERE)?;
         }
         Ok(seen)
     }
@@ -170,8 +180,13 @@ impl<'a> Check<'a> {
         }
     }
 
-    // The nodes that the client has at a path and at its parent; at the root both are the root's.
-    fn sources(&self, path: &RelPath) -> Result<(Option<NodeId>, Option<NodeId>), AllocError>
+    // The nodes that the client has at a path and at its parent; at the root both are the root's. What is reported is looked for at a position
+    // first.
+    fn sources(
+        &self,
+        i: usize,
+        path: &RelPath,
+    ) -> Result<(Option<NodeId>, Option<NodeId>), AllocError>
         ensures here { IfOk result (λ n. n.0 ≡ source_at self.now.repo.now self.now.report.now path.now) }
         ensures above { IfOk result (λ n. n.1 ≡ source_at self.now.repo.now self.now.report.now (parent path.now)) }
     {
@@ -182,7 +197,7 @@ impl<'a> Check<'a> {
             }
             Some((last, names)) => {
                 let above = self.seen_at(names)?;
-                let here = self.seen_child(&above, last, true)?;
+                let here = self.seen_child(&above, last, true, i)?;
                 Ok((self.source(&here), self.source(&above)))
             }
         }
@@ -223,7 +238,7 @@ impl<'a> Check<'a> {
     ) -> Result<Option<ReportFault>, AllocError>
         ensures { IfOk result (λ f. f ≡ fault_of self.now.repo.now self.now.report.now i path.now entry.now) }
     {
-        let (here, above) = self.sources(path)?;
+        let (here, above) = self.sources(i, path)?;
         Ok(self.fault_by(i, entry, path.is_root(), here, above))
     }
 

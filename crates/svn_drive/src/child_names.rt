@@ -44,13 +44,15 @@ impl Mark {
     }
 }
 
-/// What stands under a name below a place: the entries of the nodes on both sides, and whether the report has an entry at it or below it.
+/// What stands under a name below a place: the entries of the nodes on both sides, whether the report has an entry at it or below it, and near
+/// which position the report is to look for it.
 #[derive(Drop)]
 pub(crate) struct Below<'a> {
     pub(crate) name: &'a Name,
     pub(crate) source: Option<&'a NodeId>,
     pub(crate) target: Option<&'a NodeId>,
     pub(crate) is_reported: Mark,
+    pub(crate) near: usize,
 }
 
 impl<'a> Below<'a> {
@@ -60,14 +62,16 @@ impl<'a> Below<'a> {
         name: &'a Name,
         source: Option<&'a NodeId>,
         target: Option<&'a NodeId>,
+        near: usize,
     ) -> Below<'a>
-        ensures { result ≡ record { name = name.entry; source = source.entry; target = target.entry; is_reported = false } }
+        ensures { result ≡ record { name = name.entry; source = source.entry; target = target.entry; is_reported = false; near = near } }
     {
         Below {
             name,
             source,
             target,
             is_reported: Mark::of(false),
+            near,
         }
     }
 }
@@ -109,12 +113,14 @@ impl<'a> NamesLeft<'a> {
     {
         let source = self.source.take(name);
         let target = self.target.take(name);
+        let near = self.reported.near();
         let is_reported = self.reported.take(name)?;
         Ok(Below {
             name,
             source,
             target,
             is_reported: Mark::of(is_reported),
+            near,
         })
     }
 
@@ -124,29 +130,30 @@ impl<'a> NamesLeft<'a> {
         requires { self.old.reported ≡ [] }
         ensures { MatchOption result (first_name self.old ≡ None) (λ below. TakesChild self.old below.name.now below self.new) }
     {
+        let near = self.reported.near();
         match (self.source.first(), self.target.first()) {
             (Some((name, old)), Some((other, new))) => match name.cmp(other) {
                 Ordering::Less => {
                     self.source.pass();
-                    Some(Below::unreported(name, Some(old), None))
+                    Some(Below::unreported(name, Some(old), None, near))
                 }
                 Ordering::Equal => {
                     self.source.pass();
                     self.target.pass();
-                    Some(Below::unreported(name, Some(old), Some(new)))
+                    Some(Below::unreported(name, Some(old), Some(new), near))
                 }
                 Ordering::Greater => {
                     self.target.pass();
-                    Some(Below::unreported(other, None, Some(new)))
+                    Some(Below::unreported(other, None, Some(new), near))
                 }
             },
             (Some((name, old)), None) => {
                 self.source.pass();
-                Some(Below::unreported(name, Some(old), None))
+                Some(Below::unreported(name, Some(old), None, near))
             }
             (None, Some((name, new))) => {
                 self.target.pass();
-                Some(Below::unreported(name, None, Some(new)))
+                Some(Below::unreported(name, None, Some(new), near))
             }
             (None, None) => None,
         }

@@ -64,7 +64,7 @@ impl<'a> Walk<'a> {
         let source = EntriesLeft::of(old);
         let new = entries_at(self.repo, place.target);
         let target = EntriesLeft::of(new);
-        let reported = ReportedLeft::of(self.report, &place.here.path)?;
+        let reported = ReportedLeft::of(self.report, &place.here.path, place.here.near)?;
         Ok(NamesLeft {
             source,
             target,

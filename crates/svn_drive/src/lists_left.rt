@@ -119,6 +119,8 @@ pub(crate) struct ReportedLeft<'a> {
     report: &'a Report,
     path: RelPath,
     first: Option<&'a Name>,
+    // where the report is asked to look first: the position of the entry that gave the first name, or, where none is left, of what stands behind
+    near: usize,
 }
 
 impl<'a> Model for ReportedLeft<'a> {
@@ -132,16 +134,27 @@ impl<'a> Model for ReportedLeft<'a> {
 }
 
 impl<'a> ReportedLeft<'a> {
-    /// All names. A clone of the path takes no memory.
-    pub(crate) fn of(report: &'a Report, path: &RelPath) -> Result<ReportedLeft<'a>, AllocError>
+    /// All names, looked for near a position of the report first. A clone of the path takes no memory.
+    pub(crate) fn of(
+        report: &'a Report,
+        path: &RelPath,
+        near: usize,
+    ) -> Result<ReportedLeft<'a>, AllocError>
         ensures { IfOk result (λ l. l ≡ reported_names path.now report.now.entries) }
     {
-        let first = report.next_name_below(path, None)?;
+        let mut near = near;
+        let first = report.next_name_near(path, None, &mut near)?;
         Ok(ReportedLeft {
             report,
             path: path.clone()?,
             first,
+            near,
         })
+    }
+
+    /// The position near which the report has what stands under the first name, or would have what stands under one before it.
+    pub(crate) fn near(&self) -> usize {
+        self.near
     }
 
     /// The first name.
@@ -161,7 +174,9 @@ impl<'a> ReportedLeft<'a> {
         if first != name {
             return Ok(false);
         }
-        self.first = self.report.next_name_below(&self.path, Some(first))?;
+        self.first = self
+            .report
+            .next_name_near(&self.path, Some(first), &mut self.near)?;
         Ok(true)
     }
 }

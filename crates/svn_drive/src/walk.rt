@@ -61,7 +61,9 @@ impl<'a> Walk<'a> {
         place.here.path.is_root()
             || place.source != place.target
             || (starts_empty(place.here.own) && is_directory(self.repo, place.source))
-            || self.report.has_entry_below(&place.here.path)
+            || self
+                .report
+                .has_entry_below_near(&place.here.path, place.here.near)
     }
 
     // With the one test that is left.
@@ -200,9 +202,12 @@ impl<'a> Walk<'a> {
         ensures path { IfOk result (λ p. (p.here.path ≡ above.now.here.path ++ below.now.name.now ∷ []) × (length p.here.path ≤ depth_limit)) }
         ensures parent { IfOk result (λ p. p.parent ≡ parent) }
     {
-        let here = self
-            .reading()
-            .seen_child(&above.here, below.name, below.is_reported.get())?;
+        let here = self.reading().seen_child(
+            &above.here,
+            below.name,
+            below.is_reported.get(),
+            below.near,
+        )?;
         Ok(self.child_seen(above, here, below, parent))
     }
 

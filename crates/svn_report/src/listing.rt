@@ -9,7 +9,9 @@ ghost use Rattle.svn_report.specs.ReportNames.{next_name, IsNextName};
 ghost use Rattle.svn_report.specs.ReportOrder.{ComesLast, InPathOrder, IsFirstBehind, IsIndexed, IsKept, IsNextEntry, IsPreviousEntry};
 
 use crate::entry::ReportEntry;
-use crate::in_order::{comes_last, first_behind, next_in_order, previous_in_order};
+use crate::in_order::{
+    comes_last, first_behind, is_missing_near, next_in_order, previous_in_order,
+};
 use crate::path_index::PathIndex;
 use crate::reporter_fault::ReporterFault;
 use indexmap::IndexMap;
@@ -116,13 +118,39 @@ impl Listing {
         self.entries.get(path)
     }
 
-    // The first path behind a path. What stands beneath it comes first.
-    fn next(&self, path: &RelPath) -> Option<&RelPath>
+    // Whether the entries next to a position tell that a path has none.
+    fn is_missing_near(&self, path: &RelPath, near: usize) -> bool
+        ensures { IsTrue result → entry_at self.now path.now ≡ None }
+    {
+        match &self.index {
+            Some(_) => false,
+            None => is_missing_near(&self.entries, path, near),
+        }
+    }
+
+    /// The same, looked for near a position first.
+    pub fn entry_near(&self, path: &RelPath, near: usize) -> Option<&ReportEntry>
+        ensures { option_copied result ≡ entry_at self.now path.now }
+    {
+        if let Some((other, entry)) = self.entries.get_index(near) {
+            if other == path {
+                return Some(entry);
+            }
+        }
+        if self.is_missing_near(path, near) {
+            None
+        } else {
+            self.entry_at(path)
+        }
+    }
+
+    // The first path behind a path, looked for near a position. What stands beneath it comes first.
+    fn next(&self, path: &RelPath, near: &mut usize) -> Option<&RelPath>
         ensures { IsNextEntry self.now path.now (option_copied result) }
     {
         match &self.index {
             Some(index) => index.next(path),
-            None => next_in_order(&self.entries, path),
+            None => next_in_order(&self.entries, path, near),
         }
     }
 
@@ -136,41 +164,49 @@ impl Listing {
         }
     }
 
-    /// Whether an entry stands strictly beneath a path.
+    /// Whether an entry stands strictly beneath a path. Reports are mostly made in path order, so most calls ask behind the last path.
     pub fn has_entry_below(&self, path: &RelPath) -> bool
         ensures { result ≡ has_entry_below self.now path.now }
     {
-        match self.next(path) {
+        self.has_entry_below_near(path, self.entries.len())
+    }
+
+    /// The same, looked for near a position first.
+    pub fn has_entry_below_near(&self, path: &RelPath, near: usize) -> bool
+        ensures { result ≡ has_entry_below self.now path.now }
+    {
+        let mut near = near;
+        match self.next(path, &mut near) {
             Some(next) => next.is_within(path),
             None => false,
         }
     }
 
     // The first name beneath the path at or below which an entry stands.
-    fn first_name_below(&self, path: &RelPath) -> Option<&Name>
+    fn first_name_below(&self, path: &RelPath, near: &mut usize) -> Option<&Name>
         ensures name { IsNextName path.now self.now None (option_copied result) }
         ensures bounded { IfSome result (λ _. length path.now < depth_limit) }
     {
-        match self.next(path) {
+        match self.next(path, near) {
             Some(next) => name_below(path, next),
             None => None,
         }
     }
 
     // The first path behind a name beneath a path, where the entries are in path order.
-    fn first_behind(&self, path: &RelPath, last: &Name) -> Option<&RelPath>
+    fn first_behind(&self, path: &RelPath, last: &Name, near: &mut usize) -> Option<&RelPath>
         requires { InPathOrder self.now }
         ensures { IsFirstBehind self.now path.now last.now (option_copied result) }
     {
-        first_behind(&self.entries, path, last)
+        first_behind(&self.entries, path, last, near)
     }
 
     // The first such name that comes after a name, where the entries are in path order.
-    fn name_in_order(&self, path: &RelPath, last: &Name) -> Option<&Name>
+    fn name_in_order(&self, path: &RelPath, last: &Name, near: &mut usize) -> Option<&Name>
         requires { InPathOrder self.now }
         ensures { IsNextName path.now self.now (Some last.now) (option_copied result) }
     {
-        match self.first_behind(path, last) {
+        match self.first_behind(path, last, near) {
             Some(next) => name_below(path, next),
             None => None,
         }
@@ -190,7 +226,7 @@ impl Listing {
             Ok(child) => child,
             Err(PathFault::Memory) => return Err(AllocError),
             // Beneath a path of 128 names nothing can stand, so there is no first name, and none after another.
-            Err(_) => return Ok(self.first_name_below(path)),
+            Err(_) => return Ok(self.first_name_below(path, &mut 0)),
         };
         match index.next_ending(child) {
             Some(next) => Ok(name_below(path, next)),
@@ -199,12 +235,17 @@ impl Listing {
     }
 
     // The first such name that comes after a name.
-    fn name_below_after(&self, path: &RelPath, last: &Name) -> Result<Option<&Name>, AllocError>
+    fn name_below_after(
+        &self,
+        path: &RelPath,
+        last: &Name,
+        near: &mut usize,
+    ) -> Result<Option<&Name>, AllocError>
         ensures { IfOk result (λ found. IsNextName path.now self.now (Some last.now) (option_copied found)) }
     {
         match &self.index {
             Some(index) => self.name_by_index(index, path, last),
-            None => Ok(self.name_in_order(path, last)),
+            None => Ok(self.name_in_order(path, last, near)),
         }
     }
 
@@ -217,9 +258,23 @@ impl Listing {
     ) -> Result<Option<&Name>, AllocError>
         ensures { IfOk result (λ found. IsNextName path.now self.now (option_copied after.entry) (option_copied found)) }
     {
+        let mut near = self.entries.len();
+        self.next_name_near(path, after, &mut near)
+    }
+
+    /// The same, looked for near a position first. Where the entries are in path order the position becomes that of the first path behind those
+    /// that were passed, which gives the name if there is one.
+    pub fn next_name_near(
+        &self,
+        path: &RelPath,
+        after: Option<&Name>,
+        near: &mut usize,
+    ) -> Result<Option<&Name>, AllocError>
+        ensures { IfOk result (λ found. IsNextName path.now self.now (option_copied after.entry) (option_copied found)) }
+    {
         match after {
-            Some(last) => self.name_below_after(path, last),
-            None => Ok(self.first_name_below(path)),
+            Some(last) => self.name_below_after(path, last, near),
+            None => Ok(self.first_name_below(path, near)),
         }
     }
 

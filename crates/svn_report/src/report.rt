@@ -73,11 +73,29 @@ impl Report {
         self.listing.entry_at(path)
     }
 
+    /// The same, looked for near a position first. Any position gives the same answer. Where the entry stands there, or the entries came in path
+    /// order and the path has none and would stand there or directly behind, it costs a few comparisons of paths, and else these more than
+    /// [`entry_at`](Report::entry_at).
+    pub fn entry_near(&self, path: &RelPath, near: usize) -> Option<&ReportEntry>
+        ensures { option_copied result ≡ entry_at self.now.entries path.now }
+    {
+        self.listing.entry_near(path, near)
+    }
+
     /// Whether an entry stands strictly beneath a path. The cost grows with the logarithm of the report.
     pub fn has_entry_below(&self, path: &RelPath) -> bool
         ensures { result ≡ has_entry_below self.now.entries path.now }
     {
         self.listing.has_entry_below(path)
+    }
+
+    /// The same, looked for near a position first. Any position gives the same answer. Where the entries came in path order and the first behind the
+    /// path stands there or directly behind, it costs a few comparisons of paths, and else these more than
+    /// [`has_entry_below`](Report::has_entry_below).
+    pub fn has_entry_below_near(&self, path: &RelPath, near: usize) -> bool
+        ensures { result ≡ has_entry_below self.now.entries path.now }
+    {
+        self.listing.has_entry_below_near(path, near)
     }
 
     /// The first name directly beneath a path, in the order of names, at or below which an entry stands; with `after` the first of those that
@@ -95,6 +113,22 @@ impl Report {
             IfOk result (λ found. names_after (option_copied after.entry) names ≡ names_from (option_copied found) names) }
     {
         self.listing.next_name_below(path, after)
+    }
+
+    /// The same, looked for near a position first, and refused memory where [`next_name_below`](Report::next_name_below) is. Any position gives the
+    /// same answer. Where the entries came in path order the position becomes that of the first entry whose path gives the name, and else it stays.
+    /// Who asks for one name after the other with one position pays a few comparisons of paths for each name beneath which no entry stands.
+    pub fn next_name_near(
+        &self,
+        path: &RelPath,
+        after: Option<&Name>,
+        near: &mut usize,
+    ) -> Result<Option<&Name>, AllocError>
+        ensures first { IfOk result (λ found. IsNextName path.now self.now.entries (option_copied after.entry) (option_copied found)) }
+        ensures in_turn { let names = reported_names path.now self.now.entries in
+            IfOk result (λ found. names_after (option_copied after.entry) names ≡ names_from (option_copied found) names) }
+    {
+        self.listing.next_name_near(path, after, near)
     }
 }
 
