@@ -1,23 +1,30 @@
 -- Trees of the repository, and what a copy makes of them.
 use Rattle.std.proofs.Common.{◌≡◌, ℕ, ◌-◌, Bool, true, false, cond, List, [], ◌∷◌, ◌++◌, length, drop, refl, sym, ap, subst, ◌∙◌, Option}
-use Rattle.std.proofs.Common.{Some, None}
-use Rattle.std.specs.Prelude.{slice_get, option_and_then, Result, Ok, Err, IfOk, OnOk, OnErr}
+use Rattle.std.proofs.Common.{Some, None, true≢false, append_assoc, append-nil}
+use Rattle.std.specs.Prelude.{slice_get, option_and_then, Result, Ok, Err, IfOk, OnOk, OnErr, IsTrue, IsFalse}
 use Rattle.std.specs.Option.{option_map}
 use Rattle.svn_types.specs.Names.{Path}
-use Rattle.svn_types.specs.Paths.{is_within, last_name}
+use Rattle.svn_types.specs.Paths.{path_eq, is_within, is_below, last_name}
+use Rattle.svn_types.specs.Pairs.{value_of}
+use Rattle.svn_types.specs.declared.kind.Kind.{Kind}
+use Rattle.svn_types.specs.declared.kind.Kind.TheVariants.{File, Directory}
 use Rattle.svn_repo.specs.History.{History, node_at, walk, look}
+use Rattle.svn_repo.specs.Readings.{kind_of, entries_of, IsHistory}
 use Rattle.svn_model.specs.declared.base_node.BaseNode.{BaseNode}
 use Rattle.svn_model.specs.declared.wc_fault.WcFault.{WcFault}
 use Rattle.svn_model.specs.declared.wc_fault.WcFault.TheVariants.{Memory}
-use Rattle.svn_model.specs.Nodes.{WorkingCopy, get_in, base_node, IsWorkingCopy}
+use Rattle.svn_model.specs.Nodes.{WorkingCopy, get_in, base_node, is_dir, IsWorkingCopy}
+use Rattle.svn_model.specs.Refusals.{is_file_kind}
 use Rattle.svn_model.specs.Builders.{checkout, placed}
 use Rattle.svn_repo.proofs.Walking.{look-append}
 use Rattle.svn_model.proofs.Children.{entry_below, look-child}
 use Rattle.svn_wc.specs.Standing.{standing, Puts}
 use Rattle.svn_wc.specs.Building.{Refuses, tree_at}
 use Rattle.svn_wc.specs.Truths.{entry_in}
+use Rattle.svn_edit_law.proofs.CrawlReports.{directory_above}
 use Rattle.svn_edit_law.proofs.Parts.{drop_front}
-use Rattle.svn_types.proofs.PathLemmas.{none_at_last, split_within}
+use Rattle.svn_types.proofs.PathLemmas.{none_at_last, split_within, apart_paths, below_from, path_eq-longer, path_eq-same, within_append}
+use Rattle.svn_types.proofs.Places.{some_none}
 
 -- what was gathered is the tree
 pub tree_gathered : (h : History) (at q : Path) (rev n : ℕ) (w : WorkingCopy) → Puts (standing h rev q n) at (λ p. None) w
@@ -47,6 +54,58 @@ tree_placed h w w' part at q rev tree put p = put p ∙ by (is_within at p) refl
     by true i = tree p ∙ ap (λ b. cond b (checkout h q rev (drop (length at) p)) None) i
     by false i = refl
 
+-- ---- a file in the place of what is no directory
+
+-- below a file the repository has nothing
+none_below_file : (h : History) (rev : ℕ) (q : Path) (n : ℕ) → look h rev q ≡ Some n → entries_of h n ≡ [] → (name : List ℕ) (r : Path)
+    → look h rev (q ++ name ∷ r) ≡ None
+none_below_file h rev q n found leaf name r =
+    ap (look h rev) (sym (append_assoc q (name ∷ []) r)) ∙ look-append h rev (q ++ name ∷ []) r
+    ∙ ap (option_and_then (λ m. walk (node_at h) m r))
+    (look-child h rev q name ∙ ap (λ o. entry_below h o name) found ∙ ap (λ es. value_of es name) leaf)
+
+-- and a copy has nothing below what is no directory
+none_below_other : (w : WorkingCopy) → IsWorkingCopy w → (at p : Path) → is_dir (w at) ≡ false → is_below at p ≡ true → w p ≡ None
+none_below_other w shape at p other below = by (w p) refl
+  where
+    by : (o : Option BaseNode) → w p ≡ o → o ≡ None
+    by None e = refl
+    by (Some n) e = absurd (true≢false (sym (directory_above w shape at p below (λ none. some_none n (sym e ∙ none))) ∙ other))
+
+pub file_placed : (h : History) → IsHistory h → (w : WorkingCopy) → IsWorkingCopy w → (at q : Path) (rev n : ℕ) → look h rev q ≡ Some n
+    → is_file_kind (kind_of h n) ≡ true → is_dir (w at) ≡ false → (p : Path)
+    → cond (path_eq at p) (Some (base_node h rev q n)) (w p) ≡ placed h w at q rev p
+file_placed h laws w shape at q rev n found file other p = by (is_within at p) refl
+  where
+    kind : (k : Kind) → is_file_kind k ≡ true → k ≡ File
+    kind File e = refl
+    kind Directory e = absurd (true≢false (sym e))
+
+    leaf : entries_of h n ≡ []
+    leaf = laws.files_are_leaves rev q n found (kind (kind_of h n) file)
+
+    -- at the path stands the file
+    here : checkout h q rev [] ≡ Some (base_node h rev q n)
+    here =
+        ap (λ (s : Path). option_map (base_node h rev s) (look h rev s)) (append-nil q)
+        ∙ ap (option_map (base_node h rev q)) found
+
+    inside : (r : Path) → p ≡ at ++ r → cond (path_eq at p) (Some (base_node h rev q n)) (w p) ≡ checkout h q rev r
+    inside [] e =
+        ap (λ (b : Bool). cond b (Some (base_node h rev q n)) (w p)) (ap (path_eq at) (e ∙ append-nil at) ∙ path_eq-same at) ∙ sym here
+    inside (name ∷ r) e =
+        let apart : path_eq at p ≡ false = ap (path_eq at) e ∙ path_eq-longer at name r in
+        let below : is_below at p ≡ true = below_from at p (ap (is_within at) e ∙ within_append at (name ∷ r)) apart in
+        ap (λ (b : Bool). cond b (Some (base_node h rev q n)) (w p)) apart ∙ none_below_other w shape at p other below
+        ∙ sym (ap (option_map (base_node h rev (q ++ name ∷ r))) (none_below_file h rev q n found leaf name r))
+
+    by : (b : Bool) → is_within at p ≡ b
+        → cond (path_eq at p) (Some (base_node h rev q n)) (w p) ≡ cond b (checkout h q rev (drop (length at) p)) (w p)
+    by true i =
+        let on = split_within at p i in
+        inside on.0 on.1 ∙ ap (checkout h q rev) (sym (ap (drop (length at)) on.1 ∙ drop_front at on.0))
+    by false i = ap (λ (b : Bool). cond b (Some (base_node h rev q n)) (w p)) (apart_paths at p i)
+
 -- what has the shape of a copy after a change, if that is done, and before it, still has it
 pub shape_after : {X E : Type 0} (r : Result X E) (old new : List (Path × BaseNode)) (w : WorkingCopy)
     → OnOk r ((p : Path) → get_in new p ≡ w p) → OnErr r (new ≡ old) → IsWorkingCopy w → IsWorkingCopy (get_in old)
@@ -55,7 +114,22 @@ shape_after (Ok x) old new w same kept shape before = subst IsWorkingCopy (λ i 
 shape_after (Err e) old new w same kept shape before =
     subst (λ (nodes : List (Path × BaseNode)). IsWorkingCopy (get_in nodes)) (sym kept) before
 
+-- the same where the change may also be left to another
+pub shape_if_done : {E : Type 0} (r : Result Bool E) (old new : List (Path × BaseNode)) (w : WorkingCopy)
+    → IfOk r (λ done. IsTrue done → (p : Path) → get_in new p ≡ w p) → IfOk r (λ done. IsFalse done → new ≡ old) → OnErr r (new ≡ old)
+    → IsWorkingCopy w → IsWorkingCopy (get_in old) → IsWorkingCopy (get_in new)
+shape_if_done (Ok true) old new w same left kept shape before =
+    subst IsWorkingCopy (λ i p. sym (same refl p) i) shape
+shape_if_done (Ok false) old new w same left kept shape before =
+    subst (λ (nodes : List (Path × BaseNode)). IsWorkingCopy (get_in nodes)) (sym (left refl)) before
+shape_if_done (Err e) old new w same left kept shape before =
+    subst (λ (nodes : List (Path × BaseNode)). IsWorkingCopy (get_in nodes)) (sym kept) before
+
 -- ---- answers
+
+pub both_ok : {X E : Type 0} (P Q R : X → Type 0) (r : Result X E) → IfOk r P → IfOk r Q → ((x : X) → P x → Q x → R x) → IfOk r R
+both_ok P Q R (Ok x) p q f = f x p q
+both_ok P Q R (Err e) p q f = tt
 
 pub if_ok : {X E : Type 0} (P Q : X → Type 0) (r : Result X E) → IfOk r P → ((x : X) → P x → Q x) → IfOk r Q
 if_ok P Q (Ok x) h f = f x h

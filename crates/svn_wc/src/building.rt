@@ -1,10 +1,10 @@
 //! Copies made of trees of the repository, and trees of the repository placed in a copy.
-ghost use Rattle.std.specs.Prelude.{◌≡◌, ◌++◌, [], IfOk, IfErr, OnOk, OnErr, Some, None, nat_le};
+ghost use Rattle.std.specs.Prelude.{◌≡◌, ◌++◌, [], true, IsTrue, IsFalse, IfOk, IfErr, OnOk, OnErr, Some, None, nat_le};
 ghost use Rattle.std.specs.Option.{option_copied};
 ghost use Rattle.svn_types.specs.Names.{Path};
 ghost use Rattle.svn_types.specs.Paths.{parent, last_name};
 ghost use Rattle.svn_repo.specs.History.{look};
-ghost use Rattle.svn_repo.specs.Readings.{kind_of};
+ghost use Rattle.svn_repo.specs.Readings.{kind_of, IsHistory};
 ghost use Rattle.svn_model.specs.Nodes.{get_in, IsWorkingCopy, IsTrueOf};
 ghost use Rattle.svn_model.specs.Builders.{checkout, placed};
 ghost use Rattle.svn_model.specs.Effects.{joined_path};
@@ -12,9 +12,9 @@ ghost use Rattle.svn_model.specs.Refusals.{is_missing_revision, is_file_kind, is
 ghost use Rattle.svn_edit_law.specs.Laws.{EndsNamed};
 ghost use Rattle.svn_wc.specs.Building.{Refuses, tree_at};
 
-use crate::gather::{Origin, front_of, gather, map_of};
+use crate::gather::{Origin, front_of, gather, map_of, node_of};
 use crate::paths::{compare_above, last_name_allowed};
-use crate::replace::replace_within;
+use crate::replace::{replace_alone, replace_within};
 use crate::truth::entry_under;
 use crate::working_copy::WorkingCopy;
 use std::alloc::{AllocError, Global};
@@ -218,6 +218,34 @@ impl WorkingCopy {
         }
     }
 
+    // Puts a file of the repository in the place of what stands at a path of the copy, where that is no directory, and tells whether that was
+    // done. It looks the path up twice, and asks for no more memory than the node itself.
+    fn place_file(
+        &mut self,
+        from: &Origin<'_>,
+        path: &RelPath,
+        repos_path: &RelPath,
+        id: NodeId,
+    ) -> Result<bool, AllocError>
+        requires stands { look from.now.repo.now from.now.rev repos_path.now ≡ Some id }
+        requires file { is_file_kind (kind_of from.now.repo.now id) ≡ true }
+        requires history { IsHistory from.now.repo.now }
+        requires shape { IsWorkingCopy (placed from.now.repo.now (get_in self.old) path.now repos_path.now from.now.rev) }
+        ensures done { IfOk result (λ done. IsTrue done → (p : Path) → get_in self.new p ≡ placed from.now.repo.now (get_in self.old) path.now repos_path.now from.now.rev p) }
+        ensures left { IfOk result (λ done. IsFalse done → self.new ≡ self.old) }
+        ensures unchanged { OnErr result (self.new ≡ self.old) }
+    {
+        self.law();
+        let node = node_of(from.alloc, from.repo, from.rev, repos_path, id)?;
+        let WorkingCopy {
+            nodes,
+            is_unswitched,
+            ..
+        } = self;
+        *is_unswitched = false;
+        replace_alone(nodes, path, node)
+    }
+
     // Puts the tree at a path of the repository in the place of what stands at a path of the copy and below.
     fn put_tree(
         &mut self,
@@ -234,6 +262,26 @@ impl WorkingCopy {
         let part = tree_nodes(from, path, repos_path, id)?;
         self.is_unswitched = false;
         replace_within(self.alloc, &mut self.nodes, path, part)
+    }
+
+    // The same, in a shorter way for a file.
+    fn put(
+        &mut self,
+        from: &Origin<'_>,
+        path: &RelPath,
+        repos_path: &RelPath,
+        id: NodeId,
+    ) -> Result<(), AllocError>
+        requires stands { look from.now.repo.now from.now.rev repos_path.now ≡ Some id }
+        requires history { IsHistory from.now.repo.now }
+        requires shape { IsWorkingCopy (placed from.now.repo.now (get_in self.old) path.now repos_path.now from.now.rev) }
+        ensures nodes { OnOk result ((p : Path) → get_in self.new p ≡ placed from.now.repo.now (get_in self.old) path.now repos_path.now from.now.rev p) }
+        ensures unchanged { OnErr result (self.new ≡ self.old) }
+    {
+        if is_file(from.repo, id) && self.place_file(from, path, repos_path, id)? {
+            return Ok(());
+        }
+        self.put_tree(from, path, repos_path, id)
     }
 
     /// Puts the tree of a revision at the parent's repository path joined with the name in the place of what stands at a path, and beneath;
@@ -258,7 +306,7 @@ impl WorkingCopy {
             rev,
             front: None,
         };
-        self.put_tree(&from, path, &repos_path, id)?;
+        self.put(&from, path, &repos_path, id)?;
         Ok(())
     }
 
@@ -288,7 +336,7 @@ impl WorkingCopy {
             rev,
             front: None,
         };
-        self.put_tree(&from, path, repos_path, id)?;
+        self.put(&from, path, repos_path, id)?;
         Ok(())
     }
 }

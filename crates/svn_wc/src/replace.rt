@@ -1,11 +1,11 @@
 //! What stands at a path and below is replaced.
-ghost use Rattle.std.specs.Prelude.{◌≡◌, ◌&&◌, ◌||◌, true, false, IfOk, OnOk, OnErr, Some, None, is_some, is_none, if◌then◌else◌};
+ghost use Rattle.std.specs.Prelude.{◌≡◌, ◌&&◌, ◌||◌, true, false, IsTrue, IsFalse, IfOk, OnOk, OnErr, Some, None, is_some, is_none, if◌then◌else◌};
 ghost use Rattle.std.specs.List.{list_any};
 ghost use Rattle.std.specs.Option.{option_or};
 ghost use Rattle.std.specs.declared.cmp.Ordering.TheVariants.{Less};
 ghost use Rattle.svn_types.specs.Names.{Path, path_cmp};
 ghost use Rattle.svn_types.specs.Paths.{path_eq, is_within};
-ghost use Rattle.svn_model.specs.Nodes.{get_in, InPathOrder};
+ghost use Rattle.svn_model.specs.Nodes.{get_in, InPathOrder, is_dir};
 
 use crate::ahead::Ahead;
 use std::alloc::{AllocError, Global};
@@ -107,6 +107,25 @@ fn put_all(nodes: &mut Nodes, part: Nodes)
     for (path, node) in part {
         put(nodes, path, node);
     }
+}
+
+/// Puts a node at a path where no directory stands, below which nothing can stand, and tells whether that was done. Where a growth is refused,
+/// the nodes stay as they were.
+pub(crate) fn replace_alone(
+    nodes: &mut Nodes,
+    at: &RelPath,
+    node: BaseNode,
+) -> Result<bool, AllocError>
+    ensures done { IfOk result (λ done. IsTrue done → is_dir (get_in nodes.old.entries at.now) ≡ false) }
+    ensures replaced { IfOk result (λ done. IsTrue done → (p : Path) → get_in nodes.new.entries p ≡ (if path_eq at.now p then Some node else get_in nodes.old.entries p)) }
+    ensures left { IfOk result (λ done. IsFalse done → nodes.new.entries ≡ nodes.old.entries) }
+    ensures unchanged { OnErr result (nodes.new.entries ≡ nodes.old.entries) }
+{
+    if let Some(BaseNode::Dir { .. }) = nodes.get(at) {
+        return Ok(false);
+    }
+    nodes.insert(at.clone()?, node)?;
+    Ok(true)
 }
 
 /// Puts a part in the place of what stands at a path and below. Where a growth is refused, the nodes stay as they were.
