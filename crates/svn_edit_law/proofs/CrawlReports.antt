@@ -209,7 +209,7 @@ directory_above w shape p q below some = by (split_within p q parts.0)
         at (name ∷ r) e = directory_over w shape r p name (λ n. some (ap w e ∙ n))
 
 -- what is in a list comes after what comes before all its paths
-present_after : (x : Path) (es : List (Path × BaseNode)) → AllByRecursion (λ q. path_cmp x q ≡ Less) (keys_of es)
+pub present_after : (x : Path) (es : List (Path × BaseNode)) → AllByRecursion (λ q. path_cmp x q ≡ Less) (keys_of es)
     → (p : Path) (b : BaseNode) → get_in es p ≡ Some b → path_cmp x p ≡ Less
 present_after x [] h p b e = absurd (none e)
   where

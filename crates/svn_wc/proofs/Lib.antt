@@ -42,3 +42,5 @@ pub mod Unswitched
 pub mod UnswitchedCalls
 -- What a copy reports if no path is switched and all nodes are of one revision: the root alone.
 pub mod LevelCrawl
+-- A part is put over nodes that stand at all its paths, in one pass over them.
+pub mod Overwriting

@@ -9,3 +9,4 @@ pub mod Listed
 pub mod Lines
 pub mod Unswitched
 pub mod Tails
+pub mod Overwriting

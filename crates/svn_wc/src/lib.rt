@@ -33,6 +33,7 @@ mod forget;
 mod gather;
 mod lines;
 mod listed;
+mod overwrite;
 mod paths;
 mod replace;
 mod truth;

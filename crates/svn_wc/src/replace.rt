@@ -8,12 +8,16 @@ ghost use Rattle.svn_types.specs.Paths.{path_eq, is_within};
 ghost use Rattle.svn_model.specs.Nodes.{get_in, InPathOrder, is_dir};
 
 use crate::ahead::Ahead;
+use crate::overwrite::overwrite_all;
 use std::alloc::{AllocError, Global};
 use std::cmp::Ordering;
 use std::ops::Bound;
 use svn_edit::{Nodes, remove_all};
 use svn_model::BaseNode;
 use svn_types::RelPath;
+
+// Where a part has over this part of all nodes, a pass over them costs less than to look each of its paths up.
+const MANY: usize = 8;
 
 // Whether something stands at a path among nodes that are gone through in order: those up to the path are passed.
 fn pass_to(beside: &mut Ahead<'_, RelPath, BaseNode>, path: &RelPath) -> bool
@@ -109,6 +113,18 @@ fn put_all(nodes: &mut Nodes, part: Nodes)
     }
 }
 
+// Puts a part into the nodes, at paths where something stands: in one pass over all nodes, where it has many of them.
+fn put_over(nodes: &mut Nodes, part: Nodes)
+    requires places { (p : Path) → is_some (get_in part.entries p) ≡ true → is_some (get_in nodes.old.entries p) ≡ true }
+    ensures { (p : Path) → get_in nodes.new.entries p ≡ option_or (get_in part.entries p) (get_in nodes.old.entries p) }
+{
+    if part.len() > nodes.len() / MANY {
+        overwrite_all(nodes, part);
+    } else {
+        put_all(nodes, part);
+    }
+}
+
 /// Puts a node at a path where no directory stands, below which nothing can stand, and tells whether that was done. Where a growth is refused,
 /// the nodes stay as they were.
 pub(crate) fn replace_alone(
@@ -143,6 +159,6 @@ pub(crate) fn replace_within(
     let new = paths_without(alloc, at, &part, nodes)?;
     make_room(nodes, &new)?;
     remove_all(nodes, &gone);
-    put_all(nodes, part);
+    put_over(nodes, part);
     Ok(())
 }
