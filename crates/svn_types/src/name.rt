@@ -1,5 +1,5 @@
 //! Names of files and directories.
-ghost use Rattle.std.specs.Prelude.{◌≡◌, refl, nat_eq, IfOk, Some, None};
+ghost use Rattle.std.specs.Prelude.{◌≡◌, refl, nat_eq, IfOk, OnOk, OnErr, Some, None};
 ghost use Rattle.std.specs.List.{list_all};
 ghost use Rattle.std.specs.Ordering.{nat_cmp};
 ghost use Rattle.std.specs.Cmp.Lexicographic.{pointwise, slice_cmp, nat_list_eq_equiv, nat_list_cmp_total, texts_ties, texts_po};
@@ -99,6 +99,14 @@ impl Name {
         Name {
             text: SmallText::of_byte(b'-'),
         }
+    }
+
+    /// Makes another name this one, where that lies.
+    pub(crate) fn write_to(&self, place: &mut Name) -> Result<(), AllocError>
+        ensures written { OnOk result (place.new ≡ self.now) }
+        ensures unchanged { OnErr result (place.new ≡ place.old) }
+    {
+        self.text.write_to(&mut place.text)
     }
 
     /// Its text, of 1 to 255 bytes. It takes no memory.

@@ -1,44 +1,52 @@
 //! Paths of several names that lie in one block with their key.
-ghost use Rattle.std.specs.Prelude.{◌≡◌, ◌+◌, ◌≤◌, ◌++◌, length, true, IfOk};
+ghost use Rattle.std.specs.Prelude.{◌≡◌, ◌+◌, ◌≤◌, ◌++◌, length, take, true, IfOk, OnOk};
 ghost use Rattle.svn_types.specs.PathKeys.{path_key, is_plain_path};
 
 use crate::name::Name;
 use crate::short_key::ShortKey;
-use arrayvec::ArrayVec;
 use std::alloc::AllocError;
-use std::default::MadeWith;
+use std::array;
 use std::marker::Model;
-
-/// What stands for the names where a block has room for more.
-#[derive(Clone, Copy)]
-pub(crate) struct Blank;
-
-impl MadeWith<Blank> for Name {
-    fn made_with(_blank: Blank) -> Name {
-        Name::blank()
-    }
-}
 
 /// Up to `N` names, and beside them their key of at most `K` bytes. `K` is below 256. A contract sees it as the list of the names.
 #[derive(Drop)]
 pub(crate) struct PathBlock<const N: usize, const K: usize> {
-    names: ArrayVec<Name, N, Blank>,
+    // Blanks stand behind the names.
+    names: [Name; N],
+    count: usize,
     key: ShortKey<K>,
 }
 
 impl<const N: usize, const K: usize> Model for PathBlock<N, K> {
-    ghost use Rattle.std.specs.Prelude.{◌≡◌, ℕ, List, true};
+    ghost use Rattle.std.specs.Prelude.{◌≡◌, ◌≤◌, ℕ, List, length, take, true};
     ghost use Rattle.svn_types.specs.PathKeys.{path_key, is_plain_path};
 
     ghost Value = { List (List ℕ) };
 
-    ghost view = { λ p. p.names.items };
+    ghost view = { λ p. take p.count p.names };
 
-    ghost invariant = { λ p. (is_plain_path p.names.items ≡ true) × (p.key ≡ path_key p.names.items) };
+    ghost invariant = { λ p. (p.count ≤ N) × (length p.names ≡ N) × (is_plain_path (take p.count p.names) ≡ true) × (p.key ≡ path_key (take p.count p.names)) };
+}
+
+// Writes names over those from `start` on, each where it stays: what is handed on is copied in pieces, for which a processor waits.
+fn write_at<const N: usize>(
+    room: &mut [Name; N],
+    start: usize,
+    names: &[Name],
+) -> Result<(), AllocError>
+    requires { start + length names.now ≤ N }
+    ensures written { OnOk result (take (start + length names.now) room.new ≡ take start room.old ++ names.now) }
+    ensures len { length room.new ≡ N }
+{
+    'name: for i in 0..names.len() {
+        names[i].write_to(&mut room[start + i])?;
+    }
+    Ok(())
 }
 
 impl<const N: usize, const K: usize> PathBlock<N, K> {
-    /// These names and those behind them, which have this key.
+    /// These names and those behind them, which have this key. Inlined, so that the block is made where it stays.
+    #[inline(always)]
     pub(crate) fn of(
         names: &[Name],
         more: &[Name],
@@ -49,21 +57,21 @@ impl<const N: usize, const K: usize> PathBlock<N, K> {
         requires plain { is_plain_path (names.now ++ more.now) ≡ true }
         ensures { IfOk result (λ p. p ≡ names.now ++ more.now) }
     {
-        let mut all = ArrayVec::new_in(Blank);
-        for name in names {
-            all.push(name.clone()?);
-        }
-        for name in more {
-            all.push(name.clone()?);
-        }
-        Ok(PathBlock { names: all, key })
+        let mut all: [Name; N] = array::from_fn(|_| Name::blank());
+        write_at(&mut all, 0, names)?;
+        write_at(&mut all, names.len(), more)?;
+        Ok(PathBlock {
+            names: all,
+            count: names.len() + more.len(),
+            key,
+        })
     }
 
     /// The names, from the root down.
     pub(crate) fn names(&self) -> &[Name]
         ensures { result.now ≡ self.now }
     {
-        self.names.as_slice()
+        &self.names[..self.count]
     }
 
     /// Their key.

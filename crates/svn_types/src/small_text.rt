@@ -1,5 +1,5 @@
 //! Texts of names, which are cheap to clone.
-ghost use Rattle.std.specs.Prelude.{◌≡◌, ◌<◌, ◌∷◌, [], nat_eq, IfOk};
+ghost use Rattle.std.specs.Prelude.{◌≡◌, ◌<◌, ◌∷◌, [], nat_eq, IfOk, OnOk, OnErr};
 ghost use Rattle.std.specs.Arc.{arc_str_bytes};
 ghost use Rattle.std.specs.Ordering.{nat_cmp};
 ghost use Rattle.std.specs.Cmp.Lexicographic.{pointwise, slice_cmp};
@@ -77,6 +77,23 @@ impl SmallText {
         ensures { result ≡ pointwise nat_eq self.now other.now }
     {
         self.order(other).is_eq()
+    }
+
+    /// Makes another text this one, where that lies.
+    pub(crate) fn write_to(&self, place: &mut SmallText) -> Result<(), AllocError>
+        ensures written { OnOk result (place.new ≡ self.now) }
+        ensures unchanged { OnErr result (place.new ≡ place.old) }
+    {
+        match &self.form {
+            NameForm::Short(bytes) => {
+                place.form = NameForm::Short(bytes.copy());
+                Ok(())
+            }
+            NameForm::Long(text) => {
+                *place = shared(text)?;
+                Ok(())
+            }
+        }
     }
 
     pub(crate) fn as_str(&self) -> &str
