@@ -8,15 +8,13 @@ use Rattle.svn_editor.specs.declared.fault.EditFault.{EditFault}
 use Rattle.svn_editor.specs.Steps.{Mode}
 use Rattle.svn_edit.specs.declared.edit.Edit.{Edit}
 use Rattle.svn_edit.specs.Applying.{StandsAfter, mode_of as edit_mode}
-use Rattle.svn_model.specs.declared.base_node.BaseNode.{BaseNode}
-use Rattle.svn_model.specs.declared.base_node.BaseNode.TheVariants.{File as FileNode, Dir as DirNode, NotPresent}
 use Rattle.svn_model.specs.declared.drive_fault.DriveFault.{DriveFault}
 use Rattle.svn_model.specs.declared.drive_fault.DriveFault.TheVariants.{NoSuchTarget, NoRoot as RootMissing, OtherRoot as RootOther}
 use Rattle.svn_model.specs.Checks.{target_fault}
 use Rattle.svn_model.specs.Crawl.{crawl}
 use Rattle.svn_model.specs.Follow.{root_path}
 use Rattle.svn_model.specs.Sources.{reported, source, is_hidden, governing_revision}
-use Rattle.svn_model.specs.Nodes.{get_in, is_dir, is_present, node_path, node_revision}
+use Rattle.svn_model.specs.Nodes.{get_in, node_path, node_revision}
 use Rattle.svn_edit_law.proofs.OneNode.{dir_present}
 use Rattle.svn_law.specs.Laws.{IsTrueCopy}
 use Rattle.svn_run.specs.declared.outcome.RunFault.TheVariants.{NoSuchRevision, NoRoot, OtherRoot}

@@ -95,8 +95,30 @@ fn task_of(alloc: Global, target: Rev, switches: bool, options: Options) -> Task
     }
 }
 
-// A whole run.
+// A whole run. A copy that stands at its target notes that all of it is of one revision.
 fn run_in_threads<R: Threads + Wait + Sync, G: Gate>(
+    rt: &R,
+    gate: &G,
+    task: &Task,
+    to: &RelPath,
+    repo: &Repo,
+    copy: &mut WorkingCopy,
+    capacity: usize,
+) -> Result<(Outcome, Settled), RunFault>
+    requires truth { IsTrueOf repo.now (get_in copy.old) }
+    ensures { ThreadsTheorem (asked repo.now copy.old task.now.target (mode_by task.now.switches to.now) task.now.options.late_texts task.now.options.cancel_after) capacity copy.new result }
+{
+    match bring_in_threads(rt, gate, task, to, repo, copy, capacity) {
+        Ok((Outcome::Closed { calls }, passed)) => {
+            copy.note_level();
+            Ok((Outcome::Closed { calls }, passed))
+        }
+        otherwise => otherwise,
+    }
+}
+
+// A whole run, of which the copy notes nothing.
+fn bring_in_threads<R: Threads + Wait + Sync, G: Gate>(
     rt: &R,
     gate: &G,
     task: &Task,

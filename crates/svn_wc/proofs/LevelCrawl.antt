@@ -1,5 +1,5 @@
 -- What a copy reports if no path is switched, and all nodes are present, complete and of one revision: the root alone.
-use Rattle.std.proofs.Common.{◌≡◌, ◌≢◌, ℕ, Bool, true, false, not, cond, List, [], ◌∷◌, ◌++◌, nat_eq, refl, sym, ap, ◌∙◌, subst, Option, Some}
+use Rattle.std.proofs.Common.{◌≡◌, ◌≢◌, ℕ, Bool, true, false, ◌&&◌, not, cond, List, [], ◌∷◌, ◌++◌, nat_eq, refl, sym, ap, ◌∙◌, subst, Option, Some}
 use Rattle.std.proofs.Common.{None, true≢false, ◌⊎◌, inl, inr, append_assoc}
 use Rattle.std.specs.Prelude.{filter_map}
 use Rattle.std.specs.List.{list_all, cons_option}
@@ -20,8 +20,7 @@ use Rattle.svn_edit_law.proofs.CrawlReports.{root_first}
 use Rattle.svn_edit_law.proofs.NodeLists.{get_in-first}
 use Rattle.svn_edit_law.proofs.Lookups.{get_in-append}
 use Rattle.svn_edit.proofs.NodeOrder.{at_first, before_behind}
-use Rattle.svn_wc.specs.Unswitched.{is_level}
-use Rattle.svn_wc.specs.Unswitched.{IsUnswitched}
+use Rattle.svn_wc.specs.Unswitched.{is_level, IsUnswitched, IsLevel}
 use Rattle.svn_wc.proofs.PathLines.{next_stands, append_one}
 use Rattle.svn_wc.proofs.Unswitched.{dir_present}
 
@@ -61,6 +60,22 @@ root_found : (e : Path × BaseNode) → e.0 ≡ [] → is_some (get_in (e ∷ []
 root_found e is = ap (λ (p : Path). is_some (get_in (e ∷ []) p)) (sym is) ∙ ap is_some (at_first e [])
 
 -- ---- all of them
+
+-- what is known of each path, of the list
+pub all_level : (nodes : List (Path × BaseNode)) → InPathOrder nodes → IsWorkingCopy (get_in nodes) → IsLevel (get_in nodes)
+    → (rev : ℕ) → node_revision (get_in nodes []) ≡ rev → list_all (λ e. is_level rev e.1) nodes ≡ true
+all_level nodes order shape level rev root =
+    subst (λ r. list_all (λ (e : Path × BaseNode). is_level r e.1) nodes ≡ true) (same (get_in nodes []) refl) (each [] nodes refl)
+  where
+    same : (o : Option BaseNode) → get_in nodes [] ≡ o → level.0 ≡ rev
+    same None e = absurd (true≢false (sym shape.root ∙ ap is_dir e))
+    same (Some n) e =
+        let here : AtLevel level.0 (Some n) = at_level level.0 n (level.1 [] n e) in sym here.revision ∙ ap node_revision (sym e) ∙ root
+
+    each : (done left : List (Path × BaseNode)) → nodes ≡ done ++ left → list_all (λ (e : Path × BaseNode). is_level level.0 e.1) left ≡ true
+    each done [] parts = refl
+    each done (e ∷ left) parts = λ i.
+        level.1 e.0 e.1 (next_stands nodes done e left parts order) i && each (done ++ e ∷ []) left (parts ∙ append_one done e left) i
 
 module _ (nodes : List (Path × BaseNode)) (order : InPathOrder nodes) (shape : IsWorkingCopy (get_in nodes))
     (unswitched : IsUnswitched (get_in nodes)) (rev : ℕ) (level : list_all (λ e. is_level rev e.1) nodes ≡ true) where

@@ -40,6 +40,8 @@ pub mod PropLines
 pub mod Unswitched
 -- A call of an applier keeps what is known of a copy of which no path is switched.
 pub mod UnswitchedCalls
+-- Nodes that are what the repository has at one revision are level.
+pub mod Level
 -- What a copy reports if no path is switched and all nodes are of one revision: the root alone.
 pub mod LevelCrawl
 -- A part is put over nodes that stand at all its paths, in one pass over them.

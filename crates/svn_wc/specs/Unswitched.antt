@@ -1,7 +1,8 @@
--- Copies of which no path is switched.
+-- Copies of which no path is switched, and copies of which all nodes are complete and of one revision.
 --     IsUnswitched w      each present node's repository path is that of the root joined with its path
 --     is_level rev node      the node is present and complete, and has that revision
-use Rattle.std.specs.Prelude.{◌≡◌, ℕ, Bool, true, false, ◌&&◌, ◌++◌, [], nat_eq}
+--     IsLevel w      all nodes are so for one revision
+use Rattle.std.specs.Prelude.{◌≡◌, ℕ, Bool, true, false, ◌&&◌, ◌++◌, [], nat_eq, Some}
 use Rattle.svn_types.specs.Names.{Path}
 use Rattle.svn_model.specs.declared.base_node.BaseNode.{BaseNode}
 use Rattle.svn_model.specs.declared.base_node.BaseNode.TheVariants.{File as FileNode, Dir as DirNode, NotPresent}
@@ -14,3 +15,6 @@ abbrev pub is_level : ℕ → BaseNode → Bool
 is_level rev (FileNode r q text props) = nat_eq r rev
 is_level rev (DirNode r q complete props) = complete && nat_eq r rev
 is_level rev NotPresent = false
+
+abbrev pub IsLevel : WorkingCopy → Type 0
+IsLevel w = (rev : ℕ) × ((p : Path) (n : BaseNode) → w p ≡ Some n → is_level rev n ≡ true)

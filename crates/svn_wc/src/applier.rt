@@ -103,6 +103,7 @@ impl<'a> Applier<'a> {
         let copy = &mut *self.copy;
         let was_unswitched = copy.is_unswitched;
         copy.is_unswitched = false;
+        copy.is_level = false;
         let answer = self.edit.call(&mut copy.nodes, &call);
         copy.is_unswitched = knows_unswitched(is_update, was_unswitched, &call, &answer);
         answer

@@ -132,6 +132,7 @@ impl WorkingCopy {
             alloc,
             nodes,
             is_unswitched: true,
+            is_level: true,
         })
     }
 
@@ -240,9 +241,11 @@ impl WorkingCopy {
         let WorkingCopy {
             nodes,
             is_unswitched,
+            is_level,
             ..
         } = self;
         *is_unswitched = false;
+        *is_level = false;
         replace_alone(nodes, path, node)
     }
 
@@ -261,6 +264,7 @@ impl WorkingCopy {
     {
         let part = tree_nodes(from, path, repos_path, id)?;
         self.is_unswitched = false;
+        self.is_level = false;
         replace_within(self.alloc, &mut self.nodes, path, part)
     }
 

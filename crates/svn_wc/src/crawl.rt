@@ -145,6 +145,18 @@ fn are_level(nodes: &Nodes, rev: Rev) -> bool
 }
 
 impl WorkingCopy {
+    // Whether all nodes are known to be of the root's revision and complete, or else are found to be.
+    fn is_all_level(&self, rev: Rev) -> bool
+        requires root { node_revision (get_in self.now []) ≡ rev }
+        ensures level { result ≡ true → list_all (λ e. is_level rev e.1) self.now ≡ true }
+    {
+        self.law();
+        if self.is_level {
+            return true;
+        }
+        are_level(&self.nodes, rev)
+    }
+
     // What the copy reports if no path is switched, and all nodes are present, complete and of one revision: the root alone.
     fn crawl_level(&self, alloc: Global) -> Result<Option<Report>, WcFault>
         ensures report { IfOk result (λ o. IfSome o (λ r. r ≡ crawl self.now)) }
@@ -158,7 +170,7 @@ impl WorkingCopy {
         let Some(node) = self.nodes.get(&root) else {
             return Ok(None);
         };
-        if !are_level(&self.nodes, revision(node)) {
+        if !self.is_all_level(revision(node)) {
             return Ok(None);
         }
         let mut reporter = Reporter::new_at(alloc, self.root_path(alloc)?);

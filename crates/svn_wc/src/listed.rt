@@ -167,6 +167,7 @@ impl WorkingCopy {
             alloc,
             nodes: map,
             is_unswitched: false,
+            is_level: false,
         })
     }
 }

@@ -1,4 +1,4 @@
-use Rattle.std.proofs.Common.{sym, ap, ◌∙◌, subst, List}
+use Rattle.std.proofs.Common.{sym, ap, ◌∙◌, subst, List, true≢false}
 use Rattle.std.specs.BTreeMap.{BTreeMap}
 use Rattle.md5.specs.Md5.{md5}
 use Rattle.svn_types.specs.Names.{Path}
@@ -68,6 +68,7 @@ invariant_of-copy c =
           still_unswitched c.args.self.now.edit c.call-answer.new.self _ _ c.args.call c.call-answer.result takes in_shape shape
           c.is_update-is_update.result c.is_update-is_update.ensures _ _ c.knows_unswitched-copy-inside.ensures.update
           c.knows_unswitched-copy-inside.ensures.switch known c.copy.invariant.1),
+      λ known. absurd (true≢false (sym known)),
     )
 
 pub invariant_of-self : goal.invariant_of-self

@@ -1,9 +1,11 @@
-use Rattle.std.proofs.Common.{◌≡◌, sym, ap, subst, ◌∙◌}
+use Rattle.std.proofs.Common.{◌≡◌, ◌++◌, sym, ap, subst, ◌∙◌}
 use Rattle.svn_types.specs.Names.{Path}
+use Rattle.svn_repo.specs.History.{look}
 use Rattle.svn_model.specs.Nodes.{WorkingCopy, get_in, IsWorkingCopy, IsTrueOf}
 use Rattle.svn_model.specs.Builders.{checkout}
 use Rattle.svn_wc.specs.Building.{tree_at}
-use Rattle.svn_wc.specs.Unswitched.{IsUnswitched}
+use Rattle.svn_wc.specs.Unswitched.{IsUnswitched, IsLevel}
+use Rattle.svn_wc.proofs.Level.{made_level}
 use Rattle.svn_wc.proofs.Unswitched.{checkout_unswitched}
 use Rattle.svn_wc.proofs.working_copy.WorkingCopy.checkout_at.Goals as goal
 
@@ -15,6 +17,8 @@ invariant_of-result c =
     (c.a_checkout_is_a_true_copy.ensures c.args.repo.now c.args.root.now c.args.rev c.law.ensures.history c.in_ok-id.ensures.made).0 in (
       subst IsWorkingCopy (λ i p. sym (nodes p) i) shape,
       λ known. subst IsUnswitched (λ i p. sym (nodes p) i) (checkout_unswitched c.args.repo.now c.args.root.now c.args.rev shape),
+      λ known. subst IsLevel (λ i p. sym (nodes p) i)
+          (made_level c.args.repo.now c.args.rev (λ p. c.args.root.now ++ p) (λ p. look c.args.repo.now c.args.rev (c.args.root.now ++ p))),
     )
 
 pub returns-clause-truth : goal.returns-clause-truth

@@ -1,4 +1,4 @@
-use Rattle.std.proofs.Common.{◌≡◌, true, false, cond, List, None, sym, ap, subst, ◌∙◌}
+use Rattle.std.proofs.Common.{◌≡◌, true, false, cond, List, None, sym, ap, subst, ◌∙◌, true≢false}
 use Rattle.std.specs.Option.{option_map}
 use Rattle.svn_types.specs.Names.{Path}
 use Rattle.svn_types.specs.Paths.{path_eq, is_root, is_below}
@@ -38,6 +38,7 @@ invariant_of-self c =
       λ known. subst IsUnswitched (λ i p. sym (returns-clause-nodes c p) i)
           (forgotten_unswitched (get_in c.args.self.now) at
           (subst (λ (l : List (Path × BaseNode)). IsUnswitched (get_in l)) c.self.view_is (c.self.invariant.1 known)) shape),
+      λ known. absurd (true≢false (sym known)),
     )
 
 pub returns-clause-truth : goal.returns-clause-truth

@@ -25,4 +25,5 @@ invariant_of-self c = (
   shape_if_done c.replace_alone.result c.self.inside.nodes.entries c.replace_alone.new.nodes.entries _ (returns-clause-done c)
       c.replace_alone.ensures.left c.replace_alone.ensures.unchanged c.requires.shape c.self.invariant.0,
   λ known. absurd (true≢false (sym known)),
+  λ known. absurd (true≢false (sym known)),
 )

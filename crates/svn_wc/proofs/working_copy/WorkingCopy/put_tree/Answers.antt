@@ -18,4 +18,5 @@ invariant_of-self c = (
   shape_after c.replace_within.result c.self.inside.nodes.entries c.replace_within.new.nodes.entries _ (returns-clause-nodes c)
       c.replace_within.ensures.unchanged c.requires.shape c.self.invariant.0,
   λ known. absurd (true≢false (sym known)),
+  λ known. absurd (true≢false (sym known)),
 )
