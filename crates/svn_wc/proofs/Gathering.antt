@@ -1,5 +1,5 @@
 -- A tree of the repository is gathered: its node first, and then the entries in order of their names.
-use Rattle.std.proofs.Common.{◌≡◌, ℕ, ◌≤◌, length, arith, true, false, cond, List, [], ◌∷◌, ◌++◌, refl, sym, ap, ◌∙◌, Option, Some, None, append_assoc}
+use Rattle.std.proofs.Common.{◌≡◌, ℕ, ◌≤◌, length, arith, true, false, cond, List, [], ◌∷◌, ◌++◌, refl, sym, ap, ◌∙◌, subst, Option, Some, None, append_assoc}
 use Rattle.std.proofs.lemmas.List.{append-nil, length-append, length-drop, drop-append-le}
 use Rattle.std.specs.Option.{is_some, IfNone}
 use Rattle.svn_types.specs.Names.{Path}
@@ -100,6 +100,18 @@ module _ (h : History) (rev : ℕ) (at q : Path) (n : ℕ) (w w1 : WorkingCopy)
         filled r =
             ap w3 (sym (append_assoc at (e.0 ∷ []) r)) ∙ puts.inside r
             ∙ sym (ap (λ o. standing_at h rev q e.0 o r) (among e.0 e.1 (value_of-first e left)))
+
+    -- the same for paths that are those of the entry
+    module _ (at_below below : Path) (is_at : at_below ≡ at ++ e.0 ∷ []) (is_below : below ≡ q ++ e.0 ∷ []) where
+      pub fill_free_at : (r : Path) → w2 (at_below ++ r) ≡ None
+      fill_free_at r = ap (λ (p : Path). w2 (p ++ r)) is_at ∙ fill_free r
+
+      pub fill_next_at : AreAmong (e ∷ left) (entries_of h n) → Puts (standing h rev below e.1) at_below w2 w3
+          → IsSwept at left Free Filled w1 w3 × AreAmong left (entries_of h n)
+      fill_next_at among puts =
+          fill_next among
+          (subst (λ (p : Path). Puts (standing h rev (q ++ e.0 ∷ []) e.1) p w2 w3) is_at
+          (subst (λ (p : Path). Puts (standing h rev p e.1) at_below w2 w3) is_below puts))
 
 -- a list with one pair more
 pub gathered-pushed : (xs ys : List (Path × BaseNode)) (k : Path) (n : BaseNode) → ys ≡ xs ++ (k, n) ∷ [] → (p : Path)

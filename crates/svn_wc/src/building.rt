@@ -237,7 +237,8 @@ impl WorkingCopy {
         ensures unchanged { OnErr result (self.new ≡ self.old) }
     {
         self.law();
-        let node = node_of(from.alloc, from.repo, from.rev, repos_path, id)?;
+        let own = repos_path.clone()?;
+        let node = node_of(from.alloc, from.repo, from.rev, own, id)?;
         let WorkingCopy {
             nodes,
             is_unswitched,

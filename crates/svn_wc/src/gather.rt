@@ -3,7 +3,7 @@ ghost use Rattle.std.specs.Prelude.{◌≡◌, ◌+◌, ◌<◌, ◌++◌, ◌�
 ghost use Rattle.std.specs.BTreeMap.{IsFromIterResult};
 ghost use Rattle.svn_types.specs.Names.{Path, path_cmp, depth_limit};
 ghost use Rattle.svn_types.specs.Paths.{path_eq};
-ghost use Rattle.svn_repo.specs.Readings.{kind_of, text_of, props_of};
+ghost use Rattle.svn_repo.specs.Readings.{kind_of, text_of, props_of, entries_of};
 ghost use Rattle.svn_model.specs.Nodes.{base_node};
 ghost use Rattle.svn_wc.specs.Gathered.{gathered};
 ghost use Rattle.svn_wc.specs.Tails.{IsTail};
@@ -37,17 +37,17 @@ fn clone_text(alloc: Global, repo: &Repo, id: NodeId) -> Result<Text, AllocError
     }
 }
 
-/// A node of the repository as a copy has it that is up to date.
+/// A node of the repository as a copy has it that is up to date. Inlined, so that it is made where it stays.
+#[inline(always)]
 pub(crate) fn node_of(
     alloc: Global,
     repo: &Repo,
     rev: Rev,
-    path: &RelPath,
+    repos_path: RelPath,
     id: NodeId,
 ) -> Result<BaseNode, AllocError>
-    ensures { IfOk result (λ n. n ≡ base_node repo.now rev path.now id) }
+    ensures { IfOk result (λ n. n ≡ base_node repo.now rev repos_path id) }
 {
-    let repos_path = path.clone()?;
     let props = clone_props(alloc, repo, id)?;
     match repo.kind(id) {
         Some(Kind::Directory) => Ok(BaseNode::Dir {
@@ -121,6 +121,7 @@ fn paths_below(
 {
     let below = child_path(from.alloc, repos_path, name)?;
     let at_below = match from.front {
+        Some(0) => below.clone()?,
         Some(front) => below.tail(from.alloc, front)?,
         None => child_path(from.alloc, at, name)?,
     };
@@ -137,8 +138,26 @@ fn push_node(
 ) -> Result<(), AllocError>
     ensures { OnOk result ((p : Path) → gathered pairs.new.items p ≡ (if path_eq at.now p then Some (base_node from.now.repo.now from.now.rev repos_path.now id) else gathered pairs.old.items p)) }
 {
-    let node = node_of(from.alloc, from.repo, from.rev, repos_path, id)?;
+    let own = repos_path.clone()?;
+    let node = node_of(from.alloc, from.repo, from.rev, own, id)?;
     pairs.push((at.clone()?, node))?;
+    Ok(())
+}
+
+// Adds a node beneath which nothing stands, which gets the paths themselves.
+fn push_leaf(
+    from: &Origin<'_>,
+    at: RelPath,
+    repos_path: RelPath,
+    id: NodeId,
+    pairs: &mut Vec<(RelPath, BaseNode)>,
+) -> Result<(), AllocError>
+    requires free { (r : Path) → gathered pairs.old.items (at ++ r) ≡ None }
+    requires leaf { entries_of from.now.repo.now id ≡ [] }
+    ensures { OnOk result (Puts (standing from.now.repo.now from.now.rev repos_path id) at (gathered pairs.old.items) (gathered pairs.new.items)) }
+{
+    let node = node_of(from.alloc, from.repo, from.rev, repos_path, id)?;
+    pairs.push((at, node))?;
     Ok(())
 }
 
@@ -160,7 +179,10 @@ pub(crate) fn gather(
     };
     for (name, child) in entries.iter() {
         let (at_below, below) = paths_below(from, at, repos_path, name)?;
-        gather(from, &at_below, &below, *child, pairs)?;
+        match from.repo.entries(*child) {
+            Some(_) => gather(from, &at_below, &below, *child, pairs)?,
+            None => push_leaf(from, at_below, below, *child, pairs)?,
+        }
     }
     Ok(())
 }

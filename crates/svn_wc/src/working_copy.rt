@@ -24,7 +24,7 @@ pub struct WorkingCopy {
     pub(crate) nodes: BTreeMap<RelPath, BaseNode>,
     // Whether it is known that no path is switched: then no two paths are compared where all nodes are of one revision.
     pub(crate) is_unswitched: bool,
-    // Whether it is known that all nodes are: then a crawl looks at none of them.
+    // Whether it is known that all nodes are present, complete and of one revision: then a crawl looks at none of them.
     pub(crate) is_level: bool,
 }
 

@@ -1,10 +1,8 @@
 use Rattle.std.proofs.Common.{◌≡◌, ◌+◌, ℕ, List, [], ◌∷◌, ◌++◌, length, length-append, arith, subst, sym, ap, ◌∙◌}
-use Rattle.svn_types.specs.Names.{Path}
 use Rattle.svn_types.specs.Pairs.{InNameOrder}
 use Rattle.svn_repo.specs.Readings.{entries_of}
 use Rattle.svn_wc.specs.Gathered.{gathered}
-use Rattle.svn_wc.specs.Standing.{Puts, standing}
-use Rattle.svn_wc.proofs.Gathering.{fill_begins, fill_ends, fill_leaf, fill_free, fill_next, when_none}
+use Rattle.svn_wc.proofs.Gathering.{fill_begins, fill_ends, fill_leaf, fill_free_at, fill_next_at, when_none}
 use Rattle.svn_wc.proofs.gather.+gather.Goals as goal
 
 pub returns-in_default : goal.returns-in_default
@@ -27,41 +25,47 @@ loop-name-init t c =
 
 pub gather-requires : goal.gather-requires
 gather-requires t c =
-    let below : c.in_ok-at_below.at_below ≡ c.args.at.now ++ c.in-Some-2.name.now ∷ [] = c.in_ok-at_below.ensures.at in
+    let at : c.in_ok-at_below.at_below ≡ c.args.at.now ++ c.in-Some-2.name.now ∷ [] = c.in_ok-at_below.ensures.at in
     let longer : length c.in_ok-at_below.at_below ≡ length c.args.at.now + 1 =
-    ap length below ∙ length-append c.args.at.now (c.in-Some-2.name.now ∷ []) in
+    ap length at ∙ length-append c.args.at.now (c.in-Some-2.name.now ∷ []) in
     let step : c.loop-name.name-iterator ≡ (c.in-Some-2.name.now, c.in-Some-2.child.now) ∷ c.next.new.self = c.in-Some-2.ensures.steps in
     let inv = rw step at c.loop-name.invariant in (
       omega (arith, longer, c.in_ok-at_below.ensures.bounded),
       (
-        λ r. ap (λ (p : Path). gathered c.loop-name.pairs.items (p ++ r)) below
-            ∙ fill_free c.args.from.now.repo.now c.args.from.now.rev c.args.at.now c.args.repos_path.now c.args.id
-            (gathered c.args.pairs.now.items) (gathered c.push_node.new.pairs.items)
-            c.in_ok-push_node.ensures (c.in-Some-2.name.now, c.in-Some-2.child.now) c.next.new.self (gathered c.loop-name.pairs.items)
-            (gathered c.loop-name.pairs.items) inv.0 r,
+        fill_free_at c.args.from.now.repo.now c.args.from.now.rev c.args.at.now c.args.repos_path.now c.args.id (gathered c.args.pairs.now.items)
+            (gathered c.push_node.new.pairs.items) c.in_ok-push_node.ensures (c.in-Some-2.name.now, c.in-Some-2.child.now) c.next.new.self
+            (gathered c.loop-name.pairs.items) (gathered c.loop-name.pairs.items) inv.0 c.in_ok-at_below.at_below c.in_ok-at_below.below at
+            c.in_ok-at_below.ensures.repos_path,
         c.in_ok-at_below.ensures.tail,
       ),
     )
 
-pub loop-name-preserved : goal.loop-name-preserved
-loop-name-preserved t c =
-    let at : c.in_ok-at_below.at_below ≡ c.args.at.now ++ c.in-Some-2.name.now ∷ [] = c.in_ok-at_below.ensures.at in
-    let below : c.in_ok-at_below.below ≡ c.args.repos_path.now ++ c.in-Some-2.name.now ∷ [] = c.in_ok-at_below.ensures.repos_path in
+pub push_leaf-requires-clause-free : goal.push_leaf-requires-clause-free
+push_leaf-requires-clause-free t c =
     let step : c.loop-name.name-iterator ≡ (c.in-Some-2.name.now, c.in-Some-2.child.now) ∷ c.next.new.self = c.in-Some-2.ensures.steps in
     let inv = rw step at c.loop-name.invariant in
-    fill_next c.args.from.now.repo.now c.args.from.now.rev c.args.at.now c.args.repos_path.now c.args.id (gathered c.args.pairs.now.items)
-    (gathered c.push_node.new.pairs.items)
-    c.in_ok-push_node.ensures (c.in-Some-2.name.now, c.in-Some-2.child.now) c.next.new.self (gathered c.loop-name.pairs.items)
-    (gathered c.gather.new.pairs.items) inv.0 inv.1
-    (subst
-    (λ (p : Path). Puts
-    (standing c.args.from.now.repo.now c.args.from.now.rev (c.args.repos_path.now ++ c.in-Some-2.name.now ∷ []) c.in-Some-2.child.now) p
-    (gathered c.loop-name.pairs.items) (gathered c.gather.new.pairs.items))
-    at
-    (subst
-    (λ (p : Path). Puts (standing c.args.from.now.repo.now c.args.from.now.rev p c.in-Some-2.child.now) c.in_ok-at_below.at_below
-    (gathered c.loop-name.pairs.items) (gathered c.gather.new.pairs.items))
-    below c.in_ok-gather.ensures))
+    fill_free_at c.args.from.now.repo.now c.args.from.now.rev c.args.at.now c.args.repos_path.now c.args.id (gathered c.args.pairs.now.items)
+    (gathered c.push_node.new.pairs.items) c.in_ok-push_node.ensures (c.in-Some-2.name.now, c.in-Some-2.child.now) c.next.new.self
+    (gathered c.loop-name.pairs.items) (gathered c.loop-name.pairs.items) inv.0 c.in_ok-at_below.at_below c.in_ok-at_below.below
+    c.in_ok-at_below.ensures.at c.in_ok-at_below.ensures.repos_path
+
+pub loop-name-preserved : goal.loop-name-preserved
+loop-name-preserved t c =
+    let step : c.loop-name.name-iterator ≡ (c.in-Some-2.name.now, c.in-Some-2.child.now) ∷ c.next.new.self = c.in-Some-2.ensures.steps in
+    let inv = rw step at c.loop-name.invariant in
+    fill_next_at c.args.from.now.repo.now c.args.from.now.rev c.args.at.now c.args.repos_path.now c.args.id (gathered c.args.pairs.now.items)
+    (gathered c.push_node.new.pairs.items) c.in_ok-push_node.ensures (c.in-Some-2.name.now, c.in-Some-2.child.now) c.next.new.self
+    (gathered c.loop-name.pairs.items) (gathered c.push_leaf.new.pairs.items) inv.0 c.in_ok-at_below.at_below c.in_ok-at_below.below
+    c.in_ok-at_below.ensures.at c.in_ok-at_below.ensures.repos_path inv.1 c.in_ok-push_leaf-in-None-entries.ensures
+
+pub loop-name-preserved-in-Some-entries-2 : goal.loop-name-preserved-in-Some-entries-2
+loop-name-preserved-in-Some-entries-2 t c =
+    let step : c.loop-name.name-iterator ≡ (c.in-Some-2.name.now, c.in-Some-2.child.now) ∷ c.next.new.self = c.in-Some-2.ensures.steps in
+    let inv = rw step at c.loop-name.invariant in
+    fill_next_at c.args.from.now.repo.now c.args.from.now.rev c.args.at.now c.args.repos_path.now c.args.id (gathered c.args.pairs.now.items)
+    (gathered c.push_node.new.pairs.items) c.in_ok-push_node.ensures (c.in-Some-2.name.now, c.in-Some-2.child.now) c.next.new.self
+    (gathered c.loop-name.pairs.items) (gathered c.gather.new.pairs.items) inv.0 c.in_ok-at_below.at_below c.in_ok-at_below.below
+    c.in_ok-at_below.ensures.at c.in_ok-at_below.ensures.repos_path inv.1 c.in_ok-gather-in-Some-entries.ensures
 
 pub returns : goal.returns
 returns t c =

@@ -14,7 +14,8 @@ returns-clause-done c =
     let old : List (Path × BaseNode) = c.self.inside.nodes.entries in
     both_ok _ _ _ c.replace_alone.result c.replace_alone.ensures.done c.replace_alone.ensures.replaced (λ done other put yes p.
     put yes p
-    ∙ ap (λ (n : BaseNode). cond (path_eq at p) (Some n) (get_in old p)) c.in_ok-node.ensures
+    ∙ ap (λ (n : BaseNode). cond (path_eq at p) (Some n) (get_in old p))
+    (c.in_ok-node.ensures ∙ ap (λ (q : Path). base_node h c.args.from.now.rev q c.args.id) c.in_ok-own.ensures.cases)
     ∙ ap (λ (nodes : List (Path × BaseNode)). cond (path_eq at p) (Some (base_node h c.args.from.now.rev c.args.repos_path.now c.args.id)) (get_in nodes p)) c.self.view_is
     ∙ file_placed h c.requires.history (get_in c.args.self.now) c.law.ensures.shape at c.args.repos_path.now
     c.args.from.now.rev c.args.id c.requires.stands c.requires.file
