@@ -34,8 +34,8 @@ leading_nil zero = refl
 leading_nil (suc n) = omega (arith, leading_nil n)
 
 -- behind its last byte nothing is left of a list
-pub no_second_word : (s : List ℕ) → length s ≤ 8 → leading 8 (drop 8 s) ≡ 0
-no_second_word s short = ap (leading 8) (drop_of_length-le s short) ∙ leading_nil 8
+pub no_second_word : (s : List ℕ) → length s ≤ 8 → leading 6 (drop 8 s) ≡ 0
+no_second_word s short = ap (leading 6) (drop_of_length-le s short) ∙ leading_nil 6
 
 pub leading_bounded : (n : ℕ) (s : List ℕ) → IsByteList s → leading n s < 256 ^ n
 unfolding leading
@@ -108,9 +108,10 @@ by_second_word b c p l m e = grind (arith, ap (λ d. d * p) e)
 pub unlike_heads : (p q : Path) (h k : Head) → IsHeadOf p h → IsHeadOf q k → (o : Ordering) → o ≡ nat_cmp (head_number h) (head_number k)
     → o ≢ Equal → o ≡ slice_cmp (slice_cmp nat_cmp) p q
 unlike_heads p q h k at_p at_q o is unlike =
-    let heads : o ≡ nat_cmp (leading 16 (path_key p)) (leading 16 (path_key q)) = is ∙ (λ i. nat_cmp (at_p.head_is i) (at_q.head_is i)) in
-    sym (heads_order 16 (path_key p) (path_key q) at_p.bytes at_q.bytes o heads unlike) ∙ key_order p q at_p.plain at_q.plain
+    let heads : o ≡ nat_cmp (leading 14 (path_key p)) (leading 14 (path_key q)) = is ∙ (λ i. nat_cmp (at_p.head_is i) (at_q.head_is i)) in
+    sym (heads_order 14 (path_key p) (path_key q) at_p.bytes at_q.bytes o heads unlike) ∙ key_order p q at_p.plain at_q.plain
 
 pub root_head : (p : Path) (h : Head) → head_number h ≡ 0 → p ≡ [] → IsHeadOf p h
 root_head p h nothing root =
-    subst (λ (q : Path). IsHeadOf q h) (sym root) (record { head_is = nothing ∙ sym (leading_nil 16); bytes = λ i. omega arith; plain = refl })
+    subst (λ (q : Path). IsHeadOf q h) (sym root)
+    (record { head_is = nothing ∙ sym (leading_nil 14); small = omega (arith, nothing); bytes = λ i. omega arith; plain = refl })

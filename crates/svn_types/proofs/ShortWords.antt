@@ -1,5 +1,5 @@
 -- Bytes with zeros behind them: words of eight of them tell their order.
-use Rattle.std.proofs.Common.{◌≡◌, ◌≢◌, ℕ, zero, suc, ◌+◌, ◌-◌, ◌*◌, ◌^◌, ◌<◌, ◌≤◌, refl, ap, sym, subst, ◌∙◌, arith}
+use Rattle.std.proofs.Common.{◌≡◌, ◌≢◌, ℕ, zero, suc, ◌+◌, ◌-◌, ◌*◌, ◌^◌, ◌/◌, ◌<◌, ◌≤◌, refl, ap, sym, subst, ◌∙◌, arith}
 use Rattle.std.proofs.Common.{List, [], ◌∷◌, length, take, drop, get_or}
 use Rattle.std.specs.declared.cmp.Ordering.{Ordering}
 use Rattle.std.specs.declared.cmp.Ordering.TheVariants.{Less, Equal, Greater}
@@ -91,8 +91,19 @@ same_front b c p l m below small same = by (nat_cmp b c) refl
 same_rest : (b c p l m : ℕ) → b ≡ c → b * p + l ≡ c * p + m → l ≡ m
 same_rest b c p l m front same = omega (arith, same, ap (λ d. d * p) front)
 
-dropped : (k : ℕ) (s : List ℕ) → IsByteList s → IsByteList (drop k s)
+pub dropped : (k : ℕ) (s : List ℕ) → IsByteList s → IsByteList (drop k s)
 dropped k s small i = subst (λ n. n < 256) (sym (get_or-drop k s i 0)) (small (k + i))
+
+-- the first six of eight bytes, and how large they are
+without_last : (h x y : ℕ) → h ≡ x * 65536 + y → y < 65536 → h / 65536 ≡ x
+without_last h x y is small = omega (arith, is, small)
+
+pub six_of_eight : (s : List ℕ) → IsByteList s → leading 8 s / 65536 ≡ leading 6 s
+six_of_eight s small =
+    without_last (leading 8 s) (leading 6 s) (leading 2 (drop 6 s)) (leading_split 6 2 s) (leading_bounded 2 (drop 6 s) (dropped 6 s small))
+
+pub six_bytes : (s : List ℕ) → IsByteList s → leading 6 (drop 8 s) < 281474976710656
+six_bytes s small = leading_bounded 6 (drop 8 s) (dropped 8 s small)
 
 -- lists that have the same first bytes have the same fewer ones
 same_start : (k n : ℕ) (s t : List ℕ) → IsByteList s → IsByteList t → leading (k + n) s ≡ leading (k + n) t → leading k s ≡ leading k t

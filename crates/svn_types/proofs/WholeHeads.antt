@@ -93,15 +93,15 @@ whole_same (suc n) (b ∷ s) (c ∷ t) small_s small_t some_s some_t end_s end_t
 last_byte : (x y h : ℕ) → y < 256 → h ≡ x * 256 + y → h % 256 ≡ y
 last_byte x y h small is = omega (arith, is)
 
-last_of_head : (first second x y : ℕ) → y < 256 → first * 18446744073709551616 + second ≡ x * 256 + y → second % 256 ≡ 0 → y ≡ 0
+last_of_head : (first second x y : ℕ) → y < 256 → first * 281474976710656 + second ≡ x * 256 + y → second % 256 ≡ 0 → y ≡ 0
 last_of_head first second x y small is last = omega (arith, is, last)
 
-last_zero : (s : List ℕ) → leading 1 (drop 15 s) ≡ get_or s 15 0
+last_zero : (s : List ℕ) → leading 1 (drop 13 s) ≡ get_or s 13 0
 unfolding leading
-last_zero s = omega (arith, first_left 15 s)
+last_zero s = omega (arith, first_left 13 s)
 
-split_head : (s : List ℕ) → leading 16 s ≡ leading 15 s * 256 + get_or s 15 0
-split_head s = leading_split 15 1 s ∙ (λ i. leading 15 s * 256 + last_zero s i)
+split_head : (s : List ℕ) → leading 14 s ≡ leading 13 s * 256 + get_or s 13 0
+split_head s = leading_split 13 1 s ∙ (λ i. leading 13 s * 256 + last_zero s i)
 
 fronts_same : (x y z : ℕ) → x * 256 + z ≡ y * 256 + z → x ≡ y
 fronts_same x y z e = omega arith
@@ -109,22 +109,22 @@ fronts_same x y z e = omega arith
 -- ---- paths
 
 pub whole_paths : (p q : Path) (h k : Head) → IsHeadOf p h → IsHeadOf q k → h.first ≡ k.first → h.second ≡ k.second
-    → k.second % 256 ≡ 0 → p ≡ q
+    → h.second % 256 ≡ 0 → p ≡ q
 whole_paths p q h k at_p at_q first second last =
     let s = path_key p in
     let t = path_key q in
-    let heads : head_number h ≡ head_number k = (λ i. first i * 18446744073709551616 + second i) in
-    let end_s : get_or s 15 0 ≡ 0 =
-    last_of_head h.first h.second (leading 15 s) (get_or s 15 0) (at_p.bytes 15) (at_p.head_is ∙ split_head s)
-    (ap (λ n. n % 256) second ∙ last) in
-    let end_t : get_or t 15 0 ≡ 0 =
-    last_of_head k.first k.second (leading 15 t) (get_or t 15 0) (at_q.bytes 15) (at_q.head_is ∙ split_head t) last in
-    let fronts : leading 15 s ≡ leading 15 t =
-    fronts_same (leading 15 s) (leading 15 t) 0
-    ((λ i. leading 15 s * 256 + sym end_s i) ∙ sym (split_head s) ∙ sym at_p.head_is ∙ heads ∙ at_q.head_is ∙ split_head t
-    ∙ (λ i. leading 15 t * 256 + end_t i)) in
+    let heads : head_number h ≡ head_number k = (λ i. first i * 281474976710656 + second i) in
+    let end_s : get_or s 13 0 ≡ 0 =
+    last_of_head h.first h.second (leading 13 s) (get_or s 13 0) (at_p.bytes 13) (at_p.head_is ∙ split_head s) last in
+    let end_t : get_or t 13 0 ≡ 0 =
+    last_of_head k.first k.second (leading 13 t) (get_or t 13 0) (at_q.bytes 13) (at_q.head_is ∙ split_head t)
+    (ap (λ n. n % 256) (sym second) ∙ last) in
+    let fronts : leading 13 s ≡ leading 13 t =
+    fronts_same (leading 13 s) (leading 13 t) 0
+    ((λ i. leading 13 s * 256 + sym end_s i) ∙ sym (split_head s) ∙ sym at_p.head_is ∙ heads ∙ at_q.head_is ∙ split_head t
+    ∙ (λ i. leading 13 t * 256 + end_t i)) in
     key_decides p q at_p.plain at_q.plain
-    (whole_same 15 s t at_p.bytes at_q.bytes (key_bytes p at_p.plain) (key_bytes q at_q.plain) end_s end_t fronts)
+    (whole_same 13 s t at_p.bytes at_q.bytes (key_bytes p at_p.plain) (key_bytes q at_q.plain) end_s end_t fronts)
 
 pub equal_paths : (p q : Path) → p ≡ q → pointwise (pointwise nat_eq) p q ≡ true
 equal_paths p q e = (pointwise_decides bytes_decides p q).1 e
@@ -138,7 +138,7 @@ unlike_paths p q h k at_p at_q unlike = by (pointwise (pointwise nat_eq) p q) re
     by true is =
         absurd
         (unlike
-        (at_p.head_is ∙ ap (λ (r : Path). leading 16 (path_key r)) ((pointwise_decides bytes_decides p q).0 (sym is)) ∙ sym at_q.head_is))
+        (at_p.head_is ∙ ap (λ (r : Path). leading 14 (path_key r)) ((pointwise_decides bytes_decides p q).0 (sym is)) ∙ sym at_q.head_is))
 
 ends_equal : (o : Ordering) → is_eq o ≡ true → Equal ≡ o
 ends_equal Less e = absurd (true≢false (sym e))
@@ -149,9 +149,9 @@ pub ordered_equal : (p q : Path) → p ≡ q → Equal ≡ slice_cmp (slice_cmp 
 ordered_equal p q e =
     ends_equal (slice_cmp (slice_cmp nat_cmp) p q) (sym (lists_ties (slice_cmp nat_cmp) texts_ties p q) ∙ equal_paths p q e)
 
-pub unlike_first : (b c l m : ℕ) → l < 18446744073709551616 → m < 18446744073709551616 → (b ≡ c → ⊥)
-    → b * 18446744073709551616 + l ≡ c * 18446744073709551616 + m → ⊥
-unlike_first b c l m small below unlike e = unlike (first_same b c 18446744073709551616 l m small below e)
+pub unlike_first : (b c l m : ℕ) → l < 281474976710656 → m < 281474976710656 → (b ≡ c → ⊥)
+    → b * 281474976710656 + l ≡ c * 281474976710656 + m → ⊥
+unlike_first b c l m small below unlike e = unlike (first_same b c 281474976710656 l m small below e)
 
-pub unlike_second : (b c l m : ℕ) → b ≡ c → (l ≡ m → ⊥) → b * 18446744073709551616 + l ≡ c * 18446744073709551616 + m → ⊥
+pub unlike_second : (b c l m : ℕ) → b ≡ c → (l ≡ m → ⊥) → b * 281474976710656 + l ≡ c * 281474976710656 + m → ⊥
 unlike_second b c l m same unlike e = unlike (omega arith)

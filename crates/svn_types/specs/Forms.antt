@@ -1,5 +1,5 @@
 -- What names, texts, keys and the lists of names hold, wherever they lie.
-use Rattle.std.specs.Prelude.{◌≡◌, ℕ, ◌≤◌, List, [], length, take, drop}
+use Rattle.std.specs.Prelude.{◌≡◌, ℕ, ◌<◌, ◌≤◌, ◌/◌, ◌%◌, List, [], length, take, drop}
 use Rattle.std.specs.Arc.{arc_value, arc_str_bytes}
 use Rattle.svn_types.specs.declared.small_text.NameForm.{NameForm}
 use Rattle.svn_types.specs.declared.small_text.NameForm.TheVariants as name
@@ -7,7 +7,9 @@ use Rattle.svn_types.specs.declared.text.TextForm.{TextForm}
 use Rattle.svn_types.specs.declared.text.TextForm.TheVariants as text
 use Rattle.svn_types.specs.declared.path_key.KeyForm.{KeyForm}
 use Rattle.svn_types.specs.declared.path_key.KeyForm.TheVariants as key
-use Rattle.svn_types.specs.declared.path_form.Cut.{Cut}
+use Rattle.svn_types.specs.declared.cut.Cut.{Cut}
+use Rattle.svn_types.specs.declared.path_front.PathFront.{PathFront}
+use Rattle.svn_types.specs.declared.path_head.Head.{Head}
 use Rattle.svn_types.specs.declared.path_form.PathForm.{PathForm}
 use Rattle.svn_types.specs.declared.path_form.PathForm.TheVariants as form
 use Rattle.svn_types.specs.PathKeys.{path_key}
@@ -28,31 +30,31 @@ key_bytes (key.Long v) = v.items
 
 -- all names of a path's block
 abbrev pub names_in : PathForm → List (List ℕ)
-names_in (form.Root c) = []
-names_in (form.One c a) = arc_value a
-names_in (form.Two c a) = arc_value a
-names_in (form.Three c a) = arc_value a
-names_in (form.Few c a) = arc_value a
-names_in (form.Several c a) = arc_value a
-names_in (form.More c a) = arc_value a
-names_in (form.Many c a) = arc_value a
-names_in (form.Long c a) = arc_value a
+names_in form.Root = []
+names_in (form.One a) = arc_value a
+names_in (form.Two a) = arc_value a
+names_in (form.Three a) = arc_value a
+names_in (form.Few a) = arc_value a
+names_in (form.Several a) = arc_value a
+names_in (form.More a) = arc_value a
+names_in (form.Many a) = arc_value a
+names_in (form.Long a) = arc_value a
 
-abbrev pub cut_in : PathForm → Cut
-cut_in (form.Root c) = c
-cut_in (form.One c a) = c
-cut_in (form.Two c a) = c
-cut_in (form.Three c a) = c
-cut_in (form.Few c a) = c
-cut_in (form.Several c a) = c
-cut_in (form.More c a) = c
-cut_in (form.Many c a) = c
-cut_in (form.Long c a) = c
+-- the head of a path and what it leaves out, which lie in the path itself
+abbrev pub head_in : PathFront → Head
+head_in f = record { first = f.first; second = f.rest / 65536 }
 
--- the names of a path: those of its block that aren't left out at the front
-abbrev pub path_in : PathForm → List (List ℕ)
-path_in f = drop (cut_in f).names (names_in f)
+abbrev pub cut_in : PathFront → Cut
+cut_in f = record { names = f.rest / 4096 % 16; bytes = f.rest % 4096 }
+
+-- there is room for no more names and bytes
+abbrev pub IsSmallCut : Cut → Type 0
+IsSmallCut c = (c.names < 16) × (c.bytes < 4096)
+
+-- of the names of its block a path has those that aren't left out at the front
+abbrev pub path_in : Cut → List (List ℕ) → List (List ℕ)
+path_in c names = drop c.names names
 
 -- what is left out are names of the block, and as many bytes of its key as these have
-abbrev pub IsCut : PathForm → Type 0
-IsCut f = ((cut_in f).names ≤ length (names_in f)) × ((cut_in f).bytes ≡ length (path_key (take (cut_in f).names (names_in f))))
+abbrev pub IsCut : Cut → List (List ℕ) → Type 0
+IsCut c names = (c.names ≤ length names) × (c.bytes ≡ length (path_key (take c.names names)))

@@ -1,16 +1,17 @@
--- The head of a path: the first 16 bytes of its key as a number. Paths with unlike heads are ordered as these are.
-use Rattle.std.specs.Prelude.{◌≡◌, ℕ, ◌+◌, ◌*◌, true}
+-- The head of a path: the first 14 bytes of its key as a number. Paths with unlike heads are ordered as these are.
+use Rattle.std.specs.Prelude.{◌≡◌, ℕ, ◌+◌, ◌*◌, ◌<◌, true}
 use Rattle.svn_types.specs.LeadingBytes.{IsByteList, leading}
 use Rattle.svn_types.specs.Names.{Path}
 use Rattle.svn_types.specs.PathKeys.{path_key, is_plain_path}
 use Rattle.svn_types.specs.declared.path_head.Head.{Head}
 
--- both words as one number: the first counts 256 ^ 8 times
+-- both numbers as one: the first counts 256 ^ 6 times
 abbrev pub head_number : Head → ℕ
-head_number h = h.first * 18446744073709551616 + h.second
+head_number h = h.first * 281474976710656 + h.second
 
 -- the head of a path, and why the order of heads is that of paths: the key is made of bytes, and of plain names
 pub record IsHeadOf (p : Path) (head : Head) : Type 0 where
-  pub head_is : head_number head ≡ leading 16 (path_key p)
+  pub head_is : head_number head ≡ leading 14 (path_key p)
+  pub small : head.second < 281474976710656
   pub bytes : IsByteList (path_key p)
   pub plain : is_plain_path p ≡ true

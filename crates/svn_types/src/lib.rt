@@ -21,6 +21,7 @@
 
 mod bytes;
 mod changes;
+mod cut;
 mod fault;
 mod kind;
 mod leading_bytes;
@@ -30,6 +31,7 @@ mod long_path;
 mod name;
 mod path_block;
 mod path_form;
+mod path_front;
 mod path_head;
 mod path_key;
 mod path_parts;

@@ -1,5 +1,5 @@
 //! The first bytes of a path's key as two numbers, which compare in a step or two.
-ghost use Rattle.std.specs.Prelude.{◌≡◌, ◌%◌, IsTrue, drop};
+ghost use Rattle.std.specs.Prelude.{◌≡◌, ◌<◌, drop};
 ghost use Rattle.svn_types.specs.LeadingBytes.{IsByteList, leading};
 ghost use Rattle.svn_types.specs.PathHeads.{head_number};
 
@@ -9,7 +9,10 @@ use crate::short_bytes::ShortBytes;
 // How many bytes of a key make one number.
 const WORD: usize = 8;
 
-/// The first 16 bytes of a key, the first byte the highest. Zeros stand behind a shorter key.
+// What the last bytes of a word count that have no place in a head.
+const BEHIND_HEAD: u64 = 65536;
+
+/// The first 14 bytes of a key, the first byte the highest: eight and six. Zeros stand behind a shorter key.
 #[derive(Clone, Copy)]
 pub(crate) struct Head {
     pub(crate) first: u64,
@@ -26,28 +29,21 @@ fn word_of(bytes: &[u8]) -> u64
     ShortBytes::<8>::of(bytes).first_word()
 }
 
-// The next 8 bytes.
+// The next 6 bytes.
 fn second_word_of(bytes: &[u8]) -> u64
-    ensures { result ≡ leading 8 (drop 8 bytes.now) }
+    ensures { result ≡ leading 6 (drop 8 bytes.now) }
 {
     if bytes.len() <= WORD {
         return 0;
     }
     let (_, behind) = bytes.split_at(WORD);
-    word_of(behind)
-}
-
-/// Whether all of a key lies in its head. No key has a zero byte, so that one at the end of the head stands behind the key.
-#[inline(always)]
-pub(crate) fn is_whole(head: Head) -> bool
-    ensures { IsTrue result → head.second % 256 ≡ 0 }
-{
-    head.second % 256 == 0
+    word_of(behind) / BEHIND_HEAD
 }
 
 /// The head of a key.
 pub(crate) fn head_of(key: &str) -> Head
-    ensures head { head_number result ≡ leading 16 key.now }
+    ensures head { head_number result ≡ leading 14 key.now }
+    ensures small { result.second < 281474976710656 }
     ensures bytes { IsByteList key.now }
 {
     let bytes = key.as_bytes();

@@ -1,11 +1,12 @@
-//! The names of a path and its key, as the clones of the path share them.
+//! The names of a path's block and their key, as the clones of the path share them.
 ghost use Rattle.std.specs.Prelude.{◌≡◌, ◌∷◌, ◌++◌, [], length, drop, true, IfOk, IfSome};
-ghost use Rattle.svn_types.specs.Forms.{names_in, cut_in};
+ghost use Rattle.svn_types.specs.Forms.{path_in, IsCut};
 ghost use Rattle.svn_types.specs.PathKeys.{path_key, is_plain_path};
 
+use crate::cut::{Cut, key_len};
 use crate::long_path::LongPath;
 use crate::name::Name;
-use crate::path_form::{PathForm, UNCUT, key_len};
+use crate::path_form::PathForm;
 use crate::pieces::Pieces;
 use crate::short_key::ShortKey;
 use crate::short_path::ShortPath;
@@ -14,40 +15,31 @@ use std::marker::Model;
 use std::sync::Arc;
 use std::{slice, str};
 
-/// The names of a path, from the root down, and its key, by which paths are compared, however deep they are. A contract sees them as the list of
-/// the names.
+/// The names of a block, from the root down, and their key. A contract sees them as the list of the names.
 pub(crate) struct PathParts {
     form: PathForm,
 }
 
 impl Model for PathParts {
     ghost use Rattle.std.specs.Prelude.{ℕ, List};
-    ghost use Rattle.svn_types.specs.Forms.{path_in, IsCut};
+    ghost use Rattle.svn_types.specs.Forms.{names_in};
 
     ghost Value = { List (List ℕ) };
 
-    ghost view = { λ p. path_in p.form };
-
-    ghost invariant = { λ p. IsCut p.form };
+    ghost view = { λ p. names_in p.form };
 }
 
 // The end of each name in a key.
 const END: &str = "\u{1}";
 
 impl PathParts {
-    // The path that a block has from its first name on.
-    fn whole(form: PathForm) -> PathParts
-        requires { cut_in form ≡ UNCUT }
-        ensures { result ≡ names_in form }
-    {
-        PathParts { form }
-    }
-
     /// No name.
     pub(crate) fn root() -> PathParts
         ensures { result ≡ [] }
     {
-        PathParts::whole(PathForm::Root(UNCUT))
+        PathParts {
+            form: PathForm::Root,
+        }
     }
 
     /// This name alone.
@@ -58,7 +50,9 @@ impl PathParts {
         let Some(key) = ShortKey::of(&names) else {
             return PathParts::some(alloc, &names);
         };
-        Ok(PathParts::whole(PathForm::One(UNCUT, Arc::new(alloc, ShortPath { names, key })?)))
+        Ok(PathParts {
+            form: PathForm::One(Arc::new(alloc, ShortPath { names, key })?),
+        })
     }
 
     /// These two names.
@@ -69,7 +63,9 @@ impl PathParts {
         let Some(key) = ShortKey::of(&names) else {
             return PathParts::some(alloc, &names);
         };
-        Ok(PathParts::whole(PathForm::Two(UNCUT, Arc::new(alloc, ShortPath { names, key })?)))
+        Ok(PathParts {
+            form: PathForm::Two(Arc::new(alloc, ShortPath { names, key })?),
+        })
     }
 
     /// These three names.
@@ -85,7 +81,9 @@ impl PathParts {
         let Some(key) = ShortKey::of(&names) else {
             return PathParts::some(alloc, &names);
         };
-        Ok(PathParts::whole(PathForm::Three(UNCUT, Arc::new(alloc, ShortPath { names, key })?)))
+        Ok(PathParts {
+            form: PathForm::Three(Arc::new(alloc, ShortPath { names, key })?),
+        })
     }
 
     // These names, in one block where they fit.
@@ -101,10 +99,12 @@ impl PathParts {
         ensures { IfOk result (λ p. p ≡ names.items) }
     {
         if let Some(form) = PathForm::of_few(alloc, &names, len)? {
-            return Ok(PathParts::whole(form));
+            return Ok(PathParts { form });
         }
         let path = LongPath::of_names(alloc, names, len)?;
-        Ok(PathParts::whole(PathForm::Long(UNCUT, Arc::new(alloc, path)?)))
+        Ok(PathParts {
+            form: PathForm::Long(Arc::new(alloc, path)?),
+        })
     }
 
     /// These names, whose key has at most so many bytes.
@@ -127,11 +127,18 @@ impl PathParts {
         }
     }
 
-    /// These names and one more.
-    pub(crate) fn with_last(&self, alloc: Global, last: &Name) -> Result<PathParts, AllocError>
-        ensures { IfOk result (λ p. p ≡ self.now ++ last.now ∷ []) }
+    /// The names of a path with this key, and one more.
+    pub(crate) fn child(
+        alloc: Global,
+        above: &[Name],
+        key: &str,
+        last: &Name,
+    ) -> Result<PathParts, AllocError>
+        requires key { key.now ≡ path_key above.now }
+        requires plain { is_plain_path above.now ≡ true }
+        ensures { IfOk result (λ p. p ≡ above.now ++ last.now ∷ []) }
     {
-        match self.names() {
+        match above {
             [] => PathParts::one(alloc, last.clone()?),
             [first] => {
                 let first = first.clone()?;
@@ -146,64 +153,40 @@ impl PathParts {
                 let pieces = Pieces {
                     names,
                     more: slice::from_ref(last),
-                    above: self.key(),
+                    above: key,
                     below: last.as_str(),
                     end: END,
                 };
-                Ok(PathParts::whole(PathForm::of(alloc, &pieces)?))
+                PathParts::of_pieces(alloc, &pieces)
             }
         }
     }
 
-    /// These names and those of another path behind them.
-    pub(crate) fn joined(&self, alloc: Global, below: &PathParts) -> Result<PathParts, AllocError>
-        ensures { IfOk result (λ p. p ≡ self.now ++ below.now) }
+    /// The names of these pieces.
+    pub(crate) fn of_pieces(alloc: Global, pieces: &Pieces<'_>) -> Result<PathParts, AllocError>
+        ensures { IfOk result (λ p. p ≡ pieces.now.names.now ++ pieces.now.more.now) }
     {
-        let pieces = Pieces {
-            names: self.names(),
-            more: below.names(),
-            above: self.key(),
-            below: below.key(),
-            end: "",
-        };
-        Ok(PathParts::whole(PathForm::of(alloc, &pieces)?))
+        Ok(PathParts {
+            form: PathForm::of(alloc, pieces)?,
+        })
     }
 
-    /// The names from a place on. Where this can be noted, they stay in the same block.
-    pub(crate) fn tail(&self, alloc: Global, count: usize) -> Result<PathParts, AllocError>
-        ensures { IfOk result (λ p. p ≡ drop count self.now) }
+    /// The names behind a cut.
+    pub(crate) fn names_behind(&self, cut: Cut) -> &[Name]
+        requires { IsCut cut self.now }
+        ensures { result.now ≡ path_in cut self.now }
     {
-        let names = self.names();
-        if count >= names.len() {
-            return Ok(PathParts::root());
-        }
-        let (front, rest) = names.split_at(count);
-        match self.form.cut().further(front) {
-            Some(cut) => Ok(PathParts {
-                form: self.form.with_cut(cut)?,
-            }),
-            None => PathParts::of(alloc, rest, self.key().len()),
-        }
-    }
-
-    /// The names, from the root down.
-    pub(crate) fn names(&self) -> &[Name]
-        ensures { result.now ≡ self.now }
-    {
-        let (_, names) = self.form.names().split_at(self.form.cut().names as usize);
+        let (_, names) = self.form.names().split_at(cut.names as usize);
         names
     }
 
     /// Their key.
-    pub(crate) fn key(&self) -> &str
-        ensures key { result.now ≡ path_key self.now }
-        ensures plain { is_plain_path self.now ≡ true }
+    pub(crate) fn key_behind(&self, cut: Cut) -> &str
+        requires { IsCut cut self.now }
+        ensures key { result.now ≡ path_key (path_in cut self.now) }
+        ensures plain { is_plain_path (path_in cut self.now) ≡ true }
     {
-        let (_, bytes) = self
-            .form
-            .key()
-            .as_bytes()
-            .split_at(self.form.cut().bytes as usize);
+        let (_, bytes) = self.form.key().as_bytes().split_at(cut.bytes as usize);
         unsafe { str::from_utf8_unchecked(bytes) }
     }
 }
@@ -213,7 +196,7 @@ impl Clone for PathParts {
 
     fn clone(&self) -> Result<PathParts, AllocError> {
         Ok(PathParts {
-            form: self.form.with_cut(self.form.cut())?,
+            form: self.form.share()?,
         })
     }
 }

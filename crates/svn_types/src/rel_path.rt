@@ -5,6 +5,7 @@ ghost use Rattle.std.specs.Ordering.{nat_cmp};
 ghost use Rattle.std.specs.Cmp.Lexicographic.{pointwise, slice_cmp, nat_list_eq_equiv, nat_list_cmp_total, texts_ties, lists_per, lists_equiv, lists_total, lists_ties};
 ghost use Rattle.std.specs.Cmp.{partial_equiv_from_equiv, partial_order_from_agreeing_total};
 ghost use Rattle.std.specs.Hash as fed;
+ghost use Rattle.svn_types.specs.Forms.{head_in, path_in, IsCut, IsSmallCut};
 ghost use Rattle.svn_types.specs.Names.{depth_limit, is_slash, path_of_text};
 ghost use Rattle.svn_types.specs.NameSplits.{IsNameSplit};
 ghost use Rattle.svn_types.specs.PathHash.{same_path_hash};
@@ -13,11 +14,14 @@ ghost use Rattle.svn_types.specs.PathKeys.{path_key, is_plain_path};
 ghost use Rattle.svn_types.specs.NameFaults.{path_fault, names_fault, count_fault, AnswersPath};
 
 use crate::bytes::split_once;
+use crate::cut::{Cut, UNCUT};
 use crate::fault::PathFault;
 use crate::limits::MAX_COMPONENTS;
 use crate::name::{Name, fault_of_name};
-use crate::path_head::{Head, head_of, is_whole};
+use crate::path_front::{PathFront, ROOT_FRONT};
+use crate::path_head::head_of;
 use crate::path_parts::PathParts;
+use crate::pieces::Pieces;
 use std::alloc::{AllocError, Global};
 use std::cmp::Ordering;
 use std::fmt;
@@ -27,21 +31,22 @@ use std::marker::Model;
 /// A path below some root (a relpath of `svn_dirent_uri.h`): at most 128 names, of which the root has none. Paths are ordered name by name, names by their bytes, a prefix first,
 /// so a directory stands directly before what is beneath it. A contract sees a path as the list of its names. A clone shares them.
 pub struct RelPath {
-    // The first bytes of its key, by which most comparisons are decided without a look into another block.
-    head: Head,
+    // The first bytes of its key, by which most comparisons are decided without a look into another block, and what it leaves out of its block.
+    front: PathFront,
     parts: PathParts,
 }
 
 impl Model for RelPath {
     ghost use Rattle.std.specs.Prelude.{◌≤◌, ℕ, List, length};
+    ghost use Rattle.svn_types.specs.Forms.{head_in, cut_in, path_in, IsCut};
     ghost use Rattle.svn_types.specs.Names.{depth_limit};
     ghost use Rattle.svn_types.specs.PathHeads.{IsHeadOf};
 
     ghost Value = { List (List ℕ) };
 
-    ghost view = { λ p. p.parts };
+    ghost view = { λ p. path_in (cut_in p.front) p.parts };
 
-    ghost invariant = { λ p. (length p.parts ≤ depth_limit) × IsHeadOf p.parts p.head };
+    ghost invariant = { λ p. IsCut (cut_in p.front) p.parts × (length (path_in (cut_in p.front) p.parts) ≤ depth_limit) × IsHeadOf (path_in (cut_in p.front) p.parts) (head_in p.front) };
 }
 
 // The text before the first slash and that after it, if there is one.
@@ -153,22 +158,32 @@ fn is_one_more(key: &str, above: &str, last: &str) -> bool
 }
 
 impl RelPath {
-    // The path that has these parts.
-    fn of_parts(parts: PathParts) -> RelPath
-        requires { length parts ≤ depth_limit }
-        ensures { result ≡ parts }
+    // The names of a block behind a cut.
+    fn behind(parts: PathParts, cut: Cut) -> RelPath
+        requires cut { IsCut cut parts }
+        requires small { IsSmallCut cut }
+        requires few { length (path_in cut parts) ≤ depth_limit }
+        ensures { result ≡ path_in cut parts }
     {
         RelPath {
-            head: head_of(parts.key()),
+            front: PathFront::of(head_of(parts.key_behind(cut)), cut),
             parts,
         }
     }
 
-    // The first bytes of its key.
-    fn head(&self) -> Head
-        ensures { IsHeadOf self.now result }
+    // All names of a block.
+    fn of_parts(parts: PathParts) -> RelPath
+        requires { length parts ≤ depth_limit }
+        ensures { result ≡ parts }
     {
-        self.head
+        RelPath::behind(parts, UNCUT)
+    }
+
+    // The first bytes of its key, and its cut.
+    fn front(&self) -> PathFront
+        ensures { IsHeadOf self.now (head_in result) }
+    {
+        self.front
     }
 
     /// The path of no name. It takes no memory.
@@ -176,10 +191,7 @@ impl RelPath {
         ensures { result ≡ [] }
     {
         RelPath {
-            head: Head {
-                first: 0,
-                second: 0,
-            },
+            front: ROOT_FRONT,
             parts: PathParts::root(),
         }
     }
@@ -219,7 +231,14 @@ impl RelPath {
         requires { length self.now + length below.now ≤ depth_limit }
         ensures { IfOk result (λ p. p ≡ self.now ++ below.now) }
     {
-        Ok(RelPath::of_parts(self.parts.joined(alloc, &below.parts)?))
+        let pieces = Pieces {
+            names: self.components(),
+            more: below.components(),
+            above: self.key(),
+            below: below.key(),
+            end: "",
+        };
+        Ok(RelPath::of_parts(PathParts::of_pieces(alloc, &pieces)?))
     }
 
     /// The path without its first names, of which so many go; the root where it has no more. It shares the memory of this one where it can, so
@@ -227,7 +246,15 @@ impl RelPath {
     pub fn tail(&self, alloc: Global, count: usize) -> Result<RelPath, AllocError>
         ensures { IfOk result (λ p. p ≡ drop count self.now) }
     {
-        Ok(RelPath::of_parts(self.parts.tail(alloc, count)?))
+        let names = self.components();
+        if count >= names.len() {
+            return Ok(RelPath::root(alloc));
+        }
+        let (front, rest) = names.split_at(count);
+        match self.front.cut().further(front) {
+            Some(cut) => Ok(RelPath::behind(self.parts.clone()?, cut)),
+            None => RelPath::from_names(alloc, rest, self.key().len()),
+        }
     }
 
     /// The path with one more name: TooManyComponents at a path of 128 names, else Memory alone.
@@ -237,7 +264,8 @@ impl RelPath {
         if self.components().len() >= MAX_COMPONENTS {
             return Err(PathFault::TooManyComponents);
         }
-        Ok(RelPath::of_parts(self.parts.with_last(alloc, name)?))
+        let parts = PathParts::child(alloc, self.components(), self.key(), name)?;
+        Ok(RelPath::of_parts(parts))
     }
 
     /// Its names, from the root down: 0 to 128.
@@ -245,7 +273,7 @@ impl RelPath {
         ensures names { result.now ≡ self.now }
         ensures bounded { length self.now ≤ depth_limit }
     {
-        self.parts.names()
+        self.parts.names_behind(self.front.cut())
     }
 
     /// Its key: its names in one text, the byte 1 behind each. Paths are compared by their keys. It takes no memory.
@@ -254,7 +282,7 @@ impl RelPath {
         ensures plain { is_plain_path self.now ≡ true }
         ensures bounded { length self.now ≤ depth_limit }
     {
-        self.parts.key()
+        self.parts.key_behind(self.front.cut())
     }
 
     /// Whether it is that path with this name more. It takes no memory.
@@ -276,7 +304,7 @@ impl RelPath {
 // So that a caller's proof sees a call, and nothing of where the names lie.
 impl Drop for RelPath {
     fn drop(self) {
-        let RelPath { head: _, parts } = self;
+        let RelPath { front: _, parts } = self;
         drop(parts);
     }
 }
@@ -292,7 +320,7 @@ impl Clone for RelPath {
 
     fn clone(&self) -> Result<RelPath, AllocError> {
         Ok(RelPath {
-            head: self.head,
+            front: self.front,
             parts: self.parts.clone()?,
         })
     }
@@ -304,14 +332,14 @@ impl PartialEq for RelPath {
     ghost laws = { lists_per (partial_equiv_from_equiv nat_list_eq_equiv) };
 
     fn eq(&self, other: &RelPath) -> bool {
-        let (one, two) = (self.head(), other.head());
+        let (one, two) = (self.front(), other.front());
         if one.first != two.first {
             return false;
         }
-        if one.second != two.second {
+        if one.second() != two.second() {
             return false;
         }
-        if is_whole(two) {
+        if one.is_whole() {
             return true;
         }
         self.key() == other.key()
@@ -343,14 +371,14 @@ impl Ord for RelPath {
 
     fn cmp(&self, other: &RelPath) -> Ordering {
         // returns, and no `match` on the first order: that would compare both numbers each time
-        let (one, two) = (self.head(), other.head());
+        let (one, two) = (self.front(), other.front());
         if one.first != two.first {
             return one.first.cmp(&two.first);
         }
-        if one.second != two.second {
-            return one.second.cmp(&two.second);
+        if one.second() != two.second() {
+            return one.second().cmp(&two.second());
         }
-        if is_whole(two) {
+        if one.is_whole() {
             return Ordering::Equal;
         }
         self.key().cmp(other.key())

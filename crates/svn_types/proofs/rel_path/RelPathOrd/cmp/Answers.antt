@@ -1,4 +1,6 @@
-use Rattle.std.proofs.Common.{◌∙◌, arith}
+use Rattle.std.proofs.Common.{◌≡◌, sym, ◌∙◌}
+use Rattle.std.specs.Ordering.{nat_cmp}
+use Rattle.svn_types.specs.Forms.{head_in}
 use Rattle.svn_types.proofs.PathKeys.{key_order}
 use Rattle.svn_types.proofs.PathHeads.{by_first_word, by_second_word, unlike_heads}
 use Rattle.svn_types.proofs.ShortWords.{unlike_numbers}
@@ -7,27 +9,29 @@ use Rattle.svn_types.proofs.rel_path.RelPathOrd.cmp.Goals as goal
 
 pub returns-then-one-two : goal.returns-then-one-two
 returns-then-one-two c =
-    let unlike = unlike_numbers c.head-one.result.first c.head-two.result.first c.cmp.result c.cmp.ensures c.if-one-two.true in
-    unlike_heads c.args.self.now c.args.other.now c.head-one.result c.head-two.result c.head-one.ensures c.head-two.ensures c.cmp.result
-    (by_first_word c.head-one.result.first c.head-two.result.first 18446744073709551616 c.head-one.result.second c.head-two.result.second
-    (omega (arith, c.head-one.type_inv)) (omega (arith, c.head-two.type_inv)) c.cmp.result c.cmp.ensures unlike)
+    let unlike = unlike_numbers c.front-one.result.first c.front-two.result.first c.cmp.result c.cmp.ensures c.if-one-two.true in
+    unlike_heads c.args.self.now c.args.other.now (head_in c.front-one.result) (head_in c.front-two.result) c.front-one.ensures c.front-two.ensures c.cmp.result
+    (by_first_word c.front-one.result.first c.front-two.result.first 281474976710656 (head_in c.front-one.result).second (head_in c.front-two.result).second
+    c.front-one.ensures.small c.front-two.ensures.small c.cmp.result c.cmp.ensures unlike)
     unlike
 
-pub returns-then-one-two-2 : goal.returns-then-one-two-2
-returns-then-one-two-2 c =
-    unlike_heads c.args.self.now c.args.other.now c.head-one.result c.head-two.result c.head-one.ensures c.head-two.ensures
-    c.cmp-then-one-two-2.result
-    (c.cmp-then-one-two-2.ensures
-    ∙ by_second_word c.head-one.result.first c.head-two.result.first 18446744073709551616 c.head-one.result.second c.head-two.result.second
-    c.if-one-two.false)
-    (unlike_numbers c.head-one.result.second c.head-two.result.second c.cmp-then-one-two-2.result c.cmp-then-one-two-2.ensures
-    c.if-one-two-2.true)
+pub returns-then-second : goal.returns-then-second
+returns-then-second c =
+    let one = (head_in c.front-one.result).second in
+    let two = (head_in c.front-two.result).second in
+    let is : c.cmp-then-second.result ≡ nat_cmp one two =
+    c.cmp-then-second.ensures ∙ (λ i. nat_cmp (c.second-then-second.ensures i) (c.second-then-second-2.ensures i)) in
+    unlike_heads c.args.self.now c.args.other.now (head_in c.front-one.result) (head_in c.front-two.result) c.front-one.ensures
+    c.front-two.ensures c.cmp-then-second.result
+    (is ∙ by_second_word c.front-one.result.first c.front-two.result.first 281474976710656 one two c.if-one-two.false)
+    (unlike_numbers one two c.cmp-then-second.result is
+    (λ same. c.if-second.true (c.second.ensures ∙ same ∙ sym c.second-2.ensures)))
 
 pub returns-then-is_whole : goal.returns-then-is_whole
 returns-then-is_whole c =
     ordered_equal c.args.self.now c.args.other.now
-    (whole_paths c.args.self.now c.args.other.now c.head-one.result c.head-two.result c.head-one.ensures c.head-two.ensures
-    c.if-one-two.false c.if-one-two-2.false (c.is_whole.ensures c.if-is_whole.true))
+    (whole_paths c.args.self.now c.args.other.now (head_in c.front-one.result) (head_in c.front-two.result) c.front-one.ensures c.front-two.ensures
+    c.if-one-two.false (sym c.second.ensures ∙ c.if-second.false ∙ c.second-2.ensures) (c.is_whole.ensures c.if-is_whole.true))
 
 pub returns : goal.returns
 returns c =

@@ -1,6 +1,6 @@
 use Rattle.std.proofs.Common.{◌≡◌, ◌+◌, length, drop}
 use Rattle.svn_types.specs.PathKeys.{path_key}
-use Rattle.svn_types.proofs.path_form.key_len.Given as goal
+use Rattle.svn_types.proofs.cut.key_len.Given as goal
 
 -- the bytes so far, and those of the names that are left
 abbrev pub invariant-loop-name : goal.invariant-loop-name
