@@ -1,5 +1,5 @@
 -- What names, texts, keys and the lists of names hold, wherever they lie.
-use Rattle.std.specs.Prelude.{◌≡◌, ℕ, ◌<◌, ◌≤◌, ◌/◌, ◌%◌, List, [], length, take, drop}
+use Rattle.std.specs.Prelude.{◌≡◌, ℕ, ◌≤◌, ◌/◌, ◌%◌, List, [], length, take, drop, ⊤}
 use Rattle.std.specs.Arc.{arc_value, arc_str_bytes}
 use Rattle.svn_types.specs.declared.small_text.NameForm.{NameForm}
 use Rattle.svn_types.specs.declared.small_text.NameForm.TheVariants as name
@@ -12,6 +12,8 @@ use Rattle.svn_types.specs.declared.path_front.PathFront.{PathFront}
 use Rattle.svn_types.specs.declared.path_head.Head.{Head}
 use Rattle.svn_types.specs.declared.path_form.PathForm.{PathForm}
 use Rattle.svn_types.specs.declared.path_form.PathForm.TheVariants as form
+use Rattle.svn_types.specs.declared.path_size.Size.{Size}
+use Rattle.svn_types.specs.declared.path_size.Size.TheVariants as size
 use Rattle.svn_types.specs.PathKeys.{path_key}
 
 abbrev pub name_bytes : NameForm → List ℕ
@@ -40,16 +42,28 @@ names_in (form.More a) = arc_value a
 names_in (form.Many a) = arc_value a
 names_in (form.Long a) = arc_value a
 
--- the head of a path and what it leaves out, which lie in the path itself
+-- a block of that size has room for so many names and a key of so many bytes
+abbrev pub HasRoom : Size → ℕ → ℕ → Type 0
+HasRoom size.Few count len = (count ≤ 4) × (len ≤ 62)
+HasRoom size.Several count len = (count ≤ 6) × (len ≤ 78)
+HasRoom size.More count len = (count ≤ 8) × (len ≤ 94)
+HasRoom size.Many count len = (count ≤ 12) × (len ≤ 142)
+HasRoom size.Long count len = ⊤
+
+-- the head of a path and what it leaves out, which lie in the path itself: below the second number of the head a byte for the names, and one for
+-- the bytes
+abbrev pub below_head : ℕ
+below_head = 65536
+
 abbrev pub head_in : PathFront → Head
-head_in f = record { first = f.first; second = f.rest / 65536 }
+head_in f = record { first = f.first; second = f.rest / below_head }
 
 abbrev pub cut_in : PathFront → Cut
-cut_in f = record { names = f.rest / 4096 % 16; bytes = f.rest % 4096 }
+cut_in f = record { names = f.rest / 256 % 256; bytes = f.rest % 256 }
 
--- there is room for no more names and bytes
+-- no path leaves out more names and bytes
 abbrev pub IsSmallCut : Cut → Type 0
-IsSmallCut c = (c.names < 16) × (c.bytes < 4096)
+IsSmallCut c = (c.names ≤ 4) × (c.bytes ≤ 64)
 
 -- of the names of its block a path has those that aren't left out at the front
 abbrev pub path_in : Cut → List (List ℕ) → List (List ℕ)

@@ -35,6 +35,7 @@ mod path_front;
 mod path_head;
 mod path_key;
 mod path_parts;
+mod path_size;
 mod pieces;
 mod prop_name;
 mod props;

@@ -17,7 +17,7 @@ impl RelPath {
         let Some((_, above)) = self.components().split_last() else {
             return Ok(None);
         };
-        Ok(Some(RelPath::from_names(alloc, above, self.key().len())?))
+        Ok(Some(RelPath::from_names(alloc, above)?))
     }
 
     /// Its last name, none for the root. It takes no memory.

@@ -1,5 +1,5 @@
 //! Paths of very many names, or of very long ones.
-ghost use Rattle.std.specs.Prelude.{◌≡◌, ◌++◌, true, IfOk};
+ghost use Rattle.std.specs.Prelude.{◌≡◌, ◌++◌, length, true, IfOk};
 ghost use Rattle.svn_types.specs.PathKeys.{path_key, is_plain_path};
 
 use crate::name::Name;
@@ -38,12 +38,13 @@ impl LongPath {
         Ok(LongPath { names, key })
     }
 
-    /// These names, which stay where they are. A long key has room in that many bytes.
+    /// These names, which stay where they are. Their key has that many bytes.
     pub(crate) fn of_names(
         alloc: Global,
         names: Vec<Name>,
         len: usize,
     ) -> Result<LongPath, AllocError>
+        requires { len ≡ length (path_key names.items) }
         ensures { IfOk result (λ p. p ≡ names.items) }
     {
         let key = PathKey::of(alloc, &names, len)?;

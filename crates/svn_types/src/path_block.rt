@@ -1,5 +1,5 @@
 //! Paths of several names that lie in one block with their key.
-ghost use Rattle.std.specs.Prelude.{◌≡◌, ◌+◌, ◌≤◌, ◌++◌, length, take, true, IfOk, OnOk};
+ghost use Rattle.std.specs.Prelude.{◌≡◌, ◌+◌, ◌<◌, ◌≤◌, ◌++◌, length, take, true, IfOk, OnOk};
 ghost use Rattle.svn_types.specs.PathKeys.{path_key, is_plain_path};
 
 use crate::name::Name;
@@ -8,13 +8,14 @@ use std::alloc::AllocError;
 use std::array;
 use std::marker::Model;
 
-/// Up to `N` names, and beside them their key of at most `K` bytes. `K` is below 256. A contract sees it as the list of the names.
+/// Up to `N` names, and beside them their key of at most `K` bytes. Both are below 256. A contract sees it as the list of the names.
 #[derive(Drop)]
 pub(crate) struct PathBlock<const N: usize, const K: usize> {
-    // Blanks stand behind the names.
-    names: [Name; N],
-    count: usize,
+    // The count and the key come first: what compares, clones or drops a path touches the first bytes of its block alone.
+    count: u8,
     key: ShortKey<K>,
+    // Blanks come after the names.
+    names: [Name; N],
 }
 
 impl<const N: usize, const K: usize> Model for PathBlock<N, K> {
@@ -52,26 +53,29 @@ impl<const N: usize, const K: usize> PathBlock<N, K> {
         more: &[Name],
         key: ShortKey<K>,
     ) -> Result<PathBlock<N, K>, AllocError>
+        requires small { N < 256 }
         requires room { length names.now + length more.now ≤ N }
         requires key { key ≡ path_key (names.now ++ more.now) }
         requires plain { is_plain_path (names.now ++ more.now) ≡ true }
         ensures { IfOk result (λ p. p ≡ names.now ++ more.now) }
     {
-        let mut all: [Name; N] = array::from_fn(|_| Name::blank());
-        write_at(&mut all, 0, names)?;
-        write_at(&mut all, names.len(), more)?;
-        Ok(PathBlock {
-            names: all,
-            count: names.len() + more.len(),
-            key,
-        })
+        let mut block = PathBlock {
+            count: 0,
+            key: ShortKey::empty(),
+            names: array::from_fn(|_| Name::blank()),
+        };
+        write_at(&mut block.names, 0, names)?;
+        write_at(&mut block.names, names.len(), more)?;
+        block.count = (names.len() + more.len()) as u8;
+        block.key = key;
+        Ok(block)
     }
 
     /// The names, from the root down.
     pub(crate) fn names(&self) -> &[Name]
         ensures { result.now ≡ self.now }
     {
-        &self.names[..self.count]
+        &self.names[..self.count as usize]
     }
 
     /// Their key.

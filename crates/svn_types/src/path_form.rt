@@ -7,6 +7,10 @@ ghost use Rattle.svn_types.specs.PathKeys.{path_key, is_plain_path};
 use crate::long_path::LongPath;
 use crate::name::Name;
 use crate::path_block::PathBlock;
+use crate::path_size::{
+    FEW_KEY, FEW_NAMES, MANY_KEY, MANY_NAMES, MORE_KEY, MORE_NAMES, ONE_KEY, SEVERAL_KEY,
+    SEVERAL_NAMES, Size, THREE_KEY, TWO_KEY,
+};
 use crate::pieces::Pieces;
 use crate::short_key::ShortKey;
 use crate::short_path::ShortPath;
@@ -14,17 +18,17 @@ use std::alloc::{AllocError, Global};
 use std::sync::Arc;
 
 /// One, two or three names of up to 14 bytes always have a key that fits: such a path is one block of 40, 72 or 104 bytes. Others of up to
-/// twelve names, whose key isn't too long, have one block of 136 to 336 bytes, and all others two or three.
+/// twelve names, whose key isn't too long, have one block of 136 to 344 bytes, and all others two or three.
 #[derive(Drop)]
 pub(crate) enum PathForm {
     Root,
-    One(Arc<ShortPath<1, 15>>),
-    Two(Arc<ShortPath<2, 31>>),
-    Three(Arc<ShortPath<3, 47>>),
-    Few(Arc<PathBlock<4, 55>>),
-    Several(Arc<PathBlock<6, 71>>),
-    More(Arc<PathBlock<8, 87>>),
-    Many(Arc<PathBlock<12, 127>>),
+    One(Arc<ShortPath<1, ONE_KEY>>),
+    Two(Arc<ShortPath<2, TWO_KEY>>),
+    Three(Arc<ShortPath<3, THREE_KEY>>),
+    Few(Arc<PathBlock<FEW_NAMES, FEW_KEY>>),
+    Several(Arc<PathBlock<SEVERAL_NAMES, SEVERAL_KEY>>),
+    More(Arc<PathBlock<MORE_NAMES, MORE_KEY>>),
+    Many(Arc<PathBlock<MANY_NAMES, MANY_KEY>>),
     Long(Arc<LongPath>),
 }
 
@@ -33,7 +37,7 @@ fn block<const N: usize, const K: usize>(
     alloc: Global,
     pieces: &Pieces<'_>,
 ) -> Result<Arc<PathBlock<N, K>>, AllocError>
-    requires small { K < 256 }
+    requires small { (N < 256) × (K < 256) }
     requires room { length pieces.now.names.now + length pieces.now.more.now ≤ N }
     requires fits { length pieces.now.above.now + length pieces.now.below.now + length pieces.now.end.now ≤ K }
     ensures { IfOk result (λ a. arc_value a ≡ pieces.now.names.now ++ pieces.now.more.now) }
@@ -42,19 +46,17 @@ fn block<const N: usize, const K: usize>(
     Ok(Arc::new(alloc, PathBlock::of(pieces.names, pieces.more, key)?)?)
 }
 
-// A block of these names, if their key fits.
+// A block of these names, which fit with their key.
 fn block_of<const N: usize, const K: usize>(
     alloc: Global,
     names: &[Name],
-) -> Result<Option<Arc<PathBlock<N, K>>>, AllocError>
-    requires small { K < 256 }
+) -> Result<Arc<PathBlock<N, K>>, AllocError>
+    requires small { (N < 256) × (K < 256) }
     requires room { length names.now ≤ N }
-    ensures { IfOk result (λ o. IfSome o (λ a. arc_value a ≡ names.now)) }
+    requires fits { length (path_key names.now) ≤ K }
+    ensures { IfOk result (λ a. arc_value a ≡ names.now) }
 {
-    match ShortKey::of(names) {
-        Some(key) => Ok(Some(Arc::new(alloc, PathBlock::of(names, &[], key)?)?)),
-        None => Ok(None),
-    }
+    Ok(Arc::new(alloc, PathBlock::of(names, &[], ShortKey::of(names))?)?)
 }
 
 impl PathForm {
@@ -62,45 +64,31 @@ impl PathForm {
     pub(crate) fn of(alloc: Global, pieces: &Pieces<'_>) -> Result<PathForm, AllocError>
         ensures { IfOk result (λ f. names_in f ≡ pieces.now.names.now ++ pieces.now.more.now) }
     {
-        let (count, len) = (pieces.count(), pieces.key_len());
-        if count <= 4 && len <= 55 {
-            return Ok(PathForm::Few(block(alloc, pieces)?));
-        }
-        if count <= 6 && len <= 71 {
-            return Ok(PathForm::Several(block(alloc, pieces)?));
-        }
-        if count <= 8 && len <= 87 {
-            return Ok(PathForm::More(block(alloc, pieces)?));
-        }
-        if count <= 12 && len <= 127 {
-            return Ok(PathForm::Many(block(alloc, pieces)?));
-        }
-        let path = LongPath::of(alloc, pieces)?;
-        Ok(PathForm::Long(Arc::new(alloc, path)?))
+        Ok(match Size::of(pieces.count(), pieces.key_len()) {
+            Size::Few => PathForm::Few(block(alloc, pieces)?),
+            Size::Several => PathForm::Several(block(alloc, pieces)?),
+            Size::More => PathForm::More(block(alloc, pieces)?),
+            Size::Many => PathForm::Many(block(alloc, pieces)?),
+            Size::Long => PathForm::Long(Arc::new(alloc, LongPath::of(alloc, pieces)?)?),
+        })
     }
 
-    /// These names, whose key has at most so many bytes, if they and it fit into one block.
-    pub(crate) fn of_few(
+    /// These names, whose key has that many bytes, if one block has room for them.
+    pub(crate) fn in_block(
         alloc: Global,
         names: &[Name],
         len: usize,
     ) -> Result<Option<PathForm>, AllocError>
+        requires { len ≡ length (path_key names.now) }
         ensures { IfOk result (λ o. IfSome o (λ f. names_in f ≡ names.now)) }
     {
-        let count = names.len();
-        if count <= 4 && len <= 55 {
-            return Ok(block_of(alloc, names)?.map(|path| PathForm::Few(path)));
-        }
-        if count <= 6 && len <= 71 {
-            return Ok(block_of(alloc, names)?.map(|path| PathForm::Several(path)));
-        }
-        if count <= 8 && len <= 87 {
-            return Ok(block_of(alloc, names)?.map(|path| PathForm::More(path)));
-        }
-        if count <= 12 && len <= 127 {
-            return Ok(block_of(alloc, names)?.map(|path| PathForm::Many(path)));
-        }
-        Ok(None)
+        Ok(Some(match Size::of(names.len(), len) {
+            Size::Few => PathForm::Few(block_of(alloc, names)?),
+            Size::Several => PathForm::Several(block_of(alloc, names)?),
+            Size::More => PathForm::More(block_of(alloc, names)?),
+            Size::Many => PathForm::Many(block_of(alloc, names)?),
+            Size::Long => return Ok(None),
+        }))
     }
 
     /// All names of the block.

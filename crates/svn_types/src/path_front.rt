@@ -1,16 +1,22 @@
 //! What lies in a path itself, beside its block.
 ghost use Rattle.std.specs.Prelude.{◌≡◌, ◌<◌, ◌%◌, IsTrue};
 ghost use Rattle.svn_types.specs.Forms.{head_in, cut_in, IsSmallCut};
+ghost use Rattle.svn_types.specs.PathHeads.{second_limit};
 
 use crate::cut::Cut;
 use crate::path_head::Head;
+
+// The second number of a head has six bytes; below them lie a byte for the names that are left out, and one for the bytes.
+const BYTE: u64 = 256;
+
+const BELOW_HEAD: u64 = 65536;
 
 /// The head of a path and its cut, in two numbers: what moves a path moves no field more than it would without a cut.
 #[derive(Clone, Copy)]
 pub(crate) struct PathFront {
     /// The first number of the head.
     pub(crate) first: u64,
-    // The second number of the head 65,536 times, the names that are left out 4,096 times, and the bytes.
+    // The second number of the head, and below it the cut.
     rest: u64,
 }
 
@@ -20,14 +26,14 @@ pub(crate) const ROOT_FRONT: PathFront = PathFront { first: 0, rest: 0 };
 impl PathFront {
     /// This head and this cut.
     pub(crate) fn of(head: Head, cut: Cut) -> PathFront
-        requires head { head.second < 281474976710656 }
+        requires head { head.second < second_limit }
         requires cut { IsSmallCut cut }
         ensures head { head_in result ≡ head }
         ensures cut { cut_in result ≡ cut }
     {
         PathFront {
             first: head.first,
-            rest: head.second * 65536 + cut.names as u64 * 4096 + cut.bytes as u64,
+            rest: head.second * BELOW_HEAD + cut.names as u64 * BYTE + cut.bytes as u64,
         }
     }
 
@@ -35,15 +41,15 @@ impl PathFront {
     pub(crate) fn second(self) -> u64
         ensures { result ≡ (head_in self).second }
     {
-        self.rest / 65536
+        self.rest / BELOW_HEAD
     }
 
-    /// Whether all of a key lies in its head. No key has a zero byte, so that one at the end of the head stands behind the key.
+    /// Whether all of a key lies in its head. No key has a zero byte, so a zero at the end of the head comes after the key.
     #[inline(always)]
     pub(crate) fn is_whole(self) -> bool
         ensures { IsTrue result → (head_in self).second % 256 ≡ 0 }
     {
-        self.second() % 256 == 0
+        self.second() % BYTE == 0
     }
 
     /// The cut.
@@ -51,8 +57,8 @@ impl PathFront {
         ensures { result ≡ cut_in self }
     {
         Cut {
-            names: (self.rest / 4096 % 16) as u8,
-            bytes: (self.rest % 4096) as u16,
+            names: (self.rest / BYTE % BYTE) as u8,
+            bytes: (self.rest % BYTE) as u8,
         }
     }
 }

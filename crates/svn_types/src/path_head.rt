@@ -1,7 +1,7 @@
 //! The first bytes of a path's key as two numbers, which compare in a step or two.
 ghost use Rattle.std.specs.Prelude.{◌≡◌, ◌<◌, drop};
 ghost use Rattle.svn_types.specs.LeadingBytes.{IsByteList, leading};
-ghost use Rattle.svn_types.specs.PathHeads.{head_number};
+ghost use Rattle.svn_types.specs.PathHeads.{head_number, second_limit};
 
 use crate::leading_bytes::word_at;
 use crate::short_bytes::ShortBytes;
@@ -9,8 +9,8 @@ use crate::short_bytes::ShortBytes;
 // How many bytes of a key make one number.
 const WORD: usize = 8;
 
-// What the last bytes of a word count that have no place in a head.
-const BEHIND_HEAD: u64 = 65536;
+// Two bytes of the second word have no place in a head: it is divided by what the byte before them counts.
+const AFTER_HEAD: u64 = 65536;
 
 /// The first 14 bytes of a key, the first byte the highest: eight and six. Zeros stand behind a shorter key.
 #[derive(Clone, Copy)]
@@ -37,13 +37,13 @@ fn second_word_of(bytes: &[u8]) -> u64
         return 0;
     }
     let (_, behind) = bytes.split_at(WORD);
-    word_of(behind) / BEHIND_HEAD
+    word_of(behind) / AFTER_HEAD
 }
 
 /// The head of a key.
 pub(crate) fn head_of(key: &str) -> Head
     ensures head { head_number result ≡ leading 14 key.now }
-    ensures small { result.second < 281474976710656 }
+    ensures small { result.second < second_limit }
     ensures bytes { IsByteList key.now }
 {
     let bytes = key.as_bytes();

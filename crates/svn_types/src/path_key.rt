@@ -1,5 +1,5 @@
 //! Keys of paths, by which they are compared.
-ghost use Rattle.std.specs.Prelude.{◌≡◌, ◌∷◌, ◌++◌, [], IfOk, IsUtf8, true};
+ghost use Rattle.std.specs.Prelude.{◌≡◌, ◌∷◌, ◌++◌, [], length, IfOk, IsUtf8, true};
 ghost use Rattle.svn_types.specs.PathKeys.{path_key, is_plain_path};
 
 use crate::name::Name;
@@ -35,7 +35,7 @@ impl Model for PathKey {
     ghost invariant = { λ k. ∥ IsUtf8 (key_bytes k.form) ∥₁ };
 }
 
-// The key of these names in a vector, which has room in that many bytes.
+// The key of these names, which has that many bytes, in a vector.
 fn long_of(alloc: Global, names: &[Name], len: usize) -> Result<Vec<u8>, AllocError>
     ensures key { IfOk result (λ v. v.items ≡ path_key names.now) }
     ensures plain { IfOk result (λ _. is_plain_path names.now ≡ true) }
@@ -50,14 +50,15 @@ fn long_of(alloc: Global, names: &[Name], len: usize) -> Result<Vec<u8>, AllocEr
 }
 
 impl PathKey {
-    /// The key of these names. Where it is long it has room in that many bytes; a short one takes no memory.
+    /// The key of these names, which has that many bytes. A short one takes no memory.
     pub(crate) fn of(alloc: Global, names: &[Name], len: usize) -> Result<PathKey, AllocError>
+        requires { len ≡ length (path_key names.now) }
         ensures key { IfOk result (λ k. k ≡ path_key names.now) }
         ensures plain { IfOk result (λ k. is_plain_path names.now ≡ true) }
     {
-        if let Some(key) = ShortKey::of(names) {
+        if len <= MAX_SHORT {
             return Ok(PathKey {
-                form: KeyForm::Short(key),
+                form: KeyForm::Short(ShortKey::of(names)),
             });
         }
         Ok(PathKey {

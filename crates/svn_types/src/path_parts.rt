@@ -1,12 +1,14 @@
 //! The names of a path's block and their key, as the clones of the path share them.
-ghost use Rattle.std.specs.Prelude.{◌≡◌, ◌∷◌, ◌++◌, [], length, drop, true, IfOk, IfSome};
+ghost use Rattle.std.specs.Prelude.{◌≡◌, ◌≤◌, ◌∷◌, ◌++◌, [], length, drop, true, IfOk};
 ghost use Rattle.svn_types.specs.Forms.{path_in, IsCut};
+ghost use Rattle.svn_types.specs.Names.{depth_limit};
 ghost use Rattle.svn_types.specs.PathKeys.{path_key, is_plain_path};
 
 use crate::cut::{Cut, key_len};
 use crate::long_path::LongPath;
 use crate::name::Name;
 use crate::path_form::PathForm;
+use crate::path_size::{ONE_KEY, THREE_KEY, TWO_KEY};
 use crate::pieces::Pieces;
 use crate::short_key::ShortKey;
 use crate::short_path::ShortPath;
@@ -47,11 +49,12 @@ impl PathParts {
         ensures { IfOk result (λ p. p ≡ name ∷ []) }
     {
         let names = [name];
-        let Some(key) = ShortKey::of(&names) else {
-            return PathParts::some(alloc, &names);
-        };
+        if key_len(&names) > ONE_KEY {
+            return PathParts::larger(alloc, &names);
+        }
+        let key = ShortKey::of(&names);
         Ok(PathParts {
-            form: PathForm::One(Arc::new(alloc, ShortPath { names, key })?),
+            form: PathForm::One(Arc::new(alloc, ShortPath { key, names })?),
         })
     }
 
@@ -60,11 +63,12 @@ impl PathParts {
         ensures { IfOk result (λ p. p ≡ first ∷ second ∷ []) }
     {
         let names = [first, second];
-        let Some(key) = ShortKey::of(&names) else {
-            return PathParts::some(alloc, &names);
-        };
+        if key_len(&names) > TWO_KEY {
+            return PathParts::larger(alloc, &names);
+        }
+        let key = ShortKey::of(&names);
         Ok(PathParts {
-            form: PathForm::Two(Arc::new(alloc, ShortPath { names, key })?),
+            form: PathForm::Two(Arc::new(alloc, ShortPath { key, names })?),
         })
     }
 
@@ -78,52 +82,83 @@ impl PathParts {
         ensures { IfOk result (λ p. p ≡ first ∷ second ∷ third ∷ []) }
     {
         let names = [first, second, third];
-        let Some(key) = ShortKey::of(&names) else {
-            return PathParts::some(alloc, &names);
-        };
+        if key_len(&names) > THREE_KEY {
+            return PathParts::larger(alloc, &names);
+        }
+        let key = ShortKey::of(&names);
         Ok(PathParts {
-            form: PathForm::Three(Arc::new(alloc, ShortPath { names, key })?),
+            form: PathForm::Three(Arc::new(alloc, ShortPath { key, names })?),
         })
     }
 
-    // These names, in one block where they fit.
-    fn some(alloc: Global, names: &[Name]) -> Result<PathParts, AllocError>
-        ensures { IfOk result (λ p. p ≡ names.now) }
+    // Clones of these two names.
+    fn two_of(alloc: Global, first: &Name, second: &Name) -> Result<PathParts, AllocError>
+        ensures { IfOk result (λ p. p ≡ first.now ∷ second.now ∷ []) }
     {
-        let len = key_len(names).unwrap_or(u16::MAX);
-        PathParts::many(alloc, Vec::from_clones(alloc, names)?, usize::from(len))
+        let first = first.clone()?;
+        PathParts::two(alloc, first, second.clone()?)
     }
 
-    /// These names, whose key has at most so many bytes. They stay where they are if one block hasn't room for them and their key.
-    pub(crate) fn many(alloc: Global, names: Vec<Name>, len: usize) -> Result<PathParts, AllocError>
+    // Clones of these three names.
+    fn three_of(
+        alloc: Global,
+        first: &Name,
+        second: &Name,
+        third: &Name,
+    ) -> Result<PathParts, AllocError>
+        ensures { IfOk result (λ p. p ≡ first.now ∷ second.now ∷ third.now ∷ []) }
+    {
+        let first = first.clone()?;
+        let second = second.clone()?;
+        PathParts::three(alloc, first, second, third.clone()?)
+    }
+
+    // These names, in one of the larger blocks or in memory of their own.
+    fn larger(alloc: Global, names: &[Name]) -> Result<PathParts, AllocError>
+        requires { length names.now ≤ depth_limit }
+        ensures { IfOk result (λ p. p ≡ names.now) }
+    {
+        let len = key_len(names);
+        match PathForm::in_block(alloc, names, len)? {
+            Some(form) => Ok(PathParts { form }),
+            None => PathParts::long(alloc, Vec::from_clones(alloc, names)?, len),
+        }
+    }
+
+    // These names, whose key has that many bytes, in memory of their own.
+    fn long(alloc: Global, names: Vec<Name>, len: usize) -> Result<PathParts, AllocError>
+        requires { len ≡ length (path_key names.items) }
         ensures { IfOk result (λ p. p ≡ names.items) }
     {
-        if let Some(form) = PathForm::of_few(alloc, &names, len)? {
-            return Ok(PathParts { form });
-        }
         let path = LongPath::of_names(alloc, names, len)?;
         Ok(PathParts {
             form: PathForm::Long(Arc::new(alloc, path)?),
         })
     }
 
-    /// These names, whose key has at most so many bytes.
-    pub(crate) fn of(alloc: Global, names: &[Name], len: usize) -> Result<PathParts, AllocError>
+    /// These names. They stay where they are if no block has room for them and their key.
+    pub(crate) fn of_list(alloc: Global, names: Vec<Name>) -> Result<PathParts, AllocError>
+        requires { length names.items ≤ depth_limit }
+        ensures { IfOk result (λ p. p ≡ names.items) }
+    {
+        let len = key_len(&names);
+        match PathForm::in_block(alloc, &names, len)? {
+            Some(form) => Ok(PathParts { form }),
+            None => PathParts::long(alloc, names, len),
+        }
+    }
+
+    /// These names, which are as many as a path may have.
+    pub(crate) fn of(alloc: Global, names: &[Name]) -> Result<PathParts, AllocError>
+        requires { length names.now ≤ depth_limit }
         ensures { IfOk result (λ p. p ≡ names.now) }
     {
         match names {
             [] => Ok(PathParts::root()),
             [name] => PathParts::one(alloc, name.clone()?),
-            [first, second] => {
-                let first = first.clone()?;
-                PathParts::two(alloc, first, second.clone()?)
-            }
-            [first, second, third] => {
-                let first = first.clone()?;
-                let second = second.clone()?;
-                PathParts::three(alloc, first, second, third.clone()?)
-            }
-            _ => PathParts::many(alloc, Vec::from_clones(alloc, names)?, len),
+            [first, second] => PathParts::two_of(alloc, first, second),
+            [first, second, third] => PathParts::three_of(alloc, first, second, third),
+            _ => PathParts::larger(alloc, names),
         }
     }
 
@@ -138,37 +173,31 @@ impl PathParts {
         requires plain { is_plain_path above.now ≡ true }
         ensures { IfOk result (λ p. p ≡ above.now ++ last.now ∷ []) }
     {
-        match above {
-            [] => PathParts::one(alloc, last.clone()?),
-            [first] => {
-                let first = first.clone()?;
-                PathParts::two(alloc, first, last.clone()?)
-            }
-            [first, second] => {
-                let first = first.clone()?;
-                let second = second.clone()?;
-                PathParts::three(alloc, first, second, last.clone()?)
-            }
-            names => {
-                let pieces = Pieces {
-                    names,
-                    more: slice::from_ref(last),
-                    above: key,
-                    below: last.as_str(),
-                    end: END,
-                };
-                PathParts::of_pieces(alloc, &pieces)
-            }
+        if above.is_empty() {
+            return PathParts::one(alloc, last.clone()?);
         }
+        let pieces = Pieces {
+            names: above,
+            more: slice::from_ref(last),
+            above: key,
+            below: last.as_str(),
+            end: END,
+        };
+        PathParts::of_pieces(alloc, &pieces)
     }
 
-    /// The names of these pieces.
+    /// The names of these pieces, of which each has one or more.
     pub(crate) fn of_pieces(alloc: Global, pieces: &Pieces<'_>) -> Result<PathParts, AllocError>
         ensures { IfOk result (λ p. p ≡ pieces.now.names.now ++ pieces.now.more.now) }
     {
-        Ok(PathParts {
-            form: PathForm::of(alloc, pieces)?,
-        })
+        match (pieces.names, pieces.more) {
+            ([first], [second]) => PathParts::two_of(alloc, first, second),
+            ([first], [second, third]) => PathParts::three_of(alloc, first, second, third),
+            ([first, second], [third]) => PathParts::three_of(alloc, first, second, third),
+            _ => Ok(PathParts {
+                form: PathForm::of(alloc, pieces)?,
+            }),
+        }
     }
 
     /// The names behind a cut.

@@ -123,6 +123,7 @@ fn three_names(alloc: Global, text: &str) -> Result<PathParts, AllocError>
 fn parts_of(alloc: Global, text: &str, count: usize) -> Result<PathParts, AllocError>
     requires checked { names_fault (slice_split is_slash text.now) ≡ None }
     requires counted { count ≡ length (slice_split is_slash text.now) }
+    requires few { count ≤ depth_limit }
     ensures { IfOk result (λ p. p ≡ slice_split is_slash text.now) }
 {
     match count {
@@ -131,7 +132,7 @@ fn parts_of(alloc: Global, text: &str, count: usize) -> Result<PathParts, AllocE
         3 => three_names(alloc, text),
         _ => {
             let names = many_names(alloc, text, count)?;
-            PathParts::many(alloc, names, text.len().saturating_add(1))
+            PathParts::of_list(alloc, names)
         }
     }
 }
@@ -214,23 +215,25 @@ impl RelPath {
         Ok(RelPath::of_parts(parts_of(alloc, text, count)?))
     }
 
-    // The path of these names, whose key has at most so many bytes.
-    pub(crate) fn from_names(
-        alloc: Global,
-        names: &[Name],
-        len: usize,
-    ) -> Result<RelPath, AllocError>
+    // The path of these names.
+    pub(crate) fn from_names(alloc: Global, names: &[Name]) -> Result<RelPath, AllocError>
         requires { length names.now ≤ depth_limit }
         ensures { IfOk result (λ p. p ≡ names.now) }
     {
-        Ok(RelPath::of_parts(PathParts::of(alloc, names, len)?))
+        Ok(RelPath::of_parts(PathParts::of(alloc, names)?))
     }
 
-    // The path with the names of another one behind its own, which are few enough.
+    // The path with the names of another one after its own, which are few enough. Where either is the root it is the other, and takes no memory.
     pub(crate) fn joined(&self, alloc: Global, below: &RelPath) -> Result<RelPath, AllocError>
         requires { length self.now + length below.now ≤ depth_limit }
         ensures { IfOk result (λ p. p ≡ self.now ++ below.now) }
     {
+        if below.is_root() {
+            return self.clone();
+        }
+        if self.is_root() {
+            return below.clone();
+        }
         let pieces = Pieces {
             names: self.components(),
             more: below.components(),
@@ -241,8 +244,8 @@ impl RelPath {
         Ok(RelPath::of_parts(PathParts::of_pieces(alloc, &pieces)?))
     }
 
-    /// The path without its first names, of which so many go; the root where it has no more. It shares the memory of this one where it can, so
-    /// that a path and one that ends like it lie in one place. AllocError where a growth is refused.
+    /// The path without its first names, of which so many go; the root where it has no more. Where it leaves out little (at most 4 names and
+    /// 64 bytes in all of what it shares) it lies in the memory of this one, and else in memory of its own. AllocError where an allocation failed.
     pub fn tail(&self, alloc: Global, count: usize) -> Result<RelPath, AllocError>
         ensures { IfOk result (λ p. p ≡ drop count self.now) }
     {
@@ -253,7 +256,7 @@ impl RelPath {
         let (front, rest) = names.split_at(count);
         match self.front.cut().further(front) {
             Some(cut) => Ok(RelPath::behind(self.parts.clone()?, cut)),
-            None => RelPath::from_names(alloc, rest, self.key().len()),
+            None => RelPath::from_names(alloc, rest),
         }
     }
 

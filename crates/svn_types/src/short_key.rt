@@ -1,5 +1,5 @@
 //! Keys of paths that lie in the value itself.
-ghost use Rattle.std.specs.Prelude.{◌≡◌, ◌+◌, ◌<◌, ◌≤◌, ◌∷◌, ◌++◌, [], length, IfSome, IsUtf8, true};
+ghost use Rattle.std.specs.Prelude.{◌≡◌, ◌+◌, ◌<◌, ◌≤◌, ◌∷◌, ◌++◌, [], length, IsUtf8, true};
 ghost use Rattle.svn_types.specs.PathKeys.{path_key, is_plain_path};
 
 use crate::name::Name;
@@ -23,37 +23,31 @@ impl<const K: usize> Model for ShortKey<K> {
     ghost invariant = { λ k. ∥ IsUtf8 k.bytes ∥₁ };
 }
 
-// The bytes of the key of these names, if they are that few.
-fn key_bytes<const K: usize>(names: &[Name]) -> Option<ShortBytes<K>>
-    requires { K < 256 }
-    ensures key { IfSome result (λ k. k ≡ path_key names.now) }
-    ensures plain { IfSome result (λ _. is_plain_path names.now ≡ true) }
-    ensures text { IfSome result (λ k. ∥ IsUtf8 k ∥₁) }
-{
-    let mut key = ShortBytes::new();
-    for name in names {
-        let bytes = name.as_str().as_bytes();
-        if key.as_slice().len() + bytes.len() >= K {
-            return None;
-        }
-        key.push_all(bytes);
-        key.push_all(&[1]);
-    }
-    Some(key)
-}
-
 impl<const K: usize> ShortKey<K> {
-    /// The key of these names, if it has at most `K` bytes.
-    pub(crate) fn of(names: &[Name]) -> Option<ShortKey<K>>
-        requires { K < 256 }
-        ensures key { IfSome result (λ k. k ≡ path_key names.now) }
-        ensures plain { IfSome result (λ _. is_plain_path names.now ≡ true) }
-        ensures text { IfSome result (λ k. ∥ IsUtf8 k ∥₁) }
+    /// The key of no name.
+    pub(crate) fn empty() -> ShortKey<K>
+        ensures key { result ≡ [] }
+        ensures text { ∥ IsUtf8 result ∥₁ }
     {
-        match key_bytes(names) {
-            Some(bytes) => Some(ShortKey { bytes }),
-            None => None,
+        ShortKey {
+            bytes: ShortBytes::new(),
         }
+    }
+
+    /// The key of these names, which has at most `K` bytes.
+    pub(crate) fn of(names: &[Name]) -> ShortKey<K>
+        requires small { K < 256 }
+        requires fits { length (path_key names.now) ≤ K }
+        ensures key { result ≡ path_key names.now }
+        ensures plain { is_plain_path names.now ≡ true }
+        ensures text { ∥ IsUtf8 result ∥₁ }
+    {
+        let mut bytes = ShortBytes::new();
+        for name in names {
+            bytes.push_all(name.as_str().as_bytes());
+            bytes.push_all(&[1]);
+        }
+        ShortKey { bytes }
     }
 
     /// The key that is these texts, one behind the other, which have at most `K` bytes.

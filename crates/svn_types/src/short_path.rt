@@ -10,8 +10,9 @@ use std::marker::Model;
 /// of the names.
 #[derive(Drop)]
 pub(crate) struct ShortPath<const N: usize, const K: usize> {
-    pub(crate) names: [Name; N],
+    // The key comes first, as in a `PathBlock`.
     pub(crate) key: ShortKey<K>,
+    pub(crate) names: [Name; N],
 }
 
 impl<const N: usize, const K: usize> Model for ShortPath<N, K> {
