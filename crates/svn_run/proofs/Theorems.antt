@@ -4,19 +4,15 @@ use Rattle.std.specs.Prelude.{if◌then◌else◌, Option, Some, None, Result, O
 use Rattle.std.specs.Option.{option_or}
 use Rattle.svn_link.specs.Ends.{Passed}
 use Rattle.svn_model.specs.Nodes.{get_in, InPathOrder}
-use Rattle.svn_model.specs.Follow.{Request, target_path, target_node}
 use Rattle.svn_law.specs.Laws.{IsTrueCopy}
-use Rattle.svn_wc.specs.Unswitched.{IsLevel}
-use Rattle.svn_wc.proofs.Level.{made_level}
 use Rattle.svn_run.specs.declared.outcome.Outcome.{Outcome}
-use Rattle.svn_run.specs.declared.outcome.Outcome.TheVariants.{Closed}
 use Rattle.svn_run.specs.declared.outcome.RunFault.{RunFault}
 use Rattle.svn_run.specs.declared.outcome.RunFault.TheVariants.{Memory, Capacity}
 use Rattle.svn_run.specs.Coming.{CameTo}
 use Rattle.svn_run.specs.Goals.{fault_at}
 use Rattle.svn_run.specs.RunLaws.{RunLaws}
 use Rattle.svn_run.specs.UpdateTheorem.{Nodes, Asked, is_capacity, fault_in_turn, fault_in_threads, IsRefusal, IsWantOfMemory}
-use Rattle.svn_run.specs.UpdateTheorem.{IsWantInThreads, made_in, late_in, calls_made, IsSound, TurnTheorem, ThreadsTheorem, Ran, RanInThreads, request}
+use Rattle.svn_run.specs.UpdateTheorem.{IsWantInThreads, made_in, late_in, calls_made, IsSound, TurnTheorem, ThreadsTheorem}
 use Rattle.svn_run.proofs.Beginning.{same_fault, has_target}
 use Rattle.svn_run.proofs.Composing.{drive_for, sound, ran}
 
@@ -126,21 +122,3 @@ module _ (laws : RunLaws) (a : Asked) (true_copy : IsTrueCopy a.history a.copy) 
         ran = record { ran = ran laws a true_copy (has_target laws a true_copy none) left in_order o came; sent = sent; taken = taken };
         sound = sound laws a true_copy (has_target laws a true_copy none) left in_order o came;
       }
-
--- ---- what a copy may note
-
--- after an accepted `CloseEdit` all nodes are present, complete and of the target revision
-closed_level : (a : Asked) (left : Nodes) (calls : ℕ) → Ran a left (Closed calls) → IsLevel (get_in left)
-closed_level a left calls ran =
-    let d : Request = request a in
-    subst IsLevel (λ i p. sym (ran.closed.1 p) i) (made_level d.history d.target (target_path d) (target_node d))
-
-pub level_in_turn : (a : Asked) (left : Nodes) (answer : Result Outcome RunFault) (calls : ℕ) → answer ≡ Ok (Closed calls)
-    → IfOk answer (Ran a left) → IsLevel (get_in left)
-level_in_turn a left answer calls is ran = closed_level a left calls (subst (λ (r : Result Outcome RunFault). IfOk r (Ran a left)) is ran)
-
-pub level_in_threads : (a : Asked) (left : Nodes) (answer : Result (Outcome × Passed) RunFault) (calls : ℕ) (passed : Passed)
-    → answer ≡ Ok (Closed calls, passed) → IfOk answer (λ x. RanInThreads a left x.0 x.1) → IsLevel (get_in left)
-level_in_threads a left answer calls passed is ran =
-    closed_level a left calls
-    (subst (λ (r : Result (Outcome × Passed) RunFault). IfOk r (λ x. RanInThreads a left x.0 x.1)) is ran).ran

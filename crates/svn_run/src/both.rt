@@ -1,5 +1,5 @@
 //! The two threads of a run.
-ghost use Rattle.std.specs.Prelude.{◌≡◌, None, [], MatchResult};
+ghost use Rattle.std.specs.Prelude.{◌≡◌, None, [], IfOk, IfErr, OnErr};
 ghost use Rattle.svn_edit.specs.Applying.{StandsAfter};
 ghost use Rattle.svn_editor.specs.Steps.{Mode};
 ghost use Rattle.svn_model.specs.Checks.{target_fault};
@@ -41,17 +41,10 @@ pub(crate) struct Ends {
 pub(crate) struct Both {
     pub(crate) driven: Driven,
     pub(crate) taken: Taken,
-    pub(crate) copy: WorkingCopy,
 }
 
-/// A run that made no call, with the copy as it was.
-#[derive(Drop)]
-pub(crate) struct Unstarted {
-    pub(crate) fault: RunFault,
-    pub(crate) copy: WorkingCopy,
-}
-
-/// Drives in a thread of its own, and applies in this one.
+/// Drives in a thread of its own, and applies in this one. Memory where an allocation failed, NoThread where no thread can be made: no call was
+/// made then, and the copy is as it was.
 pub(crate) fn run_both<R: Threads + Wait + Sync, G: Gate>(
     rt: &R,
     gate: &G,
@@ -60,22 +53,20 @@ pub(crate) fn run_both<R: Threads + Wait + Sync, G: Gate>(
     repo: &Repo,
     report: &Report,
     ends: Ends,
-    copy: WorkingCopy,
-) -> Result<Both, Unstarted>
+    copy: &mut WorkingCopy,
+) -> Result<Both, RunFault>
     requires sent { ends.outbox.calls ≡ [] }
     requires taken { ends.inbox.calls ≡ [] }
     requires told { ends.teller.number ≡ None }
     requires target { target_fault (request_for repo.now report.now to.now task.now) ≡ None }
     requires drive { IsDrive (request_for repo.now report.now to.now task.now) task.now.options.late_texts (drive_for repo.now report.now to.now task.now) }
-    ensures { MatchResult result
-        (λ b. IsDriven (drive_for repo.now report.now to.now task.now) task.now.options.cancel_after ends.outbox ends.watcher b.driven × IsTaken (mode_by task.now.switches to.now) (get_in copy) ends.inbox ends.teller b.taken b.copy)
-        (λ x. (x.copy ≡ copy) × IsWantInThreads x.fault) }
+    ensures driven { IfOk result (λ b. IsDriven (drive_for repo.now report.now to.now task.now) task.now.options.cancel_after ends.outbox ends.watcher b.driven) }
+    ensures taken { IfOk result (λ b. IsTaken (mode_by task.now.switches to.now) (get_in copy.old) ends.inbox ends.teller b.taken copy.new) }
+    ensures fault { IfErr result IsWantInThreads }
+    ensures unchanged { OnErr result (copy.new ≡ copy.old) }
 {
     let Ok(edit) = edit_of(task, to) else {
-        return Err(Unstarted {
-            fault: RunFault::Memory,
-            copy,
-        });
+        return Err(RunFault::Memory);
     };
     let Ends {
         outbox,
@@ -83,14 +74,14 @@ pub(crate) fn run_both<R: Threads + Wait + Sync, G: Gate>(
         teller,
         watcher,
     } = ends;
-    thread::scope(
+    let (back, both) = thread::scope(
         thread::scope_env(),
         rt,
-        move |scope| -> Result<Both, Unstarted>
+        move |scope| -> (&mut WorkingCopy, Result<Both, RunFault>)
             requires { (outbox.calls ≡ []) × (inbox.calls ≡ []) × (teller.number ≡ None) × (target_fault (request_for repo.now report.now to.now task.now) ≡ None) × IsDrive (request_for repo.now report.now to.now task.now) task.now.options.late_texts (drive_for repo.now report.now to.now task.now) × ((nodes : Nodes) → StandsAfter (mode_by task.now.switches to.now) (get_in nodes) edit nodes []) }
-            ensures { MatchResult result
-                (λ b. IsDriven (drive_for repo.entry.now report.entry.now to.entry.now task.entry.now) task.entry.now.options.cancel_after outbox watcher b.driven × IsTaken (mode_by task.entry.now.switches to.entry.now) (get_in copy) inbox teller b.taken b.copy)
-                (λ x. (x.copy ≡ copy) × IsWantInThreads x.fault) }
+            ensures { (result.0.ghost_name ≡ copy.entry.ghost_name)
+                × IfOk result.1 (λ b. IsDriven (drive_for repo.entry.now report.entry.now to.entry.now task.entry.now) task.entry.now.options.cancel_after outbox watcher b.driven × IsTaken (mode_by task.entry.now.switches to.entry.now) (get_in copy.entry.now) inbox teller b.taken result.0.now)
+                × IfErr result.1 (λ e. (e ≡ RunFault.NoThread) × (result.0.now ≡ copy.entry.now)) }
         {
             let promise = Drives {
                 task: Snapshot::of(task),
@@ -107,22 +98,17 @@ pub(crate) fn run_both<R: Threads + Wait + Sync, G: Gate>(
                     ensures { IsDriven (drive_for repo.entry.now report.entry.now to.entry.now task.entry.now) task.entry.now.options.cancel_after outbox watcher result }
                 { drive_through(rt, gate, task, to, repo, report, outbox, watcher) },
             );
-            let mut copy = copy;
             let Ok(driver) = driver else {
-                return Err(Unstarted {
-                    fault: RunFault::NoThread,
-                    copy,
-                });
+                return (copy, Err(RunFault::NoThread));
             };
-            let taken = apply_all(rt, gate, inbox, teller, edit, &mut copy);
+            let taken = apply_all(rt, gate, inbox, teller, edit, copy);
             let driven = driver.join(rt);
-            Ok(Both {
-                driven,
-                taken,
-                copy,
-            })
+            (copy, Ok(Both { driven, taken }))
         },
-    )
+    );
+    // The scope returns the reference that it was lent, so that what holds of the copy then is known here.
+    let _copy = back;
+    both
 }
 
 // Applies all calls to the copy, by the edit.

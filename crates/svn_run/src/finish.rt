@@ -3,6 +3,7 @@ ghost use Rattle.std.specs.Prelude.{◌≡◌, length, true};
 ghost use Rattle.svn_link.specs.Calls.{is_over};
 ghost use Rattle.svn_run.specs.Finishing.{late_of, made_of, cause_of, threads_outcome, IsFinished};
 
+use crate::both::Both;
 use crate::driving::Driven;
 use crate::outcome::{Cause, Outcome};
 use crate::taking::Taken;
@@ -12,12 +13,13 @@ use svn_link::{Settled, settle, settle_notice};
 use svn_model::{DriveEnd, DriveFault};
 
 /// Joins the ends again, and says how the run ended.
-pub(crate) fn finish<R: Wait>(rt: &R, driven: Driven, taken: Taken) -> (Outcome, Settled)
-    requires link { taken.inbox.link ≡ driven.outbox.link }
-    requires notice { driven.watcher.notice ≡ taken.teller.notice }
-    requires over { is_over taken.inbox.calls ≡ true }
-    ensures { IsFinished driven taken result.0 result.1 }
+pub(crate) fn finish<R: Wait>(rt: &R, both: Both) -> (Outcome, Settled)
+    requires link { both.taken.inbox.link ≡ both.driven.outbox.link }
+    requires notice { both.driven.watcher.notice ≡ both.taken.teller.notice }
+    requires over { is_over both.taken.inbox.calls ≡ true }
+    ensures { IsFinished both.driven both.taken result.0 result.1 }
 {
+    let Both { driven, taken } = both;
     let Driven {
         outbox,
         watcher,

@@ -5,21 +5,19 @@ ghost use Rattle.svn_model.specs.Nodes.{get_in, IsTrueOf};
 ghost use Rattle.svn_run.specs.Courses.{mode_by};
 ghost use Rattle.svn_run.specs.UpdateTheorem.{asked, is_capacity, ThreadsTheorem};
 
-use crate::both::{Both, Ends, Unstarted, run_both};
+use crate::both::{Ends, run_both};
 use crate::finish::finish;
 use crate::gate::Gate;
 use crate::laws::{laws, true_copy};
 use crate::outcome::{Outcome, RunFault};
 use crate::task::{Task, fault_of};
 use std::alloc::Global;
-use std::mem;
 use std::sync::Wait;
 use std::thread::Threads;
 use svn_drive::DriveOptions;
 use svn_link::{MAX_CAPACITY, Settled, link, notice};
-use svn_model::BaseNode;
 use svn_repo::Repo;
-use svn_types::{Props, RelPath, Rev};
+use svn_types::{RelPath, Rev};
 use svn_wc::WorkingCopy;
 
 /// How a run on two threads is made.
@@ -95,30 +93,8 @@ fn task_of(alloc: Global, target: Rev, switches: bool, options: Options) -> Task
     }
 }
 
-// A whole run. A copy that stands at its target notes that all of it is of one revision.
+// A whole run.
 fn run_in_threads<R: Threads + Wait + Sync, G: Gate>(
-    rt: &R,
-    gate: &G,
-    task: &Task,
-    to: &RelPath,
-    repo: &Repo,
-    copy: &mut WorkingCopy,
-    capacity: usize,
-) -> Result<(Outcome, Settled), RunFault>
-    requires truth { IsTrueOf repo.now (get_in copy.old) }
-    ensures { ThreadsTheorem (asked repo.now copy.old task.now.target (mode_by task.now.switches to.now) task.now.options.late_texts task.now.options.cancel_after) capacity copy.new result }
-{
-    match bring_in_threads(rt, gate, task, to, repo, copy, capacity) {
-        Ok((Outcome::Closed { calls }, passed)) => {
-            copy.note_level();
-            Ok((Outcome::Closed { calls }, passed))
-        }
-        otherwise => otherwise,
-    }
-}
-
-// A whole run, of which the copy notes nothing.
-fn bring_in_threads<R: Threads + Wait + Sync, G: Gate>(
     rt: &R,
     gate: &G,
     task: &Task,
@@ -138,32 +114,18 @@ fn bring_in_threads<R: Threads + Wait + Sync, G: Gate>(
     if !is_capacity(capacity) {
         return Err(RunFault::Capacity);
     }
-    let Ok(report) = copy.crawl(task.alloc) else {
+    let Ok(report) = copy.crawl_and_learn(task.alloc) else {
         return Err(RunFault::Memory);
     };
     let Ok(ends) = ends_of(task.alloc, capacity) else {
         return Err(RunFault::Memory);
     };
-    let Ok(spare) = root_alone(task.alloc) else {
-        return Err(RunFault::Memory);
-    };
-    let whole = mem::replace(copy, spare);
-    match run_both(rt, gate, task, to, repo, &report, ends, whole) {
+    match run_both(rt, gate, task, to, repo, &report, ends, copy) {
         Ok(both) => {
-            let Both {
-                driven,
-                taken,
-                copy: left,
-            } = both;
-            *copy = left;
             copy.law();
-            Ok(finish(rt, driven, taken))
+            Ok(finish(rt, both))
         }
-        Err(unstarted) => {
-            let Unstarted { fault, copy: left } = unstarted;
-            *copy = left;
-            Err(fault)
-        }
+        Err(fault) => Err(fault),
     }
 }
 
@@ -195,24 +157,4 @@ fn ends_of(alloc: Global, capacity: usize) -> Result<Ends, RunFault>
         teller,
         watcher,
     })
-}
-
-// A copy that stands in the place of one that is being updated.
-fn root_alone(alloc: Global) -> Result<WorkingCopy, RunFault>
-    ensures { IfErr result (λ e. e ≡ RunFault.Memory) }
-{
-    let root = BaseNode::Dir {
-        rev: Rev(0),
-        repos_path: RelPath::root(alloc),
-        complete: false,
-        props: Props::new(alloc),
-    };
-    let mut nodes = Vec::new(alloc);
-    if nodes.push((RelPath::root(alloc), root)).is_err() {
-        return Err(RunFault::Memory);
-    }
-    match WorkingCopy::from_nodes(alloc, nodes) {
-        Ok(copy) => Ok(copy),
-        Err(_) => Err(RunFault::Memory),
-    }
 }

@@ -74,28 +74,8 @@ pub fn switch_to_in_turn(
     run_in_turn(alloc, &goal, repo, copy, options)
 }
 
-// A whole run. A copy that stands at its target notes that all of it is of one revision.
+// A whole run.
 fn run_in_turn(
-    alloc: Global,
-    goal: &Goal<'_>,
-    repo: &Repo,
-    copy: &mut WorkingCopy,
-    options: DriveOptions,
-) -> Result<Outcome, RunFault>
-    requires truth { IsTrueOf repo.now (get_in copy.old) }
-    ensures { TurnTheorem (asked repo.now copy.old goal.now.target (mode_of (option_copied goal.now.to)) options.late_texts options.cancel_after) copy.new result }
-{
-    match bring_in_turn(alloc, goal, repo, copy, options) {
-        Ok(Outcome::Closed { calls }) => {
-            copy.note_level();
-            Ok(Outcome::Closed { calls })
-        }
-        otherwise => otherwise,
-    }
-}
-
-// A whole run, of which the copy notes nothing.
-fn bring_in_turn(
     alloc: Global,
     goal: &Goal<'_>,
     repo: &Repo,
@@ -110,7 +90,7 @@ fn bring_in_turn(
     if let Some(fault) = goal.fault(alloc, repo, copy) {
         return Err(fault);
     }
-    let Ok(report) = copy.crawl(alloc) else {
+    let Ok(report) = copy.crawl_and_learn(alloc) else {
         return Err(RunFault::Memory);
     };
     let outcome = drive_copy(alloc, goal, repo, &report, copy, options);

@@ -27,13 +27,13 @@ use Rattle.svn_wc.proofs.Unswitched.{dir_present}
 -- ---- one node
 
 -- what is there, and is level
-record AtLevel (rev : ℕ) (o : Option BaseNode) : Type 0 where
-  present : is_present o ≡ true
-  there : is_not_present o ≡ false
-  complete : is_incomplete o ≡ false
-  revision : node_revision o ≡ rev
+pub record AtLevel (rev : ℕ) (o : Option BaseNode) : Type 0 where
+  pub present : is_present o ≡ true
+  pub there : is_not_present o ≡ false
+  pub complete : is_incomplete o ≡ false
+  pub revision : node_revision o ≡ rev
 
-at_level : (rev : ℕ) (n : BaseNode) → is_level rev n ≡ true → AtLevel rev (Some n)
+pub at_level : (rev : ℕ) (n : BaseNode) → is_level rev n ≡ true → AtLevel rev (Some n)
 at_level rev (FileNode r q text props) h = record { present = refl; there = refl; complete = refl; revision = eqb-true r rev h }
 at_level rev (DirNode r q complete props) h =
     let parts = and_parts complete (nat_eq r rev) h in

@@ -22,6 +22,8 @@ pub mod Replacing
 pub mod Placing
 -- Lists of nodes in any order, each path once: what is gathered from one is what it has.
 pub mod EachOnce
+-- An edit completes each directory that it opens.
+pub mod Completing
 -- A call of an applier keeps the copy in its shape, whatever the call and its answer.
 pub mod ShapeKept
 -- The next node below a path, and what is left without it.
@@ -38,11 +40,13 @@ pub mod Printing
 pub mod PropLines
 -- Copies of which no path is switched stay so.
 pub mod Unswitched
--- A call of an applier keeps what is known of a copy of which no path is switched.
+-- What is known of a copy after a call of an applier: that no path is switched, and that it is level.
 pub mod UnswitchedCalls
--- Nodes that are what the repository has at one revision are level.
+-- Nodes that are what the repository has at one revision are level; and level nodes have the root's revision.
 pub mod Level
 -- What a copy reports if no path is switched and all nodes are of one revision: the root alone.
 pub mod LevelCrawl
+-- What the report of a copy says of all its nodes.
+pub mod Learning
 -- A part is put over nodes that stand at all its paths, in one pass over them.
 pub mod Overwriting

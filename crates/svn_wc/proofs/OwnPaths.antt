@@ -1,5 +1,5 @@
 -- Directories whose repository path is their own path, and what is below a directory.
-use Rattle.std.proofs.Common.{◌≡◌, Bool, true, List, ℕ, ◌++◌, sym, ap, ◌∙◌, Some, true≢false}
+use Rattle.std.proofs.Common.{◌≡◌, Bool, true, false, List, ℕ, ◌++◌, sym, ap, ◌∙◌, Some, true≢false}
 use Rattle.std.specs.Cmp.{both_ways}
 use Rattle.svn_types.specs.Names.{Path}
 use Rattle.svn_types.specs.Paths.{path_eq, is_root, parent, last_name, child}
@@ -7,13 +7,17 @@ use Rattle.svn_types.proofs.PathLemmas.{same_path, path_eq-same, is_root-child, 
 use Rattle.svn_model.specs.declared.base_node.BaseNode.{BaseNode}
 use Rattle.svn_model.specs.declared.base_node.BaseNode.TheVariants.{File as FileNode, Dir as DirNode, NotPresent}
 use Rattle.svn_model.specs.Nodes.{is_dir, node_path}
-use Rattle.svn_wc.specs.Aboves.{has_own_path, KnowsOwnPath, IsBelow}
+use Rattle.svn_wc.specs.Aboves.{has_own_path, mark, KnowsOwnPath, IsBelow}
 
 -- a marked directory's repository path is its path
 pub own_path : (p : Path) (n : BaseNode) → has_own_path p n ≡ true → node_path (Some n) ≡ p
 own_path p (FileNode r q text props) own = absurd (true≢false (sym own))
 own_path p (DirNode r q complete props) own = same_path q p own
 own_path p NotPresent own = absurd (true≢false (sym own))
+
+pub marked_path : (known : Bool) (p : Path) (n : BaseNode) → mark known p n ≡ true → node_path (Some n) ≡ p
+marked_path true p n marked = absurd (true≢false (sym marked))
+marked_path false p n marked = own_path p n marked
 
 pub knows_own_path : (p : Path) (n : BaseNode) (above : BaseNode × Bool) → above ≡ (n, has_own_path p n) → KnowsOwnPath p above
 knows_own_path p n above is = λ known.

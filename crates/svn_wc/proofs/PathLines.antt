@@ -10,15 +10,17 @@ use Rattle.std.specs.declared.cmp.Ordering.TheVariants.{Less}
 use Rattle.std.proofs.lemmas.List.{append-nil, map-append, take-map, length-map, length_push}
 use Rattle.std.proofs.lemmas.Option.{same_Some, slice_get-map}
 use Rattle.svn_types.specs.Names.{Path, path_cmp}
-use Rattle.svn_types.specs.Paths.{is_within, is_root, parent, path_eq, child}
+use Rattle.svn_types.specs.Paths.{is_within, is_root, parent, path_eq, child, last_name}
 use Rattle.svn_report.specs.declared.entry.ReportEntry.{ReportEntry}
 use Rattle.svn_report.specs.Reports.{ReportView}
 use Rattle.svn_model.specs.declared.base_node.BaseNode.{BaseNode}
-use Rattle.svn_model.specs.Nodes.{get_in, InPathOrder, IsWorkingCopy, is_dir, node_path}
+use Rattle.svn_model.specs.Nodes.{get_in, InPathOrder, IsWorkingCopy, is_dir, is_present, node_path}
 use Rattle.svn_model.specs.Crawl.{entry_for, reported_at, crawl}
-use Rattle.svn_wc.specs.Aboves.{has_own_path, IsBelow}
-use Rattle.svn_wc.specs.Crawling.{with_reported}
-use Rattle.svn_wc.proofs.OwnPaths.{own_path}
+use Rattle.svn_wc.specs.Aboves.{mark, IsBelow}
+use Rattle.svn_wc.specs.Crawling.{with_reported, last_of, IsUnswitchedBelow, Reports}
+use Rattle.svn_wc.specs.Unswitched.{IsUnswitched}
+use Rattle.svn_wc.proofs.OwnPaths.{marked_path}
+use Rattle.svn_wc.proofs.Unswitched.{unswitched_below}
 use Rattle.svn_edit_law.proofs.Lookups.{at_path, get_in-append}
 use Rattle.svn_edit.proofs.NodeOrder.{at_first, first_or_after, before_behind, order_behind, some_behind}
 use Rattle.svn_types.proofs.PathsInOrder.{not_before_itself, not_both, below_after, within_between}
@@ -84,24 +86,24 @@ prefixes-last q = by (path_cases q)
 -- ---- a crawl, node by node
 
 -- what stands at a path, as what is below is compared with it
-abbrev pub above_at : List (Path × BaseNode) → Path → Option (BaseNode × Bool)
-above_at nodes p = option_map (λ n. (n, has_own_path p n)) (get_in nodes p)
+abbrev pub above_at : Bool → List (Path × BaseNode) → Path → Option (BaseNode × Bool)
+above_at known nodes p = option_map (λ n. (n, mark known p n)) (get_in nodes p)
 
 -- each directory on the way down to the one path is on the way down to the other
 abbrev pub LeadsTo : List (Path × BaseNode) → Path → Path → Type 0
 LeadsTo nodes k p = (q : Path) → is_within q k ≡ true → is_dir (get_in nodes q) ≡ true → is_within q p ≡ true
 
 -- the directories on the way down to the last node that was taken, if one was
-pub data IsLine (nodes done : List (Path × BaseNode)) (line : List (BaseNode × Bool)) : Type 0 where
-  none_yet : done ≡ [] → line ≡ [] → IsLine nodes done line
+pub data IsLine (known : Bool) (nodes done : List (Path × BaseNode)) (line : List (BaseNode × Bool)) : Type 0 where
+  none_yet : done ≡ [] → line ≡ [] → IsLine known nodes done line
   last_at : (front : List (Path × BaseNode)) (e : Path × BaseNode) (p : Path) → done ≡ front ++ e ∷ [] → LeadsTo nodes e.0 p
-      → map (λ a. Some a) line ≡ map (above_at nodes) (prefixes p) → IsLine nodes done line
+      → map (λ a. Some a) line ≡ map (above_at known nodes) (prefixes p) → IsLine known nodes done line
 
-pub record IsCrawled (nodes : List (Path × BaseNode)) (line : List (BaseNode × Bool)) (r : ReportView) (left : List (Path × BaseNode))
-    : Type 0 where
+pub record IsCrawled (known : Bool) (nodes : List (Path × BaseNode)) (line : List (BaseNode × Bool)) (r : ReportView)
+    (left : List (Path × BaseNode)) : Type 0 where
   pub done : List (Path × BaseNode)
   pub parts : nodes ≡ done ++ left
-  pub line_is : IsLine nodes done line
+  pub line_is : IsLine known nodes done line
   pub root : r.root ≡ node_path (get_in nodes [])
   pub entries : r.entries ≡ filter_map (reported_at nodes) done
 
@@ -110,13 +112,13 @@ dir_some None d = absurd (true≢false (sym d))
 dir_some (Some n) d = refl
 
 -- the node of what stands at a path
-node_of : (o : Option BaseNode) (p : Path) → option_map (λ (a : BaseNode × Bool). a.0) (option_map (λ n. (n, has_own_path p n)) o) ≡ o
-node_of None p = refl
-node_of (Some n) p = refl
+node_of : (known : Bool) (o : Option BaseNode) (p : Path) → option_map (λ (a : BaseNode × Bool). a.0) (option_map (λ n. (n, mark known p n)) o) ≡ o
+node_of known None p = refl
+node_of known (Some n) p = refl
 
-pub crawled_first : (nodes : List (Path × BaseNode)) (r : ReportView) → r.root ≡ node_path (get_in nodes []) → r.entries ≡ []
-    → IsCrawled nodes [] r nodes
-crawled_first nodes r root entries = record { done = []; parts = refl; line_is = none_yet refl refl; root = root; entries = entries }
+pub crawled_first : (known : Bool) (nodes : List (Path × BaseNode)) (r : ReportView) → r.root ≡ node_path (get_in nodes []) → r.entries ≡ []
+    → IsCrawled known nodes [] r nodes
+crawled_first known nodes r root entries = record { done = []; parts = refl; line_is = none_yet refl refl; root = root; entries = entries }
 
 filter_map-push : {X Y : Type 0} (f : X → Option Y) (xs : List X) (x : X)
     → filter_map f (xs ++ x ∷ []) ≡ filter_map f xs ++ cons_option (f x) []
@@ -132,9 +134,9 @@ pub append_one : {X : Type 0} (xs : List X) (y : X) (ys : List X) → xs ++ y �
 append_one [] y ys = refl
 append_one (x ∷ xs) y ys = ap (λ l. x ∷ l) (append_one xs y ys)
 
-pub crawled_last : (nodes : List (Path × BaseNode)) (line : List (BaseNode × Bool)) (r : ReportView) → IsCrawled nodes line r []
+pub crawled_last : (known : Bool) (nodes : List (Path × BaseNode)) (line : List (BaseNode × Bool)) (r : ReportView) → IsCrawled known nodes line r []
     → r ≡ crawl nodes
-crawled_last nodes line r c =
+crawled_last known nodes line r c =
     let all : c.done ≡ nodes = sym (append-nil c.done) ∙ sym c.parts in
     let es : r.entries ≡ filter_map (reported_at nodes) nodes = c.entries ∙ ap (filter_map (reported_at nodes)) all in
     λ i. record { root = c.root i; entries = es i }
@@ -151,9 +153,9 @@ next_stands nodes done e left parts order =
         absurd (not_before_itself e.0
         (before_behind done (e ∷ left) (subst InPathOrder parts order) e.0 e.0 (ap is_some h) (ap is_some (at_first e left))))
 
-module _ (nodes : List (Path × BaseNode)) (order : InPathOrder nodes) (line : List (BaseNode × Bool)) (r : ReportView) (e : Path × BaseNode)
+module _ (known : Bool) (nodes : List (Path × BaseNode)) (order : InPathOrder nodes) (line : List (BaseNode × Bool)) (r : ReportView) (e : Path × BaseNode)
     (left : List (Path × BaseNode))
-    (c : IsCrawled nodes line r (e ∷ left)) where
+    (c : IsCrawled known nodes line r (e ∷ left)) where
   whole : InPathOrder (c.done ++ e ∷ left)
   whole = subst InPathOrder c.parts order
 
@@ -168,8 +170,8 @@ module _ (nodes : List (Path × BaseNode)) (order : InPathOrder nodes) (line : L
   stands : get_in nodes e.0 ≡ Some e.1
   stands = next_stands nodes c.done e left c.parts order
 
-  stands_above : above_at nodes e.0 ≡ Some (e.1, has_own_path e.0 e.1)
-  stands_above = ap (option_map (λ n. (n, has_own_path e.0 n))) stands
+  stands_above : above_at known nodes e.0 ≡ Some (e.1, mark known e.0 e.1)
+  stands_above = ap (option_map (λ n. (n, mark known e.0 n))) stands
 
   -- a directory above the next node was taken
   taken : (q r : Path) (name : List ℕ) → e.0 ≡ q ++ name ∷ r → is_some (get_in nodes q) ≡ true → is_some (get_in c.done q) ≡ true
@@ -217,13 +219,13 @@ module _ (nodes : List (Path × BaseNode)) (order : InPathOrder nodes) (line : L
     above_taken : is_some (get_in c.done q) ≡ true
     above_taken = taken q [] name is (dir_some (get_in nodes q) directory)
 
-    down_to : take (length e.0) (map (λ a. Some a) line) ≡ map (above_at nodes) (prefixes q)
+    down_to : take (length e.0) (map (λ a. Some a) line) ≡ map (above_at known nodes) (prefixes q)
     down_to = by c.line_is
       where
         depth : length e.0 ≡ suc (length q)
         depth = let d : length e.0 ≡ length q + 1 = ap length is ∙ length_push q name in omega arith
 
-        by : IsLine nodes c.done line → take (length e.0) (map (λ a. Some a) line) ≡ map (above_at nodes) (prefixes q)
+        by : IsLine known nodes c.done line → take (length e.0) (map (λ a. Some a) line) ≡ map (above_at known nodes) (prefixes q)
         by (none_yet d l) = absurd (true≢false (sym above_taken ∙ ap (λ xs. is_some (get_in xs q)) d))
         by (last_at front l end d leads m) =
             let within : is_within q l.0 ≡ true =
@@ -233,25 +235,25 @@ module _ (nodes : List (Path × BaseNode)) (order : InPathOrder nodes) (line : L
             (subst (λ (p : Path). is_within q p ≡ true) (sym is) (within_append q (name ∷ [])))) in
             let parts = split_within q end (leads q within directory) in
             ap (λ k. take k (map (λ a. Some a) line)) depth ∙ ap (take (suc (length q))) m
-            ∙ ap (λ (p : Path). take (suc (length q)) (map (above_at nodes) (prefixes p))) parts.1
-            ∙ take-map (above_at nodes) (suc (length q)) (prefixes (q ++ parts.0)) ∙ ap (map (above_at nodes)) (take-prefixes q parts.0)
+            ∙ ap (λ (p : Path). take (suc (length q)) (map (above_at known nodes) (prefixes p))) parts.1
+            ∙ take-map (above_at known nodes) (suc (length q)) (prefixes (q ++ parts.0)) ∙ ap (map (above_at known nodes)) (take-prefixes q parts.0)
 
-    kept : map (λ a. Some a) (take (length e.0) line) ≡ map (above_at nodes) (prefixes q)
+    kept : map (λ a. Some a) (take (length e.0) line) ≡ map (above_at known nodes) (prefixes q)
     kept = sym (take-map (λ (a : BaseNode × Bool). Some a) (length e.0) line) ∙ down_to
 
     -- the last of them is the directory above
-    last_is_above : slice_get (take (length e.0) line) (length (take (length e.0) line) - 1) ≡ above_at nodes q
+    last_is_above : slice_get (take (length e.0) line) (length (take (length e.0) line) - 1) ≡ above_at known nodes q
     last_is_above =
         let last = prefixes-last q in
-        last_known (take (length e.0) line) (map (above_at nodes) last.0) (above_at nodes q)
-        (kept ∙ ap (map (above_at nodes)) last.1 ∙ map-append (above_at nodes) last.0 (q ∷ []))
+        last_known (take (length e.0) line) (map (above_at known nodes) last.0) (above_at known nodes q)
+        (kept ∙ ap (map (above_at known nodes)) last.1 ∙ map-append (above_at known nodes) last.0 (q ∷ []))
 
-    line_on : map (λ a. Some a) (take (length e.0) line ++ (e.1, has_own_path e.0 e.1) ∷ []) ≡ map (above_at nodes) (prefixes e.0)
+    line_on : map (λ a. Some a) (take (length e.0) line ++ (e.1, mark known e.0 e.1) ∷ []) ≡ map (above_at known nodes) (prefixes e.0)
     line_on =
-        map-append (λ (a : BaseNode × Bool). Some a) (take (length e.0) line) ((e.1, has_own_path e.0 e.1) ∷ [])
-        ∙ (λ i. kept i ++ sym (sym (ap (above_at nodes) is) ∙ stands_above) i ∷ [])
-        ∙ sym (map-append (above_at nodes) (prefixes q) (child q name ∷ []))
-        ∙ ap (map (above_at nodes)) (sym (prefixes-child q name)) ∙ ap (λ (p : Path). map (above_at nodes) (prefixes p)) (sym is)
+        map-append (λ (a : BaseNode × Bool). Some a) (take (length e.0) line) ((e.1, mark known e.0 e.1) ∷ [])
+        ∙ (λ i. kept i ++ sym (sym (ap (above_at known nodes) is) ∙ stands_above) i ∷ [])
+        ∙ sym (map-append (above_at known nodes) (prefixes q) (child q name ∷ []))
+        ∙ ap (map (above_at known nodes)) (sym (prefixes-child q name)) ∙ ap (λ (p : Path). map (above_at known nodes) (prefixes p)) (sym is)
 
   -- the next node is the root, or a directory is above it
   next_below : IsWorkingCopy (get_in nodes) → (o : Option (BaseNode × Bool))
@@ -260,9 +262,9 @@ module _ (nodes : List (Path × BaseNode)) (order : InPathOrder nodes) (line : L
     where
       -- what stands there is a directory, and is marked as one of its own path where it has that
       at_node : (q : Path) (n : Option BaseNode) → is_root e.0 ≡ false → is_dir n ≡ true → parent e.0 ≡ q
-          → IsBelow e.0 (option_map (λ n. (n, has_own_path q n)) n)
+          → IsBelow e.0 (option_map (λ n. (n, mark known q n)) n)
       at_node q None root dir front = absurd (true≢false (sym dir))
-      at_node q (Some n) root dir front = (root, dir, λ own. own_path q n own ∙ sym front)
+      at_node q (Some n) root dir front = (root, dir, λ own. marked_path known q n own ∙ sym front)
 
       by : PathCases e.0 → IsBelow e.0 o
       by (inl is) =
@@ -271,6 +273,27 @@ module _ (nodes : List (Path × BaseNode)) (order : InPathOrder nodes) (line : L
       by (inr (q, name, is)) =
           subst (λ (u : Option (BaseNode × Bool)). IsBelow e.0 u) (sym (same ∙ last_is_above w q name is))
           (at_node q (get_in nodes q) (ap is_root is ∙ is_root-child q name) (directory w q name is) (ap parent is ∙ parent-child q name))
+
+  -- nor is it switched, where it is known that no path is
+  next_unswitched : IsWorkingCopy (get_in nodes) → (known ≡ true → IsUnswitched (get_in nodes)) → (o : Option (BaseNode × Bool))
+      → o ≡ slice_get (take (length e.0) line) (length (take (length e.0) line) - 1) → IsUnswitchedBelow known e.0 o e.1
+  next_unswitched w unswitched o same = by (path_cases e.0)
+    where
+      at_node : (q : Path) (name : List ℕ) (n : Option BaseNode) → get_in nodes q ≡ n → e.0 ≡ child q name
+          → IsUnswitchedBelow known e.0 (option_map (λ n. (n, mark known q n)) n) e.1
+      at_node q name None there is = tt
+      at_node q name (Some n) there is = λ k present.
+          subst (λ (u : Option BaseNode). path_eq (node_path (Some e.1)) (node_path u ++ last_name e.0) ≡ true) there
+          (subst (λ (u : Option BaseNode). path_eq (node_path u) (node_path (get_in nodes q) ++ last_name e.0) ≡ true) stands
+          (unswitched_below (get_in nodes) (unswitched k) w e.0 q name is (ap is_present stands ∙ present)))
+
+      by : PathCases e.0 → IsUnswitchedBelow known e.0 o e.1
+      by (inl is) =
+          subst (λ (u : Option (BaseNode × Bool)). IsUnswitchedBelow known e.0 u e.1)
+          (sym (same ∙ (λ i. slice_get (take (length (is i)) line) (length (take (length (is i)) line) - 1)))) tt
+      by (inr (q, name, is)) =
+          subst (λ (u : Option (BaseNode × Bool)). IsUnswitchedBelow known e.0 u e.1) (sym (same ∙ last_is_above w q name is))
+          (at_node q name (get_in nodes q) refl is)
 
   entry_is : IsWorkingCopy (get_in nodes) → (o : Option (BaseNode × Bool))
       → o ≡ slice_get (take (length e.0) line) (length (take (length e.0) line) - 1)
@@ -282,31 +305,31 @@ module _ (nodes : List (Path × BaseNode)) (order : InPathOrder nodes) (line : L
           (λ i. entry_for (is i) (option_map (λ a. a.0) o) (Some e.1)) ∙ sym (λ i. entry_for (is i) (get_in nodes (parent e.0)) (Some e.1))
       by (inr (q, name, is)) =
           ap (λ (u : Option BaseNode). entry_for e.0 u (Some e.1))
-          (ap (option_map (λ a. a.0)) (same ∙ last_is_above w q name is) ∙ node_of (get_in nodes q) q
+          (ap (option_map (λ a. a.0)) (same ∙ last_is_above w q name is) ∙ node_of known (get_in nodes q) q
           ∙ ap (get_in nodes) (sym (ap parent is ∙ parent-child q name)))
 
   -- a directory is behind the line then, and what is none is not
   line_of_directory : IsWorkingCopy (get_in nodes)
-      → IsLine nodes (c.done ++ e ∷ []) (take (length e.0) line ++ (e.1, has_own_path e.0 e.1) ∷ [])
+      → IsLine known nodes (c.done ++ e ∷ []) (take (length e.0) line ++ (e.1, mark known e.0 e.1) ∷ [])
   line_of_directory w = last_at c.done e e.0 refl (λ q within dir. within) (by (path_cases e.0))
     where
       own : BaseNode × Bool
-      own = (e.1, has_own_path e.0 e.1)
+      own = (e.1, mark known e.0 e.1)
 
-      by : PathCases e.0 → map (λ a. Some a) (take (length e.0) line ++ own ∷ []) ≡ map (above_at nodes) (prefixes e.0)
+      by : PathCases e.0 → map (λ a. Some a) (take (length e.0) line ++ own ∷ []) ≡ map (above_at known nodes) (prefixes e.0)
       by (inr (q, name, is)) = line_on w q name is
       by (inl is) =
           ap (λ (p : Path). map (λ a. Some a) (take (length p) line ++ own ∷ [])) is
-          ∙ (λ i. sym (sym (ap (above_at nodes) is) ∙ stands_above) i ∷ [])
-          ∙ ap (λ (p : Path). map (above_at nodes) (prefixes p)) (sym is)
+          ∙ (λ i. sym (sym (ap (above_at known nodes) is) ∙ stands_above) i ∷ [])
+          ∙ ap (λ (p : Path). map (above_at known nodes) (prefixes p)) (sym is)
 
-  line_of_leaf : IsWorkingCopy (get_in nodes) → is_dir (Some e.1) ≡ false → IsLine nodes (c.done ++ e ∷ []) (take (length e.0) line)
+  line_of_leaf : IsWorkingCopy (get_in nodes) → is_dir (Some e.1) ≡ false → IsLine known nodes (c.done ++ e ∷ []) (take (length e.0) line)
   line_of_leaf w leaf = by (path_cases e.0)
     where
       no_directory : (p : Path) → p ≡ e.0 → is_dir (get_in nodes p) ≡ true → ⊥
       no_directory p is dir = true≢false (sym dir ∙ ap (λ (q : Path). is_dir (get_in nodes q)) is ∙ ap is_dir stands ∙ leaf)
 
-      by : PathCases e.0 → IsLine nodes (c.done ++ e ∷ []) (take (length e.0) line)
+      by : PathCases e.0 → IsLine known nodes (c.done ++ e ∷ []) (take (length e.0) line)
       by (inl is) = absurd (no_directory [] (sym is) w.root)
       by (inr (q, name, is)) = last_at c.done e q refl leads (kept w q name is)
         where
@@ -321,7 +344,7 @@ module _ (nodes : List (Path × BaseNode)) (order : InPathOrder nodes) (line : L
   crawled_next : IsWorkingCopy (get_in nodes) → (o : Option (BaseNode × Bool))
       → o ≡ slice_get (take (length e.0) line) (length (take (length e.0) line) - 1) → (r2 : ReportView)
       → r2 ≡ with_reported r e.0 (entry_for e.0 (option_map (λ a. a.0) o) (Some e.1))
-      → (line2 : List (BaseNode × Bool)) → IsLine nodes (c.done ++ e ∷ []) line2 → IsCrawled nodes line2 r2 left
+      → (line2 : List (BaseNode × Bool)) → IsLine known nodes (c.done ++ e ∷ []) line2 → IsCrawled known nodes line2 r2 left
   crawled_next w o same r2 made line2 next = record {
     done = c.done ++ e ∷ [];
     parts = c.parts ∙ append_one c.done e left;
@@ -345,30 +368,34 @@ module _ (nodes : List (Path × BaseNode)) (order : InPathOrder nodes) (line : L
       more (Some x) = refl
 
 -- the next node was reported below the last of the line, cut to its depth; a directory is then put behind that
-pub crawled_on : (nodes : List (Path × BaseNode)) → InPathOrder nodes → IsWorkingCopy (get_in nodes) → (line : List (BaseNode × Bool))
-    (r : ReportView) (e : Path × BaseNode) (all left : List (Path × BaseNode)) → all ≡ e ∷ left → IsCrawled nodes line r all
-    → (kept : List (BaseNode × Bool)) → kept ≡ take (length e.0) line
-    → (o : Option (BaseNode × Bool)) → o ≡ slice_get kept (length kept - 1)
-    → (r2 : ReportView) → (IsBelow e.0 o → r2 ≡ with_reported r e.0 (entry_for e.0 (option_map (λ a. a.0) o) (Some e.1)))
-    → (is_dir (Some e.1) ≡ false → IsCrawled nodes kept r2 left) × IsCrawled nodes (kept ++ (e.1, has_own_path e.0 e.1) ∷ []) r2 left
-crawled_on nodes order w line r e all left step crawled kept cut o last r2 report = (
-  λ leaf. next kept (subst (IsLine nodes (c.done ++ e ∷ [])) (sym cut) (line_of_leaf nodes order line r e left c w leaf)),
-  next (kept ++ own ∷ [])
-      (subst (λ (l : List (BaseNode × Bool)). IsLine nodes (c.done ++ e ∷ []) (l ++ own ∷ [])) (sym cut)
-      (line_of_directory nodes order line r e left c w)),
-)
+pub crawled_on : (known : Bool) (nodes : List (Path × BaseNode)) → InPathOrder nodes → IsWorkingCopy (get_in nodes)
+    → (known ≡ true → IsUnswitched (get_in nodes)) → (line : List (BaseNode × Bool))
+    (r : ReportView) (e : Path × BaseNode) (all left : List (Path × BaseNode)) → all ≡ e ∷ left → IsCrawled known nodes line r all
+    → (r2 : ReportView) → Reports known r e.0 (last_of (take (length e.0) line)) e.1 r2
+    → (line2 : List (BaseNode × Bool))
+    → line2 ≡ cond (is_dir (Some e.1)) (take (length e.0) line ++ (e.1, mark known e.0 e.1) ∷ []) (take (length e.0) line)
+    → IsCrawled known nodes line2 r2 left
+crawled_on known nodes order w unswitched line r e all left step crawled r2 report line2 is = next line2 (by (is_dir (Some e.1)) refl)
   where
-    own : BaseNode × Bool
-    own = (e.1, has_own_path e.0 e.1)
+    kept : List (BaseNode × Bool)
+    kept = take (length e.0) line
 
-    c : IsCrawled nodes line r (e ∷ left)
-    c = subst (IsCrawled nodes line r) step crawled
+    c : IsCrawled known nodes line r (e ∷ left)
+    c = subst (IsCrawled known nodes line r) step crawled
 
-    above : o ≡ slice_get (take (length e.0) line) (length (take (length e.0) line) - 1)
-    above = last ∙ ap (λ (l : List (BaseNode × Bool)). slice_get l (length l - 1)) cut
+    next : (line2 : List (BaseNode × Bool)) → IsLine known nodes (c.done ++ e ∷ []) line2 → IsCrawled known nodes line2 r2 left
+    next =
+        crawled_next known nodes order line r e left c w (last_of kept) refl r2
+        (report (next_below known nodes order line r e left c w (last_of kept) refl)
+        (next_unswitched known nodes order line r e left c w unswitched (last_of kept) refl))
 
-    next : (line2 : List (BaseNode × Bool)) → IsLine nodes (c.done ++ e ∷ []) line2 → IsCrawled nodes line2 r2 left
-    next = crawled_next nodes order line r e left c w o above r2 (report (next_below nodes order line r e left c w o above))
+    by : (b : Bool) → is_dir (Some e.1) ≡ b → IsLine known nodes (c.done ++ e ∷ []) line2
+    by true d =
+        subst (IsLine known nodes (c.done ++ e ∷ [])) (sym (is ∙ ap (λ b. cond b (kept ++ (e.1, mark known e.0 e.1) ∷ []) kept) d))
+        (line_of_directory known nodes order line r e left c w)
+    by false d =
+        subst (IsLine known nodes (c.done ++ e ∷ [])) (sym (is ∙ ap (λ b. cond b (kept ++ (e.1, mark known e.0 e.1) ∷ []) kept) d))
+        (line_of_leaf known nodes order line r e left c w d)
 
 -- ---- answers
 

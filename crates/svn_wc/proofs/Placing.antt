@@ -1,10 +1,10 @@
 -- Trees of the repository, and what a copy makes of them.
-use Rattle.std.proofs.Common.{◌≡◌, ℕ, ◌-◌, Bool, true, false, cond, List, [], ◌∷◌, ◌++◌, length, drop, refl, sym, ap, subst, ◌∙◌, Option}
+use Rattle.std.proofs.Common.{◌≡◌, ℕ, ◌-◌, Bool, true, false, not, cond, List, [], ◌∷◌, ◌++◌, length, drop, refl, sym, ap, subst, ◌∙◌, Option}
 use Rattle.std.proofs.Common.{Some, None, true≢false, append_assoc, append-nil}
-use Rattle.std.specs.Prelude.{slice_get, option_and_then, Result, Ok, Err, IfOk, OnOk, OnErr, IsTrue, IsFalse}
+use Rattle.std.specs.Prelude.{slice_get, option_and_then, Result, Ok, Err, IfOk}
 use Rattle.std.specs.Option.{option_map}
 use Rattle.svn_types.specs.Names.{Path}
-use Rattle.svn_types.specs.Paths.{path_eq, is_within, is_below, last_name}
+use Rattle.svn_types.specs.Paths.{path_eq, is_within, is_below, is_root, parent, last_name}
 use Rattle.svn_types.specs.Pairs.{value_of}
 use Rattle.svn_types.specs.declared.kind.Kind.{Kind}
 use Rattle.svn_types.specs.declared.kind.Kind.TheVariants.{File, Directory}
@@ -13,8 +13,8 @@ use Rattle.svn_repo.specs.Readings.{kind_of, entries_of, IsHistory}
 use Rattle.svn_model.specs.declared.base_node.BaseNode.{BaseNode}
 use Rattle.svn_model.specs.declared.wc_fault.WcFault.{WcFault}
 use Rattle.svn_model.specs.declared.wc_fault.WcFault.TheVariants.{Memory}
-use Rattle.svn_model.specs.Nodes.{WorkingCopy, get_in, base_node, is_dir, IsWorkingCopy}
-use Rattle.svn_model.specs.Refusals.{is_file_kind}
+use Rattle.svn_model.specs.Nodes.{WorkingCopy, base_node, is_dir, IsWorkingCopy}
+use Rattle.svn_model.specs.Refusals.{is_file_kind, is_missing_revision, place_fault}
 use Rattle.svn_model.specs.Builders.{checkout, placed}
 use Rattle.svn_repo.proofs.Walking.{look-append}
 use Rattle.svn_model.proofs.Children.{entry_below, look-child}
@@ -24,7 +24,8 @@ use Rattle.svn_wc.specs.Truths.{entry_in}
 use Rattle.svn_edit_law.proofs.CrawlReports.{directory_above}
 use Rattle.svn_edit_law.proofs.Parts.{drop_front}
 use Rattle.svn_types.proofs.PathLemmas.{none_at_last, split_within, apart_paths, below_from, path_eq-longer, path_eq-same, within_append}
-use Rattle.svn_types.proofs.Places.{some_none}
+use Rattle.svn_types.proofs.Places.{some_none, passed}
+use Rattle.svn_editor.proofs.OneMore.{not_false}
 
 -- what was gathered is the tree
 pub tree_gathered : (h : History) (at q : Path) (rev n : ℕ) (w : WorkingCopy) → Puts (standing h rev q n) at (λ p. None) w
@@ -106,24 +107,15 @@ file_placed h laws w shape at q rev n found file other p = by (is_within at p) r
         inside on.0 on.1 ∙ ap (checkout h q rev) (sym (ap (drop (length at)) on.1 ∙ drop_front at on.0))
     by false i = ap (λ (b : Bool). cond b (Some (base_node h rev q n)) (w p)) (apart_paths at p i)
 
--- what has the shape of a copy after a change, if that is done, and before it, still has it
-pub shape_after : {X E : Type 0} (r : Result X E) (old new : List (Path × BaseNode)) (w : WorkingCopy)
-    → OnOk r ((p : Path) → get_in new p ≡ w p) → OnErr r (new ≡ old) → IsWorkingCopy w → IsWorkingCopy (get_in old)
-    → IsWorkingCopy (get_in new)
-shape_after (Ok x) old new w same kept shape before = subst IsWorkingCopy (λ i p. sym (same p) i) shape
-shape_after (Err e) old new w same kept shape before =
-    subst (λ (nodes : List (Path × BaseNode)). IsWorkingCopy (get_in nodes)) (sym kept) before
+-- ---- where a tree may be placed
 
--- the same where the change may also be left to another
-pub shape_if_done : {E : Type 0} (r : Result Bool E) (old new : List (Path × BaseNode)) (w : WorkingCopy)
-    → IfOk r (λ done. IsTrue done → (p : Path) → get_in new p ≡ w p) → IfOk r (λ done. IsFalse done → new ≡ old) → OnErr r (new ≡ old)
-    → IsWorkingCopy w → IsWorkingCopy (get_in old) → IsWorkingCopy (get_in new)
-shape_if_done (Ok true) old new w same left kept shape before =
-    subst IsWorkingCopy (λ i p. sym (same refl p) i) shape
-shape_if_done (Ok false) old new w same left kept shape before =
-    subst (λ (nodes : List (Path × BaseNode)). IsWorkingCopy (get_in nodes)) (sym (left refl)) before
-shape_if_done (Err e) old new w same left kept shape before =
-    subst (λ (nodes : List (Path × BaseNode)). IsWorkingCopy (get_in nodes)) (sym kept) before
+pub may_place : (h : History) (w : WorkingCopy) (at : Path) (rev : ℕ) → place_fault h w at rev ≡ None
+    → (is_root at ≡ false) × (is_dir (w (parent at)) ≡ true)
+may_place h w at rev f =
+    let one = passed (is_root at) _ _ f in
+    let two = passed (is_missing_revision h rev) _ _ one.1 in
+    let three = passed (not (is_dir (w (parent at)))) _ _ two.1 in
+    (one.0, not_false (is_dir (w (parent at))) three.0)
 
 -- ---- answers
 

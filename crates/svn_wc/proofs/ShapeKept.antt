@@ -1,5 +1,5 @@
 -- A call of an applier keeps the copy in its shape, whatever the call and its answer.
-use Rattle.std.proofs.Common.{◌≡◌, ◌≢◌, ℕ, true, refl, List, [], ◌∷◌, ◌++◌, sym, ap, subst, ◌∙◌}
+use Rattle.std.proofs.Common.{◌≡◌, ◌≢◌, ℕ, Bool, true, refl, List, [], ◌∷◌, ◌++◌, sym, ap, subst, ◌∙◌}
 use Rattle.std.specs.Prelude.{Result, Ok, Err, OnOk, OnErr, IfErr}
 use Rattle.std.specs.BTreeMap.{BTreeMap}
 use Rattle.std.specs.Coded.{Coded-set, coded_bool, le_prop}
@@ -13,7 +13,7 @@ use Rattle.svn_editor.specs.Calls.{is_last, is_abort}
 use Rattle.svn_editor.specs.Steps.{Mode, Update}
 use Rattle.svn_model.specs.declared.base_node.BaseNode.{BaseNode}
 use Rattle.svn_model.specs.Nodes.{WorkingCopy, get_in, IsWorkingCopy}
-use Rattle.svn_model.specs.Effects.{refusal}
+use Rattle.svn_model.specs.Effects.{effect, refusal}
 use Rattle.svn_model.specs.Answering.{AnswersCall}
 use Rattle.svn_edit_law.specs.Laws.{OpensNamed}
 use Rattle.svn_edit_law.proofs.Shape.{shaped_first}
@@ -23,7 +23,10 @@ use Rattle.svn_edit.specs.declared.edit.Stage.TheVariants.{Going, Refused, Ended
 use Rattle.svn_edit.specs.Leaving.{PoolsAfter}
 use Rattle.svn_edit.specs.Applying.{mode_of, StandsAfter, HasEnded, IsRefused, StaysRefused, StaysEnded, LeavesRefused}
 use Rattle.svn_edit.proofs.ShapedCalls.{shaped_call}
-use Rattle.svn_wc.specs.Taking.{TakesCall, IsBegun, GoesOn, IsInShape}
+use Rattle.svn_edit_law.proofs.Appending.{after-more}
+use Rattle.svn_wc.specs.Taking.{TakesCall, IsBegun, GoesOn, IsInShape, IncompleteAreOpen}
+use Rattle.svn_wc.specs.Unswitched.{IsLevel}
+use Rattle.svn_wc.proofs.Completing.{open_more, level_open}
 
 -- ---- the shape is a proposition
 
@@ -46,14 +49,15 @@ IsWorkingCopy-prop w a b i = record {
 
 -- ---- no call yet
 
-pub begun_in_shape : (edit : Edit) (nodes : List (Path × BaseNode)) → IsBegun edit nodes → IsWorkingCopy (get_in nodes)
-    → IsInShape edit nodes
-begun_in_shape edit nodes begun shape going = record {
+pub begun_in_shape : (was_level : Bool) (edit : Edit) (nodes : List (Path × BaseNode)) → (was_level ≡ true → IsLevel (get_in nodes))
+    → IsBegun edit nodes → IsWorkingCopy (get_in nodes) → IsInShape was_level edit nodes
+begun_in_shape was_level edit nodes level begun shape going = record {
   mode = begun.0;
   start = get_in nodes;
   calls = [];
   stands = begun.1;
   shape = shaped_first begun.0 (get_in nodes) shape;
+  opened = λ was. level_open (get_in nodes) (level was);
 }
 
 -- ---- one call
@@ -85,8 +89,9 @@ taken answer old new m m' c named answers accepted refused dead was_refused ende
   abort = abort;
 }
 
-not_going : (edit : Edit) (stage : Stage) → edit.stage ≡ stage → stage ≢ Going → (nodes : List (Path × BaseNode)) → IsInShape edit nodes
-not_going edit stage is other nodes going = absurd (other (sym is ∙ going))
+not_going : (was_level : Bool) (edit : Edit) (stage : Stage) → edit.stage ≡ stage → stage ≢ Going → (nodes : List (Path × BaseNode))
+    → IsInShape was_level edit nodes
+not_going was_level edit stage is other nodes going = absurd (other (sym is ∙ going))
 
 pub ended_otherwise : Ended ≢ Going
 ended_otherwise e = cc
@@ -94,40 +99,45 @@ ended_otherwise e = cc
 refused_otherwise : Refused ≢ Going
 refused_otherwise e = cc
 
-refused_still : (c : Call) (answer : Result (Unit {0}) EditFault) (new : Edit) → StaysRefused c answer new
-    → (nodes : List (Path × BaseNode)) → IsInShape new nodes
-refused_still AbortEdit answer new h nodes = not_going new Ended h.1 ended_otherwise nodes
-refused_still _ answer new h nodes = not_going new Refused h.1 refused_otherwise nodes
+refused_still : (was_level : Bool) (c : Call) (answer : Result (Unit {0}) EditFault) (new : Edit) → StaysRefused c answer new
+    → (nodes : List (Path × BaseNode)) → IsInShape was_level new nodes
+refused_still was_level AbortEdit answer new h nodes = not_going was_level new Ended h.1 ended_otherwise nodes
+refused_still was_level _ answer new h nodes = not_going was_level new Refused h.1 refused_otherwise nodes
 
-module _ (old new : Edit) (w w' : List (Path × BaseNode)) (c : Call) (named : OpensNamed c) where
+module _ (was_level : Bool) (old new : Edit) (w w' : List (Path × BaseNode)) (c : Call) (named : OpensNamed c) where
   -- the edit goes on
   module _ (accepted : (mode : Mode) (w0 : WorkingCopy) (calls : List Call) → StandsAfter mode w0 old w calls
       → StandsAfter mode w0 new w' (calls ++ c ∷ []))
       (answers : (mode : Mode) (w0 : WorkingCopy) (calls : List Call) → StandsAfter mode w0 old w calls
       → AnswersCall (refusal md5 mode calls c w) (Ok tt)) where
-    gone_on : GoesOn old w → GoesOn new w'
+    gone_on : GoesOn was_level old w → GoesOn was_level new w'
     gone_on g = record {
       mode = g.mode;
       start = g.start;
       calls = g.calls ++ c ∷ [];
       stands = accepted g.mode g.start g.calls g.stands;
       shape = shaped_call (Ok tt) old new w w' c named accepted answers g.mode g.start g.calls g.stands g.shape;
+      opened = λ was.
+          let stands = accepted g.mode g.start g.calls g.stands in
+          subst (λ (v : WorkingCopy). IncompleteAreOpen v (g.calls ++ c ∷ []))
+          (ap (effect g.mode g.calls c) (λ i p. g.stands.copy p i) ∙ sym (after-more g.mode g.start g.calls c) ∙ (λ i p. sym (stands.copy p) i))
+          (open_more md5 g.mode w g.calls c g.stands.order.lawful (answers g.mode g.start g.calls g.stands) (g.opened was));
     }
 
-  pub kept : (answer : Result (Unit {0}) EditFault) → TakesCall old w c answer new w' → IsInShape old w → IsWorkingCopy (get_in w)
-      → IsInShape new w' × IsWorkingCopy (get_in w')
+  pub kept : (answer : Result (Unit {0}) EditFault) → TakesCall old w c answer new w' → IsInShape was_level old w
+      → IsWorkingCopy (get_in w) → IsInShape was_level new w' × IsWorkingCopy (get_in w')
   kept answer takes shape before = by old.stage refl answer takes
     where
       same : w' ≡ w → IsWorkingCopy (get_in w')
       same e = subst (λ (nodes : List (Path × BaseNode)). IsWorkingCopy (get_in nodes)) (sym e) before
 
       by : (stage : Stage) → old.stage ≡ stage → (answer : Result (Unit {0}) EditFault) → TakesCall old w c answer new w'
-          → IsInShape new w' × IsWorkingCopy (get_in w')
+          → IsInShape was_level new w' × IsWorkingCopy (get_in w')
       by Going is (Ok done) t = let g = gone_on t.accepted t.answers (shape is) in (λ going. g, g.shape.shape)
       by Going is (Err e) t =
           let g = shape is in
           let dead : LeavesRefused Going (Err e) new = subst (λ (s : Stage). LeavesRefused s (Err e) new) is t.dead in
-          (not_going new Refused dead refused_otherwise w', same (t.refused g.mode g.start g.calls g.stands))
-      by Refused is answer t = let r = t.was_refused is in (refused_still c answer new r.0 w', same r.1)
+          (not_going was_level new Refused dead refused_otherwise w', same (t.refused g.mode g.start g.calls g.stands))
+      by Refused is answer t = let r = t.was_refused is in (refused_still was_level c answer new r.0 w', same r.1)
       by Ended is answer t =
-          let r = t.ended is in (not_going new Ended (ap (λ (e : Edit). e.stage) r.0.1 ∙ is) ended_otherwise w', same r.1)
+          let r = t.ended is in (not_going was_level new Ended (ap (λ (e : Edit). e.stage) r.0.1 ∙ is) ended_otherwise w', same r.1)

@@ -1,13 +1,16 @@
 -- Copies of which no path is switched stay so.
 use Rattle.std.proofs.Common.{◌≡◌, ◌≢◌, ℕ, Bool, true, false, cond, List, [], ◌∷◌, ◌++◌, refl, sym, ap, ◌∙◌, inl, inr, ◌⊎◌, Option, Some, None}
-use Rattle.std.proofs.Common.{append_assoc, true≢false}
+use Rattle.std.proofs.Common.{append_assoc, true≢false, length, drop}
 use Rattle.std.proofs.lemmas.List.{append-nil}
 use Rattle.svn_types.specs.Names.{Path}
 use Rattle.svn_types.specs.Props.{PropChange}
-use Rattle.svn_types.specs.Paths.{path_eq, is_within, child}
+use Rattle.svn_types.specs.Paths.{path_eq, is_within, is_root, parent, last_name, child}
 use Rattle.svn_types.specs.declared.kind.Kind.{Kind}
 use Rattle.svn_types.specs.declared.kind.Kind.TheVariants.{File, Directory}
 use Rattle.svn_types.proofs.PathLemmas.{same_path, path_eq-same, path_cases, path_eq-symm, parent-child, last_name-child, within_shorter, path_eq-child}
+use Rattle.svn_types.proofs.PathLemmas.{path_eq_from, parent_and_last, split_within, within_append, below_from, path_eq-longer}
+use Rattle.svn_edit_law.proofs.CrawlReports.{directory_above}
+use Rattle.svn_edit_law.proofs.Parts.{drop_front}
 use Rattle.svn_editor.specs.declared.call.Call.{Call}
 use Rattle.svn_editor.specs.declared.call.Call.TheVariants.{CloseEdit}
 use Rattle.svn_editor.specs.Steps.{Update, SwitchTo, Action, Delete, Open, Add, Change, Text, Close, Step, step_of, steps_of, target_of}
@@ -20,7 +23,7 @@ use Rattle.std.specs.Option.{option_map}
 use Rattle.svn_repo.specs.History.{History, look}
 use Rattle.svn_repo.specs.Readings.{kind_of, text_of, props_of}
 use Rattle.svn_model.specs.Nodes.{base_node, base_node_by}
-use Rattle.svn_model.specs.Builders.{checkout, forgotten}
+use Rattle.svn_model.specs.Builders.{checkout, placed, forgotten}
 use Rattle.svn_wc.specs.Unswitched.{IsUnswitched}
 
 pub dir_present : (o : Option BaseNode) → is_dir o ≡ true → is_present o ≡ true
@@ -232,3 +235,81 @@ forgotten_unswitched w at unswitched shape p e =
 
     root : node_path (forgotten w at []) ≡ node_path (w [])
     root = by (path_eq at []) (is_within at []) (w []) (λ h. refl) (dir_present _ shape.root)
+
+-- ---- one node and the directory above it
+
+-- the path of a present node is its directory's with its name
+below_joined : (w : WorkingCopy) → IsUnswitched w → IsWorkingCopy w → (p q : Path) (name : List ℕ) → p ≡ child q name
+    → is_present (w p) ≡ true → node_path (w p) ≡ node_path (w q) ++ last_name p
+below_joined w unswitched shape p q name is present =
+    let stands : w (child q name) ≢ None = λ none. not_present (sym (ap is_present (ap w is ∙ none)) ∙ present) in
+    unswitched p present ∙ ap (λ (x : Path). node_path (w []) ++ x) is ∙ sym (append_assoc (node_path (w [])) q (name ∷ []))
+    ∙ ap (λ (x : Path). x ++ name ∷ []) (sym (unswitched q (dir_present (w q) (shape.parents q name stands))))
+    ∙ ap (λ (x : Path). node_path (w q) ++ x) (sym (ap last_name is ∙ last_name-child q name))
+
+pub unswitched_below : (w : WorkingCopy) → IsUnswitched w → IsWorkingCopy w → (p q : Path) (name : List ℕ) → p ≡ child q name
+    → is_present (w p) ≡ true → path_eq (node_path (w p)) (node_path (w q) ++ last_name p) ≡ true
+unswitched_below w unswitched shape p q name is present = path_eq_from _ _ (below_joined w unswitched shape p q name is present)
+
+-- ---- what is placed where the path above leads
+
+module _ (h : History) (w : WorkingCopy) (at : Path) (rev : ℕ) (unswitched : IsUnswitched w) (shape : IsWorkingCopy w)
+    (root : is_root at ≡ false)
+    (above : is_dir (w (parent at)) ≡ true) where
+  placed_path : joined_path w at ≡ node_path (w []) ++ at
+  placed_path =
+      ap (λ (x : Path). x ++ last_name at) (unswitched (parent at) (dir_present _ above))
+      ∙ append_assoc (node_path (w [])) (parent at) (last_name at) ∙ ap (λ (x : Path). node_path (w []) ++ x) (parent_and_last at)
+
+  placed_root : placed h w at (joined_path w at) rev [] ≡ w []
+  placed_root = by at root
+    where
+      by : (at : Path) → is_root at ≡ false → placed h w at (joined_path w at) rev [] ≡ w []
+      by [] h = absurd (true≢false h)
+      by (n ∷ p) h = refl
+
+  pub placed_unswitched : IsUnswitched (placed h w at (joined_path w at) rev)
+  placed_unswitched p e = by (is_within at p) refl e ∙ ap (λ (o : Option BaseNode). node_path o ++ p) (sym placed_root)
+    where
+      by : (b : Bool) → is_within at p ≡ b
+          → is_present (cond b (checkout h (joined_path w at) rev (drop (length at) p)) (w p)) ≡ true
+          → node_path (cond b (checkout h (joined_path w at) rev (drop (length at) p)) (w p)) ≡ node_path (w []) ++ p
+      by false i e = unswitched p e
+      by true i e =
+          let on = split_within at p i in
+          let rest : drop (length at) p ≡ on.0 = ap (drop (length at)) on.1 ∙ drop_front at on.0 in
+          checkout_has h (joined_path w at) rev (drop (length at) p) e ∙ (λ j. placed_path j ++ rest j)
+          ∙ append_assoc (node_path (w [])) at on.0 ∙ ap (λ (x : Path). node_path (w []) ++ x) (sym on.1)
+
+-- ---- a crawl without a link
+
+-- below each directory the nodes are not switched
+abbrev NoneIsSwitched : WorkingCopy → Type 0
+NoneIsSwitched w = (q : Path) (name : List ℕ) → is_present (w (child q name)) ≡ true
+    → node_path (w (child q name)) ≡ node_path (w q) ++ name ∷ []
+
+-- a present node is below present ones
+above_present : (w : WorkingCopy) → IsWorkingCopy w → (p r : Path) → is_present (w (p ++ r)) ≡ true → is_present (w p) ≡ true
+above_present w shape p [] e = ap (λ (x : Path). is_present (w x)) (sym (append-nil p)) ∙ e
+above_present w shape p (n ∷ r) e =
+    dir_present (w p)
+    (directory_above w shape p (p ++ n ∷ r) (below_from p (p ++ n ∷ r) (within_append p (n ∷ r)) (path_eq-longer p n r))
+    (λ none. not_present (sym (ap is_present none) ∙ e)))
+
+-- so none is
+pub from_below : (w : WorkingCopy) → IsWorkingCopy w → NoneIsSwitched w → IsUnswitched w
+from_below w shape below p e = down [] p (dir_present _ shape.root) (sym (append-nil _)) e
+  where
+    down : (q r : Path) → is_present (w q) ≡ true → node_path (w q) ≡ node_path (w []) ++ q → is_present (w (q ++ r)) ≡ true
+        → node_path (w (q ++ r)) ≡ node_path (w []) ++ (q ++ r)
+    down q [] there own e =
+        ap (λ (x : Path). node_path (w x)) (append-nil q) ∙ own ∙ ap (λ (x : Path). node_path (w []) ++ x) (sym (append-nil q))
+    down q (name ∷ r) there own e =
+        let further : is_present (w ((q ++ name ∷ []) ++ r)) ≡ true =
+        ap (λ (x : Path). is_present (w x)) (append_assoc q (name ∷ []) r) ∙ e in
+        let next : is_present (w (q ++ name ∷ [])) ≡ true = above_present w shape (q ++ name ∷ []) r further in
+        let path : node_path (w (q ++ name ∷ [])) ≡ node_path (w []) ++ (q ++ name ∷ []) =
+        below q name next ∙ ap (λ (x : Path). x ++ name ∷ []) own ∙ append_assoc (node_path (w [])) q (name ∷ []) in
+        ap (λ (x : Path). node_path (w x)) (sym (append_assoc q (name ∷ []) r))
+        ∙ down (q ++ name ∷ []) r next path further
+        ∙ ap (λ (x : Path). node_path (w []) ++ x) (append_assoc q (name ∷ []) r)

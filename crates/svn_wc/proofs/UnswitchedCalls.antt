@@ -1,4 +1,4 @@
--- A call of an applier keeps what is known of a copy of which no path is switched.
+-- What is known of a copy after a call of an applier: that no path is switched, and that it is level.
 use Rattle.std.proofs.Common.{◌≡◌, Bool, true, false, List, [], ◌∷◌, ◌++◌, refl, sym, ap, ◌∙◌, subst, Some, None, true≢false, ◌↔◌, IsTrue}
 use Rattle.std.specs.Prelude.{Result, Ok, Err, Option}
 use Rattle.std.specs.List.{list_any}
@@ -11,22 +11,24 @@ use Rattle.svn_editor.specs.Calls.{is_last}
 use Rattle.svn_editor.specs.Steps.{Mode, Update, SwitchTo}
 use Rattle.svn_model.specs.declared.base_node.BaseNode.{BaseNode}
 use Rattle.svn_model.specs.Nodes.{WorkingCopy, get_in, IsWorkingCopy}
-use Rattle.svn_model.specs.Effects.{effect}
+use Rattle.svn_model.specs.Effects.{effect, refusal}
+use Rattle.md5.specs.Md5.{md5}
 use Rattle.svn_edit.specs.declared.edit.Edit.{Edit}
 use Rattle.svn_edit.specs.declared.edit.Stage.{Stage}
 use Rattle.svn_edit.specs.declared.edit.Stage.TheVariants.{Going, Refused, Ended}
 use Rattle.svn_edit.specs.Applying.{mode_of, StandsAfter, StaysRefused}
 use Rattle.svn_edit_law.proofs.Appending.{after-more}
 use Rattle.svn_wc.specs.Taking.{TakesCall, GoesOn, IsInShape}
-use Rattle.svn_wc.specs.Unswitched.{IsUnswitched}
+use Rattle.svn_wc.specs.Unswitched.{IsUnswitched, IsLevel}
+use Rattle.svn_wc.proofs.Completing.{level_after}
 use Rattle.svn_wc.proofs.ShapeKept.{ended_otherwise}
 use Rattle.svn_wc.proofs.Unswitched.{effect_unswitched, switch_unswitched}
 
 pub IsUnswitched-prop : (w : WorkingCopy) (a b : IsUnswitched w) → a ≡ b
 IsUnswitched-prop w a b i = λ p present. Coded-set (coded_list (coded_list coded_ℕ)) _ _ (a p present) (b p present) i
 
-module _ (old new : Edit) (w w' : List (Path × BaseNode)) (c : Call) where
-  module _ (g : GoesOn old w) where
+module _ (was_level : Bool) (old new : Edit) (w w' : List (Path × BaseNode)) (c : Call) where
+  module _ (g : GoesOn was_level old w) where
     -- an edit that goes on had no last call
     going : old.stage ≡ Going → list_any is_last g.calls ≡ false
     going is = by (list_any is_last g.calls) refl
@@ -42,11 +44,17 @@ module _ (old new : Edit) (w w' : List (Path × BaseNode)) (c : Call) where
     taken_effect after =
         (λ i p. after.copy p i) ∙ after-more g.mode g.start g.calls c ∙ ap (effect g.mode g.calls c) (λ i p. sym (g.stands.copy p) i)
 
+  -- after a refusal the last call is refused too
+  not_taken : (c : Call) (answer : Result (Unit {0}) EditFault) → c ≡ CloseEdit → StaysRefused c answer new → answer ≡ Ok tt → ⊥
+  not_taken AbortEdit answer is h ok = cc
+  not_taken CloseEdit answer is h ok = let e = sym h.0 ∙ ok in cc
+  not_taken c answer is h ok = cc
+
   same : w' ≡ w → IsUnswitched (get_in w) → IsUnswitched (get_in w')
   same e u = subst (λ (nodes : List (Path × BaseNode)). IsUnswitched (get_in nodes)) (sym e) u
 
   -- an update
-  pub kept_unswitched : (answer : Result (Unit {0}) EditFault) → TakesCall old w c answer new w' → IsInShape old w
+  pub kept_unswitched : (answer : Result (Unit {0}) EditFault) → TakesCall old w c answer new w' → IsInShape was_level old w
       → IsWorkingCopy (get_in w') → mode_of old.root ≡ Update → IsUnswitched (get_in w) → IsUnswitched (get_in w')
   kept_unswitched answer takes shape after update unswitched = by old.stage refl answer takes
     where
@@ -64,16 +72,11 @@ module _ (old new : Edit) (w w' : List (Path × BaseNode)) (c : Call) where
       by Ended is answer t = same (t.ended is).1 unswitched
 
   -- the last call of a switch
-  pub closed_unswitched : (answer : Result (Unit {0}) EditFault) → TakesCall old w c answer new w' → IsInShape old w
+  pub closed_unswitched : (answer : Result (Unit {0}) EditFault) → TakesCall old w c answer new w' → IsInShape was_level old w
       → IsWorkingCopy (get_in w') → (root : Path) → mode_of old.root ≡ SwitchTo root → c ≡ CloseEdit → answer ≡ Ok tt
       → IsUnswitched (get_in w')
   closed_unswitched answer takes shape after root switch close ok = by old.stage refl answer takes ok
     where
-      refused : (c : Call) (answer : Result (Unit {0}) EditFault) → c ≡ CloseEdit → StaysRefused c answer new → answer ≡ Ok tt → ⊥
-      refused AbortEdit answer is h ok = cc
-      refused CloseEdit answer is h ok = let e = sym h.0 ∙ ok in cc
-      refused c answer is h ok = cc
-
       by : (stage : Stage) → old.stage ≡ stage → (answer : Result (Unit {0}) EditFault) → TakesCall old w c answer new w'
           → answer ≡ Ok tt → IsUnswitched (get_in w')
       by Going is (Ok done) t ok =
@@ -84,11 +87,11 @@ module _ (old new : Edit) (w w' : List (Path × BaseNode)) (c : Call) where
           taken_effect g stands ∙ (λ i. effect (mode i) g.calls (close i) (get_in w)) in
           subst IsUnswitched (sym new_copy) (switch_unswitched (get_in w) g.calls root (subst IsWorkingCopy new_copy after))
       by Going is (Err e) t ok = absurd cc
-      by Refused is answer t ok = absurd (refused c answer close (t.was_refused is).0 ok)
+      by Refused is answer t ok = absurd (not_taken c answer close (t.was_refused is).0 ok)
       by Ended is answer t ok = let e = sym (t.ended is).0.0 ∙ ok in absurd cc
 
   -- what an applier notes
-  pub still_unswitched : (answer : Result (Unit {0}) EditFault) → TakesCall old w c answer new w' → IsInShape old w
+  pub still_unswitched : (answer : Result (Unit {0}) EditFault) → TakesCall old w c answer new w' → IsInShape was_level old w
       → IsWorkingCopy (get_in w') → (is_update : Bool) → IsTrue is_update ↔ (mode_of old.root ≡ Update) → (was result : Bool)
       → (is_update ≡ true → result ≡ was) → (is_update ≡ false → result ≡ true → (c ≡ CloseEdit) × (answer ≡ Ok tt)) → result ≡ true
       → (was ≡ true → IsUnswitched (get_in w)) → IsUnswitched (get_in w')
@@ -100,3 +103,22 @@ module _ (old new : Edit) (w w' : List (Path × BaseNode)) (c : Call) where
       by None is = absurd (true≢false (sym (iff.1 (ap mode_of is))))
       by (Some root) is =
           let closed = switch refl known in closed_unswitched answer takes shape after root (ap mode_of is) closed.0 closed.1
+
+  -- after the last call, a copy that was level is so again
+  pub level_again : (answer : Result (Unit {0}) EditFault) → TakesCall old w c answer new w' → IsInShape was_level old w
+      → was_level ≡ true → c ≡ CloseEdit → answer ≡ Ok tt → IsLevel (get_in w')
+  level_again answer takes shape was close ok = by old.stage refl answer takes ok
+    where
+      by : (stage : Stage) → old.stage ≡ stage → (answer : Result (Unit {0}) EditFault) → TakesCall old w c answer new w'
+          → answer ≡ Ok tt → IsLevel (get_in w')
+      by Going is (Ok done) t ok =
+          let g = shape is in
+          let stands = t.accepted g.mode g.start g.calls g.stands in
+          let new_copy : get_in w' ≡ effect g.mode g.calls CloseEdit (get_in w) =
+          taken_effect g stands ∙ (λ i. effect g.mode g.calls (close i) (get_in w)) in
+          let taken : refusal md5 g.mode g.calls CloseEdit w ≡ None =
+          subst (λ (d : Call). refusal md5 g.mode g.calls d w ≡ None) close (t.answers g.mode g.start g.calls g.stands) in
+          subst IsLevel (sym new_copy) (level_after md5 g.mode w g.calls g.stands.order.lawful taken (g.opened was))
+      by Going is (Err e) t ok = absurd cc
+      by Refused is answer t ok = absurd (not_taken c answer close (t.was_refused is).0 ok)
+      by Ended is answer t ok = let e = sym (t.ended is).0.0 ∙ ok in absurd cc

@@ -1,17 +1,20 @@
 -- What an applier makes of a call.
 --     TakesCall edit nodes call answer edit' nodes'      the edit and the copy before, the call, its answer, and both after
 --     IsBegun edit nodes      no call was given to the edit, which is one of this copy
---     IsInShape edit nodes      as long as the edit goes on, the copy has the shape that its calls leave
-use Rattle.std.specs.Prelude.{◌≡◌, ◌≢◌, true, List, [], ◌∷◌, ◌++◌, Result, OnOk, OnErr, IfErr}
+--     IncompleteAreOpen w calls      each incomplete directory of the copy was opened by the calls, and not closed
+--     IsInShape was_level edit nodes      as long as the edit goes on, the copy has the shape that its calls leave, and if it was level before them,
+--                                         the directories that they opened alone are incomplete
+use Rattle.std.specs.Prelude.{◌≡◌, ◌≢◌, ℕ, Bool, true, false, Some, List, [], ◌∷◌, ◌++◌, Result, OnOk, OnErr, IfErr}
 use Rattle.md5.specs.Md5.{md5}
+use Rattle.svn_types.specs.declared.kind.Kind.TheVariants.{Directory}
 use Rattle.svn_types.specs.Names.{Path}
 use Rattle.svn_editor.specs.declared.call.Call.{Call}
 use Rattle.svn_editor.specs.declared.fault.EditFault.{EditFault}
 use Rattle.svn_editor.specs.declared.fault.EditFault.TheVariants.{Memory}
-use Rattle.svn_editor.specs.Calls.{is_last, is_abort}
+use Rattle.svn_editor.specs.Calls.{Given, kind_eq, given, is_closed, is_last, is_abort}
 use Rattle.svn_editor.specs.Steps.{Mode, Update}
 use Rattle.svn_model.specs.declared.base_node.BaseNode.{BaseNode}
-use Rattle.svn_model.specs.Nodes.{WorkingCopy, get_in}
+use Rattle.svn_model.specs.Nodes.{WorkingCopy, get_in, is_incomplete}
 use Rattle.svn_model.specs.Effects.{refusal}
 use Rattle.svn_model.specs.Answering.{AnswersCall}
 use Rattle.svn_edit_law.specs.Laws.{IsShapedAfter}
@@ -42,13 +45,26 @@ pub record TakesCall (old : Edit) (w : List (Path × BaseNode)) (call : Call) (a
 abbrev pub IsBegun : Edit → List (Path × BaseNode) → Type 0
 IsBegun edit nodes = (mode : Mode) × StandsAfter mode (get_in nodes) edit nodes []
 
+-- the calls opened a directory at the path, and did not close it
+pub record IsOpenAt (calls : List Call) (p : Path) : Type 0 where
+  pub token : ℕ
+  pub given_as : Given
+  pub is : given calls token ≡ Some given_as
+  pub path : given_as.path ≡ p
+  pub kind : kind_eq given_as.kind Directory ≡ true
+  pub unclosed : is_closed calls token ≡ false
+
+abbrev pub IncompleteAreOpen : WorkingCopy → List Call → Type 0
+IncompleteAreOpen w calls = (p : Path) → is_incomplete (w p) ≡ true → IsOpenAt calls p
+
 -- the edit stands after some calls, and these left the copy in its shape
-pub record GoesOn (edit : Edit) (nodes : List (Path × BaseNode)) : Type 0 where
+pub record GoesOn (was_level : Bool) (edit : Edit) (nodes : List (Path × BaseNode)) : Type 0 where
   pub mode : Mode
   pub start : WorkingCopy
   pub calls : List Call
   pub stands : StandsAfter mode start edit nodes calls
   pub shape : IsShapedAfter mode (get_in nodes) calls
+  pub opened : was_level ≡ true → IncompleteAreOpen (get_in nodes) calls
 
-abbrev pub IsInShape : Edit → List (Path × BaseNode) → Type 0
-IsInShape edit nodes = edit.stage ≡ Going → GoesOn edit nodes
+abbrev pub IsInShape : Bool → Edit → List (Path × BaseNode) → Type 0
+IsInShape was_level edit nodes = edit.stage ≡ Going → GoesOn was_level edit nodes

@@ -2,7 +2,7 @@
 ghost use Rattle.std.specs.Prelude.{◌≡◌, ◌++◌, Some};
 ghost use Rattle.svn_types.specs.Paths.{path_eq, last_name};
 ghost use Rattle.svn_model.specs.Nodes.{node_path};
-ghost use Rattle.svn_wc.specs.Aboves.{has_own_path, IsBelow};
+ghost use Rattle.svn_wc.specs.Aboves.{has_own_path, mark, IsBelow};
 
 use std::marker::Model;
 use svn_model::BaseNode;
@@ -44,6 +44,19 @@ impl<'a> Above<'a> {
             node,
             has_own_path: has_own_path(path, node),
         }
+    }
+
+    /// The node at a path, of a copy of which it may be known that no path is switched: then nothing is compared, and it isn't marked.
+    pub(crate) fn marked(path: &RelPath, node: &'a BaseNode, unswitched: bool) -> Above<'a>
+        ensures { result ≡ (node.entry.now, mark unswitched path.now node.entry.now) }
+    {
+        if unswitched {
+            return Above {
+                node,
+                has_own_path: false,
+            };
+        }
+        Above::of(path, node)
     }
 
     /// The node.

@@ -13,6 +13,7 @@ ghost use Rattle.svn_edit.specs.Applying.{mode_of, open_count, live_count, OneIs
 ghost use Rattle.svn_model.specs.Answering.{AnswersCall};
 ghost use Rattle.svn_wc.specs.Taking.{IsBegun, IsInShape};
 
+use crate::known::Known;
 use crate::paths::last_name_allowed;
 use crate::working_copy::WorkingCopy;
 use std::alloc::Global;
@@ -27,7 +28,9 @@ use svn_types::RelPath;
 pub struct Applier<'a> {
     copy: &'a mut WorkingCopy,
     edit: Edit,
-    ghost in_shape: { ∥ IsInShape edit copy.now ∥₁ },
+    // Whether the copy was known to be level before the edit. It is so again after the last call, as each directory that was opened is closed then.
+    was_level: bool,
+    ghost in_shape: { ∥ IsInShape was_level edit copy.now ∥₁ },
 }
 
 impl<'a> Applier<'a> {
@@ -40,7 +43,12 @@ impl<'a> Applier<'a> {
     {
         copy.law();
         let edit = Edit::new(alloc, None)?;
-        Ok(Applier { copy, edit })
+        let was_level = copy.known.level;
+        Ok(Applier {
+            copy,
+            edit,
+            was_level,
+        })
     }
 
     /// An applier by an edit that was begun before, and that no call was given to. It takes no memory.
@@ -51,7 +59,12 @@ impl<'a> Applier<'a> {
         ensures same_copy { result.copy.ghost_name ≡ copy.entry.ghost_name }
     {
         copy.law();
-        Applier { copy, edit }
+        let was_level = copy.known.level;
+        Applier {
+            copy,
+            edit,
+            was_level,
+        }
     }
 
     /// The copy that it was given, so that what holds of it now can be said after the applier is gone. It takes no memory.
@@ -59,7 +72,7 @@ impl<'a> Applier<'a> {
         ensures nodes { result.now ≡ self.entry.copy.now }
         ensures same_copy { result.ghost_name ≡ self.entry.copy.ghost_name }
     {
-        let Applier { copy, edit: _ } = self;
+        let Applier { copy, .. } = self;
         copy
     }
 
@@ -80,7 +93,12 @@ impl<'a> Applier<'a> {
             return Err(EditFault::Memory);
         };
         let edit = Edit::new(alloc, Some(root))?;
-        Ok(Applier { copy, edit })
+        let was_level = copy.known.level;
+        Ok(Applier {
+            copy,
+            edit,
+            was_level,
+        })
     }
 
     // Takes the next call. Inlined, so that the call stays where it was made until the edit has looked at it.
@@ -101,11 +119,13 @@ impl<'a> Applier<'a> {
         opens_allowed(&call);
         let is_update = self.edit.is_update();
         let copy = &mut *self.copy;
-        let was_unswitched = copy.is_unswitched;
-        copy.is_unswitched = false;
-        copy.is_level = false;
+        let was_unswitched = copy.known.unswitched;
         let answer = self.edit.call(&mut copy.nodes, &call);
-        copy.is_unswitched = knows_unswitched(is_update, was_unswitched, &call, &answer);
+        let has_ended = has_ended(&call, &answer);
+        copy.known = Known {
+            unswitched: knows_unswitched(is_update, was_unswitched, has_ended),
+            level: is_level_again(self.was_level, has_ended),
+        };
         answer
     }
 
@@ -136,24 +156,30 @@ impl<'a> Editor for Applier<'a> {
     }
 }
 
-// Whether it is known after a call that no path of the copy is switched: an update leaves that as it was, and the last call of a switch brings
-// each path under the new root.
-fn knows_unswitched(
-    is_update: bool,
-    was_unswitched: bool,
-    call: &Call,
-    answer: &Result<(), EditFault>,
-) -> bool
-    ensures update { is_update ≡ true → result ≡ was_unswitched }
-    ensures switch { is_update ≡ false → result ≡ true → (call.now ≡ Call.CloseEdit) × (answer.now ≡ Ok tt) }
+// Whether a call was the last one, and accepted.
+fn has_ended(call: &Call, answer: &Result<(), EditFault>) -> bool
+    ensures { result ≡ true → (call.now ≡ Call.CloseEdit) × (answer.now ≡ Ok tt) }
 {
-    if is_update {
-        return was_unswitched;
-    }
     match (call, answer) {
         (Call::CloseEdit, Ok(())) => true,
         _ => false,
     }
+}
+
+// Whether it is known after a call that no path of the copy is switched: an update leaves that as it was, and the last call of a switch brings
+// each path under the new root.
+fn knows_unswitched(is_update: bool, was_unswitched: bool, has_ended: bool) -> bool
+    ensures update { is_update ≡ true → result ≡ was_unswitched }
+    ensures switch { is_update ≡ false → result ≡ has_ended }
+{
+    if is_update { was_unswitched } else { has_ended }
+}
+
+// Whether it is known after a call that the copy is level.
+fn is_level_again(was_level: bool, has_ended: bool) -> bool
+    ensures { result ≡ true → (was_level ≡ true) × (has_ended ≡ true) }
+{
+    was_level && has_ended
 }
 
 // The path that a call opens or adds ends with an allowed name.

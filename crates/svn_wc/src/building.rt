@@ -13,6 +13,7 @@ ghost use Rattle.svn_edit_law.specs.Laws.{EndsNamed};
 ghost use Rattle.svn_wc.specs.Building.{Refuses, tree_at};
 
 use crate::gather::{Origin, front_of, gather, map_of, node_of};
+use crate::known::Known;
 use crate::paths::{compare_above, last_name_allowed};
 use crate::replace::{replace_alone, replace_within};
 use crate::truth::entry_under;
@@ -57,7 +58,7 @@ pub(crate) fn tree_nodes(
     ensures { IfOk result (λ m. (p : Path) → get_in m.entries p ≡ tree_at from.now.repo.now at.now repos_path.now from.now.rev p) }
 {
     let from = Origin {
-        front: front_of(from.alloc, at, repos_path)?,
+        front: front_of(at, repos_path),
         ..*from
     };
     let mut pairs = Vec::new(from.alloc);
@@ -104,6 +105,67 @@ fn joined(alloc: Global, above: &RelPath, path: &RelPath) -> Result<RelPath, All
     }
 }
 
+// Puts a file of the repository in the place of what stands at a path of a copy, where that is no directory, and tells whether that was
+// done. It looks the path up twice, and asks for no more memory than the node itself.
+fn put_file(
+    from: &Origin<'_>,
+    path: &RelPath,
+    repos_path: &RelPath,
+    id: NodeId,
+    nodes: &mut Nodes,
+) -> Result<bool, AllocError>
+    requires copy { IsWorkingCopy (get_in nodes.old.entries) }
+    requires stands { look from.now.repo.now from.now.rev repos_path.now ≡ Some id }
+    requires file { is_file_kind (kind_of from.now.repo.now id) ≡ true }
+    requires history { IsHistory from.now.repo.now }
+    ensures done { IfOk result (λ done. IsTrue done → (p : Path) → get_in nodes.new.entries p ≡ placed from.now.repo.now (get_in nodes.old.entries) path.now repos_path.now from.now.rev p) }
+    ensures left { IfOk result (λ done. IsFalse done → nodes.new.entries ≡ nodes.old.entries) }
+    ensures unchanged { OnErr result (nodes.new.entries ≡ nodes.old.entries) }
+{
+    let own = repos_path.clone()?;
+    let node = node_of(from.alloc, from.repo, from.rev, own, id)?;
+    replace_alone(nodes, path, node)
+}
+
+// Puts the tree at a path of the repository in the place of what stands at a path of a copy and below.
+fn put_tree(
+    from: &Origin<'_>,
+    path: &RelPath,
+    repos_path: &RelPath,
+    id: NodeId,
+    nodes: &mut Nodes,
+) -> Result<(), AllocError>
+    requires stands { look from.now.repo.now from.now.rev repos_path.now ≡ Some id }
+    ensures nodes { OnOk result ((p : Path) → get_in nodes.new.entries p ≡ placed from.now.repo.now (get_in nodes.old.entries) path.now repos_path.now from.now.rev p) }
+    ensures unchanged { OnErr result (nodes.new.entries ≡ nodes.old.entries) }
+{
+    let part = tree_nodes(from, path, repos_path, id)?;
+    replace_within(from.alloc, nodes, path, part)
+}
+
+// The same, in a shorter way for a file.
+fn put(
+    from: &Origin<'_>,
+    path: &RelPath,
+    repos_path: &RelPath,
+    id: NodeId,
+    nodes: &mut Nodes,
+) -> Result<(), AllocError>
+    requires copy { IsWorkingCopy (get_in nodes.old.entries) }
+    requires stands { look from.now.repo.now from.now.rev repos_path.now ≡ Some id }
+    requires history { IsHistory from.now.repo.now }
+    ensures nodes { OnOk result ((p : Path) → get_in nodes.new.entries p ≡ placed from.now.repo.now (get_in nodes.old.entries) path.now repos_path.now from.now.rev p) }
+    ensures unchanged { OnErr result (nodes.new.entries ≡ nodes.old.entries) }
+{
+    if !is_file(from.repo, id) {
+        return put_tree(from, path, repos_path, id, nodes);
+    }
+    if put_file(from, path, repos_path, id, nodes)? {
+        return Ok(());
+    }
+    put_tree(from, path, repos_path, id, nodes)
+}
+
 impl WorkingCopy {
     /// The tree at a path of a revision: each node complete, its repository path the root's joined with its path. NoSuchRevision, Missing where
     /// nothing stands there, BadRoot for a file; else Memory alone.
@@ -131,8 +193,10 @@ impl WorkingCopy {
         Ok(WorkingCopy {
             alloc,
             nodes,
-            is_unswitched: true,
-            is_level: true,
+            known: Known {
+                unswitched: true,
+                level: true,
+            },
         })
     }
 
@@ -219,76 +283,6 @@ impl WorkingCopy {
         }
     }
 
-    // Puts a file of the repository in the place of what stands at a path of the copy, where that is no directory, and tells whether that was
-    // done. It looks the path up twice, and asks for no more memory than the node itself.
-    fn place_file(
-        &mut self,
-        from: &Origin<'_>,
-        path: &RelPath,
-        repos_path: &RelPath,
-        id: NodeId,
-    ) -> Result<bool, AllocError>
-        requires stands { look from.now.repo.now from.now.rev repos_path.now ≡ Some id }
-        requires file { is_file_kind (kind_of from.now.repo.now id) ≡ true }
-        requires history { IsHistory from.now.repo.now }
-        requires shape { IsWorkingCopy (placed from.now.repo.now (get_in self.old) path.now repos_path.now from.now.rev) }
-        ensures done { IfOk result (λ done. IsTrue done → (p : Path) → get_in self.new p ≡ placed from.now.repo.now (get_in self.old) path.now repos_path.now from.now.rev p) }
-        ensures left { IfOk result (λ done. IsFalse done → self.new ≡ self.old) }
-        ensures unchanged { OnErr result (self.new ≡ self.old) }
-    {
-        self.law();
-        let own = repos_path.clone()?;
-        let node = node_of(from.alloc, from.repo, from.rev, own, id)?;
-        let WorkingCopy {
-            nodes,
-            is_unswitched,
-            is_level,
-            ..
-        } = self;
-        *is_unswitched = false;
-        *is_level = false;
-        replace_alone(nodes, path, node)
-    }
-
-    // Puts the tree at a path of the repository in the place of what stands at a path of the copy and below.
-    fn put_tree(
-        &mut self,
-        from: &Origin<'_>,
-        path: &RelPath,
-        repos_path: &RelPath,
-        id: NodeId,
-    ) -> Result<(), AllocError>
-        requires stands { look from.now.repo.now from.now.rev repos_path.now ≡ Some id }
-        requires shape { IsWorkingCopy (placed from.now.repo.now (get_in self.old) path.now repos_path.now from.now.rev) }
-        ensures nodes { OnOk result ((p : Path) → get_in self.new p ≡ placed from.now.repo.now (get_in self.old) path.now repos_path.now from.now.rev p) }
-        ensures unchanged { OnErr result (self.new ≡ self.old) }
-    {
-        let part = tree_nodes(from, path, repos_path, id)?;
-        self.is_unswitched = false;
-        self.is_level = false;
-        replace_within(self.alloc, &mut self.nodes, path, part)
-    }
-
-    // The same, in a shorter way for a file.
-    fn put(
-        &mut self,
-        from: &Origin<'_>,
-        path: &RelPath,
-        repos_path: &RelPath,
-        id: NodeId,
-    ) -> Result<(), AllocError>
-        requires stands { look from.now.repo.now from.now.rev repos_path.now ≡ Some id }
-        requires history { IsHistory from.now.repo.now }
-        requires shape { IsWorkingCopy (placed from.now.repo.now (get_in self.old) path.now repos_path.now from.now.rev) }
-        ensures nodes { OnOk result ((p : Path) → get_in self.new p ≡ placed from.now.repo.now (get_in self.old) path.now repos_path.now from.now.rev p) }
-        ensures unchanged { OnErr result (self.new ≡ self.old) }
-    {
-        if is_file(from.repo, id) && self.place_file(from, path, repos_path, id)? {
-            return Ok(());
-        }
-        self.put_tree(from, path, repos_path, id)
-    }
-
     /// Puts the tree of a revision at the parent's repository path joined with the name in the place of what stands at a path, and beneath;
     /// nothing needs to stand there. IsRoot, NoSuchRevision, NoParent where the parent isn't a present directory, Missing where the repository has
     /// nothing there; else Memory alone. A refusal leaves the copy as it was. It costs what goes and what comes; where memory for the path above
@@ -311,7 +305,9 @@ impl WorkingCopy {
             rev,
             front: None,
         };
-        self.put(&from, path, &repos_path, id)?;
+        put(&from, path, &repos_path, id, &mut self.nodes)?;
+        // the placed tree is where the path above leads, so no path of it is switched
+        self.known.level = false;
         Ok(())
     }
 
@@ -341,7 +337,8 @@ impl WorkingCopy {
             rev,
             front: None,
         };
-        self.put(&from, path, repos_path, id)?;
+        put(&from, path, repos_path, id, &mut self.nodes)?;
+        self.known = Known::nothing();
         Ok(())
     }
 }

@@ -1,12 +1,11 @@
 //! What a copy reports.
-ghost use Rattle.std.specs.Prelude.{◌≡◌, ◌++◌, [], not, Some, IsOk, IfOk, IfErr, IfSome, OnOk, true, false};
+ghost use Rattle.std.specs.Prelude.{◌≡◌, ◌++◌, ◌∷◌, [], length, take, not, Some, IsOk, IfOk, IfErr, IfSome, OnOk, true, false, if◌then◌else◌};
 ghost use Rattle.std.specs.List.{list_all};
 ghost use Rattle.std.specs.Option.{option_copied, option_map};
-ghost use Rattle.svn_types.specs.Paths.{path_eq, last_name, is_root};
 ghost use Rattle.svn_model.specs.Nodes.{get_in, is_dir, is_present, is_incomplete, node_revision, node_path};
-ghost use Rattle.svn_model.specs.Crawl.{entry_for, crawl};
-ghost use Rattle.svn_wc.specs.Aboves.{IsBelow};
-ghost use Rattle.svn_wc.specs.Crawling.{with_reported};
+ghost use Rattle.svn_model.specs.Crawl.{crawl};
+ghost use Rattle.svn_wc.specs.Aboves.{mark};
+ghost use Rattle.svn_wc.specs.Crawling.{Reports, last_of};
 ghost use Rattle.svn_wc.specs.Unswitched.{is_level};
 
 use crate::above::Above;
@@ -53,9 +52,16 @@ fn revision(node: &BaseNode) -> Rev
     }
 }
 
+// A crawl: what was reported so far, and whether it is known that no path is switched, so that no two paths are compared.
+#[derive(Drop)]
+struct Crawl {
+    reporter: Reporter,
+    unswitched: bool,
+}
+
 // Reports a present node below a directory, where it isn't what the directory's own entry says.
 fn report_present(
-    reporter: &mut Reporter,
+    crawl: &mut Crawl,
     path: &RelPath,
     above: &Above<'_>,
     node: &BaseNode,
@@ -63,39 +69,43 @@ fn report_present(
 ) -> Result<(), WcFault>
     requires present { is_present (Some node.now) ≡ true }
     requires repos_path { repos_path.now ≡ node_path (Some node.now) }
-    ensures reported { OnOk result (IsBelow path.now (Some above.now) → reporter.new ≡ with_reported reporter.old path.now (entry_for path.now (Some above.now.0) (Some node.now))) }
+    ensures reported { OnOk result (Reports crawl.old.unswitched crawl.old.reporter path.now (Some above.now) node.now crawl.new.reporter) }
+    ensures known { crawl.new.unswitched ≡ crawl.old.unswitched }
     ensures fault { IfErr result (λ e. e ≡ WcFault.Memory) }
 {
     let (rev, incomplete) = (revision(node), is_incomplete(node));
-    if !above.is_unswitched(path, repos_path) {
-        return or_memory(reporter.link_path(path, repos_path.clone()?, rev, incomplete));
+    if !(crawl.unswitched || above.is_unswitched(path, repos_path)) {
+        return or_memory(
+            crawl
+                .reporter
+                .link_path(path, repos_path.clone()?, rev, incomplete),
+        );
     }
     if is_incomplete(above.node()) || incomplete || rev != revision(above.node()) {
-        return or_memory(reporter.set_path(path, rev, incomplete));
+        return or_memory(crawl.reporter.set_path(path, rev, incomplete));
     }
     Ok(())
 }
 
 // Reports a node below a directory.
 fn report_below(
-    reporter: &mut Reporter,
+    crawl: &mut Crawl,
     path: &RelPath,
     above: &Above<'_>,
     node: &BaseNode,
 ) -> Result<(), WcFault>
-    ensures reported { OnOk result (IsBelow path.now (Some above.now) → reporter.new ≡ with_reported reporter.old path.now (entry_for path.now (Some above.now.0) (Some node.now))) }
+    ensures reported { OnOk result (Reports crawl.old.unswitched crawl.old.reporter path.now (Some above.now) node.now crawl.new.reporter) }
+    ensures known { crawl.new.unswitched ≡ crawl.old.unswitched }
     ensures fault { IfErr result (λ e. e ≡ WcFault.Memory) }
 {
     match node {
-        BaseNode::File { repos_path, .. } => report_present(
-            reporter, path, above, node, repos_path,
-        ),
-        BaseNode::Dir { repos_path, .. } => report_present(reporter, path, above, node, repos_path),
+        BaseNode::File { repos_path, .. } => report_present(crawl, path, above, node, repos_path),
+        BaseNode::Dir { repos_path, .. } => report_present(crawl, path, above, node, repos_path),
         BaseNode::NotPresent => {
             if is_incomplete(above.node()) {
                 Ok(())
             } else {
-                or_memory(reporter.delete_path(path))
+                or_memory(crawl.reporter.delete_path(path))
             }
         }
     }
@@ -103,18 +113,48 @@ fn report_below(
 
 // Reports a node below the one above it: the root, where there is none.
 fn report_node(
-    reporter: &mut Reporter,
+    crawl: &mut Crawl,
     path: &RelPath,
     above: Option<&Above<'_>>,
     node: &BaseNode,
 ) -> Result<(), WcFault>
-    ensures reported { OnOk result (IsBelow path.now (option_copied above.entry) → reporter.new ≡ with_reported reporter.old path.now (entry_for path.now (option_map (λ a. a.0) (option_copied above.entry)) (Some node.now))) }
+    ensures reported { OnOk result (Reports crawl.old.unswitched crawl.old.reporter path.now (option_copied above.entry) node.now crawl.new.reporter) }
+    ensures known { crawl.new.unswitched ≡ crawl.old.unswitched }
     ensures fault { IfErr result (λ e. e ≡ WcFault.Memory) }
 {
     match above {
-        Some(above) => report_below(reporter, path, above, node),
-        None => or_memory(reporter.set_path(path, revision(node), is_incomplete(node))),
+        Some(above) => report_below(crawl, path, above, node),
+        None => {
+            or_memory(
+                crawl
+                    .reporter
+                    .set_path(path, revision(node), is_incomplete(node)),
+            )
+        }
     }
+}
+
+// Reports the next node. The line has the directories at the root, and at each path down to the node before, and then down to this one.
+fn report_next<'a>(
+    crawl: &mut Crawl,
+    line: &mut Vec<Above<'a>>,
+    path: &RelPath,
+    node: &'a BaseNode,
+) -> Result<(), WcFault>
+    ensures reported { let above = take (length path.now) line.old.items in OnOk result (Reports crawl.old.unswitched crawl.old.reporter path.now (last_of above) node.entry.now crawl.new.reporter) }
+    ensures line { let above = take (length path.now) line.old.items in OnOk result (line.new.items ≡ (if is_dir (Some node.entry.now) then above ++ (node.entry.now, mark crawl.old.unswitched path.now node.entry.now) ∷ [] else above)) }
+    ensures known { crawl.new.unswitched ≡ crawl.old.unswitched }
+    ensures fault { IfErr result (λ e. e ≡ WcFault.Memory) }
+{
+    line.truncate(path.components().len());
+    report_node(crawl, path, line.last(), node)?;
+    if is_directory(node) {
+        let above = Above::marked(path, node, crawl.unswitched);
+        let Ok(()) = line.push(above) else {
+            return Err(WcFault::Memory);
+        };
+    }
+    Ok(())
 }
 
 // Whether a node is present and complete, and has that revision.
@@ -151,7 +191,7 @@ impl WorkingCopy {
         ensures level { result ≡ true → list_all (λ e. is_level rev e.1) self.now ≡ true }
     {
         self.law();
-        if self.is_level {
+        if self.known.level {
             return true;
         }
         are_level(&self.nodes, rev)
@@ -163,7 +203,7 @@ impl WorkingCopy {
         ensures fault { IfErr result (λ e. e ≡ WcFault.Memory) }
     {
         self.law();
-        if !self.is_unswitched {
+        if !self.known.unswitched {
             return Ok(None);
         }
         let root = RelPath::root(alloc);
@@ -173,9 +213,12 @@ impl WorkingCopy {
         if !self.is_all_level(revision(node)) {
             return Ok(None);
         }
-        let mut reporter = Reporter::new_at(alloc, self.root_path(alloc)?);
-        report_node(&mut reporter, &root, None, node)?;
-        Ok(Some(reporter.finish_report()))
+        let mut crawl = Crawl {
+            reporter: Reporter::new_at(alloc, self.root_path(alloc)?),
+            unswitched: true,
+        };
+        report_node(&mut crawl, &root, None, node)?;
+        Ok(Some(crawl.reporter.finish_report()))
     }
 
     // The repository path of the root.
@@ -202,18 +245,14 @@ impl WorkingCopy {
         if let Some(report) = self.crawl_level(alloc)? {
             return Ok(report);
         }
-        let mut reporter = Reporter::new_at(alloc, self.root_path(alloc)?);
-        // the directories at the root, and at each path down to the last one
+        let mut crawl = Crawl {
+            reporter: Reporter::new_at(alloc, self.root_path(alloc)?),
+            unswitched: self.known.unswitched,
+        };
         let mut line = Vec::new(alloc);
         for (path, node) in &self.nodes {
-            line.truncate(path.components().len());
-            report_node(&mut reporter, path, line.last(), node)?;
-            if is_directory(node) {
-                let Ok(()) = line.push(Above::of(path, node)) else {
-                    return Err(WcFault::Memory);
-                };
-            }
+            report_next(&mut crawl, &mut line, path, node)?;
         }
-        Ok(reporter.finish_report())
+        Ok(crawl.reporter.finish_report())
     }
 }

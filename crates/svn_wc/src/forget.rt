@@ -103,7 +103,7 @@ impl WorkingCopy {
         if !is_present(self.nodes.get(path)) {
             return Err(WcFault::Missing);
         }
-        self.is_level = false;
+        self.known.level = false;
         make_absent(&mut self.nodes, path);
         remove_below(&mut self.nodes, path);
         Ok(())

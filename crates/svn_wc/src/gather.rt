@@ -86,23 +86,12 @@ pub(crate) struct Origin<'a> {
 }
 
 /// How many names a repository path has in front of a path in the copy, if that is its tail.
-pub(crate) fn front_of(
-    alloc: Global,
-    at: &RelPath,
-    repos_path: &RelPath,
-) -> Result<Option<usize>, AllocError>
-    ensures { IfOk result (λ f. IsTail f at.now repos_path.now) }
+pub(crate) fn front_of(at: &RelPath, repos_path: &RelPath) -> Option<usize>
+    ensures { IsTail result at.now repos_path.now }
 {
-    let (own, names) = (at.components().len(), repos_path.components().len());
-    if own > names {
-        return Ok(None);
-    }
-    let front = names - own;
-    let tail = repos_path.tail(alloc, front)?;
-    if &tail == at {
-        Ok(Some(front))
-    } else {
-        Ok(None)
+    match repos_path.components().strip_suffix(at.components()) {
+        Some(front) => Some(front.len()),
+        None => None,
     }
 }
 

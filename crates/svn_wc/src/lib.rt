@@ -3,11 +3,12 @@
 //!
 //! [`WorkingCopy`] is a map from paths to [`BaseNode`]s. `checkout`, `checkout_at` and `from_nodes` make one; `place`, `switch` and `forget` change
 //! it without a drive, or refuse by a [`WcFault`]; `check_true` is the test of truth, `crawl` its report, and `Display` prints its nodes.
+//! `crawl_and_learn` reports the same, and may make later crawls faster: use it where the copy may be changed.
 //! [`Applier`] is the editor that applies a driver's calls.
 //!
 //! ```
 //! let mut copy = WorkingCopy::checkout(alloc, &repo, Rev(1))?;
-//! let report = copy.crawl(alloc)?;
+//! let report = copy.crawl_and_learn(alloc)?;
 //! let options = DriveOptions { cancel_after: None, late_texts: false };
 //! {
 //!     let mut applier = Applier::new(alloc, &mut copy)?;
@@ -31,6 +32,7 @@ mod building;
 mod crawl;
 mod forget;
 mod gather;
+mod known;
 mod lines;
 mod listed;
 mod overwrite;

@@ -3,7 +3,7 @@ ghost use Rattle.std.specs.Prelude.{◌≡◌, ◌∷◌, ◌++◌, [], Some, If
 ghost use Rattle.std.specs.Fmt.{DisplaysOnOk, decimal};
 ghost use Rattle.std.specs.List.{flat_map};
 ghost use Rattle.svn_editor.specs.Words.{path_word, word};
-ghost use Rattle.svn_wc.specs.Lines.{copy_text, line, node_lines, node_words, prop_line, prop_start};
+ghost use Rattle.svn_wc.specs.Lines.{complete_words, copy_text, line, node_lines, node_words, prop_line, prop_start};
 
 use crate::working_copy::WorkingCopy;
 use arrayvec::ArrayString;
@@ -104,44 +104,63 @@ fn write_props<W: fmt::Write>(
     Ok(())
 }
 
-// The line of a node, without the properties behind it.
-#[derive(Clone, Copy)]
-struct NodeLine<'a> {
-    path: &'a RelPath,
-    node: &'a BaseNode,
+// The line of a file, without the properties behind it.
+fn write_file<W: fmt::Write>(
+    path: &RelPath,
+    rev: Rev,
+    from: &RelPath,
+    text: &Text,
+    f: &mut fmt::Formatter<W>,
+) -> fmt::Result
+    ensures { DisplaysOnOk W.write_str_gives f.old result (Some (line (path_word path.now ∷ codes "file" ∷ decimal rev ∷ path_word from.now ∷ word text.now ∷ []))) f.new }
+{
+    let (at, from) = (PathWord(path), PathWord(from));
+    let text = Word(text.as_slice());
+    writeln!(f, "{at} file {} {from} {text}", rev.0)
 }
 
-impl fmt::Display for NodeLine<'_> {
-    ghost output = { λ l. Some (line (node_words l.path.now l.node.now)) };
+// The line of a directory.
+fn write_directory<W: fmt::Write>(
+    path: &RelPath,
+    rev: Rev,
+    from: &RelPath,
+    complete: bool,
+    f: &mut fmt::Formatter<W>,
+) -> fmt::Result
+    ensures { DisplaysOnOk W.write_str_gives f.old result (Some (line (path_word path.now ∷ codes "dir" ∷ decimal rev ∷ path_word from.now ∷ complete_words complete))) f.new }
+{
+    let (at, from) = (PathWord(path), PathWord(from));
+    if complete {
+        writeln!(f, "{at} dir {} {from}", rev.0)
+    } else {
+        writeln!(f, "{at} dir {} {from} incomplete", rev.0)
+    }
+}
 
-    #[inline(always)]
-    fn fmt<W: fmt::Write>(&self, f: &mut fmt::Formatter<W>) -> fmt::Result {
-        let at = PathWord(self.path);
-        match self.node {
-            BaseNode::File {
-                rev,
-                repos_path,
-                text,
-                ..
-            } => {
-                let from = PathWord(repos_path);
-                let text = Word(text.as_slice());
-                writeln!(f, "{at} file {} {from} {text}", rev.0)
-            }
-            BaseNode::Dir {
-                rev,
-                repos_path,
-                complete,
-                ..
-            } => {
-                let from = PathWord(repos_path);
-                if *complete {
-                    writeln!(f, "{at} dir {} {from}", rev.0)
-                } else {
-                    writeln!(f, "{at} dir {} {from} incomplete", rev.0)
-                }
-            }
-            BaseNode::NotPresent => writeln!(f, "{at} not-present"),
+// The line of a node, piece by piece.
+fn write_pieces<W: fmt::Write>(
+    path: &RelPath,
+    node: &BaseNode,
+    f: &mut fmt::Formatter<W>,
+) -> fmt::Result
+    ensures { DisplaysOnOk W.write_str_gives f.old result (Some (line (node_words path.now node.now))) f.new }
+{
+    match node {
+        BaseNode::File {
+            rev,
+            repos_path,
+            text,
+            ..
+        } => write_file(path, *rev, repos_path, text, f),
+        BaseNode::Dir {
+            rev,
+            repos_path,
+            complete,
+            ..
+        } => write_directory(path, *rev, repos_path, *complete, f),
+        BaseNode::NotPresent => {
+            let at = PathWord(path);
+            writeln!(f, "{at} not-present")
         }
     }
 }
@@ -268,10 +287,7 @@ fn write_line<W: fmt::Write>(
 {
     match put_line(path, node, texts) {
         Ok(()) => f.write_str(texts.line.as_str()),
-        Err(_) => {
-            let line = NodeLine { path, node };
-            write!(f, "{line}")
-        }
+        Err(_) => write_pieces(path, node, f),
     }
 }
 

@@ -12,6 +12,7 @@ ghost use Rattle.svn_wc.specs.Listed.{IsSorted, IsSearchable};
 
 use crate::building::is_too_deep;
 use crate::gather::map_of;
+use crate::known::Known;
 use crate::paths::{compare_above, last_name_allowed};
 use crate::working_copy::WorkingCopy;
 use std::alloc::Global;
@@ -166,8 +167,7 @@ impl WorkingCopy {
         Ok(WorkingCopy {
             alloc,
             nodes: map,
-            is_unswitched: false,
-            is_level: false,
+            known: Known::nothing(),
         })
     }
 }

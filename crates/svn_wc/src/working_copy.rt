@@ -5,8 +5,8 @@ ghost use Rattle.svn_types.specs.Names.{Path};
 ghost use Rattle.svn_repo.specs.History.{look};
 ghost use Rattle.svn_model.specs.Nodes.{get_in, InPathOrder, IsTrueOf, IsWorkingCopy};
 ghost use Rattle.svn_model.specs.Builders.{checkout};
-ghost use Rattle.svn_wc.specs.Unswitched.{IsLevel};
 
+use crate::known::Known;
 use std::alloc::Global;
 use std::collections::BTreeMap;
 use std::fmt;
@@ -22,10 +22,7 @@ use svn_types::{RelPath, Rev};
 pub struct WorkingCopy {
     pub(crate) alloc: Global,
     pub(crate) nodes: BTreeMap<RelPath, BaseNode>,
-    // Whether it is known that no path is switched: then no two paths are compared where all nodes are of one revision.
-    pub(crate) is_unswitched: bool,
-    // Whether it is known that all nodes are present, complete and of one revision: then a crawl looks at none of them.
-    pub(crate) is_level: bool,
+    pub(crate) known: Known,
 }
 
 impl Model for WorkingCopy {
@@ -41,7 +38,7 @@ impl Model for WorkingCopy {
     ghost use Rattle.svn_model.specs.Nodes.{get_in, IsWorkingCopy};
     ghost use Rattle.svn_wc.specs.Unswitched.{IsUnswitched, IsLevel};
 
-    ghost invariant = { λ w. IsWorkingCopy (get_in w.nodes.entries) × (w.is_unswitched ≡ true → IsUnswitched (get_in w.nodes.entries)) × (w.is_level ≡ true → IsLevel (get_in w.nodes.entries)) };
+    ghost invariant = { λ w. IsWorkingCopy (get_in w.nodes.entries) × (w.known.unswitched ≡ true → IsUnswitched (get_in w.nodes.entries)) × (w.known.level ≡ true → IsLevel (get_in w.nodes.entries)) };
 }
 
 impl fmt::Debug for WorkingCopy {
@@ -77,15 +74,6 @@ impl WorkingCopy {
     {
         // an iterator's contract has the order
         let _nodes = self.nodes.iter();
-    }
-
-    /// Notes that all nodes are present, complete and of one revision, as they are after an update: until the copy is changed again, a crawl need not
-    /// ask them. It changes nothing that a contract sees, and takes no memory.
-    pub fn note_level(&mut self)
-        requires level { IsLevel (get_in self.old) }
-        ensures same { self.new ≡ self.old }
-    {
-        self.is_level = true;
     }
 
     /// What the copy has at a path; None where it knows nothing there. It takes no memory.

@@ -1,16 +1,70 @@
-use Rattle.std.proofs.Common.{◌≡◌, rules}
-use Rattle.std.specs.Prelude.{Ok}
+use Rattle.std.proofs.Common.{◌≡◌, List, sym, subst, refl}
+use Rattle.std.specs.Prelude.{None, IfOk, OnErr}
 use Rattle.std.specs.Option.{option_copied}
-use Rattle.svn_run.specs.declared.outcome.Outcome.TheVariants.{Closed}
+use Rattle.svn_drive.specs.Walking.{asked as request}
+use Rattle.svn_model.specs.Checks.{target_fault}
+use Rattle.svn_model.specs.Drive.{IsDrive}
+use Rattle.svn_types.specs.Names.{Path}
+use Rattle.svn_model.specs.declared.base_node.BaseNode.{BaseNode}
+use Rattle.svn_model.specs.Nodes.{get_in}
+use Rattle.svn_model.specs.TreeCalls.{drive_calls}
+use Rattle.svn_report.specs.Reports.{ReportView}
+use Rattle.svn_run.specs.Coming.{CameTo}
 use Rattle.svn_run.specs.Goals.{mode_of}
 use Rattle.svn_run.specs.UpdateTheorem.{asked}
-use Rattle.svn_run.proofs.Theorems.{level_in_turn}
+use Rattle.svn_run.proofs.Beginning.{has_target}
+use Rattle.svn_run.proofs.Composing.{the_drive}
+use Rattle.svn_run.proofs.Theorems.{refused_in_turn, without_memory, in_turn}
 use Rattle.svn_run.proofs.in_turn.run_in_turn.Goals as goal
 
-pub note_level-requires : goal.note_level-requires
-note_level-requires c =
+pub returns-in-Some : goal.returns-in-Some
+returns-in-Some c =
+    let mode = mode_of (option_copied c.args.goal.now.to) in
     let o = c.args.options in
-    let a = asked c.args.repo.now c.args.copy.now c.args.goal.now.target (mode_of (option_copied c.args.goal.now.to)) o.late_texts
-    o.cancel_after in
-    let is : c.bring_in_turn.result ≡ Ok (Closed c.in-Ok-Closed.calls) = search rules in
-    record { level = level_in_turn a c.bring_in_turn.new.copy c.bring_in_turn.result c.in-Ok-Closed.calls is c.bring_in_turn.ensures.ran }
+    let a = asked c.args.repo.now c.args.copy.now c.args.goal.now.target mode o.late_texts o.cancel_after in
+    refused_in_turn c.laws.ensures a c.true_copy.ensures c.in-Some.fault (sym c.in-Some.ensures)
+
+pub returns-in_default-crawl_and_learn : goal.returns-in_default-crawl_and_learn
+returns-in_default-crawl_and_learn c =
+    let mode = mode_of (option_copied c.args.goal.now.to) in
+    let o = c.args.options in
+    let a = asked c.args.repo.now c.args.copy.now c.args.goal.now.target mode o.late_texts o.cancel_after in
+    without_memory c.laws.ensures a c.true_copy.ensures (sym c.in_default.ensures) c.crawl_and_learn.new.self _ c.crawl_and_learn.ensures.same refl
+
+pub drive_copy-outcome-requires-clause-target : goal.drive_copy-outcome-requires-clause-target
+drive_copy-outcome-requires-clause-target c =
+    let mode = mode_of (option_copied c.args.goal.now.to) in
+    let o = c.args.options in
+    let a = asked c.args.repo.now c.args.copy.now c.args.goal.now.target mode o.late_texts o.cancel_after in
+    let has = has_target c.laws.ensures a c.true_copy.ensures (sym c.in_default.ensures) in
+    subst (λ (r : ReportView). target_fault (request a.history r a.target mode) ≡ None) (sym c.in-Ok.ensures.report) has
+
+pub drive_copy-outcome-requires-clause-drive : goal.drive_copy-outcome-requires-clause-drive
+drive_copy-outcome-requires-clause-drive c =
+    let mode = mode_of (option_copied c.args.goal.now.to) in
+    let o = c.args.options in
+    let a = asked c.args.repo.now c.args.copy.now c.args.goal.now.target mode o.late_texts o.cancel_after in
+    let has = has_target c.laws.ensures a c.true_copy.ensures (sym c.in_default.ensures) in
+    subst (λ (r : ReportView). let d = request a.history r a.target mode in IsDrive d o.late_texts (drive_calls d o.late_texts))
+    (sym c.in-Ok.ensures.report) (the_drive c.laws.ensures a c.true_copy.ensures has)
+
+pub returns : goal.returns
+returns c =
+    let mode = mode_of (option_copied c.args.goal.now.to) in
+    let o = c.args.options in
+    let a = asked c.args.repo.now c.args.copy.now c.args.goal.now.target mode o.late_texts o.cancel_after in
+    let run = c.drive_copy-outcome in
+    let same = c.crawl_and_learn.ensures.same in
+    let by_copy = subst
+    (λ (w : List (Path × BaseNode)).
+    let calls = drive_calls (request a.history c.in-Ok.report a.target mode) o.late_texts in
+    IfOk run.result (CameTo calls mode o.cancel_after (get_in w) run.new.copy))
+    same run.ensures.came in
+    let came = subst
+    (λ (r : ReportView).
+    let calls = drive_calls (request a.history r a.target mode) o.late_texts in
+    IfOk run.result (CameTo calls mode o.cancel_after (get_in c.args.copy.now) run.new.copy))
+    c.in-Ok.ensures.report by_copy in
+    let unchanged = subst (λ (w : List (Path × BaseNode)). OnErr run.result (run.new.copy ≡ w)) same run.ensures.unchanged in
+    in_turn c.laws.ensures a c.true_copy.ensures (sym c.in_default.ensures) run.new.copy run.result c.law.ensures.order came
+    run.ensures.never_late run.ensures.memory unchanged

@@ -1,5 +1,9 @@
-use Rattle.std.proofs.Common.{refl}
+use Rattle.std.proofs.Common.{refl, subst, List}
+use Rattle.svn_types.specs.Names.{Path}
 use Rattle.svn_editor.specs.Steps.{Update}
+use Rattle.svn_model.specs.declared.base_node.BaseNode.{BaseNode}
+use Rattle.svn_model.specs.Nodes.{get_in}
+use Rattle.svn_wc.specs.Unswitched.{IsLevel}
 use Rattle.svn_wc.proofs.ShapeKept.{begun_in_shape}
 use Rattle.svn_wc.proofs.applier.Applier.new.Goals as goal
 
@@ -9,4 +13,8 @@ returns-clause-begun c = c.in_ok-edit.ensures.begun Update c.args.copy.now refl
 pub invariant_of-result : goal.invariant_of-result
 invariant_of-result c =
     let begun = c.in_ok-edit.ensures.begun Update c.args.copy.now refl in
-    record { in_shape = ∣ begun_in_shape c.in_ok-edit.edit c.args.copy.now (Update, begun) c.law.ensures.shape ∣₁ }
+    record {
+      in_shape = ∣ begun_in_shape _ c.in_ok-edit.edit c.args.copy.now (λ known.
+          subst (λ (l : List (Path × BaseNode)). IsLevel (get_in l)) c.copy.view_is (c.copy.invariant.2 known)) (Update, begun)
+          c.law.ensures.shape ∣₁;
+    }

@@ -1,4 +1,4 @@
-use Rattle.std.proofs.Common.{sym, ap, ◌∙◌, subst, List, true≢false}
+use Rattle.std.proofs.Common.{sym, ap, ◌∙◌, subst, List, []}
 use Rattle.std.specs.BTreeMap.{BTreeMap}
 use Rattle.md5.specs.Md5.{md5}
 use Rattle.svn_types.specs.Names.{Path}
@@ -11,9 +11,10 @@ use Rattle.svn_edit.proofs.Holding.{map_ok, map_err}
 use Rattle.svn_edit.proofs.ShapedCalls.{shaped_call}
 use Rattle.std.proofs.Math.Logic.{∥∥₁_elim, ∥∥₁_map}
 use Rattle.svn_wc.specs.Taking.{IsInShape}
-use Rattle.svn_model.specs.Nodes.{IsWorkingCopy, get_in}
+use Rattle.svn_model.specs.Nodes.{IsWorkingCopy, get_in, node_revision}
 use Rattle.svn_wc.proofs.ShapeKept.{IsWorkingCopy-prop, taken, kept}
-use Rattle.svn_wc.proofs.UnswitchedCalls.{IsUnswitched-prop, still_unswitched}
+use Rattle.svn_wc.proofs.Level.{IsLevelByRoot, IsLevelByRoot-prop, by_root}
+use Rattle.svn_wc.proofs.UnswitchedCalls.{IsUnswitched-prop, still_unswitched, level_again}
 use Rattle.svn_wc.proofs.applier.Applier.take.Goals as goal
 
 pub returns-clause-answers : goal.returns-clause-answers
@@ -54,29 +55,37 @@ returns-clause-pools c =
 pub invariant_of-copy : goal.invariant_of-copy
 invariant_of-copy c =
     let before =
-    subst (λ (n : List (Path × BaseNode)). ∥ IsInShape c.args.self.now.edit n ∥₁) (sym c.copy.view_is) c.args.self.now.in_shape in
+    subst (λ (n : List (Path × BaseNode)). ∥ IsInShape c.args.self.now.was_level c.args.self.now.edit n ∥₁) (sym c.copy.view_is) c.args.self.now.in_shape in
     let new = c.call-answer.new.copy in
     let takes = taken c.call-answer.result c.args.self.now.edit c.call-answer.new.self c.copy.inside.nodes new c.args.call
     c.opens_allowed.ensures c.call-answer.ensures.answers c.call-answer.ensures.accepted c.call-answer.ensures.refused
     c.call-answer.ensures.dead c.call-answer.ensures.was_refused c.call-answer.ensures.ended c.call-answer.ensures.pools
     c.call-answer.ensures.last c.call-answer.ensures.abort in
     let shape : IsWorkingCopy (get_in new.entries) = ∥∥₁_elim before (IsWorkingCopy-prop _) (λ shape.
-    (kept c.args.self.now.edit c.call-answer.new.self _ _ c.args.call c.opens_allowed.ensures c.call-answer.result takes shape
+    (kept c.args.self.now.was_level c.args.self.now.edit c.call-answer.new.self _ _ c.args.call c.opens_allowed.ensures c.call-answer.result takes shape
     c.copy.invariant.0).1) in (
       shape,
       λ known. ∥∥₁_elim before (IsUnswitched-prop (get_in new.entries)) (λ in_shape.
-          still_unswitched c.args.self.now.edit c.call-answer.new.self _ _ c.args.call c.call-answer.result takes in_shape shape
-          c.is_update-is_update.result c.is_update-is_update.ensures _ _ c.knows_unswitched-copy-inside.ensures.update
-          c.knows_unswitched-copy-inside.ensures.switch known c.copy.invariant.1),
-      λ known. absurd (true≢false (sym known)),
+          still_unswitched c.args.self.now.was_level c.args.self.now.edit c.call-answer.new.self _ _ c.args.call c.call-answer.result takes in_shape
+          shape c.is_update-is_update.result c.is_update-is_update.ensures _ _ c.knows_unswitched.ensures.update
+          (λ switch yes. c.has_ended-has_ended.ensures (sym (c.knows_unswitched.ensures.switch switch) ∙ yes)) known c.copy.invariant.1),
+      λ known.
+          let parts = c.is_level_again.ensures known in
+          let ended = c.has_ended-has_ended.ensures parts.1 in
+          let level : IsLevelByRoot (get_in new.entries) =
+          ∥∥₁_elim before (IsLevelByRoot-prop (get_in new.entries)) (λ in_shape.
+          by_root (get_in new.entries) shape
+          (level_again c.args.self.now.was_level c.args.self.now.edit c.call-answer.new.self _ _ c.args.call c.call-answer.result takes in_shape
+          parts.0 ended.0 ended.1)) in
+          (node_revision (get_in new.entries []), level),
     )
 
 pub invariant_of-self : goal.invariant_of-self
 invariant_of-self c =
     let before =
-    subst (λ (n : List (Path × BaseNode)). ∥ IsInShape c.args.self.now.edit n ∥₁) (sym c.copy.view_is) c.args.self.now.in_shape in
+    subst (λ (n : List (Path × BaseNode)). ∥ IsInShape c.args.self.now.was_level c.args.self.now.edit n ∥₁) (sym c.copy.view_is) c.args.self.now.in_shape in
     let after = ∥∥₁_map before (λ shape.
-    (kept c.args.self.now.edit c.call-answer.new.self _ _ c.args.call c.opens_allowed.ensures c.call-answer.result
+    (kept c.args.self.now.was_level c.args.self.now.edit c.call-answer.new.self _ _ c.args.call c.opens_allowed.ensures c.call-answer.result
     (taken c.call-answer.result c.args.self.now.edit c.call-answer.new.self c.copy.inside.nodes c.call-answer.new.copy c.args.call c.opens_allowed.ensures
     c.call-answer.ensures.answers
     c.call-answer.ensures.accepted c.call-answer.ensures.refused c.call-answer.ensures.dead c.call-answer.ensures.was_refused c.call-answer.ensures.ended

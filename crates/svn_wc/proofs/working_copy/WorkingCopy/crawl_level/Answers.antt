@@ -22,9 +22,9 @@ returns-clause-report c =
     let level : list_all (λ e. is_level c.revision.result e.1) nodes ≡ true = c.is_all_level.ensures.level c.if-not-is_all_level.false in
     let root = c.root-root.ensures in
     level_report nodes c.law.ensures.order c.law.ensures.shape unswitched c.revision.result level n stands (sym c.revision.ensures)
-    c.new_at-reporter.result c.finish_report.result (c.new_at-reporter.ensures.root ∙ c.in_ok-root_path.ensures) c.new_at-reporter.ensures.entries
-    (c.finish_report.ensures ∙ c.in_ok-report_node.ensures.reported (ap is_root root)
-    ∙ (λ i. with_reported c.new_at-reporter.result (root i) (entry_for (root i) None (Some n))))
+    c.new_at.result c.finish_report.result (c.new_at.ensures.root ∙ c.in_ok-root_path.ensures) c.new_at.ensures.entries
+    (c.finish_report.ensures ∙ c.in_ok-report_node.ensures.reported (ap is_root root) tt
+    ∙ (λ i. with_reported c.new_at.result (root i) (entry_for (root i) None (Some n))))
 
 pub is_all_level-requires : goal.is_all_level-requires
 is_all_level-requires c = record {

@@ -20,6 +20,6 @@ invariant_of-result c =
     let named : AllEndNamed c.args.nodes.items = search rules in (
       subst IsWorkingCopy (λ i p. sym (returns-clause-nodes c p) i)
           (c.nodes_make_a_copy.ensures c.args.nodes.items named (sym c.sorted-nodes.ensures.fault ∙ none)),
-      λ known. absurd (true≢false (sym known)),
-      λ known. absurd (true≢false (sym known)),
+      λ known. absurd (true≢false (sym known ∙ c.nothing.ensures.unswitched)),
+      λ known. absurd (true≢false (sym known ∙ c.nothing.ensures.level)),
     )
