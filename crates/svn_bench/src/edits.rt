@@ -1,11 +1,10 @@
 //! The order check on calls that are in order, and a reporter: the calls or entries made alone, and made and checked.
 
-use anyhow::Result;
+use crate::fault::Fault;
+use crate::nanos_since;
 use std::alloc::Global;
-use std::fmt;
-use std::rt::Clock;
-use std::time::Instant;
-use svn_editor::{Call, Token};
+use std::time::{Clock, Instant};
+use svn_editor::{Call, OrderFault, Token};
 use svn_order::OrderCheck;
 use svn_report::Reporter;
 use svn_types::{MAX_COMPONENTS, Name, RelPath, Rev};
@@ -23,21 +22,22 @@ struct Feed {
 
 impl Feed {
     // An edit whose root is open, with the token 0.
-    fn begin(alloc: Global, is_checked: bool) -> Result<Feed> {
+    fn begin(alloc: Global, is_checked: bool) -> Result<Feed, OrderFault> {
         let mut feed = Feed {
             check: OrderCheck::new(alloc),
             is_checked,
-            next: 1,
+            next: 0,
         };
         feed.open_root()?;
         Ok(feed)
     }
 
-    fn give(&mut self, call: Call) -> Result<()> {
+    fn give(&mut self, call: Call) -> Result<(), OrderFault> {
         if self.is_checked {
-            self.check.step(&call)?;
+            self.check.step(&call)
+        } else {
+            Ok(())
         }
-        Ok(())
     }
 
     fn token(&mut self) -> Token {
@@ -46,51 +46,49 @@ impl Feed {
         token
     }
 
-    fn open_root(&mut self) -> Result<()> {
-        let (base, token) = (Rev(0), Token(0));
+    fn open_root(&mut self) -> Result<(), OrderFault> {
+        let (base, token) = (Rev(0), self.token());
         self.give(Call::SetTargetRevision { rev: Rev(1) })?;
         self.give(Call::OpenRoot { base, token })
     }
 
     // Adds a file to the root, and closes it.
-    fn add_file(&mut self, path: RelPath) -> Result<()> {
+    fn add_file(&mut self, path: RelPath) -> Result<(), OrderFault> {
         let (parent, token) = (Token(0), self.token());
+        let text_md5 = None;
         self.give(Call::AddFile {
             path,
             parent,
             token,
         })?;
-        let text_md5 = None;
         self.give(Call::CloseFile { token, text_md5 })
     }
 
-    // Opens a directory, and answers its token.
-    fn add_directory(&mut self, path: RelPath, parent: Token) -> Result<Token> {
+    fn add_directory(&mut self, path: RelPath, parent: Token) -> Result<(), OrderFault> {
         let token = self.token();
         self.give(Call::AddDirectory {
             path,
             parent,
             token,
-        })?;
-        Ok(token)
+        })
     }
 
-    // Closes directories, the last first.
-    fn close(&mut self, open: &[Token]) -> Result<()> {
-        for token in open.iter().rev() {
-            self.give(Call::CloseDirectory { token: *token })?;
+    // Closes directories from a token on, the last first.
+    fn close_from(&mut self, first: u64) -> Result<(), OrderFault> {
+        for token in (first..self.next).rev() {
+            let token = Token(token);
+            self.give(Call::CloseDirectory { token })?;
         }
         Ok(())
     }
 }
 
-fn path_of(alloc: Global, letter: &str, number: u64) -> Result<RelPath> {
+fn path_of(alloc: Global, letter: &str, number: u64) -> Result<RelPath, Fault> {
     let text = format!(in alloc; "{letter}{number}")?;
     Ok(RelPath::parse(alloc, text.as_str())?)
 }
 
-fn flat(alloc: Global, is_checked: bool, calls: u64) -> Result<()> {
-    let mut feed = Feed::begin(alloc, is_checked)?;
+fn flat(alloc: Global, feed: &mut Feed, calls: u64) -> Result<(), Fault> {
     for number in 0..calls / 2 {
         feed.add_file(path_of(alloc, "f", number)?)?;
     }
@@ -98,36 +96,38 @@ fn flat(alloc: Global, is_checked: bool, calls: u64) -> Result<()> {
 }
 
 // Opens a directory in the one that was opened last.
-fn add_below(feed: &mut Feed, path: &RelPath, open: &mut Vec<Token>) -> Result<()> {
-    let parent = open.last().copied().unwrap_or(Token(0));
-    let token = feed.add_directory(path.clone()?, parent)?;
-    open.push(token)?;
-    Ok(())
+fn open_below(
+    alloc: Global,
+    feed: &mut Feed,
+    above: &RelPath,
+    name: &Name,
+) -> Result<RelPath, Fault> {
+    let parent = Token(feed.next.wrapping_sub(1));
+    let path = above.join(alloc, name)?;
+    feed.add_directory(path.clone()?, parent)?;
+    Ok(path)
 }
 
-// Opens directories in one another, as deep as a path can be.
-fn open_chain(alloc: Global, feed: &mut Feed, number: u64, open: &mut Vec<Token>) -> Result<()> {
-    let below = Name::parse(alloc, "d")?;
-    let mut path = path_of(alloc, "d", number)?;
-    add_below(feed, &path, open)?;
+// Opens directories in one another below a directory of the root, as deep as a path can be.
+fn open_chain(alloc: Global, feed: &mut Feed, top: RelPath, name: &Name) -> Result<(), Fault> {
+    feed.add_directory(top.clone()?, Token(0))?;
+    let mut path = top;
     for _ in 1..MAX_COMPONENTS {
-        path = path.join(alloc, &below)?;
-        add_below(feed, &path, open)?;
+        path = open_below(alloc, feed, &path, name)?;
     }
     Ok(())
 }
 
-// Opens directories in one another, and closes them.
-fn chain(alloc: Global, feed: &mut Feed, number: u64) -> Result<()> {
-    let mut open = Vec::new(alloc);
-    open_chain(alloc, feed, number, &mut open)?;
-    feed.close(&open)
+fn chain(alloc: Global, feed: &mut Feed, name: &Name, number: u64) -> Result<(), Fault> {
+    let first = feed.next;
+    open_chain(alloc, feed, path_of(alloc, "d", number)?, name)?;
+    Ok(feed.close_from(first)?)
 }
 
-fn nested(alloc: Global, is_checked: bool, calls: u64) -> Result<()> {
-    let mut feed = Feed::begin(alloc, is_checked)?;
+fn nested(alloc: Global, feed: &mut Feed, calls: u64) -> Result<(), Fault> {
+    let name = Name::parse(alloc, "d")?;
     for number in 0..calls / CHAIN_CALLS {
-        chain(alloc, &mut feed, number)?;
+        chain(alloc, feed, &name, number)?;
     }
     Ok(())
 }
@@ -137,7 +137,7 @@ fn report_entry(
     reporter: &mut Reporter,
     is_reported: bool,
     number: u64,
-) -> Result<()> {
+) -> Result<(), Fault> {
     let path = path_of(alloc, "p", number)?;
     if is_reported {
         reporter.set_path(&path, Rev(2), false)?;
@@ -145,22 +145,17 @@ fn report_entry(
     Ok(())
 }
 
-fn report_all(
+fn report(
     alloc: Global,
     reporter: &mut Reporter,
     is_reported: bool,
     entries: u64,
-) -> Result<()> {
+) -> Result<(), Fault> {
     reporter.set_path(&RelPath::root(alloc), Rev(1), false)?;
     for number in 1..entries {
         report_entry(alloc, reporter, is_reported, number)?;
     }
     Ok(())
-}
-
-fn report(alloc: Global, is_reported: bool, entries: u64) -> Result<()> {
-    let mut reporter = Reporter::new(alloc);
-    report_all(alloc, &mut reporter, is_reported, entries)
 }
 
 // What is timed.
@@ -170,52 +165,53 @@ enum Work {
     Flat,
     // Directories in one another, as deep as a path can be, are opened and closed.
     Nested,
-    // Entries next to one another are reported.
+    // Entries next to one another are reported, in an order that isn't that of their paths.
     Report,
 }
 
-impl fmt::Display for Work {
-    fn fmt<W: fmt::Write>(&self, f: &mut fmt::Formatter<W>) -> fmt::Result {
-        match self {
-            Work::Flat => f.write_str("calls on files of one directory"),
-            Work::Nested => f.write_str("calls on directories in one another"),
-            Work::Report => f.write_str("entries of a report"),
-        }
-    }
-}
+const WORKS: [(&str, Work); 3] = [
+    ("calls on files of one directory", Work::Flat),
+    ("calls on directories in one another", Work::Nested),
+    ("entries of a report", Work::Report),
+];
 
-fn make(alloc: Global, work: Work, is_checked: bool, count: u64) -> Result<()> {
+fn make(alloc: Global, work: Work, is_checked: bool, count: u64) -> Result<(), Fault> {
     match work {
-        Work::Flat => flat(alloc, is_checked, count),
-        Work::Nested => nested(alloc, is_checked, count),
-        Work::Report => report(alloc, is_checked, count),
+        Work::Flat => flat(alloc, &mut Feed::begin(alloc, is_checked)?, count),
+        Work::Nested => nested(alloc, &mut Feed::begin(alloc, is_checked)?, count),
+        Work::Report => report(alloc, &mut Reporter::new(alloc), is_checked, count),
     }
 }
 
-fn nanos_each<R: Clock>(
-    rt: &R,
+fn nanos_each<C: Clock>(
+    clock: &C,
     alloc: Global,
     work: Work,
     is_checked: bool,
     count: u64,
-) -> Result<u128> {
-    let start = Instant::now(rt)?;
+) -> Result<u64, Fault> {
+    let start = Instant::now(clock)?;
     make(alloc, work, is_checked, count)?;
-    let took = start.elapsed(rt)?;
-    Ok(took.as_nanos() / u128::from(count.max(1)))
+    Ok(nanos_since(clock, start)? / count.max(1))
 }
 
-fn time<R: Clock + Eprint>(rt: &R, alloc: Global, work: Work, count: u64) -> Result<()> {
+fn time<R: Clock + Eprint>(
+    rt: &R,
+    alloc: Global,
+    what: &str,
+    work: Work,
+    count: u64,
+) -> Result<(), Fault> {
     let making = nanos_each(rt, alloc, work, false, count)?;
     let both = nanos_each(rt, alloc, work, true, count)?;
-    eprintln!(rt; "{count} {work}: {making} ns each to make, {both} ns each to make and check")?;
+    eprintln!(rt; "{count} {what}: {making} ns each to make, {both} ns each to make and check")?;
     Ok(())
 }
 
 /// Times so many calls of each kind, and a report of so many entries.
-pub(crate) fn run<R: Clock + Eprint>(rt: &R, alloc: Global, count: u64) -> Result<()> {
-    for work in [Work::Flat, Work::Nested, Work::Report] {
-        time(rt, alloc, work, count)?;
+pub(crate) fn run<R: Clock + Eprint>(rt: &R, alloc: Global, count: u64) -> Result<(), Fault> {
+    for (what, work) in WORKS {
+        time(rt, alloc, what, work, count)?;
     }
     Ok(())
 }

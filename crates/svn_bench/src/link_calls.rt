@@ -1,166 +1,146 @@
 //! Calls that pass through a link from one thread to another, beside a plain channel of the same capacity.
 
-use anyhow::{Result, bail};
+use crate::fault::Fault;
+use crate::nanos_since;
 use crossbeam_channel::{Receiver, Sender, bounded};
 use std::alloc::Global;
 use std::sync::Wait;
 use std::thread;
 use std::thread::Threads;
-use std::time::{Clock, Duration, Instant};
+use std::time::{Clock, Instant};
 use svn_editor::Call;
 use svn_link::{Inbox, Outbox, link};
 use svn_types::Rev;
 
-// Sends so many calls, and a last one.
-fn send_all<R: Wait>(rt: &R, mut outbox: Outbox, calls: u64) {
-    for revision in 0..calls {
-        if !outbox.over() && outbox.sent() < u64::MAX {
-            outbox.send(rt, Call::SetTargetRevision { rev: Rev(revision) });
-        }
-    }
+// The end that sends.
+#[derive(Drop)]
+enum Sending {
+    Link(Outbox),
+    Plain(Sender<Call>),
+}
+
+// The end that takes.
+#[derive(Drop)]
+enum Taking {
+    Link(Inbox),
+    Plain(Receiver<Call>),
+}
+
+fn send_one<R: Wait>(rt: &R, outbox: &mut Outbox, call: Call) {
     if !outbox.over() && outbox.sent() < u64::MAX {
-        outbox.send(rt, Call::CloseEdit);
+        outbox.send(rt, call);
     }
 }
 
-// Takes up to the last call, and adds the revisions up.
-fn take_all<R: Wait>(rt: &R, mut inbox: Inbox) -> u64 {
-    let mut sum = 0u64;
+fn send_linked<R: Wait>(rt: &R, mut outbox: Outbox, calls: u64) {
+    for revision in 0..calls {
+        send_one(
+            rt,
+            &mut outbox,
+            Call::SetTargetRevision { rev: Rev(revision) },
+        );
+    }
+    send_one(rt, &mut outbox, Call::CloseEdit);
+}
+
+fn take_linked<R: Wait>(rt: &R, mut inbox: Inbox) -> u64 {
     for _ in rt.forever() {
         if inbox.over() {
             break;
         }
-        sum = sum.wrapping_add(revision_of(inbox.take(rt)));
+        drop(inbox.take(rt));
     }
-    sum
-}
-
-fn send_one<R: Wait>(rt: &R, sender: &Sender<Call>, call: Call) {
-    let _ = sender.send(rt, call);
+    inbox.taken()
 }
 
 fn send_plain<R: Wait>(rt: &R, sender: Sender<Call>, calls: u64) {
     for revision in 0..calls {
-        send_one(rt, &sender, Call::SetTargetRevision { rev: Rev(revision) });
+        let _ = sender.send(rt, Call::SetTargetRevision { rev: Rev(revision) });
     }
-    send_one(rt, &sender, Call::CloseEdit);
+    let _ = sender.send(rt, Call::CloseEdit);
 }
 
-fn receive_plain<R: Wait>(rt: &R, receiver: Receiver<Call>) -> u64 {
-    let mut sum = 0u64;
+fn take_plain<R: Wait>(rt: &R, receiver: Receiver<Call>) -> u64 {
+    let mut taken = 0u64;
     for _ in rt.forever() {
         let Ok(call) = receiver.recv(rt) else {
             break;
         };
+        taken = taken.wrapping_add(1);
         if call.is_last() {
             break;
         }
-        sum = sum.wrapping_add(revision_of(call));
     }
-    sum
+    taken
 }
 
-fn revision_of(call: Call) -> u64 {
-    match call {
-        Call::SetTargetRevision { rev } => rev.0,
-        _ => 0,
-    }
-}
-
-// The sum of the revisions that came through a link, or nothing where no thread could be made.
-fn through_link<R: Threads + Wait + Sync>(
-    rt: &R,
-    alloc: Global,
-    capacity: usize,
-    calls: u64,
-) -> Result<u64> {
-    let (outbox, inbox) = link(alloc, capacity)?;
-    let sum = thread::scope(thread::scope_env(), rt, move |scope| -> Option<u64> {
-        let sender = scope.spawn(move || send_all(rt, outbox, calls));
-        let Ok(sender) = sender else {
-            return None;
-        };
-        let sum = take_all(rt, inbox);
-        sender.join(rt);
-        Some(sum)
-    });
-    match sum {
-        Some(sum) => Ok(sum),
-        None => bail!("no thread could be made"),
+// Sends so many calls, and a last one.
+fn send_all<R: Wait>(rt: &R, sending: Sending, calls: u64) {
+    match sending {
+        Sending::Link(outbox) => send_linked(rt, outbox, calls),
+        Sending::Plain(sender) => send_plain(rt, sender, calls),
     }
 }
 
-fn through_channel<R: Threads + Wait + Sync>(
-    rt: &R,
-    alloc: Global,
-    capacity: usize,
-    calls: u64,
-) -> Result<u64> {
-    let (sender, receiver) = bounded::<Call, Global>(alloc, capacity)?;
-    let sum = thread::scope(thread::scope_env(), rt, move |scope| -> Option<u64> {
-        let thread = scope.spawn(move || send_plain(rt, sender, calls));
+// Takes up to the last call, and counts them.
+fn take_all<R: Wait>(rt: &R, taking: Taking) -> u64 {
+    match taking {
+        Taking::Link(inbox) => take_linked(rt, inbox),
+        Taking::Plain(receiver) => take_plain(rt, receiver),
+    }
+}
+
+// How many calls came from one thread to the other; none where no thread could be made.
+fn pass<R: Threads + Wait + Sync>(rt: &R, sending: Sending, taking: Taking, calls: u64) -> u64 {
+    thread::scope(thread::scope_env(), rt, move |scope| -> u64 {
+        let thread = scope.spawn(move || send_all(rt, sending, calls));
         let Ok(thread) = thread else {
-            return None;
+            return 0;
         };
-        let sum = receive_plain(rt, receiver);
+        let taken = take_all(rt, taking);
         thread.join(rt);
-        Some(sum)
-    });
-    match sum {
-        Some(sum) => Ok(sum),
-        None => bail!("no thread could be made"),
+        taken
+    })
+}
+
+fn linked(alloc: Global, capacity: usize) -> Result<(Sending, Taking), Fault> {
+    let (outbox, inbox) = link(alloc, capacity)?;
+    Ok((Sending::Link(outbox), Taking::Link(inbox)))
+}
+
+fn plain(alloc: Global, capacity: usize) -> Result<(Sending, Taking), Fault> {
+    let (sender, receiver) = bounded::<Call, Global>(alloc, capacity)?;
+    Ok((Sending::Plain(sender), Taking::Plain(receiver)))
+}
+
+// How many of so many calls pass in a second.
+fn rate<R: Threads + Wait + Sync + Clock>(
+    rt: &R,
+    sending: Sending,
+    taking: Taking,
+    calls: u64,
+) -> Result<u64, Fault> {
+    let start = Instant::now(rt)?;
+    let taken = pass(rt, sending, taking, calls);
+    let took = nanos_since(rt, start)?;
+    if taken != calls.wrapping_add(1) {
+        return Err(Fault("calls are lost, or no thread could be made"));
     }
+    Ok(calls.saturating_mul(1_000) / (took / 1_000_000).max(1))
 }
 
-fn per_second(count: u64, took: Duration) -> u64 {
-    count.saturating_mul(1000) / u64::try_from(took.as_millis()).unwrap_or(u64::MAX).max(1)
-}
-
-// The sum of the revisions that came through a link, and how many calls came in a second.
-fn link_rate<R: Threads + Wait + Sync + Clock>(
+fn time<R: Threads + Wait + Sync + Clock + Eprint>(
     rt: &R,
     alloc: Global,
     capacity: usize,
     calls: u64,
-) -> Result<(u64, u64)> {
-    let start = Instant::now(rt)?;
-    let sum = through_link(rt, alloc, capacity, calls)?;
-    Ok((sum, per_second(calls, start.elapsed(rt)?)))
-}
-
-fn channel_rate<R: Threads + Wait + Sync + Clock>(
-    rt: &R,
-    alloc: Global,
-    capacity: usize,
-    calls: u64,
-) -> Result<(u64, u64)> {
-    let start = Instant::now(rt)?;
-    let sum = through_channel(rt, alloc, capacity, calls)?;
-    Ok((sum, per_second(calls, start.elapsed(rt)?)))
-}
-
-fn check_sums(sum: u64, plain_sum: u64) -> Result<()> {
-    if sum != plain_sum {
-        bail!("the sums {sum} and {plain_sum} differ");
-    }
-    Ok(())
-}
-
-fn tell<R: Eprint>(rt: &R, capacity: usize, link: u64, plain: u64) -> Result<()> {
+) -> Result<(), Fault> {
+    let (sending, taking) = linked(alloc, capacity)?;
+    let link = rate(rt, sending, taking, calls)?;
+    let (sending, taking) = plain(alloc, capacity)?;
+    let plain = rate(rt, sending, taking, calls)?;
     eprintln!(rt; "capacity {capacity}: link {link}, plain channel {plain} calls a second")?;
     Ok(())
-}
-
-fn compare<R: Threads + Wait + Sync + Clock + Eprint>(
-    rt: &R,
-    alloc: Global,
-    capacity: usize,
-    calls: u64,
-) -> Result<()> {
-    let (sum, link) = link_rate(rt, alloc, capacity, calls)?;
-    let (plain_sum, plain) = channel_rate(rt, alloc, capacity, calls)?;
-    check_sums(sum, plain_sum)?;
-    tell(rt, capacity, link, plain)
 }
 
 /// Times so many calls at each capacity.
@@ -168,9 +148,9 @@ pub(crate) fn run<R: Threads + Wait + Sync + Clock + Eprint>(
     rt: &R,
     alloc: Global,
     calls: u64,
-) -> Result<()> {
+) -> Result<(), Fault> {
     for capacity in [1, 64, 4096] {
-        compare(rt, alloc, capacity, calls)?;
+        time(rt, alloc, capacity, calls)?;
     }
     Ok(())
 }

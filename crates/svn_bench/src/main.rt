@@ -1,68 +1,90 @@
-//! Times parts of the library, one or all of them.
+//! Times parts of the library that no script shows by themselves, one or all of them.
 //!
-//! The first argument is what is timed: `commits`, `copies`, `edits` (the order check and reports), `drives`, `applies`, `pools`,
-//! `link` or `all`. The second is how many files, calls, entries or pools there are, by default 100,000. The times go to standard error.
+//! The first argument is what is timed: `edits` (the order check and reports), `pools`, `link` or `all`. The second is how many calls,
+//! entries or pools there are, by default 100,000. The times go to standard error.
 #![tactic(auto)]
 
-mod applies;
-mod commits;
-mod copies;
-mod drives;
 mod edits;
+mod fault;
 mod link_calls;
 mod pools;
-mod trees;
 
-use anyhow::{Result, bail};
+use crate::fault::Fault;
 use std::alloc::Global;
 use std::env;
 use std::env::Env;
+use std::process::ExitCode;
 use std::sync::Wait;
 use std::thread::Threads;
-use std::time::Clock;
+use std::time::{Clock, Instant};
 
 const DEFAULT_COUNT: u64 = 100_000;
 
-const ALL: [&str; 7] = [
-    "commits", "copies", "edits", "drives", "applies", "pools", "link",
-];
+const USAGE: Fault = Fault("the words are edits, pools, link or all, and a number");
+
+/// The nanoseconds since a moment.
+pub(crate) fn nanos_since<C: Clock>(clock: &C, start: Instant) -> Result<u64, Fault> {
+    let took = start.elapsed(clock)?;
+    Ok(u64::try_from(took.as_nanos()).unwrap_or(u64::MAX))
+}
+
+fn all<R: Threads + Wait + Sync + Clock + Eprint>(
+    rt: &R,
+    alloc: Global,
+    count: u64,
+) -> Result<(), Fault> {
+    edits::run(rt, alloc, count)?;
+    pools::run(rt, alloc, count)?;
+    link_calls::run(rt, alloc, count)
+}
 
 fn time<R: Threads + Wait + Sync + Clock + Eprint>(
     rt: &R,
     alloc: Global,
     what: &str,
     count: u64,
-) -> Result<()> {
+) -> Result<(), Fault> {
     match what {
-        "commits" => commits::run(rt, alloc, count),
-        "copies" => copies::run(rt, alloc, count),
         "edits" => edits::run(rt, alloc, count),
-        "drives" => drives::run(rt, alloc, count),
-        "applies" => applies::run(rt, alloc, count),
         "pools" => pools::run(rt, alloc, count),
         "link" => link_calls::run(rt, alloc, count),
-        _ => bail!("what is timed is commits, copies, edits, drives, applies, pools, link or all"),
+        "all" => all(rt, alloc, count),
+        _ => Err(USAGE),
     }
 }
 
-// The number that the second argument gives.
-fn count_wanted<R: Env + Alloc>(rt: &R) -> Result<u64> {
-    match env::args(rt)?.nth(2) {
-        Some(word) => Ok(word.as_str().parse::<u64>()?),
-        None => Ok(DEFAULT_COUNT),
+fn count_of(word: &str) -> Result<u64, Fault> {
+    match word.parse::<u64>() {
+        Ok(count) => Ok(count),
+        Err(_) => Err(USAGE),
     }
 }
 
-fn main(rt: HostRuntime) -> Result<()> {
-    let count = count_wanted(&rt)?;
-    let Some(what) = env::args(&rt)?.nth(1) else {
-        bail!("what is timed is commits, copies, edits, drives, applies, pools, link or all");
+// The words behind the program's name.
+fn words<R: Env + AllocGlobal>(rt: &R) -> Result<(Option<String>, Option<String>), Fault> {
+    let mut words = env::args(rt)?;
+    let what = words.nth(1);
+    Ok((what, words.next()))
+}
+
+fn run<R: Threads + Wait + Sync + Clock + Eprint + Env + AllocGlobal>(rt: &R) -> Result<(), Fault> {
+    let (what, count) = words(rt)?;
+    let count = match count {
+        Some(word) => count_of(word.as_str())?,
+        None => DEFAULT_COUNT,
     };
-    if what.as_str() != "all" {
-        return time(&rt, rt.alloc(), what.as_str(), count);
+    match what {
+        Some(what) => time(rt, rt.alloc(), what.as_str(), count),
+        None => Err(USAGE),
     }
-    for what in ALL {
-        time(&rt, rt.alloc(), what, count)?;
+}
+
+fn main(rt: HostRuntime) -> ExitCode {
+    match run(&rt) {
+        Ok(()) => ExitCode::SUCCESS,
+        Err(Fault(words)) => {
+            let _ = eprintln!(rt; "svn_bench: {words}");
+            ExitCode::FAILURE
+        }
     }
-    Ok(())
 }

@@ -3,109 +3,153 @@
 mod in_pools;
 mod in_vectors;
 
-use anyhow::Result;
+use crate::fault::Fault;
 use std::alloc::Global;
-use std::fmt;
 use std::time::Clock;
 
 const ROUNDS: u32 = 3;
 
+// What there is before.
+#[derive(Clone, Copy)]
+enum Before {
+    Nothing,
+    // the root's strings
+    Strings,
+    // pools with a string and so many children each
+    Pools(u64),
+}
+
 // What is timed.
 #[derive(Clone, Copy)]
-enum Work {
-    // Strings of so many bytes are pushed onto one pool.
-    Pushes(usize),
+enum Deed {
+    // Strings are pushed onto one pool.
+    Push,
     // Pools are made with a string each, each destroyed before the next is made.
     OneByOne,
-    // Children of the root with a string each are destroyed.
+    // The children of the root are destroyed.
     OldestFirst,
     YoungestFirst,
-    // Pools with ten children each are cleared at their root.
-    Tree,
-    // Pools, each the child of the one before, are cleared at their root.
-    Chain,
-    // A pool of ten times as many strings is cleared.
-    Strings,
+    // All goes at once.
+    Clear,
 }
 
-const WORKS: [Work; 9] = [
-    Work::Pushes(8),
-    Work::Pushes(100),
-    Work::Pushes(10_000),
-    Work::OneByOne,
-    Work::OldestFirst,
-    Work::YoungestFirst,
-    Work::Tree,
-    Work::Chain,
-    Work::Strings,
+// What is timed, in words and by what it does, how long its strings are, and how many there are of what it is named for, in hundredths of
+// the pools that are wanted.
+struct Row {
+    what: &'static str,
+    before: Before,
+    deed: Deed,
+    length: usize,
+    hundredths: u64,
+}
+
+// More children than there are pools: all of them are the root's.
+const SIBLINGS: Before = Before::Pools(u64::MAX);
+
+static ROWS: [Row; 9] = [
+    Row {
+        what: "pushes of 8 bytes",
+        before: Before::Nothing,
+        deed: Deed::Push,
+        length: 8,
+        hundredths: 1_000,
+    },
+    Row {
+        what: "pushes of 100 bytes",
+        before: Before::Nothing,
+        deed: Deed::Push,
+        length: 100,
+        hundredths: 1_000,
+    },
+    Row {
+        what: "pushes of 10000 bytes",
+        before: Before::Nothing,
+        deed: Deed::Push,
+        length: 10_000,
+        hundredths: 20,
+    },
+    Row {
+        what: "pools made and destroyed one by one",
+        before: Before::Nothing,
+        deed: Deed::OneByOne,
+        length: 8,
+        hundredths: 100,
+    },
+    Row {
+        what: "siblings destroyed, the oldest first",
+        before: SIBLINGS,
+        deed: Deed::OldestFirst,
+        length: 8,
+        hundredths: 100,
+    },
+    Row {
+        what: "siblings destroyed, the youngest first",
+        before: SIBLINGS,
+        deed: Deed::YoungestFirst,
+        length: 8,
+        hundredths: 100,
+    },
+    Row {
+        what: "pools of a tree cleared",
+        before: Before::Pools(10),
+        deed: Deed::Clear,
+        length: 8,
+        hundredths: 100,
+    },
+    Row {
+        what: "pools of a chain cleared",
+        before: Before::Pools(1),
+        deed: Deed::Clear,
+        length: 8,
+        hundredths: 100,
+    },
+    Row {
+        what: "strings of one pool cleared",
+        before: Before::Strings,
+        deed: Deed::Clear,
+        length: 8,
+        hundredths: 1_000,
+    },
 ];
 
-impl fmt::Display for Work {
-    fn fmt<W: fmt::Write>(&self, f: &mut fmt::Formatter<W>) -> fmt::Result {
-        match self {
-            Work::Pushes(length) => write!(f, "pushes of {length} bytes"),
-            Work::OneByOne => write!(f, "pools made and destroyed one by one"),
-            Work::OldestFirst => write!(f, "siblings destroyed, the oldest first"),
-            Work::YoungestFirst => write!(f, "siblings destroyed, the youngest first"),
-            Work::Tree => write!(f, "pools of a tree cleared"),
-            Work::Chain => write!(f, "pools of a chain cleared"),
-            Work::Strings => write!(f, "strings of one pool cleared"),
-        }
-    }
+// A row with the string that it pushes, and so many of them, or so many pools.
+#[derive(Clone, Copy)]
+struct Work<'a> {
+    before: Before,
+    deed: Deed,
+    text: &'a [u8],
+    number: u64,
 }
 
-// How many pools or strings the work has, where there are that many pools.
-fn number(work: Work, pools: u64) -> u64 {
-    match work {
-        Work::Pushes(length) if length < 1_000 => pools.saturating_mul(10),
-        Work::Pushes(_) => pools / 5,
-        Work::Strings => pools.saturating_mul(10),
-        _ => pools,
-    }
-}
-
-// The microseconds that the work takes in pools.
-fn pools_time<C: Clock>(clock: &C, alloc: Global, work: Work, number: u64) -> Result<u128> {
-    match work {
-        Work::Pushes(length) => in_pools::pushes(clock, alloc, length, number),
-        Work::OneByOne => in_pools::one_by_one(clock, alloc, number),
-        Work::OldestFirst => in_pools::oldest_first(clock, alloc, number),
-        Work::YoungestFirst => in_pools::youngest_first(clock, alloc, number),
-        Work::Tree => in_pools::tree(clock, alloc, number, 10),
-        Work::Chain => in_pools::tree(clock, alloc, number, 1),
-        Work::Strings => in_pools::strings(clock, alloc, number),
-    }
-}
-
-// And in vectors, which know no parents.
-fn vectors_time<C: Clock>(clock: &C, alloc: Global, work: Work, number: u64) -> Result<u128> {
-    match work {
-        Work::Pushes(length) => in_vectors::pushes(clock, alloc, length, number),
-        Work::OneByOne => in_vectors::one_by_one(clock, alloc, number),
-        Work::OldestFirst => in_vectors::oldest_first(clock, alloc, number),
-        Work::YoungestFirst => in_vectors::youngest_first(clock, alloc, number),
-        Work::Tree | Work::Chain => in_vectors::all(clock, alloc, number),
-        Work::Strings => in_vectors::strings(clock, alloc, number),
-    }
-}
-
-// The shortest time in pools, and in vectors.
-fn shortest<C: Clock>(clock: &C, alloc: Global, work: Work, number: u64) -> Result<(u128, u128)> {
-    let mut pools = u128::MAX;
-    let mut vectors = u128::MAX;
+// The shortest time in pools, and in vectors, in nanoseconds.
+fn shortest<C: Clock>(clock: &C, alloc: Global, work: Work<'_>) -> Result<(u64, u64), Fault> {
+    let (mut pools, mut vectors) = (u64::MAX, u64::MAX);
     for _ in 0..ROUNDS {
-        pools = pools.min(pools_time(clock, alloc, work, number)?);
-        vectors = vectors.min(vectors_time(clock, alloc, work, number)?);
+        pools = pools.min(in_pools::nanos(clock, alloc, work)?);
+        vectors = vectors.min(in_vectors::nanos(clock, alloc, work)?);
     }
     Ok((pools, vectors))
 }
 
-/// Times the works with so many pools; the numbers of strings follow from it.
-pub(crate) fn run<R: Clock + Eprint>(rt: &R, alloc: Global, wanted: u64) -> Result<()> {
-    for work in WORKS {
-        let number = number(work, wanted);
-        let (pools, vectors) = shortest(rt, alloc, work, number)?;
-        eprintln!(rt; "{number} {work}: pools {pools} us, vectors {vectors} us")?;
+fn time<R: Clock + Eprint>(rt: &R, alloc: Global, row: &Row, wanted: u64) -> Result<(), Fault> {
+    let text = Vec::from_elem(alloc, b'x', row.length)?;
+    let (what, number) = (row.what, wanted.saturating_mul(row.hundredths) / 100);
+    let work = Work {
+        before: row.before,
+        deed: row.deed,
+        text: &text,
+        number,
+    };
+    let (pools, vectors) = shortest(rt, alloc, work)?;
+    let (pools, vectors) = (pools / 1_000, vectors / 1_000);
+    eprintln!(rt; "{number} {what}: pools {pools} us, vectors {vectors} us")?;
+    Ok(())
+}
+
+/// Times the rows with so many pools.
+pub(crate) fn run<R: Clock + Eprint>(rt: &R, alloc: Global, wanted: u64) -> Result<(), Fault> {
+    for row in &ROWS {
+        time(rt, alloc, row, wanted)?;
     }
     Ok(())
 }

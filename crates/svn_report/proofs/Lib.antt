@@ -10,3 +10,5 @@ pub mod NextNames
 pub mod ReportedNames
 -- where a test parts entries, told by what stands next to a position
 pub mod Points
+-- what follows the revision in an entry's line
+mod Endings

@@ -14,6 +14,11 @@ abbrev pub start_empty_words : Bool → List (List ℕ)
 start_empty_words true = codes "start_empty" ∷ []
 start_empty_words false = []
 
+-- what follows the revision in an entry's line
+abbrev pub ending : Bool → List ℕ
+ending true = codes " start_empty"
+ending false = []
+
 abbrev pub entry_words : Path → ReportEntry → List (List ℕ)
 entry_words p (SetPath rev start_empty) = codes "set" ∷ path_word p ∷ decimal rev ∷ start_empty_words start_empty
 entry_words p (LinkPath repos_path rev start_empty) =

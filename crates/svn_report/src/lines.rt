@@ -3,7 +3,7 @@ ghost use Rattle.std.specs.Prelude.{◌≡◌, ◌∷◌, ◌++◌, [], Some, sl
 ghost use Rattle.std.specs.Fmt.{DisplaysOnOk};
 ghost use Rattle.std.specs.List.{flat_map};
 ghost use Rattle.std.specs.Option.{option_to_list};
-ghost use Rattle.svn_report.specs.Lines.{entry_line, root_text, entry_text, report_text};
+ghost use Rattle.svn_report.specs.Lines.{ending, entry_line, root_text, entry_text, report_text};
 
 use crate::entry::ReportEntry;
 use crate::report::Report;
@@ -21,19 +21,23 @@ pub struct EntryLine<'a> {
     pub entry: &'a ReportEntry,
 }
 
+// What follows the revision in an entry's line.
+fn ending(start_empty: bool) -> &'static str
+    ensures { result.now ≡ ending start_empty }
+{
+    if start_empty { " start_empty" } else { "" }
+}
+
 impl fmt::Display for EntryLine<'_> {
     ghost output = { λ l. Some (entry_line l.path.now l.entry.now) };
 
+    #[tactic(auto, using(crate::proofs::Endings::last_words))]
     fn fmt<W: fmt::Write>(&self, f: &mut fmt::Formatter<W>) -> fmt::Result {
         let path = PathWord(self.path);
         match self.entry {
             ReportEntry::SetPath { rev, start_empty } => {
-                let rev = rev.0;
-                if *start_empty {
-                    write!(f, "set {path} {rev} start_empty")
-                } else {
-                    write!(f, "set {path} {rev}")
-                }
+                let (rev, ending) = (rev.0, ending(*start_empty));
+                write!(f, "set {path} {rev}{ending}")
             }
             ReportEntry::LinkPath {
                 repos_path,
@@ -41,11 +45,8 @@ impl fmt::Display for EntryLine<'_> {
                 start_empty,
             } => {
                 let (repos_path, rev) = (PathWord(repos_path), rev.0);
-                if *start_empty {
-                    write!(f, "link {path} {repos_path} {rev} start_empty")
-                } else {
-                    write!(f, "link {path} {repos_path} {rev}")
-                }
+                let ending = ending(*start_empty);
+                write!(f, "link {path} {repos_path} {rev}{ending}")
             }
             ReportEntry::DeletePath => write!(f, "delete {path}"),
         }

@@ -4,15 +4,10 @@ use Rattle.svn_script.specs.declared.verb.Verb.{Verb}
 use Rattle.svn_script.specs.declared.verb.Verb.TheVariants.{Mkdir, Put, Prop, Unprop, Remove, Copy, Commit, Checkout}
 use Rattle.svn_script.specs.declared.verb.Verb.TheVariants.{Place, Switch, Forget, Report, Drive, Update, SwitchTo, Show}
 
-abbrev pub verb_of : List ℕ → Option Verb
-verb_of name =
-    if bytes_eq name (codes "mkdir") then Some Mkdir
-    else if bytes_eq name (codes "put") then Some Put
-    else if bytes_eq name (codes "prop") then Some Prop
-    else if bytes_eq name (codes "unprop") then Some Unprop
-    else if bytes_eq name (codes "remove") then Some Remove
-    else if bytes_eq name (codes "copy") then Some Copy
-    else if bytes_eq name (codes "commit") then Some Commit
+-- of those that add no change to the next commit
+abbrev pub other_verb_of : List ℕ → Option Verb
+other_verb_of name =
+    if bytes_eq name (codes "commit") then Some Commit
     else if bytes_eq name (codes "checkout") then Some Checkout
     else if bytes_eq name (codes "place") then Some Place
     else if bytes_eq name (codes "switch") then Some Switch
@@ -23,3 +18,13 @@ verb_of name =
     else if bytes_eq name (codes "switch-to") then Some SwitchTo
     else if bytes_eq name (codes "show") then Some Show
     else None
+
+abbrev pub verb_of : List ℕ → Option Verb
+verb_of name =
+    if bytes_eq name (codes "mkdir") then Some Mkdir
+    else if bytes_eq name (codes "put") then Some Put
+    else if bytes_eq name (codes "prop") then Some Prop
+    else if bytes_eq name (codes "unprop") then Some Unprop
+    else if bytes_eq name (codes "remove") then Some Remove
+    else if bytes_eq name (codes "copy") then Some Copy
+    else other_verb_of name

@@ -75,23 +75,29 @@ impl WordsFault {
     }
 }
 
-// What the words are for `svnup`.
-fn parse_words<'a>(alloc: Global, words: &'a [&'a str]) -> Result<ArgMatches<'a>, clap::Error> {
-    let capacity = Arg::new(alloc, "capacity")
+fn capacity_option<'a>(alloc: Global) -> Arg<'a> {
+    Arg::new(alloc, "capacity")
         .long("capacity")
         .value_name("N")
         .value_parser(value_parser!(usize).range(1..=4096))
         .default_value("64")
-        .help("How many calls may wait between driver and working copy, 1 to 4096");
-    let in_turn = Arg::new(alloc, "in-turn")
+        .help("How many calls may wait between driver and working copy, 1 to 4096")
+}
+
+fn in_turn_option<'a>(alloc: Global) -> Arg<'a> {
+    Arg::new(alloc, "in-turn")
         .long("in-turn")
         .action(ArgAction::SetTrue)
-        .help("Run driver and working copy in turn, on one thread");
+        .help("Run driver and working copy in turn, on one thread")
+}
+
+// What the words are for `svnup`.
+fn parse_words<'a>(alloc: Global, words: &'a [&'a str]) -> Result<ArgMatches<'a>, clap::Error> {
     let command = Command::new(alloc, "svnup")
         .about(ABOUT)
         .after_help(BEHIND)
-        .arg(capacity)?
-        .arg(in_turn)?;
+        .arg(capacity_option(alloc))?
+        .arg(in_turn_option(alloc))?;
     command.try_get_matches_from(words)
 }
 

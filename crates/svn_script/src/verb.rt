@@ -1,9 +1,9 @@
 //! The names of the commands.
 ghost use Rattle.std.specs.Prelude.{◌≡◌};
-ghost use Rattle.svn_script.specs.Verbs.{verb_of};
+ghost use Rattle.svn_script.specs.Verbs.{other_verb_of, verb_of};
 
 /// The name of a command.
-#[derive(Clone, Copy, Debug, PartialEq, Eq)]
+#[derive(Clone, Copy)]
 pub(crate) enum Verb {
     Mkdir,
     Put,
@@ -23,23 +23,11 @@ pub(crate) enum Verb {
     Show,
 }
 
-/// The command of this name, which is taken as it stands: no escapes, and case counts.
-pub(crate) fn read_verb(name: &[u8]) -> Option<Verb>
-    ensures { result ≡ verb_of name.now }
+// The command of this name, among those that add no change to the next commit.
+fn read_other_verb(name: &[u8]) -> Option<Verb>
+    ensures { result ≡ other_verb_of name.now }
 {
-    if name == b"mkdir".as_slice() {
-        Some(Verb::Mkdir)
-    } else if name == b"put".as_slice() {
-        Some(Verb::Put)
-    } else if name == b"prop".as_slice() {
-        Some(Verb::Prop)
-    } else if name == b"unprop".as_slice() {
-        Some(Verb::Unprop)
-    } else if name == b"remove".as_slice() {
-        Some(Verb::Remove)
-    } else if name == b"copy".as_slice() {
-        Some(Verb::Copy)
-    } else if name == b"commit".as_slice() {
+    if name == b"commit".as_slice() {
         Some(Verb::Commit)
     } else if name == b"checkout".as_slice() {
         Some(Verb::Checkout)
@@ -61,5 +49,26 @@ pub(crate) fn read_verb(name: &[u8]) -> Option<Verb>
         Some(Verb::Show)
     } else {
         None
+    }
+}
+
+/// The command of this name, which is taken as it stands: no escapes, and case counts.
+pub(crate) fn read_verb(name: &[u8]) -> Option<Verb>
+    ensures { result ≡ verb_of name.now }
+{
+    if name == b"mkdir".as_slice() {
+        Some(Verb::Mkdir)
+    } else if name == b"put".as_slice() {
+        Some(Verb::Put)
+    } else if name == b"prop".as_slice() {
+        Some(Verb::Prop)
+    } else if name == b"unprop".as_slice() {
+        Some(Verb::Unprop)
+    } else if name == b"remove".as_slice() {
+        Some(Verb::Remove)
+    } else if name == b"copy".as_slice() {
+        Some(Verb::Copy)
+    } else {
+        read_other_verb(name)
     }
 }

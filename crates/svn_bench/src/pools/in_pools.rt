@@ -1,102 +1,90 @@
-// The work in pools.
-use anyhow::{Result, bail};
+// The work in pools. A pool's serial is its number, the root's 0.
+use super::{Before, Deed, Work};
+use crate::fault::Fault;
+use crate::nanos_since;
 use std::alloc::Global;
 use std::time::{Clock, Instant};
-use svn_pool::{PoolId, PoolTree};
+use svn_pool::{PoolFault, PoolId, PoolTree};
 
-const TEXT: &[u8] = b"12345678";
+type Tree = PoolTree<Global>;
 
-// A tree whose root has so many strings.
-fn filled(alloc: Global, text: &[u8], number: u64) -> Result<PoolTree<Global>> {
-    let mut tree = PoolTree::new(alloc)?;
+fn push_all(tree: &mut Tree, text: &[u8], number: u64) -> Result<(), PoolFault> {
     for _ in 0..number {
         tree.push(PoolId(0), text)?;
     }
-    Ok(tree)
+    Ok(())
 }
 
-// The time since the start, where the root alone is left.
-fn time_to_root<C: Clock>(clock: &C, start: Instant, tree: &PoolTree<Global>) -> Result<u128> {
-    let took = start.elapsed(clock)?.as_micros();
-    if tree.live() != 1 {
-        bail!("{} pools are left", tree.live());
+// A pool with a string.
+fn add(tree: &mut Tree, parent: u64, text: &[u8]) -> Result<PoolId, PoolFault> {
+    let pool = tree.create(PoolId(parent))?;
+    tree.push(pool, text)?;
+    Ok(pool)
+}
+
+// Pools with so many children each.
+fn grow(tree: &mut Tree, children: u64, text: &[u8], number: u64) -> Result<(), PoolFault> {
+    for made in 0..number {
+        add(tree, made / children.max(1), text)?;
     }
-    Ok(took)
+    Ok(())
 }
 
-pub(crate) fn pushes<C: Clock>(
-    clock: &C,
-    alloc: Global,
-    length: usize,
-    number: u64,
-) -> Result<u128> {
-    let text = Vec::from_elem(alloc, b'x', length)?;
-    let start = Instant::now(clock)?;
-    let tree = filled(alloc, &text, number)?;
-    time_to_root(clock, start, &tree)
-}
-
-pub(crate) fn one_by_one<C: Clock>(clock: &C, alloc: Global, number: u64) -> Result<u128> {
-    let mut tree = PoolTree::new(alloc)?;
-    let start = Instant::now(clock)?;
+fn one_by_one(tree: &mut Tree, text: &[u8], number: u64) -> Result<(), PoolFault> {
     for _ in 0..number {
-        let pool = tree.create(PoolId(0))?;
-        tree.push(pool, TEXT)?;
+        let pool = add(tree, 0, text)?;
         tree.destroy(pool)?;
     }
-    time_to_root(clock, start, &tree)
+    Ok(())
 }
 
-// Children of the root with a string each.
-fn siblings(alloc: Global, number: u64) -> Result<(PoolTree<Global>, Vec<PoolId>)> {
+fn oldest_first(tree: &mut Tree, number: u64) -> Result<(), PoolFault> {
+    for before in 0..number {
+        tree.destroy(PoolId(before.wrapping_add(1)))?;
+    }
+    Ok(())
+}
+
+fn youngest_first(tree: &mut Tree, number: u64) -> Result<(), PoolFault> {
+    for before in (0..number).rev() {
+        tree.destroy(PoolId(before.wrapping_add(1)))?;
+    }
+    Ok(())
+}
+
+fn prepare(tree: &mut Tree, work: Work<'_>) -> Result<(), PoolFault> {
+    match work.before {
+        Before::Nothing => Ok(()),
+        Before::Strings => push_all(tree, work.text, work.number),
+        Before::Pools(children) => grow(tree, children, work.text, work.number),
+    }
+}
+
+fn perform(tree: &mut Tree, work: Work<'_>) -> Result<(), PoolFault> {
+    match work.deed {
+        Deed::Push => push_all(tree, work.text, work.number),
+        Deed::OneByOne => one_by_one(tree, work.text, work.number),
+        Deed::OldestFirst => oldest_first(tree, work.number),
+        Deed::YoungestFirst => youngest_first(tree, work.number),
+        Deed::Clear => tree.clear(PoolId(0)),
+    }
+}
+
+// The root alone is left.
+fn nanos_to_root<C: Clock>(clock: &C, tree: &mut Tree, work: Work<'_>) -> Result<u64, Fault> {
+    let start = Instant::now(clock)?;
+    perform(tree, work)?;
+    let took = nanos_since(clock, start)?;
+    if tree.live() == 1 {
+        Ok(took)
+    } else {
+        Err(Fault("pools are left"))
+    }
+}
+
+/// How long it takes.
+pub(crate) fn nanos<C: Clock>(clock: &C, alloc: Global, work: Work<'_>) -> Result<u64, Fault> {
     let mut tree = PoolTree::new(alloc)?;
-    let mut pools = Vec::new(alloc);
-    for _ in 0..number {
-        let pool = tree.create(PoolId(0))?;
-        tree.push(pool, TEXT)?;
-        pools.push(pool)?;
-    }
-    Ok((tree, pools))
-}
-
-pub(crate) fn oldest_first<C: Clock>(clock: &C, alloc: Global, number: u64) -> Result<u128> {
-    let (mut tree, pools) = siblings(alloc, number)?;
-    let start = Instant::now(clock)?;
-    for pool in &pools {
-        tree.destroy(*pool)?;
-    }
-    time_to_root(clock, start, &tree)
-}
-
-pub(crate) fn youngest_first<C: Clock>(clock: &C, alloc: Global, number: u64) -> Result<u128> {
-    let (mut tree, pools) = siblings(alloc, number)?;
-    let start = Instant::now(clock)?;
-    for pool in pools.iter().rev() {
-        tree.destroy(*pool)?;
-    }
-    time_to_root(clock, start, &tree)
-}
-
-// Pools with so many children each, and a string.
-fn grown(alloc: Global, number: u64, children: u64) -> Result<PoolTree<Global>> {
-    let mut tree = PoolTree::new(alloc)?;
-    for made in 0..number {
-        let pool = tree.create(PoolId(made / children.max(1)))?;
-        tree.push(pool, TEXT)?;
-    }
-    Ok(tree)
-}
-
-pub(crate) fn tree<C: Clock>(clock: &C, alloc: Global, number: u64, children: u64) -> Result<u128> {
-    let mut tree = grown(alloc, number, children)?;
-    let start = Instant::now(clock)?;
-    tree.clear(PoolId(0))?;
-    time_to_root(clock, start, &tree)
-}
-
-pub(crate) fn strings<C: Clock>(clock: &C, alloc: Global, number: u64) -> Result<u128> {
-    let mut tree = filled(alloc, TEXT, number)?;
-    let start = Instant::now(clock)?;
-    tree.clear(PoolId(0))?;
-    time_to_root(clock, start, &tree)
+    prepare(&mut tree, work)?;
+    nanos_to_root(clock, &mut tree, work)
 }

@@ -1,17 +1,15 @@
 // The work in vectors: a pool is a vector of its strings, which may be there or not.
-use anyhow::{Result, bail};
-use std::alloc::Global;
+use super::{Before, Deed, Work};
+use crate::fault::Fault;
+use crate::nanos_since;
+use std::alloc::{AllocError, Global};
 use std::time::{Clock, Instant};
-
-const TEXT: &[u8] = b"12345678";
 
 type Strings = Vec<Vec<u8>>;
 
-fn micros<C: Clock>(clock: &C, start: Instant) -> Result<u128> {
-    Ok(start.elapsed(clock)?.as_micros())
-}
+type Pools = Vec<Option<Strings>>;
 
-fn filled(alloc: Global, text: &[u8], number: u64) -> Result<Strings> {
+fn filled(alloc: Global, text: &[u8], number: u64) -> Result<Strings, AllocError> {
     let mut strings = Vec::new(alloc);
     for _ in 0..number {
         strings.push(Vec::from_slice(alloc, text)?)?;
@@ -19,69 +17,63 @@ fn filled(alloc: Global, text: &[u8], number: u64) -> Result<Strings> {
     Ok(strings)
 }
 
-pub(crate) fn pushes<C: Clock>(
-    clock: &C,
-    alloc: Global,
-    length: usize,
-    number: u64,
-) -> Result<u128> {
-    let text = Vec::from_elem(alloc, b'x', length)?;
-    let start = Instant::now(clock)?;
-    let strings = filled(alloc, &text, number)?;
-    let took = micros(clock, start)?;
-    if strings.len() as u64 != number {
-        bail!("{} strings are there", strings.len());
-    }
-    Ok(took)
+// A pool with so many strings.
+fn add(alloc: Global, pools: &mut Pools, text: &[u8], number: u64) -> Result<(), AllocError> {
+    pools.push(Some(filled(alloc, text, number)?))?;
+    Ok(())
 }
 
-pub(crate) fn one_by_one<C: Clock>(clock: &C, alloc: Global, number: u64) -> Result<u128> {
-    let start = Instant::now(clock)?;
+// Pools with a string each; vectors know no parents.
+fn grow(alloc: Global, pools: &mut Pools, text: &[u8], number: u64) -> Result<(), AllocError> {
     for _ in 0..number {
-        let strings = filled(alloc, TEXT, 1)?;
-        drop(strings);
+        add(alloc, pools, text, 1)?;
     }
-    micros(clock, start)
+    Ok(())
 }
 
-// Pools with a string each.
-fn siblings(alloc: Global, number: u64) -> Result<Vec<Option<Strings>>> {
-    let mut pools = Vec::new(alloc);
+fn one_by_one(alloc: Global, text: &[u8], number: u64) -> Result<(), AllocError> {
     for _ in 0..number {
-        pools.push(Some(filled(alloc, TEXT, 1)?))?;
+        drop(filled(alloc, text, 1)?);
     }
-    Ok(pools)
+    Ok(())
 }
 
-pub(crate) fn oldest_first<C: Clock>(clock: &C, alloc: Global, number: u64) -> Result<u128> {
-    let mut pools = siblings(alloc, number)?;
-    let start = Instant::now(clock)?;
-    for pool in &mut pools {
+fn oldest_first(pools: &mut Pools) {
+    for pool in pools {
         *pool = None;
     }
-    micros(clock, start)
 }
 
-pub(crate) fn youngest_first<C: Clock>(clock: &C, alloc: Global, number: u64) -> Result<u128> {
-    let mut pools = siblings(alloc, number)?;
-    let start = Instant::now(clock)?;
+fn youngest_first(pools: &mut Pools) {
     for pool in pools.iter_mut().rev() {
         *pool = None;
     }
-    micros(clock, start)
 }
 
-// All pools go at once.
-pub(crate) fn all<C: Clock>(clock: &C, alloc: Global, number: u64) -> Result<u128> {
-    let mut pools = siblings(alloc, number)?;
-    let start = Instant::now(clock)?;
-    pools.clear();
-    micros(clock, start)
+fn prepare(alloc: Global, pools: &mut Pools, work: Work<'_>) -> Result<(), AllocError> {
+    match work.before {
+        Before::Nothing => Ok(()),
+        Before::Strings => add(alloc, pools, work.text, work.number),
+        Before::Pools(_) => grow(alloc, pools, work.text, work.number),
+    }
 }
 
-pub(crate) fn strings<C: Clock>(clock: &C, alloc: Global, number: u64) -> Result<u128> {
-    let mut strings = filled(alloc, TEXT, number)?;
+fn perform(alloc: Global, pools: &mut Pools, work: Work<'_>) -> Result<(), AllocError> {
+    match work.deed {
+        Deed::Push => return add(alloc, pools, work.text, work.number),
+        Deed::OneByOne => return one_by_one(alloc, work.text, work.number),
+        Deed::OldestFirst => oldest_first(pools),
+        Deed::YoungestFirst => youngest_first(pools),
+        Deed::Clear => pools.clear(),
+    }
+    Ok(())
+}
+
+/// How long it takes.
+pub(crate) fn nanos<C: Clock>(clock: &C, alloc: Global, work: Work<'_>) -> Result<u64, Fault> {
+    let mut pools = Vec::new(alloc);
+    prepare(alloc, &mut pools, work)?;
     let start = Instant::now(clock)?;
-    strings.clear();
-    micros(clock, start)
+    perform(alloc, &mut pools, work)?;
+    nanos_since(clock, start)
 }
