@@ -69,58 +69,92 @@ fn short_call(row: Row) -> Call {
     }
 }
 
+fn dir_prop(alloc: Global, token: u64, name: &str, text: Option<&str>) -> Result<Call, Fail> {
+    let value = value(alloc, text)?;
+    Ok(Call::ChangeDirProp {
+        token: Token(token),
+        name: PropName::parse(alloc, name)?,
+        value,
+    })
+}
+
+fn file_prop(alloc: Global, token: u64, name: &str, text: Option<&str>) -> Result<Call, Fail> {
+    let value = value(alloc, text)?;
+    Ok(Call::ChangeFileProp {
+        token: Token(token),
+        name: PropName::parse(alloc, name)?,
+        value,
+    })
+}
+
+fn apply_text(alloc: Global, token: u64, md5: Md5, text: &str) -> Result<Call, Fail> {
+    Ok(Call::ApplyText {
+        token: Token(token),
+        base_md5: digest(md5),
+        text: bytes(alloc, text)?,
+    })
+}
+
 // Any call that isn't about an entry.
 fn change_call(alloc: Global, row: Row) -> Result<Call, Fail> {
-    Ok(match row {
-        Row::ChangeDirProp(token, name, text) => Call::ChangeDirProp {
-            token: Token(token),
-            name: PropName::parse(alloc, name)?,
-            value: value(alloc, text)?,
+    match row {
+        Row::ChangeDirProp(token, name, text) => dir_prop(alloc, token, name, text),
+        Row::ChangeFileProp(token, name, text) => file_prop(alloc, token, name, text),
+        Row::ApplyText(token, md5, text) => apply_text(alloc, token, md5, text),
+        _ => Ok(short_call(row)),
+    }
+}
+
+// The path of the entry that a call is about.
+fn entry_of(row: Row) -> Option<&'static str> {
+    match row {
+        Row::DeleteEntry(at, ..)
+        | Row::AddDirectory(at, ..)
+        | Row::OpenDirectory(at, ..)
+        | Row::AddFile(at, ..)
+        | Row::OpenFile(at, ..) => Some(at),
+        _ => None,
+    }
+}
+
+// A call about the entry at a path.
+fn entry_call(path: RelPath, row: Row) -> Call {
+    match row {
+        Row::DeleteEntry(_, rev, parent) => Call::DeleteEntry {
+            path,
+            rev: Rev(rev),
+            parent: Token(parent),
         },
-        Row::ChangeFileProp(token, name, text) => Call::ChangeFileProp {
+        Row::AddDirectory(_, parent, token) => Call::AddDirectory {
+            path,
+            parent: Token(parent),
             token: Token(token),
-            name: PropName::parse(alloc, name)?,
-            value: value(alloc, text)?,
         },
-        Row::ApplyText(token, md5, text) => Call::ApplyText {
+        Row::OpenDirectory(_, parent, base, token) => Call::OpenDirectory {
+            path,
+            parent: Token(parent),
+            base: Rev(base),
             token: Token(token),
-            base_md5: digest(md5),
-            text: bytes(alloc, text)?,
+        },
+        Row::AddFile(_, parent, token) => Call::AddFile {
+            path,
+            parent: Token(parent),
+            token: Token(token),
+        },
+        Row::OpenFile(_, parent, base, token) => Call::OpenFile {
+            path,
+            parent: Token(parent),
+            base: Rev(base),
+            token: Token(token),
         },
         _ => short_call(row),
-    })
+    }
 }
 
 /// The call of a row.
 pub(crate) fn call(alloc: Global, row: Row) -> Result<Call, Fail> {
-    Ok(match row {
-        Row::DeleteEntry(at, rev, parent) => Call::DeleteEntry {
-            path: path(alloc, at)?,
-            rev: Rev(rev),
-            parent: Token(parent),
-        },
-        Row::AddDirectory(at, parent, token) => Call::AddDirectory {
-            path: path(alloc, at)?,
-            parent: Token(parent),
-            token: Token(token),
-        },
-        Row::OpenDirectory(at, parent, base, token) => Call::OpenDirectory {
-            path: path(alloc, at)?,
-            parent: Token(parent),
-            base: Rev(base),
-            token: Token(token),
-        },
-        Row::AddFile(at, parent, token) => Call::AddFile {
-            path: path(alloc, at)?,
-            parent: Token(parent),
-            token: Token(token),
-        },
-        Row::OpenFile(at, parent, base, token) => Call::OpenFile {
-            path: path(alloc, at)?,
-            parent: Token(parent),
-            base: Rev(base),
-            token: Token(token),
-        },
-        _ => change_call(alloc, row)?,
-    })
+    match entry_of(row) {
+        Some(at) => Ok(entry_call(path(alloc, at)?, row)),
+        None => change_call(alloc, row),
+    }
 }

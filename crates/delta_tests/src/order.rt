@@ -17,71 +17,92 @@ use svn_order::OrderCheck;
 type Answered = (Row, Result<(), OrderFault>);
 
 // How most edits begin.
-const BEGUN: [Answered; 2] = [(SetTargetRevision(1), Ok(())), (OpenRoot(0, 0), Ok(()))];
+static BEGUN: [Answered; 2] = [(SetTargetRevision(1), Ok(())), (OpenRoot(0, 0), Ok(()))];
 
 // Then two files are open in the root, of which the second is current.
-const TWO_FILES: [Answered; 4] = [
+static TWO_FILES: [Answered; 4] = [
     (SetTargetRevision(1), Ok(())),
     (OpenRoot(0, 0), Ok(())),
     (AddFile("f", 0, 1), Ok(())),
     (AddFile("g", 0, 2), Ok(())),
 ];
 
-fn answers(
+fn is_answered(
+    rt: &impl Abort,
+    alloc: Global,
+    check: &mut OrderCheck,
+    answered: &Answered,
+) -> Result<(), Fail> {
+    let call = call(alloc, answered.0)?;
+    assert_eq!(rt; check.step(&call), answered.1, "{call}");
+    Ok(())
+}
+
+fn are_answered(
     rt: &impl Abort,
     alloc: Global,
     check: &mut OrderCheck,
     calls: &[Answered],
 ) -> Result<(), Fail> {
-    for (row, answer) in calls {
-        let call = call(alloc, *row)?;
-        assert_eq!(rt; check.step(&call), *answer, "{call}");
+    for answered in calls {
+        is_answered(rt, alloc, check, answered)?;
     }
     Ok(())
 }
 
+fn row_is_answered(
+    rt: &impl Abort,
+    alloc: Global,
+    begun: &[Answered],
+    row: &[Answered],
+) -> Result<(), Fail> {
+    let mut check = OrderCheck::new(alloc);
+    are_answered(rt, alloc, &mut check, begun)?;
+    are_answered(rt, alloc, &mut check, row)
+}
+
 // Each row stands by itself, behind the same beginning.
-fn rows_answer(
+fn rows_are_answered(
     rt: &impl Abort,
     alloc: Global,
     begun: &[Answered],
     rows: &[&[Answered]],
 ) -> Result<(), Fail> {
     for row in rows {
-        let mut check = OrderCheck::new(alloc);
-        answers(rt, alloc, &mut check, begun)?;
-        answers(rt, alloc, &mut check, row)?;
+        row_is_answered(rt, alloc, begun, row)?;
     }
     Ok(())
 }
+
+static BEGINNINGS: [&[Answered]; 2] = [
+    &[(OpenRoot(0, 0), Err(TargetFirst))],
+    &[(AbortEdit, Ok(()))],
+];
+
+static ENDS: [&[Answered]; 3] = [
+    &[(CloseEdit, Err(RootNotClosed))],
+    &[
+        (CloseDirectory(0), Ok(())),
+        (CloseEdit, Ok(())),
+        (CloseEdit, Err(Ended)),
+    ],
+    &[
+        (AddFile("f", 0, 1), Ok(())),
+        (CloseDirectory(0), Ok(())),
+        (CloseEdit, Err(RootNotClosed)),
+    ],
+];
 
 #[test]
 fn an_edit_begins_with_its_target_and_ends_with_its_root_closed(
     rt: HostRuntime,
 ) -> Result<(), Fail> {
-    const BEGINNINGS: [&[Answered]; 2] = [
-        &[(OpenRoot(0, 0), Err(TargetFirst))],
-        &[(AbortEdit, Ok(()))],
-    ];
-    const ENDS: [&[Answered]; 3] = [
-        &[(CloseEdit, Err(RootNotClosed))],
-        &[
-            (CloseDirectory(0), Ok(())),
-            (CloseEdit, Ok(())),
-            (CloseEdit, Err(Ended)),
-        ],
-        &[
-            (AddFile("f", 0, 1), Ok(())),
-            (CloseDirectory(0), Ok(())),
-            (CloseEdit, Err(RootNotClosed)),
-        ],
-    ];
-    rows_answer(&rt, rt.alloc(), &[], &BEGINNINGS)?;
-    rows_answer(&rt, rt.alloc(), &BEGUN, &ENDS)
+    rows_are_answered(&rt, rt.alloc(), &[], &BEGINNINGS)?;
+    rows_are_answered(&rt, rt.alloc(), &BEGUN, &ENDS)
 }
 
 // Tokens are given in their order before they are named, and an edit with a refused call can only be given up.
-const TOKENS: [&[Answered]; 3] = [
+static TOKENS: [&[Answered]; 3] = [
     &[
         (AddDirectory("a", 0, 1), Ok(())),
         (CloseDirectory(1), Ok(())),
@@ -95,7 +116,7 @@ const TOKENS: [&[Answered]; 3] = [
 ];
 
 // A directory is opened in the innermost one, as an entry of it, and is closed after those in it.
-const DIRECTORIES: [&[Answered]; 3] = [
+static DIRECTORIES: [&[Answered]; 3] = [
     &[
         (AddDirectory("a", 0, 1), Ok(())),
         (AddDirectory("b", 0, 2), Err(NotInnermost)),
@@ -108,7 +129,7 @@ const DIRECTORIES: [&[Answered]; 3] = [
 ];
 
 // Properties come before or after all subdirectories, and no delete comes after an add or a delete.
-const ENTRIES: [&[Answered]; 4] = [
+static ENTRIES: [&[Answered]; 4] = [
     &[
         (AddDirectory("a", 0, 1), Ok(())),
         (ChangeDirProp(0, "p", None), Err(PropLate)),
@@ -131,7 +152,7 @@ const ENTRIES: [&[Answered]; 4] = [
 ];
 
 // A file has one text, and is closed at once when it has it.
-const TEXTS: [&[Answered]; 2] = [
+static TEXTS: [&[Answered]; 2] = [
     &[
         (AddFile("f", 0, 1), Ok(())),
         (ApplyText(1, None, "a"), Ok(())),
@@ -146,14 +167,14 @@ const TEXTS: [&[Answered]; 2] = [
 
 #[test]
 fn calls_out_of_order_are_refused(rt: HostRuntime) -> Result<(), Fail> {
-    rows_answer(&rt, rt.alloc(), &BEGUN, &TOKENS)?;
-    rows_answer(&rt, rt.alloc(), &BEGUN, &DIRECTORIES)?;
-    rows_answer(&rt, rt.alloc(), &BEGUN, &ENTRIES)?;
-    rows_answer(&rt, rt.alloc(), &BEGUN, &TEXTS)
+    rows_are_answered(&rt, rt.alloc(), &BEGUN, &TOKENS)?;
+    rows_are_answered(&rt, rt.alloc(), &BEGUN, &DIRECTORIES)?;
+    rows_are_answered(&rt, rt.alloc(), &BEGUN, &ENTRIES)?;
+    rows_are_answered(&rt, rt.alloc(), &BEGUN, &TEXTS)
 }
 
 // A postponed file waits for the directories, and then texts come in any order.
-const POSTPONED: [&[Answered]; 3] = [
+static POSTPONED: [&[Answered]; 3] = [
     &[(ChangeFileProp(1, "p", None), Err(PropLate))],
     &[(CloseFile(1, None), Err(TooEarly))],
     &[
@@ -168,5 +189,5 @@ const POSTPONED: [&[Answered]; 3] = [
 
 #[test]
 fn postponed_files_come_after_the_directories(rt: HostRuntime) -> Result<(), Fail> {
-    rows_answer(&rt, rt.alloc(), &TWO_FILES, &POSTPONED)
+    rows_are_answered(&rt, rt.alloc(), &TWO_FILES, &POSTPONED)
 }

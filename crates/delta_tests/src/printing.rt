@@ -17,7 +17,7 @@ const OF_ABC: [u8; 16] = [
     0x90, 0x01, 0x50, 0x98, 0x3c, 0xd2, 0x4f, 0xb0, 0xd6, 0x96, 0x3f, 0x7d, 0x28, 0xe1, 0x7f, 0x72,
 ];
 
-const LINES: [(Row, &str); 15] = [
+static LINES: [(Row, &str); 15] = [
     (SetTargetRevision(2), "set_target_revision 2"),
     (OpenRoot(1, 0), "open_root 1 #0"),
     (CloseDirectory(0), "close_directory #0"),

@@ -18,18 +18,24 @@ enum Entry {
 
 type Answered = (Entry, Result<(), ReporterFault>);
 
+fn place_of(entry: Entry) -> &'static str {
+    match entry {
+        Set(at, ..) | Link(at, ..) | Delete(at) => at,
+    }
+}
+
 fn tell(
     alloc: Global,
     reporter: &mut Reporter,
     entry: Entry,
 ) -> Result<Result<(), ReporterFault>, Fail> {
+    let at = path(alloc, place_of(entry))?;
     Ok(match entry {
-        Set(at, rev, start_empty) => reporter.set_path(&path(alloc, at)?, Rev(rev), start_empty),
-        Link(at, from, rev, start_empty) => {
-            let from = path(alloc, from)?;
-            reporter.link_path(&path(alloc, at)?, from, Rev(rev), start_empty)
+        Set(_, rev, start_empty) => reporter.set_path(&at, Rev(rev), start_empty),
+        Link(_, from, rev, start_empty) => {
+            reporter.link_path(&at, path(alloc, from)?, Rev(rev), start_empty)
         }
-        Delete(at) => reporter.delete_path(&path(alloc, at)?),
+        Delete(_) => reporter.delete_path(&at),
     })
 }
 
@@ -54,75 +60,93 @@ fn report_of(rt: &impl Abort, alloc: Global, calls: &[Answered]) -> Result<Repor
 }
 
 // Calls, and what is printed of their report and of its entries.
-const ROWS: [(&[Answered], &str); 7] = [
-    (
-        &[
-            (Set("", 2, true), Ok(())),
-            (Link("g", "f", 2, false), Ok(())),
-            (Delete("h"), Ok(())),
-        ],
-        "set . 2 start_empty\nlink g f 2\ndelete h\n",
-    ),
-    (
-        &[(Set("", 1, false), Ok(())), (Delete("f"), Ok(()))],
-        "set . 1\ndelete f\n",
-    ),
-    // a path is reported once
-    (
-        &[
-            (Set("", 1, false), Ok(())),
-            (Set("a", 1, false), Ok(())),
-            (Set("a", 2, false), Err(Repeated)),
-        ],
-        "set . 1\nset a 1\n",
-    ),
-    // nothing is reported beneath a delete
-    (
-        &[
-            (Set("", 1, false), Ok(())),
-            (Delete("b"), Ok(())),
-            (Set("b/c", 1, false), Err(UnderDeleted)),
-        ],
-        "set . 1\ndelete b\n",
-    ),
-    // a parent is reported before what is beneath
-    (
-        &[
-            (Set("", 1, false), Ok(())),
-            (Set("d/e", 1, false), Ok(())),
-            (Set("d", 1, false), Err(ParentLater)),
-        ],
-        "set . 1\nset d/e 1\n",
-    ),
-    // the same where the paths don't come in their order
-    (
-        &[
-            (Set("", 1, false), Ok(())),
-            (Set("d/e", 1, false), Ok(())),
-            (Delete("b"), Ok(())),
-            (Set("b", 2, false), Err(Repeated)),
-            (Set("b/c", 1, false), Err(UnderDeleted)),
-            (Set("d", 1, false), Err(ParentLater)),
-            (Link("c", "f", 2, false), Ok(())),
-        ],
-        "set . 1\nset d/e 1\ndelete b\nlink c f 2\n",
-    ),
-    // the root comes first
-    (
-        &[
-            (Set("a", 1, false), Err(NotRootFirst)),
-            (Delete(""), Err(NotRootFirst)),
-            (Set("", 1, false), Ok(())),
-            (Delete(""), Err(Repeated)),
-        ],
-        "set . 1\n",
-    ),
-];
+type Reported = (&'static [Answered], &'static str);
 
-fn push_line(alloc: Global, text: &mut String, report: &Report, place: usize) -> Result<(), Fail> {
+static OF_ALL_KINDS: Reported = (
+    &[
+        (Set("", 2, true), Ok(())),
+        (Link("g", "f", 2, false), Ok(())),
+        (Delete("h"), Ok(())),
+    ],
+    "set . 2 start_empty\nlink g f 2\ndelete h\n",
+);
+
+static OF_A_DELETE: Reported = (
+    &[(Set("", 1, false), Ok(())), (Delete("f"), Ok(()))],
+    "set . 1\ndelete f\n",
+);
+
+// A path is reported once.
+static REPEATED: Reported = (
+    &[
+        (Set("", 1, false), Ok(())),
+        (Set("a", 1, false), Ok(())),
+        (Set("a", 2, false), Err(Repeated)),
+    ],
+    "set . 1\nset a 1\n",
+);
+
+// Nothing is reported beneath a delete.
+static BENEATH_A_DELETE: Reported = (
+    &[
+        (Set("", 1, false), Ok(())),
+        (Delete("b"), Ok(())),
+        (Set("b/c", 1, false), Err(UnderDeleted)),
+    ],
+    "set . 1\ndelete b\n",
+);
+
+// A parent is reported before what is beneath.
+static PARENT_LATER: Reported = (
+    &[
+        (Set("", 1, false), Ok(())),
+        (Set("d/e", 1, false), Ok(())),
+        (Set("d", 1, false), Err(ParentLater)),
+    ],
+    "set . 1\nset d/e 1\n",
+);
+
+// The same where the paths don't come in their order.
+static OUT_OF_ORDER: Reported = (
+    &[
+        (Set("", 1, false), Ok(())),
+        (Set("d/e", 1, false), Ok(())),
+        (Delete("b"), Ok(())),
+        (Set("b", 2, false), Err(Repeated)),
+        (Set("b/c", 1, false), Err(UnderDeleted)),
+        (Set("d", 1, false), Err(ParentLater)),
+        (Link("c", "f", 2, false), Ok(())),
+    ],
+    "set . 1\nset d/e 1\ndelete b\nlink c f 2\n",
+);
+
+// The root comes first.
+static ROOT_LATER: Reported = (
+    &[
+        (Set("a", 1, false), Err(NotRootFirst)),
+        (Delete(""), Err(NotRootFirst)),
+        (Set("", 1, false), Ok(())),
+        (Delete(""), Err(Repeated)),
+    ],
+    "set . 1\n",
+);
+
+fn rows() -> [&'static Reported; 7] {
+    [
+        &OF_ALL_KINDS,
+        &OF_A_DELETE,
+        &REPEATED,
+        &BENEATH_A_DELETE,
+        &PARENT_LATER,
+        &OUT_OF_ORDER,
+        &ROOT_LATER,
+    ]
+}
+
+fn push_line(text: &mut String, report: &Report, place: usize) -> Result<(), Fail> {
     if let Some((path, entry)) = report.entry(place) {
         let line = EntryLine { path, entry };
-        text.push_str(format!(in alloc; "{line}\n")?.as_str())?;
+        write!(text, "{line}\n")?;
     }
     Ok(())
 }
@@ -131,7 +155,7 @@ fn push_line(alloc: Global, text: &mut String, report: &Report, place: usize) ->
 fn entry_lines(alloc: Global, report: &Report) -> Result<String, Fail> {
     let mut text = String::new(alloc);
     for place in 0..report.len() {
-        push_line(alloc, &mut text, report, place)?;
+        push_line(&mut text, report, place)?;
     }
     Ok(text)
 }
@@ -148,21 +172,21 @@ fn entries_print(rt: &impl Abort, alloc: Global, report: &Report, lines: &str) -
     Ok(())
 }
 
-fn row_prints(rt: &impl Abort, alloc: Global, calls: &[Answered], lines: &str) -> Result<(), Fail> {
-    let report = report_of(rt, alloc, calls)?;
-    prints(rt, alloc, &report, lines)?;
-    entries_print(rt, alloc, &report, lines)
+fn row_prints(rt: &impl Abort, alloc: Global, row: &Reported) -> Result<(), Fail> {
+    let report = report_of(rt, alloc, row.0)?;
+    prints(rt, alloc, &report, row.1)?;
+    entries_print(rt, alloc, &report, row.1)
 }
 
 #[test]
 fn reports_are_made_and_printed(rt: HostRuntime) -> Result<(), Fail> {
-    for (calls, lines) in &ROWS {
-        row_prints(&rt, rt.alloc(), calls, lines)?;
+    for row in rows() {
+        row_prints(&rt, rt.alloc(), row)?;
     }
     Ok(())
 }
 
-const LINKED: [Answered; 3] = [
+static LINKED: [Answered; 3] = [
     (Set("", 3, true), Ok(())),
     (Link("d", "t/d", 1, false), Ok(())),
     (Link("f", "t/f", 1, false), Ok(())),
@@ -206,10 +230,12 @@ fn links_deep(
     Ok(())
 }
 
+static ROOT: [Answered; 1] = [(Set("", 1, false), Ok(()))];
+
 // How many entries a report has then.
 fn deep_entries(rt: &impl Abort, alloc: Global) -> Result<usize, Fail> {
     let mut reporter = Reporter::new(alloc);
-    tell_all(rt, alloc, &mut reporter, &[(Set("", 1, false), Ok(()))])?;
+    tell_all(rt, alloc, &mut reporter, &ROOT)?;
     links_deep(rt, alloc, &mut reporter, 65, Err(TooDeep))?;
     links_deep(rt, alloc, &mut reporter, 64, Ok(()))?;
     Ok(reporter.finish_report().len())
@@ -223,7 +249,7 @@ fn a_link_goes_at_most_64_names_deeper(rt: HostRuntime) -> Result<(), Fail> {
 }
 
 // Entries below which there are others.
-const NESTED: [Answered; 7] = [
+static NESTED: [Answered; 7] = [
     (Set("", 1, false), Ok(())),
     (Set("d/e/f", 1, false), Ok(())),
     (Set("b", 1, false), Ok(())),
@@ -234,7 +260,7 @@ const NESTED: [Answered; 7] = [
 ];
 
 // The same in the order of their paths.
-const NESTED_IN_ORDER: [Answered; 7] = [
+static NESTED_IN_ORDER: [Answered; 7] = [
     (Set("", 1, false), Ok(())),
     (Set("b", 1, false), Ok(())),
     (Set("b/x/y", 1, false), Ok(())),
@@ -245,7 +271,7 @@ const NESTED_IN_ORDER: [Answered; 7] = [
 ];
 
 // The names beneath each path of their report, each with a comma behind it.
-const NAMES_BELOW: [(&str, &str); 6] = [
+static NAMES_BELOW: [(&str, &str); 6] = [
     ("", "b,b c,d,"),
     ("b", "x,y,"),
     ("b/y", ""),
@@ -301,7 +327,7 @@ fn names_beneath_a_path_come_in_their_order(rt: HostRuntime) -> Result<(), Fail>
 }
 
 // What their report tells of each path: the names beneath it, whether an entry stands there, and its own entry.
-const TOLD: [(&str, &str); 9] = [
+static TOLD: [(&str, &str); 9] = [
     ("", "b,b c,d,below;set . 1"),
     ("a", ""),
     ("b", "x,y,below;set b 1"),
@@ -314,7 +340,7 @@ const TOLD: [(&str, &str); 9] = [
 ];
 
 // Where their report is asked to look: at each entry, behind the last one, and far behind.
-const POSITIONS: [usize; 10] = [0, 1, 2, 3, 4, 5, 6, 7, 8, usize::MAX];
+static POSITIONS: [usize; 10] = [0, 1, 2, 3, 4, 5, 6, 7, 8, usize::MAX];
 
 fn push_told(
     out: &mut String,
@@ -452,7 +478,7 @@ fn positions(alloc: Global, report: &Report, at: &str) -> Result<String, Fail> {
 }
 
 // The positions of the first entries under the names beneath a path, and of the first behind them.
-const FOUND_AT: [(&str, &str); 5] = [
+static FOUND_AT: [(&str, &str); 5] = [
     ("", "1,4,5,7,"),
     ("b", "2,3,4,"),
     ("b/x", "2,3,"),

@@ -8,7 +8,7 @@ use svn_editor::{push_path, push_word};
 use svn_types::RelPath;
 
 // A path and bytes, and the text of their words, if no byte of them is escaped.
-const ROWS: [(&str, &str, Option<&str>); 5] = [
+static ROWS: [(&str, &str, Option<&str>); 5] = [
     ("", "abc", Some(".abc")),
     ("d/f", "", Some("d/f\"\"")),
     (

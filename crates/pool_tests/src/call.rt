@@ -4,7 +4,7 @@ use std::process::Abort;
 use svn_pool::{PoolFault, PoolId, PoolTree};
 
 // A call on a tree. Pools are named by their serials; a string is one letter, so many times.
-#[derive(Clone, Copy, Debug)]
+#[derive(Clone, Copy)]
 pub(crate) enum Call {
     Root,
     // The parent.
@@ -51,9 +51,11 @@ pub(crate) fn answer_of<A: Allocator + Copy>(
     Ok(match call {
         Call::Root => Answer::Serial(tree.root().0),
         Call::Create(parent) => create(tree, parent),
-        Call::Push(pool, letter, length) => {
-            push(tree, pool, &Vec::from_elem(alloc, letter, length)?)
-        }
+        Call::Push(pool, letter, length) => push(
+            tree,
+            pool,
+            &Vec::from_elem(alloc, letter, length)?,
+        ),
         Call::Get(pool, place) => get(tree, pool, place),
         Call::Count(pool) => count(tree, pool),
         Call::Strings(pool) => strings(tree, pool),
@@ -132,9 +134,9 @@ pub(crate) fn run<R: Abort, A: Allocator + Copy>(
     tree: &mut PoolTree<A>,
     row: &[(Call, Answer)],
 ) -> Result<(), AllocError> {
-    for (call, want) in row {
+    for (at, (call, want)) in row.iter().enumerate() {
         let got = answer_of(alloc, tree, *call)?;
-        assert_eq!(rt; got, *want, "{call:?}");
+        assert_eq!(rt; got, *want, "call {at}");
     }
     Ok(())
 }

@@ -18,13 +18,19 @@ fn order(number: usize) -> [usize; 4] {
     places
 }
 
+// A pool with that parent, and a string in it.
+fn grow(tree: &mut PoolTree<Global>, parent: usize) -> Result<(), PoolFault> {
+    let pool = tree.create(PoolId(parent as u64))?;
+    tree.push(pool, b"x")?;
+    Ok(())
+}
+
 // A tree with those parents, a string in each pool.
 fn grown(alloc: Global, parents: [usize; POOLS]) -> Result<PoolTree<Global>, PoolFault> {
     let mut tree = PoolTree::new(alloc)?;
     tree.push(PoolId(0), b"x")?;
-    for at in 1..POOLS {
-        let pool = tree.create(PoolId(parents[at] as u64))?;
-        tree.push(pool, b"x")?;
+    for parent in &parents[1..] {
+        grow(&mut tree, *parent)?;
     }
     Ok(tree)
 }
@@ -80,24 +86,34 @@ fn destroys(tree: &mut PoolTree<Global>, model: &mut [Plain; POOLS], at: usize) 
     tree.destroy(PoolId(at as u64)) == if live { Ok(()) } else { Err(PoolFault::Gone) }
 }
 
+// Whether the tree goes along with the model where a pool is destroyed or cleared.
+fn goes(
+    tree: &mut PoolTree<Global>,
+    model: &mut [Plain; POOLS],
+    at: usize,
+    is_destroyed: bool,
+) -> bool {
+    let right = if is_destroyed {
+        destroys(tree, model, at)
+    } else {
+        clears(tree, model, at)
+    };
+    right && agrees(tree, model)
+}
+
 // The pools in that order, each destroyed where the next bit of `destroyed` is set, and else cleared; then the root
 // is cleared.
 fn holds(alloc: Global, shape: usize, number: usize, destroyed: usize) -> Result<bool, Fail> {
     let mut tree = grown(alloc, parents(shape))?;
     let mut model = planted(parents(shape));
     let mut bits = destroyed;
-    for at in order(number) {
-        let right = if bits % 2 == 1 {
-            destroys(&mut tree, &mut model, at)
-        } else {
-            clears(&mut tree, &mut model, at)
-        };
-        if !right || !agrees(&tree, &model) {
+    for at in &order(number) {
+        if !goes(&mut tree, &mut model, *at, bits % 2 == 1) {
             return Ok(false);
         }
         bits /= 2;
     }
-    Ok(clears(&mut tree, &mut model, 0) && agrees(&tree, &model))
+    Ok(goes(&mut tree, &mut model, 0, false))
 }
 
 #[test]

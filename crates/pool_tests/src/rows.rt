@@ -5,7 +5,7 @@ use crate::call::{Answer, Call};
 use svn_pool::PoolFault::{Full, Gone, IsRoot, Memory, TooLong};
 
 // A chain of three pools with a string each. The uppermost is cleared, and gets a child that takes a spare block.
-pub(crate) const BRANCH: [(Call, Answer); 20] = [
+pub(crate) static BRANCH: [(Call, Answer); 20] = [
     (Root, Serial(0)),
     (Create(0), Serial(1)),
     (Create(1), Serial(2)),
@@ -30,7 +30,7 @@ pub(crate) const BRANCH: [(Call, Answer); 20] = [
 
 // What a tree still does after `BRANCH` when each allocation is refused: a string goes into the newest block or a
 // spare one, and pools are emptied and destroyed. To read all strings of a pool takes memory.
-pub(crate) const EXHAUSTED: [(Call, Answer); 17] = [
+pub(crate) static EXHAUSTED: [(Call, Answer); 17] = [
     (Push(1, b'e', 8188), Place(0)),
     (Counts, Counted(3, 2, 1)),
     (Get(1, 0), Text(b'e', 8188)),
@@ -51,7 +51,7 @@ pub(crate) const EXHAUSTED: [(Call, Answer); 17] = [
 ];
 
 // A short string, the longest that a fixed block holds, and one that has a block of its own.
-pub(crate) const LENGTHS: [(Call, Answer); 12] = [
+pub(crate) static LENGTHS: [(Call, Answer); 12] = [
     (Push(0, b'a', 1), Place(0)),
     (Push(0, b'b', 8188), Place(1)),
     (Push(0, b'c', 8189), Place(2)),
@@ -67,7 +67,7 @@ pub(crate) const LENGTHS: [(Call, Answer); 12] = [
 ];
 
 // What is refused after `LENGTHS`, and the longest string of all.
-pub(crate) const REFUSALS: [(Call, Answer); 6] = [
+pub(crate) static REFUSALS: [(Call, Answer); 6] = [
     (Push(0, b'd', 1_048_577), Fault(TooLong)),
     (Destroy(0), Fault(IsRoot)),
     (Destroy(1), Fault(Gone)),
@@ -77,7 +77,7 @@ pub(crate) const REFUSALS: [(Call, Answer); 6] = [
 ];
 
 // A block holds two strings of 4,092 bytes, and neither a third nor an empty one beside them.
-pub(crate) const HALVES: [(Call, Answer); 6] = [
+pub(crate) static HALVES: [(Call, Answer); 6] = [
     (Push(0, b'a', 4092), Place(0)),
     (Counts, Counted(1, 1, 0)),
     (Push(0, b'b', 4092), Place(1)),
@@ -86,7 +86,7 @@ pub(crate) const HALVES: [(Call, Answer); 6] = [
     (Counts, Counted(1, 2, 0)),
 ];
 
-pub(crate) const HALVES_AND_EMPTY: [(Call, Answer); 8] = [
+pub(crate) static HALVES_AND_EMPTY: [(Call, Answer); 8] = [
     (Push(0, b'a', 4092), Place(0)),
     (Counts, Counted(1, 1, 0)),
     (Push(0, b'b', 4092), Place(1)),
@@ -98,7 +98,7 @@ pub(crate) const HALVES_AND_EMPTY: [(Call, Answer); 8] = [
 ];
 
 // Nothing follows a long string in its block, and that block is given back.
-pub(crate) const LONG_AND_SHORT: [(Call, Answer); 6] = [
+pub(crate) static LONG_AND_SHORT: [(Call, Answer); 6] = [
     (Push(0, b'a', 8189), Place(0)),
     (Counts, Counted(1, 1, 0)),
     (Push(0, b'b', 1), Place(1)),
@@ -108,7 +108,7 @@ pub(crate) const LONG_AND_SHORT: [(Call, Answer); 6] = [
 ];
 
 // Pools of a few bytes, to which long strings come one after the other, each when the pool before has gone: its block serves the next.
-pub(crate) const ONE_BEHIND_THE_OTHER: [(Call, Answer); 20] = [
+pub(crate) static ONE_BEHIND_THE_OTHER: [(Call, Answer); 20] = [
     (Create(0), Serial(1)),
     (Create(0), Serial(2)),
     (Create(0), Serial(3)),
@@ -132,7 +132,7 @@ pub(crate) const ONE_BEHIND_THE_OTHER: [(Call, Answer); 20] = [
 ];
 
 // A tree whose root has the last serial.
-pub(crate) const LAST_SERIAL: [(Call, Answer); 4] = [
+pub(crate) static LAST_SERIAL: [(Call, Answer); 4] = [
     (Root, Serial(18_446_744_073_709_551_615)),
     (Create(18_446_744_073_709_551_615), Fault(Full)),
     (Create(0), Fault(Gone)),

@@ -55,10 +55,30 @@ impl<'a> Scarce<'a> {
         if first != Answer::Fault(PoolFault::Memory) {
             return Ok(first);
         }
-        assert_eq!(rt; self.counts(), before, "{call:?}");
+        assert_eq!(rt; self.counts(), before);
         self.held = None;
         answer_of(alloc, &mut self.tree, call)
     }
+}
+
+// Makes the calls of a row, and compares their answers.
+fn are_answered<R: Abort>(
+    rt: &R,
+    alloc: Global,
+    scarce: &mut Scarce,
+    row: &[(Call, Answer)],
+) -> Result<(), AllocError> {
+    for (at, (call, want)) in row.iter().enumerate() {
+        let got = scarce.answer(rt, alloc, *call)?;
+        assert_eq!(rt; got, *want, "call {at}");
+    }
+    Ok(())
+}
+
+// A tree on a heap of which all is held but so many steps.
+fn scarce_on(heap: &LocalHeap, steps: usize) -> Result<Scarce<'_>, PoolFault> {
+    let held = Vec::with_capacity(heap, HEAP.saturating_sub(steps.saturating_mul(STEP)))?;
+    Scarce::new(heap, held)
 }
 
 // Runs a row with so many steps of the heap at first, and tells whether a call was refused.
@@ -69,12 +89,8 @@ fn is_refused<R: Abort>(
     row: &[(Call, Answer)],
 ) -> Result<bool, Fail> {
     let heap = LocalHeap::new(alloc, HEAP)?;
-    let held = Vec::with_capacity(&heap, HEAP.saturating_sub(steps.saturating_mul(STEP)))?;
-    let mut scarce = Scarce::new(&heap, held)?;
-    for (call, want) in row {
-        let got = scarce.answer(rt, alloc, *call)?;
-        assert_eq!(rt; got, *want, "{call:?} with {steps} steps");
-    }
+    let mut scarce = scarce_on(&heap, steps)?;
+    are_answered(rt, alloc, &mut scarce, row)?;
     Ok(scarce.held.is_none())
 }
 
@@ -143,14 +159,27 @@ fn take_rest<'a>(
     Ok(pieces)
 }
 
+// Makes the calls of a row while nothing is left of a heap.
+fn run_without<R: Abort>(
+    rt: &R,
+    alloc: Global,
+    heap: &LocalHeap,
+    tree: &mut PoolTree<&LocalHeap>,
+) -> Result<(), AllocError> {
+    let _pieces = take_rest(alloc, heap)?;
+    assert_eq!(rt; heap.free(), 0);
+    run(rt, alloc, tree, &EXHAUSTED)
+}
+
+fn goes_on<R: Abort>(rt: &R, alloc: Global, heap: &LocalHeap) -> Result<(), Fail> {
+    let mut tree = PoolTree::new(heap)?;
+    run(rt, alloc, &mut tree, &BRANCH)?;
+    run_without(rt, alloc, heap, &mut tree)?;
+    Ok(())
+}
+
 #[test]
 fn goes_on_without_memory(rt: HostRuntime) -> Result<(), Fail> {
     let heap = LocalHeap::new(rt.alloc(), HEAP)?;
-    let mut tree = PoolTree::new(&heap)?;
-    run(&rt, rt.alloc(), &mut tree, &BRANCH)?;
-    let pieces = take_rest(rt.alloc(), &heap)?;
-    assert_eq!(rt; heap.free(), 0);
-    run(&rt, rt.alloc(), &mut tree, &EXHAUSTED)?;
-    drop(pieces);
-    Ok(())
+    goes_on(&rt, rt.alloc(), &heap)
 }

@@ -47,20 +47,24 @@ fn runs_out_of_serials(rt: HostRuntime) -> Result<(), Fail> {
     Ok(())
 }
 
-const FAULTS: [(PoolFault, u32, &str); 5] = [
-    (PoolFault::Gone, 1, "the pool is gone"),
-    (PoolFault::Memory, 2, "out of memory"),
-    (PoolFault::TooLong, 3, "the string has over 1,048,576 bytes"),
-    (PoolFault::IsRoot, 4, "the root pool cannot be destroyed"),
-    (PoolFault::Full, 5, "no serial, place or block is left"),
+static FAULTS: [(PoolFault, &str); 5] = [
+    (PoolFault::Gone, "1 the pool is gone"),
+    (PoolFault::Memory, "2 out of memory"),
+    (PoolFault::TooLong, "3 the string has over 1,048,576 bytes"),
+    (PoolFault::IsRoot, "4 the root pool cannot be destroyed"),
+    (PoolFault::Full, "5 no serial, place or block is left"),
 ];
+
+// The number of a fault and its text.
+fn told(alloc: Global, fault: PoolFault) -> Result<String, Fail> {
+    Ok(format!(in alloc; "{} {fault}", fault.number())?)
+}
 
 #[test]
 fn faults_have_numbers_and_texts(rt: HostRuntime) -> Result<(), Fail> {
-    for (fault, number, text) in FAULTS {
-        assert_eq!(rt; fault.number(), number);
-        let printed = format!(in rt.alloc(); "{fault}")?;
-        assert_eq!(rt; printed.as_str(), text);
+    for (fault, text) in &FAULTS {
+        let told = told(rt.alloc(), *fault)?;
+        assert_eq!(rt; told.as_str(), *text);
     }
     Ok(())
 }

@@ -30,7 +30,7 @@ fn is_bad(
 }
 
 // Names are read letter by letter, without decoding, and a tab is no space.
-const NO_NAMES: &[&[u8]] = &[
+static NO_NAMES: [&[u8]; 18] = [
     b"x",
     b"Commit",
     b"COMMIT",
@@ -51,7 +51,7 @@ const NO_NAMES: &[&[u8]] = &[
     b"\xef\xbb\xbfcommit",
 ];
 
-const TOO_MANY_OR_TOO_FEW: &[&[u8]] = &[
+static TOO_MANY_OR_TOO_FEW: [&[u8]; 15] = [
     b"mkdir",
     b"mkdir a b",
     b"put",
@@ -70,7 +70,7 @@ const TOO_MANY_OR_TOO_FEW: &[&[u8]] = &[
 ];
 
 // A number has 1 to 20 digits, and is at most the greatest one of 64 bits.
-const NO_NUMBERS: &[&[u8]] = &[
+static NO_NUMBERS: [&[u8]; 16] = [
     b"checkout x",
     b"checkout -1",
     b"checkout +1",
@@ -90,7 +90,7 @@ const NO_NUMBERS: &[&[u8]] = &[
 ];
 
 // A percent sign needs two hexadecimal digits.
-const NOT_DECODED: &[&[u8]] = &[
+static NOT_DECODED: [&[u8]; 11] = [
     b"put f %",
     b"put f a%",
     b"put f %4",
@@ -104,7 +104,7 @@ const NOT_DECODED: &[&[u8]] = &[
     b"remove %zz",
 ];
 
-const NO_PATHS: &[&[u8]] = &[
+static NO_PATHS: [&[u8]; 17] = [
     b"mkdir /",
     b"mkdir /a",
     b"mkdir a/",
@@ -125,7 +125,7 @@ const NO_PATHS: &[&[u8]] = &[
 ];
 
 // A path's bytes have to be UTF-8: no lone byte, no cut character, no overlong form, no surrogate, nothing over U+10FFFF.
-const NOT_UTF8: &[&[u8]] = &[
+static NOT_UTF8: [&[u8]; 7] = [
     b"mkdir \xff",
     b"mkdir %FF",
     b"mkdir %80",
@@ -136,9 +136,9 @@ const NOT_UTF8: &[&[u8]] = &[
 ];
 
 // One carriage return is dropped before a line feed, and none elsewhere.
-const RETURNS: &[&[u8]] = &[b"commit\r\r", b"\r\r", b"com\rmit"];
+static RETURNS: [&[u8]; 3] = [b"commit\r\r", b"\r\r", b"com\rmit"];
 
-const NO_COPIES: &[&[u8]] = &[
+static NO_COPIES: [&[u8]; 10] = [
     b"copy",
     b"copy 1",
     b"copy 1 f",
@@ -151,7 +151,7 @@ const NO_COPIES: &[&[u8]] = &[
     b"copy %31 f g",
 ];
 
-const NO_PROPERTIES: &[&[u8]] = &[
+static NO_PROPERTIES: [&[u8]; 15] = [
     b"prop",
     b"prop f",
     b"prop f p",
@@ -169,42 +169,60 @@ const NO_PROPERTIES: &[&[u8]] = &[
     b"unprop f -p",
 ];
 
-const TABLES: &[&[&[u8]]] = &[
-    NO_NAMES,
-    TOO_MANY_OR_TOO_FEW,
-    NO_NUMBERS,
-    NOT_DECODED,
-    NO_PATHS,
-    NOT_UTF8,
-    RETURNS,
-    NO_COPIES,
-    NO_PROPERTIES,
-];
+// Each table is a static of its own, and named here alone: whoever names a table is proved with all that stands in it, at each of its steps.
+fn tables() -> [&'static [&'static [u8]]; 9] {
+    [
+        &NO_NAMES,
+        &TOO_MANY_OR_TOO_FEW,
+        &NO_NUMBERS,
+        &NOT_DECODED,
+        &NO_PATHS,
+        &NOT_UTF8,
+        &RETURNS,
+        &NO_COPIES,
+        &NO_PROPERTIES,
+    ]
+}
 
-#[test]
-fn lines_that_are_no_command(rt: HostRuntime) -> Result<(), AllocError> {
-    for lines in TABLES {
-        for line in *lines {
-            is_bad(&rt, line)?;
-        }
+fn are_bad(
+    rt: &(impl Abort + AllocGlobal + Threads + Wait + Sync),
+    lines: &[&[u8]],
+) -> Result<(), AllocError> {
+    for line in lines {
+        is_bad(rt, line)?;
     }
     Ok(())
 }
 
-// `mkdir` of a path that begins with so many names: names of 256 bytes, and a path of 129 names.
 #[test]
-fn paths_that_are_too_long(rt: HostRuntime) -> Result<(), AllocError> {
-    for (part, count) in [("a", 255), ("a/", 128)] {
-        let path = part.repeat(rt.alloc(), count)?;
-        let line = format!(in rt.alloc(); "mkdir {path}a")?;
-        is_bad(&rt, line.as_str().as_bytes())?;
+fn lines_that_are_no_command(rt: HostRuntime) -> Result<(), AllocError> {
+    for lines in tables() {
+        are_bad(&rt, lines)?;
     }
     Ok(())
+}
+
+// `mkdir` of a path that begins with this so many times.
+fn is_too_long(
+    rt: &(impl Abort + AllocGlobal + Threads + Wait + Sync),
+    part: &str,
+    count: usize,
+) -> Result<(), AllocError> {
+    let path = part.repeat(rt.alloc(), count)?;
+    let line = format!(in rt.alloc(); "mkdir {path}a")?;
+    is_bad(rt, line.as_str().as_bytes())
+}
+
+// A name of 256 bytes, and a path of 129 names.
+#[test]
+fn paths_that_are_too_long(rt: HostRuntime) -> Result<(), AllocError> {
+    is_too_long(&rt, "a", 255)?;
+    is_too_long(&rt, "a/", 128)
 }
 
 // Lines without words and comments are counted like the others, and a last line without a line feed keeps its
 // carriage return.
-const COUNTED: &[(&[u8], u64, &str)] = &[
+static COUNTED: [(&[u8], u64, &str); 10] = [
     (b"x", 1, ""),
     (b"x\ny\n", 1, ""),
     (b"\n\n\nx\n", 4, ""),
@@ -219,7 +237,7 @@ const COUNTED: &[(&[u8], u64, &str)] = &[
 
 #[test]
 fn each_line_is_counted(rt: HostRuntime) {
-    for (script, number, output) in COUNTED {
+    for (script, number, output) in &COUNTED {
         ends(
             &rt,
             &MANY_CALLS,

@@ -14,7 +14,7 @@ struct Line {
     output: &'static str,
 }
 
-const LINES: &[Line] = &[
+static LINES: [Line; 8] = [
     Line {
         text: "put f a",
         shortest: 7,
@@ -119,26 +119,40 @@ impl Before {
     }
 }
 
-#[test]
-fn each_beginning_of_a_script(rt: HostRuntime) -> Result<(), AllocError> {
-    let alloc = rt.alloc();
+// Each beginning of a line behind those before it, and then the whole line.
+fn cut_each(
+    rt: &(impl Abort + AllocGlobal + Threads + Wait + Sync),
+    before: &mut Before,
+    line: &Line,
+) -> Result<(), AllocError> {
+    for at in 0..=line.text.len() {
+        before.cut_line(rt, line, at)?;
+    }
+    before.add_line(line)
+}
+
+// What the whole script is, and what it prints.
+fn cut_all(rt: &(impl Abort + AllocGlobal + Threads + Wait + Sync)) -> Result<Before, AllocError> {
     let mut before = Before {
-        script: String::new(alloc),
-        output: String::new(alloc),
+        script: String::new(rt.alloc()),
+        output: String::new(rt.alloc()),
         lines: 0,
     };
-    for line in LINES {
-        for at in 0..=line.text.len() {
-            before.cut_line(&rt, line, at)?;
-        }
-        before.add_line(line)?;
+    for line in &LINES {
+        cut_each(rt, &mut before, line)?;
     }
+    Ok(before)
+}
+
+#[test]
+fn each_beginning_of_a_script(rt: HostRuntime) -> Result<(), AllocError> {
+    let whole = cut_all(&rt)?;
     ends(
         &rt,
         &IN_TURN,
-        before.script.as_str().as_bytes(),
+        whole.script.as_str().as_bytes(),
         Ok(()),
-        before.output.as_str(),
+        &whole.output,
     );
     Ok(())
 }

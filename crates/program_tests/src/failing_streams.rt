@@ -1,5 +1,5 @@
 // Readers and writers that fail at one of their calls, or give and take little at a time.
-use crate::rows::drives::STORED;
+use crate::rows::drives::{stored_output, stored_script};
 use crate::scripts::{MANY_CALLS, ScriptRun};
 use std::alloc::Global;
 use std::io;
@@ -52,18 +52,19 @@ fn run_reading(
 // One call for each byte of the script, and one that finds its end.
 #[test]
 fn nothing_runs_of_a_script_that_cannot_be_read(rt: HostRuntime) {
-    for fails_at in 1..=STORED.0.len() + 1 {
-        let run = run_reading(&rt, STORED.0, fails_at);
-        assert_eq!(rt; run.ended, Err(ScriptFault::Read), "call {fails_at}");
-        assert!(rt; run.output.is_empty(), "call {fails_at}");
+    let script = stored_script();
+    for fails_at in 1..=script.len() {
+        run_reading(&rt, script, fails_at).is(&rt, Err(ScriptFault::Read), "");
     }
+    let at_the_end = script.len().saturating_add(1);
+    run_reading(&rt, script, at_the_end).is(&rt, Err(ScriptFault::Read), "");
 }
 
 #[test]
 fn a_script_may_come_byte_by_byte(rt: HostRuntime) {
-    let run = run_reading(&rt, STORED.0, STORED.0.len() + 2);
-    assert_eq!(rt; run.ended, Ok(()));
-    assert!(rt; run.output.as_slice() == STORED.1.as_bytes());
+    let script = stored_script();
+    let after_it = script.len().saturating_add(2);
+    run_reading(&rt, script, after_it).is(&rt, Ok(()), stored_output());
 }
 
 // Takes a few bytes at a time, and fails at one of its calls, writes and flushes counted together from 1.
@@ -83,6 +84,11 @@ impl FailingWriter {
             calls: 0,
             fails_at,
         }
+    }
+
+    // Whether the call that fails never came.
+    fn ends_before(&self) -> bool {
+        self.calls < self.fails_at
     }
 
     fn count_call(&mut self) -> io::Result<()> {
@@ -118,6 +124,15 @@ fn run_writing(
     run_script(rt, rt.alloc(), &mut reader, writer, &MANY_CALLS)
 }
 
+// What a writer got, of a script that fails at a call or ends before it.
+fn is_written(writer: &FailingWriter, ended: Result<(), ScriptFault>, output: &str) -> bool {
+    let written = writer.output.as_slice();
+    if writer.ends_before() {
+        return written == output.as_bytes();
+    }
+    ended == Err(ScriptFault::Write) && output.as_bytes().starts_with(written)
+}
+
 // Runs a script whose writer fails at this call, and says whether the script ended before it.
 fn ends_before(
     rt: &(impl Abort + AllocGlobal + Threads + Wait + Sync),
@@ -128,13 +143,11 @@ fn ends_before(
 ) -> bool {
     let mut writer = FailingWriter::new(rt.alloc(), most, fails_at);
     let ended = run_writing(rt, script, &mut writer);
-    if writer.calls < fails_at {
-        assert!(rt; writer.output.as_slice() == output.as_bytes());
-        return true;
-    }
-    assert_eq!(rt; ended, Err(ScriptFault::Write), "call {fails_at}");
-    assert!(rt; output.as_bytes().starts_with(writer.output.as_slice()));
-    false
+    assert!(rt;
+        is_written(&writer, ended, output),
+        "call {fails_at}: {ended:?}"
+    );
+    writer.ends_before()
 }
 
 // More calls than either output has bytes, its flush counted.
@@ -158,7 +171,7 @@ fn ends_at_last(
 #[test]
 fn a_failed_write_ends_the_script(rt: HostRuntime) {
     for most in [1, 3, 4096] {
-        assert!(rt; ends_at_last(&rt, STORED.0, STORED.1, most));
+        assert!(rt; ends_at_last(&rt, stored_script(), stored_output(), most));
     }
 }
 
@@ -179,7 +192,7 @@ fn a_failed_write_comes_before_a_bad_line(rt: HostRuntime) {
 #[test]
 fn a_full_writer_is_a_write_fault(rt: HostRuntime) {
     let mut writer = FailingWriter::new(rt.alloc(), 0, LAST_CALL);
-    let run = run_writing(&rt, STORED.0, &mut writer);
+    let run = run_writing(&rt, stored_script(), &mut writer);
     assert_eq!(rt; run, Err(ScriptFault::Write));
     assert!(rt; writer.output.is_empty());
 }

@@ -15,7 +15,7 @@ struct Long {
     output: &'static str,
 }
 
-const LONG: &[Long] = &[
+static LONG: [Long; 8] = [
     Long {
         first: "put f ",
         part: "a",
@@ -76,19 +76,20 @@ const LONG: &[Long] = &[
     },
 ];
 
+fn is_answered(
+    rt: &(impl Abort + AllocGlobal + Threads + Wait + Sync),
+    row: &Long,
+) -> Result<(), AllocError> {
+    let long = row.part.repeat(rt.alloc(), row.count)?;
+    let script = format!(in rt.alloc(); "{}{long}{}", row.first, row.last)?;
+    ends(rt, &IN_TURN, script.as_str().as_bytes(), Ok(()), row.output);
+    Ok(())
+}
+
 #[test]
 fn long_and_deep_words(rt: HostRuntime) -> Result<(), AllocError> {
-    for row in LONG {
-        let (first, last) = (row.first, row.last);
-        let long = row.part.repeat(rt.alloc(), row.count)?;
-        let script = format!(in rt.alloc(); "{first}{long}{last}")?;
-        ends(
-            &rt,
-            &IN_TURN,
-            script.as_str().as_bytes(),
-            Ok(()),
-            row.output,
-        );
+    for row in &LONG {
+        is_answered(&rt, row)?;
     }
     Ok(())
 }
@@ -98,9 +99,7 @@ fn nested_lines(alloc: Global, depth: usize) -> Result<String, AllocError> {
     let mut script = String::new(alloc);
     let mut path = String::from_str(alloc, "a")?;
     for _ in 0..depth {
-        script.push_str("mkdir ")?;
-        script.push_str(path.as_str())?;
-        script.push('\n')?;
+        writeln!(script, "mkdir {path}")?;
         path.push_str("/a")?;
     }
     script.push_str("commit\n")?;
@@ -117,12 +116,21 @@ const NESTED: &[(usize, &str)] = &[
     ),
 ];
 
+fn comes_and_goes(
+    rt: &(impl Abort + AllocGlobal + Threads + Wait + Sync),
+    depth: usize,
+    output: &str,
+) -> Result<(), AllocError> {
+    let mut script = nested_lines(rt.alloc(), depth)?;
+    script.push_str("checkout 0\nupdate 1\nupdate 0\n")?;
+    ends(rt, &IN_TURN, script.as_str().as_bytes(), Ok(()), output);
+    Ok(())
+}
+
 #[test]
 fn trees_have_a_greatest_depth(rt: HostRuntime) -> Result<(), AllocError> {
     for (depth, output) in NESTED {
-        let nested = nested_lines(rt.alloc(), *depth)?;
-        let script = format!(in rt.alloc(); "{nested}checkout 0\nupdate 1\nupdate 0\n")?;
-        ends(&rt, &IN_TURN, script.as_str().as_bytes(), Ok(()), output);
+        comes_and_goes(&rt, *depth, output)?;
     }
     Ok(())
 }
@@ -134,13 +142,22 @@ const SWITCHED: &[(usize, &str)] = &[
     (64, "committed 1\nok\nrefused TooDeep\nclosed 4\n"),
 ];
 
+fn is_switched(
+    rt: &(impl Abort + AllocGlobal + Threads + Wait + Sync),
+    above: usize,
+    output: &str,
+) -> Result<(), AllocError> {
+    let above = "a/".repeat(rt.alloc(), above)?;
+    let mut script = nested_lines(rt.alloc(), 64)?;
+    write!(script, "checkout 1\nswitch {above}b . 1\nupdate 1\n")?;
+    ends(rt, &IN_TURN, script.as_str().as_bytes(), Ok(()), output);
+    Ok(())
+}
+
 #[test]
 fn switched_paths_have_a_greatest_depth(rt: HostRuntime) -> Result<(), AllocError> {
     for (above, output) in SWITCHED {
-        let nested = nested_lines(rt.alloc(), 64)?;
-        let above = "a/".repeat(rt.alloc(), *above)?;
-        let script = format!(in rt.alloc(); "{nested}checkout 1\nswitch {above}b . 1\nupdate 1\n")?;
-        ends(&rt, &IN_TURN, script.as_str().as_bytes(), Ok(()), output);
+        is_switched(&rt, *above, output)?;
     }
     Ok(())
 }
@@ -159,16 +176,26 @@ fn updates(
     ends(rt, &settings, UPDATED.as_bytes(), Ok(()), output);
 }
 
+const RUNS: &str =
+    "committed 1\nok\nclosed 7\nrefused NoSuchRevision\nrefused OtherRoot\nclosed 4\n";
+
+const REFUSED: &str =
+    "committed 1\nok\nrefused Capacity\nrefused NoSuchRevision\nrefused OtherRoot\nrefused Capacity\n";
+
+// A capacity, whether it is run on one thread, and what comes.
+static QUEUES: [(usize, bool, &str); 7] = [
+    (1, false, RUNS),
+    (2, false, RUNS),
+    (4096, false, RUNS),
+    (0, false, REFUSED),
+    (0, true, RUNS),
+    (4097, false, REFUSED),
+    (4097, true, RUNS),
+];
+
 #[test]
 fn queues_have_a_capacity(rt: HostRuntime) {
-    let runs = "committed 1\nok\nclosed 7\nrefused NoSuchRevision\nrefused OtherRoot\nclosed 4\n";
-    let refused =
-        "committed 1\nok\nrefused Capacity\nrefused NoSuchRevision\nrefused OtherRoot\nrefused Capacity\n";
-    for capacity in [1, 2, 4096] {
-        updates(&rt, capacity, false, runs);
-    }
-    for capacity in [0, 4097] {
-        updates(&rt, capacity, false, refused);
-        updates(&rt, capacity, true, runs);
+    for (capacity, in_turn, output) in &QUEUES {
+        updates(&rt, *capacity, *in_turn, output);
     }
 }

@@ -68,25 +68,19 @@ fn run_long(
 #[test]
 fn the_longest_script_runs(rt: HostRuntime) {
     let mut reader = long_reader(Some(MAX_SCRIPT - HEAD.len()));
-    let run = run_long(&rt, &mut reader);
+    run_long(&rt, &mut reader).is(&rt, Ok(()), "committed 1\n");
     assert_eq!(rt; reader.given, 16777216);
-    assert_eq!(rt; run.ended, Ok(()));
-    assert!(rt; run.output.as_slice() == b"committed 1\n".as_slice());
 }
 
 #[test]
 fn one_byte_more_is_refused_whole(rt: HostRuntime) {
     let mut reader = long_reader(Some(MAX_SCRIPT - HEAD.len() + 1));
-    let run = run_long(&rt, &mut reader);
-    assert_eq!(rt; run.ended, Err(ScriptFault::TooLong));
-    assert!(rt; run.output.is_empty());
+    run_long(&rt, &mut reader).is(&rt, Err(ScriptFault::TooLong), "");
 }
 
 #[test]
 fn a_reader_without_end_is_read_so_far(rt: HostRuntime) {
     let mut reader = long_reader(None);
-    let run = run_long(&rt, &mut reader);
-    assert_eq!(rt; run.ended, Err(ScriptFault::TooLong));
-    assert!(rt; run.output.is_empty());
+    run_long(&rt, &mut reader).is(&rt, Err(ScriptFault::TooLong), "");
     assert_eq!(rt; reader.given, 16777217);
 }

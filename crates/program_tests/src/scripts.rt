@@ -22,7 +22,7 @@ pub(crate) const MANY_CALLS: Settings = Settings {
 };
 
 // How a script ended, and what it wrote.
-#[derive(Debug, Drop)]
+#[derive(Drop)]
 pub(crate) struct ScriptRun {
     pub(crate) ended: Result<(), ScriptFault>,
     pub(crate) output: Vec<u8>,
@@ -39,6 +39,18 @@ pub(crate) fn run(
     ScriptRun { ended, output }
 }
 
+impl ScriptRun {
+    // What was written, as text.
+    pub(crate) fn written(&self) -> &str {
+        str::from_utf8(&self.output).unwrap_or("bytes that are no text")
+    }
+
+    // The script ended so, and wrote just this.
+    pub(crate) fn is(&self, rt: &impl Abort, ended: Result<(), ScriptFault>, output: &str) {
+        assert_eq!(rt; (self.ended, self.written()), (ended, output));
+    }
+}
+
 // A script that ends so, and writes just this.
 pub(crate) fn ends(
     rt: &(impl Abort + AllocGlobal + Threads + Wait + Sync),
@@ -47,8 +59,5 @@ pub(crate) fn ends(
     ended: Result<(), ScriptFault>,
     output: &str,
 ) {
-    let run = run(rt, settings, script);
-    assert_eq!(rt; run.ended, ended);
-    let written = str::from_utf8(&run.output).unwrap_or("bytes that are no text");
-    assert_eq!(rt; written, output);
+    run(rt, settings, script).is(rt, ended, output);
 }

@@ -1,6 +1,6 @@
 // Each run stopped after each number of calls, early and late: the copy that is left is updated to the same end.
-use crate::rows::stops::{STOPS, Stop};
-use crate::scripts::{IN_TURN, MANY_CALLS, ONE_CALL, run};
+use crate::rows::stops::{Stop, stops};
+use crate::scripts::{IN_TURN, MANY_CALLS, ONE_CALL, ScriptRun, run};
 use std::alloc::{AllocError, Global};
 use std::process::Abort;
 use std::sync::Wait;
@@ -13,12 +13,20 @@ fn script_of(alloc: Global, stop: &Stop, calls: u64, late: &str) -> Result<Strin
     format!(in alloc; "{before}{run} {calls}{late}\n{run}{late}\nshow\n")
 }
 
-// What it prints, but for the number of calls of the second run.
-fn outputs_of(alloc: Global, stop: &Stop, calls: u64) -> Result<(String, String), AllocError> {
-    let (before, shown) = (stop.before.1, stop.shown);
-    let first = format!(in alloc; "{before}aborted {calls} {calls} Cancelled\nclosed ")?;
-    let last = format!(in alloc; "\n{shown}")?;
-    Ok((first, last))
+// What it prints, but for the number of calls of the second run: what comes before that and what behind it.
+fn first_output(alloc: Global, stop: &Stop, calls: u64) -> Result<String, AllocError> {
+    let before = stop.before.1;
+    format!(in alloc; "{before}aborted {calls} {calls} Cancelled\nclosed ")
+}
+
+fn last_output(alloc: Global, stop: &Stop) -> Result<String, AllocError> {
+    format!(in alloc; "\n{}", stop.shown)
+}
+
+// A script that ends well, and whose output begins and ends so.
+fn prints(run: &ScriptRun, first: &str, last: &str) -> bool {
+    let written = run.written();
+    run.ended.is_ok() && written.starts_with(first) && written.ends_with(last)
 }
 
 fn resumes(
@@ -29,17 +37,22 @@ fn resumes(
     late: &str,
 ) -> Result<(), AllocError> {
     let script = script_of(rt.alloc(), stop, calls, late)?;
-    let (first, last) = outputs_of(rt.alloc(), stop, calls)?;
+    let first = first_output(rt.alloc(), stop, calls)?;
+    let last = last_output(rt.alloc(), stop)?;
     let run = run(rt, settings, script.as_str().as_bytes());
-    assert_eq!(rt; run.ended, Ok(()));
-    assert!(rt;
-        run.output.as_slice().starts_with(first.as_str().as_bytes()),
-        "{script}"
-    );
-    assert!(rt;
-        run.output.as_slice().ends_with(last.as_str().as_bytes()),
-        "{script}"
-    );
+    assert!(rt; prints(&run, &first, &last), "{script}{}", run.written());
+    Ok(())
+}
+
+fn early_and_late(
+    rt: &(impl Abort + AllocGlobal + Threads + Wait + Sync),
+    settings: &Settings,
+    stop: &Stop,
+) -> Result<(), AllocError> {
+    for calls in 0..stop.calls {
+        resumes(rt, settings, stop, calls, "")?;
+        resumes(rt, settings, stop, calls, " late")?;
+    }
     Ok(())
 }
 
@@ -47,11 +60,8 @@ fn each_stop_resumes(
     rt: &(impl Abort + AllocGlobal + Threads + Wait + Sync),
     settings: &Settings,
 ) -> Result<(), AllocError> {
-    for stop in STOPS {
-        for calls in 0..stop.calls {
-            resumes(rt, settings, stop, calls, "")?;
-            resumes(rt, settings, stop, calls, " late")?;
-        }
+    for stop in stops() {
+        early_and_late(rt, settings, stop)?;
     }
     Ok(())
 }

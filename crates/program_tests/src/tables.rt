@@ -30,62 +30,61 @@ fn joined(alloc: Global, before: &str, row: &str, after: &str) -> Result<String,
     format!(in alloc; "{before}{row}{after}")
 }
 
-// Each row of the table prints what stands beside it.
+// A row of the table prints what stands beside it.
+fn row_prints(
+    rt: &(impl Abort + AllocGlobal + Threads + Wait + Sync),
+    settings: &Settings,
+    table: &Table,
+    row: Part,
+) -> Result<(), AllocError> {
+    let (first, first_output) = table.before;
+    let (last, last_output) = table.after;
+    let script = joined(rt.alloc(), first, row.0, last)?;
+    let output = joined(rt.alloc(), first_output, row.1, last_output)?;
+    ends(rt, settings, script.as_str().as_bytes(), Ok(()), &output);
+    Ok(())
+}
+
 fn each_row_prints(
     rt: &(impl Abort + AllocGlobal + Threads + Wait + Sync),
     settings: &Settings,
     table: &Table,
 ) -> Result<(), AllocError> {
-    let (first, first_output) = table.before;
-    let (last, last_output) = table.after;
-    for (lines, printed) in table.rows {
-        let script = joined(rt.alloc(), first, lines, last)?;
-        let output = joined(rt.alloc(), first_output, printed, last_output)?;
-        ends(
-            rt,
-            settings,
-            script.as_str().as_bytes(),
-            Ok(()),
-            output.as_str(),
-        );
+    for row in table.rows {
+        row_prints(rt, settings, table, *row)?;
     }
     Ok(())
 }
 
-// What is read, changed and driven.
-fn first_tables_print(
-    rt: &(impl Abort + AllocGlobal + Threads + Wait + Sync),
-    settings: &Settings,
-) -> Result<(), AllocError> {
-    each_row_prints(rt, settings, &forms::WORDS)?;
-    each_row_prints(rt, settings, &forms::LAST_LINES)?;
-    each_row_prints(rt, settings, &forms::SILENT)?;
-    each_row_prints(rt, settings, &updates::TREES)?;
-    each_row_prints(rt, settings, &updates::PROPERTIES)?;
-    each_row_prints(rt, settings, &updates::COPIES)?;
-    each_row_prints(rt, settings, &drives::WHOLE_SCRIPTS)?;
-    each_row_prints(rt, settings, &drives::OF_TWO_REVISIONS)
-}
-
-// What is switched, and what is refused.
-fn other_tables_print(
-    rt: &(impl Abort + AllocGlobal + Threads + Wait + Sync),
-    settings: &Settings,
-) -> Result<(), AllocError> {
-    each_row_prints(rt, settings, &links::MIXED)?;
-    each_row_prints(rt, settings, &links::WHOLE_SWITCHES)?;
-    each_row_prints(rt, settings, &refusals::COMMITS)?;
-    each_row_prints(rt, settings, &refusals::OF_A_COPY)?;
-    each_row_prints(rt, settings, &refusals::OF_THE_FORGOTTEN)?;
-    each_row_prints(rt, settings, &refusals::WITHOUT_A_COPY)
+// What is read, changed and driven, what is switched, and what is refused. Each table is a static of its own, and named here alone: whoever
+// names a table is proved with all that stands in it, at each of its steps.
+fn tables() -> [&'static Table; 14] {
+    [
+        &forms::WORDS,
+        &forms::LAST_LINES,
+        &forms::SILENT,
+        &updates::TREES,
+        &updates::PROPERTIES,
+        &updates::COPIES,
+        &drives::WHOLE_SCRIPTS,
+        &drives::OF_TWO_REVISIONS,
+        &links::MIXED,
+        &links::WHOLE_SWITCHES,
+        &refusals::COMMITS,
+        &refusals::OF_A_COPY,
+        &refusals::OF_THE_FORGOTTEN,
+        &refusals::WITHOUT_A_COPY,
+    ]
 }
 
 fn each_table_prints(
     rt: &(impl Abort + AllocGlobal + Threads + Wait + Sync),
     settings: &Settings,
 ) -> Result<(), AllocError> {
-    first_tables_print(rt, settings)?;
-    other_tables_print(rt, settings)
+    for table in tables() {
+        each_row_prints(rt, settings, table)?;
+    }
+    Ok(())
 }
 
 #[test]

@@ -1,166 +1,171 @@
-// What stands after commits.
-use crate::steps::Step::{Commit, Copy, MakeDir, Put, Remove, SetProp};
-use crate::steps::{TWO_REVISIONS, are_related, entry_count, has_prop, has_text, line, node, run};
+//! What is there after commits.
+use crate::questions::Question::{At, Compare, Latest, Props};
+use crate::questions::{By, History, is_told};
+use crate::steps::Act::{Copy, MakeDir, Put, Remove, Set, Unset};
+use crate::steps::Step;
+use crate::steps::Step::Commit;
 use std::test::Fail;
-use svn_repo::{Repo, Rev};
 
-#[test]
-fn begins_with_an_empty_root(rt: HostRuntime) -> Result<(), Fail> {
-    let alloc = rt.alloc();
-    let repo = Repo::new(alloc)?;
-    assert_eq!(rt; repo.latest(), Rev(0));
-    assert_eq!(rt; entry_count(alloc, &repo, 0, ""), Some(0));
-    assert!(rt; !has_prop(alloc, &repo, 0, ""));
-    assert!(rt; node(alloc, &repo, 1, "").is_none());
-    Ok(())
+static BEGINS_WITH_AN_EMPTY_ROOT: History = History {
+    steps: &[],
+    questions: &[Latest, At((0, "")), Props((0, "")), At((1, ""))],
+    told: "latest 0,entries 0,props 0,none,",
+};
+
+static KEEPS_OLD_REVISIONS: History = History {
+    steps: &[
+        Step::At("f", Put("a")),
+        Commit,
+        Step::At("f", Put("abc")),
+        Commit,
+    ],
+    questions: &[
+        At((1, "f")),
+        At((2, "f")),
+        Compare(By::Node, (1, "f"), (2, "f")),
+        Compare(By::Line, (1, "f"), (2, "f")),
+        At((2, "")),
+        At((0, "f")),
+    ],
+    told: "1,2,a,abc,other,one line,entries 1,none,",
+};
+
+static CHANGES_BOTH_SIDES_OF_A_COPY: History = History {
+    steps: &[
+        Step::At("d", MakeDir),
+        Step::At("d/x", Put("a")),
+        Commit,
+        Step::At("e", Copy(1, "d")),
+        Commit,
+        Step::At("e/x", Put("abc")),
+        Commit,
+        Step::At("d/x", Put("b")),
+        Commit,
+    ],
+    questions: &[
+        At((3, "d/x")),
+        Compare(By::Node, (2, "d"), (2, "e")),
+        Compare(By::Node, (2, "e/x"), (1, "d/x")),
+        Compare(By::Node, (3, "d/x"), (1, "d/x")),
+        At((4, "d/x")),
+        At((4, "e/x")),
+        Compare(By::Line, (4, "d/x"), (4, "e/x")),
+    ],
+    told: "1,2,3,4,a,same,same,same,b,abc,one line,",
+};
+
+static RELATES_WHAT_IS_CHANGED_OR_COPIED: History = History {
+    steps: &[
+        Step::At("f", Put("a")),
+        Commit,
+        Step::At("f", Put("abc")),
+        Step::At("g", Copy(1, "f")),
+        Commit,
+        Step::At("f", Remove),
+        Commit,
+        Step::At("f", Put("a")),
+        Commit,
+    ],
+    questions: &[
+        Compare(By::Relation, (1, "f"), (2, "f")),
+        Compare(By::Relation, (2, "f"), (2, "g")),
+        Compare(By::Relation, (1, "f"), (4, "f")),
+        Compare(By::Relation, (0, ""), (4, "")),
+        Compare(By::Relation, (4, ""), (4, "f")),
+    ],
+    told: "1,2,3,4,related,related,unrelated,related,unrelated,",
+};
+
+static COPIES_A_DIRECTORY_INTO_ITSELF: History = History {
+    steps: &[
+        Step::At("d", MakeDir),
+        Commit,
+        Step::At("d/e", Copy(1, "d")),
+        Commit,
+        Step::At("d/e/f", Copy(2, "d")),
+        Commit,
+    ],
+    questions: &[
+        Compare(By::Node, (2, "d/e"), (1, "d")),
+        At((2, "d/e/e")),
+        At((3, "d/e/f/e")),
+    ],
+    told: "1,2,3,same,none,entries 0,",
+};
+
+static REPLACES_IN_ONE_COMMIT: History = History {
+    steps: &[
+        Step::At("f", Put("a")),
+        Commit,
+        Step::At("f", Put("abc")),
+        Commit,
+        Step::At("f", Remove),
+        Step::At("f", MakeDir),
+        Step::At("f/x", Put("a")),
+        Commit,
+        Step::At("f", Remove),
+        Step::At("f", Copy(2, "f")),
+        Step::At("f", Put("c")),
+        Commit,
+        Commit,
+    ],
+    questions: &[
+        At((3, "f")),
+        Compare(By::Line, (3, "f"), (2, "f")),
+        At((4, "f")),
+        Compare(By::Line, (4, "f"), (2, "f")),
+        Compare(By::Node, (5, ""), (4, "")),
+    ],
+    told: "1,2,3,4,5,entries 1,two lines,c,one line,same,",
+};
+
+static SETS_AND_REMOVES_PROPERTIES: History = History {
+    steps: &[
+        Step::At("f", Put("a")),
+        Commit,
+        Step::At("f", Put("abc")),
+        Commit,
+        Step::At("", Set("1")),
+        Step::At("f", Set("2")),
+        Commit,
+        Step::At("f", Unset),
+        Commit,
+        Step::At("f", Unset),
+        Commit,
+    ],
+    questions: &[
+        Props((3, "f")),
+        Props((4, "f")),
+        Props((5, "")),
+        Compare(By::Node, (4, "f"), (5, "f")),
+        At((5, "f")),
+    ],
+    told: "1,2,3,4,5,props 1,props 0,props 1,other,abc,",
+};
+
+static COMMITS_NOTHING: History = History {
+    steps: &[Commit, Commit],
+    questions: &[Latest, At((2, "")), Compare(By::Node, (2, ""), (0, ""))],
+    told: "1,2,latest 2,entries 0,same,",
+};
+
+fn rows() -> [&'static History; 8] {
+    [
+        &BEGINS_WITH_AN_EMPTY_ROOT,
+        &KEEPS_OLD_REVISIONS,
+        &CHANGES_BOTH_SIDES_OF_A_COPY,
+        &RELATES_WHAT_IS_CHANGED_OR_COPIED,
+        &COPIES_A_DIRECTORY_INTO_ITSELF,
+        &REPLACES_IN_ONE_COMMIT,
+        &SETS_AND_REMOVES_PROPERTIES,
+        &COMMITS_NOTHING,
+    ]
 }
 
 #[test]
-fn keeps_old_revisions(rt: HostRuntime) -> Result<(), Fail> {
-    let alloc = rt.alloc();
-    let mut repo = Repo::new(alloc)?;
-    let answers = run(alloc, &mut repo, &TWO_REVISIONS)?;
-    assert_eq!(rt; answers.as_slice(), [1, 2].as_slice());
-    assert!(rt; has_text(alloc, &repo, 1, "f", "a"));
-    assert!(rt; has_text(alloc, &repo, 2, "f", "abc"));
-    assert!(rt; node(alloc, &repo, 1, "f") != node(alloc, &repo, 2, "f"));
-    assert_eq!(rt; line(alloc, &repo, 1, "f"), line(alloc, &repo, 2, "f"));
-    assert_eq!(rt; entry_count(alloc, &repo, 2, ""), Some(1));
-    assert!(rt; node(alloc, &repo, 0, "f").is_none());
-    Ok(())
-}
-
-#[test]
-fn changes_both_sides_of_a_copy(rt: HostRuntime) -> Result<(), Fail> {
-    let alloc = rt.alloc();
-    let mut repo = Repo::new(alloc)?;
-    let steps = [
-        MakeDir("d"),
-        Put("d/x", "a"),
-        Commit,
-        Copy(1, "d", "e"),
-        Commit,
-        Put("e/x", "abc"),
-        Commit,
-        Put("d/x", "b"),
-        Commit,
-    ];
-    let answers = run(alloc, &mut repo, &steps)?;
-    assert_eq!(rt; answers.as_slice(), [1, 2, 3, 4].as_slice());
-    let source = node(alloc, &repo, 1, "d/x");
-    assert!(rt; has_text(alloc, &repo, 3, "d/x", "a"));
-    assert_eq!(rt; node(alloc, &repo, 2, "d"), node(alloc, &repo, 2, "e"));
-    assert_eq!(rt; node(alloc, &repo, 2, "e/x"), source);
-    assert_eq!(rt; node(alloc, &repo, 3, "d/x"), source);
-    assert!(rt; has_text(alloc, &repo, 4, "d/x", "b"));
-    assert!(rt; has_text(alloc, &repo, 4, "e/x", "abc"));
-    assert_eq!(rt; line(alloc, &repo, 4, "d/x"), line(alloc, &repo, 4, "e/x"));
-    Ok(())
-}
-
-#[test]
-fn relates_what_is_changed_or_copied(rt: HostRuntime) -> Result<(), Fail> {
-    let alloc = rt.alloc();
-    let mut repo = Repo::new(alloc)?;
-    let steps = [
-        Put("f", "a"),
-        Commit,
-        Put("f", "abc"),
-        Copy(1, "f", "g"),
-        Commit,
-        Remove("f"),
-        Commit,
-        Put("f", "a"),
-        Commit,
-    ];
-    let answers = run(alloc, &mut repo, &steps)?;
-    assert_eq!(rt; answers.as_slice(), [1, 2, 3, 4].as_slice());
-    assert!(rt; are_related(alloc, &repo, (1, "f"), (2, "f")));
-    assert!(rt; are_related(alloc, &repo, (2, "f"), (2, "g")));
-    assert!(rt; !are_related(alloc, &repo, (1, "f"), (4, "f")));
-    assert!(rt; are_related(alloc, &repo, (0, ""), (4, "")));
-    assert!(rt; !are_related(alloc, &repo, (4, ""), (4, "f")));
-    Ok(())
-}
-
-#[test]
-fn copies_a_directory_into_itself(rt: HostRuntime) -> Result<(), Fail> {
-    let alloc = rt.alloc();
-    let mut repo = Repo::new(alloc)?;
-    let steps = [
-        MakeDir("d"),
-        Commit,
-        Copy(1, "d", "d/e"),
-        Commit,
-        Copy(2, "d", "d/e/f"),
-        Commit,
-    ];
-    let answers = run(alloc, &mut repo, &steps)?;
-    assert_eq!(rt; answers.as_slice(), [1, 2, 3].as_slice());
-    assert_eq!(rt; node(alloc, &repo, 2, "d/e"), node(alloc, &repo, 1, "d"));
-    assert!(rt; node(alloc, &repo, 2, "d/e/e").is_none());
-    assert!(rt; node(alloc, &repo, 3, "d/e/f/e").is_some());
-    Ok(())
-}
-
-#[test]
-fn replaces_in_one_commit(rt: HostRuntime) -> Result<(), Fail> {
-    let alloc = rt.alloc();
-    let mut repo = Repo::new(alloc)?;
-    run(alloc, &mut repo, &TWO_REVISIONS)?;
-    let steps = [
-        Remove("f"),
-        MakeDir("f"),
-        Put("f/x", "a"),
-        Commit,
-        Remove("f"),
-        Copy(2, "f", "f"),
-        Put("f", "c"),
-        Commit,
-        Commit,
-    ];
-    let answers = run(alloc, &mut repo, &steps)?;
-    assert_eq!(rt; answers.as_slice(), [3, 4, 5].as_slice());
-    assert_eq!(rt; entry_count(alloc, &repo, 3, "f"), Some(1));
-    assert!(rt; line(alloc, &repo, 3, "f") != line(alloc, &repo, 2, "f"));
-    assert!(rt; has_text(alloc, &repo, 4, "f", "c"));
-    assert_eq!(rt; line(alloc, &repo, 4, "f"), line(alloc, &repo, 2, "f"));
-    assert_eq!(rt; node(alloc, &repo, 5, ""), node(alloc, &repo, 4, ""));
-    Ok(())
-}
-
-#[test]
-fn sets_and_removes_properties(rt: HostRuntime) -> Result<(), Fail> {
-    let alloc = rt.alloc();
-    let mut repo = Repo::new(alloc)?;
-    run(alloc, &mut repo, &TWO_REVISIONS)?;
-    let steps = [
-        SetProp("", Some("1")),
-        SetProp("f", Some("2")),
-        Commit,
-        SetProp("f", None),
-        Commit,
-        SetProp("f", None),
-        Commit,
-    ];
-    let answers = run(alloc, &mut repo, &steps)?;
-    assert_eq!(rt; answers.as_slice(), [3, 4, 5].as_slice());
-    assert!(rt; has_prop(alloc, &repo, 3, "f"));
-    assert!(rt; !has_prop(alloc, &repo, 4, "f"));
-    assert!(rt; has_prop(alloc, &repo, 5, ""));
-    assert!(rt; node(alloc, &repo, 4, "f") != node(alloc, &repo, 5, "f"));
-    assert!(rt; has_text(alloc, &repo, 5, "f", "abc"));
-    Ok(())
-}
-
-#[test]
-fn commits_nothing(rt: HostRuntime) -> Result<(), Fail> {
-    let alloc = rt.alloc();
-    let mut repo = Repo::new(alloc)?;
-    let answers = run(alloc, &mut repo, &[Commit, Commit])?;
-    assert_eq!(rt; answers.as_slice(), [1, 2].as_slice());
-    assert_eq!(rt; repo.latest(), Rev(2));
-    assert!(rt; node(alloc, &repo, 2, "").is_some());
-    assert_eq!(rt; node(alloc, &repo, 2, ""), node(alloc, &repo, 0, ""));
+fn commits_make_revisions(rt: HostRuntime) -> Result<(), Fail> {
+    for history in rows() {
+        is_told(&rt, rt.alloc(), history)?;
+    }
     Ok(())
 }

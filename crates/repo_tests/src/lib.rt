@@ -1,13 +1,34 @@
-//! Tests of commits: what stands after them, which are refused, and how long and deep things may be.
+//! Tests of names, paths, properties and texts; of the map from names; and of commits: what is there after them, which are refused, and how long
+//! and deep things may be.
 #![tactic(auto)]
 
 #[cfg(test)]
+mod bytes;
+#[cfg(test)]
+mod forms;
+#[cfg(test)]
 mod histories;
+#[cfg(test)]
+mod joins;
 #[cfg(test)]
 mod limits;
 #[cfg(test)]
 mod maps;
 #[cfg(test)]
+mod names;
+#[cfg(test)]
+mod parts;
+#[cfg(test)]
+mod paths;
+#[cfg(test)]
+mod properties;
+#[cfg(test)]
+mod questions;
+#[cfg(test)]
 mod refusals;
 #[cfg(test)]
 mod steps;
+#[cfg(test)]
+mod tails;
+#[cfg(test)]
+mod texts;

@@ -5,7 +5,7 @@ use svn_name_map::NameMap;
 use svn_types::Name;
 
 // A step from one number to the next, and how many numbers there are: names in order, which fill runs, and names that halve them.
-const ORDERS: [(u64, u64); 3] = [(1, 600), (13, 997), (7, 300)];
+static ORDERS: [(u64, u64); 3] = [(1, 600), (13, 997), (7, 300)];
 
 #[derive(Drop)]
 struct Both {
@@ -58,22 +58,32 @@ fn change_all(both: &mut Both, alloc: Global, order: (u64, u64)) -> Result<bool,
     Ok(same)
 }
 
-// Whether all calls answer the same, and a clone from before the last ones stays as it was.
+fn clone_of(both: &Both) -> Result<Both, AllocError> {
+    let tree = both.tree.clone()?;
+    let map = both.map.clone()?;
+    Ok(Both { map, tree })
+}
+
+// Whether all calls answer the same, and a clone from before them stays as it was.
+fn stay_same(both: &mut Both, alloc: Global, order: (u64, u64)) -> Result<bool, AllocError> {
+    let kept = clone_of(both)?;
+    let same = change_all(both, alloc, order)?;
+    Ok(same && are_same(&both.map, &both.tree) && are_same(&kept.map, &kept.tree))
+}
+
+// Whether all calls answer the same, from empty maps on.
 fn agree(alloc: Global, order: (u64, u64)) -> Result<bool, AllocError> {
     let mut both = Both {
         map: NameMap::new(alloc),
         tree: BTreeMap::new(alloc),
     };
-    let first = change_all(&mut both, alloc, order)?;
-    let kept = both.map.clone()?;
-    let tree = both.tree.clone()?;
-    let then = change_all(&mut both, alloc, (order.0.wrapping_add(2), order.1))?;
-    Ok(first && then && are_same(&both.map, &both.tree) && are_same(&kept, &tree))
+    let same = change_all(&mut both, alloc, order)?;
+    Ok(stay_same(&mut both, alloc, (order.0.wrapping_add(2), order.1))? && same)
 }
 
 #[test]
 fn agrees_with_a_tree_map(rt: HostRuntime) {
-    for order in ORDERS {
-        assert_eq!(&rt; agree(rt.alloc(), order), Ok(true));
+    for order in &ORDERS {
+        assert_eq!(&rt; agree(rt.alloc(), *order), Ok(true));
     }
 }

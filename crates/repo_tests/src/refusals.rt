@@ -1,101 +1,103 @@
-// Which changes are refused, and by which fault.
-use crate::steps::Step::{Commit, Copy, MakeDir, Put, Remove, SetProp};
-use crate::steps::{TWO_REVISIONS, node, run};
+//! Which changes are refused, and by which fault.
+use crate::questions::Question::{At, Latest};
+use crate::questions::{History, is_told};
+use crate::steps::Act::{Copy, MakeDir, Put, Remove, Set, Unset};
+use crate::steps::Step;
+use crate::steps::Step::Commit;
 use std::test::Fail;
-use svn_repo::{Repo, Rev};
 
-#[test]
-fn refuses_in_order(rt: HostRuntime) -> Result<(), Fail> {
-    let alloc = rt.alloc();
-    let mut repo = Repo::new(alloc)?;
-    run(alloc, &mut repo, &TWO_REVISIONS)?;
-    let steps = [
-        MakeDir("f"),
+static IN_ORDER: History = History {
+    steps: &[
+        Step::At("f", Put("a")),
         Commit,
-        MakeDir("g/h"),
+        Step::At("f", Put("abc")),
         Commit,
-        MakeDir("f/h"),
+        Step::At("f", MakeDir),
         Commit,
-        MakeDir("d"),
-        Put("d", "a"),
+        Step::At("g/h", MakeDir),
         Commit,
-        Remove(""),
+        Step::At("f/h", MakeDir),
         Commit,
-        Copy(3, "f", "g"),
+        Step::At("d", MakeDir),
+        Step::At("d", Put("a")),
         Commit,
-        Copy(3, "f", ""),
+        Step::At("", Remove),
         Commit,
-        Copy(1, "x", "g"),
+        Step::At("g", Copy(3, "f")),
         Commit,
-        Copy(1, "f/x", "f"),
+        Step::At("", Copy(3, "f")),
         Commit,
-        Copy(1, "f", "g/h"),
+        Step::At("g", Copy(1, "x")),
         Commit,
-        Copy(1, "f", "f"),
+        Step::At("f", Copy(1, "f/x")),
         Commit,
-        SetProp("g", None),
+        Step::At("g/h", Copy(1, "f")),
         Commit,
-        Remove("f/h"),
+        Step::At("f", Copy(1, "f")),
         Commit,
-    ];
-    let answers = run(alloc, &mut repo, &steps)?;
-    let wanted = [
-        101, 102, 103, 104, 105, 107, 105, 102, 103, 102, 101, 102, 103,
-    ];
-    assert_eq!(rt; answers.as_slice(), wanted.as_slice());
-    assert_eq!(rt; repo.latest(), Rev(2));
-    assert!(rt; node(alloc, &repo, 2, "d").is_none());
-    Ok(())
+        Step::At("g", Unset),
+        Commit,
+        Step::At("f/h", Remove),
+        Commit,
+    ],
+    questions: &[Latest, At((2, "d"))],
+    told: "1,2,101,102,103,104,105,107,105,102,103,102,101,102,103,latest 2,none,",
+};
+
+static OF_THE_ROOT: History = History {
+    steps: &[
+        Step::At("", MakeDir),
+        Commit,
+        Step::At("", Put("a")),
+        Commit,
+        Step::At("", Remove),
+        Commit,
+        Step::At("", Copy(0, "")),
+        Commit,
+        Step::At("", Copy(9, "x")),
+        Commit,
+    ],
+    questions: &[],
+    told: "105,105,105,105,105,",
+};
+
+static ON_THE_WAY_DOWN: History = History {
+    steps: &[
+        Step::At("f", Put("a")),
+        Commit,
+        Step::At("f", Put("abc")),
+        Commit,
+        Step::At("f/x", Put("a")),
+        Commit,
+        Step::At("g/x", Put("a")),
+        Commit,
+        Step::At("f/x", Set("1")),
+        Commit,
+        Step::At("g/x", Unset),
+        Commit,
+        Step::At("g", Remove),
+        Commit,
+        Step::At("f/x", Copy(1, "f")),
+        Commit,
+        Step::At("f/x", Copy(2, "g/x")),
+        Commit,
+        Step::At("g/f/x", MakeDir),
+        Commit,
+        Step::At("f/g/x", MakeDir),
+        Commit,
+    ],
+    questions: &[],
+    told: "1,2,103,102,103,102,102,103,102,102,103,",
+};
+
+fn rows() -> [&'static History; 3] {
+    [&IN_ORDER, &OF_THE_ROOT, &ON_THE_WAY_DOWN]
 }
 
 #[test]
-fn refuses_the_root(rt: HostRuntime) -> Result<(), Fail> {
-    let alloc = rt.alloc();
-    let mut repo = Repo::new(alloc)?;
-    let steps = [
-        MakeDir(""),
-        Commit,
-        Put("", "a"),
-        Commit,
-        Remove(""),
-        Commit,
-        Copy(0, "", ""),
-        Commit,
-        Copy(9, "x", ""),
-        Commit,
-    ];
-    let answers = run(alloc, &mut repo, &steps)?;
-    assert_eq!(rt; answers.as_slice(), [105, 105, 105, 105, 105].as_slice());
-    Ok(())
-}
-
-#[test]
-fn refuses_ways_down(rt: HostRuntime) -> Result<(), Fail> {
-    let alloc = rt.alloc();
-    let mut repo = Repo::new(alloc)?;
-    run(alloc, &mut repo, &TWO_REVISIONS)?;
-    let steps = [
-        Put("f/x", "a"),
-        Commit,
-        Put("g/x", "a"),
-        Commit,
-        SetProp("f/x", Some("1")),
-        Commit,
-        SetProp("g/x", None),
-        Commit,
-        Remove("g"),
-        Commit,
-        Copy(1, "f", "f/x"),
-        Commit,
-        Copy(2, "g/x", "f/x"),
-        Commit,
-        MakeDir("g/f/x"),
-        Commit,
-        MakeDir("f/g/x"),
-        Commit,
-    ];
-    let answers = run(alloc, &mut repo, &steps)?;
-    let wanted = [103, 102, 103, 102, 102, 103, 102, 102, 103];
-    assert_eq!(rt; answers.as_slice(), wanted.as_slice());
+fn commits_are_refused(rt: HostRuntime) -> Result<(), Fail> {
+    for history in rows() {
+        is_told(&rt, rt.alloc(), history)?;
+    }
     Ok(())
 }

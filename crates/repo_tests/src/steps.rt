@@ -1,137 +1,138 @@
-// Histories as lists of steps, and what a test looks at in them.
-use std::alloc::{AllocError, Global};
+//! The steps of a history.
+use std::alloc::Global;
 use std::test::Fail;
-use svn_repo::{Change, CommitFault, NodeId, PropName, RelPath, Repo, Rev, Text};
+use svn_repo::{Change, PropName, RelPath, Repo, Rev, Text};
 
-// One step of a history: a change, or the commit of those before it.
+/// A change of what is at a path.
+#[derive(Clone, Copy)]
+pub(crate) enum Act {
+    MakeDir,
+    Put(&'static str),
+    // a text of so many bytes
+    PutLong(usize),
+    // the value of the property `p`
+    Set(&'static str),
+    SetLong(usize),
+    Unset,
+    Remove,
+    // what is at this path of this revision
+    Copy(u64, &'static str),
+}
+
+/// One step of a history: changes, or the commit of those before it.
 #[derive(Clone, Copy)]
 pub(crate) enum Step {
-    MakeDir(&'static str),
-    Put(&'static str, &'static str),
-    SetProp(&'static str, Option<&'static str>),
-    Remove(&'static str),
-    Copy(u64, &'static str, &'static str),
+    At(&'static str, Act),
+    // at the path of so many names `a`
+    Deep(usize, Act),
+    // so many directories `a`, each in the one before
+    Nest(usize),
     Commit,
 }
 
-use Step::{Commit, Copy, MakeDir, Put, Remove, SetProp};
-
-pub(crate) fn path_at(alloc: Global, text: &str) -> Result<RelPath, CommitFault> {
-    RelPath::parse(alloc, text).map_err(|_| CommitFault::Memory)
-}
-
-pub(crate) fn text_of(alloc: Global, text: &str) -> Result<Text, AllocError> {
+// A text, so many times.
+fn text_of(alloc: Global, text: &str, times: usize) -> Result<Text, Fail> {
+    let text = text.repeat(alloc, times)?;
     Ok(Text::new(text.as_bytes().to_vec(alloc)?))
 }
 
-pub(crate) fn value_of(alloc: Global, value: Option<&str>) -> Result<Option<Text>, AllocError> {
-    match value {
-        Some(value) => Ok(Some(text_of(alloc, value)?)),
-        None => Ok(None),
+fn put(alloc: Global, path: RelPath, text: &str, times: usize) -> Result<Change, Fail> {
+    let text = text_of(alloc, text, times)?;
+    Ok(Change::PutFile { path, text })
+}
+
+fn set(alloc: Global, path: RelPath, value: Option<Text>) -> Result<Change, Fail> {
+    let name = PropName::parse(alloc, "p")?;
+    Ok(Change::SetProp { path, name, value })
+}
+
+fn set_to(alloc: Global, path: RelPath, value: &str, times: usize) -> Result<Change, Fail> {
+    let value = text_of(alloc, value, times)?;
+    set(alloc, path, Some(value))
+}
+
+fn copy(alloc: Global, path: RelPath, rev: u64, source: &str) -> Result<Change, Fail> {
+    let source = RelPath::parse(alloc, source)?;
+    let rev = Rev(rev);
+    Ok(Change::CopyFrom { rev, source, path })
+}
+
+fn change_of(alloc: Global, path: RelPath, act: Act) -> Result<Change, Fail> {
+    match act {
+        Act::MakeDir => Ok(Change::MakeDir { path }),
+        Act::Put(text) => put(alloc, path, text, 1),
+        Act::PutLong(len) => put(alloc, path, "a", len),
+        Act::Set(value) => set_to(alloc, path, value, 1),
+        Act::SetLong(len) => set_to(alloc, path, "a", len),
+        Act::Unset => set(alloc, path, None),
+        Act::Remove => Ok(Change::Remove { path }),
+        Act::Copy(rev, source) => copy(alloc, path, rev, source),
     }
 }
 
-pub(crate) fn prop_name(alloc: Global) -> Result<PropName, CommitFault> {
-    PropName::parse(alloc, "p").map_err(|_| CommitFault::Memory)
+fn push(alloc: Global, changes: &mut Vec<Change>, at: &str, act: Act) -> Result<(), Fail> {
+    let path = RelPath::parse(alloc, at)?;
+    let change = change_of(alloc, path, act)?;
+    changes.push(change)?;
+    Ok(())
 }
 
-// The change of a step, if it is one.
-pub(crate) fn change_of(alloc: Global, step: Step) -> Result<Option<Change>, CommitFault> {
-    Ok(match step {
-        Step::MakeDir(path) => Some(Change::MakeDir {
-            path: path_at(alloc, path)?,
-        }),
-        Step::Put(path, text) => Some(Change::PutFile {
-            path: path_at(alloc, path)?,
-            text: text_of(alloc, text)?,
-        }),
-        Step::SetProp(path, value) => Some(Change::SetProp {
-            path: path_at(alloc, path)?,
-            name: prop_name(alloc)?,
-            value: value_of(alloc, value)?,
-        }),
-        Step::Remove(path) => Some(Change::Remove {
-            path: path_at(alloc, path)?,
-        }),
-        Step::Copy(rev, source, path) => Some(Change::CopyFrom {
-            rev: Rev(rev),
-            source: path_at(alloc, source)?,
-            path: path_at(alloc, path)?,
-        }),
-        Step::Commit => None,
-    })
+fn push_deep(alloc: Global, changes: &mut Vec<Change>, depth: usize, act: Act) -> Result<(), Fail> {
+    let text = "/a".repeat(alloc, depth)?;
+    push(alloc, changes, text.as_str().trim_start_matches('/'), act)
+}
+
+fn push_nested(alloc: Global, changes: &mut Vec<Change>, depth: usize) -> Result<(), Fail> {
+    for above in 0..depth {
+        push_deep(alloc, changes, above + 1, Act::MakeDir)?;
+    }
+    Ok(())
 }
 
 // The new revision, or 100 and the fault's number.
-pub(crate) fn commit(repo: &mut Repo, changes: &[Change]) -> u64 {
+fn answer_of(repo: &mut Repo, changes: &[Change]) -> u64 {
     match repo.commit(changes) {
         Ok(rev) => rev.0,
         Err(fault) => 100 + u64::from(fault.number()),
     }
 }
 
-// Takes the steps in order, and gives what each commit answers.
-pub(crate) fn run(alloc: Global, repo: &mut Repo, steps: &[Step]) -> Result<Vec<u64>, Fail> {
-    let mut answers = Vec::new(alloc);
+fn push_answer(answer: u64, out: &mut String) -> Result<(), Fail> {
+    write!(out, "{answer},")?;
+    Ok(())
+}
+
+fn commit(repo: &mut Repo, changes: &mut Vec<Change>, out: &mut String) -> Result<(), Fail> {
+    let answer = answer_of(repo, changes);
+    changes.clear();
+    push_answer(answer, out)
+}
+
+fn take(
+    alloc: Global,
+    repo: &mut Repo,
+    changes: &mut Vec<Change>,
+    step: Step,
+    out: &mut String,
+) -> Result<(), Fail> {
+    match step {
+        Step::At(path, act) => push(alloc, changes, path, act),
+        Step::Deep(depth, act) => push_deep(alloc, changes, depth, act),
+        Step::Nest(depth) => push_nested(alloc, changes, depth),
+        Step::Commit => commit(repo, changes, out),
+    }
+}
+
+/// Takes the steps in order, and writes the answer of each commit.
+pub(crate) fn take_all(
+    alloc: Global,
+    repo: &mut Repo,
+    steps: &[Step],
+    out: &mut String,
+) -> Result<(), Fail> {
     let mut changes = Vec::new(alloc);
     for step in steps {
-        match change_of(alloc, *step)? {
-            Some(change) => changes.push(change)?,
-            None => {
-                answers.push(commit(repo, &changes))?;
-                changes = Vec::new(alloc);
-            }
-        }
+        take(alloc, repo, &mut changes, *step, out)?;
     }
-    Ok(answers)
+    Ok(())
 }
-
-pub(crate) fn node(alloc: Global, repo: &Repo, rev: u64, path: &str) -> Option<NodeId> {
-    match RelPath::parse(alloc, path) {
-        Ok(path) => repo.lookup(Rev(rev), &path),
-        Err(_) => None,
-    }
-}
-
-// The line of what stands at a path, and 0 where nothing does or it can't be said.
-pub(crate) fn line(alloc: Global, repo: &Repo, rev: u64, path: &str) -> u64 {
-    match node(alloc, repo, rev, path) {
-        Some(id) => repo.line(id).unwrap_or(0),
-        None => 0,
-    }
-}
-
-// Whether what stands at two places, each a revision and a path, is related.
-pub(crate) fn are_related(alloc: Global, repo: &Repo, from: (u64, &str), to: (u64, &str)) -> bool {
-    let a = node(alloc, repo, from.0, from.1);
-    let b = node(alloc, repo, to.0, to.1);
-    match (a, b) {
-        (Some(a), Some(b)) => repo.are_related(a, b),
-        _ => false,
-    }
-}
-
-pub(crate) fn has_text(alloc: Global, repo: &Repo, rev: u64, path: &str, text: &str) -> bool {
-    match node(alloc, repo, rev, path) {
-        Some(id) => repo.text(id) == Some(text.as_bytes()),
-        None => false,
-    }
-}
-
-pub(crate) fn has_prop(alloc: Global, repo: &Repo, rev: u64, path: &str) -> bool {
-    let Some(id) = node(alloc, repo, rev, path) else {
-        return false;
-    };
-    match repo.props(id) {
-        Some(props) => !props.is_empty(),
-        None => false,
-    }
-}
-
-pub(crate) fn entry_count(alloc: Global, repo: &Repo, rev: u64, path: &str) -> Option<usize> {
-    let entries = repo.entries(node(alloc, repo, rev, path)?)?;
-    Some(entries.len())
-}
-
-// A file whose text is first `a` and then `abc`.
-pub(crate) const TWO_REVISIONS: [Step; 4] = [Put("f", "a"), Commit, Put("f", "abc"), Commit];

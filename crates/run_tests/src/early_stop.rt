@@ -1,5 +1,6 @@
 // An update whose driver is never more than two calls ahead, and which may be refused memory anywhere.
-use crate::histories::path_at;
+use crate::histories::{path_at, text_of};
+use crate::runs::Answer;
 use crate::threads::{IN_PLACE, comes};
 use std::alloc::Global;
 use std::sync::Wait;
@@ -8,7 +9,7 @@ use std::test::Fail;
 use std::thread::Threads;
 use svn_repo::{Change, Repo};
 use svn_run::{Cause, Gate, Outcome, RunFault, update};
-use svn_types::{Rev, Text};
+use svn_types::Rev;
 use svn_wc::WorkingCopy;
 
 const FILES: u64 = 40;
@@ -32,20 +33,18 @@ impl Gate for InStep {
     }
 }
 
-fn put_file(alloc: Global, changes: &mut Vec<Change>, file: u64, text: &str) -> Result<(), Fail> {
+fn put_file(alloc: Global, file: u64, text: &str) -> Result<Change, Fail> {
     let name = format!(in alloc; "f{file:02}")?;
-    changes.push(Change::PutFile {
-        path: path_at(alloc, &name)?,
-        text: Text::new(text.as_bytes().to_vec(alloc)?),
-    })?;
-    Ok(())
+    let text = text_of(alloc, text)?;
+    let path = path_at(alloc, &name)?;
+    Ok(Change::PutFile { path, text })
 }
 
 // Gives each file this text, in one commit.
 fn put_all(alloc: Global, repo: &mut Repo, text: &str) -> Result<(), Fail> {
     let mut changes = Vec::new(alloc);
     for file in 0..FILES {
-        put_file(alloc, &mut changes, file, text)?;
+        changes.push(put_file(alloc, file, text)?)?;
     }
     repo.commit(&changes)?;
     Ok(())
@@ -82,7 +81,7 @@ fn run_in_step<R: Threads + Wait + Sync>(
     rt: &R,
     alloc: Global,
     repo: &Repo,
-) -> Result<(Result<Outcome, RunFault>, bool), Fail> {
+) -> Result<(Answer, bool), Fail> {
     let mut copy = WorkingCopy::checkout(alloc, repo, Rev(1))?;
     let gate = InStep {
         taken: AtomicU64::new(0),
@@ -99,10 +98,10 @@ fn run_in_step<R: Threads + Wait + Sync>(
 fn a_refused_call_stops_the_driver(rt: HostRuntime) -> Result<(), Fail> {
     let repo = put_twice(rt.alloc())?;
     let (answer, is_true) = run_in_step(&rt, rt.alloc(), &repo)?;
-    assert!(rt; is_true);
-    match answer {
-        Ok(outcome) => assert!(rt; is_expected(outcome), "{outcome:?}"),
-        Err(fault) => assert_eq!(rt; fault, RunFault::Memory),
-    }
+    let ends = match answer {
+        Ok(outcome) => is_expected(outcome),
+        Err(fault) => fault == RunFault::Memory,
+    };
+    assert!(rt; is_true && ends, "{answer:?}, true copy: {is_true}");
     Ok(())
 }

@@ -1,10 +1,8 @@
 // Runs that do not begin.
-use crate::copies::has;
 use crate::histories::{Build, Step, copy_of, repository};
 use crate::rows::{BRANCH, CHANGED_FILE};
-use crate::runs::Form::{InThreads, InTurn};
-use crate::runs::{Form, Request, answers};
-use std::alloc::Global;
+use crate::runs::{Request, write_run, wrote};
+use std::alloc::{AllocError, Global};
 use std::process::Abort;
 use std::sync::Wait;
 use std::test::Fail;
@@ -76,39 +74,70 @@ static REFUSALS: [Refusal; 6] = [
     },
 ];
 
-fn is_refused<R: Threads + Wait + Sync + Abort>(
-    rt: &R,
-    alloc: Global,
-    refusal: &Refusal,
-    form: Form,
-) -> Result<(), Fail> {
-    let repo = repository(alloc, refusal.history)?;
-    let mut copy = copy_of(alloc, &repo, &[Build::Checkout(refusal.root, 1)])?;
-    let request = Request {
+// By a call: whoever names the table itself is proved with all that stands in it, at each of its steps.
+fn refusals() -> &'static [Refusal] {
+    &REFUSALS
+}
+
+fn request_of(refusal: &Refusal, capacity: Option<usize>) -> Request {
+    Request {
         of: "a refused run",
         to: refusal.to,
         target: refusal.target,
         cancel_after: None,
         late_texts: false,
-        form,
-    };
-    answers(rt, alloc, &repo, &mut copy, &request, Err(refusal.fault))?;
-    has(rt, alloc, &copy, refusal.left, &request)
+        capacity,
+    }
+}
+
+fn refused<R: Threads + Wait + Sync>(
+    rt: &R,
+    alloc: Global,
+    refusal: &Refusal,
+    request: &Request,
+) -> Result<String, Fail> {
+    let repo = repository(alloc, refusal.history)?;
+    let mut copy = copy_of(alloc, &repo, &[Build::Checkout(refusal.root, 1)])?;
+    let mut text = String::new(alloc);
+    write_run(rt, alloc, &repo, &mut copy, request, &mut text)?;
+    Ok(text)
+}
+
+fn is_refused<R: Threads + Wait + Sync + Abort>(
+    rt: &R,
+    alloc: Global,
+    refusal: &Refusal,
+    capacity: Option<usize>,
+) -> Result<(), Fail> {
+    let request = request_of(refusal, capacity);
+    let text = refused(rt, alloc, refusal, &request)?;
+    let wanted = format!(in alloc; "Err({:?})\n{}", refusal.fault, refusal.left)?;
+    wrote(rt, &text, &wanted, &request);
+    Ok(())
+}
+
+fn each_form_is_refused<R: Threads + Wait + Sync + Abort>(
+    rt: &R,
+    alloc: Global,
+    refusal: &Refusal,
+) -> Result<(), Fail> {
+    for capacity in [None, Some(1), Some(0)] {
+        is_refused(rt, alloc, refusal, capacity)?;
+    }
+    Ok(())
 }
 
 // The capacity is looked at last.
 #[test]
 fn runs_that_lead_nowhere_are_refused(rt: HostRuntime) -> Result<(), Fail> {
-    for refusal in &REFUSALS {
-        for form in [InTurn, InThreads(1), InThreads(0)] {
-            is_refused(&rt, rt.alloc(), refusal, form)?;
-        }
+    for refusal in refusals() {
+        each_form_is_refused(&rt, rt.alloc(), refusal)?;
     }
     Ok(())
 }
 
 // An update of one file, which nothing else stops.
-const UNBOUNDED: Refusal = Refusal {
+static UNBOUNDED: Refusal = Refusal {
     history: &CHANGED_FILE,
     root: "",
     to: None,
@@ -120,33 +149,40 @@ const UNBOUNDED: Refusal = Refusal {
 #[test]
 fn capacities_are_bounded(rt: HostRuntime) -> Result<(), Fail> {
     for capacity in [0, 4097] {
-        is_refused(&rt, rt.alloc(), &UNBOUNDED, InThreads(capacity))?;
+        is_refused(&rt, rt.alloc(), &UNBOUNDED, Some(capacity))?;
     }
     Ok(())
 }
 
-static FAULTS: [(RunFault, &str); 6] = [
-    (RunFault::NoSuchRevision, "31: there is no such revision"),
-    (RunFault::Capacity, "32: the capacity isn't 1 to 4096"),
-    (RunFault::Memory, "33: out of memory"),
-    (RunFault::NoThread, "34: no thread could be started"),
-    (RunFault::NoRoot, "35: the copy's root isn't in the target"),
-    (
-        RunFault::OtherRoot,
-        "36: the root in the target is another node",
-    ),
+static FAULTS: [RunFault; 6] = [
+    RunFault::NoSuchRevision,
+    RunFault::Capacity,
+    RunFault::Memory,
+    RunFault::NoThread,
+    RunFault::NoRoot,
+    RunFault::OtherRoot,
 ];
 
-fn is_shown(rt: &impl Abort, alloc: Global, fault: RunFault, line: &str) -> Result<(), Fail> {
-    let shown = format!(in alloc; "{}: {fault}", fault.number())?;
-    assert_eq!(rt; shown.as_str(), line);
-    Ok(())
+const LINES: &str = "\
+31: there is no such revision
+32: the capacity isn't 1 to 4096
+33: out of memory
+34: no thread could be started
+35: the copy's root isn't in the target
+36: the root in the target is another node
+";
+
+fn fault_lines(alloc: Global) -> Result<String, AllocError> {
+    let mut lines = String::new(alloc);
+    for fault in &FAULTS {
+        writeln!(lines, "{}: {fault}", fault.number())?;
+    }
+    Ok(lines)
 }
 
 #[test]
 fn faults_are_shown(rt: HostRuntime) -> Result<(), Fail> {
-    for (fault, line) in &FAULTS {
-        is_shown(&rt, rt.alloc(), *fault, line)?;
-    }
+    let lines = fault_lines(rt.alloc())?;
+    assert_eq!(rt; lines.as_str(), LINES);
     Ok(())
 }

@@ -29,7 +29,7 @@ pub(crate) fn path_at(alloc: Global, text: &str) -> Result<RelPath, PathFault> {
     RelPath::parse(alloc, text)
 }
 
-fn text_of(alloc: Global, text: &str) -> Result<Text, AllocError> {
+pub(crate) fn text_of(alloc: Global, text: &str) -> Result<Text, AllocError> {
     Ok(Text::new(text.as_bytes().to_vec(alloc)?))
 }
 
@@ -40,42 +40,64 @@ fn value_of(alloc: Global, value: Option<&str>) -> Result<Option<Text>, AllocErr
     }
 }
 
-// The change of a step, if it is one.
-fn change_of(alloc: Global, step: Step) -> Result<Option<Change>, Fail> {
-    Ok(match step {
-        Step::MakeDir(path) => Some(Change::MakeDir {
-            path: path_at(alloc, path)?,
-        }),
-        Step::Put(path, text) => Some(Change::PutFile {
-            path: path_at(alloc, path)?,
-            text: text_of(alloc, text)?,
-        }),
-        Step::SetProp(path, name, value) => Some(Change::SetProp {
-            path: path_at(alloc, path)?,
-            name: PropName::parse(alloc, name)?,
-            value: value_of(alloc, value)?,
-        }),
-        Step::Remove(path) => Some(Change::Remove {
-            path: path_at(alloc, path)?,
-        }),
-        Step::Copy(rev, source, path) => Some(Change::CopyFrom {
-            rev: Rev(rev),
-            source: path_at(alloc, source)?,
-            path: path_at(alloc, path)?,
-        }),
-        Step::Commit => None,
+fn put(alloc: Global, path: RelPath, text: &str) -> Result<Change, Fail> {
+    let text = text_of(alloc, text)?;
+    Ok(Change::PutFile { path, text })
+}
+
+fn set_prop(alloc: Global, path: RelPath, name: &str, value: Option<&str>) -> Result<Change, Fail> {
+    let name = PropName::parse(alloc, name)?;
+    let value = value_of(alloc, value)?;
+    Ok(Change::SetProp { path, name, value })
+}
+
+fn copy(alloc: Global, path: RelPath, rev: u64, source: &str) -> Result<Change, Fail> {
+    let source = path_at(alloc, source)?;
+    Ok(Change::CopyFrom {
+        rev: Rev(rev),
+        source,
+        path,
     })
 }
 
-fn take(alloc: Global, repo: &mut Repo, changes: &mut Vec<Change>, step: Step) -> Result<(), Fail> {
-    match change_of(alloc, step)? {
-        Some(change) => changes.push(change)?,
-        None => {
-            repo.commit(changes)?;
-            changes.clear();
-        }
+// Where a step changes the repository, unless it is a commit.
+fn changed_place(step: Step) -> Option<&'static str> {
+    match step {
+        Step::MakeDir(path)
+        | Step::Put(path, _)
+        | Step::SetProp(path, _, _)
+        | Step::Remove(path)
+        | Step::Copy(_, _, path) => Some(path),
+        Step::Commit => None,
     }
+}
+
+// The change of a step at its path.
+fn change_at(alloc: Global, path: RelPath, step: Step) -> Result<Change, Fail> {
+    match step {
+        Step::MakeDir(_) => Ok(Change::MakeDir { path }),
+        Step::Put(_, text) => put(alloc, path, text),
+        Step::SetProp(_, name, value) => set_prop(alloc, path, name, value),
+        Step::Copy(rev, source, _) => copy(alloc, path, rev, source),
+        _ => Ok(Change::Remove { path }),
+    }
+}
+
+fn change_of(alloc: Global, step: Step, place: &str) -> Result<Change, Fail> {
+    change_at(alloc, path_at(alloc, place)?, step)
+}
+
+fn commit(repo: &mut Repo, changes: &mut Vec<Change>) -> Result<(), Fail> {
+    repo.commit(changes)?;
+    changes.clear();
     Ok(())
+}
+
+fn take(alloc: Global, repo: &mut Repo, changes: &mut Vec<Change>, step: Step) -> Result<(), Fail> {
+    match changed_place(step) {
+        Some(place) => Ok(changes.push(change_of(alloc, step, place)?)?),
+        None => commit(repo, changes),
+    }
 }
 
 // The repository with these commits.
@@ -88,9 +110,28 @@ pub(crate) fn repository(alloc: Global, steps: &[Step]) -> Result<Repo, Fail> {
     Ok(repo)
 }
 
-fn checkout(alloc: Global, repo: &Repo, root: &str, rev: u64) -> Result<WorkingCopy, Fail> {
+fn checkout(
+    alloc: Global,
+    repo: &Repo,
+    copy: &mut WorkingCopy,
+    root: &str,
+    rev: u64,
+) -> Result<(), Fail> {
     let root = path_at(alloc, root)?;
-    Ok(WorkingCopy::checkout_at(alloc, repo, &root, Rev(rev))?)
+    *copy = WorkingCopy::checkout_at(alloc, repo, &root, Rev(rev))?;
+    Ok(())
+}
+
+fn switch(
+    alloc: Global,
+    repo: &Repo,
+    copy: &mut WorkingCopy,
+    at: &RelPath,
+    to: &str,
+    rev: u64,
+) -> Result<(), Fail> {
+    let to = path_at(alloc, to)?;
+    Ok(copy.switch(repo, at, &to, Rev(rev))?)
 }
 
 fn change_copy(
@@ -100,15 +141,11 @@ fn change_copy(
     step: Build,
 ) -> Result<(), Fail> {
     match step {
-        Build::Checkout(root, rev) => *copy = checkout(alloc, repo, root, rev)?,
-        Build::Place(path, rev) => copy.place(repo, &path_at(alloc, path)?, Rev(rev))?,
-        Build::Switch(path, to, rev) => {
-            let to = path_at(alloc, to)?;
-            copy.switch(repo, &path_at(alloc, path)?, &to, Rev(rev))?;
-        }
-        Build::Forget(path) => copy.forget(&path_at(alloc, path)?)?,
+        Build::Checkout(root, rev) => checkout(alloc, repo, copy, root, rev),
+        Build::Place(path, rev) => Ok(copy.place(repo, &path_at(alloc, path)?, Rev(rev))?),
+        Build::Switch(path, to, rev) => switch(alloc, repo, copy, &path_at(alloc, path)?, to, rev),
+        Build::Forget(path) => Ok(copy.forget(&path_at(alloc, path)?)?),
     }
-    Ok(())
 }
 
 // The copy that these steps make.

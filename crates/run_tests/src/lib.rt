@@ -1,8 +1,9 @@
-//! Tests of runs: in turn and in two threads, stopped after every number of calls and made again.
+//! Tests of runs: in turn and in two threads, stopped after every number of calls and made again; and of what is read of scripts: their faults,
+//! the commands that lines are, and the words of the command line.
 #![tactic(auto)]
 
 #[cfg(test)]
-mod copies;
+mod command_line;
 #[cfg(test)]
 mod early_stop;
 #[cfg(test)]
@@ -13,6 +14,10 @@ mod histories;
 mod rows;
 #[cfg(test)]
 mod runs;
+#[cfg(test)]
+mod script_faults;
+#[cfg(test)]
+mod script_forms;
 #[cfg(test)]
 mod stops;
 #[cfg(test)]

@@ -12,14 +12,7 @@ use svn_run::{
 use svn_types::Rev;
 use svn_wc::WorkingCopy;
 
-#[derive(Clone, Copy, Debug)]
-pub(crate) enum Form {
-    InTurn,
-    // with so many calls at most between the two threads
-    InThreads(usize),
-}
-
-#[derive(Clone, Copy, Debug)]
+#[derive(Clone, Copy)]
 pub(crate) struct Request {
     // what is run, for the eye
     pub(crate) of: &'static str,
@@ -27,23 +20,19 @@ pub(crate) struct Request {
     pub(crate) target: u64,
     pub(crate) cancel_after: Option<u64>,
     pub(crate) late_texts: bool,
-    pub(crate) form: Form,
+    // how many calls at most between the two threads, or none where it is run on one
+    pub(crate) capacity: Option<usize>,
 }
 
-// How many calls go from thread to thread.
-fn passed(outcome: Outcome) -> u64 {
-    match outcome {
-        Outcome::Closed { calls } => calls,
-        Outcome::Aborted { made, .. } => made.saturating_add(1),
-    }
-}
+// How a run ended.
+pub(crate) type Answer = Result<Outcome, RunFault>;
 
 fn in_turn(
     alloc: Global,
     repo: &Repo,
     copy: &mut WorkingCopy,
     request: &Request,
-) -> Result<Result<Outcome, RunFault>, Fail> {
+) -> Result<Answer, Fail> {
     if copy.check_true(repo).is_err() {
         return Err(Fail::from("the copy is not true"));
     }
@@ -58,8 +47,16 @@ fn in_turn(
     })
 }
 
+// How many calls go from thread to thread.
+fn passed(outcome: Outcome) -> u64 {
+    match outcome {
+        Outcome::Closed { calls } => calls,
+        Outcome::Aborted { made, .. } => made.saturating_add(1),
+    }
+}
+
 // As many calls have to be sent and taken as the outcome says.
-fn counted(outcome: Outcome, sent: u64, taken: u64) -> Result<Result<Outcome, RunFault>, Fail> {
+fn counted(outcome: Outcome, sent: u64, taken: u64) -> Result<Answer, Fail> {
     let calls = passed(outcome);
     if sent != calls || taken != calls {
         return Err(Fail::from("other calls were passed"));
@@ -74,7 +71,7 @@ fn in_threads<R: Threads + Wait + Sync>(
     copy: &mut WorkingCopy,
     request: &Request,
     capacity: usize,
-) -> Result<Result<Outcome, RunFault>, Fail> {
+) -> Result<Answer, Fail> {
     if copy.check_true(repo).is_err() {
         return Err(Fail::from("the copy is not true"));
     }
@@ -98,43 +95,39 @@ fn in_threads<R: Threads + Wait + Sync>(
 }
 
 // The copy has to be true.
-fn run<R: Threads + Wait + Sync>(
+pub(crate) fn run<R: Threads + Wait + Sync>(
     rt: &R,
     alloc: Global,
     repo: &Repo,
     copy: &mut WorkingCopy,
     request: &Request,
-) -> Result<Result<Outcome, RunFault>, Fail> {
-    match request.form {
-        Form::InTurn => in_turn(alloc, repo, copy, request),
-        Form::InThreads(capacity) => in_threads(rt, alloc, repo, copy, request, capacity),
+) -> Result<Answer, Fail> {
+    match request.capacity {
+        None => in_turn(alloc, repo, copy, request),
+        Some(capacity) => in_threads(rt, alloc, repo, copy, request, capacity),
     }
 }
 
-// A run of a true copy, which has to answer this.
-pub(crate) fn answers<R: Threads + Wait + Sync + Abort>(
+// Writes how a run of a true copy ended, and what the copy has then.
+pub(crate) fn write_run<R: Threads + Wait + Sync>(
     rt: &R,
     alloc: Global,
     repo: &Repo,
     copy: &mut WorkingCopy,
     request: &Request,
-    answer: Result<Outcome, RunFault>,
+    text: &mut String,
 ) -> Result<(), Fail> {
-    let found = run(rt, alloc, repo, copy, request)?;
-    assert_eq!(rt; found, answer, "{request:?}");
+    let answer = run(rt, alloc, repo, copy, request)?;
+    write!(text, "{answer:?}\n{copy}")?;
     Ok(())
 }
 
-// A run of a true copy, which has to be one to the end.
-pub(crate) fn closes<R: Threads + Wait + Sync + Abort>(
-    rt: &R,
-    alloc: Global,
-    repo: &Repo,
-    copy: &mut WorkingCopy,
-    request: &Request,
-) -> Result<(), Fail> {
-    let found = run(rt, alloc, repo, copy, request)?;
-    let is_closed = matches!(found, Ok(Outcome::Closed { .. }));
-    assert!(rt; is_closed, "{request:?}");
-    Ok(())
+// What a run wrote is this.
+pub(crate) fn wrote(rt: &impl Abort, text: &str, wanted: &str, request: &Request) {
+    assert_eq!(rt;
+        text,
+        wanted,
+        "{}: capacity {:?}, late texts {}, stopped after {:?}",
+        request.of, request.capacity, request.late_texts, request.cancel_after
+    );
 }

@@ -107,3 +107,14 @@ fn checks_out_a_branch(rt: HostRuntime) -> Result<(), Fail> {
     ];
     same(&rt, rt.alloc(), TWO_BRANCHES, CASES)
 }
+
+// A file is changed behind the checkout, and the copy updated by its parts: its report, and the drive of that to its applier.
+#[test]
+fn updates_a_changed_file(rt: HostRuntime) -> Result<(), Fail> {
+    const CASES: &[Case<'static>] = &[(
+        "put f abc; commit; check; show; update 2; show; check; place f 1; show; forget f; show; check",
+        "true; . dir 1 .; f file 1 f a; Ok(Closed { calls: 7 }); . dir 2 .; f file 2 f abc; true; \
+         . dir 2 .; f file 1 f a; . dir 2 .; f not-present; true; ",
+    )];
+    same(&rt, rt.alloc(), "put f a; commit; checkout 1 .; ", CASES)
+}

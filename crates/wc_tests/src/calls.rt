@@ -3,91 +3,93 @@ use crate::words::{checksum, path, revision, text, token, value, word};
 use std::alloc::Global;
 use std::test::Fail;
 use svn_editor::Call;
-use svn_types::PropName;
+use svn_types::{PropName, RelPath};
 
-fn directory_call(alloc: Global, step: &str) -> Result<Option<Call>, Fail> {
-    Ok(Some(match word(step, 0) {
-        "open_root" => Call::OpenRoot {
-            base: revision(step, 1)?,
-            token: token(step, 2)?,
-        },
+// A call for what is at a path.
+fn entry_call(step: &str, path: RelPath) -> Call {
+    let parent = token(step, 2);
+    match word(step, 0) {
         "add_directory" => Call::AddDirectory {
-            path: path(alloc, step, 1)?,
-            parent: token(step, 2)?,
-            token: token(step, 3)?,
+            path,
+            parent,
+            token: token(step, 3),
+        },
+        "add_file" => Call::AddFile {
+            path,
+            parent,
+            token: token(step, 3),
         },
         "open_directory" => Call::OpenDirectory {
-            path: path(alloc, step, 1)?,
-            parent: token(step, 2)?,
-            base: revision(step, 3)?,
-            token: token(step, 4)?,
-        },
-        "change_dir_prop" => Call::ChangeDirProp {
-            token: token(step, 1)?,
-            name: PropName::parse(alloc, word(step, 2))?,
-            value: value(alloc, step, 3)?,
-        },
-        "close_directory" => Call::CloseDirectory {
-            token: token(step, 1)?,
-        },
-        _ => return Ok(None),
-    }))
-}
-
-fn file_call(alloc: Global, step: &str) -> Result<Option<Call>, Fail> {
-    Ok(Some(match word(step, 0) {
-        "add_file" => Call::AddFile {
-            path: path(alloc, step, 1)?,
-            parent: token(step, 2)?,
-            token: token(step, 3)?,
+            path,
+            parent,
+            base: revision(step, 3),
+            token: token(step, 4),
         },
         "open_file" => Call::OpenFile {
-            path: path(alloc, step, 1)?,
-            parent: token(step, 2)?,
-            base: revision(step, 3)?,
-            token: token(step, 4)?,
+            path,
+            parent,
+            base: revision(step, 3),
+            token: token(step, 4),
         },
-        "change_file_prop" => Call::ChangeFileProp {
-            token: token(step, 1)?,
-            name: PropName::parse(alloc, word(step, 2))?,
-            value: value(alloc, step, 3)?,
+        _ => Call::DeleteEntry {
+            path,
+            rev: revision(step, 2),
+            parent: token(step, 3),
         },
-        "apply_text" => Call::ApplyText {
-            token: token(step, 1)?,
-            base_md5: checksum(step, 2),
-            text: text(alloc, step, 3)?,
-        },
-        "close_file" => Call::CloseFile {
-            token: token(step, 1)?,
+    }
+}
+
+fn prop_call(alloc: Global, step: &str) -> Result<Call, Fail> {
+    let token = token(step, 1);
+    let name = PropName::parse(alloc, word(step, 2))?;
+    let value = value(alloc, step, 3)?;
+    if word(step, 0) == "change_dir_prop" {
+        Ok(Call::ChangeDirProp { token, name, value })
+    } else {
+        Ok(Call::ChangeFileProp { token, name, value })
+    }
+}
+
+fn text_call(alloc: Global, step: &str) -> Result<Call, Fail> {
+    let text = text(alloc, step, 3)?;
+    Ok(Call::ApplyText {
+        token: token(step, 1),
+        base_md5: checksum(step, 2),
+        text,
+    })
+}
+
+// A call that has no path and no text.
+fn short_call(step: &str) -> Result<Call, Fail> {
+    match word(step, 0) {
+        "set_target_revision" => Ok(Call::SetTargetRevision {
+            rev: revision(step, 1),
+        }),
+        "open_root" => Ok(Call::OpenRoot {
+            base: revision(step, 1),
+            token: token(step, 2),
+        }),
+        "close_directory" => Ok(Call::CloseDirectory {
+            token: token(step, 1),
+        }),
+        "close_file" => Ok(Call::CloseFile {
+            token: token(step, 1),
             text_md5: checksum(step, 2),
-        },
-        _ => return Ok(None),
-    }))
+        }),
+        "close_edit" => Ok(Call::CloseEdit),
+        "abort_edit" => Ok(Call::AbortEdit),
+        _ => Err(Fail::from("a step is no call")),
+    }
 }
 
-fn edit_call(alloc: Global, step: &str) -> Result<Option<Call>, Fail> {
-    Ok(Some(match word(step, 0) {
-        "set_target_revision" => Call::SetTargetRevision {
-            rev: revision(step, 1)?,
-        },
-        "delete_entry" => Call::DeleteEntry {
-            path: path(alloc, step, 1)?,
-            rev: revision(step, 2)?,
-            parent: token(step, 3)?,
-        },
-        "close_edit" => Call::CloseEdit,
-        "abort_edit" => Call::AbortEdit,
-        _ => return Ok(None),
-    }))
-}
-
-// The call of a step, if it is one.
-pub(crate) fn call(alloc: Global, step: &str) -> Result<Option<Call>, Fail> {
-    if let Some(call) = directory_call(alloc, step)? {
-        return Ok(Some(call));
+// The call of a step.
+pub(crate) fn call(alloc: Global, step: &str) -> Result<Call, Fail> {
+    match word(step, 0) {
+        "add_directory" | "add_file" | "open_directory" | "open_file" | "delete_entry" => {
+            Ok(entry_call(step, path(alloc, step, 1)?))
+        }
+        "change_dir_prop" | "change_file_prop" => prop_call(alloc, step),
+        "apply_text" => text_call(alloc, step),
+        _ => short_call(step),
     }
-    if let Some(call) = file_call(alloc, step)? {
-        return Ok(Some(call));
-    }
-    edit_call(alloc, step)
 }

@@ -5,23 +5,39 @@ use std::test::Fail;
 use svn_model::BaseNode;
 use svn_types::{Props, RelPath};
 
+fn file(alloc: Global, line: &str) -> Result<BaseNode, Fail> {
+    let repos_path = path(alloc, line, 3)?;
+    let text = text(alloc, line, 4)?;
+    Ok(BaseNode::File {
+        rev: revision(line, 2),
+        repos_path,
+        text,
+        props: Props::new(alloc),
+    })
+}
+
+fn directory(alloc: Global, line: &str) -> Result<BaseNode, Fail> {
+    let repos_path = path(alloc, line, 3)?;
+    Ok(BaseNode::Dir {
+        rev: revision(line, 2),
+        repos_path,
+        complete: word(line, 4).is_empty(),
+        props: Props::new(alloc),
+    })
+}
+
+fn base_node(alloc: Global, line: &str) -> Result<BaseNode, Fail> {
+    match word(line, 1) {
+        "file" => file(alloc, line),
+        "dir" => directory(alloc, line),
+        _ => Ok(BaseNode::NotPresent),
+    }
+}
+
 fn node(alloc: Global, line: &str) -> Result<(RelPath, BaseNode), Fail> {
-    let node = match word(line, 1) {
-        "file" => BaseNode::File {
-            rev: revision(line, 2)?,
-            repos_path: path(alloc, line, 3)?,
-            text: text(alloc, line, 4)?,
-            props: Props::new(alloc),
-        },
-        "dir" => BaseNode::Dir {
-            rev: revision(line, 2)?,
-            repos_path: path(alloc, line, 3)?,
-            complete: word(line, 4).is_empty(),
-            props: Props::new(alloc),
-        },
-        _ => BaseNode::NotPresent,
-    };
-    Ok((path(alloc, line, 0)?, node))
+    let node = base_node(alloc, line)?;
+    let path = path(alloc, line, 0)?;
+    Ok((path, node))
 }
 
 // The nodes of lines with `; ` between two.

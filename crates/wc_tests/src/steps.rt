@@ -1,137 +1,140 @@
 // Scripts of tests: steps with `; ` between two. A step is a change of the repository or its commit, or a call of a working copy. From `edit` or
-// `nodes` to `stop` are the calls of an edit, or the nodes of a new copy. `show`, `report`, `check`, `count` and the end of an edit write, and so
-// does a refusal: its number.
+// `nodes` to `stop` are the calls of an edit, or the nodes of a new copy; from `drive`, `drive_switch` or `serve` to `stop` the entries of a
+// report, to which an editor is driven, or which is checked. `update` drives the copy by what it reports. `cancel` and `refuse` stop the drives
+// behind them. `show`, `report`, `check`, `count`, an update, a drive, a check of a report and the end of an edit write, and so does a refusal: its
+// number.
 use crate::calls::call;
+use crate::changes::change;
+use crate::drives::{NEVER, Stops, write_check, write_drive, write_update};
 use crate::nodes::nodes;
 use crate::printed::{write_crawl, write_length, write_nodes, write_truth};
-use crate::words::{path, revision, text, value, word};
+use crate::words::{number, path, revision, word};
 use std::alloc::{AllocError, Global};
 use std::process::Abort;
 use std::test::Fail;
 use svn_editor::{EditFault, Editor};
 use svn_repo::{Change, Repo};
-use svn_types::{PropName, Rev};
+use svn_types::{RelPath, Rev};
 use svn_wc::{Applier, WcFault, WorkingCopy};
 
-// A repository, the changes for its next commit, a copy, and what was written.
+// A repository, the changes for its next commit, a copy, what stops a drive, and what was written.
 #[derive(Drop)]
 struct State {
     alloc: Global,
     repo: Repo,
     changes: Vec<Change>,
     copy: WorkingCopy,
+    stops: Stops,
     out: String,
 }
 
-// The change of a step, if it is one.
-fn change(alloc: Global, step: &str) -> Result<Option<Change>, Fail> {
-    Ok(Some(match word(step, 0) {
-        "mkdir" => Change::MakeDir {
-            path: path(alloc, step, 1)?,
-        },
-        "put" => Change::PutFile {
-            path: path(alloc, step, 1)?,
-            text: text(alloc, step, 2)?,
-        },
-        "prop" => Change::SetProp {
-            path: path(alloc, step, 1)?,
-            name: PropName::parse(alloc, word(step, 2))?,
-            value: value(alloc, step, 3)?,
-        },
-        "remove" => Change::Remove {
-            path: path(alloc, step, 1)?,
-        },
-        "copy" => Change::CopyFrom {
-            rev: revision(step, 1)?,
-            source: path(alloc, step, 2)?,
-            path: path(alloc, step, 3)?,
-        },
-        _ => return Ok(None),
-    }))
+fn write_fault(out: &mut String, fault: WcFault) -> Result<(), AllocError> {
+    write!(out, "refused {}; ", fault.number())
 }
 
 impl State {
+    fn change(&mut self, step: &str) -> Result<(), Fail> {
+        let change = change(self.alloc, step)?;
+        Ok(self.changes.push(change)?)
+    }
+
     fn commit(&mut self) -> Result<(), Fail> {
         self.repo.commit(&self.changes)?;
         self.changes.clear();
         Ok(())
     }
 
-    fn checkout(&mut self, step: &str) -> Result<(), Fail> {
-        let root = path(self.alloc, step, 2)?;
-        let rev = revision(step, 1)?;
-        match WorkingCopy::checkout_at(self.alloc, &self.repo, &root, rev) {
+    // The copy that was made, if it was.
+    fn keep(&mut self, made: Result<WorkingCopy, WcFault>) -> Result<(), Fail> {
+        match made {
             Ok(copy) => {
                 self.copy = copy;
                 Ok(())
             }
-            Err(fault) => self.write_fault(fault),
+            Err(fault) => Ok(write_fault(&mut self.out, fault)?),
         }
     }
 
-    fn write_fault(&mut self, fault: WcFault) -> Result<(), Fail> {
-        write!(self.out, "refused {}; ", fault.number())?;
-        Ok(())
+    fn checkout(&mut self, step: &str) -> Result<(), Fail> {
+        let root = path(self.alloc, step, 2)?;
+        let made = WorkingCopy::checkout_at(self.alloc, &self.repo, &root, revision(step, 1));
+        self.keep(made)
+    }
+
+    // The copy that these nodes make.
+    fn list(&mut self, lines: &str) -> Result<(), Fail> {
+        let made = WorkingCopy::from_nodes(self.alloc, nodes(self.alloc, lines)?);
+        self.keep(made)
+    }
+
+    fn switch(&mut self, step: &str, at: &RelPath) -> Result<Result<(), WcFault>, Fail> {
+        let from = path(self.alloc, step, 2)?;
+        Ok(self.copy.switch(&self.repo, at, &from, revision(step, 3)))
     }
 
     fn place(&mut self, step: &str) -> Result<Result<(), WcFault>, Fail> {
         let at = path(self.alloc, step, 1)?;
-        Ok(match word(step, 0) {
-            "place" => self.copy.place(&self.repo, &at, revision(step, 2)?),
-            "switch" => {
-                let from = path(self.alloc, step, 2)?;
-                self.copy.switch(&self.repo, &at, &from, revision(step, 3)?)
-            }
-            _ => self.copy.forget(&at),
-        })
+        match word(step, 0) {
+            "place" => Ok(self.copy.place(&self.repo, &at, revision(step, 2))),
+            "switch" => self.switch(step, &at),
+            _ => Ok(self.copy.forget(&at)),
+        }
     }
 
-    // A call that changes the copy. A refused one leaves it as it was.
-    fn build(&mut self, step: &str) -> Result<(), Fail> {
-        let before = format!(in self.alloc; "{}", self.copy)?;
-        let Err(fault) = self.place(step)? else {
-            return Ok(());
-        };
-        self.write_fault(fault)?;
-        if format!(in self.alloc; "{}", self.copy)? != before {
+    fn refuse(&mut self, fault: WcFault, before: &str) -> Result<(), Fail> {
+        write_fault(&mut self.out, fault)?;
+        if format!(in self.alloc; "{}", self.copy)?.as_str() != before {
             self.out.push_str("changed; ")?;
         }
         Ok(())
     }
 
+    // A call that changes the copy. A refused one leaves it as it was.
+    fn build(&mut self, step: &str) -> Result<(), Fail> {
+        let before = format!(in self.alloc; "{}", self.copy)?;
+        match self.place(step)? {
+            Ok(()) => Ok(()),
+            Err(fault) => self.refuse(fault, before.as_str()),
+        }
+    }
+
+    fn write_length(&mut self, step: &str) -> Result<(), Fail> {
+        let at = path(self.alloc, step, 1)?;
+        Ok(write_length(&mut self.out, &self.copy, &at)?)
+    }
+
     fn look(&mut self, step: &str) -> Result<(), Fail> {
         let out = &mut self.out;
         match word(step, 0) {
-            "show" => write_nodes(self.alloc, out, &self.copy)?,
-            "report" => write_crawl(self.alloc, out, &self.copy)?,
-            "count" => write!(out, "{} nodes; ", self.copy.nodes().len())?,
-            "length" => write_length(out, &self.copy, &path(self.alloc, step, 1)?)?,
-            _ => write_truth(out, &self.copy, &self.repo)?,
+            "show" => Ok(write_nodes(self.alloc, out, &self.copy)?),
+            "report" => write_crawl(self.alloc, out, &self.copy),
+            "count" => Ok(write!(out, "{} nodes; ", self.copy.nodes().len())?),
+            "length" => self.write_length(step),
+            _ => Ok(write_truth(out, &self.copy, &self.repo)?),
         }
-        Ok(())
+    }
+
+    fn update(&mut self, step: &str) -> Result<(), Fail> {
+        write_update(self.alloc, &mut self.out, &self.repo, &mut self.copy, step)
     }
 
     fn take(&mut self, step: &str) -> Result<(), Fail> {
-        if let Some(change) = change(self.alloc, step)? {
-            self.changes.push(change)?;
-            return Ok(());
-        }
         match word(step, 0) {
             "commit" => self.commit(),
             "checkout" => self.checkout(step),
+            "update" => self.update(step),
             "place" | "switch" | "forget" => self.build(step),
-            _ => self.look(step),
+            "show" | "report" | "count" | "length" | "check" => self.look(step),
+            _ => self.change(step),
         }
     }
 
-    // The copy that these nodes make.
-    fn list(&mut self, lines: &str) -> Result<(), Fail> {
-        match WorkingCopy::from_nodes(self.alloc, nodes(self.alloc, lines)?) {
-            Ok(copy) => {
-                self.copy = copy;
-                Ok(())
-            }
-            Err(fault) => self.write_fault(fault),
+    fn stop(&mut self, step: &str) {
+        let calls = Some(number(step, 1));
+        if word(step, 0) == "cancel" {
+            self.stops.cancel_after = calls;
+        } else {
+            self.stops.refused = calls;
         }
     }
 
@@ -145,6 +148,28 @@ impl State {
         let mut applier = Applier::new_switch(self.alloc, &mut self.copy, &to)?;
         write_answers(self.alloc, &mut self.out, &mut applier, calls)
     }
+
+    // A step, and the lines up to `stop` where it has such.
+    fn step(&mut self, step: &str, lines: &str) -> Result<(), Fail> {
+        match word(step, 0) {
+            "edit" => self.edit(step, lines),
+            "nodes" => self.list(lines),
+            "drive" | "drive_switch" => write_drive(
+                self.alloc,
+                &mut self.out,
+                &self.repo,
+                step,
+                lines,
+                self.stops,
+            ),
+            "serve" => write_check(self.alloc, &mut self.out, &self.repo, lines),
+            "cancel" | "refuse" => {
+                self.stop(step);
+                Ok(())
+            }
+            _ => self.take(step),
+        }
+    }
 }
 
 // What an applier answers to the calls of an edit: how many it accepts, and the numbers of the faults of the others.
@@ -156,16 +181,13 @@ struct Answers {
 
 impl Answers {
     fn take(&mut self, answer: Result<(), EditFault>) -> Result<(), AllocError> {
-        let Err(fault) = answer else {
-            self.accepted = self.accepted.saturating_add(1);
-            return Ok(());
-        };
-        let before = if self.faults.is_empty() {
-            " refused "
-        } else {
-            " "
-        };
-        write!(self.faults, "{before}{}", fault.number())
+        match answer {
+            Ok(()) => {
+                self.accepted = self.accepted.saturating_add(1);
+                Ok(())
+            }
+            Err(fault) => write!(self.faults, " {}", fault.number()),
+        }
     }
 }
 
@@ -175,9 +197,7 @@ fn give(
     step: &str,
     answers: &mut Answers,
 ) -> Result<(), Fail> {
-    let Some(call) = call(alloc, step)? else {
-        return Err(Fail::from(format!(in alloc; "no call: {step}")?));
-    };
+    let call = call(alloc, step)?;
     Ok(answers.take(applier.call(call))?)
 }
 
@@ -201,9 +221,18 @@ fn write_answers(
 ) -> Result<(), Fail> {
     let answers = answers_to(alloc, applier, calls)?;
     let (accepted, faults) = (answers.accepted, answers.faults.as_str());
+    let refused = if faults.is_empty() { "" } else { " refused" };
     let pools = applier.live_pools();
-    write!(out, "accepted {accepted}{faults} pools {pools}; ")?;
+    write!(out, "accepted {accepted}{refused}{faults} pools {pools}; ")?;
     Ok(())
+}
+
+// Whether lines up to `stop` belong to a step.
+fn has_lines(step: &str) -> bool {
+    matches!(
+        word(step, 0),
+        "edit" | "nodes" | "drive" | "drive_switch" | "serve"
+    )
 }
 
 // The steps up to `stop`, and those behind it.
@@ -222,30 +251,28 @@ fn run(state: &mut State, script: &str) -> Result<(), Fail> {
         }
         let (step, rest) = left.split_once("; ").unwrap_or((left, ""));
         let (lines, after) = block(rest);
-        left = after;
-        match word(step, 0) {
-            "edit" => state.edit(step, lines)?,
-            "nodes" => state.list(lines)?,
-            _ => {
-                state.take(step)?;
-                left = rest;
-            }
-        }
+        state.step(step, lines)?;
+        left = if has_lines(step) { after } else { rest };
     }
     Ok(())
 }
 
-// What a script writes.
-fn written(alloc: Global, begun: &str, script: &str) -> Result<String, Fail> {
+fn start(alloc: Global) -> Result<State, Fail> {
     let repo = Repo::new(alloc)?;
     let copy = WorkingCopy::checkout(alloc, &repo, Rev(0))?;
-    let mut state = State {
+    Ok(State {
         alloc,
         repo,
         changes: Vec::new(alloc),
         copy,
+        stops: NEVER,
         out: String::new(alloc),
-    };
+    })
+}
+
+// What a script writes.
+fn written(alloc: Global, begun: &str, script: &str) -> Result<String, Fail> {
+    let mut state = start(alloc)?;
     run(&mut state, begun)?;
     run(&mut state, script)?;
     Ok(state.out)
@@ -253,6 +280,9 @@ fn written(alloc: Global, begun: &str, script: &str) -> Result<String, Fail> {
 
 // A script, and what it writes.
 pub(crate) type Case<'a> = (&'a str, &'a str);
+
+// A beginning, a script behind it, and what both write.
+pub(crate) type HistoryCase<'a> = (&'a str, &'a str, &'a str);
 
 // Behind this beginning, a script writes what stands beside it.
 pub(crate) fn writes(
@@ -276,6 +306,14 @@ pub(crate) fn same(
 ) -> Result<(), Fail> {
     for case in cases {
         writes(rt, alloc, begun, *case)?;
+    }
+    Ok(())
+}
+
+// Each script, behind its own beginning.
+pub(crate) fn all(rt: &impl Abort, alloc: Global, cases: &[HistoryCase<'_>]) -> Result<(), Fail> {
+    for (begun, script, wanted) in cases {
+        writes(rt, alloc, begun, (script, wanted))?;
     }
     Ok(())
 }

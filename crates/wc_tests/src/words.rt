@@ -1,5 +1,5 @@
 // The words of a step, with one space between two.
-use std::alloc::Global;
+use std::alloc::{AllocError, Global};
 use std::test::Fail;
 use svn_editor::{Digest, Token};
 use svn_types::{RelPath, Rev, Text};
@@ -22,18 +22,18 @@ pub(crate) fn word(step: &str, place: usize) -> &str {
     step.split(' ').nth(place).unwrap_or("")
 }
 
-pub(crate) fn number(step: &str, place: usize) -> Result<u64, Fail> {
-    Ok(word(step, place).parse::<u64>()?)
-}
-
-pub(crate) fn revision(step: &str, place: usize) -> Result<Rev, Fail> {
-    Ok(Rev(number(step, place)?))
-}
-
-// A token, as `#1`.
-pub(crate) fn token(step: &str, place: usize) -> Result<Token, Fail> {
+// A number, as `1` or `#1`; where there is none, the greatest, which no row means.
+pub(crate) fn number(step: &str, place: usize) -> u64 {
     let digits = word(step, place).trim_start_matches('#');
-    Ok(Token(digits.parse::<u64>()?))
+    digits.parse::<u64>().unwrap_or(u64::MAX)
+}
+
+pub(crate) fn revision(step: &str, place: usize) -> Rev {
+    Rev(number(step, place))
+}
+
+pub(crate) fn token(step: &str, place: usize) -> Token {
+    Token(number(step, place))
 }
 
 // A path; `.` is the root.
@@ -42,19 +42,27 @@ pub(crate) fn path(alloc: Global, step: &str, place: usize) -> Result<RelPath, F
     Ok(RelPath::parse(alloc, if text == "." { "" } else { text })?)
 }
 
-// A text; `""` is the empty one, and `x*3` is `xxx`.
-pub(crate) fn text(alloc: Global, step: &str, place: usize) -> Result<Text, Fail> {
-    let text = word(step, place);
-    if let Some(times) = text.strip_prefix("x*") {
-        let long = "x".repeat(alloc, times.parse::<usize>()?)?;
-        return Ok(Text::new(long.into_bytes()));
-    }
-    let text = if text == "\"\"" { "" } else { text };
+// So many bytes `x`.
+fn long_text(alloc: Global, times: &str) -> Result<Text, AllocError> {
+    let long = "x".repeat(alloc, times.parse::<usize>().unwrap_or(0))?;
+    Ok(Text::new(long.into_bytes()))
+}
+
+fn text_of(alloc: Global, text: &str) -> Result<Text, AllocError> {
     Ok(Text::new(Vec::from_slice(alloc, text.as_bytes())?))
 }
 
+// A text; `""` is the empty one, and `x*3` is `xxx`.
+pub(crate) fn text(alloc: Global, step: &str, place: usize) -> Result<Text, AllocError> {
+    let text = word(step, place);
+    if let Some(times) = text.strip_prefix("x*") {
+        return long_text(alloc, times);
+    }
+    text_of(alloc, if text == "\"\"" { "" } else { text })
+}
+
 // A text, where there is such a word.
-pub(crate) fn value(alloc: Global, step: &str, place: usize) -> Result<Option<Text>, Fail> {
+pub(crate) fn value(alloc: Global, step: &str, place: usize) -> Result<Option<Text>, AllocError> {
     if word(step, place).is_empty() {
         return Ok(None);
     }

@@ -2,7 +2,7 @@
 use crate::tables::{NOTHING, Part, TWO_REVISIONS, Table};
 
 // A file changes between two revisions.
-pub(crate) const STORED: Part = (
+const STORED: Part = (
     "\
 put f a
 commit
@@ -30,7 +30,16 @@ f file 2 f abc
 ",
 );
 
-pub(crate) const WHOLE_SCRIPTS: Table = Table {
+// By calls: whoever names the texts themselves is proved with them at each of its steps.
+pub(crate) fn stored_script() -> &'static str {
+    STORED.0
+}
+
+pub(crate) fn stored_output() -> &'static str {
+    STORED.1
+}
+
+pub(crate) static WHOLE_SCRIPTS: Table = Table {
     before: NOTHING,
     after: NOTHING,
     rows: &[
@@ -348,7 +357,7 @@ d prop q 2
 };
 
 // A file whose text is first `a` and then `abc`, checked out as it was first.
-pub(crate) const OF_TWO_REVISIONS: Table = Table {
+pub(crate) static OF_TWO_REVISIONS: Table = Table {
     before: TWO_REVISIONS,
     after: NOTHING,
     rows: &[

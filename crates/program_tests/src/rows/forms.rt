@@ -2,7 +2,7 @@
 use crate::tables::{NOTHING, Table};
 
 // Words are decoded when they are read, and encoded when they are printed.
-pub(crate) const WORDS: Table = Table {
+pub(crate) static WORDS: Table = Table {
     before: NOTHING,
     after: NOTHING,
     rows: &[
@@ -127,7 +127,7 @@ f prop svn:eol-style \"\"
 };
 
 // The last line may lack its line feed.
-pub(crate) const LAST_LINES: Table = Table {
+pub(crate) static LAST_LINES: Table = Table {
     before: NOTHING,
     after: NOTHING,
     rows: &[
@@ -139,7 +139,7 @@ pub(crate) const LAST_LINES: Table = Table {
 };
 
 // Lines that do nothing.
-pub(crate) const SILENT: Table = Table {
+pub(crate) static SILENT: Table = Table {
     before: NOTHING,
     after: NOTHING,
     rows: &[

@@ -1,7 +1,7 @@
 // Copies whose nodes are of several revisions, or of other paths of the repository.
 use crate::tables::{NOTHING, Part, Table};
 
-pub(crate) const MIXED: Table = Table {
+pub(crate) static MIXED: Table = Table {
     before: NOTHING,
     after: NOTHING,
     rows: &[
@@ -317,7 +317,7 @@ ok
 ",
 );
 
-pub(crate) const WHOLE_SWITCHES: Table = Table {
+pub(crate) static WHOLE_SWITCHES: Table = Table {
     before: BRANCHED,
     after: NOTHING,
     rows: &[

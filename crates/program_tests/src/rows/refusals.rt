@@ -4,7 +4,7 @@ use crate::tables::{NOTHING, Part, TWO_REVISIONS, Table};
 const FILE_AND_DIRECTORY: Part = ("put f a\nmkdir d\ncommit\n", "committed 1\n");
 
 // A refused commit makes no revision, and the next has none of its changes.
-pub(crate) const COMMITS: Table = Table {
+pub(crate) static COMMITS: Table = Table {
     before: FILE_AND_DIRECTORY,
     after: ("commit\n", "committed 2\n"),
     rows: &[
@@ -57,7 +57,7 @@ pub(crate) const COMMITS: Table = Table {
 };
 
 // What is refused of a copy leaves it as it was, and the repository too.
-pub(crate) const OF_A_COPY: Table = Table {
+pub(crate) static OF_A_COPY: Table = Table {
     before: TWO_REVISIONS,
     after: ("show\ncommit\n", ". dir 1 .\nf file 1 f a\ncommitted 3\n"),
     rows: &[
@@ -106,7 +106,7 @@ pub(crate) const OF_A_COPY: Table = Table {
 };
 
 // What isn't present can't be forgotten again, and nothing can be placed below it.
-pub(crate) const OF_THE_FORGOTTEN: Table = Table {
+pub(crate) static OF_THE_FORGOTTEN: Table = Table {
     before: TWO_REVISIONS,
     after: ("show\n", ". dir 1 .\nf not-present\n"),
     rows: &[
@@ -117,7 +117,7 @@ pub(crate) const OF_THE_FORGOTTEN: Table = Table {
 };
 
 // Without a copy nothing can be done with one, whatever the words.
-pub(crate) const WITHOUT_A_COPY: Table = Table {
+pub(crate) static WITHOUT_A_COPY: Table = Table {
     before: NOTHING,
     after: NOTHING,
     rows: &[

@@ -4,7 +4,7 @@
 use crate::tables::{NOTHING, Table};
 
 // Files and directories that come, go and change.
-pub(crate) const TREES: Table = Table {
+pub(crate) static TREES: Table = Table {
     before: NOTHING,
     after: NOTHING,
     rows: &[
@@ -171,7 +171,7 @@ c file 4 c 4
 };
 
 // Properties that are set, changed and removed.
-pub(crate) const PROPERTIES: Table = Table {
+pub(crate) static PROPERTIES: Table = Table {
     before: NOTHING,
     after: NOTHING,
     rows: &[
@@ -277,7 +277,7 @@ f prop p 1
 };
 
 // A copy is the source's own node, so it keeps its line: what it replaces is the same file or directory where the lines agree.
-pub(crate) const COPIES: Table = Table {
+pub(crate) static COPIES: Table = Table {
     before: NOTHING,
     after: NOTHING,
     rows: &[
