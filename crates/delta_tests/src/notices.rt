@@ -4,7 +4,8 @@ use std::sync::Wait;
 use std::test::Fail;
 use svn_link::{LinkFault, notice, settle_notice};
 
-// What is seen, and whether a number is told, before the number 5 is told and afterwards; what is seen again; and what the joined ends say.
+// What the watcher sees, and whether the teller has sent a number, before the number 5 is sent and after it; what is seen again; and what the
+// joined ends report.
 type Told = (
     (Option<u64>, bool),
     (Option<u64>, bool),

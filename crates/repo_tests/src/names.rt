@@ -1,5 +1,5 @@
-//! What a path, a name and the name of a property may be. A fault is told by its number: 1 a component is empty, 2 it is `.` or `..`, 3 it has
-//! a character that it may not have, 4 it is too long, 5 there are too many; 0 is none.
+//! What a path, a name and the name of a property may be. Faults are compared by their numbers: 1 a component is empty, 2 it is `.` or `..`, 3 it
+//! has a character that it may not have, 4 it is too long, 5 there are too many; 0 is none.
 use std::alloc::Global;
 use std::process::Abort;
 use std::test::Fail;
@@ -12,7 +12,7 @@ fn number_of<T: Drop>(parsed: Result<T, PathFault>) -> u32 {
     }
 }
 
-// What a text is to be.
+// What a text is parsed as.
 #[derive(Clone, Copy)]
 enum Part {
     Path,

@@ -111,7 +111,7 @@ fn is_refused<R: Threads + Wait + Sync + Abort>(
 ) -> Result<(), Fail> {
     let request = request_of(refusal, capacity);
     let text = refused(rt, alloc, refusal, &request)?;
-    let wanted = format!(in alloc; "Err({:?})\n{}", refusal.fault, refusal.left)?;
+    let wanted = format!(in alloc; "Err({:?})\ntrue\n{}", refusal.fault, refusal.left)?;
     wrote(rt, &text, &wanted, &request);
     Ok(())
 }

@@ -108,7 +108,7 @@ pub(crate) fn run<R: Threads + Wait + Sync>(
     }
 }
 
-// Writes how a run of a true copy ended, and what the copy has then.
+// Writes how a run of a true copy ended, whether the copy is true then, and what it has.
 pub(crate) fn write_run<R: Threads + Wait + Sync>(
     rt: &R,
     alloc: Global,
@@ -118,7 +118,8 @@ pub(crate) fn write_run<R: Threads + Wait + Sync>(
     text: &mut String,
 ) -> Result<(), Fail> {
     let answer = run(rt, alloc, repo, copy, request)?;
-    write!(text, "{answer:?}\n{copy}")?;
+    let is_true = copy.check_true(repo).is_ok();
+    write!(text, "{answer:?}\n{is_true}\n{copy}")?;
     Ok(())
 }
 

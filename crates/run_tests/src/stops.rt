@@ -39,9 +39,9 @@ fn request_of(
     }
 }
 
-// An answer, and what a copy has.
+// An answer, that the copy is true, and what it has.
 fn ended(alloc: Global, answer: Answer, shown: &str) -> Result<String, AllocError> {
-    format!(in alloc; "{answer:?}\n{shown}")
+    format!(in alloc; "{answer:?}\ntrue\n{shown}")
 }
 
 // What a run writes of a row's copy.
@@ -108,8 +108,7 @@ fn whole_runs_end_at_the_target(rt: HostRuntime) -> Result<(), Fail> {
     Ok(())
 }
 
-// Writes how a run is stopped, whether the same run made again is closed, and what the copy has then. Each run wants a true copy, and so the
-// stopped one leaves such.
+// Writes how a run is stopped, whether that leaves a true copy, whether the same run made again is closed, and what the copy has then.
 fn resumed<R: Threads + Wait + Sync>(
     rt: &R,
     alloc: Global,
@@ -119,13 +118,14 @@ fn resumed<R: Threads + Wait + Sync>(
 ) -> Result<String, Fail> {
     let mut copy = copy_of(alloc, repo, row.copy)?;
     let stopped = run(rt, alloc, repo, &mut copy, request)?;
+    let is_true = copy.check_true(repo).is_ok();
     let again = Request {
         cancel_after: None,
         ..*request
     };
     let ended = run(rt, alloc, repo, &mut copy, &again)?;
     let is_closed = matches!(ended, Ok(Outcome::Closed { .. }));
-    Ok(format!(in alloc; "{stopped:?}\n{is_closed}\n{copy}")?)
+    Ok(format!(in alloc; "{stopped:?}\n{is_true} {is_closed}\n{copy}")?)
 }
 
 // A run that is stopped, and then made again to its end.
@@ -138,7 +138,7 @@ fn run_again<R: Threads + Wait + Sync + Abort>(
     calls: u64,
 ) -> Result<(), Fail> {
     let text = resumed(rt, alloc, repo, row, request)?;
-    let wanted = format!(in alloc; "{:?}\ntrue\n{}", stopped_after(calls), row.shown)?;
+    let wanted = format!(in alloc; "{:?}\ntrue true\n{}", stopped_after(calls), row.shown)?;
     wrote(rt, &text, &wanted, request);
     Ok(())
 }
@@ -219,7 +219,7 @@ fn stopped_and_next<R: Threads + Wait + Sync>(
 fn both_ended(alloc: Global, stop: &Stop) -> Result<String, AllocError> {
     let mut text = ended(alloc, stopped_after(stop.after), stop.left)?;
     let closed = closed_after(stop.then.calls);
-    write!(text, "{closed:?}\n{}", stop.then.shown)?;
+    write!(text, "{closed:?}\ntrue\n{}", stop.then.shown)?;
     Ok(text)
 }
 
