@@ -166,16 +166,19 @@ fn prints(rt: &impl Abort, alloc: Global, report: &Report, lines: &str) -> Resul
     Ok(())
 }
 
-fn entries_print(rt: &impl Abort, alloc: Global, report: &Report, lines: &str) -> Result<(), Fail> {
-    let printed = entry_lines(alloc, report)?;
-    assert_eq!(rt; printed.as_str(), lines);
-    Ok(())
+// The report as it is printed, and its entries by themselves.
+fn printed_twice(rt: &impl Abort, alloc: Global, calls: &[Answered]) -> Result<String, Fail> {
+    let report = report_of(rt, alloc, calls)?;
+    let entries = entry_lines(alloc, &report)?;
+    Ok(format!(in alloc; "{report}{entries}")?)
 }
 
 fn row_prints(rt: &impl Abort, alloc: Global, row: &Reported) -> Result<(), Fail> {
-    let report = report_of(rt, alloc, row.0)?;
-    prints(rt, alloc, &report, row.1)?;
-    entries_print(rt, alloc, &report, row.1)
+    let (calls, lines) = row;
+    let printed = printed_twice(rt, alloc, calls)?;
+    let wanted = format!(in alloc; "{lines}{lines}")?;
+    assert_eq!(rt; printed.as_str(), wanted.as_str());
+    Ok(())
 }
 
 #[test]
@@ -232,12 +235,16 @@ fn links_deep(
 
 static ROOT: [Answered; 1] = [(Set("", 1, false), Ok(()))];
 
+fn link_both(rt: &impl Abort, alloc: Global, reporter: &mut Reporter) -> Result<(), Fail> {
+    tell_all(rt, alloc, reporter, &ROOT)?;
+    links_deep(rt, alloc, reporter, 65, Err(TooDeep))?;
+    links_deep(rt, alloc, reporter, 64, Ok(()))
+}
+
 // How many entries a report has then.
 fn deep_entries(rt: &impl Abort, alloc: Global) -> Result<usize, Fail> {
     let mut reporter = Reporter::new(alloc);
-    tell_all(rt, alloc, &mut reporter, &ROOT)?;
-    links_deep(rt, alloc, &mut reporter, 65, Err(TooDeep))?;
-    links_deep(rt, alloc, &mut reporter, 64, Ok(()))?;
+    link_both(rt, alloc, &mut reporter)?;
     Ok(reporter.finish_report().len())
 }
 
@@ -270,8 +277,22 @@ static NESTED_IN_ORDER: [Answered; 7] = [
     (Set("d/e/f", 1, false), Ok(())),
 ];
 
-// The names beneath each path of their report, each with a comma behind it.
-static NAMES_BELOW: [(&str, &str); 6] = [
+// What is asked of a report about a path.
+#[derive(Clone, Copy, Debug)]
+enum Question {
+    // the names below it, each with a comma
+    Names,
+    // these, whether an entry is below it, and its own entry: asked from a position on, if one is given
+    All(Option<usize>),
+    // the positions at which those names are found, from the first entry on, each with a comma; and the one after them
+    Positions,
+}
+
+// A path, and what a report answers about it.
+type Told = (&'static str, &'static str);
+
+// The names below each path of the nested report.
+static NAMES_BELOW: [Told; 6] = [
     ("", "b,b c,d,"),
     ("b", "x,y,"),
     ("b/y", ""),
@@ -280,54 +301,8 @@ static NAMES_BELOW: [(&str, &str); 6] = [
     ("e", ""),
 ];
 
-// Asks for one name after the other, and writes each with a comma.
-fn push_names(out: &mut String, report: &Report, path: &RelPath) -> Result<(), Fail> {
-    let mut last: Option<Name> = None;
-    for _ in 0..=report.len() {
-        let Some(name) = report.next_name_below(path, last.as_ref())? else {
-            break;
-        };
-        out.push_str(name.as_str())?;
-        out.push(',')?;
-        last = Some(name.clone()?);
-    }
-    Ok(())
-}
-
-fn names_below(alloc: Global, report: &Report, at: &str) -> Result<String, Fail> {
-    let mut out = String::new(alloc);
-    push_names(&mut out, report, &path(alloc, at)?)?;
-    Ok(out)
-}
-
-fn names_are(
-    rt: &impl Abort,
-    alloc: Global,
-    report: &Report,
-    at: &str,
-    names: &str,
-) -> Result<(), Fail> {
-    let found = names_below(alloc, report, at)?;
-    assert_eq!(rt; found.as_str(), names, "below {at}");
-    Ok(())
-}
-
-fn all_names_are(rt: &impl Abort, alloc: Global, calls: &[Answered]) -> Result<(), Fail> {
-    let report = report_of(rt, alloc, calls)?;
-    for (at, names) in &NAMES_BELOW {
-        names_are(rt, alloc, &report, at, names)?;
-    }
-    Ok(())
-}
-
-#[test]
-fn names_beneath_a_path_come_in_their_order(rt: HostRuntime) -> Result<(), Fail> {
-    all_names_are(&rt, rt.alloc(), &NESTED)?;
-    all_names_are(&rt, rt.alloc(), &NESTED_IN_ORDER)
-}
-
-// What their report tells of each path: the names beneath it, whether an entry stands there, and its own entry.
-static TOLD: [(&str, &str); 9] = [
+// All that it answers about each path.
+static ALL: [Told; 9] = [
     ("", "b,b c,d,below;set . 1"),
     ("a", ""),
     ("b", "x,y,below;set b 1"),
@@ -339,49 +314,55 @@ static TOLD: [(&str, &str); 9] = [
     ("d/e/f", "set d/e/f 1"),
 ];
 
-// Where their report is asked to look: at each entry, behind the last one, and far behind.
-static POSITIONS: [usize; 10] = [0, 1, 2, 3, 4, 5, 6, 7, 8, usize::MAX];
+// Where it is asked to look: at each entry, after the last one, and far after that.
+const POSITIONS: [usize; 10] = [0, 1, 2, 3, 4, 5, 6, 7, 8, usize::MAX];
 
-fn push_told(
-    out: &mut String,
+// The positions of the first entries below the names below a path, and of the first after them.
+static FOUND_AT: [Told; 5] = [
+    ("", "1,4,5,7,"),
+    ("b", "2,3,4,"),
+    ("b/x", "2,3,"),
+    ("b c", "5,"),
+    ("d/e", "5,6,7,"),
+];
+
+// By calls: whoever names a table itself is proved with all that is in it, at each of its steps.
+fn names_below() -> &'static [Told] {
+    &NAMES_BELOW
+}
+
+fn all() -> &'static [Told] {
+    &ALL
+}
+
+fn found_at() -> &'static [Told] {
+    &FOUND_AT
+}
+
+// The name that comes after the last one, looked for from a position on, if there is one.
+fn next_name<'a>(
+    report: &'a Report,
     path: &RelPath,
-    below: bool,
-    entry: Option<&ReportEntry>,
-) -> Result<(), Fail> {
-    if below {
-        out.push_str("below;")?;
+    last: Option<&Name>,
+    near: &mut Option<usize>,
+) -> Result<Option<&'a Name>, Fail> {
+    match near {
+        Some(near) => Ok(report.next_name_near(path, last, near)?),
+        None => Ok(report.next_name_below(path, last)?),
     }
-    if let Some(entry) = entry {
-        let line = EntryLine { path, entry };
-        write!(out, "{line}")?;
-    }
-    Ok(())
 }
 
-fn told(alloc: Global, report: &Report, at: &str) -> Result<String, Fail> {
-    let at = path(alloc, at)?;
-    let mut out = String::new(alloc);
-    push_names(&mut out, report, &at)?;
-    push_told(
-        &mut out,
-        &at,
-        report.has_entry_below(&at),
-        report.entry_at(&at),
-    )?;
-    Ok(out)
-}
-
-// As `push_names` does, from a position on.
-fn push_names_near(
+// Asks for one name after the other, and writes each with a comma.
+fn push_names(
     out: &mut String,
     report: &Report,
     path: &RelPath,
-    near: usize,
+    near: Option<usize>,
 ) -> Result<(), Fail> {
     let mut near = near;
     let mut last: Option<Name> = None;
     for _ in 0..=report.len() {
-        let Some(name) = report.next_name_near(path, last.as_ref(), &mut near)? else {
+        let Some(name) = next_name(report, path, last.as_ref(), &mut near)? else {
             break;
         };
         out.push_str(name.as_str())?;
@@ -391,72 +372,41 @@ fn push_names_near(
     Ok(())
 }
 
-fn told_near(alloc: Global, report: &Report, at: &str, near: usize) -> Result<String, Fail> {
-    let at = path(alloc, at)?;
-    let mut out = String::new(alloc);
-    push_names_near(&mut out, report, &at, near)?;
-    push_told(
-        &mut out,
-        &at,
-        report.has_entry_below_near(&at, near),
-        report.entry_near(&at, near),
-    )?;
-    Ok(out)
+fn has_below(report: &Report, path: &RelPath, near: Option<usize>) -> bool {
+    match near {
+        Some(near) => report.has_entry_below_near(path, near),
+        None => report.has_entry_below(path),
+    }
 }
 
-fn is_told(
-    rt: &impl Abort,
-    alloc: Global,
-    report: &Report,
-    at: &str,
-    text: &str,
-) -> Result<(), Fail> {
-    let found = told(alloc, report, at)?;
-    assert_eq!(rt; found.as_str(), text, "at {at}");
-    Ok(())
+fn entry_of<'a>(
+    report: &'a Report,
+    path: &RelPath,
+    near: Option<usize>,
+) -> Option<&'a ReportEntry> {
+    match near {
+        Some(near) => report.entry_near(path, near),
+        None => report.entry_at(path),
+    }
 }
 
-fn is_told_near(
-    rt: &impl Abort,
-    alloc: Global,
+fn push_all(
+    out: &mut String,
     report: &Report,
-    row: &(&str, &str),
-    near: usize,
+    path: &RelPath,
+    near: Option<usize>,
 ) -> Result<(), Fail> {
-    let (at, text) = row;
-    let found = told_near(alloc, report, at, near)?;
-    assert_eq!(rt; found.as_str(), *text, "at {at} near {near}");
-    Ok(())
-}
-
-fn is_told_anywhere(
-    rt: &impl Abort,
-    alloc: Global,
-    report: &Report,
-    row: &(&str, &str),
-) -> Result<(), Fail> {
-    is_told(rt, alloc, report, row.0, row.1)?;
-    for near in &POSITIONS {
-        is_told_near(rt, alloc, report, row, *near)?;
+    push_names(out, report, path, near)?;
+    if has_below(report, path, near) {
+        out.push_str("below;")?;
+    }
+    if let Some(entry) = entry_of(report, path, near) {
+        let line = EntryLine { path, entry };
+        write!(out, "{line}")?;
     }
     Ok(())
 }
 
-fn all_is_told(rt: &impl Abort, alloc: Global, calls: &[Answered]) -> Result<(), Fail> {
-    let report = report_of(rt, alloc, calls)?;
-    for row in &TOLD {
-        is_told_anywhere(rt, alloc, &report, row)?;
-    }
-    Ok(())
-}
-
-#[test]
-fn a_position_changes_no_answer(rt: HostRuntime) -> Result<(), Fail> {
-    all_is_told(&rt, rt.alloc(), &NESTED)?;
-    all_is_told(&rt, rt.alloc(), &NESTED_IN_ORDER)
-}
-
-// The positions at which the names beneath a path are found, from the first entry on, each with a comma; and the one behind them.
 fn push_positions(out: &mut String, report: &Report, path: &RelPath) -> Result<(), Fail> {
     let mut near = 0;
     let mut last: Option<Name> = None;
@@ -471,38 +421,80 @@ fn push_positions(out: &mut String, report: &Report, path: &RelPath) -> Result<(
     Ok(())
 }
 
-fn positions(alloc: Global, report: &Report, at: &str) -> Result<String, Fail> {
-    let mut out = String::new(alloc);
-    push_positions(&mut out, report, &path(alloc, at)?)?;
-    Ok(out)
+fn push_answer(
+    out: &mut String,
+    report: &Report,
+    path: &RelPath,
+    question: Question,
+) -> Result<(), Fail> {
+    match question {
+        Question::Names => push_names(out, report, path, None),
+        Question::All(near) => push_all(out, report, path, near),
+        Question::Positions => push_positions(out, report, path),
+    }
 }
 
-// The positions of the first entries under the names beneath a path, and of the first behind them.
-static FOUND_AT: [(&str, &str); 5] = [
-    ("", "1,4,5,7,"),
-    ("b", "2,3,4,"),
-    ("b/x", "2,3,"),
-    ("b c", "5,"),
-    ("d/e", "5,6,7,"),
-];
-
-fn are_found_at(
+fn is_answered(
     rt: &impl Abort,
     alloc: Global,
     report: &Report,
-    at: &str,
-    places: &str,
+    question: Question,
+    row: &Told,
 ) -> Result<(), Fail> {
-    let found = positions(alloc, report, at)?;
-    assert_eq!(rt; found.as_str(), places, "below {at}");
+    let (at, text) = row;
+    let mut found = String::new(alloc);
+    push_answer(&mut found, report, &path(alloc, at)?, question)?;
+    assert_eq!(rt; found.as_str(), *text, "{question:?} of {at}");
+    Ok(())
+}
+
+// Asks the report of these calls about each path.
+fn are_answered(
+    rt: &impl Abort,
+    alloc: Global,
+    calls: &[Answered],
+    question: Question,
+    rows: &[Told],
+) -> Result<(), Fail> {
+    let report = report_of(rt, alloc, calls)?;
+    for row in rows {
+        is_answered(rt, alloc, &report, question, row)?;
+    }
+    Ok(())
+}
+
+// Asks the reports of both orders.
+fn in_both_orders(
+    rt: &impl Abort,
+    alloc: Global,
+    question: Question,
+    rows: &[Told],
+) -> Result<(), Fail> {
+    are_answered(rt, alloc, &NESTED, question, rows)?;
+    are_answered(rt, alloc, &NESTED_IN_ORDER, question, rows)
+}
+
+#[test]
+fn names_beneath_a_path_come_in_their_order(rt: HostRuntime) -> Result<(), Fail> {
+    in_both_orders(&rt, rt.alloc(), Question::Names, names_below())
+}
+
+#[test]
+fn a_position_changes_no_answer(rt: HostRuntime) -> Result<(), Fail> {
+    in_both_orders(&rt, rt.alloc(), Question::All(None), all())?;
+    for near in POSITIONS {
+        in_both_orders(&rt, rt.alloc(), Question::All(Some(near)), all())?;
+    }
     Ok(())
 }
 
 #[test]
 fn a_position_goes_along_with_the_names(rt: HostRuntime) -> Result<(), Fail> {
-    let report = report_of(&rt, rt.alloc(), &NESTED_IN_ORDER)?;
-    for (at, places) in &FOUND_AT {
-        are_found_at(&rt, rt.alloc(), &report, at, places)?;
-    }
-    Ok(())
+    are_answered(
+        &rt,
+        rt.alloc(),
+        &NESTED_IN_ORDER,
+        Question::Positions,
+        found_at(),
+    )
 }

@@ -126,12 +126,16 @@ fn all_pass<R: Threads + Wait + Sync + Abort>(
         },
     )?;
     assert_eq!(rt;
-        (passed.sent, passed.taken),
-        (CALLS + 1, CALLS + 1),
+        (
+            passed.sent,
+            passed.taken,
+            passed.in_order,
+            passed.told,
+            passed.seen
+        ),
+        (CALLS + 1, CALLS + 1, true, None, None),
         "at {capacity}"
     );
-    assert_eq!(rt; (passed.told, passed.seen), (None, None), "at {capacity}");
-    assert!(rt; passed.in_order, "at {capacity}");
     Ok(())
 }
 
@@ -153,8 +157,10 @@ const REFUSED: Job = Job {
 #[test]
 fn a_refused_call_stops_the_sender(rt: HostRuntime) -> Result<(), Fail> {
     let passed = pass(&rt, rt.alloc(), REFUSED)?;
-    assert_eq!(rt; passed.sent, passed.taken);
-    assert_eq!(rt; passed.told, Some(3));
-    assert!(rt; passed.in_order && (passed.seen.is_none() || passed.seen == passed.told));
+    let is_seen = passed.seen.is_none() || passed.seen == passed.told;
+    assert_eq!(rt;
+        (passed.taken, passed.told, passed.in_order, is_seen),
+        (passed.sent, Some(3), true, true)
+    );
     Ok(())
 }
