@@ -53,9 +53,12 @@ fn dropped_trees_give_all_back(rt: HostRuntime) -> Result<(), Fail> {
     Ok(())
 }
 
-// What a heap has left before a string is put into a pool, while it is there, and when its pool is cleared.
-fn left_around(heap: &LocalHeap, string: &[u8]) -> Result<[usize; 3], PoolFault> {
-    let mut tree = PoolTree::new(heap)?;
+// What a heap has left before a string is put into a pool of a tree on it, while it is there, and when its pool is cleared.
+fn left_around<'a>(
+    heap: &'a LocalHeap,
+    tree: &mut PoolTree<&'a LocalHeap>,
+    string: &[u8],
+) -> Result<[usize; 3], PoolFault> {
     let pool = tree.create(tree.root())?;
     let before = heap.free();
     tree.push(pool, string)?;
@@ -64,11 +67,16 @@ fn left_around(heap: &LocalHeap, string: &[u8]) -> Result<[usize; 3], PoolFault>
     Ok([before, between, heap.free()])
 }
 
+fn left_around_in_new(heap: &LocalHeap, string: &[u8]) -> Result<[usize; 3], PoolFault> {
+    let mut tree = PoolTree::new(heap)?;
+    left_around(heap, &mut tree, string)
+}
+
 #[test]
 fn a_large_string_goes_back_when_its_pool_is_cleared(rt: HostRuntime) -> Result<(), Fail> {
     let large = Vec::from_elem(rt.alloc(), 7u8, 20_000)?;
     let heap = LocalHeap::new(rt.alloc(), HEAP)?;
-    let [before, between, after] = left_around(&heap, large.as_slice())?;
+    let [before, between, after] = left_around_in_new(&heap, large.as_slice())?;
     assert!(rt; between.saturating_add(20_000) <= before);
     assert_eq!(rt; after, before);
     Ok(())

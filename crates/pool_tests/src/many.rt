@@ -3,7 +3,7 @@ use crate::call::Answer::{Counted, Done, Place, Serial, Text};
 use crate::call::Call::{Clear, Counts, Create, Get, Push};
 use crate::call::{Answer, Call, run};
 use linked_list_allocator::LocalHeap;
-use std::alloc::Allocator;
+use std::alloc::{Allocator, Global};
 use std::process::Abort;
 use std::test::Fail;
 use svn_pool::{PoolFault, PoolId, PoolTree};
@@ -60,12 +60,19 @@ static AGAIN: [(Call, Answer); 6] = [
     (Counts, Counted(2, 1, POOLS - 1)),
 ];
 
+fn fill_and_again<R: Abort>(
+    rt: &R,
+    alloc: Global,
+    tree: &mut PoolTree<Global>,
+) -> Result<(), Fail> {
+    fill(rt, tree)?;
+    Ok(run(rt, alloc, tree, &AGAIN)?)
+}
+
 #[test]
 fn many_blocks_serve_and_serve_again(rt: HostRuntime) -> Result<(), Fail> {
     let mut tree = PoolTree::new_from(rt.alloc(), 0)?;
-    fill(&rt, &mut tree)?;
-    run(&rt, rt.alloc(), &mut tree, &AGAIN)?;
-    Ok(())
+    fill_and_again(&rt, rt.alloc(), &mut tree)
 }
 
 fn fill_one_on<R: Abort>(rt: &R, heap: &LocalHeap) -> Result<(), Fail> {

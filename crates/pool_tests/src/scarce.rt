@@ -159,13 +159,14 @@ fn take_rest<'a>(
     Ok(pieces)
 }
 
-// Makes the calls of a row while nothing is left of a heap.
-fn run_without<R: Abort>(
+// Makes the calls of a row, and of another while nothing is left of the heap.
+fn run_and_without<R: Abort>(
     rt: &R,
     alloc: Global,
     heap: &LocalHeap,
     tree: &mut PoolTree<&LocalHeap>,
 ) -> Result<(), AllocError> {
+    run(rt, alloc, tree, &BRANCH)?;
     let _pieces = take_rest(alloc, heap)?;
     assert_eq!(rt; heap.free(), 0);
     run(rt, alloc, tree, &EXHAUSTED)
@@ -173,9 +174,7 @@ fn run_without<R: Abort>(
 
 fn goes_on<R: Abort>(rt: &R, alloc: Global, heap: &LocalHeap) -> Result<(), Fail> {
     let mut tree = PoolTree::new(heap)?;
-    run(rt, alloc, &mut tree, &BRANCH)?;
-    run_without(rt, alloc, heap, &mut tree)?;
-    Ok(())
+    Ok(run_and_without(rt, alloc, heap, &mut tree)?)
 }
 
 #[test]

@@ -9,42 +9,51 @@ use std::process::Abort;
 use std::test::Fail;
 use svn_pool::{PoolFault, PoolTree};
 
-fn from_new<R: Abort>(rt: &R, alloc: Global, row: &[(Call, Answer)]) -> Result<(), Fail> {
-    let mut tree = PoolTree::new(alloc)?;
-    run(rt, alloc, &mut tree, row)?;
+// Makes the calls of rows, one row after the other.
+fn run_all<R: Abort>(
+    rt: &R,
+    alloc: Global,
+    tree: &mut PoolTree<Global>,
+    rows: &[&[(Call, Answer)]],
+) -> Result<(), Fail> {
+    for row in rows {
+        run(rt, alloc, tree, row)?;
+    }
     Ok(())
+}
+
+// The same in a new tree.
+fn from_new<R: Abort>(rt: &R, alloc: Global, rows: &[&[(Call, Answer)]]) -> Result<(), Fail> {
+    let mut tree = PoolTree::new(alloc)?;
+    run_all(rt, alloc, &mut tree, rows)
 }
 
 #[test]
 fn clears_a_branch(rt: HostRuntime) -> Result<(), Fail> {
-    from_new(&rt, rt.alloc(), &BRANCH)
+    from_new(&rt, rt.alloc(), &[&BRANCH])
 }
 
 #[test]
 fn holds_strings_of_all_lengths(rt: HostRuntime) -> Result<(), Fail> {
-    let mut tree = PoolTree::new(rt.alloc())?;
-    run(&rt, rt.alloc(), &mut tree, &LENGTHS)?;
-    run(&rt, rt.alloc(), &mut tree, &REFUSALS)?;
-    Ok(())
+    from_new(&rt, rt.alloc(), &[&LENGTHS, &REFUSALS])
 }
 
 #[test]
 fn fills_blocks(rt: HostRuntime) -> Result<(), Fail> {
-    from_new(&rt, rt.alloc(), &HALVES)?;
-    from_new(&rt, rt.alloc(), &HALVES_AND_EMPTY)?;
-    from_new(&rt, rt.alloc(), &LONG_AND_SHORT)
+    from_new(&rt, rt.alloc(), &[&HALVES])?;
+    from_new(&rt, rt.alloc(), &[&HALVES_AND_EMPTY])?;
+    from_new(&rt, rt.alloc(), &[&LONG_AND_SHORT])
 }
 
 #[test]
 fn gives_a_block_to_the_next_pool(rt: HostRuntime) -> Result<(), Fail> {
-    from_new(&rt, rt.alloc(), &ONE_BEHIND_THE_OTHER)
+    from_new(&rt, rt.alloc(), &[&ONE_BEHIND_THE_OTHER])
 }
 
 #[test]
 fn runs_out_of_serials(rt: HostRuntime) -> Result<(), Fail> {
     let mut tree = PoolTree::new_from(rt.alloc(), u64::MAX)?;
-    run(&rt, rt.alloc(), &mut tree, &LAST_SERIAL)?;
-    Ok(())
+    run_all(&rt, rt.alloc(), &mut tree, &[&LAST_SERIAL])
 }
 
 static FAULTS: [(PoolFault, &str); 5] = [
