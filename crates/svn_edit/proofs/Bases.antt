@@ -28,7 +28,8 @@ use Rattle.svn_serials.proofs.Pairs.{Updates, updates_removed}
 use Rattle.svn_edit.specs.declared.baton.Baton.{Baton}
 use Rattle.svn_edit.specs.declared.baton.Note.{Note}
 use Rattle.svn_edit.specs.declared.edit.Edit.{Edit}
-use Rattle.svn_edit.specs.Applying.{Batons, BatonMap, BatonNoted, MakesBaton, batons_of, IsSumOf, IsNoted, KeepsBases, OpensBase, Holds, IsNext}
+use Rattle.svn_edit.specs.Applying.{Batons, BatonMap, BatonNoted, MakesBaton, batons_of, IsNoted, KeepsBases, OpensBase, Holds, IsNext}
+use Rattle.svn_nodes.specs.NodeTests.{IsSumOf}
 use Rattle.svn_edit.proofs.HeldBatons.{given_other, open_given}
 use Rattle.svn_edit.proofs.Holding.{map_ok}
 use Rattle.svn_edit.proofs.Closes.{named_baton}

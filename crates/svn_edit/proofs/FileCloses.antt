@@ -23,8 +23,8 @@ use Rattle.svn_edit_law.proofs.OnePath.{pathed}
 use Rattle.svn_edit_law.proofs.StepEffects.{effect_alone}
 use Rattle.svn_edit.specs.declared.baton.Baton.{Baton}
 use Rattle.svn_edit.specs.declared.edit.Edit.{Edit}
-use Rattle.svn_edit.specs.NodeTests.{sum_fault, FileIsClosed}
-use Rattle.svn_edit.specs.Applying.{Applied, KeepsEdit, batons_of, mode_of, is_open, IsBaton, BatonGone, IsLeaf, Says, Holds, IsNext}
+use Rattle.svn_nodes.specs.NodeTests.{sum_fault, FileIsClosed, mode_of}
+use Rattle.svn_edit.specs.Applying.{Applied, KeepsEdit, batons_of, is_open, IsBaton, BatonGone, IsLeaf, Says, Holds, IsNext}
 use Rattle.svn_edit.proofs.Holding.{at_ok, ok_by}
 use Rattle.svn_edit.proofs.Closes.{among_said, changes_are, named_known, named_baton, says_of, gone_holds, others_stay}
 

@@ -24,7 +24,7 @@ use Rattle.svn_edit.specs.declared.baton.Note.{Note}
 use Rattle.svn_edit_law.specs.Laws.{IsPathed}
 use Rattle.svn_model.specs.Said.{says, said_at}
 use Rattle.svn_model.specs.Effects.{text_in}
-use Rattle.svn_edit.specs.NodeTests.{first_of}
+use Rattle.svn_nodes.specs.NodeTests.{first_of}
 use Rattle.svn_edit.specs.Noted.{note_of, strings_of}
 use Rattle.svn_edit.specs.declared.baton.NotedText.{NotedText}
 use Rattle.svn_edit.specs.Applying.{Batons, is_open, open_count, IsTextAt, NotesText, pool_or, pool_of_parent, pool_of_kind, pool_above}

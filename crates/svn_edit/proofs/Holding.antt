@@ -21,8 +21,8 @@ use Rattle.svn_model.specs.declared.base_node.BaseNode.{BaseNode}
 use Rattle.svn_edit.specs.declared.edit.Edit.{Edit}
 use Rattle.svn_model.specs.Nodes.{WorkingCopy, get_in, is_present}
 use Rattle.svn_model.specs.Effects.{effect, after, edit_fault, refusal, added_node, joined_path, step_fault, step_effect}
-use Rattle.svn_edit.specs.NodeTests.{deep_fault}
-use Rattle.svn_edit.specs.Applying.{Applied, KeepsEdit, MakesBaton, batons_of, mode_of, pool_above, Holds, IsNext, StandsAfter}
+use Rattle.svn_nodes.specs.NodeTests.{deep_fault, mode_of}
+use Rattle.svn_edit.specs.Applying.{Applied, KeepsEdit, MakesBaton, batons_of, pool_above, Holds, IsNext, StandsAfter}
 use Rattle.svn_edit.specs.Applying.{HoldsBatons}
 use Rattle.svn_model.specs.Answering.{IsAnswer, AnswersCall}
 use Rattle.svn_edit_law.proofs.Appending.{after-more, next_target, target-more}

@@ -1,13 +1,3 @@
--- Nodes in path order: which come before which.
-pub mod NodeOrder
--- Why a node isn't opened.
-pub mod OpenFaults
--- The nodes at a path and below stand next to each other: those from the path on, as long as they are within it.
-pub mod Ranges
--- What a walk over all nodes leaves of them, where a test of their paths decides.
-pub mod Retaining
--- The last call goes over the nodes once.
-pub mod Settling
 -- Pools after strings were pushed, and what is said there.
 pub mod PoolStrings
 -- What is said, read note by note.

@@ -20,7 +20,7 @@ use Rattle.svn_edit.specs.declared.baton.NotedText.{NotedText}
 use Rattle.svn_edit.specs.declared.baton.Note.TheVariants.{Set, Remove, Text as NewText}
 use Rattle.svn_model.specs.Effects.{change_in, text_in}
 use Rattle.svn_model.specs.Said.{says}
-use Rattle.svn_edit.specs.NodeTests.{first_of}
+use Rattle.svn_nodes.specs.NodeTests.{first_of}
 use Rattle.svn_edit.specs.Noted.{is_change, note_of_value, note_of, strings_of}
 use Rattle.svn_edit.specs.Applying.{IsTextAt, NotesText, Properties, StillSaid}
 

@@ -15,7 +15,8 @@ use Rattle.svn_model.specs.declared.base_node.BaseNode.{BaseNode}
 use Rattle.svn_model.specs.Nodes.{WorkingCopy, get_in}
 use Rattle.svn_model.specs.Effects.{is_settled_deep, settled, settle_fault, effect, edit_fault}
 use Rattle.svn_edit.specs.declared.edit.Edit.{Edit}
-use Rattle.svn_edit.specs.Applying.{mode_of, open_count, live_count, Applied, IsNext, OneIsLeft, StandsAfter}
+use Rattle.svn_edit.specs.Applying.{open_count, live_count, Applied, IsNext, OneIsLeft, StandsAfter}
+use Rattle.svn_nodes.specs.NodeTests.{mode_of}
 use Rattle.svn_edit.proofs.OpenCounts.{none_open}
 
 pub not_update : (root : Path) → SwitchTo root ≡ Update → ⊥

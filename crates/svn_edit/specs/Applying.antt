@@ -1,11 +1,10 @@
 -- An applier with its copy, after a list of calls.
 --     StandsAfter mode w0 edit nodes calls      the edit began with the copy w0, and took these calls
 use Rattle.std.specs.Prelude.{◌≡◌, ◌≢◌, ℕ, ◌+◌, ◌<◌, Bool, true, false, ◌&&◌, not, List, [], ◌∷◌, ◌++◌, length, map, Option, Some, None}
-use Rattle.std.specs.Prelude.{is_some, filter_map, Result, Ok, Err, IfSome, get_or, count_by, if◌then◌else◌}
+use Rattle.std.specs.Prelude.{is_some, filter_map, Result, Ok, Err, get_or, count_by, if◌then◌else◌}
 use Rattle.std.specs.List.{list_any, flat_map}
 use Rattle.svn_serials.specs.Serials.{get}
 use Rattle.std.specs.FinMap as map
-use Rattle.md5.specs.Md5.{md5}
 use Rattle.svn_types.specs.declared.kind.Kind.{Kind}
 use Rattle.svn_types.specs.declared.kind.Kind.TheVariants.{File, Directory}
 use Rattle.svn_types.specs.Names.{Path}
@@ -21,7 +20,7 @@ use Rattle.svn_editor.specs.Order.{IsLawful, order_fault}
 use Rattle.svn_edit.specs.declared.edit.Stage.{Stage}
 use Rattle.svn_edit.specs.declared.opening.NewNode.{NewNode}
 use Rattle.svn_editor.specs.Calls.{Given, given, given_by, all_given, is_closed, path_of, is_last}
-use Rattle.svn_editor.specs.Steps.{Mode, Update, SwitchTo, Action, steps_of, target_of}
+use Rattle.svn_editor.specs.Steps.{Mode, Action, steps_of, target_of}
 use Rattle.svn_order.specs.StandsAfter as order
 use Rattle.svn_model.specs.declared.base_node.BaseNode.{BaseNode}
 use Rattle.svn_edit.specs.declared.baton.Baton.{Baton}
@@ -30,27 +29,13 @@ use Rattle.svn_edit.specs.declared.baton.Note.TheVariants.{Text as NewText}
 use Rattle.svn_edit.specs.declared.baton.NotedText.{NotedText}
 use Rattle.svn_edit.specs.declared.edit.Edit.{Edit}
 use Rattle.svn_edit.specs.declared.edit.Stage.TheVariants.{Going, Refused, Ended}
-use Rattle.svn_model.specs.Nodes.{WorkingCopy, get_in, node_text}
+use Rattle.svn_model.specs.Nodes.{WorkingCopy, get_in}
 use Rattle.svn_types.specs.Props.{with_changes}
 use Rattle.svn_model.specs.Effects.{after, change_in, text_in}
 use Rattle.svn_model.specs.Said.{said_at}
 use Rattle.svn_model.specs.Answering.{IsAnswer}
-use Rattle.svn_edit.specs.NodeTests.{first_of, deep_fault}
+use Rattle.svn_nodes.specs.NodeTests.{IsSumOf, deep_fault, first_of, mode_of}
 use Rattle.svn_edit.specs.Noted.{note_of, strings_of}
-
-abbrev pub mode_of : Option Path → Mode
-mode_of None = Update
-mode_of (Some root) = SwitchTo root
-
--- the answer of a call that gives a value: that fault, or there is none and the value is this one
-abbrev pub Gives : {T : Type 0} → Option EditFault → T → Result T EditFault → Type 0
-Gives fault value (Ok v) = (fault ≡ None) × (v ≡ value)
-Gives fault value (Err e) = IsAnswer fault e
-
--- the same of the fault alone
-abbrev pub AnswersAs : {T : Type 0} → Option EditFault → Result T EditFault → Type 0
-AnswersAs fault (Ok v) = fault ≡ None
-AnswersAs fault (Err e) = IsAnswer fault e
 
 -- what a node's repository path becomes when it is opened, by its old one: nothing where it keeps that, else a path that isn't too deep
 abbrev pub MovesBy : (Path → Path) → Result (Option Path) EditFault → Type 0
@@ -235,11 +220,7 @@ Applied fault w nodes (Err e) nodes2 = IsAnswer fault e × (nodes2 ≡ nodes)
 
 -- ---- what is noted of the text that an open file has in the copy
 
--- the checksum, if there is one, is that of the text at the path
-abbrev pub IsSumOf : Option (List ℕ) → List (Path × BaseNode) → Path → Type 0
-IsSumOf sum nodes p = IfSome sum (λ s. s ≡ md5 (node_text (get_in nodes p)))
-
--- so it is with what is noted at each file
+-- what is noted at each file is the checksum of the text at its path, or nothing is
 abbrev pub IsNoted : List Call → Batons → List (Path × BaseNode) → Type 0
 IsNoted calls at nodes =
     (t : ℕ) (b : Baton) (g : Given) → at t ≡ Some b → given calls t ≡ Some g → g.kind ≡ File → IsSumOf b.base nodes b.path
@@ -250,7 +231,7 @@ KeepsBases c at at2 =
     (u : ℕ) (b : Baton) → at2 u ≡ Some b → ((g : Given) → given_by c ≡ Some g → g.token ≢ u)
     → (d : Baton) × (at u ≡ Some d) × (d.path ≡ b.path) × (d.base ≡ b.base)
 
--- and what is noted at a file that it opens is so
+-- and what is noted at a file that it opens is so too
 abbrev pub OpensBase : Call → Batons → List (Path × BaseNode) → Type 0
 OpensBase c at nodes =
     (g : Given) (b : Baton) → given_by c ≡ Some g → g.kind ≡ File → at g.token ≡ Some b → IsSumOf b.base nodes g.path

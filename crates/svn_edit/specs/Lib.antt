@@ -1,4 +1,3 @@
 pub mod Noted
-pub mod NodeTests
 pub mod Applying
 pub mod Leaving

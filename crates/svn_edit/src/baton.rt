@@ -9,7 +9,7 @@ ghost use Rattle.svn_edit.specs.declared.baton.Note.{Note as NoteOf};
 ghost use Rattle.svn_edit.specs.declared.baton.Note.TheVariants.{Text as NewText};
 ghost use Rattle.svn_model.specs.Effects.{change_in, text_in};
 ghost use Rattle.svn_edit.specs.Noted.{is_change, note_of_value, strings_of_value};
-ghost use Rattle.svn_edit.specs.NodeTests.{first_of};
+ghost use Rattle.svn_nodes.specs.NodeTests.{first_of};
 ghost use Rattle.svn_edit.specs.Leaving.{SamePools, BatonBegan};
 ghost use Rattle.svn_edit.specs.Applying.{BatonBegun, BatonSaid, Says, IsLeaf, PoolGone, Properties, StillSaid};
 

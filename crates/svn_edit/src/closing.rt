@@ -9,16 +9,15 @@ ghost use Rattle.svn_model.specs.declared.base_node.BaseNode.TheVariants.{NotPre
 ghost use Rattle.svn_model.specs.Effects.{change_in, text_in, closed_directory, closed_file, moved_path, joined_path, settled, settle_fault};
 ghost use Rattle.svn_model.specs.Answering.{AnswersCall};
 ghost use Rattle.svn_edit.specs.declared.baton.Baton.{Baton};
-ghost use Rattle.svn_edit.specs.NodeTests.{first_of, sum_fault, FileIsClosed};
-ghost use Rattle.svn_edit.specs.Applying.{mode_of, Applied, AnswersAs, KeepsEdit, LetsGo, Says, batons_of};
+ghost use Rattle.svn_nodes.specs.NodeTests.{first_of, sum_fault, FileIsClosed, mode_of, AnswersAs};
+ghost use Rattle.svn_edit.specs.Applying.{Applied, KeepsEdit, LetsGo, Says, batons_of};
 
 use crate::baton::{Baton, drop_pool};
-use crate::edit::{Edit, or_memory};
-use crate::nodes::Nodes;
-use crate::{ending, nodes, paths};
+use crate::edit::Edit;
 use std::alloc::AllocError;
 use svn_editor::{Digest, EditFault, Token};
 use svn_model::BaseNode;
+use svn_nodes::{Nodes, ending, nodes, or_memory, paths};
 use svn_types::{Props, RelPath, Text};
 
 impl Edit {

@@ -1,5 +1,5 @@
 //! An edit of a copy, call by call.
-ghost use Rattle.std.specs.Prelude.{◌≡◌, ◌≢◌, ◌+◌, ◌↔◌, IsTrue, is_ok, [], ◌∷◌, ◌++◌, List, IfOk, IfErr, OnOk, OnErr, Ok, Some, None, true, false, if◌then◌else◌};
+ghost use Rattle.std.specs.Prelude.{◌≡◌, ◌≢◌, ◌+◌, ◌↔◌, IsTrue, [], ◌∷◌, ◌++◌, List, IfOk, IfErr, OnOk, OnErr, Ok, Some, None, true, false, if◌then◌else◌};
 ghost use Rattle.md5.specs.Md5.{md5};
 ghost use Rattle.svn_types.specs.Names.{Path};
 ghost use Rattle.svn_editor.specs.Calls.{is_last, is_abort};
@@ -12,18 +12,18 @@ ghost use Rattle.svn_edit.specs.declared.baton.Baton.{Baton};
 ghost use Rattle.svn_model.specs.declared.base_node.BaseNode.{BaseNode};
 ghost use Rattle.svn_model.specs.Nodes.{WorkingCopy, get_in};
 ghost use Rattle.svn_model.specs.Effects.{is_too_long, step_effect, step_fault, effect, edit_fault, refusal};
-ghost use Rattle.svn_edit.specs.Applying.{mode_of, Applied, KeepsEdit, MakesBaton, BatonNoted, TakenInOrder, batons_of, IsSumOf, IsNoted, KeepsBases, OpensBase, Holds, IsNext, StandsAfter, OneIsLeft, live_count, open_count, HasEnded, IsRefused, StaysRefused, StaysEnded, LeavesRefused};
+ghost use Rattle.svn_edit.specs.Applying.{Applied, KeepsEdit, MakesBaton, BatonNoted, TakenInOrder, batons_of, IsNoted, KeepsBases, OpensBase, Holds, IsNext, StandsAfter, OneIsLeft, live_count, open_count, HasEnded, IsRefused, StaysRefused, StaysEnded, LeavesRefused};
+ghost use Rattle.svn_nodes.specs.NodeTests.{mode_of, IsSumOf};
 ghost use Rattle.svn_edit.specs.Leaving.{HoldsPools, IsLeft, LeavesPools, PoolsAfter, KeepsPools, NoteBegan};
 ghost use Rattle.svn_model.specs.Answering.{AnswersCall};
 ghost use Rattle.std.specs.FinMap as map;
 ghost use Rattle.svn_pool.specs.Ancestry.{IsCleared};
 
 use crate::baton::{Baton, drop_pool};
-use crate::nodes;
-use crate::nodes::Nodes;
 use crate::open_path::OpenPath;
 use std::alloc::{AllocError, Global};
 use svn_editor::{Call, Digest, EditFault, OrderFault, Token};
+use svn_nodes::{Nodes, nodes, or_memory};
 use svn_order::OrderCheck;
 use svn_pool::{PoolId, PoolTree};
 use svn_serials::SerialMap;
@@ -73,17 +73,6 @@ fn is_too_long(value: Option<&Text>) -> bool
     match value {
         Some(value) => value.len() > MAX_SIZE,
         None => false,
-    }
-}
-
-pub(crate) fn or_memory<T>(answer: Result<T, AllocError>) -> Result<T, EditFault>
-    ensures ok { IfOk result (λ v. answer ≡ Ok v) }
-    ensures err { IfErr result (λ e. e ≡ EditFault.Memory) }
-    ensures same { is_ok result ≡ is_ok answer }
-{
-    match answer {
-        Ok(value) => Ok(value),
-        Err(_) => Err(EditFault::Memory),
     }
 }
 

@@ -1,8 +1,8 @@
 //! Edits of a working copy's nodes: each editor call takes effect, or is refused and changes nothing (`svn_delta.h`, the receiver).
 //!
-//! [`Edit`] takes the calls of one edit and changes [`Nodes`], a map from paths to nodes, which it is given with each call. The `Applier` of
-//! `svn_wc` holds an edit beside its copy, and is an `Editor`. [`remove_all`], [`sweep_below`], [`child_path`] and [`parent_path`] are what
-//! `svn_wc` needs of maps and paths too.
+//! [`Edit`] takes the calls of one edit and changes the nodes of a copy (`Nodes` of `svn_nodes`), which it is given with each call. The `Applier`
+//! of `svn_wc` holds an edit beside its copy, and is an `Editor`. What an edit asks of one node, and what it does to it, is in `svn_nodes`; here
+//! are its batons, each with a pool of what was said of an open file or directory.
 //!
 //! ```
 //! let mut edit = Edit::new(alloc, None)?;
@@ -20,12 +20,7 @@
 mod baton;
 mod closing;
 mod edit;
-mod ending;
-mod nodes;
 mod open_path;
 mod opening;
-mod paths;
 
 pub use edit::Edit;
-pub use nodes::{Nodes, remove_all, sweep_below};
-pub use paths::{child_path, parent_path};

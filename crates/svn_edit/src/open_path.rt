@@ -1,9 +1,11 @@
 //! The path of an open file or directory.
 ghost use Rattle.std.specs.Prelude.{◌≡◌, IfOk, IfSome};
-ghost use Rattle.svn_types.specs.Paths.{parent};
+ghost use Rattle.svn_types.specs.Paths.{parent, parent as directory_of};
 
-use std::alloc::AllocError;
+use crate::baton::Baton;
+use std::alloc::{AllocError, Global};
 use std::marker::Model;
+use svn_nodes::paths::parent_path;
 use svn_types::RelPath;
 
 /// The path of an open file or directory. An added file keeps that of its directory beside it: its close asks for the directory's node.
@@ -59,5 +61,24 @@ impl OpenPath {
         ensures { IfSome result (λ a. a.now ≡ parent self.now) }
     {
         self.above.as_ref()
+    }
+}
+
+/// The path of the directory that a path is in. Where that is the parent, as in each call in order, a clone shares its path.
+pub(crate) fn above(
+    alloc: Global,
+    path: &RelPath,
+    parent: Option<&Baton>,
+) -> Result<RelPath, AllocError>
+    ensures { IfOk result (λ p. p ≡ directory_of path.now) }
+{
+    let (Some(parent), Some(name)) = (parent, path.components().last()) else {
+        return parent_path(alloc, path);
+    };
+    let above = parent.path.as_rel_path();
+    if path.is_child_of(above, name) {
+        above.clone()
+    } else {
+        parent_path(alloc, path)
     }
 }

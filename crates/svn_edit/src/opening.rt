@@ -9,18 +9,18 @@ ghost use Rattle.svn_editor.specs.Steps.{Open, Add};
 ghost use Rattle.svn_model.specs.Nodes.{get_in, is_present, node_path};
 ghost use Rattle.svn_model.specs.Effects.{added_node, joined_path, moved_path, step_effect, step_fault};
 ghost use Rattle.svn_model.specs.Answering.{AnswersCall};
-ghost use Rattle.svn_edit.specs.NodeTests.{open_fault_of, deep_fault};
-ghost use Rattle.svn_edit.specs.Applying.{mode_of, pool_or, pool_of_parent, batons_of, Applied, AnswersAs, KeepsEdit, MakesBaton, MakesNode, MovesBy, IsSumOf};
+ghost use Rattle.svn_nodes.specs.NodeTests.{open_fault_of, deep_fault, mode_of, AnswersAs, IsSumOf};
+ghost use Rattle.svn_edit.specs.Applying.{pool_or, pool_of_parent, batons_of, Applied, KeepsEdit, MakesBaton, MakesNode, MovesBy};
 ghost use Rattle.svn_edit.specs.declared.baton.Baton.{Baton};
 ghost use Rattle.svn_edit.specs.Leaving.{KeepsPools};
 
 use crate::baton::Baton;
-use crate::edit::{Edit, or_memory};
-use crate::nodes::Nodes;
+use crate::edit::Edit;
+use crate::open_path;
 use crate::open_path::OpenPath;
-use crate::{nodes, paths};
 use svn_editor::{EditFault, Token};
 use svn_model::BaseNode;
+use svn_nodes::{Nodes, nodes, or_memory, paths};
 use svn_pool::PoolId;
 use svn_types::{Props, RelPath, Rev};
 
@@ -69,7 +69,7 @@ impl Edit {
         if path.is_root() {
             return Ok(Some(paths::kept(root)?));
         }
-        let above = or_memory(paths::above(self.alloc, path, parent))?;
+        let above = or_memory(open_path::above(self.alloc, path, parent))?;
         Ok(Some(paths::joined(self.alloc, copy, &above, path)?))
     }
 
@@ -111,7 +111,7 @@ impl Edit {
             return paths::test_path(root);
         }
         let parent = self.batons.get(parent.0);
-        let above = or_memory(paths::above(self.alloc, path, parent))?;
+        let above = or_memory(open_path::above(self.alloc, path, parent))?;
         paths::test_joined(self.alloc, copy, &above, path)
     }
 
@@ -189,7 +189,7 @@ impl Edit {
     ) -> Result<NewNode, EditFault>
         ensures { let q = joined_path (get_in copy.now.entries) path.now in MakesNode path.now (deep_fault q) (added_node Directory self.now.target q) result }
     {
-        let above = or_memory(paths::above(self.alloc, path, parent))?;
+        let above = or_memory(open_path::above(self.alloc, path, parent))?;
         let joined = paths::joined(self.alloc, copy, &above, path)?;
         Ok(NewNode {
             at: or_memory(path.clone())?,
@@ -212,7 +212,7 @@ impl Edit {
     ) -> Result<NewNode, EditFault>
         ensures { let q = joined_path (get_in copy.now.entries) path.now in MakesNode path.now (deep_fault q) (added_node File self.now.target q) result }
     {
-        let above = or_memory(paths::above(self.alloc, path, parent))?;
+        let above = or_memory(open_path::above(self.alloc, path, parent))?;
         paths::test_joined(self.alloc, copy, &above, path)?;
         Ok(NewNode {
             at: or_memory(path.clone())?,

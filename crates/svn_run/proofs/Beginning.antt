@@ -7,7 +7,8 @@ use Rattle.svn_repo.specs.Readings.{are_related}
 use Rattle.svn_editor.specs.declared.fault.EditFault.{EditFault}
 use Rattle.svn_editor.specs.Steps.{Mode}
 use Rattle.svn_edit.specs.declared.edit.Edit.{Edit}
-use Rattle.svn_edit.specs.Applying.{StandsAfter, mode_of as edit_mode}
+use Rattle.svn_edit.specs.Applying.{StandsAfter}
+use Rattle.svn_nodes.specs.NodeTests.{mode_of as edit_mode}
 use Rattle.svn_model.specs.declared.drive_fault.DriveFault.{DriveFault}
 use Rattle.svn_model.specs.declared.drive_fault.DriveFault.TheVariants.{NoSuchTarget, NoRoot as RootMissing, OtherRoot as RootOther}
 use Rattle.svn_model.specs.Checks.{target_fault}

@@ -8,7 +8,8 @@ use Rattle.svn_editor.specs.declared.call.Call.{Call}
 use Rattle.svn_editor.specs.Lines.{call_line}
 use Rattle.svn_report.specs.Lines.{report_text}
 use Rattle.svn_model.specs.declared.base_node.BaseNode.{BaseNode}
-use Rattle.svn_wc.specs.Lines.{line, copy_text}
+use Rattle.svn_wc.specs.Lines.{copy_text}
+use Rattle.svn_nodes.specs.Lines.{line}
 use Rattle.svn_run.specs.declared.outcome.Cause.{Cause}
 use Rattle.svn_run.specs.declared.outcome.Cause.TheVariants.{Cancelled, Memory as MemoryCause}
 use Rattle.svn_run.specs.declared.outcome.Outcome.{Outcome}

@@ -2,7 +2,7 @@
 ghost use Rattle.std.specs.Prelude.{◌≡◌, Some, OnOk};
 ghost use Rattle.std.specs.List.{flat_map};
 ghost use Rattle.std.specs.Fmt.{DisplaysOnOk};
-ghost use Rattle.svn_wc.specs.Lines.{line};
+ghost use Rattle.svn_nodes.specs.Lines.{line};
 ghost use Rattle.svn_update.specs.Answers.{answer_text, call_text, cause_name, outcome_words};
 
 use crate::fault_names::refusal_name;

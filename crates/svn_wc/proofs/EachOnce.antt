@@ -14,7 +14,7 @@ use Rattle.svn_model.specs.Nodes.{WorkingCopy, get_in}
 use Rattle.svn_model.specs.Refusals.{is_of, has_twice}
 use Rattle.svn_edit_law.proofs.Lookups.{at_path}
 use Rattle.svn_edit_law.proofs.NodeLists.{get_in-first}
-use Rattle.svn_wc.specs.Gathered.{gathered}
+use Rattle.svn_nodes.specs.Gathered.{gathered}
 
 absent : (q : Path) (xs : List (Path × BaseNode)) → list_any (is_of q) xs ≡ false → get_in xs q ≡ None
 absent q [] h = refl

@@ -19,7 +19,7 @@ use Rattle.svn_model.specs.Crawl.{is_switched, entry_for, reported_at, crawl}
 use Rattle.svn_edit_law.proofs.CrawlReports.{root_first}
 use Rattle.svn_edit_law.proofs.NodeLists.{get_in-first}
 use Rattle.svn_edit_law.proofs.Lookups.{get_in-append}
-use Rattle.svn_edit.proofs.NodeOrder.{at_first, before_behind}
+use Rattle.svn_nodes.proofs.NodeOrder.{at_first, before_behind}
 use Rattle.svn_wc.specs.Unswitched.{is_level, IsUnswitched, IsLevel}
 use Rattle.svn_wc.proofs.PathLines.{next_stands, append_one}
 use Rattle.svn_wc.proofs.Unswitched.{dir_present}

@@ -1,7 +1,3 @@
--- What stands below a path, one name at a time.
-pub mod Trees
--- One entry of a directory after the other.
-pub mod Sweeps
 -- Directories whose repository path is their own path, and what is below a directory.
 pub mod OwnPaths
 -- The nodes on the way down to a path.
@@ -12,12 +8,8 @@ pub mod Merging
 pub mod Deeper
 -- A copy is compared with the repository, the nodes below a path one after the other.
 pub mod Truly
--- A tree of the repository is gathered: its node first, and then the entries in order of their names.
-pub mod Gathering
 -- A path is forgotten: its node is no longer present, and what stands below it goes.
 pub mod Forgetting
--- What stands at a path and below is replaced: room is made for what comes, then what was there goes.
-pub mod Replacing
 -- Trees of the repository, and what a copy makes of them.
 pub mod Placing
 -- Lists of nodes in any order, each path once: what is gathered from one is what it has.
@@ -30,14 +22,6 @@ pub mod ShapeKept
 pub mod Removing
 -- A list sorted by its paths: what stands twice, and what a search finds.
 pub mod SortedNodes
--- Ranges of nodes, and how one is gone through from the last node back.
-pub mod NodeRanges
--- Nodes gone through beside others: which of their paths the others lack.
-pub mod Comparing
--- Texts that are printed item by item.
-pub mod Printing
--- The line of a property, from its beginning and the name, which has no byte that is escaped.
-pub mod PropLines
 -- Copies of which no path is switched stay so.
 pub mod Unswitched
 -- What is known of a copy after a call of an applier: that no path is switched, and that it is level.
@@ -48,5 +32,3 @@ pub mod Level
 pub mod LevelCrawl
 -- What the report of a copy says of all its nodes.
 pub mod Learning
--- A part is put over nodes that stand at all its paths, in one pass over them.
-pub mod Overwriting

@@ -18,7 +18,7 @@ use Rattle.svn_model.specs.Refusals.{is_file_kind, is_missing_revision, place_fa
 use Rattle.svn_model.specs.Builders.{checkout, placed}
 use Rattle.svn_repo.proofs.Walking.{look-append}
 use Rattle.svn_model.proofs.Children.{entry_below, look-child}
-use Rattle.svn_wc.specs.Standing.{standing, Puts}
+use Rattle.svn_nodes.specs.Standing.{standing, Puts}
 use Rattle.svn_wc.specs.Building.{Refuses, tree_at}
 use Rattle.svn_wc.specs.Truths.{entry_in}
 use Rattle.svn_edit_law.proofs.CrawlReports.{directory_above}

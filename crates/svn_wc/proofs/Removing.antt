@@ -13,9 +13,9 @@ use Rattle.svn_types.proofs.PathLemmas.{below_parts, below_from, same_path}
 use Rattle.svn_types.proofs.PathsInOrder.{paths_total, not_before_itself, below_after, within_between, before_apart}
 use Rattle.svn_model.specs.declared.base_node.BaseNode.{BaseNode}
 use Rattle.svn_model.specs.Nodes.{get_in, InPathOrder}
-use Rattle.svn_edit.proofs.NodeOrder.{first_or_after}
+use Rattle.svn_nodes.proofs.NodeOrder.{first_or_after}
 use Rattle.svn_wc.specs.Truths.{IsPast}
-use Rattle.svn_wc.proofs.NodeRanges.{get_in-between}
+use Rattle.svn_nodes.proofs.NodeRanges.{get_in-between}
 
 -- ---- the nodes behind a path
 

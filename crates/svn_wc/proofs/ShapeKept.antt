@@ -21,7 +21,8 @@ use Rattle.svn_edit.specs.declared.edit.Edit.{Edit}
 use Rattle.svn_edit.specs.declared.edit.Stage.{Stage}
 use Rattle.svn_edit.specs.declared.edit.Stage.TheVariants.{Going, Refused, Ended}
 use Rattle.svn_edit.specs.Leaving.{PoolsAfter}
-use Rattle.svn_edit.specs.Applying.{mode_of, StandsAfter, HasEnded, IsRefused, StaysRefused, StaysEnded, LeavesRefused}
+use Rattle.svn_edit.specs.Applying.{StandsAfter, HasEnded, IsRefused, StaysRefused, StaysEnded, LeavesRefused}
+use Rattle.svn_nodes.specs.NodeTests.{mode_of}
 use Rattle.svn_edit.proofs.ShapedCalls.{shaped_call}
 use Rattle.svn_edit_law.proofs.Appending.{after-more}
 use Rattle.svn_wc.specs.Taking.{TakesCall, IsBegun, GoesOn, IsInShape, IncompleteAreOpen}

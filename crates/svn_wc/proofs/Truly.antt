@@ -35,7 +35,7 @@ use Rattle.svn_wc.proofs.Placing.{entry_is_below}
 use Rattle.svn_wc.proofs.Merging.{EntriesBeside, entry_beside, beside_other, beside_on, entry_in_all, none_before_itself}
 use Rattle.svn_edit_law.proofs.Lookups.{at_path, get_in-append}
 use Rattle.svn_edit_law.proofs.TruthTests.{prop_decides}
-use Rattle.svn_edit.proofs.NodeOrder.{at_first, first_or_after, before_behind, order_behind, some_behind}
+use Rattle.svn_nodes.proofs.NodeOrder.{at_first, first_or_after, before_behind, order_behind, some_behind}
 use Rattle.svn_types.proofs.PathLemmas.{below_from, below_parts, split_within, within_append}
 use Rattle.svn_types.proofs.PathLemmas.{path_eq-longer, same_path, path_eq-symm, path_eq-same}
 

@@ -16,7 +16,8 @@ use Rattle.md5.specs.Md5.{md5}
 use Rattle.svn_edit.specs.declared.edit.Edit.{Edit}
 use Rattle.svn_edit.specs.declared.edit.Stage.{Stage}
 use Rattle.svn_edit.specs.declared.edit.Stage.TheVariants.{Going, Refused, Ended}
-use Rattle.svn_edit.specs.Applying.{mode_of, StandsAfter, StaysRefused}
+use Rattle.svn_edit.specs.Applying.{StandsAfter, StaysRefused}
+use Rattle.svn_nodes.specs.NodeTests.{mode_of}
 use Rattle.svn_edit_law.proofs.Appending.{after-more}
 use Rattle.svn_wc.specs.Taking.{TakesCall, GoesOn, IsInShape}
 use Rattle.svn_wc.specs.Unswitched.{IsUnswitched, IsLevel}

@@ -1,12 +1,8 @@
 pub mod Aboves
 pub mod Crawling
-pub mod Standing
 pub mod Taking
 pub mod Truths
-pub mod Gathered
 pub mod Building
 pub mod Listed
 pub mod Lines
 pub mod Unswitched
-pub mod Tails
-pub mod Overwriting

@@ -21,7 +21,8 @@ use Rattle.svn_edit_law.specs.Laws.{IsShapedAfter}
 use Rattle.svn_edit.specs.declared.edit.Edit.{Edit}
 use Rattle.svn_edit.specs.declared.edit.Stage.TheVariants.{Going}
 use Rattle.svn_edit.specs.Leaving.{PoolsAfter}
-use Rattle.svn_edit.specs.Applying.{mode_of, StandsAfter, HasEnded, IsRefused, StaysRefused, StaysEnded, LeavesRefused}
+use Rattle.svn_edit.specs.Applying.{StandsAfter, HasEnded, IsRefused, StaysRefused, StaysEnded, LeavesRefused}
+use Rattle.svn_nodes.specs.NodeTests.{mode_of}
 
 pub record TakesCall (old : Edit) (w : List (Path × BaseNode)) (call : Call) (answer : Result (Unit {0}) EditFault)
     (new : Edit) (w' : List (Path × BaseNode)) : Type 0 where

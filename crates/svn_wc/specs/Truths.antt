@@ -49,11 +49,6 @@ abbrev pub IsNameBelow : Path → Path → Option (List ℕ) → Type 0
 IsNameBelow p q None = (name : List ℕ) → q ≡ child p name → ⊥
 IsNameBelow p q (Some name) = q ≡ child p name
 
--- all but the first
-abbrev pub behind_first : {X : Type 0} → List X → List X
-behind_first [] = []
-behind_first (x ∷ xs) = xs
-
 -- no name of the entries comes after a name
 abbrev pub AreUpTo : List ℕ → List (List ℕ × ℕ) → Type 0
 AreUpTo name entries = AllByRecursion (λ (e : List ℕ × ℕ). name_cmp name e.0 ≡ Less → ⊥) entries

@@ -9,7 +9,8 @@ ghost use Rattle.svn_model.specs.Nodes.{WorkingCopy as CopyMap, get_in};
 ghost use Rattle.svn_model.specs.Effects.{refusal};
 ghost use Rattle.svn_edit_law.specs.Laws.{OpensNamed, IsShapedAfter};
 ghost use Rattle.svn_edit.specs.Leaving.{IsLeft, PoolsAfter};
-ghost use Rattle.svn_edit.specs.Applying.{mode_of, open_count, live_count, OneIsLeft, StandsAfter, HasEnded, IsRefused, StaysRefused, StaysEnded, LeavesRefused};
+ghost use Rattle.svn_edit.specs.Applying.{open_count, live_count, OneIsLeft, StandsAfter, HasEnded, IsRefused, StaysRefused, StaysEnded, LeavesRefused};
+ghost use Rattle.svn_nodes.specs.NodeTests.{mode_of};
 ghost use Rattle.svn_model.specs.Answering.{AnswersCall};
 ghost use Rattle.svn_wc.specs.Taking.{IsBegun, IsInShape};
 

@@ -12,18 +12,19 @@ ghost use Rattle.svn_model.specs.Refusals.{is_missing_revision, is_file_kind, is
 ghost use Rattle.svn_edit_law.specs.Laws.{EndsNamed};
 ghost use Rattle.svn_wc.specs.Building.{Refuses, tree_at};
 
-use crate::gather::{Origin, front_of, gather, map_of, node_of};
 use crate::known::Known;
 use crate::paths::{compare_above, last_name_allowed};
-use crate::replace::{replace_alone, replace_within};
 use crate::truth::entry_under;
 use crate::working_copy::WorkingCopy;
 use std::alloc::{AllocError, Global};
 use std::cmp::Ordering;
 use std::ops::Bound;
-use svn_edit::{Nodes, child_path, parent_path};
 use svn_edit_law::{a_checkout_is_a_true_copy, placing_keeps_a_copy, switching_keeps_a_copy};
 use svn_model::{BaseNode, WcFault};
+use svn_nodes::Nodes;
+use svn_nodes::gather::{Origin, front_of, gather, map_of, node_of};
+use svn_nodes::paths::{child_path, parent_path};
+use svn_nodes::replace::{replace_alone, replace_within};
 use svn_repo::{NodeId, Repo};
 use svn_types::{Kind, MAX_DEPTH, RelPath, Rev};
 

@@ -11,8 +11,8 @@ ghost use Rattle.svn_wc.specs.Unswitched.{is_level};
 use crate::above::Above;
 use crate::working_copy::WorkingCopy;
 use std::alloc::{AllocError, Global};
-use svn_edit::Nodes;
 use svn_model::{BaseNode, WcFault};
+use svn_nodes::Nodes;
 use svn_report::{Report, Reporter, ReporterFault};
 use svn_types::{RelPath, Rev};
 

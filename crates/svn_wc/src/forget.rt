@@ -1,29 +1,21 @@
 //! A node of a copy is forgotten.
 ghost use Rattle.std.specs.Prelude.{◌≡◌, ◌&&◌, true, false, IfOk, OnOk, OnErr, IfErr, Some, None, MatchOption, is_some, if◌then◌else◌};
-ghost use Rattle.std.specs.Option.{option_copied, option_map};
+ghost use Rattle.std.specs.Option.{option_map};
 ghost use Rattle.svn_types.specs.Names.{Path};
 ghost use Rattle.svn_types.specs.Paths.{path_eq, is_below};
 ghost use Rattle.svn_repo.specs.History.{History};
-ghost use Rattle.svn_model.specs.Nodes.{get_in, is_present, IsTrueOf};
+ghost use Rattle.svn_model.specs.Nodes.{get_in, IsTrueOf};
 ghost use Rattle.svn_model.specs.Builders.{forgotten};
 ghost use Rattle.svn_model.specs.Refusals.{forget_fault};
 
 use crate::working_copy::WorkingCopy;
 use std::alloc::AllocError;
 use std::ops::Bound;
-use svn_edit::{Nodes, sweep_below};
 use svn_edit_law::forgetting_keeps_a_copy;
 use svn_model::{BaseNode, WcFault};
+use svn_nodes::Nodes;
+use svn_nodes::nodes::{is_present, sweep_below};
 use svn_types::RelPath;
-
-fn is_present(node: Option<&BaseNode>) -> bool
-    ensures { result ≡ is_present (option_copied node.entry) }
-{
-    match node {
-        Some(BaseNode::File { .. } | BaseNode::Dir { .. }) => true,
-        Some(BaseNode::NotPresent) | None => false,
-    }
-}
 
 // What stands at a path is no longer present.
 fn make_absent(nodes: &mut Nodes, at: &RelPath)

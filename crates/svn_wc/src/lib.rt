@@ -26,18 +26,14 @@
 #![tactic(auto)]
 
 mod above;
-mod ahead;
 mod applier;
 mod building;
 mod crawl;
 mod forget;
-mod gather;
 mod known;
 mod lines;
 mod listed;
-mod overwrite;
 mod paths;
-mod replace;
 mod truth;
 mod working_copy;
 

@@ -11,13 +11,13 @@ ghost use Rattle.svn_wc.specs.Building.{Refuses};
 ghost use Rattle.svn_wc.specs.Listed.{IsSorted, IsSearchable};
 
 use crate::building::is_too_deep;
-use crate::gather::map_of;
 use crate::known::Known;
 use crate::paths::{compare_above, last_name_allowed};
 use crate::working_copy::WorkingCopy;
 use std::alloc::Global;
 use svn_edit_law::nodes_make_a_copy;
 use svn_model::{BaseNode, WcFault};
+use svn_nodes::gather::map_of;
 use svn_types::RelPath;
 
 // The last name of each path is an allowed one.

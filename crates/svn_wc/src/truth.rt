@@ -13,12 +13,12 @@ ghost use Rattle.svn_wc.specs.Truths.{looked, entries_at, entry_in, HasNoEntries
 ghost use Rattle.svn_wc.specs.Aboves.{KnowsOwnPath};
 
 use crate::above::Above;
-use crate::ahead::Ahead;
 use crate::working_copy::WorkingCopy;
 use std::cmp::Ordering;
 use svn_edit_law::truth_is_tested;
 use svn_model::BaseNode;
 use svn_name_map::Iter;
+use svn_nodes::ahead::Ahead;
 use svn_repo::{Entries, NodeId, Repo};
 use svn_types::{Kind, Name, Props, RelPath, Rev, Text};
 

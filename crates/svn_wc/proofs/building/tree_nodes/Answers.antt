@@ -3,8 +3,8 @@ use Rattle.svn_types.specs.Names.{Path}
 use Rattle.svn_model.specs.declared.base_node.BaseNode.{BaseNode}
 use Rattle.svn_model.specs.Nodes.{get_in}
 use Rattle.svn_wc.specs.Building.{tree_at}
-use Rattle.svn_wc.specs.Gathered.{gathered}
-use Rattle.svn_wc.specs.Standing.{Puts, standing}
+use Rattle.svn_nodes.specs.Gathered.{gathered}
+use Rattle.svn_nodes.specs.Standing.{Puts, standing}
 use Rattle.svn_wc.proofs.Placing.{if_ok, tree_gathered}
 use Rattle.svn_wc.proofs.building.tree_nodes.Goals as goal
 

@@ -4,7 +4,7 @@ use Rattle.svn_types.specs.Names.{Path}
 use Rattle.svn_types.specs.Paths.{is_within, is_below}
 use Rattle.svn_model.specs.declared.base_node.BaseNode.{BaseNode}
 use Rattle.svn_model.specs.Nodes.{get_in, InPathOrder}
-use Rattle.svn_edit.proofs.Ranges.{order_run}
+use Rattle.svn_nodes.proofs.Ranges.{order_run}
 use Rattle.svn_wc.specs.Truths.{IsPast}
 use Rattle.svn_wc.proofs.Removing.{first_after, first_stands, first_is_below, none_below}
 use Rattle.svn_wc.proofs.forget.first_below.Goals as goal

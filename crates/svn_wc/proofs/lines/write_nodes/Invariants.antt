@@ -1,7 +1,7 @@
 use Rattle.std.proofs.Common.{◌≡◌, ◌++◌, List, ℕ}
 use Rattle.std.specs.List.{flat_map}
 use Rattle.std.specs.Fmt.{HasWritten, IsPlainFormatter}
-use Rattle.svn_wc.specs.Lines.{node_lines}
+use Rattle.svn_nodes.specs.Lines.{node_lines}
 use Rattle.svn_wc.proofs.lines.write_nodes.Given as goal
 
 -- what is written so far, and the lines of the nodes that are left

@@ -1,6 +1,7 @@
 use Rattle.std.proofs.Common.{◌≡◌, ℕ, ◌∷◌, [], None, List, sym, ap, subst, ◌∙◌}
 use Rattle.svn_types.proofs.NameLemmas.{Name}
-use Rattle.svn_wc.specs.Truths.{PassesTo, behind_first}
+use Rattle.svn_wc.specs.Truths.{PassesTo}
+use Rattle.svn_nodes.specs.Ahead.{behind_first}
 use Rattle.svn_wc.proofs.Merging.{Passing, passing_on, passed_at, passed_before, passed_none}
 use Rattle.svn_wc.proofs.truth.pass_to.Goals as goal
 

@@ -3,7 +3,7 @@ use Rattle.std.specs.Prelude.{Option, filter_map}
 use Rattle.std.specs.List.{flat_map}
 use Rattle.svn_pool.specs.Pools.{strings_at}
 use Rattle.svn_model.specs.Effects.{text_in}
-use Rattle.svn_edit.specs.NodeTests.{first_of}
+use Rattle.svn_nodes.specs.NodeTests.{first_of}
 use Rattle.svn_edit.specs.declared.baton.NotedText.{NotedText}
 use Rattle.svn_edit.specs.Noted.{strings_of}
 use Rattle.svn_edit.specs.Applying.{IsTextAt}

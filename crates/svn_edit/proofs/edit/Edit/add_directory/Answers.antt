@@ -1,6 +1,6 @@
 use Rattle.md5.specs.Md5.{md5}
 use Rattle.svn_types.specs.declared.kind.Kind.TheVariants.{Directory}
-use Rattle.svn_edit.specs.Applying.{mode_of}
+use Rattle.svn_nodes.specs.NodeTests.{mode_of}
 use Rattle.svn_edit.proofs.Holding.{applied_add}
 use Rattle.svn_edit.proofs.edit.Edit.add_directory.Goals as goal
 

@@ -3,7 +3,8 @@ use Rattle.std.specs.Prelude.{Option}
 use Rattle.svn_types.specs.Names.{Path}
 use Rattle.svn_model.specs.Nodes.{get_in}
 use Rattle.svn_model.specs.Effects.{settled, settle_fault}
-use Rattle.svn_edit.specs.Applying.{mode_of, Applied}
+use Rattle.svn_edit.specs.Applying.{Applied}
+use Rattle.svn_nodes.specs.NodeTests.{mode_of}
 use Rattle.svn_edit.proofs.Switching.{update_ends, not_update}
 use Rattle.svn_edit.proofs.edit.Edit.close_edit.Goals as goal
 

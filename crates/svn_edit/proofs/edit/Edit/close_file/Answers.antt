@@ -8,8 +8,8 @@ use Rattle.svn_model.specs.Nodes.{get_in}
 use Rattle.svn_model.specs.Effects.{change_in, text_in}
 use Rattle.svn_model.specs.Answering.{AnswersCall}
 use Rattle.svn_edit.specs.declared.baton.Baton.{Baton}
-use Rattle.svn_edit.specs.NodeTests.{sum_fault, FileIsClosed}
-use Rattle.svn_edit.specs.Applying.{mode_of, Says}
+use Rattle.svn_nodes.specs.NodeTests.{sum_fault, FileIsClosed, mode_of}
+use Rattle.svn_edit.specs.Applying.{Says}
 use Rattle.svn_edit.proofs.edit.Edit.close_file.Goals as goal
 
 pub returns-in_err-close_file_of-clause-answers : goal.returns-in_err-close_file_of-clause-answers

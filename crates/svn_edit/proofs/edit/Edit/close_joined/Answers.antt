@@ -7,8 +7,7 @@ use Rattle.svn_model.specs.declared.base_node.BaseNode.{BaseNode}
 use Rattle.svn_model.specs.Nodes.{get_in}
 use Rattle.svn_model.specs.Effects.{change_in, text_in, joined_path}
 use Rattle.svn_model.specs.Answering.{AnswersCall}
-use Rattle.svn_edit.specs.NodeTests.{sum_fault}
-use Rattle.svn_edit.specs.Applying.{mode_of}
+use Rattle.svn_nodes.specs.NodeTests.{sum_fault, mode_of}
 use Rattle.svn_edit_law.proofs.Lookups.{get_in-updated}
 use Rattle.svn_edit.proofs.Holding.{ok_by, map_ok, map_err}
 use Rattle.svn_edit.proofs.FileCloses.{node_closed, nothing_closed}

@@ -7,8 +7,7 @@ use Rattle.svn_model.specs.declared.base_node.BaseNode.{BaseNode}
 use Rattle.svn_model.specs.declared.base_node.BaseNode.TheVariants.{NotPresent}
 use Rattle.svn_model.specs.Effects.{change_in, text_in, closed_file, moved_path, joined_path}
 use Rattle.svn_model.specs.Answering.{AnswersCall}
-use Rattle.svn_edit.specs.NodeTests.{sum_fault}
-use Rattle.svn_edit.specs.Applying.{mode_of}
+use Rattle.svn_nodes.specs.NodeTests.{sum_fault, mode_of}
 use Rattle.svn_edit.proofs.Holding.{map_ok}
 use Rattle.svn_edit.proofs.edit.Edit.close_new.Goals as goal
 

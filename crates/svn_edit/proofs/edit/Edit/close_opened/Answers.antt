@@ -4,7 +4,7 @@ use Rattle.md5.specs.Md5.{md5}
 use Rattle.svn_editor.specs.declared.fault.EditFault.{EditFault}
 use Rattle.svn_model.specs.Effects.{text_in}
 use Rattle.svn_model.specs.Answering.{AnswersCall}
-use Rattle.svn_edit.specs.NodeTests.{sum_fault}
+use Rattle.svn_nodes.specs.NodeTests.{sum_fault}
 use Rattle.svn_edit.proofs.edit.Edit.close_opened.Goals as goal
 
 pub returns-in_err-new_text-clause-answers : goal.returns-in_err-new_text-clause-answers

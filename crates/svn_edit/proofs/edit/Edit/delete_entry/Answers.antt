@@ -1,7 +1,6 @@
 use Rattle.std.proofs.Common.{◌≡◌, None, [], ◌∙◌, rules}
 use Rattle.svn_model.specs.Nodes.{get_in}
-use Rattle.svn_edit.specs.NodeTests.{delete_fault_of}
-use Rattle.svn_edit.specs.Applying.{mode_of}
+use Rattle.svn_nodes.specs.NodeTests.{delete_fault_of, mode_of}
 use Rattle.svn_edit_law.proofs.StepEffects.{effect_delete}
 use Rattle.svn_edit.proofs.edit.Edit.delete_entry.Goals as goal
 

@@ -5,8 +5,7 @@ use Rattle.svn_editor.specs.declared.fault.EditFault.{EditFault}
 use Rattle.svn_model.specs.declared.base_node.BaseNode.{BaseNode}
 use Rattle.svn_model.specs.declared.base_node.BaseNode.TheVariants.{NotPresent}
 use Rattle.svn_model.specs.Effects.{text_in}
-use Rattle.svn_edit.specs.NodeTests.{sum_fault}
-use Rattle.svn_edit.specs.Applying.{AnswersAs}
+use Rattle.svn_nodes.specs.NodeTests.{sum_fault, AnswersAs}
 use Rattle.svn_edit.proofs.edit.Edit.installed_file.Goals as goal
 
 pub returns-in_err-text-clause-answers : goal.returns-in_err-text-clause-answers

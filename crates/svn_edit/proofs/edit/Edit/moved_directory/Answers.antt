@@ -6,8 +6,8 @@ use Rattle.svn_types.specs.declared.kind.Kind.TheVariants.{Directory}
 use Rattle.svn_editor.specs.declared.fault.EditFault.{EditFault}
 use Rattle.svn_model.specs.Nodes.{node_path}
 use Rattle.svn_model.specs.Answering.{IsAnswer}
-use Rattle.svn_edit.specs.NodeTests.{open_fault_of, deep_fault}
-use Rattle.svn_edit.specs.Applying.{AnswersAs, MovesBy}
+use Rattle.svn_nodes.specs.NodeTests.{open_fault_of, deep_fault, AnswersAs}
+use Rattle.svn_edit.specs.Applying.{MovesBy}
 use Rattle.svn_edit.proofs.edit.Edit.moved_directory.Goals as goal
 
 pub returns-in_err-moved-clause-answers : goal.returns-in_err-moved-clause-answers

@@ -11,11 +11,10 @@ use Rattle.svn_model.specs.declared.base_node.BaseNode.{BaseNode}
 use Rattle.svn_model.specs.Nodes.{get_in, node_path}
 use Rattle.svn_model.specs.Effects.{moved_path, opened_directory, step_fault}
 use Rattle.svn_model.specs.Answering.{IsAnswer}
-use Rattle.svn_edit.specs.NodeTests.{open_fault_of, deep_fault}
-use Rattle.svn_edit.specs.Applying.{mode_of}
+use Rattle.svn_nodes.specs.NodeTests.{open_fault_of, deep_fault, mode_of}
 use Rattle.svn_edit_law.proofs.Lookups.{get_in-updated}
 use Rattle.svn_edit_law.proofs.StepEffects.{effect_alone}
-use Rattle.svn_edit.proofs.OpenFaults.{open_fault_is}
+use Rattle.svn_nodes.proofs.OpenFaults.{open_fault_is}
 use Rattle.svn_edit.proofs.Holding.{applied_refused}
 use Rattle.svn_edit.proofs.edit.Edit.open_directory.Goals as goal
 

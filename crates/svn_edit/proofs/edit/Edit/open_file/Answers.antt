@@ -7,10 +7,9 @@ use Rattle.svn_editor.specs.Steps.{Open}
 use Rattle.svn_model.specs.declared.base_node.BaseNode.{BaseNode}
 use Rattle.svn_model.specs.Nodes.{get_in, node_path, node_text}
 use Rattle.svn_model.specs.Effects.{step_fault, moved_path}
-use Rattle.svn_edit.specs.NodeTests.{open_fault_of, deep_fault}
-use Rattle.svn_edit.specs.Applying.{mode_of, IsSumOf}
+use Rattle.svn_nodes.specs.NodeTests.{open_fault_of, deep_fault, mode_of, IsSumOf}
 use Rattle.svn_edit_law.proofs.StepEffects.{effect_none}
-use Rattle.svn_edit.proofs.OpenFaults.{open_fault_is}
+use Rattle.svn_nodes.proofs.OpenFaults.{open_fault_is}
 use Rattle.svn_edit.proofs.Holding.{on_err, map_ok, applied_none}
 use Rattle.svn_edit.proofs.LeftPools.{keeps_same}
 use Rattle.svn_edit.proofs.edit.Edit.open_file.Goals as goal

@@ -5,7 +5,8 @@ use Rattle.svn_types.specs.declared.kind.Kind.TheVariants.{Directory}
 use Rattle.svn_editor.specs.Steps.{Open}
 use Rattle.svn_model.specs.Nodes.{get_in}
 use Rattle.svn_model.specs.Effects.{step_fault, step_effect}
-use Rattle.svn_edit.specs.Applying.{mode_of, Applied}
+use Rattle.svn_edit.specs.Applying.{Applied}
+use Rattle.svn_nodes.specs.NodeTests.{mode_of}
 use Rattle.svn_edit.proofs.edit.Edit.open_root.Goals as goal
 
 pub returns-clause-applied : goal.returns-clause-applied

@@ -5,8 +5,8 @@ use Rattle.svn_types.specs.Paths.{parent, path_eq}
 use Rattle.svn_types.proofs.PathsInOrder.{at_path, path_tie}
 use Rattle.svn_model.specs.declared.base_node.BaseNode.{BaseNode}
 use Rattle.svn_model.specs.Nodes.{get_in, InPathOrder}
-use Rattle.svn_edit.proofs.Ranges.{order_run}
-use Rattle.svn_wc.proofs.NodeRanges.{above_among, not_last, last_found, none_behind, order_before}
+use Rattle.svn_nodes.proofs.Ranges.{order_run}
+use Rattle.svn_nodes.proofs.NodeRanges.{above_among, not_last, last_found, none_behind, order_before}
 use Rattle.svn_wc.proofs.working_copy.WorkingCopy.find_above.Goals as goal
 
 pub nodes-init : goal.nodes-init

@@ -1,6 +1,0 @@
-use Rattle.std.proofs.Common.{◌≡◌, ◌++◌}
-use Rattle.svn_edit.specs.NodeTests.{moved_paths}
-use Rattle.svn_edit.proofs.ending.moved_paths.Given as goal
-
-abbrev pub invariant-loop-path : goal.invariant-loop-path
-invariant-loop-path l = l.moved.items ++ moved_paths l.root l.path-iterator ≡ moved_paths l.root l.nodes.entries

@@ -1,5 +1,0 @@
-use Rattle.svn_wc.proofs.Replacing.{PutSoFar}
-use Rattle.svn_wc.proofs.replace.put_all.Given as goal
-
-abbrev pub invariant-loop-path : goal.invariant-loop-path
-invariant-loop-path l = PutSoFar l.fn.part.entries l.initial.nodes.entries l.nodes.entries l.path-iterator
