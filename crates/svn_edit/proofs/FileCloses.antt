@@ -1,6 +1,7 @@
 -- The close of a file: its text is checked, what was said of it is done, and its baton goes.
 use Rattle.std.proofs.Common.{◌≡◌, ◌≢◌, ℕ, Bool, true, false, cond, List, [], ◌∷◌, ◌++◌, refl, sym, ◌∙◌, ap, subst, true≢false}
 use Rattle.std.specs.Prelude.{Option, Some, None, Result, Ok, Err, OnOk, OnErr, filter_map}
+use Rattle.md5.specs.Md5.{md5}
 use Rattle.svn_types.specs.declared.kind.Kind.TheVariants.{File, Directory}
 use Rattle.svn_types.specs.Names.{Path}
 use Rattle.svn_types.specs.Paths.{path_eq}
@@ -25,7 +26,8 @@ use Rattle.svn_edit.specs.declared.baton.Baton.{Baton}
 use Rattle.svn_edit.specs.declared.edit.Edit.{Edit}
 use Rattle.svn_nodes.specs.NodeTests.{sum_fault, FileIsClosed, mode_of}
 use Rattle.svn_edit.specs.Applying.{Applied, KeepsEdit, batons_of, is_open, IsBaton, BatonGone, IsLeaf, Says, Holds, IsNext}
-use Rattle.svn_edit.proofs.Holding.{at_ok, ok_by}
+use Rattle.svn_edit.specs.Closing.{ClosesFile}
+use Rattle.svn_edit.proofs.Holding.{map_ok, map_err, ok_by, on_err}
 use Rattle.svn_edit.proofs.Closes.{among_said, changes_are, named_known, named_baton, says_of, gone_holds, others_stay}
 
 -- the texts on a path are among what is said
@@ -68,6 +70,36 @@ nothing_closed mode rev at p changes texts nodes nodes2 same none kept q =
     by false e = refl
     by true e = ap w (sym (same_path p q e)) ∙ sym here ∙ ap closed here
 
+-- what stands at the path of a baton is closed there
+pub node_closes : (edit : Edit) (b : Baton) (sum : Option (List ℕ)) (at : Path) (nodes nodes2 : List (Path × BaseNode)) (old new : BaseNode)
+    (r : Result (Unit {0}) EditFault) → at ≡ b.path → Some old ≡ get_in nodes at
+    → ((said : List Action) → Says b edit.pools said → AnswersCall (sum_fault md5 sum (filter_map text_in said) (Some old)) r)
+    → OnOk r ((said : List Action) → Says b edit.pools said → Some new ≡ closed_file edit.target
+    (moved_path (mode_of edit.root) (get_in nodes) at) (joined_path (get_in nodes) at) (filter_map change_in said)
+    (filter_map text_in said) (Some old))
+    → OnErr r (new ≡ old) → ((q : Path) → get_in nodes2 q ≡ cond (path_eq at q) (Some new) (get_in nodes q))
+    → (new ≡ old → nodes2 ≡ nodes) → ClosesFile edit b sum nodes r nodes2
+node_closes edit b sum at nodes nodes2 old new r same there answers closed refused written kept = record {
+  answers = λ said s. subst (λ (o : Option BaseNode). AnswersCall (sum_fault md5 sum (filter_map text_in said) o) r)
+      (there ∙ ap (get_in nodes) same) (answers said s);
+  closed = map_ok r closed (λ f said s. node_closed (mode_of edit.root) edit.target at b.path (filter_map change_in said)
+      (filter_map text_in said) nodes nodes2 old new same there (f said s) written);
+  refused = map_err r refused kept;
+}
+
+-- where nothing stands, nothing changes
+pub nothing_closes : (edit : Edit) (b : Baton) (sum : Option (List ℕ)) (at : Path) (nodes nodes2 : List (Path × BaseNode))
+    (r : Result (Unit {0}) EditFault) → at ≡ b.path → None ≡ get_in nodes at → nodes2 ≡ nodes
+    → ((said : List Action) → Says b edit.pools said → AnswersCall (sum_fault md5 sum (filter_map text_in said) None) r)
+    → ClosesFile edit b sum nodes r nodes2
+nothing_closes edit b sum at nodes nodes2 r same none kept h = record {
+  answers = λ said s. subst (λ (o : Option BaseNode). AnswersCall (sum_fault md5 sum (filter_map text_in said) o) r)
+      (none ∙ ap (get_in nodes) same) (h said s);
+  closed = ok_by r (λ ok said s. nothing_closed (mode_of edit.root) edit.target at b.path (filter_map change_in said)
+      (filter_map text_in said) nodes nodes2 same none kept);
+  refused = on_err r kept;
+}
+
 applied_parts : (fault : Option EditFault) (w : WorkingCopy) (nodes nodes2 : List (Path × BaseNode)) (r : Result (Unit {0}) EditFault)
     → AnswersCall fault r
     → OnOk r ((p : Path) → get_in nodes2 p ≡ w p) → OnErr r (nodes2 ≡ nodes) → Applied fault w nodes r nodes2
@@ -80,37 +112,33 @@ module _ (mode : Mode) (old new : Edit) (calls : List Call) (t : ℕ) (sum : Opt
   baton = named_baton mode old calls (CloseFile t sum) d t File is next refl refl
 
   -- what the close does to the copy
-  pub file_applied : (checksum : List ℕ → List ℕ) (nodes nodes2 : List (Path × BaseNode)) (r : Result (Unit {0}) EditFault)
-      → ((b : Baton) (said : List Action) → batons_of old t ≡ Some b → Says b old.pools said
-      → AnswersCall (sum_fault checksum sum (filter_map text_in said) (get_in nodes b.path)) r)
-      → OnOk r ((b : Baton) (said : List Action) → batons_of old t ≡ Some b → Says b old.pools said
-      → FileIsClosed (mode_of old.root) old.target b.path (filter_map change_in said) (filter_map text_in said) nodes nodes2)
-      → OnErr r (nodes2 ≡ nodes) → Applied (edit_fault checksum mode calls d nodes) (effect mode calls d (get_in nodes)) nodes r nodes2
-  file_applied checksum nodes nodes2 r answers closed bad =
-      subst (λ (x : Call). Applied (edit_fault checksum mode calls x nodes) (effect mode calls x (get_in nodes)) nodes r nodes2) (sym is)
-      (applied_parts _ _ nodes nodes2 r answered (ok_by r (λ ok. done (at_ok r ok closed))) bad)
+  pub file_applied : (nodes nodes2 : List (Path × BaseNode)) (r : Result (Unit {0}) EditFault)
+      → ((b : Baton) → batons_of old t ≡ Some b → ClosesFile old b sum nodes r nodes2)
+      → Applied (edit_fault md5 mode calls d nodes) (effect mode calls d (get_in nodes)) nodes r nodes2
+  file_applied nodes nodes2 r closes =
+      subst (λ (x : Call). Applied (edit_fault md5 mode calls x nodes) (effect mode calls x (get_in nodes)) nodes r nodes2) (sym is)
+      (applied_parts _ _ nodes nodes2 r answered (map_ok r h.closed done) h.refused)
     where
+      h : ClosesFile old baton.0 sum nodes r nodes2
+      h = closes baton.0 baton.1
+
       at : Path
       at = path_of calls t
-
-      w : WorkingCopy
-      w = get_in nodes
 
       said : Says baton.0 old.pools (said_at at (steps_of calls))
       said = says_of old.pools (batons_of old) calls t baton.0 baton.2
 
-      answered : AnswersCall (sum_fault checksum sum (texts_at at (steps_of calls)) (get_in nodes at)) r
+      answered : AnswersCall (sum_fault md5 sum (texts_at at (steps_of calls)) (get_in nodes at)) r
       answered =
-          subst (λ (l : List (List ℕ)). AnswersCall (sum_fault checksum sum l (get_in nodes at)) r) (texts_are at (steps_of calls))
-          (subst (λ (p : Path). AnswersCall (sum_fault checksum sum (filter_map text_in (said_at at (steps_of calls))) (get_in nodes p)) r)
-          baton.2.path
-          (answers baton.0 (said_at at (steps_of calls)) baton.1 said))
+          subst (λ (l : List (List ℕ)). AnswersCall (sum_fault md5 sum l (get_in nodes at)) r) (texts_are at (steps_of calls))
+          (subst (λ (p : Path). AnswersCall (sum_fault md5 sum (filter_map text_in (said_at at (steps_of calls))) (get_in nodes p)) r)
+          baton.2.path (h.answers (said_at at (steps_of calls)) said))
 
-      done : ((b : Baton) (said : List Action) → batons_of old t ≡ Some b → Says b old.pools said
-          → FileIsClosed (mode_of old.root) old.target b.path (filter_map change_in said) (filter_map text_in said) nodes nodes2)
+      done : ((said : List Action) → Says baton.0 old.pools said → FileIsClosed (mode_of old.root) old.target baton.0.path
+          (filter_map change_in said) (filter_map text_in said) nodes nodes2)
           → (p : Path) → get_in nodes2 p ≡ effect mode calls (CloseFile t sum) (get_in nodes) p
       done f p =
-          f baton.0 (said_at at (steps_of calls)) baton.1 said p
+          f (said_at at (steps_of calls)) said p
           ∙ (λ i. cond (path_eq (baton.2.path i) p)
           (closed_file (next.holds.target i) (moved_path (next.holds.root i) (get_in nodes) (baton.2.path i))
           (joined_path (get_in nodes) (baton.2.path i)) (changes_are at (steps_of calls) i) (texts_are at (steps_of calls) i)

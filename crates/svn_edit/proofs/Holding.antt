@@ -71,6 +71,10 @@ applied_some fault w nodes nodes2 (Err e) none same h = (subst (IsAnswer fault) 
 
 -- ---- what is held
 
+-- an edit that no call changed
+pub edit_kept : (edit : Edit) → KeepsEdit edit edit
+edit_kept edit = record { stage = refl; order = refl; target = refl; root = refl }
+
 module _ (mode : Mode) (old new : Edit) (calls : List Call) (c d : Call) (is : d ≡ c) (next : IsNext mode old calls d)
     (keeps : KeepsEdit old new) (still : next_target (target_of calls) c ≡ target_of calls) where
   pub in_order : order_fault calls c ≡ None
@@ -101,7 +105,7 @@ pub holds_still : (mode : Mode) (old : Edit) (calls : List Call) (c d : Call) �
     → next_target (target_of calls) c ≡ target_of calls → given_by c ≡ None → noted c ≡ None → ((t : ℕ) → closes t c ≡ false)
     → Holds mode old (calls ++ d ∷ [])
 holds_still mode old calls c d is next still none says shut =
-    holds_by mode old old calls c d is next (record { stage = refl; order = refl; target = refl; root = refl }) still
+    holds_by mode old old calls c d is next (edit_kept old) still
     (held_still old.pools (batons_of old) calls c next.holds.batons none says shut)
 
 -- ---- answers

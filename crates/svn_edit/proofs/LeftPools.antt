@@ -1,12 +1,13 @@
 -- The pools after a refused call are those of the calls before it.
 use Rattle.std.proofs.Common.{nat_eq, ◌≡◌, ◌≢◌, ℕ, ◌+◌, false, cond, List, [], ◌∷◌, ◌++◌, length, refl, sym, ◌∙◌, ap, subst, inl, inr}
 use Rattle.std.proofs.Common.{append_assoc, append-nil, arith, true≢false}
-use Rattle.std.specs.Prelude.{Option, Some, None, is_some, ◌⊎◌, Result, Err, OnErr}
+use Rattle.std.specs.Prelude.{Option, Some, None, is_some, ◌⊎◌, Result, Ok, Err, IfOk, OnErr}
 use Rattle.svn_serials.proofs.Pairs.{Updates}
 use Rattle.std.specs.List.{list_any}
 use Rattle.std.specs.FinMap as map_of
 use Rattle.std.proofs.lemmas.Bool.{cases_eq}
 use Rattle.std.proofs.lemmas.Option.{same_Some}
+use Rattle.md5.specs.Md5.{md5}
 use Rattle.svn_types.specs.Names.{Path}
 use Rattle.svn_pool.specs.Pools.{Entry, Pools, pool_at, parent_of, strings_of_pool, strings_at, created, pushed}
 use Rattle.svn_pool.specs.Ancestry.{IsBeneath}
@@ -14,18 +15,24 @@ use Rattle.svn_pool.proofs.Views.{inserted_here, inserted_away}
 use Rattle.svn_editor.specs.declared.call.Call.{Call}
 use Rattle.svn_editor.specs.declared.call.Call.TheVariants.{AbortEdit}
 use Rattle.svn_editor.specs.declared.fault.EditFault.{EditFault}
+use Rattle.svn_editor.specs.declared.fault.EditFault.TheVariants.{Memory}
 use Rattle.svn_editor.specs.Calls.{Given, given, given_by, named_by, all_given, is_abort, is_last}
 use Rattle.svn_editor.specs.Order.{order_fault}
-use Rattle.svn_editor.specs.Steps.{Mode}
+use Rattle.svn_editor.specs.Steps.{Mode, Action}
 use Rattle.svn_editor.proofs.Accepted.{accepted}
 use Rattle.svn_order.proofs.Sound.{numbered_next}
 use Rattle.svn_model.specs.declared.base_node.BaseNode.{BaseNode}
-use Rattle.svn_model.specs.Nodes.{WorkingCopy}
+use Rattle.svn_model.specs.Nodes.{WorkingCopy, get_in}
+use Rattle.svn_model.specs.Effects.{step_fault}
+use Rattle.svn_model.specs.Answering.{IsAnswer}
 use Rattle.svn_edit.specs.declared.baton.Baton.{Baton}
 use Rattle.svn_edit.specs.declared.edit.Edit.{Edit}
+use Rattle.svn_edit.specs.declared.opening.NewNode.{NewNode}
 use Rattle.svn_edit.specs.declared.edit.Stage.TheVariants.{Going, Refused, Ended}
 use Rattle.svn_edit.specs.Applying.{Batons, batons_of, pool_or, pool_above, pool_entry, IsLeaf, HoldsBatons, PoolGone}
-use Rattle.svn_edit.specs.Applying.{IsNext, IsRefused, StandsAfter}
+use Rattle.svn_edit.specs.Applying.{IsNext, IsRefused, StandsAfter, MakesBaton, LetsGo, KeepsEdit, MakesNode}
+use Rattle.svn_nodes.specs.NodeTests.{mode_of}
+use Rattle.svn_edit.specs.Opening.{GivesToken}
 use Rattle.svn_edit.specs.Leaving.{call_strings, HasPool, HoldsPools, IsLeft, LeavesPools, PoolsAfter, SamePools, KeepsPools, BatonBegan}
 use Rattle.svn_edit.specs.Leaving.{NoteBegan}
 use Rattle.svn_edit.proofs.PoolStrings.{own_one, others_one, len_pushed, len_created}
@@ -168,6 +175,18 @@ taken_back old made new s fresh others root count gone = record {
   root = gone.root ∙ root;
   count = let more = gone.count in omega (arith, more, count);
 }
+
+-- a baton that was made goes again
+pub baton_taken_back : (old made new : Edit) (beneath : ℕ) (p : Path) (t : ℕ) → MakesBaton beneath p t old made → LetsGo t made new
+    → batons_of old t ≡ None → KeepsPools old new
+baton_taken_back old made new beneath p t m goes none =
+    let gone = goes m.baton _ m.token m.begun.made m.begun.leaf (λ e. m.begun.apart (e ∙ m.begun.root)) in record {
+      pools = taken_back old.pools made.pools new.pools m.baton.pool.0 m.begun.fresh m.begun.others m.begun.root m.begun.count gone.pool;
+      batons = λ u. elim (cases_eq u t) [
+        | inl is ↦ ap (batons_of new) is ∙ gone.token ∙ sym (ap (batons_of old) is ∙ none)
+        | inr away ↦ gone.tokens u away ∙ m.tokens u away
+      ];
+    }
 
 -- a pool that was made, and to which no string was pushed
 pub undone : (old made new : Pools) (s beneath : ℕ) → made ≡ created old beneath → s ≡ old.next → pool_at old old.next ≡ None
@@ -334,6 +353,26 @@ fresh_token mode edit calls c d g is next gives going = nothing (batons_of edit 
     nothing : (o : Option Baton) → is_some o ≡ false → o ≡ None
     nothing None h = refl
     nothing (Some b) h = absurd (true≢false h)
+
+-- ---- an open or an add that is refused
+
+pub own_answer : (e : EditFault) → IsAnswer (Some e) e
+own_answer Memory = tt
+own_answer _ = refl
+
+pub gives_refused : (beneath : ℕ) (p : Path) (t : ℕ) (act : Action) (old : Edit) (nodes : List (Path × BaseNode))
+    (r : Result (Unit {0}) EditFault) (e : EditFault) (new : Edit) (nodes2 : List (Path × BaseNode)) → r ≡ Err e
+    → IsAnswer (step_fault md5 (mode_of old.root) [] (get_in nodes) p act) e → KeepsEdit old new → nodes2 ≡ nodes
+    → GivesToken beneath p t act old nodes r new nodes2
+gives_refused beneath p t act old nodes r e new nodes2 is h keeps same =
+    subst (λ (x : Result (Unit {0}) EditFault). GivesToken beneath p t act old nodes x new nodes2) (sym is)
+    (record { opened = tt; keeps = keeps; applied = (h, same) })
+
+-- what was made for an add has the path of that
+pub made_opened : (p : Path) (fault : Option EditFault) (node : BaseNode) (r : Result NewNode EditFault) → MakesNode p fault node r
+    → IfOk r (λ n. n.opened ≡ p)
+made_opened p fault node (Ok n) h = h.2
+made_opened p fault node (Err e) h = tt
 
 -- ---- a refused call
 

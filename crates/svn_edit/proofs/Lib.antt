@@ -18,6 +18,8 @@ pub mod Bases
 pub mod FileCloses
 -- The last call among the others: what it answers and leaves, and how many pools are live.
 pub mod Switching
+-- What a call that is in order makes of an edit, by what its function says.
+pub mod Takings
 -- An edit that no call was given to.
 pub mod Beginning
 -- The shape of the copy after a call of an applier.

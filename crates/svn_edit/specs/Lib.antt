@@ -1,3 +1,6 @@
 pub mod Noted
 pub mod Applying
 pub mod Leaving
+pub mod Taking
+pub mod Closing
+pub mod Opening

@@ -21,7 +21,7 @@ use svn_pool::{PoolId, PoolTree, Reader};
 use svn_types::{PropName, Props, Text};
 
 /// What the strings of a baton's pool say, behind the first, which is the path's key.
-#[derive(Clone, Copy, Debug, Default)]
+#[derive(Clone, Copy, Default)]
 pub(crate) enum Note {
     /// Two strings: the name of a property, and its new value.
     Set,
@@ -45,7 +45,7 @@ fn has_change(notes: &[Note]) -> bool
 const FEW_NOTES: usize = 8;
 
 /// Where the text that came for a file lies among the strings of its pool.
-#[derive(Clone, Copy, Debug)]
+#[derive(Clone, Copy)]
 pub(crate) struct NotedText {
     place: u32,
 }

@@ -1,16 +1,17 @@
 //! The closes of an edit.
-ghost use Rattle.std.specs.Prelude.{◌≡◌, ℕ, List, IfOk, IfErr, OnOk, OnErr, Ok, Some, None, filter_map, unwrap_or, true, if◌then◌else◌};
+ghost use Rattle.std.specs.Prelude.{◌≡◌, [], ℕ, List, IfOk, IfErr, OnOk, OnErr, Ok, Some, None, filter_map, unwrap_or, true, if◌then◌else◌};
 ghost use Rattle.md5.specs.Md5.{md5};
 ghost use Rattle.svn_types.specs.Names.{Path};
 ghost use Rattle.svn_types.specs.Paths.{path_eq};
 ghost use Rattle.svn_editor.specs.Steps.{Action, Update, SwitchTo};
 ghost use Rattle.svn_model.specs.Nodes.{WorkingCopy, get_in, is_present};
-ghost use Rattle.svn_model.specs.declared.base_node.BaseNode.TheVariants.{NotPresent};
+ghost use Rattle.svn_model.specs.declared.base_node.BaseNode.TheVariants.{File as FileNode};
 ghost use Rattle.svn_model.specs.Effects.{change_in, text_in, closed_directory, closed_file, moved_path, joined_path, settled, settle_fault};
 ghost use Rattle.svn_model.specs.Answering.{AnswersCall};
 ghost use Rattle.svn_edit.specs.declared.baton.Baton.{Baton};
-ghost use Rattle.svn_nodes.specs.NodeTests.{first_of, sum_fault, FileIsClosed, mode_of, AnswersAs};
+ghost use Rattle.svn_nodes.specs.NodeTests.{first_of, sum_fault, mode_of, AnswersAs};
 ghost use Rattle.svn_edit.specs.Applying.{Applied, KeepsEdit, LetsGo, Says, batons_of};
+ghost use Rattle.svn_edit.specs.Closing.{ClosesFile};
 
 use crate::baton::{Baton, drop_pool};
 use crate::edit::Edit;
@@ -19,6 +20,22 @@ use svn_editor::{Digest, EditFault, Token};
 use svn_model::BaseNode;
 use svn_nodes::{Nodes, ending, nodes, or_memory, paths};
 use svn_types::{Props, RelPath, Text};
+
+// Puts a value into a place, if there is one: else the place keeps its own.
+fn set_if_some<T: Drop>(place: &mut T, new: Option<T>)
+    ensures { place.new ≡ unwrap_or new place.old }
+{
+    if let Some(new) = new {
+        *place = new;
+    }
+}
+
+// The repository path of an added file, as one that it gets in place of its own.
+fn moved_to(joined: Result<RelPath, AllocError>) -> Result<Option<RelPath>, AllocError>
+    ensures { (path : Path) → IfOk joined (λ j. j ≡ path) → IfOk result (λ m. (was : Path) → path ≡ unwrap_or m was) }
+{
+    Ok(Some(joined?))
+}
 
 impl Edit {
     // Lets go what an edit keeps of a token.
@@ -37,18 +54,17 @@ impl Edit {
         ensures closed { OnOk result ((said : List Action) → Says baton.now self.now.pools said → Some node.new ≡ closed_directory (filter_map change_in said) (Some node.old)) }
         ensures refused { IfErr result (λ e. (e ≡ EditFault.Memory) × (node.new ≡ node.old)) }
     {
-        if let BaseNode::Dir {
+        let BaseNode::Dir {
             complete,
             props,
             ..
         } = node
-        {
-            let changed = or_memory(baton.changed(self.alloc, &self.pools, props))?;
-            *complete = true;
-            if let Some(changed) = changed {
-                *props = changed;
-            }
-        }
+        else {
+            return Ok(());
+        };
+        let changed = or_memory(baton.changed(self.alloc, &self.pools, props))?;
+        *complete = true;
+        set_if_some(props, changed);
         Ok(())
     }
 
@@ -120,45 +136,26 @@ impl Edit {
         };
         let changed = or_memory(baton.changed(self.alloc, &self.pools, props))?;
         *rev = self.target;
-        if let Some(moved) = moved {
-            *repos_path = moved;
-        }
-        if let Some(new_text) = new_text {
-            *text = new_text;
-        }
-        if let Some(changed) = changed {
-            *props = changed;
-        }
+        set_if_some(repos_path, moved);
+        set_if_some(text, new_text);
+        set_if_some(props, changed);
         Ok(())
     }
 
-    // The file that an added one, which stood as not present, becomes at its close, with its repository path.
-    fn installed_file(
-        &self,
-        baton: &Baton,
-        text_md5: &Option<Digest>,
-        joined: Result<RelPath, AllocError>,
-    ) -> Result<BaseNode, EditFault>
-        ensures answers { (said : List Action) → Says baton.now self.now.pools said → AnswersAs (sum_fault md5 text_md5.now (filter_map text_in said) (Some NotPresent)) result }
-        ensures installed { IfOk result (λ n. (said : List Action) (moved : Path → Path) (path : Path) → Says baton.now self.now.pools said → IfOk joined (λ j. j ≡ path) → Some n ≡ closed_file self.now.target moved path (filter_map change_in said) (filter_map text_in said) (Some NotPresent)) }
+    // What an added file is before anything that was said of it is done.
+    fn empty_file(&self) -> BaseNode
+        ensures { result ≡ FileNode self.now.target [] [] [] }
     {
-        let text = self.new_text(&BaseNode::NotPresent, baton, text_md5)?;
-        let repos_path = or_memory(joined)?;
-        let mut props = Props::new(self.alloc);
-        or_memory(baton.change(self.alloc, &self.pools, &mut props))?;
-        Ok(BaseNode::File {
+        BaseNode::File {
             rev: self.target,
-            repos_path,
-            text: match text {
-                Some(text) => text,
-                None => Text::new(Vec::new(self.alloc)),
-            },
-            props,
-        })
+            repos_path: RelPath::root(self.alloc),
+            text: Text::new(Vec::new(self.alloc)),
+            props: Props::new(self.alloc),
+        }
     }
 
-    // Closes what stands at the path of a baton, with the repository path that it gets if it is an added file. What stands as a file is
-    // closed like an opened one.
+    // Closes what stands at the path of a baton, with the repository path that it gets if it is an added file: that stands as not present.
+    // What stands as a file is closed like an opened one.
     fn close_new(
         &self,
         node: &mut BaseNode,
@@ -171,7 +168,9 @@ impl Edit {
         ensures refused { OnErr result (node.new ≡ node.old) }
     {
         if matches!(node, BaseNode::NotPresent) {
-            *node = self.installed_file(baton, text_md5, joined)?;
+            let mut file = self.empty_file();
+            self.close_opened(&mut file, baton, text_md5, moved_to(joined))?;
+            *node = file;
             return Ok(());
         }
         let moved = paths::moved_by(&self.root, baton.path.as_rel_path(), joined);
@@ -196,9 +195,7 @@ impl Edit {
         joined: Result<RelPath, AllocError>,
     ) -> Result<(), EditFault>
         requires { IfOk joined (λ j. j ≡ joined_path (get_in copy.old.entries) baton.now.path) }
-        ensures answers { (said : List Action) → Says baton.now self.now.pools said → AnswersCall (sum_fault md5 text_md5.now (filter_map text_in said) (get_in copy.old.entries baton.now.path)) result }
-        ensures closed { OnOk result ((said : List Action) → Says baton.now self.now.pools said → FileIsClosed (mode_of self.now.root) self.now.target baton.now.path (filter_map change_in said) (filter_map text_in said) copy.old.entries copy.new.entries) }
-        ensures refused { OnErr result (copy.new.entries ≡ copy.old.entries) }
+        ensures { ClosesFile self.now baton.now text_md5.now copy.old.entries result copy.new.entries }
     {
         match copy.get_mut(baton.path.as_rel_path()) {
             Some(node) => self.close_new(node, baton, text_md5, joined),
@@ -214,9 +211,7 @@ impl Edit {
         baton: &Baton,
         text_md5: &Option<Digest>,
     ) -> Result<(), EditFault>
-        ensures answers { (said : List Action) → Says baton.now self.now.pools said → AnswersCall (sum_fault md5 text_md5.now (filter_map text_in said) (get_in copy.old.entries baton.now.path)) result }
-        ensures closed { OnOk result ((said : List Action) → Says baton.now self.now.pools said → FileIsClosed (mode_of self.now.root) self.now.target baton.now.path (filter_map change_in said) (filter_map text_in said) copy.old.entries copy.new.entries) }
-        ensures refused { OnErr result (copy.new.entries ≡ copy.old.entries) }
+        ensures { ClosesFile self.now baton.now text_md5.now copy.old.entries result copy.new.entries }
     {
         let path = baton.path.as_rel_path();
         if let Some(above) = baton.path.above() {
@@ -243,8 +238,7 @@ impl Edit {
         ensures gone { OnOk result (LetsGo token self.old self.new) }
         ensures others { OnOk result ((u : ℕ) (b : Baton) → batons_of self.new u ≡ Some b → batons_of self.old u ≡ Some b) }
         ensures keeps { KeepsEdit self.old self.new }
-        ensures answers { (b : Baton) (said : List Action) → batons_of self.old token ≡ Some b → Says b self.old.pools said → let w = get_in copy.old.entries in AnswersCall (sum_fault md5 text_md5.now (filter_map text_in said) (w b.path)) result }
-        ensures closed { OnOk result ((b : Baton) (said : List Action) → batons_of self.old token ≡ Some b → Says b self.old.pools said → FileIsClosed (mode_of self.old.root) self.old.target b.path (filter_map change_in said) (filter_map text_in said) copy.old.entries copy.new.entries) }
+        ensures closes { (b : Baton) → batons_of self.old token ≡ Some b → ClosesFile self.old b text_md5.now copy.old.entries result copy.new.entries }
         ensures refused { OnErr result (copy.new.entries ≡ copy.old.entries) }
         ensures unchanged { OnErr result (self.new ≡ self.old) }
     {

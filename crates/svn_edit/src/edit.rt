@@ -11,10 +11,11 @@ ghost use Rattle.svn_edit.specs.Noted.{note_of_value, strings_of_value};
 ghost use Rattle.svn_edit.specs.declared.baton.Baton.{Baton};
 ghost use Rattle.svn_model.specs.declared.base_node.BaseNode.{BaseNode};
 ghost use Rattle.svn_model.specs.Nodes.{WorkingCopy, get_in};
-ghost use Rattle.svn_model.specs.Effects.{is_too_long, step_effect, step_fault, effect, edit_fault, refusal};
-ghost use Rattle.svn_edit.specs.Applying.{Applied, KeepsEdit, MakesBaton, BatonNoted, TakenInOrder, batons_of, IsNoted, KeepsBases, OpensBase, Holds, IsNext, StandsAfter, OneIsLeft, live_count, open_count, HasEnded, IsRefused, StaysRefused, StaysEnded, LeavesRefused};
+ghost use Rattle.svn_model.specs.Effects.{is_too_long, step_effect, step_fault, refusal};
+ghost use Rattle.svn_edit.specs.Applying.{Applied, KeepsEdit, MakesBaton, BatonNoted, TakenInOrder, batons_of, StandsAfter, live_count, open_count, HasEnded, IsRefused, StaysRefused, StaysEnded, LeavesRefused};
 ghost use Rattle.svn_nodes.specs.NodeTests.{mode_of, IsSumOf};
 ghost use Rattle.svn_edit.specs.Leaving.{HoldsPools, IsLeft, LeavesPools, PoolsAfter, KeepsPools, NoteBegan};
+ghost use Rattle.svn_edit.specs.Taking.{Takes};
 ghost use Rattle.svn_model.specs.Answering.{AnswersCall};
 ghost use Rattle.std.specs.FinMap as map;
 ghost use Rattle.svn_pool.specs.Ancestry.{IsCleared};
@@ -30,7 +31,7 @@ use svn_serials::SerialMap;
 use svn_types::{MAX_SIZE, PropName, RelPath, Rev, Text};
 
 /// How far an edit is.
-#[derive(Clone, Copy, Debug)]
+#[derive(Clone, Copy)]
 pub(crate) enum Stage {
     /// Every call so far was accepted, and none was the last.
     Going,
@@ -185,15 +186,7 @@ impl Edit {
 
     // Applies a call that is in order.
     fn apply(&mut self, copy: &mut Nodes, call: &Call) -> Result<(), EditFault>
-        ensures applied { (mode : Mode) (calls : List Call) → IsNext mode self.old calls call.now → IsNoted calls (batons_of self.old) copy.old.entries → Applied (edit_fault md5 mode calls call.now copy.old.entries) (effect mode calls call.now (get_in copy.old.entries)) copy.old.entries result copy.new.entries }
-        ensures holds { OnOk result ((mode : Mode) (calls : List Call) → IsNext mode self.old calls call.now → is_last call.now ≡ false → Holds mode self.new (calls ++ call.now ∷ [])) }
-        ensures last { is_last call.now ≡ true → mode_of self.old.root ≡ Update → IfErr result (λ e. e ≢ EditFault.Memory) }
-        ensures abort { is_abort call.now ≡ true → IfErr result (λ e. e ≢ EditFault.Memory) }
-        ensures left { is_last call.now ≡ true → OnOk result ((mode : Mode) (calls : List Call) → IsNext mode self.old calls call.now → OneIsLeft self.new) }
-        ensures order { self.new.order ≡ self.old.order }
-        ensures bases { OnOk result ((mode : Mode) (calls : List Call) → IsNext mode self.old calls call.now → is_last call.now ≡ false → KeepsBases call.now (batons_of self.old) (batons_of self.new)) }
-        ensures base { OnOk result (OpensBase call.now (batons_of self.new) copy.new.entries) }
-        ensures pools { OnErr result ((mode : Mode) (calls : List Call) → IsNext mode self.old calls call.now → HoldsPools self.new.pools (batons_of self.new) calls call.now) }
+        ensures { Takes self.old copy.old.entries call.now result self.new copy.new.entries }
     {
         match call {
             Call::SetTargetRevision { rev } => {

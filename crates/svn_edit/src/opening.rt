@@ -1,24 +1,24 @@
 //! The opens and adds of an edit.
-ghost use Rattle.std.specs.Prelude.{◌≡◌, [], Option, IfOk, OnOk, OnErr, Some, None, unwrap_or, if◌then◌else◌};
+ghost use Rattle.std.specs.Prelude.{◌≡◌, [], Option, IfOk, IfErr, OnOk, OnErr, Some, None, unwrap_or, if◌then◌else◌};
 ghost use Rattle.std.specs.Option.{option_copied, option_or};
-ghost use Rattle.md5.specs.Md5.{md5};
 ghost use Rattle.svn_types.specs.Names.{Path};
 ghost use Rattle.svn_types.specs.Paths.{path_eq};
 ghost use Rattle.svn_types.specs.declared.kind.Kind.TheVariants.{File, Directory};
 ghost use Rattle.svn_editor.specs.Steps.{Open, Add};
 ghost use Rattle.svn_model.specs.Nodes.{get_in, is_present, node_path};
-ghost use Rattle.svn_model.specs.Effects.{added_node, joined_path, moved_path, step_effect, step_fault};
+ghost use Rattle.svn_model.specs.Effects.{added_node, joined_path, moved_path};
 ghost use Rattle.svn_model.specs.Answering.{AnswersCall};
 ghost use Rattle.svn_nodes.specs.NodeTests.{open_fault_of, deep_fault, mode_of, AnswersAs, IsSumOf};
 ghost use Rattle.svn_edit.specs.Applying.{pool_or, pool_of_parent, batons_of, Applied, KeepsEdit, MakesBaton, MakesNode, MovesBy};
 ghost use Rattle.svn_edit.specs.declared.baton.Baton.{Baton};
+ghost use Rattle.svn_edit.specs.Opening.{GivesToken};
 ghost use Rattle.svn_edit.specs.Leaving.{KeepsPools};
 
 use crate::baton::Baton;
 use crate::edit::Edit;
 use crate::open_path;
 use crate::open_path::OpenPath;
-use svn_editor::{EditFault, Token};
+use svn_editor::{Digest, EditFault, Token};
 use svn_model::BaseNode;
 use svn_nodes::{Nodes, nodes, or_memory, paths};
 use svn_pool::PoolId;
@@ -115,16 +115,32 @@ impl Edit {
         paths::test_joined(self.alloc, copy, &above, path)
     }
 
+    // Opens the baton of what was found at a path.
+    fn open_at(
+        &mut self,
+        beneath: PoolId,
+        path: &RelPath,
+        token: Token,
+        base: Option<Digest>,
+    ) -> Result<(), EditFault>
+        ensures opened { OnOk result (MakesBaton beneath.0 path.now token self.old self.new) }
+        ensures base { OnOk result ((b : Baton) → batons_of self.new token ≡ Some b → b.base ≡ base) }
+        ensures keeps { KeepsEdit self.old self.new }
+        ensures unchanged { OnErr result (KeepsPools self.old self.new) }
+        ensures fault { IfErr result (λ e. e ≡ EditFault.Memory) }
+    {
+        let open = or_memory(OpenPath::opened(path))?;
+        self.open_baton(beneath, open, token, base)
+    }
+
     pub(crate) fn open_root(
         &mut self,
         copy: &mut Nodes,
         base: Rev,
         token: Token,
     ) -> Result<(), EditFault>
-        ensures opened { OnOk result (MakesBaton self.old.pools.root [] token self.old self.new) }
-        ensures keeps { KeepsEdit self.old self.new }
+        ensures gives { GivesToken self.old.pools.root [] token (Open Directory base) self.old copy.old.entries result self.new copy.new.entries }
         ensures unchanged { OnErr result (KeepsPools self.old self.new) }
-        ensures applied { let a = Open Directory base in let w = get_in copy.old.entries in Applied (step_fault md5 (mode_of self.old.root) [] w [] a) (step_effect (mode_of self.old.root) self.old.target [] (record { path = []; action = a }) w) copy.old.entries result copy.new.entries }
     {
         let root = RelPath::root(self.alloc);
         self.open_directory(copy, &root, base, None, token)
@@ -138,10 +154,8 @@ impl Edit {
         parent: Option<Token>,
         token: Token,
     ) -> Result<(), EditFault>
-        ensures opened { OnOk result (MakesBaton (pool_of_parent self.old.pools.root (batons_of self.old) parent) path.now token self.old self.new) }
-        ensures keeps { KeepsEdit self.old self.new }
+        ensures gives { GivesToken (pool_of_parent self.old.pools.root (batons_of self.old) parent) path.now token (Open Directory base) self.old copy.old.entries result self.new copy.new.entries }
         ensures unchanged { OnErr result (KeepsPools self.old self.new) }
-        ensures applied { let a = Open Directory base in let w = get_in copy.old.entries in Applied (step_fault md5 (mode_of self.old.root) [] w path.now a) (step_effect (mode_of self.old.root) self.old.target [] (record { path = path.now; action = a }) w) copy.old.entries result copy.new.entries }
     {
         let parent = self.baton_of(parent);
         let beneath = self.pool_of(parent);
@@ -150,8 +164,7 @@ impl Edit {
             return Err(EditFault::NoEntry);
         };
         let moved = self.moved_directory(node, base, moved)?;
-        let open = or_memory(OpenPath::opened(path))?;
-        self.open_baton(beneath, open, token, None)?;
+        self.open_at(beneath, path, token, None)?;
         nodes::open_directory(self.alloc, node, self.target, moved);
         Ok(())
     }
@@ -164,10 +177,8 @@ impl Edit {
         parent: Token,
         token: Token,
     ) -> Result<(), EditFault>
-        ensures opened { OnOk result (MakesBaton self.old.pools.root path.now token self.old self.new) }
-        ensures keeps { KeepsEdit self.old self.new }
+        ensures gives { GivesToken self.old.pools.root path.now token (Open File base) self.old copy.now.entries result self.new copy.now.entries }
         ensures unchanged { OnErr result (KeepsPools self.old self.new) }
-        ensures applied { let a = Open File base in let w = get_in copy.now.entries in Applied (step_fault md5 (mode_of self.old.root) [] w path.now a) (step_effect (mode_of self.old.root) self.old.target [] (record { path = path.now; action = a }) w) copy.now.entries result copy.now.entries }
         ensures base { OnOk result ((b : Baton) → batons_of self.new token ≡ Some b → IsSumOf b.base copy.now.entries path.now) }
     {
         let (own, node) = nodes::standing(copy, path);
@@ -175,9 +186,8 @@ impl Edit {
             return Err(fault);
         }
         self.test_moved(copy, path, parent, node)?;
-        let open = or_memory(OpenPath::opened(own))?;
         let root = self.pools.root();
-        self.open_baton(root, open, token, nodes::kept_sum(node))
+        self.open_at(root, own, token, nodes::kept_sum(node))
     }
 
     // What an added directory is made of.
@@ -239,11 +249,13 @@ impl Edit {
     {
         let NewNode { at, opened, node } = new;
         self.open_baton(beneath, opened, token, None)?;
-        let added = nodes::add(copy, at, node);
-        if added.is_err() {
-            self.close_baton(token);
+        match nodes::add(copy, at, node) {
+            Ok(()) => Ok(()),
+            Err(fault) => {
+                self.close_baton(token);
+                Err(fault)
+            }
         }
-        added
     }
 
     // Adds what was made for a path, if it could be made. That one is present there is told before any other fault.
@@ -278,10 +290,8 @@ impl Edit {
         parent: Token,
         token: Token,
     ) -> Result<(), EditFault>
-        ensures opened { OnOk result (MakesBaton (pool_or self.old.pools.root (batons_of self.old parent)) path.now token self.old self.new) }
-        ensures keeps { KeepsEdit self.old self.new }
+        ensures gives { GivesToken (pool_or self.old.pools.root (batons_of self.old parent)) path.now token (Add Directory) self.old copy.old.entries result self.new copy.new.entries }
         ensures unchanged { batons_of self.old token ≡ None → OnErr result (KeepsPools self.old self.new) }
-        ensures applied { let a = Add Directory in let w = get_in copy.old.entries in Applied (step_fault md5 (mode_of self.old.root) [] w path.now a) (step_effect (mode_of self.old.root) self.old.target [] (record { path = path.now; action = a }) w) copy.old.entries result copy.new.entries }
     {
         let parent = self.batons.get(parent.0);
         let beneath = self.pool_of(parent);
@@ -296,11 +306,9 @@ impl Edit {
         parent: Token,
         token: Token,
     ) -> Result<(), EditFault>
-        ensures opened { OnOk result (MakesBaton self.old.pools.root path.now token self.old self.new) }
-        ensures base { OnOk result ((b : Baton) → batons_of self.new token ≡ Some b → b.base ≡ None) }
-        ensures keeps { KeepsEdit self.old self.new }
+        ensures gives { GivesToken self.old.pools.root path.now token (Add File) self.old copy.old.entries result self.new copy.new.entries }
         ensures unchanged { batons_of self.old token ≡ None → OnErr result (KeepsPools self.old self.new) }
-        ensures applied { let a = Add File in let w = get_in copy.old.entries in Applied (step_fault md5 (mode_of self.old.root) [] w path.now a) (step_effect (mode_of self.old.root) self.old.target [] (record { path = path.now; action = a }) w) copy.old.entries result copy.new.entries }
+        ensures base { OnOk result ((b : Baton) → batons_of self.new token ≡ Some b → b.base ≡ None) }
     {
         let root = self.pools.root();
         let new = self.new_file(copy, path, self.batons.get(parent.0));
