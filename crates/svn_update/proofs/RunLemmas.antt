@@ -5,16 +5,13 @@ use Rattle.svn_run.specs.declared.outcome.Outcome.{Outcome}
 use Rattle.svn_run.specs.declared.outcome.RunFault.{RunFault}
 use Rattle.svn_run.specs.UpdateTheorem.{Asked, Nodes, TurnTheorem, ThreadsTheorem}
 use Rattle.svn_script.specs.declared.command_line.Settings.{Settings}
-use Rattle.svn_update.specs.Runs.{ThreadsRun, ScriptRun}
+use Rattle.svn_update.specs.Runs.{ThreadsRun, ScriptRun, outcome_alone}
 
 -- what the two threads passed is left out
-pub outcome_alone : (a : Asked) (capacity : ℕ) (left : Nodes) (o : Outcome) (passed : Passed)
-    → ThreadsTheorem a capacity left (Ok (o, passed)) → ThreadsRun a capacity left (Ok o)
-outcome_alone a capacity left o passed t = record { refused = tt; unchanged = tt; begun = t.begun; ran = t.ran.ran; sound = t.sound }
-
-pub fault_alone : (a : Asked) (capacity : ℕ) (left : Nodes) (e : RunFault) → ThreadsTheorem a capacity left (Err e)
-    → ThreadsRun a capacity left (Err e)
-fault_alone a capacity left e t = record { refused = t.refused; unchanged = t.unchanged; begun = tt; ran = tt; sound = t.sound }
+pub threads_run : (a : Asked) (capacity : ℕ) (left : Nodes) (ended : Result (Outcome × Passed) RunFault)
+    → ThreadsTheorem a capacity left ended → ThreadsRun a capacity left (outcome_alone ended)
+threads_run a capacity left (Ok ended) t = record { refused = tt; unchanged = tt; begun = t.begun; ran = t.ran.ran; sound = t.sound }
+threads_run a capacity left (Err fault) t = record { refused = t.refused; unchanged = t.unchanged; begun = tt; ran = tt; sound = t.sound }
 
 pub run_in_turn : (s : Settings) (a : Asked) (left : Nodes) (answer : Result Outcome RunFault) → s.in_turn ≡ true
     → TurnTheorem a left answer → ScriptRun s a left answer

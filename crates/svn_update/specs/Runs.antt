@@ -2,7 +2,8 @@
 --     run_fault s a      why it doesn't begin
 --     IsRunWant in_turn e      what may be wanting for it
 --     ScriptRun s a left answer      what the run leaves and answers
-use Rattle.std.specs.Prelude.{◌≡◌, ℕ, Bool, true, false, Option, None, Result, IfOk, IfErr, OnOk, OnErr, if◌then◌else◌}
+use Rattle.std.specs.Prelude.{◌≡◌, ℕ, Bool, true, false, Option, None, Result, Ok, Err, IfOk, IfErr, OnOk, OnErr, if◌then◌else◌}
+use Rattle.svn_link.specs.Ends.{Passed}
 use Rattle.svn_run.specs.declared.outcome.Outcome.{Outcome}
 use Rattle.svn_run.specs.declared.outcome.RunFault.{RunFault}
 use Rattle.svn_run.specs.UpdateTheorem.{Asked, Nodes, fault_in_turn, fault_in_threads, IsRefusal, IsWantOfMemory, IsWantInThreads, IsSound, Ran}
@@ -26,6 +27,11 @@ pub record RunBy (fault : Option RunFault) (IsWant : RunFault → Type 0) (a : A
   pub ran : IfOk answer (Ran a left)
   -- whatever the answer
   pub sound : IsSound a left
+
+-- what the two threads passed is left out
+abbrev pub outcome_alone : Result (Outcome × Passed) RunFault → Result Outcome RunFault
+outcome_alone (Ok ended) = Ok ended.0
+outcome_alone (Err fault) = Err fault
 
 abbrev pub ThreadsRun : Asked → ℕ → Nodes → Result Outcome RunFault → Type 0
 ThreadsRun a capacity left answer = RunBy (fault_in_threads a capacity) IsWantInThreads a left answer

@@ -24,7 +24,7 @@ const MAX_LINE: usize = 512;
 const MAX_TEXT: usize = 128;
 
 /// Why a command did nothing.
-#[derive(Clone, Copy, Debug, PartialEq, Eq)]
+#[derive(Clone, Copy)]
 pub(crate) enum Refusal {
     /// There is no working copy yet.
     NoCopy,
@@ -41,7 +41,7 @@ pub(crate) enum Refusal {
 }
 
 /// What a command has to say.
-#[derive(Debug, Drop)]
+#[derive(Drop)]
 pub(crate) enum Answer {
     /// Nothing is printed.
     Silent,
@@ -169,12 +169,12 @@ impl fmt::Display for AnswerLines<'_> {
         match self.answer {
             Answer::Silent => Ok(()),
             Answer::Committed(rev) => writeln!(f, "committed {}", rev.0),
-            Answer::Done => writeln!(f, "ok"),
-            Answer::Reported(report) => write!(f, "{report}"),
+            Answer::Done => f.write_str("ok\n"),
+            Answer::Reported(report) => report.fmt(f),
             Answer::Driven(kept) => write_kept(kept, f),
             Answer::Ended(outcome) => write_outcome(*outcome, f),
             Answer::Nodes => match self.copy {
-                Some(copy) => write!(f, "{copy}"),
+                Some(copy) => copy.fmt(f),
                 None => Ok(()),
             },
             Answer::Refused(refusal) => writeln!(f, "refused {}", refusal_name(*refusal)),

@@ -13,7 +13,7 @@ const MAX_LIST: usize = 1024;
 
 /// An editor that keeps the calls in order, as a recorder does, but in lists of bounded length, so that no call is copied again and again as more
 /// of them come. A contract sees the list of all. It refuses a call for want of memory alone, and is then as it was.
-#[derive(Debug, Drop)]
+#[derive(Drop)]
 pub(crate) struct KeptCalls {
     alloc: Global,
     full: Vec<Vec<Call>>,
@@ -53,15 +53,11 @@ impl KeptCalls {
     fn begin_list(&mut self) -> Result<(), AllocError>
         ensures { self.new ≡ self.old }
     {
+        self.full.reserve(1)?;
         let next = Vec::with_capacity(self.alloc, MAX_LIST)?;
         let last = mem::replace(&mut self.last, next);
-        match self.full.push(last) {
-            Ok(()) => Ok(()),
-            Err(failed) => {
-                self.last = failed.value;
-                Err(AllocError)
-            }
-        }
+        self.full.push_reserved(last);
+        Ok(())
     }
 }
 

@@ -4,11 +4,12 @@ ghost use Rattle.std.specs.Option.{option_copied};
 ghost use Rattle.svn_model.specs.Nodes.{get_in, IsTrueOf};
 ghost use Rattle.svn_run.specs.Goals.{mode_of};
 ghost use Rattle.svn_run.specs.UpdateTheorem.{asked, TurnTheorem};
-ghost use Rattle.svn_update.specs.Runs.{ThreadsRun, ScriptRun};
+ghost use Rattle.svn_update.specs.Runs.{ThreadsRun, ScriptRun, outcome_alone};
 
 use std::alloc::Global;
 use std::sync::Wait;
 use std::thread::Threads;
+use svn_link::Settled;
 use svn_repo::Repo;
 use svn_run::{
     NoGate, Options, Outcome, RunFault, switch_to, switch_to_in_turn, update, update_in_turn,
@@ -57,8 +58,18 @@ fn run_in_turn(
     }
 }
 
+// How a run on two threads ended, without what the threads passed.
+fn outcome_alone(ended: Result<(Outcome, Settled), RunFault>) -> Result<Outcome, RunFault>
+    ensures { result ≡ outcome_alone ended }
+{
+    match ended {
+        Ok((outcome, _passed)) => Ok(outcome),
+        Err(fault) => Err(fault),
+    }
+}
+
 // On two threads.
-#[tactic(auto, using(crate::proofs::RunLemmas::outcome_alone, crate::proofs::RunLemmas::fault_alone))]
+#[tactic(auto, using(crate::proofs::RunLemmas::threads_run))]
 fn run_in_threads<T: Threads + Wait + Sync>(
     rt: &T,
     alloc: Global,
@@ -70,18 +81,15 @@ fn run_in_threads<T: Threads + Wait + Sync>(
     requires truth { IsTrueOf repo.now (get_in copy.old) }
     ensures { ThreadsRun (asked repo.now copy.old wanted.now.rev (mode_of (option_copied wanted.now.to)) wanted.now.late wanted.now.cancel_after) capacity copy.new result }
 {
+    let rev = wanted.rev;
     let options = Options {
         capacity,
         cancel_after: wanted.cancel_after,
         late_texts: wanted.late,
     };
-    let ended = match wanted.to {
-        Some(to) => switch_to(rt, alloc, repo, copy, to, wanted.rev, options, &NoGate),
-        None => update(rt, alloc, repo, copy, wanted.rev, options, &NoGate),
-    };
-    match ended {
-        Ok((outcome, _settled)) => Ok(outcome),
-        Err(fault) => Err(fault),
+    match wanted.to {
+        Some(to) => outcome_alone(switch_to(rt, alloc, repo, copy, to, rev, options, &NoGate)),
+        None => outcome_alone(update(rt, alloc, repo, copy, rev, options, &NoGate)),
     }
 }
 
