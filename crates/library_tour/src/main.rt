@@ -8,28 +8,37 @@ use std::sync::Wait;
 use std::thread::Threads;
 use svn_update::{Change, NoGate, Options, RelPath, Repo, Rev, Text, WorkingCopy, update};
 
-fn put(alloc: Global, path: &str, text: &str) -> Result<Change> {
-    Ok(Change::PutFile {
-        path: RelPath::parse(alloc, path)?,
-        text: Text::new(text.as_bytes().to_vec(alloc)?),
-    })
+fn commit_file(alloc: Global, repo: &mut Repo, path: &str, text: &str) -> Result<Rev> {
+    let path = RelPath::parse(alloc, path)?;
+    let text = Text::new(text.as_bytes().to_vec(alloc)?);
+    Ok(repo.commit(&[Change::PutFile { path, text }])?)
 }
 
-fn tour<R: Threads + Wait + Sync + Print>(rt: &R, alloc: Global) -> Result<()> {
-    let mut repo = Repo::new(alloc)?;
-    repo.commit(&[put(alloc, "f", "a")?])?;
-    let mut copy = WorkingCopy::checkout(alloc, &repo, Rev(1))?;
-    repo.commit(&[put(alloc, "f", "abc")?])?;
-    if copy.check_true(&repo).is_ok() {
+// Prints how the update ended, and the copy.
+fn update_copy<R: Threads + Wait + Sync + Print>(
+    rt: &R,
+    alloc: Global,
+    repo: &Repo,
+    copy: &mut WorkingCopy,
+) -> Result<()> {
+    if copy.check_true(repo).is_ok() {
         let options = Options {
             capacity: 64,
             cancel_after: None,
             late_texts: false,
         };
-        let (outcome, _passed) = update(rt, alloc, &repo, &mut copy, Rev(2), options, &NoGate)?;
+        let (outcome, _passed) = update(rt, alloc, repo, copy, Rev(2), options, &NoGate)?;
         println!(rt; "{outcome:?}")?;
     }
     Ok(print!(rt; "{copy}")?)
+}
+
+fn tour<R: Threads + Wait + Sync + Print>(rt: &R, alloc: Global) -> Result<()> {
+    let mut repo = Repo::new(alloc)?;
+    commit_file(alloc, &mut repo, "f", "a")?;
+    let mut copy = WorkingCopy::checkout(alloc, &repo, Rev(1))?;
+    commit_file(alloc, &mut repo, "f", "abc")?;
+    update_copy(rt, alloc, &repo, &mut copy)
 }
 
 fn main(rt: HostRuntime) -> Result<()> {
