@@ -107,7 +107,7 @@ fn drive_lines(
     check_report(alloc, repo, report)?;
     let mut recorder = Recorder::new(alloc);
     match drive(alloc, repo, report, rev, options, &mut recorder) {
-        Ok(_) => Ok(call_lines(alloc, recorder.calls())?),
+        Ok(_) => call_lines(alloc, recorder.calls()),
         Err(fault) => Err(refused_drive(recorder.calls(), fault)),
     }
 }

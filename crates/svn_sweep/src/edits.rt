@@ -44,6 +44,15 @@ enum Entry {
     Delete(u64, u64),
 }
 
+// A call that ends something.
+#[derive(Clone, Copy)]
+enum End {
+    File(u64, Sum),
+    Dir(u64),
+    Edit,
+    Abort,
+}
+
 // A call.
 #[derive(Clone, Copy)]
 enum Step {
@@ -53,18 +62,16 @@ enum Step {
     Prop(u64, &'static str),
     // a token, the checksum of what was there, and the text
     Put(u64, Sum, &'static str),
-    CloseFile(u64, Sum),
-    CloseDir(u64),
-    Close,
-    Abort,
+    End(End),
 }
 
-fn text_of(alloc: Global, text: &str) -> Result<Text, Trouble> {
+pub(crate) fn text_of(alloc: Global, text: &str) -> Result<Text, Trouble> {
     Ok(Text::new(text.as_bytes().to_vec(alloc)?))
 }
 
-fn entry_call(path: RelPath, entry: Entry) -> Call {
-    match entry {
+fn entry_call(alloc: Global, path: &str, entry: Entry) -> Result<Call, Trouble> {
+    let path = RelPath::parse(alloc, path)?;
+    Ok(match entry {
         Entry::AddDir(parent, token) => Call::AddDirectory {
             path,
             parent: Token(parent),
@@ -92,7 +99,7 @@ fn entry_call(path: RelPath, entry: Entry) -> Call {
             rev: Rev(rev),
             parent: Token(parent),
         },
-    }
+    })
 }
 
 fn prop_call(alloc: Global, token: u64, value: &str) -> Result<Call, Trouble> {
@@ -112,6 +119,20 @@ fn text_call(alloc: Global, token: u64, base: Sum, text: &str) -> Result<Call, T
     })
 }
 
+fn end_call(end: End) -> Call {
+    match end {
+        End::File(token, sum) => Call::CloseFile {
+            token: Token(token),
+            text_md5: digest_of(sum),
+        },
+        End::Dir(token) => Call::CloseDirectory {
+            token: Token(token),
+        },
+        End::Edit => Call::CloseEdit,
+        End::Abort => Call::AbortEdit,
+    }
+}
+
 fn call_of(alloc: Global, step: Step) -> Result<Call, Trouble> {
     match step {
         Step::Target(rev) => Ok(Call::SetTargetRevision { rev: Rev(rev) }),
@@ -119,18 +140,10 @@ fn call_of(alloc: Global, step: Step) -> Result<Call, Trouble> {
             base: Rev(base),
             token: Token(0),
         }),
-        Step::At(path, entry) => Ok(entry_call(RelPath::parse(alloc, path)?, entry)),
+        Step::At(path, entry) => entry_call(alloc, path, entry),
         Step::Prop(token, value) => prop_call(alloc, token, value),
         Step::Put(token, base, text) => text_call(alloc, token, base, text),
-        Step::CloseFile(token, sum) => Ok(Call::CloseFile {
-            token: Token(token),
-            text_md5: digest_of(sum),
-        }),
-        Step::CloseDir(token) => Ok(Call::CloseDirectory {
-            token: Token(token),
-        }),
-        Step::Close => Ok(Call::CloseEdit),
-        Step::Abort => Ok(Call::AbortEdit),
+        Step::End(end) => Ok(end_call(end)),
     }
 }
 
@@ -138,21 +151,21 @@ fn call_of(alloc: Global, step: Step) -> Result<Call, Trouble> {
 static ORDERS: [&[(Step, u32)]; 8] = [
     &[
         (Step::At("a", Entry::AddDir(0, 1)), 0),
-        (Step::CloseDir(1), 0),
+        (Step::End(End::Dir(1)), 0),
         (Step::At("a/f", Entry::AddFile(1, 2)), 3),
-        (Step::CloseDir(0), 13),
-        (Step::Abort, 0),
-        (Step::Abort, 12),
+        (Step::End(End::Dir(0)), 13),
+        (Step::End(End::Abort), 0),
+        (Step::End(End::Abort), 12),
     ],
     &[
         (Step::At("a", Entry::AddDir(0, 1)), 0),
         (Step::At("b", Entry::AddDir(0, 2)), 6),
     ],
-    &[(Step::Close, 11)],
+    &[(Step::End(End::Edit), 11)],
     &[
         (Step::At("f", Entry::AddFile(0, 1)), 0),
         (Step::Put(1, Sum::None, "a"), 0),
-        (Step::CloseDir(0), 9),
+        (Step::End(End::Dir(0)), 9),
     ],
     &[
         (Step::At("f", Entry::AddFile(0, 1)), 0),
@@ -162,22 +175,22 @@ static ORDERS: [&[(Step, u32)]; 8] = [
     &[
         (Step::At("f", Entry::AddFile(0, 1)), 0),
         (Step::At("g", Entry::AddFile(0, 2)), 0),
-        (Step::CloseFile(1, Sum::None), 17),
+        (Step::End(End::File(1, Sum::None)), 17),
     ],
     &[
         (Step::At("f", Entry::AddFile(0, 1)), 0),
-        (Step::CloseDir(0), 0),
-        (Step::Close, 11),
+        (Step::End(End::Dir(0)), 0),
+        (Step::End(End::Edit), 11),
     ],
     &[
         (Step::At("f", Entry::AddFile(0, 1)), 0),
         (Step::At("g", Entry::AddFile(0, 2)), 0),
-        (Step::CloseDir(0), 0),
+        (Step::End(End::Dir(0)), 0),
         (Step::Put(2, Sum::None, "a"), 0),
         (Step::Put(1, Sum::None, "a"), 0),
-        (Step::CloseFile(2, Sum::None), 0),
-        (Step::CloseFile(1, Sum::None), 0),
-        (Step::Close, 0),
+        (Step::End(End::File(2, Sum::None)), 0),
+        (Step::End(End::File(1, Sum::None)), 0),
+        (Step::End(End::Edit), 0),
     ],
 ];
 
@@ -244,9 +257,9 @@ const FILE: Step = Step::At("f", Entry::OpenFile(0, 1, 1));
 
 const TEXT: Step = Step::Put(1, Sum::OfA, "abc");
 
-const FILE_END: Step = Step::CloseFile(1, Sum::OfAbc);
+const FILE_END: Step = Step::End(End::File(1, Sum::OfAbc));
 
-const ROOT_END: Step = Step::CloseDir(0);
+const ROOT_END: Step = Step::End(End::Dir(0));
 
 static EDITS: [Edit; 13] = [
     Edit {
@@ -257,7 +270,7 @@ static EDITS: [Edit; 13] = [
             (TEXT, 0),
             (FILE_END, 0),
             (ROOT_END, 0),
-            (Step::Close, 0),
+            (Step::End(End::Edit), 0),
         ],
         shown: ". dir 2 .\nf file 2 f abc\n",
     },
@@ -302,7 +315,7 @@ static EDITS: [Edit; 13] = [
             (FILE, 0),
             (TEXT, 0),
             (FILE_END, 0),
-            (Step::Close, 11),
+            (Step::End(End::Edit), 11),
             (ROOT_END, 13),
         ],
         shown: ". dir 2 . incomplete\nf file 2 f abc\n",
@@ -313,7 +326,7 @@ static EDITS: [Edit; 13] = [
             (TARGET, 0),
             (ROOT, 0),
             (Step::At("g", Entry::Delete(1, 0)), 41),
-            (Step::Abort, 0),
+            (Step::End(End::Abort), 0),
         ],
         shown: OPENED,
     },
@@ -353,7 +366,7 @@ static EDITS: [Edit; 13] = [
             (Step::At("g", Entry::AddFile(0, 1)), 0),
             (Step::Prop(1, "1"), 0),
             (Step::Prop(1, "2"), 0),
-            (Step::CloseFile(1, Sum::None), 0),
+            (Step::End(End::File(1, Sum::None)), 0),
         ],
         shown: ". dir 2 . incomplete\nf file 1 f a\ng file 2 g \"\"\ng prop p 2\n",
     },

@@ -22,7 +22,7 @@ mod trouble;
 
 use crate::rows::{Row, rows};
 use crate::runs::Form;
-use crate::trouble::Trouble;
+use crate::trouble::{End, Trouble};
 use std::alloc::Global;
 use std::env::Env;
 use std::process::ExitCode;
@@ -128,16 +128,9 @@ fn tell<R: Threads + Wait + Sync + Print>(
     name: &str,
     way: &str,
 ) -> io::Result<u8> {
-    match run_again(rt, alloc, name, way) {
-        Ok(()) => {
-            println!(rt; "{name} {way} stands")?;
-            Ok(0)
-        }
-        Err(trouble) => {
-            println!(rt; "{name} {way} {trouble}")?;
-            Ok(trouble.status())
-        }
-    }
+    let end = End(run_again(rt, alloc, name, way));
+    println!(rt; "{name} {way} {end}")?;
+    Ok(end.status())
 }
 
 // Runs a row in a way, or prints the words that name it.
@@ -200,26 +193,37 @@ fn all<R: Threads + Wait + Sync + Print>(rt: &R, alloc: Global, lists: bool) -> 
 }
 
 // The words behind the program's name.
-fn words<R: Env + AllocGlobal>(rt: &R) -> io::Result<(Option<String>, Option<String>)> {
+type Words = (Option<String>, Option<String>);
+
+fn words<R: Env + AllocGlobal>(rt: &R) -> io::Result<Words> {
     let mut words = env::args(rt)?;
     let _program = words.next();
     let first = words.next();
     Ok((first, words.next()))
 }
 
-fn run<R: Threads + Wait + Sync + Print + Env + AllocGlobal>(rt: &R) -> io::Result<u8> {
-    let alloc = rt.alloc();
-    let (first, second) = match words(rt) {
-        Ok(found) => found,
-        Err(_) => words(rt)?,
-    };
-    let Some(name) = first else {
-        return all(rt, alloc, false);
-    };
-    match second {
-        Some(way) => tell(rt, alloc, name.as_str(), way.as_str()),
-        None => all(rt, alloc, name.as_str() == "list"),
+fn words_anew<R: Env + AllocGlobal>(rt: &R) -> io::Result<Words> {
+    match words(rt) {
+        Err(_) => words(rt),
+        found => found,
     }
+}
+
+fn run_by<R: Threads + Wait + Sync + Print>(
+    rt: &R,
+    alloc: Global,
+    words: (Option<&str>, Option<&str>),
+) -> io::Result<u8> {
+    match words {
+        (Some(name), Some(way)) => tell(rt, alloc, name, way),
+        (Some("list"), None) => all(rt, alloc, true),
+        _ => all(rt, alloc, false),
+    }
+}
+
+fn run<R: Threads + Wait + Sync + Print + Env + AllocGlobal>(rt: &R) -> io::Result<u8> {
+    let (first, second) = words_anew(rt)?;
+    run_by(rt, rt.alloc(), (first.as_deref(), second.as_deref()))
 }
 
 fn main(rt: HostRuntime) -> ExitCode {

@@ -1,6 +1,6 @@
 //! What the library's values are in lines, as a script prints them.
 use crate::trouble::{Trouble, same};
-use std::alloc::{AllocError, Global};
+use std::alloc::Global;
 use svn_editor::Call;
 use svn_wc::WorkingCopy;
 
@@ -16,7 +16,7 @@ pub(crate) fn has(
 }
 
 /// A line for each call.
-pub(crate) fn call_lines(alloc: Global, calls: &[Call]) -> Result<String, AllocError> {
+pub(crate) fn call_lines(alloc: Global, calls: &[Call]) -> Result<String, Trouble> {
     let mut lines = String::new(alloc);
     for call in calls {
         writeln!(lines, "{call}")?;

@@ -1,47 +1,60 @@
 //! Reports that are made and checked, and copies that are made of nodes.
-use crate::edits::changed_file;
+use crate::edits::{changed_file, text_of};
 use crate::trouble::{Trouble, holds};
 use std::alloc::Global;
 use svn_drive::{ReportFault, check_report};
 use svn_model::{BaseNode, WcFault};
 use svn_repo::Repo;
 use svn_report::{Report, Reporter, ReporterFault};
-use svn_types::{Props, RelPath, Rev, Text};
+use svn_types::{Props, RelPath, Rev};
 use svn_wc::WorkingCopy;
 
-// A call of a reporter.
+// What a reporter is told of a path.
 #[derive(Clone, Copy)]
-enum Entry {
-    Set(&'static str, u64),
-    Link(&'static str, &'static str, u64),
-    Delete(&'static str),
+enum Said {
+    Set(u64),
+    Link(&'static str, u64),
+    Deleted,
 }
 
-fn tell(
+// A call of a reporter.
+type Entry = (&'static str, Said);
+
+// What a reporter answers.
+type Answer = Result<(), ReporterFault>;
+
+fn link(
     alloc: Global,
     reporter: &mut Reporter,
-    entry: Entry,
-) -> Result<Result<(), ReporterFault>, Trouble> {
-    Ok(match entry {
-        Entry::Set(path, rev) => {
-            let path = RelPath::parse(alloc, path)?;
-            reporter.set_path(&path, Rev(rev), false)
-        }
-        Entry::Link(path, to, rev) => {
-            let path = RelPath::parse(alloc, path)?;
-            let to = RelPath::parse(alloc, to)?;
-            reporter.link_path(&path, to, Rev(rev), false)
-        }
-        Entry::Delete(path) => reporter.delete_path(&RelPath::parse(alloc, path)?),
-    })
+    path: &RelPath,
+    to: &str,
+    rev: u64,
+) -> Result<Answer, Trouble> {
+    let to = RelPath::parse(alloc, to)?;
+    Ok(reporter.link_path(path, to, Rev(rev), false))
+}
+
+fn tell_of(
+    alloc: Global,
+    reporter: &mut Reporter,
+    path: &RelPath,
+    said: Said,
+) -> Result<Answer, Trouble> {
+    match said {
+        Said::Set(rev) => Ok(reporter.set_path(path, Rev(rev), false)),
+        Said::Link(to, rev) => link(alloc, reporter, path, to, rev),
+        Said::Deleted => Ok(reporter.delete_path(path)),
+    }
+}
+
+fn tell(alloc: Global, reporter: &mut Reporter, entry: Entry) -> Result<Answer, Trouble> {
+    let (path, said) = entry;
+    let path = RelPath::parse(alloc, path)?;
+    tell_of(alloc, reporter, &path, said)
 }
 
 // A refused call leaves the reporter as it was, so that the call can be made again.
-fn tell_anew(
-    alloc: Global,
-    reporter: &mut Reporter,
-    entry: Entry,
-) -> Result<Result<(), ReporterFault>, Trouble> {
+fn tell_anew(alloc: Global, reporter: &mut Reporter, entry: Entry) -> Result<Answer, Trouble> {
     match tell(alloc, reporter, entry)? {
         Err(ReporterFault::Memory) => tell(alloc, reporter, entry),
         answer => Ok(answer),
@@ -61,18 +74,18 @@ fn told(
 }
 
 static CALLS: [(Entry, Option<ReporterFault>); 11] = [
-    (Entry::Set("a", 1), Some(ReporterFault::NotRootFirst)),
-    (Entry::Delete(""), Some(ReporterFault::NotRootFirst)),
-    (Entry::Set("", 1), None),
-    (Entry::Set("a", 1), None),
-    (Entry::Set("a", 2), Some(ReporterFault::Repeated)),
-    (Entry::Delete("b"), None),
-    (Entry::Set("b/c", 1), Some(ReporterFault::UnderDeleted)),
-    (Entry::Set("d/e", 1), None),
-    (Entry::Set("d", 1), Some(ReporterFault::ParentLater)),
-    (Entry::Link("x", "a", 1), None),
+    (("a", Said::Set(1)), Some(ReporterFault::NotRootFirst)),
+    (("", Said::Deleted), Some(ReporterFault::NotRootFirst)),
+    (("", Said::Set(1)), None),
+    (("a", Said::Set(1)), None),
+    (("a", Said::Set(2)), Some(ReporterFault::Repeated)),
+    (("b", Said::Deleted), None),
+    (("b/c", Said::Set(1)), Some(ReporterFault::UnderDeleted)),
+    (("d/e", Said::Set(1)), None),
+    (("d", Said::Set(1)), Some(ReporterFault::ParentLater)),
+    (("x", Said::Link("a", 1)), None),
     // the first that comes behind a later path
-    (Entry::Set("c", 1), None),
+    (("c", Said::Set(1)), None),
 ];
 
 // `z` and so many names beneath it.
@@ -89,14 +102,9 @@ fn tell_all(alloc: Global, reporter: &mut Reporter) -> Result<(), Trouble> {
     Ok(())
 }
 
-fn link_deep(
-    alloc: Global,
-    reporter: &mut Reporter,
-    count: usize,
-) -> Result<Result<(), ReporterFault>, Trouble> {
+fn link_deep(alloc: Global, reporter: &mut Reporter, count: usize) -> Result<Answer, Trouble> {
     let path = deep(alloc, count)?;
-    let to = RelPath::parse(alloc, "a")?;
-    Ok(reporter.link_path(&path, to, Rev(1), false))
+    link(alloc, reporter, &path, "a", 1)
 }
 
 // A path of a link has at most 64 names beneath its first.
@@ -132,29 +140,29 @@ fn report_of(alloc: Global, entries: &[Entry]) -> Result<Report, Trouble> {
 // Reports against the repository of a changed file.
 static REPORTS: [(&[Entry], Result<(), ReportFault>); 7] = [
     (&[], Err(ReportFault::NoEntries)),
-    (&[Entry::Set("", 1), Entry::Set("f", 2)], Ok(())),
-    (&[Entry::Set("", 3)], Err(ReportFault::NoSuchRevision(0))),
+    (&[("", Said::Set(1)), ("f", Said::Set(2))], Ok(())),
+    (&[("", Said::Set(3))], Err(ReportFault::NoSuchRevision(0))),
     (
-        &[Entry::Set("", 1), Entry::Set("g", 1)],
+        &[("", Said::Set(1)), ("g", Said::Set(1))],
         Err(ReportFault::NoNode(1)),
     ),
     (
         &[
-            Entry::Set("", 1),
-            Entry::Link("g", "f", 1),
-            Entry::Set("g/h", 1),
+            ("", Said::Set(1)),
+            ("g", Said::Link("f", 1)),
+            ("g/h", Said::Set(1)),
         ],
         Err(ReportFault::NoNode(2)),
     ),
     (
         &[
-            Entry::Set("", 1),
-            Entry::Link("g", "f", 1),
-            Entry::Delete("g/h"),
+            ("", Said::Set(1)),
+            ("g", Said::Link("f", 1)),
+            ("g/h", Said::Deleted),
         ],
         Err(ReportFault::ParentNotDir(2)),
     ),
-    (&[Entry::Set("", 1), Entry::Delete("g")], Ok(())),
+    (&[("", Said::Set(1)), ("g", Said::Deleted)], Ok(())),
 ];
 
 fn check_anew(alloc: Global, repo: &Repo, report: &Report) -> Result<(), ReportFault> {
@@ -196,24 +204,27 @@ pub(crate) fn reports(alloc: Global) -> Result<(), Trouble> {
 // A directory, or a file with a text, at a revision.
 type Node = (&'static str, u64, Option<&'static str>);
 
+fn file_of(alloc: Global, rev: Rev, repos_path: RelPath, text: &str) -> Result<BaseNode, Trouble> {
+    Ok(BaseNode::File {
+        rev,
+        repos_path,
+        text: text_of(alloc, text)?,
+        props: Props::new(alloc),
+    })
+}
+
 fn base_of(alloc: Global, node: &Node) -> Result<BaseNode, Trouble> {
     let (path, rev, text) = *node;
     let repos_path = RelPath::parse(alloc, path)?;
-    let (rev, props) = (Rev(rev), Props::new(alloc));
-    Ok(match text {
-        Some(text) => BaseNode::File {
-            rev,
-            repos_path,
-            text: Text::new(text.as_bytes().to_vec(alloc)?),
-            props,
-        },
-        None => BaseNode::Dir {
-            rev,
+    match text {
+        Some(text) => file_of(alloc, Rev(rev), repos_path, text),
+        None => Ok(BaseNode::Dir {
+            rev: Rev(rev),
             repos_path,
             complete: true,
-            props,
-        },
-    })
+            props: Props::new(alloc),
+        }),
+    }
 }
 
 fn node_of(alloc: Global, node: &Node) -> Result<(RelPath, BaseNode), Trouble> {

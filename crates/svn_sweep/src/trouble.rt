@@ -24,11 +24,12 @@ pub(crate) enum Refusal {
 /// As a script prints it.
 impl fmt::Display for Refusal {
     fn fmt<W: fmt::Write>(&self, f: &mut fmt::Formatter<W>) -> fmt::Result {
+        f.write_str("refused ")?;
         match self {
-            Refusal::Commit(fault) => write!(f, "refused {fault:?}"),
-            Refusal::Copy(fault) => write!(f, "refused {fault:?}"),
-            Refusal::Drive(fault) => write!(f, "refused {fault:?}"),
-            Refusal::Run(fault) => write!(f, "refused {fault:?}"),
+            Refusal::Commit(fault) => fmt::Debug::fmt(fault, f),
+            Refusal::Copy(fault) => fmt::Debug::fmt(fault, f),
+            Refusal::Drive(fault) => fmt::Debug::fmt(fault, f),
+            Refusal::Run(fault) => fmt::Debug::fmt(fault, f),
         }
     }
 }
@@ -44,23 +45,29 @@ pub(crate) enum Trouble {
     Other(&'static str),
 }
 
+/// How a row ends.
+#[derive(Clone, Copy)]
+pub(crate) struct End(pub(crate) Result<(), Trouble>);
+
 /// As the line of a row says it.
-impl fmt::Display for Trouble {
+impl fmt::Display for End {
     fn fmt<W: fmt::Write>(&self, f: &mut fmt::Formatter<W>) -> fmt::Result {
-        match self {
-            Trouble::Memory => write!(f, "wants memory again"),
-            Trouble::Refused(refusal) => write!(f, "DOESN'T STAND: {refusal}"),
-            Trouble::Other(other) => write!(f, "DOESN'T STAND: {other}"),
+        match self.0 {
+            Ok(()) => f.write_str("stands"),
+            Err(Trouble::Memory) => f.write_str("wants memory again"),
+            Err(Trouble::Refused(refusal)) => write!(f, "DOESN'T STAND: {refusal}"),
+            Err(Trouble::Other(other)) => write!(f, "DOESN'T STAND: {other}"),
         }
     }
 }
 
-impl Trouble {
+impl End {
     /// The status of a program whose row ends so.
     pub(crate) fn status(self) -> u8 {
-        match self {
-            Trouble::Memory => 3,
-            _ => 1,
+        match self.0 {
+            Ok(()) => 0,
+            Err(Trouble::Memory) => 3,
+            Err(_) => 1,
         }
     }
 }
