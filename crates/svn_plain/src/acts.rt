@@ -1,10 +1,10 @@
 //! The calls of a drive: those of each path by itself, put in order by sorting.
 
+use crate::fault::Result;
 use crate::history::{NO_VALUES, Node, Values};
 use crate::place::{MAX_DEPTH, Place};
 use crate::request::Facts;
 use crate::words::{NO_TEXT, Word};
-use anyhow::Result;
 use std::alloc::Global;
 use svn_types::Kind;
 
@@ -96,13 +96,18 @@ impl Calls {
         Ok(())
     }
 
+    // A change of a property.
+    fn add_change(&mut self, change: &Change, name: usize, value: Option<Word>) -> Result<()> {
+        let deed = Deed::Change { name, value };
+        self.add(path_key(change.path), change.path, change.kind, deed)
+    }
+
     // A change for each property whose value differs.
     fn add_changes(&mut self, change: &Change) -> Result<()> {
         let values = change.old_values.iter().zip(change.target.values.iter());
         for (name, (old, new)) in values.enumerate() {
             if *old != *new {
-                let deed = Deed::Change { name, value: *new };
-                self.add(path_key(change.path), change.path, change.kind, deed)?;
+                self.add_change(change, name, *new)?;
             }
         }
         Ok(())

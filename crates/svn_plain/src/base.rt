@@ -1,9 +1,9 @@
 //! Working copies, as the model has them: a flat map from path to what stands there.
 
+use crate::fault::{Fault, Result};
 use crate::history::{History, Node, Values};
 use crate::place::{Place, ROOT};
 use crate::words::Word;
-use anyhow::{Context, Result};
 use std::alloc::Global;
 use std::collections::BTreeMap;
 use svn_model::WcFault;
@@ -53,6 +53,19 @@ pub fn remove_within(tree: &mut BaseTree, path: Place) {
     tree.retain(|place, _base| !place.is_within(&path));
 }
 
+// Puts a node of a revision at a path.
+fn put_node(
+    tree: &mut BaseTree,
+    to: Option<Place>,
+    node: &Node,
+    rev: u64,
+    repos: Place,
+) -> Result<()> {
+    let to = to.ok_or(Fault("deeper than the model goes"))?;
+    tree.insert(to, base_of(node, rev, repos))?;
+    Ok(())
+}
+
 // What a revision has at a repository path and beneath, put at a path.
 fn put_tree(
     tree: &mut BaseTree,
@@ -61,13 +74,10 @@ fn put_tree(
     repos: Place,
     path: Place,
 ) -> Result<()> {
-    let source = history.tree(rev).context("no such revision")?;
+    let source = history.tree(rev).ok_or(Fault("no such revision"))?;
     for (place, node) in source {
         if place.is_within(&repos) {
-            let to = place
-                .moved(repos, path)
-                .context("deeper than the model goes")?;
-            tree.insert(to, base_of(node, rev, *place))?;
+            put_node(tree, place.moved(repos, path), node, rev, *place)?;
         }
     }
     Ok(())
@@ -133,7 +143,7 @@ pub fn put_at(
     repos: Option<Place>,
     rev: u64,
 ) -> Result<()> {
-    let own = own_repos(tree, path).context("no directory is above")?;
+    let own = own_repos(tree, path).ok_or(Fault("no directory is above"))?;
     remove_within(tree, path);
     put_tree(tree, history, rev, repos.unwrap_or(own), path)
 }

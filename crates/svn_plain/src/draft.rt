@@ -1,9 +1,9 @@
 //! Commits, as the model makes them: each change is a function on a flat map.
 
+use crate::fault::{Fault, Result};
 use crate::history::{History, NO_VALUES, Node, Tree};
 use crate::place::Place;
 use crate::words::{NO_TEXT, Word};
-use anyhow::{Context, Result};
 use svn_repo::CommitFault;
 use svn_types::Kind;
 
@@ -30,6 +30,19 @@ pub enum Edit {
         source: Place,
         path: Place,
     },
+}
+
+impl Edit {
+    /// The path at which something changes.
+    pub fn path(&self) -> Place {
+        match *self {
+            Edit::MakeDir { path }
+            | Edit::Put { path, .. }
+            | Edit::Prop { path, .. }
+            | Edit::Remove { path }
+            | Edit::CopyFrom { path, .. } => path,
+        }
+    }
 }
 
 /// The next revision as the changes so far make it, or why the first that can't be made is refused.
@@ -135,6 +148,12 @@ impl Draft {
         }
     }
 
+    fn make_dir(&mut self, path: Place) -> Result<()> {
+        let node = self.new_node(Kind::Directory, NO_TEXT);
+        self.tree.insert(path, node)?;
+        Ok(())
+    }
+
     fn put(&mut self, path: Place, text: Word) -> Result<()> {
         let node = match self.tree.get(&path).copied() {
             Some(old) => Node {
@@ -162,43 +181,36 @@ impl Draft {
         self.tree.retain(|place, _node| !place.is_within(&path));
     }
 
+    fn put_copy(&mut self, to: Option<Place>, node: Node) -> Result<()> {
+        let to = to.ok_or(Fault("deeper than the model goes"))?;
+        self.tree.insert(to, node)?;
+        Ok(())
+    }
+
     // The numbers are those of the source.
     fn copy_from(&mut self, history: &History, rev: u64, source: Place, path: Place) -> Result<()> {
-        let tree = history.tree(rev).context("no such revision")?;
+        let tree = history.tree(rev).ok_or(Fault("no such revision"))?;
         for (place, node) in tree {
             if place.is_within(&source) {
-                let to = place
-                    .moved(source, path)
-                    .context("deeper than the model goes")?;
-                self.tree.insert(to, *node)?;
+                self.put_copy(place.moved(source, path), *node)?;
             }
         }
         Ok(())
     }
 
-    fn make(&mut self, history: &History, edit: Edit) -> Result<Place> {
+    fn make(&mut self, history: &History, edit: Edit) -> Result<()> {
         match edit {
-            Edit::MakeDir { path } => {
-                let node = self.new_node(Kind::Directory, NO_TEXT);
-                self.tree.insert(path, node)?;
-                Ok(path)
-            }
-            Edit::Put { path, text } => {
-                self.put(path, text)?;
-                Ok(path)
-            }
+            Edit::MakeDir { path } => self.make_dir(path),
+            Edit::Put { path, text } => self.put(path, text),
             Edit::Prop { path, name, value } => {
                 self.set_value(path, name, value);
-                Ok(path)
+                Ok(())
             }
             Edit::Remove { path } => {
                 self.remove(path);
-                Ok(path)
+                Ok(())
             }
-            Edit::CopyFrom { rev, source, path } => {
-                self.copy_from(history, rev, source, path)?;
-                Ok(path)
-            }
+            Edit::CopyFrom { rev, source, path } => self.copy_from(history, rev, source, path),
         }
     }
 
@@ -209,25 +221,21 @@ impl Draft {
         }
         self.fault = self.fault_of(history, edit);
         if self.fault.is_none() {
-            let path = self.make(history, edit)?;
-            self.freshen_above(path);
+            self.make(history, edit)?;
+            self.freshen_above(edit.path());
         }
         Ok(())
     }
 
-    /// Makes the changes a revision, unless one can't be made.
-    pub fn commit(self, history: &mut History) -> Result<Option<CommitFault>> {
-        let Draft {
-            tree,
-            fault,
-            next_line,
-            next_number,
-        } = self;
+    /// Makes the changes a revision, unless one can't be made, and begins anew behind the last revision.
+    pub fn commit(&mut self, history: &mut History) -> Result<Option<CommitFault>> {
+        let fault = self.fault;
         if fault.is_none() {
-            history.revisions.push(tree)?;
-            history.next_line = next_line;
-            history.next_number = next_number;
+            history.revisions.push(self.tree.clone()?)?;
+            history.next_line = self.next_line;
+            history.next_number = self.next_number;
         }
+        *self = Draft::begin(history)?;
         Ok(fault)
     }
 }

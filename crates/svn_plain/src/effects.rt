@@ -2,10 +2,10 @@
 
 use crate::acts::{Act, Deed};
 use crate::base::{Base, BaseTree, own_repos, remove_within};
+use crate::fault::{Fault, Result};
 use crate::history::{NO_VALUES, Values};
 use crate::place::Place;
-use crate::words::NO_TEXT;
-use anyhow::{Context, Result, bail};
+use crate::words::{NO_TEXT, Word};
 use svn_types::Kind;
 
 /// The revision that the calls lead to, and the path to which they switch the whole copy.
@@ -30,13 +30,32 @@ fn changed(old: Values, earlier: &[Act], path: Place) -> Values {
     values
 }
 
+// The text that earlier calls gave to a path, if they did.
+fn given(old: Word, earlier: &[Act], path: Place) -> Word {
+    let mut text = old;
+    for act in earlier {
+        if let Deed::Text { text: new, .. } = act.deed {
+            if act.path == path {
+                text = new;
+            }
+        }
+    }
+    text
+}
+
+// A file that is added is present once it is closed.
+fn add_file(tree: &mut BaseTree, path: Place) -> Result<()> {
+    tree.insert(path, Base::NotPresent)?;
+    Ok(())
+}
+
 impl Edition {
     // The repository path of what is opened: what it had, or in a switch the parent's with the name behind it.
     fn opened_repos(&self, tree: &BaseTree, path: Place, had: Place) -> Result<Place> {
         match self.to {
             None => Ok(had),
             Some(to) if path.is_root() => Ok(to),
-            Some(_) => own_repos(tree, path).context("no directory is above what is opened"),
+            Some(_) => own_repos(tree, path).ok_or(Fault("no directory is above what is opened")),
         }
     }
 
@@ -50,7 +69,7 @@ impl Edition {
             },
         ) = tree.get(&path).copied()
         else {
-            bail!("what is opened is no directory");
+            return Err(Fault("what is opened is no directory"));
         };
         let repos = self.opened_repos(tree, path, repos)?;
         let opened = Base::Dir {
@@ -64,7 +83,7 @@ impl Edition {
     }
 
     fn add_directory(&self, tree: &mut BaseTree, path: Place) -> Result<()> {
-        let repos = own_repos(tree, path).context("no directory is above what is added")?;
+        let repos = own_repos(tree, path).ok_or(Fault("no directory is above what is added"))?;
         let added = Base::Dir {
             rev: self.target,
             repos,
@@ -85,7 +104,7 @@ impl Edition {
             },
         ) = tree.get(&path).copied()
         else {
-            bail!("what is closed is no directory");
+            return Err(Fault("what is closed is no directory"));
         };
         let closed = Base::Dir {
             rev,
@@ -98,7 +117,7 @@ impl Edition {
     }
 
     fn close_file(&self, tree: &mut BaseTree, path: Place, earlier: &[Act]) -> Result<()> {
-        let own = own_repos(tree, path).context("no directory is above a file")?;
+        let own = own_repos(tree, path).ok_or(Fault("no directory is above a file"))?;
         let (repos, old_text, old_values) = match tree.get(&path).copied() {
             Some(
                 Base::File {
@@ -110,18 +129,10 @@ impl Edition {
             ) => (self.opened_repos(tree, path, repos)?, text, values),
             _ => (own, NO_TEXT, NO_VALUES),
         };
-        let mut text = old_text;
-        for act in earlier {
-            if let Deed::Text { text: given, .. } = act.deed {
-                if act.path == path {
-                    text = given;
-                }
-            }
-        }
         let closed = Base::File {
             rev: self.target,
             repos,
-            text,
+            text: given(old_text, earlier, path),
             values: changed(old_values, earlier, path),
         };
         tree.insert(path, closed)?;
@@ -131,17 +142,17 @@ impl Edition {
     fn take(&self, tree: &mut BaseTree, act: &Act, earlier: &[Act]) -> Result<()> {
         let is_file = act.kind == Kind::File;
         match act.deed {
-            Deed::Delete { .. } => remove_within(tree, act.path),
-            Deed::Open { .. } if !is_file => self.open_directory(tree, act.path)?,
-            Deed::Add if is_file => {
-                tree.insert(act.path, Base::NotPresent)?;
+            Deed::Delete { .. } => {
+                remove_within(tree, act.path);
+                Ok(())
             }
-            Deed::Add => self.add_directory(tree, act.path)?,
-            Deed::Close { .. } if is_file => self.close_file(tree, act.path, earlier)?,
-            Deed::Close { .. } => self.close_directory(tree, act.path, earlier)?,
-            Deed::Open { .. } | Deed::Change { .. } | Deed::Text { .. } => {}
+            Deed::Open { .. } if !is_file => self.open_directory(tree, act.path),
+            Deed::Add if is_file => add_file(tree, act.path),
+            Deed::Add => self.add_directory(tree, act.path),
+            Deed::Close { .. } if is_file => self.close_file(tree, act.path, earlier),
+            Deed::Close { .. } => self.close_directory(tree, act.path, earlier),
+            Deed::Open { .. } | Deed::Change { .. } | Deed::Text { .. } => Ok(()),
         }
-        Ok(())
     }
 
     /// The copy after the first so many of the calls between the first and the last.
@@ -162,15 +173,27 @@ impl Edition {
         let mut ended = tree.clone()?;
         ended.clear();
         for (path, base) in tree {
-            let moved = match self.to {
-                Some(to) => Some(to.with(path.names()).context("deeper than the model goes")?),
-                None => None,
-            };
-            if let Some(base) = self.ended(base, moved) {
-                ended.insert(*path, base)?;
-            }
+            self.end(&mut ended, *path, base)?;
         }
         Ok(ended)
+    }
+
+    // Puts what a node is at the end where it is.
+    fn end(&self, ended: &mut BaseTree, path: Place, base: &Base) -> Result<()> {
+        let moved = self.moved(path)?;
+        if let Some(base) = self.ended(base, moved) {
+            ended.insert(path, base)?;
+        }
+        Ok(())
+    }
+
+    // In a switch, the repository path of a path under the new root.
+    fn moved(&self, path: Place) -> Result<Option<Place>> {
+        let Some(to) = self.to else {
+            return Ok(None);
+        };
+        let moved = to.with(path.names());
+        Ok(Some(moved.ok_or(Fault("deeper than the model goes"))?))
     }
 
     fn ended(&self, base: &Base, moved: Option<Place>) -> Option<Base> {

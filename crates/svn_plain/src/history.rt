@@ -1,8 +1,8 @@
 //! Repositories, as the model has them: for each revision a flat map from path to node.
 
+use crate::fault::{Fault, Result};
 use crate::place::{Place, ROOT};
 use crate::words::{NO_TEXT, Word};
-use anyhow::{Context, Result};
 use std::alloc::Global;
 use std::collections::BTreeMap;
 use svn_types::Kind;
@@ -70,7 +70,7 @@ impl History {
 
     /// The tree that the next commit changes.
     pub fn last_tree(&self) -> Result<Tree> {
-        let tree = self.revisions.last().context("no revision")?;
+        let tree = self.revisions.last().ok_or(Fault("no revision"))?;
         Ok(tree.clone()?)
     }
 }

@@ -8,6 +8,7 @@ mod acts;
 mod base;
 mod draft;
 mod effects;
+mod fault;
 mod history;
 mod lines;
 mod place;
@@ -22,6 +23,7 @@ pub use base::{
 };
 pub use draft::{Draft, Edit};
 pub use effects::Edition;
+pub use fault::Fault;
 pub use history::{History, Node, Tree, Values};
 pub use lines::{Tokens, line};
 pub use place::{Place, ROOT, Raw};

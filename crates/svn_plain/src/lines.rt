@@ -1,9 +1,9 @@
 //! The printed lines of a drive.
 
 use crate::acts::{Act, Deed};
+use crate::fault::Result;
 use crate::place::Place;
 use crate::words::{PROP_NAMES, Word};
-use anyhow::Result;
 use md5::{Digest, Md5};
 use std::alloc::Global;
 use std::collections::BTreeMap;
@@ -54,6 +54,14 @@ impl Tokens {
         self.by_path.get(&path).copied().unwrap_or(u64::MAX)
     }
 
+    // The number of what a call speaks of; what it opens or adds gets the next.
+    fn of(&mut self, act: &Act) -> Result<u64> {
+        match act.deed {
+            Deed::Open { .. } | Deed::Add => self.give(act.path),
+            _ => Ok(self.get(act.path)),
+        }
+    }
+
     fn above(&self, path: Place) -> u64 {
         match path.parent() {
             Some(parent) => self.get(parent),
@@ -62,75 +70,93 @@ impl Tokens {
     }
 }
 
-fn kind_word(kind: Kind) -> &'static str {
-    match kind {
-        Kind::File => "file",
-        Kind::Directory => "directory",
-    }
+// A word of a line behind its first.
+#[derive(Clone, Copy)]
+enum Part {
+    Path(Place),
+    Rev(u64),
+    Token(u64),
+    Sum(Checksum),
+    Text(&'static str),
+    None,
 }
 
-fn opened(alloc: Global, act: &Act, base: u64, parent: u64, token: u64) -> Result<String> {
-    let path = act.path;
-    if path.is_root() {
-        return Ok(format!(in alloc; "open_root {base} #{token}")?);
-    }
-    let kind = kind_word(act.kind);
-    Ok(format!(in alloc; "open_{kind} {path} #{parent} {base} #{token}")?)
-}
-
-fn changed(
-    alloc: Global,
-    kind: Kind,
-    token: u64,
-    name: usize,
-    value: Option<Word>,
-) -> Result<String> {
-    let what = match kind {
-        Kind::File => "file",
-        Kind::Directory => "dir",
-    };
-    let name = PROP_NAMES.get(name).copied().unwrap_or("");
-    match value {
-        Some(value) => {
-            let value = value.printed();
-            Ok(format!(in alloc; "change_{what}_prop #{token} {name} {value}")?)
+impl fmt::Display for Part {
+    fn fmt<W: fmt::Write>(&self, f: &mut fmt::Formatter<W>) -> fmt::Result {
+        if matches!(self, Part::None) {
+            return Ok(());
         }
-        None => Ok(format!(in alloc; "change_{what}_prop #{token} {name}")?),
+        f.write_str(" ")?;
+        match self {
+            Part::Path(path) => fmt::Display::fmt(path, f),
+            Part::Rev(rev) => fmt::Display::fmt(rev, f),
+            Part::Token(token) => write!(f, "#{token}"),
+            Part::Sum(sum) => fmt::Display::fmt(sum, f),
+            Part::Text(text) => f.write_str(text),
+            Part::None => Ok(()),
+        }
+    }
+}
+
+fn opens(act: &Act) -> &'static str {
+    match act.kind {
+        Kind::Directory if act.path.is_root() => "open_root",
+        Kind::Directory => "open_directory",
+        Kind::File => "open_file",
+    }
+}
+
+// The first word of a line.
+fn verb(act: &Act) -> &'static str {
+    let is_file = act.kind == Kind::File;
+    match act.deed {
+        Deed::Delete { .. } => "delete_entry",
+        Deed::Open { .. } => opens(act),
+        Deed::Add if is_file => "add_file",
+        Deed::Add => "add_directory",
+        Deed::Change { .. } if is_file => "change_file_prop",
+        Deed::Change { .. } => "change_dir_prop",
+        Deed::Text { .. } => "apply_text",
+        Deed::Close { .. } if is_file => "close_file",
+        Deed::Close { .. } => "close_directory",
+    }
+}
+
+fn changed(token: Part, name: usize, value: Option<Word>) -> [Part; 4] {
+    let name = Part::Text(PROP_NAMES.get(name).copied().unwrap_or(""));
+    let value = match value {
+        Some(value) => Part::Text(value.printed()),
+        None => Part::None,
+    };
+    [token, name, value, Part::None]
+}
+
+// The words behind it.
+fn parts(act: &Act, parent: u64, token: u64) -> [Part; 4] {
+    let (path, none) = (Part::Path(act.path), Part::None);
+    let (parent, token) = (Part::Token(parent), Part::Token(token));
+    match act.deed {
+        Deed::Delete { rev } => [path, Part::Rev(rev), parent, none],
+        Deed::Open { base } if act.path.is_root() => [Part::Rev(base), token, none, none],
+        Deed::Open { base } => [path, parent, Part::Rev(base), token],
+        Deed::Add => [path, parent, token, none],
+        Deed::Change { name, value } => changed(token, name, value),
+        Deed::Text { base, text } => {
+            let (sum, text) = (Part::Sum(Checksum(base)), Part::Text(text.printed()));
+            [token, sum, text, none]
+        }
+        Deed::Close { text } if act.kind == Kind::File => {
+            [token, Part::Sum(Checksum(Some(text))), none, none]
+        }
+        Deed::Close { .. } => [token, none, none, none],
     }
 }
 
 /// The line of a call; what is opened or added gets the next number.
 pub fn line(alloc: Global, tokens: &mut Tokens, act: &Act) -> Result<String> {
-    let path = act.path;
-    let parent = tokens.above(path);
-    let kind = kind_word(act.kind);
-    match act.deed {
-        Deed::Delete { rev } => Ok(format!(in alloc; "delete_entry {path} {rev} #{parent}")?),
-        Deed::Open { base } => {
-            let token = tokens.give(path)?;
-            opened(alloc, act, base, parent, token)
-        }
-        Deed::Add => {
-            let token = tokens.give(path)?;
-            Ok(format!(in alloc; "add_{kind} {path} #{parent} #{token}")?)
-        }
-        Deed::Change { name, value } => changed(alloc, act.kind, tokens.get(path), name, value),
-        Deed::Text { base, text } => {
-            let token = tokens.get(path);
-            let base = Checksum(base);
-            let text = text.printed();
-            Ok(format!(in alloc; "apply_text #{token} {base} {text}")?)
-        }
-        Deed::Close { text } => closed(alloc, act.kind, tokens.get(path), text),
-    }
-}
-
-fn closed(alloc: Global, kind: Kind, token: u64, text: Word) -> Result<String> {
-    match kind {
-        Kind::File => {
-            let sum = Checksum(Some(text));
-            Ok(format!(in alloc; "close_file #{token} {sum}")?)
-        }
-        Kind::Directory => Ok(format!(in alloc; "close_directory #{token}")?),
-    }
+    let parent = tokens.above(act.path);
+    let token = tokens.of(act)?;
+    let verb = verb(act);
+    let [first, second, third, fourth] = parts(act, parent, token);
+    Ok(format!(in alloc; "{verb}{first}{second}{third}{fourth}")?)
 }

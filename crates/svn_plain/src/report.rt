@@ -1,9 +1,9 @@
 //! What a copy reports, and what a report says of each path.
 
 use crate::base::{Base, BaseTree};
+use crate::fault::Result;
 use crate::history::{History, Node};
 use crate::place::{Place, ROOT};
-use anyhow::Result;
 use std::alloc::Global;
 use std::collections::BTreeMap;
 

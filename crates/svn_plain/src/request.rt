@@ -1,10 +1,10 @@
 //! Where each path of a copy leads in the target, and what the copy is then to have.
 
 use crate::base::{Base, BaseTree, base_of};
+use crate::fault::Result;
 use crate::history::{History, Node};
 use crate::place::{Place, ROOT};
 use crate::report::Report;
-use anyhow::Result;
 use std::alloc::Global;
 use std::collections::{BTreeMap, BTreeSet};
 use svn_types::Kind;

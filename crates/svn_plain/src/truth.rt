@@ -1,7 +1,7 @@
 //! When a copy is true of a repository, each node asked by itself.
 
 use crate::base::{Base, BaseTree};
-use crate::history::{History, Values};
+use crate::history::History;
 use crate::place::Place;
 use svn_types::Kind;
 
@@ -38,7 +38,7 @@ fn is_true_at(history: &History, tree: &BaseTree, path: Place, base: &Base) -> b
             values,
         } => match history.look(*rev, Some(*repos)) {
             Some(node) => {
-                node.kind == Kind::File && node.text == *text && are_same(&node.values, values)
+                node.kind == Kind::File && node.text == *text && node.values == *values
             }
             None => false,
         },
@@ -50,22 +50,12 @@ fn is_true_at(history: &History, tree: &BaseTree, path: Place, base: &Base) -> b
         } => match history.look(*rev, Some(*repos)) {
             Some(node) if node.kind == Kind::Directory => {
                 !*complete
-                    || (are_same(&node.values, values)
+                    || (node.values == *values
                         && has_all_entries(history, tree, path, *rev, *repos))
             }
             _ => false,
         },
     }
-}
-
-/// Whether two nodes have the same properties.
-pub fn are_same(some: &Values, others: &Values) -> bool {
-    for (value, other) in some.iter().zip(others.iter()) {
-        if value != other {
-            return false;
-        }
-    }
-    true
 }
 
 /// The first path, in path order, at which the copy isn't true.

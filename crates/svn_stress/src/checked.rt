@@ -1,15 +1,13 @@
 //! A copy beside its model, and the changes of a copy by itself.
 
+use crate::stop::{Result, Stop, holds};
 use crate::{compare, real};
-use anyhow::Result;
 use std::alloc::Global;
 use svn_plain::{
-    BaseTree, History, Place, checked_out, crawl, first_untrue, forget, placing_fault, put_at,
+    BaseTree, Fault, History, Place, checked_out, crawl, first_untrue, forget, placing_fault,
+    put_at,
 };
 use svn_update::{Repo, Rev, WcFault, WorkingCopy};
-
-/// What differs, in words; None where nothing does.
-pub(crate) type Difference = Option<String>;
 
 /// What a stopped run owes: a run to the same target, asked for next, ends with this.
 #[derive(Drop)]
@@ -52,10 +50,11 @@ pub(crate) fn checkout(
     Ok(WorkingCopy::checkout_at(alloc, repo, &path, Rev(rev)))
 }
 
-fn differs_at(alloc: Global, what: &str, place: Option<Place>) -> Result<Difference> {
+// No place at which something differs is known.
+fn is_nowhere(alloc: Global, what: &str, place: Option<Place>) -> Result<()> {
     match place {
-        Some(place) => Ok(Some(format!(in alloc; "{what} at {place}")?)),
-        None => Ok(None),
+        Some(place) => Err(Stop::Differs(format!(in alloc; "{what} at {place}")?)),
+        None => Ok(()),
     }
 }
 
@@ -94,7 +93,7 @@ impl Checked {
     }
 
     /// What the model has afterwards.
-    pub(crate) fn place_model(&mut self, history: &History, placing: Placing) -> Result<()> {
+    pub(crate) fn place_model(&mut self, history: &History, placing: Placing) -> Result<(), Fault> {
         let Placing { path, repos, rev } = placing;
         self.promise = None;
         put_at(&mut self.tree, history, path, repos, rev)
@@ -107,50 +106,35 @@ impl Checked {
     }
 
     /// What the model has afterwards.
-    pub(crate) fn forget_model(&mut self, path: Place) -> Result<()> {
+    pub(crate) fn forget_model(&mut self, path: Place) -> Result<(), Fault> {
         self.promise = None;
         forget(&mut self.tree, path)
     }
 
     // Whether the copy has what the model has, and whether the model's is true.
-    fn compare_nodes(&self, alloc: Global, history: &History) -> Result<Difference> {
+    fn compare_nodes(&self, alloc: Global, history: &History) -> Result<()> {
         let place = compare::copy_difference(&self.copy, &self.tree);
-        if place.is_some() {
-            return differs_at(alloc, "the copy differs", place);
-        }
+        is_nowhere(alloc, "the copy differs", place)?;
         let place = first_untrue(history, &self.tree);
-        differs_at(alloc, "the copy isn't true", place)
+        is_nowhere(alloc, "the copy isn't true", place)
     }
 
-    fn compare_truth(&self, alloc: Global, repo: &Repo) -> Result<Difference> {
-        if self.copy.check_true(repo).is_err() {
-            return Ok(Some(String::from_str(alloc, "a true copy is called untrue")?));
-        }
-        Ok(None)
+    fn compare_truth(&self, alloc: Global, repo: &Repo) -> Result<()> {
+        let is_true = self.copy.check_true(repo).is_ok();
+        holds(alloc, is_true, "a true copy is called untrue")
     }
 
-    fn compare_report(&self, alloc: Global) -> Result<Difference> {
+    fn compare_report(&self, alloc: Global) -> Result<()> {
         let report = self.copy.crawl(alloc)?;
         let model = crawl(alloc, &self.tree)?;
         let place = compare::report_difference(&report, &model);
-        differs_at(alloc, "the report differs", place)
+        is_nowhere(alloc, "the report differs", place)
     }
 
     /// The copy, whether it is true, and what it reports.
-    pub(crate) fn compare(
-        &self,
-        alloc: Global,
-        repo: &Repo,
-        history: &History,
-    ) -> Result<Difference> {
-        let difference = self.compare_nodes(alloc, history)?;
-        if difference.is_some() {
-            return Ok(difference);
-        }
-        let difference = self.compare_truth(alloc, repo)?;
-        if difference.is_some() {
-            return Ok(difference);
-        }
+    pub(crate) fn compare(&self, alloc: Global, repo: &Repo, history: &History) -> Result<()> {
+        self.compare_nodes(alloc, history)?;
+        self.compare_truth(alloc, repo)?;
         self.compare_report(alloc)
     }
 }

@@ -1,7 +1,7 @@
 //! What the library has beside what the model has.
 
 use crate::real;
-use anyhow::Result;
+use crate::stop::Result;
 use std::alloc::Global;
 use std::collections::BTreeMap;
 use svn_plain::{
@@ -203,25 +203,37 @@ fn count_entries(tree: &Tree, above: Place) -> usize {
     count
 }
 
+fn has_text(repo: &Repo, id: NodeId, word: Word) -> bool {
+    match repo.text(id) {
+        Some(text) => is_text(text, word),
+        None => false,
+    }
+}
+
+fn has_entries(repo: &Repo, id: NodeId, count: usize) -> bool {
+    match repo.entries(id) {
+        Some(listing) => listing.len() == count,
+        None => false,
+    }
+}
+
+fn has_props(repo: &Repo, id: NodeId, values: &Values) -> bool {
+    match repo.props(id) {
+        Some(props) => are_props(props, values),
+        None => false,
+    }
+}
+
 // Whether a node reads as the model's.
 fn reads_as(repo: &Repo, id: NodeId, node: &Node, entries: usize) -> bool {
-    if repo.line(id) != Some(node.line) || repo.kind(id) != Some(node.kind) {
-        return false;
-    }
-    match repo.props(id) {
-        Some(props) if are_props(props, &node.values) => {}
-        _ => return false,
-    }
-    match node.kind {
-        Kind::File => match repo.text(id) {
-            Some(text) => is_text(text, node.text),
-            None => false,
-        },
-        Kind::Directory => match repo.entries(id) {
-            Some(listing) => listing.len() == entries,
-            None => false,
-        },
-    }
+    let is_same = repo.line(id) == Some(node.line)
+        && repo.kind(id) == Some(node.kind)
+        && has_props(repo, id, &node.values);
+    is_same
+        && match node.kind {
+            Kind::File => has_text(repo, id, node.text),
+            Kind::Directory => has_entries(repo, id, entries),
+        }
 }
 
 // A revision, and what the model has of it.

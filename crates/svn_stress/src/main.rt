@@ -13,75 +13,62 @@ mod real;
 mod runs;
 mod shorten;
 mod step;
+mod stop;
 mod world;
 
-use crate::checked::Difference;
 use crate::counts::{Counts, NO_COUNTS};
 use crate::generate::Chooser;
 use crate::shorten::{replay, shortened};
 use crate::step::Step;
+use crate::stop::{Result, Stop};
 use crate::world::World;
-use anyhow::{Result, bail};
 use std::alloc::Global;
 use std::env;
 use std::env::Env;
+use std::process::ExitCode;
 use std::sync::Wait;
 use std::thread::Threads;
 
 // How many steps a history has.
 const STEPS_EACH: u64 = 60;
 
-// The steps of a history, whether the last showed a difference, and what was done.
-#[derive(Drop)]
-struct Story {
-    steps: Vec<Step>,
-    differs: bool,
-    counts: Counts,
-}
-
-// Takes the next step; the answer says whether it shows a difference.
+// Takes the next step.
 fn take_next<R: Threads + Wait + Sync>(
     rt: &R,
     world: &mut World,
     chooser: &mut Chooser,
     steps: &mut Vec<Step>,
-) -> Result<bool> {
+) -> Result<()> {
     let step = chooser.step(world);
     steps.push(step)?;
-    Ok(world.take(rt, step)?.is_some())
+    world.take(rt, step)
 }
 
-// Takes steps up to the first difference; the answer says whether there is one.
+// Takes steps up to the first difference.
 fn take_all<R: Threads + Wait + Sync>(
     rt: &R,
     world: &mut World,
     chooser: &mut Chooser,
     steps: &mut Vec<Step>,
-) -> Result<bool> {
+) -> Result<()> {
     for _ in 0..STEPS_EACH {
-        if take_next(rt, world, chooser, steps)? {
-            return Ok(true);
-        }
+        take_next(rt, world, chooser, steps)?;
     }
-    Ok(false)
+    Ok(())
 }
 
+// Makes a history, and answers what was done. Its steps are kept.
 fn make_story<R: Threads + Wait + Sync>(
     rt: &R,
     alloc: Global,
     seed: u64,
     number: u64,
-) -> Result<Story> {
+    steps: &mut Vec<Step>,
+) -> Result<Counts> {
     let mut chooser = Chooser::new(seed, number);
-    let mut steps = Vec::new(alloc);
     let mut world = World::new(alloc)?;
-    let differs = take_all(rt, &mut world, &mut chooser, &mut steps)?;
-    let counts = world.counts;
-    Ok(Story {
-        steps,
-        differs,
-        counts,
-    })
+    take_all(rt, &mut world, &mut chooser, steps)?;
+    Ok(world.counts)
 }
 
 fn tell_steps<R: Print>(rt: &R, number: u64, steps: &[Step]) -> Result<()> {
@@ -92,10 +79,11 @@ fn tell_steps<R: Print>(rt: &R, number: u64, steps: &[Step]) -> Result<()> {
     Ok(())
 }
 
-fn tell_end<R: Print>(rt: &R, difference: &Difference) -> Result<()> {
-    match difference {
-        Some(difference) => println!(rt; "# {difference}")?,
-        None => println!(rt; "# it differs no more")?,
+fn tell_end<R: Print>(rt: &R, end: Result<()>) -> Result<()> {
+    match end {
+        Ok(()) => println!(rt; "# it differs no more")?,
+        Err(Stop::Differs(difference)) => println!(rt; "# {difference}")?,
+        fault => return fault,
     }
     Ok(())
 }
@@ -109,8 +97,7 @@ fn tell<R: Threads + Wait + Sync + Print>(
 ) -> Result<()> {
     let short = shortened(rt, alloc, steps)?;
     tell_steps(rt, number, &short)?;
-    let difference = replay(rt, alloc, &short)?;
-    tell_end(rt, &difference)
+    tell_end(rt, replay(rt, alloc, &short))
 }
 
 fn tell_counts<R: Print>(rt: &R, histories: u64, counts: &Counts) -> Result<()> {
@@ -134,16 +121,14 @@ fn count_story<R: Threads + Wait + Sync + Print>(
     seed: u64,
     number: u64,
 ) -> Result<Counts> {
-    let Story {
-        steps,
-        differs,
-        counts,
-    } = make_story(rt, alloc, seed, number)?;
-    if differs {
-        tell(rt, alloc, number, steps)?;
-        bail!("the library and its model differ");
+    let mut steps = Vec::new(alloc);
+    match make_story(rt, alloc, seed, number, &mut steps) {
+        Err(Stop::Differs(_)) => {
+            tell(rt, alloc, number, steps)?;
+            Err(Stop::Fault("the library and its model differ"))
+        }
+        answer => answer,
     }
-    Ok(counts)
 }
 
 // Histories until so many updates and switches were made.
@@ -163,15 +148,34 @@ fn stress<R: Threads + Wait + Sync + Print>(
     Ok(())
 }
 
-fn number<R: Env + Alloc>(rt: &R, place: usize) -> Result<u64> {
-    match env::args(rt)?.nth(place) {
-        Some(word) => Ok(word.as_str().parse::<u64>()?),
-        None => bail!("the arguments are a seed and how many updates are made"),
+const USAGE: &str = "the arguments are a seed and how many updates are made";
+
+fn number_of(word: &str) -> Result<u64> {
+    match word.parse::<u64>() {
+        Ok(number) => Ok(number),
+        Err(_) => Err(Stop::Fault(USAGE)),
     }
 }
 
-fn main(rt: HostRuntime) -> Result<()> {
-    let seed = number(&rt, 1)?;
-    let wanted = number(&rt, 2)?;
-    stress(&rt, rt.alloc(), seed, wanted)
+fn number<R: Env + Alloc>(rt: &R, place: usize) -> Result<u64> {
+    match env::args(rt)?.nth(place) {
+        Some(word) => number_of(word.as_str()),
+        None => Err(Stop::Fault(USAGE)),
+    }
+}
+
+fn run<R: Threads + Wait + Sync + Print + Env + AllocGlobal>(rt: &R) -> Result<()> {
+    let seed = number(rt, 1)?;
+    let wanted = number(rt, 2)?;
+    stress(rt, rt.alloc(), seed, wanted)
+}
+
+fn main(rt: HostRuntime) -> ExitCode {
+    let words = match run(&rt) {
+        Ok(()) => return ExitCode::SUCCESS,
+        Err(Stop::Fault(words)) => words,
+        Err(Stop::Differs(_)) => "the library and its model differ",
+    };
+    let _ = eprintln!(rt; "Error: {words}");
+    ExitCode::FAILURE
 }

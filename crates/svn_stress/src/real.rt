@@ -1,6 +1,6 @@
 //! The library's values for those of the model.
 
-use anyhow::Result;
+use crate::stop::Result;
 use std::alloc::Global;
 use svn_plain::{Edit, PROP_NAMES, Place, Raw, Word};
 use svn_update::{Change, PropName, RelPath, Rev, Text};
@@ -27,39 +27,34 @@ fn value(alloc: Global, value: Option<Word>) -> Result<Option<Text>> {
     }
 }
 
-fn put_file(alloc: Global, at: Place, word: Word) -> Result<Change> {
-    let path = path(alloc, at)?;
+fn put_file(alloc: Global, path: RelPath, word: Word) -> Result<Change> {
     let text = text(alloc, word)?;
     Ok(Change::PutFile { path, text })
 }
 
-fn set_prop(alloc: Global, at: Place, name: usize, word: Option<Word>) -> Result<Change> {
-    let path = path(alloc, at)?;
+fn set_prop(alloc: Global, path: RelPath, name: usize, word: Option<Word>) -> Result<Change> {
     let name = prop_name(alloc, name)?;
     let value = value(alloc, word)?;
     Ok(Change::SetProp { path, name, value })
 }
 
-fn copy_from(alloc: Global, rev: u64, from: Place, at: Place) -> Result<Change> {
+fn copy_from(alloc: Global, rev: u64, from: Place, at: RelPath) -> Result<Change> {
     let source = path(alloc, from)?;
-    let path = path(alloc, at)?;
-    let rev = Rev(rev);
-    Ok(Change::CopyFrom { rev, source, path })
+    Ok(Change::CopyFrom {
+        rev: Rev(rev),
+        source,
+        path: at,
+    })
 }
 
 /// A change of a commit.
 pub(crate) fn change(alloc: Global, edit: Edit) -> Result<Change> {
+    let path = path(alloc, edit.path())?;
     match edit {
-        Edit::MakeDir { path: at } => {
-            let path = path(alloc, at)?;
-            Ok(Change::MakeDir { path })
-        }
-        Edit::Put { path, text } => put_file(alloc, path, text),
-        Edit::Prop { path, name, value } => set_prop(alloc, path, name, value),
-        Edit::Remove { path: at } => {
-            let path = path(alloc, at)?;
-            Ok(Change::Remove { path })
-        }
-        Edit::CopyFrom { rev, source, path } => copy_from(alloc, rev, source, path),
+        Edit::MakeDir { .. } => Ok(Change::MakeDir { path }),
+        Edit::Put { text, .. } => put_file(alloc, path, text),
+        Edit::Prop { name, value, .. } => set_prop(alloc, path, name, value),
+        Edit::Remove { .. } => Ok(Change::Remove { path }),
+        Edit::CopyFrom { rev, source, .. } => copy_from(alloc, rev, source, path),
     }
 }

@@ -1,23 +1,24 @@
 //! Updates and switches of the whole copy: what the model expects, and what the library does.
 
-use crate::checked::{Checked, Difference, Promise};
+use crate::checked::{Checked, Promise};
 use crate::counts::RunCounts;
 use crate::real;
 use crate::step::Run;
+use crate::stop::{Result, Stop, holds};
 use crate::world::World;
-use anyhow::{Result, bail};
 use std::alloc::Global;
 use std::sync::Wait;
 use std::thread::Threads;
 use svn_drive::{DriveOptions, drive, drive_switch};
 use svn_editor::{Call, Recorder};
+use svn_link::Settled;
 use svn_plain::{
-    Act, BaseTree, Edition, Facts, History, Place, Request, TargetFault, Tokens, crawl,
+    Act, BaseTree, Edition, Facts, Fault, History, Place, Request, TargetFault, Tokens, crawl,
     drive as acts_of, line, result,
 };
 use svn_report::Report;
 use svn_update::{
-    Cause, NoGate, Options, Outcome, RelPath, Repo, Rev, RunFault, WorkingCopy, switch_to,
+    Cause, NoGate, Options, Outcome, Repo, Rev, RunFault, WorkingCopy, switch_to,
     switch_to_in_turn, update, update_in_turn,
 };
 
@@ -90,7 +91,7 @@ impl Run {
     }
 
     // The copy after so many calls, the first of which changes nothing; all of them where there is no number.
-    fn left_by(&self, tree: &BaseTree, acts: &[Act], stop: Option<u64>) -> Result<BaseTree> {
+    fn left_by(&self, tree: &BaseTree, acts: &[Act], stop: Option<u64>) -> Result<BaseTree, Fault> {
         let edition = Edition {
             target: self.rev,
             to: self.to,
@@ -163,62 +164,58 @@ fn recorded(alloc: Global, repo: &Repo, copy: &WorkingCopy, run: &Run) -> Result
     Ok(recorder)
 }
 
-fn compare_call(alloc: Global, call: Option<&Call>, expected: &str) -> Result<Difference> {
-    let Some(call) = call else {
-        return Ok(Some(format!(in alloc; "the drive lacks {expected}")?));
-    };
+fn lacks(alloc: Global, expected: &str) -> Result<()> {
+    Err(Stop::Differs(format!(in alloc; "the drive lacks {expected}")?))
+}
+
+fn is_call(alloc: Global, call: &Call, expected: &str) -> Result<()> {
     let made = format!(in alloc; "{call}")?;
     if made.as_str() == expected {
-        return Ok(None);
+        return Ok(());
     }
-    Ok(Some(format!(in alloc; "the drive has {made}, not {expected}")?))
+    Err(Stop::Differs(format!(in alloc; "the drive has {made}, not {expected}")?))
+}
+
+fn compare_call(alloc: Global, call: Option<&Call>, expected: &str) -> Result<()> {
+    match call {
+        Some(call) => is_call(alloc, call, expected),
+        None => lacks(alloc, expected),
+    }
 }
 
 // Whether there are as many calls as the model has.
-fn compare_count(alloc: Global, calls: &[Call], acts: &[Act]) -> Result<Difference> {
+fn compare_count(alloc: Global, calls: &[Call], acts: &[Act]) -> Result<()> {
     let (made, expected) = (calls.len() as u64, total(acts));
     if made == expected {
-        return Ok(None);
+        return Ok(());
     }
-    Ok(Some(format!(in alloc; "the drive has {made} calls, not {expected}")?))
+    Err(Stop::Differs(format!(in alloc; "the drive has {made} calls, not {expected}")?))
 }
 
-fn compare_first(alloc: Global, calls: &[Call], rev: u64) -> Result<Difference> {
+fn compare_first(alloc: Global, calls: &[Call], rev: u64) -> Result<()> {
     let expected = format!(in alloc; "set_target_revision {rev}")?;
     compare_call(alloc, calls.first(), expected.as_str())
 }
 
-fn compare_act(alloc: Global, tokens: &mut Tokens, call: &Call, act: &Act) -> Result<Difference> {
+fn compare_act(alloc: Global, tokens: &mut Tokens, call: &Call, act: &Act) -> Result<()> {
     let expected = line(alloc, tokens, act)?;
-    compare_call(alloc, Some(call), expected.as_str())
+    is_call(alloc, call, expected.as_str())
 }
 
 // The calls between the first and the last.
-fn compare_acts(alloc: Global, calls: &[Call], acts: &[Act]) -> Result<Difference> {
+fn compare_acts(alloc: Global, calls: &[Call], acts: &[Act]) -> Result<()> {
     let mut tokens = Tokens::new(alloc);
     for (act, call) in acts.iter().zip(calls.iter().skip(1)) {
-        let difference = compare_act(alloc, &mut tokens, call, act)?;
-        if difference.is_some() {
-            return Ok(difference);
-        }
+        compare_act(alloc, &mut tokens, call, act)?;
     }
-    Ok(None)
+    Ok(())
 }
 
 // The calls of the driver beside those of the model, line by line.
-fn compare_drive(alloc: Global, calls: &[Call], acts: &[Act], rev: u64) -> Result<Difference> {
-    let difference = compare_count(alloc, calls, acts)?;
-    if difference.is_some() {
-        return Ok(difference);
-    }
-    let difference = compare_first(alloc, calls, rev)?;
-    if difference.is_some() {
-        return Ok(difference);
-    }
-    let difference = compare_acts(alloc, calls, acts)?;
-    if difference.is_some() {
-        return Ok(difference);
-    }
+fn compare_drive(alloc: Global, calls: &[Call], acts: &[Act], rev: u64) -> Result<()> {
+    compare_count(alloc, calls, acts)?;
+    compare_first(alloc, calls, rev)?;
+    compare_acts(alloc, calls, acts)?;
     compare_call(alloc, calls.last(), "close_edit")
 }
 
@@ -236,7 +233,7 @@ fn update_turned(
     run: &Run,
 ) -> Result<Result<Outcome, RunFault>> {
     if copy.check_true(repo).is_err() {
-        bail!("the copy isn't true");
+        return Err(Stop::Fault("the copy isn't true"));
     }
     let (cancel_after, is_late) = (run.cancel_after, run.is_late);
     Ok(update_in_turn(alloc, repo, copy, Rev(run.rev), cancel_after, is_late))
@@ -247,13 +244,21 @@ fn switch_turned(
     repo: &Repo,
     copy: &mut WorkingCopy,
     run: &Run,
-    to: &RelPath,
+    to: Place,
 ) -> Result<Result<Outcome, RunFault>> {
+    let to = real::path(alloc, to)?;
     if copy.check_true(repo).is_err() {
-        bail!("the copy isn't true");
+        return Err(Stop::Fault("the copy isn't true"));
     }
     let (cancel_after, is_late) = (run.cancel_after, run.is_late);
-    Ok(switch_to_in_turn(alloc, repo, copy, to, Rev(run.rev), cancel_after, is_late))
+    Ok(switch_to_in_turn(alloc, repo, copy, &to, Rev(run.rev), cancel_after, is_late))
+}
+
+fn turned(answer: Result<Outcome, RunFault>) -> Result<Ended, RunFault> {
+    Ok(Ended {
+        outcome: answer?,
+        passed: None,
+    })
 }
 
 fn run_in_turn(
@@ -263,16 +268,18 @@ fn run_in_turn(
     run: &Run,
 ) -> Result<Result<Ended, RunFault>> {
     let answer = match run.to {
-        Some(to) => switch_turned(alloc, repo, copy, run, &real::path(alloc, to)?)?,
+        Some(to) => switch_turned(alloc, repo, copy, run, to)?,
         None => update_turned(alloc, repo, copy, run)?,
     };
-    match answer {
-        Ok(outcome) => Ok(Ok(Ended {
-            outcome,
-            passed: None,
-        })),
-        Err(fault) => Ok(Err(fault)),
-    }
+    Ok(turned(answer))
+}
+
+fn threaded(answer: Result<(Outcome, Settled), RunFault>) -> Result<Ended, RunFault> {
+    let (outcome, settled) = answer?;
+    Ok(Ended {
+        outcome,
+        passed: Some((settled.sent, settled.taken)),
+    })
 }
 
 fn update_threaded<R: Threads + Wait + Sync>(
@@ -284,15 +291,9 @@ fn update_threaded<R: Threads + Wait + Sync>(
     options: Options,
 ) -> Result<Result<Ended, RunFault>> {
     if copy.check_true(repo).is_err() {
-        bail!("the copy isn't true");
+        return Err(Stop::Fault("the copy isn't true"));
     }
-    match update(rt, alloc, repo, copy, rev, options, &NoGate) {
-        Ok((outcome, settled)) => Ok(Ok(Ended {
-            outcome,
-            passed: Some((settled.sent, settled.taken)),
-        })),
-        Err(fault) => Ok(Err(fault)),
-    }
+    Ok(threaded(update(rt, alloc, repo, copy, rev, options, &NoGate)))
 }
 
 fn switch_threaded<R: Threads + Wait + Sync>(
@@ -304,17 +305,11 @@ fn switch_threaded<R: Threads + Wait + Sync>(
     rev: Rev,
     options: Options,
 ) -> Result<Result<Ended, RunFault>> {
-    if copy.check_true(repo).is_err() {
-        bail!("the copy isn't true");
-    }
     let to = real::path(alloc, to)?;
-    match switch_to(rt, alloc, repo, copy, &to, rev, options, &NoGate) {
-        Ok((outcome, settled)) => Ok(Ok(Ended {
-            outcome,
-            passed: Some((settled.sent, settled.taken)),
-        })),
-        Err(fault) => Ok(Err(fault)),
+    if copy.check_true(repo).is_err() {
+        return Err(Stop::Fault("the copy isn't true"));
     }
+    Ok(threaded(switch_to(rt, alloc, repo, copy, &to, rev, options, &NoGate)))
 }
 
 fn run_in_threads<R: Threads + Wait + Sync>(
@@ -336,19 +331,21 @@ fn run_in_threads<R: Threads + Wait + Sync>(
     }
 }
 
-fn compare_passed(alloc: Global, passed: Option<(u64, u64)>, calls: u64) -> Result<Difference> {
+fn compare_passed(alloc: Global, passed: Option<(u64, u64)>, calls: u64) -> Result<()> {
     match passed {
         Some((sent, taken)) if sent != calls || taken != calls => {
-            Ok(Some(format!(in alloc; "{sent} calls were sent, {taken} taken, not {calls}")?))
+            Err(Stop::Differs(format!(in alloc;
+                "{sent} calls were sent, {taken} taken, not {calls}"
+            )?))
         }
-        _ => Ok(None),
+        _ => Ok(()),
     }
 }
 
-fn compare_outcome(alloc: Global, ended: Ended, expected: Outcome) -> Result<Difference> {
+fn compare_outcome(alloc: Global, ended: Ended, expected: Outcome) -> Result<()> {
     let outcome = ended.outcome;
     if outcome != expected {
-        return Ok(Some(format!(in alloc; "the run ends {outcome:?}, not {expected:?}")?));
+        return Err(Stop::Differs(format!(in alloc; "the run ends {outcome:?}, not {expected:?}")?));
     }
     // `AbortEdit` passes too
     let calls = match expected {
@@ -358,17 +355,23 @@ fn compare_outcome(alloc: Global, ended: Ended, expected: Outcome) -> Result<Dif
     compare_passed(alloc, ended.passed, calls)
 }
 
+fn other_refusal(alloc: Global, fault: RunFault, expected: RunFault) -> Result<()> {
+    Err(Stop::Differs(format!(in alloc; "the run is refused {fault:?}, not {expected:?}")?))
+}
+
+fn no_refusal(alloc: Global, expected: RunFault) -> Result<()> {
+    Err(Stop::Differs(format!(in alloc; "the run isn't refused: {expected:?}")?))
+}
+
 fn compare_refusal(
     alloc: Global,
     answer: Result<Ended, RunFault>,
     expected: RunFault,
-) -> Result<Difference> {
+) -> Result<()> {
     match answer {
-        Err(fault) if fault == expected => Ok(None),
-        Err(fault) => Ok(Some(format!(in alloc;
-            "the run is refused {fault:?}, not {expected:?}"
-        )?)),
-        Ok(_) => Ok(Some(format!(in alloc; "the run isn't refused: {expected:?}")?)),
+        Err(fault) if fault == expected => Ok(()),
+        Err(fault) => other_refusal(alloc, fault, expected),
+        Ok(_) => no_refusal(alloc, expected),
     }
 }
 
@@ -390,30 +393,23 @@ impl Checked {
     }
 
     // The model's own two ways to the end: the calls one after the other, and the result of the paths.
-    fn compare_plan(&self, alloc: Global, run: &Run, plan: &Plan) -> Result<Difference> {
-        if plan.stop.is_none() && plan.left != plan.result {
-            let words = "the calls of the model lead elsewhere than its result";
-            return Ok(Some(String::from_str(alloc, words)?));
-        }
-        if self.breaks_promise(run, plan) {
-            let words = "a resumed run ends otherwise than the stopped one would have";
-            return Ok(Some(String::from_str(alloc, words)?));
-        }
-        Ok(None)
+    fn compare_plan(&self, alloc: Global, run: &Run, plan: &Plan) -> Result<()> {
+        let is_one = plan.stop.is_some() || plan.left == plan.result;
+        holds(
+            alloc,
+            is_one,
+            "the calls of the model lead elsewhere than its result",
+        )?;
+        holds(
+            alloc,
+            !self.breaks_promise(run, plan),
+            "a resumed run ends otherwise than the stopped one would have",
+        )
     }
 
     // The calls and the ends that are expected of a run that can begin.
-    fn compare_begin(
-        &self,
-        alloc: Global,
-        repo: &Repo,
-        run: &Run,
-        plan: &Plan,
-    ) -> Result<Difference> {
-        let difference = self.compare_plan(alloc, run, plan)?;
-        if difference.is_some() {
-            return Ok(difference);
-        }
+    fn compare_begin(&self, alloc: Global, repo: &Repo, run: &Run, plan: &Plan) -> Result<()> {
+        self.compare_plan(alloc, run, plan)?;
         let recorder = recorded(alloc, repo, &self.copy, run)?;
         compare_drive(alloc, recorder.calls(), &plan.acts, run.rev)
     }
@@ -462,7 +458,7 @@ impl World {
         run: &Run,
     ) -> Result<Result<Ended, RunFault>> {
         let Some(checked) = &mut self.checked else {
-            bail!("there is no copy");
+            return Err(Stop::Fault("there is no copy"));
         };
         let copy = &mut checked.copy;
         match run.capacity {
@@ -471,10 +467,10 @@ impl World {
         }
     }
 
-    fn compare_begin(&self, run: &Run, plan: &Plan) -> Result<Difference> {
+    fn compare_begin(&self, run: &Run, plan: &Plan) -> Result<()> {
         match &self.checked {
             Some(checked) => checked.compare_begin(self.alloc, &self.repo, run, plan),
-            None => Ok(None),
+            None => Ok(()),
         }
     }
 
@@ -483,10 +479,12 @@ impl World {
         rt: &R,
         run: &Run,
         expected: Outcome,
-    ) -> Result<Difference> {
+    ) -> Result<()> {
         match self.do_run(rt, run)? {
             Ok(ended) => compare_outcome(self.alloc, ended, expected),
-            Err(fault) => Ok(Some(format!(in self.alloc; "the run is refused: {fault:?}")?)),
+            Err(fault) => Err(Stop::Differs(format!(in self.alloc;
+                "the run is refused: {fault:?}"
+            )?)),
         }
     }
 
@@ -503,14 +501,11 @@ impl World {
         rt: &R,
         run: &Run,
         plan: Plan,
-    ) -> Result<Difference> {
-        let difference = self.compare_begin(run, &plan)?;
-        if difference.is_some() {
-            return Ok(difference);
-        }
-        let difference = self.compare_run(rt, run, plan.outcome())?;
+    ) -> Result<()> {
+        self.compare_begin(run, &plan)?;
+        self.compare_run(rt, run, plan.outcome())?;
         self.settle(run, plan);
-        Ok(difference)
+        Ok(())
     }
 
     fn run_refused<R: Threads + Wait + Sync>(
@@ -518,20 +513,16 @@ impl World {
         rt: &R,
         run: &Run,
         expected: RunFault,
-    ) -> Result<Difference> {
+    ) -> Result<()> {
         self.counts.count_refusal();
         let answer = self.do_run(rt, run)?;
         compare_refusal(self.alloc, answer, expected)
     }
 
     /// Runs an update or a switch of the whole copy.
-    pub(crate) fn run<R: Threads + Wait + Sync>(
-        &mut self,
-        rt: &R,
-        run: &Run,
-    ) -> Result<Difference> {
+    pub(crate) fn run<R: Threads + Wait + Sync>(&mut self, rt: &R, run: &Run) -> Result<()> {
         let Some(checked) = &self.checked else {
-            return Ok(None);
+            return Ok(());
         };
         match make_plan(self.alloc, &self.history, &checked.tree, run)? {
             Ok(plan) => self.run_planned(rt, run, plan),

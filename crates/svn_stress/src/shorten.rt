@@ -1,26 +1,18 @@
 //! A history that shows a difference, made short.
 
-use crate::checked::Difference;
 use crate::step::Step;
+use crate::stop::{Result, Stop};
 use crate::world::World;
-use anyhow::Result;
 use std::alloc::Global;
 use std::sync::Wait;
 use std::thread::Threads;
 
 // Makes the steps, up to the first difference.
-fn take_all<R: Threads + Wait + Sync>(
-    rt: &R,
-    world: &mut World,
-    steps: &[Step],
-) -> Result<Difference> {
+fn take_all<R: Threads + Wait + Sync>(rt: &R, world: &mut World, steps: &[Step]) -> Result<()> {
     for step in steps {
-        let difference = world.take(rt, *step)?;
-        if difference.is_some() {
-            return Ok(difference);
-        }
+        world.take(rt, *step)?;
     }
-    Ok(None)
+    Ok(())
 }
 
 /// Makes the steps from the beginning, up to the first difference.
@@ -28,7 +20,7 @@ pub(crate) fn replay<R: Threads + Wait + Sync>(
     rt: &R,
     alloc: Global,
     steps: &[Step],
-) -> Result<Difference> {
+) -> Result<()> {
     let mut world = World::new(alloc)?;
     take_all(rt, &mut world, steps)
 }
@@ -46,10 +38,7 @@ fn without(alloc: Global, steps: &[Step], from: usize, count: usize) -> Result<V
 
 // Whether the steps still lead to a difference. What the model can't follow shows none.
 fn differs<R: Threads + Wait + Sync>(rt: &R, alloc: Global, steps: &[Step]) -> bool {
-    match replay(rt, alloc, steps) {
-        Ok(difference) => difference.is_some(),
-        Err(_) => false,
-    }
+    matches!(&replay(rt, alloc, steps), Err(Stop::Differs(_)))
 }
 
 // Drops each run of so many steps that isn't needed, the last first.

@@ -60,20 +60,28 @@ impl fmt::Display for EditLine {
     }
 }
 
-impl fmt::Display for Run {
-    fn fmt<W: fmt::Write>(&self, f: &mut fmt::Formatter<W>) -> fmt::Result {
+impl Run {
+    fn write_target<W: fmt::Write>(&self, f: &mut fmt::Formatter<W>) -> fmt::Result {
         let rev = self.rev;
         match self.to {
-            Some(to) => write!(f, "switch-to {to} {rev}")?,
-            None => write!(f, "update {rev}")?,
+            Some(to) => write!(f, "switch-to {to} {rev}"),
+            None => write!(f, "update {rev}"),
         }
-        if let Some(calls) = self.cancel_after {
-            write!(f, " {calls}")?;
+    }
+
+    fn write_stop<W: fmt::Write>(&self, f: &mut fmt::Formatter<W>) -> fmt::Result {
+        match self.cancel_after {
+            Some(calls) => write!(f, " {calls}"),
+            None => Ok(()),
         }
-        if self.is_late {
-            f.write_str(" late")?;
-        }
-        Ok(())
+    }
+}
+
+impl fmt::Display for Run {
+    fn fmt<W: fmt::Write>(&self, f: &mut fmt::Formatter<W>) -> fmt::Result {
+        self.write_target(f)?;
+        self.write_stop(f)?;
+        f.write_str(if self.is_late { " late" } else { "" })
     }
 }
 
@@ -84,18 +92,24 @@ fn write_run<W: fmt::Write>(run: &Run, f: &mut fmt::Formatter<W>) -> fmt::Result
     }
 }
 
+fn write_switch<W: fmt::Write>(
+    path: Place,
+    repos: Place,
+    rev: u64,
+    f: &mut fmt::Formatter<W>,
+) -> fmt::Result {
+    write!(f, "switch {path} {repos} {rev}")
+}
+
 /// A step as a line of a script; before a run stands a comment that says how it is run.
 impl fmt::Display for Step {
     fn fmt<W: fmt::Write>(&self, f: &mut fmt::Formatter<W>) -> fmt::Result {
         match *self {
-            Step::Edit(edit) => {
-                let line = EditLine(edit);
-                write!(f, "{line}")
-            }
+            Step::Edit(edit) => fmt::Display::fmt(&EditLine(edit), f),
             Step::Commit => f.write_str("commit"),
             Step::Checkout { rev, path } => write!(f, "checkout {rev} {path}"),
             Step::Place { path, rev } => write!(f, "place {path} {rev}"),
-            Step::Switch { path, repos, rev } => write!(f, "switch {path} {repos} {rev}"),
+            Step::Switch { path, repos, rev } => write_switch(path, repos, rev, f),
             Step::Forget { path } => write!(f, "forget {path}"),
             Step::Run(run) => write_run(&run, f),
         }

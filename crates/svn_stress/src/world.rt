@@ -1,18 +1,17 @@
 //! A repository and a copy beside their model, and what the steps do to both.
 
-use crate::checked::{self, Checked, Difference, Placing};
+use crate::checked::{self, Checked, Placing};
 use crate::compare::{self, Ids};
 use crate::counts::{Counts, NO_COUNTS};
 use crate::real;
 use crate::step::Step;
-use anyhow::Result;
+use crate::stop::{Result, Stop};
 use std::alloc::Global;
 use std::collections::BTreeMap;
-use std::mem;
 use std::sync::Wait;
 use std::thread::Threads;
 use svn_plain::{Draft, Edit, History, Place, checkout_fault, forgetting_fault};
-use svn_update::{Change, CommitFault, Repo, Rev, WcFault};
+use svn_update::{Change, CommitFault, Repo, Rev, WcFault, WorkingCopy};
 
 /// A repository and perhaps a copy, each beside its model.
 #[derive(Drop)]
@@ -31,22 +30,22 @@ fn compare_commits(
     alloc: Global,
     answer: Result<Rev, CommitFault>,
     expected: Result<Rev, CommitFault>,
-) -> Result<Difference> {
+) -> Result<()> {
     if answer == expected {
-        return Ok(None);
+        return Ok(());
     }
-    Ok(Some(format!(in alloc; "commit gives {answer:?}, not {expected:?}")?))
+    Err(Stop::Differs(format!(in alloc; "commit gives {answer:?}, not {expected:?}")?))
 }
 
 fn compare_answers(
     alloc: Global,
     answer: Result<(), WcFault>,
     expected: Option<WcFault>,
-) -> Result<Difference> {
+) -> Result<()> {
     if answer.err() == expected {
-        return Ok(None);
+        return Ok(());
     }
-    Ok(Some(format!(in alloc; "another answer than {expected:?}")?))
+    Err(Stop::Differs(format!(in alloc; "another answer than {expected:?}")?))
 }
 
 impl World {
@@ -65,30 +64,29 @@ impl World {
         })
     }
 
-    fn edit(&mut self, edit: Edit) -> Result<Difference> {
+    fn edit(&mut self, edit: Edit) -> Result<()> {
         self.pending.push(real::change(self.alloc, edit)?)?;
         self.draft.add(&self.history, edit)?;
-        Ok(None)
+        Ok(())
     }
 
-    fn compare_revision(&mut self, rev: u64) -> Result<Difference> {
+    fn compare_revision(&mut self, rev: u64) -> Result<()> {
         let alloc = self.alloc;
         let (repo, history) = (&self.repo, &self.history);
         match compare::revision_difference(alloc, repo, history, &mut self.ids, rev)? {
-            Some(place) => Ok(Some(format!(in alloc; "revision {rev} differs at {place}")?)),
-            None => Ok(None),
+            Some(place) => Err(Stop::Differs(format!(in alloc;
+                "revision {rev} differs at {place}"
+            )?)),
+            None => Ok(()),
         }
     }
 
     // Every revision, also the old ones.
-    fn compare_revisions(&mut self) -> Result<Difference> {
+    fn compare_revisions(&mut self) -> Result<()> {
         for rev in 0..self.history.latest().saturating_add(1) {
-            let difference = self.compare_revision(rev)?;
-            if difference.is_some() {
-                return Ok(difference);
-            }
+            self.compare_revision(rev)?;
         }
-        Ok(None)
+        Ok(())
     }
 
     fn commit_pending(&mut self) -> Result<Rev, CommitFault> {
@@ -98,44 +96,51 @@ impl World {
     }
 
     fn commit_draft(&mut self) -> Result<Result<Rev, CommitFault>> {
-        let next = Draft::begin(&self.history)?;
-        let draft = mem::replace(&mut self.draft, next);
-        let fault = draft.commit(&mut self.history)?;
-        self.draft = Draft::begin(&self.history)?;
-        match fault {
+        match self.draft.commit(&mut self.history)? {
             Some(fault) => Ok(Err(fault)),
             None => Ok(Ok(Rev(self.history.latest()))),
         }
     }
 
-    fn commit(&mut self) -> Result<Difference> {
+    fn commit(&mut self) -> Result<()> {
         let committed = self.commit_pending();
         let expected = self.commit_draft()?;
-        let difference = compare_commits(self.alloc, committed, expected)?;
-        if difference.is_some() {
-            return Ok(difference);
-        }
+        compare_commits(self.alloc, committed, expected)?;
         self.counts.count_commit(expected.is_ok());
         self.compare_revisions()
     }
 
-    fn checkout(&mut self, rev: u64, path: Place) -> Result<Difference> {
-        let alloc = self.alloc;
-        let expected = checkout_fault(&self.history, rev, path);
-        self.counts.count_build(expected.is_none());
-        match checked::checkout(alloc, &self.repo, rev, path)? {
-            Ok(copy) if expected.is_none() => {
-                self.checked = Some(Checked::new(alloc, &self.history, copy, rev, path)?);
-                Ok(None)
-            }
-            Ok(_copy) => compare_answers(alloc, Ok(()), expected),
-            Err(fault) => compare_answers(alloc, Err(fault), expected),
+    // Goes on with a new copy, and its model.
+    fn keep(&mut self, copy: WorkingCopy, rev: u64, path: Place) -> Result<()> {
+        let checked = Checked::new(self.alloc, &self.history, copy, rev, path)?;
+        self.checked = Some(checked);
+        Ok(())
+    }
+
+    // The library's answer. Where the model expects a copy, it is kept.
+    fn make_copy(
+        &mut self,
+        rev: u64,
+        path: Place,
+        is_expected: bool,
+    ) -> Result<Result<(), WcFault>> {
+        match checked::checkout(self.alloc, &self.repo, rev, path)? {
+            Ok(copy) if is_expected => Ok(Ok(self.keep(copy, rev, path)?)),
+            Ok(_copy) => Ok(Ok(())),
+            Err(fault) => Ok(Err(fault)),
         }
     }
 
-    fn place(&mut self, placing: Placing) -> Result<Difference> {
+    fn checkout(&mut self, rev: u64, path: Place) -> Result<()> {
+        let expected = checkout_fault(&self.history, rev, path);
+        self.counts.count_build(expected.is_none());
+        let answer = self.make_copy(rev, path, expected.is_none())?;
+        compare_answers(self.alloc, answer, expected)
+    }
+
+    fn place(&mut self, placing: Placing) -> Result<()> {
         let Some(checked) = &mut self.checked else {
-            return Ok(None);
+            return Ok(());
         };
         let expected = placing.fault(&self.history, &checked.tree);
         let answer = checked.place(self.alloc, &self.repo, placing)?;
@@ -146,9 +151,9 @@ impl World {
         compare_answers(self.alloc, answer, expected)
     }
 
-    fn forget(&mut self, path: Place) -> Result<Difference> {
+    fn forget(&mut self, path: Place) -> Result<()> {
         let Some(checked) = &mut self.checked else {
-            return Ok(None);
+            return Ok(());
         };
         let expected = forgetting_fault(&checked.tree, path);
         let answer = checked.forget(self.alloc, path)?;
@@ -159,14 +164,14 @@ impl World {
         compare_answers(self.alloc, answer, expected)
     }
 
-    fn compare_copy(&self) -> Result<Difference> {
+    fn compare_copy(&self) -> Result<()> {
         match &self.checked {
             Some(checked) => checked.compare(self.alloc, &self.repo, &self.history),
-            None => Ok(None),
+            None => Ok(()),
         }
     }
 
-    fn make<R: Threads + Wait + Sync>(&mut self, rt: &R, step: Step) -> Result<Difference> {
+    fn make<R: Threads + Wait + Sync>(&mut self, rt: &R, step: Step) -> Result<()> {
         match step {
             Step::Edit(edit) => self.edit(edit),
             Step::Commit => self.commit(),
@@ -186,18 +191,11 @@ impl World {
         }
     }
 
-    /// Makes a step on both sides, and says what then differs.
-    pub(crate) fn take<R: Threads + Wait + Sync>(
-        &mut self,
-        rt: &R,
-        step: Step,
-    ) -> Result<Difference> {
-        let difference = self.make(rt, step)?;
-        if difference.is_some() {
-            return Ok(difference);
-        }
+    /// Makes a step on both sides, and compares what they then have.
+    pub(crate) fn take<R: Threads + Wait + Sync>(&mut self, rt: &R, step: Step) -> Result<()> {
+        self.make(rt, step)?;
         match step {
-            Step::Edit(_) => Ok(None),
+            Step::Edit(_) => Ok(()),
             _ => self.compare_copy(),
         }
     }
