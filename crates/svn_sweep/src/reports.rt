@@ -9,7 +9,7 @@ use svn_report::{Report, Reporter, ReporterFault};
 use svn_types::{Props, RelPath, Rev};
 use svn_wc::WorkingCopy;
 
-// What a reporter is told of a path.
+// What a line of a report says of a path.
 #[derive(Clone, Copy)]
 enum Said {
     Set(u64),

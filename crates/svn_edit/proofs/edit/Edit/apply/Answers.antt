@@ -30,7 +30,8 @@ returns-in-OpenRoot c =
     let g : Given = record { kind = Directory; path = []; parent = None; token = x.token } in
     let nodes = c.args.copy.now.entries in
     let r = c.open_root.result in
-    token_taken c.args.self.now c.open_root.new.self nodes c.open_root.new.copy.entries call c.args.call.now r g _ (Open Directory x.base) x.is refl refl refl
+    token_taken c.args.self.now c.open_root.new.self nodes c.open_root.new.copy.entries
+    call c.args.call.now r g _ (Open Directory x.base) x.is refl refl refl
     (λ n. refl) refl refl (λ mode calls. refl) (λ mode calls. refl) c.open_root.ensures.gives (λ none. c.open_root.ensures.unchanged)
     (ok_by r (λ ok. no_file_base call call g _ _ refl refl refl))
 
@@ -41,7 +42,8 @@ returns-in-AddDirectory c =
     let g : Given = record { kind = Directory; path = x.path; parent = Some x.parent; token = x.token } in
     let nodes = c.args.copy.now.entries in
     let r = c.add_directory.result in
-    token_taken c.args.self.now c.add_directory.new.self nodes c.add_directory.new.copy.entries call c.args.call.now r g _ (Add Directory) x.is refl refl refl
+    token_taken c.args.self.now c.add_directory.new.self nodes c.add_directory.new.copy.entries
+    call c.args.call.now r g _ (Add Directory) x.is refl refl refl
     (λ n. refl) refl refl (λ mode calls. refl) (λ mode calls. refl) c.add_directory.ensures.gives c.add_directory.ensures.unchanged
     (ok_by r (λ ok. no_file_base call call g _ _ refl refl refl))
 
@@ -52,8 +54,10 @@ returns-in-OpenDirectory c =
     let g : Given = record { kind = Directory; path = x.path; parent = Some x.parent; token = x.token } in
     let nodes = c.args.copy.now.entries in
     let r = c.open_directory.result in
-    token_taken c.args.self.now c.open_directory.new.self nodes c.open_directory.new.copy.entries call c.args.call.now r g _ (Open Directory x.base) x.is refl refl refl
-    (λ n. refl) refl refl (λ mode calls. refl) (λ mode calls. refl) c.open_directory.ensures.gives (λ none. c.open_directory.ensures.unchanged)
+    token_taken c.args.self.now c.open_directory.new.self nodes c.open_directory.new.copy.entries
+    call c.args.call.now r g _ (Open Directory x.base) x.is refl refl refl
+    (λ n. refl) refl refl (λ mode calls. refl) (λ mode calls. refl) c.open_directory.ensures.gives
+    (λ none. c.open_directory.ensures.unchanged)
     (ok_by r (λ ok. no_file_base call call g _ _ refl refl refl))
 
 pub returns-in-AddFile : goal.returns-in-AddFile
@@ -63,7 +67,8 @@ returns-in-AddFile c =
     let g : Given = record { kind = File; path = x.path; parent = Some x.parent; token = x.token } in
     let nodes = c.args.copy.now.entries in
     let r = c.add_file.result in
-    token_taken c.args.self.now c.add_file.new.self nodes c.add_file.new.copy.entries call c.args.call.now r g _ (Add File) x.is refl refl refl
+    token_taken c.args.self.now c.add_file.new.self nodes c.add_file.new.copy.entries
+    call c.args.call.now r g _ (Add File) x.is refl refl refl
     (λ n. refl) refl refl (λ mode calls. refl) (λ mode calls. refl) c.add_file.ensures.gives c.add_file.ensures.unchanged
     (file_base call call g _ _ r refl refl (map_ok r c.add_file.ensures.base (λ none b there. sum_of_none b.base c.add_file.new.copy.entries
     x.path (none b there))))
@@ -99,7 +104,8 @@ returns-in-ChangeDirProp c =
     let h = c.change_prop.ensures in
     subst (λ (k : Call). Takes old nodes k r new nodes) (sym x.is)
     (noted_taken old new nodes nodes call r refl refl h.keeps
-    (λ mode calls next noted. change_applied md5 mode old calls call call x.token Directory (x.name, x.value) nodes r refl refl refl h.answers)
+    (λ mode calls next noted. change_applied md5 mode old calls call call x.token Directory (x.name, x.value) nodes r
+    refl refl refl h.answers)
     (said_left old new call call x.token Directory _ r refl refl refl refl h.began) x.token Directory (Change Directory (x.name, x.value))
     refl refl (λ n. refl) refl (λ t. refl) h.noted)
 
