@@ -1,10 +1,10 @@
 -- What the word of a path is, from its key, what bytes are that are printed as they are, and the word of a token.
-use Rattle.std.proofs.Common.{◌≡◌, ℕ, ◌+◌, ◌-◌, ◌^◌, ◌<◌, ◌≤◌, Bool, true, false, ◌&&◌}
+use Rattle.std.proofs.Common.{◌≡◌, ℕ, ◌+◌, ◌-◌, ◌/◌, ◌%◌, ◌^◌, ◌<◌, ◌≤◌, Bool, true, false, ◌&&◌}
 use Rattle.std.proofs.Common.{List, [], ◌∷◌, ◌++◌, length, map, take, drop, set, get_or, append_assoc}
 use Rattle.std.proofs.Common.{refl, sym, ap, ◌∙◌, arith, rules, true≢false}
 use Rattle.std.specs.Prelude.{All, if◌then◌else◌, nat_le}
 use Rattle.std.specs.List.{flat_map, list_all}
-use Rattle.std.specs.Fmt.{decimal}
+use Rattle.std.specs.Fmt.{decimal, digit_glyph}
 use Rattle.std.specs.Str.{IsUtf8}
 use Rattle.std.proofs.lemmas.Fmt.{IsAscii-decimal, length-decimal-le}
 use Rattle.std.proofs.lemmas.Str.{IsUtf8-from_ascii}
@@ -15,9 +15,11 @@ use Rattle.std.proofs.lemmas.List.Concat.{flat_map-append}
 use Rattle.std.proofs.lemmas.List.Folds.{list_all_at}
 use Rattle.std.proofs.lemmas.List.{append-nil, drop-set, drop_all, flat_map_more, length-append, map-append, take_more, take_rest}
 use Rattle.std.proofs.Math.Seq.{take-append_seam}
+use Rattle.hex.specs.Hex.{encode_lower, lower_digits}
+use Rattle.hex.proofs.HexLemmas.{IsAscii-encode_with}
 use Rattle.svn_types.specs.Names.{Path, is_plain}
 use Rattle.svn_types.specs.PathKeys.{path_key, is_plain_name, is_plain_path}
-use Rattle.svn_editor.specs.Words.{escaped, hex_pair, is_shown, path_byte, path_text, path_word, token_word}
+use Rattle.svn_editor.specs.Words.{escaped, is_shown, path_byte, path_text, path_word, token_word}
 
 -- ---- the names of a path, printed from its key
 
@@ -72,7 +74,7 @@ pub shown_text : (bs : List ℕ) → list_all is_shown bs ≡ true → flat_map 
 shown_text [] h = refl
 shown_text (b ∷ bs) h =
     let parts = and_parts (is_shown b) (list_all is_shown bs) h in
-    ap (λ (s : Bool). (if s then b ∷ [] else 37 ∷ hex_pair true b) ++ flat_map escaped bs) parts.0
+    ap (λ (s : Bool). (if s then b ∷ [] else 37 ∷ digit_glyph true (b / 16) ∷ digit_glyph true (b % 16) ∷ []) ++ flat_map escaped bs) parts.0
     ∙ ap (λ (l : List ℕ). b ∷ l) (shown_text bs parts.1)
 
 shown_small : (b : ℕ) → is_shown b ≡ true → b < 128
@@ -88,6 +90,13 @@ shown_all bs h = λ k d in_list. shown_small (get_or bs k d)
 
 pub shown_utf8 : (bs : List ℕ) → list_all is_shown bs ≡ true → IsUtf8 bs
 shown_utf8 bs h = IsUtf8-from_ascii bs (IsAscii-from_all bs (shown_all bs h))
+
+-- ---- the digits of a checksum
+
+pub digits_utf8 : (bytes : List ℕ) → IsUtf8 (encode_lower bytes)
+digits_utf8 bytes =
+    IsUtf8-from_ascii (encode_lower bytes)
+    (IsAscii-encode_with lower_digits bytes (IsAscii-from_all lower_digits (shown_all lower_digits refl)))
 
 -- ---- a word that is printed part by part
 

@@ -1,23 +1,20 @@
 -- The words of printed lines: what stands for bytes, for a path, a token and a checksum. A number is printed as `decimal` of std.
 --     word bytes, path_word p, token_word t, checksum_word sum      what is printed
 --     spaced words      the words of a line
-use Rattle.std.specs.Prelude.{◌/◌, ◌%◌, ℕ, Bool, true, false, ◌&&◌, not, List, [], ◌∷◌, ◌++◌, nat_le, nat_eq, Option, Some, None}
+use Rattle.std.specs.Prelude.{◌/◌, ◌%◌, ℕ, Bool, true, ◌&&◌, not, List, [], ◌∷◌, ◌++◌, nat_le, nat_eq, Option, Some, None}
 use Rattle.std.specs.Prelude.{if◌then◌else◌}
 use Rattle.std.specs.List.{flat_map}
 use Rattle.std.specs.Fmt.{decimal, digit_glyph}
+use Rattle.hex.specs.Hex.{encode_lower}
 use Rattle.svn_types.specs.Names.{Path}
 
 -- printed as it is: 0x21 to 0x7E but for `%` and `"`
 abbrev pub is_shown : ℕ → Bool
 is_shown b = nat_le 33 b && nat_le b 126 && not (nat_eq b 37) && not (nat_eq b 34)
 
--- two hexadecimal digits
-abbrev pub hex_pair : Bool → ℕ → List ℕ
-hex_pair upper b = digit_glyph upper (b / 16) ∷ digit_glyph upper (b % 16) ∷ []
-
 -- a byte, or `%` and its two upper-case hexadecimal digits
 abbrev pub escaped : ℕ → List ℕ
-escaped b = if is_shown b then b ∷ [] else 37 ∷ hex_pair true b
+escaped b = if is_shown b then b ∷ [] else 37 ∷ digit_glyph true (b / 16) ∷ digit_glyph true (b % 16) ∷ []
 
 -- no bytes at all are printed as `""`
 abbrev pub word : List ℕ → List ℕ
@@ -42,9 +39,9 @@ path_byte b = if nat_eq b 1 then 47 else b
 abbrev pub token_word : ℕ → List ℕ
 token_word t = 35 ∷ decimal t
 
--- lower-case digits
+-- two lower-case hexadecimal digits of each byte
 abbrev pub digest_word : List ℕ → List ℕ
-digest_word bytes = flat_map (hex_pair false) bytes
+digest_word bytes = encode_lower bytes
 
 -- `-` where there is none
 abbrev pub checksum_word : Option (List ℕ) → List ℕ

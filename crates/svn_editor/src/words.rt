@@ -3,7 +3,7 @@ ghost use Rattle.std.specs.Prelude.{◌≡◌, ◌+◌, ◌<◌, ◌≤◌, ◌+
 ghost use Rattle.std.specs.List.{flat_map, list_all};
 ghost use Rattle.std.specs.Str.{IsAscii};
 ghost use Rattle.std.specs.Fmt.{DisplaysOnOk, digit_glyph};
-ghost use Rattle.svn_editor.specs.Words.{is_shown, escaped, hex_pair, word, path_byte, path_word, token_word, digest_word, checksum_word};
+ghost use Rattle.svn_editor.specs.Words.{is_shown, escaped, word, path_byte, path_word, token_word, digest_word, checksum_word};
 
 use crate::digest::Digest;
 use crate::token::Token;
@@ -27,18 +27,15 @@ pub(crate) fn is_shown(byte: u8) -> bool
     (33 <= byte) & (byte <= 126) & (byte != b'%') & (byte != b'"')
 }
 
-fn hex_digit(digit: u8, upper: bool) -> u8
+fn hex_digit(digit: u8) -> u8
     requires { digit < 16 }
-    ensures value { result ≡ digit_glyph upper digit }
+    ensures value { result ≡ digit_glyph true digit }
     ensures ascii { result < 128 }
-    ensures shown { is_shown result ≡ true }
 {
     if digit < 10 {
         b'0' + digit
-    } else if upper {
-        b'A' + (digit - 10)
     } else {
-        b'a' + (digit - 10)
+        b'A' + (digit - 10)
     }
 }
 
@@ -74,8 +71,8 @@ fn put_byte(byte: u8, text: &mut [u8; 192], len: usize) -> usize
         len + 1
     } else {
         text[len] = b'%';
-        text[len + 1] = hex_digit(byte / 16, true);
-        text[len + 2] = hex_digit(byte % 16, true);
+        text[len + 1] = hex_digit(byte / 16);
+        text[len + 2] = hex_digit(byte % 16);
         len + 3
     }
 }
@@ -232,15 +229,11 @@ impl fmt::Display for Token {
 
 // The digits of a checksum, so that one write prints them.
 fn digits_of(bytes: &[u8; 16]) -> [u8; 32]
-    ensures digits { result ≡ digest_word bytes.now }
-    ensures shown { list_all is_shown result ≡ true }
+    ensures { result ≡ digest_word bytes.now }
 {
     let mut digits = [0; 32];
-    'byte: for i in 0..16 {
-        let byte = bytes[i];
-        digits[2 * i] = hex_digit(byte / 16, false);
-        digits[2 * i + 1] = hex_digit(byte % 16, false);
-    }
+    // there is room for two digits of each byte
+    let _answer = hex::encode_to_slice(&bytes[..], &mut digits);
     digits
 }
 
@@ -249,7 +242,9 @@ impl fmt::Display for Digest {
     ghost output = { λ d. Some (digest_word d) };
 
     fn fmt<W: fmt::Write>(&self, f: &mut fmt::Formatter<W>) -> fmt::Result {
-        write_shown(&digits_of(&self.0), f)
+        let digits = digits_of(&self.0);
+        // they are ASCII
+        f.write_str(unsafe { str::from_utf8_unchecked(&digits) })
     }
 }
 

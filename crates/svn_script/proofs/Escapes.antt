@@ -1,5 +1,5 @@
--- Words with escapes: the bytes before the first percent sign, and what is from there on.
-use Rattle.std.proofs.Common.{◌≡◌, ℕ, zero, suc, ◌+◌, ◌<◌, ◌≤◌, Bool, true, false, not, List, [], ◌∷◌, ◌++◌, length, take, drop}
+-- Words with escapes: the bytes before the first percent sign, what is from there on, and the byte of two digits.
+use Rattle.std.proofs.Common.{◌≡◌, ℕ, zero, suc, ◌+◌, ◌*◌, ◌<◌, ◌≤◌, Bool, true, false, not, List, [], ◌∷◌, ◌++◌, length, take, drop}
 use Rattle.std.proofs.Common.{get_or, refl, ap, ◌∙◌, arith, Some, None, Option, option_map, nat_eq, nat_lt, bytes_eq, append_assoc}
 use Rattle.std.specs.List.{position, position_or_len, prefix_len}
 use Rattle.std.proofs.lemmas.Bool.{not-true}
@@ -7,8 +7,11 @@ use Rattle.std.proofs.lemmas.Bool.Decides.{nat_tests}
 use Rattle.std.proofs.lemmas.List.{append-nil, take_all, drop_all, drop_more}
 use Rattle.std.proofs.lemmas.List.Quantifiers.{position-Some}
 use Rattle.std.proofs.lemmas.List.Sums.{prefix_len_passes}
+use Rattle.std.specs.Prelude.{Result, Ok, Err, option_and_then}
+use Rattle.hex.specs.declared.error.FromHexError.{FromHexError}
+use Rattle.hex.specs.Hex.{hex_digit_value, digit_or_error, decode_pairs, ◌>>=◌}
 use Rattle.svn_types.proofs.Splits.{not_less, test_none}
-use Rattle.svn_script.specs.Reading.{unescaped, onto, bytes_of}
+use Rattle.svn_script.specs.Reading.{unescaped, onto, bytes_of, hex_byte}
 
 -- ---- bytes that stand for themselves
 
@@ -81,3 +84,20 @@ pub one_more_escape : (front run : List ℕ) (b : ℕ) (rest : Option (List ℕ)
     ≡ option_map (λ (bs : List ℕ). front ++ bs) (option_map (λ (bs : List ℕ). run ++ bs) (onto (Some b) rest))
 one_more_escape front run b None = refl
 one_more_escape front run b (Some bs) = simp append_assoc
+
+-- ---- the byte of two digits
+
+abbrev pub byte_in : Result (List ℕ) FromHexError → Option ℕ
+byte_in (Ok bytes) = Some (get_or bytes 0 0)
+byte_in (Err e) = None
+
+pub two_digits : (high low : ℕ) → byte_in (decode_pairs 0 (high ∷ low ∷ [])) ≡ hex_byte high low
+unfolding decode_pairs
+two_digits high low = by (hex_digit_value high) (hex_digit_value low)
+  where
+    by : (h l : Option ℕ)
+        → byte_in ((digit_or_error high 0 h >>= (λ a. digit_or_error low 1 l >>= (λ b. Ok (a * 16 + b)))) >>= (λ byte. Ok (byte ∷ [])))
+        ≡ option_and_then (λ a. option_map (λ b. a * 16 + b) l) h
+    by (Some a) (Some b) = refl
+    by (Some a) None = refl
+    by None l = refl

@@ -6,6 +6,7 @@ use Rattle.std.specs.Prelude.{ℕ, ◌+◌, ◌-◌, ◌*◌, ◌^◌, Bool, ◌
 use Rattle.std.specs.Prelude.{Option, Some, None, option_map, option_and_then, is_some, if◌then◌else◌}
 use Rattle.std.specs.List.{slice_split, list_all}
 use Rattle.std.specs.Str.{is_utf8}
+use Rattle.hex.specs.Hex.{hex_digit_value}
 use Rattle.svn_types.specs.Names.{Path, is_between, path_of_text}
 use Rattle.svn_types.specs.NameFaults.{path_fault, prop_name_fault}
 
@@ -58,16 +59,9 @@ number_of word =
 
 -- ---- bytes
 
--- the value of a hexadecimal digit of either case
-abbrev pub hex_value : ℕ → Option ℕ
-hex_value b =
-    if is_between 48 57 b then Some (b - 48)
-    else if is_between 97 102 b then Some (b - 97 + 10)
-    else if is_between 65 70 b then Some (b - 65 + 10)
-    else None
-
+-- the byte of two hexadecimal digits of either case
 abbrev pub hex_byte : ℕ → ℕ → Option ℕ
-hex_byte high low = option_and_then (λ h. option_map (λ l. h * 16 + l) (hex_value low)) (hex_value high)
+hex_byte high low = option_and_then (λ h. option_map (λ l. h * 16 + l) (hex_digit_value low)) (hex_digit_value high)
 
 -- a byte that stands for itself
 abbrev pub own_byte : ℕ → Option ℕ

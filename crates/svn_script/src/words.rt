@@ -3,9 +3,10 @@ ghost use Rattle.std.specs.Prelude.{◌≡◌, ◌+◌, ◌-◌, ◌*◌, ◌≤
 ghost use Rattle.std.specs.List.{list_all};
 ghost use Rattle.svn_types.specs.Names.{path_of_text};
 ghost use Rattle.svn_script.specs.declared.words.LineFault.TheVariants.{Memory};
-ghost use Rattle.svn_script.specs.Reading.{is_digit, fitting, decimal_value, number_of, hex_value, hex_byte, onto, unescaped, bytes_of, path_of, path_of_bytes, path_of_names, prop_name_of, prop_name_of_bytes};
+ghost use Rattle.svn_script.specs.Reading.{is_digit, fitting, decimal_value, number_of, hex_byte, onto, unescaped, bytes_of, path_of, path_of_bytes, path_of_names, prop_name_of, prop_name_of_bytes};
 ghost use Rattle.svn_script.specs.Gives.{Gives};
 
+use hex::FromHex;
 use std::alloc::{AllocError, Global};
 use svn_types::{PathFault, PropName, RelPath, Text, split_once};
 
@@ -77,26 +78,13 @@ pub(crate) fn read_number(word: &[u8]) -> Option<u64>
     }
 }
 
-// The value of a hexadecimal digit of either case.
-fn hex_digit(byte: u8) -> Option<u8>
-    ensures value { result ≡ hex_value byte }
-    ensures bounded { IfSome result (λ d. d ≤ 15) }
-{
-    match byte {
-        b'0'..=b'9' => Some(byte - b'0'),
-        b'a'..=b'f' => Some(byte - b'a' + 10),
-        b'A'..=b'F' => Some(byte - b'A' + 10),
-        _ => None,
-    }
-}
-
-// The byte that two hexadecimal digits stand for.
+// The byte that two hexadecimal digits of either case stand for.
 fn read_hex(high: u8, low: u8) -> Option<u8>
     ensures { result ≡ hex_byte high low }
 {
-    match (hex_digit(high), hex_digit(low)) {
-        (Some(high), Some(low)) => Some(high * 16 + low),
-        _ => None,
+    match <[u8; 1]>::from_hex([high, low]) {
+        Ok(bytes) => Some(bytes[0]),
+        Err(_) => None,
     }
 }
 

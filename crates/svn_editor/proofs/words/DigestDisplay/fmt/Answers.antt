@@ -1,11 +1,13 @@
-use Rattle.std.proofs.Common.{ap, ◌∙◌}
+use Rattle.std.proofs.Common.{sym, ap, subst, ◌∙◌}
 use Rattle.std.proofs.Output.{has_written_of_eq}
+use Rattle.std.specs.Str.{IsUtf8}
 use Rattle.svn_editor.specs.Words.{digest_word}
-use Rattle.svn_editor.proofs.PrintedWords.{shown_text}
+use Rattle.svn_editor.proofs.PrintedWords.{digits_utf8}
 use Rattle.svn_editor.proofs.words.DigestDisplay.fmt.Goals as goal
+
+pub from_utf8_unchecked-requires : goal.from_utf8_unchecked-requires
+from_utf8_unchecked-requires g c = subst IsUtf8 (sym c.digits_of-digits.ensures) (digits_utf8 c.self.inside.0)
 
 pub returns-clause-writes : goal.returns-clause-writes
 returns-clause-writes g c = λ plain ok.
-    has_written_of_eq _ _ _ _ _
-    (shown_text c.digits_of.result c.digits_of.ensures.shown ∙ c.digits_of.ensures.digits ∙ ap digest_word c.self.view_is)
-    (c.write_shown.ensures plain ok)
+    has_written_of_eq _ _ _ _ _ (c.from_utf8_unchecked.ensures ∙ c.digits_of-digits.ensures ∙ ap digest_word c.self.view_is) (c.write_str.ensures.writes plain ok)
