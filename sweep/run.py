@@ -9,16 +9,25 @@ until a run asks for fewer, the N-th allocation is refused, and the row has to s
 and the program has to end, with the answer that memory is wanting where the row isn't done. refuse.c refuses; the system's C compiler makes
 a library of it. A run has a minute.
 
+The row in-step says how its update ended, whose driver is never more than two calls ahead of the copy. Where the copy refuses a call for
+memory, the driver has to be told in time, unless it has made all its calls; both must come.
+
 With --svnup it is the program crates/svnup/out/svnup, and what is swept are its words, the reading of a short script and its printing: it
 answers as with ample memory, or says that it is out of memory, with status 1, or the command that wanted memory is refused.
 """
-import os, subprocess, sys, tempfile
+import os, re, subprocess, sys, tempfile
+from collections import Counter
 from concurrent.futures import ThreadPoolExecutor
 
 HERE = os.path.dirname(os.path.abspath(__file__))
 SECONDS = 60
 # Ways that take more allocations than can be refused one by one, and differ from the others in their streams alone.
 LONG = ("readers", "writers", "cuts")
+
+
+# The row that says how its update ended, how many calls that has, and how it may end.
+IN_STEP, CALLS = "in-step", 124
+ENDS = ["closed", "stopped by the number of the refused call", "made all its calls, or wanted memory itself"]
 
 
 def built(folder):
@@ -49,15 +58,35 @@ def run(program, words, library, refuse, given=b""):
         return status, wrote, int.from_bytes(counted.read(8), "little")
 
 
+def end_of(wrote):
+    """How an update in step ended, one of ENDS; None where it may not end so."""
+    if wrote == f"Closed {{ calls: {CALLS} }}":
+        return ENDS[0]
+    found = re.fullmatch(r"Aborted { made: (\d+), accepted: (\d+), late: (?:None|Some\((\d+)\)), cause: Memory }", wrote)
+    if not found:
+        return None
+    made, accepted, late = (it and int(it) for it in found.groups())
+    stops = accepted < made < CALLS
+    if made > accepted + 3 or late != (accepted + 1 if stops else None):
+        return None
+    return ENDS[1 if stops else 2]
+
+
 def sweep(program, library, words):
     """The row's words, how many allocations were refused, how many of these ended the program where all behind were refused too, and what
     is wrong."""
-    name, wrong, ended, n = " ".join(words), [], 0, 1
+    name, wrong, ended, n, ends = " ".join(words), [], 0, 1, Counter()
     while True:
         status, wrote, count = run(program, words, library, str(n))
-        if status != 0 or wrote != f"{name} stands\n":
+        front, _, behind = wrote.removesuffix("\n").partition(": ")
+        end = end_of(behind) if words[0] == IN_STEP else wrote
+        ends[end] += 1
+        if status != 0 or front != f"{name} stands" or not end:
             wrong.append(f"{name}, allocation {n}: status {status}, {wrote!r}")
         if count < n or len(wrong) > 100:
+            if words[0] == IN_STEP:
+                print(f"{name}: {', '.join(f'{ends[it]} times {it}' for it in ENDS)}")
+                wrong += [f"{name}: no run {it}" for it in ENDS if not ends[it]]
             return name, n - 1, ended, wrong
         status, wrote, _ = run(program, words, library, f"{n}+")
         ended += status == 3

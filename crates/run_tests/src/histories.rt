@@ -25,11 +25,11 @@ pub(crate) enum Build {
     Forget(&'static str),
 }
 
-pub(crate) fn path_at(alloc: Global, text: &str) -> Result<RelPath, PathFault> {
+fn path_at(alloc: Global, text: &str) -> Result<RelPath, PathFault> {
     RelPath::parse(alloc, text)
 }
 
-pub(crate) fn text_of(alloc: Global, text: &str) -> Result<Text, AllocError> {
+fn text_of(alloc: Global, text: &str) -> Result<Text, AllocError> {
     Ok(Text::new(text.as_bytes().to_vec(alloc)?))
 }
 

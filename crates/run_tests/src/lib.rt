@@ -5,8 +5,6 @@
 #[cfg(test)]
 mod command_line;
 #[cfg(test)]
-mod early_stop;
-#[cfg(test)]
 mod faults;
 #[cfg(test)]
 mod histories;

@@ -11,11 +11,11 @@ use svn_repo::Repo;
 use svn_run::{Gate, Options, Outcome, update};
 use svn_types::Rev;
 
-// How often a thread looks for the other before it gives up: more than enough for a machine on which much else runs.
-const LOOKS: u64 = 1_000_000_000;
+// How often a thread looks for the other before it gives up. Each look gives way to others, so that it is enough where much else runs.
+const LOOKS: u64 = 10_000_000;
 
 // Waits until the other thread has come so far; the answer says whether it has.
-pub(crate) fn comes(count: &AtomicU64, n: u64) -> bool {
+fn comes(count: &AtomicU64, n: u64) -> bool {
     for _ in 0..LOOKS {
         if count.load(Ordering::SeqCst) >= n {
             return true;
@@ -25,7 +25,7 @@ pub(crate) fn comes(count: &AtomicU64, n: u64) -> bool {
     false
 }
 
-pub(crate) const IN_PLACE: Options = Options {
+const IN_PLACE: Options = Options {
     capacity: 1,
     cancel_after: None,
     late_texts: false,

@@ -9,6 +9,7 @@
 mod calls;
 mod copies;
 mod edits;
+mod in_step;
 mod links;
 mod names;
 mod pools;
@@ -29,6 +30,7 @@ use std::process::ExitCode;
 use std::sync::Wait;
 use std::thread::Threads;
 use std::{env, io};
+use svn_run::Outcome;
 use svn_script::Settings;
 
 // How the rows of scripts are run.
@@ -45,8 +47,9 @@ const WAYS: [&str; 9] = [
 ];
 
 // The rows that are no scripts.
-const PARTS: [&str; 9] = [
+const PARTS: [&str; 10] = [
     "names", "words", "pools", "orders", "edits", "reporter", "reports", "nodes", "links",
+    "in-step",
 ];
 
 const ONE_CALL: Settings = Settings {
@@ -94,19 +97,24 @@ fn run_part<R: Wait>(rt: &R, alloc: Global, part: &str) -> Result<(), Trouble> {
     }
 }
 
-// The row of a name; a name that no row has is that of a part.
+// The row of a name; a name that no row has is that of a part. One part tells how its run ended.
 fn run_named<R: Threads + Wait + Sync>(
     rt: &R,
     alloc: Global,
     name: &str,
     way: &str,
-) -> Result<(), Trouble> {
+) -> Result<Option<Outcome>, Trouble> {
     for row in rows() {
         if row.name == name {
-            return run_row(rt, alloc, row, way);
+            run_row(rt, alloc, row, way)?;
+            return Ok(None);
         }
     }
-    run_part(rt, alloc, name)
+    if name == "in-step" {
+        return Ok(Some(in_step::in_step(rt, alloc)?));
+    }
+    run_part(rt, alloc, name)?;
+    Ok(None)
 }
 
 // Memory is refused once, or not at all; where it is refused again, more than that is wanting.
@@ -115,7 +123,7 @@ fn run_again<R: Threads + Wait + Sync>(
     alloc: Global,
     name: &str,
     way: &str,
-) -> Result<(), Trouble> {
+) -> Result<Option<Outcome>, Trouble> {
     match run_named(rt, alloc, name, way) {
         Err(Trouble::Memory) => run_named(rt, alloc, name, way),
         ended => ended,

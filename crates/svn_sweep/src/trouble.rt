@@ -8,7 +8,7 @@ use svn_model::{ReportFault, WcFault};
 use svn_pool::PoolFault;
 use svn_repo::CommitFault;
 use svn_report::ReporterFault;
-use svn_run::RunFault;
+use svn_run::{Outcome, RunFault};
 use svn_script::LineFault;
 use svn_types::PathFault;
 
@@ -45,15 +45,16 @@ pub(crate) enum Trouble {
     Other(&'static str),
 }
 
-/// How a row ends.
+/// How a row ends: it stands, and perhaps tells how a run of it ended, or it doesn't.
 #[derive(Clone, Copy)]
-pub(crate) struct End(pub(crate) Result<(), Trouble>);
+pub(crate) struct End(pub(crate) Result<Option<Outcome>, Trouble>);
 
 /// As the line of a row says it.
 impl fmt::Display for End {
     fn fmt<W: fmt::Write>(&self, f: &mut fmt::Formatter<W>) -> fmt::Result {
         match self.0 {
-            Ok(()) => f.write_str("stands"),
+            Ok(None) => f.write_str("stands"),
+            Ok(Some(outcome)) => write!(f, "stands: {outcome:?}"),
             Err(Trouble::Memory) => f.write_str("wants memory again"),
             Err(Trouble::Refused(refusal)) => write!(f, "DOESN'T STAND: {refusal}"),
             Err(Trouble::Other(other)) => write!(f, "DOESN'T STAND: {other}"),
@@ -65,7 +66,7 @@ impl End {
     /// The status of a program whose row ends so.
     pub(crate) fn status(self) -> u8 {
         match self.0 {
-            Ok(()) => 0,
+            Ok(_) => 0,
             Err(Trouble::Memory) => 3,
             Err(_) => 1,
         }
