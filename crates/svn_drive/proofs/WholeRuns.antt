@@ -1,17 +1,20 @@
 -- What the calls of a whole drive lead to: its first call, the visit of the root, the texts that waited, and the last call.
-use Rattle.std.proofs.Common.{◌≡◌, ℕ, ◌+◌, ◌<◌, ◌≤◌, Bool, false, List, [], ◌∷◌, ◌++◌, length, length-append, ap, sym, ◌∙◌, arith}
-use Rattle.std.specs.Prelude.{Option, Result, Ok, Err, OnErr}
+use Rattle.std.proofs.Common.{◌≡◌, ◌≢◌, ℕ, ◌+◌, Bool, false, List, [], ◌∷◌, ◌++◌, length, length-append, ap, sym, subst, ◌∙◌, arith}
+use Rattle.std.specs.Prelude.{Option, Result, Ok, Err, IfErr}
 use Rattle.svn_types.specs.Names.{Path}
 use Rattle.svn_repo.specs.History.{History}
 use Rattle.svn_editor.specs.declared.call.Call.{Call}
 use Rattle.svn_editor.specs.declared.call.Call.TheVariants.{SetTargetRevision, CloseEdit}
 use Rattle.svn_editor.specs.declared.fault.EditFault.{EditFault}
 use Rattle.svn_model.specs.declared.stop.Stop.{Stop}
+use Rattle.svn_model.specs.declared.stop.Stop.TheVariants.{Full}
 use Rattle.svn_drive.specs.declared.visit.Texted.{Texted}
 use Rattle.svn_model.specs.Follow.{Request}
 use Rattle.svn_model.specs.TreeCalls.{visit_calls, drive_calls}
+use Rattle.svn_model.specs.Ends.{LeavesSome}
+use Rattle.svn_drive.specs.Counts.{with_last}
 use Rattle.svn_drive.specs.Waiting.{waiting, visit_late}
-use Rattle.svn_drive.proofs.RunLemmas.{run_then, run_stops, run_nothing, run_bounded}
+use Rattle.svn_drive.proofs.RunLemmas.{run_then, run_stops, run_nothing, run_made, run_before, leaves_as, leaves_one}
 use Rattle.svn_drive.proofs.VisitRuns.{Run, run_as}
 use Rattle.svn_drive.proofs.Waits.{drive_calls-open, late_none}
 
@@ -22,9 +25,9 @@ pub lates_as : (d : Request) (late : Bool) (h : History) (before after : List Te
 lates_as d late h before after q parent next b p u n k = k ∙ (λ i. waiting h (b i) ++ visit_late d late (p i) (u i) (n i))
 
 -- what follows for a stop
-on_err : {P Q : Type 0} (r : Result (Unit {0}) Stop) → (P → Q) → OnErr r P → OnErr r Q
+on_err : {P Q : Stop → Type 0} (r : Result (Unit {0}) Stop) → ((s : Stop) → P s → Q s) → IfErr r P → IfErr r Q
 on_err (Ok x) f h = h
-on_err (Err s) f h = f h
+on_err (Err s) f h = f s h
 
 module _ {E : Type 0} (answers : E → Call → Result (Unit {0}) EditFault → E → Type 0) (limit : Option ℕ) (d : Request) (late : Bool) (e : E)
     (a : ℕ) where
@@ -43,9 +46,10 @@ module _ {E : Type 0} (answers : E → Call → Result (Unit {0}) EditFault → 
   abbrev rest : List Call
   rest = visits ++ (lates ++ last)
 
-  -- the calls of a drive, and a stop before the last of them
+  -- the calls of a drive, where so many were accepted before the last; and a stop comes before that
   abbrev pub Whole : Result (Unit {0}) Stop → E → ℕ → Type 0
-  Whole r f b = Run answers limit (drive_calls d late) r e f a b × OnErr r (b < a + length (drive_calls d late))
+  Whole r f b = Run answers limit (drive_calls d late) r e f a (with_last r b)
+      × IfErr r (λ s. LeavesSome s b (a + length (drive_calls d late)))
 
   drive_length : length (drive_calls d late) ≡ length visits + length lates + 2
   drive_length =
@@ -54,17 +58,18 @@ module _ {E : Type 0} (answers : E → Call → Result (Unit {0}) EditFault → 
       let end : length (lates ++ last) ≡ length lates + 1 = length-append lates last in
       omega (arith, all, after, end)
 
-  as_drive : (r : Result (Unit {0}) Stop) (f : E) (b : ℕ) → Run answers limit (first ++ rest) r e f a b
-      → OnErr r (b ≤ a + (length visits + length lates + 1)) → Whole r f b
+  as_drive : (r : Result (Unit {0}) Stop) (f : E) (b : ℕ) → Run answers limit (first ++ rest) r e f a (with_last r b)
+      → IfErr r (λ s. LeavesSome s b (a + (length visits + length lates + 2))) → Whole r f b
   as_drive r f b h short = (
-    run_as answers limit (first ++ rest) (drive_calls d late) r e f a b (drive_calls-open d late) h,
-    on_err r (λ (le : b ≤ a + (length visits + length lates + 1)). omega (arith, le, drive_length)) short,
+    run_as answers limit (first ++ rest) (drive_calls d late) r e f a (with_last r b) (drive_calls-open d late) h,
+    on_err r (λ s some. subst (λ n. LeavesSome s b (a + n)) (sym drive_length) some) short,
   )
 
   pub run_refused : (s : Stop) (f : E) (b : ℕ) → Run answers limit first (Err s) e f a b → Whole (Err s) f b
   run_refused s f b h =
-      let le : b ≤ a + 1 = run_bounded answers limit first (Err s) e f a b h in
-      as_drive (Err s) f b (run_stops answers limit first rest s e f a b h) (omega (arith, le))
+      as_drive (Err s) f b (run_stops answers limit first rest s e f a b h)
+      (leaves_as s b (a + length first + 1) b (a + (length visits + length lates + 2)) (omega arith)
+      (run_before answers limit first s e f a b h))
 
   at_root : (q : Path) (parent next : ℕ) (r : Result (Unit {0}) Stop) (m f : E) (b c : ℕ) → q ≡ [] → parent ≡ 0 → next ≡ 0
       → Run answers limit (visit_calls d late q parent next) r m f b c → Run answers limit visits r m f b c
@@ -75,46 +80,48 @@ module _ {E : Type 0} (answers : E → Call → Result (Unit {0}) EditFault → 
       → Run answers limit first (Ok tt) e m a b → Run answers limit (visit_calls d late q parent next) (Err s) m f b c → Whole (Err s) f c
   run_visit_stopped s q parent next m f b c p u n h g =
       let visit = at_root q parent next (Err s) m f b c p u n g in
-      let begun : b ≤ a + 1 = run_bounded answers limit first (Ok tt) e m a b h in
-      let le : c ≤ b + length visits = run_bounded answers limit visits (Err s) m f b c visit in
+      let begun : b ≡ a + 1 = run_made answers limit first e m a b h in
       as_drive (Err s) f c
       (run_then answers limit first rest (Err s) e m f a b c h (run_stops answers limit visits (lates ++ last) s m f b c visit))
-      (omega (arith, begun, le))
+      (leaves_as s c (b + length visits + 1) c (a + (length visits + length lates + 2)) (omega (arith, begun))
+      (run_before answers limit visits s m f b c visit))
 
   module _ (q : Path) (parent next : ℕ) (m n : E) (b c : ℕ) (p : q ≡ []) (u : parent ≡ 0) (z : next ≡ 0)
       (begun : Run answers limit first (Ok tt) e m a b) (visited : Run answers limit (visit_calls d late q parent next) (Ok tt) m n b c)
     where
       -- all calls before those that waited
-      visits_bounded : c ≤ a + (length visits + 1)
-      visits_bounded =
-          let one : b ≤ a + 1 = run_bounded answers limit first (Ok tt) e m a b begun in
-          let le : c ≤ b + length visits =
-          run_bounded answers limit visits (Ok tt) m n b c (at_root q parent next (Ok tt) m n b c p u z visited) in
-          omega (arith, one, le)
+      visits_made : c ≡ a + (length visits + 1)
+      visits_made =
+          let one : b ≡ a + 1 = run_made answers limit first e m a b begun in
+          let more : c ≡ b + length visits =
+          run_made answers limit visits m n b c (at_root q parent next (Ok tt) m n b c p u z visited) in
+          omega (arith, one, more)
 
-      after_visit : (r : Result (Unit {0}) Stop) (f : E) (x : ℕ) → Run answers limit (lates ++ last) r n f c x
-          → OnErr r (x ≤ c + length lates) → Whole r f x
+      after_visit : (r : Result (Unit {0}) Stop) (f : E) (x : ℕ) → Run answers limit (lates ++ last) r n f c (with_last r x)
+          → IfErr r (λ s. LeavesSome s x (c + length lates + 1)) → Whole r f x
       after_visit r f x h short =
           as_drive r f x
-          (run_then answers limit first rest r e m f a b x begun
-          (run_then answers limit visits (lates ++ last) r m n f b c x (at_root q parent next (Ok tt) m n b c p u z visited) h))
-          (on_err r (λ (le : x ≤ c + length lates). omega (arith, le, visits_bounded)) short)
+          (run_then answers limit first rest r e m f a b (with_last r x) begun
+          (run_then answers limit visits (lates ++ last) r m n f b c (with_last r x) (at_root q parent next (Ok tt) m n b c p u z visited) h))
+          (on_err r
+          (λ s some. leaves_as s x (c + length lates + 1) x (a + (length visits + length lates + 2)) (omega (arith, visits_made)) some)
+          short)
 
       pub run_late_stopped : (s : Stop) (xs : List Call) (f : E) (x : ℕ) → xs ≡ lates → Run answers limit xs (Err s) n f c x
           → Whole (Err s) f x
       run_late_stopped s xs f x k h =
           let late_run = run_as answers limit xs lates (Err s) n f c x (sym k) h in
-          after_visit (Err s) f x (run_stops answers limit lates last s n f c x late_run)
-          (run_bounded answers limit lates (Err s) n f c x late_run)
+          after_visit (Err s) f x (run_stops answers limit lates last s n f c x late_run) (run_before answers limit lates s n f c x late_run)
 
-      pub run_late : (r : Result (Unit {0}) Stop) (xs : List Call) (o f : E) (x y : ℕ) → xs ≡ lates → Run answers limit xs (Ok tt) n o c x
-          → Run answers limit last r o f x y → OnErr r (y ≡ x) → Whole r f y
-      run_late r xs o f x y k h g unmade =
+      pub run_late : (r : Result (Unit {0}) Stop) (xs : List Call) (o f : E) (x : ℕ) → xs ≡ lates → Run answers limit xs (Ok tt) n o c x
+          → Run answers limit last r o f x (with_last r x) → IfErr r (λ s. s ≢ Full) → Whole r f x
+      run_late r xs o f x k h g has_number =
           let late_run = run_as answers limit xs lates (Ok tt) n o c x (sym k) h in
-          let le : x ≤ c + length lates = run_bounded answers limit lates (Ok tt) n o c x late_run in
-          after_visit r f y (run_then answers limit lates last r n o f c x y late_run g)
-          (on_err r (λ (same : y ≡ x). omega (arith, le, same)) unmade)
+          let made : x ≡ c + length lates = run_made answers limit lates n o c x late_run in
+          after_visit r f x (run_then answers limit lates last r n o f c x (with_last r x) late_run g)
+          (on_err r (λ s ne. leaves_one s x (c + length lates + 1) ne (omega (arith, made))) has_number)
 
-      pub run_in_place : (r : Result (Unit {0}) Stop) (f : E) (y : ℕ) → late ≡ false → Run answers limit last r n f c y
-          → OnErr r (y ≡ c) → Whole r f y
-      run_in_place r f y q' g unmade = run_late r [] n f c y (sym (late_none d late [] 0 0 q')) (run_nothing answers limit n c) g unmade
+      pub run_in_place : (r : Result (Unit {0}) Stop) (f : E) → late ≡ false → Run answers limit last r n f c (with_last r c)
+          → IfErr r (λ s. s ≢ Full) → Whole r f c
+      run_in_place r f q' g has_number =
+          run_late r [] n f c (sym (late_none d late [] 0 0 q')) (run_nothing answers limit n c) g has_number

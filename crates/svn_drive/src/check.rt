@@ -1,5 +1,5 @@
 //! Whether a repository can serve a report.
-ghost use Rattle.std.specs.Prelude.{◌≡◌, ◌≤◌, ◌<◌, ◌++◌, ◌∷◌, [], ◌&&◌, length, IfOk, IsFalse, Some, None, not, false};
+ghost use Rattle.std.specs.Prelude.{◌≡◌, ◌≤◌, ◌<◌, ◌++◌, ◌∷◌, [], ◌&&◌, length, IfOk, IsFalse, Some, None, Err, not, false};
 ghost use Rattle.std.specs.Option.{option_copied};
 ghost use Rattle.svn_types.specs.Names.{depth_limit};
 ghost use Rattle.svn_types.specs.Paths.{parent};
@@ -258,11 +258,13 @@ impl<'a> Check<'a> {
 }
 
 /// Whether a repository can serve a report: Ok where it has all that the report says. NoEntries at an empty report; else the fault of the first
-/// entry that has one: NoSuchRevision, NoNode, at the root RootNotDir, below it ParentNotDir. Memory where memory is refused before that.
+/// entry that has one: NoSuchRevision, NoNode, at the root RootNotDir, below it ParentNotDir. Memory where memory is refused before that, but
+/// not of an empty report.
 ///
 /// It costs each entry the square of its depth: each path above it is made and looked for in the report.
 pub fn check_report(alloc: Global, repo: &Repo, report: &Report) -> Result<(), ReportFault>
     ensures answer { AnswersCheck (first_fault repo.now report.now) result }
+    ensures no_entries { report.now.entries ≡ [] → result ≡ Err ReportFault.NoEntries }
 {
     if report.is_empty() {
         return Err(ReportFault::NoEntries);

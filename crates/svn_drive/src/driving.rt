@@ -1,11 +1,12 @@
 //! Drives: the calls that bring a client from what it reports to a revision.
-ghost use Rattle.std.specs.Prelude.{◌≡◌, ◌+◌, ◌<◌, [], length, Result, Err, IfSome, OnErr};
+ghost use Rattle.std.specs.Prelude.{◌≡◌, ◌+◌, [], length, Result, Err, IfSome, IfErr};
 ghost use Rattle.svn_editor.specs.declared.call.Call.TheVariants.{AbortEdit};
 ghost use Rattle.svn_editor.specs.declared.fault.EditFault.{EditFault};
 ghost use Rattle.svn_model.specs.Checks.{target_fault};
-ghost use Rattle.svn_model.specs.Ends.{Runs, Drives, end_of};
+ghost use Rattle.svn_model.specs.Ends.{Runs, LeavesSome, Drives, end_of};
 ghost use Rattle.svn_model.specs.TreeCalls.{drive_calls};
 ghost use Rattle.svn_drive.specs.Checking.{AreOfDrive};
+ghost use Rattle.svn_drive.specs.Counts.{with_last};
 ghost use Rattle.svn_drive.specs.Walking.{IsAt, request_of, asked};
 ghost use Rattle.svn_editor.specs.Steps.{Update, SwitchTo};
 
@@ -59,8 +60,8 @@ impl<'a> Walk<'a> {
         requires root { root.now.here.path ≡ [] }
         requires parent { root.now.parent ≡ 0 }
         requires first { progress.old.next ≡ 0 }
-        ensures runs { Runs E.answers self.now.limit (drive_calls (request_of self.now) self.now.late) result editor.old editor.new progress.old.made progress.new.made }
-        ensures before_last { OnErr result (progress.new.made < progress.old.made + length (drive_calls (request_of self.now) self.now.late)) }
+        ensures runs { Runs E.answers self.now.limit (drive_calls (request_of self.now) self.now.late) result editor.old editor.new progress.old.made (with_last result progress.new.made) }
+        ensures before_last { IfErr result (λ stop. LeavesSome stop progress.new.made (progress.old.made + length (drive_calls (request_of self.now) self.now.late))) }
     {
         let mut later = Vec::new(self.alloc);
         let first = Call::SetTargetRevision { rev: self.target };
@@ -84,7 +85,7 @@ impl<'a> Walk<'a> {
         let mut progress = Progress::new();
         match self.run(&root, editor, &mut progress) {
             Ok(()) => Ok(DriveEnd::Closed {
-                calls: progress.made(),
+                calls: progress.made_with_last(),
             }),
             Err(stop) => give_up(stop, progress.made(), editor),
         }

@@ -1,6 +1,7 @@
 //! Calls, one by one, and their count. They are made inline: a call that is handed on by value is copied in pieces, at each hand once more.
-ghost use Rattle.std.specs.Prelude.{◌≡◌, ◌+◌, ◌∷◌, [], OnOk, OnErr, IfOk};
+ghost use Rattle.std.specs.Prelude.{◌≡◌, ◌≢◌, ◌+◌, ◌∷◌, [], OnOk, IfErr};
 ghost use Rattle.svn_model.specs.Ends.{Runs};
+ghost use Rattle.svn_drive.specs.Counts.{with_last};
 
 use std::marker::Model;
 use svn_editor::{Call, Editor, Token};
@@ -9,7 +10,7 @@ use svn_model::Stop;
 /// The most calls before the last.
 const MAX_CALLS: u64 = u64::MAX - 1;
 
-/// How many calls were made, and the next token.
+/// How many calls were made that aren't the last, and the next token.
 #[derive(Debug, Drop)]
 pub(crate) struct Progress {
     made: u64,
@@ -19,12 +20,13 @@ pub(crate) struct Progress {
 impl Model for Progress {
     ghost use Rattle.std.specs.Prelude.{◌≤◌};
     ghost use Rattle.svn_drive.specs.Counts.{Counts};
+    ghost use Rattle.svn_model.specs.Ends.{call_limit};
 
     ghost Value = { Counts };
 
     ghost view = { λ p. record { made = p.made; next = p.next } };
 
-    ghost invariant = { λ p. p.next ≤ p.made };
+    ghost invariant = { λ p. (p.next ≤ p.made) × (p.made ≤ call_limit) };
 }
 
 impl Progress {
@@ -40,6 +42,13 @@ impl Progress {
         ensures { result ≡ self.now.made }
     {
         self.made
+    }
+
+    /// How many they are with the last.
+    pub(crate) fn made_with_last(&self) -> u64
+        ensures { result ≡ self.now.made + 1 }
+    {
+        self.made + 1
     }
 
     /// The token that the next open or add gives.
@@ -64,7 +73,7 @@ pub(crate) fn make<E: Editor>(
     if limit == Some(progress.made) {
         return Err(Stop::Cancelled);
     }
-    if progress.made >= MAX_CALLS {
+    if progress.made == MAX_CALLS {
         return Err(Stop::Full);
     }
     match editor.call(call) {
@@ -90,7 +99,7 @@ pub(crate) fn make_opening<E: Editor>(
     if limit == Some(progress.made) {
         return Err(Stop::Cancelled);
     }
-    if progress.made >= MAX_CALLS {
+    if progress.made == MAX_CALLS {
         return Err(Stop::Full);
     }
     match editor.call(call) {
@@ -105,26 +114,20 @@ pub(crate) fn make_opening<E: Editor>(
     }
 }
 
-/// Makes the last call of a drive, if it may be made.
+/// Makes the last call of a drive, if it may be made. For that one there is always a number.
 pub(crate) fn make_last<E: Editor>(
     limit: Option<u64>,
     editor: &mut E,
-    progress: &mut Progress,
+    progress: &Progress,
 ) -> Result<(), Stop>
-    ensures runs { Runs E.answers limit (Call.CloseEdit ∷ []) result editor.old editor.new progress.old.made progress.new.made }
-    ensures unmade { OnErr result (progress.new.made ≡ progress.old.made) }
+    ensures runs { Runs E.answers limit (Call.CloseEdit ∷ []) result editor.old editor.new progress.now.made (with_last result progress.now.made) }
+    ensures has_number { IfErr result (λ stop. stop ≢ Stop.Full) }
 {
     if limit == Some(progress.made) {
         return Err(Stop::Cancelled);
     }
-    if progress.made > MAX_CALLS {
-        return Err(Stop::Full);
-    }
     match editor.call(Call::CloseEdit) {
-        Ok(()) => {
-            progress.made += 1;
-            Ok(())
-        }
+        Ok(()) => Ok(()),
         Err(fault) => Err(Stop::Editor(fault)),
     }
 }

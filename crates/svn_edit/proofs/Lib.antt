@@ -8,6 +8,8 @@ pub mod OpenCounts
 pub mod HeldBatons
 -- What an edit holds after one more call.
 pub mod Holding
+-- Want of memory is answered to no call that is out of order.
+pub mod InOrder
 -- The pools that a refused call leaves.
 pub mod LeftPools
 -- The close of a directory: what was said of it is done, and its baton goes.

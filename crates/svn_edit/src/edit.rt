@@ -16,13 +16,13 @@ ghost use Rattle.svn_edit.specs.Applying.{Applied, KeepsEdit, MakesBaton, BatonN
 ghost use Rattle.svn_nodes.specs.NodeTests.{mode_of, IsSumOf};
 ghost use Rattle.svn_edit.specs.Leaving.{HoldsPools, IsLeft, LeavesPools, PoolsAfter, KeepsPools, NoteBegan};
 ghost use Rattle.svn_edit.specs.Taking.{Takes};
-ghost use Rattle.svn_model.specs.Answering.{AnswersCall};
+ghost use Rattle.svn_model.specs.Answering.{AnswersCall, WantsInOrder};
 ghost use Rattle.std.specs.FinMap as map;
 ghost use Rattle.svn_pool.specs.Ancestry.{IsCleared};
 
 use crate::baton::{Baton, drop_pool};
 use crate::open_path::OpenPath;
-use std::alloc::{AllocError, Global};
+use std::alloc::Global;
 use svn_editor::{Call, Digest, EditFault, OrderFault, Token};
 use svn_nodes::{Nodes, nodes, or_memory};
 use svn_order::OrderCheck;
@@ -108,11 +108,12 @@ impl Edit {
 
     /// Takes the next call, and changes the copy as it says. The order check's faults come first, then those of the copy: DeleteEntry
     /// NoEntry, WrongRevision; the adds EntryExists, TooDeep; the opens NoEntry, WrongKind, WrongRevision, TooDeep; property changes TooLong;
-    /// ApplyText TooLong, BaseChecksum; CloseFile TextChecksum; CloseEdit of a switch TooDeep. Memory comes last, but not at AbortEdit and
-    /// at CloseEdit of an update. After a refusal the copy is as it was, the pools are those of what is open, and every call but AbortEdit
-    /// is refused.
+    /// ApplyText TooLong, BaseChecksum; CloseFile TextChecksum; CloseEdit of a switch TooDeep. Memory comes after the order check's faults,
+    /// and perhaps before the copy's; at AbortEdit and at CloseEdit of an update it doesn't come. After a refusal the copy is as it was, the
+    /// pools are those of what is open, and every call but AbortEdit is refused.
     pub fn call(&mut self, copy: &mut Nodes, call: &Call) -> Result<(), EditFault>
         ensures answers { (mode : Mode) (w0 : WorkingCopy) (calls : List Call) → StandsAfter mode w0 self.old copy.old.entries calls → AnswersCall (refusal md5 mode calls call.now copy.old.entries) result }
+        ensures in_order { (mode : Mode) (w0 : WorkingCopy) (calls : List Call) → StandsAfter mode w0 self.old copy.old.entries calls → WantsInOrder calls call.now result }
         ensures accepted { OnOk result ((mode : Mode) (w0 : WorkingCopy) (calls : List Call) → StandsAfter mode w0 self.old copy.old.entries calls → StandsAfter mode w0 self.new copy.new.entries (calls ++ call.now ∷ [])) }
         ensures refused { OnErr result ((mode : Mode) (w0 : WorkingCopy) (calls : List Call) → StandsAfter mode w0 self.old copy.old.entries calls → copy.new.entries ≡ copy.old.entries) }
         ensures dead { LeavesRefused self.old.stage result self.new }
@@ -156,6 +157,7 @@ impl Edit {
     // Takes the next call while the edit goes on.
     fn take(&mut self, copy: &mut Nodes, call: &Call) -> Result<(), EditFault>
         ensures answers { (mode : Mode) (w0 : WorkingCopy) (calls : List Call) → StandsAfter mode w0 self.old copy.old.entries calls → AnswersCall (refusal md5 mode calls call.now copy.old.entries) result }
+        ensures in_order { (mode : Mode) (w0 : WorkingCopy) (calls : List Call) → StandsAfter mode w0 self.old copy.old.entries calls → WantsInOrder calls call.now result }
         ensures accepted { OnOk result ((mode : Mode) (w0 : WorkingCopy) (calls : List Call) → StandsAfter mode w0 self.old copy.old.entries calls → StandsAfter mode w0 self.new copy.new.entries (calls ++ call.now ∷ [])) }
         ensures refused { OnErr result ((mode : Mode) (w0 : WorkingCopy) (calls : List Call) → StandsAfter mode w0 self.old copy.old.entries calls → copy.new.entries ≡ copy.old.entries) }
         ensures last { is_last call.now ≡ true → mode_of self.old.root ≡ Update → IfErr result (λ e. e ≢ EditFault.Memory) }
@@ -174,6 +176,7 @@ impl Edit {
 
     fn take_in_order(&mut self, copy: &mut Nodes, call: &Call) -> Result<(), EditFault>
         ensures answers { (mode : Mode) (w0 : WorkingCopy) (calls : List Call) → StandsAfter mode w0 self.old copy.old.entries calls → AnswersCall (refusal md5 mode calls call.now copy.old.entries) result }
+        ensures in_order { (mode : Mode) (w0 : WorkingCopy) (calls : List Call) → StandsAfter mode w0 self.old copy.old.entries calls → WantsInOrder calls call.now result }
         ensures accepted { OnOk result ((mode : Mode) (w0 : WorkingCopy) (calls : List Call) → StandsAfter mode w0 self.old copy.old.entries calls → TakenInOrder mode w0 self.new copy.new.entries calls call.now) }
         ensures last { is_last call.now ≡ true → mode_of self.old.root ≡ Update → IfErr result (λ e. e ≢ EditFault.Memory) }
         ensures abort { is_abort call.now ≡ true → IfErr result (λ e. e ≢ EditFault.Memory) }

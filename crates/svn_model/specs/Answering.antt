@@ -1,9 +1,12 @@
 -- How a working copy may answer a call.
 --     IsAnswer fault e      the refusal is that fault, or want of memory
 --     AnswersCall fault answer      the answer is that fault, or there is none; memory may be refused besides
-use Rattle.std.specs.Prelude.{◌≡◌, Option, Some, None, Result, Ok, Err}
+--     WantsInOrder calls call answer      but to no call that is out of order after those
+use Rattle.std.specs.Prelude.{◌≡◌, List, Option, Some, None, Result, Ok, Err, IfErr}
+use Rattle.svn_editor.specs.declared.call.Call.{Call}
 use Rattle.svn_editor.specs.declared.fault.EditFault.{EditFault}
 use Rattle.svn_editor.specs.declared.fault.EditFault.TheVariants.{Memory}
+use Rattle.svn_editor.specs.Order.{order_fault}
 
 -- the fault, or want of memory
 abbrev pub IsAnswer : Option EditFault → EditFault → Type 0
@@ -13,3 +16,6 @@ IsAnswer fault e = fault ≡ Some e
 abbrev pub AnswersCall : Option EditFault → Result (Unit {0}) EditFault → Type 0
 AnswersCall fault (Ok done) = fault ≡ None
 AnswersCall fault (Err e) = IsAnswer fault e
+
+abbrev pub WantsInOrder : List Call → Call → Result (Unit {0}) EditFault → Type 0
+WantsInOrder calls call answer = IfErr answer (λ e. e ≡ Memory → order_fault calls call ≡ None)

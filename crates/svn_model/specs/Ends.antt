@@ -1,6 +1,7 @@
 -- How a driver's calls of an editor end: all are made, or those up to where it stops.
 --     Runs answers limit calls result e f made made'      the calls lead from e to f, or up to a stop, of which made' - made were accepted,
 --                                                         and the limit isn't passed
+--     LeavesSome stop made all      so many of all calls were accepted, and what is left is enough for that stop
 --     Drives answers limit fault calls result e f      a whole drive: no call, or all, or those up to a stop and AbortEdit
 use Rattle.std.specs.Prelude.{◌≡◌, ◌≢◌, ℕ, zero, suc, ◌+◌, ◌-◌, ◌^◌, ◌<◌, ◌≤◌, List, [], ◌∷◌, length, ◌⊎◌}
 use Rattle.std.specs.Prelude.{Option, Some, None, Result, Ok, Err}
@@ -22,7 +23,7 @@ call_limit = 2 ^ 64 - 2
 -- why a driver stops of itself, once so many calls were accepted
 abbrev pub StopsBefore : Option ℕ → ℕ → Stop → Type 0
 StopsBefore limit made Cancelled = limit ≡ Some made
-StopsBefore limit made Full = call_limit ≤ made
+StopsBefore limit made Full = made ≡ call_limit
 StopsBefore limit made Memory = Unit {0}
 StopsBefore limit made (Editor fault) = ⊥
 
@@ -35,9 +36,9 @@ abbrev pub Makes : Option ℕ → ℕ → ℕ → ℕ → Type 0
 Makes limit made k after = (after ≡ made + k) × (IsWithin limit made → IsWithin limit after)
 
 module _ {E : Type 0} (answers : E → Call → Result (Unit {0}) EditFault → E → Type 0) (limit : Option ℕ) where
-  -- the next call isn't made, or it is refused
+  -- the next call isn't made, or it is refused; behind the last of them memory alone can be refused
   abbrev pub HaltsHere : List Call → E → E → ℕ → Stop → Type 0
-  HaltsHere [] e f made s = (e ≡ f) × StopsBefore limit made s
+  HaltsHere [] e f made s = (e ≡ f) × (s ≡ Memory)
   HaltsHere (c ∷ calls) e f made s =
       ((e ≡ f) × StopsBefore limit made s)
       ⊎ ((fault : EditFault) × answers e c (Err fault) f × (s ≡ Editor fault) × (limit ≢ Some made))
@@ -53,6 +54,11 @@ module _ {E : Type 0} (answers : E → Call → Result (Unit {0}) EditFault → 
   Runs {X} calls (Err s) e f made after = (k : ℕ) × Makes limit made k after × Halts k calls e f after s
 
 -- ---- how a drive ends
+
+-- a stop comes before the last call was accepted, and for want of a number before that one is next
+abbrev pub LeavesSome : Stop → ℕ → ℕ → Type 0
+LeavesSome Full made all = made + 1 < all
+LeavesSome _ made all = made < all
 
 -- what is answered for a stop after so many calls
 abbrev pub end_of : Stop → ℕ → Result DriveEnd DriveFault
@@ -74,4 +80,4 @@ Drives {E} answers limit fault calls result e f =
     ((e ≡ f) × IsEarly fault result)
     ⊎ (((n : ℕ) × (fault ≡ None) × Leads answers calls e f × (n ≡ length calls) × (result ≡ Ok (Closed n)) × IsWithin limit n)
     ⊎ ((s : Stop) × (k : ℕ) × (m : E) × (fault ≡ None) × Halts answers limit k calls e m k s × (result ≡ end_of s k)
-    × ((answer : Result (Unit {0}) EditFault) × answers m AbortEdit answer f) × (k < length calls) × IsWithin limit k))
+    × ((answer : Result (Unit {0}) EditFault) × answers m AbortEdit answer f) × LeavesSome s k (length calls) × IsWithin limit k))

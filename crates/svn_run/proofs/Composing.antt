@@ -80,6 +80,7 @@ module _ (laws : RunLaws) (a : Asked) (true_copy : IsTrueCopy a.history a.copy) 
       accepted = came.accepted;
       made = came.made;
       closed = ends o came.copy came.closed;
+      aborted = came.aborted;
       limit = came.within;
       cancelled = came.cancelled;
       late = came.late;

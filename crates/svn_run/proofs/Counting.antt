@@ -19,15 +19,15 @@ use Rattle.svn_model.specs.declared.drive_end.DriveEnd.{DriveEnd}
 use Rattle.svn_model.specs.declared.drive_end.DriveEnd.TheVariants.{Closed as AllMade}
 use Rattle.svn_model.specs.declared.drive_fault.DriveFault.{DriveFault}
 use Rattle.svn_model.specs.declared.drive_fault.DriveFault.TheVariants.{Editor as Refused, Full as NoNumber, Memory as NoMemory}
-use Rattle.svn_model.specs.Ends.{StopsBefore, Halts, IsWithin, IsEarly, Drives, end_of}
+use Rattle.svn_model.specs.Ends.{StopsBefore, LeavesSome, Halts, IsWithin, IsEarly, Drives, end_of}
 use Rattle.svn_model.specs.Nodes.{WorkingCopy, get_in}
 use Rattle.svn_model.specs.Effects.{after}
 use Rattle.svn_wc.specs.Taking.{TakesCall}
 use Rattle.svn_run.specs.UpdateTheorem.{Nodes}
 use Rattle.svn_run.specs.Counts.{one_for, CountsCall}
-use Rattle.svn_run.specs.Coming.{CameTo, turn_outcome}
+use Rattle.svn_run.specs.Coming.{CameInTurn, turn_outcome}
 use Rattle.svn_run.proofs.Applying.{IsOver, refused_over, over_stays, abort_stays}
-use Rattle.svn_run.proofs.Halting.{never_early, RefusedAt, stopped}
+use Rattle.svn_run.proofs.Halting.{never_early, one_left, RefusedAt, stopped}
 
 abbrev no_fault : Option DriveFault
 no_fault = None
@@ -183,51 +183,59 @@ module _ {E : Type 0} (answers : E → Call → Result (Unit {0}) EditFault → 
         (counts m AbortEdit (Err fault) f h)
 
     -- the outcome that is answered at a stop which isn't the cancel number
-    for_memory : (k n : ℕ) (f : E) (fault : DriveFault) → k ≤ n → n ≤ length drive → IfSome limit (λ x. n ≤ x) → Left k n f
-        → CameTo drive mode limit w0 (nodes f) (turn_outcome (Err fault) (made f) (accepted f))
-    for_memory k n f fault le most within l =
+    for_memory : (k n : ℕ) (f : E) (fault : DriveFault) → k < length drive → k ≤ n → n ≤ k + 1 → IfSome limit (λ x. n ≤ x) → Left k n f
+        → CameInTurn drive mode limit w0 (nodes f) (turn_outcome (Err fault) (made f) (accepted f))
+    for_memory k n f fault part le most within l =
         let is_made = l.made_is in
         let is_accepted = l.accepted_is in
         record {
-          copy = λ p. l.copy p ∙ ap (λ j. after mode w0 (take j drive) p) (sym is_accepted);
-          accepted = omega arith;
-          made = omega arith;
-          closed = tt;
-          within = subst (λ j. IfSome limit (λ x. j ≤ x)) (sym is_made) within;
-          cancelled = tt;
-          late = tt;
+          came = record {
+            copy = λ p. l.copy p ∙ ap (λ j. after mode w0 (take j drive) p) (sym is_accepted);
+            accepted = omega arith;
+            made = omega arith;
+            closed = tt;
+            aborted = omega arith;
+            within = subst (λ j. IfSome limit (λ x. j ≤ x)) (sym is_made) within;
+            cancelled = tt;
+            late = tt;
+          };
+          one_more = omega arith;
         }
 
     cancelled : (k : ℕ) (f : E) → k < length drive → IsWithin limit k → limit ≡ Some k → Left k k f
-        → CameTo drive mode limit w0 (nodes f) (turn_outcome (end_of stop.Cancelled k) (made f) (accepted f))
+        → CameInTurn drive mode limit w0 (nodes f) (turn_outcome (end_of stop.Cancelled k) (made f) (accepted f))
     cancelled k f lt within number l =
         let is_made = l.made_is in
         let is_accepted = l.accepted_is in
         record {
-          copy = λ p. l.copy p ∙ ap (λ j. after mode w0 (take j drive) p) (sym is_accepted);
-          accepted = omega arith;
-          made = omega arith;
-          closed = tt;
-          within = subst (λ j. IfSome limit (λ x. j ≤ x)) (sym is_made) (some_within limit k within);
-          cancelled = (number ∙ ap (λ j. Some j) (sym is_made), omega arith, omega arith);
-          late = tt;
+          came = record {
+            copy = λ p. l.copy p ∙ ap (λ j. after mode w0 (take j drive) p) (sym is_accepted);
+            accepted = omega arith;
+            made = omega arith;
+            closed = tt;
+            aborted = omega arith;
+            within = subst (λ j. IfSome limit (λ x. j ≤ x)) (sym is_made) (some_within limit k within);
+            cancelled = (number ∙ ap (λ j. Some j) (sym is_made), omega arith, omega arith);
+            late = tt;
+          };
+          one_more = omega arith;
         }
 
     own_stop : (s : Stop) (k : ℕ) (f : E) → k < length drive → IsWithin limit k → StopsBefore limit k s → Left k k f
-        → CameTo drive mode limit w0 (nodes f) (turn_outcome (end_of s k) (made f) (accepted f))
+        → CameInTurn drive mode limit w0 (nodes f) (turn_outcome (end_of s k) (made f) (accepted f))
     own_stop stop.Cancelled k f lt within why l = cancelled k f lt within why l
-    own_stop stop.Full k f lt within why l = for_memory k k f NoNumber (omega arith) (omega arith) (some_within limit k within) l
-    own_stop stop.Memory k f lt within why l = for_memory k k f NoMemory (omega arith) (omega arith) (some_within limit k within) l
+    own_stop stop.Full k f lt within why l = for_memory k k f NoNumber lt (omega arith) (omega arith) (some_within limit k within) l
+    own_stop stop.Memory k f lt within why l = for_memory k k f NoMemory lt (omega arith) (omega arith) (some_within limit k within) l
     own_stop (stop.Editor fault) k f lt within why l = absurd why
 
     refused : (s : Stop) (k : ℕ) (x m f : E) (answer : Result (Unit {0}) EditFault) → k < length drive → IsWithin limit k
         → Standing k (take k drive) x → RefusedAt answers limit k drive x m k s → answers m AbortEdit answer f
-        → CameTo drive mode limit w0 (nodes f) (turn_outcome (end_of s k) (made f) (accepted f))
+        → CameInTurn drive mode limit w0 (nodes f) (turn_outcome (end_of s k) (made f) (accepted f))
     refused s k x m f answer lt within st r h =
         let was_made = st.made_is in
         let was_accepted = st.accepted_is in
         let one = counted_at drive k r.call all r.place in
-        subst (λ z. CameTo drive mode limit w0 (nodes f) (turn_outcome (end_of z k) (made f) (accepted f))) (sym r.stop)
+        subst (λ z. CameInTurn drive mode limit w0 (nodes f) (turn_outcome (end_of z k) (made f) (accepted f))) (sym r.stop)
         (⊎_elim
         (λ (t : TakesCall (edit x) (nodes x) r.call (Err r.fault) (edit m) (nodes m) × (made m ≡ made x + one_for r.call)
         × (accepted m ≡ accepted x)).
@@ -236,7 +244,7 @@ module _ {E : Type 0} (answers : E → Call → Result (Unit {0}) EditFault → 
         let o = refused_over mode w0 (take k drive) (edit x) (nodes x) r.call r.fault (edit m) (nodes m) t.0 st.stands in
         let l : Left k (k + 1) m =
         record { copy = λ p. ap (λ n. get_in n p) o.0 ∙ st.stands.copy p; made_is = omega arith; accepted_is = omega arith } in
-        for_memory k (k + 1) f (Refused r.fault) (omega arith) (omega arith) (some_below limit k within r.below)
+        for_memory k (k + 1) f (Refused r.fault) lt (omega arith) (omega arith) (some_below limit k within r.below)
         (over_left k (k + 1) m f answer o.1 l h))
         (λ (t : (edit m ≡ edit x) × (nodes m ≡ nodes x) × (made m ≡ made x) × (accepted m ≡ accepted x)).
         let now_made = t.2 in
@@ -244,26 +252,30 @@ module _ {E : Type 0} (answers : E → Call → Result (Unit {0}) EditFault → 
         let stands : StandsAfter mode w0 (edit m) (nodes m) (take k drive) =
         subst (λ (y : Edit × Nodes). StandsAfter mode w0 y.0 y.1 (take k drive)) (λ i. (sym t.0 i, sym t.1 i)) st.stands in
         let s' : Standing k (take k drive) m = record { stands = stands; made_is = omega arith; accepted_is = omega arith } in
-        for_memory k k f (Refused r.fault) (omega arith) (omega arith) (some_within limit k within) (give_up k m f answer s' h))
+        for_memory k k f (Refused r.fault) lt (omega arith) (omega arith) (some_within limit k within) (give_up k m f answer s' h))
         (counts x r.call (Err r.fault) m r.refused))
 
     whole : (n : ℕ) (f : E) → Leads answers drive e f → n ≡ length drive → IsWithin limit n
-        → CameTo drive mode limit w0 (nodes f) (turn_outcome (Ok (AllMade n)) (made f) (accepted f))
+        → CameInTurn drive mode limit w0 (nodes f) (turn_outcome (Ok (AllMade n)) (made f) (accepted f))
     whole n f h long within =
         let s = led drive [] 0 e f all h begun in
         record {
-          copy = λ p. s.stands.copy p ∙ ap (λ l. after mode w0 l p) (sym (ap (λ j. take j drive) long ∙ take-length drive));
-          accepted = omega arith;
-          made = omega arith;
-          closed = long;
-          within = some_within limit n within;
-          cancelled = tt;
-          late = tt;
+          came = record {
+            copy = λ p. s.stands.copy p ∙ ap (λ l. after mode w0 l p) (sym (ap (λ j. take j drive) long ∙ take-length drive));
+            accepted = omega arith;
+            made = omega arith;
+            closed = long;
+            aborted = tt;
+            within = some_within limit n within;
+            cancelled = tt;
+            late = tt;
+          };
+          one_more = omega arith;
         }
 
     halted : (s : Stop) (k : ℕ) (m f : E) (answer : Result (Unit {0}) EditFault) → Halts answers limit k drive e m k s
         → answers m AbortEdit answer f → k < length drive → IsWithin limit k
-        → CameTo drive mode limit w0 (nodes f) (turn_outcome (end_of s k) (made f) (accepted f))
+        → CameInTurn drive mode limit w0 (nodes f) (turn_outcome (end_of s k) (made f) (accepted f))
     halted s k m f answer halts h lt within =
         let r = stopped answers limit k drive e m k s halts in
         let st = first_calls k r.0 (omega arith) r.1.0 in
@@ -279,19 +291,19 @@ module _ {E : Type 0} (answers : E → Call → Result (Unit {0}) EditFault → 
 
     abbrev Stops : Result DriveEnd DriveFault → E → Type 0
     Stops result f = (s : Stop) × (k : ℕ) × (m : E) × (no_fault ≡ None) × Halts answers limit k drive e m k s × (result ≡ end_of s k)
-        × ((answer : Result (Unit {0}) EditFault) × answers m AbortEdit answer f) × (k < length drive) × IsWithin limit k
+        × ((answer : Result (Unit {0}) EditFault) × answers m AbortEdit answer f) × LeavesSome s k (length drive) × IsWithin limit k
 
     pub came : (result : Result DriveEnd DriveFault) (f : E) → Drives answers limit None drive result e f
-        → CameTo drive mode limit w0 (nodes f) (turn_outcome result (made f) (accepted f))
+        → CameInTurn drive mode limit w0 (nodes f) (turn_outcome result (made f) (accepted f))
     came result f drove =
         ⊎_elim
         (λ (t : (e ≡ f) × IsEarly None result). absurd (never_early result t.1))
         (λ (u : Whole result f ⊎ Stops result f).
         ⊎_elim
-        (λ (t : Whole result f). subst (λ z. CameTo drive mode limit w0 (nodes f) (turn_outcome z (made f) (accepted f))) (sym t.4)
+        (λ (t : Whole result f). subst (λ z. CameInTurn drive mode limit w0 (nodes f) (turn_outcome z (made f) (accepted f))) (sym t.4)
         (whole t.0 f t.2 t.3 t.5))
-        (λ (t : Stops result f). subst (λ z. CameTo drive mode limit w0 (nodes f) (turn_outcome z (made f) (accepted f))) (sym t.5)
-        (halted t.0 t.1 t.2 f t.6.0 t.4 t.6.1 t.7 t.8))
+        (λ (t : Stops result f). subst (λ z. CameInTurn drive mode limit w0 (nodes f) (turn_outcome z (made f) (accepted f))) (sym t.5)
+        (halted t.0 t.1 t.2 f t.6.0 t.4 t.6.1 (one_left t.0 t.1 (length drive) t.7) t.8))
         u)
         drove
 
@@ -319,12 +331,12 @@ module _ {E : Type 0} {N : Type 0} (answers : E → Call → Result (Unit {0}) E
       (λ (t : (e ≡ f) × IsEarly fault result). ap name (sym t.0))
       (λ (u : ((n : ℕ) × (fault ≡ None) × Leads answers drive e f × (n ≡ length drive) × (result ≡ Ok (AllMade n)) × IsWithin limit n)
       ⊎ ((s : Stop) × (k : ℕ) × (m : E) × (fault ≡ None) × Halts answers limit k drive e m k s × (result ≡ end_of s k)
-      × ((answer : Result (Unit {0}) EditFault) × answers m AbortEdit answer f) × (k < length drive) × IsWithin limit k)).
+      × ((answer : Result (Unit {0}) EditFault) × answers m AbortEdit answer f) × LeavesSome s k (length drive) × IsWithin limit k)).
       ⊎_elim
       (λ (t : (n : ℕ) × (fault ≡ None) × Leads answers drive e f × (n ≡ length drive) × (result ≡ Ok (AllMade n)) × IsWithin limit n).
       led_keeps drive e f t.2)
       (λ (t : (s : Stop) × (k : ℕ) × (m : E) × (fault ≡ None) × Halts answers limit k drive e m k s × (result ≡ end_of s k)
-      × ((answer : Result (Unit {0}) EditFault) × answers m AbortEdit answer f) × (k < length drive) × IsWithin limit k).
+      × ((answer : Result (Unit {0}) EditFault) × answers m AbortEdit answer f) × LeavesSome s k (length drive) × IsWithin limit k).
       keeps t.2 AbortEdit t.6.0 f t.6.1 ∙ halts_keep limit t.1 drive e t.2 t.1 t.0 t.4)
       u)
       drove

@@ -1,8 +1,8 @@
 -- What a run on two threads came to: from what both sides hand back.
-use Rattle.std.proofs.Common.{◌≡◌, ℕ, zero, suc, ◌+◌, ◌-◌, ◌<◌, ◌≤◌, Bool, true, false, List, [], ◌∷◌, ◌++◌, length, take, append-nil, refl}
+use Rattle.std.proofs.Common.{◌≡◌, ◌≢◌, ℕ, zero, suc, ◌+◌, ◌-◌, ◌<◌, ◌≤◌, Bool, true, false, List, [], ◌∷◌, ◌++◌, length, take, append-nil, refl}
 use Rattle.std.proofs.Common.{sym, ap, subst, ◌∙◌, arith, length-append}
 use Rattle.std.specs.Prelude.{not, nat_eq, Option, Some, None, IfSome, is_some, Result, Ok, Err, if◌then◌else◌}
-use Rattle.std.proofs.lemmas.Bool.{eq-eqb, eqb-true, ne_eqb}
+use Rattle.std.proofs.lemmas.Bool.{eq-eqb, eqb-true, eqb-false, ne_eqb}
 use Rattle.std.proofs.lemmas.List.{length-take-le}
 use Rattle.std.proofs.Math.Seq.{take-length}
 use Rattle.svn_types.specs.Names.{Path}
@@ -109,6 +109,7 @@ module _ (drive : List Call) (all : AllCounted drive) (mode : Mode) (limit : Opt
             accepted = omega arith;
             made = omega arith;
             closed = tt;
+            aborted = omega arith;
             within = some_within limit k s.within;
             cancelled = by_cause why cancel;
             late = late_fits late same (omega arith);
@@ -148,6 +149,7 @@ module _ (drive : List Call) (all : AllCounted drive) (mode : Mode) (limit : Opt
                 accepted = omega arith;
                 made = omega arith;
                 closed = omega arith;
+                aborted = tt;
                 within = subst (λ j. IfSome limit (λ x. j ≤ x)) (sym all_of_it) (some_within limit n s.within);
                 cancelled = tt;
                 late = tt;
@@ -156,12 +158,14 @@ module _ (drive : List Call) (all : AllCounted drive) (mode : Mode) (limit : Opt
             }
         by false q inner given long count le =
             let all_of_it : length calls ≡ n = omega arith in
+            let other : accepted ≢ length calls = eqb-false accepted (length calls) q in
             record {
               came = record {
                 copy = λ p. copy p ∙ ap (λ l. after mode w0 (take accepted l) p) inner;
                 accepted = omega arith;
                 made = omega arith;
                 closed = tt;
+                aborted = omega arith;
                 within = subst (λ j. IfSome limit (λ x. j ≤ x)) (sym all_of_it) (some_within limit n s.within);
                 cancelled = tt;
                 late = tt;

@@ -1,19 +1,26 @@
 -- Where a driver stopped: so many calls of its list were accepted, and the next was refused or not made.
-use Rattle.std.proofs.Common.{◌≡◌, ℕ, zero, suc, ◌<◌, List, [], ◌∷◌, length, take, refl, inl, inr, ⊎_elim, arith}
+use Rattle.std.proofs.Common.{◌≡◌, ℕ, zero, suc, ◌<◌, List, [], ◌∷◌, length, take, refl, sym, subst, inl, inr, ⊎_elim, arith}
 use Rattle.std.specs.Prelude.{◌≢◌, ◌⊎◌, Option, Some, None, Result, Ok, Err, slice_get}
 use Rattle.svn_editor.specs.declared.call.Call.{Call}
 use Rattle.svn_editor.specs.declared.fault.EditFault.{EditFault}
 use Rattle.svn_editor.specs.Editing.{Leads}
 use Rattle.svn_model.specs.declared.stop.Stop.{Stop}
-use Rattle.svn_model.specs.declared.stop.Stop.TheVariants.{Editor}
+use Rattle.svn_model.specs.declared.stop.Stop.TheVariants.{Cancelled, Full, Memory, Editor}
 use Rattle.svn_model.specs.declared.drive_end.DriveEnd.{DriveEnd}
 use Rattle.svn_model.specs.declared.drive_fault.DriveFault.{DriveFault}
-use Rattle.svn_model.specs.Ends.{StopsBefore, Halts, IsEarly}
+use Rattle.svn_model.specs.Ends.{StopsBefore, LeavesSome, Halts, IsEarly}
 
 -- where the target has no fault, no drive ends before its first call
 pub never_early : (result : Result DriveEnd DriveFault) → IsEarly None result → ⊥
 never_early (Ok x) h = h
 never_early (Err e) h = absurd cc
+
+-- a stop comes before the last call was accepted
+pub one_left : (s : Stop) (made all : ℕ) → LeavesSome s made all → made < all
+one_left Cancelled made all h = h
+one_left Full made all h = omega arith
+one_left Memory made all h = h
+one_left (Editor fault) made all h = h
 
 module _ {E : Type 0} (answers : E → Call → Result (Unit {0}) EditFault → E → Type 0) (limit : Option ℕ) where
   -- the call after the first k was refused
@@ -44,7 +51,7 @@ module _ {E : Type 0} (answers : E → Call → Result (Unit {0}) EditFault → 
 
   pub stopped : (k : ℕ) (calls : List Call) (e m : E) (made : ℕ) (s : Stop) → Halts answers limit k calls e m made s
       → (x : E) × StoppedAt k calls e x m made s
-  stopped zero [] e m made s h = (e, (refl, inl h))
+  stopped zero [] e m made s h = (e, (refl, inl (h.0, subst (StopsBefore limit made) (sym h.1) tt)))
   stopped zero (c ∷ calls) e m made s h =
       ⊎_elim
       (λ (t : (e ≡ m) × StopsBefore limit made s). (e, (refl, inl t)))

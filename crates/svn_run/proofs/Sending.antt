@@ -14,10 +14,10 @@ use Rattle.svn_model.specs.declared.drive_end.DriveEnd.{DriveEnd}
 use Rattle.svn_model.specs.declared.drive_end.DriveEnd.TheVariants.{Closed}
 use Rattle.svn_model.specs.declared.drive_fault.DriveFault.{DriveFault}
 use Rattle.svn_model.specs.declared.drive_fault.DriveFault.TheVariants as end
-use Rattle.svn_model.specs.Ends.{StopsBefore, Halts, IsWithin, IsEarly, Drives, end_of}
+use Rattle.svn_model.specs.Ends.{StopsBefore, LeavesSome, Halts, IsWithin, IsEarly, Drives, end_of}
 use Rattle.svn_run.specs.Lines.{LineEnds, IsReason, Answered, IsEnded}
 use Rattle.svn_run.specs.Driven.{IsStopped, StopsOn, IsSent}
-use Rattle.svn_run.proofs.Halting.{never_early, RefusedAt, stopped}
+use Rattle.svn_run.proofs.Halting.{never_early, one_left, RefusedAt, stopped}
 
 abbrev no_fault : Option DriveFault
 no_fault = None
@@ -185,7 +185,7 @@ module _ (drive : List Call) (limit : Option ℕ) (some : 0 < length drive) (clo
 
   abbrev Stops : Result DriveEnd DriveFault → LineEnds → Type 0
   Stops r g = (s : Stop) × (k : ℕ) × (m : LineEnds) × (no_fault ≡ None) × Halts Answered limit k drive l m k s × (r ≡ end_of s k)
-      × ((answer : Result (Unit {0}) EditFault) × Answered m AbortEdit answer g) × (k < length drive) × IsWithin limit k
+      × ((answer : Result (Unit {0}) EditFault) × Answered m AbortEdit answer g) × LeavesSome s k (length drive) × IsWithin limit k
 
   pub sends : (r : Result DriveEnd DriveFault) (g f : LineEnds) → Drives Answered limit None drive r l g → IsEnded g f → Whole r f
   sends r g f drove e =
@@ -194,6 +194,6 @@ module _ (drive : List Call) (limit : Option ℕ) (some : 0 < length drive) (clo
       (λ (u : AllSent r g ⊎ Stops r g).
       ⊎_elim
       (λ (t : AllSent r g). subst (λ z. Whole z f) (sym t.4) (whole t.0 g f t.2 t.3 t.5 e))
-      (λ (t : Stops r g). subst (λ z. Whole z f) (sym t.5) (halted t.0 t.1 t.2 g f t.6.0 t.4 t.6.1 t.7 t.8 e))
+      (λ (t : Stops r g). subst (λ z. Whole z f) (sym t.5) (halted t.0 t.1 t.2 g f t.6.0 t.4 t.6.1 (one_left t.0 t.1 (length drive) t.7) t.8 e))
       u)
       drove

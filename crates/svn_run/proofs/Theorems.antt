@@ -8,7 +8,7 @@ use Rattle.svn_law.specs.Laws.{IsTrueCopy}
 use Rattle.svn_run.specs.declared.outcome.Outcome.{Outcome}
 use Rattle.svn_run.specs.declared.outcome.RunFault.{RunFault}
 use Rattle.svn_run.specs.declared.outcome.RunFault.TheVariants.{Memory, Capacity}
-use Rattle.svn_run.specs.Coming.{CameTo}
+use Rattle.svn_run.specs.Coming.{CameTo, CameInTurn}
 use Rattle.svn_run.specs.Goals.{fault_at}
 use Rattle.svn_run.specs.RunLaws.{RunLaws}
 use Rattle.svn_run.specs.UpdateTheorem.{Nodes, Asked, is_capacity, fault_in_turn, fault_in_threads, IsRefusal, IsWantOfMemory}
@@ -32,6 +32,7 @@ module _ (laws : RunLaws) (a : Asked) (true_copy : IsTrueCopy a.history a.copy) 
     unchanged = refl;
     begun = tt;
     ran = tt;
+    one_more = tt;
     never_late = tt;
     sound = unmoved;
   }
@@ -47,24 +48,26 @@ module _ (laws : RunLaws) (a : Asked) (true_copy : IsTrueCopy a.history a.copy) 
       unchanged = same;
       begun = tt;
       ran = tt;
+      one_more = tt;
       never_late = tt;
       sound = subst (IsSound a) (sym same) unmoved;
     }
 
     -- it ended
-    pub came_in_turn : (left : Nodes) (o : Outcome) → InPathOrder left → CameTo (drive_for a) a.mode a.cancel_after (get_in a.copy) left o
+    pub came_in_turn : (left : Nodes) (o : Outcome) → InPathOrder left → CameInTurn (drive_for a) a.mode a.cancel_after (get_in a.copy) left o
         → late_in o ≡ None → TurnTheorem a left (Ok o)
-    came_in_turn left o in_order came never = record {
+    came_in_turn left o in_order ended never = record {
       refused = tt;
       unchanged = tt;
       begun = no_fault;
-      ran = ran laws a true_copy (has_target laws a true_copy none) left in_order o came;
+      ran = ran laws a true_copy (has_target laws a true_copy none) left in_order o ended.came;
+      one_more = ended.one_more;
       never_late = never;
-      sound = sound laws a true_copy (has_target laws a true_copy none) left in_order o came;
+      sound = sound laws a true_copy (has_target laws a true_copy none) left in_order o ended.came;
     }
 
     pub in_turn : (left : Nodes) (answer : Result Outcome RunFault) → InPathOrder left
-        → IfOk answer (CameTo (drive_for a) a.mode a.cancel_after (get_in a.copy) left) → IfOk answer (λ o. late_in o ≡ None)
+        → IfOk answer (CameInTurn (drive_for a) a.mode a.cancel_after (get_in a.copy) left) → IfOk answer (λ o. late_in o ≡ None)
         → IfErr answer (λ e. e ≡ Memory) → OnErr answer (left ≡ a.copy) → TurnTheorem a left answer
     in_turn left (Ok o) in_order came never memory same = came_in_turn left o in_order came never
     in_turn left (Err e) in_order came never memory same = without_memory left e same memory

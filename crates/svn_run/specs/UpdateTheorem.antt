@@ -102,6 +102,10 @@ abbrev pub IfClosed : Outcome → (ℕ → Type 0) → Type 0
 IfClosed (Closed calls) P = P calls
 IfClosed (Aborted made accepted late cause) P = Unit {0}
 
+abbrev pub IfAborted : Outcome → (ℕ → Type 0) → Type 0
+IfAborted (Closed calls) P = Unit {0}
+IfAborted (Aborted made accepted late cause) P = P accepted
+
 abbrev pub OnCause : Cause → Type 0 → Type 0
 OnCause Cancelled P = P
 OnCause _ P = Unit {0}
@@ -129,6 +133,8 @@ pub record Ran (a : Asked) (left : Nodes) (o : Outcome) : Type 0 where
   pub made : made_in o ≤ length drive
   -- after an accepted `CloseEdit` all calls were made, and the copy is, path by path, the target revision looked up through the path map
   pub closed : IfClosed o (λ calls. (calls ≡ length drive) × ((p : Path) → get_in left p ≡ result (request a) p))
+  -- otherwise the last call wasn't accepted
+  pub aborted : IfAborted o (λ accepted. accepted < length drive)
   -- a number of calls that was handed in is never passed
   pub limit : IfSome a.cancel_after (λ n. made_in o ≤ n)
   -- the run is cancelled at that number alone, before the end of the drive, all calls until then being accepted
@@ -148,6 +154,8 @@ pub record TurnTheorem (a : Asked) (left : Nodes) (answer : Result Outcome RunFa
   pub unchanged : OnErr answer (left ≡ a.copy)
   pub begun : OnOk answer (fault_in_turn a ≡ None)
   pub ran : IfOk answer (Ran a left)
+  -- the driver stops at the first call that is refused
+  pub one_more : IfOk answer (λ o. made_in o ≤ accepted_in o + 1)
   pub never_late : IfOk answer (λ o. late_in o ≡ None)
   -- whatever the answer
   pub sound : IsSound a left

@@ -8,7 +8,7 @@ ghost use Rattle.svn_model.specs.Checks.{target_fault};
 ghost use Rattle.svn_model.specs.Drive.{IsDrive};
 ghost use Rattle.svn_model.specs.Nodes.{WorkingCopy as CopyMap, get_in, IsTrueOf};
 ghost use Rattle.svn_model.specs.TreeCalls.{drive_calls};
-ghost use Rattle.svn_run.specs.Coming.{CameTo, turn_outcome};
+ghost use Rattle.svn_run.specs.Coming.{CameInTurn, turn_outcome};
 ghost use Rattle.svn_run.specs.Goals.{mode_of};
 ghost use Rattle.svn_run.specs.UpdateTheorem.{asked, late_in, TurnTheorem};
 
@@ -109,7 +109,7 @@ fn drive_copy(
 ) -> Result<Outcome, RunFault>
     requires target { target_fault (request repo.now report.now goal.now.target (mode_of (option_copied goal.now.to))) ≡ None }
     requires drive { let d = request repo.now report.now goal.now.target (mode_of (option_copied goal.now.to)) in IsDrive d options.late_texts (drive_calls d options.late_texts) }
-    ensures came { IfOk result (λ o. CameTo (drive_calls (request repo.now report.now goal.now.target (mode_of (option_copied goal.now.to))) options.late_texts) (mode_of (option_copied goal.now.to)) options.cancel_after (get_in copy.old) copy.new o) }
+    ensures came { IfOk result (λ o. CameInTurn (drive_calls (request repo.now report.now goal.now.target (mode_of (option_copied goal.now.to))) options.late_texts) (mode_of (option_copied goal.now.to)) options.cancel_after (get_in copy.old) copy.new o) }
     ensures never_late { IfOk result (λ o. late_in o ≡ None) }
     ensures memory { IfErr result (λ e. e ≡ RunFault.Memory) }
     ensures unchanged { OnErr result (copy.new ≡ copy.old) }
@@ -145,7 +145,7 @@ fn drive_counted(
     requires drive { let d = request repo.now report.now goal.now.target (mode_of (option_copied goal.now.to)) in IsDrive d options.late_texts (drive_calls d options.late_texts) }
     requires made { counted.old.made ≡ 0 }
     requires accepted { counted.old.accepted ≡ 0 }
-    ensures came { (w0 : CopyMap) → StandsAfter (mode_of (option_copied goal.now.to)) w0 counted.old.applier.edit counted.old.applier.copy.now [] → CameTo (drive_calls (request repo.now report.now goal.now.target (mode_of (option_copied goal.now.to))) options.late_texts) (mode_of (option_copied goal.now.to)) options.cancel_after w0 counted.new.applier.copy.now (turn_outcome result counted.new.made counted.new.accepted) }
+    ensures came { (w0 : CopyMap) → StandsAfter (mode_of (option_copied goal.now.to)) w0 counted.old.applier.edit counted.old.applier.copy.now [] → CameInTurn (drive_calls (request repo.now report.now goal.now.target (mode_of (option_copied goal.now.to))) options.late_texts) (mode_of (option_copied goal.now.to)) options.cancel_after w0 counted.new.applier.copy.now (turn_outcome result counted.new.made counted.new.accepted) }
     ensures same_copy { counted.new.applier.copy.ghost_name ≡ counted.old.applier.copy.ghost_name }
 {
     laws();

@@ -1,5 +1,5 @@
 -- Drives into an editor that keeps the calls.
-use Rattle.std.proofs.Common.{◌≡◌, ℕ, zero, suc, ◌≤◌, Bool, List, [], ◌∷◌, ◌++◌, length, ap, sym, subst, ◌∙◌, arith, inl, inr, append_assoc}
+use Rattle.std.proofs.Common.{◌≡◌, ℕ, zero, suc, Bool, List, [], ◌∷◌, ◌++◌, length, ap, sym, subst, ◌∙◌, arith, inl, inr, append_assoc}
 use Rattle.std.proofs.Common.{None, Result, Ok, Err}
 use Rattle.std.specs.Prelude.{MatchResult}
 use Rattle.std.proofs.lemmas.List.{append-nil}
@@ -17,7 +17,7 @@ use Rattle.svn_model.specs.declared.drive_end.DriveEnd.{DriveEnd}
 use Rattle.svn_model.specs.declared.drive_fault.DriveFault.{DriveFault}
 use Rattle.svn_model.specs.Checks.{target_fault}
 use Rattle.svn_model.specs.Drive.{IsDrive}
-use Rattle.svn_model.specs.Ends.{Drives, Halts, IsEarly, end_of}
+use Rattle.svn_model.specs.Ends.{Drives, LeavesSome, Halts, IsEarly, end_of}
 use Rattle.svn_model.specs.Follow.{Request}
 use Rattle.svn_model.specs.TreeCalls.{drive_calls}
 use Rattle.svn_update.specs.declared.answer.Refusal.TheVariants.{Drive as DriveRefused}
@@ -32,35 +32,26 @@ pub all_recorded : (calls e f : List Call) → Leads records calls e f → f ≡
 all_recorded [] e f h = sym h ∙ sym (append-nil e)
 all_recorded (c ∷ calls) e f h = all_recorded calls h.0 f h.2 ∙ ap (λ (l : List Call). l ++ calls) h.1 ∙ append_assoc e (c ∷ []) calls
 
--- no more calls are accepted than there are
-halts_within : (k : ℕ) (calls e m : List Call) (made : ℕ) (s : Stop) → Halts records None k calls e m made s → k ≤ length calls
-halts_within zero calls e m made s h = omega arith
-halts_within (suc k) [] e m made s h = absurd h
-halts_within (suc k) (c ∷ calls) e m made s h = let rest = halts_within k calls h.0 m made s h.2 in omega (arith, rest)
-
 -- how a stop is answered, of so many calls
 abbrev pub IsStopAnswer : Request → Bool → List Call → Result DriveEnd DriveFault → Type 0
 IsStopAnswer d late calls (Ok end) = ⊥
 IsStopAnswer d late calls (Err e) = IsDriveWant d late e
 
-stop_here : (d : Request) (late : Bool) (all rest e m : List Call) (made : ℕ) (s : Stop) → IsDrive d late all → made ≤ length all
-    → Halts records None zero rest e m made s → IsStopAnswer d late all (end_of s made)
-stop_here d late all [] e m made stop.Cancelled is few h = let no = h.1 in cc
-stop_here d late all [] e m made stop.Full is few h = (all, is, omega (arith, h.1, few))
-stop_here d late all [] e m made stop.Memory is few h = tt
-stop_here d late all [] e m made (stop.Editor fault) is few h = absurd h.1
-stop_here d late all (c ∷ rest) e m made stop.Cancelled is few (inl h) = let no = h.1 in cc
-stop_here d late all (c ∷ rest) e m made stop.Full is few (inl h) = (all, is, omega (arith, h.1, few))
-stop_here d late all (c ∷ rest) e m made stop.Memory is few (inl h) = tt
-stop_here d late all (c ∷ rest) e m made (stop.Editor fault) is few (inl h) = absurd h.1
-stop_here d late all (c ∷ rest) e m made s is few (inr h) =
+stop_here : (d : Request) (late : Bool) (all rest e m : List Call) (made : ℕ) (s : Stop) → IsDrive d late all
+    → LeavesSome s made (length all) → Halts records None zero rest e m made s → IsStopAnswer d late all (end_of s made)
+stop_here d late all [] e m made s is some h = subst (λ (t : Stop). IsStopAnswer d late all (end_of t made)) (sym h.1) tt
+stop_here d late all (c ∷ rest) e m made stop.Cancelled is some (inl h) = let no = h.1 in cc
+stop_here d late all (c ∷ rest) e m made stop.Full is some (inl h) = let limit = h.1 in (all, is, omega (arith, some))
+stop_here d late all (c ∷ rest) e m made stop.Memory is some (inl h) = tt
+stop_here d late all (c ∷ rest) e m made (stop.Editor fault) is some (inl h) = absurd h.1
+stop_here d late all (c ∷ rest) e m made s is some (inr h) =
     subst (λ (t : Stop). IsStopAnswer d late all (end_of t made)) (sym h.2) h.1.0
 
 stops : (d : Request) (late : Bool) (all : List Call) (k : ℕ) (calls e m : List Call) (made : ℕ) (s : Stop) → IsDrive d late all
-    → made ≤ length all → Halts records None k calls e m made s → IsStopAnswer d late all (end_of s made)
-stops d late all zero calls e m made s is few h = stop_here d late all calls e m made s is few h
-stops d late all (suc k) [] e m made s is few h = absurd h
-stops d late all (suc k) (c ∷ calls) e m made s is few h = stops d late all k calls h.0 m made s is few h.2
+    → LeavesSome s made (length all) → Halts records None k calls e m made s → IsStopAnswer d late all (end_of s made)
+stops d late all zero calls e m made s is some h = stop_here d late all calls e m made s is some h
+stops d late all (suc k) [] e m made s is some h = absurd h
+stops d late all (suc k) (c ∷ calls) e m made s is some h = stops d late all k calls h.0 m made s is some h.2
 
 -- what a drive into it answers
 abbrev pub AnswersRecorded : Request → Bool → List Call → Result DriveEnd DriveFault → Type 0
@@ -84,9 +75,8 @@ recorded d late calls f answer is (inl h) = early d late f answer h.1
 recorded d late calls f answer is (inr (inl h)) =
     subst (AnswersRecorded d late f) (sym h.4) (h.1, subst (IsDrive d late) (sym (all_recorded calls [] f h.2)) (is h.1))
 recorded d late calls f answer is (inr (inr h)) =
-    let few = halts_within h.1 calls [] h.2 h.1 h.0 h.4 in
     stopped d late f calls answer
-    (subst (IsStopAnswer d late calls) (sym h.5) (stops d late calls h.1 calls [] h.2 h.1 h.0 (is h.3) few h.4))
+    (subst (IsStopAnswer d late calls) (sym h.5) (stops d late calls h.1 calls [] h.2 h.1 h.0 (is h.3) h.7 h.4))
 
 -- one that had no call has the calls of the drive, or wants something
 pub drive_recorded : (before h : History) (r : ReportView) (target : ℕ) (late : Bool) (e f : List Call)

@@ -1,6 +1,6 @@
 -- What each command of a script does and answers.
 --     Does s c old new a      the command takes the old state to the new one, with the answer a, the script being run by the settings s
-use Rattle.std.specs.Prelude.{◌≡◌, ℕ, Bool, List, [], ◌++◌, ◌∷◌, length, Option, Some, None, Result, Ok, Err, ◌⊎◌, ◌≤◌}
+use Rattle.std.specs.Prelude.{◌≡◌, ℕ, Bool, List, [], ◌++◌, ◌∷◌, length, Option, Some, None, Result, Ok, Err, ◌⊎◌, ◌+◌, ◌<◌}
 use Rattle.md5.specs.Md5.{md5}
 use Rattle.svn_types.specs.Names.{Path}
 use Rattle.svn_repo.specs.History.{History}
@@ -100,7 +100,7 @@ AnswersReport w _ = ⊥
 abbrev pub IsDriveWant : Request → Bool → DriveFault → Type 0
 IsDriveWant d late DriveMemory = Unit {0}
 IsDriveWant d late (EditorRefused fault) = fault ≡ EditMemory
-IsDriveWant d late DriveFull = (calls : List Call) × IsDrive d late calls × (call_limit ≤ length calls)
+IsDriveWant d late DriveFull = (calls : List Call) × IsDrive d late calls × (call_limit + 1 < length calls)
 IsDriveWant d late _ = ⊥
 
 -- the answer of a drive: its calls, or why it wasn't made

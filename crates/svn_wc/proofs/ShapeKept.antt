@@ -14,7 +14,7 @@ use Rattle.svn_editor.specs.Steps.{Mode, Update}
 use Rattle.svn_model.specs.declared.base_node.BaseNode.{BaseNode}
 use Rattle.svn_model.specs.Nodes.{WorkingCopy, get_in, IsWorkingCopy}
 use Rattle.svn_model.specs.Effects.{effect, refusal}
-use Rattle.svn_model.specs.Answering.{AnswersCall}
+use Rattle.svn_model.specs.Answering.{AnswersCall, WantsInOrder}
 use Rattle.svn_edit_law.specs.Laws.{OpensNamed}
 use Rattle.svn_edit_law.proofs.Shape.{shaped_first}
 use Rattle.svn_edit.specs.declared.edit.Edit.{Edit}
@@ -67,6 +67,7 @@ begun_in_shape was_level edit nodes level begun shape going = record {
 pub taken : (answer : Result (Unit {0}) EditFault) (old new : Edit) (m m' : BTreeMap Path BaseNode) (c : Call) → OpensNamed c
     → ((mode : Mode) (w0 : WorkingCopy) (calls : List Call) → StandsAfter mode w0 old m.entries calls
     → AnswersCall (refusal md5 mode calls c m.entries) answer)
+    → ((mode : Mode) (w0 : WorkingCopy) (calls : List Call) → StandsAfter mode w0 old m.entries calls → WantsInOrder calls c answer)
     → OnOk answer ((mode : Mode) (w0 : WorkingCopy) (calls : List Call) → StandsAfter mode w0 old m.entries calls
     → StandsAfter mode w0 new m'.entries (calls ++ c ∷ []))
     → OnErr answer ((mode : Mode) (w0 : WorkingCopy) (calls : List Call) → StandsAfter mode w0 old m.entries calls → m'.entries ≡ m.entries)
@@ -77,8 +78,9 @@ pub taken : (answer : Result (Unit {0}) EditFault) (old new : Edit) (m m' : BTre
     → (is_last c ≡ true → mode_of old.root ≡ Update → IfErr answer (λ e. e ≢ Memory))
     → (is_abort c ≡ true → IfErr answer (λ e. e ≢ Memory))
     → TakesCall old m.entries c answer new m'.entries
-taken answer old new m m' c named answers accepted refused dead was_refused ended pools last abort = record {
+taken answer old new m m' c named answers in_order accepted refused dead was_refused ended pools last abort = record {
   answers = answers;
+  in_order = in_order;
   accepted = accepted;
   shape = shaped_call answer old new m.entries m'.entries c named accepted answers;
   refused = refused;

@@ -16,7 +16,7 @@ use Rattle.svn_editor.specs.Steps.{Mode, Update}
 use Rattle.svn_model.specs.declared.base_node.BaseNode.{BaseNode}
 use Rattle.svn_model.specs.Nodes.{WorkingCopy, get_in, is_incomplete}
 use Rattle.svn_model.specs.Effects.{refusal}
-use Rattle.svn_model.specs.Answering.{AnswersCall}
+use Rattle.svn_model.specs.Answering.{AnswersCall, WantsInOrder}
 use Rattle.svn_edit_law.specs.Laws.{IsShapedAfter}
 use Rattle.svn_edit.specs.declared.edit.Edit.{Edit}
 use Rattle.svn_edit.specs.declared.edit.Stage.TheVariants.{Going}
@@ -28,6 +28,8 @@ pub record TakesCall (old : Edit) (w : List (Path × BaseNode)) (call : Call) (a
     (new : Edit) (w' : List (Path × BaseNode)) : Type 0 where
   pub answers : (mode : Mode) (w0 : WorkingCopy) (calls : List Call) → StandsAfter mode w0 old w calls
       → AnswersCall (refusal md5 mode calls call w) answer
+  -- want of memory is answered to no call that is out of order
+  pub in_order : (mode : Mode) (w0 : WorkingCopy) (calls : List Call) → StandsAfter mode w0 old w calls → WantsInOrder calls call answer
   pub accepted : OnOk answer ((mode : Mode) (w0 : WorkingCopy) (calls : List Call) → StandsAfter mode w0 old w calls
       → StandsAfter mode w0 new w' (calls ++ call ∷ []))
   pub shape : OnOk answer ((mode : Mode) (w0 : WorkingCopy) (calls : List Call) → StandsAfter mode w0 old w calls

@@ -11,7 +11,7 @@ ghost use Rattle.svn_edit_law.specs.Laws.{OpensNamed, IsShapedAfter};
 ghost use Rattle.svn_edit.specs.Leaving.{IsLeft, PoolsAfter};
 ghost use Rattle.svn_edit.specs.Applying.{open_count, live_count, OneIsLeft, StandsAfter, HasEnded, IsRefused, StaysRefused, StaysEnded, LeavesRefused};
 ghost use Rattle.svn_nodes.specs.NodeTests.{mode_of};
-ghost use Rattle.svn_model.specs.Answering.{AnswersCall};
+ghost use Rattle.svn_model.specs.Answering.{AnswersCall, WantsInOrder};
 ghost use Rattle.svn_wc.specs.Taking.{IsBegun, IsInShape};
 
 use crate::known::Known;
@@ -106,6 +106,7 @@ impl<'a> Applier<'a> {
     #[inline(always)]
     fn take(&mut self, call: Call) -> Result<(), EditFault>
         ensures answers { (mode : Mode) (w0 : CopyMap) (calls : List Call) → StandsAfter mode w0 self.old.edit self.old.copy.now calls → AnswersCall (refusal md5 mode calls call self.old.copy.now) result }
+        ensures in_order { (mode : Mode) (w0 : CopyMap) (calls : List Call) → StandsAfter mode w0 self.old.edit self.old.copy.now calls → WantsInOrder calls call result }
         ensures accepted { OnOk result ((mode : Mode) (w0 : CopyMap) (calls : List Call) → StandsAfter mode w0 self.old.edit self.old.copy.now calls → StandsAfter mode w0 self.new.edit self.new.copy.now (calls ++ call ∷ [])) }
         ensures shape { OnOk result ((mode : Mode) (w0 : CopyMap) (calls : List Call) → StandsAfter mode w0 self.old.edit self.old.copy.now calls → IsShapedAfter mode (get_in self.old.copy.now) calls → IsShapedAfter mode (get_in self.new.copy.now) (calls ++ call ∷ [])) }
         ensures refused { OnErr result ((mode : Mode) (w0 : CopyMap) (calls : List Call) → StandsAfter mode w0 self.old.edit self.old.copy.now calls → self.new.copy.now ≡ self.old.copy.now) }

@@ -1,4 +1,4 @@
-use Rattle.std.proofs.Common.{rules, ◌≡◌, ◌+◌, ◌<◌, suc, length, Err, arith}
+use Rattle.std.proofs.Common.{rules, ◌≡◌, ◌+◌, ◌<◌, suc, length, ap, Err, arith}
 use Rattle.svn_drive.proofs.Checks.{found_fault, no_fault}
 use Rattle.svn_drive.proofs.check.check_report.Goals as goal
 
@@ -10,6 +10,8 @@ returns-in_err-check_entry c =
       answer =
           rw same (found_fault c.args.repo.now c.args.report.now c.loop-i.i c.in_err-check_entry.field-0.0 inside c.loop-i.invariant
           c.in_err-check_entry.ensures);
+      no_entries = λ none. let empty : length c.args.report.now.entries ≡ 0 = ap length none in
+          absurd (omega arith);
     }
 
 pub loop-i-preserved : goal.loop-i-preserved

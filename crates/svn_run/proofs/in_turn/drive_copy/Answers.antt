@@ -6,7 +6,7 @@ use Rattle.svn_edit.specs.Applying.{StandsAfter}
 use Rattle.svn_model.specs.Nodes.{get_in}
 use Rattle.svn_model.specs.TreeCalls.{drive_calls}
 use Rattle.svn_run.specs.declared.outcome.Outcome.{Outcome}
-use Rattle.svn_run.specs.Coming.{CameTo}
+use Rattle.svn_run.specs.Coming.{CameInTurn}
 use Rattle.svn_run.specs.Goals.{mode_of}
 use Rattle.svn_run.specs.UpdateTheorem.{Nodes}
 use Rattle.svn_run.proofs.Theorems.{moved}
@@ -19,9 +19,9 @@ returns-clause-came c =
     let drive = drive_calls (asked c.args.repo.now c.args.report.now c.args.goal.now.target mode) c.args.options.late_texts in
     let stands = subst (λ (y : Edit × Nodes). StandsAfter mode w0 y.0 y.1 [])
     (λ i. (sym c.with_edit.ensures.edit i, sym c.with_edit.ensures.nodes i)) (c.in-Ok.ensures c.args.copy.now) in
-    let came = subst (λ (o : Outcome). CameTo drive mode c.args.options.cancel_after w0 c.drive_counted-end.new.counted.applier.copy.now o)
+    let came = subst (λ (o : Outcome). CameInTurn drive mode c.args.options.cancel_after w0 c.drive_counted-end.new.counted.applier.copy.now o)
     (sym c.outcome_of.ensures.outcome) (c.drive_counted-end.ensures.came w0 stands) in
-    moved (λ (x : Nodes). CameTo drive mode c.args.options.cancel_after w0 x c.outcome_of.result)
+    moved (λ (x : Nodes). CameInTurn drive mode c.args.options.cancel_after w0 x c.outcome_of.result)
     c.drive_counted-end.new.counted.applier.copy.now _ (search rules) came
 
 pub with_edit-requires : goal.with_edit-requires

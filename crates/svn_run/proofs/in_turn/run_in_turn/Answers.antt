@@ -9,7 +9,7 @@ use Rattle.svn_model.specs.declared.base_node.BaseNode.{BaseNode}
 use Rattle.svn_model.specs.Nodes.{get_in}
 use Rattle.svn_model.specs.TreeCalls.{drive_calls}
 use Rattle.svn_report.specs.Reports.{ReportView}
-use Rattle.svn_run.specs.Coming.{CameTo}
+use Rattle.svn_run.specs.Coming.{CameInTurn}
 use Rattle.svn_run.specs.Goals.{mode_of}
 use Rattle.svn_run.specs.UpdateTheorem.{asked}
 use Rattle.svn_run.proofs.Beginning.{has_target}
@@ -58,12 +58,12 @@ returns c =
     let by_copy = subst
     (λ (w : List (Path × BaseNode)).
     let calls = drive_calls (request a.history c.in-Ok.report a.target mode) o.late_texts in
-    IfOk run.result (CameTo calls mode o.cancel_after (get_in w) run.new.copy))
+    IfOk run.result (CameInTurn calls mode o.cancel_after (get_in w) run.new.copy))
     same run.ensures.came in
     let came = subst
     (λ (r : ReportView).
     let calls = drive_calls (request a.history r a.target mode) o.late_texts in
-    IfOk run.result (CameTo calls mode o.cancel_after (get_in c.args.copy.now) run.new.copy))
+    IfOk run.result (CameInTurn calls mode o.cancel_after (get_in c.args.copy.now) run.new.copy))
     c.in-Ok.ensures.report by_copy in
     let unchanged = subst (λ (w : List (Path × BaseNode)). OnErr run.result (run.new.copy ≡ w)) same run.ensures.unchanged in
     in_turn c.laws.ensures a c.true_copy.ensures (sym c.in_default.ensures) run.new.copy run.result c.law.ensures.order came

@@ -1,5 +1,6 @@
 use Rattle.std.proofs.Common.{rules, ◌≡◌, ◌∙◌, ◌∷◌, [], ap, subst, Err}
 use Rattle.svn_editor.specs.declared.call.Call.TheVariants.{CloseEdit}
+use Rattle.svn_drive.specs.Counts.{with_last}
 use Rattle.svn_drive.specs.Waiting.{waiting, visit_late}
 use Rattle.svn_drive.specs.Walking.{request_of}
 use Rattle.svn_drive.proofs.VisitRuns.{Run}
@@ -57,36 +58,36 @@ returns g c =
     let d = request_of c.args.self.now in
     let late = c.args.self.now.late in
     let made = c.args.progress.now.made in
-    let end = c.make_last.new.progress.made in
+    let end = c.if-self.progress.made in
     let whole : Whole g.E.Editor.answers limit d late c.args.editor.now made c.make_last.result c.make_last.new.editor end =
     elim c.if-self.branch [
       | then-self+in_ok-give_late w ↦
-          run_late g.E.Editor.answers c.args.self.now.limit (request_of c.args.self.now) c.args.self.now.late c.args.editor.now
-          c.args.progress.now.made
+          rw w.progress-is
+          (run_late g.E.Editor.answers limit d late c.args.editor.now made
           c.args.root.now.here.path c.args.root.now.parent c.make.new.progress.next c.make.new.editor c.visit.new.editor
           c.make.new.progress.made c.visit.new.progress.made
           c.requires.root c.requires.parent first c.in_ok-make.ensures.runs c.in_ok-visit.ensures.runs
           c.make_last.result (waiting c.args.self.now.repo.now w.deref.result.now) w.give_late.new.editor c.make_last.new.editor
-          w.give_late.new.progress.made c.make_last.new.progress.made
+          w.give_late.new.progress.made
           (ap (waiting c.args.self.now.repo.now) w.deref.ensures.value ∙ lates) w.in_ok-give_late.ensures.runs
           (subst
-          (λ e. Run g.E.Editor.answers c.args.self.now.limit (CloseEdit ∷ []) c.make_last.result e c.make_last.new.editor
-          w.give_late.new.progress.made c.make_last.new.progress.made)
+          (λ e. Run g.E.Editor.answers limit (CloseEdit ∷ []) c.make_last.result e c.make_last.new.editor
+          w.give_late.new.progress.made (with_last c.make_last.result w.give_late.new.progress.made))
           w.editor-is
           (rw w.progress-is at c.make_last.ensures.runs))
-          (rw w.progress-is at c.make_last.ensures.unmade)
+          c.make_last.ensures.has_number)
       | else-self w ↦
-          run_in_place g.E.Editor.answers c.args.self.now.limit
-          (request_of c.args.self.now) c.args.self.now.late c.args.editor.now c.args.progress.now.made
+          rw w.progress-is
+          (run_in_place g.E.Editor.answers limit d late c.args.editor.now made
           c.args.root.now.here.path c.args.root.now.parent c.make.new.progress.next c.make.new.editor c.visit.new.editor
           c.make.new.progress.made c.visit.new.progress.made
           c.requires.root c.requires.parent first c.in_ok-make.ensures.runs c.in_ok-visit.ensures.runs
-          c.make_last.result c.make_last.new.editor c.make_last.new.progress.made w.if-self.false
+          c.make_last.result c.make_last.new.editor w.if-self.false
           (subst
-          (λ e. Run g.E.Editor.answers c.args.self.now.limit (CloseEdit ∷ []) c.make_last.result e c.make_last.new.editor
-          c.visit.new.progress.made c.make_last.new.progress.made)
+          (λ e. Run g.E.Editor.answers limit (CloseEdit ∷ []) c.make_last.result e c.make_last.new.editor
+          c.visit.new.progress.made (with_last c.make_last.result c.visit.new.progress.made))
           w.editor-is
           (rw w.progress-is at c.make_last.ensures.runs))
-          (rw w.progress-is at c.make_last.ensures.unmade)
+          c.make_last.ensures.has_number)
     ] in
     record { runs = whole.0; before_last = whole.1 }

@@ -9,10 +9,11 @@ use Rattle.svn_editor.specs.Order.{order_fault}
 use Rattle.svn_order.specs.StandsAfter as order
 use Rattle.svn_editor.proofs.Accepted.{not_ended}
 use Rattle.svn_model.specs.Effects.{edit_fault, refusal}
-use Rattle.svn_model.specs.Answering.{AnswersCall}
+use Rattle.svn_model.specs.Answering.{AnswersCall, WantsInOrder}
 use Rattle.svn_edit.proofs.Holding.{ok_by, at_ok, err_by, on_err, order_none, order_refused, not_memory, refusal_is, applied_answer, applied_copy, abort_is_last}
 use Rattle.svn_edit.proofs.Holding.{applied_err, at_err, copy_more, next_is}
 use Rattle.svn_edit.specs.Applying.{batons_of}
+use Rattle.svn_edit.proofs.InOrder.{check_wants, rest_wants}
 use Rattle.svn_edit.proofs.Bases.{noted_more}
 use Rattle.svn_edit.proofs.LeftPools.{same_left, pools_same}
 use Rattle.svn_edit.proofs.edit.Edit.take_in_order.Goals as goal
@@ -26,6 +27,10 @@ returns-clause-answers c = λ mode w0 calls s.
     (λ h. record { stage = h.stage; root = h.root; target = h.target; batons = h.batons }) in
     subst (λ (f : Option EditFault). AnswersCall f c.apply.result) (sym (refusal_is md5 mode calls call c.args.copy.now.entries none))
     (applied_answer _ _ _ _ c.apply.result (c.apply.ensures.applied mode calls next (s.noted (not_ended calls call none))))
+
+pub returns-clause-in_order : goal.returns-clause-in_order
+returns-clause-in_order c = λ mode w0 calls s.
+    rest_wants calls c.args.call.now c.apply.result (order_none (order_fault calls c.args.call.now) (c.in_ok-step.ensures.answers calls s.order))
 
 pub returns-clause-accepted : goal.returns-clause-accepted
 returns-clause-accepted c = ok_by c.apply.result (λ ok mode w0 calls s.
@@ -82,6 +87,13 @@ returns-in_err-step-clause-answers c = λ mode w0 calls s.
     let refused : c.from_residual.result ≡ Err (as_edit_fault fault) = search rules in
     subst (λ (r : Result (Unit {0}) EditFault). AnswersCall (refusal md5 mode calls call nodes) r) (sym refused)
     (order_refused (order_fault calls call) fault (edit_fault md5 mode calls call nodes) (c.in_err-step.ensures.answers calls s.order))
+
+pub returns-in_err-step-clause-in_order : goal.returns-in_err-step-clause-in_order
+returns-in_err-step-clause-in_order c = λ mode w0 calls s.
+    let fault = c.in_err-step.field-0.0 in
+    let refused : c.from_residual.result ≡ Err (as_edit_fault fault) = search rules in
+    subst (WantsInOrder calls c.args.call.now) (sym refused)
+    (check_wants calls c.args.call.now fault (c.in_err-step.ensures.answers calls s.order))
 
 pub returns-in_err-step-clause-last : goal.returns-in_err-step-clause-last
 returns-in_err-step-clause-last c =

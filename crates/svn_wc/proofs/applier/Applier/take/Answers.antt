@@ -23,6 +23,11 @@ returns-clause-answers c = λ mode w0 calls s.
     (c.call-answer.ensures.answers mode w0 calls (subst (λ (n : List (Path × BaseNode)). StandsAfter mode w0 c.args.self.now.edit n calls)
     (sym c.copy.view_is) s))
 
+pub returns-clause-in_order : goal.returns-clause-in_order
+returns-clause-in_order c = λ mode w0 calls s.
+    c.call-answer.ensures.in_order mode w0 calls (subst (λ (n : List (Path × BaseNode)). StandsAfter mode w0 c.args.self.now.edit n calls)
+    (sym c.copy.view_is) s)
+
 pub returns-clause-accepted : goal.returns-clause-accepted
 returns-clause-accepted c = map_ok c.call-answer.result c.call-answer.ensures.accepted (λ f mode w0 calls s.
     f mode w0 calls (subst (λ (n : List (Path × BaseNode)). StandsAfter mode w0 c.args.self.now.edit n calls) (sym c.copy.view_is) s))
@@ -58,7 +63,7 @@ invariant_of-copy c =
     subst (λ (n : List (Path × BaseNode)). ∥ IsInShape c.args.self.now.was_level c.args.self.now.edit n ∥₁) (sym c.copy.view_is) c.args.self.now.in_shape in
     let new = c.call-answer.new.copy in
     let takes = taken c.call-answer.result c.args.self.now.edit c.call-answer.new.self c.copy.inside.nodes new c.args.call
-    c.opens_allowed.ensures c.call-answer.ensures.answers c.call-answer.ensures.accepted c.call-answer.ensures.refused
+    c.opens_allowed.ensures c.call-answer.ensures.answers c.call-answer.ensures.in_order c.call-answer.ensures.accepted c.call-answer.ensures.refused
     c.call-answer.ensures.dead c.call-answer.ensures.was_refused c.call-answer.ensures.ended c.call-answer.ensures.pools
     c.call-answer.ensures.last c.call-answer.ensures.abort in
     let shape : IsWorkingCopy (get_in new.entries) = ∥∥₁_elim before (IsWorkingCopy-prop _) (λ shape.
@@ -87,7 +92,7 @@ invariant_of-self c =
     let after = ∥∥₁_map before (λ shape.
     (kept c.args.self.now.was_level c.args.self.now.edit c.call-answer.new.self _ _ c.args.call c.opens_allowed.ensures c.call-answer.result
     (taken c.call-answer.result c.args.self.now.edit c.call-answer.new.self c.copy.inside.nodes c.call-answer.new.copy c.args.call c.opens_allowed.ensures
-    c.call-answer.ensures.answers
+    c.call-answer.ensures.answers c.call-answer.ensures.in_order
     c.call-answer.ensures.accepted c.call-answer.ensures.refused c.call-answer.ensures.dead c.call-answer.ensures.was_refused c.call-answer.ensures.ended
     c.call-answer.ensures.pools c.call-answer.ensures.last c.call-answer.ensures.abort)
     shape c.copy.invariant.0).0) in
