@@ -25,7 +25,7 @@ pub(crate) enum Build {
     Forget(&'static str),
 }
 
-fn path_at(alloc: Global, text: &str) -> Result<RelPath, PathFault> {
+pub(crate) fn path_at(alloc: Global, text: &str) -> Result<RelPath, PathFault> {
     RelPath::parse(alloc, text)
 }
 
