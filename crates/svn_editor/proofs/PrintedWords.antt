@@ -15,11 +15,10 @@ use Rattle.std.proofs.lemmas.List.Concat.{flat_map-append}
 use Rattle.std.proofs.lemmas.List.Folds.{list_all_at}
 use Rattle.std.proofs.lemmas.List.{append-nil, drop-set, drop_all, flat_map_more, length-append, map-append, take_more, take_rest}
 use Rattle.std.proofs.Math.Seq.{take-append_seam}
-use Rattle.hex.specs.Hex.{encode_lower, lower_digits}
-use Rattle.hex.proofs.HexLemmas.{IsAscii-encode_with}
 use Rattle.svn_types.specs.Names.{Path, is_plain}
 use Rattle.svn_types.specs.PathKeys.{path_key, is_plain_name, is_plain_path}
-use Rattle.svn_editor.specs.Words.{escaped, is_shown, path_byte, path_text, path_word, token_word}
+use Rattle.svn_types.specs.PathTexts.{path_text}
+use Rattle.svn_editor.specs.Words.{escaped, is_shown, path_byte, path_word, token_word}
 
 -- ---- the names of a path, printed from its key
 
@@ -90,13 +89,6 @@ shown_all bs h = λ k d in_list. shown_small (get_or bs k d)
 
 pub shown_utf8 : (bs : List ℕ) → list_all is_shown bs ≡ true → IsUtf8 bs
 shown_utf8 bs h = IsUtf8-from_ascii bs (IsAscii-from_all bs (shown_all bs h))
-
--- ---- the digits of a checksum
-
-pub digits_utf8 : (bytes : List ℕ) → IsUtf8 (encode_lower bytes)
-digits_utf8 bytes =
-    IsUtf8-from_ascii (encode_lower bytes)
-    (IsAscii-encode_with lower_digits bytes (IsAscii-from_all lower_digits (shown_all lower_digits refl)))
 
 -- ---- a word that is printed part by part
 

@@ -75,6 +75,29 @@ entry_of (AddFile path parent token) = Some path
 entry_of (OpenFile path parent base token) = Some path
 entry_of _ = None
 
+-- the token of the directory in which a call deletes, adds or opens an entry
+abbrev pub parent_of : Call → Option ℕ
+parent_of (DeleteEntry path rev parent) = Some parent
+parent_of (AddDirectory path parent token) = Some parent
+parent_of (OpenDirectory path parent base token) = Some parent
+parent_of (AddFile path parent token) = Some parent
+parent_of (OpenFile path parent base token) = Some parent
+parent_of _ = None
+
+-- the token of the file or directory that a call opens, adds, changes or closes
+abbrev pub token_of : Call → Option ℕ
+token_of (OpenRoot base token) = Some token
+token_of (AddDirectory path parent token) = Some token
+token_of (OpenDirectory path parent base token) = Some token
+token_of (AddFile path parent token) = Some token
+token_of (OpenFile path parent base token) = Some token
+token_of (ChangeDirProp token name value) = Some token
+token_of (CloseDirectory token) = Some token
+token_of (ChangeFileProp token name value) = Some token
+token_of (ApplyText token base_md5 text) = Some token
+token_of (CloseFile token text_md5) = Some token
+token_of _ = None
+
 abbrev pub deletes : Path → Call → Bool
 deletes p (DeleteEntry path rev parent) = path_eq path p
 deletes p _ = false

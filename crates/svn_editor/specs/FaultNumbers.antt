@@ -1,5 +1,5 @@
--- The number that each fault is known by.
-use Rattle.std.specs.Prelude.{ℕ}
+-- The number and the name that each fault is known by.
+use Rattle.std.specs.Prelude.{ℕ, List, codes}
 use Rattle.svn_editor.specs.declared.fault.OrderFault.{OrderFault}
 use Rattle.svn_editor.specs.declared.fault.OrderFault.TheVariants.{TargetFirst, UnknownToken, ClosedToken, EntryAgain, DeleteLate}
 use Rattle.svn_editor.specs.declared.fault.OrderFault.TheVariants.{NotInnermost, OpenBelow, PropLate, FileOpen, TextAgain, RootNotClosed}
@@ -29,6 +29,25 @@ order_fault_number WrongPath = 15
 order_fault_number order.Memory = 16
 order_fault_number TooEarly = 17
 
+abbrev pub order_fault_name : OrderFault → List ℕ
+order_fault_name TargetFirst = codes "TargetFirst"
+order_fault_name UnknownToken = codes "UnknownToken"
+order_fault_name ClosedToken = codes "ClosedToken"
+order_fault_name EntryAgain = codes "EntryAgain"
+order_fault_name DeleteLate = codes "DeleteLate"
+order_fault_name NotInnermost = codes "NotInnermost"
+order_fault_name OpenBelow = codes "OpenBelow"
+order_fault_name PropLate = codes "PropLate"
+order_fault_name FileOpen = codes "FileOpen"
+order_fault_name TextAgain = codes "TextAgain"
+order_fault_name RootNotClosed = codes "RootNotClosed"
+order_fault_name Ended = codes "Ended"
+order_fault_name Dead = codes "Dead"
+order_fault_name TokenOrder = codes "TokenOrder"
+order_fault_name WrongPath = codes "WrongPath"
+order_fault_name order.Memory = codes "Memory"
+order_fault_name TooEarly = codes "TooEarly"
+
 abbrev pub edit_fault_number : EditFault → ℕ
 edit_fault_number (Order fault) = order_fault_number fault
 edit_fault_number NoEntry = 41
@@ -41,3 +60,17 @@ edit_fault_number EntryExists = 47
 edit_fault_number edit.TooDeep = 48
 edit_fault_number TooLong = 49
 edit_fault_number (Late n) = 50
+
+-- that of the order's fault, where it is one
+abbrev pub edit_fault_name : EditFault → List ℕ
+edit_fault_name (Order fault) = order_fault_name fault
+edit_fault_name NoEntry = codes "NoEntry"
+edit_fault_name WrongKind = codes "WrongKind"
+edit_fault_name WrongRevision = codes "WrongRevision"
+edit_fault_name BaseChecksum = codes "BaseChecksum"
+edit_fault_name TextChecksum = codes "TextChecksum"
+edit_fault_name edit.Memory = codes "Memory"
+edit_fault_name EntryExists = codes "EntryExists"
+edit_fault_name edit.TooDeep = codes "TooDeep"
+edit_fault_name TooLong = codes "TooLong"
+edit_fault_name (Late n) = codes "Late"

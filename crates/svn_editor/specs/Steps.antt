@@ -1,5 +1,5 @@
 -- Editor calls with the path of what they are about in the place of their tokens.
---     Mode      an update, or a switch of the whole copy
+--     Mode      an update, which follows links in the target, or a switch of the whole copy, which brings its root to another path and follows none
 --     step_of earlier call      the call as a step, where earlier calls gave its tokens
 --     steps_of calls      the steps of a list of calls
 use Rattle.std.specs.Prelude.{ℕ, List, [], ◌∷◌, ◌++◌, map, Option, Some, None}
@@ -12,12 +12,14 @@ use Rattle.svn_editor.specs.declared.call.Call.{Call}
 use Rattle.svn_editor.specs.declared.call.Call.TheVariants.{SetTargetRevision, OpenRoot, DeleteEntry, AddDirectory, OpenDirectory}
 use Rattle.svn_editor.specs.declared.call.Call.TheVariants.{ChangeDirProp, CloseDirectory, AddFile, OpenFile, ChangeFileProp, ApplyText}
 use Rattle.svn_editor.specs.declared.call.Call.TheVariants.{CloseFile}
+use Rattle.svn_editor.specs.declared.mode.Mode.{Mode}
+use Rattle.svn_editor.specs.declared.mode.Mode.TheVariants.{Update, SwitchTo}
 use Rattle.svn_editor.specs.Calls.{path_of}
 
--- an update follows links in the target; a switch of the whole copy brings its root to another path, and follows none
-pub data Mode : Type 0 where
-  Update : Mode
-  SwitchTo : (root : Path) → Mode
+-- a switch to a path, if there is one, else an update
+abbrev pub mode_at : Option Path → Mode
+mode_at None = Update
+mode_at (Some root) = SwitchTo root
 
 pub data Action : Type 0 where
   Delete : (rev : ℕ) → Action

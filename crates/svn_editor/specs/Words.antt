@@ -5,8 +5,9 @@ use Rattle.std.specs.Prelude.{◌/◌, ◌%◌, ℕ, Bool, true, ◌&&◌, not, 
 use Rattle.std.specs.Prelude.{if◌then◌else◌}
 use Rattle.std.specs.List.{flat_map}
 use Rattle.std.specs.Fmt.{decimal, digit_glyph}
-use Rattle.hex.specs.Hex.{encode_lower}
 use Rattle.svn_types.specs.Names.{Path}
+use Rattle.svn_types.specs.PathTexts.{path_text}
+use Rattle.svn_types.specs.Digests.{digest_word}
 
 -- printed as it is: 0x21 to 0x7E but for `%` and `"`
 abbrev pub is_shown : ℕ → Bool
@@ -21,11 +22,6 @@ abbrev pub word : List ℕ → List ℕ
 word [] = 34 ∷ 34 ∷ []
 word (b ∷ bs) = flat_map escaped (b ∷ bs)
 
--- the names, joined by `/`
-abbrev pub path_text : Path → List ℕ
-path_text [] = []
-path_text (n ∷ p) = n ++ flat_map (λ m. 47 ∷ m) p
-
 -- the root is printed as `.`
 abbrev pub path_word : Path → List ℕ
 path_word [] = 46 ∷ []
@@ -38,10 +34,6 @@ path_byte b = if nat_eq b 1 then 47 else b
 -- `#` and the number
 abbrev pub token_word : ℕ → List ℕ
 token_word t = 35 ∷ decimal t
-
--- two lower-case hexadecimal digits of each byte
-abbrev pub digest_word : List ℕ → List ℕ
-digest_word bytes = encode_lower bytes
 
 -- `-` where there is none
 abbrev pub checksum_word : Option (List ℕ) → List ℕ

@@ -1,10 +1,10 @@
 //! The calls of the delta editor.
 ghost use Rattle.std.specs.Prelude.{◌≡◌};
-ghost use Rattle.svn_editor.specs.Calls.{is_last};
+ghost use Rattle.std.specs.Option.{option_copied};
+ghost use Rattle.svn_editor.specs.Calls.{is_last, is_abort, entry_of, parent_of, token_of};
 
-use crate::digest::Digest;
 use crate::token::Token;
-use svn_types::{PropName, RelPath, Rev, Text};
+use svn_types::{Digest, PropName, RelPath, Rev, Text};
 
 /// One call of an edit, as in `svn_delta.h`.
 ///
@@ -126,5 +126,63 @@ impl Call {
         ensures { result ≡ is_last self.now }
     {
         matches!(self, Call::CloseEdit | Call::AbortEdit)
+    }
+
+    /// Whether it gives the edit up.
+    pub fn is_abort(&self) -> bool
+        ensures { result ≡ is_abort self.now }
+    {
+        matches!(self, Call::AbortEdit)
+    }
+
+    /// The path of the entry that it deletes, adds or opens; no other call has one. What the others are about has the path with which the call
+    /// came that gave their [`token`](Call::token), the root for `OpenRoot`.
+    #[inline(always)]
+    pub fn path(&self) -> Option<&RelPath>
+        ensures { option_copied result ≡ entry_of self.now }
+    {
+        match self {
+            Call::DeleteEntry { path, .. }
+            | Call::AddDirectory { path, .. }
+            | Call::OpenDirectory { path, .. }
+            | Call::AddFile { path, .. }
+            | Call::OpenFile { path, .. } => Some(path),
+            _ => None,
+        }
+    }
+
+    /// The token of the directory in which it deletes, adds or opens an entry.
+    #[inline(always)]
+    pub fn parent(&self) -> Option<Token>
+        ensures { result ≡ parent_of self.now }
+    {
+        match self {
+            Call::DeleteEntry { parent, .. }
+            | Call::AddDirectory { parent, .. }
+            | Call::OpenDirectory { parent, .. }
+            | Call::AddFile { parent, .. }
+            | Call::OpenFile { parent, .. } => Some(*parent),
+            _ => None,
+        }
+    }
+
+    /// The token of the file or directory that it opens, adds, changes or closes.
+    #[inline(always)]
+    pub fn token(&self) -> Option<Token>
+        ensures { result ≡ token_of self.now }
+    {
+        match self {
+            Call::OpenRoot { token, .. }
+            | Call::AddDirectory { token, .. }
+            | Call::OpenDirectory { token, .. }
+            | Call::AddFile { token, .. }
+            | Call::OpenFile { token, .. }
+            | Call::ChangeDirProp { token, .. }
+            | Call::CloseDirectory { token }
+            | Call::ChangeFileProp { token, .. }
+            | Call::ApplyText { token, .. }
+            | Call::CloseFile { token, .. } => Some(*token),
+            _ => None,
+        }
     }
 }

@@ -1,6 +1,6 @@
 //! Why calls are refused.
 ghost use Rattle.std.specs.Prelude.{◌≡◌};
-ghost use Rattle.svn_editor.specs.FaultNumbers.{order_fault_number, edit_fault_number};
+ghost use Rattle.svn_editor.specs.FaultNumbers.{order_fault_number, order_fault_name, edit_fault_number, edit_fault_name};
 ghost use Rattle.svn_editor.specs.Faults.{as_edit_fault};
 
 use std::alloc::AllocError;
@@ -88,6 +88,31 @@ impl OrderFault {
             OrderFault::TooEarly => 17,
         }
     }
+
+    /// The fault's name: that of its variant.
+    pub fn name(self) -> &'static str
+        ensures { result.now ≡ order_fault_name self }
+    {
+        match self {
+            OrderFault::TargetFirst => "TargetFirst",
+            OrderFault::UnknownToken => "UnknownToken",
+            OrderFault::ClosedToken => "ClosedToken",
+            OrderFault::EntryAgain => "EntryAgain",
+            OrderFault::DeleteLate => "DeleteLate",
+            OrderFault::NotInnermost => "NotInnermost",
+            OrderFault::OpenBelow => "OpenBelow",
+            OrderFault::PropLate => "PropLate",
+            OrderFault::FileOpen => "FileOpen",
+            OrderFault::TextAgain => "TextAgain",
+            OrderFault::RootNotClosed => "RootNotClosed",
+            OrderFault::Ended => "Ended",
+            OrderFault::Dead => "Dead",
+            OrderFault::TokenOrder => "TokenOrder",
+            OrderFault::WrongPath => "WrongPath",
+            OrderFault::Memory => "Memory",
+            OrderFault::TooEarly => "TooEarly",
+        }
+    }
 }
 
 /// Why an editor refuses a call. Which faults an editor has, and when, it says itself; those of a working copy stand here.
@@ -147,6 +172,25 @@ impl EditFault {
             EditFault::TooDeep => 48,
             EditFault::TooLong => 49,
             EditFault::Late(_) => 50,
+        }
+    }
+
+    /// The fault's name: that of its variant; a call that is out of order has the name of the order's fault.
+    pub fn name(self) -> &'static str
+        ensures { result.now ≡ edit_fault_name self }
+    {
+        match self {
+            EditFault::Order(fault) => fault.name(),
+            EditFault::NoEntry => "NoEntry",
+            EditFault::WrongKind => "WrongKind",
+            EditFault::WrongRevision => "WrongRevision",
+            EditFault::BaseChecksum => "BaseChecksum",
+            EditFault::TextChecksum => "TextChecksum",
+            EditFault::Memory => "Memory",
+            EditFault::EntryExists => "EntryExists",
+            EditFault::TooDeep => "TooDeep",
+            EditFault::TooLong => "TooLong",
+            EditFault::Late(_) => "Late",
         }
     }
 }

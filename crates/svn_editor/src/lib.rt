@@ -23,20 +23,21 @@
 #![tactic(auto)]
 
 mod call;
-mod digest;
 mod editor;
 mod fault;
 mod line_words;
 mod lines;
+mod mode;
 mod recorder;
 mod token;
 mod words;
 
 pub use call::Call;
-pub use digest::Digest;
 pub use editor::Editor;
 pub use fault::{EditFault, OrderFault};
 pub use line_words::{push_path, push_word};
+pub use mode::Mode;
 pub use recorder::Recorder;
+pub use svn_types::Digest;
 pub use token::Token;
 pub use words::{ChecksumWord, PathWord, Word};

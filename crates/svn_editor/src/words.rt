@@ -3,14 +3,13 @@ ghost use Rattle.std.specs.Prelude.{◌≡◌, ◌+◌, ◌<◌, ◌≤◌, ◌+
 ghost use Rattle.std.specs.List.{flat_map, list_all};
 ghost use Rattle.std.specs.Str.{IsAscii};
 ghost use Rattle.std.specs.Fmt.{DisplaysOnOk, digit_glyph};
-ghost use Rattle.svn_editor.specs.Words.{is_shown, escaped, word, path_byte, path_word, token_word, digest_word, checksum_word};
+ghost use Rattle.svn_editor.specs.Words.{is_shown, escaped, word, path_byte, path_word, token_word, checksum_word};
 
-use crate::digest::Digest;
 use crate::token::Token;
 use itoa::write_digits;
 use std::fmt::Display;
 use std::{fmt, str};
-use svn_types::RelPath;
+use svn_types::{Digest, RelPath};
 
 // How many bytes of a path, or of a word with bytes that are escaped, are printed at a time.
 const PIECE: usize = 64;
@@ -224,27 +223,6 @@ impl fmt::Display for Token {
     fn fmt<W: fmt::Write>(&self, f: &mut fmt::Formatter<W>) -> fmt::Result {
         let mut text = [0; MAX_TOKEN];
         f.write_str(token_text(self.0, &mut text))
-    }
-}
-
-// The digits of a checksum, so that one write prints them.
-fn digits_of(bytes: &[u8; 16]) -> [u8; 32]
-    ensures { result ≡ digest_word bytes.now }
-{
-    let mut digits = [0; 32];
-    // there is room for two digits of each byte
-    let _answer = hex::encode_to_slice(&bytes[..], &mut digits);
-    digits
-}
-
-/// A checksum is printed as 32 lower-case hexadecimal digits.
-impl fmt::Display for Digest {
-    ghost output = { λ d. Some (digest_word d) };
-
-    fn fmt<W: fmt::Write>(&self, f: &mut fmt::Formatter<W>) -> fmt::Result {
-        let digits = digits_of(&self.0);
-        // they are ASCII
-        f.write_str(unsafe { str::from_utf8_unchecked(&digits) })
     }
 }
 

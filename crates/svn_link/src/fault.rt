@@ -1,6 +1,6 @@
 //! Why there is no link, or no notice.
 ghost use Rattle.std.specs.Prelude.{◌≡◌};
-ghost use Rattle.svn_link.specs.LinkFault.{link_fault_number};
+ghost use Rattle.svn_link.specs.LinkFault.{link_fault_number, link_fault_name};
 
 use std::alloc::AllocError;
 use thiserror::Error;
@@ -24,6 +24,16 @@ impl LinkFault {
         match self {
             LinkFault::Capacity => 1,
             LinkFault::Memory => 2,
+        }
+    }
+
+    /// The fault's name: that of its variant.
+    pub fn name(self) -> &'static str
+        ensures { result.now ≡ link_fault_name self }
+    {
+        match self {
+            LinkFault::Capacity => "Capacity",
+            LinkFault::Memory => "Memory",
         }
     }
 }

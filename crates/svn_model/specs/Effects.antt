@@ -18,7 +18,9 @@ use Rattle.svn_editor.specs.declared.fault.EditFault.{EditFault}
 use Rattle.svn_editor.specs.declared.fault.EditFault.TheVariants.{Order, NoEntry, WrongKind, WrongRevision, BaseChecksum, TextChecksum}
 use Rattle.svn_editor.specs.declared.fault.EditFault.TheVariants.{EntryExists, TooDeep, TooLong}
 use Rattle.svn_editor.specs.Order.{order_fault}
-use Rattle.svn_editor.specs.Steps.{Mode, Update, SwitchTo, Action, Delete, Open, Add, Change, Text, Close, Step, step_of, steps_of}
+use Rattle.svn_editor.specs.declared.mode.Mode.{Mode}
+use Rattle.svn_editor.specs.declared.mode.Mode.TheVariants.{Update, SwitchTo}
+use Rattle.svn_editor.specs.Steps.{Action, Delete, Open, Add, Change, Text, Close, Step, step_of, steps_of}
 use Rattle.svn_editor.specs.Steps.{target_of}
 use Rattle.svn_model.specs.declared.base_node.BaseNode.{BaseNode}
 use Rattle.svn_model.specs.declared.base_node.BaseNode.TheVariants.{File as FileNode, Dir as DirNode, NotPresent}

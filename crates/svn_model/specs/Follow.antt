@@ -7,7 +7,8 @@ use Rattle.svn_types.specs.Paths.{child}
 use Rattle.svn_repo.specs.History.{History, look}
 use Rattle.svn_repo.specs.Readings.{are_related}
 use Rattle.svn_report.specs.Reports.{ReportView}
-use Rattle.svn_editor.specs.Steps.{Mode, Update, SwitchTo}
+use Rattle.svn_editor.specs.declared.mode.Mode.{Mode}
+use Rattle.svn_editor.specs.declared.mode.Mode.TheVariants.{Update, SwitchTo}
 use Rattle.svn_model.specs.Sources.{Reported, reported_root, reported_child, source}
 
 -- what a drive is asked for, and how texts are summed

@@ -74,6 +74,32 @@ node_props (Some (FileNode r q t ps)) = ps
 node_props (Some (DirNode r q c ps)) = ps
 node_props _ = []
 
+-- what a node has where it is present, and a file its text
+
+abbrev pub present_kind : BaseNode → Option Kind
+present_kind (FileNode r q t ps) = Some File
+present_kind (DirNode r q c ps) = Some Directory
+present_kind NotPresent = None
+
+abbrev pub present_revision : BaseNode → Option ℕ
+present_revision (FileNode r q t ps) = Some r
+present_revision (DirNode r q c ps) = Some r
+present_revision NotPresent = None
+
+abbrev pub present_path : BaseNode → Option Path
+present_path (FileNode r q t ps) = Some q
+present_path (DirNode r q c ps) = Some q
+present_path NotPresent = None
+
+abbrev pub present_props : BaseNode → Option (List (List ℕ × List ℕ))
+present_props (FileNode r q t ps) = Some ps
+present_props (DirNode r q c ps) = Some ps
+present_props NotPresent = None
+
+abbrev pub file_text : BaseNode → Option (List ℕ)
+file_text (FileNode r q t ps) = Some t
+file_text _ = None
+
 -- the same node at another revision
 abbrev pub at_revision : ℕ → BaseNode → BaseNode
 at_revision rev (FileNode r q text props) = FileNode rev q text props

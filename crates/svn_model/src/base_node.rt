@@ -1,5 +1,9 @@
 //! What stands at a path of a working copy.
-use svn_types::{Props, RelPath, Rev, Text};
+ghost use Rattle.std.specs.Prelude.{◌≡◌, Some};
+ghost use Rattle.std.specs.Option.{option_copied};
+ghost use Rattle.svn_model.specs.Nodes.{is_present, is_dir, is_incomplete, present_kind, present_revision, present_path, present_props, file_text};
+
+use svn_types::{Kind, Props, RelPath, Rev, Text};
 
 /// What a working copy has at a path, as it came from the repository (a node of the base tree, `svn_wc.h`). There are no local changes.
 #[derive(Debug, Drop)]
@@ -28,4 +32,94 @@ pub enum BaseNode {
     },
     /// The directory above has such an entry, and this copy has nothing there.
     NotPresent,
+}
+
+impl BaseNode {
+    /// Whether there is a file or a directory.
+    #[inline]
+    pub fn is_present(&self) -> bool
+        ensures { result ≡ is_present (Some self.now) }
+    {
+        match self {
+            BaseNode::File { .. } | BaseNode::Dir { .. } => true,
+            BaseNode::NotPresent => false,
+        }
+    }
+
+    /// Whether it is a directory.
+    #[inline]
+    pub fn is_directory(&self) -> bool
+        ensures { result ≡ is_dir (Some self.now) }
+    {
+        matches!(self, BaseNode::Dir { .. })
+    }
+
+    /// Whether it is a directory that isn't complete (`svn_wc_status_incomplete`).
+    #[inline]
+    pub fn is_incomplete(&self) -> bool
+        ensures { result ≡ is_incomplete (Some self.now) }
+    {
+        match self {
+            BaseNode::Dir { complete, .. } => !*complete,
+            BaseNode::File { .. } | BaseNode::NotPresent => false,
+        }
+    }
+
+    /// A file or a directory; None where it is not present.
+    #[inline]
+    pub fn kind(&self) -> Option<Kind>
+        ensures { result ≡ present_kind self.now }
+    {
+        match self {
+            BaseNode::File { .. } => Some(Kind::File),
+            BaseNode::Dir { .. } => Some(Kind::Directory),
+            BaseNode::NotPresent => None,
+        }
+    }
+
+    /// The revision that it has; None where it is not present.
+    #[inline]
+    pub fn rev(&self) -> Option<Rev>
+        ensures { result ≡ present_revision self.now }
+    {
+        match self {
+            BaseNode::File { rev, .. } | BaseNode::Dir { rev, .. } => Some(*rev),
+            BaseNode::NotPresent => None,
+        }
+    }
+
+    /// Its path in the repository; None where it is not present.
+    #[inline]
+    pub fn repos_path(&self) -> Option<&RelPath>
+        ensures { option_copied result ≡ present_path self.now }
+    {
+        match self {
+            BaseNode::File { repos_path, .. } | BaseNode::Dir { repos_path, .. } => Some(
+                repos_path,
+            ),
+            BaseNode::NotPresent => None,
+        }
+    }
+
+    /// Its properties; None where it is not present.
+    #[inline]
+    pub fn props(&self) -> Option<&Props>
+        ensures { option_copied result ≡ present_props self.now }
+    {
+        match self {
+            BaseNode::File { props, .. } | BaseNode::Dir { props, .. } => Some(props),
+            BaseNode::NotPresent => None,
+        }
+    }
+
+    /// The text of a file.
+    #[inline]
+    pub fn text(&self) -> Option<&Text>
+        ensures { option_copied result ≡ file_text self.now }
+    {
+        match self {
+            BaseNode::File { text, .. } => Some(text),
+            BaseNode::Dir { .. } | BaseNode::NotPresent => None,
+        }
+    }
 }

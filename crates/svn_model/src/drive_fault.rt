@@ -1,6 +1,6 @@
 //! Why a drive isn't made, or is given up.
 ghost use Rattle.std.specs.Prelude.{◌≡◌};
-ghost use Rattle.svn_model.specs.FaultNumbers.{drive_fault_number};
+ghost use Rattle.svn_model.specs.FaultNumbers.{drive_fault_number, drive_fault_name};
 ghost use Rattle.svn_model.specs.declared.drive_fault.DriveFault.TheVariants.{Memory};
 
 use std::alloc::AllocError;
@@ -42,6 +42,20 @@ impl DriveFault {
             DriveFault::Full => 24,
             DriveFault::NoRoot => 25,
             DriveFault::OtherRoot => 26,
+        }
+    }
+
+    /// The fault's name: that of its variant; an editor's fault has its own name.
+    pub fn name(self) -> &'static str
+        ensures { result.now ≡ drive_fault_name self }
+    {
+        match self {
+            DriveFault::NoSuchTarget => "NoSuchTarget",
+            DriveFault::Memory => "Memory",
+            DriveFault::Editor(fault) => fault.name(),
+            DriveFault::Full => "Full",
+            DriveFault::NoRoot => "NoRoot",
+            DriveFault::OtherRoot => "OtherRoot",
         }
     }
 }

@@ -1,6 +1,6 @@
 //! Why a report can't be served.
 ghost use Rattle.std.specs.Prelude.{◌≡◌};
-ghost use Rattle.svn_model.specs.FaultNumbers.{report_fault_number};
+ghost use Rattle.svn_model.specs.FaultNumbers.{report_fault_number, report_fault_name};
 ghost use Rattle.svn_model.specs.declared.report_fault.ReportFault.TheVariants.{Memory};
 
 use std::alloc::AllocError;
@@ -41,6 +41,20 @@ impl ReportFault {
             ReportFault::ParentNotDir(_) => 13,
             ReportFault::Memory => 14,
             ReportFault::RootNotDir => 15,
+        }
+    }
+
+    /// The fault's name: that of its variant.
+    pub fn name(self) -> &'static str
+        ensures { result.now ≡ report_fault_name self }
+    {
+        match self {
+            ReportFault::NoEntries => "NoEntries",
+            ReportFault::NoSuchRevision(_) => "NoSuchRevision",
+            ReportFault::NoNode(_) => "NoNode",
+            ReportFault::ParentNotDir(_) => "ParentNotDir",
+            ReportFault::Memory => "Memory",
+            ReportFault::RootNotDir => "RootNotDir",
         }
     }
 }

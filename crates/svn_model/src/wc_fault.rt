@@ -1,6 +1,6 @@
 //! Why a working copy refuses.
 ghost use Rattle.std.specs.Prelude.{◌≡◌};
-ghost use Rattle.svn_model.specs.FaultNumbers.{wc_fault_number};
+ghost use Rattle.svn_model.specs.FaultNumbers.{wc_fault_number, wc_fault_name};
 ghost use Rattle.svn_model.specs.declared.wc_fault.WcFault.TheVariants.{Memory};
 
 use std::alloc::AllocError;
@@ -49,6 +49,22 @@ impl WcFault {
             WcFault::Memory => 6,
             WcFault::Twice => 7,
             WcFault::BadRoot => 8,
+        }
+    }
+
+    /// The fault's name: that of its variant.
+    pub fn name(self) -> &'static str
+        ensures { result.now ≡ wc_fault_name self }
+    {
+        match self {
+            WcFault::NoSuchRevision => "NoSuchRevision",
+            WcFault::Missing => "Missing",
+            WcFault::NoParent => "NoParent",
+            WcFault::IsRoot => "IsRoot",
+            WcFault::TooDeep => "TooDeep",
+            WcFault::Memory => "Memory",
+            WcFault::Twice => "Twice",
+            WcFault::BadRoot => "BadRoot",
         }
     }
 }

@@ -1,6 +1,5 @@
 //! The rules of `svn_delta.h`, each a test of the next call.
 ghost use Rattle.std.specs.Prelude.{◌≡◌, ◌&&◌, Some};
-ghost use Rattle.std.specs.Option.{option_copied};
 ghost use Rattle.svn_editor.specs.Calls.{named_by, entry_of, number_eq};
 ghost use Rattle.svn_order.specs.Directories.{innermost_of};
 ghost use Rattle.svn_order.specs.OrderState.{target_late, unknown_in, closed_in, given_token, misnumbered_in, outside_in, current_text, elsewhere, too_early, not_innermost, open_below, prop_late, delete_late, entry_again, text_again, root_unclosed, naming_fault, nesting_fault, repeating_fault, fault_in};
@@ -8,7 +7,7 @@ ghost use Rattle.svn_order.specs.OrderState.{target_late, unknown_in, closed_in,
 use crate::order::{OrderCheck, Stage};
 use crate::{directories, tokens};
 use svn_editor::{Call, OrderFault, Token};
-use svn_types::{Kind, RelPath};
+use svn_types::Kind;
 
 // The token that a call is about, and of which kind of node it has to be: its own or, of an open, an add or a delete, the parent's.
 #[inline(always)]
@@ -42,21 +41,6 @@ fn given_by(call: &Call) -> Option<Token>
         | Call::OpenDirectory { token, .. }
         | Call::AddFile { token, .. }
         | Call::OpenFile { token, .. } => Some(*token),
-        _ => None,
-    }
-}
-
-// The entry of its parent that a call opens, adds or deletes.
-#[inline(always)]
-fn entry_of(call: &Call) -> Option<&RelPath>
-    ensures { option_copied result ≡ entry_of call.now }
-{
-    match call {
-        Call::DeleteEntry { path, .. }
-        | Call::AddDirectory { path, .. }
-        | Call::OpenDirectory { path, .. }
-        | Call::AddFile { path, .. }
-        | Call::OpenFile { path, .. } => Some(path),
         _ => None,
     }
 }
@@ -204,7 +188,7 @@ impl OrderCheck {
     fn is_path_wrong(&self, call: &Call) -> bool
         ensures { result ≡ outside_in self.now.directories.items (named_by call.now) (entry_of call.now) }
     {
-        match (named_by(call), entry_of(call)) {
+        match (named_by(call), call.path()) {
             (Some((parent, _)), Some(path)) => {
                 !directories::holds_entry(&self.directories, parent, path)
             }

@@ -2,7 +2,7 @@
 --     change_fault h s change      why the change can't be made, if it can't
 --     after_change h s change      the tree and the next line after it
 --     IsCommit h h' changes      h' is h with one more revision, made by the changes
-use Rattle.std.specs.Prelude.{◌≡◌, ℕ, ◌+◌, ◌-◌, ◌≤◌, ◌<◌, Bool, true, List, [], ◌∷◌, ◌++◌, length, take, nat_lt, nat_le, Option, Some, None}
+use Rattle.std.specs.Prelude.{◌≡◌, ℕ, ◌+◌, ◌-◌, ◌≤◌, ◌<◌, Bool, true, List, [], ◌∷◌, ◌++◌, length, take, nat_lt, nat_le, Option, Some, None, codes}
 use Rattle.std.specs.Prelude.{MatchOption, is_some, if◌then◌else◌, ◌⊎◌}
 use Rattle.std.specs.Option.{option_and_then, option_or}
 use Rattle.svn_types.specs.declared.kind.Kind.TheVariants.{File, Directory}
@@ -217,3 +217,15 @@ commit_fault_number NoSuchRevision = 7
 commit_fault_number TooLong = 8
 commit_fault_number Full = 9
 commit_fault_number Memory = 10
+
+abbrev pub commit_fault_name : CommitFault → List ℕ
+commit_fault_name Exists = codes "Exists"
+commit_fault_name Missing = codes "Missing"
+commit_fault_name NotDir = codes "NotDir"
+commit_fault_name NotFile = codes "NotFile"
+commit_fault_name IsRoot = codes "IsRoot"
+commit_fault_name TooDeep = codes "TooDeep"
+commit_fault_name NoSuchRevision = codes "NoSuchRevision"
+commit_fault_name TooLong = codes "TooLong"
+commit_fault_name Full = codes "Full"
+commit_fault_name Memory = codes "Memory"

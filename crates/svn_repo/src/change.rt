@@ -1,7 +1,7 @@
 //! What a commit is asked to change, and why it refuses.
 ghost use Rattle.std.specs.Prelude.{◌≡◌};
 ghost use Rattle.svn_repo.specs.declared.change.CommitFault.TheVariants.{Memory};
-ghost use Rattle.svn_repo.specs.Changes.{commit_fault_number};
+ghost use Rattle.svn_repo.specs.Changes.{commit_fault_number, commit_fault_name};
 
 use std::alloc::AllocError;
 use svn_types::{PropName, RelPath, Rev, Text};
@@ -100,6 +100,24 @@ impl CommitFault {
             CommitFault::TooLong => 8,
             CommitFault::Full => 9,
             CommitFault::Memory => 10,
+        }
+    }
+
+    /// The fault's name: that of its variant.
+    pub fn name(self) -> &'static str
+        ensures { result.now ≡ commit_fault_name self }
+    {
+        match self {
+            CommitFault::Exists => "Exists",
+            CommitFault::Missing => "Missing",
+            CommitFault::NotDir => "NotDir",
+            CommitFault::NotFile => "NotFile",
+            CommitFault::IsRoot => "IsRoot",
+            CommitFault::TooDeep => "TooDeep",
+            CommitFault::NoSuchRevision => "NoSuchRevision",
+            CommitFault::TooLong => "TooLong",
+            CommitFault::Full => "Full",
+            CommitFault::Memory => "Memory",
         }
     }
 }

@@ -13,7 +13,7 @@ use svn_types::Name;
 
 /// Names a node revision of a repository (a node-revision ID, `svn_fs_id_t` of `svn_fs.h`). Two that are equal have one line, one content and one
 /// subtree. A repository answers None of one that it doesn't have, as another's may be. A contract sees it as its number.
-#[derive(Clone, Copy, Debug, PartialEq, Eq)]
+#[derive(Clone, Copy, Debug, PartialEq, Eq, PartialOrd, Ord, Hash)]
 pub struct NodeId {
     pub(crate) index: usize,
 }
@@ -117,6 +117,18 @@ impl Entries {
         ensures err { OnErr result (self.new ≡ self.old) }
     {
         self.map.remove(name)
+    }
+}
+
+impl<'a> IntoIterator for &'a Entries {
+    type Item = (&'a Name, &'a NodeId);
+
+    type IntoIter = Iter<'a, NodeId>;
+
+    ghost into_iter_gives = { λ entries pairs. pairs ≡ entries.now };
+
+    fn into_iter(self) -> Iter<'a, NodeId> {
+        self.iter()
     }
 }
 

@@ -30,9 +30,11 @@ mod listing;
 mod near;
 mod path_index;
 mod report;
+mod report_iter;
 mod reporter_fault;
 
 pub use entry::ReportEntry;
 pub use lines::EntryLine;
 pub use report::{Report, Reporter};
+pub use report_iter::ReportIter;
 pub use reporter_fault::ReporterFault;

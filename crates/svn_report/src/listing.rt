@@ -15,6 +15,7 @@ use crate::in_order::{
 use crate::path_index::PathIndex;
 use crate::reporter_fault::ReporterFault;
 use indexmap::IndexMap;
+use indexmap::map::Iter;
 use std::alloc::{AllocError, Global};
 use std::marker::Model;
 use svn_types::{MAX_DEPTH, Name, PathFault, RelPath};
@@ -108,6 +109,13 @@ impl Listing {
         ensures { option_map (λ e. (e.0.now, e.1.now)) result ≡ slice_get self.now i }
     {
         self.entries.get_index(i)
+    }
+
+    /// The entries and their paths, in the order of the calls.
+    pub fn iter(&self) -> Iter<'_, RelPath, ReportEntry>
+        ensures { result ≡ self.now }
+    {
+        self.entries.iter()
     }
 
     /// The entry at a path.

@@ -8,6 +8,7 @@ ghost use Rattle.svn_report.specs.declared.entry.ReportEntry.TheVariants.{SetPat
 
 use crate::entry::ReportEntry;
 use crate::listing::Listing;
+use crate::report_iter::ReportIter;
 use crate::reporter_fault::ReporterFault;
 use std::alloc::{AllocError, Global};
 use std::marker::Model;
@@ -64,6 +65,15 @@ impl Report {
         ensures { option_map (λ e. (e.0.now, e.1.now)) result ≡ slice_get self.now.entries i }
     {
         self.listing.entry(i)
+    }
+
+    /// The entries and their paths, in the order of the calls. It takes no memory.
+    pub fn iter(&self) -> ReportIter<'_>
+        ensures { result ≡ self.now.entries }
+    {
+        ReportIter {
+            rest: self.listing.iter(),
+        }
     }
 
     /// The entry at a path. The cost doesn't grow with the report.
@@ -129,6 +139,18 @@ impl Report {
             IfOk result (λ found. names_after (option_copied after.entry) names ≡ names_from (option_copied found) names) }
     {
         self.listing.next_name_near(path, after, near)
+    }
+}
+
+impl<'a> IntoIterator for &'a Report {
+    type Item = (&'a RelPath, &'a ReportEntry);
+
+    type IntoIter = ReportIter<'a>;
+
+    ghost into_iter_gives = { λ report entries. entries ≡ report.now.entries };
+
+    fn into_iter(self) -> ReportIter<'a> {
+        self.iter()
     }
 }
 

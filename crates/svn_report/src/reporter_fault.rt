@@ -1,6 +1,6 @@
 //! Why a reporter refuses a call.
 ghost use Rattle.std.specs.Prelude.{◌≡◌};
-ghost use Rattle.svn_report.specs.FaultNumbers.{reporter_fault_number};
+ghost use Rattle.svn_report.specs.FaultNumbers.{reporter_fault_number, reporter_fault_name};
 ghost use Rattle.svn_report.specs.declared.reporter_fault.ReporterFault.TheVariants.{Memory};
 
 use std::alloc::AllocError;
@@ -41,6 +41,20 @@ impl ReporterFault {
             ReporterFault::ParentLater => 4,
             ReporterFault::TooDeep => 5,
             ReporterFault::Memory => 6,
+        }
+    }
+
+    /// The fault's name: that of its variant.
+    pub fn name(self) -> &'static str
+        ensures { result.now ≡ reporter_fault_name self }
+    {
+        match self {
+            ReporterFault::NotRootFirst => "NotRootFirst",
+            ReporterFault::Repeated => "Repeated",
+            ReporterFault::UnderDeleted => "UnderDeleted",
+            ReporterFault::ParentLater => "ParentLater",
+            ReporterFault::TooDeep => "TooDeep",
+            ReporterFault::Memory => "Memory",
         }
     }
 }

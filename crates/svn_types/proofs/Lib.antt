@@ -26,3 +26,5 @@ pub mod WholeHeads
 pub mod KeyTexts
 -- paths that leave out names at the front of their block
 pub mod Cuts
+-- the digits of a checksum, which are text
+mod Digests

@@ -1,5 +1,7 @@
 pub mod Limits
 pub mod Names
+pub mod Kinds
+pub mod Digests
 pub mod NameFaults
 pub mod NameSplits
 pub mod Paths
@@ -8,6 +10,7 @@ pub mod Props
 pub mod Merging
 pub mod PathHash
 pub mod PathKeys
+pub mod PathTexts
 pub mod LeadingBytes
 pub mod PathHeads
 pub mod Forms

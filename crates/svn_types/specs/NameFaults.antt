@@ -1,6 +1,6 @@
 -- Which texts are refused as names and paths, and why. The first fault in this order is answered, and want of memory comes last.
 --     AnswersPath fault value result      the result is that fault, or the value where there is none
-use Rattle.std.specs.Prelude.{◌≡◌, ℕ, List, [], ◌∷◌, length, nat_lt, nat_eq, Option, Some, None, Result, Ok, Err, if◌then◌else◌}
+use Rattle.std.specs.Prelude.{◌≡◌, ℕ, List, [], ◌∷◌, length, nat_lt, nat_eq, Option, Some, None, Result, Ok, Err, if◌then◌else◌, codes}
 use Rattle.std.specs.List.{list_all}
 use Rattle.std.specs.Option.{option_or}
 use Rattle.svn_types.specs.declared.fault.PathFault.{PathFault}
@@ -46,3 +46,11 @@ path_fault_number BadCharacter = 3
 path_fault_number NameTooLong = 4
 path_fault_number TooManyComponents = 5
 path_fault_number Memory = 6
+
+abbrev pub path_fault_name : PathFault → List ℕ
+path_fault_name EmptyComponent = codes "EmptyComponent"
+path_fault_name Dots = codes "Dots"
+path_fault_name BadCharacter = codes "BadCharacter"
+path_fault_name NameTooLong = codes "NameTooLong"
+path_fault_name TooManyComponents = codes "TooManyComponents"
+path_fault_name Memory = codes "Memory"

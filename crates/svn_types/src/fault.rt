@@ -1,7 +1,7 @@
 //! Why a text is no name or no path.
 ghost use Rattle.std.specs.Prelude.{◌≡◌};
 ghost use Rattle.svn_types.specs.declared.fault.PathFault.TheVariants.{Memory};
-ghost use Rattle.svn_types.specs.NameFaults.{path_fault_number};
+ghost use Rattle.svn_types.specs.NameFaults.{path_fault_number, path_fault_name};
 
 use std::alloc::AllocError;
 use thiserror::Error;
@@ -42,6 +42,20 @@ impl PathFault {
             PathFault::NameTooLong => 4,
             PathFault::TooManyComponents => 5,
             PathFault::Memory => 6,
+        }
+    }
+
+    /// The fault's name: that of its variant.
+    pub fn name(self) -> &'static str
+        ensures { result.now ≡ path_fault_name self }
+    {
+        match self {
+            PathFault::EmptyComponent => "EmptyComponent",
+            PathFault::Dots => "Dots",
+            PathFault::BadCharacter => "BadCharacter",
+            PathFault::NameTooLong => "NameTooLong",
+            PathFault::TooManyComponents => "TooManyComponents",
+            PathFault::Memory => "Memory",
         }
     }
 }

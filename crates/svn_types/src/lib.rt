@@ -22,6 +22,7 @@
 mod bytes;
 mod changes;
 mod cut;
+mod digest;
 mod fault;
 mod kind;
 mod leading_bytes;
@@ -51,6 +52,7 @@ mod text;
 
 pub use bytes::split_once;
 pub use changes::PropChange;
+pub use digest::Digest;
 pub use fault::PathFault;
 pub use kind::Kind;
 pub use limits::{MAX_CAPACITY, MAX_COMPONENTS, MAX_DEPTH, MAX_NAME_LEN, MAX_SCRIPT, MAX_SIZE};

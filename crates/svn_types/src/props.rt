@@ -4,11 +4,13 @@ ghost use Rattle.std.specs.Option.{option_copied};
 ghost use Rattle.std.specs.Map.{lookup, remove_entry};
 ghost use Rattle.std.specs.BTreeMap.{is_at, insert_entry};
 ghost use Rattle.svn_types.specs.Names.{name_cmp};
+ghost use Rattle.svn_types.specs.Pairs.{InNameOrder};
 
 use crate::prop_name::PropName;
 use crate::text::Text;
 use std::alloc::{AllocError, Global};
 use std::collections::BTreeMap;
+use std::collections::btree_map::Iter;
 use std::marker::Model;
 
 /// The properties of a node (`svn_props.h`): values by their names, each name once. A contract sees them as the pairs in byte order of the names.
@@ -67,6 +69,14 @@ impl Props {
         &self.map
     }
 
+    /// The names and values, in byte order of the names. It takes no memory.
+    pub fn iter(&self) -> Iter<'_, PropName, Text>
+        ensures rest { result ≡ self.now }
+        ensures ordered { InNameOrder self.now }
+    {
+        self.map.iter()
+    }
+
     /// The value under a name, if it is set.
     pub fn get(&self, name: &PropName) -> Option<&Text>
         ensures { option_copied result ≡ lookup (is_at (name_cmp name.now)) self.now }
@@ -88,6 +98,18 @@ impl Props {
         ensures { self.new ≡ remove_entry (is_at (name_cmp name.now)) self.old }
     {
         self.map.remove(name);
+    }
+}
+
+impl<'a> IntoIterator for &'a Props {
+    type Item = (&'a PropName, &'a Text);
+
+    type IntoIter = Iter<'a, PropName, Text>;
+
+    ghost into_iter_gives = { λ props pairs. pairs ≡ props.now };
+
+    fn into_iter(self) -> Iter<'a, PropName, Text> {
+        self.iter()
     }
 }
 

@@ -1,6 +1,7 @@
 //! Paths, as lists of names.
 ghost use Rattle.std.specs.Prelude.{◌≡◌, ℕ, ◌+◌, ◌<◌, ◌≤◌, ◌∷◌, ◌++◌, [], length, drop, refl, nat_eq, true, IfOk, Some, None, ◌↔◌, IsTrue, List, MatchOption, MatchResult};
-ghost use Rattle.std.specs.List.{slice_split};
+ghost use Rattle.std.specs.Fmt.{DisplaysOnOk};
+ghost use Rattle.std.specs.List.{flat_map, slice_split};
 ghost use Rattle.std.specs.Ordering.{nat_cmp};
 ghost use Rattle.std.specs.Cmp.Lexicographic.{pointwise, slice_cmp, nat_list_eq_equiv, nat_list_cmp_total, texts_ties, lists_per, lists_equiv, lists_total, lists_ties};
 ghost use Rattle.std.specs.Cmp.{partial_equiv_from_equiv, partial_order_from_agreeing_total};
@@ -11,6 +12,7 @@ ghost use Rattle.svn_types.specs.NameSplits.{IsNameSplit};
 ghost use Rattle.svn_types.specs.PathHash.{same_path_hash};
 ghost use Rattle.svn_types.specs.PathHeads.{IsHeadOf};
 ghost use Rattle.svn_types.specs.PathKeys.{path_key, is_plain_path};
+ghost use Rattle.svn_types.specs.PathTexts.{shown_path};
 ghost use Rattle.svn_types.specs.NameFaults.{path_fault, names_fault, count_fault, AnswersPath};
 
 use crate::bytes::split_once;
@@ -315,6 +317,36 @@ impl Drop for RelPath {
 impl fmt::Debug for RelPath {
     fn fmt<W: fmt::Write>(&self, f: &mut fmt::Formatter<W>) -> fmt::Result {
         fmt::Debug::fmt(&self.components(), f)
+    }
+}
+
+// A name, and a slash before it.
+fn write_below<W: fmt::Write>(name: &Name, f: &mut fmt::Formatter<W>) -> fmt::Result
+    ensures { DisplaysOnOk W.write_str_gives f.old result (Some (47 ∷ name.now)) f.new }
+{
+    write!(f, "/{name}")
+}
+
+// Names, and a slash before each.
+fn write_all_below<W: fmt::Write>(names: &[Name], f: &mut fmt::Formatter<W>) -> fmt::Result
+    ensures { DisplaysOnOk W.write_str_gives f.old result (Some (flat_map (λ m. 47 ∷ m) names.now)) f.new }
+{
+    for name in names {
+        write_below(name, f)?;
+    }
+    Ok(())
+}
+
+/// The names with a slash between them, which [`parse`](RelPath::parse) reads again; the root is printed as `.`.
+impl fmt::Display for RelPath {
+    ghost output = { λ p. Some (shown_path p) };
+
+    fn fmt<W: fmt::Write>(&self, f: &mut fmt::Formatter<W>) -> fmt::Result {
+        let Some((first, rest)) = self.components().split_first() else {
+            return f.write_str(".");
+        };
+        f.write_str(first.as_str())?;
+        write_all_below(rest, f)
     }
 }
 

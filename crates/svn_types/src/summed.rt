@@ -2,6 +2,7 @@
 ghost use Rattle.std.specs.Prelude.{◌≡◌, ◌≤◌, length, IfSome};
 ghost use Rattle.md5.specs.Md5.{md5};
 
+use crate::digest::Digest;
 use crate::short_bytes::ShortBytes;
 use std::marker::Model;
 
@@ -9,7 +10,7 @@ use std::marker::Model;
 #[derive(Drop)]
 pub(crate) struct ShortSummed {
     bytes: ShortBytes<14>,
-    checksum: [u8; 16],
+    checksum: Digest,
 }
 
 impl Model for ShortSummed {
@@ -28,7 +29,7 @@ impl ShortSummed {
     pub(crate) const MAX: usize = 14;
 
     /// These bytes, which fit, with their checksum.
-    pub(crate) fn of(bytes: &[u8], checksum: [u8; 16]) -> ShortSummed
+    pub(crate) fn of(bytes: &[u8], checksum: Digest) -> ShortSummed
         requires fits { length bytes.now ≤ 14 }
         requires sum { checksum ≡ md5 bytes.now }
         ensures { result ≡ bytes.now }
@@ -47,7 +48,7 @@ impl ShortSummed {
     }
 
     /// Their checksum.
-    pub(crate) fn checksum(&self) -> [u8; 16]
+    pub(crate) fn checksum(&self) -> Digest
         ensures { result ≡ md5 self.now }
     {
         self.checksum
@@ -68,7 +69,7 @@ impl ShortSummed {
 #[derive(Drop)]
 pub(crate) struct LongBytes {
     bytes: Vec<u8>,
-    checksum: Option<[u8; 16]>,
+    checksum: Option<Digest>,
 }
 
 impl Model for LongBytes {
@@ -94,7 +95,7 @@ impl LongBytes {
     }
 
     /// These bytes with their checksum.
-    pub(crate) fn summed(bytes: Vec<u8>, checksum: [u8; 16]) -> LongBytes
+    pub(crate) fn summed(bytes: Vec<u8>, checksum: Digest) -> LongBytes
         requires { checksum ≡ md5 bytes.items }
         ensures { result ≡ bytes.items }
     {
@@ -112,7 +113,7 @@ impl LongBytes {
     }
 
     /// Their checksum, if it is kept.
-    pub(crate) fn checksum(&self) -> Option<[u8; 16]>
+    pub(crate) fn checksum(&self) -> Option<Digest>
         ensures { IfSome result (λ sum. sum ≡ md5 self.now) }
     {
         self.checksum

@@ -4,9 +4,9 @@ ghost use Rattle.std.specs.Cmp.Lexicographic.{pointwise, nat_list_eq_equiv};
 ghost use Rattle.std.specs.Cmp.{partial_equiv_from_equiv};
 ghost use Rattle.md5.specs.Md5.{md5};
 
+use crate::digest::Digest;
 use crate::short_bytes::ShortBytes;
 use crate::summed::{LongBytes, ShortSummed};
-use md5::{Digest as Hasher, Md5};
 use std::alloc::{AllocError, Global};
 use std::fmt;
 use std::marker::Model;
@@ -71,7 +71,7 @@ impl Text {
     }
 
     // The text that has these bytes too, and keeps their checksum; from 15 to 30 bytes leave no room for it.
-    fn with_checksum(alloc: Global, bytes: &[u8], checksum: [u8; 16]) -> Result<Text, AllocError>
+    fn with_checksum(alloc: Global, bytes: &[u8], checksum: Digest) -> Result<Text, AllocError>
         requires { checksum ≡ md5 bytes.now }
         ensures { IfOk result (λ t. t ≡ bytes.now) }
     {
@@ -94,12 +94,12 @@ impl Text {
     pub fn verified(
         alloc: Global,
         bytes: &[u8],
-        checksum: &[u8; 16],
+        checksum: &Digest,
     ) -> Result<Option<Text>, AllocError>
         ensures told { IfOk result (λ t. t ≡ (if bytes_eq checksum.now (md5 bytes.now) then Some bytes.now else None)) }
         ensures refused { IfErr result (λ _. checksum.now ≡ md5 bytes.now) }
     {
-        let found: [u8; 16] = Md5::digest(bytes);
+        let found = Digest::of(bytes);
         if *checksum != found {
             return Ok(None);
         }
@@ -128,17 +128,17 @@ impl Text {
     }
 
     /// Its MD5 checksum (RFC 1321): the one that it keeps, or computed from its bytes.
-    pub fn checksum(&self) -> [u8; 16]
+    pub fn checksum(&self) -> Digest
         ensures { result ≡ md5 self.now }
     {
         match self.kept_checksum() {
             Some(checksum) => checksum,
-            None => Md5::digest(self.as_slice()),
+            None => Digest::of(self.as_slice()),
         }
     }
 
     /// The MD5 checksum that it keeps, if it keeps one. Nothing is computed, and a clone of a text that keeps one copies none of its bytes.
-    pub fn kept_checksum(&self) -> Option<[u8; 16]>
+    pub fn kept_checksum(&self) -> Option<Digest>
         ensures { IfSome result (λ sum. sum ≡ md5 self.now) }
     {
         match &self.form {

@@ -1,9 +1,9 @@
 use Rattle.std.proofs.Common.{sym, ap, subst, ◌∙◌}
 use Rattle.std.proofs.Output.{has_written_of_eq}
 use Rattle.std.specs.Str.{IsUtf8}
-use Rattle.svn_editor.specs.Words.{digest_word}
-use Rattle.svn_editor.proofs.PrintedWords.{digits_utf8}
-use Rattle.svn_editor.proofs.words.DigestDisplay.fmt.Goals as goal
+use Rattle.svn_types.specs.Digests.{digest_word}
+use Rattle.svn_types.proofs.Digests.{digits_utf8}
+use Rattle.svn_types.proofs.digest.DigestDisplay.fmt.Goals as goal
 
 pub from_utf8_unchecked-requires : goal.from_utf8_unchecked-requires
 from_utf8_unchecked-requires g c = subst IsUtf8 (sym c.digits_of-digits.ensures) (digits_utf8 c.self.inside.0)
