@@ -10,7 +10,8 @@ use Rattle.svn_repo.specs.Readings.{are_related}
 use Rattle.svn_report.specs.declared.entry.ReportEntry.{ReportEntry}
 use Rattle.svn_report.specs.declared.entry.ReportEntry.TheVariants.{SetPath, LinkPath, DeletePath}
 use Rattle.svn_report.specs.Reports.{ReportView, entry_at}
-use Rattle.svn_editor.specs.Steps.{Mode, Update, SwitchTo}
+use Rattle.svn_editor.specs.declared.mode.Mode.{Mode}
+use Rattle.svn_editor.specs.declared.mode.Mode.TheVariants.{Update, SwitchTo}
 use Rattle.svn_model.specs.Sources.{Reported, source, reported_child, reported_root, linked_or, is_set_or_link, starts_empty, revision_of}
 use Rattle.svn_model.specs.Follow.{Request, Followed, candidate, root_path, follow, follow_root, follow_child, target_path, source_node}
 use Rattle.svn_model.specs.Follow.{target_node}

@@ -14,7 +14,9 @@ use Rattle.svn_report.specs.declared.entry.ReportEntry.{ReportEntry}
 use Rattle.svn_report.specs.Reports.{entry_at, has_entry_below}
 use Rattle.svn_report.specs.ReportNames.{has_entry_within}
 use Rattle.svn_editor.specs.Calls.{number_eq}
-use Rattle.svn_editor.specs.Steps.{Mode, Update, SwitchTo, Delete}
+use Rattle.svn_editor.specs.declared.mode.Mode.{Mode}
+use Rattle.svn_editor.specs.declared.mode.Mode.TheVariants.{Update, SwitchTo}
+use Rattle.svn_editor.specs.Steps.{Delete}
 use Rattle.svn_model.specs.Sources.{Reported, reported, starts_empty, linked_or, source, governing_revision}
 use Rattle.svn_model.specs.Follow.{Request, candidate, root_path, follow, is_kept, target_path, source_node, target_node}
 use Rattle.svn_model.specs.Steps.{is_touched, is_new, starts_empty_at}

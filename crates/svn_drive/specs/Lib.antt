@@ -1,5 +1,6 @@
 pub mod Counts
 pub mod Walking
+pub mod Targets
 pub mod Waiting
 pub mod Checking
 pub mod Firsts

@@ -8,7 +8,9 @@ use Rattle.std.specs.Prelude.{◌∷◌, ◌++◌, Option, Some, None, option_an
 use Rattle.std.specs.Option.{option_copied}
 use Rattle.md5.specs.Md5.{md5}
 use Rattle.svn_types.specs.Names.{Path, depth_limit}
-use Rattle.svn_editor.specs.Steps.{Mode, Update, SwitchTo}
+use Rattle.svn_editor.specs.declared.mode.Mode.{Mode}
+use Rattle.svn_editor.specs.declared.mode.Mode.TheVariants.{Update, SwitchTo}
+use Rattle.svn_editor.specs.Steps.{mode_at}
 use Rattle.svn_repo.specs.History.{History, node_at, child_in, look}
 use Rattle.svn_repo.specs.Readings.{is_directory_at}
 use Rattle.svn_types.specs.Paths.{child, is_root}
@@ -32,15 +34,11 @@ use Rattle.svn_model.specs.Sources.{starts_empty}
 use Rattle.svn_model.specs.Follow.{Request, Followed, follow, target_path, source_node, target_node}
 use Rattle.svn_model.specs.Steps.{is_touched, is_gone, source_text}
 
-abbrev pub mode_of : Option Path → Mode
-mode_of None = Update
-mode_of (Some root) = SwitchTo root
-
 abbrev pub asked : History → ReportView → ℕ → Mode → Request
 asked h r target mode = record { history = h; report = r; target = target; mode = mode; checksum = md5 }
 
 abbrev pub request_of : Walk → Request
-request_of w = asked w.repo.now w.report.now w.target (mode_of (option_copied w.switch_to))
+request_of w = asked w.repo.now w.report.now w.target (mode_at (option_copied w.switch_to))
 
 abbrev pub followed_of : Request → Place → Followed
 followed_of d place = record {

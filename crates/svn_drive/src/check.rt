@@ -62,8 +62,8 @@ fn lookup_below(repo: &Repo, rev: Rev, base: &RelPath, names: &[Name]) -> Option
     node_below(repo, from, names)
 }
 
-// As a function, so that a caller's proof sees one term and no branches.
-pub(crate) fn both(first: bool, second: bool) -> bool
+// `&&` as a function, so that a caller's proof sees one term and no branches.
+pub(crate) fn all_hold(first: bool, second: bool) -> bool
     ensures { result ≡ (first && second) }
 {
     first && second
@@ -215,14 +215,14 @@ impl<'a> Check<'a> {
         ensures { result ≡ fault_by self.now.repo.now i entry.now is_root here above }
     {
         let is_present = is_set_or_link(Some(entry));
-        let is_late = revision_of(Some(entry)).0 > self.repo.latest().0;
-        if both(is_present, is_late) {
+        let is_late = revision_of(Some(entry)) > self.repo.latest();
+        if all_hold(is_present, is_late) {
             Some(ReportFault::NoSuchRevision(i))
-        } else if both(is_present, here.is_none()) {
+        } else if all_hold(is_present, here.is_none()) {
             Some(ReportFault::NoNode(i))
-        } else if both(is_root, !is_directory(self.repo, here)) {
+        } else if all_hold(is_root, !is_directory(self.repo, here)) {
             Some(ReportFault::RootNotDir)
-        } else if both(!is_root, !is_directory(self.repo, above)) {
+        } else if all_hold(!is_root, !is_directory(self.repo, above)) {
             Some(ReportFault::ParentNotDir(i))
         } else {
             None

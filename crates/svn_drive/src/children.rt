@@ -7,7 +7,7 @@ ghost use Rattle.svn_drive.specs.NamesLeft.{IsBelow, AreLeft, names_left};
 ghost use Rattle.svn_drive.specs.Children.{IsChild, SameWalk, names_of};
 ghost use Rattle.svn_drive.specs.Walking.{IsAt, IsIdle, request_of};
 
-use crate::check::both;
+use crate::check::all_hold;
 use crate::child_names::{Below, NamesLeft};
 use crate::entries::starts_empty;
 use crate::lists_left::{EntriesLeft, ReportedLeft, entries_at};
@@ -32,7 +32,7 @@ impl<'a> Walk<'a> {
         } else {
             let source = below.source.copied();
             let target = below.target.copied();
-            both(source.is_some(), source == target)
+            all_hold(source.is_some(), source == target)
         }
     }
 

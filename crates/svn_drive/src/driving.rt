@@ -1,5 +1,5 @@
 //! Drives: the calls that bring a client from what it reports to a revision.
-ghost use Rattle.std.specs.Prelude.{◌≡◌, ◌+◌, [], length, Result, Err, IfSome, IfErr};
+ghost use Rattle.std.specs.Prelude.{◌≡◌, ◌+◌, [], length, Result, Err, None, IfSome, IfErr};
 ghost use Rattle.svn_editor.specs.declared.call.Call.TheVariants.{AbortEdit};
 ghost use Rattle.svn_editor.specs.declared.fault.EditFault.{EditFault};
 ghost use Rattle.svn_model.specs.Checks.{target_fault};
@@ -8,27 +8,43 @@ ghost use Rattle.svn_model.specs.TreeCalls.{drive_calls};
 ghost use Rattle.svn_drive.specs.Checking.{AreOfDrive};
 ghost use Rattle.svn_drive.specs.Counts.{with_last};
 ghost use Rattle.svn_drive.specs.Walking.{IsAt, request_of, asked};
-ghost use Rattle.svn_editor.specs.Steps.{Update, SwitchTo};
+ghost use Rattle.svn_drive.specs.Targets.{fault_between};
+ghost use Rattle.std.specs.Option.{option_copied};
+ghost use Rattle.svn_editor.specs.declared.mode.Mode.TheVariants.{Update, SwitchTo};
+ghost use Rattle.svn_editor.specs.Steps.{mode_at};
 
 use crate::making::{Progress, make, make_last};
 use crate::nodes::are_related;
 use crate::place::Place;
+use crate::request::{DriveOptions, Request};
 use crate::walk::Walk;
 use std::alloc::Global;
 use svn_drive_law::the_calls_are_a_drive;
 use svn_editor::{Call, Editor};
 use svn_model::{DriveEnd, DriveFault, Stop};
-use svn_repo::Repo;
+use svn_repo::{NodeId, Repo};
 use svn_report::Report;
 use svn_types::{RelPath, Rev};
 
-/// How a drive is made.
-#[derive(Clone, Copy, Debug)]
-pub struct DriveOptions {
-    /// After how many calls the drive is given up, if it has more: then it makes `AbortEdit`, which isn't counted. None: it goes to its end.
-    pub cancel_after: Option<u64>,
-    /// Whether the texts of files come after all directories are closed, as the order of `svn_delta.h` allows.
-    pub late_texts: bool,
+/// Why no drive leads from the node that a client has at its root to the one that the target has there: NoSuchTarget, NoRoot, OtherRoot, in this
+/// order. It takes no memory.
+pub fn fault_between(
+    repo: &Repo,
+    target: Rev,
+    from: Option<NodeId>,
+    there: Option<NodeId>,
+) -> Option<DriveFault>
+    ensures { result ≡ fault_between repo.now target from there }
+{
+    if target > repo.latest() {
+        Some(DriveFault::NoSuchTarget)
+    } else if there.is_none() {
+        Some(DriveFault::NoRoot)
+    } else if !are_related(repo, &from, &there) {
+        Some(DriveFault::OtherRoot)
+    } else {
+        None
+    }
 }
 
 impl<'a> Walk<'a> {
@@ -38,15 +54,7 @@ impl<'a> Walk<'a> {
         requires root { root.now.here.path ≡ [] }
         ensures { result ≡ target_fault (request_of self.now) }
     {
-        if self.target.0 > self.repo.latest().0 {
-            Some(DriveFault::NoSuchTarget)
-        } else if root.target.is_none() {
-            Some(DriveFault::NoRoot)
-        } else if !are_related(self.repo, &root.source, &root.target) {
-            Some(DriveFault::OtherRoot)
-        } else {
-            None
-        }
+        fault_between(self.repo, self.target, root.source, root.target)
     }
 
     // All calls.
@@ -73,6 +81,36 @@ impl<'a> Walk<'a> {
         make_last(self.limit, editor, progress)
     }
 
+    // A drive whose target has no fault.
+    fn drive_from<E: Editor>(
+        &self,
+        root: &Place<'a>,
+        editor: &mut E,
+    ) -> Result<DriveEnd, DriveFault>
+        requires at { IsAt (request_of self.now) root.now }
+        requires root { root.now.here.path ≡ [] }
+        requires parent { root.now.parent ≡ 0 }
+        requires target { target_fault (request_of self.now) ≡ None }
+        ensures { Drives E.answers self.now.limit (target_fault (request_of self.now)) (drive_calls (request_of self.now) self.now.late) result editor.old editor.new }
+    {
+        let mut progress = Progress::new();
+        match self.run(root, editor, &mut progress) {
+            Ok(()) => Ok(DriveEnd::Closed {
+                calls: progress.made_with_last(),
+            }),
+            Err(stop) => give_up(stop, progress.made(), editor),
+        }
+    }
+
+    // The same from the root.
+    fn drive_tested<E: Editor>(&self, editor: &mut E) -> Result<DriveEnd, DriveFault>
+        requires { target_fault (request_of self.now) ≡ None }
+        ensures { Drives E.answers self.now.limit (target_fault (request_of self.now)) (drive_calls (request_of self.now) self.now.late) result editor.old editor.new }
+    {
+        let root = self.root();
+        self.drive_from(&root, editor)
+    }
+
     // A whole drive.
     fn drive<E: Editor>(&self, editor: &mut E) -> Result<DriveEnd, DriveFault>
         ensures calls { Drives E.answers self.now.limit (target_fault (request_of self.now)) (drive_calls (request_of self.now) self.now.late) result editor.old editor.new }
@@ -82,12 +120,26 @@ impl<'a> Walk<'a> {
         if let Some(fault) = self.target_fault(&root) {
             return Err(fault);
         }
-        let mut progress = Progress::new();
-        match self.run(&root, editor, &mut progress) {
-            Ok(()) => Ok(DriveEnd::Closed {
-                calls: progress.made_with_last(),
-            }),
-            Err(stop) => give_up(stop, progress.made(), editor),
+        self.drive_from(&root, editor)
+    }
+
+    // What is asked for.
+    fn of(alloc: Global, repo: &'a Repo, report: &'a Report, request: &'a Request) -> Walk<'a>
+        ensures repo { result.repo.now ≡ repo.now }
+        ensures report { result.report.now ≡ report.now }
+        ensures target { result.target ≡ request.now.target }
+        ensures mode { mode_at (option_copied result.switch_to) ≡ request.now.mode }
+        ensures late { result.late ≡ request.now.options.late_texts }
+        ensures limit { result.limit ≡ request.now.options.cancel_after }
+    {
+        Walk {
+            alloc,
+            repo,
+            report,
+            target: request.target,
+            switch_to: request.mode.root(),
+            late: request.options.late_texts,
+            limit: request.options.cancel_after,
         }
     }
 }
@@ -168,4 +220,34 @@ pub fn drive_switch<'a, E: Editor>(
         limit: options.cancel_after,
     };
     walk.drive(editor)
+}
+
+/// Drives an editor from a report to what is asked for: an update or a switch, as [`drive`] and [`drive_switch`] do.
+pub fn drive_request<E: Editor>(
+    alloc: Global,
+    repo: &Repo,
+    report: &Report,
+    request: &Request,
+    editor: &mut E,
+) -> Result<DriveEnd, DriveFault>
+    ensures calls { let d = asked repo.now report.now request.now.target request.now.mode in Drives E.answers request.now.options.cancel_after (target_fault d) (drive_calls d request.now.options.late_texts) result editor.old editor.new }
+    ensures refused { IfSome (target_fault (asked repo.now report.now request.now.target request.now.mode)) (λ fault. (result ≡ Err fault) × (editor.new ≡ editor.old)) }
+    ensures of_definition { let d = asked repo.now report.now request.now.target request.now.mode in AreOfDrive d request.now.options.late_texts (drive_calls d request.now.options.late_texts) }
+{
+    the_calls_are_a_drive();
+    Walk::of(alloc, repo, report, request).drive(editor)
+}
+
+/// The same where the target was tested, by [`fault_between`], and has no fault.
+pub fn drive_tested<E: Editor>(
+    alloc: Global,
+    repo: &Repo,
+    report: &Report,
+    request: &Request,
+    editor: &mut E,
+) -> Result<DriveEnd, DriveFault>
+    requires { target_fault (asked repo.now report.now request.now.target request.now.mode) ≡ None }
+    ensures { let d = asked repo.now report.now request.now.target request.now.mode in Drives E.answers request.now.options.cancel_after (target_fault d) (drive_calls d request.now.options.late_texts) result editor.old editor.new }
+{
+    Walk::of(alloc, repo, report, request).drive_tested(editor)
 }

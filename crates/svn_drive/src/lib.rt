@@ -27,9 +27,11 @@ mod lists_left;
 mod making;
 mod nodes;
 mod place;
+mod request;
 mod visit;
 mod walk;
 
 pub use check::check_report;
-pub use driving::{DriveOptions, drive, drive_switch};
+pub use driving::{drive, drive_request, drive_switch, drive_tested, fault_between};
+pub use request::{DriveOptions, Request};
 pub use svn_model::{DriveEnd, DriveFault, ReportFault};

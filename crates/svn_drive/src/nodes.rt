@@ -4,11 +4,9 @@ ghost use Rattle.md5.specs.Md5.{md5};
 ghost use Rattle.svn_repo.specs.History.{node_at, child_in};
 ghost use Rattle.svn_repo.specs.Readings.{are_related, is_directory_at, text_of, kind_of, props_of};
 
-use md5::{Digest as Hasher, Md5};
 use std::alloc::{AllocError, Global};
-use svn_editor::Digest;
 use svn_repo::{NodeId, Repo};
-use svn_types::{Kind, Name, Props, Text};
+use svn_types::{Digest, Kind, Name, Props, Text};
 
 /// Whether two nodes are there, and of one line.
 pub(crate) fn are_related(repo: &Repo, from: &Option<NodeId>, to: &Option<NodeId>) -> bool
@@ -55,7 +53,7 @@ pub(crate) fn checksum_of(repo: &Repo, node: NodeId) -> Digest
     ensures { result ≡ md5 (text_of repo.now node) }
 {
     match repo.shared_text(node) {
-        Some(text) => Digest(text.checksum()),
+        Some(text) => text.checksum(),
         None => checksum_of_nothing(),
     }
 }
@@ -64,7 +62,7 @@ pub(crate) fn checksum_of(repo: &Repo, node: NodeId) -> Digest
 pub(crate) fn checksum_of_nothing() -> Digest
     ensures { result ≡ md5 [] }
 {
-    Digest(Md5::digest(&[]))
+    Digest::of(&[])
 }
 
 /// The text of a file, which shares the repository's bytes; of what is none, no byte.

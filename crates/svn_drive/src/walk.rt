@@ -7,9 +7,10 @@ ghost use Rattle.svn_model.specs.Tree.{is_entered};
 ghost use Rattle.svn_model.specs.Follow.{root_path};
 ghost use Rattle.svn_drive.specs.Checking.{seen_as};
 ghost use Rattle.svn_drive.specs.NamesLeft.{IsBelow};
-ghost use Rattle.svn_drive.specs.Walking.{IsAt, IsNearlyAt, is_changed_at, linked_node, candidate_node, request_of, mode_of};
+ghost use Rattle.svn_drive.specs.Walking.{IsAt, IsNearlyAt, is_changed_at, linked_node, candidate_node, request_of};
+ghost use Rattle.svn_editor.specs.Steps.{mode_at};
 
-use crate::check::{Check, Seen, both};
+use crate::check::{Check, Seen, all_hold};
 use crate::child_names::Below;
 use crate::entries::{is_hidden, starts_empty};
 use crate::nodes::{are_related, is_directory};
@@ -66,9 +67,9 @@ impl<'a> Walk<'a> {
                 .has_entry_below_near(&place.here.path, place.here.near)
     }
 
-    // With the one test that is left.
+    // With whether something is to be done there, which is the last to be found out.
     #[inline(always)]
-    fn with_test(&self, place: Place<'a>) -> Place<'a>
+    fn with_touched(&self, place: Place<'a>) -> Place<'a>
         requires { IsNearlyAt (request_of self.now) place }
         ensures at { IsAt (request_of self.now) result }
         ensures path { result.here.path ≡ place.entry.here.path }
@@ -83,7 +84,7 @@ impl<'a> Walk<'a> {
 
     // The path of the root in the target.
     fn root_path(&self) -> &'a RelPath
-        ensures { result.now ≡ root_path (mode_of (option_copied self.now.switch_to)) self.now.report.now.root }
+        ensures { result.now ≡ root_path (mode_at (option_copied self.now.switch_to)) self.now.report.now.root }
     {
         match self.switch_to {
             Some(root) => root,
@@ -100,7 +101,7 @@ impl<'a> Walk<'a> {
         let here = self.reading().seen_root();
         let source = self.reading().source(&here);
         let target = self.repo.lookup(self.target, self.root_path());
-        self.with_test(Place {
+        self.with_touched(Place {
             here,
             is_kept: true,
             parent_is_kept: true,
@@ -145,7 +146,7 @@ impl<'a> Walk<'a> {
     // The node in the target that would keep a child of a kept place, by the one beneath its parent's: only an update follows links.
     #[inline(always)]
     fn candidate(&self, here: &Seen<'a>, beneath: &Option<NodeId>) -> Option<NodeId>
-        ensures { result ≡ candidate_node (request_of self.now) (mode_of (option_copied self.now.switch_to)) (option_copied here.now.own) beneath.now }
+        ensures { result ≡ candidate_node (request_of self.now) (mode_at (option_copied self.now.switch_to)) (option_copied here.now.own) beneath.now }
     {
         match self.switch_to {
             Some(_) => *beneath,
@@ -174,9 +175,9 @@ impl<'a> Walk<'a> {
         let beneath = below.target.copied();
         let there = self.candidate(&here, &beneath);
         let related = are_related(self.repo, &source, &there);
-        let is_kept = both(above.is_kept, related);
+        let is_kept = all_hold(above.is_kept, related);
         let target = target_of(is_kept, &there, &beneath);
-        self.with_test(Place {
+        self.with_touched(Place {
             here,
             is_kept,
             parent_is_kept: above.is_kept,

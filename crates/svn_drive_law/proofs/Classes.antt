@@ -19,7 +19,9 @@ use Rattle.svn_repo.specs.History.{History, look}
 use Rattle.svn_report.specs.declared.entry.ReportEntry.{ReportEntry}
 use Rattle.svn_report.specs.Reports.{entry_at, has_entry_below}
 use Rattle.svn_model.specs.Sources.{Reported, reported, starts_empty, is_set_or_link, linked_or, source, governing_revision}
-use Rattle.svn_editor.specs.Steps.{Mode, Update, SwitchTo, Delete}
+use Rattle.svn_editor.specs.declared.mode.Mode.{Mode}
+use Rattle.svn_editor.specs.declared.mode.Mode.TheVariants.{Update, SwitchTo}
+use Rattle.svn_editor.specs.Steps.{Delete}
 use Rattle.svn_model.specs.Steps.{is_touched, is_new, is_gone, starts_empty_at, touched_actions, new_actions, entered_actions, path_actions}
 use Rattle.svn_editor.specs.Calls.{number_eq}
 use Rattle.svn_model.specs.Follow.{Request, Followed, candidate, root_path, follow, follow_child, is_kept, target_path, source_node}

@@ -20,7 +20,9 @@ use Rattle.svn_repo.specs.History.{look}
 use Rattle.svn_repo.specs.Readings.{is_directory, is_directory_at, are_related, entries_of}
 use Rattle.svn_report.specs.declared.entry.ReportEntry.{ReportEntry}
 use Rattle.svn_report.specs.Reports.{entry_at}
-use Rattle.svn_editor.specs.Steps.{Mode, Update, SwitchTo, Delete}
+use Rattle.svn_editor.specs.declared.mode.Mode.{Mode}
+use Rattle.svn_editor.specs.declared.mode.Mode.TheVariants.{Update, SwitchTo}
+use Rattle.svn_editor.specs.Steps.{Delete}
 use Rattle.svn_model.specs.Sources.{Reported, source, starts_empty, reported, governing_revision}
 use Rattle.svn_model.specs.Follow.{Request, candidate, follow, is_kept, target_path, source_node, target_node}
 use Rattle.svn_model.specs.Steps.{entered_actions, path_actions}

@@ -11,7 +11,7 @@ use Rattle.svn_editor.specs.declared.call.Call.{Call}
 use Rattle.svn_editor.specs.declared.call.Call.TheVariants.{AbortEdit}
 use Rattle.svn_editor.specs.declared.fault.EditFault.{EditFault}
 use Rattle.svn_editor.specs.Calls.{Given, given_by, given, given_path, all_given, kind_eq, closes, is_closed, is_abort, is_last, named_by}
-use Rattle.svn_editor.specs.Steps.{Mode}
+use Rattle.svn_editor.specs.declared.mode.Mode.{Mode}
 use Rattle.svn_editor.proofs.OneMore.{any_more, or_true, false_from}
 use Rattle.svn_editor.proofs.Accepted.{IsAccepted, accepted}
 use Rattle.svn_order.proofs.Sound.{numbered_next}

@@ -16,7 +16,9 @@ use Rattle.svn_editor.specs.declared.fault.EditFault.{EditFault}
 use Rattle.svn_editor.specs.declared.fault.EditFault.TheVariants.{Memory, TooLong}
 use Rattle.svn_editor.specs.Calls.{Given, kind_eq, number_eq, given_by, named_by, given, is_closed, all_given, path_of, is_abort}
 use Rattle.svn_editor.specs.Calls.{is_open_in, closes}
-use Rattle.svn_editor.specs.Steps.{Mode, Update, Action, Change, Text, Close, Step, steps_of, target_of}
+use Rattle.svn_editor.specs.declared.mode.Mode.{Mode}
+use Rattle.svn_editor.specs.declared.mode.Mode.TheVariants.{Update}
+use Rattle.svn_editor.specs.Steps.{Action, Change, Text, Close, Step, steps_of, target_of}
 use Rattle.svn_editor.specs.Order.{order_fault}
 use Rattle.svn_editor.proofs.Accepted.{IsAccepted, accepted}
 use Rattle.svn_editor.proofs.OneMore.{any_at, false_from}

@@ -11,7 +11,8 @@ use Rattle.svn_editor.specs.declared.call.Call.{Call}
 use Rattle.svn_editor.specs.declared.call.Call.TheVariants.{CloseFile}
 use Rattle.svn_editor.specs.declared.fault.EditFault.{EditFault}
 use Rattle.svn_editor.specs.Calls.{Given, given, path_of, is_of_kind}
-use Rattle.svn_editor.specs.Steps.{Mode, Action, Text, Close, Step, steps_of, target_of}
+use Rattle.svn_editor.specs.declared.mode.Mode.{Mode}
+use Rattle.svn_editor.specs.Steps.{Action, Text, Close, Step, steps_of, target_of}
 use Rattle.svn_editor.proofs.Nested.{eq_true}
 use Rattle.svn_order.proofs.Sound.{other_kind}
 use Rattle.svn_types.proofs.PathLemmas.{same_path}
@@ -24,7 +25,7 @@ use Rattle.svn_edit_law.proofs.OnePath.{pathed}
 use Rattle.svn_edit_law.proofs.StepEffects.{effect_alone}
 use Rattle.svn_edit.specs.declared.baton.Baton.{Baton}
 use Rattle.svn_edit.specs.declared.edit.Edit.{Edit}
-use Rattle.svn_nodes.specs.NodeTests.{sum_fault, FileIsClosed, mode_of}
+use Rattle.svn_nodes.specs.NodeTests.{sum_fault, FileIsClosed}
 use Rattle.svn_edit.specs.Applying.{Applied, KeepsEdit, batons_of, is_open, IsBaton, BatonGone, IsLeaf, Says, Holds, IsNext}
 use Rattle.svn_edit.specs.Closing.{ClosesFile}
 use Rattle.svn_edit.proofs.Holding.{map_ok, map_err, ok_by, on_err}
@@ -75,14 +76,14 @@ pub node_closes : (edit : Edit) (b : Baton) (sum : Option (List ℕ)) (at : Path
     (r : Result (Unit {0}) EditFault) → at ≡ b.path → Some old ≡ get_in nodes at
     → ((said : List Action) → Says b edit.pools said → AnswersCall (sum_fault md5 sum (filter_map text_in said) (Some old)) r)
     → OnOk r ((said : List Action) → Says b edit.pools said → Some new ≡ closed_file edit.target
-    (moved_path (mode_of edit.root) (get_in nodes) at) (joined_path (get_in nodes) at) (filter_map change_in said)
+    (moved_path edit.mode (get_in nodes) at) (joined_path (get_in nodes) at) (filter_map change_in said)
     (filter_map text_in said) (Some old))
     → OnErr r (new ≡ old) → ((q : Path) → get_in nodes2 q ≡ cond (path_eq at q) (Some new) (get_in nodes q))
     → (new ≡ old → nodes2 ≡ nodes) → ClosesFile edit b sum nodes r nodes2
 node_closes edit b sum at nodes nodes2 old new r same there answers closed refused written kept = record {
   answers = λ said s. subst (λ (o : Option BaseNode). AnswersCall (sum_fault md5 sum (filter_map text_in said) o) r)
       (there ∙ ap (get_in nodes) same) (answers said s);
-  closed = map_ok r closed (λ f said s. node_closed (mode_of edit.root) edit.target at b.path (filter_map change_in said)
+  closed = map_ok r closed (λ f said s. node_closed edit.mode edit.target at b.path (filter_map change_in said)
       (filter_map text_in said) nodes nodes2 old new same there (f said s) written);
   refused = map_err r refused kept;
 }
@@ -95,7 +96,7 @@ pub nothing_closes : (edit : Edit) (b : Baton) (sum : Option (List ℕ)) (at : P
 nothing_closes edit b sum at nodes nodes2 r same none kept h = record {
   answers = λ said s. subst (λ (o : Option BaseNode). AnswersCall (sum_fault md5 sum (filter_map text_in said) o) r)
       (none ∙ ap (get_in nodes) same) (h said s);
-  closed = ok_by r (λ ok said s. nothing_closed (mode_of edit.root) edit.target at b.path (filter_map change_in said)
+  closed = ok_by r (λ ok said s. nothing_closed edit.mode edit.target at b.path (filter_map change_in said)
       (filter_map text_in said) nodes nodes2 same none kept);
   refused = on_err r kept;
 }
@@ -134,13 +135,13 @@ module _ (mode : Mode) (old new : Edit) (calls : List Call) (t : ℕ) (sum : Opt
           (subst (λ (p : Path). AnswersCall (sum_fault md5 sum (filter_map text_in (said_at at (steps_of calls))) (get_in nodes p)) r)
           baton.2.path (h.answers (said_at at (steps_of calls)) said))
 
-      done : ((said : List Action) → Says baton.0 old.pools said → FileIsClosed (mode_of old.root) old.target baton.0.path
+      done : ((said : List Action) → Says baton.0 old.pools said → FileIsClosed old.mode old.target baton.0.path
           (filter_map change_in said) (filter_map text_in said) nodes nodes2)
           → (p : Path) → get_in nodes2 p ≡ effect mode calls (CloseFile t sum) (get_in nodes) p
       done f p =
           f (said_at at (steps_of calls)) said p
           ∙ (λ i. cond (path_eq (baton.2.path i) p)
-          (closed_file (next.holds.target i) (moved_path (next.holds.root i) (get_in nodes) (baton.2.path i))
+          (closed_file (next.holds.target i) (moved_path (next.holds.mode_is i) (get_in nodes) (baton.2.path i))
           (joined_path (get_in nodes) (baton.2.path i)) (changes_are at (steps_of calls) i) (texts_are at (steps_of calls) i)
           (get_in nodes (baton.2.path i)))
           (get_in nodes p))

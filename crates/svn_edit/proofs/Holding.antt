@@ -14,14 +14,15 @@ use Rattle.svn_editor.specs.Order.{order_fault, Answers}
 use Rattle.svn_editor.specs.Faults.{as_edit_fault}
 use Rattle.svn_types.specs.declared.kind.Kind.{Kind}
 use Rattle.svn_types.specs.Paths.{path_eq}
-use Rattle.svn_editor.specs.Steps.{Mode, Add, target_of}
+use Rattle.svn_editor.specs.declared.mode.Mode.{Mode}
+use Rattle.svn_editor.specs.Steps.{Add, target_of}
 use Rattle.svn_editor.proofs.Accepted.{accepted, not_ended}
 use Rattle.svn_order.proofs.Lawful.{sound}
 use Rattle.svn_model.specs.declared.base_node.BaseNode.{BaseNode}
 use Rattle.svn_edit.specs.declared.edit.Edit.{Edit}
 use Rattle.svn_model.specs.Nodes.{WorkingCopy, get_in, is_present}
 use Rattle.svn_model.specs.Effects.{effect, after, edit_fault, refusal, added_node, joined_path, step_fault, step_effect}
-use Rattle.svn_nodes.specs.NodeTests.{deep_fault, mode_of}
+use Rattle.svn_nodes.specs.NodeTests.{deep_fault}
 use Rattle.svn_edit.specs.Applying.{Applied, KeepsEdit, MakesBaton, batons_of, pool_above, Holds, IsNext, StandsAfter}
 use Rattle.svn_edit.specs.Applying.{HoldsBatons}
 use Rattle.svn_model.specs.Answering.{IsAnswer, AnswersCall}
@@ -73,7 +74,7 @@ applied_some fault w nodes nodes2 (Err e) none same h = (subst (IsAnswer fault) 
 
 -- an edit that no call changed
 pub edit_kept : (edit : Edit) → KeepsEdit edit edit
-edit_kept edit = record { stage = refl; order = refl; target = refl; root = refl }
+edit_kept edit = record { stage = refl; order = refl; target = refl; mode = refl }
 
 module _ (mode : Mode) (old new : Edit) (calls : List Call) (c d : Call) (is : d ≡ c) (next : IsNext mode old calls d)
     (keeps : KeepsEdit old new) (still : next_target (target_of calls) c ≡ target_of calls) where
@@ -83,7 +84,7 @@ module _ (mode : Mode) (old new : Edit) (calls : List Call) (c d : Call) (is : d
   pub holds_by : HoldsBatons new.pools (batons_of new) (calls ++ c ∷ []) → Holds mode new (calls ++ d ∷ [])
   holds_by h = record {
     stage = keeps.stage ∙ next.holds.stage;
-    root = ap mode_of keeps.root ∙ next.holds.root;
+    mode_is = keeps.mode ∙ next.holds.mode_is;
     target = keeps.target ∙ next.holds.target ∙ sym (ap (λ (x : Call). target_of (calls ++ x ∷ [])) is
         ∙ target-more calls c next.lawful in_order ∙ still);
     batons = subst (λ (x : Call). HoldsBatons new.pools (batons_of new) (calls ++ x ∷ [])) (sym is) h;
@@ -188,17 +189,17 @@ pub applied_read : (checksum : List ℕ → List ℕ) (mode : Mode) (edit : Edit
     (nodes nodes2 : List (Path × BaseNode)) (r : Result (Unit {0}) EditFault) → d ≡ c → IsNext mode edit calls d
     → (F : Mode → Option EditFault) (W : Mode → ℕ → WorkingCopy) → edit_fault checksum mode calls c nodes ≡ F mode
     → effect mode calls c (get_in nodes) ≡ W mode (target_of calls)
-    → Applied (F (mode_of edit.root)) (W (mode_of edit.root) edit.target) nodes r nodes2
+    → Applied (F edit.mode) (W edit.mode edit.target) nodes r nodes2
     → Applied (edit_fault checksum mode calls d nodes) (effect mode calls d (get_in nodes)) nodes r nodes2
 applied_read checksum mode edit calls c d nodes nodes2 r is next F W faults effects h =
-    let root = next.holds.root in
+    let mode_is = next.holds.mode_is in
     let target = next.holds.target in
-    let fault : F (mode_of edit.root) ≡ edit_fault checksum mode calls d nodes = ap F root ∙ sym faults
+    let fault : F edit.mode ≡ edit_fault checksum mode calls d nodes = ap F mode_is ∙ sym faults
     ∙ ap (λ (x : Call). edit_fault checksum mode calls x nodes) (sym is) in
-    let after : W (mode_of edit.root) edit.target ≡ effect mode calls d (get_in nodes) = (λ i. W (root i) (target i)) ∙ sym effects
+    let after : W edit.mode edit.target ≡ effect mode calls d (get_in nodes) = (λ i. W (mode_is i) (target i)) ∙ sym effects
     ∙ ap (λ (x : Call). effect mode calls x (get_in nodes)) (sym is) in
     subst (λ (x : Option EditFault). Applied x (effect mode calls d (get_in nodes)) nodes r nodes2) fault
-    (subst (λ (v : WorkingCopy). Applied (F (mode_of edit.root)) v nodes r nodes2) after h)
+    (subst (λ (v : WorkingCopy). Applied (F edit.mode) v nodes r nodes2) after h)
 
 pub map_err : {P Q : Type 0} (r : Result (Unit {0}) EditFault) → OnErr r P → (P → Q) → OnErr r Q
 map_err (Ok done) h f = tt

@@ -18,7 +18,8 @@ use Rattle.svn_editor.specs.declared.fault.EditFault.{EditFault}
 use Rattle.svn_editor.specs.declared.fault.EditFault.TheVariants.{Memory}
 use Rattle.svn_editor.specs.Calls.{Given, given, given_by, named_by, all_given, is_abort, is_last}
 use Rattle.svn_editor.specs.Order.{order_fault}
-use Rattle.svn_editor.specs.Steps.{Mode, Action}
+use Rattle.svn_editor.specs.declared.mode.Mode.{Mode}
+use Rattle.svn_editor.specs.Steps.{Action}
 use Rattle.svn_editor.proofs.Accepted.{accepted}
 use Rattle.svn_order.proofs.Sound.{numbered_next}
 use Rattle.svn_model.specs.declared.base_node.BaseNode.{BaseNode}
@@ -31,7 +32,6 @@ use Rattle.svn_edit.specs.declared.opening.NewNode.{NewNode}
 use Rattle.svn_edit.specs.declared.edit.Stage.TheVariants.{Going, Refused, Ended}
 use Rattle.svn_edit.specs.Applying.{Batons, batons_of, pool_or, pool_above, pool_entry, IsLeaf, HoldsBatons, PoolGone}
 use Rattle.svn_edit.specs.Applying.{IsNext, IsRefused, StandsAfter, MakesBaton, LetsGo, KeepsEdit, MakesNode}
-use Rattle.svn_nodes.specs.NodeTests.{mode_of}
 use Rattle.svn_edit.specs.Opening.{GivesToken}
 use Rattle.svn_edit.specs.Leaving.{call_strings, HasPool, HoldsPools, IsLeft, LeavesPools, PoolsAfter, SamePools, KeepsPools, BatonBegan}
 use Rattle.svn_edit.specs.Leaving.{NoteBegan}
@@ -362,7 +362,7 @@ own_answer _ = refl
 
 pub gives_refused : (beneath : ℕ) (p : Path) (t : ℕ) (act : Action) (old : Edit) (nodes : List (Path × BaseNode))
     (r : Result (Unit {0}) EditFault) (e : EditFault) (new : Edit) (nodes2 : List (Path × BaseNode)) → r ≡ Err e
-    → IsAnswer (step_fault md5 (mode_of old.root) [] (get_in nodes) p act) e → KeepsEdit old new → nodes2 ≡ nodes
+    → IsAnswer (step_fault md5 old.mode [] (get_in nodes) p act) e → KeepsEdit old new → nodes2 ≡ nodes
     → GivesToken beneath p t act old nodes r new nodes2
 gives_refused beneath p t act old nodes r e new nodes2 is h keeps same =
     subst (λ (x : Result (Unit {0}) EditFault). GivesToken beneath p t act old nodes x new nodes2) (sym is)

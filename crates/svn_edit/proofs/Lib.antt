@@ -4,6 +4,8 @@ pub mod PoolStrings
 pub mod Saying
 -- How many tokens are open after one more call.
 pub mod OpenCounts
+-- The path of what is open under a token.
+pub mod OpenPaths
 -- The batons after one more call.
 pub mod HeldBatons
 -- What an edit holds after one more call.

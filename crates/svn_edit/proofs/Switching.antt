@@ -10,13 +10,14 @@ use Rattle.svn_editor.specs.declared.fault.EditFault.{EditFault}
 use Rattle.svn_editor.specs.declared.fault.EditFault.TheVariants.{TooDeep}
 use Rattle.svn_editor.specs.Calls.{is_last}
 use Rattle.svn_editor.specs.Order.{order_fault}
-use Rattle.svn_editor.specs.Steps.{Mode, Update, SwitchTo, target_of}
+use Rattle.svn_editor.specs.declared.mode.Mode.{Mode}
+use Rattle.svn_editor.specs.declared.mode.Mode.TheVariants.{Update, SwitchTo}
+use Rattle.svn_editor.specs.Steps.{target_of}
 use Rattle.svn_model.specs.declared.base_node.BaseNode.{BaseNode}
 use Rattle.svn_model.specs.Nodes.{WorkingCopy, get_in}
 use Rattle.svn_model.specs.Effects.{is_settled_deep, settled, settle_fault, effect, edit_fault}
 use Rattle.svn_edit.specs.declared.edit.Edit.{Edit}
 use Rattle.svn_edit.specs.Applying.{open_count, live_count, Applied, IsNext, OneIsLeft, StandsAfter}
-use Rattle.svn_nodes.specs.NodeTests.{mode_of}
 use Rattle.svn_edit.proofs.OpenCounts.{none_open}
 
 pub not_update : (root : Path) → SwitchTo root ≡ Update → ⊥
@@ -32,13 +33,13 @@ update_ends nodes = ap (λ b. cond b (Some TooDeep) None) (none_deep nodes)
 
 pub end_applied : (checksum : List ℕ → List ℕ) (mode : Mode) (edit : Edit) (calls : List Call) (d : Call)
     (nodes nodes2 : List (Path × BaseNode)) (r : Result (Unit {0}) EditFault) → d ≡ CloseEdit → IsNext mode edit calls d
-    → Applied (settle_fault (mode_of edit.root) nodes) (λ p. settled (mode_of edit.root) edit.target p (get_in nodes p)) nodes r nodes2
+    → Applied (settle_fault edit.mode nodes) (λ p. settled edit.mode edit.target p (get_in nodes p)) nodes r nodes2
     → Applied (edit_fault checksum mode calls d nodes) (effect mode calls d (get_in nodes)) nodes r nodes2
 end_applied checksum mode edit calls d nodes nodes2 r is next h =
     subst (λ (y : Call). Applied (edit_fault checksum mode calls y nodes) (effect mode calls y (get_in nodes)) nodes r nodes2) (sym is)
     (subst (λ (m : Mode). Applied (settle_fault m nodes) (λ p. settled m (target_of calls) p (get_in nodes p)) nodes r nodes2)
-    next.holds.root
-    (subst (λ n. Applied (settle_fault (mode_of edit.root) nodes) (λ p. settled (mode_of edit.root) n p (get_in nodes p)) nodes r nodes2)
+    next.holds.mode_is
+    (subst (λ n. Applied (settle_fault edit.mode nodes) (λ p. settled edit.mode n p (get_in nodes p)) nodes r nodes2)
     next.holds.target h))
 
 -- nothing is open then

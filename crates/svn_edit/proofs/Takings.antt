@@ -9,7 +9,9 @@ use Rattle.svn_editor.specs.declared.call.Call.TheVariants.{SetTargetRevision, D
 use Rattle.svn_editor.specs.declared.fault.EditFault.{EditFault}
 use Rattle.svn_editor.specs.declared.fault.EditFault.TheVariants.{Memory}
 use Rattle.svn_editor.specs.Calls.{Given, given_by, named_by, closes, is_last, is_abort}
-use Rattle.svn_editor.specs.Steps.{Mode, Update, Action, Delete, target_of}
+use Rattle.svn_editor.specs.declared.mode.Mode.{Mode}
+use Rattle.svn_editor.specs.declared.mode.Mode.TheVariants.{Update}
+use Rattle.svn_editor.specs.Steps.{Action, Delete, target_of}
 use Rattle.svn_pool.specs.Ancestry.{IsCleared}
 use Rattle.svn_model.specs.declared.base_node.BaseNode.{BaseNode}
 use Rattle.svn_model.specs.Nodes.{get_in}
@@ -20,7 +22,6 @@ use Rattle.svn_edit.specs.declared.baton.Baton.{Baton}
 use Rattle.svn_edit.specs.declared.edit.Edit.{Edit}
 use Rattle.svn_edit.specs.Noted.{note_of, strings_of}
 use Rattle.svn_edit.specs.Applying.{Applied, KeepsEdit, MakesBaton, BatonNoted, batons_of, pool_above, OpensBase}
-use Rattle.svn_nodes.specs.NodeTests.{mode_of}
 use Rattle.svn_edit.specs.Leaving.{KeepsPools}
 use Rattle.svn_edit.specs.Opening.{GivesToken}
 use Rattle.svn_edit.specs.Taking.{Takes, AppliesCall, HoldsCall, LeavesCallPools}
@@ -92,7 +93,7 @@ target_taken old nodes rev = record {
   applied = λ mode calls next noted. (refl, λ p. refl);
   holds = λ mode calls next last. record {
     stage = next.holds.stage;
-    root = next.holds.root;
+    mode_is = next.holds.mode_is;
     target = sym (target-more calls (SetTargetRevision rev) next.lawful next.in_order);
     batons = held_still old.pools (batons_of old) calls (SetTargetRevision rev) next.holds.batons refl refl (λ t. refl);
   };
@@ -107,8 +108,8 @@ target_taken old nodes rev = record {
 
 -- a delete
 pub deleted_taken : (old : Edit) (nodes nodes2 : List (Path × BaseNode)) (p : Path) (rev parent : ℕ) (r : Result (Unit {0}) EditFault)
-    → Applied (step_fault md5 (mode_of old.root) [] (get_in nodes) p (Delete rev))
-    (step_effect (mode_of old.root) old.target [] (record { path = p; action = Delete rev }) (get_in nodes)) nodes r nodes2
+    → Applied (step_fault md5 old.mode [] (get_in nodes) p (Delete rev))
+    (step_effect old.mode old.target [] (record { path = p; action = Delete rev }) (get_in nodes)) nodes r nodes2
     → Takes old nodes (DeleteEntry p rev parent) r old nodes2
 deleted_taken old nodes nodes2 p rev parent r applied = record {
   applied = λ mode calls next noted. applied_read md5 mode old calls c c nodes nodes2 r refl next
@@ -129,8 +130,8 @@ deleted_taken old nodes nodes2 p rev parent r applied = record {
 
 -- the last call, which takes no memory in an update
 pub ended_taken : (old : Edit) (nodes nodes2 : List (Path × BaseNode)) (r : Result (Unit {0}) EditFault)
-    → (mode_of old.root ≡ Update → r ≡ Ok tt)
-    → Applied (settle_fault (mode_of old.root) nodes) (λ p. settled (mode_of old.root) old.target p (get_in nodes p)) nodes r nodes2
+    → (old.mode ≡ Update → r ≡ Ok tt)
+    → Applied (settle_fault old.mode nodes) (λ p. settled old.mode old.target p (get_in nodes p)) nodes r nodes2
     → Takes old nodes CloseEdit r old nodes2
 ended_taken old nodes nodes2 r taken applied = record {
   applied = λ mode calls next noted. end_applied md5 mode old calls CloseEdit nodes nodes2 r refl next applied;

@@ -20,7 +20,8 @@ use Rattle.svn_editor.specs.Order.{IsLawful, order_fault}
 use Rattle.svn_edit.specs.declared.edit.Stage.{Stage}
 use Rattle.svn_edit.specs.declared.opening.NewNode.{NewNode}
 use Rattle.svn_editor.specs.Calls.{Given, given, given_by, all_given, is_closed, path_of, is_last}
-use Rattle.svn_editor.specs.Steps.{Mode, Action, steps_of, target_of}
+use Rattle.svn_editor.specs.declared.mode.Mode.{Mode}
+use Rattle.svn_editor.specs.Steps.{Action, steps_of, target_of}
 use Rattle.svn_order.specs.StandsAfter as order
 use Rattle.svn_model.specs.declared.base_node.BaseNode.{BaseNode}
 use Rattle.svn_edit.specs.declared.baton.Baton.{Baton}
@@ -34,7 +35,7 @@ use Rattle.svn_types.specs.Props.{with_changes}
 use Rattle.svn_model.specs.Effects.{after, change_in, text_in}
 use Rattle.svn_model.specs.Said.{said_at}
 use Rattle.svn_model.specs.Answering.{IsAnswer}
-use Rattle.svn_nodes.specs.NodeTests.{IsSumOf, deep_fault, first_of, mode_of}
+use Rattle.svn_nodes.specs.NodeTests.{IsSumOf, deep_fault, first_of}
 use Rattle.svn_edit.specs.Noted.{note_of, strings_of}
 
 -- what a node's repository path becomes when it is opened, by its old one: nothing where it keeps that, else a path that isn't too deep
@@ -60,6 +61,10 @@ BatonMap = List (ℕ × Baton)
 -- the token was given, and was not closed
 abbrev pub is_open : List Call → ℕ → Bool
 is_open calls t = is_some (given calls t) && not (is_closed calls t)
+
+-- the path of the file or directory that is open under a token
+abbrev pub path_open : List Call → ℕ → Option Path
+path_open calls t = if is_open calls t then Some (path_of calls t) else None
 
 -- how many are
 abbrev pub open_count : List Call → ℕ
@@ -199,7 +204,7 @@ pub record KeepsEdit (old new : Edit) : Type 0 where
   pub stage : new.stage ≡ old.stage
   pub order : new.order ≡ old.order
   pub target : new.target ≡ old.target
-  pub root : new.root ≡ old.root
+  pub mode : new.mode ≡ old.mode
 
 abbrev pub batons_of : Edit → Batons
 batons_of edit = get edit.batons
@@ -240,7 +245,7 @@ OpensBase c at nodes =
 
 pub record Holds (mode : Mode) (edit : Edit) (calls : List Call) : Type 0 where
   pub stage : edit.stage ≡ Going
-  pub root : mode_of edit.root ≡ mode
+  pub mode_is : edit.mode ≡ mode
   pub target : edit.target ≡ target_of calls
   pub batons : HoldsBatons edit.pools (batons_of edit) calls
 

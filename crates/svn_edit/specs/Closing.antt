@@ -11,7 +11,7 @@ use Rattle.svn_model.specs.Effects.{change_in, text_in}
 use Rattle.svn_model.specs.Answering.{AnswersCall}
 use Rattle.svn_edit.specs.declared.baton.Baton.{Baton}
 use Rattle.svn_edit.specs.declared.edit.Edit.{Edit}
-use Rattle.svn_nodes.specs.NodeTests.{sum_fault, FileIsClosed, mode_of}
+use Rattle.svn_nodes.specs.NodeTests.{sum_fault, FileIsClosed}
 use Rattle.svn_edit.specs.Applying.{Says}
 
 pub record ClosesFile (edit : Edit) (b : Baton) (sum : Option (List ℕ)) (nodes : List (Path × BaseNode))
@@ -19,5 +19,5 @@ pub record ClosesFile (edit : Edit) (b : Baton) (sum : Option (List ℕ)) (nodes
   pub answers : (said : List Action) → Says b edit.pools said
       → AnswersCall (sum_fault md5 sum (filter_map text_in said) (get_in nodes b.path)) answer
   pub closed : OnOk answer ((said : List Action) → Says b edit.pools said
-      → FileIsClosed (mode_of edit.root) edit.target b.path (filter_map change_in said) (filter_map text_in said) nodes nodes2)
+      → FileIsClosed edit.mode edit.target b.path (filter_map change_in said) (filter_map text_in said) nodes nodes2)
   pub refused : OnErr answer (nodes2 ≡ nodes)

@@ -12,7 +12,8 @@ use Rattle.svn_editor.specs.declared.call.Call.{Call}
 use Rattle.svn_editor.specs.declared.call.Call.TheVariants.{AbortEdit, ChangeDirProp, ChangeFileProp, ApplyText}
 use Rattle.svn_editor.specs.declared.fault.EditFault.{EditFault}
 use Rattle.svn_editor.specs.Calls.{given, path_of, is_last}
-use Rattle.svn_editor.specs.Steps.{Mode, steps_of}
+use Rattle.svn_editor.specs.declared.mode.Mode.{Mode}
+use Rattle.svn_editor.specs.Steps.{steps_of}
 use Rattle.svn_model.specs.declared.base_node.BaseNode.{BaseNode}
 use Rattle.svn_model.specs.Nodes.{WorkingCopy}
 use Rattle.svn_model.specs.Said.{said_at}

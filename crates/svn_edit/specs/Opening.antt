@@ -10,12 +10,11 @@ use Rattle.svn_model.specs.Nodes.{get_in}
 use Rattle.svn_model.specs.Effects.{step_fault, step_effect}
 use Rattle.svn_edit.specs.declared.edit.Edit.{Edit}
 use Rattle.svn_edit.specs.Applying.{Applied, KeepsEdit, MakesBaton}
-use Rattle.svn_nodes.specs.NodeTests.{mode_of}
 
 -- the nodes are what the step alone makes of them, and the token has a baton, with its pool beneath that one; refused, the nodes stay
 pub record GivesToken (beneath : ℕ) (p : Path) (t : ℕ) (act : Action) (old : Edit) (nodes : List (Path × BaseNode))
     (answer : Result (Unit {0}) EditFault) (new : Edit) (nodes2 : List (Path × BaseNode)) : Type 0 where
   pub opened : OnOk answer (MakesBaton beneath p t old new)
   pub keeps : KeepsEdit old new
-  pub applied : Applied (step_fault md5 (mode_of old.root) [] (get_in nodes) p act)
-      (step_effect (mode_of old.root) old.target [] (record { path = p; action = act }) (get_in nodes)) nodes answer nodes2
+  pub applied : Applied (step_fault md5 old.mode [] (get_in nodes) p act)
+      (step_effect old.mode old.target [] (record { path = p; action = act }) (get_in nodes)) nodes answer nodes2

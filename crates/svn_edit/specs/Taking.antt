@@ -7,13 +7,13 @@ use Rattle.svn_editor.specs.declared.call.Call.{Call}
 use Rattle.svn_editor.specs.declared.fault.EditFault.{EditFault}
 use Rattle.svn_editor.specs.declared.fault.EditFault.TheVariants.{Memory}
 use Rattle.svn_editor.specs.Calls.{is_last, is_abort}
-use Rattle.svn_editor.specs.Steps.{Mode, Update}
+use Rattle.svn_editor.specs.declared.mode.Mode.{Mode}
+use Rattle.svn_editor.specs.declared.mode.Mode.TheVariants.{Update}
 use Rattle.svn_model.specs.declared.base_node.BaseNode.{BaseNode}
 use Rattle.svn_model.specs.Nodes.{get_in}
 use Rattle.svn_model.specs.Effects.{effect, edit_fault}
 use Rattle.svn_edit.specs.declared.edit.Edit.{Edit}
 use Rattle.svn_edit.specs.Applying.{batons_of, Applied, IsNoted, KeepsBases, OpensBase, Holds, IsNext, OneIsLeft}
-use Rattle.svn_nodes.specs.NodeTests.{mode_of}
 use Rattle.svn_edit.specs.Leaving.{HoldsPools}
 
 -- the nodes are what the call's effect makes of them, or it is refused by the call's fault and they stay
@@ -47,7 +47,7 @@ pub record Takes (old : Edit) (nodes : List (Path × BaseNode)) (c : Call) (answ
     (nodes2 : List (Path × BaseNode)) : Type 0 where
   pub applied : AppliesCall old nodes c answer nodes2
   pub holds : HoldsCall old c answer new
-  pub last : is_last c ≡ true → mode_of old.root ≡ Update → IfErr answer (λ e. e ≢ Memory)
+  pub last : is_last c ≡ true → old.mode ≡ Update → IfErr answer (λ e. e ≢ Memory)
   pub abort : is_abort c ≡ true → IfErr answer (λ e. e ≢ Memory)
   pub left : LeavesOne old c answer new
   pub order : new.order ≡ old.order

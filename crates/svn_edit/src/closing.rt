@@ -3,20 +3,21 @@ ghost use Rattle.std.specs.Prelude.{◌≡◌, [], ℕ, List, IfOk, IfErr, OnOk,
 ghost use Rattle.md5.specs.Md5.{md5};
 ghost use Rattle.svn_types.specs.Names.{Path};
 ghost use Rattle.svn_types.specs.Paths.{path_eq};
-ghost use Rattle.svn_editor.specs.Steps.{Action, Update, SwitchTo};
+ghost use Rattle.svn_editor.specs.declared.mode.Mode.TheVariants.{Update, SwitchTo};
+ghost use Rattle.svn_editor.specs.Steps.{Action};
 ghost use Rattle.svn_model.specs.Nodes.{WorkingCopy, get_in, is_present};
 ghost use Rattle.svn_model.specs.declared.base_node.BaseNode.TheVariants.{File as FileNode};
 ghost use Rattle.svn_model.specs.Effects.{change_in, text_in, closed_directory, closed_file, moved_path, joined_path, settled, settle_fault};
 ghost use Rattle.svn_model.specs.Answering.{AnswersCall};
 ghost use Rattle.svn_edit.specs.declared.baton.Baton.{Baton};
-ghost use Rattle.svn_nodes.specs.NodeTests.{first_of, sum_fault, mode_of, AnswersAs};
+ghost use Rattle.svn_nodes.specs.NodeTests.{first_of, sum_fault, AnswersAs};
 ghost use Rattle.svn_edit.specs.Applying.{Applied, KeepsEdit, LetsGo, Says, batons_of};
 ghost use Rattle.svn_edit.specs.Closing.{ClosesFile};
 
 use crate::baton::{Baton, drop_pool};
 use crate::edit::Edit;
 use std::alloc::AllocError;
-use svn_editor::{Digest, EditFault, Token};
+use svn_editor::{Digest, EditFault, Mode, Token};
 use svn_model::BaseNode;
 use svn_nodes::{Nodes, ending, nodes, or_memory, paths};
 use svn_types::{Props, RelPath, Text};
@@ -164,7 +165,7 @@ impl Edit {
         joined: Result<RelPath, AllocError>,
     ) -> Result<(), EditFault>
         ensures answers { (said : List Action) → Says baton.now self.now.pools said → AnswersCall (sum_fault md5 text_md5.now (filter_map text_in said) (Some node.old)) result }
-        ensures closed { OnOk result ((said : List Action) (w : WorkingCopy) (p : Path) → Says baton.now self.now.pools said → p ≡ baton.now.path → IfOk joined (λ j. j ≡ joined_path w p) → Some node.new ≡ closed_file self.now.target (moved_path (mode_of self.now.root) w p) (joined_path w p) (filter_map change_in said) (filter_map text_in said) (Some node.old)) }
+        ensures closed { OnOk result ((said : List Action) (w : WorkingCopy) (p : Path) → Says baton.now self.now.pools said → p ≡ baton.now.path → IfOk joined (λ j. j ≡ joined_path w p) → Some node.new ≡ closed_file self.now.target (moved_path self.now.mode w p) (joined_path w p) (filter_map change_in said) (filter_map text_in said) (Some node.old)) }
         ensures refused { OnErr result (node.new ≡ node.old) }
     {
         if matches!(node, BaseNode::NotPresent) {
@@ -173,7 +174,7 @@ impl Edit {
             *node = file;
             return Ok(());
         }
-        let moved = paths::moved_by(&self.root, baton.path.as_rel_path(), joined);
+        let moved = paths::moved_by(&self.mode, baton.path.as_rel_path(), joined);
         self.close_opened(node, baton, text_md5, moved)
     }
 
@@ -218,7 +219,7 @@ impl Edit {
             let joined = paths::joined_again(self.alloc, copy, above, path);
             return self.close_joined(copy, baton, text_md5, joined);
         }
-        let moved = paths::moved_again(self.alloc, &self.root, copy, path);
+        let moved = paths::moved_again(self.alloc, &self.mode, copy, path);
         let Some(node) = copy.get_mut(path) else {
             return self.close_nothing(baton, text_md5);
         };
@@ -253,15 +254,15 @@ impl Edit {
 
     // In an update it takes no memory.
     pub(crate) fn close_edit(&self, copy: &mut Nodes) -> Result<(), EditFault>
-        ensures taken { mode_of self.now.root ≡ Update → result ≡ Ok tt }
-        ensures applied { let mode = mode_of self.now.root in Applied (settle_fault mode copy.old.entries) (λ p. settled mode self.now.target p (get_in copy.old.entries p)) copy.old.entries result copy.new.entries }
+        ensures taken { self.now.mode ≡ Update → result ≡ Ok tt }
+        ensures applied { let mode = self.now.mode in Applied (settle_fault mode copy.old.entries) (λ p. settled mode self.now.target p (get_in copy.old.entries p)) copy.old.entries result copy.new.entries }
     {
-        match &self.root {
-            None => {
+        match &self.mode {
+            Mode::Update => {
                 ending::settle_all(copy, self.target);
                 Ok(())
             }
-            Some(root) => self.close_switch(copy, root),
+            Mode::SwitchTo(root) => self.close_switch(copy, root),
         }
     }
 

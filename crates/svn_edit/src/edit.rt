@@ -5,15 +5,17 @@ ghost use Rattle.svn_types.specs.Names.{Path};
 ghost use Rattle.svn_editor.specs.Calls.{is_last, is_abort};
 ghost use Rattle.std.specs.Option.{option_copied};
 ghost use Rattle.std.specs.List.{list_any};
-ghost use Rattle.svn_editor.specs.Steps.{Mode, Delete, Text as TextOf, Update};
+ghost use Rattle.svn_editor.specs.declared.mode.Mode.{Mode};
+ghost use Rattle.svn_editor.specs.declared.mode.Mode.TheVariants.{Update};
+ghost use Rattle.svn_editor.specs.Steps.{Delete, Text as TextOf};
 ghost use Rattle.svn_edit.specs.declared.baton.Note.TheVariants.{Text as NewText};
 ghost use Rattle.svn_edit.specs.Noted.{note_of_value, strings_of_value};
 ghost use Rattle.svn_edit.specs.declared.baton.Baton.{Baton};
 ghost use Rattle.svn_model.specs.declared.base_node.BaseNode.{BaseNode};
 ghost use Rattle.svn_model.specs.Nodes.{WorkingCopy, get_in};
 ghost use Rattle.svn_model.specs.Effects.{is_too_long, step_effect, step_fault, refusal};
-ghost use Rattle.svn_edit.specs.Applying.{Applied, KeepsEdit, MakesBaton, BatonNoted, TakenInOrder, batons_of, StandsAfter, live_count, open_count, HasEnded, IsRefused, StaysRefused, StaysEnded, LeavesRefused};
-ghost use Rattle.svn_nodes.specs.NodeTests.{mode_of, IsSumOf};
+ghost use Rattle.svn_edit.specs.Applying.{Applied, KeepsEdit, MakesBaton, BatonNoted, TakenInOrder, batons_of, StandsAfter, path_open, live_count, open_count, HasEnded, IsRefused, StaysRefused, StaysEnded, LeavesRefused};
+ghost use Rattle.svn_nodes.specs.NodeTests.{IsSumOf};
 ghost use Rattle.svn_edit.specs.Leaving.{HoldsPools, IsLeft, LeavesPools, PoolsAfter, KeepsPools, NoteBegan};
 ghost use Rattle.svn_edit.specs.Taking.{Takes};
 ghost use Rattle.svn_model.specs.Answering.{AnswersCall, WantsInOrder};
@@ -23,7 +25,7 @@ ghost use Rattle.svn_pool.specs.Ancestry.{IsCleared};
 use crate::baton::{Baton, drop_pool};
 use crate::open_path::OpenPath;
 use std::alloc::Global;
-use svn_editor::{Call, Digest, EditFault, OrderFault, Token};
+use svn_editor::{Call, Digest, EditFault, Mode, OrderFault, Token};
 use svn_nodes::{Nodes, nodes, or_memory};
 use svn_order::OrderCheck;
 use svn_pool::{PoolId, PoolTree};
@@ -48,8 +50,8 @@ pub struct Edit {
     pub(crate) stage: Stage,
     pub(crate) order: OrderCheck,
     pub(crate) target: Rev,
-    /// Where a switch brings the copy.
-    pub(crate) root: Option<RelPath>,
+    /// Whether it is of an update, or of a switch of the whole copy.
+    pub(crate) mode: Mode,
     pub(crate) pools: PoolTree<Global>,
     // The token that a call in order names has a baton. But the calls so far, from which that follows, stand in no field and in no
     // condition of a call, so where a baton is looked up the branch without one stays, and answers Memory.
@@ -78,10 +80,9 @@ fn is_too_long(value: Option<&Text>) -> bool
 }
 
 impl Edit {
-    /// An edit that no call was given to: an update, or with a root a switch of the whole copy to that path of the repository. The only fault is
-    /// Memory.
-    pub fn new(alloc: Global, root: Option<RelPath>) -> Result<Edit, EditFault>
-        ensures begun { IfOk result (λ e. (mode : Mode) (nodes : List (Path × BaseNode)) → mode_of root ≡ mode → StandsAfter mode (get_in nodes) e nodes []) }
+    /// An edit that no call was given to, of an update or of a switch of the whole copy. The only fault is Memory.
+    pub fn new(alloc: Global, mode: Mode) -> Result<Edit, EditFault>
+        ensures begun { IfOk result (λ e. (nodes : List (Path × BaseNode)) → StandsAfter mode (get_in nodes) e nodes []) }
         ensures memory { IfErr result (λ e. e ≡ EditFault.Memory) }
     {
         let Ok(pools) = PoolTree::new(alloc) else {
@@ -91,7 +92,7 @@ impl Edit {
             stage: Stage::Going,
             order: OrderCheck::new(alloc),
             target: Rev(0),
-            root,
+            mode,
             pools,
             batons: SerialMap::new(alloc),
             given: None,
@@ -101,9 +102,19 @@ impl Edit {
 
     /// Whether it is an edit of an update, and not of a switch of the whole copy. It takes no memory.
     pub fn is_update(&self) -> bool
-        ensures { IsTrue result ↔ (mode_of self.now.root ≡ Update) }
+        ensures { IsTrue result ↔ (self.now.mode ≡ Update) }
     {
-        self.root.is_none()
+        matches!(self.mode, Mode::Update)
+    }
+
+    /// The path of the file or directory that is open under a token. It takes no memory.
+    pub fn open_path(&self, token: Token) -> Option<&RelPath>
+        ensures { (mode : Mode) (w0 : WorkingCopy) (nodes : List (Path × BaseNode)) (calls : List Call) → StandsAfter mode w0 self.now nodes calls → list_any is_last calls ≡ false → option_copied result ≡ path_open calls token }
+    {
+        match self.batons.get(token.0) {
+            Some(baton) => Some(baton.path.as_rel_path()),
+            None => None,
+        }
     }
 
     /// Takes the next call, and changes the copy as it says. The order check's faults come first, then those of the copy: DeleteEntry
@@ -118,7 +129,7 @@ impl Edit {
         ensures refused { OnErr result ((mode : Mode) (w0 : WorkingCopy) (calls : List Call) → StandsAfter mode w0 self.old copy.old.entries calls → copy.new.entries ≡ copy.old.entries) }
         ensures dead { LeavesRefused self.old.stage result self.new }
         ensures was_refused { IsRefused self.old → StaysRefused call.now result self.new × (copy.new ≡ copy.old) }
-        ensures last { is_last call.now ≡ true → mode_of self.old.root ≡ Update → IfErr result (λ e. e ≢ EditFault.Memory) }
+        ensures last { is_last call.now ≡ true → self.old.mode ≡ Update → IfErr result (λ e. e ≢ EditFault.Memory) }
         ensures abort { is_abort call.now ≡ true → IfErr result (λ e. e ≢ EditFault.Memory) }
         ensures ended { HasEnded self.old → StaysEnded self.old result self.new × (copy.new ≡ copy.old) }
         ensures pools { PoolsAfter self.old copy.old.entries call.now result self.new }
@@ -160,7 +171,7 @@ impl Edit {
         ensures in_order { (mode : Mode) (w0 : WorkingCopy) (calls : List Call) → StandsAfter mode w0 self.old copy.old.entries calls → WantsInOrder calls call.now result }
         ensures accepted { OnOk result ((mode : Mode) (w0 : WorkingCopy) (calls : List Call) → StandsAfter mode w0 self.old copy.old.entries calls → StandsAfter mode w0 self.new copy.new.entries (calls ++ call.now ∷ [])) }
         ensures refused { OnErr result ((mode : Mode) (w0 : WorkingCopy) (calls : List Call) → StandsAfter mode w0 self.old copy.old.entries calls → copy.new.entries ≡ copy.old.entries) }
-        ensures last { is_last call.now ≡ true → mode_of self.old.root ≡ Update → IfErr result (λ e. e ≢ EditFault.Memory) }
+        ensures last { is_last call.now ≡ true → self.old.mode ≡ Update → IfErr result (λ e. e ≢ EditFault.Memory) }
         ensures abort { is_abort call.now ≡ true → IfErr result (λ e. e ≢ EditFault.Memory) }
         ensures dead { OnErr result (IsRefused self.new) }
         ensures left { OnErr result ((mode : Mode) (w0 : WorkingCopy) (calls : List Call) → StandsAfter mode w0 self.old copy.old.entries calls → list_any is_last calls ≡ false → HoldsPools self.new.pools (batons_of self.new) calls call.now) }
@@ -178,7 +189,7 @@ impl Edit {
         ensures answers { (mode : Mode) (w0 : WorkingCopy) (calls : List Call) → StandsAfter mode w0 self.old copy.old.entries calls → AnswersCall (refusal md5 mode calls call.now copy.old.entries) result }
         ensures in_order { (mode : Mode) (w0 : WorkingCopy) (calls : List Call) → StandsAfter mode w0 self.old copy.old.entries calls → WantsInOrder calls call.now result }
         ensures accepted { OnOk result ((mode : Mode) (w0 : WorkingCopy) (calls : List Call) → StandsAfter mode w0 self.old copy.old.entries calls → TakenInOrder mode w0 self.new copy.new.entries calls call.now) }
-        ensures last { is_last call.now ≡ true → mode_of self.old.root ≡ Update → IfErr result (λ e. e ≢ EditFault.Memory) }
+        ensures last { is_last call.now ≡ true → self.old.mode ≡ Update → IfErr result (λ e. e ≢ EditFault.Memory) }
         ensures abort { is_abort call.now ≡ true → IfErr result (λ e. e ≢ EditFault.Memory) }
         ensures refused { OnErr result ((mode : Mode) (w0 : WorkingCopy) (calls : List Call) → StandsAfter mode w0 self.old copy.old.entries calls → copy.new.entries ≡ copy.old.entries) }
         ensures pools { OnErr result ((mode : Mode) (w0 : WorkingCopy) (calls : List Call) → StandsAfter mode w0 self.old copy.old.entries calls → list_any is_last calls ≡ false → HoldsPools self.new.pools (batons_of self.new) calls call.now) }
@@ -277,7 +288,7 @@ impl Edit {
     }
 
     fn delete_entry(&self, copy: &mut Nodes, path: &RelPath, rev: Rev) -> Result<(), EditFault>
-        ensures { let a = Delete rev in let w = get_in copy.old.entries in Applied (step_fault md5 (mode_of self.now.root) [] w path.now a) (step_effect (mode_of self.now.root) self.now.target [] (record { path = path.now; action = a }) w) copy.old.entries result copy.new.entries }
+        ensures { let a = Delete rev in let w = get_in copy.old.entries in Applied (step_fault md5 self.now.mode [] w path.now a) (step_effect self.now.mode self.now.target [] (record { path = path.now; action = a }) w) copy.old.entries result copy.new.entries }
     {
         if let Some(fault) = nodes::delete_fault(copy.get(path), rev) {
             return Err(fault);

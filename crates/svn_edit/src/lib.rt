@@ -5,7 +5,7 @@
 //! are its batons, each with a pool of what was said of an open file or directory.
 //!
 //! ```
-//! let mut edit = Edit::new(alloc, None)?;
+//! let mut edit = Edit::new(alloc, Mode::Update)?;
 //! edit.call(&mut nodes, &Call::SetTargetRevision { rev: Rev(2) })?;
 //! edit.call(&mut nodes, &Call::OpenRoot { base: Rev(1), token: Token(0) })?;
 //! assert_eq!(rt; edit.live_pools(), 2);

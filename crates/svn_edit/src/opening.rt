@@ -8,7 +8,7 @@ ghost use Rattle.svn_editor.specs.Steps.{Open, Add};
 ghost use Rattle.svn_model.specs.Nodes.{get_in, is_present, node_path};
 ghost use Rattle.svn_model.specs.Effects.{added_node, joined_path, moved_path};
 ghost use Rattle.svn_model.specs.Answering.{AnswersCall};
-ghost use Rattle.svn_nodes.specs.NodeTests.{open_fault_of, deep_fault, mode_of, AnswersAs, IsSumOf};
+ghost use Rattle.svn_nodes.specs.NodeTests.{open_fault_of, deep_fault, AnswersAs, IsSumOf};
 ghost use Rattle.svn_edit.specs.Applying.{pool_or, pool_of_parent, batons_of, Applied, KeepsEdit, MakesBaton, MakesNode, MovesBy};
 ghost use Rattle.svn_edit.specs.declared.baton.Baton.{Baton};
 ghost use Rattle.svn_edit.specs.Opening.{GivesToken};
@@ -18,7 +18,7 @@ use crate::baton::Baton;
 use crate::edit::Edit;
 use crate::open_path;
 use crate::open_path::OpenPath;
-use svn_editor::{Digest, EditFault, Token};
+use svn_editor::{Digest, EditFault, Mode, Token};
 use svn_model::BaseNode;
 use svn_nodes::{Nodes, nodes, or_memory, paths};
 use svn_pool::PoolId;
@@ -61,9 +61,9 @@ impl Edit {
         path: &RelPath,
         parent: Option<&Baton>,
     ) -> Result<Option<RelPath>, EditFault>
-        ensures { MovesBy (moved_path (mode_of self.now.root) (get_in copy.now.entries) path.now) result }
+        ensures { MovesBy (moved_path self.now.mode (get_in copy.now.entries) path.now) result }
     {
-        let Some(root) = &self.root else {
+        let Mode::SwitchTo(root) = &self.mode else {
             return Ok(None);
         };
         if path.is_root() {
@@ -102,9 +102,9 @@ impl Edit {
         node: Option<&BaseNode>,
     ) -> Result<(), EditFault>
         requires { option_copied node ≡ get_in copy.now.entries path.now }
-        ensures { let w = get_in copy.now.entries in AnswersCall (deep_fault (moved_path (mode_of self.now.root) w path.now (node_path (w path.now)))) result }
+        ensures { let w = get_in copy.now.entries in AnswersCall (deep_fault (moved_path self.now.mode w path.now (node_path (w path.now)))) result }
     {
-        let Some(root) = &self.root else {
+        let Mode::SwitchTo(root) = &self.mode else {
             return paths::test_standing(self.alloc, node);
         };
         if path.is_root() {

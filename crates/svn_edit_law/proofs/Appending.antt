@@ -10,7 +10,8 @@ use Rattle.svn_editor.specs.declared.call.Call.TheVariants.{SetTargetRevision, A
 use Rattle.svn_editor.specs.declared.fault.OrderFault.TheVariants.{Ended, TargetFirst}
 use Rattle.svn_editor.specs.Calls.{is_last}
 use Rattle.svn_editor.specs.Order.{order_fault, IsLawful}
-use Rattle.svn_editor.specs.Steps.{Mode, Action, Step, step_of, steps_after, steps_of, target_of}
+use Rattle.svn_editor.specs.declared.mode.Mode.{Mode}
+use Rattle.svn_editor.specs.Steps.{Action, Step, step_of, steps_after, steps_of, target_of}
 use Rattle.svn_model.specs.Nodes.{WorkingCopy}
 use Rattle.svn_model.specs.Effects.{effect, after_from, after}
 use Rattle.svn_model.specs.Said.{says, said_at}

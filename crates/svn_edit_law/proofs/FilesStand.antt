@@ -13,7 +13,8 @@ use Rattle.svn_editor.specs.declared.call.Call.TheVariants.{ChangeDirProp, Close
 use Rattle.svn_editor.specs.declared.call.Call.TheVariants.{CloseFile, CloseEdit, AbortEdit}
 use Rattle.svn_editor.specs.Calls.{Given, kind_eq, given, given_by, given_path, all_given, is_closed, closes, opens_entry, path_of}
 use Rattle.svn_editor.specs.Calls.{is_open_file, a_file_is_open, a_directory_is_open}
-use Rattle.svn_editor.specs.Steps.{Mode, Action, Open, Add, Change, Text, Close, steps_of, target_of}
+use Rattle.svn_editor.specs.declared.mode.Mode.{Mode}
+use Rattle.svn_editor.specs.Steps.{Action, Open, Add, Change, Text, Close, steps_of, target_of}
 use Rattle.svn_editor.proofs.OneMore.{any_at, or_parts}
 use Rattle.svn_editor.proofs.Nested.{eq_true}
 use Rattle.svn_editor.proofs.Accepted.{IsAccepted}

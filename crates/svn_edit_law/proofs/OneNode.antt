@@ -12,7 +12,8 @@ use Rattle.svn_types.specs.Paths.{path_eq, is_within, is_root, child, parent, la
 use Rattle.svn_types.specs.Limits.{path_limit}
 use Rattle.svn_types.proofs.PathLemmas.{same_path, is_within-longer}
 use Rattle.svn_types.proofs.PathsInOrder.{at_path}
-use Rattle.svn_editor.specs.Steps.{Mode, Update, SwitchTo}
+use Rattle.svn_editor.specs.declared.mode.Mode.{Mode}
+use Rattle.svn_editor.specs.declared.mode.Mode.TheVariants.{Update, SwitchTo}
 use Rattle.svn_editor.proofs.OneMore.{or_parts}
 use Rattle.svn_model.specs.declared.base_node.BaseNode.{BaseNode}
 use Rattle.svn_model.specs.declared.base_node.BaseNode.TheVariants.{File as FileNode, Dir as DirNode, NotPresent}

@@ -14,7 +14,8 @@ use Rattle.svn_editor.specs.declared.call.Call.TheVariants.{SetTargetRevision, O
 use Rattle.svn_editor.specs.declared.call.Call.TheVariants.{ChangeDirProp, CloseDirectory, AddFile, OpenFile, ChangeFileProp, ApplyText}
 use Rattle.svn_editor.specs.declared.call.Call.TheVariants.{CloseFile, CloseEdit, AbortEdit}
 use Rattle.svn_editor.specs.Calls.{Given, kind_eq, given, given_by, opens_entry, path_of}
-use Rattle.svn_editor.specs.Steps.{Mode, Action, Open, Add, Change, Text, Close, steps_of, target_of}
+use Rattle.svn_editor.specs.declared.mode.Mode.{Mode}
+use Rattle.svn_editor.specs.Steps.{Action, Open, Add, Change, Text, Close, steps_of, target_of}
 use Rattle.svn_editor.proofs.OneMore.{any_weaker, false_from}
 use Rattle.svn_editor.proofs.Accepted.{IsAccepted}
 use Rattle.svn_order.proofs.Sound.{IsSound, touches, opens_touches, member_of}

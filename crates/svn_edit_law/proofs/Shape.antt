@@ -23,7 +23,9 @@ use Rattle.svn_editor.specs.declared.fault.OrderFault.{OrderFault}
 use Rattle.svn_editor.specs.Calls.{Given, kind_eq, given, given_by, given_path, named_by, entry_of, all_given, is_closed, closes}
 use Rattle.svn_editor.specs.Calls.{opens_entry, path_of, is_open_file, a_file_is_open, a_directory_is_open}
 use Rattle.svn_editor.specs.Order.{order_fault, IsLawful}
-use Rattle.svn_editor.specs.Steps.{Mode, Update, SwitchTo, Action, Open, Add, Change, Text, Close, steps_of, target_of}
+use Rattle.svn_editor.specs.declared.mode.Mode.{Mode}
+use Rattle.svn_editor.specs.declared.mode.Mode.TheVariants.{Update, SwitchTo}
+use Rattle.svn_editor.specs.Steps.{Action, Open, Add, Change, Text, Close, steps_of, target_of}
 use Rattle.svn_editor.proofs.OneMore.{any_at, any_more, or_parts, not_false, false_from}
 use Rattle.svn_editor.proofs.Accepted.{IsAccepted, accepted}
 use Rattle.svn_order.proofs.Sound.{IsSound, known, parent_is, member_of}

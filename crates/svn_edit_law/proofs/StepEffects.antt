@@ -4,7 +4,8 @@ use Rattle.std.specs.Prelude.{Option, None}
 use Rattle.svn_types.specs.Names.{Path}
 use Rattle.svn_types.specs.Paths.{path_eq, is_within}
 use Rattle.svn_types.proofs.PathLemmas.{same_path, is_within-same}
-use Rattle.svn_editor.specs.Steps.{Mode, Action, Delete, Step}
+use Rattle.svn_editor.specs.declared.mode.Mode.{Mode}
+use Rattle.svn_editor.specs.Steps.{Action, Delete, Step}
 use Rattle.svn_model.specs.declared.base_node.BaseNode.{BaseNode}
 use Rattle.svn_model.specs.Nodes.{WorkingCopy}
 use Rattle.svn_model.specs.Effects.{stepped, below_after, step_effect}

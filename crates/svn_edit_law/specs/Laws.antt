@@ -9,7 +9,9 @@ use Rattle.svn_editor.specs.declared.call.Call.TheVariants.{OpenRoot, OpenDirect
 use Rattle.svn_editor.specs.Calls.{Given, kind_eq, given_by, given, is_closed, closes, is_abort, is_of_kind, opens_entry}
 use Rattle.svn_editor.specs.Order.{order_fault, IsLawful}
 use Rattle.svn_types.specs.Limits.{path_limit}
-use Rattle.svn_editor.specs.Steps.{Mode, Update, SwitchTo, steps_of}
+use Rattle.svn_editor.specs.declared.mode.Mode.{Mode}
+use Rattle.svn_editor.specs.declared.mode.Mode.TheVariants.{Update, SwitchTo}
+use Rattle.svn_editor.specs.Steps.{steps_of}
 use Rattle.svn_model.specs.declared.base_node.BaseNode.{BaseNode}
 use Rattle.svn_model.specs.Nodes.{WorkingCopy, get_in, IsWorkingCopy, is_dir, is_not_present}
 use Rattle.svn_model.specs.Effects.{joined_path, effect, after, refusal}

@@ -11,7 +11,8 @@ use Rattle.svn_types.specs.Names.{Path}
 use Rattle.svn_types.specs.Paths.{path_eq, parent, is_root}
 use Rattle.svn_types.specs.declared.kind.Kind.TheVariants.{File, Directory}
 use Rattle.svn_types.proofs.PathLemmas.{same_path}
-use Rattle.svn_editor.specs.Steps.{Mode, Action, Delete, Open, Add, Change, Text, Close, Step, step_of, steps_after, steps_of, target_of}
+use Rattle.svn_editor.specs.declared.mode.Mode.{Mode}
+use Rattle.svn_editor.specs.Steps.{Action, Delete, Open, Add, Change, Text, Close, Step, step_of, steps_after, steps_of, target_of}
 use Rattle.svn_editor.specs.declared.call.Call.{Call}
 use Rattle.svn_editor.specs.Calls.{Given, given_by, all_given, given, given_path, path_of}
 use Rattle.svn_editor.specs.declared.call.Call.TheVariants.{OpenRoot, OpenDirectory, CloseEdit, SetTargetRevision}

@@ -17,7 +17,9 @@ use Rattle.svn_types.proofs.PathLemmas.{path_eq-same, same_path, path_cases, par
 use Rattle.svn_types.proofs.PathLemmas.{path_eq-child}
 use Rattle.svn_repo.specs.Readings.{are_related, kind_of}
 use Rattle.svn_model.specs.Sources.{source, reported}
-use Rattle.svn_editor.specs.Steps.{Mode, Update, SwitchTo, Action, Delete, Open, Add, Change, Text, Close, Step}
+use Rattle.svn_editor.specs.declared.mode.Mode.{Mode}
+use Rattle.svn_editor.specs.declared.mode.Mode.TheVariants.{Update, SwitchTo}
+use Rattle.svn_editor.specs.Steps.{Action, Delete, Open, Add, Change, Text, Close, Step}
 use Rattle.svn_model.specs.Follow.{Request, root_path, candidate, is_kept, target_path, source_node, target_node}
 use Rattle.svn_model.specs.Steps.{IsDriveOf, path_actions}
 use Rattle.svn_model.specs.declared.base_node.BaseNode.{BaseNode}

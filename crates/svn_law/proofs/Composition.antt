@@ -7,7 +7,9 @@ use Rattle.std.proofs.lemmas.Bool.{le-ltb}
 use Rattle.std.specs.Option.{option_or}
 use Rattle.svn_types.specs.Names.{Path}
 use Rattle.svn_types.specs.Limits.{path_limit}
-use Rattle.svn_editor.specs.Steps.{Mode, Update, SwitchTo, Step, step_of, steps_of}
+use Rattle.svn_editor.specs.declared.mode.Mode.{Mode}
+use Rattle.svn_editor.specs.declared.mode.Mode.TheVariants.{Update, SwitchTo}
+use Rattle.svn_editor.specs.Steps.{Step, step_of, steps_of}
 use Rattle.svn_editor.specs.declared.call.Call.{Call}
 use Rattle.svn_editor.specs.declared.fault.EditFault.TheVariants.{Order, TooDeep}
 use Rattle.svn_editor.specs.declared.call.Call.TheVariants.{SetTargetRevision, CloseEdit}

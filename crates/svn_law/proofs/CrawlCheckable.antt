@@ -25,7 +25,7 @@ use Rattle.svn_model.specs.declared.base_node.BaseNode.{BaseNode}
 use Rattle.svn_model.specs.declared.base_node.BaseNode.TheVariants.{File as FileNode, Dir as DirNode, NotPresent}
 use Rattle.svn_model.specs.Nodes.{get_in, is_present, is_dir, is_incomplete, node_revision, node_path, IsTrueNode}
 use Rattle.svn_model.specs.Crawl.{entry_for, reported_at, crawl}
-use Rattle.svn_editor.specs.Steps.{Mode}
+use Rattle.svn_editor.specs.declared.mode.Mode.{Mode}
 use Rattle.svn_law.specs.Laws.{IsTrueCopy, HasTarget, IsRequestOf, request_of, crawl_says_what_stands}
 use Rattle.svn_edit_law.proofs.CrawlReports.{crawl_report}
 use Rattle.svn_drive_law.proofs.ReportDrives.{tested}

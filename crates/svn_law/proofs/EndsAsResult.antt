@@ -13,7 +13,9 @@ use Rattle.svn_types.specs.declared.kind.Kind.TheVariants.{File, Directory}
 use Rattle.svn_types.proofs.PathLemmas.{same_path, path_eq-same}
 use Rattle.svn_repo.specs.History.{History}
 use Rattle.svn_repo.specs.Readings.{are_related, kind_of, text_of, props_of}
-use Rattle.svn_editor.specs.Steps.{Mode, Update, SwitchTo, Step}
+use Rattle.svn_editor.specs.declared.mode.Mode.{Mode}
+use Rattle.svn_editor.specs.declared.mode.Mode.TheVariants.{Update, SwitchTo}
+use Rattle.svn_editor.specs.Steps.{Step}
 use Rattle.svn_editor.specs.declared.call.Call.{Call}
 use Rattle.svn_editor.specs.declared.call.Call.TheVariants.{SetTargetRevision, CloseEdit}
 use Rattle.svn_model.specs.Steps.{IsDriveOf, is_touched, is_new, is_gone, starts_empty_at, source_props, source_text, path_actions}

@@ -17,7 +17,9 @@ use Rattle.svn_repo.specs.History.{History, look}
 use Rattle.svn_repo.specs.Readings.{are_related, line_of, kind_of, text_of, props_of}
 use Rattle.svn_report.specs.Reports.{ReportView}
 use Rattle.svn_model.specs.Sources.{reported, source}
-use Rattle.svn_editor.specs.Steps.{Mode, Update, SwitchTo, Step}
+use Rattle.svn_editor.specs.declared.mode.Mode.{Mode}
+use Rattle.svn_editor.specs.declared.mode.Mode.TheVariants.{Update, SwitchTo}
+use Rattle.svn_editor.specs.Steps.{Step}
 use Rattle.svn_editor.specs.declared.call.Call.{Call}
 use Rattle.svn_report.specs.LawfulReports.{IsReport}
 use Rattle.svn_model.specs.Checks.{IsCheckable}

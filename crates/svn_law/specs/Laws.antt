@@ -6,7 +6,7 @@ use Rattle.svn_repo.specs.Readings.{IsHistory}
 use Rattle.svn_report.specs.Reports.{ReportView}
 use Rattle.svn_report.specs.LawfulReports.{IsReport}
 use Rattle.svn_editor.specs.declared.call.Call.{Call}
-use Rattle.svn_editor.specs.Steps.{Mode}
+use Rattle.svn_editor.specs.declared.mode.Mode.{Mode}
 use Rattle.svn_model.specs.Checks.{IsCheckable, target_fault}
 use Rattle.svn_model.specs.Follow.{Request, target_path}
 use Rattle.svn_model.specs.Drive.{IsDrive}

@@ -6,7 +6,8 @@ use Rattle.svn_types.specs.declared.kind.Kind.{Kind}
 use Rattle.svn_types.specs.Names.{Path}
 use Rattle.svn_editor.specs.declared.fault.EditFault.{EditFault}
 use Rattle.svn_editor.specs.declared.fault.EditFault.TheVariants.{NoEntry, WrongKind, WrongRevision}
-use Rattle.svn_editor.specs.Steps.{Mode, Open, Step}
+use Rattle.svn_editor.specs.declared.mode.Mode.{Mode}
+use Rattle.svn_editor.specs.Steps.{Open, Step}
 use Rattle.svn_model.specs.Nodes.{WorkingCopy, is_present, node_path, node_revision}
 use Rattle.svn_model.specs.Effects.{step_fault, moved_path, has_kind}
 use Rattle.svn_nodes.specs.NodeTests.{open_fault_of, deep_fault}

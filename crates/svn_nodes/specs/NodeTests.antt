@@ -1,7 +1,6 @@
 -- What an edit asks of the nodes of a copy, and what its end makes of them.
 --     Gives fault value answer      the answer of a call that gives a value: that fault, or there is none and the value is this one
 --     AnswersAs fault answer      the same of the fault alone
---     mode_of root      an update, or with a root a switch of the whole copy to it
 --     IsSumOf sum nodes p      the checksum, if there is one, is that of the text at the path
 use Rattle.std.specs.Prelude.{ℕ, not, List, [], ◌∷◌, ◌++◌, length, nat_eq, nat_lt, Option, Some, None, IfSome, Result, Ok, Err}
 use Rattle.std.specs.Prelude.{if◌then◌else◌, ◌≡◌}
@@ -10,7 +9,8 @@ use Rattle.svn_types.specs.declared.kind.Kind.{Kind}
 use Rattle.svn_types.specs.Names.{Path}
 use Rattle.svn_types.specs.Paths.{path_eq}
 use Rattle.svn_types.specs.Limits.{path_limit}
-use Rattle.svn_editor.specs.Steps.{Mode, Update, SwitchTo}
+use Rattle.svn_editor.specs.declared.mode.Mode.{Mode}
+use Rattle.svn_editor.specs.declared.mode.Mode.TheVariants.{Update, SwitchTo}
 use Rattle.svn_editor.specs.declared.fault.EditFault.{EditFault}
 use Rattle.svn_editor.specs.declared.fault.EditFault.TheVariants.{NoEntry, WrongKind, WrongRevision, TextChecksum, TooDeep}
 use Rattle.svn_model.specs.declared.base_node.BaseNode.{BaseNode}
@@ -27,10 +27,6 @@ Gives fault value (Err e) = IsAnswer fault e
 abbrev pub AnswersAs : {T : Type 0} → Option EditFault → Result T EditFault → Type 0
 AnswersAs fault (Ok v) = fault ≡ None
 AnswersAs fault (Err e) = IsAnswer fault e
-
-abbrev pub mode_of : Option Path → Mode
-mode_of None = Update
-mode_of (Some root) = SwitchTo root
 
 -- ---- one node
 

@@ -3,7 +3,7 @@ ghost use Rattle.std.specs.Prelude.{◌≡◌, ◌++◌, Some, IfOk};
 ghost use Rattle.std.specs.List.{list_any};
 ghost use Rattle.std.specs.Vec.Iter.{into_iter_items};
 ghost use Rattle.svn_types.specs.Names.{Path};
-ghost use Rattle.svn_editor.specs.Steps.{Update, SwitchTo};
+ghost use Rattle.svn_editor.specs.declared.mode.Mode.TheVariants.{Update, SwitchTo};
 ghost use Rattle.svn_model.specs.Nodes.{get_in, is_present, at_revision};
 ghost use Rattle.svn_model.specs.Effects.{settled, is_settled_deep};
 ghost use Rattle.svn_nodes.specs.NodeTests.{with_path, moved_paths, settled_next, paths_left};

@@ -11,14 +11,13 @@ ghost use Rattle.svn_model.specs.Answering.{AnswersCall};
 ghost use Rattle.svn_nodes.specs.NodeTests.{AnswersAs, IsSumOf, delete_fault_of, open_fault_of};
 
 use crate::memory::or_memory;
-use md5::{Digest as Hasher, Md5};
 use std::alloc::{AllocError, Global};
 use std::collections::BTreeMap;
 use std::collections::btree_map::Entry;
 use std::ops::Bound;
-use svn_editor::{Digest, EditFault};
+use svn_editor::EditFault;
 use svn_model::BaseNode;
-use svn_types::{Kind, Props, RelPath, Rev, Text};
+use svn_types::{Digest, Kind, Props, RelPath, Rev, Text};
 
 /// The nodes of a copy, by their paths from its root, in path order.
 pub type Nodes = BTreeMap<RelPath, BaseNode>;
@@ -40,8 +39,8 @@ pub fn is_present(node: Option<&BaseNode>) -> bool
     ensures { result ≡ is_present (option_copied node.entry) }
 {
     match node {
-        Some(BaseNode::File { .. } | BaseNode::Dir { .. }) => true,
-        Some(BaseNode::NotPresent) | None => false,
+        Some(node) => node.is_present(),
+        None => false,
     }
 }
 
@@ -121,12 +120,12 @@ pub fn open_file_fault(node: Option<&BaseNode>, base: Rev) -> Option<EditFault>
 }
 
 // The checksum of a node's text: of what is no file, of no byte.
-fn checksum_of(node: Option<&BaseNode>) -> [u8; 16]
+fn checksum_of(node: Option<&BaseNode>) -> Digest
     ensures { result ≡ md5 (node_text (option_copied node.entry)) }
 {
     match node {
         Some(BaseNode::File { text, .. }) => text.checksum(),
-        Some(BaseNode::Dir { .. } | BaseNode::NotPresent) | None => Md5::digest(&[]),
+        Some(BaseNode::Dir { .. } | BaseNode::NotPresent) | None => Digest::of(&[]),
     }
 }
 
@@ -135,7 +134,7 @@ pub fn kept_sum(node: Option<&BaseNode>) -> Option<Digest>
     ensures { IfSome result (λ sum. sum ≡ md5 (node_text (option_copied node.entry))) }
 {
     match node {
-        Some(BaseNode::File { text, .. }) => Some(Digest(text.kept_checksum()?)),
+        Some(BaseNode::File { text, .. }) => text.kept_checksum(),
         _ => None,
     }
 }
@@ -233,7 +232,7 @@ fn tested_clone(text: &Text, given: &Option<Digest>) -> Result<Text, EditFault>
     ensures text { IfOk result (λ t. t ≡ text.now) }
 {
     match given {
-        Some(sum) if sum.0 != text.checksum() => Err(EditFault::TextChecksum),
+        Some(sum) if *sum != text.checksum() => Err(EditFault::TextChecksum),
         _ => or_memory(text.clone()),
     }
 }
@@ -246,7 +245,7 @@ fn tested_bytes(alloc: Global, bytes: &[u8], given: &Option<Digest>) -> Result<T
     let Some(sum) = given else {
         return or_memory(Text::from_slice(alloc, bytes));
     };
-    match or_memory(Text::verified(alloc, bytes, &sum.0))? {
+    match or_memory(Text::verified(alloc, bytes, sum))? {
         Some(text) => Ok(text),
         None => Err(EditFault::TextChecksum),
     }
@@ -274,17 +273,17 @@ pub fn is_wrong_sum(given: &Option<Digest>, node: Option<&BaseNode>) -> bool
     ensures { result ≡ is_wrong_sum given.now (md5 (node_text (option_copied node.entry))) }
 {
     match given {
-        Some(sum) => sum.0 != checksum_of(node),
+        Some(sum) => *sum != checksum_of(node),
         None => false,
     }
 }
 
 // The checksum of the text at a path. A known one is believed, and nothing is looked up.
-fn sum_at(known: Option<Digest>, nodes: &Nodes, path: &RelPath) -> [u8; 16]
+fn sum_at(known: Option<Digest>, nodes: &Nodes, path: &RelPath) -> Digest
     ensures { IsSumOf known nodes.now.entries path.now → result ≡ md5 (node_text (get_in nodes.now.entries path.now)) }
 {
     match known {
-        Some(sum) => sum.0,
+        Some(sum) => sum,
         None => checksum_of(nodes.get(path)),
     }
 }
@@ -300,7 +299,7 @@ pub fn is_wrong_base(
     ensures { IsSumOf known nodes.now.entries path.now → result ≡ is_wrong_sum given.now (md5 (node_text (get_in nodes.now.entries path.now))) }
 {
     match given {
-        Some(sum) => sum.0 != sum_at(known, nodes, path),
+        Some(sum) => *sum != sum_at(known, nodes, path),
         None => false,
     }
 }

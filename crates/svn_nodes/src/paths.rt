@@ -6,12 +6,12 @@ ghost use Rattle.svn_types.specs.Paths.{parent, last_name};
 ghost use Rattle.svn_model.specs.Nodes.{WorkingCopy, get_in, node_path};
 ghost use Rattle.svn_model.specs.Effects.{joined_path, moved_path};
 ghost use Rattle.svn_model.specs.Answering.{AnswersCall};
-ghost use Rattle.svn_nodes.specs.NodeTests.{Gives, deep_fault, mode_of};
+ghost use Rattle.svn_nodes.specs.NodeTests.{Gives, deep_fault};
 
 use crate::memory::or_memory;
 use crate::nodes::Nodes;
 use std::alloc::{AllocError, Global};
-use svn_editor::EditFault;
+use svn_editor::{EditFault, Mode};
 use svn_model::BaseNode;
 use svn_types::{MAX_DEPTH, Name, RelPath};
 
@@ -161,13 +161,13 @@ pub fn joined_at(alloc: Global, copy: &Nodes, path: &RelPath) -> Result<RelPath,
 /// tested when it was opened. AllocError where an allocation fails.
 pub fn moved_again(
     alloc: Global,
-    root: &Option<RelPath>,
+    mode: &Mode,
     copy: &Nodes,
     path: &RelPath,
 ) -> Result<Option<RelPath>, AllocError>
-    ensures { IfOk result (λ m. (was : Path) → moved_path (mode_of root.now) (get_in copy.now.entries) path.now was ≡ unwrap_or m was) }
+    ensures { IfOk result (λ m. (was : Path) → moved_path mode.now (get_in copy.now.entries) path.now was ≡ unwrap_or m was) }
 {
-    let Some(root) = root else {
+    let Mode::SwitchTo(root) = mode else {
         return Ok(None);
     };
     if path.is_root() {
@@ -178,13 +178,13 @@ pub fn moved_again(
 
 /// The same by the path that the file would get if it was added, or by what refused that.
 pub fn moved_by(
-    root: &Option<RelPath>,
+    mode: &Mode,
     path: &RelPath,
     joined: Result<RelPath, AllocError>,
 ) -> Result<Option<RelPath>, AllocError>
-    ensures { (w : WorkingCopy) → IfOk joined (λ j. j ≡ joined_path w path.now) → IfOk result (λ m. (was : Path) → moved_path (mode_of root.now) w path.now was ≡ unwrap_or m was) }
+    ensures { (w : WorkingCopy) → IfOk joined (λ j. j ≡ joined_path w path.now) → IfOk result (λ m. (was : Path) → moved_path mode.now w path.now was ≡ unwrap_or m was) }
 {
-    let Some(root) = root else {
+    let Mode::SwitchTo(root) = mode else {
         return Ok(None);
     };
     if path.is_root() {

@@ -22,7 +22,8 @@ use Rattle.svn_editor.specs.declared.fault.OrderFault.{OrderFault}
 use Rattle.svn_editor.specs.Calls.{Given, kind_eq, given, given_by, given_path, all_given, is_closed, closes, path_of}
 use Rattle.svn_editor.specs.Calls.{is_open_directory, a_directory_is_open, a_file_is_open}
 use Rattle.svn_editor.specs.Order.{order_fault, IsLawful}
-use Rattle.svn_editor.specs.Steps.{Mode, Action, Open, Add, Change, Text, Close, steps_of, target_of}
+use Rattle.svn_editor.specs.declared.mode.Mode.{Mode}
+use Rattle.svn_editor.specs.Steps.{Action, Open, Add, Change, Text, Close, steps_of, target_of}
 use Rattle.svn_editor.proofs.OneMore.{any_at, any_more, any_weaker, or_parts, given_none, given_one, false_from}
 use Rattle.svn_editor.proofs.Nested.{true_eq}
 use Rattle.svn_editor.proofs.Accepted.{IsAccepted, accepted}

@@ -17,7 +17,7 @@ use Rattle.svn_edit_law.proofs.CrawlReports.{directory_above}
 use Rattle.svn_edit_law.proofs.Lookups.{at_path, get_in-append}
 use Rattle.svn_nodes.proofs.NodeOrder.{at_first, first_or_after, before_behind, order_behind, some_behind}
 use Rattle.svn_wc.specs.Truths.{all_below, IsPast, IsNoDeeper, IsNameBelow, IsLastName}
-use Rattle.svn_wc.proofs.PathLines.{dir_some}
+use Rattle.svn_wc.proofs.Ancestors.{dir_some}
 use Rattle.svn_wc.proofs.Truly.{found_below, below_extended}
 
 -- ---- paths

@@ -21,7 +21,7 @@ use Rattle.svn_edit_law.proofs.NodeLists.{get_in-first}
 use Rattle.svn_edit_law.proofs.Lookups.{get_in-append}
 use Rattle.svn_nodes.proofs.NodeOrder.{at_first, before_behind}
 use Rattle.svn_wc.specs.Unswitched.{is_level, IsUnswitched, IsLevel}
-use Rattle.svn_wc.proofs.PathLines.{next_stands, append_one}
+use Rattle.svn_wc.proofs.Ancestors.{next_stands, append_one}
 use Rattle.svn_wc.proofs.Unswitched.{dir_present}
 
 -- ---- one node

@@ -1,7 +1,7 @@
 -- Directories whose repository path is their own path, and what is below a directory.
 pub mod OwnPaths
 -- The nodes on the way down to a path.
-pub mod PathLines
+pub mod Ancestors
 -- The entries of a directory, gone through beside the nodes below it.
 pub mod Merging
 -- The next node behind those below a path: it is below too exactly where it has more names.

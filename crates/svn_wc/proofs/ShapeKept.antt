@@ -10,7 +10,8 @@ use Rattle.svn_editor.specs.declared.call.Call.TheVariants.{AbortEdit}
 use Rattle.svn_editor.specs.declared.fault.EditFault.{EditFault}
 use Rattle.svn_editor.specs.declared.fault.EditFault.TheVariants.{Memory}
 use Rattle.svn_editor.specs.Calls.{is_last, is_abort}
-use Rattle.svn_editor.specs.Steps.{Mode, Update}
+use Rattle.svn_editor.specs.declared.mode.Mode.{Mode}
+use Rattle.svn_editor.specs.declared.mode.Mode.TheVariants.{Update}
 use Rattle.svn_model.specs.declared.base_node.BaseNode.{BaseNode}
 use Rattle.svn_model.specs.Nodes.{WorkingCopy, get_in, IsWorkingCopy}
 use Rattle.svn_model.specs.Effects.{effect, refusal}
@@ -22,7 +23,6 @@ use Rattle.svn_edit.specs.declared.edit.Stage.{Stage}
 use Rattle.svn_edit.specs.declared.edit.Stage.TheVariants.{Going, Refused, Ended}
 use Rattle.svn_edit.specs.Leaving.{PoolsAfter}
 use Rattle.svn_edit.specs.Applying.{StandsAfter, HasEnded, IsRefused, StaysRefused, StaysEnded, LeavesRefused}
-use Rattle.svn_nodes.specs.NodeTests.{mode_of}
 use Rattle.svn_edit.proofs.ShapedCalls.{shaped_call}
 use Rattle.svn_edit_law.proofs.Appending.{after-more}
 use Rattle.svn_wc.specs.Taking.{TakesCall, IsBegun, GoesOn, IsInShape, IncompleteAreOpen}
@@ -75,7 +75,7 @@ pub taken : (answer : Result (Unit {0}) EditFault) (old new : Edit) (m m' : BTre
     → (IsRefused old → StaysRefused c answer new × (m' ≡ m))
     → (HasEnded old → StaysEnded old answer new × (m' ≡ m))
     → PoolsAfter old m.entries c answer new
-    → (is_last c ≡ true → mode_of old.root ≡ Update → IfErr answer (λ e. e ≢ Memory))
+    → (is_last c ≡ true → old.mode ≡ Update → IfErr answer (λ e. e ≢ Memory))
     → (is_abort c ≡ true → IfErr answer (λ e. e ≢ Memory))
     → TakesCall old m.entries c answer new m'.entries
 taken answer old new m m' c named answers in_order accepted refused dead was_refused ended pools last abort = record {

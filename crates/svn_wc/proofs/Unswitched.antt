@@ -13,7 +13,8 @@ use Rattle.svn_edit_law.proofs.CrawlReports.{directory_above}
 use Rattle.svn_edit_law.proofs.Parts.{drop_front}
 use Rattle.svn_editor.specs.declared.call.Call.{Call}
 use Rattle.svn_editor.specs.declared.call.Call.TheVariants.{CloseEdit}
-use Rattle.svn_editor.specs.Steps.{Update, SwitchTo, Action, Delete, Open, Add, Change, Text, Close, Step, step_of, steps_of, target_of}
+use Rattle.svn_editor.specs.declared.mode.Mode.TheVariants.{Update, SwitchTo}
+use Rattle.svn_editor.specs.Steps.{Action, Delete, Open, Add, Change, Text, Close, Step, step_of, steps_of, target_of}
 use Rattle.svn_model.specs.declared.base_node.BaseNode.{BaseNode}
 use Rattle.svn_model.specs.declared.base_node.BaseNode.TheVariants.{File as FileNode, Dir as DirNode, NotPresent}
 use Rattle.svn_model.specs.Nodes.{WorkingCopy, IsWorkingCopy, is_present, is_dir, node_path}

@@ -8,7 +8,8 @@ use Rattle.svn_editor.specs.declared.call.Call.{Call}
 use Rattle.svn_editor.specs.declared.call.Call.TheVariants.{CloseEdit, AbortEdit}
 use Rattle.svn_editor.specs.declared.fault.EditFault.{EditFault}
 use Rattle.svn_editor.specs.Calls.{is_last}
-use Rattle.svn_editor.specs.Steps.{Mode, Update, SwitchTo}
+use Rattle.svn_editor.specs.declared.mode.Mode.{Mode}
+use Rattle.svn_editor.specs.declared.mode.Mode.TheVariants.{Update, SwitchTo}
 use Rattle.svn_model.specs.declared.base_node.BaseNode.{BaseNode}
 use Rattle.svn_model.specs.Nodes.{WorkingCopy, get_in, IsWorkingCopy}
 use Rattle.svn_model.specs.Effects.{effect, refusal}
@@ -17,7 +18,6 @@ use Rattle.svn_edit.specs.declared.edit.Edit.{Edit}
 use Rattle.svn_edit.specs.declared.edit.Stage.{Stage}
 use Rattle.svn_edit.specs.declared.edit.Stage.TheVariants.{Going, Refused, Ended}
 use Rattle.svn_edit.specs.Applying.{StandsAfter, StaysRefused}
-use Rattle.svn_nodes.specs.NodeTests.{mode_of}
 use Rattle.svn_edit_law.proofs.Appending.{after-more}
 use Rattle.svn_wc.specs.Taking.{TakesCall, GoesOn, IsInShape}
 use Rattle.svn_wc.specs.Unswitched.{IsUnswitched, IsLevel}
@@ -38,8 +38,8 @@ module _ (was_level : Bool) (old new : Edit) (w w' : List (Path × BaseNode)) (c
         by false e = refl
         by true e = absurd (ended_otherwise (sym (g.stands.ended e) ∙ is))
 
-    mode_is : old.stage ≡ Going → g.mode ≡ mode_of old.root
-    mode_is is = sym ((g.stands.going (going is)).root)
+    mode_is : old.stage ≡ Going → g.mode ≡ old.mode
+    mode_is is = sym ((g.stands.going (going is)).mode_is)
 
     taken_effect : StandsAfter g.mode g.start new w' (g.calls ++ c ∷ []) → get_in w' ≡ effect g.mode g.calls c (get_in w)
     taken_effect after =
@@ -56,7 +56,7 @@ module _ (was_level : Bool) (old new : Edit) (w w' : List (Path × BaseNode)) (c
 
   -- an update
   pub kept_unswitched : (answer : Result (Unit {0}) EditFault) → TakesCall old w c answer new w' → IsInShape was_level old w
-      → IsWorkingCopy (get_in w') → mode_of old.root ≡ Update → IsUnswitched (get_in w) → IsUnswitched (get_in w')
+      → IsWorkingCopy (get_in w') → old.mode ≡ Update → IsUnswitched (get_in w) → IsUnswitched (get_in w')
   kept_unswitched answer takes shape after update unswitched = by old.stage refl answer takes
     where
       by : (stage : Stage) → old.stage ≡ stage → (answer : Result (Unit {0}) EditFault) → TakesCall old w c answer new w'
@@ -74,7 +74,7 @@ module _ (was_level : Bool) (old new : Edit) (w w' : List (Path × BaseNode)) (c
 
   -- the last call of a switch
   pub closed_unswitched : (answer : Result (Unit {0}) EditFault) → TakesCall old w c answer new w' → IsInShape was_level old w
-      → IsWorkingCopy (get_in w') → (root : Path) → mode_of old.root ≡ SwitchTo root → c ≡ CloseEdit → answer ≡ Ok tt
+      → IsWorkingCopy (get_in w') → (root : Path) → old.mode ≡ SwitchTo root → c ≡ CloseEdit → answer ≡ Ok tt
       → IsUnswitched (get_in w')
   closed_unswitched answer takes shape after root switch close ok = by old.stage refl answer takes ok
     where
@@ -93,17 +93,17 @@ module _ (was_level : Bool) (old new : Edit) (w w' : List (Path × BaseNode)) (c
 
   -- what an applier notes
   pub still_unswitched : (answer : Result (Unit {0}) EditFault) → TakesCall old w c answer new w' → IsInShape was_level old w
-      → IsWorkingCopy (get_in w') → (is_update : Bool) → IsTrue is_update ↔ (mode_of old.root ≡ Update) → (was result : Bool)
+      → IsWorkingCopy (get_in w') → (is_update : Bool) → IsTrue is_update ↔ (old.mode ≡ Update) → (was result : Bool)
       → (is_update ≡ true → result ≡ was) → (is_update ≡ false → result ≡ true → (c ≡ CloseEdit) × (answer ≡ Ok tt)) → result ≡ true
       → (was ≡ true → IsUnswitched (get_in w)) → IsUnswitched (get_in w')
   still_unswitched answer takes shape after true iff was result update switch known before =
       kept_unswitched answer takes shape after (iff.0 refl) (before (sym (update refl) ∙ known))
-  still_unswitched answer takes shape after false iff was result update switch known before = by old.root refl
+  still_unswitched answer takes shape after false iff was result update switch known before = by old.mode refl
     where
-      by : (o : Option Path) → old.root ≡ o → IsUnswitched (get_in w')
-      by None is = absurd (true≢false (sym (iff.1 (ap mode_of is))))
-      by (Some root) is =
-          let closed = switch refl known in closed_unswitched answer takes shape after root (ap mode_of is) closed.0 closed.1
+      by : (m : Mode) → old.mode ≡ m → IsUnswitched (get_in w')
+      by Update is = absurd (true≢false (sym (iff.1 is)))
+      by (SwitchTo root) is =
+          let closed = switch refl known in closed_unswitched answer takes shape after root is closed.0 closed.1
 
   -- after the last call, a copy that was level is so again
   pub level_again : (answer : Result (Unit {0}) EditFault) → TakesCall old w c answer new w' → IsInShape was_level old w

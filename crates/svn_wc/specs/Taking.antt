@@ -12,7 +12,8 @@ use Rattle.svn_editor.specs.declared.call.Call.{Call}
 use Rattle.svn_editor.specs.declared.fault.EditFault.{EditFault}
 use Rattle.svn_editor.specs.declared.fault.EditFault.TheVariants.{Memory}
 use Rattle.svn_editor.specs.Calls.{Given, kind_eq, given, is_closed, is_last, is_abort}
-use Rattle.svn_editor.specs.Steps.{Mode, Update}
+use Rattle.svn_editor.specs.declared.mode.Mode.{Mode}
+use Rattle.svn_editor.specs.declared.mode.Mode.TheVariants.{Update}
 use Rattle.svn_model.specs.declared.base_node.BaseNode.{BaseNode}
 use Rattle.svn_model.specs.Nodes.{WorkingCopy, get_in, is_incomplete}
 use Rattle.svn_model.specs.Effects.{refusal}
@@ -22,7 +23,6 @@ use Rattle.svn_edit.specs.declared.edit.Edit.{Edit}
 use Rattle.svn_edit.specs.declared.edit.Stage.TheVariants.{Going}
 use Rattle.svn_edit.specs.Leaving.{PoolsAfter}
 use Rattle.svn_edit.specs.Applying.{StandsAfter, HasEnded, IsRefused, StaysRefused, StaysEnded, LeavesRefused}
-use Rattle.svn_nodes.specs.NodeTests.{mode_of}
 
 pub record TakesCall (old : Edit) (w : List (Path × BaseNode)) (call : Call) (answer : Result (Unit {0}) EditFault)
     (new : Edit) (w' : List (Path × BaseNode)) : Type 0 where
@@ -41,7 +41,7 @@ pub record TakesCall (old : Edit) (w : List (Path × BaseNode)) (call : Call) (a
   -- after a refusal too the pools are those of what is open
   pub pools : PoolsAfter old w call answer new
   -- want of memory isn't answered to the last call of an update
-  pub last : is_last call ≡ true → mode_of old.root ≡ Update → IfErr answer (λ e. e ≢ Memory)
+  pub last : is_last call ≡ true → old.mode ≡ Update → IfErr answer (λ e. e ≢ Memory)
   -- nor to giving up
   pub abort : is_abort call ≡ true → IfErr answer (λ e. e ≢ Memory)
 

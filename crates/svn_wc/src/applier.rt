@@ -1,16 +1,18 @@
 //! The editor that applies an edit to a working copy.
 ghost use Rattle.std.specs.Prelude.{◌≡◌, ◌≢◌, ◌+◌, true, [], ◌∷◌, ◌++◌, List, IfOk, IfErr, OnOk, OnErr, None, Some, Ok, false};
+ghost use Rattle.std.specs.List.{list_any};
+ghost use Rattle.std.specs.Option.{option_copied};
 ghost use Rattle.md5.specs.Md5.{md5};
 ghost use Rattle.svn_editor.specs.declared.call.Call.{Call};
 ghost use Rattle.svn_editor.specs.declared.fault.EditFault.TheVariants.{Memory};
 ghost use Rattle.svn_editor.specs.Calls.{is_last, is_abort};
-ghost use Rattle.svn_editor.specs.Steps.{Mode, Update, SwitchTo};
+ghost use Rattle.svn_editor.specs.declared.mode.Mode.{Mode};
+ghost use Rattle.svn_editor.specs.declared.mode.Mode.TheVariants.{Update, SwitchTo};
 ghost use Rattle.svn_model.specs.Nodes.{WorkingCopy as CopyMap, get_in};
 ghost use Rattle.svn_model.specs.Effects.{refusal};
 ghost use Rattle.svn_edit_law.specs.Laws.{OpensNamed, IsShapedAfter};
 ghost use Rattle.svn_edit.specs.Leaving.{IsLeft, PoolsAfter};
-ghost use Rattle.svn_edit.specs.Applying.{open_count, live_count, OneIsLeft, StandsAfter, HasEnded, IsRefused, StaysRefused, StaysEnded, LeavesRefused};
-ghost use Rattle.svn_nodes.specs.NodeTests.{mode_of};
+ghost use Rattle.svn_edit.specs.Applying.{open_count, live_count, OneIsLeft, StandsAfter, path_open, HasEnded, IsRefused, StaysRefused, StaysEnded, LeavesRefused};
 ghost use Rattle.svn_model.specs.Answering.{AnswersCall, WantsInOrder};
 ghost use Rattle.svn_wc.specs.Taking.{IsBegun, IsInShape};
 
@@ -19,7 +21,7 @@ use crate::paths::last_name_allowed;
 use crate::working_copy::WorkingCopy;
 use std::alloc::Global;
 use svn_edit::Edit;
-use svn_editor::{Call, EditFault, Editor};
+use svn_editor::{Call, EditFault, Editor, Mode, Token};
 use svn_types::RelPath;
 
 /// Applies the calls of an edit to a copy (the receiver of `svn_delta.h`): of an update or a switch of the whole copy, texts in place or late. As
@@ -43,7 +45,7 @@ impl<'a> Applier<'a> {
         ensures memory { IfErr result (λ e. e ≡ Memory) }
     {
         copy.law();
-        let edit = Edit::new(alloc, None)?;
+        let edit = Edit::new(alloc, Mode::Update)?;
         let was_level = copy.known.level;
         Ok(Applier {
             copy,
@@ -93,7 +95,7 @@ impl<'a> Applier<'a> {
         let Ok(root) = to.clone() else {
             return Err(EditFault::Memory);
         };
-        let edit = Edit::new(alloc, Some(root))?;
+        let edit = Edit::new(alloc, Mode::SwitchTo(root))?;
         let was_level = copy.known.level;
         Ok(Applier {
             copy,
@@ -102,33 +104,40 @@ impl<'a> Applier<'a> {
         })
     }
 
-    // Takes the next call. Inlined, so that the call stays where it was made until the edit has looked at it.
+    /// Takes the next call, as its [`Editor`] does, and leaves the call to the caller.
     #[inline(always)]
-    fn take(&mut self, call: Call) -> Result<(), EditFault>
-        ensures answers { (mode : Mode) (w0 : CopyMap) (calls : List Call) → StandsAfter mode w0 self.old.edit self.old.copy.now calls → AnswersCall (refusal md5 mode calls call self.old.copy.now) result }
-        ensures in_order { (mode : Mode) (w0 : CopyMap) (calls : List Call) → StandsAfter mode w0 self.old.edit self.old.copy.now calls → WantsInOrder calls call result }
-        ensures accepted { OnOk result ((mode : Mode) (w0 : CopyMap) (calls : List Call) → StandsAfter mode w0 self.old.edit self.old.copy.now calls → StandsAfter mode w0 self.new.edit self.new.copy.now (calls ++ call ∷ [])) }
-        ensures shape { OnOk result ((mode : Mode) (w0 : CopyMap) (calls : List Call) → StandsAfter mode w0 self.old.edit self.old.copy.now calls → IsShapedAfter mode (get_in self.old.copy.now) calls → IsShapedAfter mode (get_in self.new.copy.now) (calls ++ call ∷ [])) }
+    pub fn apply(&mut self, call: &Call) -> Result<(), EditFault>
+        ensures answers { (mode : Mode) (w0 : CopyMap) (calls : List Call) → StandsAfter mode w0 self.old.edit self.old.copy.now calls → AnswersCall (refusal md5 mode calls call.now self.old.copy.now) result }
+        ensures in_order { (mode : Mode) (w0 : CopyMap) (calls : List Call) → StandsAfter mode w0 self.old.edit self.old.copy.now calls → WantsInOrder calls call.now result }
+        ensures accepted { OnOk result ((mode : Mode) (w0 : CopyMap) (calls : List Call) → StandsAfter mode w0 self.old.edit self.old.copy.now calls → StandsAfter mode w0 self.new.edit self.new.copy.now (calls ++ call.now ∷ [])) }
+        ensures shape { OnOk result ((mode : Mode) (w0 : CopyMap) (calls : List Call) → StandsAfter mode w0 self.old.edit self.old.copy.now calls → IsShapedAfter mode (get_in self.old.copy.now) calls → IsShapedAfter mode (get_in self.new.copy.now) (calls ++ call.now ∷ [])) }
         ensures refused { OnErr result ((mode : Mode) (w0 : CopyMap) (calls : List Call) → StandsAfter mode w0 self.old.edit self.old.copy.now calls → self.new.copy.now ≡ self.old.copy.now) }
         ensures dead { LeavesRefused self.old.edit.stage result self.new.edit }
-        ensures was_refused { IsRefused self.old.edit → StaysRefused call result self.new.edit × (self.new.copy.now ≡ self.old.copy.now) }
+        ensures was_refused { IsRefused self.old.edit → StaysRefused call.now result self.new.edit × (self.new.copy.now ≡ self.old.copy.now) }
         ensures ended { HasEnded self.old.edit → StaysEnded self.old.edit result self.new.edit × (self.new.copy.now ≡ self.old.copy.now) }
-        ensures pools { PoolsAfter self.old.edit self.old.copy.now call result self.new.edit }
-        ensures last { is_last call ≡ true → mode_of self.old.edit.root ≡ Update → IfErr result (λ e. e ≢ Memory) }
-        ensures abort { is_abort call ≡ true → IfErr result (λ e. e ≢ Memory) }
+        ensures pools { PoolsAfter self.old.edit self.old.copy.now call.now result self.new.edit }
+        ensures last { is_last call.now ≡ true → self.old.edit.mode ≡ Update → IfErr result (λ e. e ≢ Memory) }
+        ensures abort { is_abort call.now ≡ true → IfErr result (λ e. e ≢ Memory) }
         ensures same_copy { self.new.copy.ghost_name ≡ self.old.copy.ghost_name }
     {
-        opens_allowed(&call);
+        opens_allowed(call);
         let is_update = self.edit.is_update();
         let copy = &mut *self.copy;
         let was_unswitched = copy.known.unswitched;
-        let answer = self.edit.call(&mut copy.nodes, &call);
-        let has_ended = has_ended(&call, &answer);
+        let answer = self.edit.call(&mut copy.nodes, call);
+        let has_ended = has_ended(call, &answer);
         copy.known = Known {
             unswitched: knows_unswitched(is_update, was_unswitched, has_ended),
             level: is_level_again(self.was_level, has_ended),
         };
         answer
+    }
+
+    /// The path of the file or directory that is open under a token. It takes no memory.
+    pub fn open_path(&self, token: Token) -> Option<&RelPath>
+        ensures { (mode : Mode) (w0 : CopyMap) (calls : List Call) → StandsAfter mode w0 self.now.edit self.now.copy.now calls → list_any is_last calls ≡ false → option_copied result ≡ path_open calls token }
+    {
+        self.edit.open_path(token)
     }
 
     /// How many pools are live: one, and one for each file or directory that is open; after the last call one. It takes no memory.
@@ -154,7 +163,7 @@ impl<'a> Editor for Applier<'a> {
     /// the copy is as it was, and every call but AbortEdit is refused: Dead. After the last call each is Ended.
     #[inline(always)]
     fn call(&mut self, call: Call) -> Result<(), EditFault> {
-        self.take(call)
+        self.apply(&call)
     }
 }
 

@@ -31,7 +31,7 @@ use svn_types::{Kind, MAX_DEPTH, RelPath, Rev};
 fn is_missing(repo: &Repo, rev: Rev) -> bool
     ensures { result ≡ is_missing_revision repo.now rev }
 {
-    rev.0 > repo.latest().0
+    rev > repo.latest()
 }
 
 fn is_file(repo: &Repo, id: NodeId) -> bool

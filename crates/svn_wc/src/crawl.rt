@@ -27,28 +27,13 @@ fn or_memory(answer: Result<(), ReporterFault>) -> Result<(), WcFault>
     }
 }
 
-fn is_directory(node: &BaseNode) -> bool
-    ensures { result ≡ is_dir (Some node.now) }
-{
-    matches!(node, BaseNode::Dir { .. })
-}
-
-fn is_incomplete(node: &BaseNode) -> bool
-    ensures { result ≡ is_incomplete (Some node.now) }
-{
-    match node {
-        BaseNode::Dir { complete, .. } => !*complete,
-        BaseNode::File { .. } | BaseNode::NotPresent => false,
-    }
-}
-
+// The revision of a node; 0 where it is not present.
 fn revision(node: &BaseNode) -> Rev
     ensures { result ≡ node_revision (Some node.now) }
 {
-    match node {
-        BaseNode::File { rev, .. } => *rev,
-        BaseNode::Dir { rev, .. } => *rev,
-        BaseNode::NotPresent => Rev(0),
+    match node.rev() {
+        Some(rev) => rev,
+        None => Rev(0),
     }
 }
 
@@ -73,7 +58,7 @@ fn report_present(
     ensures known { crawl.new.unswitched ≡ crawl.old.unswitched }
     ensures fault { IfErr result (λ e. e ≡ WcFault.Memory) }
 {
-    let (rev, incomplete) = (revision(node), is_incomplete(node));
+    let (rev, incomplete) = (revision(node), node.is_incomplete());
     if !(crawl.unswitched || above.is_unswitched(path, repos_path)) {
         return or_memory(
             crawl
@@ -81,7 +66,7 @@ fn report_present(
                 .link_path(path, repos_path.clone()?, rev, incomplete),
         );
     }
-    if is_incomplete(above.node()) || incomplete || rev != revision(above.node()) {
+    if above.node().is_incomplete() || incomplete || rev != revision(above.node()) {
         return or_memory(crawl.reporter.set_path(path, rev, incomplete));
     }
     Ok(())
@@ -102,7 +87,7 @@ fn report_below(
         BaseNode::File { repos_path, .. } => report_present(crawl, path, above, node, repos_path),
         BaseNode::Dir { repos_path, .. } => report_present(crawl, path, above, node, repos_path),
         BaseNode::NotPresent => {
-            if is_incomplete(above.node()) {
+            if above.node().is_incomplete() {
                 Ok(())
             } else {
                 or_memory(crawl.reporter.delete_path(path))
@@ -128,29 +113,29 @@ fn report_node(
             or_memory(
                 crawl
                     .reporter
-                    .set_path(path, revision(node), is_incomplete(node)),
+                    .set_path(path, revision(node), node.is_incomplete()),
             )
         }
     }
 }
 
-// Reports the next node. The line has the directories at the root, and at each path down to the node before, and then down to this one.
+// Reports the next node. The ancestors are the directories at the root, and at each path down to the node before, and then down to this one.
 fn report_next<'a>(
     crawl: &mut Crawl,
-    line: &mut Vec<Above<'a>>,
+    ancestors: &mut Vec<Above<'a>>,
     path: &RelPath,
     node: &'a BaseNode,
 ) -> Result<(), WcFault>
-    ensures reported { let above = take (length path.now) line.old.items in OnOk result (Reports crawl.old.unswitched crawl.old.reporter path.now (last_of above) node.entry.now crawl.new.reporter) }
-    ensures line { let above = take (length path.now) line.old.items in OnOk result (line.new.items ≡ (if is_dir (Some node.entry.now) then above ++ (node.entry.now, mark crawl.old.unswitched path.now node.entry.now) ∷ [] else above)) }
+    ensures reported { let above = take (length path.now) ancestors.old.items in OnOk result (Reports crawl.old.unswitched crawl.old.reporter path.now (last_of above) node.entry.now crawl.new.reporter) }
+    ensures ancestors { let above = take (length path.now) ancestors.old.items in OnOk result (ancestors.new.items ≡ (if is_dir (Some node.entry.now) then above ++ (node.entry.now, mark crawl.old.unswitched path.now node.entry.now) ∷ [] else above)) }
     ensures known { crawl.new.unswitched ≡ crawl.old.unswitched }
     ensures fault { IfErr result (λ e. e ≡ WcFault.Memory) }
 {
-    line.truncate(path.components().len());
-    report_node(crawl, path, line.last(), node)?;
-    if is_directory(node) {
+    ancestors.truncate(path.components().len());
+    report_node(crawl, path, ancestors.last(), node)?;
+    if node.is_directory() {
         let above = Above::marked(path, node, crawl.unswitched);
-        let Ok(()) = line.push(above) else {
+        let Ok(()) = ancestors.push(above) else {
             return Err(WcFault::Memory);
         };
     }
@@ -226,10 +211,12 @@ impl WorkingCopy {
         ensures { IfOk result (λ p. p ≡ node_path (get_in self.now [])) }
     {
         let root = RelPath::root(alloc);
-        match self.nodes.get(&root) {
-            Some(BaseNode::File { repos_path, .. }) => repos_path.clone(),
-            Some(BaseNode::Dir { repos_path, .. }) => repos_path.clone(),
-            Some(BaseNode::NotPresent) | None => Ok(root),
+        let Some(node) = self.nodes.get(&root) else {
+            return Ok(root);
+        };
+        match node.repos_path() {
+            Some(repos_path) => repos_path.clone(),
+            None => Ok(root),
         }
     }
 
@@ -249,9 +236,9 @@ impl WorkingCopy {
             reporter: Reporter::new_at(alloc, self.root_path(alloc)?),
             unswitched: self.known.unswitched,
         };
-        let mut line = Vec::new(alloc);
+        let mut ancestors = Vec::new(alloc);
         for (path, node) in &self.nodes {
-            report_next(&mut crawl, &mut line, path, node)?;
+            report_next(&mut crawl, &mut ancestors, path, node)?;
         }
         Ok(crawl.reporter.finish_report())
     }

@@ -66,22 +66,13 @@ fn has_twice(nodes: &[(RelPath, BaseNode)]) -> bool
     false
 }
 
-fn is_directory(node: &BaseNode) -> bool
-    ensures { result ≡ is_dir (Some node.now) }
-{
-    match node {
-        BaseNode::Dir { .. } => true,
-        BaseNode::File { .. } | BaseNode::NotPresent => false,
-    }
-}
-
 // Whether the nodes have a directory at the path above another; above the root is the root.
 fn has_above(nodes: &[(RelPath, BaseNode)], path: &RelPath) -> bool
     requires { IsSearchable nodes.now }
     ensures { result ≡ is_dir (get_in nodes.now (parent path.now)) }
 {
     match nodes.binary_search_by(|node| compare_above(&node.0, path)) {
-        Ok(place) => is_directory(&nodes[place].1),
+        Ok(place) => nodes[place].1.is_directory(),
         Err(_) => false,
     }
 }
@@ -104,10 +95,9 @@ fn has_orphan(all: &[(RelPath, BaseNode)], nodes: &[(RelPath, BaseNode)]) -> boo
 fn is_node_too_deep(path: &RelPath, node: &BaseNode) -> bool
     ensures { result ≡ is_node_too_deep (path.now, node.now) }
 {
-    match node {
-        BaseNode::File { repos_path, .. } => is_too_deep(path, repos_path),
-        BaseNode::Dir { repos_path, .. } => is_too_deep(path, repos_path),
-        BaseNode::NotPresent => false,
+    match node.repos_path() {
+        Some(repos_path) => is_too_deep(path, repos_path),
+        None => false,
     }
 }
 

@@ -130,53 +130,38 @@ pub(crate) fn entry_under(repo: &Repo, id: &Option<NodeId>, name: &Name) -> Opti
 
 // The revision and the path at which the repository has a node.
 #[derive(Drop)]
-struct Place<'a> {
+struct Location<'a> {
     rev: Rev,
     repos_path: &'a RelPath,
 }
 
-// The place of a present node.
-fn place_of(node: &BaseNode) -> Option<Place<'_>>
-    ensures { (h : History) → MatchOption result (looked h node.now ≡ None) (λ place. looked h node.now ≡ look h place.rev place.repos_path.now) }
+// The location of a present node.
+fn location_of(node: &BaseNode) -> Option<Location<'_>>
+    ensures { (h : History) → MatchOption result (looked h node.now ≡ None) (λ location. looked h node.now ≡ look h location.rev location.repos_path.now) }
 {
-    match node {
-        BaseNode::File {
-            rev,
-            repos_path,
-            ..
-        } => Some(Place {
-            rev: *rev,
-            repos_path,
-        }),
-        BaseNode::Dir {
-            rev,
-            repos_path,
-            ..
-        } => Some(Place {
-            rev: *rev,
-            repos_path,
-        }),
-        BaseNode::NotPresent => None,
-    }
+    Some(Location {
+        rev: node.rev()?,
+        repos_path: node.repos_path()?,
+    })
 }
 
 // What the repository has in the place of a node.
 fn look_up(repo: &Repo, node: &BaseNode) -> Option<NodeId>
     ensures { result ≡ looked repo.now node.now }
 {
-    match place_of(node) {
-        Some(place) => repo.lookup(place.rev, place.repos_path),
+    match location_of(node) {
+        Some(location) => repo.lookup(location.rev, location.repos_path),
         None => None,
     }
 }
 
 // Whether a node one name below a directory has the directory's revision, and its repository path with that name behind it.
-fn is_step(above: &Above<'_>, path: &RelPath, place: &Place<'_>) -> bool
-    ensures { (at : Path) (name : List ℕ) → KnowsOwnPath at above.now → path.now ≡ child at name → IsTrue result → IsStep above.now.0 place.now.rev place.now.repos_path.now name }
+fn is_step(above: &Above<'_>, path: &RelPath, location: &Location<'_>) -> bool
+    ensures { (at : Path) (name : List ℕ) → KnowsOwnPath at above.now → path.now ≡ child at name → IsTrue result → IsStep above.now.0 location.now.rev location.now.repos_path.now name }
 {
     match above.node() {
         BaseNode::Dir { rev, .. } => {
-            *rev == place.rev && above.is_unswitched(path, place.repos_path)
+            *rev == location.rev && above.is_unswitched(path, location.repos_path)
         }
         BaseNode::File { .. } | BaseNode::NotPresent => false,
     }
@@ -184,7 +169,7 @@ fn is_step(above: &Above<'_>, path: &RelPath, place: &Place<'_>) -> bool
 
 // A node below a path, with its name where it is one name below.
 #[derive(Drop)]
-struct Below<'a> {
+struct NodeBelow<'a> {
     path: &'a RelPath,
     node: &'a BaseNode,
     name: Option<&'a Name>,
@@ -194,22 +179,22 @@ struct Below<'a> {
 fn find_below(
     repo: &Repo,
     above: &Above<'_>,
-    below: &Below<'_>,
+    below: &NodeBelow<'_>,
     entry: Option<NodeId>,
 ) -> Option<NodeId>
     ensures { (at : Path) (id : Option ℕ) → KnowsOwnPath at above.now → id ≡ looked repo.now above.now.0 → IsNameBelow at below.now.path.now (option_copied below.now.name) → IfSome below.now.name (λ name. entry ≡ entry_in repo.now id name.now) → result ≡ looked repo.now below.now.node.now }
 {
-    let Some(place) = place_of(below.node) else {
+    let Some(location) = location_of(below.node) else {
         return None;
     };
-    if below.name.is_some() && is_step(above, below.path, &place) {
+    if below.name.is_some() && is_step(above, below.path, &location) {
         return entry;
     }
-    repo.lookup(place.rev, place.repos_path)
+    repo.lookup(location.rev, location.repos_path)
 }
 
 // The next node, if it has more names than that: it is taken. Its name is told if there is one more.
-fn next_deeper<'a>(depth: usize, left: &mut Ahead<'a, RelPath, BaseNode>) -> Option<Below<'a>>
+fn next_deeper<'a>(depth: usize, left: &mut Ahead<'a, RelPath, BaseNode>) -> Option<NodeBelow<'a>>
     ensures taken { TakesDeeper depth left.old (option_map (λ b. (b.path.now, b.node.now)) result) left.new }
     ensures name { IfSome result (λ b. IsLastName depth b.path.now (option_copied b.name)) }
 {
@@ -224,7 +209,7 @@ fn next_deeper<'a>(depth: usize, left: &mut Ahead<'a, RelPath, BaseNode>) -> Opt
     } else {
         None
     };
-    Some(Below { path, node, name })
+    Some(NodeBelow { path, node, name })
 }
 
 // The node under a name, which is passed with the entries before it.

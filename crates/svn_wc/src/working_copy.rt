@@ -9,6 +9,7 @@ ghost use Rattle.svn_model.specs.Builders.{checkout};
 use crate::known::Known;
 use std::alloc::Global;
 use std::collections::BTreeMap;
+use std::collections::btree_map::Iter;
 use std::fmt;
 use std::marker::Model;
 use svn_model::{BaseNode, WcFault};
@@ -83,10 +84,30 @@ impl WorkingCopy {
         self.nodes.get(path)
     }
 
+    /// All that the copy has, one after the other, in path order. It takes no memory.
+    pub fn iter(&self) -> Iter<'_, RelPath, BaseNode>
+        ensures rest { result ≡ self.now }
+        ensures order { InPathOrder self.now }
+    {
+        self.nodes.iter()
+    }
+
     /// All that the copy has, in path order. It takes no memory.
     pub fn nodes(&self) -> &BTreeMap<RelPath, BaseNode>
         ensures { result.now.entries ≡ self.now }
     {
         &self.nodes
+    }
+}
+
+impl<'a> IntoIterator for &'a WorkingCopy {
+    type Item = (&'a RelPath, &'a BaseNode);
+
+    type IntoIter = Iter<'a, RelPath, BaseNode>;
+
+    ghost into_iter_gives = { λ copy nodes. nodes ≡ copy.now };
+
+    fn into_iter(self) -> Iter<'a, RelPath, BaseNode> {
+        self.iter()
     }
 }

@@ -1,7 +1,7 @@
 -- Texts after the directories.
 use Rattle.std.specs.Prelude.{◌≡◌, true, false, List, [], ◌∷◌, length, Some, None, refl}
 use Rattle.svn_report.specs.declared.entry.ReportEntry.TheVariants.{SetPath, DeletePath}
-use Rattle.svn_editor.specs.Steps.{Update}
+use Rattle.svn_editor.specs.declared.mode.Mode.TheVariants.{Update}
 use Rattle.svn_editor.specs.declared.call.Call.{Call}
 use Rattle.svn_editor.specs.declared.call.Call.TheVariants.{SetTargetRevision, OpenRoot, OpenDirectory, CloseDirectory, AddFile, OpenFile}
 use Rattle.svn_editor.specs.declared.call.Call.TheVariants.{ApplyText, CloseFile, CloseEdit}

@@ -3,7 +3,7 @@ use Rattle.std.specs.Prelude.{◌≡◌, true, false, List, [], ◌∷◌, Some,
 use Rattle.svn_types.specs.Names.{Path}
 use Rattle.svn_repo.specs.History.{History}
 use Rattle.svn_report.specs.declared.entry.ReportEntry.TheVariants.{SetPath}
-use Rattle.svn_editor.specs.Steps.{Update}
+use Rattle.svn_editor.specs.declared.mode.Mode.TheVariants.{Update}
 use Rattle.svn_editor.specs.declared.call.Call.TheVariants.{SetTargetRevision, OpenRoot, OpenDirectory, ChangeDirProp, CloseDirectory}
 use Rattle.svn_editor.specs.declared.call.Call.TheVariants.{OpenFile, ApplyText, CloseFile, CloseEdit}
 use Rattle.svn_model.specs.declared.base_node.BaseNode.TheVariants.{Dir as DirNode}

@@ -6,7 +6,8 @@ use Rattle.svn_editor.specs.declared.call.Call.TheVariants.{ChangeFileProp, Appl
 use Rattle.svn_editor.specs.declared.fault.EditFault.{EditFault}
 use Rattle.svn_editor.specs.declared.fault.EditFault.TheVariants.{NoEntry, WrongKind, WrongRevision, BaseChecksum, TextChecksum}
 use Rattle.svn_editor.specs.declared.fault.EditFault.TheVariants.{EntryExists, TooDeep}
-use Rattle.svn_editor.specs.Steps.{Mode, Update, SwitchTo}
+use Rattle.svn_editor.specs.declared.mode.Mode.{Mode}
+use Rattle.svn_editor.specs.declared.mode.Mode.TheVariants.{Update, SwitchTo}
 use Rattle.svn_model.specs.declared.base_node.BaseNode.TheVariants.{File as FileNode}
 use Rattle.svn_model.specs.Nodes.{WorkingCopy, get_in, listed}
 use Rattle.svn_model.specs.Effects.{after, refusal}

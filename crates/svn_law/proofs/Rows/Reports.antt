@@ -7,7 +7,8 @@ use Rattle.svn_editor.specs.declared.call.Call.TheVariants.{CloseFile, CloseEdit
 use Rattle.svn_report.specs.declared.entry.ReportEntry.{ReportEntry}
 use Rattle.svn_report.specs.declared.entry.ReportEntry.TheVariants.{SetPath, LinkPath, DeletePath}
 use Rattle.svn_report.specs.Reports.{ReportView}
-use Rattle.svn_editor.specs.Steps.{Mode, Update, SwitchTo}
+use Rattle.svn_editor.specs.declared.mode.Mode.{Mode}
+use Rattle.svn_editor.specs.declared.mode.Mode.TheVariants.{Update, SwitchTo}
 use Rattle.svn_model.specs.declared.report_fault.ReportFault.{ReportFault}
 use Rattle.svn_model.specs.declared.report_fault.ReportFault.TheVariants.{NoEntries, NoSuchRevision, NoNode, ParentNotDir, RootNotDir}
 use Rattle.svn_model.specs.declared.drive_fault.DriveFault.{DriveFault}

@@ -5,7 +5,7 @@ use Rattle.svn_types.specs.declared.kind.Kind.TheVariants.{File, Directory}
 use Rattle.svn_types.proofs.NameLemmas.{Name}
 use Rattle.svn_repo.specs.History.{History, NodeRow}
 use Rattle.svn_report.specs.Reports.{ReportView}
-use Rattle.svn_editor.specs.Steps.{Mode}
+use Rattle.svn_editor.specs.declared.mode.Mode.{Mode}
 use Rattle.svn_editor.specs.declared.call.Call.{Call}
 use Rattle.svn_editor.specs.declared.fault.EditFault.{EditFault}
 use Rattle.svn_model.specs.Follow.{Request}

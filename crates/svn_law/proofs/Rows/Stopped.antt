@@ -1,7 +1,7 @@
 -- Runs that were stopped, and the drives that resume them.
 use Rattle.std.specs.Prelude.{◌≡◌, ℕ, true, false, List, [], ◌∷◌, map, Some, None, refl}
 use Rattle.svn_report.specs.declared.entry.ReportEntry.TheVariants.{SetPath, LinkPath}
-use Rattle.svn_editor.specs.Steps.{Update}
+use Rattle.svn_editor.specs.declared.mode.Mode.TheVariants.{Update}
 use Rattle.svn_editor.specs.declared.call.Call.TheVariants.{SetTargetRevision, OpenRoot, DeleteEntry, AddDirectory, OpenDirectory}
 use Rattle.svn_editor.specs.declared.call.Call.TheVariants.{CloseDirectory, AddFile, ApplyText, CloseFile, CloseEdit}
 use Rattle.svn_model.specs.declared.base_node.BaseNode.TheVariants.{NotPresent}

@@ -3,7 +3,7 @@ use Rattle.std.specs.Prelude.{◌≡◌, false, List, [], ◌∷◌, ◌++◌, S
 use Rattle.svn_types.specs.Names.{Path}
 use Rattle.svn_repo.specs.History.{History, NodeRow}
 use Rattle.svn_report.specs.declared.entry.ReportEntry.TheVariants.{SetPath, LinkPath}
-use Rattle.svn_editor.specs.Steps.{Update}
+use Rattle.svn_editor.specs.declared.mode.Mode.TheVariants.{Update}
 use Rattle.svn_editor.specs.declared.call.Call.{Call}
 use Rattle.svn_editor.specs.declared.call.Call.TheVariants.{SetTargetRevision, OpenRoot, DeleteEntry, AddDirectory, OpenDirectory}
 use Rattle.svn_editor.specs.declared.call.Call.TheVariants.{CloseDirectory, AddFile, OpenFile, ApplyText, CloseFile, CloseEdit}

@@ -4,7 +4,8 @@ use Rattle.svn_types.specs.Names.{Path}
 use Rattle.svn_repo.specs.History.{History}
 use Rattle.svn_report.specs.declared.entry.ReportEntry.TheVariants.{SetPath, LinkPath}
 use Rattle.svn_report.specs.Reports.{ReportView}
-use Rattle.svn_editor.specs.Steps.{Mode, Update, SwitchTo}
+use Rattle.svn_editor.specs.declared.mode.Mode.{Mode}
+use Rattle.svn_editor.specs.declared.mode.Mode.TheVariants.{Update, SwitchTo}
 use Rattle.svn_editor.specs.declared.call.Call.{Call}
 use Rattle.svn_editor.specs.declared.call.Call.TheVariants.{SetTargetRevision, OpenRoot, DeleteEntry, AddDirectory, CloseDirectory}
 use Rattle.svn_editor.specs.declared.call.Call.TheVariants.{AddFile, OpenFile, ApplyText, CloseFile, CloseEdit}

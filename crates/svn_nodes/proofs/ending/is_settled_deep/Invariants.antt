@@ -1,6 +1,6 @@
 use Rattle.std.proofs.Common.{◌≡◌}
 use Rattle.std.specs.List.{list_any}
-use Rattle.svn_editor.specs.Steps.{SwitchTo}
+use Rattle.svn_editor.specs.declared.mode.Mode.TheVariants.{SwitchTo}
 use Rattle.svn_model.specs.Effects.{is_settled_deep}
 use Rattle.svn_nodes.proofs.ending.is_settled_deep.Given as goal
 

@@ -3,7 +3,6 @@ use Rattle.std.specs.Prelude.{OnOk}
 use Rattle.md5.specs.Md5.{md5}
 use Rattle.svn_types.specs.declared.kind.Kind.TheVariants.{Directory}
 use Rattle.svn_edit.specs.Applying.{batons_of, pool_or, MakesBaton}
-use Rattle.svn_nodes.specs.NodeTests.{mode_of}
 use Rattle.svn_edit.proofs.Holding.{applied_add}
 use Rattle.svn_edit.proofs.LeftPools.{made_opened}
 use Rattle.svn_edit.proofs.edit.Edit.add_directory.Goals as goal
@@ -16,6 +15,6 @@ returns-clause-gives c =
       opened = subst (λ n. OnOk c.add.result (MakesBaton n c.args.path.now c.args.token old c.add.new.self)) above
           (c.add.ensures.opened (made_opened _ _ _ _ c.new_directory-new.ensures));
       keeps = c.add.ensures.keeps;
-      applied = applied_add md5 (mode_of old.root) old.target Directory c.args.path.now c.args.copy.now.entries _ c.add.result
+      applied = applied_add md5 old.mode old.target Directory c.args.path.now c.args.copy.now.entries _ c.add.result
           (c.add.ensures.applied _ _ c.new_directory-new.ensures);
     }

@@ -4,7 +4,6 @@ use Rattle.svn_types.specs.Names.{Path}
 use Rattle.svn_model.specs.declared.base_node.BaseNode.{BaseNode}
 use Rattle.svn_model.specs.Nodes.{get_in}
 use Rattle.svn_model.specs.Effects.{moved_path, joined_path}
-use Rattle.svn_nodes.specs.NodeTests.{mode_of}
 use Rattle.svn_edit.specs.Closing.{ClosesFile}
 use Rattle.svn_edit_law.proofs.Lookups.{get_in-updated}
 use Rattle.svn_edit.proofs.Holding.{map_ok}
@@ -26,7 +25,7 @@ returns-then-is_present c =
     c.close_opened.result c.as_rel_path-path.ensures c.in-Some-get_mut.ensures.value
     c.close_opened.ensures.answers
     (map_ok c.close_opened.result c.close_opened.ensures.closed (λ closed said s.
-    closed said (moved_path (mode_of c.args.self.now.root) w at) (joined_path w at) s c.moved_again-moved.ensures))
+    closed said (moved_path c.args.self.now.mode w at) (joined_path w at) s c.moved_again-moved.ensures))
     c.close_opened.ensures.refused
     (get_in-updated nodes _ at (Some c.close_opened.new.node) (written.3 (rw (← c.in-Some-get_mut.ensures.value) (search rules))).0)
     (λ kept. written.0 ∙ set_value_same _ _ _ (sym c.in-Some-get_mut.ensures.value ∙ ap Some (sym kept)))

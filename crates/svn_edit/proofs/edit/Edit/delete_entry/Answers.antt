@@ -1,6 +1,6 @@
 use Rattle.std.proofs.Common.{◌≡◌, None, [], ◌∙◌, rules}
 use Rattle.svn_model.specs.Nodes.{get_in}
-use Rattle.svn_nodes.specs.NodeTests.{delete_fault_of, mode_of}
+use Rattle.svn_nodes.specs.NodeTests.{delete_fault_of}
 use Rattle.svn_edit_law.proofs.StepEffects.{effect_delete}
 use Rattle.svn_edit.proofs.edit.Edit.delete_entry.Goals as goal
 
@@ -9,6 +9,6 @@ returns c =
     let w = get_in c.args.copy.now.entries in
     let shut : delete_fault_of (w c.args.path.now) c.args.rev ≡ None = search rules in (
       shut,
-      λ p. c.delete_within.ensures p ∙ effect_delete (mode_of c.args.self.now.root) c.args.self.now.target [] c.args.path.now
+      λ p. c.delete_within.ensures p ∙ effect_delete c.args.self.now.mode c.args.self.now.target [] c.args.path.now
           c.args.rev w p,
     )

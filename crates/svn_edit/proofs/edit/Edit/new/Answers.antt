@@ -6,12 +6,12 @@ use Rattle.svn_edit.proofs.Beginning.{begun_batons}
 use Rattle.svn_edit.proofs.edit.Edit.new.Goals as goal
 
 pub returns-clause-begun : goal.returns-clause-begun
-returns-clause-begun c = λ mode nodes is. record {
+returns-clause-begun c = λ nodes. record {
   order = c.new-2.ensures;
   copy = λ p. refl;
   going = λ h. record {
     stage = refl;
-    root = is;
+    mode_is = refl;
     target = refl;
     batons = begun_batons c.in-Ok.pools c.new-3.result c.in-Ok.ensures.made c.new-3.ensures;
   };

@@ -11,7 +11,7 @@ use Rattle.svn_model.specs.declared.base_node.BaseNode.{BaseNode}
 use Rattle.svn_model.specs.Nodes.{get_in, node_path}
 use Rattle.svn_model.specs.Effects.{moved_path, opened_directory}
 use Rattle.svn_model.specs.Answering.{IsAnswer}
-use Rattle.svn_nodes.specs.NodeTests.{open_fault_of, deep_fault, mode_of}
+use Rattle.svn_nodes.specs.NodeTests.{open_fault_of, deep_fault}
 use Rattle.svn_edit.specs.Applying.{MakesBaton}
 use Rattle.svn_edit_law.proofs.Lookups.{get_in-updated}
 use Rattle.svn_edit_law.proofs.StepEffects.{effect_alone}
@@ -25,7 +25,7 @@ returns-in_err-moved-clause-gives c =
     let old = c.args.self.now in
     let nodes = c.args.copy.now.entries in
     let w = get_in nodes in
-    let mode = mode_of old.root in
+    let mode = old.mode in
     let p = c.args.path.now in
     let e = c.in_err-moved.field-0.0 in
     let moved = moved_path mode w p in
@@ -57,7 +57,7 @@ returns-clause-gives c =
     let old = c.args.self.now in
     let nodes = c.args.copy.now.entries in
     let w = get_in nodes in
-    let mode = mode_of old.root in
+    let mode = old.mode in
     let target = old.target in
     let p = c.args.path.now in
     let moved = moved_path mode w p in

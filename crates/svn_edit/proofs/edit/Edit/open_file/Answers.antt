@@ -10,7 +10,7 @@ use Rattle.svn_model.specs.declared.base_node.BaseNode.{BaseNode}
 use Rattle.svn_model.specs.Nodes.{get_in, node_path, node_text}
 use Rattle.svn_model.specs.Effects.{step_fault, moved_path}
 use Rattle.svn_model.specs.Answering.{IsAnswer}
-use Rattle.svn_nodes.specs.NodeTests.{open_fault_of, deep_fault, mode_of, IsSumOf}
+use Rattle.svn_nodes.specs.NodeTests.{open_fault_of, deep_fault, IsSumOf}
 use Rattle.svn_edit.specs.Applying.{MakesBaton}
 use Rattle.svn_edit_law.proofs.StepEffects.{effect_none}
 use Rattle.svn_nodes.proofs.OpenFaults.{open_fault_is}
@@ -22,7 +22,7 @@ pub returns-in-Some-clause-gives : goal.returns-in-Some-clause-gives
 returns-in-Some-clause-gives c =
     let old = c.args.self.now in
     let w = get_in c.args.copy.now.entries in
-    let mode = mode_of old.root in
+    let mode = old.mode in
     let p = c.args.path.now in
     let e = c.in-Some.fault in
     let shut : open_fault_of File (w p) c.args.base ≡ Some e = search rules in
@@ -35,7 +35,7 @@ pub returns-in_err-test_moved-clause-gives : goal.returns-in_err-test_moved-clau
 returns-in_err-test_moved-clause-gives c =
     let old = c.args.self.now in
     let w = get_in c.args.copy.now.entries in
-    let mode = mode_of old.root in
+    let mode = old.mode in
     let p = c.args.path.now in
     let e = c.in_err-test_moved.field-0.0 in
     let same : c.from_residual.result ≡ Err e = search rules in
@@ -51,7 +51,7 @@ pub returns-clause-gives : goal.returns-clause-gives
 returns-clause-gives c =
     let old = c.args.self.now in
     let w = get_in c.args.copy.now.entries in
-    let mode = mode_of old.root in
+    let mode = old.mode in
     let p = c.args.path.now in
     let shut : open_fault_of File (w p) c.args.base ≡ None = search rules in
     let fault : step_fault md5 mode [] w p (Open File c.args.base) ≡ None =

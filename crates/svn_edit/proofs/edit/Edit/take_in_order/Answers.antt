@@ -24,7 +24,7 @@ returns-clause-answers c = λ mode w0 calls s.
     let none : order_fault calls call ≡ None = order_none (order_fault calls call) (c.in_ok-step.ensures.answers calls s.order) in
     let next = next_is mode w0 c.args.self.now (record c.args.self.now { order = c.step.new.self }) c.args.copy.now.entries calls call s
     none
-    (λ h. record { stage = h.stage; root = h.root; target = h.target; batons = h.batons }) in
+    (λ h. record { stage = h.stage; mode_is = h.mode_is; target = h.target; batons = h.batons }) in
     subst (λ (f : Option EditFault). AnswersCall f c.apply.result) (sym (refusal_is md5 mode calls call c.args.copy.now.entries none))
     (applied_answer _ _ _ _ c.apply.result (c.apply.ensures.applied mode calls next (s.noted (not_ended calls call none))))
 
@@ -38,7 +38,7 @@ returns-clause-accepted c = ok_by c.apply.result (λ ok mode w0 calls s.
     let none : order_fault calls call ≡ None = order_none (order_fault calls call) (c.in_ok-step.ensures.answers calls s.order) in
     let next = next_is mode w0 c.args.self.now (record c.args.self.now { order = c.step.new.self }) c.args.copy.now.entries calls call s
     none
-    (λ h. record { stage = h.stage; root = h.root; target = h.target; batons = h.batons }) in
+    (λ h. record { stage = h.stage; mode_is = h.mode_is; target = h.target; batons = h.batons }) in
     record {
       order = subst (λ (o : OrderCheck). order.StandsAfter o (calls ++ call ∷ [])) (sym c.apply.ensures.order)
           (c.in_ok-step.ensures.accepted calls s.order);
@@ -46,7 +46,7 @@ returns-clause-accepted c = ok_by c.apply.result (λ ok mode w0 calls s.
           (at_ok c.apply.result ok (applied_copy _ _ _ _ c.apply.result (c.apply.ensures.applied mode calls next (s.noted (not_ended calls call none)))));
       holds = λ going.
           let h = at_ok c.apply.result ok c.apply.ensures.holds mode calls next going in
-          record { stage = h.stage; root = h.root; target = h.target; batons = h.batons };
+          record { stage = h.stage; mode_is = h.mode_is; target = h.target; batons = h.batons };
       left = λ last. at_ok c.apply.result ok (c.apply.ensures.left last) mode calls next;
       noted = λ going.
           let h = at_ok c.apply.result ok c.apply.ensures.holds mode calls next going in
@@ -65,7 +65,7 @@ returns-clause-refused c = err_by c.apply.result (λ e bad mode w0 calls s.
     let none : order_fault calls call ≡ None = order_none (order_fault calls call) (c.in_ok-step.ensures.answers calls s.order) in
     let next = next_is mode w0 c.args.self.now (record c.args.self.now { order = c.step.new.self }) c.args.copy.now.entries calls call s
     none
-    (λ h. record { stage = h.stage; root = h.root; target = h.target; batons = h.batons }) in
+    (λ h. record { stage = h.stage; mode_is = h.mode_is; target = h.target; batons = h.batons }) in
     applied_err _ _ _ _ c.apply.result e bad (c.apply.ensures.applied mode calls next (s.noted (not_ended calls call none))))
 
 pub returns-clause-pools : goal.returns-clause-pools
@@ -74,7 +74,7 @@ returns-clause-pools c = err_by c.apply.result (λ e bad mode w0 calls s going.
     let none : order_fault calls call ≡ None = order_none (order_fault calls call) (c.in_ok-step.ensures.answers calls s.order) in
     let next = next_is mode w0 c.args.self.now (record c.args.self.now { order = c.step.new.self }) c.args.copy.now.entries calls call s
     none
-    (λ h. record { stage = h.stage; root = h.root; target = h.target; batons = h.batons }) in
+    (λ h. record { stage = h.stage; mode_is = h.mode_is; target = h.target; batons = h.batons }) in
     at_err c.apply.result e bad c.apply.ensures.pools mode calls next)
 
 -- ---- a call out of order

@@ -1,6 +1,6 @@
-use Rattle.std.proofs.Common.{refl, subst, List}
+use Rattle.std.proofs.Common.{subst, List}
 use Rattle.svn_types.specs.Names.{Path}
-use Rattle.svn_editor.specs.Steps.{Update}
+use Rattle.svn_editor.specs.declared.mode.Mode.TheVariants.{Update}
 use Rattle.svn_model.specs.declared.base_node.BaseNode.{BaseNode}
 use Rattle.svn_model.specs.Nodes.{get_in}
 use Rattle.svn_wc.specs.Unswitched.{IsLevel}
@@ -8,11 +8,11 @@ use Rattle.svn_wc.proofs.ShapeKept.{begun_in_shape}
 use Rattle.svn_wc.proofs.applier.Applier.new.Goals as goal
 
 pub returns-clause-begun : goal.returns-clause-begun
-returns-clause-begun c = c.in_ok-edit.ensures.begun Update c.args.copy.now refl
+returns-clause-begun c = c.in_ok-edit.ensures.begun c.args.copy.now
 
 pub invariant_of-result : goal.invariant_of-result
 invariant_of-result c =
-    let begun = c.in_ok-edit.ensures.begun Update c.args.copy.now refl in
+    let begun = c.in_ok-edit.ensures.begun c.args.copy.now in
     record {
       in_shape = ∣ begun_in_shape _ c.in_ok-edit.edit c.args.copy.now (λ known.
           subst (λ (l : List (Path × BaseNode)). IsLevel (get_in l)) c.copy.view_is (c.copy.invariant.2 known)) (Update, begun)

@@ -14,7 +14,8 @@ use Rattle.svn_types.specs.Paths.{is_within, is_root, parent, path_eq, child, la
 use Rattle.svn_report.specs.declared.entry.ReportEntry.{ReportEntry}
 use Rattle.svn_report.specs.Reports.{ReportView}
 use Rattle.svn_model.specs.declared.base_node.BaseNode.{BaseNode}
-use Rattle.svn_model.specs.Nodes.{get_in, InPathOrder, IsWorkingCopy, is_dir, is_present, node_path}
+use Rattle.svn_model.specs.declared.base_node.BaseNode.TheVariants.{File as FileNode, Dir as DirNode, NotPresent}
+use Rattle.svn_model.specs.Nodes.{get_in, InPathOrder, IsWorkingCopy, is_dir, is_present, node_path, present_path}
 use Rattle.svn_model.specs.Crawl.{entry_for, reported_at, crawl}
 use Rattle.svn_wc.specs.Aboves.{mark, IsBelow}
 use Rattle.svn_wc.specs.Crawling.{with_reported, last_of, IsUnswitchedBelow, Reports}
@@ -94,16 +95,16 @@ abbrev pub LeadsTo : List (Path × BaseNode) → Path → Path → Type 0
 LeadsTo nodes k p = (q : Path) → is_within q k ≡ true → is_dir (get_in nodes q) ≡ true → is_within q p ≡ true
 
 -- the directories on the way down to the last node that was taken, if one was
-pub data IsLine (known : Bool) (nodes done : List (Path × BaseNode)) (line : List (BaseNode × Bool)) : Type 0 where
-  none_yet : done ≡ [] → line ≡ [] → IsLine known nodes done line
+pub data AreAncestors (known : Bool) (nodes done : List (Path × BaseNode)) (ancestors : List (BaseNode × Bool)) : Type 0 where
+  none_yet : done ≡ [] → ancestors ≡ [] → AreAncestors known nodes done ancestors
   last_at : (front : List (Path × BaseNode)) (e : Path × BaseNode) (p : Path) → done ≡ front ++ e ∷ [] → LeadsTo nodes e.0 p
-      → map (λ a. Some a) line ≡ map (above_at known nodes) (prefixes p) → IsLine known nodes done line
+      → map (λ a. Some a) ancestors ≡ map (above_at known nodes) (prefixes p) → AreAncestors known nodes done ancestors
 
-pub record IsCrawled (known : Bool) (nodes : List (Path × BaseNode)) (line : List (BaseNode × Bool)) (r : ReportView)
+pub record IsCrawled (known : Bool) (nodes : List (Path × BaseNode)) (ancestors : List (BaseNode × Bool)) (r : ReportView)
     (left : List (Path × BaseNode)) : Type 0 where
   pub done : List (Path × BaseNode)
   pub parts : nodes ≡ done ++ left
-  pub line_is : IsLine known nodes done line
+  pub ancestors_are : AreAncestors known nodes done ancestors
   pub root : r.root ≡ node_path (get_in nodes [])
   pub entries : r.entries ≡ filter_map (reported_at nodes) done
 
@@ -118,7 +119,7 @@ node_of known (Some n) p = refl
 
 pub crawled_first : (known : Bool) (nodes : List (Path × BaseNode)) (r : ReportView) → r.root ≡ node_path (get_in nodes []) → r.entries ≡ []
     → IsCrawled known nodes [] r nodes
-crawled_first known nodes r root entries = record { done = []; parts = refl; line_is = none_yet refl refl; root = root; entries = entries }
+crawled_first known nodes r root entries = record { done = []; parts = refl; ancestors_are = none_yet refl refl; root = root; entries = entries }
 
 filter_map-push : {X Y : Type 0} (f : X → Option Y) (xs : List X) (x : X)
     → filter_map f (xs ++ x ∷ []) ≡ filter_map f xs ++ cons_option (f x) []
@@ -134,9 +135,9 @@ pub append_one : {X : Type 0} (xs : List X) (y : X) (ys : List X) → xs ++ y �
 append_one [] y ys = refl
 append_one (x ∷ xs) y ys = ap (λ l. x ∷ l) (append_one xs y ys)
 
-pub crawled_last : (known : Bool) (nodes : List (Path × BaseNode)) (line : List (BaseNode × Bool)) (r : ReportView) → IsCrawled known nodes line r []
+pub crawled_last : (known : Bool) (nodes : List (Path × BaseNode)) (ancestors : List (BaseNode × Bool)) (r : ReportView) → IsCrawled known nodes ancestors r []
     → r ≡ crawl nodes
-crawled_last known nodes line r c =
+crawled_last known nodes ancestors r c =
     let all : c.done ≡ nodes = sym (append-nil c.done) ∙ sym c.parts in
     let es : r.entries ≡ filter_map (reported_at nodes) nodes = c.entries ∙ ap (filter_map (reported_at nodes)) all in
     λ i. record { root = c.root i; entries = es i }
@@ -153,9 +154,9 @@ next_stands nodes done e left parts order =
         absurd (not_before_itself e.0
         (before_behind done (e ∷ left) (subst InPathOrder parts order) e.0 e.0 (ap is_some h) (ap is_some (at_first e left))))
 
-module _ (known : Bool) (nodes : List (Path × BaseNode)) (order : InPathOrder nodes) (line : List (BaseNode × Bool)) (r : ReportView) (e : Path × BaseNode)
+module _ (known : Bool) (nodes : List (Path × BaseNode)) (order : InPathOrder nodes) (ancestors : List (BaseNode × Bool)) (r : ReportView) (e : Path × BaseNode)
     (left : List (Path × BaseNode))
-    (c : IsCrawled known nodes line r (e ∷ left)) where
+    (c : IsCrawled known nodes ancestors r (e ∷ left)) where
   whole : InPathOrder (c.done ++ e ∷ left)
   whole = subst InPathOrder c.parts order
 
@@ -219,13 +220,13 @@ module _ (known : Bool) (nodes : List (Path × BaseNode)) (order : InPathOrder n
     above_taken : is_some (get_in c.done q) ≡ true
     above_taken = taken q [] name is (dir_some (get_in nodes q) directory)
 
-    down_to : take (length e.0) (map (λ a. Some a) line) ≡ map (above_at known nodes) (prefixes q)
-    down_to = by c.line_is
+    down_to : take (length e.0) (map (λ a. Some a) ancestors) ≡ map (above_at known nodes) (prefixes q)
+    down_to = by c.ancestors_are
       where
         depth : length e.0 ≡ suc (length q)
         depth = let d : length e.0 ≡ length q + 1 = ap length is ∙ length_push q name in omega arith
 
-        by : IsLine known nodes c.done line → take (length e.0) (map (λ a. Some a) line) ≡ map (above_at known nodes) (prefixes q)
+        by : AreAncestors known nodes c.done ancestors → take (length e.0) (map (λ a. Some a) ancestors) ≡ map (above_at known nodes) (prefixes q)
         by (none_yet d l) = absurd (true≢false (sym above_taken ∙ ap (λ xs. is_some (get_in xs q)) d))
         by (last_at front l end d leads m) =
             let within : is_within q l.0 ≡ true =
@@ -234,30 +235,30 @@ module _ (known : Bool) (nodes : List (Path × BaseNode)) (order : InPathOrder n
             (λ before. within_between q l.0 e.0 before (λ after. not_both l.0 e.0 (last_before front l d) after)
             (subst (λ (p : Path). is_within q p ≡ true) (sym is) (within_append q (name ∷ [])))) in
             let parts = split_within q end (leads q within directory) in
-            ap (λ k. take k (map (λ a. Some a) line)) depth ∙ ap (take (suc (length q))) m
+            ap (λ k. take k (map (λ a. Some a) ancestors)) depth ∙ ap (take (suc (length q))) m
             ∙ ap (λ (p : Path). take (suc (length q)) (map (above_at known nodes) (prefixes p))) parts.1
             ∙ take-map (above_at known nodes) (suc (length q)) (prefixes (q ++ parts.0)) ∙ ap (map (above_at known nodes)) (take-prefixes q parts.0)
 
-    kept : map (λ a. Some a) (take (length e.0) line) ≡ map (above_at known nodes) (prefixes q)
-    kept = sym (take-map (λ (a : BaseNode × Bool). Some a) (length e.0) line) ∙ down_to
+    kept : map (λ a. Some a) (take (length e.0) ancestors) ≡ map (above_at known nodes) (prefixes q)
+    kept = sym (take-map (λ (a : BaseNode × Bool). Some a) (length e.0) ancestors) ∙ down_to
 
     -- the last of them is the directory above
-    last_is_above : slice_get (take (length e.0) line) (length (take (length e.0) line) - 1) ≡ above_at known nodes q
+    last_is_above : slice_get (take (length e.0) ancestors) (length (take (length e.0) ancestors) - 1) ≡ above_at known nodes q
     last_is_above =
         let last = prefixes-last q in
-        last_known (take (length e.0) line) (map (above_at known nodes) last.0) (above_at known nodes q)
+        last_known (take (length e.0) ancestors) (map (above_at known nodes) last.0) (above_at known nodes q)
         (kept ∙ ap (map (above_at known nodes)) last.1 ∙ map-append (above_at known nodes) last.0 (q ∷ []))
 
-    line_on : map (λ a. Some a) (take (length e.0) line ++ (e.1, mark known e.0 e.1) ∷ []) ≡ map (above_at known nodes) (prefixes e.0)
-    line_on =
-        map-append (λ (a : BaseNode × Bool). Some a) (take (length e.0) line) ((e.1, mark known e.0 e.1) ∷ [])
+    ancestors_on : map (λ a. Some a) (take (length e.0) ancestors ++ (e.1, mark known e.0 e.1) ∷ []) ≡ map (above_at known nodes) (prefixes e.0)
+    ancestors_on =
+        map-append (λ (a : BaseNode × Bool). Some a) (take (length e.0) ancestors) ((e.1, mark known e.0 e.1) ∷ [])
         ∙ (λ i. kept i ++ sym (sym (ap (above_at known nodes) is) ∙ stands_above) i ∷ [])
         ∙ sym (map-append (above_at known nodes) (prefixes q) (child q name ∷ []))
         ∙ ap (map (above_at known nodes)) (sym (prefixes-child q name)) ∙ ap (λ (p : Path). map (above_at known nodes) (prefixes p)) (sym is)
 
   -- the next node is the root, or a directory is above it
   next_below : IsWorkingCopy (get_in nodes) → (o : Option (BaseNode × Bool))
-      → o ≡ slice_get (take (length e.0) line) (length (take (length e.0) line) - 1) → IsBelow e.0 o
+      → o ≡ slice_get (take (length e.0) ancestors) (length (take (length e.0) ancestors) - 1) → IsBelow e.0 o
   next_below w o same = by (path_cases e.0)
     where
       -- what stands there is a directory, and is marked as one of its own path where it has that
@@ -269,14 +270,14 @@ module _ (known : Bool) (nodes : List (Path × BaseNode)) (order : InPathOrder n
       by : PathCases e.0 → IsBelow e.0 o
       by (inl is) =
           subst (λ (u : Option (BaseNode × Bool)). IsBelow e.0 u)
-          (sym (same ∙ (λ i. slice_get (take (length (is i)) line) (length (take (length (is i)) line) - 1)))) (ap is_root is)
+          (sym (same ∙ (λ i. slice_get (take (length (is i)) ancestors) (length (take (length (is i)) ancestors) - 1)))) (ap is_root is)
       by (inr (q, name, is)) =
           subst (λ (u : Option (BaseNode × Bool)). IsBelow e.0 u) (sym (same ∙ last_is_above w q name is))
           (at_node q (get_in nodes q) (ap is_root is ∙ is_root-child q name) (directory w q name is) (ap parent is ∙ parent-child q name))
 
   -- nor is it switched, where it is known that no path is
   next_unswitched : IsWorkingCopy (get_in nodes) → (known ≡ true → IsUnswitched (get_in nodes)) → (o : Option (BaseNode × Bool))
-      → o ≡ slice_get (take (length e.0) line) (length (take (length e.0) line) - 1) → IsUnswitchedBelow known e.0 o e.1
+      → o ≡ slice_get (take (length e.0) ancestors) (length (take (length e.0) ancestors) - 1) → IsUnswitchedBelow known e.0 o e.1
   next_unswitched w unswitched o same = by (path_cases e.0)
     where
       at_node : (q : Path) (name : List ℕ) (n : Option BaseNode) → get_in nodes q ≡ n → e.0 ≡ child q name
@@ -290,13 +291,13 @@ module _ (known : Bool) (nodes : List (Path × BaseNode)) (order : InPathOrder n
       by : PathCases e.0 → IsUnswitchedBelow known e.0 o e.1
       by (inl is) =
           subst (λ (u : Option (BaseNode × Bool)). IsUnswitchedBelow known e.0 u e.1)
-          (sym (same ∙ (λ i. slice_get (take (length (is i)) line) (length (take (length (is i)) line) - 1)))) tt
+          (sym (same ∙ (λ i. slice_get (take (length (is i)) ancestors) (length (take (length (is i)) ancestors) - 1)))) tt
       by (inr (q, name, is)) =
           subst (λ (u : Option (BaseNode × Bool)). IsUnswitchedBelow known e.0 u e.1) (sym (same ∙ last_is_above w q name is))
           (at_node q name (get_in nodes q) refl is)
 
   entry_is : IsWorkingCopy (get_in nodes) → (o : Option (BaseNode × Bool))
-      → o ≡ slice_get (take (length e.0) line) (length (take (length e.0) line) - 1)
+      → o ≡ slice_get (take (length e.0) ancestors) (length (take (length e.0) ancestors) - 1)
       → entry_for e.0 (option_map (λ a. a.0) o) (Some e.1) ≡ entry_for e.0 (get_in nodes (parent e.0)) (Some e.1)
   entry_is w o same = by (path_cases e.0)
     where
@@ -308,28 +309,28 @@ module _ (known : Bool) (nodes : List (Path × BaseNode)) (order : InPathOrder n
           (ap (option_map (λ a. a.0)) (same ∙ last_is_above w q name is) ∙ node_of known (get_in nodes q) q
           ∙ ap (get_in nodes) (sym (ap parent is ∙ parent-child q name)))
 
-  -- a directory is behind the line then, and what is none is not
+  -- a directory is behind the ancestors then, and what is none is not
   line_of_directory : IsWorkingCopy (get_in nodes)
-      → IsLine known nodes (c.done ++ e ∷ []) (take (length e.0) line ++ (e.1, mark known e.0 e.1) ∷ [])
+      → AreAncestors known nodes (c.done ++ e ∷ []) (take (length e.0) ancestors ++ (e.1, mark known e.0 e.1) ∷ [])
   line_of_directory w = last_at c.done e e.0 refl (λ q within dir. within) (by (path_cases e.0))
     where
       own : BaseNode × Bool
       own = (e.1, mark known e.0 e.1)
 
-      by : PathCases e.0 → map (λ a. Some a) (take (length e.0) line ++ own ∷ []) ≡ map (above_at known nodes) (prefixes e.0)
-      by (inr (q, name, is)) = line_on w q name is
+      by : PathCases e.0 → map (λ a. Some a) (take (length e.0) ancestors ++ own ∷ []) ≡ map (above_at known nodes) (prefixes e.0)
+      by (inr (q, name, is)) = ancestors_on w q name is
       by (inl is) =
-          ap (λ (p : Path). map (λ a. Some a) (take (length p) line ++ own ∷ [])) is
+          ap (λ (p : Path). map (λ a. Some a) (take (length p) ancestors ++ own ∷ [])) is
           ∙ (λ i. sym (sym (ap (above_at known nodes) is) ∙ stands_above) i ∷ [])
           ∙ ap (λ (p : Path). map (above_at known nodes) (prefixes p)) (sym is)
 
-  line_of_leaf : IsWorkingCopy (get_in nodes) → is_dir (Some e.1) ≡ false → IsLine known nodes (c.done ++ e ∷ []) (take (length e.0) line)
+  line_of_leaf : IsWorkingCopy (get_in nodes) → is_dir (Some e.1) ≡ false → AreAncestors known nodes (c.done ++ e ∷ []) (take (length e.0) ancestors)
   line_of_leaf w leaf = by (path_cases e.0)
     where
       no_directory : (p : Path) → p ≡ e.0 → is_dir (get_in nodes p) ≡ true → ⊥
       no_directory p is dir = true≢false (sym dir ∙ ap (λ (q : Path). is_dir (get_in nodes q)) is ∙ ap is_dir stands ∙ leaf)
 
-      by : PathCases e.0 → IsLine known nodes (c.done ++ e ∷ []) (take (length e.0) line)
+      by : PathCases e.0 → AreAncestors known nodes (c.done ++ e ∷ []) (take (length e.0) ancestors)
       by (inl is) = absurd (no_directory [] (sym is) w.root)
       by (inr (q, name, is)) = last_at c.done e q refl leads (kept w q name is)
         where
@@ -342,13 +343,13 @@ module _ (known : Bool) (nodes : List (Path × BaseNode)) (order : InPathOrder n
               within_child p q name (ap (is_within p) (sym is) ∙ within) (other p dir (path_eq p (child q name)) refl)
 
   crawled_next : IsWorkingCopy (get_in nodes) → (o : Option (BaseNode × Bool))
-      → o ≡ slice_get (take (length e.0) line) (length (take (length e.0) line) - 1) → (r2 : ReportView)
+      → o ≡ slice_get (take (length e.0) ancestors) (length (take (length e.0) ancestors) - 1) → (r2 : ReportView)
       → r2 ≡ with_reported r e.0 (entry_for e.0 (option_map (λ a. a.0) o) (Some e.1))
-      → (line2 : List (BaseNode × Bool)) → IsLine known nodes (c.done ++ e ∷ []) line2 → IsCrawled known nodes line2 r2 left
+      → (line2 : List (BaseNode × Bool)) → AreAncestors known nodes (c.done ++ e ∷ []) line2 → IsCrawled known nodes line2 r2 left
   crawled_next w o same r2 made line2 next = record {
     done = c.done ++ e ∷ [];
     parts = c.parts ∙ append_one c.done e left;
-    line_is = next;
+    ancestors_are = next;
     root = ap (λ (v : ReportView). v.root) made ∙ same_root entry ∙ c.root;
     entries =
         ap (λ (v : ReportView). v.entries) made ∙ more entry
@@ -367,38 +368,44 @@ module _ (known : Bool) (nodes : List (Path × BaseNode)) (order : InPathOrder n
       more None = sym (append-nil r.entries)
       more (Some x) = refl
 
--- the next node was reported below the last of the line, cut to its depth; a directory is then put behind that
+-- the next node was reported below the last of the ancestors, cut to its depth; a directory is then put behind that
 pub crawled_on : (known : Bool) (nodes : List (Path × BaseNode)) → InPathOrder nodes → IsWorkingCopy (get_in nodes)
-    → (known ≡ true → IsUnswitched (get_in nodes)) → (line : List (BaseNode × Bool))
-    (r : ReportView) (e : Path × BaseNode) (all left : List (Path × BaseNode)) → all ≡ e ∷ left → IsCrawled known nodes line r all
-    → (r2 : ReportView) → Reports known r e.0 (last_of (take (length e.0) line)) e.1 r2
+    → (known ≡ true → IsUnswitched (get_in nodes)) → (ancestors : List (BaseNode × Bool))
+    (r : ReportView) (e : Path × BaseNode) (all left : List (Path × BaseNode)) → all ≡ e ∷ left → IsCrawled known nodes ancestors r all
+    → (r2 : ReportView) → Reports known r e.0 (last_of (take (length e.0) ancestors)) e.1 r2
     → (line2 : List (BaseNode × Bool))
-    → line2 ≡ cond (is_dir (Some e.1)) (take (length e.0) line ++ (e.1, mark known e.0 e.1) ∷ []) (take (length e.0) line)
+    → line2 ≡ cond (is_dir (Some e.1)) (take (length e.0) ancestors ++ (e.1, mark known e.0 e.1) ∷ []) (take (length e.0) ancestors)
     → IsCrawled known nodes line2 r2 left
-crawled_on known nodes order w unswitched line r e all left step crawled r2 report line2 is = next line2 (by (is_dir (Some e.1)) refl)
+crawled_on known nodes order w unswitched ancestors r e all left step crawled r2 report line2 is = next line2 (by (is_dir (Some e.1)) refl)
   where
     kept : List (BaseNode × Bool)
-    kept = take (length e.0) line
+    kept = take (length e.0) ancestors
 
-    c : IsCrawled known nodes line r (e ∷ left)
-    c = subst (IsCrawled known nodes line r) step crawled
+    c : IsCrawled known nodes ancestors r (e ∷ left)
+    c = subst (IsCrawled known nodes ancestors r) step crawled
 
-    next : (line2 : List (BaseNode × Bool)) → IsLine known nodes (c.done ++ e ∷ []) line2 → IsCrawled known nodes line2 r2 left
+    next : (line2 : List (BaseNode × Bool)) → AreAncestors known nodes (c.done ++ e ∷ []) line2 → IsCrawled known nodes line2 r2 left
     next =
-        crawled_next known nodes order line r e left c w (last_of kept) refl r2
-        (report (next_below known nodes order line r e left c w (last_of kept) refl)
-        (next_unswitched known nodes order line r e left c w unswitched (last_of kept) refl))
+        crawled_next known nodes order ancestors r e left c w (last_of kept) refl r2
+        (report (next_below known nodes order ancestors r e left c w (last_of kept) refl)
+        (next_unswitched known nodes order ancestors r e left c w unswitched (last_of kept) refl))
 
-    by : (b : Bool) → is_dir (Some e.1) ≡ b → IsLine known nodes (c.done ++ e ∷ []) line2
+    by : (b : Bool) → is_dir (Some e.1) ≡ b → AreAncestors known nodes (c.done ++ e ∷ []) line2
     by true d =
-        subst (IsLine known nodes (c.done ++ e ∷ [])) (sym (is ∙ ap (λ b. cond b (kept ++ (e.1, mark known e.0 e.1) ∷ []) kept) d))
-        (line_of_directory known nodes order line r e left c w)
+        subst (AreAncestors known nodes (c.done ++ e ∷ [])) (sym (is ∙ ap (λ b. cond b (kept ++ (e.1, mark known e.0 e.1) ∷ []) kept) d))
+        (line_of_directory known nodes order ancestors r e left c w)
     by false d =
-        subst (IsLine known nodes (c.done ++ e ∷ [])) (sym (is ∙ ap (λ b. cond b (kept ++ (e.1, mark known e.0 e.1) ∷ []) kept) d))
-        (line_of_leaf known nodes order line r e left c w d)
+        subst (AreAncestors known nodes (c.done ++ e ∷ [])) (sym (is ∙ ap (λ b. cond b (kept ++ (e.1, mark known e.0 e.1) ∷ []) kept) d))
+        (line_of_leaf known nodes order ancestors r e left c w d)
 
 -- ---- answers
 
 pub if_ok_same : {X E : Type 0} (r : Result X E) (P : E → Type 0) (x y : X) → x ≡ y → MatchResult r (λ v. v ≡ x) P → IfOk r (λ v. v ≡ y)
 if_ok_same (Ok v) P x y e h = h ∙ e
 if_ok_same (Err v) P x y e h = tt
+
+-- what a present node has as its repository path
+pub path_is : (n : BaseNode) (p : Path) → Some p ≡ present_path n → p ≡ node_path (Some n)
+path_is (FileNode r q t ps) p h = same_Some p q h
+path_is (DirNode r q c ps) p h = same_Some p q h
+path_is NotPresent p h = absurd cc
