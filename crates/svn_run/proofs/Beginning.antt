@@ -1,16 +1,8 @@
 -- Why no run leads to a target: the fault by the node of the copy's root is the one by its report.
-use Rattle.std.proofs.Common.{◌≡◌, ℕ, [], Bool, true, false, true≢false, refl, sym, ap, ◌∙◌, length}
-use Rattle.std.specs.Prelude.{not, nat_lt, Option, Some, None, is_some, is_none, option_map, if◌then◌else◌, Result, Ok, Err, IfOk}
-use Rattle.svn_types.specs.Names.{Path}
+use Rattle.std.proofs.Common.{◌≡◌, ℕ, [], Bool, true, false, true≢false, refl, sym, ap, ◌∙◌}
+use Rattle.std.specs.Prelude.{Option, Some, None, is_some, option_map, if◌then◌else◌}
 use Rattle.svn_repo.specs.History.{look}
-use Rattle.svn_repo.specs.Readings.{are_related}
-use Rattle.svn_editor.specs.declared.fault.EditFault.{EditFault}
-use Rattle.svn_editor.specs.Steps.{Mode}
-use Rattle.svn_edit.specs.declared.edit.Edit.{Edit}
-use Rattle.svn_edit.specs.Applying.{StandsAfter}
-use Rattle.svn_nodes.specs.NodeTests.{mode_of as edit_mode}
 use Rattle.svn_model.specs.declared.drive_fault.DriveFault.{DriveFault}
-use Rattle.svn_model.specs.declared.drive_fault.DriveFault.TheVariants.{NoSuchTarget, NoRoot as RootMissing, OtherRoot as RootOther}
 use Rattle.svn_model.specs.Checks.{target_fault}
 use Rattle.svn_model.specs.Crawl.{crawl}
 use Rattle.svn_model.specs.Follow.{root_path}
@@ -18,22 +10,14 @@ use Rattle.svn_model.specs.Sources.{reported, source, is_hidden, governing_revis
 use Rattle.svn_model.specs.Nodes.{get_in, node_path, node_revision}
 use Rattle.svn_edit_law.proofs.OneNode.{dir_present}
 use Rattle.svn_law.specs.Laws.{IsTrueCopy}
-use Rattle.svn_run.specs.declared.outcome.RunFault.TheVariants.{NoSuchRevision, NoRoot, OtherRoot}
-use Rattle.svn_run.specs.Goals.{fault_at}
+use Rattle.svn_drive.specs.Targets.{fault_between}
+use Rattle.svn_run.specs.Beginning.{fault_at}
 use Rattle.svn_run.specs.RunLaws.{RunLaws}
-use Rattle.svn_run.specs.UpdateTheorem.{Nodes, Asked, request, run_fault_of, fault_in_turn}
+use Rattle.svn_run.specs.UpdateTheorem.{Asked, request, run_fault_of, fault_in_turn}
 
 shown : (hidden : Bool) (there : Option ℕ) → is_some (if hidden then None else there) ≡ true → (if hidden then None else there) ≡ there
 shown true there h = absurd (true≢false (sym h))
 shown false there h = refl
-
-same_choice : (a b c : Bool)
-    → option_map run_fault_of (if a then Some NoSuchTarget else if b then Some RootMissing else if c then Some RootOther else None)
-    ≡ (if a then Some NoSuchRevision else if b then Some NoRoot else if c then Some OtherRoot else None)
-same_choice true b c = refl
-same_choice false true c = refl
-same_choice false false true = refl
-same_choice false false false = refl
 
 module _ (laws : RunLaws) (a : Asked) (true_copy : IsTrueCopy a.history a.copy) where
   -- what the client has at its root, by what the copy has there
@@ -49,10 +33,7 @@ module _ (laws : RunLaws) (a : Asked) (true_copy : IsTrueCopy a.history a.copy) 
   pub same_fault : fault_in_turn a ≡ fault_at a.history a.target a.mode (get_in a.copy [])
   same_fault =
       let there = look a.history a.target (root_path a.mode (node_path (get_in a.copy []))) in
-      same_choice (not (nat_lt a.target (length a.history.roots))) (is_none there)
-      (not (are_related a.history (source a.history (reported (crawl a.copy) [])) there))
-      ∙ ap (λ s. if not (nat_lt a.target (length a.history.roots)) then Some NoSuchRevision else if is_none there then Some NoRoot else if
-      not (are_related a.history s there) then Some OtherRoot else None) root_source
+      ap (λ from. option_map run_fault_of (fault_between a.history a.target from there)) root_source
 
   none_mapped : (fault : Option DriveFault) → option_map run_fault_of fault ≡ None → fault ≡ None
   none_mapped None h = refl
@@ -61,12 +42,3 @@ module _ (laws : RunLaws) (a : Asked) (true_copy : IsTrueCopy a.history a.copy) 
   -- where there is none, the target can be driven to
   pub has_target : fault_at a.history a.target a.mode (get_in a.copy []) ≡ None → target_fault (request a) ≡ None
   has_target h = none_mapped (target_fault (request a)) (same_fault ∙ h)
-
--- ---- the edit
-
--- an edit that leads there stands before its first call
-pub begun_at : (made : Result Edit EditFault) (root : Option Path) (mode : Mode)
-    → IfOk made (λ e. (m : Mode) (nodes : Nodes) → edit_mode root ≡ m → StandsAfter m (get_in nodes) e nodes [])
-    → edit_mode root ≡ mode → IfOk made (λ e. (nodes : Nodes) → StandsAfter mode (get_in nodes) e nodes [])
-begun_at (Ok e) root mode begun same = λ nodes. begun mode nodes same
-begun_at (Err fault) root mode begun same = tt

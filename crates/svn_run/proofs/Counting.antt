@@ -9,7 +9,7 @@ use Rattle.svn_editor.specs.declared.call.Call.{Call}
 use Rattle.svn_editor.specs.declared.call.Call.TheVariants.{AbortEdit}
 use Rattle.svn_editor.specs.declared.fault.EditFault.{EditFault}
 use Rattle.svn_editor.specs.Editing.{Leads}
-use Rattle.svn_editor.specs.Steps.{Mode}
+use Rattle.svn_editor.specs.declared.mode.Mode.{Mode}
 use Rattle.svn_edit.specs.declared.edit.Edit.{Edit}
 use Rattle.svn_edit.specs.Applying.{StandsAfter}
 use Rattle.svn_edit_law.specs.Laws.{calls_are_applied_in_turn}

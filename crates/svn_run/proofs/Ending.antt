@@ -10,7 +10,7 @@ use Rattle.svn_editor.specs.declared.call.Call.{Call}
 use Rattle.svn_editor.specs.declared.call.Call.TheVariants.{AbortEdit}
 use Rattle.svn_editor.specs.declared.fault.EditFault.TheVariants as edit
 use Rattle.svn_editor.specs.Calls.{is_abort}
-use Rattle.svn_editor.specs.Steps.{Mode}
+use Rattle.svn_editor.specs.declared.mode.Mode.{Mode}
 use Rattle.svn_link.specs.Calls.{is_over}
 use Rattle.svn_link.specs.Ends.{LinkEnd, NoticeEnd, Passed}
 use Rattle.svn_link.specs.Notice.{IsNoneOrSame}

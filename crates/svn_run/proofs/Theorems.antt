@@ -9,7 +9,7 @@ use Rattle.svn_run.specs.declared.outcome.Outcome.{Outcome}
 use Rattle.svn_run.specs.declared.outcome.RunFault.{RunFault}
 use Rattle.svn_run.specs.declared.outcome.RunFault.TheVariants.{Memory, Capacity}
 use Rattle.svn_run.specs.Coming.{CameTo, CameInTurn}
-use Rattle.svn_run.specs.Goals.{fault_at}
+use Rattle.svn_run.specs.Beginning.{fault_at}
 use Rattle.svn_run.specs.RunLaws.{RunLaws}
 use Rattle.svn_run.specs.UpdateTheorem.{Nodes, Asked, is_capacity, fault_in_turn, fault_in_threads, IsRefusal, IsWantOfMemory}
 use Rattle.svn_run.specs.UpdateTheorem.{IsWantInThreads, made_in, late_in, calls_made, IsSound, TurnTheorem, ThreadsTheorem}

@@ -5,7 +5,7 @@
 use Rattle.std.specs.Prelude.{◌≡◌, ℕ, ◌+◌, ◌<◌, ◌≤◌, List, length, take, Option, Some, None, IfSome, Result, Ok, Err}
 use Rattle.svn_types.specs.Names.{Path}
 use Rattle.svn_editor.specs.declared.call.Call.{Call}
-use Rattle.svn_editor.specs.Steps.{Mode}
+use Rattle.svn_editor.specs.declared.mode.Mode.{Mode}
 use Rattle.svn_model.specs.declared.drive_end.DriveEnd.{DriveEnd}
 use Rattle.svn_model.specs.declared.drive_end.DriveEnd.TheVariants.{Closed as AllMade, Cancelled as GivenUp}
 use Rattle.svn_model.specs.declared.drive_fault.DriveFault.{DriveFault}

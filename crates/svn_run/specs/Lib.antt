@@ -1,11 +1,12 @@
+pub mod Beginning
 pub mod Coming
 pub mod Counts
 pub mod Courses
 pub mod Driven
 pub mod FaultNumbers
 pub mod Finishing
-pub mod Goals
-pub mod Lines
+pub mod Senders
+pub mod Printing
 pub mod RunLaws
 pub mod Takes
 pub mod UpdateTheorem

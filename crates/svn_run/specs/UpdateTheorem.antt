@@ -11,7 +11,7 @@ use Rattle.svn_types.specs.Names.{Path}
 use Rattle.svn_repo.specs.History.{History}
 use Rattle.svn_editor.specs.declared.call.Call.{Call}
 use Rattle.svn_editor.specs.declared.call.Call.TheVariants.{AbortEdit}
-use Rattle.svn_editor.specs.Steps.{Mode}
+use Rattle.svn_editor.specs.declared.mode.Mode.{Mode}
 use Rattle.svn_link.specs.Ends.{Passed}
 use Rattle.svn_model.specs.declared.base_node.BaseNode.{BaseNode}
 use Rattle.svn_model.specs.declared.drive_fault.DriveFault.{DriveFault}

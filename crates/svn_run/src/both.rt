@@ -1,11 +1,11 @@
 //! The two threads of a run.
 ghost use Rattle.std.specs.Prelude.{◌≡◌, None, [], IfOk, IfErr, OnErr};
 ghost use Rattle.svn_edit.specs.Applying.{StandsAfter};
-ghost use Rattle.svn_editor.specs.Steps.{Mode};
+ghost use Rattle.svn_editor.specs.declared.mode.Mode.{Mode};
 ghost use Rattle.svn_model.specs.Checks.{target_fault};
 ghost use Rattle.svn_model.specs.Drive.{IsDrive};
 ghost use Rattle.svn_model.specs.Nodes.{get_in};
-ghost use Rattle.svn_run.specs.Courses.{mode_by, request_for, drive_for};
+ghost use Rattle.svn_run.specs.Courses.{request_for, drive_for};
 ghost use Rattle.svn_run.specs.Driven.{IsDriven};
 ghost use Rattle.svn_run.specs.Takes.{IsTaken};
 ghost use Rattle.svn_run.specs.UpdateTheorem.{IsWantInThreads, Nodes};
@@ -13,18 +13,20 @@ ghost use Rattle.svn_wc.specs.Taking.{IsBegun};
 
 use crate::driving::{Driven, Drives, drive_through};
 use crate::gate::Gate;
+use crate::goal::edit_of;
+use crate::listener::Listener;
 use crate::outcome::RunFault;
 use crate::taking::{Taken, take_all};
-use crate::task::{Task, edit_of};
+use std::alloc::Global;
 use std::snapshot::Snapshot;
 use std::sync::Wait;
 use std::thread;
 use std::thread::Threads;
+use svn_drive::Request;
 use svn_edit::Edit;
 use svn_link::{Inbox, Outbox, Teller, Watcher};
 use svn_repo::Repo;
 use svn_report::Report;
-use svn_types::RelPath;
 use svn_wc::{Applier, WorkingCopy};
 
 /// The ends of a link and of a notice.
@@ -45,11 +47,12 @@ pub(crate) struct Both {
 
 /// Drives in a thread of its own, and applies in this one. Memory where an allocation failed, NoThread where no thread can be made: no call was
 /// made then, and the copy is as it was.
-pub(crate) fn run_both<R: Threads + Wait + Sync, G: Gate>(
+pub(crate) fn run_both<R: Threads + Wait + Sync, G: Gate, L: Listener>(
     rt: &R,
     gate: &G,
-    task: &Task,
-    to: &RelPath,
+    alloc: Global,
+    listener: &mut L,
+    request: &Request,
     repo: &Repo,
     report: &Report,
     ends: Ends,
@@ -58,14 +61,14 @@ pub(crate) fn run_both<R: Threads + Wait + Sync, G: Gate>(
     requires sent { ends.outbox.calls ≡ [] }
     requires taken { ends.inbox.calls ≡ [] }
     requires told { ends.teller.number ≡ None }
-    requires target { target_fault (request_for repo.now report.now to.now task.now) ≡ None }
-    requires drive { IsDrive (request_for repo.now report.now to.now task.now) task.now.options.late_texts (drive_for repo.now report.now to.now task.now) }
-    ensures driven { IfOk result (λ b. IsDriven (drive_for repo.now report.now to.now task.now) task.now.options.cancel_after ends.outbox ends.watcher b.driven) }
-    ensures taken { IfOk result (λ b. IsTaken (mode_by task.now.switches to.now) (get_in copy.old) ends.inbox ends.teller b.taken copy.new) }
+    requires target { target_fault (request_for repo.now report.now request.now) ≡ None }
+    requires drive { IsDrive (request_for repo.now report.now request.now) request.now.options.late_texts (drive_for repo.now report.now request.now) }
+    ensures driven { IfOk result (λ b. IsDriven (drive_for repo.now report.now request.now) request.now.options.cancel_after ends.outbox ends.watcher b.driven) }
+    ensures taken { IfOk result (λ b. IsTaken request.now.mode (get_in copy.old) ends.inbox ends.teller b.taken copy.new) }
     ensures fault { IfErr result IsWantInThreads }
     ensures unchanged { OnErr result (copy.new ≡ copy.old) }
 {
-    let Ok(edit) = edit_of(task, to) else {
+    let Ok(edit) = edit_of(alloc, request) else {
         return Err(RunFault::Memory);
     };
     let Ends {
@@ -74,18 +77,17 @@ pub(crate) fn run_both<R: Threads + Wait + Sync, G: Gate>(
         teller,
         watcher,
     } = ends;
-    let (back, both) = thread::scope(
+    let (back, heard, both) = thread::scope(
         thread::scope_env(),
         rt,
-        move |scope| -> (&mut WorkingCopy, Result<Both, RunFault>)
-            requires { (outbox.calls ≡ []) × (inbox.calls ≡ []) × (teller.number ≡ None) × (target_fault (request_for repo.now report.now to.now task.now) ≡ None) × IsDrive (request_for repo.now report.now to.now task.now) task.now.options.late_texts (drive_for repo.now report.now to.now task.now) × ((nodes : Nodes) → StandsAfter (mode_by task.now.switches to.now) (get_in nodes) edit nodes []) }
+        move |scope| -> (&mut WorkingCopy, &mut L, Result<Both, RunFault>)
+            requires { (outbox.calls ≡ []) × (inbox.calls ≡ []) × (teller.number ≡ None) × (target_fault (request_for repo.now report.now request.now) ≡ None) × IsDrive (request_for repo.now report.now request.now) request.now.options.late_texts (drive_for repo.now report.now request.now) × ((nodes : Nodes) → StandsAfter request.now.mode (get_in nodes) edit nodes []) }
             ensures { (result.0.ghost_name ≡ copy.entry.ghost_name)
-                × IfOk result.1 (λ b. IsDriven (drive_for repo.entry.now report.entry.now to.entry.now task.entry.now) task.entry.now.options.cancel_after outbox watcher b.driven × IsTaken (mode_by task.entry.now.switches to.entry.now) (get_in copy.entry.now) inbox teller b.taken result.0.now)
-                × IfErr result.1 (λ e. (e ≡ RunFault.NoThread) × (result.0.now ≡ copy.entry.now)) }
+                × IfOk result.2 (λ b. IsDriven (drive_for repo.entry.now report.entry.now request.entry.now) request.entry.now.options.cancel_after outbox watcher b.driven × IsTaken request.entry.now.mode (get_in copy.entry.now) inbox teller b.taken result.0.now)
+                × IfErr result.2 (λ e. (e ≡ RunFault.NoThread) × (result.0.now ≡ copy.entry.now)) }
         {
             let promise = Drives {
-                task: Snapshot::of(task),
-                to: Snapshot::of(to),
+                request: Snapshot::of(request),
                 repo: Snapshot::of(repo),
                 report: Snapshot::of(report),
                 outbox: Snapshot::of(&outbox),
@@ -94,27 +96,30 @@ pub(crate) fn run_both<R: Threads + Wait + Sync, G: Gate>(
             let driver = scope.spawn_with(
                 promise,
                 move || -> Driven
-                    requires { (outbox.calls ≡ []) × (target_fault (request_for repo.now report.now to.now task.now) ≡ None) × IsDrive (request_for repo.now report.now to.now task.now) task.now.options.late_texts (drive_for repo.now report.now to.now task.now) }
-                    ensures { IsDriven (drive_for repo.entry.now report.entry.now to.entry.now task.entry.now) task.entry.now.options.cancel_after outbox watcher result }
-                { drive_through(rt, gate, task, to, repo, report, outbox, watcher) },
+                    requires { (outbox.calls ≡ []) × (target_fault (request_for repo.now report.now request.now) ≡ None) × IsDrive (request_for repo.now report.now request.now) request.now.options.late_texts (drive_for repo.now report.now request.now) }
+                    ensures { IsDriven (drive_for repo.entry.now report.entry.now request.entry.now) request.entry.now.options.cancel_after outbox watcher result }
+                { drive_through(rt, gate, alloc, request, repo, report, outbox, watcher) },
             );
             let Ok(driver) = driver else {
-                return (copy, Err(RunFault::NoThread));
+                return (copy, listener, Err(RunFault::NoThread));
             };
-            let taken = apply_all(rt, gate, inbox, teller, edit, copy);
+            let taken = apply_all(rt, gate, alloc, listener, inbox, teller, edit, copy);
             let driven = driver.join(rt);
-            (copy, Ok(Both { driven, taken }))
+            (copy, listener, Ok(Both { driven, taken }))
         },
     );
     // The scope returns the reference that it was lent, so that what holds of the copy then is known here.
     let _copy = back;
+    let _listener = heard;
     both
 }
 
 // Applies all calls to the copy, by the edit.
-fn apply_all<R: Wait, G: Gate>(
+fn apply_all<R: Wait, G: Gate, L: Listener>(
     rt: &R,
     gate: &G,
+    alloc: Global,
+    listener: &mut L,
     inbox: Inbox,
     teller: Teller,
     edit: Edit,
@@ -126,7 +131,7 @@ fn apply_all<R: Wait, G: Gate>(
     ensures { (mode : Mode) → StandsAfter mode (get_in copy.old) edit copy.old [] → IsTaken mode (get_in copy.old) inbox teller result copy.new }
 {
     let mut applier = Applier::with_edit(copy, edit);
-    let taken = take_all(rt, gate, inbox, teller, &mut applier);
+    let taken = take_all(rt, gate, alloc, listener, inbox, teller, &mut applier);
     let _copy = applier.into_copy();
     taken
 }

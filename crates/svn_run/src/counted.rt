@@ -1,19 +1,23 @@
-//! An applier that counts its calls.
+//! An applier that counts its calls, and tells a listener of them.
 ghost use Rattle.std.specs.Prelude.{◌≡◌};
 ghost use Rattle.svn_editor.specs.Calls.{is_abort};
 
+use crate::listener::{Listener, apply_heard};
+use std::alloc::Global;
 use svn_editor::{Call, EditFault, Editor, OrderFault};
 use svn_wc::Applier;
 
-/// An applier, and how many calls were made and how many accepted, `AbortEdit` left out.
+/// An applier with its listener, and how many calls were made and how many accepted, `AbortEdit` left out.
 #[derive(Drop)]
-pub(crate) struct Counted<'a> {
+pub(crate) struct Counted<'a, 'l, L: Listener> {
+    pub(crate) alloc: Global,
     pub(crate) applier: Applier<'a>,
+    pub(crate) listener: &'l mut L,
     pub(crate) made: u64,
     pub(crate) accepted: u64,
 }
 
-impl<'a> Editor for Counted<'a> {
+impl<'a, 'l, L: Listener> Editor for Counted<'a, 'l, L> {
     ghost use Rattle.std.specs.Prelude.{◌≡◌};
     ghost use Rattle.svn_run.specs.Counts.{CountsCall};
 
@@ -31,7 +35,7 @@ impl<'a> Editor for Counted<'a> {
             return Err(EditFault::Order(OrderFault::Ended));
         }
         self.made += 1;
-        match self.applier.call(call) {
+        match apply_heard(self.alloc, &mut self.applier, self.listener, call) {
             Ok(()) => {
                 self.accepted += 1;
                 Ok(())

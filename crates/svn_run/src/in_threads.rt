@@ -1,24 +1,30 @@
 //! Runs on two threads: the driver in one of its own, the working copy in the caller's.
-ghost use Rattle.std.specs.Prelude.{◌≡◌, None, [], IfOk, IfErr};
-ghost use Rattle.svn_editor.specs.Steps.{Update, SwitchTo};
+ghost use Rattle.std.specs.Prelude.{◌≡◌, None, Some, [], IfOk, IfErr, true, false};
+ghost use Rattle.std.specs.Option.{option_copied};
+ghost use Rattle.svn_editor.specs.declared.mode.Mode.TheVariants.{Update, SwitchTo};
+ghost use Rattle.svn_editor.specs.Steps.{mode_at};
 ghost use Rattle.svn_model.specs.Nodes.{get_in, IsTrueOf};
-ghost use Rattle.svn_run.specs.Courses.{mode_by};
+ghost use Rattle.svn_run.specs.Beginning.{fault_at};
 ghost use Rattle.svn_run.specs.UpdateTheorem.{asked, is_capacity, ThreadsTheorem};
 
 use crate::both::{Ends, run_both};
 use crate::finish::finish;
 use crate::gate::Gate;
+use crate::goal::Goal;
 use crate::laws::{laws, true_copy};
+use crate::listener::{Listener, NoListener};
 use crate::outcome::{Outcome, RunFault};
-use crate::task::{Task, fault_of};
 use std::alloc::Global;
 use std::sync::Wait;
 use std::thread::Threads;
-use svn_drive::DriveOptions;
+use svn_drive::{DriveOptions, Request};
 use svn_link::{MAX_CAPACITY, Settled, link, notice};
 use svn_repo::Repo;
 use svn_types::{RelPath, Rev};
 use svn_wc::WorkingCopy;
+
+// How many calls may wait where nobody says.
+const DEFAULT_CAPACITY: usize = 64;
 
 /// How a run on two threads is made.
 #[derive(Clone, Copy, Debug)]
@@ -29,6 +35,58 @@ pub struct Options {
     pub cancel_after: Option<u64>,
     /// Whether the texts of files come after all directories are closed.
     pub late_texts: bool,
+}
+
+/// 64 calls may wait, the run goes to its end, and texts come in place.
+impl Default for Options {
+    ghost is_default = { λ o. (o.capacity ≡ 64) × (o.cancel_after ≡ None) × (o.late_texts ≡ false) };
+
+    fn default() -> Options {
+        Options {
+            capacity: DEFAULT_CAPACITY,
+            cancel_after: None,
+            late_texts: false,
+        }
+    }
+}
+
+impl Options {
+    /// With room for so many calls between the two threads.
+    pub fn capacity(self, capacity: usize) -> Options
+        ensures { result ≡ record { capacity = capacity; cancel_after = self.cancel_after; late_texts = self.late_texts } }
+    {
+        Options { capacity, ..self }
+    }
+
+    /// Given up after so many calls, if the drive has more.
+    pub fn cancel_after(self, calls: u64) -> Options
+        ensures { result ≡ record { capacity = self.capacity; cancel_after = Some calls; late_texts = self.late_texts } }
+    {
+        Options {
+            cancel_after: Some(calls),
+            ..self
+        }
+    }
+
+    // How its drive is made.
+    fn of_drive(self) -> DriveOptions
+        ensures { result ≡ record { cancel_after = self.cancel_after; late_texts = self.late_texts } }
+    {
+        DriveOptions {
+            cancel_after: self.cancel_after,
+            late_texts: self.late_texts,
+        }
+    }
+
+    /// With the texts of files after all directories are closed.
+    pub fn late_texts(self) -> Options
+        ensures { result ≡ record { capacity = self.capacity; cancel_after = self.cancel_after; late_texts = true } }
+    {
+        Options {
+            late_texts: true,
+            ..self
+        }
+    }
 }
 
 /// Updates a working copy to a revision of the repository, with the driver in a thread of its own.
@@ -52,9 +110,21 @@ pub fn update<R: Threads + Wait + Sync, G: Gate>(
     requires truth { IsTrueOf repo.now (get_in copy.old) }
     ensures { ThreadsTheorem (asked repo.now copy.old target Update options.late_texts options.cancel_after) options.capacity copy.new result }
 {
-    let root = RelPath::root(alloc);
-    let task = task_of(alloc, target, false, options);
-    run_in_threads(rt, gate, &task, &root, repo, copy, options.capacity)
+    let goal = Goal {
+        target,
+        to: None,
+        options: options.of_drive(),
+    };
+    run_at(
+        rt,
+        gate,
+        alloc,
+        &mut NoListener,
+        repo,
+        copy,
+        &goal,
+        options.capacity,
+    )
 }
 
 /// Brings a whole working copy to another path of the repository, at a revision, with the driver in a thread of its
@@ -72,55 +142,101 @@ pub fn switch_to<R: Threads + Wait + Sync, G: Gate>(
     requires truth { IsTrueOf repo.now (get_in copy.old) }
     ensures { ThreadsTheorem (asked repo.now copy.old target (SwitchTo to.now) options.late_texts options.cancel_after) options.capacity copy.new result }
 {
-    let task = task_of(alloc, target, true, options);
-    run_in_threads(rt, gate, &task, to, repo, copy, options.capacity)
+    let goal = Goal {
+        target,
+        to: Some(to),
+        options: options.of_drive(),
+    };
+    run_at(
+        rt,
+        gate,
+        alloc,
+        &mut NoListener,
+        repo,
+        copy,
+        &goal,
+        options.capacity,
+    )
 }
 
-fn task_of(alloc: Global, target: Rev, switches: bool, options: Options) -> Task
-    ensures target { result.target ≡ target }
-    ensures switches { result.switches ≡ switches }
-    ensures late { result.options.late_texts ≡ options.late_texts }
-    ensures cancel { result.options.cancel_after ≡ options.cancel_after }
+/// Does what is asked for, with the driver in a thread of its own and so many calls between the two: as [`update`] and [`switch_to`]. The listener
+/// hears of each call that the copy accepted.
+pub fn run<R: Threads + Wait + Sync, G: Gate, L: Listener>(
+    rt: &R,
+    alloc: Global,
+    repo: &Repo,
+    copy: &mut WorkingCopy,
+    request: &Request,
+    capacity: usize,
+    gate: &G,
+    listener: &mut L,
+) -> Result<(Outcome, Settled), RunFault>
+    requires truth { IsTrueOf repo.now (get_in copy.old) }
+    ensures { ThreadsTheorem (asked repo.now copy.old request.now.target request.now.mode request.now.options.late_texts request.now.options.cancel_after) capacity copy.new result }
 {
-    Task {
-        alloc,
-        target,
-        switches,
-        options: DriveOptions {
-            cancel_after: options.cancel_after,
-            late_texts: options.late_texts,
-        },
-    }
+    let goal = Goal {
+        target: request.target,
+        to: request.mode.root(),
+        options: request.options,
+    };
+    run_at(rt, gate, alloc, listener, repo, copy, &goal, capacity)
 }
 
 // A whole run.
-fn run_in_threads<R: Threads + Wait + Sync, G: Gate>(
+fn run_at<R: Threads + Wait + Sync, G: Gate, L: Listener>(
     rt: &R,
     gate: &G,
-    task: &Task,
-    to: &RelPath,
+    alloc: Global,
+    listener: &mut L,
     repo: &Repo,
     copy: &mut WorkingCopy,
+    goal: &Goal<'_>,
     capacity: usize,
 ) -> Result<(Outcome, Settled), RunFault>
     requires truth { IsTrueOf repo.now (get_in copy.old) }
-    ensures { ThreadsTheorem (asked repo.now copy.old task.now.target (mode_by task.now.switches to.now) task.now.options.late_texts task.now.options.cancel_after) capacity copy.new result }
+    ensures { ThreadsTheorem (asked repo.now copy.old goal.now.target (mode_at (option_copied goal.now.to)) goal.now.options.late_texts goal.now.options.cancel_after) capacity copy.new result }
 {
     laws();
     true_copy(repo, copy);
-    if let Some(fault) = fault_of(task, to, repo, copy) {
+    if let Some(fault) = goal.fault(alloc, repo, copy) {
         return Err(fault);
     }
     if !is_capacity(capacity) {
         return Err(RunFault::Capacity);
     }
-    let Ok(report) = copy.crawl_and_learn(task.alloc) else {
+    let Ok(request) = goal.request() else {
         return Err(RunFault::Memory);
     };
-    let Ok(ends) = ends_of(task.alloc, capacity) else {
+    run_tested(rt, gate, alloc, listener, repo, copy, &request, capacity)
+}
+
+// A run whose target is there, and whose capacity is one.
+fn run_tested<R: Threads + Wait + Sync, G: Gate, L: Listener>(
+    rt: &R,
+    gate: &G,
+    alloc: Global,
+    listener: &mut L,
+    repo: &Repo,
+    copy: &mut WorkingCopy,
+    request: &Request,
+    capacity: usize,
+) -> Result<(Outcome, Settled), RunFault>
+    requires truth { IsTrueOf repo.now (get_in copy.old) }
+    requires target { fault_at repo.now request.now.target request.now.mode (get_in copy.old []) ≡ None }
+    requires capacity { is_capacity capacity ≡ true }
+    ensures { ThreadsTheorem (asked repo.now copy.old request.now.target request.now.mode request.now.options.late_texts request.now.options.cancel_after) capacity copy.new result }
+{
+    laws();
+    true_copy(repo, copy);
+    let Ok(report) = copy.crawl_and_learn(alloc) else {
         return Err(RunFault::Memory);
     };
-    match run_both(rt, gate, task, to, repo, &report, ends, copy) {
+    let Ok(ends) = ends_of(alloc, capacity) else {
+        return Err(RunFault::Memory);
+    };
+    match run_both(
+        rt, gate, alloc, listener, request, repo, &report, ends, copy,
+    ) {
         Ok(both) => {
             copy.law();
             Ok(finish(rt, both))

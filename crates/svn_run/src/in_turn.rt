@@ -1,23 +1,24 @@
 //! Runs on one thread: the driver gives each call to the copy as it makes it.
 ghost use Rattle.std.specs.Prelude.{◌≡◌, None, [], IfOk, IfErr, OnErr};
 ghost use Rattle.std.specs.Option.{option_copied};
-ghost use Rattle.svn_editor.specs.Steps.{Update, SwitchTo};
+ghost use Rattle.svn_editor.specs.declared.mode.Mode.TheVariants.{Update, SwitchTo};
+ghost use Rattle.svn_editor.specs.Steps.{mode_at};
 ghost use Rattle.svn_edit.specs.Applying.{StandsAfter};
-ghost use Rattle.svn_drive.specs.Walking.{asked as request};
 ghost use Rattle.svn_model.specs.Checks.{target_fault};
 ghost use Rattle.svn_model.specs.Drive.{IsDrive};
 ghost use Rattle.svn_model.specs.Nodes.{WorkingCopy as CopyMap, get_in, IsTrueOf};
-ghost use Rattle.svn_model.specs.TreeCalls.{drive_calls};
+ghost use Rattle.svn_run.specs.Beginning.{fault_at};
 ghost use Rattle.svn_run.specs.Coming.{CameInTurn, turn_outcome};
-ghost use Rattle.svn_run.specs.Goals.{mode_of};
+ghost use Rattle.svn_run.specs.Courses.{request_for, drive_for};
 ghost use Rattle.svn_run.specs.UpdateTheorem.{asked, late_in, TurnTheorem};
 
 use crate::counted::Counted;
-use crate::goal::Goal;
+use crate::goal::{Goal, edit_of};
 use crate::laws::{laws, true_copy};
+use crate::listener::{Listener, NoListener};
 use crate::outcome::{Cause, Outcome, RunFault};
 use std::alloc::Global;
-use svn_drive::DriveOptions;
+use svn_drive::{DriveOptions, Request, drive_tested};
 use svn_model::{DriveEnd, DriveFault};
 use svn_repo::Repo;
 use svn_report::Report;
@@ -41,12 +42,16 @@ pub fn update_in_turn(
     requires truth { IsTrueOf repo.now (get_in copy.old) }
     ensures { TurnTheorem (asked repo.now copy.old target Update late_texts cancel_after) copy.new result }
 {
-    let goal = Goal { target, to: None };
     let options = DriveOptions {
         cancel_after,
         late_texts,
     };
-    run_in_turn(alloc, &goal, repo, copy, options)
+    let goal = Goal {
+        target,
+        to: None,
+        options,
+    };
+    run_at(alloc, &mut NoListener, repo, copy, &goal)
 }
 
 /// Brings a whole working copy to another path of the repository, at a revision, on one thread: as
@@ -63,93 +68,135 @@ pub fn switch_to_in_turn(
     requires truth { IsTrueOf repo.now (get_in copy.old) }
     ensures { TurnTheorem (asked repo.now copy.old target (SwitchTo to.now) late_texts cancel_after) copy.new result }
 {
-    let goal = Goal {
-        target,
-        to: Some(to),
-    };
     let options = DriveOptions {
         cancel_after,
         late_texts,
     };
-    run_in_turn(alloc, &goal, repo, copy, options)
+    let goal = Goal {
+        target,
+        to: Some(to),
+        options,
+    };
+    run_at(alloc, &mut NoListener, repo, copy, &goal)
+}
+
+/// Does what is asked for, on one thread: as [`update_in_turn`] and [`switch_to_in_turn`]. The listener hears of each call that the copy accepted.
+pub fn run_in_turn<L: Listener>(
+    alloc: Global,
+    repo: &Repo,
+    copy: &mut WorkingCopy,
+    request: &Request,
+    listener: &mut L,
+) -> Result<Outcome, RunFault>
+    requires truth { IsTrueOf repo.now (get_in copy.old) }
+    ensures { TurnTheorem (asked repo.now copy.old request.now.target request.now.mode request.now.options.late_texts request.now.options.cancel_after) copy.new result }
+{
+    let goal = Goal {
+        target: request.target,
+        to: request.mode.root(),
+        options: request.options,
+    };
+    run_at(alloc, listener, repo, copy, &goal)
 }
 
 // A whole run.
-fn run_in_turn(
+fn run_at<L: Listener>(
     alloc: Global,
-    goal: &Goal<'_>,
+    listener: &mut L,
     repo: &Repo,
     copy: &mut WorkingCopy,
-    options: DriveOptions,
+    goal: &Goal<'_>,
 ) -> Result<Outcome, RunFault>
     requires truth { IsTrueOf repo.now (get_in copy.old) }
-    ensures { TurnTheorem (asked repo.now copy.old goal.now.target (mode_of (option_copied goal.now.to)) options.late_texts options.cancel_after) copy.new result }
+    ensures { TurnTheorem (asked repo.now copy.old goal.now.target (mode_at (option_copied goal.now.to)) goal.now.options.late_texts goal.now.options.cancel_after) copy.new result }
 {
     laws();
     true_copy(repo, copy);
     if let Some(fault) = goal.fault(alloc, repo, copy) {
         return Err(fault);
     }
+    let Ok(request) = goal.request() else {
+        return Err(RunFault::Memory);
+    };
+    run_tested(alloc, listener, repo, copy, &request)
+}
+
+// A run whose target is there.
+fn run_tested<L: Listener>(
+    alloc: Global,
+    listener: &mut L,
+    repo: &Repo,
+    copy: &mut WorkingCopy,
+    request: &Request,
+) -> Result<Outcome, RunFault>
+    requires truth { IsTrueOf repo.now (get_in copy.old) }
+    requires target { fault_at repo.now request.now.target request.now.mode (get_in copy.old []) ≡ None }
+    ensures { TurnTheorem (asked repo.now copy.old request.now.target request.now.mode request.now.options.late_texts request.now.options.cancel_after) copy.new result }
+{
+    laws();
+    true_copy(repo, copy);
     let Ok(report) = copy.crawl_and_learn(alloc) else {
         return Err(RunFault::Memory);
     };
-    let outcome = drive_copy(alloc, goal, repo, &report, copy, options);
+    let outcome = drive_copy(alloc, listener, request, repo, &report, copy);
     copy.law();
     outcome
 }
 
-// A run whose report is made, and whose target is there.
-fn drive_copy(
+// The same, once the report is made.
+fn drive_copy<L: Listener>(
     alloc: Global,
-    goal: &Goal<'_>,
+    listener: &mut L,
+    request: &Request,
     repo: &Repo,
     report: &Report,
     copy: &mut WorkingCopy,
-    options: DriveOptions,
 ) -> Result<Outcome, RunFault>
-    requires target { target_fault (request repo.now report.now goal.now.target (mode_of (option_copied goal.now.to))) ≡ None }
-    requires drive { let d = request repo.now report.now goal.now.target (mode_of (option_copied goal.now.to)) in IsDrive d options.late_texts (drive_calls d options.late_texts) }
-    ensures came { IfOk result (λ o. CameInTurn (drive_calls (request repo.now report.now goal.now.target (mode_of (option_copied goal.now.to))) options.late_texts) (mode_of (option_copied goal.now.to)) options.cancel_after (get_in copy.old) copy.new o) }
+    requires target { target_fault (request_for repo.now report.now request.now) ≡ None }
+    requires drive { IsDrive (request_for repo.now report.now request.now) request.now.options.late_texts (drive_for repo.now report.now request.now) }
+    ensures came { IfOk result (λ o. CameInTurn (drive_for repo.now report.now request.now) request.now.mode request.now.options.cancel_after (get_in copy.old) copy.new o) }
     ensures never_late { IfOk result (λ o. late_in o ≡ None) }
     ensures memory { IfErr result (λ e. e ≡ RunFault.Memory) }
     ensures unchanged { OnErr result (copy.new ≡ copy.old) }
 {
-    let Ok(edit) = goal.edit(alloc) else {
+    let Ok(edit) = edit_of(alloc, request) else {
         return Err(RunFault::Memory);
     };
     let mut counted = Counted {
+        alloc,
         applier: Applier::with_edit(copy, edit),
+        listener,
         made: 0,
         accepted: 0,
     };
-    let end = drive_counted(alloc, goal, repo, report, options, &mut counted);
+    let end = drive_counted(alloc, request, repo, report, &mut counted);
     let Counted {
         applier,
         made,
         accepted,
+        ..
     } = counted;
     let _copy = applier.into_copy();
     Ok(outcome_of(&end, made, accepted))
 }
 
 // Drives the applier, and counts its calls.
-fn drive_counted(
+fn drive_counted<L: Listener>(
     alloc: Global,
-    goal: &Goal<'_>,
+    request: &Request,
     repo: &Repo,
     report: &Report,
-    options: DriveOptions,
-    counted: &mut Counted<'_>,
+    counted: &mut Counted<'_, '_, L>,
 ) -> Result<DriveEnd, DriveFault>
-    requires target { target_fault (request repo.now report.now goal.now.target (mode_of (option_copied goal.now.to))) ≡ None }
-    requires drive { let d = request repo.now report.now goal.now.target (mode_of (option_copied goal.now.to)) in IsDrive d options.late_texts (drive_calls d options.late_texts) }
+    requires target { target_fault (request_for repo.now report.now request.now) ≡ None }
+    requires drive { IsDrive (request_for repo.now report.now request.now) request.now.options.late_texts (drive_for repo.now report.now request.now) }
     requires made { counted.old.made ≡ 0 }
     requires accepted { counted.old.accepted ≡ 0 }
-    ensures came { (w0 : CopyMap) → StandsAfter (mode_of (option_copied goal.now.to)) w0 counted.old.applier.edit counted.old.applier.copy.now [] → CameInTurn (drive_calls (request repo.now report.now goal.now.target (mode_of (option_copied goal.now.to))) options.late_texts) (mode_of (option_copied goal.now.to)) options.cancel_after w0 counted.new.applier.copy.now (turn_outcome result counted.new.made counted.new.accepted) }
+    ensures came { (w0 : CopyMap) → StandsAfter request.now.mode w0 counted.old.applier.edit counted.old.applier.copy.now [] → CameInTurn (drive_for repo.now report.now request.now) request.now.mode request.now.options.cancel_after w0 counted.new.applier.copy.now (turn_outcome result counted.new.made counted.new.accepted) }
     ensures same_copy { counted.new.applier.copy.ghost_name ≡ counted.old.applier.copy.ghost_name }
 {
     laws();
-    goal.drive(alloc, repo, report, options, counted)
+    drive_tested(alloc, repo, report, request, counted)
 }
 
 // What a run tells of how its driver ended.

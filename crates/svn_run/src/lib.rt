@@ -26,12 +26,13 @@ mod goal;
 mod in_threads;
 mod in_turn;
 mod laws;
-mod line;
+mod listener;
 mod outcome;
+mod sender;
 mod taking;
-mod task;
 
 pub use gate::{Gate, NoGate};
-pub use in_threads::{Options, switch_to, update};
-pub use in_turn::{switch_to_in_turn, update_in_turn};
+pub use in_threads::{Options, run, switch_to, update};
+pub use in_turn::{run_in_turn, switch_to_in_turn, update_in_turn};
+pub use listener::{Listener, NoListener};
 pub use outcome::{Cause, Outcome, RunFault};

@@ -1,7 +1,11 @@
 //! How an update ends.
-ghost use Rattle.std.specs.Prelude.{◌≡◌};
-ghost use Rattle.svn_run.specs.FaultNumbers.{run_fault_number};
+ghost use Rattle.std.specs.Prelude.{◌≡◌, Some};
+ghost use Rattle.svn_run.specs.FaultNumbers.{run_fault_number, run_fault_name};
+ghost use Rattle.svn_run.specs.Printing.{cause_name, outcome_text};
+ghost use Rattle.svn_run.specs.UpdateTheorem.{run_fault_of};
 
+use std::fmt;
+use svn_model::DriveFault;
 use thiserror::Error;
 
 /// Why a run was aborted.
@@ -11,6 +15,18 @@ pub enum Cause {
     Cancelled,
     /// A growth was refused, to the driver or to the copy.
     Memory,
+}
+
+/// `Cancelled` or `Memory`.
+impl fmt::Display for Cause {
+    ghost output = { λ c. Some (cause_name c) };
+
+    fn fmt<W: fmt::Write>(&self, f: &mut fmt::Formatter<W>) -> fmt::Result {
+        match self {
+            Cause::Cancelled => f.write_str("Cancelled"),
+            Cause::Memory => f.write_str("Memory"),
+        }
+    }
 }
 
 /// How a run ended that began. Whatever it is, the copy is true of the repository, and the same run made again ends as this one would have.
@@ -32,6 +48,23 @@ pub enum Outcome {
         /// Why.
         cause: Cause,
     },
+}
+
+/// `closed CALLS`, or `aborted MADE ACCEPTED CAUSE`.
+impl fmt::Display for Outcome {
+    ghost output = { λ o. Some (outcome_text o) };
+
+    fn fmt<W: fmt::Write>(&self, f: &mut fmt::Formatter<W>) -> fmt::Result {
+        match self {
+            Outcome::Closed { calls } => write!(f, "closed {calls}"),
+            Outcome::Aborted {
+                made,
+                accepted,
+                late: _,
+                cause,
+            } => write!(f, "aborted {made} {accepted} {cause}"),
+        }
+    }
 }
 
 /// Why a run did not begin. No call was made, and the copy is as it was. Of the first four the
@@ -70,6 +103,34 @@ impl RunFault {
             RunFault::Capacity => 32,
             RunFault::Memory => 33,
             RunFault::NoThread => 34,
+        }
+    }
+
+    /// The fault's name: that of its variant.
+    pub fn name(self) -> &'static str
+        ensures { result.now ≡ run_fault_name self }
+    {
+        match self {
+            RunFault::NoSuchRevision => "NoSuchRevision",
+            RunFault::NoRoot => "NoRoot",
+            RunFault::OtherRoot => "OtherRoot",
+            RunFault::Capacity => "Capacity",
+            RunFault::Memory => "Memory",
+            RunFault::NoThread => "NoThread",
+        }
+    }
+}
+
+/// A fault of the target is the run's; any other is one of memory, since a run's drive has none besides.
+impl From<DriveFault> for RunFault {
+    ghost from_gives = { λ fault e. e ≡ run_fault_of fault };
+
+    fn from(fault: DriveFault) -> RunFault {
+        match fault {
+            DriveFault::NoSuchTarget => RunFault::NoSuchRevision,
+            DriveFault::NoRoot => RunFault::NoRoot,
+            DriveFault::OtherRoot => RunFault::OtherRoot,
+            _ => RunFault::Memory,
         }
     }
 }

@@ -1,7 +1,7 @@
 //! The caller's side of a run.
 ghost use Rattle.std.specs.Prelude.{◌≡◌, ◌≤◌, [], None, length, false};
 ghost use Rattle.svn_edit.specs.Applying.{StandsAfter};
-ghost use Rattle.svn_editor.specs.Steps.{Mode};
+ghost use Rattle.svn_editor.specs.declared.mode.Mode.{Mode};
 ghost use Rattle.svn_link.specs.Calls.{is_over};
 ghost use Rattle.svn_model.specs.Nodes.{WorkingCopy as CopyMap};
 ghost use Rattle.svn_run.specs.Takes.{IsStep, IsTaken};
@@ -9,6 +9,8 @@ ghost use Rattle.svn_run.specs.Takes.{IsStep, IsTaken};
 use crate::counted::is_abort;
 use crate::gate::Gate;
 use crate::laws::laws;
+use crate::listener::{Listener, apply_heard};
+use std::alloc::Global;
 use std::sync::Wait;
 use svn_editor::{Call, Editor};
 use svn_link::{Inbox, Teller};
@@ -24,9 +26,11 @@ pub(crate) struct Taken {
 
 /// Takes all calls, up to the last one. The applier gets them until it refuses one, whose number is told before the next
 /// is taken. An edit that wasn't closed is given up at the end.
-pub(crate) fn take_all<R: Wait, G: Gate>(
+pub(crate) fn take_all<R: Wait, G: Gate, L: Listener>(
     rt: &R,
     gate: &G,
+    alloc: Global,
+    listener: &mut L,
     inbox: Inbox,
     teller: Teller,
     applier: &mut Applier<'_>,
@@ -46,7 +50,7 @@ pub(crate) fn take_all<R: Wait, G: Gate>(
         if taken.inbox.over() {
             break;
         }
-        take_one(rt, gate, &mut taken, applier);
+        take_one(rt, gate, alloc, listener, &mut taken, applier);
     }
     if taken.accepted < taken.inbox.taken() {
         let _answer = applier.call(Call::AbortEdit);
@@ -55,7 +59,14 @@ pub(crate) fn take_all<R: Wait, G: Gate>(
 }
 
 // Takes a call, and gives it to the applier where that refused none. An `AbortEdit` waits for the end.
-fn take_one<R: Wait, G: Gate>(rt: &R, gate: &G, taken: &mut Taken, applier: &mut Applier<'_>)
+fn take_one<R: Wait, G: Gate, L: Listener>(
+    rt: &R,
+    gate: &G,
+    alloc: Global,
+    listener: &mut L,
+    taken: &mut Taken,
+    applier: &mut Applier<'_>,
+)
     requires more { is_over taken.old.inbox.calls ≡ false }
     requires counted { taken.old.accepted ≤ length taken.old.inbox.calls }
     ensures step { IsStep taken.old applier.old.edit applier.old.copy.now taken.new applier.new.edit applier.new.copy.now }
@@ -69,7 +80,7 @@ fn take_one<R: Wait, G: Gate>(rt: &R, gate: &G, taken: &mut Taken, applier: &mut
     if taken.teller.told() {
         return;
     }
-    match applier.call(call) {
+    match apply_heard(alloc, applier, listener, call) {
         Ok(()) => taken.accepted += 1,
         Err(_) => taken.teller.refused(rt, taken.accepted + 1),
     }

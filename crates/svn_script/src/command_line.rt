@@ -42,14 +42,14 @@ impl Default for Settings {
     }
 }
 
-/// Why the words of the command line give no settings. `Display` gives what `svnup` prints to standard error.
+/// Why the words of the command line give no settings. `svnup` prints it to standard error.
 #[derive(Debug, Drop, Error)]
 pub enum WordsFault {
     /// The words aren't those of a call, or ask for help. The text says why, or is the help; it ends with a line feed.
     #[error("{0}")]
     BadWords(String),
     /// A growth was refused.
-    #[error("svnup: out of memory\n")]
+    #[error("out of memory")]
     Memory,
 }
 

@@ -4,24 +4,24 @@ ghost use Rattle.svn_script.specs.FaultNumbers.{script_fault_number, script_stat
 
 use thiserror::Error;
 
-/// Why a script was given up. `Display` gives the line that `svnup` prints to standard error.
+/// Why a script was given up. `svnup` prints it to standard error, behind its own name.
 #[derive(Clone, Copy, Debug, PartialEq, Eq, Error)]
 pub enum ScriptFault {
     /// The line of this number, counted from 1, is no command. What the lines before it wrote stays written.
-    #[error("svnup: line {0}: bad line")]
+    #[error("line {0}: bad line")]
     BadLine(u64),
     /// The script has over 16,777,216 bytes. None of it ran.
-    #[error("svnup: script too long")]
+    #[error("script too long")]
     TooLong,
     /// The script couldn't be read to its end. None of it ran.
-    #[error("svnup: read fault")]
+    #[error("read fault")]
     Read,
     /// The output couldn't be written or flushed. What was written of it is unknown.
-    #[error("svnup: write fault")]
+    #[error("write fault")]
     Write,
     /// A growth was refused while the script or a line of it was read, or its first state made. Where one is refused to a command, that command
     /// prints its refusal instead.
-    #[error("svnup: out of memory")]
+    #[error("out of memory")]
     Memory,
 }
 

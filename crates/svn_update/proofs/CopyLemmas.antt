@@ -9,7 +9,8 @@ use Rattle.svn_model.specs.Nodes.{WorkingCopy, get_in, InPathOrder, IsTrueOf}
 use Rattle.svn_run.specs.declared.outcome.Outcome.{Outcome}
 use Rattle.svn_run.specs.declared.outcome.RunFault.{RunFault}
 use Rattle.svn_run.specs.UpdateTheorem.{Asked, Nodes, asked as asked_of}
-use Rattle.svn_editor.specs.Steps.{Mode, Update}
+use Rattle.svn_editor.specs.declared.mode.Mode.{Mode}
+use Rattle.svn_editor.specs.declared.mode.Mode.TheVariants.{Update}
 use Rattle.svn_script.specs.declared.command_line.Settings.{Settings}
 use Rattle.svn_report.specs.Reports.{ReportView}
 use Rattle.svn_report.specs.LawfulReports.{IsReport}

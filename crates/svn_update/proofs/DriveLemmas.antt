@@ -6,7 +6,7 @@ use Rattle.std.proofs.lemmas.List.{append-nil}
 use Rattle.svn_repo.specs.History.{History}
 use Rattle.svn_report.specs.Reports.{ReportView}
 use Rattle.svn_editor.specs.declared.call.Call.{Call}
-use Rattle.svn_editor.specs.Steps.{Update}
+use Rattle.svn_editor.specs.declared.mode.Mode.TheVariants.{Update}
 use Rattle.svn_drive.specs.Walking.{asked}
 use Rattle.svn_editor.specs.declared.fault.EditFault.{EditFault}
 use Rattle.svn_editor.specs.declared.fault.EditFault.TheVariants.{Memory as EditMemory}

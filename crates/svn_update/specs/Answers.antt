@@ -10,23 +10,10 @@ use Rattle.svn_report.specs.Lines.{report_text}
 use Rattle.svn_model.specs.declared.base_node.BaseNode.{BaseNode}
 use Rattle.svn_wc.specs.Lines.{copy_text}
 use Rattle.svn_nodes.specs.Lines.{line}
-use Rattle.svn_run.specs.declared.outcome.Cause.{Cause}
-use Rattle.svn_run.specs.declared.outcome.Cause.TheVariants.{Cancelled, Memory as MemoryCause}
-use Rattle.svn_run.specs.declared.outcome.Outcome.{Outcome}
-use Rattle.svn_run.specs.declared.outcome.Outcome.TheVariants.{Closed, Aborted}
+use Rattle.svn_run.specs.Printing.{outcome_words}
 use Rattle.svn_update.specs.declared.answer.Answer.{Answer}
 use Rattle.svn_update.specs.declared.answer.Answer.TheVariants.{Silent, Committed, Done, Reported, Driven, Ended, Nodes, Refused}
 use Rattle.svn_update.specs.FaultNames.{refusal_name}
-
-abbrev pub cause_name : Cause → List ℕ
-cause_name Cancelled = codes "Cancelled"
-cause_name MemoryCause = codes "Memory"
-
--- ---- lines
-
-abbrev pub outcome_words : Outcome → List (List ℕ)
-outcome_words (Closed calls) = codes "closed" ∷ decimal calls ∷ []
-outcome_words (Aborted made accepted late cause) = codes "aborted" ∷ decimal made ∷ decimal accepted ∷ cause_name cause ∷ []
 
 abbrev pub call_text : Call → List ℕ
 call_text c = call_line c ++ 10 ∷ []

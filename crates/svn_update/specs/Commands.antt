@@ -9,7 +9,7 @@ use Rattle.svn_repo.specs.declared.change.Change.{Change}
 use Rattle.svn_repo.specs.declared.change.CommitFault.TheVariants.{Memory as CommitMemory}
 use Rattle.svn_editor.specs.declared.call.Call.{Call}
 use Rattle.svn_editor.specs.declared.fault.EditFault.TheVariants.{Memory as EditMemory}
-use Rattle.svn_editor.specs.Steps.{Update as UpdateMode, SwitchTo as SwitchMode}
+use Rattle.svn_editor.specs.declared.mode.Mode.TheVariants.{Update as UpdateMode, SwitchTo as SwitchMode}
 use Rattle.svn_model.specs.declared.drive_fault.DriveFault.{DriveFault}
 use Rattle.svn_model.specs.declared.drive_fault.DriveFault.TheVariants.{Memory as DriveMemory, Editor as EditorRefused, Full as DriveFull}
 use Rattle.svn_model.specs.declared.wc_fault.WcFault.{WcFault}

@@ -2,8 +2,7 @@
 ghost use Rattle.std.specs.Prelude.{◌≡◌, Some, OnOk};
 ghost use Rattle.std.specs.List.{flat_map};
 ghost use Rattle.std.specs.Fmt.{DisplaysOnOk};
-ghost use Rattle.svn_nodes.specs.Lines.{line};
-ghost use Rattle.svn_update.specs.Answers.{answer_text, call_text, cause_name, outcome_words};
+ghost use Rattle.svn_update.specs.Answers.{answer_text, call_text};
 
 use crate::fault_names::refusal_name;
 use crate::kept_calls::KeptCalls;
@@ -14,7 +13,7 @@ use svn_editor::Call;
 use svn_model::{DriveFault, WcFault};
 use svn_repo::CommitFault;
 use svn_report::Report;
-use svn_run::{Cause, Outcome, RunFault};
+use svn_run::{Outcome, RunFault};
 use svn_types::Rev;
 use svn_wc::WorkingCopy;
 
@@ -61,38 +60,11 @@ pub(crate) enum Answer {
     Refused(Refusal),
 }
 
-fn cause_name(cause: Cause) -> &'static str
-    ensures { result.now ≡ cause_name cause }
-{
-    match cause {
-        Cause::Cancelled => "Cancelled",
-        Cause::Memory => "Memory",
-    }
-}
-
 /// Prints what a command has to say, each line ended by a line feed.
 #[derive(Clone, Copy)]
 pub(crate) struct AnswerLines<'a> {
     pub(crate) answer: &'a Answer,
     pub(crate) copy: &'a Option<WorkingCopy>,
-}
-
-// A run that ended is printed as its line.
-fn write_outcome<W: fmt::Write>(outcome: Outcome, f: &mut fmt::Formatter<W>) -> fmt::Result
-    ensures { DisplaysOnOk W.write_str_gives f.old result (Some (line (outcome_words outcome))) f.new }
-{
-    match outcome {
-        Outcome::Closed { calls } => writeln!(f, "closed {calls}"),
-        Outcome::Aborted {
-            made,
-            accepted,
-            late: _,
-            cause,
-        } => {
-            let cause = cause_name(cause);
-            writeln!(f, "aborted {made} {accepted} {cause}")
-        }
-    }
 }
 
 // Whether a call's line may be short.
@@ -172,7 +144,7 @@ impl fmt::Display for AnswerLines<'_> {
             Answer::Done => f.write_str("ok\n"),
             Answer::Reported(report) => report.fmt(f),
             Answer::Driven(kept) => write_kept(kept, f),
-            Answer::Ended(outcome) => write_outcome(*outcome, f),
+            Answer::Ended(outcome) => writeln!(f, "{outcome}"),
             Answer::Nodes => match self.copy {
                 Some(copy) => copy.fmt(f),
                 None => Ok(()),

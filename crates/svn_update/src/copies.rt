@@ -1,24 +1,22 @@
 //! What the commands on the working copy do.
 ghost use Rattle.std.specs.Prelude.{◌≡◌, None};
-ghost use Rattle.std.specs.Option.{option_copied};
 ghost use Rattle.md5.specs.Md5.{md5};
-ghost use Rattle.svn_editor.specs.Steps.{Update};
+ghost use Rattle.svn_editor.specs.declared.mode.Mode.TheVariants.{Update};
 ghost use Rattle.svn_model.specs.Checks.{target_fault};
 ghost use Rattle.svn_model.specs.Drive.{IsDrive};
 ghost use Rattle.svn_model.specs.TreeCalls.{drive_calls};
 ghost use Rattle.svn_law.specs.Laws.{request_of};
-ghost use Rattle.svn_run.specs.Goals.{mode_of};
 ghost use Rattle.svn_run.specs.UpdateTheorem.{asked};
 ghost use Rattle.svn_update.specs.Commands.{AnswersCheckout, AnswersPlace, AnswersSwitch, AnswersForget, AnswersReport, AnswersDrive, AnswersRun, KeepsRepo, OnCopy, answer_built, IsRecorded};
 ghost use Rattle.svn_drive.specs.Walking.{asked as driven_for};
 
 use crate::answer::{Answer, Refusal};
 use crate::kept_calls::KeptCalls;
-use crate::runs::{Wanted, run_copy};
+use crate::runs::run_copy;
 use crate::state::State;
 use std::sync::Wait;
 use std::thread::Threads;
-use svn_drive::{DriveOptions, drive};
+use svn_drive::{DriveOptions, Request, drive};
 use svn_drive_law::the_calls_are_a_drive;
 use svn_law::crawl_says_what_stands;
 use svn_model::WcFault;
@@ -141,15 +139,15 @@ impl State {
         &mut self,
         rt: &T,
         settings: Settings,
-        wanted: &Wanted<'_>,
+        request: &Request,
     ) -> Answer
         ensures keeps { KeepsRepo self.old self.new }
-        ensures answer { OnCopy (λ w. AnswersRun settings (asked self.old.repo w wanted.now.rev (mode_of (option_copied wanted.now.to)) wanted.now.late wanted.now.cancel_after) self.new.copy result) self.old.copy self.new.copy result }
+        ensures answer { OnCopy (λ w. AnswersRun settings (asked self.old.repo w request.now.target request.now.mode request.now.options.late_texts request.now.options.cancel_after) self.new.copy result) self.old.copy self.new.copy result }
     {
         let Some(copy) = &mut self.copy else {
             return Answer::Refused(Refusal::NoCopy);
         };
-        let ended = run_copy(rt, self.alloc, settings, &self.repo, copy, wanted);
+        let ended = run_copy(rt, self.alloc, settings, &self.repo, copy, request);
         copy.law();
         match ended {
             Ok(outcome) => Answer::Ended(outcome),

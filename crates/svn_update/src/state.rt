@@ -6,7 +6,7 @@ ghost use Rattle.svn_update.specs.ScriptStates.{new_state};
 ghost use Rattle.svn_update.specs.Commands.{AddsChange, Does};
 
 use crate::answer::{Answer, AnswerLines, Refusal};
-use crate::runs::Wanted;
+use crate::runs::asked_for;
 use std::alloc::{AllocError, Global};
 use std::io;
 use std::io::Write;
@@ -14,6 +14,7 @@ use std::marker::Model;
 use std::sync::Wait;
 use std::thread::Threads;
 use svn_edit_law::commits_keep_copies_true;
+use svn_editor::Mode;
 use svn_repo::{Change, CommitFault, Repo};
 use svn_script::{Command, Settings};
 use svn_wc::WorkingCopy;
@@ -122,13 +123,8 @@ impl State {
                 cancel_after,
                 late,
             } => {
-                let wanted = Wanted {
-                    to: None,
-                    rev,
-                    cancel_after,
-                    late,
-                };
-                self.run_to(rt, settings, &wanted)
+                let request = asked_for(Mode::Update, rev, cancel_after, late);
+                self.run_to(rt, settings, &request)
             }
             Command::SwitchTo {
                 repos_path,
@@ -136,13 +132,8 @@ impl State {
                 cancel_after,
                 late,
             } => {
-                let wanted = Wanted {
-                    to: Some(&repos_path),
-                    rev,
-                    cancel_after,
-                    late,
-                };
-                self.run_to(rt, settings, &wanted)
+                let request = asked_for(Mode::SwitchTo(repos_path), rev, cancel_after, late);
+                self.run_to(rt, settings, &request)
             }
             Command::Show => self.show(settings),
         }

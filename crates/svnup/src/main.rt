@@ -67,17 +67,24 @@ fn run_with_words<T: Env + Input + Print + AllocGlobal + Threads + Wait + Sync>(
     Ok(run(rt, &settings))
 }
 
+// The text of words that are none of a call names the program, and ends with a line feed.
+fn print_words_fault<T: Eprint>(rt: &T, fault: &WordsFault) {
+    let _ = match fault {
+        WordsFault::BadWords(text) => eprint!(rt; "{text}"),
+        WordsFault::Memory => eprintln!(rt; "svnup: {fault}"),
+    };
+}
+
 fn main(rt: HostRuntime) -> ExitCode {
     // where standard error can't be written either, the status alone tells
     match run_with_words(&rt) {
         Ok(Ok(())) => ExitCode::SUCCESS,
         Ok(Err(fault)) => {
-            let _ = eprintln!(rt; "{fault}");
+            let _ = eprintln!(rt; "svnup: {fault}");
             ExitCode::from(fault.status())
         }
         Err(fault) => {
-            // its text ends with a line feed
-            let _ = eprint!(rt; "{fault}");
+            print_words_fault(&rt, &fault);
             ExitCode::from(fault.status())
         }
     }

@@ -1,5 +1,4 @@
 use Rattle.std.proofs.Common.{rules, sym, subst, []}
-use Rattle.std.specs.Option.{option_copied}
 use Rattle.svn_drive.specs.Walking.{asked}
 use Rattle.svn_edit.specs.declared.edit.Edit.{Edit}
 use Rattle.svn_edit.specs.Applying.{StandsAfter}
@@ -7,22 +6,21 @@ use Rattle.svn_model.specs.Nodes.{get_in}
 use Rattle.svn_model.specs.TreeCalls.{drive_calls}
 use Rattle.svn_run.specs.declared.outcome.Outcome.{Outcome}
 use Rattle.svn_run.specs.Coming.{CameInTurn}
-use Rattle.svn_run.specs.Goals.{mode_of}
 use Rattle.svn_run.specs.UpdateTheorem.{Nodes}
 use Rattle.svn_run.proofs.Theorems.{moved}
 use Rattle.svn_run.proofs.in_turn.drive_copy.Goals as goal
 
 pub returns-clause-came : goal.returns-clause-came
-returns-clause-came c =
-    let mode = mode_of (option_copied c.args.goal.now.to) in
+returns-clause-came g c =
+    let mode = c.args.request.now.mode in
     let w0 = get_in c.args.copy.now in
-    let drive = drive_calls (asked c.args.repo.now c.args.report.now c.args.goal.now.target mode) c.args.options.late_texts in
+    let drive = drive_calls (asked c.args.repo.now c.args.report.now c.args.request.now.target mode) c.args.request.now.options.late_texts in
     let stands = subst (λ (y : Edit × Nodes). StandsAfter mode w0 y.0 y.1 [])
     (λ i. (sym c.with_edit.ensures.edit i, sym c.with_edit.ensures.nodes i)) (c.in-Ok.ensures c.args.copy.now) in
-    let came = subst (λ (o : Outcome). CameInTurn drive mode c.args.options.cancel_after w0 c.drive_counted-end.new.counted.applier.copy.now o)
+    let came = subst (λ (o : Outcome). CameInTurn drive mode c.args.request.now.options.cancel_after w0 c.drive_counted-end.new.counted.applier.copy.now o)
     (sym c.outcome_of.ensures.outcome) (c.drive_counted-end.ensures.came w0 stands) in
-    moved (λ (x : Nodes). CameInTurn drive mode c.args.options.cancel_after w0 x c.outcome_of.result)
+    moved (λ (x : Nodes). CameInTurn drive mode c.args.request.now.options.cancel_after w0 x c.outcome_of.result)
     c.drive_counted-end.new.counted.applier.copy.now _ (search rules) came
 
 pub with_edit-requires : goal.with_edit-requires
-with_edit-requires c = (mode_of (option_copied c.args.goal.now.to), c.in-Ok.ensures c.args.copy.now)
+with_edit-requires g c = (c.args.request.now.mode, c.in-Ok.ensures c.args.copy.now)

@@ -1,5 +1,5 @@
 use Rattle.std.proofs.Common.{◌≡◌, ◌≤◌, length, []}
-use Rattle.svn_editor.specs.Steps.{Mode}
+use Rattle.svn_editor.specs.declared.mode.Mode.{Mode}
 use Rattle.svn_edit.specs.Applying.{StandsAfter}
 use Rattle.svn_model.specs.Nodes.{WorkingCopy}
 use Rattle.svn_run.specs.Takes.{unaborted}

@@ -9,8 +9,8 @@ returns-in-Ok-clause-step g c =
     let inner : is_abort c.take-call.result ≡ false = search rules in
     let untold : c.args.taken.now.teller.number ≡ None = search rules in
     let a = c.args.applier.now in
-    let left = c.call.new.self in
-    let taken = subst (λ r. TakesCall a.edit a.copy.now c.take-call.result r left.edit left.copy.now) c.in-Ok.is c.call.ensures.0 in
+    let left = c.apply_heard.new.applier in
+    let taken = subst (λ r. TakesCall a.edit a.copy.now c.take-call.result r left.edit left.copy.now) c.in-Ok.is c.apply_heard.ensures.taken in
     record {
       call = c.take-call.result;
       calls = c.take-call.ensures.taken;

@@ -1,7 +1,7 @@
 use Rattle.std.proofs.Common.{◌≡◌, ap, sym, subst, ◌∙◌}
 use Rattle.md5.specs.Md5.{md5}
 use Rattle.svn_repo.specs.History.{History}
-use Rattle.svn_editor.specs.Steps.{Update}
+use Rattle.svn_editor.specs.declared.mode.Mode.TheVariants.{Update}
 use Rattle.svn_report.specs.Reports.{ReportView}
 use Rattle.svn_drive.specs.Walking.{asked}
 use Rattle.svn_model.specs.Nodes.{get_in, IsTrueOf}

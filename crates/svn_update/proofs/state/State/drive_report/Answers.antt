@@ -1,5 +1,5 @@
 use Rattle.std.proofs.Common.{ap, subst}
-use Rattle.svn_editor.specs.Steps.{Update}
+use Rattle.svn_editor.specs.declared.mode.Mode.TheVariants.{Update}
 use Rattle.svn_drive.specs.Walking.{asked}
 use Rattle.svn_update.specs.ScriptStates.{ScriptState}
 use Rattle.svn_update.proofs.DriveLemmas.{AnswersRecorded, drive_recorded}

@@ -1,7 +1,7 @@
 //! The driver's end of the link, as an editor.
 ghost use Rattle.std.specs.Prelude.{◌≡◌, false, Some, IfSome};
 ghost use Rattle.svn_editor.specs.Calls.{is_abort};
-ghost use Rattle.svn_run.specs.Lines.{can_send, IsEnded};
+ghost use Rattle.svn_run.specs.Senders.{can_send, IsEnded};
 
 use crate::counted::is_abort;
 use crate::gate::Gate;
@@ -11,26 +11,26 @@ use svn_editor::{Call, EditFault, Editor, OrderFault};
 use svn_link::{Outbox, Watcher};
 
 /// An editor that sends each call to the other thread. Once it saw that a call was refused there, it refuses each call but `AbortEdit`.
-pub(crate) struct Line<'a, R: Wait, G: Gate> {
+pub(crate) struct Sender<'a, R: Wait, G: Gate> {
     rt: &'a R,
     gate: &'a G,
     outbox: Outbox,
     watcher: Watcher,
 }
 
-impl<'a, R: Wait, G: Gate> Model for Line<'a, R, G> {
-    ghost use Rattle.svn_run.specs.Lines.{LineEnds};
+impl<'a, R: Wait, G: Gate> Model for Sender<'a, R, G> {
+    ghost use Rattle.svn_run.specs.Senders.{SenderEnds};
 
-    ghost Value = { LineEnds };
+    ghost Value = { SenderEnds };
 
     ghost view = { λ l. record { out = l.outbox; watch = l.watcher } };
 }
 
-impl<'a, R: Wait, G: Gate> Line<'a, R, G> {
-    pub(crate) fn new(rt: &'a R, gate: &'a G, outbox: Outbox, watcher: Watcher) -> Line<'a, R, G>
+impl<'a, R: Wait, G: Gate> Sender<'a, R, G> {
+    pub(crate) fn new(rt: &'a R, gate: &'a G, outbox: Outbox, watcher: Watcher) -> Sender<'a, R, G>
         ensures { (result.out ≡ outbox) × (result.watch ≡ watcher) }
     {
-        Line {
+        Sender {
             rt,
             gate,
             outbox,
@@ -51,7 +51,7 @@ impl<'a, R: Wait, G: Gate> Line<'a, R, G> {
     pub(crate) fn into_ends(self) -> (Outbox, Watcher)
         ensures { (result.0 ≡ self.entry.out) × (result.1 ≡ self.entry.watch) }
     {
-        let Line {
+        let Sender {
             rt: _,
             gate: _,
             outbox,
@@ -61,8 +61,8 @@ impl<'a, R: Wait, G: Gate> Line<'a, R, G> {
     }
 }
 
-impl<'a, R: Wait, G: Gate> Editor for Line<'a, R, G> {
-    ghost use Rattle.svn_run.specs.Lines.{Answered};
+impl<'a, R: Wait, G: Gate> Editor for Sender<'a, R, G> {
+    ghost use Rattle.svn_run.specs.Senders.{Answered};
 
     ghost answers = { Answered };
 

@@ -10,7 +10,7 @@ use Rattle.svn_editor.specs.declared.fault.OrderFault.TheVariants.{Ended}
 use Rattle.svn_link.specs.Calls.{is_over}
 use Rattle.svn_link.specs.Ends.{LinkEnd, NoticeEnd}
 
-pub record LineEnds : Type 0 where
+pub record SenderEnds : Type 0 where
   pub out : LinkEnd
   pub watch : NoticeEnd
 
@@ -19,12 +19,12 @@ abbrev pub can_send : LinkEnd → Bool
 can_send o = not (is_over o.calls) && nat_lt (length o.calls) (2 ^ 64 - 1)
 
 -- why a call wasn't sent: none can be, or that number was seen
-abbrev pub IsReason : LineEnds → EditFault → LineEnds → Type 0
+abbrev pub IsReason : SenderEnds → EditFault → SenderEnds → Type 0
 IsReason l (Order Ended) m = can_send l.out ≡ false
 IsReason l (Late n) m = m.watch.number ≡ Some n
 IsReason l fault m = ⊥
 
-pub record Answered (l : LineEnds) (c : Call) (a : Result (Unit {0}) EditFault) (m : LineEnds) : Type 0 where
+pub record Answered (l : SenderEnds) (c : Call) (a : Result (Unit {0}) EditFault) (m : SenderEnds) : Type 0 where
   pub link : m.out.link ≡ l.out.link
   pub notice : m.watch.notice ≡ l.watch.notice
   pub sent : MatchResult a (λ _. m.out.calls ≡ l.out.calls ++ c ∷ []) (λ e. (m.out.calls ≡ l.out.calls) × IsReason l e m)
@@ -33,6 +33,6 @@ pub record Answered (l : LineEnds) (c : Call) (a : Result (Unit {0}) EditFault) 
   pub looked : (n : ℕ) → m.watch.number ≡ Some n → is_abort c ≡ false → a ≡ Err (Late n)
 
 -- where no last call was sent, `AbortEdit` is tried
-pub record IsEnded (l m : LineEnds) : Type 0 where
+pub record IsEnded (l m : SenderEnds) : Type 0 where
   pub over : is_over l.out.calls ≡ true → m ≡ l
   pub more : is_over l.out.calls ≡ false → (answer : Result (Unit {0}) EditFault) × Answered l AbortEdit answer m
