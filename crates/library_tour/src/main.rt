@@ -6,11 +6,11 @@ use anyhow::Result;
 use std::alloc::Global;
 use std::sync::Wait;
 use std::thread::Threads;
-use svn_update::{Change, NoGate, Options, RelPath, Repo, Rev, Text, WorkingCopy, update};
+use yumbeltir::{Change, NoGate, Options, RelPath, Repo, Rev, Text, WorkingCopy, update};
 
 fn commit_file(alloc: Global, repo: &mut Repo, path: &str, text: &str) -> Result<Rev> {
     let path = RelPath::parse(alloc, path)?;
-    let text = Text::new(text.as_bytes().to_vec(alloc)?);
+    let text = Text::from_slice(alloc, text.as_bytes())?;
     Ok(repo.commit(&[Change::PutFile { path, text }])?)
 }
 
@@ -22,13 +22,9 @@ fn update_copy<R: Threads + Wait + Sync + Print>(
     copy: &mut WorkingCopy,
 ) -> Result<()> {
     if copy.check_true(repo).is_ok() {
-        let options = Options {
-            capacity: 64,
-            cancel_after: None,
-            late_texts: false,
-        };
+        let options = Options::default();
         let (outcome, _passed) = update(rt, alloc, repo, copy, Rev(2), options, &NoGate)?;
-        println!(rt; "{outcome:?}")?;
+        println!(rt; "{outcome}")?;
     }
     Ok(print!(rt; "{copy}")?)
 }

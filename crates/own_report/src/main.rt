@@ -1,0 +1,42 @@
+//! A report of one's own: what a client has that is no working copy of this library, said by hand, and the calls that bring it to a revision.
+#![tactic(auto)]
+
+mod history;
+
+use anyhow::Result;
+use std::alloc::Global;
+use yumbeltir::{
+    Recorder, RelPath, Repo, Report, Reporter, Request, Rev, check_report, drive_request,
+};
+
+// A client that checked revision 1 out, updated `lib/new` alone, switched `lib/old` to a branch, deleted a file, and was cut off while `doc` came.
+fn report(alloc: Global) -> Result<Report> {
+    let mut reporter = Reporter::new(alloc);
+    reporter.set_path(&RelPath::root(alloc), Rev(1), false)?;
+    reporter.delete_path(&RelPath::parse(alloc, "README")?)?;
+    reporter.set_path(&RelPath::parse(alloc, "doc")?, Rev(1), true)?;
+    reporter.set_path(&RelPath::parse(alloc, "lib/new")?, Rev(2), false)?;
+    let branch = RelPath::parse(alloc, "branch")?;
+    reporter.link_path(&RelPath::parse(alloc, "lib/old")?, branch, Rev(2), false)?;
+    Ok(reporter.finish_report())
+}
+
+fn run<R: Print>(rt: &R, alloc: Global) -> Result<()> {
+    let repo = history::repository(alloc)?;
+    let report = report(alloc)?;
+    print!(rt; "{report}")?;
+    if let Err(fault) = check_report(alloc, &repo, &report) {
+        return Ok(println!(rt; "{}: {fault}", fault.name())?);
+    }
+    let mut recorder = Recorder::new(alloc);
+    let request = Request::update(repo.latest());
+    drive_request(alloc, &repo, &report, &request, &mut recorder)?;
+    for call in recorder.calls() {
+        println!(rt; "{call}")?;
+    }
+    Ok(())
+}
+
+fn main(rt: HostRuntime) -> Result<()> {
+    run(&rt, rt.alloc())
+}

@@ -1,0 +1,31 @@
+#!/bin/bash
+# The lines of `svn update`, and those of the program own_editor, whose editor prints them: the same history, and the same update.
+. "$(dirname "${BASH_SOURCE[0]}")/beside.sh"
+OWN=${OWN:-$top/crates/own_editor/out/own_editor}
+[ -x "$OWN" ] || { echo "there is no program $OWN: run 'rt run' in crates/own_editor first, or name it in OWN" >&2; exit 2; }
+
+# what crates/own_editor/src/history.rt commits
+first() {
+    printf 'read me' >README && printf 'a file' >e && mkdir lib
+    for file in a b c; do printf '%s' "$file" >"lib/$file"; done
+    svn -q add README e lib && svn -q propset p 1 lib/c
+}
+second() {
+    svn -q rm README e && svn -q commit -m half && svn -q update
+    mkdir e doc && printf x >doc/x && printf abc >lib/a && printf abc >lib/c && printf d >lib/d
+    svn -q add e doc lib/d && svn -q propset p 1 doc lib/b lib/d lib && svn -q propset p 2 lib/c && svn -q propset q 1 .
+}
+(cd other && first) && commit
+svn -q checkout -r 1 "$url" wc
+(cd other && second) && commit
+
+# Subversion took two commits for the second revision, since it replaces a file by a directory in no single one
+(cd wc && svn update && svn update) | sed 's/revision 3\./revision 2./' >lines
+"$OWN" >own
+sed 's/^/    /' lines
+if cmp -s lines own; then
+    echo "own_editor prints the same"
+else
+    echo "OWN_EDITOR PRINTS OTHERWISE:"
+    diff lines own | sed 's/^/    /'
+fi
