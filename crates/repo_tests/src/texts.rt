@@ -2,9 +2,9 @@
 use std::alloc::Global;
 use std::process::Abort;
 use std::test::Fail;
-use svn_types::Text;
+use svn_types::{Digest, Text};
 
-// A text and its checksum.
+// A text and the sixteen bytes of its checksum.
 type Row = (&'static str, [u8; 16]);
 
 // The examples of RFC 1321.
@@ -64,12 +64,16 @@ fn rows() -> &'static [Row] {
     &ROWS
 }
 
+fn checksum(row: &Row) -> Digest {
+    Digest(row.1)
+}
+
 fn text(alloc: Global, bytes: &str) -> Result<Text, Fail> {
     Ok(Text::new(Vec::from_slice(alloc, bytes.as_bytes())?))
 }
 
 // Whether a text, and its clone, is of these bytes and this checksum.
-fn is_text(text: &Text, bytes: &str, checksum: &[u8; 16]) -> Result<bool, Fail> {
+fn is_text(text: &Text, bytes: &str, checksum: &Digest) -> Result<bool, Fail> {
     let clone = text.clone()?;
     let is_same = text.as_slice() == bytes.as_bytes() && clone == *text;
     Ok(is_same && text.checksum() == *checksum && clone.checksum() == *checksum)
@@ -119,7 +123,7 @@ fn made(alloc: Global, bytes: &str, form: Form) -> Result<Text, Fail> {
 
 fn is_made(alloc: Global, row: &Row, form: Form) -> Result<bool, Fail> {
     let text = made(alloc, row.0, form)?;
-    is_text(&text, row.0, &row.1)
+    is_text(&text, row.0, &checksum(row))
 }
 
 fn is_made_so(rt: &impl Abort, alloc: Global, row: &Row) -> Result<(), Fail> {
@@ -139,7 +143,7 @@ fn a_text_has_its_checksum_whether_it_keeps_it_or_not(rt: HostRuntime) -> Result
 }
 
 // What a text keeps that was made to keep its checksum: from 15 to 30 bytes leave no room.
-fn kept_of(bytes: &str, checksum: &[u8; 16]) -> Option<[u8; 16]> {
+fn kept_of(bytes: &str, checksum: &Digest) -> Option<Digest> {
     if (15..=30).contains(&bytes.len()) {
         None
     } else {
@@ -147,7 +151,7 @@ fn kept_of(bytes: &str, checksum: &[u8; 16]) -> Option<[u8; 16]> {
     }
 }
 
-fn kept_in(alloc: Global, bytes: &str, form: Form) -> Result<Option<[u8; 16]>, Fail> {
+fn kept_in(alloc: Global, bytes: &str, form: Form) -> Result<Option<Digest>, Fail> {
     Ok(made(alloc, bytes, form)?.kept_checksum())
 }
 
@@ -155,7 +159,7 @@ fn keeps(rt: &impl Abort, alloc: Global, row: &Row) -> Result<(), Fail> {
     let plain = kept_in(alloc, row.0, Form::Plain)?;
     let kept = kept_in(alloc, row.0, Form::Kept)?;
     assert!(rt;
-        plain.is_none() && kept == kept_of(row.0, &row.1),
+        plain.is_none() && kept == kept_of(row.0, &checksum(row)),
         "{}",
         row.0
     );
@@ -171,26 +175,27 @@ fn a_checksum_is_kept_where_there_is_room(rt: HostRuntime) -> Result<(), Fail> {
 }
 
 // Whether bytes are taken with their checksum.
-fn is_verified(alloc: Global, bytes: &str, checksum: &[u8; 16]) -> Result<bool, Fail> {
+fn is_verified(alloc: Global, bytes: &str, checksum: &Digest) -> Result<bool, Fail> {
     match Text::verified(alloc, bytes.as_bytes(), checksum)? {
         Some(text) => is_text(&text, bytes, checksum),
         None => Ok(false),
     }
 }
 
-fn is_refused(alloc: Global, bytes: &str, checksum: &[u8; 16]) -> Result<bool, Fail> {
+fn is_refused(alloc: Global, bytes: &str, checksum: &Digest) -> Result<bool, Fail> {
     Ok(Text::verified(alloc, bytes.as_bytes(), checksum)?.is_none())
 }
 
 #[test]
 fn bytes_are_verified_by_their_checksum(rt: HostRuntime) -> Result<(), Fail> {
-    let mut other = [0; 16];
-    for (bytes, checksum) in rows() {
-        let is_verified = is_verified(rt.alloc(), bytes, checksum)?;
-        assert!(rt; is_verified, "{bytes}");
-        let is_refused = is_refused(rt.alloc(), bytes, &other)?;
-        assert!(rt; is_refused, "{bytes}");
-        other = *checksum;
+    let mut other = Digest([0; 16]);
+    for row in rows() {
+        let own = checksum(row);
+        let is_verified = is_verified(rt.alloc(), row.0, &own)?;
+        assert!(rt; is_verified, "{}", row.0);
+        let is_refused = is_refused(rt.alloc(), row.0, &other)?;
+        assert!(rt; is_refused, "{}", row.0);
+        other = own;
     }
     Ok(())
 }

@@ -9,6 +9,8 @@ mod faults;
 #[cfg(test)]
 mod histories;
 #[cfg(test)]
+mod listening;
+#[cfg(test)]
 mod rows;
 #[cfg(test)]
 mod runs;

@@ -1,13 +1,16 @@
-// A run by any of the four calls.
+// A run by any of the six calls: with texts in place by those that take arguments, with late texts by those that take a request.
 use crate::histories::path_at;
 use std::alloc::Global;
 use std::process::Abort;
 use std::sync::Wait;
 use std::test::Fail;
 use std::thread::Threads;
+use svn_drive::Request as Asked;
+use svn_link::Settled;
 use svn_repo::Repo;
 use svn_run::{
-    NoGate, Options, Outcome, RunFault, switch_to, switch_to_in_turn, update, update_in_turn,
+    NoGate, NoListener, Options, Outcome, RunFault, run as start, run_in_turn, switch_to,
+    switch_to_in_turn, update, update_in_turn,
 };
 use svn_types::Rev;
 use svn_wc::WorkingCopy;
@@ -27,6 +30,19 @@ pub(crate) struct Request {
 // How a run ended.
 pub(crate) type Answer = Result<Outcome, RunFault>;
 
+// The request with late texts, as a caller makes it.
+fn late_request(alloc: Global, request: &Request) -> Result<Asked, Fail> {
+    let target = Rev(request.target);
+    let asked = match request.to {
+        Some(to) => Asked::switch_to(path_at(alloc, to)?, target),
+        None => Asked::update(target),
+    };
+    Ok(match request.cancel_after {
+        Some(calls) => asked.late_texts().cancel_after(calls),
+        None => asked.late_texts(),
+    })
+}
+
 fn in_turn(
     alloc: Global,
     repo: &Repo,
@@ -36,14 +52,22 @@ fn in_turn(
     if copy.check_true(repo).is_err() {
         return Err(Fail::from("the copy is not true"));
     }
-    let (target, late_texts) = (Rev(request.target), request.late_texts);
-    let cancel_after = request.cancel_after;
+    if request.late_texts {
+        return Ok(run_in_turn(
+            alloc,
+            repo,
+            copy,
+            &late_request(alloc, request)?,
+            &mut NoListener,
+        ));
+    }
+    let (target, cancel_after) = (Rev(request.target), request.cancel_after);
     Ok(match request.to {
         Some(to) => {
             let to = path_at(alloc, to)?;
-            switch_to_in_turn(alloc, repo, copy, &to, target, cancel_after, late_texts)
+            switch_to_in_turn(alloc, repo, copy, &to, target, cancel_after, false)
         }
-        None => update_in_turn(alloc, repo, copy, target, cancel_after, late_texts),
+        None => update_in_turn(alloc, repo, copy, target, cancel_after, false),
     })
 }
 
@@ -64,6 +88,56 @@ fn counted(outcome: Outcome, sent: u64, taken: u64) -> Result<Answer, Fail> {
     Ok(Ok(outcome))
 }
 
+fn with_arguments<R: Threads + Wait + Sync>(
+    rt: &R,
+    alloc: Global,
+    repo: &Repo,
+    copy: &mut WorkingCopy,
+    request: &Request,
+    capacity: usize,
+) -> Result<Result<(Outcome, Settled), RunFault>, Fail> {
+    if copy.check_true(repo).is_err() {
+        return Err(Fail::from("the copy is not true"));
+    }
+    let target = Rev(request.target);
+    let options = Options::default().capacity(capacity);
+    let options = match request.cancel_after {
+        Some(calls) => options.cancel_after(calls),
+        None => options,
+    };
+    Ok(match request.to {
+        Some(to) => {
+            let to = path_at(alloc, to)?;
+            switch_to(rt, alloc, repo, copy, &to, target, options, &NoGate)
+        }
+        None => update(rt, alloc, repo, copy, target, options, &NoGate),
+    })
+}
+
+fn with_late_texts<R: Threads + Wait + Sync>(
+    rt: &R,
+    alloc: Global,
+    repo: &Repo,
+    copy: &mut WorkingCopy,
+    request: &Request,
+    capacity: usize,
+) -> Result<Result<(Outcome, Settled), RunFault>, Fail> {
+    if copy.check_true(repo).is_err() {
+        return Err(Fail::from("the copy is not true"));
+    }
+    let asked = late_request(alloc, request)?;
+    Ok(start(
+        rt,
+        alloc,
+        repo,
+        copy,
+        &asked,
+        capacity,
+        &NoGate,
+        &mut NoListener,
+    ))
+}
+
 fn in_threads<R: Threads + Wait + Sync>(
     rt: &R,
     alloc: Global,
@@ -72,21 +146,10 @@ fn in_threads<R: Threads + Wait + Sync>(
     request: &Request,
     capacity: usize,
 ) -> Result<Answer, Fail> {
-    if copy.check_true(repo).is_err() {
-        return Err(Fail::from("the copy is not true"));
-    }
-    let target = Rev(request.target);
-    let options = Options {
-        capacity,
-        cancel_after: request.cancel_after,
-        late_texts: request.late_texts,
-    };
-    let answer = match request.to {
-        Some(to) => {
-            let to = path_at(alloc, to)?;
-            switch_to(rt, alloc, repo, copy, &to, target, options, &NoGate)
-        }
-        None => update(rt, alloc, repo, copy, target, options, &NoGate),
+    let answer = if request.late_texts {
+        with_late_texts(rt, alloc, repo, copy, request, capacity)?
+    } else {
+        with_arguments(rt, alloc, repo, copy, request, capacity)?
     };
     match answer {
         Ok((outcome, settled)) => counted(outcome, settled.sent, settled.taken),

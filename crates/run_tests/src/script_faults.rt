@@ -11,11 +11,11 @@ static FAULTS: [ScriptFault; 5] = [
 ];
 
 const LINES: &str = "\
-61 2 svnup: line 3: bad line
-62 2 svnup: script too long
-63 1 svnup: read fault
-64 1 svnup: write fault
-65 1 svnup: out of memory
+61 2 line 3: bad line
+62 2 script too long
+63 1 read fault
+64 1 write fault
+65 1 out of memory
 ";
 
 fn fault_lines(alloc: Global) -> Result<String, AllocError> {
