@@ -2,35 +2,35 @@
 ghost use Rattle.std.specs.Prelude.{⊤};
 
 use std::alloc::{AllocError, Global};
-use yumbeltir::{Applier, Call, EditFault, Editor, RelPath, Token};
+use yumbeltir::{Applier, Call, EditFault, Editor, RelPath};
 
-// What was opened or added under a token, and what was changed of it since.
-#[derive(Drop)]
-struct Opened {
-    path: RelPath,
-    is_added: bool,
-    has_text: bool,
-    has_props: bool,
+// What comes before the path in a line: what happened to the node, and to the properties of one that was there before.
+#[derive(Clone, Copy)]
+struct Columns {
+    node: char,
+    props: char,
 }
 
-// A line: what happened to a node, what happened to its properties, and its path.
+const UNCHANGED: Columns = Columns {
+    node: ' ',
+    props: ' ',
+};
+
+const ADDED: Columns = Columns {
+    node: 'A',
+    props: ' ',
+};
+
+const DELETED: Columns = Columns {
+    node: 'D',
+    props: ' ',
+};
+
+// A line that is printed once its call has taken effect.
 #[derive(Drop)]
 struct Line {
-    node: &'static str,
-    props: &'static str,
+    columns: Columns,
     path: RelPath,
-}
-
-fn line_of(node: &'static str, props: &'static str, path: &RelPath) -> Result<Line, AllocError> {
-    Ok(Line {
-        node,
-        props,
-        path: path.clone()?,
-    })
-}
-
-fn letter(has_changed: bool) -> &'static str {
-    if has_changed { "U" } else { " " }
 }
 
 /// An editor that prints a line for each node that is added, deleted or changed: `A`, `D` and `U` in the first column, and `U` in the second
@@ -38,10 +38,9 @@ fn letter(has_changed: bool) -> &'static str {
 #[derive(Drop)]
 pub(crate) struct UpdateLines<'a, R: Print> {
     rt: &'a R,
-    alloc: Global,
     applier: Applier<'a>,
-    // by their tokens, which are 0, 1, 2 and so on
-    opened: Vec<Opened>,
+    // of what was opened or added, by tokens, which are 0, 1, 2 and so on
+    seen: Vec<Columns>,
     has_changed: bool,
 }
 
@@ -49,9 +48,8 @@ impl<'a, R: Print> UpdateLines<'a, R> {
     pub(crate) fn new(rt: &'a R, alloc: Global, applier: Applier<'a>) -> UpdateLines<'a, R> {
         UpdateLines {
             rt,
-            alloc,
             applier,
-            opened: Vec::new(alloc),
+            seen: Vec::new(alloc),
             has_changed: false,
         }
     }
@@ -61,85 +59,62 @@ impl<'a, R: Print> UpdateLines<'a, R> {
         self.has_changed
     }
 
-    fn open(&mut self, path: RelPath, is_added: bool) -> Result<(), AllocError> {
-        self.opened.push(Opened {
-            path,
-            is_added,
-            has_text: false,
-            has_props: false,
-        })?;
+    fn note(&mut self, call: &Call) -> Result<(), AllocError> {
+        match call {
+            Call::OpenRoot { .. } | Call::OpenDirectory { .. } | Call::OpenFile { .. } => {
+                self.seen.push(UNCHANGED)?
+            }
+            Call::AddDirectory { .. } | Call::AddFile { .. } => self.seen.push(ADDED)?,
+            _ => self.note_change(call),
+        }
         Ok(())
     }
 
-    fn opened(&mut self, token: Token) -> Option<&mut Opened> {
-        self.opened.get_mut(token.0 as usize)
-    }
-
-    // Notes what a call opens or changes, and makes its line, if it has one. Files are told at their close, directories that are added at once.
-    fn note(&mut self, call: &Call) -> Result<Option<Line>, AllocError> {
-        match call {
-            Call::OpenRoot { .. } => self.open(RelPath::root(self.alloc), false)?,
-            Call::OpenDirectory { path, .. } | Call::OpenFile { path, .. } => {
-                self.open(path.clone()?, false)?
-            }
-            Call::AddFile { path, .. } => self.open(path.clone()?, true)?,
-            Call::AddDirectory { path, .. } => {
-                self.open(path.clone()?, true)?;
-                return Ok(Some(line_of("A", " ", path)?));
-            }
-            Call::DeleteEntry { path, .. } => return Ok(Some(line_of("D", " ", path)?)),
-            Call::CloseFile { token, .. } => return self.closed_file(*token),
-            Call::CloseDirectory { token } => return self.closed_directory(*token),
-            _ => self.note_change(call),
-        }
-        Ok(None)
-    }
-
     fn note_change(&mut self, call: &Call) {
-        let Some(token) = call.token() else {
-            return;
-        };
-        let Some(opened) = self.opened(token) else {
-            return;
-        };
-        match call {
-            Call::ChangeDirProp { .. } | Call::ChangeFileProp { .. } => opened.has_props = true,
-            Call::ApplyText { .. } => opened.has_text = true,
-            _ => (),
-        }
-    }
-
-    fn closed_file(&mut self, token: Token) -> Result<Option<Line>, AllocError> {
-        let Some(opened) = self.opened(token) else {
-            return Ok(None);
-        };
-        if opened.is_added {
-            return Ok(Some(line_of("A", " ", &opened.path)?));
-        }
-        if !opened.has_text && !opened.has_props {
-            return Ok(None);
-        }
-        let line = line_of(
-            letter(opened.has_text),
-            letter(opened.has_props),
-            &opened.path,
-        )?;
-        Ok(Some(line))
-    }
-
-    fn closed_directory(&mut self, token: Token) -> Result<Option<Line>, AllocError> {
-        match self.opened(token) {
-            Some(opened) if opened.has_props && !opened.is_added => {
-                Ok(Some(line_of(" ", "U", &opened.path)?))
+        if let Some(token) = call.token()
+            && let Some(seen) = self.seen.get_mut(token.0 as usize)
+            && seen.node != 'A'
+        {
+            match call {
+                Call::ApplyText { .. } => seen.node = 'U',
+                Call::ChangeDirProp { .. } | Call::ChangeFileProp { .. } => seen.props = 'U',
+                _ => (),
             }
+        }
+    }
+
+    // What the call gives a line for: a directory is told when it is added, before what is in it, a file at its close.
+    fn columns(&self, call: &Call) -> Option<Columns> {
+        let columns = match call {
+            Call::DeleteEntry { .. } => DELETED,
+            Call::AddDirectory { .. } => ADDED,
+            Call::CloseFile { token, .. } => *self.seen.get(token.0 as usize)?,
+            Call::CloseDirectory { token } => match self.seen.get(token.0 as usize)? {
+                seen if seen.node == 'A' => UNCHANGED,
+                seen => *seen,
+            },
+            _ => UNCHANGED,
+        };
+        let is_line = columns.node != ' ' || columns.props != ' ';
+        is_line.then_some(columns)
+    }
+
+    // The path of what a call is about, while that is open.
+    fn path<'s>(&'s self, call: &'s Call) -> Option<&'s RelPath> {
+        match call.path() {
+            Some(path) => Some(path),
+            None => self.applier.open_path(call.token()?),
+        }
+    }
+
+    fn line_of(&self, call: &Call) -> Result<Option<Line>, AllocError> {
+        match (self.columns(call), self.path(call)) {
+            (Some(columns), Some(path)) => Ok(Some(Line {
+                columns,
+                path: path.clone()?,
+            })),
             _ => Ok(None),
         }
-    }
-
-    // A line that can't be written doesn't stop the update.
-    fn print(&mut self, line: &Line) {
-        self.has_changed = true;
-        let _answer = println!(self.rt; "{}{}   {}", line.node, line.props, line.path);
     }
 }
 
@@ -148,10 +123,13 @@ impl<'a, R: Print> Editor for UpdateLines<'a, R> {
     ghost answers = { λ before call answer after. ⊤ };
 
     fn call(&mut self, call: Call) -> Result<(), EditFault> {
-        let line = self.note(&call)?;
+        self.note(&call)?;
+        let line = self.line_of(&call)?;
         self.applier.call(call)?;
-        if let Some(line) = line {
-            self.print(&line);
+        if let Some(Line { columns, path }) = &line {
+            // a line that can't be written doesn't stop the update
+            let _answer = println!(self.rt; "{}{}   {path}", columns.node, columns.props);
+            self.has_changed = true;
         }
         Ok(())
     }
