@@ -4,6 +4,8 @@ A workload is a function that yields (stage, base, times, lines): the stage's sc
 lines behind it, and what the lines cost is the difference between the two. `times` says how often the lines do what the stage is
 named for.
 """
+import collections
+import math
 import random
 
 BRANCHING, FILES = 8, 8
@@ -175,6 +177,72 @@ def whole_copy(files=50_000, changed=100):
     yield "switch", "copy", 8, [f"switch-to {'trunk' if i % 2 else 'branch'} 3" for i in range(8)]
 
 
+SYLLABLES = "ad ap arm bus cache clk core cpu dev dma drm er fs gpio gpu host hw i2c in io irq led lib mem mod net nt of on pci phy pin pm reg".split()
+
+
+def real_name(chance, taken, typical):
+    """A name that isn't taken, of so many bytes at the median and 60 at most."""
+    size = min(60, max(2, round(chance.lognormvariate(math.log(typical), 0.47))))
+    name = ""
+    while len(name) < size or name in taken:
+        name = (name + ("_" if name else "") + chance.choice(SYLLABLES))[:max(size, len(name) + 1)]
+    taken.add(name)
+    return name
+
+
+def real_directories(count, top, chance):
+    """So many directories, each after the one above it, most of them three or four names down, and a few with most of the others in them."""
+    levels, taken = [[top]], {top: set()}
+    for _ in range(count):
+        depth = min(len(levels), chance.choices(range(1, 10), (4, 40, 75, 45, 20, 8, 4, 2, 1))[0])
+        above = chance.choices(levels[depth - 1], [1 / (1 + i) ** 0.6 for i in range(len(levels[depth - 1]))])[0]
+        path = f"{above}{real_name(chance, taken[above], 6)}/"
+        taken[path] = set()
+        levels[depth:depth + 1] = [[*(levels[depth] if depth < len(levels) else []), path]]
+    return [path for level in levels for path in level], taken
+
+
+def real_tree(files, top, chance):
+    """A tree in the shape of a large source tree (Linux 6.1): a directory for 15 files, 2,541 in one at most, names of 11 bytes, and paths of 4
+    names and 35 bytes, at the median. The lines that make it, and its files."""
+    directories, taken = real_directories(files // 15, top, chance)
+    sizes = [min(2_541, chance.lognormvariate(0, 1.25)) for _ in directories]
+    lines, paths = [f"mkdir {path[:-1]}" for path in directories], []
+    for path, size in zip(directories, sizes):
+        for _ in range(round(size * files / sum(sizes))):
+            paths.append(path + real_name(chance, taken[path], 11))
+            lines.append(f"put {paths[-1]} text{len(paths)}")
+    return lines, paths
+
+
+def real_shape(files=78_579):
+    """A tree of the size and the shape of Linux 6.1, a copy of its trunk, of which half, and one in a hundred, are changed."""
+    chance = random.Random(6)
+    lines, paths = real_tree(files, "trunk/", chance)
+    half, few = chance.sample(paths, len(paths) // 2), chance.sample(paths, len(paths) // 100)
+    largest = collections.Counter(path.split("/")[1] for path in paths if path.count("/") > 1).most_common(1)[0][0]
+    yield "commit", None, 1, [*lines, "commit"]
+    branch = ["copy 3 trunk branch", "commit", *(f"put {path.replace('trunk', 'branch', 1)} d" for path in few), "commit"]
+    changes = [*(f"put {path} b" for path in half), "commit", *(f"put {path} c" for path in few), "commit", *branch]
+    yield "commit again", "commit", 1, changes
+    yield "checkout", "commit again", 4, ["checkout 1 trunk"] * 4
+    yield "copy", "commit again", 1, ["checkout 1 trunk"]
+    yield "no change", "copy", 20, ["update 1"] * 20
+    yield "half changed", "copy", 4, to_and_fro(4)
+    yield "half changed, texts late", "copy", 4, to_and_fro(4, " late")
+    yield "one in a hundred changed", "copy", 8, ["update 3", *(f"update {2 + i % 2}" for i in range(8))]
+    yield "whole switch", "copy", 4, [f"switch-to {'branch' if i % 2 == 0 else 'trunk'} 5" for i in range(4)]
+    switched = [f"switch {largest} branch/{largest} 5", f"switch {largest} trunk/{largest} 1"]
+    yield "directory switched", "copy", 8, switched * 4
+    yield "directory forgotten and switched again", "copy", 8, [f"forget {largest}", switched[0], f"forget {largest}", switched[1]] * 4
+    mixed = [f"place {path[len('trunk/'):]} 2" for path in chance.sample(paths, len(paths) // 10)]
+    yield "mixed copy", "copy", 1, mixed
+    yield "mixed copy, report", "mixed copy", 4, ["report"] * 4
+    yield "mixed copy, update", "mixed copy", 1, ["update 3"]
+    yield "drive", "copy", 4, ["drive 2"] * 4
+    yield "show", "copy", 4, ["show"] * 4
+
+
 def reading(lines=50_000):
     """A hundred thousand lines that are read, and never committed."""
     yield "read", None, 1, [line for i in range(lines) for line in (f"mkdir d{i}", f"put d{i}/f text%20{i}")]
@@ -196,8 +264,9 @@ SMALLER = {
     "small_updates": {"times": 1_000},
     "small_commits": {"files": 10_000, "commits": 2_000},
     "whole_copy": {"files": 5_000, "changed": 10},
+    "real_shape": {"files": 6_000},
     "reading": {"lines": 5_000},
 }
 
 WORKLOADS = {f.__name__: f for f in (one_directory, bushy, deep, directories, replaced, texts, middling_texts, properties, one_list,
-                                     come_and_go, many_revisions, small_updates, small_commits, whole_copy, reading)}
+                                     come_and_go, many_revisions, small_updates, small_commits, whole_copy, real_shape, reading)}

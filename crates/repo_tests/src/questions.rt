@@ -6,7 +6,7 @@ use std::test::Fail;
 use svn_repo::{NodeId, RelPath, Repo, Rev};
 
 /// A path in a revision.
-pub(crate) type Place = (u64, &'static str);
+pub(crate) type Location = (u64, &'static str);
 
 /// How two nodes are compared.
 #[derive(Clone, Copy)]
@@ -21,10 +21,10 @@ pub(crate) enum Question {
     // the number of the newest revision
     Latest,
     // the text of a file, and how many entries a directory has
-    At(Place),
+    At(Location),
     // how many properties there are
-    Props(Place),
-    Compare(By, Place, Place),
+    Props(Location),
+    Compare(By, Location, Location),
 }
 
 /// Steps and questions, and what they answer in turn, each with a comma.
@@ -34,7 +34,7 @@ pub(crate) struct History {
     pub(crate) told: &'static str,
 }
 
-fn node(alloc: Global, repo: &Repo, place: Place) -> Option<NodeId> {
+fn node(alloc: Global, repo: &Repo, place: Location) -> Option<NodeId> {
     match RelPath::parse(alloc, place.1) {
         Ok(path) => repo.lookup(Rev(place.0), &path),
         Err(_) => None,
@@ -90,7 +90,7 @@ fn compared(repo: &Repo, by: By, a: NodeId, b: NodeId) -> &'static str {
     }
 }
 
-fn compare(alloc: Global, repo: &Repo, by: By, places: (Place, Place)) -> &'static str {
+fn compare(alloc: Global, repo: &Repo, by: By, places: (Location, Location)) -> &'static str {
     let a = node(alloc, repo, places.0);
     let b = node(alloc, repo, places.1);
     match (a, b) {

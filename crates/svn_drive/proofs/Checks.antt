@@ -2,6 +2,7 @@
 use Rattle.std.proofs.Common.{◌≡◌, ℕ, zero, suc, ◌<◌, ◌≤◌, List, [], ◌∷◌, ◌++◌, ◌+◌, length, length-append, drop, refl, sym, ◌∙◌, ap, arith}
 use Rattle.std.specs.Prelude.{false, Option, Some, None, slice_get, option_and_then, cond}
 use Rattle.std.specs.Option.{option_or}
+use Rattle.svn_types.proofs.NameLemmas.{Name}
 use Rattle.svn_types.specs.Names.{Path}
 use Rattle.svn_types.specs.Paths.{parent}
 use Rattle.svn_repo.specs.History.{History, node_at, walk, look}
@@ -14,7 +15,6 @@ use Rattle.svn_model.specs.Sources.{Reported, reported, reported_child, source, 
 use Rattle.svn_model.specs.Checks.{first_fault, first_fault_from}
 use Rattle.svn_drive.specs.Checking.{IsCheckAnswer, fault_of_entry, fault_at}
 use Rattle.svn_repo.proofs.Walking.{look-append}
-use Rattle.svn_model.proofs.Names.{Name}
 use Rattle.svn_model.proofs.Children.{reported-child, reported-path, parent-child}
 
 -- ---- below what is found at a path

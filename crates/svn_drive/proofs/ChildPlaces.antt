@@ -3,6 +3,7 @@ use Rattle.std.proofs.Common.{◌≡◌, ℕ, Bool, true, false, ◌&&◌, ◌||
 use denote.Ref.{Bor}
 use Rattle.std.specs.Prelude.{Option, Some, None, is_some, cond}
 use Rattle.std.specs.Option.{option_copied, option_or}
+use Rattle.svn_types.proofs.NameLemmas.{Name}
 use Rattle.svn_types.specs.Names.{Path}
 use Rattle.svn_types.specs.Paths.{child}
 use Rattle.svn_repo.specs.History.{History, look}
@@ -19,7 +20,6 @@ use Rattle.svn_drive.specs.declared.check.Seen.{Seen}
 use Rattle.svn_drive.specs.declared.place.Place.{Place}
 use Rattle.svn_drive.specs.Checking.{seen_as}
 use Rattle.svn_drive.specs.Walking.{IsAt, entry_of, linked_node, candidate_node}
-use Rattle.svn_model.proofs.Names.{Name}
 use Rattle.svn_model.proofs.Children.{entry_below, look-child, follow-child, follow-here}
 use Rattle.svn_drive.proofs.Idle.{entry-below, own_place}
 

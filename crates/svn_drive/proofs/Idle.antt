@@ -5,6 +5,8 @@ use Rattle.std.proofs.Common.{true≢false, inl, inr}
 use Rattle.std.specs.Prelude.{Option, Some, None, is_some, cond}
 use Rattle.std.proofs.lemmas.Bool.{eqb-true, or_parts}
 use Rattle.std.proofs.Math.Bool.{and-false}
+use Rattle.svn_lists.proofs.Tests.{nat_eq-same}
+use Rattle.svn_types.proofs.NameLemmas.{Name}
 use Rattle.svn_types.specs.Names.{Path}
 use Rattle.svn_types.specs.Paths.{child, is_root, is_within, path_eq}
 use Rattle.svn_types.specs.Pairs.{value_of}
@@ -23,8 +25,7 @@ use Rattle.svn_model.specs.Steps.{is_touched, is_new, starts_empty_at}
 use Rattle.svn_model.specs.TreeCalls.{calls_at, height_at, visit_size, visit_calls}
 use Rattle.svn_drive.specs.Waiting.{visit_late}
 use Rattle.svn_drive.specs.Walking.{IsQuiet, IsLeft, IsIdle, entry_of, has_same_entry}
-use Rattle.svn_types.proofs.PathLemmas.{is_within-same}
-use Rattle.svn_model.proofs.Names.{Name, same_path, nat_eq-same}
+use Rattle.svn_types.proofs.PathLemmas.{is_within-same, same_path}
 use Rattle.svn_model.proofs.Children.{path_ind, is_root-child, entry_below, look-child, follow-here, parent_is_kept-child}
 use Rattle.svn_drive_law.proofs.Reporting.{is_child, own-is, source-open}
 use Rattle.svn_drive_law.proofs.Classes.{is_kept-child, target_path-child}
@@ -188,10 +189,6 @@ idle_new d p name new out r none =
     never true true = refl
     never true false = refl
     never false y = refl
-
-pub none_of : {A : Type 0} (o : Option A) (b : Bool) → is_some o ≡ not b → b ≡ true → o ≡ None
-none_of {A} None b e t = refl
-none_of {A} (Some n) b e t = absurd (true≢false (e ∙ ap not t))
 
 -- ---- nothing is called there
 

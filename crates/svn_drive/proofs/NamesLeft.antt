@@ -15,10 +15,12 @@ use Rattle.std.specs.declared.cmp.Ordering.TheVariants.{Less, Equal, Greater}
 use Rattle.std.specs.Ordering.{is_lt, match_ordering}
 use Rattle.std.proofs.lemmas.List.Folds.{list_any-append}
 use Rattle.std.proofs.lemmas.Bool.{or_left, or_right, or_parts, not-false}
+use Rattle.svn_lists.proofs.Equality.{bytes_eq-same, same_bytes}
+use Rattle.svn_lists.proofs.Orderings.{less_from_is_lt}
 use Rattle.svn_types.specs.Names.{Path, name_cmp}
 use Rattle.svn_types.specs.Paths.{child}
 use Rattle.svn_types.specs.Pairs.{InNameOrder, value_of}
-use Rattle.svn_types.proofs.NameLemmas.{Name, same_bytes, bytes_eq-same, same_name, name_cmp-same, lt_chain, is_less, reversed, flipped}
+use Rattle.svn_types.proofs.NameLemmas.{Name, same_name, name_cmp-same, lt_chain, reversed, flipped}
 use Rattle.svn_types.proofs.NameLemmas.{has_name-fold}
 use Rattle.svn_types.proofs.NameLemmas.{value_of-first, no_name_no_value}
 use Rattle.svn_types.proofs.NameSets.{fold_sorted}
@@ -57,7 +59,7 @@ one_after n (k ∷ ns) m a h = by (bytes_eq k m) refl h (one_after n ns m parts.
 
     by : (b : Bool) → bytes_eq k m ≡ b → (b || has_name ns m) ≡ true → (has_name ns m ≡ true → name_cmp n m ≡ Less) → name_cmp n m ≡ Less
     by true q e ih =
-        ap (name_cmp n) (sym (same_bytes k m q)) ∙ is_less (name_cmp n k) (not-false (is_lt (name_cmp n k)) parts.0)
+        ap (name_cmp n) (sym (same_bytes k m q)) ∙ less_from_is_lt (name_cmp n k) (not-false (is_lt (name_cmp n k)) parts.0)
     by false q e ih = ih e
 
 -- two lists in order with the same names are one

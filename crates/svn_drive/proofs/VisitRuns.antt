@@ -2,6 +2,7 @@
 use Rattle.std.proofs.Common.{◌≡◌, ℕ, ◌+◌, ◌≤◌, Bool, false, List, [], ◌∷◌, ◌++◌, length, refl, sym, ◌∙◌, ap, subst, append_assoc}
 use Rattle.std.proofs.Common.{append-nil, arith}
 use Rattle.std.specs.Prelude.{Option, None, cond, Result, Ok, Err}
+use Rattle.svn_types.proofs.NameLemmas.{Name}
 use Rattle.svn_types.specs.Names.{Path}
 use Rattle.svn_types.specs.Paths.{child}
 use Rattle.svn_types.specs.declared.kind.Kind.{Kind}
@@ -21,13 +22,8 @@ use Rattle.svn_editor.specs.Steps.{Action, Change}
 use Rattle.svn_model.specs.Tree.{names_below, is_entered, is_late, entry_actions, file_end, last_of}
 use Rattle.svn_model.specs.TreeCalls.{call_at, calls_at, sizes, in_turn, visit_size, visit_calls}
 use Rattle.svn_drive.specs.Walking.{IsEntered, entered_calls}
-use Rattle.svn_model.proofs.Names.{Name}
 use Rattle.svn_drive.proofs.RunLemmas.{run_then, run_stops, run_memory}
 use Rattle.svn_drive.proofs.Visits.{rest_of, visit_after_delete, visit-not_entered, visit-not_there, visit-entered}
-
-pub no_items : {X : Type 0} (cs : List X) (n : ℕ) → n ≡ 0 → n ≡ length cs → cs ≡ []
-no_items {X} [] n h e = refl
-no_items {X} (c ∷ cs) n h e = absurd (omega arith)
 
 module _ {E : Type 0} (answers : E → Call → Result (Unit {0}) EditFault → E → Type 0) (limit : Option ℕ) where
   abbrev pub Run : List Call → Result (Unit {0}) Stop → E → E → ℕ → ℕ → Type 0

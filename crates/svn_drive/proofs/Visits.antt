@@ -2,6 +2,7 @@
 use Rattle.std.proofs.Common.{◌≡◌, ℕ, suc, ◌+◌, ◌-◌, ◌≤◌, Bool, true, false, ◌&&◌, List, [], ◌∷◌, ◌++◌, length, refl, sym, ◌∙◌, ap}
 use Rattle.std.proofs.Common.{append_assoc, append-nil, length-append, arith}
 use Rattle.std.specs.Prelude.{Option, Some, None, cond}
+use Rattle.svn_types.proofs.NameLemmas.{Name}
 use Rattle.svn_types.specs.Names.{Path}
 use Rattle.svn_types.specs.Paths.{child}
 use Rattle.svn_types.specs.declared.kind.Kind.{Kind}
@@ -15,7 +16,6 @@ use Rattle.svn_model.specs.Tree.{last_at, first_actions, last_actions}
 use Rattle.svn_model.specs.TreeCalls.{calls_at, sizes, size_below, own_size, tree_size, in_turn, calls_below, tree_calls, height_at}
 use Rattle.svn_model.specs.TreeCalls.{visit_size, visit_calls}
 use Rattle.svn_drive.specs.Walking.{IsEntered, entered_calls, entered_size}
-use Rattle.svn_model.proofs.Names.{Name}
 use Rattle.svn_drive_law.proofs.Tokens.{calls_at-append}
 
 -- ---- name by name

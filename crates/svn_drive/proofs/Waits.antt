@@ -2,6 +2,7 @@
 use Rattle.std.proofs.Common.{◌≡◌, ℕ, zero, suc, ◌+◌, ◌-◌, ◌≤◌, Bool, true, false, ◌&&◌, List, [], ◌∷◌, ◌++◌, length, refl, sym, ◌∙◌, ap}
 use Rattle.std.proofs.Common.{append_assoc, append-nil}
 use Rattle.std.specs.Prelude.{Option, Some, None, cond}
+use Rattle.svn_types.proofs.NameLemmas.{Name}
 use Rattle.svn_types.specs.Names.{Path}
 use Rattle.svn_types.specs.Paths.{child}
 use Rattle.svn_types.specs.declared.kind.Kind.{Kind}
@@ -16,22 +17,14 @@ use Rattle.svn_model.specs.Tree.{names_below, is_entered, is_late, enters_direct
 use Rattle.svn_model.specs.TreeCalls.{calls_at, tree_size, in_turn, calls_below, late_calls, height_at, visit_size, visit_calls}
 use Rattle.svn_model.specs.TreeCalls.{drive_calls}
 use Rattle.svn_drive.specs.Waiting.{waiting, visit_late, entered_late}
-use Rattle.std.specs.Prelude.{Result, Ok, Err, OnOk}
-use Rattle.svn_model.specs.declared.stop.Stop.{Stop}
 use Rattle.svn_drive.specs.declared.walk.Walk.{Walk}
 use Rattle.svn_drive.specs.Walking.{IsEntered, IsTold, request_of, text_action, close_action, has_text_of}
-use Rattle.svn_model.proofs.Names.{Name}
 use Rattle.svn_drive.proofs.FileEnds.{ends_as, late_as}
 use Rattle.svn_drive.proofs.Visits.{own_height, below-open}
 
 pub waiting-append : (h : History) (xs ys : List Texted) → waiting h (xs ++ ys) ≡ waiting h xs ++ waiting h ys
 waiting-append h [] ys = refl
 waiting-append h (x ∷ xs) ys = ap (λ l. waiting h (x ∷ []) ++ l) (waiting-append h xs ys)
-
--- what holds anyhow
-pub on_ok : (A : Type 0) (r : Result (Unit {0}) Stop) → A → OnOk r A
-on_ok A (Ok x) a = a
-on_ok A (Err s) a = tt
 
 -- ---- a file
 

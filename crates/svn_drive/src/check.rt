@@ -16,7 +16,7 @@ use std::alloc::{AllocError, Global};
 use svn_model::ReportFault;
 use svn_repo::{NodeId, Repo};
 use svn_report::{Report, ReportEntry};
-use svn_types::{Name, RelPath, Rev};
+use svn_types::{Name, PathFault, RelPath, Rev};
 
 /// What a report says of a path: its own entry, the nearest at or above it, and its repository path, which is `base` with the path's names from
 /// the `start`-th on. That may be more names than a path has, so it isn't built. Near the position `near` the report is to look for what it has
@@ -74,10 +74,11 @@ fn child_path(alloc: Global, path: &RelPath, name: &Name) -> Result<RelPath, All
     requires short { length path.now < depth_limit }
     ensures { IfOk result (λ p. p ≡ path.now ++ name.now ∷ []) }
 {
-    // the path has room for a name, so only memory can be refused
     match path.join(alloc, name) {
         Ok(below) => Ok(below),
-        Err(_) => Err(AllocError),
+        Err(PathFault::Memory) => Err(AllocError),
+        // the path has room for a name
+        Err(_) => unreachable!(),
     }
 }
 

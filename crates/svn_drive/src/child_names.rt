@@ -14,11 +14,11 @@ use svn_types::Name;
 /// A truth value as wide as what stands beside it. A `bool` is followed by bytes that hold nothing, and with them is copied in overlapping
 /// pieces, for which a processor waits. A contract sees it as the truth value.
 #[derive(Drop)]
-pub(crate) struct Mark {
+pub(crate) struct WideBool {
     word: u64,
 }
 
-impl Model for Mark {
+impl Model for WideBool {
     ghost use Rattle.std.specs.Prelude.{Bool, not, nat_eq};
 
     ghost Value = { Bool };
@@ -26,12 +26,12 @@ impl Model for Mark {
     ghost view = { λ m. not (nat_eq m.word 0) };
 }
 
-impl Mark {
+impl WideBool {
     #[inline(always)]
-    pub(crate) fn of(value: bool) -> Mark
+    pub(crate) fn of(value: bool) -> WideBool
         ensures { result ≡ value }
     {
-        Mark {
+        WideBool {
             word: if value { 1 } else { 0 },
         }
     }
@@ -51,7 +51,7 @@ pub(crate) struct Below<'a> {
     pub(crate) name: &'a Name,
     pub(crate) source: Option<&'a NodeId>,
     pub(crate) target: Option<&'a NodeId>,
-    pub(crate) is_reported: Mark,
+    pub(crate) is_reported: WideBool,
     pub(crate) near: usize,
 }
 
@@ -70,7 +70,7 @@ impl<'a> Below<'a> {
             name,
             source,
             target,
-            is_reported: Mark::of(false),
+            is_reported: WideBool::of(false),
             near,
         }
     }
@@ -119,7 +119,7 @@ impl<'a> NamesLeft<'a> {
             name,
             source,
             target,
-            is_reported: Mark::of(is_reported),
+            is_reported: WideBool::of(is_reported),
             near,
         })
     }

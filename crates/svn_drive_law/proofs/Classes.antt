@@ -5,7 +5,8 @@ use Rattle.std.specs.Prelude.{Option, Some, None, is_some, cond}
 use Rattle.std.specs.List.{list_any}
 use Rattle.std.proofs.lemmas.Bool.{eqb-true, or_parts, and_parts, not-false}
 use Rattle.std.proofs.Math.Bool.{and-false}
-use Rattle.svn_model.proofs.Names.{nat_eq-same, some_same}
+use Rattle.std.proofs.lemmas.Option.{same_Some}
+use Rattle.svn_lists.proofs.Tests.{nat_eq-same}
 use Rattle.svn_types.specs.Names.{Path}
 use Rattle.svn_types.specs.Paths.{path_eq, is_below, child, is_root}
 use Rattle.svn_types.specs.declared.kind.Kind.{Kind}
@@ -330,7 +331,7 @@ module _ (d : Request) (setting : Served d) where
       let r =
       related_source m (Some n)
       (sym (ap (λ o. are_related h o (Some n)) s) ∙ sym (ap (are_related h (source_node d p)) t) ∙ kept_related p k) in
-      let same : r.0 ≡ n = some_same r.0 n (sym r.1) in
+      let same : r.0 ≡ n = same_Some r.0 n (sym r.1) in
       sym (setting.history.one_line_one_kind (governing_revision (says p)) d.target (says p).repos_path (target_path d p) m n
       (standing p m s) t (r.2 ∙ ap (line_of h) same))
 

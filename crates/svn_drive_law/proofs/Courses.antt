@@ -6,6 +6,8 @@ use Rattle.std.specs.Prelude.{Option, Some, None, is_some, cond, map, bytes_eq}
 use Rattle.std.specs.List.{list_any, AllByRecursion}
 use Rattle.std.proofs.lemmas.Bool.{and_parts, not-true}
 use Rattle.std.proofs.lemmas.List.Folds.{list_any-append}
+use Rattle.svn_lists.proofs.Every.{all-append, all_left, all_map, all_part}
+use Rattle.svn_lists.proofs.Somewhere.{none_any}
 use Rattle.svn_types.specs.Names.{Path}
 use Rattle.svn_types.specs.Props.{PropChange, changes_between}
 use Rattle.svn_types.specs.declared.kind.Kind.{Kind}
@@ -17,7 +19,6 @@ use Rattle.svn_editor.specs.Steps.{Action, Delete, Open, Add, Change, Text, Clos
 use Rattle.svn_model.specs.Follow.{Request, follow, is_kept, source_node, target_node}
 use Rattle.svn_model.specs.Steps.{is_text, is_touched, is_new, is_gone, gone_actions, touched_actions, new_actions, entered_actions}
 use Rattle.svn_model.specs.Steps.{text_actions, path_actions, source_props, source_text}
-use Rattle.svn_drive_law.proofs.Lists.{all_map, all-append, all_left, all_part, none_any}
 
 -- ---- tests on actions
 

@@ -1,12 +1,12 @@
 -- Tests on names, paths and keys, and what they mean.
 use Rattle.std.proofs.Common.{◌≡◌, ℕ, Bool, true, false, List, [], ◌∷◌, ◌++◌, refl, sym, ◌∙◌, ap, subst}
 use Rattle.std.specs.Prelude.{map, cond}
-use Rattle.std.specs.declared.cmp.Ordering.{Ordering}
-use Rattle.std.specs.declared.cmp.Ordering.TheVariants.{Less, Equal, Greater}
-use Rattle.std.specs.Ordering.{nat_cmp, is_gt, ordering_reverse}
+use Rattle.std.specs.declared.cmp.Ordering.TheVariants.{Equal}
+use Rattle.std.specs.Ordering.{nat_cmp, is_gt}
 use Rattle.std.specs.Cmp.{IsTotalOrder}
 use Rattle.std.specs.Cmp.Lexicographic.{slice_cmp, lists_total, on_texts}
 use Rattle.std.specs.FinMap.{slice_cmp-IsAntisymmetric, nat_cmp-IsAntisymmetric}
+use Rattle.svn_lists.proofs.Orderings.{equal_from_both_at_most}
 use Rattle.svn_types.specs.Names.{Path}
 use Rattle.svn_types.specs.declared.kind.Kind.TheVariants.{File, Directory}
 use Rattle.svn_types.proofs.NameLemmas.{Name}
@@ -74,17 +74,12 @@ tied_marks End End h = refl
 pub tied_keys : (j k : List Mark) → slice_cmp mark_cmp j k ≡ Equal → j ≡ k
 tied_keys = slice_cmp-IsAntisymmetric tied_marks
 
-both_at_most : (o : Ordering) → is_gt o ≡ false → is_gt (ordering_reverse o) ≡ false → o ≡ Equal
-both_at_most Less h k = cc
-both_at_most Equal h k = refl
-both_at_most Greater h k = cc
-
 -- two steps of which neither comes after the other are at one path
 pub same_place : (d : Request) (late : Bool) (s t : Step) → comes_after d late s t ≡ false → comes_after d late t s ≡ false
     → s.path ≡ t.path
 same_place d late s t h k =
     let o = keys_total in
     let e : slice_cmp mark_cmp (key_of d late s) (key_of d late t) ≡ Equal =
-    both_at_most _ h (ap is_gt (sym (o.antisymm (key_of d late t) (key_of d late s))) ∙ k) in
+    equal_from_both_at_most _ h (ap is_gt (sym (o.antisymm (key_of d late t) (key_of d late s))) ∙ k) in
     sym (path_in-key d late s.path s.action) ∙ ap path_in (tied_keys (key_of d late s) (key_of d late t) e)
     ∙ path_in-key d late t.path t.action

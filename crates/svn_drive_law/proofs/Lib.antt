@@ -1,5 +1,3 @@
--- what holds of each element of a list, and tests on lists
-pub mod Lists
 -- the keys of steps, their order, and the path that each stands for
 pub mod Keys
 -- what a path's actions are, one after the other

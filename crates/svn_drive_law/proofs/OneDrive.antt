@@ -1,7 +1,8 @@
 -- There is one list of steps with the steps of each path, in order of the keys.
-use Rattle.std.proofs.Common.{◌≡◌, Bool, true, false, ◌||◌, List, [], ◌∷◌, refl, sym, ◌∙◌, ap}
+use Rattle.std.proofs.Common.{◌≡◌, Bool, true, false, List, [], ◌∷◌, refl, sym, ◌∙◌, ap}
 use Rattle.std.specs.Prelude.{filter, cond}
 use Rattle.std.specs.List.{list_any}
+use Rattle.svn_lists.proofs.Filters.{filter_head_fails}
 use Rattle.svn_types.specs.Names.{Path}
 use Rattle.svn_types.specs.Paths.{path_eq}
 use Rattle.svn_types.proofs.PathLemmas.{path_eq-same}
@@ -14,18 +15,6 @@ use Rattle.svn_drive_law.proofs.Keys.{same_place}
 
 abbrev is_at : Path → Step → Bool
 is_at p s = path_eq s.path p
-
--- the head of a filtered list fails each test that no element passes
-head_fails : (f g : Step → Bool) (xs : List Step) (t : Step) (rest : List Step) → filter f xs ≡ t ∷ rest → list_any g xs ≡ false
-    → g t ≡ false
-head_fails f g [] t rest e h = cc
-head_fails f g (x ∷ xs) t rest e h = by (f x) (g x) refl e h (head_fails f g xs t rest)
-  where
-    by : (a b : Bool) → g x ≡ b → cond a (x ∷ filter f xs) (filter f xs) ≡ t ∷ rest → (b || list_any g xs) ≡ false
-        → (filter f xs ≡ t ∷ rest → list_any g xs ≡ false → g t ≡ false) → g t ≡ false
-    by a true q e h ih = cc
-    by true false q e h ih = cc
-    by false false q e h ih = ih e h
 
 -- where one step heads both lists, the rests are filtered alike
 rests_alike : (p : Path) (s t : Step) (xs ys : List Step) → s ≡ t → filter (is_at p) (s ∷ xs) ≡ filter (is_at p) (t ∷ ys)
@@ -56,8 +45,8 @@ heads d late s t xs ys e h k = by (is_at t.path s) (is_at s.path t) refl refl (e
     by true b p q u v = cc
     by false true p q u v = cc
     by false false p q u v =
-        let place = same_place d late s t (head_fails (is_at t.path) (comes_after d late s) xs t (filter (is_at t.path) ys) u h)
-        (head_fails (is_at s.path) (comes_after d late t) ys s (filter (is_at s.path) xs) v k) in
+        let place = same_place d late s t (filter_head_fails (is_at t.path) (comes_after d late s) xs t (filter (is_at t.path) ys) u h)
+        (filter_head_fails (is_at s.path) (comes_after d late t) ys s (filter (is_at s.path) xs) v k) in
         let same : is_at t.path s ≡ true = ap (λ r. path_eq r t.path) place ∙ path_eq-same t.path in
         cc
 

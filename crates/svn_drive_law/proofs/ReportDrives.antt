@@ -4,7 +4,8 @@ use Rattle.std.proofs.Common.{length-append, arith}
 use Rattle.std.specs.Prelude.{Option, Some, None, is_some, is_none, cond, nat_lt}
 use Rattle.std.specs.Option.{option_or}
 use Rattle.std.proofs.lemmas.Bool.{and_parts, not-false}
-use Rattle.std.proofs.lemmas.Option.{none-some}
+use Rattle.std.proofs.lemmas.Option.{none-some, same_Some}
+use Rattle.svn_lists.proofs.Options.{cond_none_four, cond_none, some-none}
 use Rattle.svn_types.specs.Names.{Path}
 use Rattle.svn_types.specs.Paths.{path_eq, child, parent}
 use Rattle.svn_types.specs.declared.kind.Kind.{Kind}
@@ -12,7 +13,6 @@ use Rattle.svn_types.specs.declared.kind.Kind.TheVariants.{File, Directory}
 use Rattle.svn_types.specs.Pairs.{value_of}
 use Rattle.svn_types.proofs.NameLemmas.{Name}
 use Rattle.svn_types.proofs.PathLemmas.{same_path, path_ind, parent-child, is_root-child}
-use Rattle.svn_types.proofs.Places.{some_none, passed}
 use Rattle.svn_repo.specs.History.{History, look}
 use Rattle.svn_repo.specs.Readings.{IsHistory, is_directory, is_directory_at, are_related, kind_of, entries_of}
 use Rattle.svn_report.specs.declared.entry.ReportEntry.{ReportEntry}
@@ -29,7 +29,6 @@ use Rattle.svn_model.specs.Sources.{governing_revision}
 use Rattle.svn_model.specs.Follow.{Request, source_node, target_node}
 use Rattle.svn_model.specs.Steps.{IsDriveOf}
 use Rattle.svn_model.specs.Tree.{drive_steps}
-use Rattle.svn_model.proofs.Names.{some_same}
 use Rattle.svn_model.proofs.Children.{entry_below, follow-here}
 use Rattle.svn_drive_law.proofs.Reporting.{IsChildOf, is_child, own-is, source_below, hidden_below, shown_source}
 use Rattle.svn_drive_law.proofs.Classes.{Served}
@@ -49,18 +48,9 @@ no_fault h r i (e ∷ es) p x f a = by (fault_of h r i e.0 e.1) refl f (path_eq 
         → path_eq e.0 p ≡ b → cond b (Some e.1) (entry_at es p) ≡ Some x
         → (first_fault_from h r (i + 1) es ≡ None → entry_at es p ≡ Some x → (j : ℕ) × (fault_of h r j p x ≡ None))
         → (j : ℕ) × (fault_of h r j p x ≡ None)
-    by (Some u) q k b c y ih = absurd (some_none u k)
-    by None q k true c y ih = (i, sym (λ z. fault_of h r i (same_path e.0 p c z) (some_same e.1 x y z)) ∙ q)
+    by (Some u) q k b c y ih = absurd (some-none u k)
+    by None q k true c y ih = (i, sym (λ z. fault_of h r i (same_path e.0 p c z) (same_Some e.1 x y z)) ∙ q)
     by None q k false c y ih = ih k y
-
--- what the four tests of an entry say, where it has no fault
-pub four_pass : (a b c d : Bool) (u v x y : ReportFault) → cond a (Some u) (cond b (Some v) (cond c (Some x) (cond d (Some y) None))) ≡ None
-    → (a ≡ false) × (b ≡ false) × (c ≡ false) × (d ≡ false)
-four_pass a b c d u v x y e =
-    let first = passed a u (cond b (Some v) (cond c (Some x) (cond d (Some y) None))) e in
-    let second = passed b v (cond c (Some x) (cond d (Some y) None)) first.1 in
-    let third = passed c x (cond d (Some y) None) second.1 in
-    (first.0, second.0, third.0, (passed d y None third.1).0)
 
 -- ---- targets
 
@@ -75,9 +65,9 @@ related_of d h =
   where
     by : (there none related : Bool) → tested there none related ≡ None → related ≡ true
     by there none related k =
-        let first = passed (not there) NoSuchTarget (cond none (Some NoRoot) (cond (not related) (Some OtherRoot) None)) k in
-        let second = passed none NoRoot (cond (not related) (Some OtherRoot) None) first.1 in
-        not-false related (passed (not related) OtherRoot None second.1).0
+        let first = cond_none (not there) NoSuchTarget (cond none (Some NoRoot) (cond (not related) (Some OtherRoot) None)) k in
+        let second = cond_none none NoRoot (cond (not related) (Some OtherRoot) None) first.1 in
+        not-false related (cond_none (not related) OtherRoot None second.1).0
 
 module _ (d : Request) (history : IsHistory d.history) (report : IsReport d.report) (checkable : IsCheckable d.history d.report) where
   abbrev h : History
@@ -98,7 +88,7 @@ module _ (d : Request) (history : IsHistory d.history) (report : IsReport d.repo
       → is_directory_at h (source h (says p)) ≡ true
   entry_below_directory p name x o =
       let f = no_fault h d.report 0 d.report.entries (child p name) x from_start (sym (own-is d.report (child p name)) ∙ o) in
-      let four = four_pass _ _ _ _ (NoSuchRevision f.0) (NoNode f.0) RootNotDir (ParentNotDir f.0) f.1 in
+      let four = cond_none_four _ _ _ _ (NoSuchRevision f.0) (NoNode f.0) RootNotDir (ParentNotDir f.0) f.1 in
       let there : not (is_directory_at h (source_at h d.report (parent (child p name)))) ≡ false =
       sym (ap (λ b. not b && not (is_directory_at h (source_at h d.report (parent (child p name))))) (is_root-child p name)) ∙ four.3 in
       ap (λ q. is_directory_at h (source_at h d.report q)) (sym (parent-child p name)) ∙ not-false _ there

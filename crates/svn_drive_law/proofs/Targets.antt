@@ -3,6 +3,7 @@ use Rattle.std.proofs.Common.{◌≡◌, ℕ, zero, suc, ◌<◌, true, false, �
 use Rattle.std.proofs.Common.{arith}
 use Rattle.std.specs.Prelude.{Option, Some, None, is_none, cond, nat_eq, nat_lt, slice_get, option_and_then}
 use Rattle.std.proofs.lemmas.Bool.{lt-ltb}
+use Rattle.svn_lists.proofs.Options.{cond_none_four, some-none}
 use Rattle.svn_types.specs.Names.{Path}
 use Rattle.svn_types.specs.Paths.{path_eq, is_root}
 use Rattle.svn_repo.specs.History.{History, node_at, walk, look}
@@ -17,8 +18,7 @@ use Rattle.svn_model.specs.Sources.{reported, revision_of, is_set_or_link, sourc
 use Rattle.svn_model.specs.Follow.{Request, root_path, source_node, target_node}
 use Rattle.svn_drive_law.specs.Laws.{existing_targets_have_no_fault}
 use Rattle.svn_drive_law.proofs.Reporting.{shown_source}
-use Rattle.svn_types.proofs.Places.{some_none}
-use Rattle.svn_drive_law.proofs.ReportDrives.{from_start, no_fault, four_pass, tested}
+use Rattle.svn_drive_law.proofs.ReportDrives.{from_start, no_fault, tested}
 
 module _ (d : Request) (history : IsHistory d.history) (report : IsReport d.report)
     (checkable : IsCheckable d.history d.report) where
@@ -31,7 +31,7 @@ module _ (d : Request) (history : IsHistory d.history) (report : IsReport d.repo
     where
       by : (es : List (Path × ReportEntry)) → IsRootFirst es → first_fault_in d.history d.report es ≡ None
           → (x : ReportEntry) × (entry_at es [] ≡ Some x) × (is_set x ≡ true)
-      by [] f none = absurd (some_none NoEntries none)
+      by [] f none = absurd (some-none NoEntries none)
       by (e ∷ es) f none = (e.1, ap (λ b. cond b (Some e.1) (entry_at es [])) (at_root e.0 f.0), f.1)
         where
           at_root : (p : Path) → is_root p ≡ true → path_eq p [] ≡ true
@@ -46,7 +46,7 @@ module _ (d : Request) (history : IsHistory d.history) (report : IsReport d.repo
   source_not_none : (x : ReportEntry) → entry_at d.report.entries [] ≡ Some x → is_set x ≡ true → is_none (source_at h d.report []) ≡ false
   source_not_none x e s =
       let f = no_fault h d.report 0 d.report.entries [] x (from_start d history report checkable) e in
-      let four = four_pass (is_set_or_link (Some x) && not (nat_lt (revision_of (Some x)) (length h.roots)))
+      let four = cond_none_four (is_set_or_link (Some x) && not (nat_lt (revision_of (Some x)) (length h.roots)))
       (is_set_or_link (Some x) && is_none (source_at h d.report [])) (not (is_directory_at h (source_at h d.report []))) false
       (NoSuchRevision f.0) (NoNode f.0) RootNotDir (ParentNotDir f.0) f.1 in
       ap (λ b. b && is_none (source_at h d.report [])) (sym (set_is x s)) ∙ four.1

@@ -5,6 +5,8 @@ use Rattle.std.specs.Prelude.{Option, Some, None, cond, map, bytes_eq}
 use Rattle.std.specs.List.{list_any, AllByRecursion}
 use Rattle.std.proofs.lemmas.Bool.{false_from_ne_true}
 use Rattle.std.proofs.lemmas.List.Folds.{list_any-append}
+use Rattle.svn_lists.proofs.Every.{all-append, all_both, all_map, all_from}
+use Rattle.svn_lists.proofs.Somewhere.{any_implied, each_fails, none_any}
 use Rattle.svn_types.specs.Names.{Path}
 use Rattle.svn_types.specs.Paths.{path_eq, is_within, child, parent}
 use Rattle.svn_types.specs.declared.kind.Kind.{Kind}
@@ -23,7 +25,6 @@ use Rattle.svn_model.specs.Tree.{names_below, is_entered, enters_directory, ente
 use Rattle.svn_model.specs.Tree.{late_of, first_at, last_at, late_at, first_actions, by_names, below_of, tree_steps, late_steps}
 use Rattle.svn_model.specs.Tree.{drive_steps}
 use Rattle.svn_model.specs.TreeCalls.{calls_at, sizes, own_size, tree_size, in_turn, tree_calls, late_calls}
-use Rattle.svn_drive_law.proofs.Lists.{all_map, all_both, all-append, none_any, each_fails, any_implied}
 use Rattle.svn_drive_law.proofs.Courses.{is_entry, is_inner, AllOf, all_changes}
 use Rattle.svn_drive_law.proofs.Ways.{Ordered, ordered_below, ordered_apart}
 use Rattle.svn_drive_law.proofs.TreePaths.{steps_at-append}
@@ -142,10 +143,6 @@ apart_all : (p : Path) (m k : Name) (ys : List Path) → bytes_eq k m ≡ false 
 apart_all p m k ys h u =
     none_any (is_within (child p k)) ys
     (all_map (λ y. is_within (child p m) y ≡ true) (λ y. is_within (child p k) y ≡ false) (λ y e. children_apart p m k y h e) ys u)
-
-each_name : (P : Name → Type 0) → ((m : Name) → P m) → (ns : List Name) → AllByRecursion P ns
-each_name P f [] = tt
-each_name P f (n ∷ ns) = (f n, each_name P f ns)
 
 -- the later names stay free, once the tree of one is done
 still_clear : (p : Path) (m : Name) (ns : List Name) (opened more : List Path) → list_any (λ n. bytes_eq n m) ns ≡ false
@@ -330,7 +327,7 @@ module _ (d : Request) (late : Bool) where
           names_numbered (tree n) p (λ m. under n (child p m)) (tree_size d n) (λ m. tree_sized n (child p m)) here own
           (λ m o c t. ih m o c ∙ ap (λ x. tree_calls d late n (child p m) x (length o)) (ap (token_of o) (parent-child p m) ∙ t))
           (names_below d p) (ordered_below d p) (opened ++ p ∷ []) (opened_last opened p) own_token
-          (each_name (λ m. Clear (child p m) (opened ++ p ∷ [])) (λ m. clear_below p m opened h) (names_below d p))
+          (all_from (λ m. Clear (child p m) (opened ++ p ∷ [])) (λ m. clear_below p m opened h) (names_below d p))
           ∙ ap (λ x. in_turn here (tree_size d n) p x (names_below d p)) (length-append opened (p ∷ []))
 
   -- ---- the late list
@@ -405,7 +402,7 @@ module _ (d : Request) (late : Bool) where
           ∙ names_late (tree n) p (λ m. under n (child p m)) (tree_size d n) (λ m. tree_sized n (child p m)) (waiting n) here
           (λ m. waiting_entered n (child p m)) ih
           (names_below d p) (ordered_below d p) (xs ++ p ∷ []) ys
-          (each_name (λ m. Clear (child p m) (xs ++ p ∷ [])) (λ m. clear_below p m xs h) (names_below d p))
+          (all_from (λ m. Clear (child p m) (xs ++ p ∷ [])) (λ m. clear_below p m xs h) (names_below d p))
           ∙ ap (λ x. in_turn here (tree_size d n) p x (names_below d p)) (length-append xs (p ∷ []))
 
   -- ---- all calls

@@ -10,6 +10,8 @@ use Rattle.std.specs.Cmp.Lexicographic.{slice_cmp}
 use Rattle.std.proofs.lemmas.Cmp.{tied_itself}
 use Rattle.std.proofs.lemmas.Bool.{or_right, or_left, or_parts, not-false}
 use Rattle.std.proofs.lemmas.List.Folds.{list_any-append}
+use Rattle.svn_lists.proofs.Every.{all-append, all_map}
+use Rattle.svn_lists.proofs.Somewhere.{none_any}
 use Rattle.svn_types.specs.Names.{Path, name_cmp}
 use Rattle.svn_types.specs.Paths.{child}
 use Rattle.svn_types.specs.declared.kind.Kind.{Kind}
@@ -25,7 +27,6 @@ use Rattle.svn_model.specs.Steps.{gone_actions, text_actions, source_text, InKey
 use Rattle.svn_model.specs.Tree.{names_below, is_entered, enters_directory, entry_actions, old_props, file_end, is_late, first_of, last_of}
 use Rattle.svn_model.specs.Tree.{late_of, first_at, last_at, late_at, first_actions, last_actions, late_actions, by_names, below_of}
 use Rattle.svn_model.specs.Tree.{steps_by, no_actions, tree_steps, late_steps, drive_steps}
-use Rattle.svn_drive_law.proofs.Lists.{all_map, all-append, none_any}
 use Rattle.svn_drive_law.proofs.Keys.{marks_total, keys_total}
 use Rattle.svn_drive_law.proofs.Ways.{Ordered, not_before, ordered_below}
 use Rattle.svn_drive_law.proofs.TreePaths.{three_parts}

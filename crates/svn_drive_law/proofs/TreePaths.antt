@@ -4,12 +4,14 @@ use Rattle.std.proofs.Common.{ap, subst, true≢false, append_assoc, append-nil,
 use Rattle.std.specs.Prelude.{Option, Some, None, cond, map, filter, bytes_eq}
 use Rattle.std.proofs.lemmas.List.Elements.{filter-append}
 use Rattle.std.proofs.lemmas.Bool.{or_right, false_from_ne_true}
+use Rattle.svn_lists.proofs.Equality.{bytes_eq-same, same_bytes}
+use Rattle.svn_lists.proofs.Parts.{empty_parts}
 use Rattle.svn_types.specs.Names.{Path}
 use Rattle.svn_types.specs.Paths.{path_eq, is_within, child}
 use Rattle.svn_types.specs.declared.kind.Kind.{Kind}
 use Rattle.svn_types.specs.declared.kind.Kind.TheVariants.{File, Directory}
 use Rattle.svn_types.specs.Props.{changes_between}
-use Rattle.svn_types.proofs.NameLemmas.{Name, same_bytes, bytes_eq-same, has_name}
+use Rattle.svn_types.proofs.NameLemmas.{Name, has_name}
 use Rattle.svn_types.proofs.PathLemmas.{same_path, path_eq-same, is_within-same, below_from_child, path_eq-longer, within_shorter}
 use Rattle.svn_types.proofs.PathLemmas.{within_other}
 use Rattle.svn_repo.specs.Readings.{kind_of, text_of, props_of}
@@ -77,13 +79,6 @@ module _ (d : Request) (late : Bool) (p : Path) where
   three_parts =
       append_assoc (gone_actions d p) (first_at d late p (target_node d p)) (last_actions d p ++ late_actions d late p)
       ∙ ap (λ l. gone_actions d p ++ l) (entered_of (target_node d p))
-
-no_part : {X : Type 0} (xs ys : List X) → xs ++ ys ≡ [] → (xs ≡ []) × (ys ≡ [])
-no_part {X} [] ys h = (refl, h)
-no_part {X} (x ∷ xs) ys h = absurd (none h)
-  where
-    none : x ∷ (xs ++ ys) ≡ [] → ⊥
-    none q = cc
 
 -- ---- steps at one path
 
@@ -253,8 +248,8 @@ module _ (d : Request) (setting : Served d) (late : Bool) (height : ℕ) (enough
     where
       by : (l : List Action) → path_actions d x ≡ l → tree x ++ waiting x ≡ path_steps d x
       by [] e =
-          let one = no_part (first_actions d late x) (last_actions d x ++ late_actions d late x) (three_parts d late x ∙ e) in
-          let two = no_part (last_actions d x) (late_actions d late x) one.1 in
+          let one = empty_parts (first_actions d late x) (last_actions d x ++ late_actions d late x) (three_parts d late x ∙ e) in
+          let two = empty_parts (last_actions d x) (late_actions d late x) one.1 in
           ap (λ l. l ++ waiting x) (nowhere d (first_actions d late) (last_actions d) x one.0 two.0 height [])
           ∙ nowhere d (late_actions d late) no_actions x two.1 refl height []
           ∙ sym (ap (steps_at x) e)

@@ -10,10 +10,11 @@ use Rattle.std.specs.Ordering.{is_lt, match_ordering}
 use Rattle.std.proofs.lemmas.List.Folds.{list_any-append}
 use Rattle.std.proofs.lemmas.Option.{none-some}
 use Rattle.std.proofs.lemmas.Bool.{or_left, or_right, or_parts, false_from_ne_true, not-false}
+use Rattle.svn_lists.proofs.Equality.{bytes_eq-same, bytes_eq-symm}
 use Rattle.svn_types.specs.Names.{Path, name_cmp}
 use Rattle.svn_types.specs.Paths.{path_eq, child}
 use Rattle.svn_types.specs.declared.kind.Kind.TheVariants.{Directory}
-use Rattle.svn_types.proofs.NameLemmas.{Name, bytes_eq-same, bytes_eq-symm, has_name, has_name-fold, named_value, lt_chain, lt_apart}
+use Rattle.svn_types.proofs.NameLemmas.{Name, has_name, has_name-fold, named_value, lt_chain, lt_apart}
 use Rattle.svn_types.proofs.NameLemmas.{flipped}
 use Rattle.svn_types.proofs.PathLemmas.{same_path, path_ind}
 use Rattle.svn_repo.specs.History.{look}

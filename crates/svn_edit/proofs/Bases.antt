@@ -1,9 +1,12 @@
 -- What is noted of the text that an open file has in the copy stays so, since no call but its close changes the node there.
 use Rattle.std.proofs.Common.{◌≡◌, ◌≢◌, ℕ, true, false, true≢false, ◌||◌, List, [], ◌∷◌, ◌++◌, length, refl, sym, ◌∙◌, ap, subst, inl, inr}
 use Rattle.std.specs.Prelude.{Option, Some, None, Result, OnOk, IfSome, is_some, nat_eq, ◌⊎◌}
-use Rattle.std.proofs.lemmas.Bool.{cases_eq}
+use Rattle.std.proofs.lemmas.Bool.{cases_eq, false_from_ne_true}
 use Rattle.std.proofs.lemmas.Option.{none-some, same_Some}
 use Rattle.md5.specs.Md5.{md5}
+use Rattle.std.proofs.Math.Bool.{or-true}
+use Rattle.svn_lists.proofs.Results.{OnOk_then}
+use Rattle.svn_lists.proofs.Somewhere.{any_push}
 use Rattle.svn_types.specs.declared.kind.Kind.{Kind}
 use Rattle.svn_types.specs.declared.kind.Kind.TheVariants.{File, Directory}
 use Rattle.svn_types.specs.Names.{Path}
@@ -12,7 +15,6 @@ use Rattle.svn_editor.specs.declared.call.Call.TheVariants.{AbortEdit}
 use Rattle.svn_editor.specs.declared.fault.EditFault.{EditFault}
 use Rattle.svn_editor.specs.Calls.{Given, given_by, given, given_path, all_given, kind_eq, closes, is_closed, is_abort, is_last, named_by}
 use Rattle.svn_editor.specs.declared.mode.Mode.{Mode}
-use Rattle.svn_editor.proofs.OneMore.{any_more, or_true, false_from}
 use Rattle.svn_editor.proofs.Accepted.{IsAccepted, accepted}
 use Rattle.svn_order.proofs.Sound.{numbered_next}
 use Rattle.svn_order.proofs.Lawful.{sound}
@@ -31,7 +33,6 @@ use Rattle.svn_edit.specs.declared.edit.Edit.{Edit}
 use Rattle.svn_edit.specs.Applying.{Batons, BatonMap, BatonNoted, MakesBaton, batons_of, IsNoted, KeepsBases, OpensBase, Holds, IsNext}
 use Rattle.svn_nodes.specs.NodeTests.{IsSumOf}
 use Rattle.svn_edit.proofs.HeldBatons.{given_other, open_given}
-use Rattle.svn_edit.proofs.Holding.{map_ok}
 use Rattle.svn_edit.proofs.Closes.{named_baton}
 
 pub file_of : (k : Kind) → kind_eq k File ≡ true → k ≡ File
@@ -58,10 +59,11 @@ module _ (mode : Mode) (old new : Edit) (calls : List Call) (d : Call) (nodes no
       let kept = keeps t b there apart in
       let was : kept.0.path ≡ g.path = (next.holds.batons.each t kept.0 kept.1).path ∙ ap given_path is in
       let open_before : is_closed calls t ≡ false =
-      false_from (is_closed calls t) (λ e. true≢false (sym (any_more (closes t) calls d ∙ ap (λ x. x || closes t d) e) ∙ unclosed)) in
+      false_from_ne_true (is_closed calls t) (λ e. true≢false (sym (any_push (closes t) calls d ∙ ap (λ x. x || closes t d) e)
+      ∙ unclosed)) in
       let still : closes t d ≡ false =
-      false_from (closes t d) (λ e. true≢false (sym (any_more (closes t) calls d ∙ ap (λ x. is_closed calls t || x) e
-      ∙ or_true (is_closed calls t)) ∙ unclosed)) in
+      false_from_ne_true (closes t d) (λ e. true≢false (sym (any_push (closes t) calls d ∙ ap (λ x. is_closed calls t || x) e
+      ∙ or-true (is_closed calls t)) ∙ unclosed)) in
       let same : get_in nodes kept.0.path ≡ get_in nodes2 b.path =
       ap (get_in nodes) was
       ∙ sym (copy g.path
@@ -113,7 +115,7 @@ Kept old new d r =
 
 pub made_bases : (old new : Edit) (c d : Call) (g : Given) (r : Result (Unit {0}) EditFault) (beneath : ℕ) → d ≡ c → given_by c ≡ Some g
     → OnOk r (MakesBaton beneath g.path g.token old new) → Kept old new d r
-made_bases old new c d g r beneath is gives made = map_ok r made (λ m mode calls next last u b there apart. (
+made_bases old new c d g r beneath is gives made = OnOk_then r made (λ m mode calls next last u b there apart. (
   b,
   sym (m.tokens u (λ same. apart g (ap given_by is ∙ gives) (sym same))) ∙ there,
   refl,
@@ -124,7 +126,7 @@ pub said_bases : (old new : Edit) (c d : Call) (m : ℕ) (k : Kind) (note : Note
     → d ≡ c → is_abort c ≡ false → named_by c ≡ Some (m, k)
     → OnOk r ((b : Baton) → batons_of old m ≡ Some b → BatonNoted m b note strings old.pools (batons_of old) new.pools (batons_of new))
     → Kept old new d r
-said_bases old new c d m k note strings r is going named notes = map_ok r notes (λ n mode calls next last u b there apart.
+said_bases old new c d m k note strings r is going named notes = OnOk_then r notes (λ n mode calls next last u b there apart.
     let x = named_baton mode old calls c d m k is next going named in
     let y = n x.0 x.1 in
     by x.0 x.1 y u b there (cases_eq u m))
@@ -143,7 +145,7 @@ said_bases old new c d m k note strings r is going named notes = map_ok r notes 
 
 pub gone_bases : (old new : Edit) (d : Call) (r : Result (Unit {0}) EditFault)
     → OnOk r ((u : ℕ) (b : Baton) → batons_of new u ≡ Some b → batons_of old u ≡ Some b) → Kept old new d r
-gone_bases old new d r others = map_ok r others (λ h mode calls next last u b there apart. (b, h u b there, refl, refl))
+gone_bases old new d r others = OnOk_then r others (λ h mode calls next last u b there apart. (b, h u b there, refl, refl))
 
 pub still_bases : (old : Edit) (d : Call) → KeepsBases d (batons_of old) (batons_of old)
 still_bases old d u b there apart = (b, there, refl, refl)
@@ -161,7 +163,7 @@ no_file_base c d g at nodes is given_as kind x b gives file =
 
 pub file_base : (c d : Call) (g : Given) (at : Batons) (nodes : List (Path × BaseNode)) (r : Result (Unit {0}) EditFault) → d ≡ c
     → given_by c ≡ Some g → OnOk r ((b : Baton) → at g.token ≡ Some b → IsSumOf b.base nodes g.path) → OnOk r (OpensBase d at nodes)
-file_base c d g at nodes r is given_as base = map_ok r base (λ h x b gives file there.
+file_base c d g at nodes r is given_as base = OnOk_then r base (λ h x b gives file there.
     let both : x ≡ g = same_Some x g (sym gives ∙ ap given_by is ∙ given_as) in
     subst (λ (p : Path). IsSumOf b.base nodes p) (ap (λ (y : Given). y.path) (sym both))
     (h b (ap (λ (y : Given). at y.token) (sym both) ∙ there)))

@@ -1,8 +1,11 @@
 -- The close of a directory: what was said of it is done, and its baton goes.
 use Rattle.std.proofs.Common.{◌≡◌, ◌≢◌, ℕ, Bool, true, false, cond, ◌&&◌, not, List, [], ◌∷◌, ◌++◌, refl, sym, ◌∙◌, ap, subst, true≢false}
 use Rattle.std.proofs.lemmas.Option.{none-some, same_Some}
-use Rattle.std.specs.Prelude.{Option, Some, None, Result, Ok, Err, OnOk, OnErr, IfOk, IfErr, is_ok, is_some, nat_eq, filter_map}
+use Rattle.std.specs.Prelude.{Option, Some, None, Result, Ok, Err, OnOk, IfErr, is_some, filter_map}
 use Rattle.std.specs.List.{cons_option}
+use Rattle.std.proofs.lemmas.Bool.{eq-eqb, ne_eqb}
+use Rattle.std.proofs.lemmas.Map.Keys.{any_passes_from_place}
+use Rattle.svn_lists.proofs.Results.{at_ok, ok_by}
 use Rattle.svn_types.specs.declared.kind.Kind.{Kind}
 use Rattle.svn_types.specs.declared.kind.Kind.TheVariants.{File, Directory}
 use Rattle.svn_types.specs.Names.{Path}
@@ -21,8 +24,6 @@ use Rattle.svn_editor.specs.declared.mode.Mode.TheVariants.{Update}
 use Rattle.svn_editor.specs.Steps.{Action, Change, Text, Close, Step, steps_of, target_of}
 use Rattle.svn_editor.specs.Order.{order_fault}
 use Rattle.svn_editor.proofs.Accepted.{IsAccepted, accepted}
-use Rattle.svn_editor.proofs.OneMore.{any_at, false_from}
-use Rattle.svn_editor.proofs.Nested.{eq_true, true_eq}
 use Rattle.svn_order.proofs.Sound.{IsKnown, known}
 use Rattle.svn_order.proofs.Lawful.{sound}
 use Rattle.svn_model.specs.declared.base_node.BaseNode.{BaseNode}
@@ -42,7 +43,7 @@ use Rattle.svn_edit.specs.Applying.{IsNext, BatonMap}
 use Rattle.svn_model.specs.Answering.{AnswersCall}
 use Rattle.svn_edit_law.proofs.StepEffects.{effect_alone, effect_none}
 use Rattle.svn_edit.proofs.HeldBatons.{held_leaf, held_gone, held_noted}
-use Rattle.svn_edit.proofs.Holding.{holds_by, applied_some, ok_by, at_ok}
+use Rattle.svn_edit.proofs.Holding.{holds_by, applied_some}
 
 -- what the steps on a path bring of one kind, what is said of it brings
 pub among_said : {B : Type 0} (f : Action → Option B) (p : Path) (at : List Step → List B) → at [] ≡ []
@@ -122,10 +123,6 @@ gone_holds mode old new calls c d t k is next going named still gives says shut 
     apart e = none-some _ (sym (ap parent_of next.holds.batons.root) ∙ ap (λ s. parent_of (pool_at old.pools s)) (sym e)
         ∙ ap parent_of baton.2.pool)
 
--- no other token is closed
-pub others_stay : (t u : ℕ) → u ≢ t → nat_eq t u ≡ false
-others_stay t u n = false_from (nat_eq t u) (λ e. n (sym (true_eq t u e)))
-
 module _ (mode : Mode) (old new : Edit) (calls : List Call) (t : ℕ) (d : Call) (is : d ≡ CloseDirectory t)
     (next : IsNext mode old calls d) where
   baton : (b : Baton) × (batons_of old t ≡ Some b) × IsBaton old.pools (batons_of old) calls t b
@@ -159,7 +156,7 @@ module _ (mode : Mode) (old new : Edit) (calls : List Call) (t : ℕ) (d : Call)
   -- no directory in it is open
   none_below : (u : ℕ) (g : Given) → is_open calls u ≡ true → given calls u ≡ Some g → g.kind ≡ Directory → g.parent ≡ Some t → ⊥
   none_below u g o e k p =
-      true≢false (sym (any_at (is_open_in t calls) (all_given calls) u g e below)
+      true≢false (sym (any_passes_from_place (is_open_in t calls) (all_given calls) u g e below)
       ∙ (next_accepted mode old calls (CloseDirectory t) d t Directory is next refl refl).none_below)
     where
       number : g.token ≡ u
@@ -175,7 +172,7 @@ module _ (mode : Mode) (old new : Edit) (calls : List Call) (t : ℕ) (d : Call)
 
       below : is_open_in t calls g ≡ true
       below = (λ i. (kind_eq (k i) Directory && number_eq (p i) (Some t)) && (kind_eq (k i) Directory && not (unclosed i)))
-          ∙ (λ i. (eq_true t t refl i) && true)
+          ∙ (λ i. (eq-eqb t t refl i) && true)
 
   -- and its baton
   pub close_holds : KeepsEdit old new
@@ -183,19 +180,10 @@ module _ (mode : Mode) (old new : Edit) (calls : List Call) (t : ℕ) (d : Call)
       → b.pool.0 ≢ old.pools.root → BatonGone t b old.pools (batons_of old) new.pools (batons_of new))
       → Holds mode new (calls ++ d ∷ [])
   close_holds keeps gone =
-      gone_holds mode old new calls (CloseDirectory t) d t Directory is next refl refl refl refl refl (eq_true t t refl)
-      (others_stay t) none_below keeps gone
+      gone_holds mode old new calls (CloseDirectory t) d t Directory is next refl refl refl refl refl (eq-eqb t t refl)
+      (λ a2 a3. ne_eqb t a2 (λ e. a3 (sym e))) none_below keeps gone
 
 -- ---- a call that is noted
-
-pub pass_ok : (A B : Type 0) (a : Result (Unit {0}) A) (r : Result (Unit {0}) EditFault) → IfOk r (λ v. a ≡ Ok v) → OnOk a B → OnOk r B
-pass_ok A B a (Ok v) ok h = subst (λ (x : Result (Unit {0}) A). OnOk x B) ok h
-pass_ok A B a (Err e) ok h = tt
-
-pub pass_err : (A B : Type 0) (a : Result (Unit {0}) A) (r : Result (Unit {0}) EditFault) → is_ok r ≡ is_ok a → OnErr a B → OnErr r B
-pass_err A B a (Ok v) same h = tt
-pass_err A B (Ok v) (Err e) same h = absurd (true≢false (sym same))
-pass_err A B (Err x) (Err e) same h = h
 
 -- what was said of the baton that a look-up lent
 pub noted_of : (t u : ℕ) (note : Note) (strings : List (List ℕ)) (x d : Baton) (pools pools2 : Pools) (m n : BatonMap)

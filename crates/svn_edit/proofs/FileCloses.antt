@@ -2,6 +2,8 @@
 use Rattle.std.proofs.Common.{◌≡◌, ◌≢◌, ℕ, Bool, true, false, cond, List, [], ◌∷◌, ◌++◌, refl, sym, ◌∙◌, ap, subst, true≢false}
 use Rattle.std.specs.Prelude.{Option, Some, None, Result, Ok, Err, OnOk, OnErr, filter_map}
 use Rattle.md5.specs.Md5.{md5}
+use Rattle.std.proofs.lemmas.Bool.{eq-eqb, ne_eqb}
+use Rattle.svn_lists.proofs.Results.{OnErr_then, OnOk_then, ok_by, OnErr_from}
 use Rattle.svn_types.specs.declared.kind.Kind.TheVariants.{File, Directory}
 use Rattle.svn_types.specs.Names.{Path}
 use Rattle.svn_types.specs.Paths.{path_eq}
@@ -13,7 +15,6 @@ use Rattle.svn_editor.specs.declared.fault.EditFault.{EditFault}
 use Rattle.svn_editor.specs.Calls.{Given, given, path_of, is_of_kind}
 use Rattle.svn_editor.specs.declared.mode.Mode.{Mode}
 use Rattle.svn_editor.specs.Steps.{Action, Text, Close, Step, steps_of, target_of}
-use Rattle.svn_editor.proofs.Nested.{eq_true}
 use Rattle.svn_order.proofs.Sound.{other_kind}
 use Rattle.svn_types.proofs.PathLemmas.{same_path}
 use Rattle.svn_model.specs.declared.base_node.BaseNode.{BaseNode}
@@ -28,8 +29,7 @@ use Rattle.svn_edit.specs.declared.edit.Edit.{Edit}
 use Rattle.svn_nodes.specs.NodeTests.{sum_fault, FileIsClosed}
 use Rattle.svn_edit.specs.Applying.{Applied, KeepsEdit, batons_of, is_open, IsBaton, BatonGone, IsLeaf, Says, Holds, IsNext}
 use Rattle.svn_edit.specs.Closing.{ClosesFile}
-use Rattle.svn_edit.proofs.Holding.{map_ok, map_err, ok_by, on_err}
-use Rattle.svn_edit.proofs.Closes.{among_said, changes_are, named_known, named_baton, says_of, gone_holds, others_stay}
+use Rattle.svn_edit.proofs.Closes.{among_said, changes_are, named_known, named_baton, says_of, gone_holds}
 
 -- the texts on a path are among what is said
 pub texts_are : (p : Path) (steps : List Step) → filter_map text_in (said_at p steps) ≡ texts_at p steps
@@ -83,9 +83,9 @@ pub node_closes : (edit : Edit) (b : Baton) (sum : Option (List ℕ)) (at : Path
 node_closes edit b sum at nodes nodes2 old new r same there answers closed refused written kept = record {
   answers = λ said s. subst (λ (o : Option BaseNode). AnswersCall (sum_fault md5 sum (filter_map text_in said) o) r)
       (there ∙ ap (get_in nodes) same) (answers said s);
-  closed = map_ok r closed (λ f said s. node_closed edit.mode edit.target at b.path (filter_map change_in said)
+  closed = OnOk_then r closed (λ f said s. node_closed edit.mode edit.target at b.path (filter_map change_in said)
       (filter_map text_in said) nodes nodes2 old new same there (f said s) written);
-  refused = map_err r refused kept;
+  refused = OnErr_then r refused kept;
 }
 
 -- where nothing stands, nothing changes
@@ -98,7 +98,7 @@ nothing_closes edit b sum at nodes nodes2 r same none kept h = record {
       (none ∙ ap (get_in nodes) same) (h said s);
   closed = ok_by r (λ ok said s. nothing_closed edit.mode edit.target at b.path (filter_map change_in said)
       (filter_map text_in said) nodes nodes2 same none kept);
-  refused = on_err r kept;
+  refused = OnErr_from r kept;
 }
 
 applied_parts : (fault : Option EditFault) (w : WorkingCopy) (nodes nodes2 : List (Path × BaseNode)) (r : Result (Unit {0}) EditFault)
@@ -118,7 +118,7 @@ module _ (mode : Mode) (old new : Edit) (calls : List Call) (t : ℕ) (sum : Opt
       → Applied (edit_fault md5 mode calls d nodes) (effect mode calls d (get_in nodes)) nodes r nodes2
   file_applied nodes nodes2 r closes =
       subst (λ (x : Call). Applied (edit_fault md5 mode calls x nodes) (effect mode calls x (get_in nodes)) nodes r nodes2) (sym is)
-      (applied_parts _ _ nodes nodes2 r answered (map_ok r h.closed done) h.refused)
+      (applied_parts _ _ nodes nodes2 r answered (OnOk_then r h.closed done) h.refused)
     where
       h : ClosesFile old baton.0 sum nodes r nodes2
       h = closes baton.0 baton.1
@@ -160,5 +160,5 @@ module _ (mode : Mode) (old new : Edit) (calls : List Call) (t : ℕ) (sum : Opt
       → b.pool.0 ≢ old.pools.root → BatonGone t b old.pools (batons_of old) new.pools (batons_of new))
       → Holds mode new (calls ++ d ∷ [])
   file_holds keeps gone =
-      gone_holds mode old new calls (CloseFile t sum) d t File is next refl refl refl refl refl (eq_true t t refl)
-      (others_stay t) none_below keeps gone
+      gone_holds mode old new calls (CloseFile t sum) d t File is next refl refl refl refl refl (eq-eqb t t refl)
+      (λ a2 a3. ne_eqb t a2 (λ e. a3 (sym e))) none_below keeps gone

@@ -5,7 +5,10 @@ use Rattle.std.specs.Prelude.{Option, Some, None, is_some, ◌⊎◌, slice_get,
 use Rattle.std.specs.FinMap as map_of
 use Rattle.std.specs.List.{flat_map}
 use Rattle.std.proofs.lemmas.Bool.{cases_eq}
-use Rattle.std.proofs.lemmas.Option.{slice_get_past, same_Some}
+use Rattle.std.proofs.lemmas.Option.{slice_get_past, same_Some, slice_get_within}
+use Rattle.std.proofs.Math.Bool.{and-false, or-true}
+use Rattle.svn_lists.proofs.Options.{some-none}
+use Rattle.svn_lists.proofs.Somewhere.{any_push, any_still}
 use Rattle.svn_types.specs.declared.kind.Kind.{Kind}
 use Rattle.svn_types.specs.declared.kind.Kind.TheVariants.{File, Directory}
 use Rattle.svn_types.specs.Names.{Path}
@@ -15,8 +18,7 @@ use Rattle.svn_pool.specs.Ancestry.{IsAbove, IsBeneath}
 use Rattle.svn_editor.specs.declared.call.Call.{Call}
 use Rattle.svn_editor.specs.Calls.{Given, given_by, closes, all_given, given, given_path, path_of, is_closed, is_of_kind}
 use Rattle.svn_editor.specs.Steps.{Action, steps_of}
-use Rattle.svn_order.proofs.Changes.{get_within}
-use Rattle.svn_editor.proofs.OneMore.{any_still, any_more, or_true, and_false, given_one}
+use Rattle.svn_editor.proofs.OneMore.{given_one}
 use Rattle.svn_editor.proofs.Accepted.{IsAccepted}
 use Rattle.svn_order.proofs.Sound.{IsSound, given_closes, numbered_next, known}
 use Rattle.svn_edit.specs.declared.baton.Baton.{Baton}
@@ -31,7 +33,6 @@ use Rattle.svn_edit.specs.Applying.{Batons, is_open, open_count, IsTextAt, Notes
 use Rattle.svn_edit.specs.Applying.{pool_entry, IsBaton, HoldsBatons, BatonMade, BatonNoted, BatonGone, IsLeaf}
 use Rattle.std.proofs.lemmas.List.{map-append}
 use Rattle.std.proofs.lemmas.List.Concat.{flat_map-append}
-use Rattle.svn_types.proofs.Places.{some_none}
 use Rattle.svn_order.proofs.OpenDirectories.{new_unclosed}
 use Rattle.svn_order.proofs.HoldingTokens.{given_now, given_still}
 use Rattle.svn_edit.proofs.Saying.{text_more, noted_says}
@@ -56,7 +57,7 @@ within calls m h = by (given calls m) refl h
   where
     by : (o : Option Given) → given calls m ≡ o → is_of_kind Directory o ≡ true → m < length (all_given calls)
     by None e k = absurd (true≢false (sym k))
-    by (Some g) e k = get_within (all_given calls) m g e
+    by (Some g) e k = slice_get_within (all_given calls) m g e
 
 -- a token that wasn't given isn't open
 pub unopened : (calls : List Call) (t : ℕ) → length (all_given calls) ≤ t → is_open calls t ≡ false
@@ -100,7 +101,7 @@ carried pools pools2 at at2 calls calls2 t b h same said root above pool = recor
 pub root_apart : (pools : Pools) (at : Batons) (calls : List Call) → HoldsBatons pools at calls → (t : ℕ) (b : Baton) → at t ≡ Some b
     → pools.root ≢ b.pool.0
 root_apart pools at calls h t b there same =
-    some_none _ (sym (ap parent_of (sym h.root ∙ ap (pool_at pools) same ∙ (h.each t b there).pool)))
+    some-none _ (sym (ap parent_of (sym h.root ∙ ap (pool_at pools) same ∙ (h.each t b there).pool)))
 
 -- where all but a token, its baton and its pool are as before, each other pool is a baton's still
 only_others : (pools pools2 : Pools) (at at2 : Batons) (calls : List Call) (m : ℕ) (b : Baton) → HoldsBatons pools at calls → at m ≡ Some b
@@ -203,14 +204,14 @@ module _ (pools : Pools) (at : Batons) (calls : List Call) (c : Call) (g : Given
   own_above = above_same pools.root at at2 (Some g) (λ x m e k p.
       let n = parent_named c m g gives (ap (λ (y : Given). y.parent) (same_Some g x e) ∙ p) in
       let known_parent = known calls c m Directory a n in
-      let w : m < length (all_given calls) = get_within (all_given calls) m known_parent.given_as known_parent.is in
+      let w : m < length (all_given calls) = slice_get_within (all_given calls) m known_parent.given_as known_parent.is in
       ap (pool_or pools.root) (made.tokens m (λ same. absurd (omega (arith, w, same, next)))))
 
   nothing_said : said_at g.path (steps_of (calls ++ c ∷ [])) ≡ []
   nothing_said = said-quiet calls c g.path says ∙ q.untouched g.path (opened_first calls c g a gives)
 
   not_fresh : (s : ℕ) (e : Entry) → pool_at pools s ≡ Some e → s ≢ made.baton.pool.0
-  not_fresh s e there same = some_none e (sym there ∙ ap (pool_at pools) same ∙ made.begun.fresh)
+  not_fresh s e there same = some-none e (sym there ∙ ap (pool_at pools) same ∙ made.begun.fresh)
 
   own_baton : IsBaton pools2 at2 (calls ++ c ∷ []) g.token made.baton
   own_baton = record {
@@ -251,7 +252,7 @@ module _ (pools : Pools) (at : Batons) (calls : List Call) (c : Call) (g : Given
     where
       still : (q p : ℕ) → parent_of (pool_at pools q) ≡ Some p → parent_of (pool_at pools2 q) ≡ Some p
       still q p e =
-          let away : q ≢ made.baton.pool.0 = λ same. some_none p (sym e ∙ ap parent_of (ap (pool_at pools) same ∙ made.begun.fresh)) in
+          let away : q ≢ made.baton.pool.0 = λ same. some-none p (sym e ∙ ap parent_of (ap (pool_at pools) same ∙ made.begun.fresh)) in
           ap parent_of (made.begun.others q away) ∙ e
 
       above : ℕ
@@ -478,11 +479,11 @@ module _ (pools : Pools) (at : Batons) (calls : List Call) (c : Call) (m : ℕ) 
           ∙ ap (λ x. parent_of (pool_at pools x)) same ∙ beneath))
 
       by : (s ≡ pools.root) ⊎ (s ≢ pools.root) → ⊥
-      by (inl e) = some_none _ (sym (sym (ap parent_of h.root) ∙ sym (ap (λ x. parent_of (pool_at pools x)) e) ∙ beneath))
+      by (inl e) = some-none _ (sym (sym (ap parent_of h.root) ∙ sym (ap (λ x. parent_of (pool_at pools x)) e) ∙ beneath))
       by (inr away) = at_pool (pool_at pools s) refl
         where
           at_pool : (o : Option Entry) → pool_at pools s ≡ o → ⊥
-          at_pool None f = some_none _ (sym (sym (ap parent_of f) ∙ beneath))
+          at_pool None f = some-none _ (sym (sym (ap parent_of f) ∙ beneath))
           at_pool (Some x) f = let r = h.only s x f away in above_is r.0 r.1 r.2 r.3
 
   module _ (sound : IsSound calls) (gives : given_by c ≡ None) (says : noted c ≡ None) (shut : closes m c ≡ true) (others_open : (t : ℕ)
@@ -497,7 +498,7 @@ module _ (pools : Pools) (at : Batons) (calls : List Call) (c : Call) (m : ℕ) 
         (n.pool.others d.pool.0 (λ same. away (h.apart t m d b e there same)))
 
     away_from : (t : ℕ) (d : Baton) → at2 t ≡ Some d → t ≢ m
-    away_from t d e same = some_none d (sym e ∙ ap at2 same ∙ n.token)
+    away_from t d e same = some-none d (sym e ∙ ap at2 same ∙ n.token)
 
     pub held_gone : HoldsBatons pools2 at2 (calls ++ c ∷ [])
     held_gone = record {
@@ -517,20 +518,20 @@ module _ (pools : Pools) (at : Batons) (calls : List Call) (c : Call) (m : ℕ) 
       where
         beneath_by : (s : ℕ) (e : Entry) → pool_at pools2 s ≡ Some e → s ≢ pools2.root → IsBeneath (pool_at pools2) pools.root s
         beneath_by s e f r =
-            let away : s ≢ b.pool.0 = λ same. some_none e (sym f ∙ ap (pool_at pools2) same ∙ n.pool.gone) in
+            let away : s ≢ b.pool.0 = λ same. some-none e (sym f ∙ ap (pool_at pools2) same ∙ n.pool.gone) in
             let up = h.beneath s e (sym (n.pool.others s away) ∙ f) (λ x. r (x ∙ sym n.pool.root)) in
             (up.0, beneath_without (pool_at pools) (pool_at pools2) pools.root b.pool.0 held_leaf n.pool.others up.0 s away up.1)
 
         opened_by : (t : ℕ) → (t ≡ m) ⊎ (t ≢ m) → is_some (at2 t) ≡ is_open (calls ++ c ∷ []) t
         opened_by t (inl e) =
             ap (λ u. is_some (at2 u)) e ∙ ap is_some n.token
-            ∙ sym (ap (is_open (calls ++ c ∷ [])) e ∙ ap (λ x. is_some (given (calls ++ c ∷ []) m) && not x) (any_more (closes m) calls c
-            ∙ ap (λ x. is_closed calls m || x) shut ∙ or_true (is_closed calls m)) ∙ and_false (is_some (given (calls ++ c ∷ []) m)))
+            ∙ sym (ap (is_open (calls ++ c ∷ [])) e ∙ ap (λ x. is_some (given (calls ++ c ∷ []) m) && not x) (any_push (closes m) calls c
+            ∙ ap (λ x. is_closed calls m || x) shut ∙ or-true (is_closed calls m)) ∙ and-false (is_some (given (calls ++ c ∷ []) m)))
         opened_by t (inr away) = ap is_some (n.tokens t away) ∙ h.opened t
             ∙ (λ i. is_some (sym (given_still calls c t gives) i) && not (sym (any_still (closes t) calls c (others_open t away)) i))
 
         only_by : (s : ℕ) (e : Entry) → pool_at pools2 s ≡ Some e → s ≢ pools2.root → (s ≡ b.pool.0) ⊎ (s ≢ b.pool.0)
             → (t : ℕ) × (d : Baton) × (at2 t ≡ Some d) × (d.pool.0 ≡ s)
-        only_by s e f r (inl same) = absurd (some_none e (sym f ∙ ap (pool_at pools2) same ∙ n.pool.gone))
+        only_by s e f r (inl same) = absurd (some-none e (sym f ∙ ap (pool_at pools2) same ∙ n.pool.gone))
         only_by s e f r (inr away) =
             only_others pools pools2 at at2 calls m b h there n.pool.others n.pool.root n.tokens s e f r away

@@ -1,7 +1,8 @@
 -- What an edit holds after one more call.
 use Rattle.std.proofs.Common.{◌≡◌, ℕ, Bool, true, false, true≢false, cond, List, [], ◌∷◌, ◌++◌, refl, sym, ◌∙◌, ap, subst}
-use Rattle.std.specs.Prelude.{Option, Some, None, Result, Ok, Err, OnOk, OnErr, IfErr}
+use Rattle.std.specs.Prelude.{Option, Some, None, Result, Ok, Err, OnOk, IfErr}
 use Rattle.std.specs.Option.{option_or, option_map}
+use Rattle.svn_lists.proofs.Results.{OnOk_then}
 use Rattle.svn_types.specs.Names.{Path}
 use Rattle.svn_editor.specs.declared.call.Call.{Call}
 use Rattle.svn_editor.specs.declared.fault.EditFault.{EditFault}
@@ -30,10 +31,6 @@ use Rattle.svn_edit_law.proofs.Appending.{after-more, next_target, target-more}
 use Rattle.svn_edit_law.proofs.OnePath.{noted, pathed}
 use Rattle.svn_edit_law.proofs.StepEffects.{effect_alone}
 use Rattle.svn_edit.proofs.HeldBatons.{held_still, held_made}
-
-pub map_ok : {T E : Type 0} {P Q : Type 0} (r : Result T E) → OnOk r P → (P → Q) → OnOk r Q
-map_ok (Ok v) h f = f h
-map_ok (Err e) h f = tt
 
 -- a call without effect and fault, whose only refusal is for memory
 pub applied_none : (fault : Option EditFault) (w : WorkingCopy) (nodes : List (Path × BaseNode)) (r : Result (Unit {0}) EditFault)
@@ -95,7 +92,7 @@ pub given_holds : (old new : Edit) (c d : Call) (g : Given) (r : Result (Unit {0
     → given_by c ≡ Some g → noted c ≡ None → is_abort c ≡ false → KeepsEdit old new → (beneath : ℕ)
     → beneath ≡ pool_above old.pools.root (batons_of old) (Some g) → OnOk r (MakesBaton beneath g.path g.token old new)
     → OnOk r ((mode : Mode) (calls : List Call) → IsNext mode old calls d → is_last d ≡ false → Holds mode new (calls ++ d ∷ []))
-given_holds old new c d g r is still gives says going keeps beneath place made = map_ok r made (λ baton mode calls next last.
+given_holds old new c d g r is still gives says going keeps beneath place made = OnOk_then r made (λ baton mode calls next last.
     holds_by mode old new calls c d is next keeps (still (target_of calls))
     (held_made old.pools (batons_of old) calls c g next.holds.batons (sound calls next.lawful) (pathed calls next.lawful)
     (accepted calls c going (in_order mode old new calls c d is next keeps (still (target_of calls)))) gives says new.pools (batons_of new)
@@ -151,24 +148,6 @@ next_is mode w0 edit edit2 nodes calls c s h same = record {
 
 -- ---- results
 
-pub ok_by : {P : Type 0} (r : Result (Unit {0}) EditFault) → (r ≡ Ok tt → P) → OnOk r P
-ok_by (Ok done) f = f refl
-ok_by (Err e) f = tt
-
-pub at_ok : {P : Type 0} (r : Result (Unit {0}) EditFault) → r ≡ Ok tt → OnOk r P → P
-at_ok {P} r e h = subst (λ (x : Result (Unit {0}) EditFault). OnOk x P) e h
-
-pub err_by : {P : Type 0} (r : Result (Unit {0}) EditFault) → ((e : EditFault) → r ≡ Err e → P) → OnErr r P
-err_by (Ok done) f = tt
-err_by (Err e) f = f e refl
-
-pub on_err : {T E : Type 0} {P : Type 0} (r : Result T E) → P → OnErr r P
-on_err (Ok v) h = tt
-on_err (Err e) h = h
-
-pub at_err : {P : Type 0} (r : Result (Unit {0}) EditFault) (e : EditFault) → r ≡ Err e → OnErr r P → P
-at_err {P} r e is h = subst (λ (x : Result (Unit {0}) EditFault). OnErr x P) is h
-
 pub applied_err : (fault : Option EditFault) (w : WorkingCopy) (nodes nodes2 : List (Path × BaseNode)) (r : Result (Unit {0}) EditFault)
     (e : EditFault) → r ≡ Err e → Applied fault w nodes r nodes2 → nodes2 ≡ nodes
 applied_err fault w nodes nodes2 r e is h = (subst (λ (x : Result (Unit {0}) EditFault). Applied fault w nodes x nodes2) is h).1
@@ -200,10 +179,6 @@ applied_read checksum mode edit calls c d nodes nodes2 r is next F W faults effe
     ∙ ap (λ (x : Call). effect mode calls x (get_in nodes)) (sym is) in
     subst (λ (x : Option EditFault). Applied x (effect mode calls d (get_in nodes)) nodes r nodes2) fault
     (subst (λ (v : WorkingCopy). Applied (F edit.mode) v nodes r nodes2) after h)
-
-pub map_err : {P Q : Type 0} (r : Result (Unit {0}) EditFault) → OnErr r P → (P → Q) → OnErr r Q
-map_err (Ok done) h f = tt
-map_err (Err e) h f = f h
 
 -- what isn't want of memory isn't answered as such
 pub not_memory : (e : OrderFault) → (e ≡ NoMemory → ⊥) → as_edit_fault e ≡ Memory → ⊥

@@ -2,11 +2,12 @@
 use Rattle.std.proofs.Common.{nat_eq, ◌≡◌, ◌≢◌, ℕ, ◌+◌, false, cond, List, [], ◌∷◌, ◌++◌, length, refl, sym, ◌∙◌, ap, subst, inl, inr}
 use Rattle.std.proofs.Common.{append_assoc, append-nil, arith, true≢false}
 use Rattle.std.specs.Prelude.{Option, Some, None, is_some, ◌⊎◌, Result, Ok, Err, IfOk, OnErr}
+use Rattle.svn_lists.proofs.Results.{at_err, err_by, OnErr_then}
 use Rattle.svn_serials.proofs.Pairs.{Updates}
 use Rattle.std.specs.List.{list_any}
 use Rattle.std.specs.FinMap as map_of
-use Rattle.std.proofs.lemmas.Bool.{cases_eq}
-use Rattle.std.proofs.lemmas.Option.{same_Some}
+use Rattle.std.proofs.lemmas.Bool.{cases_eq, eq-eqb}
+use Rattle.std.proofs.lemmas.Option.{same_Some, none-some}
 use Rattle.md5.specs.Md5.{md5}
 use Rattle.svn_types.specs.Names.{Path}
 use Rattle.svn_pool.specs.Pools.{Entry, Pools, pool_at, parent_of, strings_of_pool, strings_at, created, pushed}
@@ -36,9 +37,7 @@ use Rattle.svn_edit.specs.Opening.{GivesToken}
 use Rattle.svn_edit.specs.Leaving.{call_strings, HasPool, HoldsPools, IsLeft, LeavesPools, PoolsAfter, SamePools, KeepsPools, BatonBegan}
 use Rattle.svn_edit.specs.Leaving.{NoteBegan}
 use Rattle.svn_edit.proofs.PoolStrings.{own_one, others_one, len_pushed, len_created}
-use Rattle.svn_edit.proofs.Holding.{err_by, map_err, at_err}
 use Rattle.svn_edit.proofs.Closes.{named_baton}
-use Rattle.svn_editor.proofs.Nested.{eq_true}
 use Rattle.svn_types.specs.declared.kind.Kind.{Kind}
 use Rattle.svn_edit.proofs.HeldBatons.{unopened, above_same, beneath_kept, root_apart}
 
@@ -61,9 +60,6 @@ pub record Carries (pools pools2 : Pools) (at at2 : Batons) (refused : ℕ → L
   pub forth : (t : ℕ) (b : Baton) → at t ≡ Some b → (d : Baton) × (at2 t ≡ Some d) × (d.pool.0 ≡ b.pool.0)
   pub back : (t : ℕ) (d : Baton) → at2 t ≡ Some d → (b : Baton) × (at t ≡ Some b) × CameFrom pools pools2 (refused t) b d
 
-pub no_baton : (b : Baton) → None ≡ Some b → ⊥
-no_baton b e = cc
-
 module _ (pools pools2 : Pools) (at at2 : Batons) (calls : List Call) (c : Call) (h : HoldsBatons pools at calls)
     (k : Carries pools pools2 at at2 (call_strings c)) where
   some_same : (t : ℕ) → is_some (at2 t) ≡ is_some (at t)
@@ -71,8 +67,8 @@ module _ (pools pools2 : Pools) (at at2 : Batons) (calls : List Call) (c : Call)
     where
       by : (o : Option Baton) → at t ≡ o → (o2 : Option Baton) → at2 t ≡ o2 → is_some o2 ≡ is_some o
       by None e None f = refl
-      by None e (Some d) f = let x = k.back t d f in absurd (no_baton x.0 (sym e ∙ x.1))
-      by (Some b) e None f = let x = k.forth t b e in absurd (no_baton x.0 (sym f ∙ x.1))
+      by None e (Some d) f = let x = k.back t d f in absurd (none-some x.0 (sym e ∙ x.1))
+      by (Some b) e None f = let x = k.forth t b e in absurd (none-some x.0 (sym f ∙ x.1))
       by (Some b) e (Some d) f = refl
 
   pool_same : (t : ℕ) → pool_or pools.root (at2 t) ≡ pool_or pools.root (at t)
@@ -80,8 +76,8 @@ module _ (pools pools2 : Pools) (at at2 : Batons) (calls : List Call) (c : Call)
     where
       by : (o : Option Baton) → at t ≡ o → (o2 : Option Baton) → at2 t ≡ o2 → pool_or pools.root o2 ≡ pool_or pools.root o
       by None e None f = refl
-      by None e (Some d) f = let x = k.back t d f in absurd (no_baton x.0 (sym e ∙ x.1))
-      by (Some b) e None f = let x = k.forth t b e in absurd (no_baton x.0 (sym f ∙ x.1))
+      by None e (Some d) f = let x = k.back t d f in absurd (none-some x.0 (sym e ∙ x.1))
+      by (Some b) e None f = let x = k.forth t b e in absurd (none-some x.0 (sym f ∙ x.1))
       by (Some b) e (Some d) f =
           let x = k.forth t b e in ap (λ (y : Baton). y.pool.0) (same_Some d x.0 (sym f ∙ x.1)) ∙ x.2
 
@@ -381,11 +377,11 @@ LeavesAll old new d r = OnErr r ((mode : Mode) (calls : List Call) → IsNext mo
 
 -- one that leaves the pools as they were
 pub kept_left : (old new : Edit) (d : Call) (r : Result (Unit {0}) EditFault) → OnErr r (KeepsPools old new) → LeavesAll old new d r
-kept_left old new d r same = map_err r same (λ kept mode calls next. keeps_left old new calls d next.holds.batons kept)
+kept_left old new d r same = OnErr_then r same (λ kept mode calls next. keeps_left old new calls d next.holds.batons kept)
 
 -- one that leaves the whole edit
 pub unchanged_left : (old new : Edit) (d : Call) (r : Result (Unit {0}) EditFault) → OnErr r (new ≡ old) → LeavesAll old new d r
-unchanged_left old new d r same = kept_left old new d r (map_err r same (λ e. subst (KeepsPools old) (sym e) (keeps_same old)))
+unchanged_left old new d r same = kept_left old new d r (OnErr_then r same (λ e. subst (KeepsPools old) (sym e) (keeps_same old)))
 
 -- one that gives a token, and leaves the pools where that had no baton
 pub given_left : (old new : Edit) (c d : Call) (g : Given) (r : Result (Unit {0}) EditFault) → d ≡ c → given_by c ≡ Some g
@@ -397,10 +393,10 @@ given_left old new c d g r is gives going kept = err_by r (λ e bad mode calls n
 pub said_left : (old new : Edit) (c d : Call) (m : ℕ) (k : Kind) (strings : List (List ℕ)) (r : Result (Unit {0}) EditFault) → d ≡ c
     → is_abort c ≡ false → named_by c ≡ Some (m, k) → call_strings c m ≡ cond (nat_eq m m) strings []
     → OnErr r ((b : Baton) → batons_of old m ≡ Some b → NoteBegan m b strings old new) → LeavesAll old new d r
-said_left old new c d m k strings r is going named brings said = map_err r said (λ began mode calls next.
+said_left old new c d m k strings r is going named brings said = OnErr_then r said (λ began mode calls next.
     let b = named_baton mode old calls c d m k is next going named in
     began_left old new calls d m b.0 strings next.holds.batons b.1
-    (ap (λ (x : Call). call_strings x m) is ∙ brings ∙ ap (λ same. cond same strings []) (eq_true m m refl)) (began b.0 b.1))
+    (ap (λ (x : Call). call_strings x m) is ∙ brings ∙ ap (λ same. cond same strings []) (eq-eqb m m refl)) (began b.0 b.1))
 
 -- ---- a call's answer and the pools
 

@@ -4,6 +4,9 @@ use Rattle.std.proofs.Common.{ap, arith}
 use Rattle.std.specs.Prelude.{Some, None, slice_get, count_by}
 use Rattle.std.specs.List.{list_any}
 use Rattle.std.proofs.lemmas.List.Sums.{sum_by-append}
+use Rattle.std.proofs.Math.Bool.{or-true}
+use Rattle.std.proofs.lemmas.Bool.{or_parts}
+use Rattle.svn_lists.proofs.Somewhere.{any_push, any_still}
 use Rattle.svn_types.specs.declared.kind.Kind.{Kind}
 use Rattle.svn_types.specs.declared.kind.Kind.TheVariants.{File, Directory}
 use Rattle.svn_editor.specs.declared.call.Call.{Call}
@@ -11,7 +14,7 @@ use Rattle.svn_editor.specs.declared.call.Call.TheVariants.{CloseEdit}
 use Rattle.svn_editor.specs.Calls.{Given, kind_eq, given_by, closes, all_given, given, is_closed, is_open_directory, is_open_file}
 use Rattle.svn_editor.specs.Calls.{a_directory_is_open, a_file_is_open}
 use Rattle.svn_editor.specs.Order.{order_fault}
-use Rattle.svn_editor.proofs.OneMore.{any_more, any_still, or_parts, or_true, given_none, given_one}
+use Rattle.svn_editor.proofs.OneMore.{given_none, given_one}
 use Rattle.svn_editor.proofs.Accepted.{accepted}
 use Rattle.svn_order.proofs.Sound.{IsSound, given_closes}
 use Rattle.svn_edit.specs.Applying.{open_count}
@@ -72,8 +75,8 @@ pub open_fewer : (calls : List Call) (c : Call) (m : ℕ) → IsSound calls → 
 open_fewer calls c m s none is shut others =
     one_fewer (λ x. not (is_closed calls x.token)) (λ x. not (is_closed (calls ++ c ∷ []) x.token)) (all_given calls) m is.0 is.1
     (ap (λ t. not (is_closed calls t)) (s.numbered m is.0 is.1) ∙ ap not is.2)
-    (ap (λ t. not (is_closed (calls ++ c ∷ []) t)) (s.numbered m is.0 is.1) ∙ ap not (any_more (closes m) calls c
-    ∙ ap (λ b. is_closed calls m || b) shut ∙ or_true (is_closed calls m)))
+    (ap (λ t. not (is_closed (calls ++ c ∷ []) t)) (s.numbered m is.0 is.1) ∙ ap not (any_push (closes m) calls c
+    ∙ ap (λ b. is_closed calls m || b) shut ∙ or-true (is_closed calls m)))
     (λ j h n e. ap (λ t. not (is_closed (calls ++ c ∷ []) t)) (s.numbered j h e) ∙ ap not (any_still (closes j) calls c (others j n))
     ∙ sym (ap (λ t. not (is_closed calls t)) (s.numbered j h e)))
     ∙ ap (λ (gs : List Given). count_by (λ x. not (is_closed (calls ++ c ∷ []) x.token)) gs + 1) (sym (given_none calls c none))

@@ -5,7 +5,7 @@ use Rattle.std.proofs.lemmas.Option.{none-some}
 use Rattle.std.specs.Prelude.{Option, Some, None, is_some, Result, Err, nat_eq, ◌-◌}
 use Rattle.std.specs.FinMap as fin
 use Rattle.std.specs.Ordering.{nat_cmp}
-use Rattle.std.proofs.lemmas.Bool.{cases_eq}
+use Rattle.std.proofs.lemmas.Bool.{cases_eq, eqb-true}
 use Rattle.std.proofs.lemmas.Cmp.{nat_cmp_total}
 use Rattle.svn_types.specs.Names.{Path}
 use Rattle.svn_types.specs.PathKeys.{path_key}
@@ -15,7 +15,6 @@ use Rattle.svn_pool.specs.Faults.{Settles}
 use Rattle.svn_pool.specs.Refusals.{clear_fault, destroy_fault, fault_if_live}
 use Rattle.svn_pool.specs.declared.fault.PoolFault.{PoolFault}
 use Rattle.svn_pool.specs.declared.fault.PoolFault.TheVariants.{IsRoot}
-use Rattle.svn_editor.proofs.Nested.{true_eq}
 use Rattle.svn_pool.proofs.Views.{inserted_here, inserted_away, removed_here, removed_away}
 use Rattle.svn_edit.specs.declared.baton.Baton.{Baton}
 use Rattle.svn_edit.specs.declared.baton.Note.{Note}
@@ -196,7 +195,7 @@ not_refused t s e f live apart h = by (pool_at t s) live (nat_eq s t.root) refl 
       where
         none : None ≡ Some e → ⊥
         none x = cc
-    by (Some x) k true q g = apart (true_eq s t.root q)
+    by (Some x) k true q g = apart (eqb-true s t.root q)
     by (Some x) k false q g = true≢false (sym g)
 
 pub not_uncleared : (t : Pools) (e : Entry) (f : PoolFault) → pool_at t t.root ≡ Some e → Settles (clear_fault t t.root) (refused f) → ⊥

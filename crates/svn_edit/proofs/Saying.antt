@@ -1,5 +1,5 @@
 -- What is said, read note by note.
-use Rattle.std.proofs.Common.{◌≡◌, ℕ, zero, suc, ◌<◌, ◌≤◌, true, arith, length, drop, get_or, List, [], ◌∷◌, ◌++◌, map, refl, sym, ◌∙◌, ap}
+use Rattle.std.proofs.Common.{◌≡◌, ℕ, ◌<◌, ◌≤◌, true, arith, length, get_or, List, [], ◌∷◌, ◌++◌, map, refl, sym, ◌∙◌, ap}
 use Rattle.std.proofs.Common.{Bool, false, not, ◌||◌, subst, true≢false, append-nil, length-append}
 use Rattle.std.proofs.lemmas.List.{get_or_append_left, get_or_push}
 use Rattle.std.proofs.lemmas.List.Elements.{filter_map-append}
@@ -166,12 +166,6 @@ said_done before now said notes strings s none = by s.left (sym none ∙ s.notes
         (filter_map change_in left) → now ≡ with_changes before (filter_map change_in said)
     by [] e p = sym p
     by (a ∷ left) e p = cc
-
-pub all_dropped : (xs : List Note) (i : ℕ) → length xs ≤ i → drop i xs ≡ []
-all_dropped [] zero h = refl
-all_dropped [] (suc i) h = refl
-all_dropped (x ∷ xs) zero h = absurd (omega arith)
-all_dropped (x ∷ xs) (suc i) h = all_dropped xs i (omega arith)
 
 -- where no note is of a property, nothing is said of one
 pub no_change_said : (said : List Action) → list_any is_change (map note_of said) ≡ false → filter_map change_in said ≡ []

@@ -2,6 +2,7 @@
 use Rattle.std.proofs.Common.{◌≡◌, ◌≢◌, ℕ, true, false, true≢false, List, [], refl, sym, ◌∙◌, subst}
 use Rattle.std.specs.Prelude.{Some, None, Result, Ok, OnOk, OnErr, IfErr}
 use Rattle.md5.specs.Md5.{md5}
+use Rattle.svn_lists.proofs.Results.{OnOk_then, ok_by, OnErr_from}
 use Rattle.svn_types.specs.declared.kind.Kind.{Kind}
 use Rattle.svn_types.specs.Names.{Path}
 use Rattle.svn_editor.specs.declared.call.Call.{Call}
@@ -27,7 +28,7 @@ use Rattle.svn_edit.specs.Opening.{GivesToken}
 use Rattle.svn_edit.specs.Taking.{Takes, AppliesCall, HoldsCall, LeavesCallPools}
 use Rattle.svn_edit.proofs.PoolStrings.{one_left}
 use Rattle.svn_edit.proofs.HeldBatons.{held_still}
-use Rattle.svn_edit.proofs.Holding.{map_ok, ok_by, on_err, given_holds, holds_still, applied_read}
+use Rattle.svn_edit.proofs.Holding.{given_holds, holds_still, applied_read}
 use Rattle.svn_edit.proofs.Closes.{note_holds}
 use Rattle.svn_edit.proofs.Bases.{made_bases, said_bases, gone_bases, still_bases, no_base}
 use Rattle.svn_edit.proofs.Switching.{end_applied, end_left}
@@ -60,7 +61,8 @@ module _ (old new : Edit) (nodes nodes2 : List (Path × BaseNode)) (c : Call) (r
       → Takes old nodes c r new nodes2
   noted_taken m k act named gives still says shut notes = record {
     applied = applied;
-    holds = map_ok r notes (λ h mode calls next last. note_holds mode old new calls c c m k act refl next aborts named (still _) gives says
+    holds = OnOk_then r notes (λ h mode calls next last. note_holds mode old new calls c c m k act refl next aborts named
+        (still _) gives says
         shut keeps h);
     last = λ h. absurd (true≢false (sym h ∙ going));
     abort = λ h. absurd (true≢false (sym h ∙ aborts));
@@ -122,7 +124,7 @@ deleted_taken old nodes nodes2 p rev parent r applied = record {
   order = refl;
   bases = ok_by r (λ ok mode calls next last. still_bases old c);
   base = ok_by r (λ ok. no_base c c (batons_of old) nodes2 refl refl);
-  pools = unchanged_left old old c r (on_err r refl);
+  pools = unchanged_left old old c r (OnErr_from r refl);
 }
   where
     c : Call
@@ -142,7 +144,7 @@ ended_taken old nodes nodes2 r taken applied = record {
   order = refl;
   bases = ok_by r (λ ok mode calls next last. absurd (true≢false last));
   base = ok_by r (λ ok. no_base CloseEdit CloseEdit (batons_of old) nodes2 refl refl);
-  pools = unchanged_left old old CloseEdit r (on_err r refl);
+  pools = unchanged_left old old CloseEdit r (OnErr_from r refl);
 }
 
 -- giving up

@@ -17,8 +17,8 @@ use crate::open_path::OpenPath;
 use smallvec::SmallVec;
 use std::alloc::{AllocError, Global};
 use svn_editor::Digest;
-use svn_pool::{PoolId, PoolTree, Reader};
-use svn_types::{PropName, Props, Text};
+use svn_pool::{PoolFault, PoolId, PoolTree, Reader};
+use svn_types::{PathFault, PropName, Props, Text, impossible};
 
 /// What the strings of a baton's pool say, behind the first, which is the path's key.
 #[derive(Clone, Copy, Default)]
@@ -61,7 +61,16 @@ pub(crate) struct Baton {
     pub(crate) base: Option<Digest>,
 }
 
-// Pushes a string, and tells its place.
+// The fault of a pool, as one of memory: the pools of batons are live, and what is pushed has a length that was tested.
+fn out_of_memory(fault: PoolFault) -> AllocError {
+    match fault {
+        // where a pool can count no more strings or blocks, it has no room either
+        PoolFault::Memory | PoolFault::Full => AllocError,
+        PoolFault::Gone | PoolFault::TooLong | PoolFault::IsRoot => impossible(AllocError),
+    }
+}
+
+// Pushes a string, and returns its place.
 fn push(pools: &mut PoolTree<Global>, pool: PoolId, bytes: &[u8]) -> Result<u32, AllocError>
     ensures pushed { OnOk result (pools.new ≡ pushed pools.old pool.0 bytes.now) }
     ensures place { IfOk result (λ place. place ≡ length (strings_at pools.old pool.0)) }
@@ -69,7 +78,7 @@ fn push(pools: &mut PoolTree<Global>, pool: PoolId, bytes: &[u8]) -> Result<u32,
 {
     match pools.push(pool, bytes) {
         Ok(place) => Ok(place),
-        Err(_) => Err(AllocError),
+        Err(fault) => Err(out_of_memory(fault)),
     }
 }
 
@@ -94,13 +103,14 @@ impl Baton {
         ensures begun { IfOk result (λ b. BatonBegun beneath.0 path pools.old b pools.new) }
         ensures kept { OnErr result (SamePools pools.old pools.new) }
     {
-        let Ok(pool) = pools.create(beneath) else {
-            return Err(AllocError);
+        let pool = match pools.create(beneath) {
+            Ok(pool) => pool,
+            Err(fault) => return Err(out_of_memory(fault)),
         };
-        let Ok(_) = pools.push(pool, path.as_rel_path().key().as_bytes()) else {
+        if let Err(fault) = pools.push(pool, path.as_rel_path().key().as_bytes()) {
             drop_pool(pools, pool);
-            return Err(AllocError);
-        };
+            return Err(out_of_memory(fault));
+        }
         Ok(Baton {
             path,
             pool,
@@ -148,17 +158,19 @@ impl Baton {
     }
 }
 
-// The name of a property that a string has. A string that is no name can't come, since each was pushed from one; but what was said of
-// a path is bytes in the definitions too, which don't say so: hence AllocError.
+// The name of a property that a string has.
 fn prop_name(alloc: Global, bytes: Option<&[u8]>) -> Result<PropName, AllocError>
     ensures { IfOk result (λ n. option_copied bytes.entry ≡ Some n) }
 {
     let Some(bytes) = bytes else {
-        return Err(AllocError);
+        // a pool has the strings of each note of its baton
+        return Err(impossible(AllocError));
     };
     match PropName::from_bytes(alloc, bytes) {
         Ok(name) => Ok(name),
-        Err(_) => Err(AllocError),
+        Err(PathFault::Memory) => Err(AllocError),
+        // the string was pushed from a name; but what was said of a path is bytes in the definitions, which don't say so
+        Err(_) => Err(impossible(AllocError)),
     }
 }
 
@@ -167,7 +179,8 @@ fn copied_text(alloc: Global, bytes: Option<&[u8]>) -> Result<Text, AllocError>
     ensures { IfOk result (λ t. option_copied bytes.entry ≡ Some t) }
 {
     let Some(bytes) = bytes else {
-        return Err(AllocError);
+        // a pool has the strings of each note of its baton
+        return Err(impossible(AllocError));
     };
     Text::from_slice(alloc, bytes)
 }
@@ -220,8 +233,9 @@ impl Baton {
     ) -> Result<(), AllocError>
         ensures { OnOk result ((said : List Action) → Says self.now pools.now said → props.new ≡ with_changes props.old (filter_map change_in said)) }
     {
-        let Ok(mut strings) = pools.strings(self.pool) else {
-            return Err(AllocError);
+        let mut strings = match pools.strings(self.pool) {
+            Ok(strings) => strings,
+            Err(fault) => return Err(out_of_memory(fault)),
         };
         let _path = strings.next();
         for note in self.notes.as_slice() {

@@ -20,7 +20,7 @@ use std::alloc::AllocError;
 use svn_editor::{Digest, EditFault, Mode, Token};
 use svn_model::BaseNode;
 use svn_nodes::{Nodes, ending, nodes, or_memory, paths};
-use svn_types::{Props, RelPath, Text};
+use svn_types::{Props, RelPath, Text, impossible};
 
 // Puts a value into a place, if there is one: else the place keeps its own.
 fn set_if_some<T: Drop>(place: &mut T, new: Option<T>)
@@ -82,7 +82,8 @@ impl Edit {
         ensures unchanged { OnErr result (self.new ≡ self.old) }
     {
         let Some(baton) = self.batons.get(token.0) else {
-            return Err(EditFault::Memory);
+            // what a call in order closes is open
+            return Err(impossible(EditFault::Memory));
         };
         if let Some(node) = copy.get_mut(baton.path.as_rel_path()) {
             self.complete(node, baton)?;
@@ -244,7 +245,8 @@ impl Edit {
         ensures unchanged { OnErr result (self.new ≡ self.old) }
     {
         let Some(baton) = self.batons.get(token.0) else {
-            return Err(EditFault::Memory);
+            // what a call in order closes is open
+            return Err(impossible(EditFault::Memory));
         };
         self.close_file_of(copy, baton, text_md5)?;
         self.given = None;

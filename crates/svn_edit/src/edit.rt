@@ -30,7 +30,7 @@ use svn_nodes::{Nodes, nodes, or_memory};
 use svn_order::OrderCheck;
 use svn_pool::{PoolId, PoolTree};
 use svn_serials::SerialMap;
-use svn_types::{MAX_SIZE, PropName, RelPath, Rev, Text};
+use svn_types::{MAX_SIZE, PropName, RelPath, Rev, Text, impossible};
 
 /// How far an edit is.
 #[derive(Clone, Copy)]
@@ -53,8 +53,8 @@ pub struct Edit {
     /// Whether it is of an update, or of a switch of the whole copy.
     pub(crate) mode: Mode,
     pub(crate) pools: PoolTree<Global>,
-    // The token that a call in order names has a baton. But the calls so far, from which that follows, stand in no field and in no
-    // condition of a call, so where a baton is looked up the branch without one stays, and answers Memory.
+    // The token that a call in order names has a baton. But the calls so far, from which that follows, are in no field and in no
+    // condition of a call, so where a baton is looked up the branch without one stays, and is `impossible`.
     pub(crate) batons: SerialMap<Baton, Global>,
     /// The text that came last, from its call to the next close of a file, where a clone of it copies no bytes and knows their checksum.
     /// That close may install it, once it is found to be what lies in the pool.
@@ -313,7 +313,8 @@ impl Edit {
         }
         match self.batons.get_mut(token.0) {
             Some(baton) => or_memory(baton.note_change(&mut self.pools, name, value)),
-            None => Err(EditFault::Memory),
+            // what a call in order changes is open
+            None => Err(impossible(EditFault::Memory)),
         }
     }
 
@@ -340,7 +341,8 @@ impl Edit {
                 self.given = kept(text);
                 or_memory(baton.note_text(&mut self.pools, text))
             }
-            None => Err(EditFault::Memory),
+            // what a call in order changes is open
+            None => Err(impossible(EditFault::Memory)),
         }
     }
 }

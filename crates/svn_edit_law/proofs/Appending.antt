@@ -2,9 +2,9 @@
 use Rattle.std.proofs.Common.{◌≡◌, ℕ, Bool, true, false, cond, ◌&&◌, List, [], ◌∷◌, ◌++◌, refl, sym, ◌∙◌, ap, append_assoc, append-nil}
 use Rattle.std.specs.Prelude.{Option, Some, None}
 use Rattle.std.specs.List.{cons_option, list_any}
+use Rattle.svn_lists.proofs.Options.{some-none}
 use Rattle.svn_types.specs.Names.{Path}
 use Rattle.svn_types.specs.Paths.{path_eq}
-use Rattle.svn_types.proofs.Places.{some_none}
 use Rattle.svn_editor.specs.declared.call.Call.{Call}
 use Rattle.svn_editor.specs.declared.call.Call.TheVariants.{SetTargetRevision, AbortEdit}
 use Rattle.svn_editor.specs.declared.fault.OrderFault.TheVariants.{Ended, TargetFirst}
@@ -61,11 +61,11 @@ target-more [] c l o = refl
 target-more (SetTargetRevision rev ∷ calls) (SetTargetRevision r) l o = absurd (by (list_any is_last calls) o)
   where
     by : (b : Bool) → cond b (Some Ended) (Some TargetFirst) ≡ None → ⊥
-    by true e = some_none Ended e
-    by false e = some_none TargetFirst e
+    by true e = some-none Ended e
+    by false e = some-none TargetFirst e
 target-more (SetTargetRevision rev ∷ calls) c l o = refl
-target-more (AbortEdit ∷ calls) c l o = absurd (some_none _ o)
-target-more (d ∷ calls) c l o = absurd (some_none _ l.0)
+target-more (AbortEdit ∷ calls) c l o = absurd (some-none _ o)
+target-more (d ∷ calls) c l o = absurd (some-none _ l.0)
 
 -- ---- what is said
 

@@ -3,7 +3,9 @@ use Rattle.std.proofs.Common.{◌≡◌, ◌≢◌, ℕ, zero, suc, ◌+◌, ◌
 use Rattle.std.proofs.Common.{length, drop, refl, sym, ◌∙◌, ap, subst, true≢false, append_assoc, append-nil, length-append, arith}
 use Rattle.std.specs.Prelude.{Option, Some, None, is_some, option_map, option_and_then, cond, nat_lt, slice_get, bytes_eq}
 use Rattle.std.specs.Map.{keys_of}
-use Rattle.std.proofs.lemmas.Bool.{and_parts, or_parts, ltb-false}
+use Rattle.std.proofs.lemmas.Bool.{and_parts, or_parts, ltb-false, not-false}
+use Rattle.std.proofs.Math.Seq.{drop-append_seam}
+use Rattle.svn_lists.proofs.Options.{cond_none, some_value}
 use Rattle.svn_types.specs.Names.{Path}
 use Rattle.svn_types.specs.Paths.{path_eq, is_within, is_root, child, parent, last_name}
 use Rattle.svn_types.specs.declared.kind.Kind.{Kind}
@@ -13,9 +15,7 @@ use Rattle.svn_repo.specs.Readings.{IsHistory, kind_of, text_of, props_of, row_o
 use Rattle.svn_types.specs.Limits.{path_limit}
 use Rattle.svn_types.proofs.NameLemmas.{Name}
 use Rattle.svn_types.proofs.PathLemmas.{same_path, path_eq-same, parent-child, split_within, within_append}
-pub use Rattle.svn_types.proofs.Places.{passed}
 use Rattle.svn_repo.specs.Laws.{NodesExist}
-use Rattle.svn_editor.proofs.OneMore.{not_false}
 use Rattle.svn_model.specs.declared.base_node.BaseNode.{BaseNode}
 use Rattle.svn_model.specs.declared.base_node.BaseNode.TheVariants.{File as FileNode, Dir as DirNode, NotPresent}
 use Rattle.svn_model.specs.declared.wc_fault.WcFault.TheVariants.{NoSuchRevision, Missing, NoParent, IsRoot, TooDeep, BadRoot}
@@ -29,7 +29,7 @@ use Rattle.svn_edit_law.specs.Laws.{EndsNamed}
 use Rattle.svn_edit_law.specs.CopyLaws.{KeepsCopy, commits_keep_copies_true, a_checkout_is_a_true_copy, placing_keeps_a_copy}
 use Rattle.svn_edit_law.specs.CopyLaws.{switching_keeps_a_copy, forgetting_keeps_a_copy}
 use Rattle.svn_edit_law.proofs.OneNode.{dir_present, present_stands}
-use Rattle.svn_edit_law.proofs.Parts.{drop_front, outside_true, IsTree, tree_true, tree_parents, tree_names, tree_repos_paths, tree_paths}
+use Rattle.svn_edit_law.proofs.Parts.{outside_true, IsTree, tree_true, tree_parents, tree_names, tree_repos_paths, tree_paths}
 use Rattle.svn_edit_law.proofs.Parts.{replaced_shape}
 
 -- ---- commits
@@ -79,12 +79,6 @@ module _ (h h' : History) (looks : (r : ℕ) (q : Path) → r < length h.roots �
 pub commits_keep : commits_keep_copies_true
 commits_keep h h' changes w exist commit t p = still_true h h' commit.1.old_revisions commit.1.old_nodes exist w p (w p) (t p)
 
--- ---- faults
-
-stands_there : (o : Option ℕ) → not (is_some o) ≡ false → (n : ℕ) × (o ≡ Some n)
-stands_there None e = absurd (true≢false e)
-stands_there (Some n) e = (n, refl)
-
 -- ---- checkouts
 
 module _ (h : History) (q : Path) (r : ℕ) where
@@ -96,9 +90,9 @@ module _ (h : History) (q : Path) (r : ℕ) where
 
   checkout_root : checkout_fault h q r ≡ None → is_dir (checkout h q r []) ≡ true
   checkout_root f =
-      let one = passed (is_missing_revision h r) NoSuchRevision _ f in
-      let two = passed (is_nowhere h q r) Missing _ one.1 in
-      let three = passed (is_repos_file h (look h r q)) BadRoot None two.1 in
+      let one = cond_none (is_missing_revision h r) NoSuchRevision _ f in
+      let two = cond_none (is_nowhere h q r) Missing _ one.1 in
+      let three = cond_none (is_repos_file h (look h r q)) BadRoot None two.1 in
       ap (λ p. is_dir (option_map (base_node h r p) (look h r p))) (append-nil q) ∙ by (look h r q) two.0 three.0
     where
       dir : (k : Kind) (text : List ℕ) (props : List (List ℕ × List ℕ)) → is_file_kind k ≡ false
@@ -131,7 +125,7 @@ module _ (h : History) (w : WorkingCopy) (at q : Path) (r : ℕ) where
   new_tree : IsTree h new at q r
   new_tree s =
       ap (λ b. cond b (checkout h q r (drop (length at) (at ++ s))) (w (at ++ s))) (within_append at s)
-      ∙ ap (checkout h q r) (drop_front at s)
+      ∙ ap (checkout h q r) (drop-append_seam at s)
 
   new_outside : (p : Path) → is_within at p ≡ false → new p ≡ w p
   new_outside p e = ap (λ b. cond b (checkout h q r (drop (length at) p)) (w p)) e
@@ -173,14 +167,14 @@ module _ (h : History) (w : WorkingCopy) (at q : Path) (r : ℕ) where
 
 pub switches : switching_keeps_a_copy
 switches h w at q r history shape named f =
-    let one = passed (is_root at) IsRoot _ f in
-    let two = passed (is_missing_revision h r) NoSuchRevision _ one.1 in
-    let three = passed (not (is_dir (w (parent at)))) NoParent _ two.1 in
-    let four = passed (is_too_deep at q) TooDeep _ three.1 in
-    let five = passed (is_nowhere h q r) Missing None four.1 in
-    let there = stands_there (look h r q) five.0 in
+    let one = cond_none (is_root at) IsRoot _ f in
+    let two = cond_none (is_missing_revision h r) NoSuchRevision _ one.1 in
+    let three = cond_none (not (is_dir (w (parent at)))) NoParent _ two.1 in
+    let four = cond_none (is_too_deep at q) TooDeep _ three.1 in
+    let five = cond_none (is_nowhere h q r) Missing None four.1 in
+    let there = some_value (look h r q) (not-false (is_some (look h r q)) five.0) in
     let deep = or_parts (nat_lt path_limit (length q)) (nat_lt (path_limit + length q) (length at)) four.0 in
-    placed_keeps h w at q r there.0 there.1 history shape named one.0 (not_false (is_dir (w (parent at))) three.0)
+    placed_keeps h w at q r there.0 there.1 history shape named one.0 (not-false (is_dir (w (parent at))) three.0)
     (ltb-false (path_limit + length q) (length at) deep.1)
 
 -- the path under the parent's repository path is near enough
@@ -201,12 +195,12 @@ near_joined w at shape above =
 
 pub places : placing_keeps_a_copy
 places h w at r history shape named f =
-    let one = passed (is_root at) IsRoot _ f in
-    let two = passed (is_missing_revision h r) NoSuchRevision _ one.1 in
-    let three = passed (not (is_dir (w (parent at)))) NoParent _ two.1 in
-    let four = passed (is_nowhere h (joined_path w at) r) Missing None three.1 in
-    let there = stands_there (look h r (joined_path w at)) four.0 in
-    let above = not_false (is_dir (w (parent at))) three.0 in
+    let one = cond_none (is_root at) IsRoot _ f in
+    let two = cond_none (is_missing_revision h r) NoSuchRevision _ one.1 in
+    let three = cond_none (not (is_dir (w (parent at)))) NoParent _ two.1 in
+    let four = cond_none (is_nowhere h (joined_path w at) r) Missing None three.1 in
+    let there = some_value (look h r (joined_path w at)) (not-false (is_some (look h r (joined_path w at))) four.0) in
+    let above = not-false (is_dir (w (parent at))) three.0 in
     placed_keeps h w at (joined_path w at) r there.0 there.1 history shape named one.0 above (near_joined w at shape above)
 
 -- ---- what is forgotten
@@ -264,7 +258,7 @@ module _ (w : WorkingCopy) (at : Path) where
 
   module _ (shape : IsWorkingCopy w) (f : forget_fault w at ≡ None) where
     present_at : is_present (w at) ≡ true
-    present_at = not_false (is_present (w at)) (passed (not (is_present (w at))) Missing None (passed (is_root at) IsRoot _ f).1).0
+    present_at = not-false (is_present (w at)) (cond_none (not (is_present (w at))) Missing None (cond_none (is_root at) IsRoot _ f).1).0
 
     -- nothing is a child of what isn't present
     no_child : (s : Path) (name : Name) → left (child (at ++ s) name) ≢ None → ⊥
@@ -295,7 +289,7 @@ module _ (w : WorkingCopy) (at : Path) where
 
     forgotten_shape : IsWorkingCopy left
     forgotten_shape = replaced_shape w left at shape (record {
-      not_root = (passed (is_root at) IsRoot _ f).0;
+      not_root = (cond_none (is_root at) IsRoot _ f).0;
       outside = left_outside;
       above = λ p name e. shape.parents p name (λ none. present_stands (w at) present_at (ap w e ∙ none));
       named = λ p name e. shape.names p name (λ none. present_stands (w at) present_at (ap w e ∙ none));

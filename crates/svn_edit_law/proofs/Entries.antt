@@ -2,10 +2,11 @@
 use Rattle.std.proofs.Common.{◌≡◌, ◌≢◌, ℕ, Bool, true, false, ◌||◌, List, [], ◌∷◌, refl, sym, ◌∙◌, ap, subst}
 use Rattle.std.specs.Prelude.{Some, None, cond, bytes_eq}
 use Rattle.std.proofs.lemmas.Bool.{or_right}
+use Rattle.svn_lists.proofs.Equality.{bytes_eq-same, same_bytes}
 use Rattle.svn_types.specs.Names.{Path, IsName}
 use Rattle.svn_types.specs.Paths.{child}
 use Rattle.svn_types.specs.Pairs.{value_of}
-use Rattle.svn_types.proofs.NameLemmas.{Name, same_bytes, bytes_eq-same, value_of-first, has_name}
+use Rattle.svn_types.proofs.NameLemmas.{Name, value_of-first, has_name}
 use Rattle.svn_repo.specs.Readings.{AllNames}
 use Rattle.svn_model.specs.Nodes.{WorkingCopy, HasEntries}
 

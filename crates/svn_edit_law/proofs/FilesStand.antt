@@ -3,6 +3,8 @@ use Rattle.std.proofs.Common.{◌≡◌, ℕ, Bool, true, false, cond, ◌&&◌,
 use Rattle.std.specs.Prelude.{Option, Some, None, is_some}
 use Rattle.std.specs.List.{list_any}
 use Rattle.std.proofs.lemmas.Option.{same_Some}
+use Rattle.std.proofs.lemmas.Bool.{eq-eqb, or_parts}
+use Rattle.std.proofs.lemmas.Map.Keys.{any_passes_from_place}
 use Rattle.svn_types.specs.declared.kind.Kind.TheVariants.{File, Directory}
 use Rattle.svn_types.specs.Names.{Path}
 use Rattle.svn_types.specs.Paths.{path_eq}
@@ -15,8 +17,6 @@ use Rattle.svn_editor.specs.Calls.{Given, kind_eq, given, given_by, given_path, 
 use Rattle.svn_editor.specs.Calls.{is_open_file, a_file_is_open, a_directory_is_open}
 use Rattle.svn_editor.specs.declared.mode.Mode.{Mode}
 use Rattle.svn_editor.specs.Steps.{Action, Open, Add, Change, Text, Close, steps_of, target_of}
-use Rattle.svn_editor.proofs.OneMore.{any_at, or_parts}
-use Rattle.svn_editor.proofs.Nested.{eq_true}
 use Rattle.svn_editor.proofs.Accepted.{IsAccepted}
 use Rattle.svn_order.proofs.Sound.{IsSound, known, member_of}
 use Rattle.svn_model.specs.declared.base_node.BaseNode.{BaseNode}
@@ -88,8 +88,8 @@ module _ (mode : Mode) (calls : List Call) (w : WorkingCopy) (c : Call) (s : IsS
       by (CloseFile token sum) b z =
           let k = known calls (CloseFile token sum) token File b refl in
           elsewhere (path_of calls token) (Close File sum) (λ o. refl)
-          (λ same. true≢false (sym (eq_true token t (token_is token k.given_as k.is same)) ∙ z))
+          (λ same. true≢false (sym (eq-eqb token t (token_is token k.given_as k.is same)) ∙ z))
       by CloseEdit b z =
-          absurd (true≢false (sym (any_at (is_open_file calls) (all_given calls) t g e open_file)
+          absurd (true≢false (sym (any_passes_from_place (is_open_file calls) (all_given calls) t g e open_file)
           ∙ (or_parts (not (is_some (given calls 0)) || a_directory_is_open calls) (a_file_is_open calls) b.root_closed).1))
       by AbortEdit b z = refl

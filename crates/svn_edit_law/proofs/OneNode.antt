@@ -7,6 +7,7 @@ use Rattle.std.specs.BTreeMap.{is_at}
 use Rattle.std.proofs.lemmas.Bool.Decides.{nat_tests}
 use Rattle.std.proofs.lemmas.List.{length-append}
 use Rattle.std.proofs.lemmas.Option.{same_Some}
+use Rattle.std.proofs.lemmas.Bool.{or_parts}
 use Rattle.svn_types.specs.Names.{Path, IsName, path_cmp}
 use Rattle.svn_types.specs.Paths.{path_eq, is_within, is_root, child, parent, last_name}
 use Rattle.svn_types.specs.Limits.{path_limit}
@@ -14,7 +15,6 @@ use Rattle.svn_types.proofs.PathLemmas.{same_path, is_within-longer}
 use Rattle.svn_types.proofs.PathsInOrder.{at_path}
 use Rattle.svn_editor.specs.declared.mode.Mode.{Mode}
 use Rattle.svn_editor.specs.declared.mode.Mode.TheVariants.{Update, SwitchTo}
-use Rattle.svn_editor.proofs.OneMore.{or_parts}
 use Rattle.svn_model.specs.declared.base_node.BaseNode.{BaseNode}
 use Rattle.svn_model.specs.declared.base_node.BaseNode.TheVariants.{File as FileNode, Dir as DirNode, NotPresent}
 use Rattle.svn_model.specs.Nodes.{WorkingCopy, IsWorkingCopy, get_in, is_dir, is_present, node_path}

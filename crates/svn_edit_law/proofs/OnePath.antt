@@ -4,6 +4,10 @@ use Rattle.std.proofs.Common.{subst, true≢false, inl, inr, append_assoc, appen
 use Rattle.std.specs.Prelude.{Option, Some, None, ◌⊎◌, slice_get}
 use Rattle.std.specs.List.{cons_option, list_any}
 use Rattle.std.proofs.lemmas.Option.{same_Some}
+use Rattle.std.proofs.lemmas.Bool.{or_parts}
+use Rattle.svn_lists.proofs.Options.{some-none}
+use Rattle.svn_lists.proofs.Places.{slice_get_push_cases}
+use Rattle.svn_lists.proofs.Somewhere.{any_push}
 use Rattle.svn_types.specs.declared.kind.Kind.{Kind}
 use Rattle.svn_types.specs.declared.kind.Kind.TheVariants.{File, Directory}
 use Rattle.svn_types.specs.Names.{Path}
@@ -15,8 +19,7 @@ use Rattle.svn_editor.specs.Calls.{Given, given_by, named_by, opens_entry, delet
 use Rattle.svn_editor.specs.Order.{order_fault, IsLawfulAfter, IsLawful}
 use Rattle.svn_editor.specs.Steps.{Action, Delete, Open, Add, Change, Text, Close, step_of, steps_of}
 use Rattle.svn_types.proofs.PathLemmas.{same_path, path_eq-same}
-use Rattle.svn_types.proofs.Places.{get_cases, some_none}
-use Rattle.svn_editor.proofs.OneMore.{or_parts, any_more, given_none, given_one}
+use Rattle.svn_editor.proofs.OneMore.{given_none, given_one}
 use Rattle.svn_editor.proofs.Accepted.{IsAccepted, accepted}
 use Rattle.svn_order.proofs.Sound.{IsSound, known, member_of}
 use Rattle.svn_order.proofs.Lawful.{sound, lawful_more}
@@ -49,9 +52,9 @@ said_by-quiet calls (CloseDirectory token) p h = quiet p (path_of calls token) (
 said_by-quiet calls (AddFile path parent token) p h = quiet p path (Add File) refl
 said_by-quiet calls (OpenFile path parent base token) p h = quiet p path (Open File base) refl
 said_by-quiet calls (CloseFile token text_md5) p h = quiet p (path_of calls token) (Close File text_md5) refl
-said_by-quiet calls (ChangeDirProp token name value) p h = absurd (some_none _ h)
-said_by-quiet calls (ChangeFileProp token name value) p h = absurd (some_none _ h)
-said_by-quiet calls (ApplyText token base_md5 text) p h = absurd (some_none _ h)
+said_by-quiet calls (ChangeDirProp token name value) p h = absurd (some-none _ h)
+said_by-quiet calls (ChangeFileProp token name value) p h = absurd (some-none _ h)
+said_by-quiet calls (ApplyText token base_md5 text) p h = absurd (some-none _ h)
 said_by-quiet calls _ p h = refl
 
 pub said_by-noted : (calls : List Call) (c : Call) (p : Path) (m : ℕ) (a : Action) → noted c ≡ Some (m, a)
@@ -63,7 +66,7 @@ said_by-noted calls (ChangeFileProp token name value) p m a h =
     let e = same_Some (token, Change File (name, value)) (m, a) h in λ i. cond (path_eq (path_of calls (e i).0) p && true) ((e i).1 ∷ []) []
 said_by-noted calls (ApplyText token base_md5 text) p m a h =
     let e = same_Some (token, Text base_md5 text) (m, a) h in λ i. cond (path_eq (path_of calls (e i).0) p && true) ((e i).1 ∷ []) []
-said_by-noted calls _ p m a h = absurd (some_none (m, a) (sym h))
+said_by-noted calls _ p m a h = absurd (some-none (m, a) (sym h))
 
 pub noted_kind : Action → Kind
 noted_kind (Change k x) = k
@@ -76,7 +79,7 @@ noted_named (ChangeFileProp token name value) m a h =
     (File, ap (λ t. Some (t, File)) (ap (λ (x : ℕ × Action). x.0) (same_Some (token, Change File (name, value)) (m, a) h)))
 noted_named (ApplyText token base_md5 text) m a h =
     (File, ap (λ t. Some (t, File)) (ap (λ (x : ℕ × Action). x.0) (same_Some (token, Text base_md5 text) (m, a) h)))
-noted_named _ m a h = absurd (some_none (m, a) (sym h))
+noted_named _ m a h = absurd (some-none (m, a) (sym h))
 
 pub said-more : (calls : List Call) (c : Call) (p : Path)
     → said_at p (steps_of (calls ++ c ∷ [])) ≡ said_at p (steps_of calls) ++ said_at p (cons_option (step_of calls c) [])
@@ -104,7 +107,7 @@ opened_first calls (OpenDirectory path parent base token) x a e =
 opened_first calls (OpenFile path parent base token) x a e =
     ap (λ (g : Given). list_any (opens_entry g.path) calls) (sym (same_Some _ x e))
     ∙ (or_parts (list_any (opens_entry path) calls) (list_any (deletes path) calls) a.entry).0
-opened_first calls _ x a e = absurd (some_none x (sym e))
+opened_first calls _ x a e = absurd (some-none x (sym e))
 
 -- a token that was given is old, or the new one
 pub given_cases : (calls : List Call) (c : Call) (t : ℕ) (g : Given) → given (calls ++ c ∷ []) t ≡ Some g
@@ -113,7 +116,7 @@ given_cases calls c t g h = by (given_by c) refl
   where
     by : (o : Option Given) → given_by c ≡ o → (given calls t ≡ Some g) ⊎ (given_by c ≡ Some g)
     by None e = inl (ap (λ gs. slice_get gs t) (sym (given_none calls c e)) ∙ h)
-    by (Some x) e = at (get_cases (all_given calls) x t g (ap (λ gs. slice_get gs t) (sym (given_one calls c x e)) ∙ h))
+    by (Some x) e = at (slice_get_push_cases (all_given calls) x t g (ap (λ gs. slice_get gs t) (sym (given_one calls c x e)) ∙ h))
       where
         at : (slice_get (all_given calls) t ≡ Some g) ⊎ ((t ≡ length (all_given calls)) × (x ≡ g))
             → (given calls t ≡ Some g) ⊎ (given_by c ≡ Some g)
@@ -123,7 +126,8 @@ given_cases calls c t g h = by (given_by c) refl
 -- the new one has the next number
 new_number : (calls : List Call) (c : Call) (t : ℕ) (x : Given) → given_by c ≡ Some x → given (calls ++ c ∷ []) t ≡ Some x
     → list_any (opens_entry x.path) calls ≡ false → t ≡ length (all_given calls)
-new_number calls c t x e h fresh = at (get_cases (all_given calls) x t x (ap (λ gs. slice_get gs t) (sym (given_one calls c x e)) ∙ h))
+new_number calls c t x e h fresh =
+    at (slice_get_push_cases (all_given calls) x t x (ap (λ gs. slice_get gs t) (sym (given_one calls c x e)) ∙ h))
   where
     at : (slice_get (all_given calls) t ≡ Some x) ⊎ ((t ≡ length (all_given calls)) × (x ≡ x)) → t ≡ length (all_given calls)
     at (inl old) = absurd (true≢false (sym (member_of calls t x old) ∙ fresh))
@@ -134,7 +138,7 @@ pub given_stays : (calls : List Call) (c : Call) (t : ℕ) (g : Given) → given
 given_stays calls c t g h = by (given_by c) refl
   where
     front : (xs ys : List Given) (i : ℕ) → slice_get xs i ≡ Some g → slice_get (xs ++ ys) i ≡ Some g
-    front [] ys i e = absurd (some_none g (sym e))
+    front [] ys i e = absurd (some-none g (sym e))
     front (x ∷ xs) ys zero e = e
     front (x ∷ xs) ys (suc i) e = front xs ys i e
 
@@ -152,7 +156,7 @@ kind_stays calls c m h = by (given calls m) refl h
 
 -- the parent of a new token is the one that the call names
 pub parent_named : (c : Call) (m : ℕ) (g : Given) → given_by c ≡ Some g → g.parent ≡ Some m → named_by c ≡ Some (m, Directory)
-parent_named (OpenRoot base token) m g e f = absurd (some_none m (sym (ap (λ (x : Given). x.parent) (same_Some _ g e) ∙ f)))
+parent_named (OpenRoot base token) m g e f = absurd (some-none m (sym (ap (λ (x : Given). x.parent) (same_Some _ g e) ∙ f)))
 parent_named (AddDirectory path parent token) m g e f =
     ap (λ t. Some (t, Directory)) (same_Some parent m (ap (λ (x : Given). x.parent) (same_Some _ g e) ∙ f))
 parent_named (OpenDirectory path parent base token) m g e f =
@@ -161,7 +165,7 @@ parent_named (AddFile path parent token) m g e f =
     ap (λ t. Some (t, Directory)) (same_Some parent m (ap (λ (x : Given). x.parent) (same_Some _ g e) ∙ f))
 parent_named (OpenFile path parent base token) m g e f =
     ap (λ t. Some (t, Directory)) (same_Some parent m (ap (λ (x : Given). x.parent) (same_Some _ g e) ∙ f))
-parent_named _ m g e f = absurd (some_none g (sym e))
+parent_named _ m g e f = absurd (some-none g (sym e))
 
 module _ (calls : List Call) (c : Call) (s : IsSound calls) (q : IsPathed calls) (a : IsAccepted calls c) where
   once_more : (t u : ℕ) (g h : Given) → given (calls ++ c ∷ []) t ≡ Some g → given (calls ++ c ∷ []) u ≡ Some h → g.path ≡ h.path → t ≡ u
@@ -183,7 +187,7 @@ module _ (calls : List Call) (c : Call) (s : IsSound calls) (q : IsPathed calls)
   untouched_more p h = said-more calls c p ∙ (λ i. before i ++ now i)
     where
       parts : (list_any (opens_entry p) calls ≡ false) × (opens_entry p c ≡ false)
-      parts = or_parts (list_any (opens_entry p) calls) (opens_entry p c) (sym (any_more (opens_entry p) calls c) ∙ h)
+      parts = or_parts (list_any (opens_entry p) calls) (opens_entry p c) (sym (any_push (opens_entry p) calls c) ∙ h)
 
       before : said_at p (steps_of calls) ≡ []
       before = q.untouched p parts.0
@@ -227,7 +231,7 @@ pathed_abort calls q = record {
       (ap (λ (gs : List Given). slice_get gs u) (sym same) ∙ f);
   untouched =
       λ p h. said-quiet calls AbortEdit p refl
-      ∙ q.untouched p (or_parts (list_any (opens_entry p) calls) false (sym (any_more (opens_entry p) calls AbortEdit) ∙ h)).0;
+      ∙ q.untouched p (or_parts (list_any (opens_entry p) calls) false (sym (any_push (opens_entry p) calls AbortEdit) ∙ h)).0;
 }
   where
     same : all_given (calls ++ AbortEdit ∷ []) ≡ all_given calls
@@ -240,9 +244,9 @@ pathed_more calls c l q h = pathed_accepted calls c (sound calls l) q (accepted 
 pathed_none : IsPathed []
 pathed_none =
     record {
-      once = λ t u g h e f same. absurd (some_none g (sym e));
+      once = λ t u g h e f same. absurd (some-none g (sym e));
       untouched = λ p h. refl;
-      parents = λ t m g e f. absurd (some_none g (sym e));
+      parents = λ t m g e f. absurd (some-none g (sym e));
     }
 
 pathed_after : (earlier calls : List Call) → IsLawful earlier → IsPathed earlier → IsLawfulAfter earlier calls → IsPathed (earlier ++ calls)

@@ -4,6 +4,8 @@ use Rattle.std.proofs.Common.{append_assoc, append-nil}
 use Rattle.std.specs.Prelude.{Option, Some, None, ◌⊎◌}
 use Rattle.std.specs.List.{list_any}
 use Rattle.std.proofs.lemmas.Option.{same_Some}
+use Rattle.std.proofs.lemmas.Bool.{false_from_ne_true}
+use Rattle.svn_lists.proofs.Somewhere.{any_weaker}
 use Rattle.svn_types.specs.declared.kind.Kind.TheVariants.{File, Directory}
 use Rattle.svn_types.specs.Names.{Path}
 use Rattle.svn_types.specs.Props.{PropChange}
@@ -16,7 +18,6 @@ use Rattle.svn_editor.specs.declared.call.Call.TheVariants.{CloseFile, CloseEdit
 use Rattle.svn_editor.specs.Calls.{Given, kind_eq, given, given_by, opens_entry, path_of}
 use Rattle.svn_editor.specs.declared.mode.Mode.{Mode}
 use Rattle.svn_editor.specs.Steps.{Action, Open, Add, Change, Text, Close, steps_of, target_of}
-use Rattle.svn_editor.proofs.OneMore.{any_weaker, false_from}
 use Rattle.svn_editor.proofs.Accepted.{IsAccepted}
 use Rattle.svn_order.proofs.Sound.{IsSound, touches, opens_touches, member_of}
 use Rattle.svn_model.specs.declared.base_node.BaseNode.{BaseNode}
@@ -51,7 +52,7 @@ opened_above calls s (x ∷ r) p h =
 -- no opened path is at a deleted one or below
 pub delete_spares : (calls : List Call) → IsSound calls → (p : Path) → list_any (opens_entry p) calls ≡ false → (t : ℕ) (g : Given)
     → given calls t ≡ Some g → is_within p g.path ≡ false
-delete_spares calls s p h t g e = false_from (is_within p g.path) (λ w.
+delete_spares calls s p h t g e = false_from_ne_true (is_within p g.path) (λ w.
     let x = split_within p g.path w in
     true≢false (sym (opened_above calls s x.0 p (ap (λ (q : Path). list_any (opens_entry q) calls) (sym x.1) ∙ member_of calls t g e)) ∙ h))
 

@@ -1,9 +1,10 @@
 -- A copy in which something stands at a path and below it in the place of what stood there.
-use Rattle.std.proofs.Common.{◌≡◌, ◌≢◌, ℕ, ◌+◌, ◌≤◌, Bool, true, false, ◌&&◌, List, [], ◌∷◌, ◌++◌, length, drop, refl, sym, ◌∙◌, ap, subst}
+use Rattle.std.proofs.Common.{◌≡◌, ◌≢◌, ℕ, ◌+◌, ◌≤◌, Bool, true, false, ◌&&◌, List, [], ◌∷◌, ◌++◌, length, refl, sym, ◌∙◌, ap, subst}
 use Rattle.std.proofs.Common.{true≢false, append_assoc, length-append, arith}
 use Rattle.std.specs.Prelude.{Option, Some, None, option_map, bytes_eq}
 use Rattle.std.specs.Map.{keys_of}
 use Rattle.std.proofs.lemmas.Bool.{and_parts}
+use Rattle.svn_lists.proofs.Equality.{same_bytes}
 use Rattle.svn_types.specs.Names.{Path, IsName}
 use Rattle.svn_types.specs.Paths.{is_within, is_root, child}
 use Rattle.svn_types.specs.Pairs.{value_of}
@@ -12,7 +13,7 @@ use Rattle.svn_types.specs.declared.kind.Kind.TheVariants.{File, Directory}
 use Rattle.svn_repo.specs.History.{History, look}
 use Rattle.svn_repo.specs.Readings.{IsHistory, kind_of, text_of, props_of, entries_of}
 use Rattle.svn_types.specs.Limits.{path_limit}
-use Rattle.svn_types.proofs.NameLemmas.{Name, same_bytes, value_of_name}
+use Rattle.svn_types.proofs.NameLemmas.{Name, value_of_name}
 use Rattle.svn_types.proofs.PathLemmas.{split_within, is_within-longer}
 use Rattle.svn_model.specs.declared.base_node.BaseNode.{BaseNode}
 use Rattle.svn_model.specs.declared.base_node.BaseNode.TheVariants.{File as FileNode, Dir as DirNode, NotPresent}
@@ -35,10 +36,6 @@ first_within (m ∷ at) (x ∷ p) name h n =
     let rest = first_within at p name parts.1 (sym (ap (λ b. b && is_within at p) parts.0) ∙ n) in
     let same = same_bytes m x parts.0 in
     λ i. same i ∷ rest i
-
-pub drop_front : (at s : Path) → drop (length at) (at ++ s) ≡ s
-drop_front [] s = refl
-drop_front (m ∷ at) s = drop_front at s
 
 -- ---- truth
 

@@ -5,6 +5,10 @@ use Rattle.std.specs.Prelude.{Option, Some, None, is_some, ◌⊎◌, nat_lt, na
 use Rattle.std.specs.Option.{option_or}
 use Rattle.std.specs.List.{list_any}
 use Rattle.std.proofs.lemmas.Option.{same_Some}
+use Rattle.std.proofs.lemmas.Bool.{false_from_ne_true, not-false, or_parts}
+use Rattle.std.proofs.lemmas.Map.Keys.{any_passes_from_place}
+use Rattle.svn_lists.proofs.Options.{cond_none, some-none}
+use Rattle.svn_lists.proofs.Somewhere.{any_push}
 use Rattle.svn_types.specs.declared.kind.Kind.{Kind}
 use Rattle.svn_types.specs.declared.kind.Kind.TheVariants.{File, Directory}
 use Rattle.svn_types.specs.Names.{Path, IsName}
@@ -12,7 +16,6 @@ use Rattle.svn_types.specs.Props.{PropChange}
 use Rattle.svn_types.specs.Paths.{path_eq, is_within, is_root, child, parent as parent_of, last_name}
 use Rattle.svn_types.specs.Limits.{path_limit}
 use Rattle.svn_types.proofs.PathLemmas.{same_path, path_eq-same, path_eq-longer, parent-child, split_within}
-use Rattle.svn_types.proofs.Places.{some_none, passed}
 use Rattle.svn_editor.specs.declared.call.Call.{Call}
 use Rattle.svn_editor.specs.declared.call.Call.TheVariants.{SetTargetRevision, OpenRoot, DeleteEntry, AddDirectory, OpenDirectory}
 use Rattle.svn_editor.specs.declared.call.Call.TheVariants.{ChangeDirProp, CloseDirectory, AddFile, OpenFile, ChangeFileProp, ApplyText}
@@ -26,7 +29,6 @@ use Rattle.svn_editor.specs.Order.{order_fault, IsLawful}
 use Rattle.svn_editor.specs.declared.mode.Mode.{Mode}
 use Rattle.svn_editor.specs.declared.mode.Mode.TheVariants.{Update, SwitchTo}
 use Rattle.svn_editor.specs.Steps.{Action, Open, Add, Change, Text, Close, steps_of, target_of}
-use Rattle.svn_editor.proofs.OneMore.{any_at, any_more, or_parts, not_false, false_from}
 use Rattle.svn_editor.proofs.Accepted.{IsAccepted, accepted}
 use Rattle.svn_order.proofs.Sound.{IsSound, known, parent_is, member_of}
 use Rattle.svn_order.proofs.Lawful.{sound, lawful_more}
@@ -49,7 +51,7 @@ use Rattle.svn_edit_law.proofs.OneNode.{moved_fits, one_changed, deleted_shape, 
 
 refusal_parts : (o : Option OrderFault) (f : Option EditFault) → option_or (option_map Order o) f ≡ None → (o ≡ None) × (f ≡ None)
 refusal_parts None f h = (refl, h)
-refusal_parts (Some x) f h = absurd (some_none (Order x) h)
+refusal_parts (Some x) f h = absurd (some-none (Order x) h)
 
 is_file_kind : (k : Kind) → kind_eq k File ≡ true → k ≡ File
 is_file_kind File h = refl
@@ -68,11 +70,11 @@ may_open : (mode : Mode) (w : WorkingCopy) (kind : Kind) (p : Path) (base : ℕ)
     (cond (nat_lt path_limit (length (moved_path mode w p (node_path (w p))))) (Some TooDeep) None))) ≡ None
     → MayOpen mode w kind p
 may_open mode w kind p base h =
-    let a = passed (not (is_present (w p))) _ _ h in
-    let b = passed (not (has_kind kind (w p))) _ _ a.1 in
-    let c = passed (not (nat_eq (node_revision (w p)) base)) _ _ b.1 in
-    let d = passed (nat_lt path_limit (length (moved_path mode w p (node_path (w p))))) _ _ c.1 in
-    record { stands = not_false _ a.0; is_kind = not_false _ b.0; short = short_enough _ d.0 }
+    let a = cond_none (not (is_present (w p))) _ _ h in
+    let b = cond_none (not (has_kind kind (w p))) _ _ a.1 in
+    let c = cond_none (not (nat_eq (node_revision (w p)) base)) _ _ b.1 in
+    let d = cond_none (nat_lt path_limit (length (moved_path mode w p (node_path (w p))))) _ _ c.1 in
+    record { stands = not-false _ a.0; is_kind = not-false _ b.0; short = short_enough _ d.0 }
 
 pub record MayAdd (w : WorkingCopy) (p : Path) : Type 0 where
   pub free : is_present (w p) ≡ false
@@ -82,8 +84,8 @@ may_add : (w : WorkingCopy) (p : Path)
     → cond (is_present (w p)) (Some EntryExists) (cond (nat_lt path_limit (length (joined_path w p))) (Some TooDeep) None) ≡ None
     → MayAdd w p
 may_add w p h =
-    let a = passed (is_present (w p)) _ _ h in
-    let b = passed (nat_lt path_limit (length (joined_path w p))) _ _ a.1 in
+    let a = cond_none (is_present (w p)) _ _ h in
+    let b = cond_none (nat_lt path_limit (length (joined_path w p))) _ _ a.1 in
     record { free = a.0; short = short_enough _ b.0 }
 
 -- ---- nodes after a step
@@ -130,7 +132,7 @@ not_directory p m t g e k =
 
 apart_parent : (p : Path) → is_root p ≡ false → path_eq p (parent_of p) ≡ false
 apart_parent [] h = absurd (true≢false h)
-apart_parent (m ∷ p) h = false_from (path_eq (m ∷ p) (parent_of (m ∷ p))) (λ e.
+apart_parent (m ∷ p) h = false_from_ne_true (path_eq (m ∷ p) (parent_of (m ∷ p))) (λ e.
     let r = split_last m p in
     let a = path_eq-longer (parent_of (m ∷ p)) r.0 [] in
     let same : m ∷ p ≡ parent_of (m ∷ p) = same_path (m ∷ p) (parent_of (m ∷ p)) e in
@@ -264,7 +266,7 @@ module _ (checksum : List ℕ → List ℕ) (mode : Mode) (nodes : List (Path ×
                 subst (Fits p) e (stood.shape.repos_paths p (ap is_present e), stood.shape.paths p (ap is_present e))
             at (Some NotPresent) e h = (
               fit (waiting mode e),
-              joined_fits w stood.shape p (parent_dir w stood.shape p (λ none. some_none NotPresent (sym e ∙ none))),
+              joined_fits w stood.shape p (parent_dir w stood.shape p (λ none. some-none NotPresent (sym e ∙ none))),
             )
             at None e h = absurd (true≢false (sym h))
 
@@ -298,7 +300,7 @@ module _ (checksum : List ℕ → List ℕ) (mode : Mode) (nodes : List (Path ×
       (subst (λ (x : Path). is_joined_at_close mode (w x) ≡ true → length (joined_path w x) ≤ path_limit) (sym (ap given_path k.is))
       (stood.files token k.given_as k.is (is_file_kind k.given_as.kind k.kind) k.unclosed))
   shape_kept CloseEdit a n f =
-      settled_shape mode (target_of calls) nodes stood.shape (passed (list_any (is_settled_deep mode) nodes) _ _ f).0
+      settled_shape mode (target_of calls) nodes stood.shape (cond_none (list_any (is_settled_deep mode) nodes) _ _ f).0
   shape_kept AbortEdit a n f = stood.shape
 
   -- ---- what stands at open paths after a call
@@ -312,7 +314,7 @@ module _ (checksum : List ℕ → List ℕ) (mode : Mode) (nodes : List (Path ×
   opens_standing _ f g e o k = absurd (true≢false (sym o))
 
   spared : (p r : Path) → list_any (opens_entry p) calls ≡ false → list_any (opens_entry r) calls ≡ true → is_within p r ≡ false
-  spared p r h o = false_from (is_within p r) (λ i.
+  spared p r h o = false_from_ne_true (is_within p r) (λ i.
       let x = split_within p r i in
       true≢false (sym (opened_above calls s x.0 p (ap (λ (y : Path). list_any (opens_entry y) calls) (sym x.1) ∙ o)) ∙ h))
 
@@ -388,7 +390,7 @@ module _ (checksum : List ℕ → List ℕ) (mode : Mode) (nodes : List (Path ×
       let above = parent_dir w stood.shape g.path (joined_some mode (w g.path) before) in
       let path =
       path_kept c a (parent_of g.path) (parent_opened g.path (member_of calls t g e)) above
-      (any_at (is_open_file calls) (all_given calls) t g e open_file) in
+      (any_passes_from_place (is_open_file calls) (all_given calls) t g e open_file) in
       subst (λ (x : Path). length (x ++ last_name g.path) ≤ path_limit) (sym path) (stood.files t g e file unclosed before)
     where
       open_file : is_open_file calls g ≡ true
@@ -429,7 +431,7 @@ module _ (checksum : List ℕ → List ℕ) (mode : Mode) (nodes : List (Path ×
   file_opened _ a f g e k j = absurd (no_given g e)
 
   still_closed : (c : Call) (t : ℕ) → is_closed (calls ++ c ∷ []) t ≡ false → (is_closed calls t ≡ false) × (closes t c ≡ false)
-  still_closed c t u = or_parts (is_closed calls t) (closes t c) (sym (any_more (closes t) calls c) ∙ u)
+  still_closed c t u = or_parts (is_closed calls t) (closes t c) (sym (any_push (closes t) calls c) ∙ u)
 
   pub shaped_more : (c : Call) → IsAccepted calls c → OpensNamed c → edit_fault checksum mode calls c nodes ≡ None
       → IsShapedAfter mode (effect mode calls c w) (calls ++ c ∷ [])

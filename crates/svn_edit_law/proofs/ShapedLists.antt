@@ -3,14 +3,13 @@ use Rattle.std.proofs.Common.{◌≡◌, ◌≢◌, ◌+◌, ◌≤◌, Bool, tr
 use Rattle.std.proofs.Common.{true≢false}
 use Rattle.std.specs.Prelude.{Option, Some, None, cond, nat_lt}
 use Rattle.std.specs.List.{list_any}
-use Rattle.std.proofs.lemmas.Bool.{or_parts, ltb-false}
+use Rattle.std.proofs.lemmas.Bool.{or_parts, ltb-false, not-false}
+use Rattle.svn_lists.proofs.Options.{cond_none}
 use Rattle.svn_types.specs.Names.{Path}
 use Rattle.svn_types.specs.Paths.{path_eq, child, parent}
 use Rattle.svn_types.specs.Limits.{path_limit}
 use Rattle.svn_types.proofs.NameLemmas.{Name}
 use Rattle.svn_types.proofs.PathLemmas.{same_path, parent-child, is_root-child}
-use Rattle.svn_types.proofs.Places.{passed}
-use Rattle.svn_editor.proofs.OneMore.{not_false}
 use Rattle.svn_model.specs.declared.base_node.BaseNode.{BaseNode}
 use Rattle.svn_model.specs.declared.wc_fault.WcFault.TheVariants.{TooDeep, NoParent, Twice, BadRoot}
 use Rattle.svn_model.specs.Nodes.{WorkingCopy, get_in, IsWorkingCopy, is_present, is_dir, node_path}
@@ -57,13 +56,13 @@ module _ (nodes : List (Path × BaseNode)) (named : AllEndNamed nodes) (none : n
 
   second : (not (is_dir (w [])) ≡ false)
       × (cond (list_any (is_orphan w) nodes) (Some NoParent) (cond (list_any is_node_too_deep nodes) (Some TooDeep) None) ≡ None)
-  second = passed (not (is_dir (w []))) BadRoot _ (passed (has_twice nodes) Twice _ none).1
+  second = cond_none (not (is_dir (w []))) BadRoot _ (cond_none (has_twice nodes) Twice _ none).1
 
   third : (list_any (is_orphan w) nodes ≡ false) × (cond (list_any is_node_too_deep nodes) (Some TooDeep) None ≡ None)
-  third = passed (list_any (is_orphan w) nodes) NoParent _ second.1
+  third = cond_none (list_any (is_orphan w) nodes) NoParent _ second.1
 
   deep : list_any is_node_too_deep nodes ≡ false
-  deep = (passed (list_any is_node_too_deep nodes) TooDeep None third.1).0
+  deep = (cond_none (list_any is_node_too_deep nodes) TooDeep None third.1).0
 
   -- what stands somewhere
   some_node : (p : Path) → w p ≢ None → (b : BaseNode) × (w p ≡ Some b)
@@ -77,7 +76,7 @@ module _ (nodes : List (Path × BaseNode)) (named : AllEndNamed nodes) (none : n
   above p name some =
       let b = some_node (child p name) some in
       let orphan = none_found (is_orphan w) nodes third.0 (child p name) b.0 b.1 in
-      not_false (is_dir (w p))
+      not-false (is_dir (w p))
       (ap (λ q. not (is_dir (w q))) (sym (parent-child p name))
       ∙ ap (λ x. not x && not (is_dir (w (parent (child p name))))) (sym (is_root-child p name)) ∙ orphan)
 
@@ -94,7 +93,7 @@ module _ (nodes : List (Path × BaseNode)) (named : AllEndNamed nodes) (none : n
 
   pub listed_shape : IsWorkingCopy w
   listed_shape = record {
-    root = not_false (is_dir (w [])) second.0;
+    root = not-false (is_dir (w [])) second.0;
     parents = above;
     names = λ p name some. let b = some_node (child p name) some in named_found nodes named (child p name) b.0 b.1 p name refl;
     repos_paths = λ p present. (short p present).0;

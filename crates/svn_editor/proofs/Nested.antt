@@ -1,14 +1,14 @@
 -- The directories that are open in a list of calls that are in order: each in the one opened before it.
 use Rattle.std.proofs.Common.{◌≡◌, ℕ, suc, zero, ◌+◌, ◌<◌, ◌≤◌, Bool, true, false, ◌&&◌, ◌||◌, not, cond, List, [], ◌∷◌, ◌++◌, length, refl}
 use Rattle.std.proofs.Common.{sym, ◌∙◌, ap, true≢false, arith}
-use Rattle.std.specs.Prelude.{Option, Some, None, slice_get, nat_eq, filter, fold}
+use Rattle.std.specs.Prelude.{Option, Some, None, slice_get, filter, fold}
 use Rattle.std.specs.List.{list_any}
-use Rattle.std.proofs.lemmas.Bool.Decides.{nat_tests}
 use Rattle.std.proofs.lemmas.Option.{none-some, same_Some}
+use Rattle.std.proofs.Math.Bool.{and-false}
+use Rattle.std.proofs.lemmas.Bool.{eq-eqb, false_from_ne_true, eqb-true}
 use Rattle.svn_types.specs.declared.kind.Kind.TheVariants.{Directory}
 use Rattle.svn_editor.specs.declared.call.Call.{Call}
 use Rattle.svn_editor.specs.Calls.{Given, kind_eq, number_eq, later_open, is_open_directory, opens_below}
-use Rattle.svn_editor.proofs.OneMore.{false_from, and_false}
 
 -- the token of the last, or what was found before
 abbrev pub last_token : Option ℕ → List Given → Option ℕ
@@ -22,18 +22,12 @@ IsNested n k above (g ∷ gs) =
     (n ≤ g.token) × (length g.path ≡ k) × (g.parent ≡ above) × (kind_eq g.kind Directory ≡ true)
     × IsNested (suc g.token) (suc k) (Some g.token) gs
 
-pub eq_true : (m n : ℕ) → m ≡ n → nat_eq m n ≡ true
-eq_true m n e = grind (arith, nat_tests)
-
-pub true_eq : (m n : ℕ) → nat_eq m n ≡ true → m ≡ n
-true_eq m n e = grind (arith, nat_tests)
-
 pub same_number : (o : Option ℕ) (t : ℕ) → number_eq o (Some t) ≡ true → o ≡ Some t
 same_number None t h = absurd (true≢false (sym h))
-same_number (Some m) t h = ap Some (true_eq m t h)
+same_number (Some m) t h = ap Some (eqb-true m t h)
 
 pub number_same : (o : Option ℕ) (t : ℕ) → o ≡ Some t → number_eq o (Some t) ≡ true
-number_same o t e = ap (λ x. number_eq x (Some t)) e ∙ eq_true t t refl
+number_same o t e = ap (λ x. number_eq x (Some t)) e ∙ eq-eqb t t refl
 
 -- ---- numbers and depths
 
@@ -95,17 +89,17 @@ nested_front (x ∷ gs) n k above g h = (h.0, h.1, h.2, h.3, nested_front gs (su
 not_in : (above : Option ℕ) (x g : Given) → x.parent ≡ above → (above ≡ Some g.token → ⊥) → opens_below g.token x ≡ false
 not_in above x g p out =
     ap (λ o. kind_eq x.kind Directory && number_eq o (Some g.token)) p
-    ∙ ap (λ b. kind_eq x.kind Directory && b) (false_from (number_eq above (Some g.token)) (λ q. out (same_number above g.token q)))
-    ∙ and_false (kind_eq x.kind Directory)
+    ∙ ap (λ b. kind_eq x.kind Directory && b) (false_from_ne_true (number_eq above (Some g.token)) (λ q. out (same_number above g.token q)))
+    ∙ and-false (kind_eq x.kind Directory)
 
 -- what comes after a directory is in it
 under : (gs : List Given) (g : Given) (t k : ℕ) → t ≡ g.token → IsNested (suc t) k (Some t) gs
     → list_any (opens_below g.token) gs ≡ not (number_eq (last_token (Some t) gs) (Some g.token))
-under [] g t k e h = sym (ap not (eq_true t g.token e))
+under [] g t k e h = sym (ap not (eq-eqb t g.token e))
 under (y ∷ gs) g t k e h =
     ap (λ b. b || list_any (opens_below g.token) gs)
     (ap (λ b. b && number_eq y.parent (Some g.token)) h.3 ∙ number_same y.parent g.token (h.2 ∙ ap Some e))
-    ∙ sym (ap not (false_from (number_eq (last_token (Some t) (y ∷ gs)) (Some g.token))
+    ∙ sym (ap not (false_from_ne_true (number_eq (last_token (Some t) (y ∷ gs)) (Some g.token))
     (λ q. let l : suc t ≤ g.token =
     last_above y gs (suc t) k (Some t) (Some t) g.token h (same_number (last_token (Some t) (y ∷ gs)) g.token q) in
     omega arith)))

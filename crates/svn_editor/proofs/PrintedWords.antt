@@ -13,20 +13,14 @@ use Rattle.std.proofs.lemmas.Bool.{and_parts}
 use Rattle.std.proofs.lemmas.Bool.Decides.{nat_tests}
 use Rattle.std.proofs.lemmas.List.Concat.{flat_map-append}
 use Rattle.std.proofs.lemmas.List.Folds.{list_all_at}
-use Rattle.std.proofs.lemmas.List.{append-nil, drop-set, drop_all, flat_map_more, length-append, map-append, take_more, take_rest}
-use Rattle.std.proofs.Math.Seq.{take-append_seam}
+use Rattle.std.proofs.lemmas.List.{append-nil, drop-set, drop_all, flat_map_more, map-append, take_more, take_rest}
+use Rattle.svn_lists.proofs.Parts.{same_front}
 use Rattle.svn_types.specs.Names.{Path, is_plain}
 use Rattle.svn_types.specs.PathKeys.{path_key, is_plain_name, is_plain_path}
 use Rattle.svn_types.specs.PathTexts.{path_text}
 use Rattle.svn_editor.specs.Words.{escaped, is_shown, path_byte, path_word, token_word}
 
 -- ---- the names of a path, printed from its key
-
-same_front : (s t : List ℕ) (a b : ℕ) → s ++ a ∷ [] ≡ t ++ b ∷ [] → s ≡ t
-same_front s t a b e =
-    let same_length : length s ≡ length t =
-    omega (arith, sym (length-append s (a ∷ [])) ∙ ap length e ∙ length-append t (b ∷ [])) in
-    sym (take-append_seam s (a ∷ [])) ∙ (λ i. take (same_length i) (e i)) ∙ take-append_seam t (b ∷ [])
 
 -- the first name, the others each behind the byte 1, and that byte
 key_ends : (n : List ℕ) (p : Path) → path_key (n ∷ p) ≡ (n ++ flat_map (λ m. 1 ∷ m) p) ++ 1 ∷ []

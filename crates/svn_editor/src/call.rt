@@ -12,7 +12,7 @@ use svn_types::{Digest, PropName, RelPath, Rev, Text};
 /// Subversion has a baton. The tokens of an edit are 0, 1, 2 and so on, in the order of these calls. A path is one from the root
 /// of the edit, of at most 128 names, and a path of an entry is its directory's with one name more. Texts and values have no bound
 /// here: the receiver refuses those of over 1,048,576 bytes.
-#[derive(Debug, Drop)]
+#[derive(Clone, Debug, PartialEq, Eq, Drop)]
 pub enum Call {
     /// The revision that the edit leads to. It is the first call.
     SetTargetRevision {

@@ -6,12 +6,15 @@ use Rattle.std.proofs.lemmas.Bool.{and_parts}
 use Rattle.std.specs.Prelude.{Option, Some, None, is_some, cond, map, filter_map, bytes_eq}
 use Rattle.std.specs.List.{cons_option}
 use Rattle.std.proofs.lemmas.List.Elements.{filter_map-append}
+use Rattle.std.proofs.lemmas.Option.{same_Some}
+use Rattle.svn_lists.proofs.Equality.{same_bytes}
+use Rattle.svn_lists.proofs.Every.{all-append}
+use Rattle.svn_lists.proofs.Sorted.{sorted_nil}
 use Rattle.svn_types.specs.Names.{name_cmp, Path}
 use Rattle.svn_types.specs.Props.{PropChange, changes_between, with_changes}
 use Rattle.svn_types.specs.Pairs.{InNameOrder}
 use Rattle.svn_types.specs.declared.kind.Kind.{Kind}
 use Rattle.svn_types.specs.declared.kind.Kind.TheVariants.{File, Directory}
-use Rattle.svn_types.proofs.NameLemmas.{same_bytes}
 use Rattle.svn_repo.specs.Readings.{is_directory, is_directory_at, kind_of, text_of, props_of}
 use Rattle.svn_repo.specs.History.{History, look}
 use Rattle.svn_model.specs.Sources.{Reported, reported, source, governing_revision, starts_empty}
@@ -24,8 +27,6 @@ use Rattle.svn_model.specs.declared.base_node.BaseNode.TheVariants.{File as File
 use Rattle.svn_model.specs.Nodes.{WorkingCopy, is_present, is_dir, is_incomplete, node_revision, node_path, IsTrueNode, base_node_by}
 use Rattle.svn_model.specs.Nodes.{base_node}
 use Rattle.svn_model.specs.Effects.{change_in, text_in, text_or}
-use Rattle.svn_model.proofs.Names.{some_same}
-use Rattle.svn_law.proofs.Maps.{sorted-nil}
 use Rattle.svn_law.proofs.PropChanges.{with_changes-between}
 use Rattle.svn_model.proofs.Children.{follow-here}
 use Rattle.svn_law.proofs.Described.{Setting, source_looked}
@@ -34,7 +35,6 @@ use Rattle.svn_drive_law.proofs.Reporting.{shown_source}
 use Rattle.svn_drive_law.proofs.Courses.{AllOf, all_changes}
 use Rattle.svn_law.proofs.States.{act, acted, acted-append, changes_in, texts_in}
 use Rattle.svn_law.proofs.AfterSteps.{kept_present}
-use Rattle.svn_drive_law.proofs.Lists.{all-append}
 
 -- ---- changes and texts leave a node as it is
 
@@ -167,7 +167,7 @@ module _ (d : Request) (w : WorkingCopy) (setting : Setting d w) where
       by None e tr = absurd (true≢false (sym present ∙ ap is_present e))
       by (Some NotPresent) e tr = absurd (true≢false (sym present ∙ ap is_present e))
       by (Some (FileNode r q x ps)) e tr =
-          let one = some_same tr.0 m.0 (sym tr.1 ∙ sym (ap (λ o. look h (node_revision o) (node_path o)) e) ∙ m.2) in
+          let one = same_Some tr.0 m.0 (sym tr.1 ∙ sym (ap (λ o. look h (node_revision o) (node_path o)) e) ∙ m.2) in
           let kind : kind_of h m.0 ≡ File = sym (ap (kind_of h) one) ∙ tr.2.kind in
           subst (KeptAs p) (sym kind) (record {
             revision = r;
@@ -182,7 +182,7 @@ module _ (d : Request) (w : WorkingCopy) (setting : Setting d w) where
                 ∙ ap (λ b. cond b [] (props_of h m.0)) (empty_as File kind ∙ and-false (starts_empty (follow d p).here.own)));
           })
       by (Some (DirNode r q c ps)) e tr =
-          let one = some_same tr.0 m.0 (sym tr.1 ∙ sym (ap (λ o. look h (node_revision o) (node_path o)) e) ∙ m.2) in
+          let one = same_Some tr.0 m.0 (sym tr.1 ∙ sym (ap (λ o. look h (node_revision o) (node_path o)) e) ∙ m.2) in
           let kind : kind_of h m.0 ≡ Directory = sym (ap (kind_of h) one) ∙ tr.2.kind in
           let empty : not c ≡ starts_empty_at d p =
           ap is_incomplete (sym e) ∙ (setting.describes p).incomplete (ap is_dir e)
@@ -208,11 +208,11 @@ module _ (d : Request) (w : WorkingCopy) (setting : Setting d w) where
   source_in_order p = by (source_node d p) refl
     where
       by : (o : Option ℕ) → source_node d p ≡ o → InNameOrder (source_props d p o)
-      by None e = sorted-nil name_cmp
+      by None e = sorted_nil name_cmp
       by (Some m) e = shown (starts_empty_at d p)
         where
           shown : (b : Bool) → InNameOrder (cond b [] (props_of h m))
-          shown true = sorted-nil name_cmp
+          shown true = sorted_nil name_cmp
           shown false =
               setting.served.history.props_in_order (governing_revision (reported d.report p)) (reported d.report p).repos_path m
               (shown_source h (reported d.report p) m (sym (ap (source h) (follow-here d p)) ∙ e)).1
@@ -279,7 +279,7 @@ module _ (d : Request) (w : WorkingCopy) (setting : Setting d w) where
       ∙ ap (λ l. l ++ changes_in (map (Change Directory) cs)) (quietly change_in before (Add Directory) c refl)
       ∙ changes_in-changes Directory cs)
       ∙ ap (λ ps. Some (DirNode d.target (target_path d p) true ps))
-      (with_changes-between [] (props_of h n) (sorted-nil name_cmp) (target_in_order p n t))
+      (with_changes-between [] (props_of h n) (sorted_nil name_cmp) (target_in_order p n t))
     where
       cs : List PropChange
       cs = changes_between [] (props_of h n)
@@ -289,7 +289,7 @@ module _ (d : Request) (w : WorkingCopy) (setting : Setting d w) where
       (all-append (λ a. is_quiet a ≡ true) (map (Change File) cs) (text ∷ []) (quiet_changes File cs) (refl, tt))
       ∙ (λ i. Some (FileNode d.target (target_path d p) (text_or (texts_are i) []) (with_changes [] (changes_are i))))
       ∙ ap (λ ps. Some (FileNode d.target (target_path d p) (text_of h n) ps))
-      (with_changes-between [] (props_of h n) (sorted-nil name_cmp) (target_in_order p n t))
+      (with_changes-between [] (props_of h n) (sorted_nil name_cmp) (target_in_order p n t))
     where
       cs : List PropChange
       cs = changes_between [] (props_of h n)

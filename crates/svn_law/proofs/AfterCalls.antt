@@ -7,6 +7,8 @@ use Rattle.std.specs.List.{list_any, cons_option}
 use Rattle.std.proofs.lemmas.List.{map-append}
 use Rattle.std.proofs.lemmas.Option.{none-some, same_Some, slice_get-map}
 use Rattle.std.proofs.lemmas.List.Elements.{filter_map-append}
+use Rattle.svn_lists.proofs.Every.{all_part}
+use Rattle.svn_lists.proofs.Somewhere.{any_implied}
 use Rattle.svn_types.specs.Names.{Path}
 use Rattle.svn_types.specs.Paths.{path_eq, parent, is_root}
 use Rattle.svn_types.specs.declared.kind.Kind.TheVariants.{File, Directory}
@@ -29,7 +31,6 @@ use Rattle.std.proofs.lemmas.List.Folds.{list_any-append}
 use Rattle.svn_model.specs.Steps.{IsDriveOf, path_actions}
 use Rattle.svn_law.proofs.Described.{Setting}
 use Rattle.svn_law.proofs.States.{is_at, actions_at, state, step_cut}
-use Rattle.svn_drive_law.proofs.Lists.{all_part, any_implied}
 use Rattle.svn_drive_law.proofs.Tokens.{is_opened, opened_last}
 
 -- ---- the paths that stand for the tokens

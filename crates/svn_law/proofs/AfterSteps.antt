@@ -4,9 +4,10 @@ use Rattle.std.proofs.Common.{append_assoc, append-nil, inl, inr}
 use Rattle.std.proofs.lemmas.Bool.{false_from_ne_true}
 use Rattle.std.specs.Prelude.{Option, Some, None, is_some, cond, map, filter}
 use Rattle.std.specs.List.{list_any}
+use Rattle.std.proofs.lemmas.Option.{same_Some}
+use Rattle.svn_lists.proofs.Somewhere.{any_implied}
 use Rattle.svn_edit_law.proofs.OneNode.{dir_present}
 use Rattle.svn_law.proofs.Described.{Setting, kept_dir}
-use Rattle.svn_model.proofs.Names.{some_same}
 use Rattle.svn_types.specs.Names.{Path}
 use Rattle.svn_types.specs.Paths.{path_eq, is_below, child, is_root, last_name}
 use Rattle.svn_types.specs.Props.{PropChange}
@@ -38,7 +39,6 @@ use Rattle.svn_law.proofs.States.{base, state, state-more, FitsAt, path_cut, ste
 use Rattle.svn_law.proofs.FirstSteps.{before_next, after_next, none_below_next, is_main, main_key, NoneMain, none_main_left, delete_is_main}
 use Rattle.svn_law.proofs.Deletes.{kept_base}
 use Rattle.svn_law.proofs.Keeping.{PathIs, acted_path, added_path, inner_leaves, keep_dir, keep_present}
-use Rattle.svn_drive_law.proofs.Lists.{any_implied}
 
 -- ---- the step at its own path
 
@@ -222,7 +222,7 @@ begun_before d p l c any xs (a ∷ ys) e n = by (place_of d p l c xs a ys e)
 
 module _ (d : Request) (w : WorkingCopy) (setting : Setting d w) where
   pub same_kind : (p : Path) (k : Kind) → TargetKind d p k → EnteredDirectory d setting.served p → k ≡ Directory
-  same_kind p k z e = sym z.2 ∙ ap (kind_of d.history) (some_same z.0 e.node (sym z.1 ∙ e.target)) ∙ e.directory
+  same_kind p k z e = sym z.2 ∙ ap (kind_of d.history) (same_Some z.0 e.node (sym z.1 ∙ e.target)) ∙ e.directory
 
   -- an entered directory is opened or added as one
   pub directory_entered : (p : Path) → EnteredDirectory d setting.served p → list_any (is_entry_of Directory) (path_actions d p) ≡ true

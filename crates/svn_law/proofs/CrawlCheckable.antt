@@ -6,7 +6,8 @@ use Rattle.std.specs.List.{cons_option}
 use Rattle.std.specs.Option.{option_or}
 use Rattle.std.proofs.lemmas.Bool.{lt-ltb}
 use Rattle.std.proofs.Math.Bool.{and-false}
-use Rattle.svn_model.proofs.Names.{some_same}
+use Rattle.std.proofs.lemmas.Option.{same_Some}
+use Rattle.svn_lists.proofs.Options.{none_from_four}
 use Rattle.svn_types.specs.Names.{Path}
 use Rattle.svn_types.specs.Paths.{child, parent, is_root}
 use Rattle.svn_types.proofs.NameLemmas.{Name}
@@ -17,7 +18,6 @@ use Rattle.svn_report.specs.declared.entry.ReportEntry.{ReportEntry}
 use Rattle.svn_report.specs.declared.entry.ReportEntry.TheVariants.{DeletePath}
 use Rattle.svn_report.specs.Reports.{entry_at}
 use Rattle.svn_model.specs.Sources.{reported, revision_of, is_set_or_link, source_at}
-use Rattle.svn_model.specs.declared.report_fault.ReportFault.{ReportFault}
 use Rattle.svn_model.specs.declared.report_fault.ReportFault.TheVariants.{NoSuchRevision, NoNode, RootNotDir, ParentNotDir}
 use Rattle.svn_model.specs.Checks.{fault_of, first_fault_from, first_fault_in, IsCheckable, target_fault}
 use Rattle.svn_model.specs.Follow.{Request, source_node, target_node, target_path}
@@ -47,14 +47,6 @@ revision_there h r p n e = lt-ltb r (length h.roots) (there h.roots r (by (slice
     there (x ∷ xs) zero q = omega arith
     there (x ∷ xs) (suc i) q = omega (arith, there xs i q)
 
-four : (a b c d : Bool) (u v x y : ReportFault) → a ≡ false → b ≡ false → c ≡ false → d ≡ false
-    → cond a (Some u) (cond b (Some v) (cond c (Some x) (cond d (Some y) None))) ≡ None
-four true b c d u v x y p q r s = absurd (true≢false p)
-four false true c d u v x y p q r s = absurd (true≢false q)
-four false false true d u v x y p q r s = absurd (true≢false r)
-four false false false true u v x y p q r s = absurd (true≢false s)
-four false false false false u v x y p q r s = refl
-
 module _ (h : History) (nodes : List (Path × BaseNode)) (t : IsTrueCopy h nodes) where
   -- a directory in the copy is one in the source
   pub directory_there : (p : Path) (node : Option BaseNode) → get_in nodes p ≡ node → IsTrueNode h (get_in nodes) p node
@@ -64,7 +56,7 @@ module _ (h : History) (nodes : List (Path × BaseNode)) (t : IsTrueCopy h nodes
   directory_there p (Some (FileNode r q x ps)) e tr k = absurd (true≢false (sym k))
   directory_there p (Some (DirNode r q c ps)) e tr k =
       let s = source_present h nodes t p (Some (DirNode r q c ps)) e tr refl in
-      ap (is_directory_at h) s.1 ∙ ap is_directory (ap (kind_of h) (some_same s.0 tr.0 (sym s.2 ∙ tr.1)) ∙ tr.2.kind)
+      ap (is_directory_at h) s.1 ∙ ap is_directory (ap (kind_of h) (same_Some s.0 tr.0 (sym s.2 ∙ tr.1)) ∙ tr.2.kind)
 
   entry_fits : (p : Path) (b : BaseNode) (x : ReportEntry) → get_in nodes p ≡ Some b → (reported (crawl nodes) p).own ≡ Some x
       → is_set_or_link (Some x) ≡ true → is_present (Some b) ≡ true
@@ -91,7 +83,7 @@ module _ (h : History) (nodes : List (Path × BaseNode)) (t : IsTrueCopy h nodes
   present_fault p b x i e o pr c d =
       let k = set_is_present p b x e o pr in
       let f = entry_fits p b x e o k pr in
-      four _ _ _ _ (NoSuchRevision i) (NoNode i) RootNotDir (ParentNotDir i)
+      none_from_four _ _ _ _ (NoSuchRevision i) (NoNode i) RootNotDir (ParentNotDir i)
       (ap (λ y. is_set_or_link (Some x) && not y) f.0 ∙ and-false (is_set_or_link (Some x)))
       (ap (λ y. is_set_or_link (Some x) && y) f.1 ∙ and-false (is_set_or_link (Some x))) c d
 
@@ -136,7 +128,7 @@ module _ (h : History) (nodes : List (Path × BaseNode)) (t : IsTrueCopy h nodes
       let own = sym (not_present_own h nodes t p name (covers h nodes t p) (get_in nodes p) refl e) ∙ o in
       let is = deleted_is (is_incomplete (get_in nodes p)) x own in
       let k : is_set_or_link (Some x) ≡ false = ap (λ y. is_set_or_link (Some y)) is in
-      four _ _ _ _ (NoSuchRevision i) (NoNode i) RootNotDir (ParentNotDir i)
+      none_from_four _ _ _ _ (NoSuchRevision i) (NoNode i) RootNotDir (ParentNotDir i)
       (ap (λ y. y && not (nat_lt (revision_of (Some x)) (length h.roots))) k)
       (ap (λ y. y && is_none (source_at h (crawl nodes) (child p name))) k) (below_root p name) (parent_fits p name NotPresent e)
 

@@ -2,6 +2,7 @@
 use Rattle.std.proofs.Common.{◌≡◌, Bool, true, false, List, [], ◌∷◌, refl, sym, ◌∙◌, ap, subst, ◌≢◌, ℕ, ◌&&◌, ◌||◌, not, ◌++◌, true≢false}
 use Rattle.std.specs.Prelude.{Option, Some, None, cond, is_some, nat_eq, bytes_eq}
 use Rattle.std.specs.Map.{keys_of}
+use Rattle.svn_lists.proofs.Equality.{same_bytes}
 use Rattle.svn_types.specs.Names.{Path}
 use Rattle.svn_types.specs.Paths.{path_eq, child, is_root, last_name}
 use Rattle.svn_report.specs.declared.entry.ReportEntry.{ReportEntry}
@@ -15,7 +16,7 @@ use Rattle.std.proofs.lemmas.Bool.{eqb-true, or_parts, not-false}
 use Rattle.svn_edit_law.proofs.OneNode.{dir_present}
 use Rattle.svn_types.specs.Pairs.{value_of}
 use Rattle.svn_types.proofs.PathLemmas.{same_path, path_ind, parent-child, last_name-child, is_root-child}
-use Rattle.svn_types.proofs.NameLemmas.{value_of-first, Name, same_bytes}
+use Rattle.svn_types.proofs.NameLemmas.{value_of-first, Name}
 use Rattle.svn_repo.specs.History.{History, look}
 use Rattle.svn_repo.specs.Readings.{entries_of}
 use Rattle.svn_report.specs.declared.entry.ReportEntry.TheVariants.{SetPath, LinkPath, DeletePath}

@@ -8,6 +8,9 @@ use Rattle.std.specs.Ordering.{is_gt}
 use Rattle.std.specs.Cmp.Lexicographic.{slice_cmp}
 use Rattle.std.proofs.lemmas.Bool.{eqb-true}
 use Rattle.std.proofs.lemmas.Cmp.{tied_itself}
+use Rattle.svn_lists.proofs.Every.{all_map, all_right}
+use Rattle.svn_lists.proofs.Somewhere.{in_whole}
+use Rattle.svn_lists.proofs.Tests.{false_from_clash}
 use Rattle.svn_types.specs.Names.{Path}
 use Rattle.svn_types.specs.Paths.{path_eq, parent, is_root}
 use Rattle.svn_types.specs.declared.kind.Kind.TheVariants.{File, Directory}
@@ -25,12 +28,11 @@ use Rattle.svn_drive_law.proofs.Keys.{keys_total, same_place}
 use Rattle.svn_law.proofs.Described.{Setting}
 use Rattle.svn_law.proofs.FirstSteps.{main_key, entry_is_main}
 use Rattle.svn_drive_law.proofs.Courses.{is_entry_of, entry_of_is_entry, is_close_of, is_inner, inner_of, precedes}
-use Rattle.svn_law.proofs.StepOrder.{never, has_not, has, has_parts, Found, find, any_path_actions, Before, before_step, after_step}
+use Rattle.svn_law.proofs.StepOrder.{has_not, has, has_parts, Found, find, any_path_actions, Before, before_step, after_step}
 use Rattle.svn_law.proofs.StepOrder.{own_entry, Within, is_text_closed}
 use Rattle.svn_law.proofs.TokenNumbers.{call_by, call_at, Tells, tells_done}
 use Rattle.svn_law.proofs.CallTests.{either_call}
 use Rattle.svn_law.proofs.OpenDirectories.{drive_there, between}
-use Rattle.svn_drive_law.proofs.Lists.{all_map, all_right, in_whole}
 use Rattle.svn_drive_law.proofs.Tokens.{entered}
 
 -- ---- the fold over the steps' calls
@@ -294,7 +296,7 @@ module _ (d : Request) (w : WorkingCopy) (setting : Setting d w) (late : Bool) (
 
               open_yet : list_any (has (is_close_of File) f.here.path) done ≡ false
               open_yet =
-                  never (list_any (has (is_close_of File) f.here.path) done)
+                  false_from_clash (list_any (has (is_close_of File) f.here.path) done)
                   (λ q. sym (sym (closed_not_current f.here.path tells q) ∙ ap (λ o. number_eq o (Some (T f.here.path))) e
                   ∙ eq-eqb t (T f.here.path) (sym text.0)))
 

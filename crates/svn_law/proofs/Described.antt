@@ -2,6 +2,8 @@
 --     Setting d w      the request of a report that describes the true copy w, and can be served
 use Rattle.std.proofs.Common.{◌≡◌, ℕ, true, refl, sym, ◌∙◌, ap, true≢false}
 use Rattle.std.specs.Prelude.{Option, Some, None, is_some}
+use Rattle.std.proofs.lemmas.Option.{same_Some}
+use Rattle.svn_lists.proofs.Options.{some_value}
 use Rattle.svn_types.specs.Names.{Path}
 use Rattle.svn_types.specs.declared.kind.Kind.TheVariants.{File, Directory}
 use Rattle.svn_repo.specs.History.{History, look}
@@ -13,7 +15,6 @@ use Rattle.svn_model.specs.declared.base_node.BaseNode.TheVariants.{File as File
 use Rattle.svn_model.specs.Nodes.{WorkingCopy, IsWorkingCopy, is_present, is_dir, node_revision, node_path, IsTrueNode, IsTrueOf}
 use Rattle.svn_model.specs.Describes.{Describes}
 use Rattle.svn_law.specs.Laws.{IsRequestOf}
-use Rattle.svn_model.proofs.Names.{some_number, some_same}
 use Rattle.svn_model.proofs.Children.{follow-here}
 use Rattle.svn_drive_law.proofs.Reporting.{shown_source}
 use Rattle.svn_drive_law.proofs.Classes.{Served, kept_directory}
@@ -51,11 +52,11 @@ module _ (d : Request) (w : WorkingCopy) (setting : Setting d w) where
   source_from_copy p None e tr k = absurd (true≢false (sym k))
   source_from_copy p (Some NotPresent) e tr k = absurd (true≢false (sym k))
   source_from_copy p (Some (FileNode r q x ps)) e tr k =
-      let s = some_number (source h (says p)) (sym (sym (ap is_present e) ∙ (setting.describes p).present)) in
+      let s = some_value (source h (says p)) (sym (sym (ap is_present e) ∙ (setting.describes p).present)) in
       (s.0, ap (source h) (follow-here d p) ∙ s.1, λ dir. absurd (true≢false (sym dir)))
   source_from_copy p (Some (DirNode r q c ps)) e tr k =
-      let s = some_number (source h (says p)) (sym (sym (ap is_present e) ∙ (setting.describes p).present)) in
-      (s.0, ap (source h) (follow-here d p) ∙ s.1, λ dir. ap (kind_of h) (some_same s.0 tr.0 (sym (at_node s.0 s.1) ∙ tr.1)) ∙ tr.2.kind)
+      let s = some_value (source h (says p)) (sym (sym (ap is_present e) ∙ (setting.describes p).present)) in
+      (s.0, ap (source h) (follow-here d p) ∙ s.1, λ dir. ap (kind_of h) (same_Some s.0 tr.0 (sym (at_node s.0 s.1) ∙ tr.1)) ∙ tr.2.kind)
     where
       at_node : (m : ℕ) → source h (says p) ≡ Some m → look h r q ≡ Some m
       at_node m s =
@@ -68,7 +69,7 @@ module _ (d : Request) (w : WorkingCopy) (setting : Setting d w) where
   pub source_looked : (p : Path) → is_present (w p) ≡ true
       → (m : ℕ) × (source_node d p ≡ Some m) × (look h (node_revision (w p)) (node_path (w p)) ≡ Some m)
   source_looked p k =
-      let s = some_number (source h (says p)) (sym (setting.describes p).present ∙ k) in (
+      let s = some_value (source h (says p)) (sym (setting.describes p).present ∙ k) in (
         s.0,
         ap (source h) (follow-here d p) ∙ s.1,
         ap (λ x. look h x (node_path (w p))) ((setting.describes p).revision k)
@@ -88,7 +89,7 @@ module _ (d : Request) (w : WorkingCopy) (setting : Setting d w) where
       by (Some NotPresent) e tr = absurd (true≢false (sym present ∙ ap is_present e))
       by (Some (DirNode r q c ps)) e tr = refl
       by (Some (FileNode r q x ps)) e tr =
-          let one = some_same tr.0 m.0 (sym tr.1 ∙ sym (ap (λ o. look h (node_revision o) (node_path o)) e) ∙ m.2) in
+          let one = same_Some tr.0 m.0 (sym tr.1 ∙ sym (ap (λ o. look h (node_revision o) (node_path o)) e) ∙ m.2) in
           let two : File ≡ Directory = sym tr.2.kind ∙ ap (kind_of h) one ∙ sym (kept_directory d setting.served p m.0 n k m.1 t) ∙ dir in
           absurd (differ two)
         where

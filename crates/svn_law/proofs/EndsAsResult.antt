@@ -6,6 +6,8 @@ use Rattle.std.proofs.lemmas.Bool.{false_from_ne_true}
 use Rattle.std.proofs.lemmas.List.Folds.{list_any-append}
 use Rattle.std.specs.Prelude.{Option, Some, None, is_some, option_map, cond, map, filter}
 use Rattle.std.specs.List.{list_any}
+use Rattle.std.proofs.lemmas.Option.{same_Some}
+use Rattle.svn_lists.proofs.Tests.{or_first}
 use Rattle.svn_types.specs.Names.{Path}
 use Rattle.svn_types.specs.Paths.{path_eq, is_within, is_below}
 use Rattle.svn_types.specs.declared.kind.Kind.{Kind}
@@ -26,7 +28,6 @@ use Rattle.svn_model.specs.declared.base_node.BaseNode.TheVariants.{File as File
 use Rattle.svn_model.specs.Nodes.{WorkingCopy, is_present, node_path, base_node_by, base_node}
 use Rattle.svn_model.specs.Effects.{settled, settled_path, after}
 use Rattle.svn_model.specs.Result.{result}
-use Rattle.svn_model.proofs.Names.{or_first, some_same}
 use Rattle.svn_law.proofs.Described.{Setting}
 use Rattle.svn_drive_law.proofs.Classes.{none_related, kept_related, switched_to, untouched_same}
 use Rattle.svn_drive_law.proofs.Courses.{is_delete}
@@ -203,7 +204,7 @@ module _ (d : Request) (w : WorkingCopy) (setting : Setting d w) where
           put n (is_touched d p || is_new d p) (ap (λ x. x || is_new d p) v ∙ ap (λ x. not x && is_some (target_node d p)) u ∙ ap is_some z)
       by (Some n) true false z u v =
           let one = untouched_same d setting.served p u v in
-          let same : one.0 ≡ n = some_same one.0 n (sym one.2 ∙ z) in
+          let same : one.0 ≡ n = same_Some one.0 n (sym one.2 ∙ z) in
           ap (λ x. settled d.mode d.target p (cond x (Some (base_node h d.target (target_path d p) n)) b))
           (ap (λ x. x || is_new d p) v ∙ ap (λ x. not x && is_some (target_node d p)) u)
           ∙ ap (λ g. settled d.mode d.target p (cond g None (base w steps p))) (kept_not_gone d w setting p u)

@@ -9,17 +9,18 @@ use Rattle.std.specs.Cmp.Lexicographic.{slice_cmp, nat_list_cmp_total}
 use Rattle.std.specs.FinMap.{slice_cmp-IsAntisymmetric, nat_cmp-IsAntisymmetric}
 use Rattle.std.proofs.lemmas.Bool.{false_from_ne_true, and_parts, not-true}
 use Rattle.std.proofs.lemmas.Cmp.{tied_itself}
+use Rattle.svn_lists.proofs.Equality.{bytes_eq-same, same_bytes}
+use Rattle.svn_lists.proofs.Every.{all_map, all_part}
+use Rattle.svn_lists.proofs.Somewhere.{each_fails, none_any}
 use Rattle.svn_types.specs.Names.{Path, name_cmp}
 use Rattle.svn_types.specs.Paths.{path_eq, is_within, is_below}
 use Rattle.svn_types.specs.declared.kind.Kind.TheVariants.{File, Directory}
 use Rattle.svn_types.proofs.PathLemmas.{same_path}
-use Rattle.svn_types.proofs.NameLemmas.{same_bytes, bytes_eq-same}
 use Rattle.svn_editor.specs.Steps.{Action, Delete, Open, Add, Change, Text, Close, Step}
 use Rattle.svn_model.specs.Follow.{Request}
 use Rattle.svn_model.specs.Steps.{Mark, Named, End, mark_cmp, key, key_of, comes_after, has_text, InKeyOrder}
 use Rattle.svn_drive_law.proofs.Courses.{is_delete, is_entry}
 use Rattle.svn_law.proofs.States.{is_at, actions_at}
-use Rattle.svn_drive_law.proofs.Lists.{all_map, all_part, none_any, each_fails}
 
 -- ---- keys of paths that stand below one another
 

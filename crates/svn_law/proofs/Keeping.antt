@@ -1,6 +1,7 @@
 -- What the actions of a path leave as it is: its place in the target, a directory, a present node.
 use Rattle.std.proofs.Common.{◌≡◌, Bool, true, false, List, [], ◌∷◌, ◌++◌, refl, sym, ◌∙◌, subst, true≢false}
 use Rattle.std.specs.Prelude.{Option, Some, None, is_some}
+use Rattle.svn_lists.proofs.Every.{all_map}
 use Rattle.svn_types.specs.Names.{Path}
 use Rattle.svn_types.specs.declared.kind.Kind.{Kind}
 use Rattle.svn_types.specs.declared.kind.Kind.TheVariants.{File, Directory}
@@ -13,7 +14,6 @@ use Rattle.svn_model.specs.Effects.{added_node}
 use Rattle.svn_edit_law.proofs.OneNode.{dir_present}
 use Rattle.svn_drive_law.proofs.Courses.{inner_of, AllOf, Course, nothing, gone_only, touched, added, replaced}
 use Rattle.svn_law.proofs.States.{acted, acted-append, act}
-use Rattle.svn_drive_law.proofs.Lists.{all_map}
 
 -- ---- the place in the target
 

@@ -5,6 +5,7 @@ use Rattle.std.proofs.lemmas.Bool.{or_from}
 use Rattle.std.specs.Prelude.{None, is_some, map, slice_get}
 use Rattle.std.specs.List.{list_any, cons_option}
 use Rattle.std.proofs.Math.Bool.{and-false}
+use Rattle.svn_lists.proofs.Every.{all_map}
 use Rattle.svn_types.specs.Names.{Path}
 use Rattle.svn_types.specs.declared.kind.Kind.{Kind}
 use Rattle.svn_types.specs.declared.kind.Kind.TheVariants.{File, Directory}
@@ -32,7 +33,6 @@ use Rattle.svn_law.proofs.CallTests.{on_given, none_in, gives, gives-append, non
 use Rattle.svn_law.proofs.CallTests.{open-call}
 use Rattle.svn_law.proofs.CallTests.{is_last-call}
 use Rattle.svn_law.proofs.OrderTests.{passes, shows_closed}
-use Rattle.svn_drive_law.proofs.Lists.{all_map}
 use Rattle.svn_drive_law.proofs.Tokens.{entered}
 use Rattle.svn_law.proofs.NoOrderFault.{no_fault}
 

@@ -1,5 +1,3 @@
--- lists in order of their keys: what stands under each, and equal look-ups make equal lists
-pub mod Maps
 -- the changes between two lists of properties turn the first into the second
 pub mod PropChanges
 -- what stands in a copy that a report describes is what the request's sources have there

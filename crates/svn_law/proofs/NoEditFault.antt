@@ -5,6 +5,7 @@ use Rattle.std.specs.Prelude.{Option, Some, None, is_some, cond, map, nat_eq, na
 use Rattle.std.specs.List.{cons_option}
 use Rattle.std.proofs.lemmas.Bool.{le-ltb, and_parts}
 use Rattle.std.proofs.lemmas.List.Elements.{filter_map-append}
+use Rattle.svn_lists.proofs.Equality.{bytes_eq-same}
 use Rattle.svn_types.specs.Names.{Path}
 use Rattle.svn_types.specs.Paths.{is_below, child}
 use Rattle.svn_types.specs.Props.{PropChange, is_same_value, names_of_both, change_between, changes_between}
@@ -14,7 +15,7 @@ use Rattle.svn_types.specs.declared.kind.Kind.TheVariants.{File, Directory}
 use Rattle.svn_repo.specs.History.{History}
 use Rattle.svn_repo.specs.Readings.{SmallValues, kind_of, text_of, props_of}
 use Rattle.svn_types.specs.Limits.{path_limit, size_limit}
-use Rattle.svn_types.proofs.NameLemmas.{value_of-first, Name, bytes_eq-same}
+use Rattle.svn_types.proofs.NameLemmas.{value_of-first, Name}
 use Rattle.svn_types.proofs.PathLemmas.{path_cases}
 use Rattle.svn_model.specs.Sources.{governing_revision, source}
 use Rattle.svn_editor.specs.Steps.{Action, Delete, Open, Add, Change, Text, Close, Step}

@@ -6,6 +6,9 @@ use Rattle.std.specs.Prelude.{Option, Some, None, cond, map, length, slice_get, 
 use Rattle.std.specs.List.{list_any, cons_option, AllByRecursion}
 use Rattle.std.specs.Cmp.Lexicographic.{slice_cmp}
 use Rattle.std.proofs.Math.Bool.{and-false}
+use Rattle.svn_lists.proofs.Every.{all_both, all_left, all_map, all_right}
+use Rattle.svn_lists.proofs.Somewhere.{in_whole}
+use Rattle.svn_lists.proofs.Tests.{false_from_clash}
 use Rattle.svn_types.specs.Names.{Path}
 use Rattle.svn_types.specs.Paths.{path_eq, is_below, child, parent, is_root}
 use Rattle.svn_types.specs.declared.kind.Kind.{Kind}
@@ -30,7 +33,7 @@ use Rattle.svn_law.proofs.Described.{Setting}
 use Rattle.svn_law.proofs.FirstSteps.{is_main}
 use Rattle.svn_drive_law.proofs.Courses.{is_delete, is_entry, is_entry_of, entry_of_is_entry, is_inner, inner_of, is_close, is_close_of}
 use Rattle.svn_drive_law.proofs.Courses.{precedes, same_kinds, kind_eq-same, fits_kind}
-use Rattle.svn_law.proofs.StepOrder.{never, has_not, Member, members, has, has_parts, Found, find, Before, before_step, own_entry, Within}
+use Rattle.svn_law.proofs.StepOrder.{has_not, Member, members, has, has_parts, Found, find, Before, before_step, own_entry, Within}
 use Rattle.svn_law.proofs.StepOrder.{any_path_actions, kinds_at, root_entered}
 use Rattle.svn_law.proofs.AfterSteps.{directory_entered}
 use Rattle.svn_law.proofs.TokenNumbers.{call_by, call_at, Tells, is_root_action, none_twice, root_actions, at_root, above_done}
@@ -42,7 +45,6 @@ use Rattle.svn_law.proofs.OpenDirectories.{before_end, before_late, closed_befor
 use Rattle.svn_law.proofs.OpenDirectories.{closed_between}
 use Rattle.svn_law.proofs.CurrentFile.{current_here, text_open}
 use Rattle.svn_law.proofs.OrderTests.{passes, is_first, nothing_first, sub_child, shows_closed, none_changed_late, front_in_order}
-use Rattle.svn_drive_law.proofs.Lists.{all_map, all_both, all_left, all_right, in_whole}
 use Rattle.svn_drive_law.proofs.Tokens.{entered}
 
 -- ---- at a step of a drive
@@ -228,7 +230,7 @@ module _ (d : Request) (w : WorkingCopy) (setting : Setting d w) (late : Bool) (
   -- no file with its text is open, unless the step closes it
   none_unfinished : is_close_of File s.action ≡ false → has_its_text earlier (current_file earlier) ≡ false
   none_unfinished n =
-      never (has_its_text earlier (current_file earlier))
+      false_from_clash (has_its_text earlier (current_file earlier))
       (λ e. let t = text_open d w setting late done s rest drive e in sym (sym n ∙ t.closes))
 
   -- what is entered hasn't been entered before
@@ -262,7 +264,7 @@ module _ (d : Request) (w : WorkingCopy) (setting : Setting d w) (late : Bool) (
 
   -- what is deleted or added is below the root, and a file that is opened
   below_root : is_root_action s.action ≡ false → is_root s.path ≡ false
-  below_root h = never (is_root s.path) (λ e. sym (sym h ∙ at_root d w setting late done s rest drive e))
+  below_root h = false_from_clash (is_root s.path) (λ e. sym (sym h ∙ at_root d w setting late done s rest drive e))
 
   -- a text or a close of a file comes while the file is current, or when all directories are closed
   file_below_root : fits_kind Directory s.action ≡ false → is_root s.path ≡ false

@@ -9,6 +9,9 @@ use Rattle.std.specs.declared.cmp.Ordering.TheVariants.{Less, Equal, Greater}
 use Rattle.std.specs.Ordering.{is_gt, ordering_then, ordering_reverse}
 use Rattle.std.specs.Cmp.Lexicographic.{slice_cmp, nat_list_cmp_total}
 use Rattle.std.proofs.lemmas.Cmp.{tied_itself}
+use Rattle.svn_lists.proofs.Every.{all_both, all_left, all_map, all_right}
+use Rattle.svn_lists.proofs.Somewhere.{in_front, in_whole, none_any}
+use Rattle.svn_lists.proofs.Tests.{false_from_clash}
 use Rattle.svn_types.specs.Names.{Path, name_cmp}
 use Rattle.svn_types.specs.Paths.{path_eq, is_within, is_below, child, is_root}
 use Rattle.svn_types.specs.declared.kind.Kind.TheVariants.{File, Directory}
@@ -20,10 +23,9 @@ use Rattle.svn_model.specs.Follow.{Request}
 use Rattle.svn_drive_law.proofs.Keys.{keys_total, tied_keys, path_in, path_in-map}
 use Rattle.svn_law.proofs.FirstSteps.{key_above, apart_keys, main_key, is_main, entry_is_main}
 use Rattle.svn_drive_law.proofs.Courses.{is_entry, is_entry_of, entry_of_is_entry, is_close, is_close_of, precedes, fits_kind}
-use Rattle.svn_law.proofs.StepOrder.{never, has_not, Member, members, has, has_parts, kinds_at, Before, before_step, after_step}
+use Rattle.svn_law.proofs.StepOrder.{has_not, Member, members, has, has_parts, kinds_at, Before, before_step, after_step}
 use Rattle.svn_law.proofs.StepOrder.{is_closed_later}
 use Rattle.svn_law.proofs.TokenNumbers.{none_twice}
-use Rattle.svn_drive_law.proofs.Lists.{all_map, all_both, all_left, all_right, none_any, in_front, in_whole}
 
 -- ---- the order of keys
 
@@ -89,7 +91,7 @@ module _ (d : Request) (late : Bool) (done : List Step) (s : Step) (rest : List 
     where
       not_here : (u : Step) → comes_after d late s u ≡ false → has (is_close_of Directory) r u ≡ false
       not_here u k =
-          never (has (is_close_of Directory) r u)
+          false_from_clash (has (is_close_of Directory) r u)
           (λ e. let parts = has_parts (is_close_of Directory) r u e in
           sym (sym k ∙ ap (λ x. is_gt (slice_cmp mark_cmp (key_of d late s) x)) (close_key d late u r parts.0 parts.1)
           ∙ less_not_after (map Named r ++ (End ∷ [])) (key_of d late s) less))
@@ -106,7 +108,7 @@ module _ (d : Request) (late : Bool) (done : List Step) (s : Step) (rest : List 
   pub open_above : (q : Path) (name : Name) → s.path ≡ child q name → is_main s.action ≡ true → (u : Step) → Before d late u s
       → has (is_close_of Directory) q u ≡ false
   open_above q name e m u b =
-      never (has (is_close_of Directory) q u)
+      false_from_clash (has (is_close_of Directory) q u)
       (λ h. let parts = has_parts (is_close_of Directory) q u h in
       sym (sym b.0 ∙ ap (λ x. is_gt (slice_cmp mark_cmp x (key_of d late s))) (close_key d late u q parts.0 parts.1)
       ∙ ap (λ x. is_gt (slice_cmp mark_cmp (map Named q ++ (End ∷ [])) x)) (main_key d late s.path s.action m ∙ ap (map Named) e)
@@ -227,7 +229,7 @@ module _ (d : Request) (late : Bool) (done : List Step) (s : Step) (rest : List 
             smaller = smaller_path y.path s.path (ap is_gt (λ i. slice_cmp mark_cmp (sym y_key i) (sym here i)) ∙ b.0.1.0) not_next
 
             outside : is_within y.path s.path ≡ false
-            outside = never (is_within y.path s.path) above
+            outside = false_from_clash (is_within y.path s.path) above
               where
                 above : is_within y.path s.path ≡ true → true ≡ false
                 above z =

@@ -2,11 +2,15 @@
 use Rattle.std.proofs.Common.{◌≡◌, ℕ, Bool, true, false, ◌&&◌, ◌||◌, ◌⊎◌, List, [], ◌∷◌, ◌++◌, refl, sym, ◌∙◌, ap, true≢false, eq-eqb, inl}
 use Rattle.std.proofs.Common.{inr}
 use Rattle.std.proofs.lemmas.Bool.{or_from}
-use Rattle.std.specs.Prelude.{Option, None, cond, map}
+use Rattle.std.specs.Prelude.{None, map}
 use Rattle.std.specs.List.{list_any, AllByRecursion}
 use Rattle.std.proofs.lemmas.List.Folds.{list_any-append}
 use Rattle.std.specs.Ordering.{is_gt}
 use Rattle.std.specs.Cmp.Lexicographic.{slice_cmp}
+use Rattle.svn_lists.proofs.Every.{all_map}
+use Rattle.svn_lists.proofs.Options.{cond_skipped}
+use Rattle.svn_lists.proofs.Somewhere.{each_fails}
+use Rattle.svn_lists.proofs.Tests.{false_from_clash}
 use Rattle.svn_types.specs.Names.{Path}
 use Rattle.svn_types.specs.Paths.{is_below, child, parent, is_root}
 use Rattle.svn_types.specs.declared.kind.Kind.{Kind}
@@ -17,7 +21,6 @@ use Rattle.svn_editor.specs.Calls.{given_by, closes, opens_below, changed_late, 
 use Rattle.svn_editor.specs.Steps.{Action, Delete, Open, Add, Change, Text, Close, Step}
 use Rattle.svn_editor.specs.declared.call.Call.{Call}
 use Rattle.svn_editor.specs.declared.call.Call.TheVariants.{AbortEdit}
-use Rattle.svn_editor.specs.declared.fault.OrderFault.{OrderFault}
 use Rattle.svn_editor.specs.Order.{is_target_late, is_token_unknown, is_token_closed, is_token_misnumbered, is_path_wrong}
 use Rattle.svn_editor.specs.Order.{is_file_unfinished, is_too_early, is_not_innermost, is_open_below, is_prop_late, is_delete_late}
 use Rattle.svn_editor.specs.Order.{is_entry_again, is_text_again, is_root_unclosed, fault_in_order, order_fault}
@@ -25,17 +28,12 @@ use Rattle.svn_model.specs.Steps.{Named, mark_cmp, key_of, comes_after, InKeyOrd
 use Rattle.svn_model.specs.Follow.{Request}
 use Rattle.svn_law.proofs.FirstSteps.{main_key, is_main, key_above}
 use Rattle.svn_drive_law.proofs.Courses.{is_close_of, precedes}
-use Rattle.svn_law.proofs.StepOrder.{never, has, has_parts}
+use Rattle.svn_law.proofs.StepOrder.{has, has_parts}
 use Rattle.svn_law.proofs.TokenNumbers.{call_by, call_at, Tells, is_root_action}
 use Rattle.svn_law.proofs.CallTests.{on_given, is_change_of, IsSubdirectory, none_in, some_in, changes_dir-call, sub-given}
 use Rattle.svn_law.proofs.CallTests.{opens_subdirectory-call}
-use Rattle.svn_drive_law.proofs.Lists.{all_map, each_fails}
 
 -- ---- all tests together
-
--- a test that fails leaves it to the next
-pub skip : (b : Bool) (x o : Option OrderFault) → b ≡ false → o ≡ None → cond b x o ≡ None
-skip b x o e h = ap (λ b. cond b x o) e ∙ h
 
 -- a call that passes all tests is in order
 pub passes : (earlier : List Call) (c : Call) → list_any is_last earlier ≡ false → is_target_late earlier c ≡ false
@@ -49,17 +47,20 @@ passes earlier c ended h1 h2 h3 h4 h5 h6 h7 h8 h9 h10 h11 h12 h13 h14 = by c all
   where
     all : fault_in_order earlier c ≡ None
     all =
-        skip (is_target_late earlier c) _ _ h1
-        (skip (is_token_unknown earlier c) _ _ h2 (skip (is_token_closed earlier c) _ _ h3 (skip (is_token_misnumbered earlier c) _ _ h4
-        (skip (is_path_wrong earlier c) _ _ h5
-        (skip (is_file_unfinished earlier c) _ _ h6 (skip (is_too_early earlier c) _ _ h7 (skip (is_not_innermost earlier c) _ _ h8
-        (skip (is_open_below earlier c) _ _ h9
-        (skip (is_prop_late earlier c) _ _ h10 (skip (is_delete_late earlier c) _ _ h11 (skip (is_entry_again earlier c) _ _ h12
-        (skip (is_text_again earlier c) _ _ h13 (skip (is_root_unclosed earlier c) _ _ h14 refl)))))))))))))
+        cond_skipped (is_target_late earlier c) _ _ h1
+        (cond_skipped (is_token_unknown earlier c) _ _ h2
+        (cond_skipped (is_token_closed earlier c) _ _ h3 (cond_skipped (is_token_misnumbered earlier c) _ _ h4
+        (cond_skipped (is_path_wrong earlier c) _ _ h5
+        (cond_skipped (is_file_unfinished earlier c) _ _ h6
+        (cond_skipped (is_too_early earlier c) _ _ h7 (cond_skipped (is_not_innermost earlier c) _ _ h8
+        (cond_skipped (is_open_below earlier c) _ _ h9
+        (cond_skipped (is_prop_late earlier c) _ _ h10
+        (cond_skipped (is_delete_late earlier c) _ _ h11 (cond_skipped (is_entry_again earlier c) _ _ h12
+        (cond_skipped (is_text_again earlier c) _ _ h13 (cond_skipped (is_root_unclosed earlier c) _ _ h14 refl)))))))))))))
 
     by : (c : Call) → fault_in_order earlier c ≡ None → order_fault earlier c ≡ None
-    by AbortEdit h = skip (list_any is_last earlier) _ _ ended refl
-    by c h = skip (list_any is_last earlier) _ _ ended h
+    by AbortEdit h = cond_skipped (list_any is_last earlier) _ _ ended refl
+    by c h = cond_skipped (list_any is_last earlier) _ _ ended h
 
 -- two tests that fail
 -- nothing is done at a path before it is deleted or opened
@@ -133,7 +134,7 @@ module _ (T : Path → ℕ) where
           change_main a h = absurd (true≢false (sym h))
 
           each : (u : Step) → comes_after d late y u ≡ false → changes_dir (T q) (call_at T u) ≡ false
-          each u n = changes_dir-call T q tells u ∙ never (has (is_change_of Directory) q u) contrary
+          each u n = changes_dir-call T q tells u ∙ false_from_clash (has (is_change_of Directory) q u) contrary
             where
               contrary : has (is_change_of Directory) q u ≡ true → true ≡ false
               contrary h =

@@ -5,6 +5,7 @@ use Rattle.std.specs.Prelude.{Option, Some, None, is_some, option_map, cond}
 use Rattle.std.specs.List.{list_any}
 use Rattle.std.proofs.lemmas.Bool.{or_right, and_parts}
 use Rattle.std.specs.Map.{keys_of}
+use Rattle.svn_lists.proofs.Somewhere.{any_implied}
 use Rattle.svn_types.specs.Names.{Path, IsName}
 use Rattle.svn_types.specs.Paths.{child}
 use Rattle.svn_types.specs.declared.kind.Kind.{Kind}
@@ -41,7 +42,6 @@ use Rattle.svn_law.proofs.AfterCalls.{after-first}
 use Rattle.svn_edit_law.proofs.Entries.{allowed_name, entries_stand, entries_kept}
 use Rattle.svn_edit_law.proofs.OneNode.{present_stands}
 use Rattle.svn_law.proofs.EndsAsResult.{ends}
-use Rattle.svn_drive_law.proofs.Lists.{any_implied}
 
 -- ---- names and entries
 

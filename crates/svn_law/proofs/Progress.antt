@@ -5,7 +5,9 @@ use Rattle.std.specs.Prelude.{Some, None, is_some, cond, map, filter}
 use Rattle.std.specs.List.{list_any, AllByRecursion}
 use Rattle.std.proofs.lemmas.Bool.{false_from_ne_true, or_parts, and_parts}
 use Rattle.std.proofs.lemmas.List.Folds.{list_any-append}
-use Rattle.svn_model.proofs.Names.{or_first}
+use Rattle.svn_lists.proofs.Every.{all_left}
+use Rattle.svn_lists.proofs.Somewhere.{each_fails}
+use Rattle.svn_lists.proofs.Tests.{or_first}
 use Rattle.svn_edit_law.proofs.OneNode.{dir_present}
 use Rattle.svn_law.proofs.Described.{Setting}
 use Rattle.svn_types.specs.Names.{Path}
@@ -26,7 +28,6 @@ use Rattle.svn_law.proofs.FirstSteps.{NoneMain, none_main_left, none_left, delet
 use Rattle.svn_law.proofs.Deletes.{deleted_by, deleter, gone_above, kept_base}
 use Rattle.svn_law.proofs.Keeping.{leaves, inner_leaves, kept_leaves, keep_dir, keep_present, keep_some, present_some}
 use Rattle.svn_law.proofs.AfterSteps.{has_entry, kept_present, begun_before, begun_directory}
-use Rattle.svn_drive_law.proofs.Lists.{all_left, each_fails}
 
 -- ---- tests on lists of steps
 

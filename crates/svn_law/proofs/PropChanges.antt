@@ -10,12 +10,13 @@ use Rattle.std.specs.BTreeMap.{is_at, insert_entry}
 use Rattle.std.specs.Map.{keys_of}
 use Rattle.std.specs.Cmp.Lexicographic.{nat_list_cmp_total}
 use Rattle.std.proofs.lemmas.Map.Text.{is_eq-slice_cmp}
+use Rattle.svn_lists.proofs.Entries.{lookup-remove, same_entries, sorted_insert_entry, sorted_remove_entry}
+use Rattle.svn_lists.proofs.Equality.{bytes_eq-same, same_bytes}
 use Rattle.svn_types.specs.Names.{name_cmp}
 use Rattle.svn_types.specs.Pairs.{value_of, with_value, InNameOrder}
 use Rattle.svn_types.specs.Props.{is_same_value, with_changes, names_of_both, change_between, changes_between}
-use Rattle.svn_types.proofs.NameLemmas.{Name, same_bytes, bytes_eq-same, same_name, flipped, lt_apart, value_of-first, has_name}
+use Rattle.svn_types.proofs.NameLemmas.{Name, same_name, flipped, lt_apart, value_of-first, has_name}
 use Rattle.svn_types.proofs.NameLemmas.{has_name-fold, no_name_no_value}
-use Rattle.svn_law.proofs.Maps.{lookup-remove, sorted-insert, sorted-remove, same_entries}
 
 -- ---- one change
 
@@ -58,8 +59,8 @@ value_of-with_value ps n None m k =
 value_of-with_value ps n (Some v) m k = value_of-insert ps n v m
 
 in_order-with_value : (ps : List (Name × List ℕ)) (n : Name) (v : Option (List ℕ)) → InNameOrder ps → InNameOrder (with_value ps n v)
-in_order-with_value ps n None k = sorted-remove nat_list_cmp_total same_name (is_at (name_cmp n)) ps k
-in_order-with_value ps n (Some v) k = sorted-insert nat_list_cmp_total same_name n v ps k
+in_order-with_value ps n None k = sorted_remove_entry _ (is_at (name_cmp n)) ps k
+in_order-with_value ps n (Some v) k = sorted_insert_entry nat_list_cmp_total n v ps k
 
 -- ---- all changes
 

@@ -3,7 +3,8 @@ use Rattle.std.proofs.Common.{◌≡◌, ℕ, Bool, true, false, ◌&&◌, ◌�
 use Rattle.std.specs.Prelude.{Option, Some, None, is_some, option_map, cond}
 use Rattle.std.specs.List.{list_any}
 use Rattle.std.proofs.lemmas.Bool.{false_from_ne_true, and_parts}
-use Rattle.svn_model.proofs.Names.{nat_eq-same, some_number}
+use Rattle.svn_lists.proofs.Options.{some_value}
+use Rattle.svn_lists.proofs.Tests.{nat_eq-same}
 use Rattle.svn_edit_law.proofs.OneNode.{dir_present, present_stands}
 use Rattle.svn_law.proofs.Described.{Setting, setting_of, source_looked}
 use Rattle.svn_drive_law.proofs.Classes.{switched_to, is_kept-child, target_path-child, kept_related}
@@ -51,7 +52,7 @@ use Rattle.svn_law.proofs.PrefixTruth.{kept_target, Reached, under_way, at_end, 
 described_source : (h : History) (r : ReportView) (v : WorkingCopy) → Describes h r v → (p : Path) → is_present (v p) ≡ true
     → source h (reported r p) ≡ look h (node_revision (v p)) (node_path (v p))
 described_source h r v d p k =
-    let s = some_number (source h (reported r p)) (sym (d p).present ∙ k) in
+    let s = some_value (source h (reported r p)) (sym (d p).present ∙ k) in
     s.1 ∙ sym (shown_source h (reported r p) s.0 s.1).1
     ∙ (λ i. look h (sym ((d p).revision k) i) (sym ((d p).repos_path k) i))
 

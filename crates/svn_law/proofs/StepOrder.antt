@@ -3,6 +3,9 @@ use Rattle.std.proofs.Common.{◌≡◌, ℕ, Bool, true, false, ◌&&◌, ◌||
 use Rattle.std.proofs.Math.Bool.{or-true}
 use Rattle.std.specs.Prelude.{Option, Some, None, cond, map, filter}
 use Rattle.std.specs.List.{list_any, AllByRecursion}
+use Rattle.svn_lists.proofs.Every.{all_both, all_map, all_part}
+use Rattle.svn_lists.proofs.Somewhere.{in_front}
+use Rattle.svn_lists.proofs.Tests.{false_from_clash}
 use Rattle.svn_edit_law.proofs.OneNode.{dir_present}
 use Rattle.svn_law.proofs.Described.{Setting, source_from_copy}
 use Rattle.svn_types.specs.Names.{Path}
@@ -23,7 +26,6 @@ use Rattle.svn_drive_law.proofs.Courses.{deleting, entering, adding, inside, pla
 use Rattle.svn_law.proofs.States.{is_at, actions_at, actions_at-drive, path_cut, step_cut}
 use Rattle.svn_law.proofs.FirstSteps.{before_next, after_next, none_left, entry_is_main}
 use Rattle.svn_law.proofs.AfterSteps.{directory_entered, entered_above, none_left_above}
-use Rattle.svn_drive_law.proofs.Lists.{all_map, all_both, all_part, in_front}
 
 -- ---- lists of steps
 
@@ -46,11 +48,6 @@ find f (x ∷ l) h = by (f x) refl h (find f l)
         let r = ih h in
         record { front = x ∷ r.front; here = r.here; back = r.back; cut = ap (λ (y : List Step). x ∷ y) r.cut; passes = r.passes }
 
--- a test that contradicts itself where it holds
-pub never : (b : Bool) → (b ≡ true → true ≡ false) → b ≡ false
-never true h = h refl
-never false h = refl
-
 -- a step with such an action at the path
 abbrev pub has : (Action → Bool) → Path → Step → Bool
 has f p t = path_eq t.path p && f t.action
@@ -65,7 +62,7 @@ has_parts f p t h = by (path_eq t.path p) (f t.action) refl refl h
 
 -- and when it fails
 pub has_not : (f : Action → Bool) (p : Path) (t : Step) → (t.path ≡ p → f t.action ≡ false) → has f p t ≡ false
-has_not f p t h = never (has f p t) (λ e. let parts = has_parts f p t e in sym parts.1 ∙ h parts.0)
+has_not f p t h = false_from_clash (has f p t) (λ e. let parts = has_parts f p t e in sym parts.1 ∙ h parts.0)
 
 -- a test on the actions of a path, as one on the steps
 pub any-actions : (f : Action → Bool) (p : Path) (steps : List Step) → list_any f (actions_at p steps) ≡ list_any (has f p) steps

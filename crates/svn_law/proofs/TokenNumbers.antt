@@ -1,11 +1,14 @@
 -- The calls of a drive, each by itself: a path's token is its place among all paths that the drive opens.
 use Rattle.std.proofs.Common.{◌≡◌, ℕ, suc, Bool, true, false, ◌&&◌, ◌||◌, ◌⊎◌, List, [], ◌∷◌, ◌++◌, refl, sym, ◌∙◌, ap, subst, true≢false}
-use Rattle.std.proofs.Common.{append_assoc, append-nil, inl, inr, eq-eqb, ne_eqb, arith}
+use Rattle.std.proofs.Common.{append_assoc, append-nil, inl, inr}
 use Rattle.std.specs.Prelude.{cond, map, length, nat_eq, if◌then◌else◌}
 use Rattle.std.specs.List.{list_any, AllByRecursion}
-use Rattle.std.proofs.lemmas.Bool.{eqb-true, and_parts}
+use Rattle.std.proofs.lemmas.Bool.{and_parts}
 use Rattle.std.proofs.Math.Bool.{and-false, and-true, or-false}
 use Rattle.std.proofs.lemmas.List.Folds.{list_any-append}
+use Rattle.std.proofs.Math.Dec.{eqb-suc-zero, eqb-suc-suc, eqb-zero-suc}
+use Rattle.svn_lists.proofs.Every.{all_map, all_right}
+use Rattle.svn_lists.proofs.Somewhere.{any_implied, in_whole, none_any}
 use Rattle.svn_types.specs.Names.{Path}
 use Rattle.svn_types.specs.Paths.{path_eq, child, parent, is_root}
 use Rattle.svn_types.specs.declared.kind.Kind.{Kind}
@@ -26,7 +29,6 @@ use Rattle.svn_law.proofs.States.{actions_at-drive}
 use Rattle.svn_drive_law.proofs.Courses.{is_entry, is_entry_of, entry_of_is_entry, is_inner, inner_of, precedes, AllOf, Course, nothing}
 use Rattle.svn_drive_law.proofs.Courses.{gone_only, touched, added, replaced, course_of}
 use Rattle.svn_law.proofs.StepOrder.{has_not, at_steps, has, Before, before_step, own_entry, root_entered, parent_done}
-use Rattle.svn_drive_law.proofs.Lists.{all_map, all_right, none_any, any_implied, in_whole}
 use Rattle.svn_drive_law.proofs.Tokens.{is_opened, entered, entered-append, opened_more, token_first, token_stays}
 
 -- ---- calls with tokens for paths
@@ -87,25 +89,6 @@ is_opened-entered (s ∷ steps) p =
 abbrev pub Tells : (Path → ℕ) → Path → Type 0
 Tells T p = (q : Path) → nat_eq (T q) (T p) ≡ path_eq q p
 
--- the test on numbers, where they are one more, and where one is zero
-next_numbers : (m n : ℕ) → nat_eq (suc m) (suc n) ≡ nat_eq m n
-next_numbers m n = by (nat_eq (suc m) (suc n)) (nat_eq m n) refl refl
-  where
-    down : suc m ≡ suc n → m ≡ n
-    down e = omega arith
-
-    by : (a b : Bool) → nat_eq (suc m) (suc n) ≡ a → nat_eq m n ≡ b → a ≡ b
-    by true true e h = refl
-    by false false e h = refl
-    by true false e h = sym (eq-eqb m n (down (eqb-true (suc m) (suc n) e))) ∙ h
-    by false true e h = sym e ∙ eq-eqb (suc m) (suc n) (ap suc (eqb-true m n h))
-
-zero_not_next : (n : ℕ) → nat_eq 0 (suc n) ≡ false
-zero_not_next n = ne_eqb 0 (suc n) (λ (e : 0 ≡ suc n). omega arith)
-
-next_not_zero : (n : ℕ) → nat_eq (suc n) 0 ≡ false
-next_not_zero n = ne_eqb (suc n) 0 (λ (e : suc n ≡ 0). omega arith)
-
 -- an opened path is told from all others by its token
 pub tells_opened : (opened : List Path) (p : Path) → is_opened opened p ≡ true → Tells (token_of opened) p
 tells_opened [] p h q = absurd (true≢false (sym h))
@@ -115,9 +98,9 @@ tells_opened (o ∷ opened) p h q = by (path_eq p o) (path_eq q o) refl refl h (
         → (is_opened opened p ≡ true → nat_eq (token_of opened q) (token_of opened p) ≡ path_eq q p)
         → nat_eq (cond b 0 (suc (token_of opened q))) (cond a 0 (suc (token_of opened p))) ≡ path_eq q p
     by true true e f h ih = sym (ap (λ x. path_eq x p) (same_path q o f ∙ sym (same_path p o e)) ∙ path_eq-same p)
-    by true false e f h ih = next_not_zero (token_of opened q) ∙ sym (ap (path_eq q) (same_path p o e) ∙ f)
-    by false true e f h ih = zero_not_next (token_of opened p) ∙ sym (ap (λ x. path_eq x p) (same_path q o f) ∙ path_eq-symm o p ∙ e)
-    by false false e f h ih = next_numbers (token_of opened q) (token_of opened p) ∙ ih h
+    by true false e f h ih = eqb-suc-zero (token_of opened q) ∙ sym (ap (path_eq q) (same_path p o e) ∙ f)
+    by false true e f h ih = eqb-zero-suc (token_of opened p) ∙ sym (ap (λ x. path_eq x p) (same_path q o f) ∙ path_eq-symm o p ∙ e)
+    by false false e f h ih = eqb-suc-suc (token_of opened q) (token_of opened p) ∙ ih h
 
 -- ---- the calls of a drive
 

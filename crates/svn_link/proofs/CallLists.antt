@@ -1,6 +1,7 @@
 -- Lists of calls that end at a last call.
-use Rattle.std.proofs.Common.{◌≡◌, ◌⊎◌, true, false, true≢false, List, [], ◌∷◌, ◌++◌, append-nil, append_assoc, refl, sym, ap, ◌∙◌, inl}
-use Rattle.std.proofs.Common.{inr, ⊎_elim}
+use Rattle.std.proofs.Common.{◌≡◌, true, false, true≢false, List, [], ◌∷◌, ◌++◌, append-nil, append_assoc, refl, sym, ap, ◌∙◌}
+use Rattle.std.proofs.Common.{⊎_elim}
+use Rattle.svn_lists.proofs.Parts.{push_cases}
 use Rattle.svn_editor.specs.declared.call.Call.{Call}
 use Rattle.svn_editor.specs.Calls.{is_last}
 use Rattle.svn_link.specs.Calls.{is_over, EndsAtLast}
@@ -17,19 +18,6 @@ over_ends [] over = absurd (true≢false (sym over))
 over_ends (c ∷ []) over = ([], c, refl, over)
 over_ends (c ∷ d ∷ calls) over = let r = over_ends (d ∷ calls) over in (c ∷ r.0, r.1, ap (λ l. c ∷ l) r.2, r.3)
 
--- a call of a longer list is the new one, or stands in the shorter list
-splits_snoc : (calls before after : List Call) (c d : Call) → calls ++ c ∷ [] ≡ before ++ d ∷ after
-    → (after ≡ []) ⊎ ((rest : List Call) × (calls ≡ before ++ d ∷ rest))
-splits_snoc [] [] after c d e = inl cc
-splits_snoc (x ∷ xs) [] after c d e = inr (xs, cc)
-splits_snoc [] (b ∷ []) after c d e = absurd cc
-splits_snoc [] (b ∷ b' ∷ bs) after c d e = absurd cc
-splits_snoc (x ∷ xs) (b ∷ bs) after c d e =
-    ⊎_elim
-    (λ (t : after ≡ []). inl t)
-    (λ (t : (rest : List Call) × (xs ≡ bs ++ d ∷ rest)). inr (t.0, let same = t.1 in cc))
-    (splits_snoc xs bs after c d cc)
-
 pub ends-nil : EndsAtLast []
 ends-nil [] c after e last = absurd cc
 ends-nil (b ∷ before) c after e last = absurd cc
@@ -43,7 +31,7 @@ ends-snoc calls c ends more before d after e last =
     let none = ends before d t.0 t.1 last in
     let over : is_over calls ≡ true = ap is_over (t.1 ∙ ap (λ l. before ++ d ∷ l) none) ∙ is_over-snoc before d ∙ last in
     absurd (true≢false (sym over ∙ more)))
-    (splits_snoc calls before after c d e)
+    (push_cases calls before after c d e)
 
 -- where what was taken is over, it is all that was sent
 pub taken_whole : (sent taken rest : List Call) → sent ≡ taken ++ rest → EndsAtLast sent → is_over taken ≡ true → taken ≡ sent

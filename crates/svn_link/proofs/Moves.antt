@@ -4,14 +4,15 @@ use Rattle.std.proofs.Common.{subst, ⊎_elim, append_assoc, arith, length-appen
 use mathlib.Core.Option.{some, some-ne-none, some-injective}
 use lib.ListN.{get_elem?}
 use Rattle.crossbeam_channel.specs.Fifo.{Pushes, Pops, Forks, Merges, Learns}
+use Rattle.std.proofs.lemmas.Bool.{false≢true}
 use Rattle.svn_editor.specs.declared.call.Call.{Call}
 use Rattle.svn_link.specs.declared.queue.Hand.{Hand}
 use Rattle.svn_link.specs.Queue.{hand, sent_more, taken_more, IsTake, Fits, IsInOrder}
-use Rattle.svn_link.proofs.Views.{off, each_set, at_end, was_there}
+use Rattle.svn_link.proofs.Views.{each_set, at_end, was_there}
 
 -- a hand that may do nothing fits anywhere
 idle : (sender taker : ℕ) (sent taken s t : List Call) (pass : ℕ) → Fits sender taker sent taken pass (hand false false s t)
-idle sender taker sent taken s t pass = record { sends = λ e. absurd (off e); takes = λ e. absurd (off e) }
+idle sender taker sent taken s t pass = record { sends = λ e. absurd (false≢true e); takes = λ e. absurd (false≢true e) }
 
 -- making the queue
 pub begins : IsInOrder [] (hand true true [] [] ∷ [])
@@ -89,7 +90,7 @@ splits pass h may_send may_take items hands rule at =
     let taker = mine.takes may_take in
     let Front : ℕ → Hand → Type 0 = λ j k. (k.sends ≡ true → (j ≡ rule.sender) × (k.sent ≡ rule.sent)) × (k.takes ≢ true) in
     let front = each_set Front hands pass left
-    ((λ _. sender), off)
+    ((λ _. sender), false≢true)
     (λ j k other e. ((rule.each j k e).sends, λ t. other (((rule.each j k e).takes t).0 ∙ sym taker.0))) in
     record {
       sender = rule.sender;
@@ -105,7 +106,7 @@ splits pass h may_send may_take items hands rule at =
           })
           (λ (new : (j ≡ length (set hands pass left)) × (right ≡ k)).
           record {
-            sends = λ s. absurd (off (ap (λ (y : Hand). y.sends) new.1 ∙ s));
+            sends = λ s. absurd (false≢true (ap (λ (y : Hand). y.sends) new.1 ∙ s));
             takes = λ _. (new.0, ap (λ (y : Hand). y.taken) (sym new.1) ∙ taker.1);
           })
           (at_end (set hands pass left) right k j e);

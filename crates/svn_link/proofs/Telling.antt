@@ -5,9 +5,10 @@ use mathlib.Core.Option.{some}
 use lib.ListN.{get_elem?}
 use Rattle.atomic_table.proofs.Lists.{at_snoc}
 use Rattle.crossbeam_utils.specs.Register.{Turns, Forks, Merges}
+use Rattle.std.proofs.lemmas.Bool.{false≢true}
 use Rattle.svn_link.specs.declared.word.News.{News}
 use Rattle.svn_link.specs.Notice.{news, number_of, number_in, IsNoneOrSame, Knows, IsNoticed, IsTold, IsSeen, IsAgreed}
-use Rattle.svn_link.proofs.Views.{off, each_set, was_there}
+use Rattle.svn_link.proofs.Views.{each_set, was_there}
 
 some_number : (n : ℕ) → 0 < n → number_of n ≡ Some n
 some_number zero h = absurd (omega arith)
@@ -108,7 +109,7 @@ cuts pass v left right tells told blind quiet seen words views rule at =
           })
           (λ i w other at_i. rule.each i w at_i) j u was)
           (λ (same : right ≡ u). subst (Knows rule.teller (number_in words) j) same (record {
-            tells = λ t. absurd (off (sym quiet ∙ t));
+            tells = λ t. absurd (false≢true (sym quiet ∙ t));
             sees = subst (λ o. IsNoneOrSame o (number_in words)) (sym seen) mine.sees;
           }))
           (at_snoc (set views pass left) right u j e);
@@ -125,7 +126,7 @@ joins pass v other w may words views rule at apart there =
     record {
       teller = rule.teller;
       each = each_set (Knows rule.teller (number_in words)) (set views pass both) other (news false None None)
-          (record { tells = λ t. absurd (off t); sees = tt })
+          (record { tells = λ t. absurd (false≢true t); sees = tt })
           (λ j u _ e. each_set (Knows rule.teller (number_in words)) views pass both (record { tells = λ _. mine; sees = theirs })
           (λ i y _ at_i. rule.each i y at_i) j u e);
     }

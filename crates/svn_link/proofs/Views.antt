@@ -1,12 +1,9 @@
 -- What holds of each of a list of views, after one of them changed or a new one came.
-use Rattle.std.proofs.Common.{◌≡◌, ◌≢◌, ◌⊎◌, ℕ, zero, suc, true, false, true≢false, List, [], ◌∷◌, ◌++◌, length, set, sym, refl, ap, subst}
+use Rattle.std.proofs.Common.{◌≡◌, ◌≢◌, ◌⊎◌, ℕ, zero, suc, List, [], ◌∷◌, ◌++◌, length, set, sym, refl, ap, subst}
 use Rattle.std.proofs.Common.{inl, inr, ⊎_elim}
 use mathlib.Core.Option.{some, some-ne-none, some-injective}
 use lib.ListN.{get_elem?}
 use Rattle.atomic_table.proofs.Lists.{at_set}
-
-pub off : false ≡ true → ⊥
-off e = true≢false (sym e)
 
 module _ {V : Type 0} where
   -- what holds of each view, after the one of this pass changed

@@ -1,4 +1,2 @@
--- small facts of tests, numbers and options
-pub mod Names
 -- what a path one name longer has: in a revision, in a report, and in a result
 pub mod Children

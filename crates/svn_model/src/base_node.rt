@@ -6,7 +6,7 @@ ghost use Rattle.svn_model.specs.Nodes.{is_present, is_dir, is_incomplete, prese
 use svn_types::{Kind, Props, RelPath, Rev, Text};
 
 /// What a working copy has at a path, as it came from the repository (a node of the base tree, `svn_wc.h`). There are no local changes.
-#[derive(Debug, Drop)]
+#[derive(Clone, Debug, PartialEq, Eq, Drop)]
 pub enum BaseNode {
     /// A file: what stands at `repos_path` in revision `rev`.
     File {

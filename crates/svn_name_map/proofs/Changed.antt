@@ -1,5 +1,6 @@
 -- A map's pairs after one is put in or taken out: what each name has, and how many there are.
-use Rattle.std.proofs.Common.{◌≡◌, ℕ, ◌+◌, ◌-◌, ◌^◌, ◌<◌, ◌≤◌, Bool, true, false, not, cond, List, [], ◌∷◌, length, Option, None, Some, refl, sym, ap, subst, ◌∙◌, arith}
+use Rattle.std.proofs.Common.{◌≡◌, ℕ, ◌+◌, ◌-◌, ◌^◌, ◌<◌, ◌≤◌, Bool, true, false, not, cond, List, [], ◌∷◌, length, Option, None, Some}
+use Rattle.std.proofs.Common.{refl, sym, ap, subst, ◌∙◌, arith}
 use Rattle.std.specs.Prelude.{bytes_eq}
 use Rattle.std.specs.List.Sorted.{IsStrictlySortedBy}
 use Rattle.std.specs.Map.{keys_of, remove_entry}
@@ -12,11 +13,13 @@ use Rattle.std.specs.declared.cmp.Ordering.TheVariants.{Less, Equal, Greater}
 use Rattle.std.proofs.lemmas.Cmp.{nat_list_cmp_total}
 use Rattle.std.proofs.lemmas.Map.{lookup-remove_entry}
 use Rattle.std.proofs.lemmas.Map.Keys.{IsDistinct-from_sorted}
+use Rattle.svn_lists.proofs.Equality.{same_bytes}
+use Rattle.svn_lists.proofs.Sorted.{above_all_from}
 use Rattle.svn_types.specs.Names.{name_cmp}
 use Rattle.svn_types.specs.Pairs.{InNameOrder, ChangesOnly, value_of}
-use Rattle.svn_types.proofs.NameLemmas.{Name, at_name, name_cmp-same, same_bytes, same_name, value_of-first}
+use Rattle.svn_types.proofs.NameLemmas.{Name, at_name, name_cmp-same, same_name, value_of-first}
 use Rattle.svn_name_map.proofs.Ordered.{none_above}
-use Rattle.svn_name_map.proofs.Pairs.{below_all, in_order-nil, in_order-insert, in_order-remove}
+use Rattle.svn_name_map.proofs.Pairs.{in_order-nil, in_order-insert, in_order-remove}
 use mir.Val.{bool_byte}
 
 module _ {V : Type 0} where
@@ -80,7 +83,7 @@ module _ {V : Type 0} where
           → (value_of es k ≡ Some v → insert_entry name_cmp (insert_entry name_cmp es k w) k v ≡ es)
           → insert_entry name_cmp (match_ordering o ((k, w) ∷ e ∷ es) ((e.0, w) ∷ es) (e ∷ insert_entry name_cmp es k w)) k v ≡ e ∷ es
       by Less is value rest =
-          let none : None ≡ Some v = sym (none_above k es (below_all k e.0 (keys_of es) is order.0)) ∙ value in cc
+          let none : None ≡ Some v = sym (none_above k es (above_all_from nat_list_cmp_total k e.0 (keys_of es) is order.0)) ∙ value in cc
       by Equal is value rest = let same : e.1 ≡ v = cc in again Equal is es w ∙ ap (λ (x : V). (e.0, x) ∷ es) (sym same)
       by Greater is value rest = again Greater is (insert_entry name_cmp es k w) e.1 ∙ ap (λ l. e ∷ l) (rest value)
 
@@ -97,7 +100,7 @@ module _ {V : Type 0} where
           → length (match_ordering o ((k, v) ∷ e ∷ es) ((e.0, v) ∷ es) (e ∷ insert_entry name_cmp es k v))
           ≡ length (e ∷ es) + bool_byte (not (is_some (cond (is_eq o) (Some e.1) (value_of es k))))
       by Less is rest =
-          (let none : value_of es k ≡ None = none_above k es (below_all k e.0 (keys_of es) is order.0) in
+          (let none : value_of es k ≡ None = none_above k es (above_all_from nat_list_cmp_total k e.0 (keys_of es) is order.0) in
           let one = ap (λ o. bool_byte (not (is_some o))) none in omega (arith, one))
       by Equal is rest = omega arith
       by Greater is rest = omega (arith, rest)

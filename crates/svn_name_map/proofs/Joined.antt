@@ -1,8 +1,7 @@
 -- The pairs of runs, one run after the other, around one of the runs; and the run for a name.
-use Rattle.std.proofs.Common.{◌≡◌, ℕ, zero, suc, ◌<◌, ◌≤◌, true, false, List, [], ◌∷◌, ◌++◌, length, take, drop, set, get_or, refl, sym, ap, subst, ◌∙◌, arith}
+use Rattle.std.proofs.Common.{◌≡◌, ℕ, zero, suc, ◌<◌, ◌≤◌, true, false, List, [], ◌∷◌, ◌++◌, length, take, drop, set, get_or, refl, sym, ap}
+use Rattle.std.proofs.Common.{subst, ◌∙◌, arith}
 use Rattle.std.proofs.Common.{◌+◌, Some, None, append_assoc, append-nil}
-use Rattle.std.proofs.lemmas.Map.Entries.{length-values_of}
-use Rattle.std.proofs.lemmas.Option.{slice_get-get_or}
 use Rattle.std.specs.Prelude.{slice_get}
 use Rattle.std.specs.List.{insert, remove, zip}
 use Rattle.std.specs.Map.{keys_of, values_of, remove_entry}
@@ -10,6 +9,7 @@ use Rattle.std.specs.BTreeMap.{is_at, insert_entry}
 use Rattle.std.specs.Ordering.{is_gt}
 use Rattle.std.proofs.lemmas.List.{take-append-drop, take_all, get_or_read}
 use Rattle.std.proofs.lemmas.List.Concat.{flat_map-append}
+use Rattle.svn_lists.proofs.Entries.{first_key}
 use Rattle.svn_types.specs.Names.{name_cmp}
 use Rattle.svn_types.specs.Pairs.{InNameOrder, value_of}
 use Rattle.svn_types.proofs.NameLemmas.{Name}
@@ -46,11 +46,6 @@ module _ {V : Type 0} where
       → joined runs ≡ joined (take m runs) ++ (r ++ joined (drop (suc m) runs))
   around_read runs m r within is = parted runs m ∙ ap (λ l. joined (take m runs) ++ l) (from_run_read runs m r within is)
 
-  -- what is read twice is the same
-  pub same_read_run : (runs : List (List (Name × V))) (m : ℕ) → m < length runs → (r s : List (Name × V)) → r ≡ get_or runs m r
-      → s ≡ get_or runs m s → r ≡ s
-  same_read_run runs m within r s read again = get_or_read runs m r within read [] ∙ sym (get_or_read runs m s within again [])
-
   pub around_set : (runs : List (List (Name × V))) (m : ℕ) (r : List (Name × V)) → m < length runs
       → joined (set runs m r) ≡ joined (take m runs) ++ (r ++ joined (drop (suc m) runs))
   around_set [] m r within = absurd (omega (arith, within))
@@ -80,16 +75,11 @@ module _ {V : Type 0} where
 
   -- ---- the run for a name
 
-  first_of : (r l : List (Name × V)) → 0 < length r
-      → (q : Name) × (slice_get (keys_of r) 0 ≡ Some q) × (slice_get (keys_of (r ++ l)) 0 ≡ Some q)
-  first_of [] l some = absurd (omega (arith, some))
-  first_of (e ∷ r) l some = (e.0, refl, refl)
-
   pub run_not_behind : (runs : List (List (Name × V))) (name : Name) (m : ℕ) (r : List (Name × V)) → r ≡ get_or runs m r → InNameOrder (joined runs) → m < length runs
       → 0 < length r → ((q : Name) → slice_get (keys_of r) 0 ≡ Some q → false ≡ is_gt (name_cmp q name))
       → IsBelow name (joined (take m runs))
   run_not_behind runs name m r is order within some first =
-      let q = first_of r (joined (drop (suc m) runs)) some in
+      let q = first_key r (joined (drop (suc m) runs)) some in
       below_from name (joined (take m runs)) (r ++ joined (drop (suc m) runs)) q.0
       (subst (λ (es : List (Name × V)). InNameOrder es) (around_read runs m r within is) order) q.2 (sym (first q.0 q.1))
 
@@ -97,7 +87,7 @@ module _ {V : Type 0} where
       → 0 < length r → ((q : Name) → slice_get (keys_of r) 0 ≡ Some q → true ≡ is_gt (name_cmp q name))
       → IsAbove name (joined (drop m runs))
   run_behind runs name m r is order within some first =
-      let q = first_of r (joined (drop (suc m) runs)) some in
+      let q = first_key r (joined (drop (suc m) runs)) some in
       subst (λ (es : List (Name × V)). IsAbove name es) (sym (from_run_read runs m r within is))
       (above_from name (r ++ joined (drop (suc m) runs)) q.0
       (subst (λ (es : List (Name × V)). InNameOrder es) (from_run_read runs m r within is) (order_from runs m order)) q.2 (sym (first q.0 q.1)))
@@ -139,13 +129,6 @@ module _ {V : Type 0} where
     -- no run is for it
     pub below_all_runs : length runs ≤ m → IsBelow name (joined runs)
     below_all_runs past = subst (λ (l : List (List (Name × V))). IsBelow name (joined l)) (take_all m runs past) for_name.0
-
-  -- a value that was read of a run's
-  pub value_at : (r : List (Name × V)) (vs : List V) (i : ℕ) (v : V) → vs ≡ values_of r → i < length r → v ≡ get_or vs i v
-      → slice_get (values_of r) i ≡ Some v
-  value_at r vs i v is within read =
-      ap (λ (l : List V). slice_get l i) (sym is)
-      ∙ slice_get-get_or vs i v (subst (λ n. i < n) (sym (ap length is ∙ length-values_of r)) within) ∙ ap Some (sym read)
 
   -- ---- a name in the run that was read
 

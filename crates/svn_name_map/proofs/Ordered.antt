@@ -1,5 +1,5 @@
 -- Pairs in order of their names: a name among the pairs before it and those behind it.
-use Rattle.std.proofs.Common.{◌≡◌, ℕ, zero, suc, ◌<◌, ◌≤◌, Bool, true, false, cond, List, [], ◌∷◌, ◌++◌, length, take, drop, set, refl, sym, ap, ◌∙◌, arith}
+use Rattle.std.proofs.Common.{◌≡◌, ℕ, zero, suc, Bool, true, false, cond, List, [], ◌∷◌, ◌++◌, take, drop, set, refl, sym, ap, ◌∙◌}
 use Rattle.std.proofs.Common.{None, Some, subst}
 use Rattle.std.specs.Prelude.{slice_get}
 use Rattle.std.specs.List.{AllByRecursion, insert, remove, zip}
@@ -11,11 +11,12 @@ use Rattle.std.specs.declared.cmp.Ordering.{Ordering}
 use Rattle.std.specs.declared.cmp.Ordering.TheVariants.{Less, Equal, Greater}
 use Rattle.std.proofs.lemmas.Cmp.{nat_list_cmp_total}
 use Rattle.std.proofs.lemmas.List.{take-append-drop}
+use Rattle.svn_lists.proofs.Entries.{all_keys_left, all_keys_right}
+use Rattle.svn_lists.proofs.Sorted.{above_all_from}
 use Rattle.svn_types.specs.Names.{name_cmp}
 use Rattle.svn_types.specs.Pairs.{InNameOrder, value_of}
 use Rattle.svn_types.proofs.NameLemmas.{Name, same_name, name_cmp-same}
 use Rattle.svn_name_map.specs.Runs.{IsBelow, IsAbove, IsPlaceFor}
-use Rattle.svn_name_map.proofs.Pairs.{below_all}
 
 -- a name behind another compares so from the other side
 pub behind : (q name : Name) → name_cmp q name ≡ Less → name_cmp name q ≡ Greater
@@ -202,18 +203,10 @@ module _ {V : Type 0} where
   in_order-behind [] ys order = order
   in_order-behind (x ∷ xs) ys order = in_order-behind xs ys order.1
 
-  all_before : (P : Name → Type 0) (xs ys : List (Name × V)) → AllByRecursion P (keys_of (xs ++ ys)) → AllByRecursion P (keys_of xs)
-  all_before P [] ys all = tt
-  all_before P (x ∷ xs) ys all = (all.0, all_before P xs ys all.1)
-
-  all_behind : (P : Name → Type 0) (xs ys : List (Name × V)) → AllByRecursion P (keys_of (xs ++ ys)) → AllByRecursion P (keys_of ys)
-  all_behind P [] ys all = all
-  all_behind P (x ∷ xs) ys all = all_behind P xs ys all.1
-
   pub in_order-before : (xs ys : List (Name × V)) → InNameOrder (xs ++ ys) → InNameOrder xs
   unfolding IsStrictlySortedBy
   in_order-before [] ys order = tt
-  in_order-before (x ∷ xs) ys order = (all_before (λ y. name_cmp x.0 y ≡ Less) xs ys order.0, in_order-before xs ys order.1)
+  in_order-before (x ∷ xs) ys order = (all_keys_left (λ y. name_cmp x.0 y ≡ Less) xs ys order.0, in_order-before xs ys order.1)
 
   -- what stands before a list that doesn't begin behind a name
   pub below_from : (name : Name) (xs ys : List (Name × V)) (q : Name) → InNameOrder (xs ++ ys) → slice_get (keys_of ys) 0 ≡ Some q
@@ -229,7 +222,7 @@ module _ {V : Type 0} where
       less (y ∷ l) all is = (let same : y.0 ≡ q = cc in subst (λ z. name_cmp x.0 z ≡ Less) same all.0)
 
       under : name_cmp x.0 q ≡ Less
-      under = less ys (all_behind (λ y. name_cmp x.0 y ≡ Less) xs ys order.0) first
+      under = less ys (all_keys_right (λ y. name_cmp x.0 y ≡ Less) xs ys order.0) first
 
       step : (o : Ordering) → name_cmp q name ≡ o → is_gt o ≡ false → name_cmp x.0 name ≡ Less
       step Less is h = nat_list_cmp_total.trans x.0 q name under is
@@ -245,16 +238,9 @@ module _ {V : Type 0} where
       (let same : e.0 ≡ q = cc in
       let less = step (name_cmp q name) refl is_behind in
       let less : name_cmp name e.0 ≡ Less = subst (λ z. name_cmp name z ≡ Less) (sym same) less in
-      (less, below_all name e.0 (keys_of es) less order.0))
+      (less, above_all_from nat_list_cmp_total name e.0 (keys_of es) less order.0))
     where
       step : (o : Ordering) → name_cmp q name ≡ o → is_gt o ≡ true → name_cmp name q ≡ Less
       step Less is h = let clash : false ≡ true = h in cc
       step Equal is h = let clash : false ≡ true = h in cc
       step Greater is h = nat_list_cmp_total.antisymm name q ∙ ap ordering_reverse is
-
-  -- a list of one pair without it
-  pub one_removed : (es : List (Name × V)) (i : ℕ) → length es ≤ 1 → i < length es → remove es i ≡ []
-  one_removed [] i short within = absurd (omega (arith, within))
-  one_removed (e ∷ []) zero short within = refl
-  one_removed (e ∷ []) (suc i) short within = absurd (omega (arith, within))
-  one_removed (e ∷ f ∷ es) i short within = absurd (omega (arith, short))

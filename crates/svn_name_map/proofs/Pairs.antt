@@ -1,69 +1,27 @@
 -- Pairs after a change of one name: they stay in order, and their names and values are those that were there or the new one.
-use Rattle.std.proofs.Common.{◌≡◌, ℕ, Bool, true, false, cond, List, [], ◌∷◌, get_or, refl, Option, Some, None, ap, ◌∙◌}
-use Rattle.std.specs.List.{All, AllByRecursion, slice_get}
+use Rattle.std.proofs.Common.{◌≡◌, ℕ, Bool, List, [], get_or, refl, Option, Some, None}
+use Rattle.std.specs.List.{All, slice_get}
 use Rattle.std.specs.List.Sorted.{IsStrictlySortedBy}
 use Rattle.std.specs.Map.{keys_of, values_of, remove_entry}
 use Rattle.std.specs.BTreeMap.{is_at, insert_entry}
 use Rattle.std.specs.Option.{IfSome}
 use Rattle.std.specs.Cmp.{eq_by_cmp_equiv}
-use Rattle.std.specs.Ordering.{match_ordering, ordering_reverse}
-use Rattle.std.specs.declared.cmp.Ordering.{Ordering}
-use Rattle.std.specs.declared.cmp.Ordering.TheVariants.{Less, Equal, Greater}
 use Rattle.std.proofs.lemmas.Cmp.{nat_list_cmp_total}
 use Rattle.std.proofs.lemmas.Option.{slice_get-get_or}
 use Rattle.std.proofs.lemmas.Map.Keys.{IsDistinct-from_sorted}
 use Rattle.std.proofs.lemmas.Map.Entries.{lookup_from_place}
 use Rattle.std.proofs.lemmas.Map.Views.{All-keys-insert_entry, All-values-insert_entry, All-map-remove_entry, All-values_from_lookup}
+use Rattle.svn_lists.proofs.Entries.{sorted_insert_entry, sorted_remove_entry}
 use Rattle.svn_types.specs.Names.{name_cmp}
 use Rattle.svn_types.specs.Pairs.{InNameOrder, value_of, with_value}
 
 -- ---- order
 
-pub below_all : (k m : List ℕ) (ks : List (List ℕ)) → name_cmp k m ≡ Less → AllByRecursion (λ y. name_cmp m y ≡ Less) ks
-    → AllByRecursion (λ y. name_cmp k y ≡ Less) ks
-below_all k m [] h a = tt
-below_all k m (x ∷ ks) h a = (nat_list_cmp_total.trans k m x h a.0, below_all k m ks h a.1)
-
-pub all-insert : {V : Type 0} (P : List ℕ → Type 0) (k : List ℕ) (v : V) (es : List (List ℕ × V)) → P k → AllByRecursion P (keys_of es)
-    → AllByRecursion P (keys_of (insert_entry name_cmp es k v))
-all-insert P k v [] h a = (h, tt)
-all-insert P k v (e ∷ es) h a = by (name_cmp k e.0) (all-insert P k v es h a.1)
-  where
-    by : (o : Ordering) → AllByRecursion P (keys_of (insert_entry name_cmp es k v))
-        → AllByRecursion P (keys_of (match_ordering o ((k, v) ∷ e ∷ es) ((e.0, v) ∷ es) (e ∷ insert_entry name_cmp es k v)))
-    by Less rest = (h, a)
-    by Equal rest = a
-    by Greater rest = (a.0, rest)
-
-pub all-remove : {V : Type 0} (P : List ℕ → Type 0) (test : List ℕ → Bool) (es : List (List ℕ × V)) → AllByRecursion P (keys_of es)
-    → AllByRecursion P (keys_of (remove_entry test es))
-all-remove P test [] a = tt
-all-remove P test (e ∷ es) a = by (test e.0) (all-remove P test es a.1)
-  where
-    by : (b : Bool) → AllByRecursion P (keys_of (remove_entry test es)) → AllByRecursion P (keys_of (cond b es (e ∷ remove_entry test es)))
-    by true rest = a.1
-    by false rest = (a.0, rest)
-
 pub in_order-insert : {V : Type 0} (k : List ℕ) (v : V) (es : List (List ℕ × V)) → InNameOrder es → InNameOrder (insert_entry name_cmp es k v)
-unfolding IsStrictlySortedBy
-in_order-insert k v [] s = (tt, tt)
-in_order-insert k v (e ∷ es) s = by (name_cmp k e.0) refl (in_order-insert k v es s.1)
-  where
-    by : (o : Ordering) → name_cmp k e.0 ≡ o → InNameOrder (insert_entry name_cmp es k v)
-        → InNameOrder (match_ordering o ((k, v) ∷ e ∷ es) ((e.0, v) ∷ es) (e ∷ insert_entry name_cmp es k v))
-    by Less h rest = ((h, below_all k e.0 (keys_of es) h s.0), s)
-    by Equal h rest = s
-    by Greater h rest =
-        (all-insert (λ y. name_cmp e.0 y ≡ Less) k v es (nat_list_cmp_total.antisymm e.0 k ∙ ap ordering_reverse h) s.0, rest)
+in_order-insert k v es s = sorted_insert_entry nat_list_cmp_total k v es s
 
 pub in_order-remove : {V : Type 0} (test : List ℕ → Bool) (es : List (List ℕ × V)) → InNameOrder es → InNameOrder (remove_entry test es)
-unfolding IsStrictlySortedBy
-in_order-remove test [] s = s
-in_order-remove test (e ∷ es) s = by (test e.0) (in_order-remove test es s.1)
-  where
-    by : (b : Bool) → InNameOrder (remove_entry test es) → InNameOrder (cond b es (e ∷ remove_entry test es))
-    by true rest = s.1
-    by false rest = (all-remove (λ y. name_cmp e.0 y ≡ Less) test es s.0, rest)
+in_order-remove test es s = sorted_remove_entry name_cmp test es s
 
 pub in_order-nil : (V : Type 0) → InNameOrder {V = V} []
 unfolding IsStrictlySortedBy

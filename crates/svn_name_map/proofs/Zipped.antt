@@ -9,134 +9,24 @@ use Rattle.std.specs.declared.cmp.Ordering.{Ordering}
 use Rattle.std.specs.declared.cmp.Ordering.TheVariants.{Less, Equal, Greater}
 use Rattle.std.specs.Ordering.{is_lt, ordering_index, ordering_reverse}
 use Rattle.std.specs.Cmp.Lexicographic.{nat_list_cmp_total}
-use Rattle.std.proofs.lemmas.List.{get_or-take, get_or-drop, get_or_read, length-take, length-drop, take-append-drop, take-take}
+use Rattle.std.proofs.lemmas.List.{get_or-take, get_or-drop, get_or_read, length-take, length-drop, take-take}
 use Rattle.std.proofs.lemmas.List.{drop-take, drop-drop, take-map, drop-map, length-map}
-use Rattle.std.proofs.lemmas.List.Edits.{insert-append_left, insert-append_right, length-insert, length-remove}
+use Rattle.std.proofs.lemmas.List.Edits.{length-insert, length-remove}
 use Rattle.std.proofs.lemmas.List.Sorted.{searchable_from_sorted}
 use Rattle.std.proofs.lemmas.Map.Keys.{Less-from_sorted}
 use Rattle.std.proofs.lemmas.Map.Made.{keys_of-zip}
 use Rattle.std.proofs.lemmas.Option.{slice_get_read, slice_get-get_or, slice_get_within}
-use Rattle.std.proofs.lemmas.Slice.Zip.{length-zip, seconds-zip}
+use Rattle.std.proofs.lemmas.Slice.Zip.{seconds-zip}
 use Rattle.std.specs.Vec.{vec_len}
 use Rattle.std.proofs.lemmas.List.Elements.{same_from_all_zip}
+use Rattle.svn_lists.proofs.Every.{all_drop, all_from_places, all_take}
+use Rattle.svn_lists.proofs.Orderings.{less_from_index}
+use Rattle.svn_lists.proofs.Sorted.{sorted_insert, sorted_remove}
+use Rattle.svn_lists.proofs.Zips.{length-pairs, zip-insert, zip-remove}
 use Rattle.svn_types.specs.declared.name.Name.{Name as DeclaredName}
 use Rattle.svn_types.specs.Names.{name_cmp}
 use Rattle.svn_types.proofs.NameLemmas.{Name, same_name}
 use Rattle.svn_name_map.specs.Runs.{IsBelow, IsAbove, IsFoundAt, IsPlaceFor}
-
--- ---- two lists side by side
-
-module _ {K V : Type 0} where
-  pub zip_parts : (es : List (K × V)) → zip (keys_of es) (values_of es) ≡ es
-  zip_parts [] = refl
-  zip_parts (e ∷ es) = ap (λ (l : List (K × V)). e ∷ l) (zip_parts es)
-
-  pub zip-take : (i : ℕ) (ks : List K) (vs : List V) → zip (take i ks) (take i vs) ≡ take i (zip ks vs)
-  zip-take zero ks vs = refl
-  zip-take (suc i) [] vs = refl
-  zip-take (suc i) (k ∷ ks) [] = refl
-  zip-take (suc i) (k ∷ ks) (v ∷ vs) = ap (λ (l : List (K × V)). (k, v) ∷ l) (zip-take i ks vs)
-
-  pub zip-drop : (i : ℕ) (ks : List K) (vs : List V) → length vs ≡ length ks → zip (drop i ks) (drop i vs) ≡ drop i (zip ks vs)
-  zip-drop zero ks vs even = refl
-  zip-drop (suc i) [] vs even = refl
-  zip-drop (suc i) (k ∷ ks) [] even = absurd (omega arith)
-  zip-drop (suc i) (k ∷ ks) (v ∷ vs) even = zip-drop i ks vs (omega arith)
-
-  pub length-pairs : (ks : List K) (vs : List V) → length vs ≡ length ks → length (zip ks vs) ≡ length vs
-  length-pairs ks vs even = omega (arith, length-zip ks vs)
-
-  pub zip-insert : (ks : List K) (vs : List V) (i : ℕ) (k : K) (v : V) → length vs ≡ length ks
-      → zip (insert ks i k) (insert vs i v) ≡ insert (zip ks vs) i (k, v)
-  zip-insert ks vs zero k v even = refl
-  zip-insert [] [] (suc i) k v even = refl
-  zip-insert [] (w ∷ vs) (suc i) k v even = absurd (omega arith)
-  zip-insert (x ∷ ks) [] (suc i) k v even = absurd (omega arith)
-  zip-insert (x ∷ ks) (w ∷ vs) (suc i) k v even = ap (λ (l : List (K × V)). (x, w) ∷ l) (zip-insert ks vs i k v (omega arith))
-
-  pub zip-remove : (ks : List K) (vs : List V) (i : ℕ) → length vs ≡ length ks → zip (remove ks i) (remove vs i) ≡ remove (zip ks vs) i
-  zip-remove [] [] zero even = refl
-  zip-remove [] [] (suc i) even = refl
-  zip-remove [] (w ∷ vs) i even = absurd (omega arith)
-  zip-remove (x ∷ ks) [] i even = absurd (omega arith)
-  zip-remove (x ∷ ks) (w ∷ vs) zero even = refl
-  zip-remove (x ∷ ks) (w ∷ vs) (suc i) even = ap (λ (l : List (K × V)). (x, w) ∷ l) (zip-remove ks vs i (omega arith))
-
-  -- some pairs of a list, made of as many of its names and values
-  pub taken_pairs : (es : List (K × V)) (i : ℕ) (ks : List K) (vs : List V) → ks ≡ take i (keys_of es) → vs ≡ take i (values_of es)
-      → zip ks vs ≡ take i es
-  taken_pairs es i ks vs names values =
-      (λ j. zip (names j) (values j)) ∙ zip-take i (keys_of es) (values_of es) ∙ ap (take i) (zip_parts es)
-
-  pub dropped_pairs : (es : List (K × V)) (i : ℕ) (ks : List K) (vs : List V) → ks ≡ drop i (keys_of es) → vs ≡ drop i (values_of es)
-      → zip ks vs ≡ drop i es
-  dropped_pairs es i ks vs names values =
-      (λ j. zip (names j) (values j))
-      ∙ zip-drop i (keys_of es) (values_of es) (length-map es (λ (e : K × V). e.1) ∙ sym (length-map es (λ (e : K × V). e.0)))
-      ∙ ap (drop i) (zip_parts es)
-
--- ---- what holds of each
-
-module _ {X : Type 0} (P : X → Type 0) where
-  pub all_from_places : (xs : List X) → ((i : ℕ) (d : X) → i < length xs → P (get_or xs i d)) → AllByRecursion P xs
-  all_from_places [] h = tt
-  all_from_places (x ∷ xs) h = (h 0 x (omega arith), all_from_places xs (λ i d within. h (suc i) d (omega arith)))
-
-  pub all_take : (i : ℕ) (xs : List X) → AllByRecursion P xs → AllByRecursion P (take i xs)
-  all_take zero xs h = tt
-  all_take (suc i) [] h = tt
-  all_take (suc i) (x ∷ xs) h = (h.0, all_take i xs h.1)
-
-  pub all_drop : (i : ℕ) (xs : List X) → AllByRecursion P xs → AllByRecursion P (drop i xs)
-  all_drop zero xs h = h
-  all_drop (suc i) [] h = tt
-  all_drop (suc i) (x ∷ xs) h = all_drop i xs h.1
-
-  all_insert : (i : ℕ) (xs : List X) (y : X) → P y → AllByRecursion P xs → AllByRecursion P (insert xs i y)
-  all_insert zero xs y own h = (own, h)
-  all_insert (suc i) [] y own h = (own, tt)
-  all_insert (suc i) (x ∷ xs) y own h = (h.0, all_insert i xs y own h.1)
-
-  all_remove : (i : ℕ) (xs : List X) → AllByRecursion P xs → AllByRecursion P (remove xs i)
-  all_remove zero [] h = tt
-  all_remove (suc i) [] h = tt
-  all_remove zero (x ∷ xs) h = h.1
-  all_remove (suc i) (x ∷ xs) h = (h.0, all_remove i xs h.1)
-
--- ---- keys in order
-
-module _ {K : Type 0} (c : K → K → Ordering) where
-  pub sorted_one : (k : K) → IsStrictlySortedBy c (k ∷ [])
-  unfolding IsStrictlySortedBy
-  sorted_one k = (tt, tt)
-
-  pub sorted_take : (i : ℕ) (ks : List K) → IsStrictlySortedBy c ks → IsStrictlySortedBy c (take i ks)
-  unfolding IsStrictlySortedBy
-  sorted_take zero ks s = tt
-  sorted_take (suc i) [] s = tt
-  sorted_take (suc i) (k ∷ ks) s = (all_take (λ y. c k y ≡ Less) i ks s.0, sorted_take i ks s.1)
-
-  pub sorted_drop : (i : ℕ) (ks : List K) → IsStrictlySortedBy c ks → IsStrictlySortedBy c (drop i ks)
-  unfolding IsStrictlySortedBy
-  sorted_drop zero ks s = s
-  sorted_drop (suc i) [] s = tt
-  sorted_drop (suc i) (k ∷ ks) s = sorted_drop i ks s.1
-
-  -- a key goes between those below it and those above
-  pub sorted_insert : (ks : List K) (i : ℕ) (k : K) → IsStrictlySortedBy c ks → AllByRecursion (λ y. c y k ≡ Less) (take i ks)
-      → AllByRecursion (λ y. c k y ≡ Less) (drop i ks) → IsStrictlySortedBy c (insert ks i k)
-  unfolding IsStrictlySortedBy
-  sorted_insert ks zero k s below above = (above, s)
-  sorted_insert [] (suc i) k s below above = (tt, tt)
-  sorted_insert (x ∷ ks) (suc i) k s below above =
-      (all_insert (λ y. c x y ≡ Less) i ks k below.0 s.0, sorted_insert ks i k s.1 below.1 above)
-
-  pub sorted_remove : (ks : List K) (i : ℕ) → IsStrictlySortedBy c ks → IsStrictlySortedBy c (remove ks i)
-  unfolding IsStrictlySortedBy
-  sorted_remove [] zero s = tt
-  sorted_remove [] (suc i) s = tt
-  sorted_remove (k ∷ ks) zero s = s.1
-  sorted_remove (k ∷ ks) (suc i) s = (all_remove (λ y. c k y ≡ Less) i ks s.0, sorted_remove ks i s.1)
 
 -- ---- where a name stands
 
@@ -152,11 +42,6 @@ weakly_sorted ks s k d low below =
 pub searchable : (ks : List Name) (name : Name) → IsStrictlySortedBy name_cmp ks → IsNonDecreasingBy (λ y. ordering_index (name_cmp y name)) ks
 searchable ks name s = searchable_from_sorted nat_list_cmp_total (λ (y : Name). y) ks name (weakly_sorted ks s)
 
-least : (o p : Ordering) → ordering_index o ≤ ordering_index p → p ≡ Less → o ≡ Less
-least Less p low is = refl
-least Equal p low is = absurd (omega (arith, low, ap ordering_index is))
-least Greater p low is = absurd (omega (arith, low, ap ordering_index is))
-
 -- behind the last
 pub gap_behind : (ks : List Name) (name last : Name) → IsStrictlySortedBy name_cmp ks → 0 < length ks → last ≡ get_or ks (length ks - 1) last
     → name_cmp last name ≡ Less → IsGap ks name (length ks)
@@ -165,7 +50,7 @@ gap_behind ks name last s some is less =
   where
     below : (i : ℕ) (d : Name) → i < length ks → name_cmp (get_or ks i d) name ≡ Less
     below i d within =
-        least (name_cmp (get_or ks i d) name) (name_cmp (get_or ks (length ks - 1) d) name)
+        less_from_index (name_cmp (get_or ks i d) name) (name_cmp (get_or ks (length ks - 1) d) name)
         (searchable ks name s i (length ks - 1) d (omega arith) (omega arith))
         (ap (λ (q : Name). name_cmp q name) (sym (get_or_read ks (length ks - 1) last (omega arith) is d)) ∙ less)
 
@@ -253,18 +138,6 @@ module _ {V : Type 0} (es : List (Name × V)) where
               (all_drop (λ q. name_cmp q name ≡ Less) first (keys_of (take place es)) at.1),
           subst (λ (l : List (Name × V)). IsAbove name l) (sym (drop-drop (place - first) first es ∙ ap (λ (n : ℕ). drop n es) rest)) at.2,
         )
-
-  pub put_before : (e : Name × V) (place first : ℕ) → place ≤ first → first ≤ length es
-      → insert (take first es) place e ++ drop first es ≡ insert es place e
-  put_before e place first before within =
-      sym (insert-append_left (take first es) (drop first es) place e (omega (arith, length-take first es)))
-      ∙ ap (λ (l : List (Name × V)). insert l place e) (take-append-drop first es)
-
-  pub put_behind : (e : Name × V) (place first : ℕ) → first ≤ place → first ≤ length es
-      → take first es ++ insert (drop first es) (place - first) e ≡ insert es place e
-  put_behind e place first behind within =
-      sym (insert-append_right (take first es) (drop first es) first place e (omega (arith, length-take first es)) behind)
-      ∙ ap (λ (l : List (Name × V)). insert l place e) (take-append-drop first es)
 
 -- ---- a run that is written to
 

@@ -11,7 +11,7 @@ use crate::run::Run;
 use crate::runs::{insert_pair, remove_pair, set_value, value_under};
 use std::alloc::{AllocError, Global};
 use std::marker::Model;
-use svn_types::Name;
+use svn_types::{Name, impossible};
 
 // How many pairs there may be: more than fit into memory.
 const MAX_LEN: usize = (1 << 63) - 1;
@@ -102,7 +102,8 @@ impl<V: Copy> NameMap<V> {
         ensures unchanged { OnErr result (self.new ≡ self.old) }
     {
         if self.len == MAX_LEN {
-            return Err(AllocError);
+            // memory ends before 2^63 - 1 pairs
+            return Err(impossible(AllocError));
         }
         let before = insert_pair(&mut self.runs, name, value)?;
         self.len += usize::from(before.is_none());

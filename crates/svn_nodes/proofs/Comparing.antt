@@ -5,13 +5,13 @@ use Rattle.std.specs.Prelude.{is_none}
 use Rattle.std.specs.Option.{is_some}
 use Rattle.std.specs.declared.cmp.Ordering.TheVariants.{Less, Equal, Greater}
 use Rattle.std.specs.Ordering.{is_gt}
+use Rattle.svn_lists.proofs.Somewhere.{any_push}
 use Rattle.svn_types.specs.Names.{Path, path_cmp}
 use Rattle.svn_types.specs.Paths.{path_eq, is_within}
 use Rattle.svn_types.proofs.PathsInOrder.{path_tie, path_cmp-same, not_before_itself, not_both, before_apart}
 use Rattle.svn_types.proofs.PathLemmas.{same_path}
 use Rattle.svn_model.specs.declared.base_node.BaseNode.{BaseNode}
 use Rattle.svn_model.specs.Nodes.{get_in, InPathOrder}
-use Rattle.svn_editor.proofs.OneMore.{any_more}
 use Rattle.svn_edit_law.proofs.NodeLists.{get_in-first, found_first, absent_after, rest_in_order}
 use Rattle.svn_nodes.proofs.NodeOrder.{first_or_after, order_behind}
 use Rattle.svn_nodes.proofs.Ranges.{from_path, Taken, taken_none, taken_more, IsPast, paths_are}
@@ -110,7 +110,7 @@ noted_by others paths k true some p = by (get_in others k) some (is_one paths p)
     by (Some n) s false true = refl
     by (Some n) s false false = refl
 noted_by others paths k false none p =
-    any_more (λ q. path_eq q p) paths k ∙ ap (λ b. is_one paths p || b) (by (get_in others k) none (path_eq k p))
+    any_push (λ q. path_eq q p) paths k ∙ ap (λ b. is_one paths p || b) (by (get_in others k) none (path_eq k p))
   where
     by : (o : Option BaseNode) → false ≡ is_some o → (b : Bool) → b ≡ (b && is_none o)
     by (Some n) h b = absurd (true≢false (sym h))
@@ -139,7 +139,7 @@ module _ (at : Path) (nodes others beside beside2 : List (Path × BaseNode)) (pa
         ∙ noted_by others paths e.0 there (found ∙ ap is_some (s.ahead e.0 within (ap is_some (found_first e left)))) p
         ∙ ap (λ b. b || (path_eq e.0 p && is_none (get_in others e.0))) (s.noted p)
         ∙ by p (is_one s.seen p) (path_eq e.0 p) refl
-        ∙ ap (λ b. b && is_none (get_in others p)) (sym (any_more (λ q. path_eq q p) s.seen e.0));
+        ∙ ap (λ b. b && is_none (get_in others p)) (sym (any_push (λ q. path_eq q p) s.seen e.0));
     order = order;
     ahead = λ p inside some.
         let all : is_some (get_in (e ∷ left) p) ≡ true = ap is_some (get_in-first e left p) ∙ either (path_eq e.0 p) (get_in left p) some in

@@ -1,7 +1,9 @@
 -- A tree of the repository is gathered: its node first, and then the entries in order of their names.
-use Rattle.std.proofs.Common.{◌≡◌, ℕ, ◌≤◌, length, arith, true, false, cond, List, [], ◌∷◌, ◌++◌, refl, sym, ap, ◌∙◌, subst, Option, Some, None, append_assoc}
+use Rattle.std.proofs.Common.{◌≡◌, ℕ, ◌≤◌, length, arith, cond, List, [], ◌∷◌, ◌++◌, refl, sym, ap, ◌∙◌, subst, Option, Some, None}
+use Rattle.std.proofs.Common.{append_assoc}
 use Rattle.std.proofs.lemmas.List.{append-nil, length-append, length-drop, drop-append-le}
-use Rattle.std.specs.Option.{is_some, IfNone}
+use Rattle.std.specs.Option.{is_some}
+use Rattle.svn_lists.proofs.Options.{none_from_test}
 use Rattle.svn_types.specs.Names.{Path}
 use Rattle.svn_types.specs.Paths.{path_eq}
 use Rattle.svn_types.specs.Pairs.{InNameOrder, value_of}
@@ -19,15 +21,6 @@ use Rattle.svn_nodes.specs.Tails.{IsTail}
 use Rattle.svn_edit_law.proofs.Lookups.{at_path}
 use Rattle.svn_nodes.proofs.Trees.{standing-here, standing-below}
 use Rattle.svn_nodes.proofs.Sweeps.{swept_on, among_left, value_of-first}
-
-pub none_of : {A : Type 0} (o : Option A) → is_some o ≡ false → o ≡ None
-none_of None h = refl
-none_of (Some x) h = let bad : true ≡ false = h in cc
-
--- what holds where there is no value
-pub when_none : {A : Type 0} (o : Option A) (P : Type 0) → ((x : A) → o ≡ Some x → ⊥) → IfNone o P → P
-when_none None P not h = h
-when_none (Some x) P not h = absurd (not x refl)
 
 module _ (h : History) (rev : ℕ) (at q : Path) (n : ℕ) (w w1 : WorkingCopy)
     (put : (p : Path) → w1 p ≡ cond (path_eq at p) (Some (base_node h rev q n)) (w p)) where
@@ -49,7 +42,7 @@ module _ (h : History) (rev : ℕ) (at q : Path) (n : ℕ) (w w1 : WorkingCopy)
       waiting = λ name some r. still name r;
       done =
           λ name none r. still name r
-          ∙ sym (ap (λ o. standing_at h rev q name o r) (ap (λ l. value_of l name) (sym is) ∙ none_of (value_of es name) none));
+          ∙ sym (ap (λ o. standing_at h rev q name o r) (ap (λ l. value_of l name) (sym is) ∙ none_from_test (value_of es name) none));
     },
     λ name v found. ap (λ l. value_of l name) (sym is) ∙ found,
   )

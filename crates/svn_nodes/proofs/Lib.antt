@@ -22,7 +22,5 @@ pub mod Trees
 pub mod Sweeps
 -- A tree of the repository is gathered: its node first, and then the entries in order of their names.
 pub mod Gathering
--- Texts that are printed item by item.
-pub mod Printing
 -- The line of a property, from its beginning and the name, which has no byte that is escaped.
 pub mod PropLines

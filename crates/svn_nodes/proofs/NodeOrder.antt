@@ -1,11 +1,12 @@
 -- Nodes in path order: which come before which; and a lemma of svn_edit_law under the name by which proofs about nodes call it.
-use Rattle.std.proofs.Common.{◌≡◌, Bool, true, false, cond, List, [], ◌∷◌, ◌++◌, refl, sym, ap, ◌∙◌, Option, Some, None, true≢false}
-use Rattle.std.specs.Option.{is_some, option_or}
+use Rattle.std.proofs.Common.{◌≡◌, Bool, true, false, cond, List, [], ◌∷◌, ◌++◌, refl, sym, ap, ◌∙◌, Some, true≢false}
+use Rattle.std.specs.Option.{is_some}
 use Rattle.std.specs.declared.cmp.Ordering.TheVariants.{Less}
 use Rattle.std.specs.List.{AllByRecursion}
 use Rattle.std.specs.Map.{keys_of}
 use Rattle.std.specs.BTreeMap.{is_at}
 use Rattle.std.proofs.lemmas.Map.Keys.{sorted_head, sorted_tail}
+use Rattle.svn_lists.proofs.Options.{option_or_some}
 use Rattle.svn_types.specs.Names.{Path, path_cmp}
 use Rattle.svn_model.specs.declared.base_node.BaseNode.{BaseNode}
 use Rattle.svn_model.specs.Nodes.{get_in, InPathOrder}
@@ -38,10 +39,6 @@ pub first_or_after : (P : Type 0) (e : Path × BaseNode) (es : List (Path × Bas
 first_or_after P e es order p some first after = first_or_other P e es p some first
     (λ later. after (after_all e.0 es (sorted_head path_cmp e.0 (keys_of es) order) p later))
 
-pub some_behind : (a b : Option BaseNode) → is_some b ≡ true → is_some (option_or a b) ≡ true
-some_behind None b h = h
-some_behind (Some x) b h = refl
-
 -- what stands behind others comes after each of them
 pub before_behind : (xs ys : List (Path × BaseNode)) → InPathOrder (xs ++ ys) → (p k : Path) → is_some (get_in xs p) ≡ true
     → is_some (get_in ys k) ≡ true → path_cmp p k ≡ Less
@@ -51,5 +48,5 @@ before_behind (x ∷ xs) ys order p k here there =
     (λ same.
     ap (λ z. path_cmp z k) same
     ∙ after_all x.0 (xs ++ ys) (sorted_head path_cmp x.0 (keys_of (xs ++ ys)) order) k (ap is_some (get_in-append xs ys k)
-    ∙ some_behind (get_in xs k) (get_in ys k) there))
+    ∙ option_or_some (get_in xs k) (get_in ys k) there))
     (λ later. before_behind xs ys (sorted_tail path_cmp x.0 (keys_of (xs ++ ys)) order) p k later there)

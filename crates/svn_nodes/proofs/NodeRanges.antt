@@ -6,7 +6,6 @@ use Rattle.std.specs.BTreeMap.{is_at}
 use Rattle.std.specs.BTreeMap.Range.{entries_between, range_contains}
 use Rattle.std.specs.declared.ops.Bound.{Bound}
 use Rattle.std.specs.declared.ops.Bound.TheVariants.{Included, Unbounded}
-use Rattle.std.specs.declared.cmp.Ordering.{Ordering}
 use Rattle.std.specs.declared.cmp.Ordering.TheVariants.{Less}
 use Rattle.std.specs.Ordering.{ordering_then, is_lt}
 use Rattle.std.proofs.lemmas.Map.Entries.{lookup-filter-keys}
@@ -32,11 +31,6 @@ not_before_above [] = refl
 not_before_above (m ∷ []) = refl
 not_before_above (m ∷ n ∷ p) =
     ap (λ o. is_lt (ordering_then o (path_cmp (n ∷ p) (parent (n ∷ p))))) (name_cmp-same m) ∙ not_before_above (n ∷ p)
-
--- a range without ends is all
-pub all_between : {K X : Type 0} (order : K → K → Ordering) (es : List (K × X)) → entries_between order Unbounded Unbounded es ≡ es
-all_between order [] = refl
-all_between order (e ∷ es) = ap (λ l. e ∷ l) (all_between order es)
 
 -- what stands at a path in a range is in the range
 pub get_in-between : (lo hi : Bound Path) (es : List (Path × BaseNode)) (p : Path) → range_contains path_cmp lo hi p ≡ true

@@ -1,7 +1,7 @@
 -- The nodes at a path and below stand next to each other: those from the path on, as long as they are within it.
 use Rattle.std.proofs.Common.{◌≡◌, ℕ, Bool, true, false, cond, ◌&&◌, ◌||◌, not, List, [], ◌∷◌, ◌++◌, take, drop, refl, sym, ◌∙◌}
 use Rattle.std.proofs.Common.{ap, subst, true≢false, append_assoc}
-use Rattle.std.specs.Prelude.{Option, Some, None, filter}
+use Rattle.std.specs.Prelude.{Option, Some, None}
 use Rattle.std.specs.Option.{is_some, option_or}
 use Rattle.std.specs.List.{list_any, list_all, AllByRecursion}
 use Rattle.std.specs.List.Sorted.{IsStrictlySortedBy}
@@ -14,6 +14,9 @@ use Rattle.std.specs.declared.cmp.Ordering.TheVariants.{Less, Equal, Greater}
 use Rattle.std.specs.Ordering.{is_le, is_lt, is_eq}
 use Rattle.std.proofs.lemmas.List.{take-append-drop}
 use Rattle.std.proofs.lemmas.Map.Entries.{lookup-filter-keys}
+use Rattle.svn_lists.proofs.Entries.{keys_of-push}
+use Rattle.svn_lists.proofs.Filters.{filter_passes}
+use Rattle.svn_lists.proofs.Somewhere.{list_all_push}
 use Rattle.svn_types.specs.Names.{Path, path_cmp}
 use Rattle.svn_types.specs.Paths.{path_eq, is_within, is_below}
 use Rattle.svn_types.proofs.PathsInOrder.{paths_total, not_before_itself, within_after, within_between, below_after, before_apart}
@@ -36,27 +39,14 @@ pub record Taken (path : Path) (es : List (Path × BaseNode)) (paths : List Path
 pub taken_none : (path : Path) (es left : List (Path × BaseNode)) → left ≡ from_path path es → Taken path es [] left
 taken_none path es left h = record { taken = []; split = sym h; are = refl; within = refl }
 
-keys-more : (xs : List (Path × BaseNode)) (e : Path × BaseNode) → keys_of (xs ++ e ∷ []) ≡ keys_of xs ++ e.0 ∷ []
-keys-more [] e = refl
-keys-more (x ∷ xs) e = ap (λ (l : List Path). x.0 ∷ l) (keys-more xs e)
-
-all-more : (f : Path → Bool) (xs : List Path) (x : Path) → list_all f xs ≡ true → f x ≡ true → list_all f (xs ++ x ∷ []) ≡ true
-all-more f [] x h k = ap (λ b. b && true) k
-all-more f (y ∷ xs) x h k = by (f y) h (all-more f xs x)
-  where
-    by : (b : Bool) → (b && list_all f xs) ≡ true → (list_all f xs ≡ true → f x ≡ true → list_all f (xs ++ x ∷ []) ≡ true)
-        → (b && list_all f (xs ++ x ∷ [])) ≡ true
-    by true e ih = ih e k
-    by false e ih = absurd (true≢false (sym e))
-
 pub taken_more : (path : Path) (es : List (Path × BaseNode)) (paths : List Path) (e : Path × BaseNode) (left : List (Path × BaseNode))
     → Taken path es paths (e ∷ left) → is_within path e.0 ≡ true
     → Taken path es (paths ++ e.0 ∷ []) left
 taken_more path es paths e left t w = record {
   taken = t.taken ++ e ∷ [];
   split = t.split ∙ sym (append_assoc t.taken (e ∷ []) left);
-  are = ap (λ (l : List Path). l ++ e.0 ∷ []) t.are ∙ sym (keys-more t.taken e);
-  within = ap (list_all (is_within path)) (keys-more t.taken e) ∙ all-more (is_within path) (keys_of t.taken) e.0 t.within w;
+  are = ap (λ (l : List Path). l ++ e.0 ∷ []) t.are ∙ sym (keys_of-push t.taken e);
+  within = ap (list_all (is_within path)) (keys_of-push t.taken e) ∙ list_all_push (is_within path) (keys_of t.taken) e.0 t.within w;
 }
 
 -- ---- at the end
@@ -65,29 +55,6 @@ taken_more path es paths e left t w = record {
 pub data IsPast (path : Path) : List (Path × BaseNode) → Type 0 where
   nothing_left : IsPast path []
   outside_next : (e : Path × BaseNode) (left : List (Path × BaseNode)) → is_within path e.0 ≡ false → IsPast path (e ∷ left)
-
-filter_passes : {X : Type 0} (f : X → Bool) (es xs : List X) (y : X) (ys : List X) → filter f es ≡ xs ++ y ∷ ys → f y ≡ true
-filter_passes f [] [] y ys h = absurd (none h)
-  where
-    none : [] ≡ y ∷ ys → ⊥
-    none e = cc
-filter_passes f [] (x ∷ xs) y ys h = absurd (none h)
-  where
-    none : [] ≡ x ∷ xs ++ y ∷ ys → ⊥
-    none e = cc
-filter_passes {X} f (e ∷ es) xs y ys h = by (f e) refl xs h (filter_passes f es)
-  where
-    by : (b : Bool) → f e ≡ b → (xs : List X) → cond b (e ∷ filter f es) (filter f es) ≡ xs ++ y ∷ ys
-        → ((xs : List X) (y : X) (ys : List X) → filter f es ≡ xs ++ y ∷ ys → f y ≡ true) → f y ≡ true
-    by true k [] h ih = ap f (sym (first h)) ∙ k
-      where
-        first : e ∷ filter f es ≡ y ∷ ys → e ≡ y
-        first q = cc
-    by true k (x ∷ xs) h ih = ih xs y ys (rest h)
-      where
-        rest : e ∷ filter f es ≡ x ∷ xs ++ y ∷ ys → filter f es ≡ xs ++ y ∷ ys
-        rest q = cc
-    by false k xs h ih = ih xs y ys h
 
 any_key : (es : List (Path × BaseNode)) (p : Path) → list_any (λ q. path_eq q p) (keys_of es) ≡ is_some (get_in es p)
 any_key [] p = refl
@@ -224,17 +191,6 @@ order_run es i n order = order_front (take n (drop i es)) (drop n (drop i es))
     (order_behind (take i es) (drop i es) (subst InPathOrder (sym (take-append-drop i es)) order)))
 
 -- ---- removals
-
-pub removed_more : (a b : Bool) (old : Option BaseNode) → cond b None (cond a None old) ≡ cond (a || b) None old
-removed_more true true old = refl
-removed_more true false old = refl
-removed_more false true old = refl
-removed_more false false old = refl
-
-pub removed_where : (b : Bool) (old : Option BaseNode) → cond (b && is_some old) None old ≡ cond b None old
-removed_where true None = refl
-removed_where true (Some n) = refl
-removed_where false old = refl
 
 -- what is below a path, or is it, is within it
 pub below_or_same : (path p : Path) → (is_below path p || path_eq path p) ≡ is_within path p

@@ -1,10 +1,9 @@
 -- What stands at a path and below is replaced: first there is room for all that comes, then what was there goes, and what comes takes its
 -- place.
 use Rattle.std.proofs.Common.{◌≡◌, Bool, true, false, cond, List, [], ◌∷◌, ◌++◌, refl, sym, ap, subst, ◌∙◌, Option, Some, None, true≢false}
-use Rattle.std.proofs.Common.{take, ℕ, zero, suc}
 use Rattle.std.proofs.lemmas.List.{append-nil}
 use Rattle.std.proofs.lemmas.Option.{same_Some}
-use Rattle.std.specs.Prelude.{◌&&◌, ◌||◌, is_none}
+use Rattle.std.specs.Prelude.{◌&&◌, is_none}
 use Rattle.std.specs.List.{list_any}
 use Rattle.std.specs.Option.{is_some, option_or}
 use Rattle.std.specs.BTreeMap.{is_at}
@@ -23,13 +22,6 @@ use Rattle.svn_nodes.proofs.NodeOrder.{at_first, first_or_after, before_behind}
 -- a path is one of these
 abbrev pub is_one : List Path → Path → Bool
 is_one paths p = list_any (λ q. path_eq q p) paths
-
--- ---- one step after the other
-
-pub set_more : (a b : Bool) (v old : Option BaseNode) → cond b v (cond a v old) ≡ cond (a || b) v old
-set_more true true v old = refl
-set_more true false v old = refl
-set_more false b v old = refl
 
 -- ---- the nodes that come
 
@@ -147,17 +139,6 @@ module _ (at : Path) (old part w1 w2 w3 : List (Path × BaseNode)) (gones news :
       by (Some n) g true i = refl
       by (Some n) g false i = let bad : None ≡ Some n = sym (within p i) ∙ g in absurd (true≢false (sym (ap is_some bad)))
       by None g b i = rest g ∙ left (is_within at p) (get_in old p) ∙ ap (λ x. cond x None (get_in old p)) i
-
--- no path of a list, so none of its first ones
-pub any_take : (f : Path → Bool) (xs : List Path) (i : ℕ) → list_any f xs ≡ false → list_any f (take i xs) ≡ false
-any_take f xs zero h = refl
-any_take f [] (suc i) h = refl
-any_take f (x ∷ xs) (suc i) h = by (f x) h (any_take f xs i)
-  where
-    by : (b : Bool) → (b || list_any f xs) ≡ false → (list_any f xs ≡ false → list_any f (take i xs) ≡ false)
-        → (b || list_any f (take i xs)) ≡ false
-    by true g ih = absurd (true≢false g)
-    by false g ih = ih g
 
 -- ---- the same nodes
 

@@ -1,5 +1,5 @@
 -- What a walk over all nodes leaves of them, where a test of their paths decides.
-use Rattle.std.proofs.Common.{◌≡◌, Bool, true, false, not, cond, List, [], ◌∷◌, refl, sym, ◌∙◌, ap, subst}
+use Rattle.std.proofs.Common.{◌≡◌, Bool, true, false, cond, List, [], ◌∷◌, refl, sym, ◌∙◌, ap, subst}
 use Rattle.std.specs.Prelude.{Option, Some, None, option_and_then}
 use Rattle.std.specs.BTreeMap.{is_at}
 use Rattle.std.specs.Map.{keys_of}
@@ -44,10 +44,3 @@ module _ (keep : Path → Bool) where
           ∙ sym (ap (λ b. cond b (Some e.1) None) (ap keep same ∙ y))
       by false x true y rest = ap (λ b. cond b (Some e.1) (get_in h.3 p)) x ∙ rest
       by false x false y rest = rest
-
--- what stands below a path is left out
-pub left_out : (b : Bool) (o : Option BaseNode) → option_and_then (λ n. cond (not b) (Some n) None) o ≡ cond b None o
-left_out true None = refl
-left_out true (Some n) = refl
-left_out false None = refl
-left_out false (Some n) = refl

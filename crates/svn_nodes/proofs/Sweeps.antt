@@ -7,9 +7,10 @@ use Rattle.std.specs.List.{AllByRecursion, IsDistinct}
 use Rattle.std.proofs.lemmas.Map.Keys.{IsDistinct-from_sorted, sorted_tail}
 use Rattle.std.specs.Map.{keys_of}
 use Rattle.std.proofs.lemmas.Slice.Eq.{bytes_eq-Decides}
+use Rattle.svn_lists.proofs.Equality.{bytes_eq-same, bytes_eq-symm}
 use Rattle.svn_types.specs.Names.{Path, name_cmp}
 use Rattle.svn_types.specs.Pairs.{InNameOrder, value_of}
-use Rattle.svn_types.proofs.NameLemmas.{at_name, bytes_eq-same}
+use Rattle.svn_types.proofs.NameLemmas.{at_name}
 use Rattle.svn_types.proofs.PathLemmas.{outside_child, within_shorter, within_other}
 use Rattle.svn_model.specs.declared.base_node.BaseNode.{BaseNode}
 use Rattle.svn_model.specs.Nodes.{WorkingCopy}
@@ -21,13 +22,6 @@ value_of-cons e es name = ap (λ b. cond b (Some e.1) (value_of es name)) (at_na
 
 pub value_of-first : {V : Type 0} (e : List ℕ × V) (es : List (List ℕ × V)) → value_of (e ∷ es) e.0 ≡ Some e.1
 value_of-first e es = value_of-cons e es e.0 ∙ ap (λ b. cond b (Some e.1) (value_of es e.0)) (bytes_eq-same e.0)
-
-other_name : (a b : List ℕ) → bytes_eq a b ≡ false → bytes_eq b a ≡ false
-other_name a b h = by (bytes_eq b a) refl
-  where
-    by : (t : Bool) → bytes_eq b a ≡ t → t ≡ false
-    by true e = let s : a ≡ b = sym ((bytes_eq-Decides b a).0 e) in let f : bytes_eq a b ≡ true = (bytes_eq-Decides a b).1 s in cc
-    by false e = refl
 
 -- a name before all others isn't among them
 absent : {V : Type 0} (name : List ℕ) (es : List (List ℕ × V)) → AllByRecursion (λ x. eq_by_cmp name_cmp name x ≡ false) (keys_of es)
@@ -42,7 +36,7 @@ module _ (V : Type 0) (e : List ℕ × V) (left : List (List ℕ × V)) (order :
   not_again = absent e.0 left (IsDistinct-from_sorted name_cmp (keys_of (e ∷ left)) order).0
 
   later : (name : List ℕ) → bytes_eq e.0 name ≡ false → value_of (e ∷ left) name ≡ value_of left name
-  later name h = value_of-cons e left name ∙ ap (λ b. cond b (Some e.1) (value_of left name)) (other_name e.0 name h)
+  later name h = value_of-cons e left name ∙ ap (λ b. cond b (Some e.1) (value_of left name)) (bytes_eq-symm name e.0 ∙ h)
 
   pub among_left : (all : List (List ℕ × V)) → AreAmong (e ∷ left) all → AreAmong left all
   among_left all among name v h = by (bytes_eq e.0 name) refl

@@ -12,7 +12,7 @@ use crate::nodes::{Nodes, is_present};
 use std::alloc::{AllocError, Global};
 use std::vec::IntoIter;
 use svn_model::BaseNode;
-use svn_types::{MAX_DEPTH, RelPath, Rev};
+use svn_types::{MAX_DEPTH, PathFault, RelPath, Rev, impossible};
 
 // Gives a present node the revision, and tells whether it is present.
 fn settle(node: &mut BaseNode, target: Rev) -> bool
@@ -58,7 +58,9 @@ fn under(alloc: Global, root: &RelPath, path: &RelPath) -> Result<RelPath, Alloc
 {
     match root.join_path(alloc, path) {
         Ok(whole) => Ok(whole),
-        Err(_) => Err(AllocError),
+        Err(PathFault::Memory) => Err(AllocError),
+        // an edit has asked `is_settled_deep` before: no path comes to have over 64 names
+        Err(_) => Err(impossible(AllocError)),
     }
 }
 

@@ -13,7 +13,7 @@ use crate::nodes::Nodes;
 use std::alloc::{AllocError, Global};
 use svn_editor::{EditFault, Mode};
 use svn_model::BaseNode;
-use svn_types::{MAX_DEPTH, Name, RelPath};
+use svn_types::{MAX_DEPTH, Name, PathFault, RelPath, impossible};
 
 /// The path with one more name. AllocError where an allocation fails, or the path has 128 names, which no path of a repository has.
 pub fn child_path(alloc: Global, path: &RelPath, name: &Name) -> Result<RelPath, AllocError>
@@ -22,7 +22,9 @@ pub fn child_path(alloc: Global, path: &RelPath, name: &Name) -> Result<RelPath,
 {
     match path.join(alloc, name) {
         Ok(below) => Ok(below),
-        Err(_) => Err(AllocError),
+        Err(PathFault::Memory) => Err(AllocError),
+        // no directory of a repository or of a copy has a path of 128 names
+        Err(_) => Err(impossible(AllocError)),
     }
 }
 

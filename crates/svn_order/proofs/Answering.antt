@@ -1,9 +1,11 @@
 -- The tests of an order check are those of the calls before.
-use Rattle.std.proofs.Common.{◌≡◌, ℕ, Bool, true, false, ◌&&◌, ◌||◌, not, cond, List, [], ◌∷◌, length, refl, sym, ◌∙◌, ap, arith}
+use Rattle.std.proofs.Common.{◌≡◌, ℕ, false, ◌&&◌, ◌||◌, not, List, [], ◌∷◌, length, refl, sym, ◌∙◌, ap, arith}
 use Rattle.std.specs.Prelude.{Option, Some, None, is_some, slice_get, nat_eq}
 use Rattle.std.specs.List.{list_any}
 use Rattle.std.proofs.lemmas.Bool.Decides.{nat_tests}
-use Rattle.std.specs.Option.{option_or, option_map}
+use Rattle.std.specs.Option.{option_map}
+use Rattle.std.proofs.lemmas.Bool.{not-false}
+use Rattle.svn_lists.proofs.Options.{cond_some_or, cond_some_or_then}
 use Rattle.svn_types.specs.declared.kind.Kind.{Kind}
 use Rattle.svn_types.specs.declared.kind.Kind.TheVariants.{Directory}
 use Rattle.svn_types.specs.Names.{Path}
@@ -26,7 +28,6 @@ use Rattle.svn_order.specs.OrderState.{target_late, unknown_in, closed_in, misnu
 use Rattle.svn_order.specs.OrderState.{too_early, not_innermost, open_below, prop_late, delete_late, entry_again, text_again, root_unclosed}
 use Rattle.svn_order.specs.OrderState.{fault_in}
 use Rattle.svn_order.specs.StandsAfter.{stage_after, Holds}
-use Rattle.svn_editor.proofs.OneMore.{not_false}
 use Rattle.svn_order.proofs.Sound.{IsSound, IsKnown, entry_named, known_open}
 use Rattle.svn_order.proofs.Looking.{kind_at, closed_at, text_at, innermost_at, none_open_at, open_below_at, holds_entry_at, IsParent}
 use Rattle.svn_order.proofs.Looking.{parent_of, opened_at, deleted_at, late_at, files_at}
@@ -130,10 +131,10 @@ prop_same s calls (ChangeDirProp token name value) h sound o i =
 prop_same s calls (ChangeFileProp token name value) h sound o i = ap (λ x. not (number_eq x (Some token))) h.current
 prop_same s calls (AddDirectory path parent token) h sound o i =
     late_at s calls parent h sound (open_named calls (AddDirectory path parent token) parent Directory o refl)
-    (not_false (number_eq (innermost calls) (Some parent)) i)
+    (not-false (number_eq (innermost calls) (Some parent)) i)
 prop_same s calls (OpenDirectory path parent base token) h sound o i =
     late_at s calls parent h sound (open_named calls (OpenDirectory path parent base token) parent Directory o refl)
-    (not_false (number_eq (innermost calls) (Some parent)) i)
+    (not-false (number_eq (innermost calls) (Some parent)) i)
 prop_same s calls _ h sound o i = refl
 
 -- ---- of what was done before
@@ -188,30 +189,19 @@ root_same s calls _ h sound = refl
 
 -- ---- in their order
 
--- one test of a row, and the rest where it isn't met
-either : {X : Type 0} (a b : Bool) (x : X) (o p : Option X) → a ≡ b → (b ≡ false → o ≡ p) → cond a (Some x) o ≡ cond b (Some x) p
-either a true x o p e f = ap (λ c. cond c (Some x) o) e
-either a false x o p e f = ap (λ c. cond c (Some x) o) e ∙ f refl
-
--- the same, with another row behind the first
-then_either : {X : Type 0} (a b : Bool) (x : X) (o q p : Option X) → a ≡ b → (b ≡ false → option_or o q ≡ p)
-    → option_or (cond a (Some x) o) q ≡ cond b (Some x) p
-then_either a true x o q p e f = ap (λ c. option_or (cond c (Some x) o) q) e
-then_either a false x o q p e f = ap (λ c. option_or (cond c (Some x) o) q) e ∙ f refl
-
 pub in_order : (s : OrderCheck) (calls : List Call) (c : Call) → Holds s calls → IsSound calls → fault_in s c ≡ fault_in_order calls c
 in_order s calls c h sound =
-    then_either _ _ _ _ _ _ (target_same s calls c h)
-    (λ e0. then_either _ _ _ _ _ _ (unknown_same s calls (named_by c) h)
-    (λ e1. then_either _ _ _ _ _ _ (closed_same s calls (named_by c) h sound)
-    (λ e2. then_either _ _ _ _ _ _ (misnumbered_same s calls (given_by c) h)
-    (λ e3. then_either _ _ _ _ _ _ (path_same s calls c h sound (e1, e2))
-    (λ e4. then_either _ _ _ _ _ _ (unfinished_same s calls c h sound)
-    (λ e5. then_either _ _ _ _ _ _ (early_same s calls c h)
-    (λ e6. then_either _ _ _ _ _ _ (innermost_same s calls c h)
-    (λ e7. then_either _ _ _ _ _ _ (below_same s calls c h sound (e1, e2))
-    (λ e8. then_either _ _ _ _ _ _ (prop_same s calls c h sound (e1, e2) e7)
-    (λ e9. either _ _ _ _ _ (delete_same s calls c h sound (e1, e2) e4)
-    (λ e10. either _ _ _ _ _ (again_same s calls c h sound (e1, e2) e4)
-    (λ e11. either _ _ _ _ _ (text_same s calls c h sound)
-    (λ e12. either _ _ _ _ _ (root_same s calls c h sound) (λ e13. refl))))))))))))))
+    cond_some_or_then _ _ _ _ _ _ (target_same s calls c h)
+    (λ e0. cond_some_or_then _ _ _ _ _ _ (unknown_same s calls (named_by c) h)
+    (λ e1. cond_some_or_then _ _ _ _ _ _ (closed_same s calls (named_by c) h sound)
+    (λ e2. cond_some_or_then _ _ _ _ _ _ (misnumbered_same s calls (given_by c) h)
+    (λ e3. cond_some_or_then _ _ _ _ _ _ (path_same s calls c h sound (e1, e2))
+    (λ e4. cond_some_or_then _ _ _ _ _ _ (unfinished_same s calls c h sound)
+    (λ e5. cond_some_or_then _ _ _ _ _ _ (early_same s calls c h)
+    (λ e6. cond_some_or_then _ _ _ _ _ _ (innermost_same s calls c h)
+    (λ e7. cond_some_or_then _ _ _ _ _ _ (below_same s calls c h sound (e1, e2))
+    (λ e8. cond_some_or_then _ _ _ _ _ _ (prop_same s calls c h sound (e1, e2) e7)
+    (λ e9. cond_some_or _ _ _ _ _ (delete_same s calls c h sound (e1, e2) e4)
+    (λ e10. cond_some_or _ _ _ _ _ (again_same s calls c h sound (e1, e2) e4)
+    (λ e11. cond_some_or _ _ _ _ _ (text_same s calls c h sound)
+    (λ e12. cond_some_or _ _ _ _ _ (root_same s calls c h sound) (λ e13. refl))))))))))))))

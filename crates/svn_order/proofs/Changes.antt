@@ -1,8 +1,9 @@
 -- One element of a list changed.
 use Rattle.std.proofs.Common.{◌≡◌, ℕ, zero, suc, ◌<◌, ◌≤◌, Bool, true, false, ◌||◌, List, [], ◌∷◌, ◌++◌, length, get_or, set, map}
 use Rattle.std.proofs.Common.{refl, sym, ◌∙◌, ap, subst, arith, IsTrue, ◌↔◌}
-use Rattle.std.specs.Prelude.{Some, None, slice_get}
-use Rattle.std.proofs.lemmas.Option.{none-some, same_Some}
+use Rattle.std.specs.Prelude.{Some, slice_get}
+use Rattle.std.proofs.lemmas.Option.{none-some, same_Some, slice_get_past, slice_get_read}
+use Rattle.svn_lists.proofs.Places.{slice_get-set_other, slice_get-set_same}
 use Rattle.svn_types.specs.Names.{Path}
 use Rattle.svn_types.specs.Paths.{parent, is_root, path_eq}
 use Rattle.svn_types.proofs.PathLemmas.{same_path, path_eq_from}
@@ -10,33 +11,6 @@ use Rattle.svn_order.specs.declared.directories.OpenedDirectory.{OpenedDirectory
 use Rattle.svn_order.specs.declared.tokens.GivenToken.{GivenToken}
 use Rattle.svn_order.specs.Directories.{shown, ChangesAt, with_change, IsEntry, entry_name}
 use Rattle.svn_order.specs.Tokens.{changed_at}
-
-pub get_read : {X : Type 0} (xs : List X) (i : ℕ) (x : X) → i < length xs → x ≡ get_or xs i x → slice_get xs i ≡ Some x
-get_read [] i x h e = absurd (omega arith)
-get_read (y ∷ xs) zero x h e = ap Some (sym e)
-get_read (y ∷ xs) (suc i) x h e = get_read xs i x (omega arith) e
-
-pub get_past : {X : Type 0} (xs : List X) (i : ℕ) → length xs ≤ i → slice_get xs i ≡ None
-get_past [] i h = refl
-get_past (y ∷ xs) zero h = absurd (omega arith)
-get_past (y ∷ xs) (suc i) h = get_past xs i (omega arith)
-
-pub get_within : {X : Type 0} (xs : List X) (i : ℕ) (x : X) → slice_get xs i ≡ Some x → i < length xs
-get_within [] i x h = absurd (none-some x h)
-get_within (y ∷ xs) zero x h = omega arith
-get_within (y ∷ xs) (suc i) x h = let l : i < length xs = get_within xs i x h in omega arith
-
-pub get-set_other : {X : Type 0} (xs : List X) (i j : ℕ) (y : X) → (j ≡ i → ⊥) → slice_get (set xs i y) j ≡ slice_get xs j
-get-set_other [] i j y n = refl
-get-set_other (x ∷ xs) zero zero y n = absurd (n refl)
-get-set_other (x ∷ xs) zero (suc j) y n = refl
-get-set_other (x ∷ xs) (suc i) zero y n = refl
-get-set_other (x ∷ xs) (suc i) (suc j) y n = get-set_other xs i j y (λ e. n (ap suc e))
-
-pub get-set_same : {X : Type 0} (xs : List X) (i : ℕ) (y : X) → i < length xs → slice_get (set xs i y) i ≡ Some y
-get-set_same [] i y h = absurd (omega arith)
-get-set_same (x ∷ xs) zero y h = refl
-get-set_same (x ∷ xs) (suc i) y h = get-set_same xs i y (omega arith)
 
 -- ---- tokens
 
@@ -67,12 +41,12 @@ ChangesAt-here : (Change : OpenedDirectory → OpenedDirectory → Type 0) (ds :
     → i < length ds → b ≡ get_or ds i b → shown d ≡ shown b → Change b d → ChangesAt i Change ds (set ds i d)
 ChangesAt-here Change ds i b d h e s r = record {
   shown = shown-set ds i b d at s;
-  others = λ j x k n. sym (get-set_other ds i j d n) ∙ k;
-  changed = λ x k. (b, at, subst (λ (y : OpenedDirectory). Change b y) (same_Some d x (sym (get-set_same ds i d h) ∙ k)) r);
+  others = λ j x k n. sym (slice_get-set_other ds i d j n) ∙ k;
+  changed = λ x k. (b, at, subst (λ (y : OpenedDirectory). Change b y) (same_Some d x (sym (slice_get-set_same ds i d h) ∙ k)) r);
 }
   where
     at : slice_get ds i ≡ Some b
-    at = get_read ds i b h e
+    at = slice_get_read ds (length ds) i b refl h e
 
 pub ChangesAt-set : (Change : OpenedDirectory → OpenedDirectory → Type 0) (ds : List OpenedDirectory) (i j : ℕ) (b d : OpenedDirectory)
     → j ≡ i → j < length ds → b ≡ get_or ds j b → shown d ≡ shown b → Change b d → ChangesAt i Change ds (set ds j d)
@@ -85,7 +59,9 @@ ChangesAt-same Change ds i j b p h e r = subst (λ (k : ℕ). ChangesAt k Change
   shown = refl;
   others = λ k x l n. l;
   changed =
-      λ x k. let same : b ≡ x = same_Some b x (sym (get_read ds j b h e) ∙ k) in (x, k, subst (λ (y : OpenedDirectory). Change y y) same r);
+      λ x k. let same : b ≡ x =
+      same_Some b x (sym (slice_get_read ds (length ds) j b refl h e) ∙ k) in
+      (x, k, subst (λ (y : OpenedDirectory). Change y y) same r);
 }
 
 pub changed_now : (ds : List OpenedDirectory) (i : ℕ) (b d : OpenedDirectory) → slice_get ds i ≡ Some b → slice_get ds i ≡ Some d
@@ -111,7 +87,7 @@ ChangesAt-past : (Change : OpenedDirectory → OpenedDirectory → Type 0) (ds :
 ChangesAt-past Change ds i h = record {
   shown = refl;
   others = λ j x k n. k;
-  changed = λ x k. absurd (none-some x (sym (get_past ds i h) ∙ k));
+  changed = λ x k. absurd (none-some x (sym (slice_get_past ds i h) ∙ k));
 }
 
 pub ChangesAt-beyond : (Change : OpenedDirectory → OpenedDirectory → Type 0) (ds : List OpenedDirectory) (i j : ℕ) → j ≡ i → length ds ≤ j

@@ -4,6 +4,8 @@ use Rattle.std.proofs.Common.{arith}
 use Rattle.std.specs.Prelude.{Option, Some, None, nat_eq, filter}
 use Rattle.std.specs.List.{list_any}
 use Rattle.std.proofs.lemmas.List.{length-append, nil_from_length}
+use Rattle.std.proofs.lemmas.Bool.{not-false, or_parts, eqb-true}
+use Rattle.svn_lists.proofs.Parts.{length_one}
 use Rattle.svn_types.specs.declared.kind.Kind.TheVariants.{File, Directory}
 use Rattle.svn_types.specs.Names.{Path}
 use Rattle.svn_types.specs.Paths.{child}
@@ -21,8 +23,7 @@ use Rattle.svn_order.specs.Tokens.{token_of}
 use Rattle.svn_order.specs.Directories.{shown, innermost_of}
 use Rattle.svn_order.specs.OrderChanges.{Notes, NotesDirectory, NotesFile}
 use Rattle.svn_order.specs.StandsAfter.{open_directories, token_and_path, stage_after, Holds}
-use Rattle.svn_editor.proofs.OneMore.{not_false, or_parts, given_none, given_one, current_more}
-use Rattle.svn_editor.proofs.Nested.{true_eq}
+use Rattle.svn_editor.proofs.OneMore.{given_none, given_one, current_more}
 use Rattle.svn_editor.proofs.Accepted.{IsAccepted}
 use Rattle.svn_order.proofs.Sound.{IsSound, known, numbered_next}
 use Rattle.svn_order.proofs.OpenDirectories.{open_still, open_given, open_closed, open_file_closed}
@@ -49,9 +50,6 @@ current_is s calls c o h e = e ∙ ap (λ x. current_after x c) h.current ∙ sy
 begun_stage : (s t : OrderCheck) (calls : List Call) (c : Call) → Holds s calls → is_target_late [] c ≡ true
     → is_target_late calls c ≡ false → t.stage ≡ s.stage → t.stage ≡ stage_after (calls ++ c ∷ [])
 begun_stage s t calls c h e a same = same ∙ h.stage ∙ begun calls c e a ∙ sym (during calls c)
-
-length_one : {X : Type 0} (xs ys : List X) (x : X) → ys ≡ xs ++ x ∷ [] → length ys ≡ length xs + 1
-length_one xs ys x e = omega (arith, ap length e, length-append xs (x ∷ []))
 
 -- a call that gives a token, where the directories are right
 given_held : (s t : OrderCheck) (calls : List Call) (c : Call) (g : Given) → Holds s calls → IsSound calls → IsAccepted calls c
@@ -106,7 +104,7 @@ root_held s t calls base token h sound a n =
         same_length s.directories.items (open_directories calls) h.nesting
         ∙ ap (λ gs. length (filter (is_open_directory calls) gs))
         (nil_from_length (all_given calls)
-        (true_eq (length (all_given calls)) 0 (not_false (nat_eq (length (all_given calls)) 0) (sym sound.root ∙ a.entry))))
+        (eqb-true (length (all_given calls)) 0 (not-false (nat_eq (length (all_given calls)) 0) (sym sound.root ∙ a.entry))))
 
 delete_held : (s t : OrderCheck) (calls : List Call) (path : Path) (rev parent : ℕ) → Holds s calls → IsSound calls
     → IsAccepted calls (DeleteEntry path rev parent) → Notes s (DeleteEntry path rev parent) t
@@ -164,7 +162,7 @@ change_held s t calls token name value h sound a n =
     let k = known calls (ChangeDirProp token name value) token Directory a refl in
     let inner : number_eq (innermost calls) (Some token) ≡ true =
     ap (λ o. number_eq o (Some token)) (sym (innermost_at s calls h))
-    ∙ not_false (number_eq (innermost_of s.directories.items) (Some token)) (open_below_at s calls token h sound k ∙ a.prop) in
+    ∙ not-false (number_eq (innermost_of s.directories.items) (Some token)) (open_below_at s calls token h sound k ∙ a.prop) in
     still_held s t calls (ChangeDirProp token name value) h refl (λ q. refl) (λ q. refl)
     (begun_stage s t calls (ChangeDirProp token name value) h refl a.target n.stage) n.tokens_are n.directories.shown
     (prop_changed s t.directories.items calls token name value h sound k inner n.directories)
@@ -261,7 +259,7 @@ prop_held s t calls token name value h a n =
     (ap (λ (x : OrderCheck). x.directories.items) n)
     (ap (λ (x : OrderCheck). x.current) n ∙ h.current
     ∙ sym (current_more calls (ChangeFileProp token name value)
-    ∙ stays (current_file calls) (not_false (number_eq (current_file calls) (Some token)) a.prop)))
+    ∙ stays (current_file calls) (not-false (number_eq (current_file calls) (Some token)) a.prop)))
   where
     stays : (o : Option ℕ) → number_eq o (Some token) ≡ true → cond (number_eq o (Some token)) o None ≡ o
     stays o e = ap (λ b. cond b o None) e
@@ -274,13 +272,13 @@ holds_more s t calls (DeleteEntry path rev parent) h sound a l n = delete_held s
 holds_more s t calls (AddDirectory path parent token) h sound a l n =
     directory_held s t calls (AddDirectory path parent token)
     (record { kind = Directory; path = path; parent = Some parent; token = token }) parent h sound a refl refl refl a.path
-    (not_false (number_eq (innermost calls) (Some parent)) a.innermost)
+    (not-false (number_eq (innermost calls) (Some parent)) a.innermost)
     record { opens = λ p. refl; no_delete = λ p. refl; no_change = λ q. refl } (λ q. refl) (λ q. refl) (λ q. refl)
     a.entry refl refl n
 holds_more s t calls (OpenDirectory path parent base token) h sound a l n =
     directory_held s t calls (OpenDirectory path parent base token)
     (record { kind = Directory; path = path; parent = Some parent; token = token }) parent h sound a refl refl refl a.path
-    (not_false (number_eq (innermost calls) (Some parent)) a.innermost)
+    (not-false (number_eq (innermost calls) (Some parent)) a.innermost)
     record { opens = λ p. refl; no_delete = λ p. refl; no_change = λ q. refl } (λ q. refl) (λ q. refl) (λ q. refl)
     (or_parts (list_any (opens_entry path) calls) (list_any (deletes path) calls) a.entry).0 refl refl n
 holds_more s t calls (ChangeDirProp token name value) h sound a l n = change_held s t calls token name value h sound a n

@@ -1,10 +1,14 @@
 -- The open directories of an order check after one more call.
-use Rattle.std.proofs.Common.{◌≡◌, ℕ, suc, zero, ◌-◌, ◌<◌, Bool, true, false, ◌&&◌, ◌||◌, List, [], ◌∷◌, ◌++◌, length, map, take, refl, sym}
+use Rattle.std.proofs.Common.{◌≡◌, ℕ, ◌-◌, ◌<◌, Bool, true, false, ◌&&◌, ◌||◌, List, [], ◌∷◌, ◌++◌, length, map, take, refl, sym}
 use Rattle.std.proofs.Common.{◌∙◌, ap, subst, inl, inr, true≢false, arith}
 use Rattle.std.specs.Prelude.{Option, Some, None, ◌⊎◌, slice_get, nat_eq}
 use Rattle.std.specs.List.{list_any}
 use Rattle.std.proofs.lemmas.List.{length-append, length-map, map-append, take-map, take_at}
-use Rattle.std.proofs.lemmas.Option.{same_Some}
+use Rattle.std.proofs.lemmas.Option.{same_Some, slice_get_within}
+use Rattle.std.proofs.Math.Bool.{and-false, or-false, or-true}
+use Rattle.std.proofs.lemmas.Bool.{eq-eqb, false_from_ne_true, eqb-true}
+use Rattle.svn_lists.proofs.Places.{slice_get_push_cases, slice_get_from_take}
+use Rattle.svn_lists.proofs.Somewhere.{any_push, any_still, any_weaker}
 use Rattle.svn_types.specs.declared.kind.Kind.TheVariants.{Directory}
 use Rattle.svn_types.specs.Names.{Path}
 use Rattle.svn_types.specs.Paths.{path_eq, parent, child}
@@ -20,11 +24,9 @@ use Rattle.svn_order.specs.Directories.{entry_name, shown, IsNew, InsertsOpened,
 use Rattle.svn_order.specs.Directories.{without_last, Opens}
 use Rattle.svn_order.specs.StandsAfter.{open_directories, token_and_path, IsDirectoryOf, Holds}
 use Rattle.svn_order.specs.OrderChanges.{Enters}
-use Rattle.svn_types.proofs.Places.{some_none, get_cases}
 use Rattle.svn_types.proofs.PathLemmas.{same_path, parent-child, path_eq-child, path_eq-children}
-use Rattle.svn_order.proofs.Changes.{get_within}
-use Rattle.svn_editor.proofs.OneMore.{or_false, or_true, and_false, false_from, any_more, any_still, any_weaker, late_more, late_none}
-use Rattle.svn_editor.proofs.Nested.{true_eq, eq_true, nested_depth}
+use Rattle.svn_editor.proofs.OneMore.{late_more, late_none}
+use Rattle.svn_editor.proofs.Nested.{nested_depth}
 use Rattle.svn_order.proofs.Sound.{IsSound, IsKnown, touches, opens_touches}
 use Rattle.svn_order.proofs.OpenDirectories.{new_childless}
 use Rattle.svn_order.proofs.Looking.{given_at, same_length, IsParent, held, path_held, innermost_place}
@@ -44,7 +46,7 @@ depth_held s calls i d h sound e =
 -- an entry of another directory
 other_entry : (q p : Path) (n : List ℕ) → (length p ≡ length (parent q) → ⊥) → path_eq q (child p n) ≡ false
 other_entry q p n h =
-    false_from (path_eq q (child p n)) (λ e. h (ap length (sym (ap parent (same_path q (child p n) e) ∙ parent-child p n))))
+    false_from_ne_true (path_eq q (child p n)) (λ e. h (ap length (sym (ap parent (same_path q (child p n) e) ∙ parent-child p n))))
 
 -- ---- directories that a call leaves as they are
 
@@ -59,8 +61,8 @@ pub directory_still : (calls : List Call) (c : Call) (d : OpenedDirectory) → I
 directory_still calls c d a was = record {
   subdirectory = any_still (opens_subdirectory d.token) calls c a.subdirectory ∙ was.subdirectory;
   late = late_more calls c d.token ∙ ap (λ b. changed_late calls d.token || list_any (opens_subdirectory d.token) calls && b) a.change
-      ∙ ap (λ b. changed_late calls d.token || b) (and_false (list_any (opens_subdirectory d.token) calls))
-      ∙ or_false (changed_late calls d.token) ∙ was.late;
+      ∙ ap (λ b. changed_late calls d.token || b) (and-false (list_any (opens_subdirectory d.token) calls))
+      ∙ or-false (changed_late calls d.token) ∙ was.late;
   opened = λ n. any_still (opens_entry (child d.path n)) calls c (a.opened n) ∙ was.opened n;
   deleted = λ n. any_still (deletes (child d.path n)) calls c (a.deleted n) ∙ was.deleted n;
 }
@@ -83,10 +85,10 @@ changed_at_place s es calls c i Change h sound change apart here j d e = by (nat
   where
     by : (b : Bool) → nat_eq j i ≡ b → IsDirectoryOf (calls ++ c ∷ []) d
     by true q =
-        let r = change.changed d (ap (slice_get es) (sym (true_eq j i q)) ∙ e) in
+        let r = change.changed d (ap (slice_get es) (sym (eqb-true j i q)) ∙ e) in
         here r.0 d r.1 (h.directories i r.0 r.1) r.2
     by false q =
-        let elsewhere : (j ≡ i → ⊥) = λ k. true≢false (sym (eq_true j i k) ∙ q) in
+        let elsewhere : (j ≡ i → ⊥) = λ k. true≢false (sym (eq-eqb j i k) ∙ q) in
         let old = change.others j d e elsewhere in
         directory_still calls c d
         (apart d (λ k. elsewhere (sym (depth_held s calls j d h sound old) ∙ k)) (path_held s calls j d h sound old))
@@ -110,7 +112,7 @@ opened_names : (calls : List Call) (c : Call) (q : Path) (b d : OpenedDirectory)
     → list_any (opens_entry (child d.path n)) (calls ++ c ∷ []) ≡ has_name d.opened n
 opened_names calls c q b d o e change was n =
     let same : d.path ≡ b.path = ap (λ p. p.1) change.shown in
-    any_more (opens_entry (child d.path n)) calls c
+    any_push (opens_entry (child d.path n)) calls c
     ∙ ap (λ (p : Path). list_any (opens_entry (child p n)) calls || opens_entry (child p n) c) same
     ∙ ap (λ x. x || opens_entry (child b.path n) c) (was.opened n)
     ∙ ap (λ x. has_name b.opened n || x)
@@ -130,7 +132,7 @@ not_changed_late : (calls : List Call) (c : Call) (t : ℕ) → changes_dir t c 
     → changed_late (calls ++ c ∷ []) t ≡ changed_late calls t
 not_changed_late calls c t h =
     late_more calls c t ∙ ap (λ b. changed_late calls t || list_any (opens_subdirectory t) calls && b) h
-    ∙ ap (λ b. changed_late calls t || b) (and_false (list_any (opens_subdirectory t) calls)) ∙ or_false (changed_late calls t)
+    ∙ ap (λ b. changed_late calls t || b) (and-false (list_any (opens_subdirectory t) calls)) ∙ or-false (changed_late calls t)
 
 -- a file is opened in the directory
 file_in : (calls : List Call) (c : Call) (q : Path) (b d : OpenedDirectory) → IsOpenOf c q → ((t : ℕ) → opens_subdirectory t c ≡ false)
@@ -152,8 +154,8 @@ directory_in : (calls : List Call) (c : Call) (q : Path) (a b d : OpenedDirector
 directory_in calls c q a b d o some e change mark was =
     subst (IsDirectoryOf (calls ++ c ∷ [])) (sym mark) record {
       subdirectory =
-          any_more (opens_subdirectory b.token) calls c ∙ ap (λ x. list_any (opens_subdirectory b.token) calls || x) some
-          ∙ or_true (list_any (opens_subdirectory b.token) calls);
+          any_push (opens_subdirectory b.token) calls c ∙ ap (λ x. list_any (opens_subdirectory b.token) calls || x) some
+          ∙ or-true (list_any (opens_subdirectory b.token) calls);
       late =
           not_changed_late calls c b.token (o.no_change b.token) ∙ ap (changed_late calls) (ap (λ p. p.0) change.shown) ∙ was.late
           ∙ sym change.late;
@@ -210,7 +212,7 @@ entry_deleted s es calls q rev t h sound p change =
               λ n. any_still (opens_entry (child d.path n)) calls (DeleteEntry q rev t) refl
               ∙ ap (λ (r : Path). list_any (opens_entry (child r n)) calls) same ∙ was.opened n
               ∙ ap (λ (x : List (List ℕ)). has_name x n) (sym inserts.opened);
-          deleted = λ n. any_more (deletes (child d.path n)) calls (DeleteEntry q rev t)
+          deleted = λ n. any_push (deletes (child d.path n)) calls (DeleteEntry q rev t)
               ∙ ap (λ (r : Path). list_any (deletes (child r n)) calls || path_eq q (child r n)) same
               ∙ ap (λ x. x || path_eq q (child b.path n)) (was.deleted n)
               ∙ ap (λ x. has_name b.deleted n || x)
@@ -245,7 +247,8 @@ prop_changed s es calls t name value h sound k inner change =
 
     other : (d : OpenedDirectory) → (length d.path ≡ length s.directories.items - 1 → ⊥) → d.path ≡ path_of calls d.token
         → nat_eq t d.token ≡ false
-    other d far path = false_from (nat_eq t d.token) (λ q. far (ap length (path ∙ ap (path_of calls) (sym (true_eq t d.token q))) ∙ place))
+    other d far path = false_from_ne_true (nat_eq t d.token)
+        (λ q. far (ap length (path ∙ ap (path_of calls) (sym (eqb-true t d.token q))) ∙ place))
 
     here : (b d : OpenedDirectory) → slice_get s.directories.items (length s.directories.items - 1) ≡ Some b → IsDirectoryOf calls b
         → d ≡ with_change b → IsDirectoryOf (calls ++ ChangeDirProp t name value ∷ []) d
@@ -254,7 +257,7 @@ prop_changed s es calls t name value h sound k inner change =
         subst (IsDirectoryOf (calls ++ ChangeDirProp t name value ∷ [])) (sym mark) record {
           subdirectory = any_still (opens_subdirectory b.token) calls (ChangeDirProp t name value) refl ∙ was.subdirectory;
           late = late_more calls (ChangeDirProp t name value) b.token
-              ∙ ap (λ x. changed_late calls b.token || list_any (opens_subdirectory b.token) calls && x) (eq_true t b.token (sym this))
+              ∙ ap (λ x. changed_late calls b.token || list_any (opens_subdirectory b.token) calls && x) (eq-eqb t b.token (sym this))
               ∙ ap (λ x. changed_late calls b.token || x) (and_true (list_any (opens_subdirectory b.token) calls))
               ∙ ap (λ x. x || list_any (opens_subdirectory b.token) calls) was.late ∙ ap (λ x. b.is_changed_late || x) was.subdirectory;
           opened = λ n. any_still (opens_entry (child b.path n)) calls (ChangeDirProp t name value) refl ∙ was.opened n;
@@ -301,11 +304,11 @@ pub root_opened : (s : OrderCheck) (es : List OpenedDirectory) (calls : List Cal
     → list_any (opens_entry []) calls ≡ false → t ≡ length (all_given calls) → length s.directories.items ≡ 0
     → Opens s.directories.items [] t es → AreDirectories es (calls ++ OpenRoot base t ∷ [])
 root_opened s es calls base t h sound fresh number none opens i d e =
-    by (get_cases s.directories.items opens.0 i d (ap (λ xs. slice_get xs i) (sym opens.2) ∙ e))
+    by (slice_get_push_cases s.directories.items opens.0 i d (ap (λ xs. slice_get xs i) (sym opens.2) ∙ e))
   where
     by : (slice_get s.directories.items i ≡ Some d) ⊎ ((i ≡ length s.directories.items) × (opens.0 ≡ d))
         → IsDirectoryOf (calls ++ OpenRoot base t ∷ []) d
-    by (inl old) = let l : i < length s.directories.items = get_within s.directories.items i d old in absurd (omega arith)
+    by (inl old) = let l : i < length s.directories.items = slice_get_within s.directories.items i d old in absurd (omega arith)
     by (inr new) = subst (IsDirectoryOf (calls ++ OpenRoot base t ∷ [])) new.1
         (new_directory calls (OpenRoot base t) [] t opens.0 sound record { opens = λ p. refl; no_delete = λ p. refl; no_change = λ n. refl }
         opens.1 fresh number refl)
@@ -316,7 +319,7 @@ pub directory_opened : (s : OrderCheck) (es : List OpenedDirectory) (calls : Lis
     → ((n : ℕ) → opens_subdirectory n c ≡ nat_eq m n) → list_any (opens_entry q) calls ≡ false → t ≡ length (all_given calls)
     → Enters q t s.directories.items es → AreDirectories es (calls ++ c ∷ [])
 directory_opened s es calls c m t q h sound p k inner o below fresh number enters i d e =
-    by (get_cases enters.marked enters.opened.0 i d (ap (λ xs. slice_get xs i) (sym enters.opened.2) ∙ e))
+    by (slice_get_push_cases enters.marked enters.opened.0 i d (ap (λ xs. slice_get xs i) (sym enters.opened.2) ∙ e))
   where
     entered : ChangesAt (length (parent q)) (InsertsOpened (entry_name q)) s.directories.items enters.entered
     entered = enters.entry p.below_root
@@ -332,24 +335,25 @@ directory_opened s es calls c m t q h sound p k inner o below fresh number enter
         omega (arith, same_count)
 
     known_before : m < length (all_given calls)
-    known_before = get_within (all_given calls) m k.given_as k.is
+    known_before = slice_get_within (all_given calls) m k.given_as k.is
 
     old_here : slice_get enters.marked i ≡ Some d → (b : Bool) → nat_eq i (length (parent q)) ≡ b → IsDirectoryOf (calls ++ c ∷ []) d
     old_here old true at =
-        let place : i ≡ length (parent q) = true_eq i (length (parent q)) at in
+        let place : i ≡ length (parent q) = eqb-true i (length (parent q)) at in
         let r = enters.subdirectory.changed d (ap (slice_get enters.marked) (sym (place ∙ last)) ∙ old) in
         let w = entered.changed r.0 (ap (slice_get enters.entered) last ∙ r.1) in
         let this : w.0.token ≡ m = ap (λ x. x.token) (same_Some w.0 p.directory (sym w.1 ∙ p.is)) ∙ p.token in
         let marked : r.0.token ≡ m = ap (λ x. x.0) w.2.shown ∙ this in
-        directory_in calls c q w.0 r.0 d o (below r.0.token ∙ eq_true m r.0.token (sym marked)) (entry_in s calls m q w.0 p w.1) w.2 r.2
+        directory_in calls c q w.0 r.0 d o (below r.0.token ∙ eq-eqb m r.0.token (sym marked)) (entry_in s calls m q w.0 p w.1) w.2 r.2
         (h.directories (length (parent q)) w.0 w.1)
     old_here old false at =
-        let far : (i ≡ length (parent q) → ⊥) = λ x. true≢false (sym (eq_true i (length (parent q)) x) ∙ at) in
+        let far : (i ≡ length (parent q) → ⊥) = λ x. true≢false (sym (eq-eqb i (length (parent q)) x) ∙ at) in
         let before = entered.others i d (enters.subdirectory.others i d old (λ x. far (x ∙ sym last))) far in
         let depth = depth_held s calls i d h sound before in
         let path = path_held s calls i d h sound before in
-        let other : nat_eq m d.token ≡ false = false_from (nat_eq m d.token)
-        (λ x. far (sym depth ∙ ap length (path ∙ ap (path_of calls) (sym (true_eq m d.token x))) ∙ innermost_place s calls m h sound k inner
+        let other : nat_eq m d.token ≡ false = false_from_ne_true (nat_eq m d.token)
+        (λ x. far (sym depth ∙ ap length (path ∙ ap (path_of calls) (sym (eqb-true m d.token x)))
+        ∙ innermost_place s calls m h sound k inner
         ∙ ap (λ y. y - 1) (sym same_count) ∙ sym last)) in
         directory_still calls c d (apart_open c q d o (below d.token ∙ other) (λ x. far (sym depth ∙ x))) (h.directories i d before)
 
@@ -357,21 +361,16 @@ directory_opened s es calls c m t q h sound p k inner o below fresh number enter
     by (inl old) = old_here old (nat_eq i (length (parent q))) refl
     by (inr new) = subst (IsDirectoryOf (calls ++ c ∷ [])) new.1
         (new_directory calls c q t enters.opened.0 sound o enters.opened.1 fresh number
-        (below t ∙ false_from (nat_eq m t) (λ x. let y : m ≡ t = true_eq m t x in absurd (omega (arith, known_before)))))
+        (below t ∙ false_from_ne_true (nat_eq m t) (λ x. let y : m ≡ t = eqb-true m t x in absurd (omega (arith, known_before)))))
 
 -- ---- a directory closed
-
-get_take : {X : Type 0} (n : ℕ) (xs : List X) (i : ℕ) (x : X) → slice_get (take n xs) i ≡ Some x → slice_get xs i ≡ Some x
-get_take zero xs i x h = absurd (some_none x (sym h))
-get_take (suc n) [] i x h = h
-get_take (suc n) (y ∷ xs) zero x h = h
-get_take (suc n) (y ∷ xs) (suc i) x h = get_take n xs i x h
 
 pub directory_closed : (s : OrderCheck) (es : List OpenedDirectory) (calls : List Call) (t : ℕ) → Holds s calls
     → es ≡ without_last s.directories.items → AreDirectories es (calls ++ CloseDirectory t ∷ [])
 directory_closed s es calls t h less i d e =
     directory_still calls (CloseDirectory t) d record { subdirectory = refl; change = refl; opened = λ n. refl; deleted = λ n. refl }
-    (h.directories i d (get_take (length s.directories.items - 1) s.directories.items i d (ap (λ xs. slice_get xs i) (sym less) ∙ e)))
+    (h.directories i d (slice_get_from_take (length s.directories.items - 1) s.directories.items i d
+    (ap (λ xs. slice_get xs i) (sym less) ∙ e)))
 
 -- ---- what the directories show
 

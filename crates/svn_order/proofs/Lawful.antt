@@ -2,6 +2,8 @@
 use Rattle.std.proofs.Common.{◌≡◌, ◌≤◌, not, List, [], ◌∷◌, ◌++◌, length, refl, sym, ◌∙◌, ap, subst}
 use Rattle.std.specs.Prelude.{Some, None, slice_get, nat_eq}
 use Rattle.std.proofs.lemmas.List.{append-nil, append_assoc}
+use Rattle.std.proofs.lemmas.Bool.{not-false}
+use Rattle.svn_lists.proofs.Somewhere.{any_still}
 use Rattle.svn_types.specs.Paths.{child}
 use Rattle.svn_editor.specs.declared.call.Call.{Call}
 use Rattle.svn_editor.specs.declared.call.Call.TheVariants.{OpenRoot, AddDirectory, OpenDirectory, CloseDirectory, AddFile, OpenFile}
@@ -9,7 +11,7 @@ use Rattle.svn_editor.specs.declared.call.Call.TheVariants.{CloseFile, AbortEdit
 use Rattle.svn_editor.specs.Calls.{Given, number_eq, opens_entry, all_given, innermost}
 use Rattle.svn_editor.specs.Order.{order_fault, IsLawfulAfter, IsLawful}
 use Rattle.svn_order.specs.StandsAfter.{open_directories}
-use Rattle.svn_editor.proofs.OneMore.{not_false, any_still, given_none}
+use Rattle.svn_editor.proofs.OneMore.{given_none}
 use Rattle.svn_editor.proofs.Accepted.{IsAccepted, accepted}
 use Rattle.svn_editor.proofs.Nested.{IsNested, nested_front}
 use Rattle.svn_order.proofs.Sound.{IsSound, names, touches, numbered_more, named_more, entries_more, root_more}
@@ -21,11 +23,11 @@ nested_after calls (OpenRoot base token) s a =
 nested_after calls (AddDirectory path parent token) s a =
     subst (IsNested 0 0 None) (sym (open_given calls (AddDirectory path parent token) _ s a refl))
     (nested_in calls (AddDirectory path parent token) _ parent s a refl refl refl refl refl
-    (not_false (number_eq (innermost calls) (Some parent)) a.innermost))
+    (not-false (number_eq (innermost calls) (Some parent)) a.innermost))
 nested_after calls (OpenDirectory path parent base token) s a =
     subst (IsNested 0 0 None) (sym (open_given calls (OpenDirectory path parent base token) _ s a refl))
     (nested_in calls (OpenDirectory path parent base token) _ parent s a refl refl refl refl refl
-    (not_false (number_eq (innermost calls) (Some parent)) a.innermost))
+    (not-false (number_eq (innermost calls) (Some parent)) a.innermost))
 nested_after calls (AddFile path parent token) s a =
     subst (IsNested 0 0 None) (sym (open_given calls (AddFile path parent token) _ s a refl)) s.nested
 nested_after calls (OpenFile path parent base token) s a =

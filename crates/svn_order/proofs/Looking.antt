@@ -5,7 +5,14 @@ use Rattle.std.specs.Prelude.{Option, Some, None, slice_get, nat_eq}
 use Rattle.std.specs.List.{list_any}
 use Rattle.std.specs.Option.{option_map}
 use Rattle.std.proofs.lemmas.List.{length-map}
-use Rattle.std.proofs.lemmas.Option.{none-some, same_Some, slice_get-map}
+use Rattle.std.proofs.lemmas.Option.{same_Some, slice_get-map, slice_get_within}
+use Rattle.std.proofs.lemmas.Bool.{and_parts, eq-eqb, not-false, or_parts, eqb-true}
+use Rattle.std.proofs.lemmas.Map.Keys.{any_passes_from_place}
+use Rattle.std.specs.Cmp.{both_ways}
+use Rattle.svn_lists.proofs.Filters.{any_both, any_kept, filter_member}
+use Rattle.svn_lists.proofs.Options.{some-none}
+use Rattle.svn_lists.proofs.Places.{length-le_from_none, like_at}
+use Rattle.svn_lists.proofs.Somewhere.{any_found}
 use Rattle.svn_types.specs.declared.kind.Kind.{Kind}
 use Rattle.svn_types.specs.declared.kind.Kind.TheVariants.{File, Directory}
 use Rattle.svn_types.specs.Names.{Path}
@@ -24,25 +31,11 @@ use Rattle.svn_order.specs.Directories.{opened_of, deleted_of, is_opened_in, is_
 use Rattle.svn_order.specs.OrderState.{none_open}
 use Rattle.svn_order.specs.StandsAfter.{open_directories, token_and_path, Holds}
 use Rattle.svn_types.proofs.PathLemmas.{same_path, path_eq_from}
-use Rattle.svn_order.proofs.Changes.{get_within}
-use Rattle.svn_editor.proofs.OneMore.{or_parts, not_false, same_truth, and_parts, any_found, any_at, filter_member, any_both, any_kept}
-use Rattle.svn_editor.proofs.Nested.{last_token, true_eq, eq_true, same_number, nested_last, open_below_last}
+use Rattle.svn_editor.proofs.Nested.{last_token, same_number, nested_last, open_below_last}
 use Rattle.svn_order.proofs.Sound.{IsSound, IsKnown}
-use Rattle.svn_order.proofs.OpenDirectories.{placed, innermost_is, new_unclosed, new_textless, beyond}
-use Rattle.svn_types.proofs.Places.{some_none}
+use Rattle.svn_order.proofs.OpenDirectories.{placed, innermost_is, new_unclosed, new_textless}
 
 -- ---- places in two lists that show the same
-
--- what stands at a place of one list has its like at that place of the other
-like_at : {X Y Z : Type 0} (f : X → Z) (g : Y → Z) (xs : List X) (ys : List Y) (i : ℕ) (y : Y) → map f xs ≡ map g ys
-    → slice_get ys i ≡ Some y → (x : X) × (slice_get xs i ≡ Some x) × (f x ≡ g y)
-like_at {X = X} f g xs ys i y e h =
-    by (slice_get xs i) refl
-    (sym (slice_get-map f xs i) ∙ ap (λ zs. slice_get zs i) e ∙ slice_get-map g ys i ∙ ap (option_map g) h)
-  where
-    by : (o : Option X) → slice_get xs i ≡ o → option_map f o ≡ Some (g y) → (x : X) × (slice_get xs i ≡ Some x) × (f x ≡ g y)
-    by None k q = absurd (none-some (g y) q)
-    by (Some x) k q = (x, k, same_Some (f x) (g y) q)
 
 pub record IsShown (ds : List OpenedDirectory) (i : ℕ) (g : Given) : Type 0 where
   pub directory : OpenedDirectory
@@ -79,9 +72,9 @@ not_given s calls t h e = by (given calls t) refl
     by : (o : Option Given) → given calls t ≡ o → o ≡ None
     by None k = refl
     by (Some g) k =
-        let l : t < length (all_given calls) = get_within (all_given calls) t g k in
+        let l : t < length (all_given calls) = slice_get_within (all_given calls) t g k in
         let n = there s.tokens.items t (omega (arith, h.count)) in
-        absurd (some_none n.0 (sym n.1 ∙ e))
+        absurd (some-none n.0 (sym n.1 ∙ e))
       where
         there : (ns : List GivenToken) (i : ℕ) → i < length ns → (n : GivenToken) × (slice_get ns i ≡ Some n)
         there [] i l = absurd (omega arith)
@@ -101,7 +94,7 @@ pub closed_at : (s : OrderCheck) (calls : List Call) (t : ℕ) → Holds s calls
 closed_at s calls t h sound = by (slice_get s.tokens.items t) refl
   where
     by : (o : Option GivenToken) → slice_get s.tokens.items t ≡ o → is_closed_in o ≡ is_closed calls t
-    by None e = sym (new_unclosed calls t sound (beyond (all_given calls) t (not_given s calls t h e)))
+    by None e = sym (new_unclosed calls t sound (length-le_from_none (all_given calls) t (not_given s calls t h e)))
     by (Some n) e = sym (h.tokens t n e).closed
 
 pub text_at : (s : OrderCheck) (calls : List Call) (t : ℕ) → Holds s calls → IsSound calls
@@ -109,7 +102,7 @@ pub text_at : (s : OrderCheck) (calls : List Call) (t : ℕ) → Holds s calls �
 text_at s calls t h sound = by (slice_get s.tokens.items t) refl
   where
     by : (o : Option GivenToken) → slice_get s.tokens.items t ≡ o → has_text_in o ≡ list_any (applies_text t) calls
-    by None e = sym (new_textless calls t sound (beyond (all_given calls) t (not_given s calls t h e)))
+    by None e = sym (new_textless calls t sound (length-le_from_none (all_given calls) t (not_given s calls t h e)))
     by (Some n) e = sym (h.tokens t n e).text
 
 -- ---- the innermost directory
@@ -146,8 +139,8 @@ innermost_at s calls h =
     by : (o : Option OpenedDirectory) (q : Option Given) → option_map shown o ≡ option_map token_and_path q
         → option_map (λ d. d.token) o ≡ option_map (λ x. x.token) q
     by None None e = refl
-    by None (Some g) e = absurd (some_none _ (sym e))
-    by (Some d) None e = absurd (some_none _ e)
+    by None (Some g) e = absurd (some-none _ (sym e))
+    by (Some d) None e = absurd (some-none _ e)
     by (Some d) (Some g) e = ap Some (ap (λ p. p.0) (same_Some (shown d) (token_and_path g) e))
 
 pub none_open_at : (s : OrderCheck) (calls : List Call) → Holds s calls → not (none_open s.directories.items) ≡ a_directory_is_open calls
@@ -161,7 +154,7 @@ pub open_below_at : (s : OrderCheck) (calls : List Call) (t : ℕ) → Holds s c
 open_below_at s calls t h sound k =
     let at = placed calls t sound k in
     let kept = any_both (opens_below t) (is_open_directory calls) (all_given calls) in
-    let tested = open_below_last (open_directories calls) 0 0 None at.place k.given_as sound.nested (λ e. some_none _ (sym e)) at.is in
+    let tested = open_below_last (open_directories calls) 0 0 None at.place k.given_as sound.nested (λ e. some-none _ (sym e)) at.is in
     ap (λ o. not (number_eq o (Some t))) (innermost_at s calls h ∙ innermost_is calls)
     ∙ sym (subst
     (λ n. list_any (opens_below n) (open_directories calls) ≡ not (number_eq (last_token None (open_directories calls)) (Some n)))
@@ -200,7 +193,7 @@ path_held s calls i d h sound e =
 pub holds_entry_at : (s : OrderCheck) (calls : List Call) (t : ℕ) (q : Path) → Holds s calls → IsSound calls → IsKnown calls t Directory
     → not (holds_entry s.directories.items t q) ≡ (is_root q || not (path_eq (parent q) (path_of calls t)))
 holds_entry_at s calls t q h sound k =
-    by (is_root q) ∙ ap (λ b. is_root q || not b) (same_truth _ _ there back)
+    by (is_root q) ∙ ap (λ b. is_root q || not b) (both_ways _ _ there back)
   where
     by : (b : Bool) → not (not b && is_directory t (parent q) (slice_get s.directories.items (length (parent q))))
         ≡ (b || not (is_directory t (parent q) (slice_get s.directories.items (length (parent q)))))
@@ -218,7 +211,7 @@ holds_entry_at s calls t q h sound k =
             let parts = and_parts (nat_eq d.token t) (path_eq d.path (parent q)) e in
             path_eq_from (parent q) (path_of calls t)
             (sym (same_path d.path (parent q) parts.1) ∙ path_held s calls (length (parent q)) d h sound n
-            ∙ ap (path_of calls) (true_eq d.token t parts.0))
+            ∙ ap (path_of calls) (eqb-true d.token t parts.0))
 
     back : path_eq (parent q) (path_of calls t) ≡ true
         → is_directory t (parent q) (slice_get s.directories.items (length (parent q))) ≡ true
@@ -226,7 +219,7 @@ holds_entry_at s calls t q h sound k =
         let same : parent q ≡ path_of calls t = same_path (parent q) (path_of calls t) e in
         let d = held s calls t h sound k in
         ap (is_directory t (parent q)) (ap (λ (p : Path). slice_get s.directories.items (length p)) same ∙ d.is)
-        ∙ ap (λ b. b && path_eq d.directory.path (parent q)) (eq_true d.directory.token t d.token)
+        ∙ ap (λ b. b && path_eq d.directory.path (parent q)) (eq-eqb d.directory.token t d.token)
         ∙ path_eq_from d.directory.path (parent q) (d.path ∙ sym same)
 
 child_split : (q : Path) → is_root q ≡ false → child (parent q) (entry_name q) ≡ q
@@ -248,7 +241,7 @@ pub parent_of : (s : OrderCheck) (calls : List Call) (t : ℕ) (q : Path) → Ho
 parent_of s calls t q h sound k o =
     let parts = or_parts (is_root q) (not (path_eq (parent q) (path_of calls t))) o in
     let same : parent q ≡ path_of calls t =
-    same_path (parent q) (path_of calls t) (not_false (path_eq (parent q) (path_of calls t)) parts.1) in
+    same_path (parent q) (path_of calls t) (not-false (path_eq (parent q) (path_of calls t)) parts.1) in
     let d = held s calls t h sound k in
     record {
       directory = d.directory;
@@ -297,7 +290,7 @@ late_at s calls t h sound k e =
 
 pub files_at : (s : OrderCheck) (calls : List Call) → Holds s calls → IsSound calls
     → list_any is_unclosed_file s.tokens.items ≡ a_file_is_open calls
-files_at s calls h sound = same_truth _ _ forth back
+files_at s calls h sound = both_ways _ _ forth back
   where
     forth : list_any is_unclosed_file s.tokens.items ≡ true → a_file_is_open calls ≡ true
     forth e =
@@ -310,7 +303,7 @@ files_at s calls h sound = same_truth _ _ forth back
             → a_file_is_open calls ≡ true
         at t None q kind unclosed = absurd (true≢false (sym (sym (ap (is_of_kind File) q) ∙ kind)))
         at t (Some g) q kind unclosed =
-            any_at (is_open_file calls) (all_given calls) t g q
+            any_passes_from_place (is_open_file calls) (all_given calls) t g q
             (ap (λ n. kind_eq g.kind File && not (is_closed calls n)) (sound.numbered t g q)
             ∙ ap (λ b. b && not (is_closed calls t)) (sym (ap (is_of_kind File) q) ∙ kind) ∙ unclosed)
 
@@ -324,10 +317,10 @@ files_at s calls h sound = same_truth _ _ forth back
         at : (t : ℕ) (g : Given) → given calls t ≡ Some g → kind_eq g.kind File ≡ true → not (is_closed calls t) ≡ true
             → (o : Option GivenToken) → slice_get s.tokens.items t ≡ o → list_any is_unclosed_file s.tokens.items ≡ true
         at t g q kind unclosed None k =
-            let l = get_within (all_given calls) t g q in
-            let r = beyond s.tokens.items t k in
+            let l = slice_get_within (all_given calls) t g q in
+            let r = length-le_from_none s.tokens.items t k in
             absurd (omega (arith, l, r, h.count))
         at t g q kind unclosed (Some n) k =
             let is = h.tokens t n k in
-            any_at is_unclosed_file s.tokens.items t n k
+            any_passes_from_place is_unclosed_file s.tokens.items t n k
             (ap (λ b. b && not n.is_closed) (sym (is.kind File) ∙ ap (is_of_kind File) q ∙ kind) ∙ ap not (sym is.closed) ∙ unclosed)

@@ -5,7 +5,12 @@ use Rattle.std.specs.Prelude.{Option, Some, None, slice_get, nat_eq, filter}
 use Rattle.std.specs.List.{list_any}
 use Rattle.std.proofs.lemmas.List.{append-nil, nil_from_length}
 use Rattle.std.proofs.lemmas.List.Elements.{filter-append}
-use Rattle.std.proofs.lemmas.Option.{same_Some}
+use Rattle.std.proofs.lemmas.Option.{same_Some, slice_get_within}
+use Rattle.std.proofs.Math.Bool.{or-false}
+use Rattle.std.proofs.lemmas.Bool.{eq-eqb, false_from_ne_true, not-false, eqb-true}
+use Rattle.svn_lists.proofs.Filters.{any_both, filter_all, filter_both, filter_keeps, filter_member, filter_same}
+use Rattle.svn_lists.proofs.Options.{some-none}
+use Rattle.svn_lists.proofs.Somewhere.{any_push, any_still, any_weaker}
 use Rattle.svn_types.specs.declared.kind.Kind.TheVariants.{File, Directory}
 use Rattle.svn_types.specs.Paths.{parent}
 use Rattle.svn_editor.specs.declared.call.Call.{Call}
@@ -14,14 +19,11 @@ use Rattle.svn_editor.specs.Calls.{Given, kind_eq, number_eq, given_by, named_by
 use Rattle.svn_editor.specs.Calls.{opens_subdirectory, all_given, given, is_closed, given_path, innermost, is_open_directory, opens_below}
 use Rattle.svn_editor.specs.Calls.{a_subdirectory_is_open}
 use Rattle.svn_order.specs.StandsAfter.{open_directories}
-use Rattle.svn_order.proofs.Changes.{get_within}
 use Rattle.svn_editor.proofs.Accepted.{IsAccepted}
-use Rattle.svn_editor.proofs.OneMore.{or_false, not_false, false_from, any_more, any_still, any_weaker, filter_same, filter_member}
-use Rattle.svn_editor.proofs.OneMore.{filter_keeps, any_both, given_none, given_one}
-use Rattle.svn_editor.proofs.Nested.{last_token, IsNested, true_eq, eq_true, same_number, nested_above, nested_depth, nested_last}
+use Rattle.svn_editor.proofs.OneMore.{given_none, given_one}
+use Rattle.svn_editor.proofs.Nested.{last_token, IsNested, same_number, nested_above, nested_depth, nested_last}
 use Rattle.svn_editor.proofs.Nested.{nested_more, open_below_last, innermost_last}
 use Rattle.svn_order.proofs.Sound.{IsSound, IsKnown, other_kind, names, closes_named, given_closes, known, parent_is, numbered_next}
-use Rattle.svn_types.proofs.Places.{some_none}
 use Rattle.svn_types.proofs.PathLemmas.{length_parent}
 
 -- ---- closed tokens
@@ -50,11 +52,6 @@ subdirectories_named t _ h = absurd (true≢false (sym h))
 pub new_childless : (calls : List Call) (t : ℕ) → IsSound calls → length (all_given calls) ≤ t
     → list_any (opens_subdirectory t) calls ≡ false
 new_childless calls t s h = any_weaker (opens_subdirectory t) (names t) calls (subdirectories_named t) (s.named_given t h)
-
-pub beyond : {X : Type 0} (xs : List X) (i : ℕ) → slice_get xs i ≡ None → length xs ≤ i
-beyond [] i h = omega arith
-beyond (x ∷ xs) zero h = absurd (some_none x h)
-beyond (x ∷ xs) (suc i) h = let l = beyond xs i h in omega arith
 
 -- ---- a call that closes nothing
 
@@ -124,7 +121,7 @@ opened_below : (calls : List Call) (i : ℕ) (x : Given) → IsSound calls → s
     → x.token < length (all_given calls)
 opened_below calls i x s h =
     let m = filter_member (is_open_directory calls) (all_given calls) i x h in
-    let l : m.0 < length (all_given calls) = get_within (all_given calls) m.0 x m.1 in
+    let l : m.0 < length (all_given calls) = slice_get_within (all_given calls) m.0 x m.1 in
     let n : x.token ≡ m.0 = s.numbered m.0 x m.1 in
     omega arith
 
@@ -164,7 +161,7 @@ nested_root calls g s h path up kind =
     none : open_directories calls ≡ []
     none =
         ap (filter (is_open_directory calls)) (nil_from_length (all_given calls)
-        (true_eq (length (all_given calls)) 0 (not_false (nat_eq (length (all_given calls)) 0) (sym s.root ∙ h))))
+        (eqb-true (length (all_given calls)) 0 (not-false (nat_eq (length (all_given calls)) 0) (sym s.root ∙ h))))
 
 -- ---- a directory less
 
@@ -173,25 +170,10 @@ pub record IsLast (xs : List Given) (x : Given) : Type 0 where
   pub is : xs ≡ front ++ x ∷ []
 
 last_of : (xs : List Given) (i : ℕ) (x : Given) → slice_get xs i ≡ Some x → suc i ≡ length xs → IsLast xs x
-last_of [] i x h l = absurd (some_none x (sym h))
+last_of [] i x h l = absurd (some-none x (sym h))
 last_of (y ∷ []) zero x h l = record { front = []; is = ap (λ z. z ∷ []) (same_Some y x h) }
 last_of (y ∷ z ∷ xs) zero x h l = absurd (omega arith)
 last_of (y ∷ xs) (suc i) x h l = let r = last_of xs i x h (omega arith) in record { front = y ∷ r.front; is = ap (λ zs. y ∷ zs) r.is }
-
-filter_all : {X : Type 0} (q : X → Bool) (xs : List X) → ((i : ℕ) (x : X) → slice_get xs i ≡ Some x → q x ≡ true) → filter q xs ≡ xs
-filter_all q [] h = refl
-filter_all q (x ∷ xs) h =
-    ap (λ b. cond b (x ∷ filter q xs) (filter q xs)) (h 0 x refl) ∙ ap (λ ys. x ∷ ys) (filter_all q xs (λ i y k. h (suc i) y k))
-
-filter_both : {X : Type 0} (p q : X → Bool) (xs : List X) → filter (λ x. p x && q x) xs ≡ filter q (filter p xs)
-filter_both p q [] = refl
-filter_both p q (x ∷ xs) = by (p x) (filter_both p q xs)
-  where
-    by : (b : Bool) → filter (λ y. p y && q y) xs ≡ filter q (filter p xs)
-        → cond (b && q x) (x ∷ filter (λ y. p y && q y) xs) (filter (λ y. p y && q y) xs)
-        ≡ filter q (cond b (x ∷ filter p xs) (filter p xs))
-    by true ih = ap (λ ys. cond (q x) (x ∷ ys) ys) ih
-    by false ih = ih
 
 get_last : (xs : List Given) (x : Given) → slice_get (xs ++ x ∷ []) (length xs) ≡ Some x
 get_last [] x = refl
@@ -199,7 +181,7 @@ get_last (y ∷ xs) x = get_last xs x
 
 front_below : (front : List Given) (n k : ℕ) (above : Option ℕ) (g : Given) → IsNested n k above (front ++ g ∷ []) → (i : ℕ) (x : Given)
     → slice_get front i ≡ Some x → x.token < g.token
-front_below [] n k above g h i x e = absurd (some_none x (sym e))
+front_below [] n k above g h i x e = absurd (some-none x (sym e))
 front_below (y ∷ front) n k above g h zero x e =
     let s : y.token ≡ x.token = ap (λ z. z.token) (same_Some y x e) in
     let l : suc y.token ≤ g.token =
@@ -231,9 +213,9 @@ open_closed calls t s a = record {
     inner =
         let below : a_subdirectory_is_open calls k.given_as.token ≡ false = ap (a_subdirectory_is_open calls) at.token ∙ a.none_below in
         let kept = any_both (opens_below k.given_as.token) (is_open_directory calls) (all_given calls) in
-        let tested = open_below_last (open_directories calls) 0 0 None at.place k.given_as s.nested (λ e. some_none _ (sym e)) at.is in
+        let tested = open_below_last (open_directories calls) 0 0 None at.place k.given_as s.nested (λ e. some-none _ (sym e)) at.is in
         same_number (last_token None (open_directories calls)) k.given_as.token
-        (not_false (number_eq (last_token None (open_directories calls)) (Some k.given_as.token)) (sym tested ∙ sym kept ∙ below))
+        (not-false (number_eq (last_token None (open_directories calls)) (Some k.given_as.token)) (sym tested ∙ sym kept ∙ below))
 
     last : IsLast (open_directories calls) k.given_as
     last =
@@ -250,15 +232,16 @@ open_closed calls t s a = record {
     left =
         ap (filter (is_open_directory (calls ++ CloseDirectory t ∷ []))) (given_none calls (CloseDirectory t) refl)
         ∙ filter_same (is_open_directory (calls ++ CloseDirectory t ∷ [])) (λ x. is_open_directory calls x && other x) (all_given calls)
-        (λ i x h. ap (λ b. kind_eq x.kind Directory && not b) (any_more (closes x.token) calls (CloseDirectory t))
+        (λ i x h. ap (λ b. kind_eq x.kind Directory && not b) (any_push (closes x.token) calls (CloseDirectory t))
         ∙ split (kind_eq x.kind Directory) (is_closed calls x.token) (nat_eq t x.token))
         ∙ filter_both (is_open_directory calls) other (all_given calls)
         ∙ ap (filter other) last.is
         ∙ filter-append other last.front (k.given_as ∷ [])
-        ∙ ap (λ b. filter other last.front ++ cond b (k.given_as ∷ []) []) (ap not (eq_true t k.given_as.token (sym at.token)))
+        ∙ ap (λ b. filter other last.front ++ cond b (k.given_as ∷ []) []) (ap not (eq-eqb t k.given_as.token (sym at.token)))
         ∙ append-nil (filter other last.front)
         ∙ filter_all other last.front (λ i x h. ap not
-        (false_from (nat_eq t x.token) (λ e. let l = below i x h in let q = true_eq t x.token e in let r = at.token in omega arith)))
+        (false_from_ne_true (nat_eq t x.token) (λ e. let l = below i x h in let q = eqb-true t x.token e in let r =
+        at.token in omega arith)))
       where
         split : (p b d : Bool) → (p && not (b || d)) ≡ ((p && not b) && not d)
         split true true d = refl
@@ -271,7 +254,7 @@ pub open_file_closed : (calls : List Call) (t : ℕ) (md5 : Option (List ℕ)) �
 open_file_closed calls t md5 s a =
     ap (filter (is_open_directory (calls ++ CloseFile t md5 ∷ []))) (given_none calls (CloseFile t md5) refl)
     ∙ filter_same (is_open_directory (calls ++ CloseFile t md5 ∷ [])) (is_open_directory calls) (all_given calls)
-    (λ i x h. ap (λ b. kind_eq x.kind Directory && not b) (any_more (closes x.token) calls (CloseFile t md5))
+    (λ i x h. ap (λ b. kind_eq x.kind Directory && not b) (any_push (closes x.token) calls (CloseFile t md5))
     ∙ by x i h (nat_eq t x.token) refl)
   where
     k : IsKnown calls t File
@@ -279,9 +262,9 @@ open_file_closed calls t md5 s a =
 
     by : (x : Given) (i : ℕ) → given calls i ≡ Some x → (b : Bool) → nat_eq t x.token ≡ b
         → (kind_eq x.kind Directory && not (is_closed calls x.token || b)) ≡ (kind_eq x.kind Directory && not (is_closed calls x.token))
-    by x i h false e = ap (λ b. kind_eq x.kind Directory && not b) (or_false (is_closed calls x.token))
+    by x i h false e = ap (λ b. kind_eq x.kind Directory && not b) (or-false (is_closed calls x.token))
     by x i h true e =
-        let q : t ≡ x.token = true_eq t x.token e in
+        let q : t ≡ x.token = eqb-true t x.token e in
         let here : x ≡ k.given_as = same_Some x k.given_as (sym h ∙ ap (given calls) (sym (s.numbered i x h) ∙ sym q) ∙ k.is) in
         let none : kind_eq x.kind Directory ≡ false =
         ap (λ y. kind_eq y.kind Directory) here ∙ other_kind k.given_as.kind File Directory k.kind refl in

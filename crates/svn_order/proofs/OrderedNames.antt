@@ -15,8 +15,10 @@ use Rattle.std.proofs.lemmas.Option.{slice_get-get_or}
 use Rattle.std.proofs.lemmas.List.Folds.{list_any_at, list_any-append}
 use Rattle.std.proofs.lemmas.List.Sorted.{searchable_from_sorted}
 use Rattle.std.proofs.lemmas.List.Kept.{IsSortedBy-push}
+use Rattle.svn_lists.proofs.Equality.{bytes_eq-symm}
+use Rattle.svn_lists.proofs.Orderings.{less_from_is_lt}
 use Rattle.svn_types.specs.Names.{name_cmp}
-use Rattle.svn_types.proofs.NameLemmas.{Name, bytes_eq-symm, is_less}
+use Rattle.svn_types.proofs.NameLemmas.{Name}
 use Rattle.svn_order.specs.NameSets.{has_name, Inserts, is_behind}
 
 -- ---- what is not among them
@@ -35,7 +37,7 @@ none (x ∷ xs) n others =
 last_below : (xs : List Name) (n : Name) → is_behind (slice_get xs (length xs - 1)) n ≡ true → (d : Name) → 0 < length xs
     → name_cmp (get_or xs (length xs - 1) d) n ≡ Less
 last_below xs n behind d some =
-    is_less (name_cmp (get_or xs (length xs - 1) d) n)
+    less_from_is_lt (name_cmp (get_or xs (length xs - 1) d) n)
     (ap (λ o. is_behind o n) (sym (slice_get-get_or xs (length xs - 1) d (omega (arith, some)))) ∙ behind)
 
 pub none_behind : (xs : List Name) (n : Name) → IsSorted name_cmp xs → is_behind (slice_get xs (length xs - 1)) n ≡ true

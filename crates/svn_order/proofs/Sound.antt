@@ -4,8 +4,13 @@ use Rattle.std.proofs.Common.{inl, inr, true≢false, arith}
 use Rattle.std.specs.Prelude.{Option, Some, None, ◌⊎◌, slice_get, nat_eq}
 use Rattle.std.specs.List.{list_any, cons_option}
 use Rattle.std.proofs.lemmas.List.{length-append}
-use Rattle.std.proofs.lemmas.Option.{same_Some}
+use Rattle.std.proofs.lemmas.Option.{same_Some, slice_get_within}
 use Rattle.std.proofs.lemmas.Bool.Decides.{nat_tests}
+use Rattle.std.proofs.Math.Bool.{or-true}
+use Rattle.std.proofs.lemmas.Bool.{false_from_ne_true, not-false, or_parts, eqb-true}
+use Rattle.svn_lists.proofs.Options.{some-none}
+use Rattle.svn_lists.proofs.Places.{slice_get_push_cases}
+use Rattle.svn_lists.proofs.Somewhere.{any_push, any_still}
 use Rattle.svn_types.specs.declared.kind.Kind.{Kind}
 use Rattle.svn_types.specs.declared.kind.Kind.TheVariants.{File, Directory}
 use Rattle.svn_types.specs.Names.{Path}
@@ -17,12 +22,10 @@ use Rattle.svn_editor.specs.Calls.{Given, kind_eq, given_by, named_by, entry_of,
 use Rattle.svn_editor.specs.Calls.{is_closed, given_path, path_of, is_of_kind}
 use Rattle.svn_editor.specs.Order.{is_unknown, is_named_closed, is_misnumbered, is_outside}
 use Rattle.svn_order.specs.StandsAfter.{open_directories}
-use Rattle.svn_types.proofs.Places.{some_none, get_cases}
 use Rattle.svn_types.proofs.PathLemmas.{same_path, path_eq_from, parent-child}
-use Rattle.svn_order.proofs.Changes.{get_within}
 use Rattle.svn_editor.proofs.Accepted.{IsAccepted}
-use Rattle.svn_editor.proofs.OneMore.{or_true, or_parts, not_false, false_from, any_more, any_still, given_none, given_one}
-use Rattle.svn_editor.proofs.Nested.{IsNested, true_eq}
+use Rattle.svn_editor.proofs.OneMore.{given_none, given_one}
+use Rattle.svn_editor.proofs.Nested.{IsNested}
 
 abbrev pub is_named : ℕ → Option (ℕ × Kind) → Bool
 is_named t None = false
@@ -68,8 +71,8 @@ closes_named t (CloseFile token text_md5) h = h
 closes_named t _ h = absurd (true≢false (sym h))
 
 pub given_closes : (t : ℕ) (c : Call) (g : Given) → given_by c ≡ Some g → closes t c ≡ false
-given_closes t (CloseDirectory token) g h = absurd (some_none g (sym h))
-given_closes t (CloseFile token text_md5) g h = absurd (some_none g (sym h))
+given_closes t (CloseDirectory token) g h = absurd (some-none g (sym h))
+given_closes t (CloseFile token text_md5) g h = absurd (some-none g (sym h))
 given_closes t _ g h = refl
 
 pub entry_named : (c : Call) (q : Path) → entry_of c ≡ Some q → (m : ℕ) × (named_by c ≡ Some (m, Directory))
@@ -78,16 +81,16 @@ entry_named (AddDirectory path parent token) q h = (parent, refl)
 entry_named (OpenDirectory path parent base token) q h = (parent, refl)
 entry_named (AddFile path parent token) q h = (parent, refl)
 entry_named (OpenFile path parent base token) q h = (parent, refl)
-entry_named _ q h = absurd (some_none q (sym h))
+entry_named _ q h = absurd (some-none q (sym h))
 
 -- what is given below no other is the root
 root_only : (c : Call) (g : Given) → given_by c ≡ Some g → named_by c ≡ None → g.path ≡ []
 root_only (OpenRoot base token) g h k = ap (λ x. x.path) (sym (same_Some _ g h))
-root_only (AddDirectory path parent token) g h k = absurd (some_none _ k)
-root_only (OpenDirectory path parent base token) g h k = absurd (some_none _ k)
-root_only (AddFile path parent token) g h k = absurd (some_none _ k)
-root_only (OpenFile path parent base token) g h k = absurd (some_none _ k)
-root_only _ g h k = absurd (some_none g (sym h))
+root_only (AddDirectory path parent token) g h k = absurd (some-none _ k)
+root_only (OpenDirectory path parent base token) g h k = absurd (some-none _ k)
+root_only (AddFile path parent token) g h k = absurd (some-none _ k)
+root_only (OpenFile path parent base token) g h k = absurd (some-none _ k)
+root_only _ g h k = absurd (some-none g (sym h))
 
 pub record IsKnown (calls : List Call) (m : ℕ) (k : Kind) : Type 0 where
   pub given_as : Given
@@ -104,7 +107,7 @@ other_kind Directory File m one other = absurd (true≢false (sym one))
 
 pub known_open : (calls : List Call) (m : ℕ) (k : Kind) → is_unknown calls (Some (m, k)) ≡ false
     → is_named_closed calls (Some (m, k)) ≡ false → IsKnown calls m k
-known_open calls m k h o = by (given calls m) refl (not_false (is_of_kind k (given calls m)) h)
+known_open calls m k h o = by (given calls m) refl (not-false (is_of_kind k (given calls m)) h)
   where
     by : (x : Option Given) → given calls m ≡ x → is_of_kind k (given calls m) ≡ true → IsKnown calls m k
     by None e s = absurd (true≢false (sym (sym (ap (is_of_kind k) e) ∙ s)))
@@ -127,8 +130,8 @@ length_more calls c = by (given_by c) refl
 pub numbered_next : (calls : List Call) (c : Call) (g : Given) → IsAccepted calls c → given_by c ≡ Some g
     → g.token ≡ length (all_given calls)
 numbered_next calls c g a e =
-    true_eq g.token (length (all_given calls))
-    (not_false (nat_eq g.token (length (all_given calls))) (sym (ap (is_misnumbered calls) e) ∙ a.numbered))
+    eqb-true g.token (length (all_given calls))
+    (not-false (nat_eq g.token (length (all_given calls))) (sym (ap (is_misnumbered calls) e) ∙ a.numbered))
 
 pub numbered_more : (calls : List Call) (c : Call) → IsSound calls → IsAccepted calls c → (t : ℕ) (g : Given)
     → given (calls ++ c ∷ []) t ≡ Some g → g.token ≡ t
@@ -136,7 +139,7 @@ numbered_more calls c s a t g h = by (given_by c) refl
   where
     by : (o : Option Given) → given_by c ≡ o → g.token ≡ t
     by None e = s.numbered t g (ap (λ gs. slice_get gs t) (sym (given_none calls c e)) ∙ h)
-    by (Some x) e = at (get_cases (all_given calls) x t g (ap (λ gs. slice_get gs t) (sym (given_one calls c x e)) ∙ h))
+    by (Some x) e = at (slice_get_push_cases (all_given calls) x t g (ap (λ gs. slice_get gs t) (sym (given_one calls c x e)) ∙ h))
       where
         at : (slice_get (all_given calls) t ≡ Some g) ⊎ ((t ≡ length (all_given calls)) × (x ≡ g)) → g.token ≡ t
         at (inl old) = s.numbered t g old
@@ -145,33 +148,33 @@ numbered_more calls c s a t g h = by (given_by c) refl
 pub named_more : (calls : List Call) (c : Call) → IsSound calls → IsAccepted calls c
     → (t : ℕ) → length (all_given (calls ++ c ∷ [])) ≤ t → list_any (names t) (calls ++ c ∷ []) ≡ false
 named_more calls c s a t h =
-    any_more (names t) calls c
+    any_push (names t) calls c
     ∙ ap (λ b. b || names t c) (s.named_given t (let l = length_more calls c in omega arith))
-    ∙ false_from (names t c) (λ n. by (named_by c) refl n)
+    ∙ false_from_ne_true (names t c) (λ n. by (named_by c) refl n)
   where
     by : (o : Option (ℕ × Kind)) → named_by c ≡ o → is_named t o ≡ true → ⊥
     by None e n = true≢false (sym n)
     by (Some x) e n =
         let k = known calls c x.0 x.1 a e in
-        let l : x.0 < length (all_given calls) = get_within (all_given calls) x.0 k.given_as k.is in
+        let l : x.0 < length (all_given calls) = slice_get_within (all_given calls) x.0 k.given_as k.is in
         let m = length_more calls c in
-        let q : x.0 ≡ t = true_eq x.0 t n in
+        let q : x.0 ≡ t = eqb-true x.0 t n in
         absurd (omega arith)
 
 -- ---- entries
 
 pub member_of : (calls : List Call) (t : ℕ) (g : Given) → given calls t ≡ Some g → list_any (opens_entry g.path) calls ≡ true
-member_of [] t g h = absurd (some_none g (sym h))
+member_of [] t g h = absurd (some-none g (sym h))
 member_of (c ∷ calls) t g h = by (given_by c) refl t h (member_of calls)
   where
     by : (o : Option Given) → given_by c ≡ o → (t : ℕ) → slice_get (cons_option o (all_given calls)) t ≡ Some g
         → ((t : ℕ) (g : Given) → given calls t ≡ Some g → list_any (opens_entry g.path) calls ≡ true)
         → list_any (opens_entry g.path) (c ∷ calls) ≡ true
-    by None e t h ih = ap (λ b. opens_entry g.path c || b) (ih t g h) ∙ or_true (opens_entry g.path c)
+    by None e t h ih = ap (λ b. opens_entry g.path c || b) (ih t g h) ∙ or-true (opens_entry g.path c)
     by (Some x) e zero h ih =
         ap (λ b. b || list_any (opens_entry g.path) calls)
         (ap (is_given_at g.path) e ∙ path_eq_from x.path g.path (ap (λ y. y.path) (same_Some x g h)))
-    by (Some x) e (suc t) h ih = ap (λ b. opens_entry g.path c || b) (ih t g h) ∙ or_true (opens_entry g.path c)
+    by (Some x) e (suc t) h ih = ap (λ b. opens_entry g.path c || b) (ih t g h) ∙ or-true (opens_entry g.path c)
 
 -- the parent of a path that an entry is in, is the path of its token
 pub parent_is : (calls : List Call) (c : Call) (m : ℕ) (q : Path) → IsAccepted calls c → named_by c ≡ Some (m, Directory)
@@ -180,16 +183,16 @@ parent_is calls c m q a n e =
     let outside : is_outside calls (Some (m, Directory)) (Some q) ≡ false =
     sym (ap (λ o. is_outside calls o (entry_of c)) n ∙ ap (is_outside calls (Some (m, Directory))) e) ∙ a.path in
     let parts = or_parts (is_root q) (not (path_eq (parent q) (path_of calls m))) outside in
-    (parts.0, same_path (parent q) (path_of calls m) (not_false (path_eq (parent q) (path_of calls m)) parts.1))
+    (parts.0, same_path (parent q) (path_of calls m) (not-false (path_eq (parent q) (path_of calls m)) parts.1))
 
 pub entries_more : (calls : List Call) (c : Call) → IsSound calls → IsAccepted calls c → (p : Path) (n : List ℕ)
     → list_any (opens_entry p) (calls ++ c ∷ []) ≡ false → list_any (touches (child p n)) (calls ++ c ∷ []) ≡ false
 entries_more calls c s a p n h =
-    any_more (touches (child p n)) calls c ∙ ap (λ b. b || touches (child p n) c) (s.entries_in p n before)
-    ∙ false_from (touches (child p n) c) (λ t. by (entry_of c) refl t)
+    any_push (touches (child p n)) calls c ∙ ap (λ b. b || touches (child p n) c) (s.entries_in p n before)
+    ∙ false_from_ne_true (touches (child p n) c) (λ t. by (entry_of c) refl t)
   where
     before : list_any (opens_entry p) calls ≡ false
-    before = (or_parts (list_any (opens_entry p) calls) (opens_entry p c) (sym (any_more (opens_entry p) calls c) ∙ h)).0
+    before = (or_parts (list_any (opens_entry p) calls) (opens_entry p c) (sym (any_push (opens_entry p) calls c) ∙ h)).0
 
     by : (o : Option Path) → entry_of c ≡ o → is_at (child p n) o ≡ true → ⊥
     by None e t = true≢false (sym t)
@@ -203,7 +206,7 @@ entries_more calls c s a p n h =
 -- ---- the root
 
 eq_zero : (n : ℕ) → not (nat_eq n 0) ≡ false → n ≡ 0
-eq_zero n h = true_eq n 0 (not_false (nat_eq n 0) h)
+eq_zero n h = eqb-true n 0 (not-false (nat_eq n 0) h)
 
 positive : (n : ℕ) → 0 < n → not (nat_eq n 0) ≡ true
 positive n h = grind (arith, nat_tests)
@@ -218,7 +221,7 @@ root_more calls c s a = by (given_by c) refl
         any_still (opens_entry []) calls c (ap (is_given_at []) e) ∙ s.root
         ∙ ap (λ (gs : List Given). not (nat_eq (length gs) 0)) (sym (given_none calls c e))
     by (Some g) e =
-        any_more (opens_entry []) calls c ∙ opened (list_any (opens_entry []) calls) refl
+        any_push (opens_entry []) calls c ∙ opened (list_any (opens_entry []) calls) refl
         ∙ sym (positive (length (all_given (calls ++ c ∷ [])))
         (omega (arith, ap length (given_one calls c g e), length-append (all_given calls) (g ∷ []))))
       where
@@ -233,5 +236,5 @@ root_more calls c s a = by (given_by c) refl
             at None q = ap (is_given_at []) e ∙ path_eq_from g.path [] (root_only c g e q)
             at (Some x) q =
                 let w = known calls c x.0 x.1 a q in
-                let l : x.0 < length (all_given calls) = get_within (all_given calls) x.0 w.given_as w.is in
+                let l : x.0 < length (all_given calls) = slice_get_within (all_given calls) x.0 w.given_as w.is in
                 absurd (omega (arith, none))

@@ -2,6 +2,7 @@
 use Rattle.std.proofs.Common.{◌≡◌, Bool, true, false, ◌||◌, cond, List, [], ◌∷◌, ◌++◌, refl, sym, ◌∙◌, ap, subst, inl, inr, true≢false}
 use Rattle.std.specs.Prelude.{Option, Some, None, Result, Ok, Err, OnOk, ◌⊎◌}
 use Rattle.std.specs.List.{list_any}
+use Rattle.svn_lists.proofs.Somewhere.{any_push}
 use Rattle.svn_editor.specs.declared.call.Call.{Call}
 use Rattle.svn_editor.specs.declared.call.Call.TheVariants.{CloseEdit, AbortEdit}
 use Rattle.svn_editor.specs.declared.fault.OrderFault.{OrderFault}
@@ -13,7 +14,6 @@ use Rattle.svn_editor.specs.Order.{but_abort, fault_in_order, order_fault, Answe
 use Rattle.svn_order.specs.OrderState.{fault_in}
 use Rattle.svn_order.specs.OrderChanges.{Notes, Taken, Takes}
 use Rattle.svn_order.specs.StandsAfter.{StandsAfter, Holds, IsDead, HasEnded, LeavesDead}
-use Rattle.svn_editor.proofs.OneMore.{any_more}
 use Rattle.svn_editor.proofs.Accepted.{accepted, not_ended}
 use Rattle.svn_order.proofs.Lawful.{sound, lawful_more}
 use Rattle.svn_order.proofs.Answering.{in_order}
@@ -98,14 +98,14 @@ going_accepts s t c (Ok d) unended takes =
     accepts calls stands none = record {
       lawful = lawful_more calls c stands.lawful none;
       going = λ e. goes (and_last e);
-      ended = λ e. ended_last s t c d (sym (ap (λ b. b || is_last c) before) ∙ sym (any_more is_last calls c) ∙ e) takes;
+      ended = λ e. ended_last s t c d (sym (ap (λ b. b || is_last c) before) ∙ sym (any_push is_last calls c) ∙ e) takes;
     }
       where
         before : list_any is_last calls ≡ false
         before = not_ended calls c none
 
         and_last : list_any is_last (calls ++ c ∷ []) ≡ false → is_last c ≡ false
-        and_last e = sym (ap (λ b. b || is_last c) before) ∙ sym (any_more is_last calls c) ∙ e
+        and_last e = sym (ap (λ b. b || is_last c) before) ∙ sym (any_push is_last calls c) ∙ e
 
         goes : is_last c ≡ false → Holds t (calls ++ c ∷ [])
         goes l =

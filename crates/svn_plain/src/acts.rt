@@ -2,7 +2,7 @@
 
 use crate::fault::Result;
 use crate::history::{NO_VALUES, Node, Values};
-use crate::place::{MAX_DEPTH, Place};
+use crate::plain_path::{MAX_DEPTH, PlainPath};
 use crate::request::Facts;
 use crate::words::{NO_TEXT, Word};
 use std::alloc::Global;
@@ -33,7 +33,7 @@ const _: () = prove!(KEY_LENGTH == MAX_DEPTH + 1);
 #[derive(Clone, Copy)]
 pub struct Act {
     key: Key,
-    pub path: Place,
+    pub path: PlainPath,
     pub kind: Kind,
     pub deed: Deed,
 }
@@ -44,14 +44,14 @@ fn put_names(key: &mut [u8], names: &[u8]) {
     }
 }
 
-fn path_key(path: Place) -> Key {
+fn path_key(path: PlainPath) -> Key {
     let mut key = [0; KEY_LENGTH];
     put_names(&mut key, path.names());
     key
 }
 
 // The end mark behind the path.
-fn close_key(path: Place) -> Key {
+fn close_key(path: PlainPath) -> Key {
     let mut key = path_key(path);
     if let Some(place) = key.get_mut(path.depth()) {
         *place = END_MARK;
@@ -60,7 +60,7 @@ fn close_key(path: Place) -> Key {
 }
 
 // The end mark before the path.
-fn late_key(path: Place) -> Key {
+fn late_key(path: PlainPath) -> Key {
     let mut key = [END_MARK; KEY_LENGTH];
     if let Some(behind) = key.get_mut(1..) {
         put_names(behind, path.names());
@@ -78,7 +78,7 @@ struct Calls {
 // What a path has and gets.
 #[derive(Clone, Copy)]
 struct Change {
-    path: Place,
+    path: PlainPath,
     kind: Kind,
     old_values: Values,
     old_text: Option<Word>,
@@ -86,7 +86,7 @@ struct Change {
 }
 
 impl Calls {
-    fn add(&mut self, key: Key, path: Place, kind: Kind, deed: Deed) -> Result<()> {
+    fn add(&mut self, key: Key, path: PlainPath, kind: Kind, deed: Deed) -> Result<()> {
         self.acts.push(Act {
             key,
             path,
@@ -154,7 +154,7 @@ impl Calls {
         })
     }
 
-    fn add_new(&mut self, path: Place, target: Node) -> Result<()> {
+    fn add_new(&mut self, path: PlainPath, target: Node) -> Result<()> {
         self.add(path_key(path), path, target.kind, Deed::Add)?;
         self.add_inside(&Change {
             path,

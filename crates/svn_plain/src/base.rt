@@ -2,7 +2,7 @@
 
 use crate::fault::{Fault, Result};
 use crate::history::{History, Node, Values};
-use crate::place::{Place, ROOT};
+use crate::plain_path::{PlainPath, ROOT};
 use crate::words::Word;
 use std::alloc::Global;
 use std::collections::BTreeMap;
@@ -14,13 +14,13 @@ use svn_types::Kind;
 pub enum Base {
     File {
         rev: u64,
-        repos: Place,
+        repos: PlainPath,
         text: Word,
         values: Values,
     },
     Dir {
         rev: u64,
-        repos: Place,
+        repos: PlainPath,
         complete: bool,
         values: Values,
     },
@@ -28,10 +28,10 @@ pub enum Base {
 }
 
 /// What a copy has at each path.
-pub type BaseTree = BTreeMap<Place, Base>;
+pub type BaseTree = BTreeMap<PlainPath, Base>;
 
 /// What a node is in a copy that has it at a revision and a repository path, complete.
-pub fn base_of(node: &Node, rev: u64, repos: Place) -> Base {
+pub fn base_of(node: &Node, rev: u64, repos: PlainPath) -> Base {
     match node.kind {
         Kind::File => Base::File {
             rev,
@@ -49,17 +49,17 @@ pub fn base_of(node: &Node, rev: u64, repos: Place) -> Base {
 }
 
 /// Everything at a path and beneath goes.
-pub fn remove_within(tree: &mut BaseTree, path: Place) {
+pub fn remove_within(tree: &mut BaseTree, path: PlainPath) {
     tree.retain(|place, _base| !place.is_within(&path));
 }
 
 // Puts a node of a revision at a path.
 fn put_node(
     tree: &mut BaseTree,
-    to: Option<Place>,
+    to: Option<PlainPath>,
     node: &Node,
     rev: u64,
-    repos: Place,
+    repos: PlainPath,
 ) -> Result<()> {
     let to = to.ok_or(Fault("deeper than the model goes"))?;
     tree.insert(to, base_of(node, rev, repos))?;
@@ -71,8 +71,8 @@ fn put_tree(
     tree: &mut BaseTree,
     history: &History,
     rev: u64,
-    repos: Place,
-    path: Place,
+    repos: PlainPath,
+    path: PlainPath,
 ) -> Result<()> {
     let source = history.tree(rev).ok_or(Fault("no such revision"))?;
     for (place, node) in source {
@@ -84,7 +84,7 @@ fn put_tree(
 }
 
 /// Why a copy can't be made of what stands at a path of a revision.
-pub fn checkout_fault(history: &History, rev: u64, path: Place) -> Option<WcFault> {
+pub fn checkout_fault(history: &History, rev: u64, path: PlainPath) -> Option<WcFault> {
     if history.tree(rev).is_none() {
         return Some(WcFault::NoSuchRevision);
     }
@@ -96,7 +96,12 @@ pub fn checkout_fault(history: &History, rev: u64, path: Place) -> Option<WcFaul
 }
 
 /// The copy of what stands at a path of a revision.
-pub fn checked_out(alloc: Global, history: &History, rev: u64, path: Place) -> Result<BaseTree> {
+pub fn checked_out(
+    alloc: Global,
+    history: &History,
+    rev: u64,
+    path: PlainPath,
+) -> Result<BaseTree> {
     let mut tree = BTreeMap::new(alloc);
     put_tree(&mut tree, history, rev, path, ROOT)?;
     Ok(tree)
@@ -104,7 +109,7 @@ pub fn checked_out(alloc: Global, history: &History, rev: u64, path: Place) -> R
 
 /// The repository path that a path has where it isn't switched: that of the directory above with the name behind it. None where
 /// no directory is above.
-pub fn own_repos(tree: &BaseTree, path: Place) -> Option<Place> {
+pub fn own_repos(tree: &BaseTree, path: PlainPath) -> Option<PlainPath> {
     let parent = path.parent()?;
     match tree.get(&parent)? {
         Base::Dir { repos, .. } => repos.join(path.last()?),
@@ -116,8 +121,8 @@ pub fn own_repos(tree: &BaseTree, path: Place) -> Option<Place> {
 pub fn placing_fault(
     tree: &BaseTree,
     history: &History,
-    path: Place,
-    repos: Option<Place>,
+    path: PlainPath,
+    repos: Option<PlainPath>,
     rev: u64,
 ) -> Option<WcFault> {
     if path.is_root() {
@@ -139,8 +144,8 @@ pub fn placing_fault(
 pub fn put_at(
     tree: &mut BaseTree,
     history: &History,
-    path: Place,
-    repos: Option<Place>,
+    path: PlainPath,
+    repos: Option<PlainPath>,
     rev: u64,
 ) -> Result<()> {
     let own = own_repos(tree, path).ok_or(Fault("no directory is above"))?;
@@ -149,7 +154,7 @@ pub fn put_at(
 }
 
 /// Why a path can't be forgotten.
-pub fn forgetting_fault(tree: &BaseTree, path: Place) -> Option<WcFault> {
+pub fn forgetting_fault(tree: &BaseTree, path: PlainPath) -> Option<WcFault> {
     if path.is_root() {
         return Some(WcFault::IsRoot);
     }
@@ -160,7 +165,7 @@ pub fn forgetting_fault(tree: &BaseTree, path: Place) -> Option<WcFault> {
 }
 
 /// What stands at the path counts as not present.
-pub fn forget(tree: &mut BaseTree, path: Place) -> Result<()> {
+pub fn forget(tree: &mut BaseTree, path: PlainPath) -> Result<()> {
     remove_within(tree, path);
     tree.insert(path, Base::NotPresent)?;
     Ok(())

@@ -2,7 +2,7 @@
 
 use crate::fault::{Fault, Result};
 use crate::history::{History, NO_VALUES, Node, Tree};
-use crate::place::Place;
+use crate::plain_path::PlainPath;
 use crate::words::{NO_TEXT, Word};
 use svn_repo::CommitFault;
 use svn_types::Kind;
@@ -11,30 +11,30 @@ use svn_types::Kind;
 #[derive(Clone, Copy)]
 pub enum Edit {
     MakeDir {
-        path: Place,
+        path: PlainPath,
     },
     Put {
-        path: Place,
+        path: PlainPath,
         text: Word,
     },
     Prop {
-        path: Place,
+        path: PlainPath,
         name: usize,
         value: Option<Word>,
     },
     Remove {
-        path: Place,
+        path: PlainPath,
     },
     CopyFrom {
         rev: u64,
-        source: Place,
-        path: Place,
+        source: PlainPath,
+        path: PlainPath,
     },
 }
 
 impl Edit {
     /// The path at which something changes.
-    pub fn path(&self) -> Place {
+    pub fn path(&self) -> PlainPath {
         match *self {
             Edit::MakeDir { path }
             | Edit::Put { path, .. }
@@ -55,7 +55,7 @@ pub struct Draft {
 }
 
 // Why there is no way to a path: what is above it has to be a directory, and with `whole` something has to stand at the path too.
-fn way_fault(tree: &Tree, path: Place, whole: bool) -> Option<CommitFault> {
+fn way_fault(tree: &Tree, path: PlainPath, whole: bool) -> Option<CommitFault> {
     for length in 0..path.depth() {
         match tree.get(&path.prefix(length)) {
             None => return Some(CommitFault::Missing),
@@ -69,7 +69,7 @@ fn way_fault(tree: &Tree, path: Place, whole: bool) -> Option<CommitFault> {
     None
 }
 
-fn source_fault(history: &History, rev: u64, source: Place) -> Option<CommitFault> {
+fn source_fault(history: &History, rev: u64, source: PlainPath) -> Option<CommitFault> {
     match history.tree(rev) {
         None => Some(CommitFault::NoSuchRevision),
         Some(tree) => way_fault(tree, source, true),
@@ -88,7 +88,7 @@ impl Draft {
     }
 
     // Why nothing can be made at a path: it is the root, or there is no way, or what stands there is in the way.
-    fn making_fault(&self, path: Place, makes_file: bool) -> Option<CommitFault> {
+    fn making_fault(&self, path: PlainPath, makes_file: bool) -> Option<CommitFault> {
         if path.is_root() {
             return Some(CommitFault::IsRoot);
         }
@@ -139,7 +139,7 @@ impl Draft {
     }
 
     // Every directory above a changed path is another node revision.
-    fn freshen_above(&mut self, path: Place) {
+    fn freshen_above(&mut self, path: PlainPath) {
         for length in 0..path.depth() {
             let number = self.fresh_number();
             if let Some(node) = self.tree.get_mut(&path.prefix(length)) {
@@ -148,13 +148,13 @@ impl Draft {
         }
     }
 
-    fn make_dir(&mut self, path: Place) -> Result<()> {
+    fn make_dir(&mut self, path: PlainPath) -> Result<()> {
         let node = self.new_node(Kind::Directory, NO_TEXT);
         self.tree.insert(path, node)?;
         Ok(())
     }
 
-    fn put(&mut self, path: Place, text: Word) -> Result<()> {
+    fn put(&mut self, path: PlainPath, text: Word) -> Result<()> {
         let node = match self.tree.get(&path).copied() {
             Some(old) => Node {
                 number: self.fresh_number(),
@@ -167,7 +167,7 @@ impl Draft {
         Ok(())
     }
 
-    fn set_value(&mut self, path: Place, name: usize, value: Option<Word>) {
+    fn set_value(&mut self, path: PlainPath, name: usize, value: Option<Word>) {
         let number = self.fresh_number();
         if let Some(node) = self.tree.get_mut(&path) {
             node.number = number;
@@ -177,18 +177,24 @@ impl Draft {
         }
     }
 
-    fn remove(&mut self, path: Place) {
+    fn remove(&mut self, path: PlainPath) {
         self.tree.retain(|place, _node| !place.is_within(&path));
     }
 
-    fn put_copy(&mut self, to: Option<Place>, node: Node) -> Result<()> {
+    fn put_copy(&mut self, to: Option<PlainPath>, node: Node) -> Result<()> {
         let to = to.ok_or(Fault("deeper than the model goes"))?;
         self.tree.insert(to, node)?;
         Ok(())
     }
 
     // The numbers are those of the source.
-    fn copy_from(&mut self, history: &History, rev: u64, source: Place, path: Place) -> Result<()> {
+    fn copy_from(
+        &mut self,
+        history: &History,
+        rev: u64,
+        source: PlainPath,
+        path: PlainPath,
+    ) -> Result<()> {
         let tree = history.tree(rev).ok_or(Fault("no such revision"))?;
         for (place, node) in tree {
             if place.is_within(&source) {

@@ -4,7 +4,7 @@ use crate::acts::{Act, Deed};
 use crate::base::{Base, BaseTree, own_repos, remove_within};
 use crate::fault::{Fault, Result};
 use crate::history::{NO_VALUES, Values};
-use crate::place::Place;
+use crate::plain_path::PlainPath;
 use crate::words::{NO_TEXT, Word};
 use svn_types::Kind;
 
@@ -12,11 +12,11 @@ use svn_types::Kind;
 #[derive(Clone, Copy)]
 pub struct Edition {
     pub target: u64,
-    pub to: Option<Place>,
+    pub to: Option<PlainPath>,
 }
 
 // The properties after the changes that earlier calls asked for at a path.
-fn changed(old: Values, earlier: &[Act], path: Place) -> Values {
+fn changed(old: Values, earlier: &[Act], path: PlainPath) -> Values {
     let mut values = old;
     for act in earlier {
         if let Deed::Change { name, value } = act.deed {
@@ -31,7 +31,7 @@ fn changed(old: Values, earlier: &[Act], path: Place) -> Values {
 }
 
 // The text that earlier calls gave to a path, if they did.
-fn given(old: Word, earlier: &[Act], path: Place) -> Word {
+fn given(old: Word, earlier: &[Act], path: PlainPath) -> Word {
     let mut text = old;
     for act in earlier {
         if let Deed::Text { text: new, .. } = act.deed {
@@ -44,14 +44,14 @@ fn given(old: Word, earlier: &[Act], path: Place) -> Word {
 }
 
 // A file that is added is present once it is closed.
-fn add_file(tree: &mut BaseTree, path: Place) -> Result<()> {
+fn add_file(tree: &mut BaseTree, path: PlainPath) -> Result<()> {
     tree.insert(path, Base::NotPresent)?;
     Ok(())
 }
 
 impl Edition {
     // The repository path of what is opened: what it had, or in a switch the parent's with the name behind it.
-    fn opened_repos(&self, tree: &BaseTree, path: Place, had: Place) -> Result<Place> {
+    fn opened_repos(&self, tree: &BaseTree, path: PlainPath, had: PlainPath) -> Result<PlainPath> {
         match self.to {
             None => Ok(had),
             Some(to) if path.is_root() => Ok(to),
@@ -59,7 +59,7 @@ impl Edition {
         }
     }
 
-    fn open_directory(&self, tree: &mut BaseTree, path: Place) -> Result<()> {
+    fn open_directory(&self, tree: &mut BaseTree, path: PlainPath) -> Result<()> {
         let Some(
             Base::Dir {
                 repos,
@@ -82,7 +82,7 @@ impl Edition {
         Ok(())
     }
 
-    fn add_directory(&self, tree: &mut BaseTree, path: Place) -> Result<()> {
+    fn add_directory(&self, tree: &mut BaseTree, path: PlainPath) -> Result<()> {
         let repos = own_repos(tree, path).ok_or(Fault("no directory is above what is added"))?;
         let added = Base::Dir {
             rev: self.target,
@@ -94,7 +94,7 @@ impl Edition {
         Ok(())
     }
 
-    fn close_directory(&self, tree: &mut BaseTree, path: Place, earlier: &[Act]) -> Result<()> {
+    fn close_directory(&self, tree: &mut BaseTree, path: PlainPath, earlier: &[Act]) -> Result<()> {
         let Some(
             Base::Dir {
                 rev,
@@ -116,7 +116,7 @@ impl Edition {
         Ok(())
     }
 
-    fn close_file(&self, tree: &mut BaseTree, path: Place, earlier: &[Act]) -> Result<()> {
+    fn close_file(&self, tree: &mut BaseTree, path: PlainPath, earlier: &[Act]) -> Result<()> {
         let own = own_repos(tree, path).ok_or(Fault("no directory is above a file"))?;
         let (repos, old_text, old_values) = match tree.get(&path).copied() {
             Some(
@@ -179,7 +179,7 @@ impl Edition {
     }
 
     // Puts what a node is at the end where it is.
-    fn end(&self, ended: &mut BaseTree, path: Place, base: &Base) -> Result<()> {
+    fn end(&self, ended: &mut BaseTree, path: PlainPath, base: &Base) -> Result<()> {
         let moved = self.moved(path)?;
         if let Some(base) = self.ended(base, moved) {
             ended.insert(path, base)?;
@@ -188,7 +188,7 @@ impl Edition {
     }
 
     // In a switch, the repository path of a path under the new root.
-    fn moved(&self, path: Place) -> Result<Option<Place>> {
+    fn moved(&self, path: PlainPath) -> Result<Option<PlainPath>> {
         let Some(to) = self.to else {
             return Ok(None);
         };
@@ -196,7 +196,7 @@ impl Edition {
         Ok(Some(moved.ok_or(Fault("deeper than the model goes"))?))
     }
 
-    fn ended(&self, base: &Base, moved: Option<Place>) -> Option<Base> {
+    fn ended(&self, base: &Base, moved: Option<PlainPath>) -> Option<Base> {
         let rev = self.target;
         match *base {
             Base::NotPresent => None,

@@ -1,7 +1,7 @@
 //! Repositories, as the model has them: for each revision a flat map from path to node.
 
 use crate::fault::{Fault, Result};
-use crate::place::{Place, ROOT};
+use crate::plain_path::{PlainPath, ROOT};
 use crate::words::{NO_TEXT, Word};
 use std::alloc::Global;
 use std::collections::BTreeMap;
@@ -23,7 +23,7 @@ pub struct Node {
 }
 
 /// What a revision has at each path.
-pub type Tree = BTreeMap<Place, Node>;
+pub type Tree = BTreeMap<PlainPath, Node>;
 
 /// Revisions from 0 on, and the line and the number that no node has yet.
 #[derive(Drop)]
@@ -63,7 +63,7 @@ impl History {
     }
 
     /// What stands at a path in a revision.
-    pub fn look(&self, rev: u64, place: Option<Place>) -> Option<Node> {
+    pub fn look(&self, rev: u64, place: Option<PlainPath>) -> Option<Node> {
         let place = place?;
         self.tree(rev)?.get(&place).copied()
     }

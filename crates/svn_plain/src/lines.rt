@@ -2,7 +2,7 @@
 
 use crate::acts::{Act, Deed};
 use crate::fault::Result;
-use crate::place::Place;
+use crate::plain_path::PlainPath;
 use crate::words::{PROP_NAMES, Word};
 use md5::{Digest, Md5};
 use std::alloc::Global;
@@ -31,7 +31,7 @@ impl fmt::Display for Checksum {
 /// The numbers of what is open, by path.
 #[derive(Drop)]
 pub struct Tokens {
-    by_path: BTreeMap<Place, u64>,
+    by_path: BTreeMap<PlainPath, u64>,
     next: u64,
 }
 
@@ -43,14 +43,14 @@ impl Tokens {
         }
     }
 
-    fn give(&mut self, path: Place) -> Result<u64> {
+    fn give(&mut self, path: PlainPath) -> Result<u64> {
         let token = self.next;
         self.by_path.insert(path, token)?;
         self.next = token.wrapping_add(1);
         Ok(token)
     }
 
-    fn get(&self, path: Place) -> u64 {
+    fn get(&self, path: PlainPath) -> u64 {
         self.by_path.get(&path).copied().unwrap_or(u64::MAX)
     }
 
@@ -62,7 +62,7 @@ impl Tokens {
         }
     }
 
-    fn above(&self, path: Place) -> u64 {
+    fn above(&self, path: PlainPath) -> u64 {
         match path.parent() {
             Some(parent) => self.get(parent),
             None => u64::MAX,
@@ -73,7 +73,7 @@ impl Tokens {
 // A word of a line behind its first.
 #[derive(Clone, Copy)]
 enum Part {
-    Path(Place),
+    Path(PlainPath),
     Rev(u64),
     Token(u64),
     Sum(Checksum),

@@ -3,7 +3,7 @@
 use crate::base::{Base, BaseTree};
 use crate::fault::Result;
 use crate::history::{History, Node};
-use crate::place::{Place, ROOT};
+use crate::plain_path::{PlainPath, ROOT};
 use std::alloc::Global;
 use std::collections::BTreeMap;
 
@@ -15,7 +15,7 @@ pub enum Said {
         start_empty: bool,
     },
     Link {
-        repos: Place,
+        repos: PlainPath,
         rev: u64,
         start_empty: bool,
     },
@@ -25,12 +25,12 @@ pub enum Said {
 /// The repository path of the root, and entries by path.
 #[derive(Drop)]
 pub struct Report {
-    pub root: Place,
-    pub entries: BTreeMap<Place, Said>,
+    pub root: PlainPath,
+    pub entries: BTreeMap<PlainPath, Said>,
 }
 
 // The revision and the repository path of what is present, and whether it is a directory that isn't complete.
-fn present(base: &Base) -> Option<(u64, Place, bool)> {
+fn present(base: &Base) -> Option<(u64, PlainPath, bool)> {
     match base {
         Base::File { rev, repos, .. } => Some((*rev, *repos, false)),
         Base::Dir {
@@ -44,7 +44,7 @@ fn present(base: &Base) -> Option<(u64, Place, bool)> {
 }
 
 // What is said of a path below a directory, if anything is.
-fn said_below(above: &Base, path: Place, base: &Base) -> Option<Said> {
+fn said_below(above: &Base, path: PlainPath, base: &Base) -> Option<Said> {
     let (above_rev, above_repos, is_incomplete) = present(above)?;
     let Some((rev, repos, start_empty)) = present(base) else {
         return if is_incomplete {
@@ -67,7 +67,7 @@ fn said_below(above: &Base, path: Place, base: &Base) -> Option<Said> {
     None
 }
 
-fn said_at(tree: &BaseTree, path: Place, base: &Base) -> Option<Said> {
+fn said_at(tree: &BaseTree, path: PlainPath, base: &Base) -> Option<Said> {
     match path.parent() {
         Some(parent) => said_below(tree.get(&parent)?, path, base),
         None => {
@@ -96,7 +96,7 @@ pub fn crawl(alloc: Global, tree: &BaseTree) -> Result<Report> {
 
 impl Report {
     /// The entry that governs a path: the nearest at it or above, with its own path.
-    pub fn governing(&self, path: Place) -> Option<(Place, Said)> {
+    pub fn governing(&self, path: PlainPath) -> Option<(PlainPath, Said)> {
         let depth = path.depth();
         let mut nearest = None;
         for length in 0..depth.saturating_add(1) {
@@ -109,7 +109,7 @@ impl Report {
     }
 
     /// The repository path of a path: that of a link at it, else that of the parent with the name behind it.
-    pub fn repos(&self, path: Place) -> Option<Place> {
+    pub fn repos(&self, path: PlainPath) -> Option<PlainPath> {
         let mut repos = Some(self.root);
         for length in 1..path.depth().saturating_add(1) {
             let at = path.prefix(length);
@@ -117,7 +117,7 @@ impl Report {
                 Some(Said::Link { repos: own, .. }) => Some(*own),
                 _ => {
                     let name = at.last()?;
-                    repos.and_then(|above: Place| above.join(name))
+                    repos.and_then(|above: PlainPath| above.join(name))
                 }
             };
         }
@@ -125,7 +125,7 @@ impl Report {
     }
 
     /// The revision at which the report has a path.
-    pub fn revision(&self, path: Place) -> u64 {
+    pub fn revision(&self, path: PlainPath) -> u64 {
         match self.governing(path) {
             Some((_, Said::Set { rev, .. })) | Some((_, Said::Link { rev, .. })) => rev,
             _ => 0,
@@ -133,7 +133,7 @@ impl Report {
     }
 
     /// Whether an entry at the path itself says that the directory there has nothing yet.
-    pub fn starts_empty(&self, path: Place) -> bool {
+    pub fn starts_empty(&self, path: PlainPath) -> bool {
         match self.entries.get(&path) {
             Some(Said::Set { start_empty, .. }) => *start_empty,
             Some(Said::Link { start_empty, .. }) => *start_empty,
@@ -142,7 +142,7 @@ impl Report {
     }
 
     /// Whether an entry stands strictly beneath a path.
-    pub fn has_entry_below(&self, path: Place) -> bool {
+    pub fn has_entry_below(&self, path: PlainPath) -> bool {
         for place in self.entries.keys() {
             if place.is_within(&path) && *place != path {
                 return true;
@@ -152,7 +152,7 @@ impl Report {
     }
 
     /// The node that the client has at a path.
-    pub fn source(&self, history: &History, path: Place) -> Option<Node> {
+    pub fn source(&self, history: &History, path: PlainPath) -> Option<Node> {
         let (at, said) = self.governing(path)?;
         match said {
             Said::Delete => None,

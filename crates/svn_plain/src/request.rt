@@ -3,7 +3,7 @@
 use crate::base::{Base, BaseTree, base_of};
 use crate::fault::Result;
 use crate::history::{History, Node};
-use crate::place::{Place, ROOT};
+use crate::plain_path::{PlainPath, ROOT};
 use crate::report::Report;
 use std::alloc::Global;
 use std::collections::{BTreeMap, BTreeSet};
@@ -15,27 +15,27 @@ pub struct Request<'a> {
     pub history: &'a History,
     pub report: &'a Report,
     pub target: u64,
-    pub to: Option<Place>,
+    pub to: Option<PlainPath>,
 }
 
 // Whether a path goes on as what it is, and the place that it has in the target.
 #[derive(Clone, Copy)]
 struct Way {
     is_kept: bool,
-    place: Option<Place>,
+    place: Option<PlainPath>,
 }
 
 /// What is known of one path.
 #[derive(Clone, Copy)]
 pub struct Facts {
-    pub path: Place,
+    pub path: PlainPath,
     pub base: u64,
     pub starts_empty: bool,
     pub has_entry_below: bool,
     pub source: Option<Node>,
     pub is_kept: bool,
     pub is_parent_kept: bool,
-    pub leads_to: Option<Place>,
+    pub leads_to: Option<PlainPath>,
     pub target: Option<Node>,
 }
 
@@ -59,18 +59,18 @@ fn are_related(source: Option<Node>, target: Option<Node>) -> bool {
 
 impl Request<'_> {
     // The place that a path has in the target as long as it is kept.
-    fn candidate(&self, path: Place) -> Option<Place> {
+    fn candidate(&self, path: PlainPath) -> Option<PlainPath> {
         match self.to {
             Some(to) => to.with(path.names()),
             None => self.report.repos(path),
         }
     }
 
-    fn target_node(&self, place: Option<Place>) -> Option<Node> {
+    fn target_node(&self, place: Option<PlainPath>) -> Option<Node> {
         self.history.look(self.target, place)
     }
 
-    fn way_below(&self, above: Way, path: Place) -> Way {
+    fn way_below(&self, above: Way, path: PlainPath) -> Way {
         let candidate = self.candidate(path);
         let source = self.report.source(self.history, path);
         if above.is_kept && are_related(source, self.target_node(candidate)) {
@@ -89,7 +89,7 @@ impl Request<'_> {
         }
     }
 
-    fn way(&self, path: Place) -> Way {
+    fn way(&self, path: PlainPath) -> Way {
         let mut way = Way {
             is_kept: true,
             place: self.candidate(ROOT),
@@ -100,7 +100,7 @@ impl Request<'_> {
         way
     }
 
-    fn facts(&self, path: Place) -> Facts {
+    fn facts(&self, path: PlainPath) -> Facts {
         let way = self.way(path);
         let is_parent_kept = match path.parent() {
             Some(parent) => self.way(parent).is_kept,
@@ -120,7 +120,7 @@ impl Request<'_> {
     }
 
     // What the target has below the place to which an entry's path leads.
-    fn add_targets(&self, paths: &mut BTreeSet<Place>, entry: Place) -> Result<()> {
+    fn add_targets(&self, paths: &mut BTreeSet<PlainPath>, entry: PlainPath) -> Result<()> {
         let Some(tree) = self.history.tree(self.target) else {
             return Ok(());
         };
@@ -194,7 +194,7 @@ impl Facts {
 }
 
 /// What the copy has at the end, of the facts alone.
-pub fn result(alloc: Global, all: &[Facts], target: u64) -> Result<BTreeMap<Place, Base>> {
+pub fn result(alloc: Global, all: &[Facts], target: u64) -> Result<BTreeMap<PlainPath, Base>> {
     let mut tree = BTreeMap::new(alloc);
     for facts in all {
         if let (Some(node), Some(repos)) = (&facts.target, facts.leads_to) {

@@ -2,16 +2,16 @@
 
 use crate::base::{Base, BaseTree};
 use crate::history::History;
-use crate::place::Place;
+use crate::plain_path::PlainPath;
 use svn_types::Kind;
 
 // Whether each name of a directory in the repository has an entry in the copy.
 fn has_all_entries(
     history: &History,
     tree: &BaseTree,
-    path: Place,
+    path: PlainPath,
     rev: u64,
-    repos: Place,
+    repos: PlainPath,
 ) -> bool {
     let Some(source) = history.tree(rev) else {
         return false;
@@ -28,7 +28,7 @@ fn has_all_entries(
     true
 }
 
-fn is_true_at(history: &History, tree: &BaseTree, path: Place, base: &Base) -> bool {
+fn is_true_at(history: &History, tree: &BaseTree, path: PlainPath, base: &Base) -> bool {
     match base {
         Base::NotPresent => true,
         Base::File {
@@ -59,7 +59,7 @@ fn is_true_at(history: &History, tree: &BaseTree, path: Place, base: &Base) -> b
 }
 
 /// The first path, in path order, at which the copy isn't true.
-pub fn first_untrue(history: &History, tree: &BaseTree) -> Option<Place> {
+pub fn first_untrue(history: &History, tree: &BaseTree) -> Option<PlainPath> {
     for (path, base) in tree {
         if !is_true_at(history, tree, *path, base) {
             return Some(*path);

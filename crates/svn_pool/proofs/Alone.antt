@@ -5,28 +5,24 @@ use Rattle.std.proofs.Common.{inr, arith}
 use Rattle.std.proofs.lemmas.Bool.{cases_eq, cond-true, cond-false, eq-eqb, ne_eqb}
 use Rattle.std.proofs.lemmas.Map.Keys.{IsDistinct-cons}
 use Rattle.std.proofs.lemmas.Option.{none-some}
+use Rattle.svn_lists.proofs.Options.{not_some_from_none}
+use Rattle.svn_lists.proofs.Sorted.{distinct_nil}
 use Rattle.svn_serials.specs.Serials.{get}
-use Rattle.std.specs.List.{IsDistinct}
 use Rattle.std.specs.Option.{IsSomeAnd}
 use Rattle.svn_pool.specs.Linked.{Changes, IsAlone, IsLinked, IsTree, IsUnique, LinkedMap, bare, blocks_held, first_of, fixed_held}
 use Rattle.svn_pool.specs.Linked.{live_at, next_of}
 use Rattle.svn_pool.specs.Linked.{parent_in, place_in, place_of, standing}
 use Rattle.svn_pool.specs.Pools.{Entry, parent_of}
 use Rattle.svn_pool.specs.declared.links.Linked.{Linked}
-use Rattle.svn_pool.specs.declared.links.Place.{Place}
-use Rattle.svn_pool.specs.declared.links.Place.TheVariants.{First, Next}
+use Rattle.svn_pool.specs.declared.links.Anchor.{Anchor}
+use Rattle.svn_pool.specs.declared.links.Anchor.TheVariants.{First, Next}
 use Rattle.svn_pool.proofs.Bare.{is_some-bare, live-bare, pool_in}
-use Rattle.svn_pool.proofs.Kinship.{none_is_gone}
 
 abbrev pub lone : Entry
 lone = record { parent = None; strings = [] }
 
 abbrev pub rootlet : Linked Entry
 rootlet = record { pool = lone; first = None; next = None; before = None }
-
-distinct_nil : IsDistinct nat_eq []
-unfolding IsDistinct
-distinct_nil = tt
 
 module _ (new : LinkedMap) (first : ℕ) (is : new ≡ (first, rootlet) ∷ []) where
   pub is_alone : IsAlone new first
@@ -59,14 +55,14 @@ module _ (new : LinkedMap) (first : ℕ) (alone : IsAlone new first) where
     | inr apart ↦ (ap first_of (alone.others c apart), ap next_of (alone.others c apart), ap place_in (alone.others c apart))
   ]
 
-  none_stands : (x : Place) → standing new x ≡ None
+  none_stands : (x : Anchor) → standing new x ≡ None
   none_stands (First p) = (no_links p).0
   none_stands (Next q) = (no_links q).1
 
   live_is_first : (c : ℕ) → IsSome (live_at (bare new) c) → c ≡ first
   live_is_first c live = elim (cases_eq c first) [
     | inl is ↦ is
-    | inr apart ↦ absurd (none_is_gone (live_at (bare new) c) (gone_elsewhere c apart) live)
+    | inr apart ↦ absurd (not_some_from_none (live_at (bare new) c) (gone_elsewhere c apart) live)
   ]
 
   no_parent : (c p : ℕ) → parent_in new c ≡ Some p → ⊥

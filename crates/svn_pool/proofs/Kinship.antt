@@ -1,9 +1,10 @@
 -- The links stay those of the pools, as a pool is put in, written or taken out.
-use Rattle.std.proofs.Common.{nat_eq, ◌≡◌, ◌≢◌, ◌⊎◌, ℕ, ◌<◌, true, false, List, [], map, Option, None, Some, IsSome, is_some, refl, sym}
+use Rattle.std.proofs.Common.{nat_eq, ◌≡◌, ◌≢◌, ◌⊎◌, ℕ, ◌<◌, List, [], map, Option, None, Some, IsSome, is_some, refl, sym}
 use Rattle.std.proofs.Common.{ap, subst, ◌∙◌, inl, inr, arith}
 use Rattle.std.proofs.Math.Path.{transport}
 use Rattle.std.proofs.lemmas.Bool.{cases_eq}
 use Rattle.std.proofs.lemmas.Option.{none-some, same_Some}
+use Rattle.svn_lists.proofs.Options.{none_from_test, none_from_not_some, not_some_from_none}
 use Rattle.svn_serials.specs.Serials.{IsRising, get}
 use Rattle.svn_serials.proofs.Pairs.{Updates}
 use Rattle.std.specs.Map.{lookup}
@@ -12,8 +13,8 @@ use Rattle.svn_pool.specs.Linked.{bare_entry, first_of, holder, live_at, next_of
 use Rattle.svn_pool.specs.Linked.{parent_in, place_by, place_in, place_of, standing}
 use Rattle.svn_pool.specs.Pools.{Entry, parent_of}
 use Rattle.svn_pool.specs.declared.links.Linked.{Linked}
-use Rattle.svn_pool.specs.declared.links.Place.{Place}
-use Rattle.svn_pool.specs.declared.links.Place.TheVariants.{First, Next}
+use Rattle.svn_pool.specs.declared.links.Anchor.{Anchor}
+use Rattle.svn_pool.specs.declared.links.Anchor.TheVariants.{First, Next}
 use Rattle.svn_pool.proofs.Bare.{changes-bare, holding, is_some-bare, live-bare, pool_in, unique-bare}
 use Rattle.svn_pool.proofs.Siblings.{first_or_next, inverse_with, inverse_without, kin_with, kin_without, same_place}
 
@@ -22,23 +23,8 @@ pub live_child : (o : Option Entry) (p : ℕ) → parent_of o ≡ Some p → IsS
 live_child None p e = absurd (let no : ⊥ = cc in no)
 live_child (Some x) p e = refl
 
-pub gone_is_none : {X : Type 0} (o : Option X) → (IsSome o → ⊥) → o ≡ None
-gone_is_none None h = refl
-gone_is_none (Some e) h = absurd (h refl)
-
-pub gone_from_test : {X : Type 0} (o : Option X) → is_some o ≡ false → o ≡ None
-gone_from_test None h = refl
-gone_from_test (Some e) h = let no : ⊥ = cc in absurd no
-
-pub none_is_gone : {X : Type 0} (o : Option X) → o ≡ None → IsSome o → ⊥
-none_is_gone o e live = let no : false ≡ true = sym (ap is_some e) ∙ live in let none : ⊥ = cc in none
-
-pub some_value : (o : Option ℕ) → IsSome o → (p : ℕ) × (o ≡ Some p)
-some_value None h = absurd (let no : ⊥ = cc in no)
-some_value (Some p) h = (p, refl)
-
 -- what has a place is live, and so is what holds one
-placed_live : (o : Option (Linked Entry)) (x : Place) → place_in o ≡ Some x → IsSome o
+placed_live : (o : Option (Linked Entry)) (x : Anchor) → place_in o ≡ Some x → IsSome o
 placed_live None x e = absurd (none-some x e)
 placed_live (Some l) x e = refl
 
@@ -50,32 +36,32 @@ next_live : (o : Option (Linked Entry)) (c : ℕ) → next_of o ≡ Some c → I
 next_live None c e = absurd (none-some c e)
 next_live (Some l) c e = refl
 
-holder_live : (m : LinkedMap) (x : Place) (c : ℕ) → standing m x ≡ Some c → IsSome (get m (holder x))
+holder_live : (m : LinkedMap) (x : Anchor) (c : ℕ) → standing m x ≡ Some c → IsSome (get m (holder x))
 holder_live m (First p) c e = first_live (get m p) c e
 holder_live m (Next q) c e = next_live (get m q) c e
 
 -- what stands at a place depends on its holder alone
-same_holder : (m n : LinkedMap) (x : Place) → get n (holder x) ≡ get m (holder x) → standing n x ≡ standing m x
+same_holder : (m n : LinkedMap) (x : Anchor) → get n (holder x) ≡ get m (holder x) → standing n x ≡ standing m x
 same_holder m n (First p) e = ap first_of e
 same_holder m n (Next q) e = ap next_of e
 
-unheld : (m : LinkedMap) (x : Place) → get m (holder x) ≡ None → standing m x ≡ None
+unheld : (m : LinkedMap) (x : Anchor) → get m (holder x) ≡ None → standing m x ≡ None
 unheld m (First p) e = ap first_of e
 unheld m (Next q) e = ap next_of e
 
 -- a place of the pool s is one of two
-held_by : (x : Place) (s : ℕ) → holder x ≡ s → (x ≡ First s) ⊎ (x ≡ Next s)
+held_by : (x : Anchor) (s : ℕ) → holder x ≡ s → (x ≡ First s) ⊎ (x ≡ Next s)
 held_by (First p) s e = inl (ap First e)
 held_by (Next q) s e = inr (ap Next e)
 
-inverse_same : (at at' : Place → Option ℕ) (place place' : ℕ → Option Place) → IsInverse at place → ((x : Place) → at' x ≡ at x)
+inverse_same : (at at' : Anchor → Option ℕ) (place place' : ℕ → Option Anchor) → IsInverse at place → ((x : Anchor) → at' x ≡ at x)
     → ((c : ℕ) → place' c ≡ place c) → IsInverse at' place'
 inverse_same at at' place place' inverse same moved = record {
   there = λ x c e. moved c ∙ inverse.there x c (sym (same x) ∙ e);
   back = λ x c e. same x ∙ inverse.back x c (sym (moved c) ∙ e);
 }
 
-kin_same : (parent parent' : ℕ → Option ℕ) (place place' : ℕ → Option Place) → IsKin parent place → ((c : ℕ) → parent' c ≡ parent c)
+kin_same : (parent parent' : ℕ → Option ℕ) (place place' : ℕ → Option Anchor) → IsKin parent place → ((c : ℕ) → parent' c ≡ parent c)
     → ((c : ℕ) → place' c ≡ place c) → IsKin parent' place'
 kin_same parent parent' place place' kin same moved = record {
   placed = λ c p e. ap is_some (moved c) ∙ kin.placed c p (sym (same c) ∙ e);
@@ -84,7 +70,7 @@ kin_same parent parent' place place' kin same moved = record {
 }
 
 -- the same links, and pools that are live and have the same parents as before
-pub linked-same : (m n : LinkedMap) → IsLinked m → ((x : Place) → standing n x ≡ standing m x) → ((c : ℕ) → place_of n c ≡ place_of m c)
+pub linked-same : (m n : LinkedMap) → IsLinked m → ((x : Anchor) → standing n x ≡ standing m x) → ((c : ℕ) → place_of n c ≡ place_of m c)
     → ((c : ℕ) → parent_in n c ≡ parent_in m c) → ((c : ℕ) → is_some (live_at (bare n) c) ≡ is_some (live_at (bare m) c))
     → IsUnique (bare n) → IsLinked n
 linked-same m n linked same moved parents live unique = record {
@@ -141,22 +127,22 @@ linked-written m n linked s l w found parent put unique =
     (unique-bare n unique)
   where
     by : ((c : ℕ) → first_of (get n c) ≡ first_of (get m c)) → ((c : ℕ) → next_of (get n c) ≡ next_of (get m c))
-        → (x : Place) → standing n x ≡ standing m x
+        → (x : Anchor) → standing n x ≡ standing m x
     by firsts nexts (First p) = firsts p
     by firsts nexts (Next q) = nexts q
 
 -- the pool z stands at x, by the link of its holder
-pub record IsStood (m n : LinkedMap) (x : Place) (z : Option ℕ) : Type 0 where
+pub record IsStood (m n : LinkedMap) (x : Anchor) (z : Option ℕ) : Type 0 where
   pub here : IsSome (get m (holder x)) → standing n x ≡ z
-  pub others : (y : Place) → y ≢ x → standing n y ≡ standing m y
+  pub others : (y : Anchor) → y ≢ x → standing n y ≡ standing m y
   pub places : (c : ℕ) → place_of n c ≡ place_of m c
   pub pools : bare n ≡ bare m
 
 -- and by its own
-pub record IsMoved (m n : LinkedMap) (z : Option ℕ) (x : Place) : Type 0 where
+pub record IsMoved (m n : LinkedMap) (z : Option ℕ) (x : Anchor) : Type 0 where
   pub moved : (c : ℕ) → z ≡ Some c → IsSome (get m c) → ((p : ℕ) → x ≡ First p → parent_in m c ≡ Some p) → place_of n c ≡ Some x
   pub others : (c : ℕ) → z ≢ Some c → place_of n c ≡ place_of m c
-  pub standing : (y : Place) → standing n y ≡ standing m y
+  pub standing : (y : Anchor) → standing n y ≡ standing m y
   pub pools : bare n ≡ bare m
 
 -- which pools are live is seen without the links
@@ -175,7 +161,7 @@ pub record IsLed (m n : LinkedMap) (p : ℕ) (z : Option ℕ) : Type 0 where
   pub pools : bare n ≡ bare m
 
 module _ (m n : LinkedMap) (p : ℕ) (z : Option ℕ) (led : IsLed m n p z) where
-  led_others : (y : Place) → y ≢ First p → standing n y ≡ standing m y
+  led_others : (y : Anchor) → y ≢ First p → standing n y ≡ standing m y
   led_others (First q) apart = ap first_of (led.others q (λ is. apart (ap First is)))
   led_others (Next q) apart = elim (cases_eq q p) [
     | inl is ↦ ap (λ (k : ℕ). next_of (get n k)) is ∙ led.next ∙ ap (λ (k : ℕ). next_of (get m k)) (sym is)
@@ -204,7 +190,7 @@ module _ (m n : LinkedMap) (p : ℕ) (z : Option ℕ) (led : IsLed m n p z) wher
     where
       here : (o : Option (Linked Entry)) → get m p ≡ o → first_of (get n p) ≡ first_of (get m p)
       here None none =
-          ap first_of (gone_from_test (get n p) (live_same m n led.pools p ∙ ap is_some none)) ∙ sym (ap first_of none)
+          ap first_of (none_from_test (get n p) (live_same m n led.pools p ∙ ap is_some none)) ∙ sym (ap first_of none)
       here (Some l) found = let live = ap is_some found in led.first live ∙ sym (same live)
 
 -- the first child is set again, in a map with the same entries
@@ -225,7 +211,7 @@ next_beside m linked s c e =
     let its = linked.kin.next c s (linked.inverse.there (Next s) c e) in
     inr (λ is. let lt = its.2 in omega (arith, is, lt), subst IsSome (sym its.1) its.0, sym its.1)
 
-pub holder_beside : (m : LinkedMap) → IsLinked m → (s : ℕ) (x : Place) → place_of m s ≡ Some x → IsBeside (bare m) s (holder x)
+pub holder_beside : (m : LinkedMap) → IsLinked m → (s : ℕ) (x : Anchor) → place_of m s ≡ Some x → IsBeside (bare m) s (holder x)
 holder_beside m linked s (First p) e = inl (linked.kin.first s p e)
 holder_beside m linked s (Next q) e =
     let its = linked.kin.next s q e in
@@ -259,7 +245,7 @@ module _ (old mid : LinkedMap) (linked : IsLinked old) (s : ℕ) (leaf : IsLeaf 
       omega (arith, lt)
 
   -- its own links but for the next aside, all stand where they did
-  same_standing : (y : Place) → y ≢ Next s → standing mid y ≡ standing old y
+  same_standing : (y : Anchor) → y ≢ Next s → standing mid y ≡ standing old y
   same_standing y apart = elim (cases_eq (holder y) s) [
     | inl is ↦ elim (held_by y s is) [
       | inl first ↦ unheld mid y (ap (get mid) is ∙ at_s) ∙ sym (ap (standing old) first ∙ no_first)
@@ -275,7 +261,7 @@ module _ (old mid : LinkedMap) (linked : IsLinked old) (s : ℕ) (leaf : IsLeaf 
       let left : (c : ℕ) → c ≢ s → live_at (bare new) c ≡ live_at (bare old) c =
       λ c apart. ap (λ (ps : LivePools). live_at ps c) same ∙ change.1 c apart in
       let not_s : (c : ℕ) → IsSome (live_at (bare new) c) → c ≢ s =
-      λ c h is. none_is_gone (live_at (bare new) c) (ap (live_at (bare new)) is ∙ here) h in
+      λ c h is. not_some_from_none (live_at (bare new) c) (ap (live_at (bare new)) is ∙ here) h in
       record {
         inverse = inverse;
         kin = kin;
@@ -294,9 +280,9 @@ module _ (old mid : LinkedMap) (linked : IsLinked old) (s : ℕ) (leaf : IsLeaf 
   linked-unplaced none =
       let place : place_of old s ≡ None = ap place_in found ∙ none in
       let parent : parent_in old s ≡ None =
-      gone_is_none (parent_in old s) (λ h. by (parent_in old s) refl h place) in
+      none_from_not_some (parent_in old s) (λ h. by (parent_in old s) refl h place) in
       let next : standing old (Next s) ≡ None = no_next place parent (standing old (Next s)) refl in
-      let standings : (y : Place) → standing mid y ≡ standing old y = λ y. elim (cases_eq (holder y) s) [
+      let standings : (y : Anchor) → standing mid y ≡ standing old y = λ y. elim (cases_eq (holder y) s) [
         | inl is ↦ elim (held_by y s is) [
           | inl first ↦ unheld mid y (ap (get mid) is ∙ at_s) ∙ sym (ap (standing old) first ∙ no_first)
           | inr at ↦ unheld mid y (ap (get mid) is ∙ at_s) ∙ sym (ap (standing old) at ∙ next)
@@ -316,16 +302,16 @@ module _ (old mid : LinkedMap) (linked : IsLinked old) (s : ℕ) (leaf : IsLeaf 
     where
       by : (o : Option ℕ) → parent_in old s ≡ o → IsSome o → place_of old s ≡ None → ⊥
       by None is live none = let clash : ⊥ = cc in clash
-      by (Some p) is live none = none_is_gone (place_of old s) none (linked.kin.placed s p is)
+      by (Some p) is live none = not_some_from_none (place_of old s) none (linked.kin.placed s p is)
 
       no_next : place_of old s ≡ None → parent_in old s ≡ None → (o : Option ℕ) → standing old (Next s) ≡ o → o ≡ None
       no_next place parent None e = refl
       no_next place parent (Some c) e =
           let its = linked.kin.next c s (linked.inverse.there (Next s) c e) in
-          absurd (none_is_gone (parent_in old c) (sym its.1 ∙ parent) its.0)
+          absurd (not_some_from_none (parent_in old c) (sym its.1 ∙ parent) its.0)
 
   -- it stood at x
-  module _ (x : Place) (at : place_by l.pool.parent l.before ≡ Some x) where
+  module _ (x : Anchor) (at : place_by l.pool.parent l.before ≡ Some x) where
     s_at : place_of old s ≡ Some x
     s_at = ap place_in found ∙ at
 
@@ -370,7 +356,7 @@ module _ (old mid : LinkedMap) (linked : IsLinked old) (s : ℕ) (leaf : IsLeaf 
       free : standing new (Next s) ≡ None
       free = moved.standing (Next s) ∙ put.others (Next s) apart ∙ ap next_of at_s
 
-      standing_away : (y : Place) → y ≢ x → y ≢ Next s → standing new y ≡ standing old y
+      standing_away : (y : Anchor) → y ≢ x → y ≢ Next s → standing new y ≡ standing old y
       standing_away y not_x not_n = moved.standing y ∙ put.others y not_x ∙ same_standing y not_n
 
       pub linked-remove : IsLinked new
@@ -413,16 +399,16 @@ module _ (old led mid : LinkedMap) (linked : IsLinked old) (s p : ℕ) (l : Link
   live_old c h = fresh c (is_some-bare old c ∙ h)
 
   no_s : get old s ≡ None
-  no_s = gone_is_none (get old s) (λ h. let lt = live_old s h in omega (arith, lt))
+  no_s = none_from_not_some (get old s) (λ h. let lt = live_old s h in omega (arith, lt))
 
   no_s_led : get led s ≡ None
-  no_s_led = gone_from_test (get led s) (live_same old led put.pools s ∙ ap is_some no_s)
+  no_s_led = none_from_test (get led s) (live_same old led put.pools s ∙ ap is_some no_s)
 
   added : Changes (bare old) (bare new) s (Some lone)
   added =
       transport (λ i. Changes (put.pools i) (sym moved.pools i) s (Some (child i).pool)) (changes-bare led mid s (Some l) put_in)
 
-  same_before : (y : Place) → y ≢ Next s → standing mid y ≡ standing led y
+  same_before : (y : Anchor) → y ≢ Next s → standing mid y ≡ standing led y
   same_before y apart = elim (cases_eq (holder y) s) [
     | inl is ↦ elim (held_by y s is) [
       | inl first ↦
@@ -455,7 +441,7 @@ module _ (old led mid : LinkedMap) (linked : IsLinked old) (s p : ℕ) (l : Link
       moved.moved c is (ap is_some (away_s c other) ∙ live_after old led put.pools c was)
       (λ q first. absurd (first_or_next q s (sym first)))
 
-  others_stand : (y : Place) → y ≢ First p → y ≢ Next s → standing new y ≡ standing old y
+  others_stand : (y : Anchor) → y ≢ First p → y ≢ Next s → standing new y ≡ standing old y
   others_stand y not_x not_n = moved.standing y ∙ same_before y not_n ∙ put.others y not_x
 
   others_placed : (c : ℕ) → c ≢ s → z ≢ Some c → place_of new c ≡ place_of old c

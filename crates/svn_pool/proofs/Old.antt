@@ -3,10 +3,10 @@ use Rattle.std.proofs.Common.{◌≡◌, ◌≢◌, ℕ, zero, suc, ◌<◌, [],
 use Rattle.std.proofs.lemmas.Bool.{cases_eq}
 use Rattle.std.proofs.lemmas.Cmp.{nat_cmp_total}
 use Rattle.std.specs.FinMap as fin
+use Rattle.svn_lists.proofs.Options.{not_some_from_none}
 use Rattle.svn_pool.specs.Ancestry.{IsAbove, IsBeneath, IsOld}
 use Rattle.svn_pool.specs.Laws.{LeafGoesAlone, OldIsGone, OldStaysOld}
 use Rattle.svn_pool.specs.Pools.{Pools, pool_at, parent_of, strings_of_pool}
-use Rattle.svn_pool.proofs.Kinship.{none_is_gone}
 use Rattle.svn_pool.proofs.Outcomes.{fault_if_gone, parentless}
 use Rattle.svn_pool.proofs.Views.{inserted_away, removed_here, removed_away}
 
@@ -24,7 +24,7 @@ module _ (t : Pools) (s : ℕ) (old : IsOld t s) where
   none = old.1
 
   not_live : (r : ℕ) → IsSome (pool_at t r) → s ≢ r
-  not_live r live is = none_is_gone (pool_at t r) (ap (pool_at t) (sym is) ∙ none) live
+  not_live r live is = not_some_from_none (pool_at t r) (ap (pool_at t) (sym is) ∙ none) live
 
   not_beneath : (r : ℕ) → IsBeneath (pool_at t) r s → ⊥
   not_beneath r b = parentless (pool_at t) r b.0 s (ap parent_of none) b.1

@@ -4,6 +4,7 @@ use Rattle.std.proofs.Common.{IsSome, is_some, refl, sym, ap, subst, ◌∙◌, 
 use Rattle.std.proofs.lemmas.Bool.{cases_eq, le-leb, eq-eqb, ne_eqb}
 use Rattle.std.proofs.lemmas.Bool.Decides.{leb_tells}
 use Rattle.std.specs.Option.{IsSomeAnd}
+use Rattle.svn_lists.proofs.Options.{none_from_not_some, not_some_from_none, some_value}
 use Rattle.svn_pool.specs.Ancestry.{IsAbove, IsBeneath, IsCleared, IsDestroyed, KeepsRest}
 use Rattle.svn_pool.specs.Linked.{Changes, IsAlone, IsLinked, IsPruned, IsTree, LinkedMap, LivePools, bare, blocks_held}
 use Rattle.svn_pool.specs.Linked.{fixed_held, live_at, parent_in}
@@ -14,7 +15,6 @@ use Rattle.svn_pool.specs.declared.fault.PoolFault.TheVariants.{Gone, IsRoot, Fu
 use Rattle.svn_pool.specs.Views.{seen}
 use Rattle.svn_pool.proofs.Alone.{gone_elsewhere}
 use Rattle.svn_pool.proofs.Bare.{live-bare, pool_in}
-use Rattle.svn_pool.proofs.Kinship.{gone_is_none, none_is_gone, some_value}
 use Rattle.svn_pool.proofs.Views.{fixed_are, get-contents, pool_is, sum-contents}
 
 pub fault_if_gone : (o : Option Entry) (f : Entry → Option PoolFault) → o ≡ None → fault_if_live o f ≡ Some Gone
@@ -127,7 +127,7 @@ module _ {root last used spare : ℕ} {pools end : LinkedMap} {old : Pools} (tre
       beneath = λ q b. at_new q ∙ gone_elsewhere end s alone q
           (λ is. not_beneath_itself pools tree.linked s
           (subst (IsBeneath (live_at (bare pools)) s) is (beneath_same (pool_at old) (live_at (bare pools)) parents_old s q b)));
-      rest = rest_kept (λ q apart not. gone_elsewhere end s alone q apart ∙ sym (gone_is_none (live_at (bare pools) q)
+      rest = rest_kept (λ q apart not. gone_elsewhere end s alone q apart ∙ sym (none_from_not_some (live_at (bare pools) q)
           (λ live. not (beneath_same (live_at (bare pools)) (pool_at old) (λ k. sym (parents_old k)) s q
           (all_beneath (suc q) q (omega arith) live apart)))));
     }
@@ -177,9 +177,9 @@ module _ {root last used after : ℕ} {pools end : LinkedMap} (tree : IsTree poo
         (λ (b : Bool). is_some (live_at (bare pools) q) ≡ b → is_some (live_at (bare pools) q) ≡ true) [
           | true ↦ λ is. is
           | false ↦
-              λ is. absurd (none_is_gone (live_at (bare end) q)
+              λ is. absurd (not_some_from_none (live_at (bare end) q)
               (pruned.fewer q
-              (gone_is_none (live_at (bare pools) q) (λ live. let clash : false ≡ true = sym is ∙ live in let no : ⊥ = cc in no)))
+              (none_from_not_some (live_at (bare pools) q) (λ live. let clash : false ≡ true = sym is ∙ live in let no : ⊥ = cc in no)))
               h)
         ] refl
 
@@ -191,7 +191,7 @@ module _ {root last used after : ℕ} {pools end : LinkedMap} (tree : IsTree poo
           (λ b. parentless (live_at (bare pools)) s b.0 root (lone_root (live_at (bare pools) root) tree.rooted) b.1))) tree.rooted;
       others = λ q h apart.
           let kept : live_at (bare end) q ≡ live_at (bare pools) q =
-          pruned.others q (λ b. none_is_gone (live_at (bare end) q) (pruned.beneath q b) h) in
+          pruned.others q (λ b. not_some_from_none (live_at (bare end) q) (pruned.beneath q b) h) in
           ap (λ (o : Option Entry). is_some (parent_of o)) kept ∙ tree.others q (still_live q h) apart;
       below = λ q h. tree.below q (still_live q h);
       counted = counted;
@@ -229,12 +229,12 @@ module _ {root last used after : ℕ} {pools end : LinkedMap} (tree : IsTree poo
     linked = linked;
     rooted = subst IsRooted (sym (gone.1 root (λ e. apart (sym e)))) tree.rooted;
     others = λ q h not_root. elim (cases_eq q s) [
-      | inl is ↦ absurd (none_is_gone (live_at (bare end) q) (ap (live_at (bare end)) is ∙ gone.0) h)
+      | inl is ↦ absurd (not_some_from_none (live_at (bare end) q) (ap (live_at (bare end)) is ∙ gone.0) h)
       | inr other ↦
           ap (λ (o : Option Entry). is_some (parent_of o)) (gone.1 q other) ∙ tree.others q (subst IsSome (gone.1 q other) h) not_root
     ];
     below = λ q h. elim (cases_eq q s) [
-      | inl is ↦ absurd (none_is_gone (live_at (bare end) q) (ap (live_at (bare end)) is ∙ gone.0) h)
+      | inl is ↦ absurd (not_some_from_none (live_at (bare end) q) (ap (live_at (bare end)) is ∙ gone.0) h)
       | inr other ↦ tree.below q (subst IsSome (gone.1 q other) h)
     ];
     counted = counted;

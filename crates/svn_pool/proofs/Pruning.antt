@@ -3,15 +3,16 @@ use Rattle.std.proofs.Common.{◌≡◌, ◌≢◌, ◌⊎◌, ℕ, zero, suc, �
 use Rattle.std.proofs.Common.{inl, inr, arith}
 use Rattle.std.proofs.lemmas.Bool.{cases_eq}
 use Rattle.std.proofs.lemmas.Option.{same_Some}
+use Rattle.svn_lists.proofs.Options.{not_some_from_none, some_value}
 use Rattle.svn_serials.specs.Serials.{get}
 use Rattle.svn_pool.specs.Ancestry.{IsAbove, IsBeneath}
 use Rattle.svn_pool.specs.Linked.{Changes, IsBeside, IsLinked, IsLeaf, IsPruned, LinkedMap, LivePools, bare, blocks_held}
 use Rattle.svn_pool.specs.Linked.{first_of, fixed_held, live_at, parent_in, place_of, standing}
 use Rattle.svn_pool.specs.Pools.{parent_of}
 use Rattle.svn_pool.specs.Stores.{Store}
-use Rattle.svn_pool.proofs.Kinship.{live_child, none_is_gone, some_value}
+use Rattle.svn_pool.proofs.Kinship.{live_child}
 use Rattle.svn_pool.proofs.Siblings.{no_child}
-use Rattle.svn_pool.specs.declared.links.Place.TheVariants.{First}
+use Rattle.svn_pool.specs.declared.links.Anchor.TheVariants.{First}
 
 -- at is live, and top or beneath it; what is gone by now was beneath top
 pub record IsOnWay (old now : LivePools) (top at : ℕ) : Type 0 where
@@ -59,7 +60,7 @@ module _ (old : LivePools) (top : ℕ) where
         let beneath : IsBeneath (live_at old) top at = elim way.place [ inl is ↦ absurd (apart is) | inr b ↦ b ] in
         elim (way.either at) [
           | inl same ↦ parent_above beneath.0 beneath.1 (sym (ap parent_of same) ∙ none)
-          | inr gone ↦ none_is_gone (live_at now at) gone.0 way.here
+          | inr gone ↦ not_some_from_none (live_at now at) gone.0 way.here
         ]
 
     up_to : (p : ℕ) → parent_of (live_at old at) ≡ Some p → (n : ℕ) → IsAbove (live_at old) top n at
@@ -115,7 +116,8 @@ module _ (old : LivePools) (top : ℕ) where
     all_gone (suc n) q above =
         let parent = all_gone n above.0 above.2 in
         elim (way.either q) [
-          | inl same ↦ absurd (none_is_gone (live_at (bare now) above.0) parent (linked.older above.0 q (ap parent_of same ∙ above.1)).0)
+          | inl same ↦ absurd (not_some_from_none (live_at (bare now) above.0) parent
+              (linked.older above.0 q (ap parent_of same ∙ above.1)).0)
           | inr gone ↦ gone.0
         ]
 

@@ -4,14 +4,10 @@ use Rattle.std.proofs.Common.{◌≡◌, ◌≢◌, ◌⊎◌, ℕ, zero, suc, �
 use Rattle.std.proofs.Common.{inl, inr, arith}
 use Rattle.std.proofs.lemmas.Bool.{cases_eq}
 use Rattle.std.proofs.lemmas.Option.{none-some, same_Some}
+use Rattle.svn_lists.proofs.Options.{cases_number}
 use Rattle.svn_pool.specs.Linked.{IsInverse, IsKin}
-use Rattle.svn_pool.specs.declared.links.Place.{Place}
-use Rattle.svn_pool.specs.declared.links.Place.TheVariants.{First, Next}
-
--- whether c is it
-is_it : (o : Option ℕ) (c : ℕ) → (o ≡ Some c) ⊎ (o ≢ Some c)
-is_it None c = inr (λ e. none-some c e)
-is_it (Some d) c = elim (cases_eq d c) [ inl is ↦ inl (ap Some is) | inr apart ↦ inr (λ e. apart (same_Some d c e)) ]
+use Rattle.svn_pool.specs.declared.links.Anchor.{Anchor}
+use Rattle.svn_pool.specs.declared.links.Anchor.TheVariants.{First, Next}
 
 first_is : (a b : ℕ) → First a ≡ First b → a ≡ b
 first_is a b e = cc
@@ -22,20 +18,20 @@ next_is a b e = cc
 pub first_or_next : (a b : ℕ) → First a ≡ Next b → ⊥
 first_or_next a b e = cc
 
-pub same_place : (x y : Place) → (x ≡ y) ⊎ (x ≢ y)
+pub same_place : (x y : Anchor) → (x ≡ y) ⊎ (x ≢ y)
 same_place (First a) (First b) = elim (cases_eq a b) [ inl is ↦ inl (ap First is) | inr apart ↦ inr (λ e. apart (first_is a b e)) ]
 same_place (First a) (Next b) = inr (λ e. first_or_next a b e)
 same_place (Next a) (First b) = inr (λ e. first_or_next b a (sym e))
 same_place (Next a) (Next b) = elim (cases_eq a b) [ inl is ↦ inl (ap Next is) | inr apart ↦ inr (λ e. apart (next_is a b e)) ]
 
 -- a change of what stands at x and behind the pool s; z is what follows s on the side where s is there
-module _ (standing after : Place → Option ℕ) (place new : ℕ → Option Place) (inverse : IsInverse standing place) (x : Place)
-    (s : ℕ) (z : Option ℕ) (apart : Next s ≢ x) (others : (y : Place) → y ≢ x → y ≢ Next s → after y ≡ standing y)
+module _ (standing after : Anchor → Option ℕ) (place new : ℕ → Option Anchor) (inverse : IsInverse standing place) (x : Anchor)
+    (s : ℕ) (z : Option ℕ) (apart : Next s ≢ x) (others : (y : Anchor) → y ≢ x → y ≢ Next s → after y ≡ standing y)
     (other : (c : ℕ) → c ≢ s → z ≢ Some c → new c ≡ place c) where
   -- s goes: z stands at its place
   module _ (was : standing x ≡ Some s) (next : standing (Next s) ≡ z) (now : after x ≡ z) (none : after (Next s) ≡ None)
       (gone : new s ≡ None) (moved : (c : ℕ) → z ≡ Some c → new c ≡ Some x) where
-    there_without : (y : Place) (c : ℕ) → after y ≡ Some c → new c ≡ Some y
+    there_without : (y : Anchor) (c : ℕ) → after y ≡ Some c → new c ≡ Some y
     there_without y c e = elim (same_place y x) [
       | inl is ↦ moved c (sym now ∙ sym (ap after is) ∙ e) ∙ ap Some (sym is)
       | inr not_x ↦ elim (same_place y (Next s)) [
@@ -49,10 +45,10 @@ module _ (standing after : Place → Option ℕ) (place new : ℕ → Option Pla
       ]
     ]
 
-    back_without : (y : Place) (c : ℕ) → new c ≡ Some y → after y ≡ Some c
+    back_without : (y : Anchor) (c : ℕ) → new c ≡ Some y → after y ≡ Some c
     back_without y c e = elim (cases_eq c s) [
       | inl is ↦ absurd (none-some y (sym gone ∙ sym (ap new is) ∙ e))
-      | inr not_s ↦ elim (is_it z c) [
+      | inr not_s ↦ elim (cases_number z c) [
         | inl is ↦ ap after (same_Some y x (sym e ∙ moved c is)) ∙ now ∙ is
         | inr not_z ↦
             let before : standing y ≡ Some c = inverse.back y c (sym (other c not_s not_z) ∙ e) in
@@ -71,7 +67,7 @@ module _ (standing after : Place → Option ℕ) (place new : ℕ → Option Pla
       not_it : (c p : ℕ) → later c ≡ Some p → c ≢ s
       not_it c p e is = none-some p (sym no_parent ∙ sym (ap later is) ∙ e)
 
-      not_gone : (c : ℕ) (y : Place) → new c ≡ Some y → c ≢ s
+      not_gone : (c : ℕ) (y : Anchor) → new c ≡ Some y → c ≢ s
       not_gone c y e is = none-some y (sym gone ∙ sym (ap new is) ∙ e)
 
       s_at : place s ≡ Some x
@@ -82,7 +78,7 @@ module _ (standing after : Place → Option ℕ) (place new : ℕ → Option Pla
       followed c is = kin.next c s (inverse.there (Next s) c (next ∙ is))
 
       placed_without : (c p : ℕ) → later c ≡ Some p → IsSome (new c)
-      placed_without c p e = elim (is_it z c) [
+      placed_without c p e = elim (cases_number z c) [
         | inl is ↦ ap is_some (moved c is)
         | inr not_z ↦
             let not_s = not_it c p e in ap is_some (other c not_s not_z) ∙ kin.placed c p (sym (kept c not_s) ∙ e)
@@ -91,7 +87,7 @@ module _ (standing after : Place → Option ℕ) (place new : ℕ → Option Pla
       first_without : (c p : ℕ) → new c ≡ Some (First p) → later c ≡ Some p
       first_without c p e =
           let not_s = not_gone c (First p) e in
-          elim (is_it z c) [
+          elim (cases_number z c) [
             | inl is ↦
                 let at : x ≡ First p = same_Some x (First p) (sym (moved c is) ∙ e) in
                 kept c not_s ∙ sym (followed c is).1 ∙ kin.first s p (s_at ∙ ap Some at)
@@ -101,7 +97,7 @@ module _ (standing after : Place → Option ℕ) (place new : ℕ → Option Pla
       next_without : (c q : ℕ) → new c ≡ Some (Next q) → IsSome (later c) × (later q ≡ later c) × (c < q)
       next_without c q e =
           let not_s = not_gone c (Next q) e in
-          elim (is_it z c) [
+          elim (cases_number z c) [
             | inl is ↦
                 let at : x ≡ Next q = same_Some x (Next q) (sym (moved c is) ∙ e) in
                 let mine = kin.next s q (s_at ∙ ap Some at) in
@@ -124,7 +120,7 @@ module _ (standing after : Place → Option ℕ) (place new : ℕ → Option Pla
   -- s comes, before z
   module _ (unplaced : place s ≡ None) (free : standing (Next s) ≡ None) (was : standing x ≡ z) (now : after x ≡ Some s)
       (next : after (Next s) ≡ z) (here : new s ≡ Some x) (moved : (c : ℕ) → z ≡ Some c → new c ≡ Some (Next s)) where
-    there_with : (y : Place) (c : ℕ) → after y ≡ Some c → new c ≡ Some y
+    there_with : (y : Anchor) (c : ℕ) → after y ≡ Some c → new c ≡ Some y
     there_with y c e = elim (same_place y x) [
       | inl is ↦ let same : c ≡ s = same_Some c s (sym e ∙ ap after is ∙ now) in ap new same ∙ here ∙ ap Some (sym is)
       | inr not_x ↦ elim (same_place y (Next s)) [
@@ -138,10 +134,10 @@ module _ (standing after : Place → Option ℕ) (place new : ℕ → Option Pla
       ]
     ]
 
-    back_with : (y : Place) (c : ℕ) → new c ≡ Some y → after y ≡ Some c
+    back_with : (y : Anchor) (c : ℕ) → new c ≡ Some y → after y ≡ Some c
     back_with y c e = elim (cases_eq c s) [
       | inl is ↦ ap after (same_Some y x (sym e ∙ ap new is ∙ here)) ∙ now ∙ ap Some (sym is)
-      | inr not_s ↦ elim (is_it z c) [
+      | inr not_s ↦ elim (cases_number z c) [
         | inl is ↦ ap after (same_Some y (Next s) (sym e ∙ moved c is)) ∙ next ∙ is
         | inr not_z ↦
             let before : standing y ≡ Some c = inverse.back y c (sym (other c not_s not_z) ∙ e) in
@@ -167,7 +163,7 @@ module _ (standing after : Place → Option ℕ) (place new : ℕ → Option Pla
       placed_with : (c q : ℕ) → later c ≡ Some q → IsSome (new c)
       placed_with c q e = elim (cases_eq c s) [
         | inl is ↦ ap is_some (ap new is ∙ here)
-        | inr not_s ↦ elim (is_it z c) [
+        | inr not_s ↦ elim (cases_number z c) [
           | inl is ↦ ap is_some (moved c is)
           | inr not_z ↦ ap is_some (other c not_s not_z) ∙ kin.placed c q (sym (kept c not_s) ∙ e)
         ]
@@ -178,7 +174,7 @@ module _ (standing after : Place → Option ℕ) (place new : ℕ → Option Pla
         | inl is ↦
             let same : First p ≡ First q = same_Some (First p) (First q) (ap Some (sym at) ∙ sym here ∙ sym (ap new is) ∙ e) in
             ap later is ∙ its ∙ ap Some (first_is p q same)
-        | inr not_s ↦ elim (is_it z c) [
+        | inr not_s ↦ elim (cases_number z c) [
           | inl is ↦ absurd (first_or_next q s (sym (same_Some (Next s) (First q) (sym (moved c is) ∙ e))))
           | inr not_z ↦ kept c not_s ∙ kin.first c q (sym (other c not_s not_z) ∙ e)
         ]
@@ -187,7 +183,7 @@ module _ (standing after : Place → Option ℕ) (place new : ℕ → Option Pla
       next_with : (c q : ℕ) → new c ≡ Some (Next q) → IsSome (later c) × (later q ≡ later c) × (c < q)
       next_with c q e = elim (cases_eq c s) [
         | inl is ↦ absurd (first_or_next p q (same_Some (First p) (Next q) (ap Some (sym at) ∙ sym here ∙ sym (ap new is) ∙ e)))
-        | inr not_s ↦ elim (is_it z c) [
+        | inr not_s ↦ elim (cases_number z c) [
           | inl is ↦
               let same : q ≡ s = sym (next_is s q (same_Some (Next s) (Next q) (sym (moved c is) ∙ e))) in
               let lt = younger c p (led c is) in (
@@ -209,7 +205,7 @@ module _ (standing after : Place → Option ℕ) (place new : ℕ → Option Pla
       pub kin_with : IsKin later new
       kin_with = record { placed = placed_with; first = first_with; next = next_with }
 
-module _ (parent : ℕ → Option ℕ) (place : ℕ → Option Place) (standing : Place → Option ℕ) (inverse : IsInverse standing place)
+module _ (parent : ℕ → Option ℕ) (place : ℕ → Option Anchor) (standing : Anchor → Option ℕ) (inverse : IsInverse standing place)
     (kin : IsKin parent place) (small : (c p : ℕ) → parent c ≡ Some p → c < 18446744073709551616) (p : ℕ)
     (none : standing (First p) ≡ None) where
   -- with n serials left above c
@@ -217,7 +213,7 @@ module _ (parent : ℕ → Option ℕ) (place : ℕ → Option Place) (standing 
   no_child_within zero c left is = let lt = small c p is in absurd (omega (arith, left, lt))
   no_child_within (suc n) c left is = by (place c) refl (kin.placed c p is) (no_child_within n)
     where
-      by : (o : Option Place) → place c ≡ o → IsSome o → ((q : ℕ) → 18446744073709551616 ≤ q + n → parent q ≡ Some p → ⊥) → ⊥
+      by : (o : Option Anchor) → place c ≡ o → IsSome o → ((q : ℕ) → 18446744073709551616 ≤ q + n → parent q ≡ Some p → ⊥) → ⊥
       by None at some later = let clash : ⊥ = cc in clash
       by (Some (First r)) at some later =
           none-some c

@@ -1,18 +1,18 @@
 -- The pool object that the tree's fields mean.
 use Rattle.std.proofs.Common.{◌≡◌, ◌≢◌, ℕ, ◌+◌, Bool, true, false, cond, nat_eq, List, [], ◌∷◌, ◌++◌, map, length, Option, None, Some}
 use Rattle.std.proofs.Common.{is_some, refl, sym, ap, ◌∙◌, inl, inr, arith}
-use Rattle.std.proofs.lemmas.Bool.{cases_eq, eq-eqb, false_from_ne_true, ne_eqb}
-use Rattle.std.proofs.lemmas.Cmp.{nat_cmp_total, tied_itself}
+use Rattle.std.proofs.lemmas.Bool.{cases_eq}
+use Rattle.std.proofs.lemmas.Cmp.{nat_cmp_total}
 use Rattle.std.proofs.lemmas.List.Sums.{sum_by-cons}
-use Rattle.std.proofs.lemmas.Map.Lookups.{exact_unsigned}
 use Rattle.std.proofs.lemmas.Map.Keys.{IsDistinct-head, IsDistinct-tail}
 use Rattle.std.specs.FinMap as fin
 use Rattle.std.specs.FinMap.Entries.{by_order, find, put}
 use Rattle.std.specs.List.{sum_by, AllByRecursion, IsDistinct}
 use Rattle.std.specs.Map.{keys_of, lookup, values_of}
-use Rattle.std.specs.Ordering.{is_eq, nat_cmp, eq_by_cmp}
+use Rattle.std.specs.Ordering.{is_eq, nat_cmp}
 use Rattle.std.specs.declared.cmp.Ordering.{Ordering}
 use Rattle.std.specs.declared.cmp.Ordering.TheVariants.{Less, Equal, Greater}
+use Rattle.svn_lists.proofs.Orderings.{eq_by_cmp-nat_eq, eq_by_cmp_same, eq_by_cmp_apart}
 use Rattle.svn_pool.specs.Linked.{Changes, IsTree, IsUnique, LinkedMap, LivePools, bare, blocks_held, fixed_held, live_at}
 use Rattle.svn_pool.specs.Pools.{Entry, Pools, pool_at, parent_of, strings_of_pool, strings_at, blocks_of, fixed_of, blocks_in, fixed_in}
 use Rattle.svn_pool.specs.Pools.{store_of, created, pushed, root_alone}
@@ -20,28 +20,13 @@ use Rattle.svn_pool.specs.Refusals.{fault_if_live, push_fault}
 use Rattle.svn_pool.specs.Stores.{Store, stored, string_fault}
 use Rattle.svn_pool.specs.Views.{contents, seen}
 
-is_eq_gives : (o : Ordering) → is_eq o ≡ true → o ≡ Equal
-is_eq_gives Less e = cc
-is_eq_gives Equal e = refl
-is_eq_gives Greater e = cc
-
-number_apart : (k q : ℕ) → q ≢ k → eq_by_cmp nat_cmp k q ≡ false
-number_apart k q apart = false_from_ne_true (eq_by_cmp nat_cmp k q) (λ is. apart (sym (exact_unsigned k q (is_eq_gives (nat_cmp k q) is))))
-
--- both tests of two numbers answer alike
-cmp-eq : (q x : ℕ) → eq_by_cmp nat_cmp q x ≡ nat_eq q x
-cmp-eq q x = elim (cases_eq q x) [
-  | inl is ↦ ap is_eq (ap (nat_cmp q) (sym is) ∙ tied_itself nat_cmp_total q) ∙ sym (eq-eqb q x is)
-  | inr apart ↦ number_apart q x (λ e. apart (sym e)) ∙ sym (ne_eqb q x apart)
-]
-
 nothing_in_empty : (es : List (ℕ × Entry)) → length es ≡ 0 → es ≡ []
 nothing_in_empty [] e = refl
 nothing_in_empty (x ∷ es) e = absurd (omega arith)
 
 find-lookup : (q : ℕ) (es : List (ℕ × Entry)) → find nat_cmp q es ≡ lookup (nat_eq q) es
 find-lookup q [] = refl
-find-lookup q (e ∷ es) = (λ i. cond (cmp-eq q e.0 i) (Some e.1) (find-lookup q es i))
+find-lookup q (e ∷ es) = (λ i. cond (eq_by_cmp-nat_eq q e.0 i) (Some e.1) (find-lookup q es i))
 
 none_among : (k : ℕ) (es : List (ℕ × Entry)) → AllByRecursion (λ y. nat_eq k y ≡ false) (keys_of es) → lookup (nat_eq k) es ≡ None
 none_among k [] h = refl
@@ -107,25 +92,20 @@ module _ (m : LivePools) (unique : IsUnique m) where
   pub sum-contents : (f : Entry → ℕ) → sum_by f (fin.values (contents m)) ≡ sum_by f (values_of m)
   sum-contents f = sum-map_of f m unique
 
-not_same : (q s : ℕ) → q ≢ s → eq_by_cmp nat_cmp q s ≡ false
-not_same q s apart = number_apart q s (λ e. apart (sym e))
-
-itself : (s : ℕ) → eq_by_cmp nat_cmp s s ≡ true
-itself s = ap is_eq (tied_itself nat_cmp_total s)
-
 module _ (t : fin.FinMap nat_cmp Entry) (s : ℕ) (e : Entry) where
   pub inserted_here : fin.get (fin.insert t s e) s ≡ Some e
-  inserted_here = fin.get-insert nat_cmp_total t s e s ∙ ap (λ (b : Bool). cond b (Some e) (fin.get t s)) (itself s)
+  inserted_here = fin.get-insert nat_cmp_total t s e s ∙ ap (λ (b : Bool). cond b (Some e) (fin.get t s)) (eq_by_cmp_same s)
 
   pub inserted_away : (q : ℕ) → q ≢ s → fin.get (fin.insert t s e) q ≡ fin.get t q
-  inserted_away q apart = fin.get-insert nat_cmp_total t s e q ∙ ap (λ (b : Bool). cond b (Some e) (fin.get t q)) (not_same q s apart)
+  inserted_away q apart = fin.get-insert nat_cmp_total t s e q
+      ∙ ap (λ (b : Bool). cond b (Some e) (fin.get t q)) (eq_by_cmp_apart q s apart)
 
 module _ (t : fin.FinMap nat_cmp Entry) (s : ℕ) where
   pub removed_here : fin.get (fin.remove t s) s ≡ None
-  removed_here = fin.get-remove nat_cmp_total t s s ∙ ap (λ (b : Bool). cond b None (fin.get t s)) (itself s)
+  removed_here = fin.get-remove nat_cmp_total t s s ∙ ap (λ (b : Bool). cond b None (fin.get t s)) (eq_by_cmp_same s)
 
   pub removed_away : (q : ℕ) → q ≢ s → fin.get (fin.remove t s) q ≡ fin.get t q
-  removed_away q apart = fin.get-remove nat_cmp_total t s q ∙ ap (λ (b : Bool). cond b None (fin.get t q)) (not_same q s apart)
+  removed_away q apart = fin.get-remove nat_cmp_total t s q ∙ ap (λ (b : Bool). cond b None (fin.get t q)) (eq_by_cmp_apart q s apart)
 
 -- maps with the same pools are the same
 pub same_contents : (m : LivePools) → IsUnique m → (t : fin.FinMap nat_cmp Entry) → ((q : ℕ) → live_at m q ≡ fin.get t q)

@@ -6,8 +6,8 @@ use Rattle.std.specs.Map.{keys_of, lookup, values_of}
 use Rattle.svn_pool.specs.Ancestry.{IsBeneath}
 use Rattle.svn_pool.specs.Pools.{Entry, parent_of, blocks_of, fixed_of}
 use Rattle.svn_pool.specs.declared.links.Linked.{Linked}
-use Rattle.svn_pool.specs.declared.links.Place.{Place}
-use Rattle.svn_pool.specs.declared.links.Place.TheVariants.{First, Next}
+use Rattle.svn_pool.specs.declared.links.Anchor.{Anchor}
+use Rattle.svn_pool.specs.declared.links.Anchor.TheVariants.{First, Next}
 
 -- the live pools by their serials, each with its links
 abbrev pub LinkedMap : Type 0
@@ -45,43 +45,43 @@ next_of None = None
 next_of (Some l) = l.next
 
 -- the sibling that a pool at a place follows
-abbrev pub sibling_before : Place → Option ℕ
+abbrev pub sibling_before : Anchor → Option ℕ
 sibling_before (First p) = None
 sibling_before (Next q) = Some q
 
 -- where a pool with that parent stands that follows that sibling
-abbrev pub place_by : Option ℕ → Option ℕ → Option Place
+abbrev pub place_by : Option ℕ → Option ℕ → Option Anchor
 place_by parent (Some q) = Some (Next q)
 place_by parent None = option_map First parent
 
-abbrev pub place_in : Option (Linked Entry) → Option Place
+abbrev pub place_in : Option (Linked Entry) → Option Anchor
 place_in None = None
 place_in (Some l) = place_by l.pool.parent l.before
 
 -- the pool whose link a place is
-abbrev pub holder : Place → ℕ
+abbrev pub holder : Anchor → ℕ
 holder (First p) = p
 holder (Next q) = q
 
 -- the pool that stands at a place
-abbrev pub standing : LinkedMap → Place → Option ℕ
+abbrev pub standing : LinkedMap → Anchor → Option ℕ
 standing pools (First p) = first_of (get pools p)
 standing pools (Next q) = next_of (get pools q)
 
 -- where a pool stands
-abbrev pub place_of : LinkedMap → ℕ → Option Place
+abbrev pub place_of : LinkedMap → ℕ → Option Anchor
 place_of pools c = place_in (get pools c)
 
 abbrev pub parent_in : LinkedMap → ℕ → Option ℕ
 parent_in pools c = parent_of (live_at (bare pools) c)
 
 -- what stands at a place, and where a pool stands, are inverse
-pub record IsInverse (at : Place → Option ℕ) (place : ℕ → Option Place) : Type 0 where
-  pub there : (x : Place) (c : ℕ) → at x ≡ Some c → place c ≡ Some x
-  pub back : (x : Place) (c : ℕ) → place c ≡ Some x → at x ≡ Some c
+pub record IsInverse (at : Anchor → Option ℕ) (place : ℕ → Option Anchor) : Type 0 where
+  pub there : (x : Anchor) (c : ℕ) → at x ≡ Some c → place c ≡ Some x
+  pub back : (x : Anchor) (c : ℕ) → place c ≡ Some x → at x ≡ Some c
 
 -- children alone stand somewhere: one as its parent's first child, and each other behind a sibling that is newer
-pub record IsKin (parent : ℕ → Option ℕ) (place : ℕ → Option Place) : Type 0 where
+pub record IsKin (parent : ℕ → Option ℕ) (place : ℕ → Option Anchor) : Type 0 where
   pub placed : (c p : ℕ) → parent c ≡ Some p → IsSome (place c)
   pub first : (c p : ℕ) → place c ≡ Some (First p) → parent c ≡ Some p
   pub next : (c q : ℕ) → place c ≡ Some (Next q) → IsSome (parent c) × (parent q ≡ parent c) × (c < q)

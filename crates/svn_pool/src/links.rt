@@ -15,7 +15,7 @@ use svn_serials::SerialMap;
 
 // A place for one pool.
 #[derive(Clone, Copy)]
-pub(crate) enum Place {
+pub(crate) enum Anchor {
     // The first child of a pool.
     First(u64),
     // The sibling that follows a pool.
@@ -118,45 +118,49 @@ fn set_next<A: Allocator + Copy>(pools: &mut Live<A>, serial: u64, next: Option<
 }
 
 // Where a pool stands. The root, which has no parent, stands nowhere.
-fn place_by(parent: Option<u64>, before: Option<u64>) -> Option<Place>
+fn place_by(parent: Option<u64>, before: Option<u64>) -> Option<Anchor>
     ensures { result ≡ place_by parent before }
 {
     if let Some(before) = before {
-        return Some(Place::Next(before));
+        return Some(Anchor::Next(before));
     }
     let Some(parent) = parent else {
         return None;
     };
-    Some(Place::First(parent))
+    Some(Anchor::First(parent))
 }
 
-fn sibling_before(place: Place) -> Option<u64>
+fn sibling_before(place: Anchor) -> Option<u64>
     ensures { result ≡ sibling_before place }
 {
     match place {
-        Place::First(_) => None,
-        Place::Next(before) => Some(before),
+        Anchor::First(_) => None,
+        Anchor::Next(before) => Some(before),
     }
 }
 
 // Sets what stands at a place, and tells the pool whose link the place is, with its first child.
-fn set_standing<A: Allocator + Copy>(pools: &mut Live<A>, place: Place, pool: Option<u64>) -> Beside
+fn set_standing<A: Allocator + Copy>(
+    pools: &mut Live<A>,
+    place: Anchor,
+    pool: Option<u64>,
+) -> Beside
     ensures holder { result.serial ≡ holder place }
     ensures first { IsSome (get pools.old (holder place)) → result.first ≡ first_of (get pools.new (holder place)) }
     ensures here { IsSome (get pools.old (holder place)) → standing pools.new place ≡ pool }
-    ensures standing { (x : Place) → x ≢ place → standing pools.new x ≡ standing pools.old x }
+    ensures standing { (x : Anchor) → x ≢ place → standing pools.new x ≡ standing pools.old x }
     ensures places { (c : ℕ) → place_of pools.new c ≡ place_of pools.old c }
     ensures pools { bare pools.new ≡ bare pools.old }
 {
     match place {
-        Place::First(parent) => {
+        Anchor::First(parent) => {
             set_first(pools, parent, pool);
             Beside {
                 serial: parent,
                 first: pool,
             }
         }
-        Place::Next(before) => Beside {
+        Anchor::Next(before) => Beside {
             serial: before,
             first: set_next(pools, before, pool),
         },
@@ -167,13 +171,13 @@ fn set_standing<A: Allocator + Copy>(pools: &mut Live<A>, place: Place, pool: Op
 fn move_to<A: Allocator + Copy>(
     pools: &mut Live<A>,
     pool: Option<u64>,
-    place: Place,
+    place: Anchor,
 ) -> Option<Beside>
     ensures told { IfSome result (λ b. (pool ≡ Some b.serial) × (b.first ≡ first_of (get pools.new b.serial))) }
-    ensures moved { (c : ℕ) → pool ≡ Some c → IsSome (get pools.old c) → ((p : ℕ) → place ≡ Place.First p → parent_in pools.old c ≡ Some p)
+    ensures moved { (c : ℕ) → pool ≡ Some c → IsSome (get pools.old c) → ((p : ℕ) → place ≡ Anchor.First p → parent_in pools.old c ≡ Some p)
         → place_of pools.new c ≡ Some place }
     ensures others { (c : ℕ) → pool ≢ Some c → place_of pools.new c ≡ place_of pools.old c }
-    ensures standing { (x : Place) → standing pools.new x ≡ standing pools.old x }
+    ensures standing { (x : Anchor) → standing pools.new x ≡ standing pools.old x }
     ensures pools { bare pools.new ≡ bare pools.old }
 {
     let Some(serial) = pool else {
@@ -217,7 +221,7 @@ pub(crate) fn add_child<A: Allocator + Copy>(
         set_first(pools, parent, older);
         return Err(PoolFault::Memory);
     };
-    move_to(pools, older, Place::Next(serial));
+    move_to(pools, older, Anchor::Next(serial));
     Ok(())
 }
 

@@ -4,6 +4,7 @@ use Rattle.std.proofs.Common.{◌∙◌, ◌⊎◌, inl, inr}
 use Rattle.std.specs.Prelude.{bytes_eq}
 use Rattle.std.specs.Option.{option_and_then, option_map}
 use Rattle.std.proofs.lemmas.Bool.{cases_Bool, cases_eq}
+use Rattle.svn_lists.proofs.Options.{and_then_parts, and_then_same}
 use Rattle.svn_repo.specs.declared.store.Node.{Node}
 use Rattle.svn_types.specs.Names.{Path}
 use Rattle.svn_repo.specs.History.{child_in, walk}
@@ -11,7 +12,7 @@ use Rattle.svn_repo.specs.Stored.{row_of, rows}
 use Rattle.svn_repo.specs.Walks.{rest_below, led}
 use Rattle.svn_repo.specs.Trees.{Tree, place_at, touched, touch, graft}
 use Rattle.svn_repo.specs.Drafts.{IsDraft, IsClosedIn, PutsChild, tree_in}
-use Rattle.svn_repo.proofs.Walking.{SameBut, IsOnlyWay, and_then_same, and_then_parts, walk_after_put, rest_below_is}
+use Rattle.svn_repo.proofs.Walking.{SameBut, IsOnlyWay, walk_after_put, rest_below_is}
 use Rattle.svn_repo.proofs.Entering.{each-put}
 use Rattle.svn_repo.proofs.EntryWrites.{shape_put}
 use Rattle.svn_repo.proofs.Thawing.{place_from_shape, within_more, rest_below_self}

@@ -7,6 +7,8 @@ use Rattle.std.specs.Option.{option_and_then, option_map}
 use Rattle.std.proofs.lemmas.Bool.{cases_lt, cases_eq, lt-ltb, le-ltb}
 use Rattle.std.proofs.lemmas.Option.{slice_get_within, slice_get_past}
 use Rattle.std.proofs.lemmas.List.{length-map}
+use Rattle.svn_lists.proofs.Options.{and_then_parts, and_then_same}
+use Rattle.svn_lists.proofs.Places.{take_from_places, slice_get-append, slice_get-push}
 use Rattle.svn_types.specs.declared.kind.Kind.{Kind}
 use Rattle.svn_types.specs.declared.kind.Kind.TheVariants.{File, Directory}
 use Rattle.svn_repo.specs.declared.store.Node.{Node}
@@ -21,12 +23,10 @@ use Rattle.svn_repo.specs.Trees.{Place, Tree, place_of, place_at, tree_at, is_di
 use Rattle.svn_repo.specs.Drafts.{IsDraft, IsDraftEntries, IsClosedIn, KeepsOld, AreRootsBelow, IsPast, tree_in}
 use Rattle.svn_repo.specs.Changes.{Pending, pending_in, latest_pending, commit_fault, changes_fault, after_changes, AllMade, IsRevision}
 use Rattle.svn_repo.specs.Changes.{StandsIn, IsNumbered}
-use Rattle.svn_repo.proofs.Walking.{and_then_same, and_then_parts}
 use Rattle.svn_repo.proofs.Entering.{no_entries, old_entries}
-use Rattle.svn_repo.proofs.OldRevisions.{kept_take, nodes_are}
+use Rattle.svn_repo.proofs.OldRevisions.{nodes_are}
 use Rattle.svn_repo.proofs.Lawful.{IsLawfulState, changes_lawful, renumbered}
 use Rattle.svn_repo.proofs.Thawing.{walk_same, in_range}
-use Rattle.svn_repo.proofs.EntryWrites.{slice_get-append, slice_get-push}
 
 module _ (roots : List ℕ) (old : List Node) (lines : ℕ) (from : ℕ)
     (sound : IsRepository (history_of roots old lines)) (last : slice_get roots (length roots - 1) ≡ Some from) where
@@ -73,7 +73,7 @@ module _ (roots : List ℕ) (old : List Node) (lines : ℕ) (from : ℕ)
   }
     where
       whole : old ≡ take (length heights) old
-      whole = sym (ap (λ k. take k old) known.size ∙ kept_take old old (omega arith) (λ m h. refl))
+      whole = sym (ap (λ k. take k old) known.size ∙ take_from_places old old (omega arith) (λ m h. refl))
 
   pub start_state : IsLawfulState (history_of roots old lines) (latest_pending (history_of roots old lines))
   start_state = record { kinds = sound.kinds; tree = sound.trees (length roots - 1); past = sound.trees }

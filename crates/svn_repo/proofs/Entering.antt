@@ -7,13 +7,13 @@ use Rattle.std.specs.Option.{option_map}
 use Rattle.std.proofs.lemmas.Bool.{cases_lt, cases_eq}
 use Rattle.std.proofs.lemmas.Option.{slice_get_past}
 use Rattle.std.proofs.lemmas.List.Elements.{All-nil}
+use Rattle.svn_lists.proofs.Places.{slice_get-append, slice_get-push}
 use Rattle.svn_repo.specs.declared.store.Node.{Node}
 use Rattle.svn_types.specs.Names.{IsName}
 use Rattle.svn_types.specs.Pairs.{InNameOrder, value_of, with_value}
 use Rattle.svn_repo.specs.History.{NodeRow, entries_at, child_in}
 use Rattle.svn_repo.specs.Stored.{row_of, rows, entries_of}
 use Rattle.svn_repo.specs.Drafts.{IsDraftEntries, PutsChild}
-use Rattle.svn_repo.proofs.EntryWrites.{slice_get-append, slice_get-push}
 use Rattle.svn_name_map.proofs.Pairs.{in_order-nil, in_order-with_value, names-with_value, values-with_value, all_values}
 
 pub children_found : (o : Option NodeRow) (name : List ℕ) → value_of (entries_at o) name ≡ child_in o name

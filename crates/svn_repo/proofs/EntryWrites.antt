@@ -1,12 +1,12 @@
 -- What writing the entries of one directory does to the nodes.
-use Rattle.std.proofs.Common.{◌≡◌, ◌≢◌, ℕ, zero, suc, ◌-◌, ◌<◌, ◌≤◌, ◌++◌, List, ◌∷◌, [], length, refl, ap, sym, subst, ◌∙◌, Option, Some, None, arith}
-use Rattle.std.proofs.Common.{Result, Ok, Err, inl, inr, length-append}
+use Rattle.std.proofs.Common.{◌≡◌, ℕ, ◌-◌, ◌<◌, ◌≤◌, ◌++◌, List, ◌∷◌, [], length, refl, ap, sym, subst, ◌∙◌, Option, Some, None, arith}
+use Rattle.std.proofs.Common.{inl, inr, length-append}
 use Rattle.std.proofs.lemmas.Bool.{cases_lt, cases_eq}
-use Rattle.std.specs.Prelude.{OnOk}
 use Rattle.std.specs.List.{slice_get, slice_set}
 use Rattle.std.specs.Option.{option_map}
 use Rattle.std.proofs.lemmas.Grind.{common_steps}
-use Rattle.std.proofs.lemmas.Option.{gets}
+use Rattle.std.proofs.lemmas.Option.{slice_get_within}
+use Rattle.svn_lists.proofs.Places.{slice_get-append, slice_get-append_right, slice_get-set_other, slice_get-set_same}
 use Rattle.svn_repo.specs.declared.store.Node.{Node}
 use Rattle.svn_repo.specs.declared.store.Content.TheVariants.{Listing}
 use Rattle.svn_types.specs.Names.{IsName}
@@ -15,12 +15,6 @@ use Rattle.svn_repo.specs.History.{child_in}
 use Rattle.svn_repo.specs.Stored.{row_of, rows}
 use Rattle.svn_repo.specs.Trees.{place_of}
 use Rattle.svn_repo.specs.Drafts.{PutsChild, ThawsChild, copied, shape_at}
-
-pub slice_get-set_other : {X : Type 0} (xs : List X) (i : ℕ) (v : X) (m : ℕ) → m ≢ i → slice_get (slice_set xs i v) m ≡ slice_get xs m
-slice_get-set_other xs i v m ne = grind (arith, common_steps, gets)
-
-pub slice_get-set_same : {X : Type 0} (xs : List X) (i : ℕ) (v x : X) → slice_get xs i ≡ Some x → slice_get (slice_set xs i v) i ≡ Some v
-slice_get-set_same xs i v x h = grind (arith, common_steps, gets)
 
 -- a directory with other entries
 abbrev pub listing : Node → List (List ℕ × ℕ) → Node
@@ -31,7 +25,7 @@ pub puts_child : (old : List Node) (at : ℕ) (node : Node) (es fs : List (List 
     → PutsChild old (slice_set old at (listing node fs)) at name child
 puts_child old at node es fs name child here is changes written is_name =
     let now : slice_get (slice_set old at (listing node fs)) at ≡ Some (listing node fs) =
-    slice_get-set_same old at (listing node fs) node here in
+    slice_get-set_same old at (listing node fs) (slice_get_within old at node here) in
     let row_now : rows (slice_set old at (listing node fs)) at ≡ Some (row_of (listing node fs)) = ap (option_map row_of) now in
     let was : node ≡ listing node es = ap (λ c. record node { content = c }) is in
     let row_was : rows old at ≡ Some (row_of (listing node es)) = ap (option_map row_of) (here ∙ ap Some was) in
@@ -52,25 +46,6 @@ shape_put old new at name child put m = elim (cases_eq m at) [
   | inr ne ↦ ap (λ o. option_map (place_of None) (option_map row_of o)) (put.others m ne)
 ]
 
-pub slice_get-append : {X : Type 0} (xs ys : List X) (m : ℕ) → m < length xs → slice_get (xs ++ ys) m ≡ slice_get xs m
-slice_get-append (x ∷ xs) ys zero h = refl
-slice_get-append (x ∷ xs) ys (suc m) h = slice_get-append xs ys m (omega arith)
-slice_get-append [] ys m h = absurd (omega arith)
-
-pub slice_get-push : {X : Type 0} (xs : List X) (x : X) → slice_get (xs ++ x ∷ []) (length xs) ≡ Some x
-slice_get-push [] x = refl
-slice_get-push (y ∷ xs) x = slice_get-push xs x
-
-pub both_ok : {T E : Type 0} (P Q : Type 0) (r : Result T E) → OnOk r P → OnOk r Q → OnOk r (P × Q)
-both_ok P Q (Ok x) p q = (p, q)
-both_ok P Q (Err e) p q = p
-
-slice_get-behind : {X : Type 0} (xs ys : List X) (m : ℕ) → length xs ≤ m → slice_get (xs ++ ys) m ≡ slice_get ys (m - length xs)
-slice_get-behind [] ys m h = (let all : m - 0 ≡ m = omega arith in rw all refl)
-slice_get-behind (x ∷ xs) ys zero h = absurd (omega arith)
-slice_get-behind (x ∷ xs) ys (suc m) h =
-    (let less : suc m - suc (length xs) ≡ m - length xs = omega arith in rw less (slice_get-behind xs ys m (omega arith)))
-
 -- a child is put, and then a node behind the others: in the other order all is the same
 pub puts_pushed : (old new : List Node) (node : Node) (at : ℕ) (name : List ℕ) (child : Option ℕ) → at < length old
     → PutsChild old new at name child → PutsChild (old ++ node ∷ []) (new ++ node ∷ []) at name child
@@ -85,8 +60,8 @@ puts_pushed old new node at name child below put =
         | inl h ↦
             slice_get-append new (node ∷ []) m (omega (arith, h, put.size)) ∙ put.others m ne ∙ sym (slice_get-append old (node ∷ []) m h)
         | inr h ↦
-            slice_get-behind new (node ∷ []) m (omega (arith, h, put.size)) ∙ ap (λ k. slice_get (node ∷ []) (m - k)) put.size
-            ∙ sym (slice_get-behind old (node ∷ []) m h)
+            slice_get-append_right new (node ∷ []) m (omega (arith, h, put.size)) ∙ ap (λ k. slice_get (node ∷ []) (m - k)) put.size
+            ∙ sym (slice_get-append_right old (node ∷ []) m h)
       ];
       shape = rw (row_now, row_was) put.shape;
       children = λ x. rw (row_now, row_was) (put.children x);

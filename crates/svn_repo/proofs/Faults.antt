@@ -4,6 +4,7 @@ use Rattle.std.proofs.Common.{refl, arith, Option, Some, None, subst, sym, ap, �
 use Rattle.std.specs.Prelude.{nat_lt}
 use Rattle.std.specs.List.{slice_get}
 use Rattle.std.specs.Option.{option_and_then, option_map, option_or, is_some}
+use Rattle.svn_lists.proofs.Options.{option_or_next, option_or_none}
 use Rattle.svn_types.specs.declared.kind.Kind.TheVariants.{File, Directory}
 use Rattle.svn_repo.specs.declared.store.Node.{Node}
 use Rattle.svn_repo.specs.declared.change.CommitFault.{CommitFault}
@@ -83,10 +84,6 @@ leads_on f at id names i name whole led at_is name_is below =
 
 -- ---- no fault above the last name
 
-pub or_none : {A : Type 0} (a b : Option A) → option_or a b ≡ None → (a ≡ None) × (b ≡ None)
-or_none None b h = (refl, h)
-or_none (Some x) b h = cc
-
 directory_by : (o : Option Place) → directory_fault o ≡ None → is_directory_place o ≡ true
 directory_by None h = cc
 directory_by (Some p) h = by_bool (is_directory_place (Some p)) h
@@ -102,15 +99,15 @@ some_directory (Some p) h = refl
 way_from_fault : (t : Tree) (p : Path) (name : List ℕ) → above_fault t (p ++ name ∷ []) ≡ None
     → IsWay t p × (is_directory_place (t p) ≡ true)
 way_from_fault t [] name h =
-    let d = directory_by (t []) (or_none (directory_fault (t [])) None h).0 in
+    let d = directory_by (t []) (option_or_none (directory_fault (t [])) None h).0 in
     let w : IsWay t [] = record { directories = λ i b. absurd (omega arith); present = at_root } in
     (w, d)
   where
     at_root : (i : ℕ) → i ≤ 0 → is_some (t (take i [])) ≡ true
-    at_root zero b = some_directory (t []) (directory_by (t []) (or_none (directory_fault (t [])) None h).0)
+    at_root zero b = some_directory (t []) (directory_by (t []) (option_or_none (directory_fault (t [])) None h).0)
     at_root (suc i) b = absurd (omega arith)
 way_from_fault t (m ∷ p) name h =
-    let parts = or_none (directory_fault (t [])) (above_fault (λ q. t (m ∷ q)) (p ++ name ∷ [])) h in
+    let parts = option_or_none (directory_fault (t [])) (above_fault (λ q. t (m ∷ q)) (p ++ name ∷ [])) h in
     let below = way_from_fault (λ q. t (m ∷ q)) p name parts.1 in
     let d : is_directory_place (t []) ≡ true = directory_by (t []) parts.0 in
     let w : IsWay t (m ∷ p) = record { directories = dirs d below.0; present = here d below.0 } in
@@ -138,7 +135,7 @@ way_whole t [] h stands = record { directories = λ i b. absurd (omega arith); p
     at_root zero b = stands
     at_root (suc i) b = absurd (omega arith)
 way_whole t (m ∷ p) h stands =
-    let parts = or_none (directory_fault (t [])) (above_fault (λ q. t (m ∷ q)) p) h in
+    let parts = option_or_none (directory_fault (t [])) (above_fault (λ q. t (m ∷ q)) p) h in
     let below : IsWay (λ q. t (m ∷ q)) p = way_whole (λ q. t (m ∷ q)) p parts.1 stands in
     let d : is_directory_place (t []) ≡ true = directory_by (t []) parts.0 in
     record { directories = dirs d below; present = here d below }
@@ -154,15 +151,12 @@ way_whole t (m ∷ p) h stands =
 
 -- ---- what is wrong with a path at which nothing may stand
 
-pub or_next : {A : Type 0} (a b : Option A) → a ≡ None → option_or a b ≡ b
-or_next a b e = ap (λ o. option_or o b) e
-
 pub taken_path : (t : Tree) (p : Path) (rest : Option CommitFault) → above_fault t p ≡ None → is_some (t p) ≡ true
     → option_or (above_fault t p) (option_or (fault_if (is_some (t p)) Exists) rest) ≡ Some Exists
-taken_path t p rest above stands = or_next (above_fault t p) (option_or (fault_if (is_some (t p)) Exists) rest) above
+taken_path t p rest above stands = option_or_next (above_fault t p) (option_or (fault_if (is_some (t p)) Exists) rest) above
     ∙ ap (λ b. option_or (fault_if b Exists) rest) stands
 
 pub free_path : (t : Tree) (p : Path) (rest : Option CommitFault) → above_fault t p ≡ None → t p ≡ None
     → option_or (above_fault t p) (option_or (fault_if (is_some (t p)) Exists) rest) ≡ rest
-free_path t p rest above gone = or_next (above_fault t p) (option_or (fault_if (is_some (t p)) Exists) rest) above
+free_path t p rest above gone = option_or_next (above_fault t p) (option_or (fault_if (is_some (t p)) Exists) rest) above
     ∙ ap (λ o. option_or (fault_if (is_some o) Exists) rest) gone

@@ -1,9 +1,10 @@
 -- What follows where a node is known to stand at a path: no fault lies above it, and where it is a fresh node, all above it is fresh already.
-use Rattle.std.proofs.Common.{◌≡◌, ℕ, ◌<◌, ◌≤◌, true, false, cond, List, [], ◌∷◌, ◌++◌, length, refl, arith, Option, Some, None, sym, ap, subst}
+use Rattle.std.proofs.Common.{◌≡◌, ℕ, ◌<◌, ◌≤◌, cond, List, [], ◌∷◌, ◌++◌, length, refl, arith, Option, Some, None, sym, ap, subst}
 use Rattle.std.proofs.Common.{◌∙◌, inl, inr}
 use Rattle.std.specs.List.{slice_get}
 use Rattle.std.specs.Option.{option_and_then, option_map, is_some}
 use Rattle.std.proofs.lemmas.Bool.{cases_lt}
+use Rattle.svn_lists.proofs.Options.{and_then_parts, and_then_every, option_or_next}
 use Rattle.svn_types.specs.declared.kind.Kind.TheVariants.{Directory}
 use Rattle.svn_repo.specs.declared.store.Node.{Node}
 use Rattle.svn_repo.specs.declared.store.Content.{Content}
@@ -16,14 +17,10 @@ use Rattle.svn_repo.specs.Walks.{rest_below}
 use Rattle.svn_repo.specs.Trees.{Tree, place_at, touched, touch}
 use Rattle.svn_repo.specs.Drafts.{IsClosedIn, IsDraft, IsThawed, tree_in, old_part}
 use Rattle.svn_repo.specs.Changes.{above_fault, missing_fault, walk_fault}
-use Rattle.svn_repo.proofs.Faults.{above_directory, or_next}
+use Rattle.svn_repo.proofs.Faults.{above_directory}
 use Rattle.svn_repo.proofs.Standing.{stands_at}
 use Rattle.svn_repo.proofs.Thawing.{walk_stays, place_fresh, touched_shape}
-use Rattle.svn_repo.proofs.Walking.{and_then_parts, rest_below_is, walk-append, walk_on}
-
-pub the_some : {A : Type 0} (o : Option A) → is_some o ≡ true → (x : A) × (o ≡ Some x)
-the_some None h = let bad : false ≡ true = h in cc
-the_some (Some x) h = (x, refl)
+use Rattle.svn_repo.proofs.Walking.{rest_below_is, walk-append, walk_on}
 
 -- ---- faults
 
@@ -66,21 +63,17 @@ above_last base nodes root n node (name ∷ p) last h here k =
     let s = and_then_parts (λ m. walk (rows nodes) m p) (child_in (rows nodes root) name) n h in
     above_child base nodes root s.0 name (p ++ last ∷ []) s.1 ∙ above_last base nodes s.0 n node p last s.2 here k
 
-every_some : (o : Option ℕ) → option_and_then (λ n. Some n) o ≡ o
-every_some None = refl
-every_some (Some n) = refl
-
 -- what the directory has under the last name is what stands at the path
 pub walk_last : (nodes : List Node) (root n : ℕ) (p : Path) (last : List ℕ) → walk (rows nodes) root p ≡ Some n
     → walk (rows nodes) root (p ++ last ∷ []) ≡ child_in (rows nodes n) last
-walk_last nodes root n p last h = walk_on (rows nodes) root n p (last ∷ []) h ∙ every_some (child_in (rows nodes n) last)
+walk_last nodes root n p last h = walk_on (rows nodes) root n p (last ∷ []) h ∙ and_then_every (child_in (rows nodes n) last)
 
 -- where a node stands, nothing is wrong with the way there
 pub no_walk_fault : (base : ℕ) (nodes : List Node) (root n : ℕ) (p : Path) → root < length nodes → IsClosedIn nodes
     → walk (rows nodes) root p ≡ Some n → walk_fault (tree_in base nodes root) p ≡ None
 no_walk_fault base nodes root n p inside closed h =
     let t : Tree = tree_in base nodes root in
-    or_next (above_fault t p) (missing_fault (t p)) (above_found base nodes root n p h)
+    option_or_next (above_fault t p) (missing_fault (t p)) (above_found base nodes root n p h)
     ∙ ap (λ b. cond b None (Some Missing)) (stands_at base nodes root n p inside closed h)
 
 -- ---- fresh nodes

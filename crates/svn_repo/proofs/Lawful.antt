@@ -8,6 +8,7 @@ use Rattle.std.specs.BTreeMap.{is_at}
 use Rattle.std.specs.Option.{option_and_then, option_map, option_or, is_some}
 use Rattle.std.proofs.lemmas.Bool.{cases_lt, lt-ltb, eq-eqb, ne_eqb}
 use Rattle.std.proofs.lemmas.List.Elements.{All-nil}
+use Rattle.svn_lists.proofs.Options.{and_then_parts, option_or_none}
 use Rattle.svn_types.specs.declared.kind.Kind.{Kind}
 use Rattle.svn_types.specs.declared.kind.Kind.TheVariants.{File, Directory}
 use Rattle.svn_repo.specs.declared.change.Change.{Change}
@@ -25,8 +26,7 @@ use Rattle.svn_repo.specs.Stored.{IsLawfulPlace, IsLawfulTree}
 use Rattle.svn_repo.specs.Changes.{Pending, root_fault, depth_fault, size_fault, value_fault, above_fault, walk_fault, fault_if}
 use Rattle.svn_repo.specs.Changes.{directory_fault_at, file_fault_at, copy_depth_fault, change_fault, after_change, changes_fault}
 use Rattle.svn_repo.specs.Changes.{after_changes, new_directory, with_text, lines_after}
-use Rattle.svn_repo.proofs.Walking.{and_then_parts, walk_on, rest_below_is}
-use Rattle.svn_repo.proofs.Faults.{or_none}
+use Rattle.svn_repo.proofs.Walking.{walk_on, rest_below_is}
 use Rattle.svn_repo.proofs.Pendings.{CanCopy, can_copy}
 use Rattle.svn_name_map.proofs.Pairs.{in_order-nil, in_order-with_value, values-with_value}
 
@@ -304,19 +304,19 @@ copied h s rev source path l can = record {
 pub change_lawful : (h : History) (s : Pending) (c : Change) → change_fault h s c ≡ None → IsLawfulState h s
     → IsLawfulState h (after_change h s c)
 change_lawful h s (MakeDir p) e l =
-    let a = or_none (root_fault p) (directory_fault_at s.tree p) e in
-    let b = or_none (above_fault s.tree p) (option_or (fault_if (is_some (s.tree p)) Exists) (depth_fault p)) a.1 in
-    let d = or_none (fault_if (is_some (s.tree p)) Exists) (depth_fault p) b.1 in
+    let a = option_or_none (root_fault p) (directory_fault_at s.tree p) e in
+    let b = option_or_none (above_fault s.tree p) (option_or (fault_if (is_some (s.tree p)) Exists) (depth_fault p)) a.1 in
+    let d = option_or_none (fault_if (is_some (s.tree p)) Exists) (depth_fault p) b.1 in
     made_dir h s p l a.0 (below_limit path_limit (length p) TooDeep d.1)
 change_lawful h s (PutFile p text) e l =
-    let a = or_none (root_fault p) (option_or (size_fault text) (file_fault_at s.tree p)) e in
-    let b = or_none (size_fault text) (file_fault_at s.tree p) a.1 in
-    let d = or_none (above_fault s.tree p) (option_or (fault_if (is_directory_place (s.tree p)) NotFile) (depth_fault p)) b.1 in
-    let f = or_none (fault_if (is_directory_place (s.tree p)) NotFile) (depth_fault p) d.1 in
+    let a = option_or_none (root_fault p) (option_or (size_fault text) (file_fault_at s.tree p)) e in
+    let b = option_or_none (size_fault text) (file_fault_at s.tree p) a.1 in
+    let d = option_or_none (above_fault s.tree p) (option_or (fault_if (is_directory_place (s.tree p)) NotFile) (depth_fault p)) b.1 in
+    let f = option_or_none (fault_if (is_directory_place (s.tree p)) NotFile) (depth_fault p) d.1 in
     put_file h s p text (s.tree p) refl l a.0 f.0 (below_limit path_limit (length p) TooDeep f.1)
     (below_limit size_limit (length text) TooLong b.0)
 change_lawful h s (SetProp p name value) e l =
-    let a = or_none (value_fault value) (walk_fault s.tree p) e in
+    let a = option_or_none (value_fault value) (walk_fault s.tree p) e in
     record {
       kinds = l.kinds;
       tree = graft_lawful l.kinds s.lines s.tree p (with_prop s.tree p name value) l.tree
@@ -334,5 +334,5 @@ pub changes_lawful : (h : History) (s : Pending) (cs : List Change) → changes_
     → IsLawfulState h (after_changes h s cs)
 changes_lawful h s [] e l = l
 changes_lawful h s (c ∷ cs) e l =
-    let a = or_none (change_fault h s c) (changes_fault h (after_change h s c) cs) e in
+    let a = option_or_none (change_fault h s c) (changes_fault h (after_change h s c) cs) e in
     changes_lawful h (after_change h s c) cs a.1 (change_lawful h s c a.0 l)

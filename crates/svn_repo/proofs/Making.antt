@@ -2,6 +2,7 @@
 use Rattle.std.proofs.Common.{◌≡◌, ℕ, ◌<◌, ◌≤◌, true, cond, List, [], ◌∷◌, ◌++◌, length, refl, arith, Option, Some, None, subst, sym, ap}
 use Rattle.std.proofs.Common.{◌∙◌, length-append, ◌⊎◌, inl, inr}
 use Rattle.std.specs.Option.{option_and_then, option_map, is_some}
+use Rattle.svn_lists.proofs.Options.{and_then_same, and_then_every}
 use Rattle.svn_repo.specs.declared.store.Node.{Node}
 use Rattle.svn_types.specs.Names.{Path}
 use Rattle.svn_repo.specs.History.{entries_at, child_in, walk}
@@ -12,8 +13,9 @@ use Rattle.svn_repo.specs.Drafts.{IsDraft, IsDraftEntries, PutsChild, shape_at, 
 use Rattle.svn_repo.specs.Drafts.{IsListing}
 use Rattle.svn_repo.specs.Changes.{above_fault}
 use Rattle.svn_repo.proofs.Faults.{way_above}
-use Rattle.svn_repo.proofs.Walking.{and_then_same, walk_on}
-use Rattle.svn_repo.proofs.Thawing.{StaysIn, walk_stays, walk_same, place_from_shape, place_fresh, touched_shape, rows-append, rows-push, not_within_longer}
+use Rattle.svn_repo.proofs.Walking.{walk_on}
+use Rattle.svn_repo.proofs.Thawing.{StaysIn, walk_stays, walk_same, place_from_shape, place_fresh, touched_shape, rows-append, rows-push}
+use Rattle.svn_repo.proofs.Thawing.{not_within_longer}
 use Rattle.svn_repo.proofs.Thawing.{closed_grown, walk_grown, in_range}
 use Rattle.svn_repo.proofs.Entering.{no_entries, old_entries, each-push}
 use Rattle.svn_repo.proofs.Ways.{is_some-touch, is_directory_place-touch, listing_at}
@@ -113,10 +115,6 @@ pub thawed_above : (base : ℕ) (old mid : List Node) (from root at : ℕ) (path
 thawed_above base old mid from root at path above last split no_fault thawed =
     thawed_listing base old mid from root at above thawed (way_above (tree_in base old from) path above last split no_fault).1
 
-every_some : (o : Option ℕ) → option_and_then (λ n. Some n) o ≡ o
-every_some None = refl
-every_some (Some n) = refl
-
 -- what stands under the last name of a path, once the directory above is made afresh, is what stood at the path
 pub found_above : (base : ℕ) (old mid : List Node) (from root at : ℕ) (above : Path) (last : List ℕ)
     → IsThawed base old mid from root above at
@@ -125,7 +123,7 @@ found_above base old mid from root at above last thawed =
     let path : Path = above ++ last ∷ [] in
     let t : Tree = tree_in base old from in
     let walked : walk (rows mid) root path ≡ child_in (rows mid at) last =
-    walk_on (rows mid) root at above (last ∷ []) thawed.here ∙ every_some (child_in (rows mid at) last) in
+    walk_on (rows mid) root at above (last ∷ []) thawed.here ∙ and_then_every (child_in (rows mid at) last) in
     ap (option_and_then (place_at (rows mid) base)) (sym walked)
     ∙ thawed.tree path ∙ ap (λ b. cond b (option_map touched (t path)) (t path)) (not_within_longer above last)
 

@@ -7,6 +7,8 @@ use Rattle.std.specs.Option.{option_and_then, option_map, is_some}
 use Rattle.std.proofs.lemmas.Bool.{cases_lt, lt-ltb}
 use Rattle.std.proofs.lemmas.List.Folds.{list_any-append}
 use Rattle.std.proofs.lemmas.Option.{slice_get_within}
+use Rattle.svn_lists.proofs.Options.{and_then_parts}
+use Rattle.svn_lists.proofs.Places.{slice_get_in}
 use Rattle.svn_repo.specs.declared.change.Change.{Change}
 use Rattle.svn_repo.specs.declared.change.Change.TheVariants.{MakeDir, PutFile, SetProp, Remove, CopyFrom}
 use Rattle.svn_types.specs.Names.{Path}
@@ -16,9 +18,8 @@ use Rattle.svn_repo.specs.Trees.{Place, Tree, place_of, place_at, tree_at, touch
 use Rattle.svn_repo.specs.Changes.{Pending, latest_pending, after_change, after_changes, IsCommit, IsRevision, StandsIn}
 use Rattle.svn_repo.specs.Laws.{RevisionsStay, CopiesKeepNodes, UntouchedPathsKeepNodes, touches, NodesExist, no_commit, one_more}
 use Rattle.svn_repo.specs.Laws.{latest_of}
-use Rattle.svn_repo.proofs.Walking.{and_then_parts, rest_below_is}
+use Rattle.svn_repo.proofs.Walking.{rest_below_is}
 use Rattle.svn_repo.proofs.Thawing.{rest_below_self}
-use Rattle.svn_repo.proofs.OldRevisions.{slice_get_in}
 use Rattle.std.proofs.lemmas.Bool.{or_parts}
 use Rattle.std.proofs.lemmas.Slice.Eq.{bytes_eq-Decides}
 

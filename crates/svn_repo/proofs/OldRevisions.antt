@@ -7,6 +7,8 @@ use Rattle.std.specs.Option.{option_and_then, option_map, option_or, is_some}
 use Rattle.std.proofs.lemmas.Bool.{cases_lt, lt-ltb, le-ltb, le-leb, lt-leb}
 use Rattle.std.proofs.lemmas.Option.{slice_get-map, slice_get_read, slice_get_within}
 use Rattle.std.proofs.lemmas.List.{length-map}
+use Rattle.svn_lists.proofs.Options.{and_then_parts, and_then_same}
+use Rattle.svn_lists.proofs.Places.{take_from_places, slice_get-take, slice_get_in}
 use Rattle.svn_repo.specs.declared.store.Node.{Node}
 use Rattle.svn_repo.specs.declared.change.Change.{Change}
 use Rattle.svn_repo.specs.declared.change.CommitFault.{CommitFault}
@@ -19,24 +21,9 @@ use Rattle.svn_repo.specs.Trees.{Tree, place_of, place_at, tree_at}
 use Rattle.svn_repo.specs.Drafts.{KeepsOld, AreRootsBelow, IsOldPart, IsPast, look_in, past_in, tree_in}
 use Rattle.svn_repo.specs.Changes.{pending_in, change_fault, root_fault, above_fault, missing_fault, walk_fault, revision_fault, copy_fault}
 use Rattle.svn_repo.specs.Changes.{copy_depth_fault, fault_if}
-use Rattle.svn_repo.proofs.Walking.{and_then_same, and_then_parts, walk_on}
+use Rattle.svn_repo.proofs.Walking.{walk_on}
 use Rattle.svn_repo.proofs.Thawing.{walk_stays, walk_same}
 use Rattle.svn_repo.proofs.Faults.{above_same}
-
-pub kept_take : {X : Type 0} (old new : List X) → length old ≤ length new → ((m : ℕ) → m < length old → slice_get new m ≡ slice_get old m)
-    → take (length old) new ≡ old
-kept_take [] new grown same = refl
-kept_take (x ∷ old) [] grown same = absurd (omega arith)
-kept_take (x ∷ old) (y ∷ new) grown same =
-    let first : Some y ≡ Some x = same zero (omega arith) in
-    let rest : take (length old) new ≡ old = kept_take old new (omega arith) (λ m h. same (suc m) (omega arith)) in
-    cc
-
-pub slice_get-take : {X : Type 0} (xs : List X) (n i : ℕ) → i < n → slice_get (take n xs) i ≡ slice_get xs i
-slice_get-take xs zero i h = absurd (omega arith)
-slice_get-take [] (suc n) i h = refl
-slice_get-take (x ∷ xs) (suc n) zero h = refl
-slice_get-take (x ∷ xs) (suc n) (suc i) h = slice_get-take xs n i (omega arith)
 
 -- the nodes of a history by their numbers
 pub nodes_are : (nodes : List Node) (n : ℕ) → slice_get (map row_of nodes) n ≡ rows nodes n
@@ -171,11 +158,6 @@ some_name : (p : Path) → root_fault p ≡ None → 1 ≤ length p
 some_name [] e = cc
 some_name (x ∷ p) e = omega arith
 
-pub slice_get_in : {X : Type 0} (xs : List X) (i : ℕ) → i < length xs → (x : X) × (slice_get xs i ≡ Some x)
-slice_get_in [] i h = absurd (omega arith)
-slice_get_in (x ∷ xs) zero h = (x, refl)
-slice_get_in (x ∷ xs) (suc i) h = slice_get_in xs i (omega arith)
-
 -- a fault by the node's height is that of its copy's depth
 pub copy_depth_by_height : (heights : List ℕ) (nodes : List Node) (n : ℕ) (p : Path) (fault : Option CommitFault)
     → IsOldPart heights nodes → root_fault p ≡ None → n < length heights
@@ -196,7 +178,7 @@ old_in heights nodes top n source old inside e = walk_stays (λ k. k < length he
 pub past_is : (roots : List ℕ) (base : ℕ) (old mid : List Node) (l : ℕ) → base ≡ length old → KeepsOld (length old) old mid
     → past_in base roots mid l ≡ history_of roots old l
 past_is roots base old mid l size kept = ap (λ b. past_in b roots mid l) size
-    ∙ ap (λ nodes. history_of roots nodes l) (kept_take old mid kept.grown kept.same)
+    ∙ ap (λ nodes. history_of roots nodes l) (take_from_places old mid kept.grown kept.same)
 
 pub past_kept : (roots heights : List ℕ) (old mid : List Node) → length heights ≡ length old → IsPast roots heights old
     → KeepsOld (length old) old mid → IsPast roots heights mid
@@ -211,7 +193,8 @@ past_kept roots heights old mid size past kept = record {
 }
   where
     same : take (length heights) old ≡ take (length heights) mid
-    same = ap (λ k. take k old) size ∙ kept_take old old (omega arith) (λ m h. refl) ∙ sym (kept_take old mid kept.grown kept.same)
+    same = ap (λ k. take k old) size ∙ take_from_places old old (omega arith) (λ m h. refl)
+        ∙ sym (take_from_places old mid kept.grown kept.same)
         ∙ ap (λ k. take k mid) (sym size)
 
 -- a fault asked of the nodes with the draft behind them is that of the history

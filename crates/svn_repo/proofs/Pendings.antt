@@ -1,6 +1,7 @@
 -- A change that is made by one graft.
 use Rattle.std.proofs.Common.{◌≡◌, ℕ, ◌≤◌, ◌+◌, Bool, false, cond, arith, Option, true, List, [], ◌∷◌, length, refl, None, Some, sym, ap}
 use Rattle.std.proofs.Common.{◌∙◌}
+use Rattle.svn_lists.proofs.Options.{option_or_none}
 use Rattle.svn_repo.specs.declared.store.Node.{Node}
 use Rattle.svn_repo.specs.declared.change.Change.{Change}
 use Rattle.svn_types.specs.Names.{Path}
@@ -13,7 +14,7 @@ use Rattle.svn_repo.specs.Changes.{Pending, pending_in, after_change, IsMade, ro
 use Rattle.svn_repo.specs.Changes.{size_fault, missing_fault, value_fault, lines_after, revision_fault, walk_fault, copy_fault}
 use Rattle.svn_repo.specs.Changes.{copy_depth_fault}
 use Rattle.svn_repo.specs.declared.change.CommitFault.TheVariants.{Exists, NotFile}
-use Rattle.svn_repo.proofs.Faults.{or_none, way_whole}
+use Rattle.svn_repo.proofs.Faults.{way_whole}
 use Rattle.svn_repo.proofs.Ways.{is_directory_place-touch}
 
 grafted_root : (t part : Tree) (p : Path) → root_fault p ≡ None → graft t p part [] ≡ touch t p []
@@ -42,22 +43,23 @@ CanPut t p = (root_fault p ≡ None) × (above_fault t p ≡ None)
 
 pub can_make_dir : (h : History) (s : Pending) (p : Path) → change_fault h s (MakeDir p) ≡ None → CanPut s.tree p
 can_make_dir h s p e =
-    let a = or_none (root_fault p) (option_or (above_fault s.tree p) (option_or (fault_if (is_some (s.tree p)) Exists) (depth_fault p))) e
+    let a = option_or_none (root_fault p)
+    (option_or (above_fault s.tree p) (option_or (fault_if (is_some (s.tree p)) Exists) (depth_fault p))) e
     in
-    (a.0, (or_none (above_fault s.tree p) (option_or (fault_if (is_some (s.tree p)) Exists) (depth_fault p)) a.1).0)
+    (a.0, (option_or_none (above_fault s.tree p) (option_or (fault_if (is_some (s.tree p)) Exists) (depth_fault p)) a.1).0)
 
 pub can_put_file : (h : History) (s : Pending) (p : Path) (text : List ℕ) → change_fault h s (PutFile p text) ≡ None → CanPut s.tree p
 can_put_file h s p text e =
-    let a = or_none (root_fault p) (option_or (size_fault text)
+    let a = option_or_none (root_fault p) (option_or (size_fault text)
     (option_or (above_fault s.tree p) (option_or (fault_if (is_directory_place (s.tree p)) NotFile) (depth_fault p)))) e in
-    let b = or_none (size_fault text) (option_or (above_fault s.tree p)
+    let b = option_or_none (size_fault text) (option_or (above_fault s.tree p)
     (option_or (fault_if (is_directory_place (s.tree p)) NotFile) (depth_fault p))) a.1 in
-    (a.0, (or_none (above_fault s.tree p) (option_or (fault_if (is_directory_place (s.tree p)) NotFile) (depth_fault p)) b.1).0)
+    (a.0, (option_or_none (above_fault s.tree p) (option_or (fault_if (is_directory_place (s.tree p)) NotFile) (depth_fault p)) b.1).0)
 
 pub can_remove : (h : History) (s : Pending) (p : Path) → change_fault h s (Remove p) ≡ None → CanPut s.tree p
 can_remove h s p e =
-    let a = or_none (root_fault p) (option_or (above_fault s.tree p) (missing_fault (s.tree p))) e in
-    (a.0, (or_none (above_fault s.tree p) (missing_fault (s.tree p)) a.1).0)
+    let a = option_or_none (root_fault p) (option_or (above_fault s.tree p) (missing_fault (s.tree p))) e in
+    (a.0, (option_or_none (above_fault s.tree p) (missing_fault (s.tree p)) a.1).0)
 
 pub next_is : (lines : ℕ) (o : Option Place) (b : Bool) → b ≡ is_some o → cond b lines (lines + 1) ≡ lines_after lines o
 next_is lines None b e = rw e refl
@@ -75,8 +77,8 @@ some_by (Some p) h = refl
 pub can_set_prop : (h : History) (s : Pending) (p : Path) (name : List ℕ) (value : Option (List ℕ))
     → change_fault h s (SetProp p name value) ≡ None → IsWay s.tree p
 can_set_prop h s p name value e =
-    let a = or_none (value_fault value) (option_or (above_fault s.tree p) (missing_fault (s.tree p))) e in
-    let b = or_none (above_fault s.tree p) (missing_fault (s.tree p)) a.1 in
+    let a = option_or_none (value_fault value) (option_or (above_fault s.tree p) (missing_fault (s.tree p))) e in
+    let b = option_or_none (above_fault s.tree p) (missing_fault (s.tree p)) a.1 in
     way_whole s.tree p b.0 (some_by (s.tree p) b.1)
 
 kind_with_prop : (name : List ℕ) (value : Option (List ℕ)) (o : Option Place)
@@ -119,12 +121,13 @@ can_copy h s rev source path e =
     let depth : Option _ = copy_depth_fault (node_at h) (look h rev source) path in
     let exists : Option _ = fault_if (is_some (s.tree path)) Exists in
     let above : Option _ = above_fault s.tree path in
-    let a = or_none (root_fault path) (copy_fault h s.tree rev source path) e in
-    let b = or_none (revision_fault h rev) (option_or (walk_fault (tree_at h rev) source) (option_or above (option_or exists depth))) a.1 in
-    let c = or_none (walk_fault (tree_at h rev) source) (option_or above (option_or exists depth)) b.1 in
-    let d = or_none above (option_or exists depth) c.1 in
-    let f = or_none exists depth d.1 in
-    let g = or_none (above_fault (tree_at h rev) source) (missing_fault (tree_at h rev source)) c.0 in
+    let a = option_or_none (root_fault path) (copy_fault h s.tree rev source path) e in
+    let b = option_or_none (revision_fault h rev)
+    (option_or (walk_fault (tree_at h rev) source) (option_or above (option_or exists depth))) a.1 in
+    let c = option_or_none (walk_fault (tree_at h rev) source) (option_or above (option_or exists depth)) b.1 in
+    let d = option_or_none above (option_or exists depth) c.1 in
+    let f = option_or_none exists depth d.1 in
+    let g = option_or_none (above_fault (tree_at h rev) source) (missing_fault (tree_at h rev source)) c.0 in
     record {
       not_root = a.0;
       revision = b.0;

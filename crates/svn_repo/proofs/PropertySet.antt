@@ -1,12 +1,14 @@
 -- A property of one fresh node of a draft is set: the tree changes there alone.
-use Rattle.std.proofs.Common.{◌≡◌, ◌≢◌, ℕ, ◌≤◌, true, false, cond, List, [], ◌∷◌, ◌++◌, refl, arith, Option, Some, None, subst, sym, ap}
+use Rattle.std.proofs.Common.{◌≡◌, ◌≢◌, ℕ, ◌≤◌, false, cond, List, [], ◌∷◌, ◌++◌, refl, arith, Option, Some, None, subst, sym, ap}
 use Rattle.std.proofs.Common.{◌∙◌, append-nil, inl, inr}
-use Rattle.std.specs.Prelude.{bytes_eq}
-use Rattle.std.proofs.lemmas.Slice.Eq.{bytes_eq-Decides}
 use Rattle.std.specs.List.{slice_get, slice_set}
 use Rattle.std.specs.Option.{option_and_then, option_map, is_some}
 use Rattle.std.proofs.lemmas.Bool.{cases_eq}
 use Rattle.std.proofs.lemmas.Grind.{common_steps}
+use Rattle.std.proofs.lemmas.Option.{slice_get_within}
+use Rattle.svn_lists.proofs.Equality.{bytes_eq-same}
+use Rattle.svn_lists.proofs.Options.{and_then_same}
+use Rattle.svn_lists.proofs.Places.{slice_get-set_other, slice_get-set_same}
 use Rattle.svn_repo.specs.declared.store.Node.{Node}
 use Rattle.svn_types.specs.Names.{Path}
 use Rattle.svn_types.specs.Pairs.{with_value}
@@ -15,18 +17,14 @@ use Rattle.svn_repo.specs.Stored.{row_of, rows}
 use Rattle.svn_repo.specs.Walks.{rest_below, led}
 use Rattle.svn_repo.specs.Trees.{Place, place_of, place_at, touched, touch, graft, is_within, place_with_prop, with_prop}
 use Rattle.svn_repo.specs.Drafts.{IsDraftEntries, SetsProp, shape_at, tree_in, IsThawed, IsGrafted}
-use Rattle.svn_repo.proofs.EntryWrites.{slice_get-set_other, slice_get-set_same}
-use Rattle.svn_repo.proofs.Walking.{and_then_same, rest_below_is}
+use Rattle.svn_repo.proofs.Walking.{rest_below_is}
 use Rattle.svn_repo.proofs.Thawing.{place_from_shape, place_fresh, rest_below_self}
-
-same_name : (m : List ℕ) → bytes_eq m m ≡ true
-same_name m = (bytes_eq-Decides m m).1 refl
 
 pub sets_prop : (old : List Node) (at : ℕ) (node : Node) (name : List ℕ) (value : Option (List ℕ)) (ps : List (List ℕ × List ℕ))
     → slice_get old at ≡ Some node → ps ≡ with_value node.props name value
     → SetsProp old (slice_set old at (record node { props = ps })) at name value
 sets_prop old at node name value ps here is =
-    let now = ap (option_map row_of) (slice_get-set_same old at (record node { props = ps }) node here) in
+    let now = ap (option_map row_of) (slice_get-set_same old at (record node { props = ps }) (slice_get_within old at node here)) in
     let was : rows old at ≡ Some (row_of node) = ap (option_map row_of) here in
     record {
       size = grind (arith, common_steps);
@@ -85,7 +83,7 @@ module _ (base : ℕ) (old mid new : List Node) (from root at : ℕ) (p : Path) 
     where
       longer : (p : Path) → is_within (p ++ x ∷ r) p ≡ false
       longer [] = refl
-      longer (m ∷ p) = rw (same_name m) (longer p)
+      longer (m ∷ p) = rw (bytes_eq-same m) (longer p)
 
   prop_tree : (q : Path) → tree_in base new root q ≡ graft (tree_in base old from) p (with_prop (tree_in base old from) p name value) q
   prop_tree q = by_rest (rest_below p q) refl

@@ -8,6 +8,7 @@ use Rattle.std.specs.Map.{keys_of, values_of}
 use Rattle.std.proofs.Math.Dec.{leb-zero, leb-suc-zero}
 use Rattle.std.proofs.lemmas.List.Elements.{All-nil, All-head, All-tail}
 use Rattle.std.proofs.lemmas.Option.{slice_get_within}
+use Rattle.svn_lists.proofs.Options.{and_then_parts}
 use Rattle.svn_types.specs.declared.kind.Kind.TheVariants.{Directory}
 use Rattle.svn_types.specs.Names.{Path, IsName}
 use Rattle.svn_repo.specs.declared.store.Node.{Node}
@@ -18,7 +19,6 @@ use Rattle.svn_types.specs.Limits.{path_limit, size_limit}
 use Rattle.svn_repo.specs.Trees.{Place, place_of, place_at, tree_at}
 use Rattle.svn_repo.specs.Stored.{row_of, rows, IsRepository, IsLawfulRow, IsLawfulPlace, IsHeight, AreHeights}
 use Rattle.svn_name_map.proofs.Pairs.{in_order-nil}
-use Rattle.svn_repo.proofs.Walking.{and_then_parts}
 use Rattle.svn_repo.proofs.Thawing.{walk_stays}
 use Rattle.svn_repo.proofs.OldRevisions.{nodes_are}
 

@@ -1,8 +1,9 @@
 -- What stands at a path of a draft.
-use Rattle.std.proofs.Common.{◌≡◌, ℕ, ◌<◌, suc, zero, true, cond, List, [], ◌∷◌, length, refl, arith, Option, Some, None, sym, ap, ◌∙◌}
+use Rattle.std.proofs.Common.{◌≡◌, ℕ, ◌<◌, true, cond, List, length, refl, Option, Some, None, sym, ap, ◌∙◌}
 use Rattle.std.specs.Prelude.{nat_lt}
 use Rattle.std.specs.List.{slice_get}
 use Rattle.std.specs.Option.{option_and_then, option_map, is_some}
+use Rattle.svn_lists.proofs.Places.{is_some-slice_get}
 use Rattle.svn_repo.specs.declared.store.Node.{Node}
 use Rattle.svn_types.specs.Names.{Path}
 use Rattle.svn_repo.specs.History.{walk}
@@ -11,17 +12,12 @@ use Rattle.svn_repo.specs.Trees.{place_of, place_at}
 use Rattle.svn_repo.specs.Drafts.{IsClosedIn, tree_in}
 use Rattle.svn_repo.proofs.Thawing.{in_range}
 
-slice_get_inside : {X : Type 0} (xs : List X) (n : ℕ) → n < length xs → is_some (slice_get xs n) ≡ true
-slice_get_inside [] n h = absurd (omega arith)
-slice_get_inside (x ∷ xs) zero h = refl
-slice_get_inside (x ∷ xs) (suc n) h = slice_get_inside xs n (omega arith)
-
 is_some-maps : (number : Option ℕ) (o : Option Node) → is_some (option_map (place_of number) (option_map row_of o)) ≡ is_some o
 is_some-maps number None = refl
 is_some-maps number (Some x) = refl
 
 pub is_some-place_at : (base : ℕ) (nodes : List Node) (n : ℕ) → n < length nodes → is_some (place_at (rows nodes) base n) ≡ true
-is_some-place_at base nodes n h = is_some-maps (cond (nat_lt n base) (Some n) None) (slice_get nodes n) ∙ slice_get_inside nodes n h
+is_some-place_at base nodes n h = is_some-maps (cond (nat_lt n base) (Some n) None) (slice_get nodes n) ∙ is_some-slice_get nodes n h
 
 pub by_walk : (base : ℕ) (nodes : List Node) (o : Option ℕ) → ((n : ℕ) → o ≡ Some n → n < length nodes)
     → is_some o ≡ is_some (option_and_then (place_at (rows nodes) base) o)

@@ -7,6 +7,7 @@ use Rattle.std.specs.Option.{option_and_then, option_map, option_or, is_some}
 use Rattle.std.proofs.lemmas.Bool.{eq-eqb, or_parts}
 use Rattle.std.proofs.lemmas.List.Folds.{list_any-append}
 use Rattle.std.proofs.lemmas.Option.{slice_get_within}
+use Rattle.svn_lists.proofs.Options.{and_then_parts, option_or_none}
 use Rattle.svn_types.specs.declared.kind.Kind.{Kind}
 use Rattle.svn_types.specs.declared.kind.Kind.TheVariants.{File, Directory}
 use Rattle.svn_repo.specs.declared.change.Change.{Change}
@@ -23,8 +24,8 @@ use Rattle.svn_repo.specs.Changes.{Pending, latest_pending, root_fault, above_fa
 use Rattle.svn_repo.specs.Changes.{directory_fault_at, copy_fault, copy_depth_fault, walk_fault, revision_fault, change_fault}
 use Rattle.svn_repo.specs.Changes.{changes_fault, after_change, after_changes, with_text, IsCommit, IsRevision, StandsIn}
 use Rattle.svn_repo.specs.Laws.{ChangesKeepLines, AreCommits, NodesExist, no_commit, one_more, latest_of, removes}
-use Rattle.svn_repo.proofs.Walking.{and_then_parts, walk-append, rest_below_is}
-use Rattle.svn_repo.proofs.Faults.{or_none, some_directory}
+use Rattle.svn_repo.proofs.Walking.{walk-append, rest_below_is}
+use Rattle.svn_repo.proofs.Faults.{some_directory}
 use Rattle.svn_repo.proofs.Meanings.{rest_below_append, some_row, latest_after, stays}
 
 -- something of the line and the kind of x stands there
@@ -50,27 +51,28 @@ not_directory o e f = let bad : Some NotFile ≡ None = sym (ap (λ b. fault_if 
 free_for_directory : (h : History) (s : Pending) (p : Path) → change_fault h s (MakeDir p) ≡ None
     → fault_if (is_some (s.tree p)) Exists ≡ None
 free_for_directory h s p none =
-    let a = or_none (root_fault p) (directory_fault_at s.tree p) none in
-    let b = or_none (above_fault s.tree p) (option_or (fault_if (is_some (s.tree p)) Exists) (depth_fault p)) a.1 in
-    (or_none (fault_if (is_some (s.tree p)) Exists) (depth_fault p) b.1).0
+    let a = option_or_none (root_fault p) (directory_fault_at s.tree p) none in
+    let b = option_or_none (above_fault s.tree p) (option_or (fault_if (is_some (s.tree p)) Exists) (depth_fault p)) a.1 in
+    (option_or_none (fault_if (is_some (s.tree p)) Exists) (depth_fault p) b.1).0
 
 free_for_copy : (h : History) (s : Pending) (rev : ℕ) (source p : Path) → change_fault h s (CopyFrom rev source p) ≡ None
     → fault_if (is_some (s.tree p)) Exists ≡ None
 free_for_copy h s rev source p none =
-    let a = or_none (root_fault p) (copy_fault h s.tree rev source p) none in
+    let a = option_or_none (root_fault p) (copy_fault h s.tree rev source p) none in
     let rest : Option CommitFault = option_or (fault_if (is_some (s.tree p)) Exists) (copy_depth_fault (node_at h) (look h rev source) p) in
-    let b = or_none (revision_fault h rev) (option_or (walk_fault (tree_at h rev) source) (option_or (above_fault s.tree p) rest)) a.1 in
-    let c = or_none (walk_fault (tree_at h rev) source) (option_or (above_fault s.tree p) rest) b.1 in
-    let d = or_none (above_fault s.tree p) rest c.1 in
-    (or_none (fault_if (is_some (s.tree p)) Exists) (copy_depth_fault (node_at h) (look h rev source) p) d.1).0
+    let b = option_or_none (revision_fault h rev)
+    (option_or (walk_fault (tree_at h rev) source) (option_or (above_fault s.tree p) rest)) a.1 in
+    let c = option_or_none (walk_fault (tree_at h rev) source) (option_or (above_fault s.tree p) rest) b.1 in
+    let d = option_or_none (above_fault s.tree p) rest c.1 in
+    (option_or_none (fault_if (is_some (s.tree p)) Exists) (copy_depth_fault (node_at h) (look h rev source) p) d.1).0
 
 free_for_text : (h : History) (s : Pending) (p : Path) (text : List ℕ) → change_fault h s (PutFile p text) ≡ None
     → fault_if (is_directory_place (s.tree p)) NotFile ≡ None
 free_for_text h s p text none =
-    let a = or_none (root_fault p) (option_or (size_fault text) (file_fault_at s.tree p)) none in
-    let b = or_none (size_fault text) (file_fault_at s.tree p) a.1 in
-    let c = or_none (above_fault s.tree p) (option_or (fault_if (is_directory_place (s.tree p)) NotFile) (depth_fault p)) b.1 in
-    (or_none (fault_if (is_directory_place (s.tree p)) NotFile) (depth_fault p) c.1).0
+    let a = option_or_none (root_fault p) (option_or (size_fault text) (file_fault_at s.tree p)) none in
+    let b = option_or_none (size_fault text) (file_fault_at s.tree p) a.1 in
+    let c = option_or_none (above_fault s.tree p) (option_or (fault_if (is_directory_place (s.tree p)) NotFile) (depth_fault p)) b.1 in
+    (option_or_none (fault_if (is_directory_place (s.tree p)) NotFile) (depth_fault p) c.1).0
 
 -- ---- kinds
 
@@ -184,7 +186,7 @@ all_kept : (h : History) (s : Pending) (cs : List Change) (q : Path) (line : ℕ
     → list_any (removes q) cs ≡ false → Stands s.tree q line → Stands (after_changes h s cs).tree q line
 all_kept h s [] q line none left stands = stands
 all_kept h s (c ∷ cs) q line none left stands =
-    let f = or_none (change_fault h s c) (changes_fault h (after_change h s c) cs) none in
+    let f = option_or_none (change_fault h s c) (changes_fault h (after_change h s c) cs) none in
     let n = or_parts (removes q c) (list_any (removes q) cs) left in
     let x = stands.1 in
     let k = kept_at h s c q x.0 f.0 n.0 stands.0 x.1 in

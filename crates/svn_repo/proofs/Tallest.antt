@@ -1,6 +1,6 @@
 -- The height of a node from those of its children.
-use Rattle.std.proofs.Common.{◌≡◌, ◌≢◌, ℕ, zero, suc, ◌+◌, ◌<◌, ◌≤◌, Bool, ◌||◌, List, [], ◌∷◌, ◌++◌, length, length-take}
-use Rattle.std.proofs.Common.{take, max, refl, arith, Option, Some, None, subst, sym, ap, ◌∙◌, ◌⊎◌, inl, inr}
+use Rattle.std.proofs.Common.{◌≡◌, ◌≢◌, ℕ, zero, suc, ◌+◌, ◌<◌, ◌≤◌, Bool, ◌||◌, List, [], ◌∷◌, length}
+use Rattle.std.proofs.Common.{max, refl, arith, Option, Some, None, subst, sym, ap, ◌∙◌, ◌⊎◌, inl, inr}
 use Rattle.std.specs.Prelude.{nat_le}
 use Rattle.std.specs.List.{All, list_any, slice_get, slice_set}
 use Rattle.std.specs.Map.{values_of}
@@ -10,6 +10,8 @@ use Rattle.std.proofs.Math.Dec.{leb-zero, leb-suc-zero}
 use Rattle.std.proofs.lemmas.Bool.{cases_lt, cases_eq, lt-ltb, le-ltb, le-leb, lt-leb}
 use Rattle.std.proofs.lemmas.List.Elements.{All-head, All-tail}
 use Rattle.std.proofs.lemmas.Option.{slice_get_within}
+use Rattle.svn_lists.proofs.Places.{slice_get-set_other, slice_get-set_same, slice_get_in}
+use Rattle.svn_lists.proofs.Tests.{nat_le-max}
 use Rattle.svn_repo.specs.declared.store.Node.{Node}
 use Rattle.svn_repo.specs.History.{Nodes, entries_at, reaches}
 use Rattle.svn_types.specs.Limits.{path_limit}
@@ -18,8 +20,6 @@ use Rattle.svn_repo.specs.Heights.{height_above, height_from, IsOrdered}
 use Rattle.svn_repo.specs.Drafts.{IsDraft, KeepsOld}
 use Rattle.svn_name_map.proofs.Pairs.{all_values}
 use Rattle.svn_repo.proofs.Entering.{children_found}
-use Rattle.svn_repo.proofs.EntryWrites.{slice_get-append, slice_get-set_same, slice_get-set_other}
-use Rattle.svn_repo.proofs.OldRevisions.{slice_get-take, slice_get_in}
 
 -- ---- the numbers
 
@@ -47,15 +47,6 @@ above_is k j h b = elim (cases_lt k 64) [
       | inr past ↦ le-leb (suc j) (k + 1) (omega arith) ∙ sym (le-leb j k past)
     ]
 
-le-max : (j a b : ℕ) → nat_le j (max a b) ≡ (nat_le j a || nat_le j b)
-le-max j a b = elim (cases_lt a j) [
-  | inl left ↦ elim (cases_lt b j) [
-    | inl right ↦ rw (lt-leb j a left, lt-leb j b right) (lt-leb j (max a b) (omega arith))
-    | inr right ↦ rw (lt-leb j a left, le-leb j b right) (le-leb j (max a b) (omega arith))
-  ]
-  | inr left ↦ rw (le-leb j a left) (le-leb j (max a b) (omega arith))
-]
-
 -- ---- a node
 
 -- the height of the child is known
@@ -71,7 +62,7 @@ any_height hs f j height (e ∷ es) h known =
     let here : nat_le (suc j) (height_above (slice_get hs e.1)) ≡ reaches f j e.1 =
     ap (λ o. nat_le (suc j) (height_above o)) first.1 ∙ above_is first.0 j h first.2.bounded ∙ sym (first.2.exact j (omega arith)) in
     any_height hs f j (max height (height_above (slice_get hs e.1))) es h rest
-    ∙ ap (λ b. b || list_any (λ e. reaches f j e.1) es) (le-max (suc j) height (height_above (slice_get hs e.1))
+    ∙ ap (λ b. b || list_any (λ e. reaches f j e.1) es) (nat_le-max (suc j) height (height_above (slice_get hs e.1))
     ∙ ap (λ b. nat_le (suc j) height || b) here)
     ∙ or_assoc (nat_le (suc j) height) (reaches f j e.1) (list_any (λ e. reaches f j e.1) es)
 
@@ -126,7 +117,8 @@ pub done_more : (base : ℕ) (nodes : List Node) (hs : List ℕ) (n v : ℕ) →
 done_more base nodes hs n v ordered fresh inside size done is m k h e = elim (cases_eq m n) [
   | inl same ↦
       let was = slice_get_in hs n (omega arith) in
-      let now : slice_get (slice_set hs n v) m ≡ Some v = ap (slice_get (slice_set hs n v)) same ∙ slice_get-set_same hs n v was.0 was.1 in
+      let now : slice_get (slice_set hs n v) m ≡ Some v = ap (slice_get (slice_set hs n v)) same
+      ∙ slice_get-set_same hs n v (slice_get_within hs n was.0 was.1) in
       let value : Some v ≡ Some k = sym now ∙ e in
       let k_is : v ≡ k = cc in
       let height : IsHeight (rows nodes) n (height_from hs 0 (entries_at (rows nodes n))) =
@@ -138,13 +130,6 @@ done_more base nodes hs n v ordered fresh inside size done is m k h e = elim (ca
     later : (m < base) ⊎ (n ≤ m) → m ≢ n → (m < base) ⊎ (n + 1 ≤ m)
     later (inl b) ne = inl b
     later (inr b) ne = inr (omega arith)
-
--- the list made longer has what it had
-pub resized_same : (old new ys : List ℕ) (n : ℕ) → new ≡ take n old ++ ys → length old ≤ n → (m : ℕ) → m < length old
-    → slice_get new m ≡ slice_get old m
-resized_same old new ys n e grown m h =
-    ap (λ xs. slice_get xs m) e ∙ slice_get-append (take n old) ys m (omega (arith, length-take n old))
-    ∙ slice_get-take old n m (omega arith)
 
 pub done_none : (base : ℕ) (nodes : List Node) (old hs : List ℕ) → base ≡ length old → length hs ≡ length nodes
     → ((m : ℕ) → m < length old → slice_get hs m ≡ slice_get old m) → ((m k : ℕ) → slice_get old m ≡ Some k → IsHeight (rows nodes) m k)

@@ -7,6 +7,8 @@ use Rattle.std.specs.Cmp.Lexicographic.{pointwise}
 use Rattle.std.proofs.lemmas.Bool.{cases_Bool, cases_lt, cases_eq, le-ltb}
 use Rattle.std.proofs.lemmas.Option.{slice_get_past}
 use Rattle.std.proofs.lemmas.Slice.Eq.{bytes_eq-Decides, slice_eq-Decides}
+use Rattle.svn_lists.proofs.Options.{and_then_parts, and_then_same}
+use Rattle.svn_lists.proofs.Places.{slice_get-append, slice_get-push}
 use Rattle.svn_repo.specs.declared.store.Node.{Node}
 use Rattle.svn_types.specs.Names.{Path}
 use Rattle.svn_repo.specs.History.{Nodes, NodeRow, entries_at, child_in, walk}
@@ -14,9 +16,9 @@ use Rattle.svn_repo.specs.Stored.{row_of, rows, entries_of}
 use Rattle.svn_repo.specs.Walks.{rest_below, led}
 use Rattle.svn_repo.specs.Trees.{Place, Tree, place_of, place_at, tree_below, touched, touch, is_within}
 use Rattle.svn_repo.specs.Drafts.{IsDraft, IsDraftEntries, IsClosedIn, ThawsChild, already, copied, PutsChild, shape_at, tree_in, IsThawed}
-use Rattle.svn_repo.proofs.EntryWrites.{slice_get-append, slice_get-push, shape_put}
+use Rattle.svn_repo.proofs.EntryWrites.{shape_put}
 use Rattle.svn_repo.proofs.Entering.{old_entries, each-push, each-put}
-use Rattle.svn_repo.proofs.Walking.{SameBut, IsApart, IsOnlyWay, and_then_same, and_then_parts, walk_step, walk_on, walk_after_put}
+use Rattle.svn_repo.proofs.Walking.{SameBut, IsApart, IsOnlyWay, walk_step, walk_on, walk_after_put}
 use Rattle.svn_repo.proofs.Walking.{rest_below_is}
 
 -- ---- paths

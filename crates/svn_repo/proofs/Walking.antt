@@ -5,6 +5,7 @@ use Rattle.std.specs.Prelude.{bytes_eq, slice_get}
 use Rattle.std.specs.Option.{option_and_then}
 use Rattle.std.proofs.lemmas.Bool.{cases_Bool}
 use Rattle.std.proofs.lemmas.Slice.Eq.{bytes_eq-Decides}
+use Rattle.svn_lists.proofs.Options.{and_then_parts, and_then_same}
 use Rattle.svn_types.specs.Names.{Path}
 use Rattle.svn_repo.specs.History.{History, Nodes, node_at, child_in, walk, look}
 use Rattle.svn_repo.specs.Walks.{rest_below, led}
@@ -21,16 +22,6 @@ IsApart f n k = (r : Path) → walk f n r ≡ Some k → ⊥
 pub record IsOnlyWay (f : Nodes) (n : ℕ) (p : Path) (k : ℕ) : Type 0 where
   pub leads : walk f n p ≡ Some k
   pub only : (r : Path) → walk f n r ≡ Some k → r ≡ p
-
-pub and_then_same : {A B : Type 0} (u v : A → Option B) (o : Option A) → ((x : A) → o ≡ Some x → u x ≡ v x)
-    → option_and_then u o ≡ option_and_then v o
-and_then_same u v None h = refl
-and_then_same u v (Some x) h = h x refl
-
-pub and_then_parts : {A B : Type 0} (u : A → Option B) (o : Option A) (y : B) → option_and_then u o ≡ Some y
-    → (x : A) × (o ≡ Some x) × (u x ≡ Some y)
-and_then_parts u None y h = cc
-and_then_parts u (Some x) y h = (x, refl, h)
 
 -- the first step of a walk
 pub walk_step : (f : Nodes) (n c : ℕ) (name : List ℕ) (q : Path) → child_in (f n) name ≡ Some c → walk f n (name ∷ q) ≡ walk f c q

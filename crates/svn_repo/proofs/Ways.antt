@@ -5,6 +5,7 @@ use Rattle.std.specs.Prelude.{IsSome, nat_lt}
 use Rattle.std.specs.List.{slice_get}
 use Rattle.std.specs.Option.{option_and_then, option_map, is_some}
 use Rattle.std.proofs.lemmas.List.{take_more}
+use Rattle.svn_lists.proofs.Options.{some_from_and_then}
 use Rattle.svn_repo.specs.declared.store.Node.{Node}
 use Rattle.svn_repo.specs.declared.store.Content.{Content}
 use Rattle.svn_repo.specs.declared.store.Content.TheVariants.{Text, Listing}
@@ -50,21 +51,13 @@ listing_at base nodes root n q here h =
     listing_from nodes n (cond (nat_lt n base) (Some n) None) (slice_get nodes n) refl
     (sym (ap (λ o. is_directory_place (option_and_then (place_at (rows nodes) base) o)) here) ∙ h)
 
-some_parts : {A B : Type 0} (u : A → Option B) (o : Option A) → is_some (option_and_then u o) ≡ true → is_some o ≡ true
-some_parts u None h = h
-some_parts u (Some x) h = refl
-
-some_is : {A : Type 0} (o : Option A) → is_some o ≡ true → IsSome o
-some_is None h = let bad : false ≡ true = h in cc
-some_is (Some x) h = search
-
 pub child_present : (base : ℕ) (nodes : List Node) (root n : ℕ) (p : Path) (name : List ℕ) → walk (rows nodes) root p ≡ Some n
     → is_some (tree_in base nodes root (p ++ name ∷ [])) ≡ true → IsSome (child_in (rows nodes n) name)
 child_present base nodes root n p name here h =
-    let walked : is_some (walk (rows nodes) root (p ++ name ∷ [])) ≡ true = some_parts (place_at (rows nodes) base) _ h in
+    let walked : is_some (walk (rows nodes) root (p ++ name ∷ [])) ≡ true = some_from_and_then (place_at (rows nodes) base) _ h in
     let step : is_some (walk (rows nodes) n (name ∷ [])) ≡ true = sym (ap is_some (walk_on (rows nodes) root n p (name ∷ []) here))
     ∙ walked in
-    some_is (child_in (rows nodes n) name) (some_parts (λ m. walk (rows nodes) m []) (child_in (rows nodes n) name) step)
+    (some_from_and_then (λ m. walk (rows nodes) m []) (child_in (rows nodes n) name) step)
 
 -- one more name of the way
 module _ (base : ℕ) (old between : List Node) (root at : ℕ) (names : Path) (i : ℕ) (name : List ℕ)

@@ -9,7 +9,7 @@ use thiserror::Error;
 
 /// One change of a commit (of a transaction, `svn_fs.h`). Each makes afresh every directory above its path; what it doesn't make stays the node
 /// revision that it was. What `Repo::commit` asks of a field stands there; and directories have to stand above each path.
-#[derive(Debug, Drop)]
+#[derive(Clone, Debug, PartialEq, Eq, Drop)]
 pub enum Change {
     /// Makes a directory of a new line, without entries and properties, where nothing stands.
     MakeDir {

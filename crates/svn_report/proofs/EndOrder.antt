@@ -9,11 +9,12 @@ use Rattle.std.specs.declared.cmp.Ordering.TheVariants.{Less, Equal, Greater}
 use Rattle.std.specs.Ordering.{is_eq, ordering_then, ordering_reverse}
 use Rattle.std.specs.BTreeMap.{is_at}
 use Rattle.std.specs.Cmp.Lexicographic.{texts_ties}
+use Rattle.svn_lists.proofs.Equality.{bytes_eq-same, same_bytes}
 use Rattle.svn_types.specs.Names.{Path, name_cmp, path_cmp}
 use Rattle.svn_types.specs.Paths.{path_eq, is_within, is_below, child}
 use Rattle.svn_report.specs.ReportNames.{next_name}
 use Rattle.svn_report.specs.ReportOrder.{end_cmp, end_total}
-use Rattle.svn_types.proofs.NameLemmas.{Name, same_bytes, bytes_eq-same, name_cmp-same, level_names}
+use Rattle.svn_types.proofs.NameLemmas.{Name, name_cmp-same, level_names}
 use Rattle.svn_types.proofs.PathsInOrder.{paths_total, path_tie, before_apart}
 
 -- ---- a path strictly beneath another has more names

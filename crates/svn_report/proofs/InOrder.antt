@@ -6,20 +6,23 @@ use Rattle.std.specs.List.Sorted.{IsPartitionPoint, IsPartitionedBy}
 use Rattle.std.specs.declared.cmp.Ordering.{Ordering}
 use Rattle.std.specs.declared.cmp.Ordering.TheVariants.{Less, Equal, Greater}
 use Rattle.std.specs.Ordering.{is_le, is_lt, ordering_then, ordering_reverse, is_eq}
-use Rattle.std.proofs.lemmas.Bool.{and_parts, cases_lt}
+use Rattle.std.proofs.lemmas.Bool.{and_parts, cases_lt, not-false, not-true}
 use Rattle.std.proofs.lemmas.List.{take_all}
 use Rattle.std.proofs.lemmas.Option.{slice_get_within, slice_get-get_or, get_or_from_slice_get, same_Some}
 use Rattle.std.specs.Cmp.Lexicographic.{texts_ties}
 use Rattle.std.specs.Option.{option_to_list}
+use Rattle.svn_lists.proofs.Options.{some-none}
+use Rattle.svn_lists.proofs.Orderings.{less_from_is_lt}
+use Rattle.svn_lists.proofs.Places.{slice_get_push_cases, take_next}
 use Rattle.svn_types.specs.Names.{Path, name_cmp, path_cmp}
 use Rattle.svn_types.specs.Paths.{path_eq, is_within, child}
 use Rattle.svn_report.specs.declared.entry.ReportEntry.{ReportEntry}
 use Rattle.svn_report.specs.Reports.{Entries, entry_at}
 use Rattle.svn_report.specs.LawfulReports.{AreLawfulEntries}
-use Rattle.svn_report.specs.ReportOrder.{InPathOrder, IsNextEntry, IsPreviousEntry, IsFirstBehind, ComesLast, has_entry, is_behind_name, is_ahead_of_name}
-use Rattle.svn_types.proofs.NameLemmas.{Name, is_less, level_names}
+use Rattle.svn_report.specs.ReportOrder.{InPathOrder, IsNextEntry, IsPreviousEntry, IsFirstBehind, ComesLast, has_entry, is_behind_name}
+use Rattle.svn_report.specs.ReportOrder.{is_ahead_of_name}
+use Rattle.svn_types.proofs.NameLemmas.{Name, level_names}
 use Rattle.svn_types.proofs.PathLemmas.{same_path, path_eq-same}
-use Rattle.svn_types.proofs.Places.{some_none, get_cases, take_more}
 use Rattle.svn_types.proofs.PathsInOrder.{paths_total, path_tie, not_before_itself, not_both, within_between}
 
 -- where a path stands that has an entry
@@ -36,7 +39,7 @@ place_of (f ∷ es) q h = by (path_eq f.0 q) refl h (place_of es q)
 
 no_entry : (es : Entries) (k : ℕ) → slice_get es k ≡ None → k < length es → ⊥
 no_entry [] k h l = omega (arith, l)
-no_entry (e ∷ es) zero h l = some_none e h
+no_entry (e ∷ es) zero h l = some-none e h
 no_entry (e ∷ es) (suc k) h l = no_entry es k h (omega (arith, l))
 
 -- a test that holds before each path at which it holds parts the entries
@@ -161,7 +164,7 @@ le_parts p x y l h = by (path_cmp y p) refl h
     by Greater e h = absurd (true≢false (sym h))
 
 pub lt_parts : (p x y : Path) → path_cmp x y ≡ Less → is_lt (path_cmp y p) ≡ true → is_lt (path_cmp x p) ≡ true
-lt_parts p x y l h = ap is_lt (paths_total.trans x y p l (is_less (path_cmp y p) h))
+lt_parts p x y l h = ap is_lt (paths_total.trans x y p l (less_from_is_lt (path_cmp y p) h))
 
 pub next_at : (es : Entries) (p : Path) (i : ℕ) (found : Option Path) → InPathOrder es → AreLawfulEntries es
     → IsPartitionPoint (λ e. is_le (path_cmp e.0 p) ≡ true) (λ e. is_le (path_cmp e.0 p) ≡ false) es i
@@ -197,7 +200,7 @@ none_past es x q ordered h has l = by (cases_lt r.0 (length es - 1))
 pub previous_last : (es : Entries) (p : Path) (x : Path × ReportEntry) → InPathOrder es → AreLawfulEntries es
     → slice_get es (length es - 1) ≡ Some x → is_lt (path_cmp x.0 p) ≡ true → IsPreviousEntry es p (Some x.0)
 previous_last es p x ordered lawful h l = (
-  is_less (path_cmp x.0 p) l,
+  less_from_is_lt (path_cmp x.0 p) l,
   ap is_some (lawful.each_once (length es - 1) x h),
   λ q before has after. none_past es x q ordered h has after,
 )
@@ -214,17 +217,13 @@ previous_at es p i k found ordered lawful point bound one e = subst (IsPreviousE
     by None h = λ q l. absurd (no_entry es k h (omega (arith, bound, one)))
     by (Some x) h =
         let at = passes_before es pred i ordered lawful point k x one h in
-        (is_less (path_cmp x.0 p) at.0, at.1, λ q l has. last_passing es pred i ordered lawful point k x one h q (ap is_lt l) has)
+        (less_from_is_lt (path_cmp x.0 p) at.0, at.1, λ q l has. last_passing es pred i ordered lawful point k x one h q (ap is_lt l) has)
 
 pub previous_none_at : (es : Entries) (p : Path) (i : ℕ) → InPathOrder es → AreLawfulEntries es
     → IsPartitionPoint (λ e. is_lt (path_cmp e.0 p) ≡ true) (λ e. is_lt (path_cmp e.0 p) ≡ false) es i → i ≡ zero → IsPreviousEntry es p None
 previous_none_at es p i ordered lawful point e = λ q l. none_passing es (λ q. is_lt (path_cmp q p)) i ordered lawful point e q (ap is_lt l)
 
 -- ---- a path that has no entry, by the point of a comparison
-
-pub not_true : (b : Bool) → not b ≡ true → b ≡ false
-not_true true h = absurd (true≢false (sym h))
-not_true false h = refl
 
 not_before : (p : Path) → is_lt (path_cmp p p) ≡ false
 not_before p = by (path_cmp p p) refl
@@ -241,7 +240,7 @@ none_at es p i ordered lawful point e = by (slice_get es i) refl e
   where
     by : (o : Option (Path × ReportEntry)) → slice_get es i ≡ o → None ≡ option_map (λ e. e.0) o → has_entry es p ≡ false
     by None h e = none_failing es (λ q. is_lt (path_cmp q p)) i ordered lawful point h p (not_before p)
-    by (Some x) h e = absurd (some_none x.0 (sym e))
+    by (Some x) h e = absurd (some-none x.0 (sym e))
 
 pub another_at : (es : Entries) (p q : Path) (i : ℕ) → InPathOrder es → AreLawfulEntries es
     → IsPartitionPoint (λ e. is_lt (path_cmp e.0 p) ≡ true) (λ e. is_lt (path_cmp e.0 p) ≡ false) es i
@@ -260,7 +259,7 @@ another_at es p q i ordered lawful point e apart = by (slice_get es i) refl e
         at Greater e = absurd (true≢false (sym (ap is_lt (paths_total.antisymm x.0 p ∙ ap ordering_reverse e)) ∙ fails))
 
     by : (o : Option (Path × ReportEntry)) → slice_get es i ≡ o → Some q ≡ option_map (λ e. e.0) o → has_entry es p ≡ false
-    by None h e = absurd (some_none q e)
+    by None h e = absurd (some-none q e)
     by (Some x) h e = at (has_entry es p) refl
       where
         other : path_eq p x.0 ≡ false
@@ -278,7 +277,7 @@ pub behind_parts : (p : Path) (n : Name) (q : Path) → is_behind_name p n q ≡
     → (path_cmp (child p n) q ≡ Less) × (is_within (child p n) q ≡ false)
 behind_parts p n q h =
     let parts = and_parts (is_lt (path_cmp (child p n) q)) (not (is_within (child p n) q)) h in
-    (is_less (path_cmp (child p n) q) parts.0, not_true (is_within (child p n) q) parts.1)
+    (less_from_is_lt (path_cmp (child p n) q) parts.0, not-true (is_within (child p n) q) parts.1)
 
 behind_from : (p : Path) (n : Name) (q : Path) → path_cmp (child p n) q ≡ Less → is_within (child p n) q ≡ false
     → is_behind_name p n q ≡ true
@@ -304,10 +303,6 @@ ahead_parts p n x y l h = by (is_behind_name p n x) refl
     by true k = absurd (true≢false (sym h ∙ ap not (behind_more p n x y l k)))
     by false k = refl
 
-not_false : (b : Bool) → not b ≡ false → b ≡ true
-not_false true h = refl
-not_false false h = absurd (true≢false h)
-
 pub behind_at : (es : Entries) (p : Path) (n : Name) (i : ℕ) (found : Option Path) → InPathOrder es → AreLawfulEntries es
     → IsPartitionPoint (λ e. is_ahead_of_name p n e.0 ≡ true) (λ e. is_ahead_of_name p n e.0 ≡ false) es i
     → found ≡ option_map (λ e. e.0) (slice_get es i) → IsFirstBehind es p n found
@@ -317,7 +312,7 @@ behind_at es p n i found ordered lawful point e = subst (IsFirstBehind es p n) (
     by None h = λ q b. none_failing es (is_ahead_of_name p n) i ordered lawful point h q (ap not b)
     by (Some x) h =
         let at = fails_at es (is_ahead_of_name p n) i ordered lawful point x h in (
-          not_false (is_behind_name p n x.0) at.0,
+          not-false (is_behind_name p n x.0) at.0,
           at.1,
           λ q b has l. first_failing es (is_ahead_of_name p n) i ordered lawful point x h q (ap not b) has l,
         )
@@ -340,7 +335,7 @@ outside_behind (c ∷ p) n (a ∷ q) w = by (name_cmp c a) refl (bytes_eq c a) (
 
 pub named_behind : (p : Path) (n m : Name) (q : Path) → is_within p q ≡ true → slice_get q (length p) ≡ Some m
     → is_lt (name_cmp n m) ≡ is_behind_name p n q
-named_behind [] n m [] w h = absurd (some_none m (sym h))
+named_behind [] n m [] w h = absurd (some-none m (sym h))
 named_behind [] n m (a ∷ q) w h =
     ap (λ (z : Name). is_lt (name_cmp n z)) (sym (same_Some a m h)) ∙ by (name_cmp n a) refl (bytes_eq n a) (texts_ties n a) q
   where
@@ -362,7 +357,7 @@ named_behind (c ∷ p) n m (a ∷ q) w h =
 pub itself_behind : (p : Path) (n : Name) (q : Path) → is_within p q ≡ true → slice_get q (length p) ≡ None
     → false ≡ is_behind_name p n q
 itself_behind [] n [] w h = refl
-itself_behind [] n (a ∷ q) w h = absurd (some_none a h)
+itself_behind [] n (a ∷ q) w h = absurd (some-none a h)
 itself_behind (c ∷ p) n [] w h = absurd (true≢false (sym w))
 itself_behind (c ∷ p) n (a ∷ q) w h =
     let parts = and_parts (bytes_eq c a) (is_within p q) w in
@@ -391,12 +386,12 @@ pub taken_more : (es : Entries) (i : ℕ) (x : Path × ReportEntry) (q : Path) �
 taken_more es i x q h =
     let next : i + 1 ≡ suc i = omega arith in
     ap (λ n. has_entry (take n es) q) next
-    ∙ ap (λ (fs : Entries). has_entry fs q) (sym (take_more es i) ∙ ap (λ o. take i es ++ option_to_list o) h)
+    ∙ ap (λ (fs : Entries). has_entry fs q) (sym (take_next es i) ∙ ap (λ o. take i es ++ option_to_list o) h)
     ∙ has_more (take i es) x q
 
 taken_at : (es : Entries) (i j : ℕ) (e : Path × ReportEntry) → slice_get (take i es) j ≡ Some e → (j < i) × (slice_get es j ≡ Some e)
-taken_at es zero j e h = absurd (some_none e (sym h))
-taken_at [] (suc i) j e h = absurd (some_none e (sym h))
+taken_at es zero j e h = absurd (some-none e (sym h))
+taken_at [] (suc i) j e h = absurd (some-none e (sym h))
 taken_at (f ∷ es) (suc i) zero e h = (omega arith, h)
 taken_at (f ∷ es) (suc i) (suc j) e h = let r = taken_at es i j e h in (omega (arith, r.0), r.1)
 
@@ -418,11 +413,11 @@ taken_all es i q l = ap (λ (fs : Entries). has_entry fs q) (take_all i es l)
 -- ---- one more entry in path order
 
 pub last_of_none : (es : Entries) (p : Path) → length es ≡ zero → ComesLast es p
-last_of_none [] p h j e g = absurd (some_none e (sym g))
+last_of_none [] p h j e g = absurd (some-none e (sym g))
 last_of_none (f ∷ es) p h j e g = absurd (omega (arith, h))
 
 pub ordered_more : (es : Entries) (x : Path × ReportEntry) → InPathOrder es → ComesLast es x.0 → InPathOrder (es ++ x ∷ [])
-ordered_more es x ordered last i j e f l h k = by (get_cases es x i e h) (get_cases es x j f k)
+ordered_more es x ordered last i j e f l h k = by (slice_get_push_cases es x i e h) (slice_get_push_cases es x j f k)
   where
     by : (slice_get es i ≡ Some e) ⊎ ((i ≡ length es) × (x ≡ e)) → (slice_get es j ≡ Some f) ⊎ ((j ≡ length es) × (x ≡ f))
         → path_cmp e.0 f.0 ≡ Less
@@ -447,7 +442,7 @@ pub comes_last : (es : Entries) (p : Path) (x : Path × ReportEntry) → InPathO
 comes_last es p x ordered h l j e g = by (cases_lt j (length es - 1))
   where
     less : path_cmp x.0 p ≡ Less
-    less = is_less (path_cmp x.0 p) l
+    less = less_from_is_lt (path_cmp x.0 p) l
 
     by : (j < length es - 1) ⊎ (length es - 1 ≤ j) → path_cmp e.0 p ≡ Less
     by (inl before) = paths_total.trans e.0 x.0 p (ordered j (length es - 1) e x before g h) less

@@ -8,7 +8,5 @@ pub mod EndOrder
 pub mod NextNames
 -- the reported names beneath a path, one after the other
 pub mod ReportedNames
--- where a test parts entries, told by what stands next to a position
-pub mod Points
 -- what follows the revision in an entry's line
 mod Endings

@@ -16,6 +16,9 @@ use Rattle.std.proofs.lemmas.Bool.{cases_lt, lt-ltb}
 use Rattle.std.proofs.lemmas.Option.{same_Some, slice_get_within}
 use Rattle.std.specs.Ordering.{is_gt, is_le, is_lt, ordering_reverse}
 use Rattle.std.specs.BTreeMap.{is_at}
+use Rattle.svn_lists.proofs.Options.{cond_none, some-none}
+use Rattle.svn_lists.proofs.Places.{slice_get_push_cases}
+use Rattle.svn_lists.proofs.Somewhere.{any_found}
 use Rattle.svn_types.specs.Limits.{path_limit}
 use Rattle.svn_types.specs.Names.{Path, path_cmp}
 use Rattle.svn_types.specs.Paths.{path_eq, is_within, is_below, is_root}
@@ -30,8 +33,6 @@ use Rattle.indexmap.specs.IndexMap.{insert_entry}
 use Rattle.svn_report.specs.ReportOrder.{IsIndexed, IsKept, IsNext, IsNextBy, IsNextEntry, IsPrevious, IsPreviousEntry, has_entry}
 use Rattle.svn_types.proofs.PathLemmas.{same_path, path_eq-same, path_eq-symm, below_parts}
 use Rattle.svn_types.proofs.PathsInOrder.{paths_total, path_tie, at_path, before_apart, earlier, not_both, below_after, within_between}
-use Rattle.svn_editor.proofs.OneMore.{any_found}
-use Rattle.svn_types.proofs.Places.{some_none, passed, get_cases}
 
 -- a look-up by the path is the entry there
 pub lookup_entry : (es : Entries) (p : Path) → lookup (path_eq p) es ≡ entry_at es p
@@ -251,11 +252,11 @@ record IsWelcome (es : Entries) (p : Path) (e : ReportEntry) : Type 0 where
 
 welcome : (es : Entries) (p : Path) (e : ReportEntry) → reporter_fault es p e ≡ None → IsWelcome es p e
 welcome es p e h =
-    let root = passed (is_root_missing es p e) _ _ h in
-    let new = passed (is_some (entry_at es p)) _ _ root.1 in
-    let deleted = passed (list_any (is_deleted_above p) es) _ _ new.1 in
-    let below = passed (has_entry_below es p) _ _ deleted.1 in
-    let short = passed (is_link_too_deep p e) _ _ below.1 in
+    let root = cond_none (is_root_missing es p e) _ _ h in
+    let new = cond_none (is_some (entry_at es p)) _ _ root.1 in
+    let deleted = cond_none (list_any (is_deleted_above p) es) _ _ new.1 in
+    let below = cond_none (has_entry_below es p) _ _ deleted.1 in
+    let short = cond_none (is_link_too_deep p e) _ _ below.1 in
     record { root = root.0; new = new.0; not_deleted = deleted.0; none_below = below.0; short = short.0 }
 
 entry_at-more : (es : Entries) (p : Path) (e : ReportEntry) (q : Path)
@@ -314,7 +315,7 @@ module _ (es : Entries) (p : Path) (e : ReportEntry) (old : AreLawfulEntries es)
       by (f ∷ fs) first missing = first
 
   each_stays : (i : ℕ) (x : Path × ReportEntry) → slice_get (es ++ (p, e) ∷ []) i ≡ Some x → entry_at (es ++ (p, e) ∷ []) x.0 ≡ Some x.1
-  each_stays i x h = entry_at-more es p e x.0 ∙ by (get_cases es (p, e) i x h)
+  each_stays i x h = entry_at-more es p e x.0 ∙ by (slice_get_push_cases es (p, e) i x h)
     where
       by : (slice_get es i ≡ Some x) ⊎ ((i ≡ length es) × ((p, e) ≡ x))
           → option_or (entry_at es x.0) (cond (path_eq p x.0) (Some e) None) ≡ Some x.1
@@ -356,7 +357,7 @@ module _ (es : Entries) (p : Path) (e : ReportEntry) (old : AreLawfulEntries es)
 
   parents_stay : (i j : ℕ) (x y : Path × ReportEntry) → slice_get (es ++ (p, e) ∷ []) i ≡ Some x → slice_get (es ++ (p, e) ∷ []) j ≡ Some y
       → is_below x.0 y.0 ≡ true → i < j
-  parents_stay i j x y h k b = by (get_cases es (p, e) i x h) (get_cases es (p, e) j y k)
+  parents_stay i j x y h k b = by (slice_get_push_cases es (p, e) i x h) (slice_get_push_cases es (p, e) j y k)
     where
       by : (slice_get es i ≡ Some x) ⊎ ((i ≡ length es) × ((p, e) ≡ x)) → (slice_get es j ≡ Some y) ⊎ ((j ≡ length es) × ((p, e) ≡ y))
           → i < j
@@ -392,7 +393,7 @@ module _ (es : Entries) (p : Path) (e : ReportEntry) (old : AreLawfulEntries es)
               subst (λ (z : Path). length z ≤ length q + path_limit) (same_path p a s)
               (not_deep (length q + path_limit) (length p)
               (ap (is_link_too_deep p) (sym (same_Some e (LinkPath q rev start_empty) g)) ∙ w.short))
-          at false s g = absurd (some_none _ (sym g))
+          at false s g = absurd (some-none _ (sym g))
 
   lawful_more : AreLawfulEntries (es ++ (p, e) ∷ [])
   lawful_more = record {
@@ -466,7 +467,7 @@ none_lawful = record {
   each_once = λ i x h. absurd (nothing i x h);
   parents_first = λ i j x y h k b. absurd (nothing i x h);
   nothing_below = λ p q d b. refl;
-  links_short = λ p q rev start_empty h. absurd (some_none _ (sym h));
+  links_short = λ p q rev start_empty h. absurd (some-none _ (sym h));
 }
   where
     nothing : (i : ℕ) (x : Path × ReportEntry) → slice_get [] i ≡ Some x → ⊥

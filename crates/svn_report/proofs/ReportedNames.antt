@@ -10,12 +10,14 @@ use Rattle.std.specs.declared.cmp.Ordering.TheVariants.{Less, Equal, Greater}
 use Rattle.std.specs.Ordering.{is_lt, match_ordering}
 use Rattle.std.specs.Cmp.Lexicographic.{nat_list_cmp_total}
 use Rattle.std.specs.BTreeSet.{insert_key}
+use Rattle.svn_lists.proofs.Equality.{bytes_eq-same, bytes_eq-symm, same_bytes}
+use Rattle.svn_lists.proofs.Orderings.{less_from_is_lt}
 use Rattle.svn_types.specs.Names.{Path, name_cmp}
 use Rattle.svn_types.specs.Paths.{is_within, child}
 use Rattle.svn_report.specs.Reports.{Entries}
 use Rattle.svn_report.specs.ReportNames.{next_name, names_in, reported_names, has_entry_within, ComesAfter, IsNextName, comes_after}
 use Rattle.svn_report.specs.ReportNames.{names_after, names_from}
-use Rattle.svn_types.proofs.NameLemmas.{Name, same_bytes, same_name, bytes_eq-same, bytes_eq-symm, name_cmp-same, is_less, reversed}
+use Rattle.svn_types.proofs.NameLemmas.{Name, same_name, name_cmp-same, reversed}
 use Rattle.svn_types.proofs.NameLemmas.{has_name, has_name-fold}
 
 -- ---- into a set, in whatever order
@@ -179,7 +181,7 @@ ordered_reported p es = ordered-fold (names_in p es) [] tt
 
 comes : (after : Option Name) (m : Name) → comes_after after m ≡ true → ComesAfter after m
 comes None m e = tt
-comes (Some k) m e = is_less (name_cmp k m) e
+comes (Some k) m e = less_from_is_lt (name_cmp k m) e
 
 tests : (after : Option Name) (m : Name) → ComesAfter after m → comes_after after m ≡ true
 tests None m e = refl

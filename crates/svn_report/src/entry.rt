@@ -2,7 +2,7 @@
 use svn_types::{RelPath, Rev};
 
 /// What a report says of the node at a path, by the call of `svn_ra.h` that said it.
-#[derive(Debug, Drop)]
+#[derive(Clone, Debug, PartialEq, Eq, Drop)]
 pub enum ReportEntry {
     /// It is there at a revision, at the repository path that the directory above says.
     SetPath {

@@ -1,10 +1,11 @@
 -- What a run on two threads came to: from what both sides hand back.
-use Rattle.std.proofs.Common.{◌≡◌, ◌≢◌, ℕ, zero, suc, ◌+◌, ◌-◌, ◌<◌, ◌≤◌, Bool, true, false, List, [], ◌∷◌, ◌++◌, length, take, append-nil, refl}
+use Rattle.std.proofs.Common.{◌≡◌, ◌≢◌, ℕ, ◌+◌, ◌-◌, ◌<◌, ◌≤◌, Bool, true, false, List, [], ◌∷◌, ◌++◌, length, take, append-nil, refl}
 use Rattle.std.proofs.Common.{sym, ap, subst, ◌∙◌, arith, length-append}
 use Rattle.std.specs.Prelude.{not, nat_eq, Option, Some, None, IfSome, is_some, Result, Ok, Err, if◌then◌else◌}
 use Rattle.std.proofs.lemmas.Bool.{eq-eqb, eqb-true, eqb-false, ne_eqb}
 use Rattle.std.proofs.lemmas.List.{length-take-le}
 use Rattle.std.proofs.Math.Seq.{take-length}
+use Rattle.svn_lists.proofs.Parts.{take_take_le}
 use Rattle.svn_types.specs.Names.{Path}
 use Rattle.svn_editor.specs.declared.call.Call.{Call}
 use Rattle.svn_editor.specs.declared.call.Call.TheVariants.{AbortEdit}
@@ -56,12 +57,6 @@ made_whole drive n e =
     sym (ap (λ b. take n drive ++ (if b then [] else AbortEdit ∷ [])) (eq-eqb n (length drive) e) ∙ append-nil (take n drive)
     ∙ ap (λ j. take j drive) e ∙ take-length drive)
 
-take_take : (n k : ℕ) (calls : List Call) → n ≤ k → take n (take k calls) ≡ take n calls
-take_take zero k calls le = refl
-take_take (suc n) zero calls le = absurd (omega arith)
-take_take (suc n) (suc k) [] le = refl
-take_take (suc n) (suc k) (c ∷ calls) le = ap (λ l. c ∷ l) (take_take n k calls (omega arith))
-
 module _ (drive : List Call) (all : AllCounted drive) (mode : Mode) (limit : Option ℕ) (w0 : WorkingCopy) (left : Nodes) where
   -- the outcome, and the calls that both threads passed
   pub record Came (o : Outcome) (passed : List Call) : Type 0 where
@@ -105,7 +100,8 @@ module _ (drive : List Call) (all : AllCounted drive) (mode : Mode) (limit : Opt
         (subst (λ j. Came (Aborted j accepted late why) calls) made
         (record {
           came = record {
-            copy = λ p. copy p ∙ ap (λ l. after mode w0 l p) (ap (λ l. take accepted l) inner ∙ take_take accepted k drive (omega arith));
+            copy = λ p. copy p ∙ ap (λ l. after mode w0 l p) (ap (λ l. take accepted l) inner
+                ∙ take_take_le accepted k drive (omega arith));
             accepted = omega arith;
             made = omega arith;
             closed = tt;

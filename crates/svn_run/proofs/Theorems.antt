@@ -16,10 +16,6 @@ use Rattle.svn_run.specs.UpdateTheorem.{IsWantInThreads, made_in, late_in, calls
 use Rattle.svn_run.proofs.Beginning.{same_fault, has_target}
 use Rattle.svn_run.proofs.Composing.{drive_for, sound, ran}
 
--- what holds of a value holds of an equal one
-pub moved : {A : Type 0} (P : A → Type 0) (old new : A) → new ≡ old → P old → P new
-moved P old new same h = subst P (sym same) h
-
 module _ (laws : RunLaws) (a : Asked) (true_copy : IsTrueCopy a.history a.copy) where
   -- a copy that is as it was
   pub unmoved : IsSound a a.copy

@@ -3,14 +3,15 @@ ghost use Rattle.std.specs.Prelude.{◌≡◌, length, true};
 ghost use Rattle.svn_link.specs.Calls.{is_over};
 ghost use Rattle.svn_run.specs.Finishing.{late_of, made_of, cause_of, threads_outcome, IsFinished};
 
-use crate::both::Both;
 use crate::driving::Driven;
-use crate::outcome::{Cause, Outcome};
+use crate::outcome::{Cause, Outcome, memory_of};
 use crate::taking::Taken;
+use crate::two_threads::Both;
 use std::sync::Wait;
 use svn_editor::EditFault;
 use svn_link::{Settled, settle, settle_notice};
 use svn_model::{DriveEnd, DriveFault};
+use svn_types::impossible;
 
 /// Joins the ends again, and says how the run ended.
 pub(crate) fn finish<R: Wait>(rt: &R, both: Both) -> (Outcome, Settled)
@@ -83,11 +84,17 @@ fn late_call(end: &Result<DriveEnd, DriveFault>) -> Option<u64>
     }
 }
 
+// Why not all calls were accepted, by how the driver ended, and whether one was refused: for memory, as each refusal in a run.
 fn cause_by(end: &Result<DriveEnd, DriveFault>, refused: bool) -> Cause
     ensures { result ≡ cause_of end.now refused }
 {
+    if refused {
+        return Cause::Memory;
+    }
     match end {
-        Ok(DriveEnd::Cancelled { .. }) if !refused => Cause::Cancelled,
-        _ => Cause::Memory,
+        Ok(DriveEnd::Cancelled { .. }) => Cause::Cancelled,
+        // where none is refused, all calls are accepted
+        Ok(DriveEnd::Closed { .. }) => impossible(Cause::Memory),
+        Err(fault) => memory_of(*fault),
     }
 }

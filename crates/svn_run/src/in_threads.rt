@@ -7,18 +7,18 @@ ghost use Rattle.svn_model.specs.Nodes.{get_in, IsTrueOf};
 ghost use Rattle.svn_run.specs.Beginning.{fault_at};
 ghost use Rattle.svn_run.specs.UpdateTheorem.{asked, is_capacity, ThreadsTheorem};
 
-use crate::both::{Ends, run_both};
 use crate::finish::finish;
 use crate::gate::Gate;
 use crate::goal::Goal;
 use crate::laws::{laws, true_copy};
 use crate::listener::{Listener, NoListener};
 use crate::outcome::{Outcome, RunFault};
+use crate::two_threads::{Ends, run_both};
 use std::alloc::Global;
 use std::sync::Wait;
 use std::thread::Threads;
 use svn_drive::{DriveOptions, Request};
-use svn_link::{MAX_CAPACITY, Settled, link, notice};
+use svn_link::{LinkFault, MAX_CAPACITY, Settled, link, notice};
 use svn_repo::Repo;
 use svn_types::{RelPath, Rev};
 use svn_wc::WorkingCopy;
@@ -254,6 +254,7 @@ fn is_capacity(capacity: usize) -> bool
 
 // The ends of a new link and of a new notice.
 fn ends_of(alloc: Global, capacity: usize) -> Result<Ends, RunFault>
+    requires { is_capacity capacity ≡ true }
     ensures sent { IfOk result (λ e. e.outbox.calls ≡ []) }
     ensures taken { IfOk result (λ e. e.inbox.calls ≡ []) }
     ensures told { IfOk result (λ e. e.teller.number ≡ None) }
@@ -261,8 +262,10 @@ fn ends_of(alloc: Global, capacity: usize) -> Result<Ends, RunFault>
     ensures notice { IfOk result (λ e. e.watcher.notice ≡ e.teller.notice) }
     ensures memory { IfErr result (λ e. e ≡ RunFault.Memory) }
 {
-    let Ok((outbox, inbox)) = link(alloc, capacity) else {
-        return Err(RunFault::Memory);
+    let (outbox, inbox) = match link(alloc, capacity) {
+        Ok(ends) => ends,
+        Err(LinkFault::Memory) => return Err(RunFault::Memory),
+        Err(LinkFault::Capacity) => unreachable!(),
     };
     let Ok((teller, watcher)) = notice(alloc) else {
         return Err(RunFault::Memory);

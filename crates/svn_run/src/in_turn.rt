@@ -16,7 +16,7 @@ use crate::counted::Counted;
 use crate::goal::{Goal, edit_of};
 use crate::laws::{laws, true_copy};
 use crate::listener::{Listener, NoListener};
-use crate::outcome::{Cause, Outcome, RunFault};
+use crate::outcome::{Cause, Outcome, RunFault, memory_of};
 use std::alloc::Global;
 use svn_drive::{DriveOptions, Request, drive_tested};
 use svn_model::{DriveEnd, DriveFault};
@@ -212,11 +212,11 @@ fn outcome_of(end: &Result<DriveEnd, DriveFault>, made: u64, accepted: u64) -> O
             late: None,
             cause: Cause::Cancelled,
         },
-        Err(_) => Outcome::Aborted {
+        Err(fault) => Outcome::Aborted {
             made,
             accepted,
             late: None,
-            cause: Cause::Memory,
+            cause: memory_of(*fault),
         },
     }
 }

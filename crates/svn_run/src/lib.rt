@@ -17,7 +17,6 @@
 //! nothing is claimed of when the other thread goes on.
 #![tactic(auto)]
 
-mod both;
 mod counted;
 mod driving;
 mod finish;
@@ -30,6 +29,7 @@ mod listener;
 mod outcome;
 mod sender;
 mod taking;
+mod two_threads;
 
 pub use gate::{Gate, NoGate};
 pub use in_threads::{Options, run, switch_to, update};

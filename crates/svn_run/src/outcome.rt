@@ -5,7 +5,9 @@ ghost use Rattle.svn_run.specs.Printing.{cause_name, outcome_text};
 ghost use Rattle.svn_run.specs.UpdateTheorem.{run_fault_of};
 
 use std::fmt;
+use svn_editor::EditFault;
 use svn_model::DriveFault;
+use svn_types::impossible;
 use thiserror::Error;
 
 /// Why a run was aborted.
@@ -26,6 +28,17 @@ impl fmt::Display for Cause {
             Cause::Cancelled => f.write_str("Cancelled"),
             Cause::Memory => f.write_str("Memory"),
         }
+    }
+}
+
+/// The cause that a fault of a drive is in a run, which tests the target before: memory.
+pub(crate) fn memory_of(fault: DriveFault) -> Cause
+    ensures { result ≡ Cause.Memory }
+{
+    match fault {
+        DriveFault::Memory | DriveFault::Editor(EditFault::Memory) => Cause::Memory,
+        // the calls are in order and true of the copy, and memory ends before their numbers do
+        _ => impossible(Cause::Memory),
     }
 }
 
@@ -130,7 +143,9 @@ impl From<DriveFault> for RunFault {
             DriveFault::NoSuchTarget => RunFault::NoSuchRevision,
             DriveFault::NoRoot => RunFault::NoRoot,
             DriveFault::OtherRoot => RunFault::OtherRoot,
-            _ => RunFault::Memory,
+            DriveFault::Memory | DriveFault::Editor(EditFault::Memory) => RunFault::Memory,
+            // a run's calls are in order and true of the copy, and memory ends before their numbers do
+            DriveFault::Full | DriveFault::Editor(_) => impossible(RunFault::Memory),
         }
     }
 }

@@ -1,16 +1,15 @@
 -- Words with escapes: the bytes before the first percent sign, what is from there on, and the byte of two digits.
-use Rattle.std.proofs.Common.{◌≡◌, ℕ, zero, suc, ◌+◌, ◌*◌, ◌<◌, ◌≤◌, Bool, true, false, not, List, [], ◌∷◌, ◌++◌, length, take, drop}
+use Rattle.std.proofs.Common.{◌≡◌, ℕ, zero, suc, ◌+◌, ◌*◌, ◌<◌, ◌≤◌, Bool, false, not, List, [], ◌∷◌, ◌++◌, length, take, drop}
 use Rattle.std.proofs.Common.{get_or, refl, ap, ◌∙◌, arith, Some, None, Option, option_map, nat_eq, nat_lt, bytes_eq, append_assoc}
 use Rattle.std.specs.List.{position, position_or_len, prefix_len}
-use Rattle.std.proofs.lemmas.Bool.{not-true}
-use Rattle.std.proofs.lemmas.Bool.Decides.{nat_tests}
+use Rattle.std.proofs.lemmas.Bool.{not-true, eqb-true, ltb-false}
 use Rattle.std.proofs.lemmas.List.{append-nil, take_all, drop_all, drop_more}
 use Rattle.std.proofs.lemmas.List.Quantifiers.{position-Some}
 use Rattle.std.proofs.lemmas.List.Sums.{prefix_len_passes}
 use Rattle.std.specs.Prelude.{Result, Ok, Err, option_and_then}
 use Rattle.hex.specs.declared.error.FromHexError.{FromHexError}
 use Rattle.hex.specs.Hex.{hex_digit_value, digit_or_error, decode_pairs, ◌>>=◌}
-use Rattle.svn_types.proofs.Splits.{not_less, test_none}
+use Rattle.svn_lists.proofs.Options.{cond_none}
 use Rattle.svn_script.specs.Reading.{unescaped, onto, bytes_of, hex_byte}
 
 -- ---- bytes that stand for themselves
@@ -46,7 +45,8 @@ pub unescaped_whole : (word : List ℕ) → position (λ b. nat_eq b 37) word �
 unescaped_whole word none =
     let p : ℕ → Bool = λ b. nat_eq b 37 in
     let at = position_or_len p word in
-    let all : length word ≤ prefix_len (λ b. not (p b)) word = not_less at (length word) (test_none (nat_lt at (length word)) at none) in
+    let all : length word ≤ prefix_len (λ b. not (p b)) word =
+    ltb-false at (length word) (cond_none (nat_lt at (length word)) at None none).0 in
     let plain : (k : ℕ) → k < length word → p (get_or word k 0) ≡ false =
     λ k less. not-true (p (get_or word k 0)) (prefix_len_passes (λ b. not (p b)) word k 0 (omega (arith, all, less))) in
     unescaped_run (length word) word (omega arith) plain
@@ -61,16 +61,13 @@ plain_word word other none = rw other (unescaped_whole word none)
 
 -- ---- words with one
 
-equal : (a b : ℕ) → nat_eq a b ≡ true → a ≡ b
-equal a b e = grind (arith, nat_tests)
-
 at_escape : (word : List ℕ) (n : ℕ) → position (λ b. nat_eq b 37) word ≡ Some n
     → unescaped word ≡ option_map (λ (bs : List ℕ). take n word ++ bs) (unescaped (37 ∷ drop (n + 1) word))
 at_escape word n e =
     let facts = position-Some (λ b. nat_eq b 37) word n 0 e in
     unescaped_run n word (omega (arith, facts.0)) facts.2
     ∙ ap (λ (rest : List ℕ). option_map (λ (bs : List ℕ). take n word ++ bs) (unescaped rest))
-    (drop_more word n 0 facts.0 ∙ ap (λ (b : ℕ). b ∷ drop (n + 1) word) (equal (get_or word n 0) 37 facts.1))
+    (drop_more word n 0 facts.0 ∙ ap (λ (b : ℕ). b ∷ drop (n + 1) word) (eqb-true (get_or word n 0) 37 facts.1))
 
 -- the bytes before the first escape, and what is from there on
 pub unescaped_at : (word run behind : List ℕ)

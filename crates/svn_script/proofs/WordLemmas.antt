@@ -1,12 +1,12 @@
 -- What the definitions of words give, case by case.
 use Rattle.std.proofs.Common.{◌≡◌, ℕ, ◌+◌, ◌-◌, ◌*◌, ◌^◌, ◌≤◌, false, List, [], ◌∷◌, refl, ap, sym, ◌∙◌, arith}
 use Rattle.std.proofs.Common.{None, nat_lt, bytes_eq}
-use Rattle.std.proofs.lemmas.Bool.{false_from_ne_true}
+use Rattle.std.proofs.lemmas.Bool.{false_from_ne_true, ltb-false}
 use Rattle.std.proofs.lemmas.Bool.Decides.{nat_tests}
 use Rattle.std.proofs.lemmas.Str.{is_utf8-from_IsUtf8, IsUtf8-from_is_utf8}
 use Rattle.std.specs.Str.{IsUtf8, is_utf8}
+use Rattle.svn_lists.proofs.Options.{cond_none}
 use Rattle.svn_types.specs.Names.{path_of_text}
-use Rattle.svn_types.proofs.Splits.{not_less, test_none}
 use Rattle.svn_script.specs.Reading.{decimal_from, fitting, path_of_bytes, path_of_names}
 
 -- more digits never make a number smaller
@@ -34,7 +34,7 @@ pub path_of_bytes_other : (bytes : List ℕ) → bytes_eq bytes (46 ∷ []) ≡ 
 path_of_bytes_other bytes e none = rw (e, false_from_ne_true (is_utf8 bytes) (λ t. none (IsUtf8-from_is_utf8 bytes t))) refl
 
 not_fitting : (n : ℕ) → None ≡ fitting n → 2 ^ 64 ≤ n
-not_fitting n h = not_less n (2 ^ 64) (test_none (nat_lt n (2 ^ 64)) n (sym h))
+not_fitting n h = ltb-false n (2 ^ 64) (cond_none (nat_lt n (2 ^ 64)) n None (sym h)).0
 
 -- where one more digit is too many, the whole number is too large
 pub no_digit_fits : (v b : ℕ) (after : List ℕ) (all : ℕ) → None ≡ fitting (v * 10 + (b - 48)) → decimal_from v (b ∷ after) ≡ all

@@ -10,14 +10,15 @@ use Rattle.std.specs.BTreeMap.{insert_entry}
 use Rattle.std.proofs.lemmas.Option.{same_Some, slice_get_read}
 use Rattle.std.specs.List.{filter, insert, slice_get}
 use Rattle.std.specs.Option.{option_to_list}
+use Rattle.svn_lists.proofs.Entries.{put_first, put_here, put_later}
+use Rattle.svn_lists.proofs.Options.{none_from_test}
 use Rattle.svn_serials.specs.Serials.{get}
 use Rattle.std.specs.Map.{lookup, remove_entry, set_value}
-use Rattle.std.specs.Ordering.{nat_cmp, match_ordering}
-use Rattle.std.specs.declared.cmp.Ordering.{Ordering}
+use Rattle.std.specs.Ordering.{nat_cmp}
 use Rattle.svn_serials.specs.Slots.{IsFilledAt, IsInOrder, held, pair_of, serials_of, values_in}
 use Rattle.svn_serials.specs.declared.slots.Slot.{Slot}
 use Rattle.svn_serials.proofs.Pairs.{remove_none}
-use Rattle.svn_serials.proofs.Order.{cmp_less, cmp_equal, cmp_greater, has_value, none_from_test}
+use Rattle.svn_serials.proofs.Order.{has_value}
 
 module _ {V : Type 0} where
   abbrev pub slot : ℕ → Option V → Slot V
@@ -64,22 +65,6 @@ module _ {V : Type 0} where
       ∙ found q ss i (sorted_tail nat_cmp s.serial (serials_of ss) order) (omega arith) is
 
   -- ---- a pair is put in
-
-  put_first : (q k : ℕ) (v w : V) (es : List (ℕ × V)) → q < k → insert_entry nat_cmp ((k, v) ∷ es) q w ≡ (q, w) ∷ (k, v) ∷ es
-  put_first q k v w es less =
-      ap (λ (c : Ordering). match_ordering c ((q, w) ∷ (k, v) ∷ es) ((k, w) ∷ es) ((k, v) ∷ insert_entry nat_cmp es q w))
-      (cmp_less q k less)
-
-  put_here : (q k : ℕ) (v w : V) (es : List (ℕ × V)) → q ≡ k → insert_entry nat_cmp ((k, v) ∷ es) q w ≡ (k, w) ∷ es
-  put_here q k v w es same =
-      ap (λ (c : Ordering). match_ordering c ((q, w) ∷ (k, v) ∷ es) ((k, w) ∷ es) ((k, v) ∷ insert_entry nat_cmp es q w))
-      (cmp_equal q k same)
-
-  put_later : (q k : ℕ) (v w : V) (es : List (ℕ × V)) → k < q → insert_entry nat_cmp ((k, v) ∷ es) q w ≡
-      (k, v) ∷ insert_entry nat_cmp es q w
-  put_later q k v w es less =
-      ap (λ (c : Ordering). match_ordering c ((q, w) ∷ (k, v) ∷ es) ((k, w) ∷ es) ((k, v) ∷ insert_entry nat_cmp es q w))
-      (cmp_greater q k less)
 
   -- before slots that are all above
   put_before : (q : ℕ) (w : V) (ss : List (Slot V)) → ((i : ℕ) → i < length ss → q < get_or (serials_of ss) i 0)

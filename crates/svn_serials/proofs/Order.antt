@@ -2,85 +2,22 @@
 use Rattle.std.proofs.Common.{◌≡◌, ℕ, zero, suc, ◌+◌, ◌-◌, ◌<◌, ◌≤◌, List, [], ◌∷◌, ◌++◌, length, get_or, set, Option, None, Some}
 use Rattle.std.proofs.Common.{IsSome, is_some, Bool, true, false, cond, refl, sym, ap, subst, ◌∙◌, arith}
 use Rattle.std.proofs.Common.{◌≢◌, ltb, MatchOption, IfSome, inl, inr}
-use Rattle.std.proofs.lemmas.Bool.{cases_eq, cases_lt, cond-true, cond-false, lt-ltb, le-ltb, eq-eqb, false≢true, ne_eqb, ltb-true}
+use Rattle.std.proofs.lemmas.Bool.{cases_eq, cases_lt, ltb-true}
 use Rattle.std.proofs.lemmas.Bool.{ltb-false}
-use Rattle.std.proofs.lemmas.Bool.Decides.{nat_tests}
 use Rattle.std.proofs.lemmas.List.{map-set, set-get_or, get_or-map, get_or-set_same, get_or-set_other, length-map, length-set}
 use Rattle.std.proofs.lemmas.List.{get_or_push, length_push}
 use Rattle.std.proofs.lemmas.List.Edits.{get_or-insert_above, get_or-insert_at, length-insert}
 use Rattle.std.proofs.lemmas.Map.Keys.{sorted_head, sorted_tail, below_from_sorted}
 use Rattle.std.proofs.lemmas.Option.{get_or_from_slice_get}
-use Rattle.std.specs.List.{AllByRecursion, filter, insert, slice_get}
+use Rattle.std.specs.List.{filter, insert, slice_get}
 use Rattle.std.specs.List.Sorted.{IsNonDecreasingBy, IsPartitionPoint, IsStrictlySortedBy}
 use Rattle.std.specs.Map.{keys_of}
 use Rattle.std.specs.Ordering.{nat_cmp}
-use Rattle.std.specs.declared.cmp.Ordering.TheVariants.{Less, Equal, Greater}
+use Rattle.std.specs.declared.cmp.Ordering.TheVariants.{Less}
+use Rattle.svn_lists.proofs.Sorted.{AllAbove, sorted_cons, sorted_front, sorted_insert_number, sorted_nil}
 use Rattle.svn_serials.specs.Serials.{IsRising}
 use Rattle.svn_serials.specs.Slots.{EndsFilled, IsInOrder, held, serials_of, values_in}
 use Rattle.svn_serials.specs.declared.slots.Slot.{Slot}
-
--- ---- numbers
-
-pub cmp_less : (a b : ℕ) → a < b → nat_cmp a b ≡ Less
-cmp_less a b h = cond-true _ _ _ (lt-ltb a b h)
-
-pub less_from_cmp : (a b : ℕ) → nat_cmp a b ≡ Less → a < b
-less_from_cmp a b h = grind (arith, nat_tests)
-
-pub cmp_equal : (a b : ℕ) → a ≡ b → nat_cmp a b ≡ Equal
-cmp_equal a b h = cond-false _ _ _ (le-ltb a b (omega arith)) ∙ cond-true _ _ _ (eq-eqb a b h)
-
-pub cmp_greater : (a b : ℕ) → b < a → nat_cmp a b ≡ Greater
-cmp_greater a b h = cond-false _ _ _ (le-ltb a b (omega arith)) ∙ cond-false _ _ _ (ne_eqb a b (λ e. omega arith))
-
-pub cases_some : {X : Type 0} (o : Option X) → IsSome o → (x : X) × (o ≡ Some x)
-cases_some None some = absurd (false≢true some)
-cases_some (Some x) some = (x, refl)
-
-pub none_from_test : {X : Type 0} (o : Option X) → is_some o ≡ false → o ≡ None
-none_from_test None none = refl
-none_from_test (Some x) none = absurd (let no : ⊥ = cc in no)
-
--- each number is above n
-abbrev pub AllAbove : ℕ → List ℕ → Type 0
-AllAbove n ks = AllByRecursion (λ k. nat_cmp n k ≡ Less) ks
-
-pub above_from_places : (n : ℕ) (ks : List ℕ) → ((i : ℕ) → i < length ks → n < get_or ks i 0) → AllAbove n ks
-above_from_places n [] h = tt
-above_from_places n (k ∷ ks) h = (cmp_less n k (h 0 (omega arith)), above_from_places n ks (λ i below. h (suc i) (omega arith)))
-
-pub sorted_cons : (k : ℕ) (ks : List ℕ) → AllAbove k ks → IsStrictlySortedBy nat_cmp ks → IsStrictlySortedBy nat_cmp (k ∷ ks)
-unfolding IsStrictlySortedBy
-sorted_cons k ks above sorted = (above, sorted)
-
-pub sorted_nil : IsStrictlySortedBy nat_cmp []
-unfolding IsStrictlySortedBy
-sorted_nil = tt
-
-above_insert : (n q : ℕ) (ks : List ℕ) (p : ℕ) → n < q → AllAbove n ks → AllAbove n (insert ks p q)
-above_insert n q ks zero less above = (cmp_less n q less, above)
-above_insert n q [] (suc p) less above = (cmp_less n q less, tt)
-above_insert n q (k ∷ ks) (suc p) less above = (above.0, above_insert n q ks p less above.1)
-
--- a number goes between those below it and those above
-pub sorted_insert : (q : ℕ) (ks : List ℕ) (p : ℕ) → IsStrictlySortedBy nat_cmp ks → ((i : ℕ) → i < p → i < length ks → get_or ks i 0 < q)
-    → ((i : ℕ) → p ≤ i → i < length ks → q < get_or ks i 0) → IsStrictlySortedBy nat_cmp (insert ks p q)
-sorted_insert q ks zero sorted below from = sorted_cons q ks (above_from_places q ks (λ i within. from i (omega arith) within)) sorted
-sorted_insert q [] (suc p) sorted below from = sorted_cons q [] tt sorted_nil
-sorted_insert q (k ∷ ks) (suc p) sorted below from =
-    sorted_cons k (insert ks p q) (above_insert k q ks p (below 0 (omega arith) (omega arith)) (sorted_head nat_cmp k ks sorted))
-    (sorted_insert q ks p (sorted_tail nat_cmp k ks sorted) (λ i before within. below (suc i) (omega arith) (omega arith))
-    (λ i after within. from (suc i) (omega arith) (omega arith)))
-
-above_front : (n : ℕ) (ks js : List ℕ) → AllAbove n (ks ++ js) → AllAbove n ks
-above_front n [] js above = tt
-above_front n (k ∷ ks) js above = (above.0, above_front n ks js above.1)
-
-pub sorted_front : (ks js : List ℕ) → IsStrictlySortedBy nat_cmp (ks ++ js) → IsStrictlySortedBy nat_cmp ks
-sorted_front [] js sorted = sorted_nil
-sorted_front (k ∷ ks) js sorted =
-    sorted_cons k ks (above_front k ks js (sorted_head nat_cmp k (ks ++ js) sorted)) (sorted_front ks js (sorted_tail nat_cmp k
-    (ks ++ js) sorted))
 
 -- ---- slots
 
@@ -112,11 +49,13 @@ module _ {V : Type 0} where
   order_insert ss p t order below from =
       let len = length-map ss (λ (s : Slot V). s.serial) in
       subst (IsStrictlySortedBy nat_cmp) (sym (serials_insert ss p t))
-      (sorted_insert t.serial (serials_of ss) p order (λ i before within. below i before (omega arith)) (λ i after within. from i after
+      (sorted_insert_number t.serial (serials_of ss) p order (λ i before within. below i before (omega arith))
+      (λ i after within. from i after
       (omega arith)))
 
   pub order_front : (ss ts : List (Slot V)) → IsInOrder (ss ++ ts) → IsInOrder ss
-  order_front ss ts order = sorted_front (serials_of ss) (serials_of ts) (subst (IsStrictlySortedBy nat_cmp) (serials_append ss ts) order)
+  order_front ss ts order =
+      sorted_front nat_cmp (serials_of ss) (serials_of ts) (subst (IsStrictlySortedBy nat_cmp) (serials_append ss ts) order)
 
   above_filter : (n : ℕ) (ss : List (Slot V)) → AllAbove n (serials_of ss) → AllAbove n (serials_of (filter has_value ss))
   above_filter n [] above = tt
@@ -127,12 +66,12 @@ module _ {V : Type 0} where
       ]
 
   pub order_filter : (ss : List (Slot V)) → IsInOrder ss → IsInOrder (filter has_value ss)
-  order_filter [] order = sorted_nil
+  order_filter [] order = sorted_nil nat_cmp
   order_filter (s ∷ ss) order =
       let rest = order_filter ss (sorted_tail nat_cmp s.serial (serials_of ss) order) in
       elim (has_value s) as (λ (b : Bool). IsInOrder (cond b (s ∷ filter has_value ss) (filter has_value ss))) [
         | true ↦
-            sorted_cons s.serial (serials_of (filter has_value ss)) (above_filter s.serial ss (sorted_head nat_cmp s.serial
+            sorted_cons nat_cmp s.serial (serials_of (filter has_value ss)) (above_filter s.serial ss (sorted_head nat_cmp s.serial
             (serials_of ss) order)) rest
         | false ↦ rest
       ]
@@ -148,7 +87,7 @@ module _ {V : Type 0} where
 
   -- what slots in order hold is in order
   pub rising_held : (ss : List (Slot V)) → IsInOrder ss → IsRising (held ss)
-  rising_held [] order = sorted_nil
+  rising_held [] order = sorted_nil nat_cmp
   rising_held (s ∷ ss) order =
       by_value s.serial s.value (sorted_head nat_cmp s.serial (serials_of ss) order) (rising_held ss (sorted_tail nat_cmp s.serial
       (serials_of ss) order))
@@ -156,7 +95,7 @@ module _ {V : Type 0} where
       by_value : (k : ℕ) (o : Option V) → AllAbove k (serials_of ss) → IsRising (held ss) → IsRising (held
           (record { serial = k; value = o } ∷ ss))
       by_value k None above rest = rest
-      by_value k (Some v) above rest = sorted_cons k (keys_of (held ss)) (above_held k ss above) rest
+      by_value k (Some v) above rest = sorted_cons nat_cmp k (keys_of (held ss)) (above_held k ss above) rest
 
   -- ---- places
 

@@ -2,56 +2,25 @@
 use Rattle.std.proofs.Common.{nat_eq, ◌≡◌, ◌≢◌, ℕ, suc, ◌+◌, ◌<◌, List, [], ◌∷◌, length, Option, None, Some, IsSome, is_some, Bool}
 use Rattle.std.proofs.Common.{true, false, cond}
 use Rattle.std.proofs.Common.{refl, sym, ap, subst, ◌∙◌, arith, inl, inr}
-use Rattle.std.proofs.lemmas.Bool.{cases_eq, cases_order, cond-true, cond-false, eq-eqb, eqb-true, ne_eqb, false≢true}
+use Rattle.std.proofs.lemmas.Bool.{cases_eq, cond-true, cond-false, eq-eqb, eqb-true, ne_eqb, false≢true}
 use Rattle.std.proofs.lemmas.List.Sorted.{IsPermutation-cons, IsPermutation-middle, IsPermutation-refl, IsPermutation-sym}
 use Rattle.std.proofs.lemmas.List.Sorted.{IsPermutation-trans}
 use Rattle.std.proofs.lemmas.List.Sorted.{length_permutation}
-use Rattle.std.proofs.lemmas.Map.{NonePasses, keys-set_value, lookup-none, lookup-remove_entry, lookup-set_value}
+use Rattle.std.proofs.lemmas.Map.{keys-set_value, lookup-none, lookup-remove_entry, lookup-set_value}
 use Rattle.std.proofs.lemmas.Map.Keys.{sorted_head, sorted_tail}
 use Rattle.std.proofs.lemmas.Option.{none-some, same_Some}
 use Rattle.std.specs.BTreeMap.{insert_entry}
 use Rattle.std.specs.Cmp.{nat_eq_equiv}
-use Rattle.std.specs.List.{AllByRecursion, IsDistinct}
+use Rattle.std.specs.List.{IsDistinct}
 use Rattle.std.specs.List.Sorted.{IsPermutation, IsStrictlySortedBy}
 use Rattle.std.specs.Map.{keys_of, remove_entry, set_value}
-use Rattle.std.specs.Ordering.{nat_cmp, match_ordering}
-use Rattle.std.specs.declared.cmp.Ordering.{Ordering}
-use Rattle.std.specs.declared.cmp.Ordering.TheVariants.{Less}
+use Rattle.std.specs.Ordering.{nat_cmp}
+use Rattle.svn_lists.proofs.Entries.{none_passes, put_cases}
+use Rattle.svn_lists.proofs.Orderings.{less_from_nat_cmp}
+use Rattle.svn_lists.proofs.Sorted.{AllAbove, distinct_from_sorted}
 use Rattle.svn_serials.specs.Serials.{IsRising, get}
-use Rattle.svn_serials.proofs.Order.{AllAbove, cmp_less, cmp_equal, cmp_greater, less_from_cmp}
-
-distinct_from_above : (n : ℕ) (ks : List ℕ) → AllAbove n ks → AllByRecursion (λ k. nat_eq n k ≡ false) ks
-distinct_from_above n [] above = tt
-distinct_from_above n (k ∷ ks) above = (ne_eqb n k (λ same. clash same above.0), distinct_from_above n ks above.1)
-  where
-    clash : n ≡ k → nat_cmp n k ≡ Less → ⊥
-    clash same less = let equal = cmp_equal n k same in cc
-
-distinct_from_sorted : (ks : List ℕ) → IsStrictlySortedBy nat_cmp ks → IsDistinct nat_eq ks
-unfolding IsDistinct
-distinct_from_sorted [] sorted = tt
-distinct_from_sorted (k ∷ ks) sorted =
-    (distinct_from_above k ks (sorted_head nat_cmp k ks sorted), distinct_from_sorted ks (sorted_tail nat_cmp k ks sorted))
 
 module _ {V : Type 0} where
-  none_passes : (k n : ℕ) (es : List (ℕ × V)) → k < n → AllAbove n (keys_of es) → NonePasses (nat_eq k) es
-  none_passes k n [] less above = tt
-  none_passes k n (e ∷ es) less above =
-      let more = less_from_cmp n e.0 above.0 in (ne_eqb k e.0 (λ same. omega arith), none_passes k n es less above.1)
-
-  -- the three ways in which a pair is put before, at or behind the first
-  pub put_cases : (P : List (ℕ × V) → Type 0) (k : ℕ) (w : V) (e : ℕ × V) (es : List (ℕ × V)) → (k < e.0 → P ((k, w) ∷ e ∷ es))
-      → (k ≡ e.0 → P ((e.0, w) ∷ es)) → (e.0 < k → P (e ∷ insert_entry nat_cmp es k w)) → P (insert_entry nat_cmp (e ∷ es) k w)
-  put_cases P k w e es before here later =
-      let Q : Ordering → Type 0 = λ c. P (match_ordering c ((k, w) ∷ e ∷ es) ((e.0, w) ∷ es) (e ∷ insert_entry nat_cmp es k w)) in
-      elim (cases_order k e.0) [
-        | inl same ↦ subst Q (sym (cmp_equal k e.0 same)) (here same)
-        | inr apart ↦ elim apart [
-          | inl less ↦ subst Q (sym (cmp_less k e.0 less)) (before less)
-          | inr more ↦ subst Q (sym (cmp_greater k e.0 more)) (later more)
-        ]
-      ]
-
   pub put_here : (es : List (ℕ × V)) (k : ℕ) (w : V) → get (insert_entry nat_cmp es k w) k ≡ Some w
   put_here [] k w = cond-true _ _ _ (eq-eqb k k refl)
   put_here (e ∷ es) k w =
@@ -149,7 +118,7 @@ module _ {V : Type 0} where
       → ((q : ℕ) → q ≢ k → get (e ∷ es) q ≡ None) → es ≡ first ∷ fs → ⊥
   second e es first fs k rising same others split =
       let above = subst (λ (gs : List (ℕ × V)). AllAbove e.0 (keys_of gs)) split (sorted_head nat_cmp e.0 (keys_of es) rising) in
-      let less = less_from_cmp e.0 first.0 above.0 in
+      let less = less_from_nat_cmp e.0 first.0 above.0 in
       let apart : first.0 ≢ k = λ is. omega arith in
       let miss = ne_eqb first.0 e.0 (λ is. omega arith) in
       none-some first.1 (sym (others first.0 apart) ∙ cond-false (nat_eq first.0 e.0) (Some e.1) (get es first.0) miss

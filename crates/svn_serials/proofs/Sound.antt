@@ -9,21 +9,23 @@ use Rattle.std.proofs.lemmas.Map.{length-set_value}
 use Rattle.std.specs.BTreeMap.{insert_entry}
 use Rattle.std.specs.Map.{remove_entry}
 use Rattle.std.specs.Ordering.{nat_cmp}
+use Rattle.svn_lists.proofs.Options.{some_value}
+use Rattle.svn_lists.proofs.Sorted.{sorted_nil}
 use Rattle.svn_serials.specs.Serials.{get}
 use Rattle.svn_serials.specs.Slots.{EndsFilled, IsFilledAt, IsInOrder, IsSound, held, serials_of, values_in}
 use Rattle.svn_serials.specs.declared.slots.Slot.{Slot}
 use Rattle.svn_serials.proofs.Held.{absent, found, held_write, slot}
-use Rattle.svn_serials.proofs.Order.{cases_some, last_is_greatest, rising_held, ends_set, order_set, sorted_nil}
+use Rattle.svn_serials.proofs.Order.{last_is_greatest, rising_held, ends_set, order_set}
 use Rattle.svn_serials.proofs.Pairs.{length_put_known, length_put_new, length_removed}
 
 module _ {V : Type 0} where
   pub sound_nil : IsSound {V = V} [] 0
-  sound_nil = record { order = sorted_nil; ends = λ some. absurd (omega arith); counted = refl }
+  sound_nil = record { order = sorted_nil nat_cmp; ends = λ some. absurd (omega arith); counted = refl }
 
   -- a value is written through what was lent
   pub sound_write : (ss : List (Slot V)) (n q i : ℕ) (w : V) → IsSound ss n → IsFilledAt ss q i → IsSound (set ss i (slot q (Some w))) n
   sound_write ss n q i w sound at =
-      let v = cases_some (get_or (values_in ss) i None) at.value in
+      let v = some_value (get_or (values_in ss) i None) at.value in
       let written = held_write q v.0 w ss i sound.order at.within at.serial v.1 in
       let len = length-set_value (nat_eq q) (held ss) w in
       record {

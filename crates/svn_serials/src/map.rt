@@ -18,6 +18,8 @@ pub struct SerialMap<V, A: Allocator> {
     slots: Vec<Slot<V>, A>,
     // How many slots have a value.
     filled: usize,
+    // Where a value was removed last: values are mostly removed in the order of their serials, or in the other one.
+    near: usize,
 }
 
 impl<V, A: Allocator> Model for SerialMap<V, A> {
@@ -42,6 +44,7 @@ impl<V, A: Allocator> SerialMap<V, A> {
         SerialMap {
             slots: Vec::new(alloc),
             filled: 0,
+            near: 0,
         }
     }
 
@@ -67,7 +70,7 @@ impl<V, A: Allocator> SerialMap<V, A> {
     pub fn get(&self, serial: u64) -> Option<&V>
         ensures value { option_copied result ≡ get self.now serial }
     {
-        let Some(place) = find(self.slots.as_slice(), serial) else {
+        let Some(place) = find(self.slots.as_slice(), serial, self.near) else {
             return None;
         };
         self.slots[place].value.as_ref()
@@ -80,7 +83,7 @@ impl<V, A: Allocator> SerialMap<V, A> {
         ensures value { option_copied_mut result ≡ get self.old serial }
         ensures rising { IsRising self.old }
     {
-        match find(self.slots.as_slice(), serial) {
+        match find(self.slots.as_slice(), serial, self.near) {
             Some(place) => self.slots[place].value.as_mut(),
             None => None,
         }
@@ -112,7 +115,7 @@ impl<V, A: Allocator> SerialMap<V, A> {
         ensures rising { IsRising self.new }
         ensures was_rising { IsRising self.old }
     {
-        let Some(place) = find(self.slots.as_slice(), serial) else {
+        let Some(place) = find(self.slots.as_slice(), serial, self.near) else {
             return None;
         };
         let empty = Slot {
@@ -121,6 +124,7 @@ impl<V, A: Allocator> SerialMap<V, A> {
         };
         let Slot { serial: _, value } = replace(&mut self.slots[place], empty);
         self.filled -= 1;
+        self.near = place;
         settle(&mut self.slots, self.filled);
         value
     }

@@ -36,9 +36,9 @@ pub(crate) fn last_serial<V>(slots: &[Slot<V>]) -> Option<u64>
     Some(slots[slots.len() - 1].serial)
 }
 
-// Where the value of a serial is. Inlined, since it is mostly the last.
+// Where the value of a serial is, which may be near a place. Inlined, since it is mostly the last.
 #[inline(always)]
-pub(crate) fn find<V>(slots: &[Slot<V>], serial: u64) -> Option<usize>
+pub(crate) fn find<V>(slots: &[Slot<V>], serial: u64, near: usize) -> Option<usize>
     requires order { IsInOrder slots.now }
     requires ends { EndsFilled slots.now }
     ensures { MatchOption result (get (held slots.now) serial ≡ None) (IsFilledAt slots.now serial) }
@@ -49,15 +49,15 @@ pub(crate) fn find<V>(slots: &[Slot<V>], serial: u64) -> Option<usize>
     if last == serial {
         return Some(slots.len() - 1);
     }
-    find_before_last(slots, serial, last)
+    find_before_last(slots, serial, last, near)
 }
 
 // Where the value of a serial is that is not the last.
-fn find_before_last<V>(slots: &[Slot<V>], serial: u64, last: u64) -> Option<usize>
+fn find_before_last<V>(slots: &[Slot<V>], serial: u64, last: u64, near: usize) -> Option<usize>
     requires { IsInOrder slots.now }
     ensures { MatchOption result (get (held slots.now) serial ≡ None) (IsFilledAt slots.now serial) }
 {
-    let Some(place) = place_before_last(slots, serial, last) else {
+    let Some(place) = place_before_last(slots, serial, last, near) else {
         return None;
     };
     if slots[place].value.is_some() {
@@ -77,7 +77,7 @@ fn stands_at<V>(slots: &[Slot<V>], place: usize, serial: u64) -> bool
 }
 
 // Where a serial stands that is not the last. If none from it on was left out, it is as far from the end as it is below the last.
-fn place_before_last<V>(slots: &[Slot<V>], serial: u64, last: u64) -> Option<usize>
+fn place_before_last<V>(slots: &[Slot<V>], serial: u64, last: u64, near: usize) -> Option<usize>
     requires { IsInOrder slots.now }
     ensures { MatchOption result
         ((k : ℕ) → k < length slots.now → slice_index (serials_of slots.now) k ≢ serial)
@@ -90,24 +90,24 @@ fn place_before_last<V>(slots: &[Slot<V>], serial: u64, last: u64) -> Option<usi
             return Some(place);
         }
     }
-    place_with_gaps(slots, serial, last)
+    place_with_gaps(slots, serial, near)
 }
 
-// Where a serial stands among slots of which some were left out. Not inlined, since most look-ups end before it.
+// Where a serial stands among slots of which some were left out: at a place that it may be near, or the next, or else it is searched. Not
+// inlined, since most look-ups end before it.
 #[inline(never)]
-fn place_with_gaps<V>(slots: &[Slot<V>], serial: u64, last: u64) -> Option<usize>
+fn place_with_gaps<V>(slots: &[Slot<V>], serial: u64, near: usize) -> Option<usize>
     requires { IsInOrder slots.now }
     ensures { MatchOption result
         ((k : ℕ) → k < length slots.now → slice_index (serials_of slots.now) k ≢ serial)
         (λ place. (place < length slots.now) × (slice_index (serials_of slots.now) place ≡ serial)) }
 {
-    if let Some(place) = likely_place(slots, serial, last) {
-        if stands_at(slots, place, serial) {
-            return Some(place);
-        }
-        if stands_at(slots, place.saturating_add(1), serial) {
-            return Some(place.saturating_add(1));
-        }
+    if stands_at(slots, near, serial) {
+        return Some(near);
+    }
+    let next = near.saturating_add(1);
+    if stands_at(slots, next, serial) {
+        return Some(next);
     }
     place_by_halves(slots, serial)
 }
@@ -124,25 +124,6 @@ fn place_by_halves<V>(slots: &[Slot<V>], serial: u64) -> Option<usize>
     } else {
         None
     }
-}
-
-// Where a serial stands, or just before that place, if every second was left out, say, or two of each three: its part of the way to the last
-// leads there. The way begins at the second slot, since the first may be far below: a tree's root stays.
-fn likely_place<V>(slots: &[Slot<V>], serial: u64, last: u64) -> Option<usize> {
-    let steps = slots.len().checked_sub(2)?;
-    let second = slots[1].serial;
-    if serial < second {
-        return Some(0);
-    }
-    even_place(second, last, serial, steps)?.checked_add(1)
-}
-
-// How many slots behind the first a serial stands, or one fewer, if slots are left out evenly between the first and the last of so many.
-fn even_place(first: u64, last: u64, serial: u64, count: usize) -> Option<usize> {
-    let ahead = serial.checked_sub(first)?;
-    let behind = last.checked_sub(first)?;
-    let place = ahead.checked_mul(count as u64)?.checked_div(behind)?;
-    Some(place as usize)
 }
 
 // Whether a serial is above those of all slots.

@@ -4,7 +4,7 @@ use crate::stop::{Result, Stop, holds};
 use crate::{compare, real};
 use std::alloc::Global;
 use svn_plain::{
-    BaseTree, Fault, History, Place, checked_out, crawl, first_untrue, forget, placing_fault,
+    BaseTree, Fault, History, PlainPath, checked_out, crawl, first_untrue, forget, placing_fault,
     put_at,
 };
 use svn_update::{Repo, Rev, WcFault, WorkingCopy};
@@ -12,7 +12,7 @@ use svn_update::{Repo, Rev, WcFault, WorkingCopy};
 /// What a stopped run owes: a run to the same target, asked for next, ends with this.
 #[derive(Drop)]
 pub(crate) struct Promise {
-    pub(crate) to: Option<Place>,
+    pub(crate) to: Option<PlainPath>,
     pub(crate) rev: u64,
     pub(crate) result: BaseTree,
 }
@@ -28,8 +28,8 @@ pub(crate) struct Checked {
 /// Puts what a revision has at a path's own repository path, or at another, at the path.
 #[derive(Clone, Copy)]
 pub(crate) struct Placing {
-    pub(crate) path: Place,
-    pub(crate) repos: Option<Place>,
+    pub(crate) path: PlainPath,
+    pub(crate) repos: Option<PlainPath>,
     pub(crate) rev: u64,
 }
 
@@ -44,14 +44,14 @@ pub(crate) fn checkout(
     alloc: Global,
     repo: &Repo,
     rev: u64,
-    path: Place,
+    path: PlainPath,
 ) -> Result<Result<WorkingCopy, WcFault>> {
     let path = real::path(alloc, path)?;
     Ok(WorkingCopy::checkout_at(alloc, repo, &path, Rev(rev)))
 }
 
 // No place at which something differs is known.
-fn is_nowhere(alloc: Global, what: &str, place: Option<Place>) -> Result<()> {
+fn is_nowhere(alloc: Global, what: &str, place: Option<PlainPath>) -> Result<()> {
     match place {
         Some(place) => Err(Stop::Differs(format!(in alloc; "{what} at {place}")?)),
         None => Ok(()),
@@ -65,7 +65,7 @@ impl Checked {
         history: &History,
         copy: WorkingCopy,
         rev: u64,
-        path: Place,
+        path: PlainPath,
     ) -> Result<Checked> {
         let tree = checked_out(alloc, history, rev, path)?;
         Ok(Checked {
@@ -100,13 +100,13 @@ impl Checked {
     }
 
     /// The library's answer.
-    pub(crate) fn forget(&mut self, alloc: Global, path: Place) -> Result<Result<(), WcFault>> {
+    pub(crate) fn forget(&mut self, alloc: Global, path: PlainPath) -> Result<Result<(), WcFault>> {
         let path = real::path(alloc, path)?;
         Ok(self.copy.forget(&path))
     }
 
     /// What the model has afterwards.
-    pub(crate) fn forget_model(&mut self, path: Place) -> Result<(), Fault> {
+    pub(crate) fn forget_model(&mut self, path: PlainPath) -> Result<(), Fault> {
         self.promise = None;
         forget(&mut self.tree, path)
     }

@@ -5,7 +5,8 @@ use crate::stop::Result;
 use std::alloc::Global;
 use std::collections::BTreeMap;
 use svn_plain::{
-    Base, BaseTree, History, NAMES, Node, PROP_NAMES, Place, ROOT, Report, Said, Tree, Values, Word,
+    Base, BaseTree, History, NAMES, Node, PROP_NAMES, PlainPath, ROOT, Report, Said, Tree, Values,
+    Word,
 };
 use svn_report::ReportEntry;
 use svn_update::{
@@ -21,7 +22,7 @@ fn is_name(name: &Name, number: u8) -> bool {
 }
 
 /// Whether a path is this place.
-pub(crate) fn is_path(path: &RelPath, place: &Place) -> bool {
+pub(crate) fn is_path(path: &RelPath, place: &PlainPath) -> bool {
     let names = path.components();
     if names.len() != place.depth() {
         return false;
@@ -119,7 +120,7 @@ fn is_base(node: &BaseNode, base: &Base) -> bool {
 }
 
 /// The first path at which a copy isn't what the model has.
-pub(crate) fn copy_difference(copy: &WorkingCopy, tree: &BaseTree) -> Option<Place> {
+pub(crate) fn copy_difference(copy: &WorkingCopy, tree: &BaseTree) -> Option<PlainPath> {
     let nodes = copy.nodes();
     for ((path, node), (place, base)) in nodes.iter().zip(tree.iter()) {
         if !is_path(path, place) || !is_base(node, base) {
@@ -158,7 +159,7 @@ fn is_said(entry: &ReportEntry, said: &Said) -> bool {
     }
 }
 
-fn has_entry(report: &svn_report::Report, at: usize, place: &Place, said: &Said) -> bool {
+fn has_entry(report: &svn_report::Report, at: usize, place: &PlainPath, said: &Said) -> bool {
     match report.entry(at) {
         Some((path, entry)) => is_path(path, place) && is_said(entry, said),
         None => false,
@@ -166,7 +167,7 @@ fn has_entry(report: &svn_report::Report, at: usize, place: &Place, said: &Said)
 }
 
 /// The first path at which a report says what the model's doesn't.
-pub(crate) fn report_difference(report: &svn_report::Report, model: &Report) -> Option<Place> {
+pub(crate) fn report_difference(report: &svn_report::Report, model: &Report) -> Option<PlainPath> {
     if !is_path(report.root(), &model.root) || report.len() != model.entries.len() {
         return Some(ROOT);
     }
@@ -193,7 +194,7 @@ fn is_same_node(ids: &mut Ids, number: u64, id: NodeId) -> Result<bool> {
 }
 
 // How many entries the model's tree has in a directory.
-fn count_entries(tree: &Tree, above: Place) -> usize {
+fn count_entries(tree: &Tree, above: PlainPath) -> usize {
     let mut count = 0usize;
     for place in tree.keys() {
         if place.parent() == Some(above) {
@@ -245,7 +246,7 @@ struct Revision<'a> {
 }
 
 impl Revision<'_> {
-    fn has(&self, alloc: Global, ids: &mut Ids, place: Place, node: &Node) -> Result<bool> {
+    fn has(&self, alloc: Global, ids: &mut Ids, place: PlainPath, node: &Node) -> Result<bool> {
         let path = real::path(alloc, place)?;
         let Some(id) = self.repo.lookup(Rev(self.rev), &path) else {
             return Ok(false);
@@ -264,7 +265,7 @@ pub(crate) fn revision_difference(
     history: &History,
     ids: &mut Ids,
     rev: u64,
-) -> Result<Option<Place>> {
+) -> Result<Option<PlainPath>> {
     let Some(tree) = history.tree(rev) else {
         return Ok(Some(ROOT));
     };

@@ -3,7 +3,7 @@
 use rand_core::Rng;
 use rand_pcg::Pcg32;
 use std::collections::BTreeMap;
-use svn_plain::{Place, ROOT};
+use svn_plain::{PlainPath, ROOT};
 
 /// A generator. Two of one seed and of different numbers give different histories.
 #[derive(Drop)]
@@ -38,7 +38,7 @@ impl Dice {
     }
 
     /// One of the places of a map; the root where it has none.
-    pub(crate) fn place<T>(&mut self, map: &BTreeMap<Place, T>) -> Place {
+    pub(crate) fn place<T>(&mut self, map: &BTreeMap<PlainPath, T>) -> PlainPath {
         let wanted = self.below(map.len() as u64) as usize;
         for (at, place) in map.keys().enumerate() {
             if at == wanted {

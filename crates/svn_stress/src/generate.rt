@@ -5,7 +5,7 @@ use crate::dice::Dice;
 use crate::step::{Run, Step};
 use crate::world::World;
 use svn_plain::{
-    Base, BaseTree, Edit, History, NAMES, PROP_NAMES, Place, ROOT, TEXT_COUNT, Tree, Word,
+    Base, BaseTree, Edit, History, NAMES, PROP_NAMES, PlainPath, ROOT, TEXT_COUNT, Tree, Word,
     forgetting_fault, placing_fault,
 };
 use svn_update::Kind;
@@ -34,7 +34,7 @@ pub(crate) struct Chooser {
 }
 
 // How many nodes stand at a path and beneath, and how many names the deepest of them has more.
-fn extent(tree: &Tree, source: Place) -> (usize, usize) {
+fn extent(tree: &Tree, source: PlainPath) -> (usize, usize) {
     let (mut count, mut deepest) = (0usize, 0usize);
     for place in tree.keys() {
         if place.is_within(&source) {
@@ -46,26 +46,26 @@ fn extent(tree: &Tree, source: Place) -> (usize, usize) {
 }
 
 // Whether a tree may have what extends so far, at a path.
-fn fits(nodes: usize, path: Place, extent: (usize, usize)) -> bool {
+fn fits(nodes: usize, path: PlainPath, extent: (usize, usize)) -> bool {
     let (count, deeper) = extent;
     nodes.saturating_add(count) <= LARGEST_TREE && path.depth().saturating_add(deeper) <= DEEPEST
 }
 
-fn directory_at(tree: &Tree, place: Place) -> Place {
+fn directory_at(tree: &Tree, place: PlainPath) -> PlainPath {
     match tree.get(&place) {
         Some(node) if node.kind == Kind::File => place.parent().unwrap_or(ROOT),
         _ => place,
     }
 }
 
-fn copied_directory_at(tree: &BaseTree, place: Place) -> Place {
+fn copied_directory_at(tree: &BaseTree, place: PlainPath) -> PlainPath {
     match tree.get(&place) {
         Some(Base::Dir { .. }) => place,
         _ => place.parent().unwrap_or(ROOT),
     }
 }
 
-fn line_at(history: &History, rev: u64, repos: Place) -> Option<u64> {
+fn line_at(history: &History, rev: u64, repos: PlainPath) -> Option<u64> {
     match history.look(rev, Some(repos)) {
         Some(node) => Some(node.line),
         None => None,
@@ -103,7 +103,7 @@ impl Chooser {
     }
 
     // A name in a directory that isn't too deep.
-    fn path_in(&mut self, directory: Place) -> Place {
+    fn path_in(&mut self, directory: PlainPath) -> PlainPath {
         let name = self.name();
         let above = if directory.depth() < DEEPEST {
             directory
@@ -113,7 +113,7 @@ impl Chooser {
         above.join(name).unwrap_or(ROOT)
     }
 
-    fn new_path(&mut self, tree: &Tree) -> Place {
+    fn new_path(&mut self, tree: &Tree) -> PlainPath {
         let place = self.dice.place(tree);
         let place = if self.dice.once_in(20) {
             place
@@ -158,7 +158,7 @@ impl Chooser {
     }
 
     // A file, if the dice soon come to one.
-    fn file_path(&mut self, tree: &Tree) -> Place {
+    fn file_path(&mut self, tree: &Tree) -> PlainPath {
         for _ in 0..4 {
             let place = self.dice.place(tree);
             match tree.get(&place) {
@@ -218,7 +218,7 @@ impl Chooser {
     }
 
     // Mostly a directory.
-    fn checkout_path(&mut self, tree: &Tree) -> Place {
+    fn checkout_path(&mut self, tree: &Tree) -> PlainPath {
         let place = self.dice.place(tree);
         if self.dice.once_in(10) {
             place
@@ -237,7 +237,7 @@ impl Chooser {
     }
 
     // A path of the copy, or a new one in one of its directories.
-    fn copy_path(&mut self, tree: &BaseTree) -> Place {
+    fn copy_path(&mut self, tree: &BaseTree) -> PlainPath {
         let place = self.dice.place(tree);
         if place.depth() > DEEPEST || self.dice.once_in(3) {
             return self.path_in(copied_directory_at(tree, place));
@@ -274,7 +274,7 @@ impl Chooser {
     }
 
     // A place whose node is of the line, if there is one.
-    fn related_place(&mut self, tree: &Tree, line: Option<u64>) -> Place {
+    fn related_place(&mut self, tree: &Tree, line: Option<u64>) -> PlainPath {
         let mut chosen = self.dice.place(tree);
         let mut found = 0u64;
         for (place, node) in tree {
@@ -289,7 +289,7 @@ impl Chooser {
     }
 
     // A place of the target that is of the line of the copy's root, if there is one.
-    fn root_place(&mut self, world: &World, checked: &Checked, rev: u64) -> Place {
+    fn root_place(&mut self, world: &World, checked: &Checked, rev: u64) -> PlainPath {
         match (world.history.tree(rev), checked.tree.get(&ROOT)) {
             (
                 Some(tree),
@@ -322,7 +322,7 @@ impl Chooser {
         }
     }
 
-    fn how(&mut self, to: Option<Place>, rev: u64) -> Run {
+    fn how(&mut self, to: Option<PlainPath>, rev: u64) -> Run {
         let cancel_after = self.cancel_after();
         let capacity = self.capacity();
         Run {

@@ -2,10 +2,10 @@
 
 use crate::stop::Result;
 use std::alloc::Global;
-use svn_plain::{Edit, PROP_NAMES, Place, Raw, Word};
+use svn_plain::{Edit, PROP_NAMES, PlainPath, Raw, Word};
 use svn_update::{Change, PropName, RelPath, Rev, Text};
 
-pub(crate) fn path(alloc: Global, place: Place) -> Result<RelPath> {
+pub(crate) fn path(alloc: Global, place: PlainPath) -> Result<RelPath> {
     let raw = Raw(place);
     let text = format!(in alloc; "{raw}")?;
     Ok(RelPath::parse(alloc, text.as_str())?)
@@ -38,7 +38,7 @@ fn set_prop(alloc: Global, path: RelPath, name: usize, word: Option<Word>) -> Re
     Ok(Change::SetProp { path, name, value })
 }
 
-fn copy_from(alloc: Global, rev: u64, from: Place, at: RelPath) -> Result<Change> {
+fn copy_from(alloc: Global, rev: u64, from: PlainPath, at: RelPath) -> Result<Change> {
     let source = path(alloc, from)?;
     Ok(Change::CopyFrom {
         rev: Rev(rev),

@@ -13,7 +13,7 @@ use svn_drive::{DriveOptions, drive, drive_switch};
 use svn_editor::{Call, Recorder};
 use svn_link::Settled;
 use svn_plain::{
-    Act, BaseTree, Edition, Facts, Fault, History, Place, Request, TargetFault, Tokens, crawl,
+    Act, BaseTree, Edition, Facts, Fault, History, PlainPath, Request, TargetFault, Tokens, crawl,
     drive as acts_of, line, result,
 };
 use svn_report::Report;
@@ -244,7 +244,7 @@ fn switch_turned(
     repo: &Repo,
     copy: &mut WorkingCopy,
     run: &Run,
-    to: Place,
+    to: PlainPath,
 ) -> Result<Result<Outcome, RunFault>> {
     let to = real::path(alloc, to)?;
     if copy.check_true(repo).is_err() {
@@ -301,7 +301,7 @@ fn switch_threaded<R: Threads + Wait + Sync>(
     alloc: Global,
     repo: &Repo,
     copy: &mut WorkingCopy,
-    to: Place,
+    to: PlainPath,
     rev: Rev,
     options: Options,
 ) -> Result<Result<Ended, RunFault>> {

@@ -1,12 +1,12 @@
 //! The steps of a random history, and the lines of a script that they are.
 
 use std::fmt;
-use svn_plain::{Edit, PROP_NAMES, Place, Word};
+use svn_plain::{Edit, PROP_NAMES, PlainPath, Word};
 
 /// How an update or a switch of the whole copy is run.
 #[derive(Clone, Copy)]
 pub(crate) struct Run {
-    pub(crate) to: Option<Place>,
+    pub(crate) to: Option<PlainPath>,
     pub(crate) rev: u64,
     pub(crate) cancel_after: Option<u64>,
     pub(crate) is_late: bool,
@@ -18,15 +18,27 @@ pub(crate) struct Run {
 pub(crate) enum Step {
     Edit(Edit),
     Commit,
-    Checkout { rev: u64, path: Place },
-    Place { path: Place, rev: u64 },
-    Switch { path: Place, repos: Place, rev: u64 },
-    Forget { path: Place },
+    Checkout {
+        rev: u64,
+        path: PlainPath,
+    },
+    Place {
+        path: PlainPath,
+        rev: u64,
+    },
+    Switch {
+        path: PlainPath,
+        repos: PlainPath,
+        rev: u64,
+    },
+    Forget {
+        path: PlainPath,
+    },
     Run(Run),
 }
 
 fn write_prop<W: fmt::Write>(
-    path: Place,
+    path: PlainPath,
     name: usize,
     value: Option<Word>,
     f: &mut fmt::Formatter<W>,
@@ -93,8 +105,8 @@ fn write_run<W: fmt::Write>(run: &Run, f: &mut fmt::Formatter<W>) -> fmt::Result
 }
 
 fn write_switch<W: fmt::Write>(
-    path: Place,
-    repos: Place,
+    path: PlainPath,
+    repos: PlainPath,
     rev: u64,
     f: &mut fmt::Formatter<W>,
 ) -> fmt::Result {

@@ -10,7 +10,7 @@ use std::alloc::Global;
 use std::collections::BTreeMap;
 use std::sync::Wait;
 use std::thread::Threads;
-use svn_plain::{Draft, Edit, History, Place, checkout_fault, forgetting_fault};
+use svn_plain::{Draft, Edit, History, PlainPath, checkout_fault, forgetting_fault};
 use svn_update::{Change, CommitFault, Repo, Rev, WcFault, WorkingCopy};
 
 /// A repository and perhaps a copy, each beside its model.
@@ -111,7 +111,7 @@ impl World {
     }
 
     // Goes on with a new copy, and its model.
-    fn keep(&mut self, copy: WorkingCopy, rev: u64, path: Place) -> Result<()> {
+    fn keep(&mut self, copy: WorkingCopy, rev: u64, path: PlainPath) -> Result<()> {
         let checked = Checked::new(self.alloc, &self.history, copy, rev, path)?;
         self.checked = Some(checked);
         Ok(())
@@ -121,7 +121,7 @@ impl World {
     fn make_copy(
         &mut self,
         rev: u64,
-        path: Place,
+        path: PlainPath,
         is_expected: bool,
     ) -> Result<Result<(), WcFault>> {
         match checked::checkout(self.alloc, &self.repo, rev, path)? {
@@ -131,7 +131,7 @@ impl World {
         }
     }
 
-    fn checkout(&mut self, rev: u64, path: Place) -> Result<()> {
+    fn checkout(&mut self, rev: u64, path: PlainPath) -> Result<()> {
         let expected = checkout_fault(&self.history, rev, path);
         self.counts.count_build(expected.is_none());
         let answer = self.make_copy(rev, path, expected.is_none())?;
@@ -151,7 +151,7 @@ impl World {
         compare_answers(self.alloc, answer, expected)
     }
 
-    fn forget(&mut self, path: Place) -> Result<()> {
+    fn forget(&mut self, path: PlainPath) -> Result<()> {
         let Some(checked) = &mut self.checked else {
             return Ok(());
         };

@@ -12,8 +12,6 @@ pub mod Merges
 pub mod PathLemmas
 -- paths in their order, and what is below a path directly after it
 pub mod PathsInOrder
--- places in a list
-pub mod Places
 -- keys of paths, whose order is that of the paths
 pub mod PathKeys
 -- heads of keys, which decide most comparisons

@@ -14,12 +14,13 @@ use Rattle.std.specs.Ordering.{is_lt, match_ordering}
 use Rattle.std.specs.List.Sorted.{IsStrictlySortedBy}
 use Rattle.std.specs.Cmp.Lexicographic.{nat_list_cmp_total}
 use Rattle.std.proofs.lemmas.Map.Keys.{sorted_head}
+use Rattle.svn_lists.proofs.Equality.{bytes_eq-same, bytes_eq-symm}
 use Rattle.svn_types.specs.Names.{name_cmp}
 use Rattle.svn_types.specs.Pairs.{InNameOrder, value_of}
 use Rattle.svn_types.specs.Props.{is_same_value, names_of_both, change_between, changes_between}
 use Rattle.svn_types.specs.Merging.{InEither, IsBehind, TakesAt, TakesFirst}
 use Rattle.svn_types.specs.declared.props_left.PropsLeft.{PropsLeft}
-use Rattle.svn_types.proofs.NameLemmas.{Name, bytes_eq-same, bytes_eq-symm, name_cmp-same, reversed, lt_apart, value_of-first}
+use Rattle.svn_types.proofs.NameLemmas.{Name, name_cmp-same, reversed, lt_apart, value_of-first}
 
 abbrev Pairs : Type 0
 Pairs = List (Name × List ℕ)

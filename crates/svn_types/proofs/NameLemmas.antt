@@ -1,7 +1,7 @@
 -- Names: the tests on them and what they mean, their order, and what is found under them in pairs.
 use Rattle.std.proofs.Common.{◌≡◌, ℕ, Bool, true, false, ◌||◌, List, [], ◌∷◌, refl, sym, ◌∙◌, ap, subst, true≢false}
 use Rattle.std.proofs.Math.Bool.{or-false}
-use Rattle.std.specs.Prelude.{Option, Some, None, cond, bytes_eq, fold}
+use Rattle.std.specs.Prelude.{Some, None, cond, bytes_eq, fold}
 use Rattle.std.specs.List.{list_any}
 use Rattle.std.specs.declared.cmp.Ordering.{Ordering}
 use Rattle.std.specs.declared.cmp.Ordering.TheVariants.{Less, Equal, Greater}
@@ -9,39 +9,18 @@ use Rattle.std.specs.Ordering.{is_lt, ordering_reverse, match_ordering}
 use Rattle.std.specs.BTreeMap.{is_at}
 use Rattle.std.specs.BTreeSet.{insert_key}
 use Rattle.std.specs.Map.{keys_of}
-use Rattle.std.specs.Cmp.Lexicographic.{bytes_decides, nat_list_cmp_total, texts_ties}
+use Rattle.std.specs.Cmp.Lexicographic.{nat_list_cmp_total, texts_ties}
 use Rattle.std.specs.FinMap.{slice_cmp-IsAntisymmetric, nat_cmp-IsAntisymmetric}
 use Rattle.std.proofs.lemmas.Cmp.{tied_itself}
-use Rattle.std.specs.Option.{option_or}
+use Rattle.svn_lists.proofs.Equality.{bytes_eq-symm, same_bytes}
+use Rattle.svn_lists.proofs.Options.{option_or_none}
+use Rattle.svn_lists.proofs.Orderings.{less_from_is_lt}
 use Rattle.svn_types.specs.Names.{Path, name_cmp}
 use Rattle.svn_types.specs.NameFaults.{name_fault, names_fault}
-use Rattle.svn_types.specs.declared.fault.PathFault.{PathFault}
 use Rattle.svn_types.specs.Pairs.{value_of}
 
 abbrev pub Name : Type 0
 Name = List ℕ
-
--- ---- equality
-
-pub same_bytes : (m n : Name) → bytes_eq m n ≡ true → m ≡ n
-same_bytes m n h = (bytes_decides m n).0 h
-
-pub bytes_eq-same : (m : Name) → bytes_eq m m ≡ true
-bytes_eq-same m = (bytes_decides m m).1 refl
-
--- a test that holds of what is the same alone holds either way round
-pub eq-symm : {X : Type 0} (eq : X → X → Bool) → ((m n : X) → eq m n ≡ true → m ≡ n) → ((m : X) → eq m m ≡ true)
-    → (m n : X) → eq m n ≡ eq n m
-eq-symm eq same own m n = by (eq m n) (eq n m) refl refl
-  where
-    by : (a b : Bool) → eq m n ≡ a → eq n m ≡ b → a ≡ b
-    by true true p q = refl
-    by false false p q = refl
-    by true false p q = sym (own n) ∙ ap (λ x. eq n x) (sym (same m n p)) ∙ q
-    by false true p q = sym (sym (own m) ∙ ap (λ x. eq m x) (sym (same n m q)) ∙ p)
-
-pub bytes_eq-symm : (m n : Name) → bytes_eq m n ≡ bytes_eq n m
-bytes_eq-symm = eq-symm bytes_eq same_bytes bytes_eq-same
 
 -- ---- order
 
@@ -55,13 +34,8 @@ name_cmp-same = tied_itself nat_list_cmp_total
 pub level_names : (m n : Name) → bytes_eq m n ≡ true → name_cmp m n ≡ Equal
 level_names m n h = ap (name_cmp m) (sym (same_bytes m n h)) ∙ name_cmp-same m
 
-pub is_less : (o : Ordering) → is_lt o ≡ true → o ≡ Less
-is_less Less e = refl
-is_less Equal e = cc
-is_less Greater e = cc
-
 pub lt_chain : (m n k : Name) → is_lt (name_cmp m n) ≡ true → is_lt (name_cmp n k) ≡ true → is_lt (name_cmp m k) ≡ true
-lt_chain m n k h i = ap is_lt (nat_list_cmp_total.trans m n k (is_less _ h) (is_less _ i))
+lt_chain m n k h i = ap is_lt (nat_list_cmp_total.trans m n k (less_from_is_lt _ h) (less_from_is_lt _ i))
 
 pub lt_apart : (m n : Name) → is_lt (name_cmp m n) ≡ true → bytes_eq m n ≡ false
 lt_apart m n h = by (bytes_eq m n) refl
@@ -165,16 +139,8 @@ has_name-fold (x ∷ xs) ms m =
 
 -- ---- names of which none has a fault
 
-first_none : (f g : Option PathFault) → option_or f g ≡ None → f ≡ None
-first_none None g h = refl
-first_none (Some d) g h = cc
-
-rest_none : (f g : Option PathFault) → option_or f g ≡ None → g ≡ None
-rest_none None g h = h
-rest_none (Some d) g h = cc
-
 pub first_without_fault : (n : List ℕ) (p : Path) → names_fault (n ∷ p) ≡ None → name_fault n ≡ None
-first_without_fault n p h = first_none (name_fault n) (names_fault p) h
+first_without_fault n p h = (option_or_none (name_fault n) (names_fault p) h).0
 
 pub rest_without_fault : (n : List ℕ) (p : Path) → names_fault (n ∷ p) ≡ None → names_fault p ≡ None
-rest_without_fault n p h = rest_none (name_fault n) (names_fault p) h
+rest_without_fault n p h = (option_or_none (name_fault n) (names_fault p) h).1

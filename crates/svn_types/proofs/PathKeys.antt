@@ -1,8 +1,8 @@
 -- The order of the keys of paths is the order of the paths.
-use Rattle.std.proofs.Common.{◌≡◌, ◌≢◌, ℕ, ◌+◌, length, take, drop, Bool, true, false, ◌&&◌, List, [], ◌∷◌, ◌++◌, refl, ap, sym, ◌∙◌, arith, nat_eq}
+use Rattle.std.proofs.Common.{◌≡◌, ◌≢◌, ℕ, ◌+◌, length, take, drop, Bool, true, false, ◌&&◌, List, [], ◌∷◌, ◌++◌, refl, ap, sym, ◌∙◌, arith}
+use Rattle.std.proofs.Common.{nat_eq}
 use Rattle.std.proofs.Common.{Option, Some, None, append_assoc, MatchOption, ◌↔◌}
-use Rattle.std.specs.declared.cmp.Ordering.{Ordering}
-use Rattle.std.specs.declared.cmp.Ordering.TheVariants.{Less, Equal, Greater}
+use Rattle.std.specs.declared.cmp.Ordering.TheVariants.{Less, Greater}
 use Rattle.std.specs.Ordering.{ordering_then, nat_cmp, is_eq}
 use Rattle.std.specs.Cmp.Lexicographic.{pointwise, pointwise_decides, bytes_decides, slice_cmp, texts_ties, lists_ties}
 use Rattle.std.specs.List.{list_all}
@@ -14,18 +14,14 @@ use denote.Ref.{Bor}
 use Rattle.std.specs.Str.Pattern.{FindsTextPrefix, StripsPrefix}
 use Rattle.std.specs.Prelude.{bytes_eq, is_some}
 use Rattle.std.specs.Option.{option_or}
+use Rattle.svn_lists.proofs.Equality.{bytes_eq-same}
+use Rattle.svn_lists.proofs.Orderings.{ordering_then-assoc}
 use Rattle.svn_types.specs.Names.{Path, is_plain, IsName}
 use Rattle.svn_types.specs.NameFaults.{name_fault, names_fault}
 use Rattle.svn_types.specs.declared.fault.PathFault.{PathFault}
 use Rattle.svn_types.specs.PathKeys.{path_key, is_plain_name, is_plain_path}
 use Rattle.svn_types.specs.Paths.{is_within}
-use Rattle.svn_types.proofs.NameLemmas.{bytes_eq-same}
 use Rattle.svn_types.proofs.PathLemmas.{split_within}
-
-then_assoc : (r s t : Ordering) → ordering_then r (ordering_then s t) ≡ ordering_then (ordering_then r s) t
-then_assoc Less s t = refl
-then_assoc Equal s t = refl
-then_assoc Greater s t = refl
 
 -- a plain byte is greater than 1
 below_plain : (b : ℕ) (rest : Bool) → (is_plain b && rest) ≡ true → nat_cmp 1 b ≡ Less
@@ -42,7 +38,7 @@ names_order [] (b ∷ n) s t hm hn = ap (λ o. ordering_then o (slice_cmp nat_cm
 names_order (a ∷ m) [] s t hm hn = ap (λ o. ordering_then o (slice_cmp nat_cmp (m ++ 1 ∷ s) t)) (above_plain a _ hm)
 names_order (a ∷ m) (b ∷ n) s t hm hn =
     ap (ordering_then (nat_cmp a b)) (names_order m n s t (and_parts _ _ hm).1 (and_parts _ _ hn).1)
-    ∙ then_assoc (nat_cmp a b) (slice_cmp nat_cmp m n) (slice_cmp nat_cmp s t)
+    ∙ ordering_then-assoc (nat_cmp a b) (slice_cmp nat_cmp m n) (slice_cmp nat_cmp s t)
 
 root_first : (n s : List ℕ) → slice_cmp nat_cmp [] (n ++ 1 ∷ s) ≡ Less
 root_first [] s = refl
@@ -117,19 +113,6 @@ pub stripped : (s p : List ℕ) (r : Option (Bor (List ℕ)))
     → MatchOption r ((rest : List ℕ) → s ≡ p ++ rest → ⊥) (λ x. s ≡ p ++ x.now)
 stripped s p None h = h
 stripped s p (Some x) h = h.1.1 ∙ ap (λ (l : List ℕ). p ++ l) (sym h.2)
-
-pub one_more : (key above below last end : List ℕ) → key ≡ above ++ below → below ≡ last ++ end
-    → (end ≡ 1 ∷ []) ↔ (key ≡ above ++ last ++ 1 ∷ [])
-one_more key above below last end hk hb = (
-  λ e. hk ∙ ap (λ l. above ++ l) (hb ∙ ap (λ l. last ++ l) e) ∙ sym (append_assoc above last (1 ∷ [])),
-  λ e. append_cancel_left last end (1 ∷ [])
-      (sym hb ∙ append_cancel_left above below (last ++ 1 ∷ []) (sym hk ∙ e ∙ append_assoc above last (1 ∷ []))),
-)
-
--- what holds where there is no value
-pub when_none : {A : Type 0} (o : Option A) (P : Type 0) (Q : A → Type 0) → ((x : A) → o ≡ Some x → ⊥) → MatchOption o P Q → P
-when_none None P Q not h = h
-when_none (Some x) P Q not h = absurd (not x refl)
 
 pub not_more : (key above below last : List ℕ) → key ≡ above ++ below → ((rest : List ℕ) → below ≡ last ++ rest → ⊥)
     → key ≡ above ++ last ++ 1 ∷ [] → ⊥

@@ -6,9 +6,10 @@ use Rattle.std.specs.List.{starts_with}
 use Rattle.std.specs.Cmp.Lexicographic.{pointwise_decides, bytes_decides}
 use Rattle.std.proofs.lemmas.Bool.{and_parts, not-true}
 use Rattle.std.proofs.lemmas.Option.{same_Some}
+use Rattle.svn_lists.proofs.Equality.{bytes_eq-same, eq-symm, same_bytes}
 use Rattle.svn_types.specs.Names.{Path}
 use Rattle.svn_types.specs.Paths.{path_eq, is_within, is_below, is_root, child, parent, parent_path, last_name}
-use Rattle.svn_types.proofs.NameLemmas.{Name, same_bytes, bytes_eq-same, eq-symm}
+use Rattle.svn_types.proofs.NameLemmas.{Name}
 
 -- ---- equality
 
@@ -80,20 +81,6 @@ split_at_last (m ∷ k ∷ p) n h =
     let there : slice_get (k ∷ p) (length (k ∷ p) - 1) ≡ Some n =
     ap (λ i. slice_get (k ∷ p) i) other ∙ sym (ap (λ i. slice_get (m ∷ k ∷ p) i) one) ∙ h in
     ap (λ (q : Path). m ∷ q) (split_at_last (k ∷ p) n there)
-
-pub none_at_last : (p : Path) → slice_get p (length p - 1) ≡ None → p ≡ []
-none_at_last [] h = refl
-none_at_last (m ∷ []) h = absurd (some h)
-  where
-    some : Some m ≡ None → ⊥
-    some e = cc
-none_at_last (m ∷ k ∷ p) h =
-    let one : length (m ∷ k ∷ p) - 1 ≡ suc (length p) = omega arith in
-    let other : length (k ∷ p) - 1 ≡ length p = omega arith in
-    absurd (cons (none_at_last (k ∷ p) (ap (λ i. slice_get (k ∷ p) i) other ∙ sym (ap (λ i. slice_get (m ∷ k ∷ p) i) one) ∙ h)))
-  where
-    cons : k ∷ p ≡ [] → ⊥
-    cons e = cc
 
 -- ---- paths within paths
 

@@ -10,9 +10,10 @@ use Rattle.std.specs.Cmp.Lexicographic.{lists_total, lists_ties, texts_ties, nat
 use Rattle.std.specs.FinMap.{slice_cmp-IsAntisymmetric}
 use Rattle.std.proofs.lemmas.Bool.{and_parts}
 use Rattle.std.proofs.lemmas.Cmp.{tied_itself}
+use Rattle.svn_lists.proofs.Equality.{bytes_eq-same, same_bytes}
 use Rattle.svn_types.specs.Names.{Path, name_cmp, path_cmp}
 use Rattle.svn_types.specs.Paths.{path_eq, is_within, child}
-use Rattle.svn_types.proofs.NameLemmas.{Name, same_bytes, bytes_eq-same, same_name, level_names, reversed}
+use Rattle.svn_types.proofs.NameLemmas.{Name, same_name, level_names, reversed}
 use Rattle.svn_types.proofs.PathLemmas.{same_path}
 
 pub paths_total : IsTotalOrder path_cmp

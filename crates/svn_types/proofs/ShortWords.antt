@@ -7,14 +7,18 @@ use Rattle.std.specs.Ordering.{ordering_then, nat_cmp}
 use Rattle.std.specs.Cmp.Lexicographic.{slice_cmp}
 use Rattle.std.proofs.lemmas.List.{get_or-take, get_or-drop, get_or_past, length-take-le}
 use Rattle.std.proofs.lemmas.Nat.{pow-add}
+use Rattle.svn_lists.proofs.Digits.{nat_cmp-last_digit, first_digit_same, last_digit_same, digits_regroup}
+use Rattle.svn_lists.proofs.Orderings.{nat_cmp-suc, less_from_nat_cmp, nat_cmp_equal, nat_cmp-zero_suc, greater_from_nat_cmp}
+use Rattle.svn_lists.proofs.Orderings.{equal_from_nat_cmp, nat_cmp-suc_zero}
+use Rattle.svn_lists.proofs.Parts.{drop_next, first_left}
 use Rattle.svn_types.specs.LeadingBytes.{IsByteList, IsZeroFrom, leading}
-use Rattle.svn_types.proofs.PathHeads.{heads_order, leading_bounded, less_than, same_as, more_than, drop_next, first_left, by_second_word}
+use Rattle.svn_types.proofs.PathHeads.{heads_order, leading_bounded}
 
 -- the digit at a place, and those behind it
 leading_at : (n j next : ℕ) (s : List ℕ) → next ≡ suc j → leading (suc n) (drop j s) ≡ get_or s j 0 * 256 ^ n + leading n (drop next s)
 unfolding leading
 leading_at n j next s behind =
-    (λ i. first_left j s i * 256 ^ n + leading n (drop_next j s i))
+    (λ i. first_left j s 0 i * 256 ^ n + leading n (drop_next j s i))
     ∙ ap (λ k. get_or s j 0 * 256 ^ n + leading n (drop k s)) (sym behind)
 
 -- eight bytes from a place on as one number
@@ -48,9 +52,6 @@ leading_same (suc n) s t same =
     λ i. get_or-drop 1 s i 0 ∙ same (1 + i) ∙ sym (get_or-drop 1 t i 0) in
     (λ k. same 0 k * 256 ^ n + leading_same n (drop 1 s) (drop 1 t) rest k)
 
-spread : (b p q l m r : ℕ) → r ≡ p * q → b * r + (l * q + m) ≡ (b * p + l) * q + m
-spread b p q l m r is = omega (arith, ap (λ x. b * x) is)
-
 abbrev no_bytes : List ℕ
 no_bytes = []
 
@@ -68,28 +69,13 @@ leading_split (suc k) n [] =
     let all : suc k + n ≡ suc (k + n) = omega arith in
     ap (λ m. leading m []) all
     ∙ (λ i. 0 * 256 ^ (k + n) + leading_split k n [] i)
-    ∙ spread 0 (256 ^ k) (256 ^ n) (leading k []) (leading n (drop k [])) (256 ^ (k + n)) (pow-add 256 k n)
+    ∙ digits_regroup 0 (256 ^ k) (256 ^ n) (leading k []) (leading n (drop k [])) (256 ^ (k + n)) (pow-add 256 k n)
     ∙ (λ i. (0 * 256 ^ k + leading k []) * 256 ^ n + leading n (drop_nothing k i))
 leading_split (suc k) n (b ∷ s) =
     let all : suc k + n ≡ suc (k + n) = omega arith in
     ap (λ m. leading m (b ∷ s)) all
     ∙ (λ i. b * 256 ^ (k + n) + leading_split k n s i)
-    ∙ spread b (256 ^ k) (256 ^ n) (leading k s) (leading n (drop k s)) (256 ^ (k + n)) (pow-add 256 k n)
-
--- a number has one first digit and one rest
-not_higher : (b c p l m : ℕ) → c < b → m < p → b * p + l ≡ c * p + m → ⊥
-not_higher b c p l m above small same = grind (arith, above, small, same)
-
-same_front : (b c p l m : ℕ) → l < p → m < p → b * p + l ≡ c * p + m → b ≡ c
-same_front b c p l m below small same = by (nat_cmp b c) refl
-  where
-    by : (o : Ordering) → o ≡ nat_cmp b c → b ≡ c
-    by Less e = absurd (not_higher c b p m l (less_than b c e) below (sym same))
-    by Equal e = same_as b c e
-    by Greater e = absurd (not_higher b c p l m (more_than b c e) small same)
-
-same_rest : (b c p l m : ℕ) → b ≡ c → b * p + l ≡ c * p + m → l ≡ m
-same_rest b c p l m front same = omega (arith, same, ap (λ d. d * p) front)
+    ∙ digits_regroup b (256 ^ k) (256 ^ n) (leading k s) (leading n (drop k s)) (256 ^ (k + n)) (pow-add 256 k n)
 
 pub dropped : (k : ℕ) (s : List ℕ) → IsByteList s → IsByteList (drop k s)
 dropped k s small i = subst (λ n. n < 256) (sym (get_or-drop k s i 0)) (small (k + i))
@@ -108,39 +94,28 @@ six_bytes s small = leading_bounded 6 (drop 8 s) (dropped 8 s small)
 -- lists that have the same first bytes have the same fewer ones
 same_start : (k n : ℕ) (s t : List ℕ) → IsByteList s → IsByteList t → leading (k + n) s ≡ leading (k + n) t → leading k s ≡ leading k t
 same_start k n s t small_s small_t same =
-    same_front (leading k s) (leading k t) (256 ^ n) (leading n (drop k s)) (leading n (drop k t))
+    first_digit_same (leading k s) (leading k t) (256 ^ n) (leading n (drop k s)) (leading n (drop k t))
     (leading_bounded n (drop k s) (dropped k s small_s))
     (leading_bounded n (drop k t) (dropped k t small_t))
     (sym (leading_split k n s) ∙ same ∙ leading_split k n t)
 
 -- lists of so many bytes at most that have the same ones are ordered as their lengths are
-both_longer : (m n : ℕ) → nat_cmp m n ≡ nat_cmp (suc m) (suc n)
-both_longer m n = grind arith
-
-longer : (n : ℕ) → nat_cmp 0 (suc n) ≡ Less
-longer n = grind arith
-
-shorter : (n : ℕ) → nat_cmp (suc n) 0 ≡ Greater
-shorter n = grind arith
-
-level : (b c : ℕ) → b ≡ c → nat_cmp b c ≡ Equal
-level b c e = grind (arith, e)
 
 lengths_order : (n : ℕ) (s t : List ℕ) → length s ≤ n → length t ≤ n → IsByteList s → IsByteList t → leading n s ≡ leading n t
     → slice_cmp nat_cmp s t ≡ nat_cmp (length s) (length t)
 unfolding leading
 lengths_order n [] [] short_s short_t small_s small_t same = refl
-lengths_order n [] (c ∷ t) short_s short_t small_s small_t same = sym (longer (length t))
-lengths_order n (b ∷ s) [] short_s short_t small_s small_t same = sym (shorter (length s))
+lengths_order n [] (c ∷ t) short_s short_t small_s small_t same = sym (nat_cmp-zero_suc (length t))
+lengths_order n (b ∷ s) [] short_s short_t small_s small_t same = sym (nat_cmp-suc_zero (length s))
 lengths_order zero (b ∷ s) (c ∷ t) short_s short_t small_s small_t same = absurd (omega arith)
 lengths_order (suc n) (b ∷ s) (c ∷ t) short_s short_t small_s small_t same =
     let rest_s : IsByteList s = λ i. small_s (suc i) in
     let rest_t : IsByteList t = λ i. small_t (suc i) in
     let first : b ≡ c =
-    same_front b c (256 ^ n) (leading n s) (leading n t) (leading_bounded n s rest_s) (leading_bounded n t rest_t) same in
-    ap (λ o. ordering_then o (slice_cmp nat_cmp s t)) (level b c first)
-    ∙ lengths_order n s t (omega arith) (omega arith) rest_s rest_t (same_rest b c (256 ^ n) (leading n s) (leading n t) first same)
-    ∙ both_longer (length s) (length t)
+    first_digit_same b c (256 ^ n) (leading n s) (leading n t) (leading_bounded n s rest_s) (leading_bounded n t rest_t) same in
+    ap (λ o. ordering_then o (slice_cmp nat_cmp s t)) (nat_cmp_equal b c first)
+    ∙ lengths_order n s t (omega arith) (omega arith) rest_s rest_t (last_digit_same b c (256 ^ n) (leading n s) (leading n t) first same)
+    ∙ nat_cmp-suc (length s) (length t)
 
 -- what stands in a room: its first bytes, with zeros behind them
 pub shown_at : (n : ℕ) (room : List ℕ) → IsZeroFrom n room → n ≤ length room → (i : ℕ) → get_or room i 0 ≡ get_or (take n room) i 0
@@ -150,9 +125,9 @@ shown_at n room zeros fits i = by (nat_cmp i n) refl
     past behind = zeros i behind ∙ sym (get_or_past (take n room) i 0 (omega (arith, length-take-le n room fits)))
 
     by : (o : Ordering) → o ≡ nat_cmp i n → get_or room i 0 ≡ get_or (take n room) i 0
-    by Less e = sym (get_or-take n room i 0 (less_than i n e))
-    by Equal e = past (omega (arith, same_as i n e))
-    by Greater e = past (omega (arith, more_than i n e))
+    by Less e = sym (get_or-take n room i 0 (less_from_nat_cmp i n (sym e)))
+    by Equal e = past (omega (arith, equal_from_nat_cmp i n (sym e)))
+    by Greater e = past (omega (arith, greater_from_nat_cmp i n (sym e)))
 
 -- bytes with zeros behind them, in rooms of one size
 pub record InRoom (size len : ℕ) (room : List ℕ) : Type 0 where
@@ -203,7 +178,7 @@ last_words size m n one two least most r s same o is unlike =
     let front : leading k (take m one) ≡ leading k (take n two) = same_fronts size k m n one two (omega arith) r s same in
     let whole : nat_cmp (leading 8 (drop k (take m one))) (leading 8 (drop k (take n two)))
     ≡ nat_cmp (leading (k + 8) (take m one)) (leading (k + 8) (take n two)) =
-    by_second_word (leading k (take m one)) (leading k (take n two)) (256 ^ 8) _ _ front
+    nat_cmp-last_digit (leading k (take m one)) (leading k (take n two)) (256 ^ 8) _ _ front
     ∙ (λ i. nat_cmp (sym (leading_split k 8 (take m one)) i) (sym (leading_split k 8 (take n two)) i)) in
     sym (heads_order (k + 8) (take m one) (take n two) (shown_bytes size m one r) (shown_bytes size n two s) o
     (is ∙ (λ i. nat_cmp (word_shown size m k one r i) (word_shown size n k two s i)) ∙ whole) unlike)
@@ -224,6 +199,3 @@ last_lengths size m n one two least most r s same last =
     (λ i. nat_cmp (sym len_r i) (sym len_s i))
     ∙ sym (lengths_order (k + 8) (take m one) (take n two) (omega (arith, len_r, r.fits)) (omega (arith, len_s, s.fits))
     (shown_bytes size m one r) (shown_bytes size n two s) whole)
-
-pub unlike_numbers : (x y : ℕ) (o : Ordering) → o ≡ nat_cmp x y → (x ≡ y → ⊥) → o ≢ Equal
-unlike_numbers x y o is unlike equal = unlike (same_as x y (sym equal ∙ is))

@@ -1,20 +1,22 @@
 -- Heads that hold whole keys: such paths are equal where their heads are.
-use Rattle.std.proofs.Common.{◌≡◌, ℕ, zero, suc, ◌+◌, ◌*◌, ◌^◌, ◌%◌, ◌<◌, Bool, true, false, refl, ap, sym, ◌∙◌, arith, true≢false}
+use Rattle.std.proofs.Common.{◌≡◌, ℕ, zero, suc, ◌+◌, ◌*◌, ◌^◌, ◌%◌, ◌<◌, Bool, true, false, refl, ap, sym, ◌∙◌, arith}
 use Rattle.std.proofs.Common.{List, [], ◌∷◌, length, drop, get_or, nat_eq, ◌&&◌}
 use Rattle.std.specs.Prelude.{nat_le}
 use Rattle.std.specs.List.{list_all}
-use Rattle.std.specs.declared.cmp.Ordering.{Ordering}
-use Rattle.std.specs.declared.cmp.Ordering.TheVariants.{Less, Equal, Greater}
-use Rattle.std.specs.Ordering.{nat_cmp, is_eq}
+use Rattle.std.specs.declared.cmp.Ordering.TheVariants.{Equal}
+use Rattle.std.specs.Ordering.{nat_cmp}
 use Rattle.std.specs.Cmp.Lexicographic.{pointwise, pointwise_decides, bytes_decides, slice_cmp, texts_ties, lists_ties}
 use Rattle.std.proofs.lemmas.Bool.{and_parts}
 use Rattle.std.proofs.lemmas.List.Folds.{list_all-append}
+use Rattle.std.specs.Cmp.{Equal-is}
+use Rattle.svn_lists.proofs.Digits.{first_digit_same, first_digit_zero, last_digit_same}
+use Rattle.svn_lists.proofs.Parts.{first_left}
 use Rattle.svn_types.specs.Names.{Path, is_plain}
 use Rattle.svn_types.specs.LeadingBytes.{IsByteList, leading}
 use Rattle.svn_types.specs.PathHeads.{IsHeadOf, head_number}
 use Rattle.svn_types.specs.declared.path_head.Head.{Head}
 use Rattle.svn_types.specs.PathKeys.{path_key, is_plain_name, is_plain_path}
-use Rattle.svn_types.proofs.PathHeads.{first_below, first_left, leading_bounded, leading_nil, less_than, more_than, same_as}
+use Rattle.svn_types.proofs.PathHeads.{leading_bounded, leading_nil}
 use Rattle.svn_types.proofs.PathKeys.{key_decides}
 use Rattle.svn_types.proofs.ShortWords.{leading_split}
 
@@ -41,26 +43,6 @@ key_bytes (n ∷ p) h =
 not_zero : (b : ℕ) (rest : Bool) → (nat_le 1 b && rest) ≡ true → b ≡ 0 → ⊥
 not_zero b rest h e = grind (arith, h, e)
 
-first_same : (b c p l m : ℕ) → l < p → m < p → b * p + l ≡ c * p + m → b ≡ c
-first_same b c p l m small below e = by (nat_cmp b c) refl
-  where
-    by : (o : Ordering) → o ≡ nat_cmp b c → b ≡ c
-    by Less is = let more : b * p + l < c * p + m = first_below b c p l m (less_than b c is) small in absurd (omega (arith, e))
-    by Equal is = same_as b c is
-    by Greater is = let more : c * p + m < b * p + l = first_below c b p m l (more_than b c is) below in absurd (omega (arith, e))
-
-rest_same : (b c p l m : ℕ) → b ≡ c → b * p + l ≡ c * p + m → l ≡ m
-rest_same b c p l m same e = omega (arith, ap (λ d. d * p) same)
-
-no_first : (c p l : ℕ) → l < p → 0 ≡ c * p + l → c ≡ 0
-no_first c p l small e = by c refl
-  where
-    by : (d : ℕ) → d ≡ c → c ≡ 0
-    by zero is = sym is
-    by (suc d) is =
-        let more : 0 * p + 0 < c * p + l = first_below 0 c p 0 l (omega (arith, is)) (omega (arith, small)) in
-        absurd (omega (arith, e))
-
 whole_same : (n : ℕ) (s t : List ℕ) → IsByteList s → IsByteList t → list_all (nat_le 1) s ≡ true → list_all (nat_le 1) t ≡ true
     → get_or s n 0 ≡ 0 → get_or t n 0 ≡ 0 → leading n s ≡ leading n t → s ≡ t
 unfolding leading
@@ -72,17 +54,17 @@ whole_same zero (b ∷ s) t small_s small_t some_s some_t end_s end_t e =
 whole_same (suc n) [] (c ∷ t) small_s small_t some_s some_t end_s end_t e =
     absurd
     (not_zero c (list_all (nat_le 1) t) some_t
-    (no_first c (256 ^ n) (leading n t) (leading_bounded n t (λ i. small_t (suc i))) (sym (leading_nil (suc n)) ∙ e)))
+    (first_digit_zero c (256 ^ n) (leading n t) (leading_bounded n t (λ i. small_t (suc i))) (sym (leading_nil (suc n)) ∙ e)))
 whole_same (suc n) (b ∷ s) [] small_s small_t some_s some_t end_s end_t e =
     absurd
     (not_zero b (list_all (nat_le 1) s) some_s
-    (no_first b (256 ^ n) (leading n s) (leading_bounded n s (λ i. small_s (suc i))) (sym (e ∙ leading_nil (suc n)))))
+    (first_digit_zero b (256 ^ n) (leading n s) (leading_bounded n s (λ i. small_s (suc i))) (sym (e ∙ leading_nil (suc n)))))
 whole_same (suc n) (b ∷ s) (c ∷ t) small_s small_t some_s some_t end_s end_t e =
     let rest_s : IsByteList s = λ i. small_s (suc i) in
     let rest_t : IsByteList t = λ i. small_t (suc i) in
     let first : b ≡ c =
-    first_same b c (256 ^ n) (leading n s) (leading n t) (leading_bounded n s rest_s) (leading_bounded n t rest_t) e in
-    let rest : leading n s ≡ leading n t = rest_same b c (256 ^ n) (leading n s) (leading n t) first e in
+    first_digit_same b c (256 ^ n) (leading n s) (leading n t) (leading_bounded n s rest_s) (leading_bounded n t rest_t) e in
+    let rest : leading n s ≡ leading n t = last_digit_same b c (256 ^ n) (leading n s) (leading n t) first e in
     let same : s ≡ t =
     whole_same n s t rest_s rest_t (and_parts (nat_le 1 b) (list_all (nat_le 1) s) some_s).1
     (and_parts (nat_le 1 c) (list_all (nat_le 1) t) some_t).1 end_s end_t rest in
@@ -90,15 +72,12 @@ whole_same (suc n) (b ∷ s) (c ∷ t) small_s small_t some_s some_t end_s end_t
 
 -- ---- the last byte of a head
 
-last_byte : (x y h : ℕ) → y < 256 → h ≡ x * 256 + y → h % 256 ≡ y
-last_byte x y h small is = omega (arith, is)
-
 last_of_head : (first second x y : ℕ) → y < 256 → first * 281474976710656 + second ≡ x * 256 + y → second % 256 ≡ 0 → y ≡ 0
 last_of_head first second x y small is last = omega (arith, is, last)
 
 last_zero : (s : List ℕ) → leading 1 (drop 13 s) ≡ get_or s 13 0
 unfolding leading
-last_zero s = omega (arith, first_left 13 s)
+last_zero s = omega (arith, first_left 13 s 0)
 
 split_head : (s : List ℕ) → leading 14 s ≡ leading 13 s * 256 + get_or s 13 0
 split_head s = leading_split 13 1 s ∙ (λ i. leading 13 s * 256 + last_zero s i)
@@ -140,18 +119,6 @@ unlike_paths p q h k at_p at_q unlike = by (pointwise (pointwise nat_eq) p q) re
         (unlike
         (at_p.head_is ∙ ap (λ (r : Path). leading 14 (path_key r)) ((pointwise_decides bytes_decides p q).0 (sym is)) ∙ sym at_q.head_is))
 
-ends_equal : (o : Ordering) → is_eq o ≡ true → Equal ≡ o
-ends_equal Less e = absurd (true≢false (sym e))
-ends_equal Equal e = refl
-ends_equal Greater e = absurd (true≢false (sym e))
-
 pub ordered_equal : (p q : Path) → p ≡ q → Equal ≡ slice_cmp (slice_cmp nat_cmp) p q
 ordered_equal p q e =
-    ends_equal (slice_cmp (slice_cmp nat_cmp) p q) (sym (lists_ties (slice_cmp nat_cmp) texts_ties p q) ∙ equal_paths p q e)
-
-pub unlike_first : (b c l m : ℕ) → l < 281474976710656 → m < 281474976710656 → (b ≡ c → ⊥)
-    → b * 281474976710656 + l ≡ c * 281474976710656 + m → ⊥
-unlike_first b c l m small below unlike e = unlike (first_same b c 281474976710656 l m small below e)
-
-pub unlike_second : (b c l m : ℕ) → b ≡ c → (l ≡ m → ⊥) → b * 281474976710656 + l ≡ c * 281474976710656 + m → ⊥
-unlike_second b c l m same unlike e = unlike (omega arith)
+    (sym ((Equal-is (slice_cmp (slice_cmp nat_cmp) p q)).0 (sym (lists_ties (slice_cmp nat_cmp) texts_ties p q) ∙ equal_paths p q e)))

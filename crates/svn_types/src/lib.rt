@@ -2,7 +2,8 @@
 //! than one crate keeps.
 //!
 //! [`RelPath`] is a list of [`Name`]s below some root, [`Props`] are [`Text`]s under [`PropName`]s, [`Rev`] is the number of a revision,
-//! and [`Kind`] tells a file from a directory. Where a text is no name or no path, [`PathFault`] says why.
+//! and [`Kind`] tells a file from a directory. Where a text is no name or no path, [`PathFault`] says why. [`impossible`] marks a branch
+//! that no call reaches.
 //!
 //! ```
 //! let directory = RelPath::parse(alloc, "trunk/lib")?;
@@ -24,10 +25,10 @@ mod changes;
 mod cut;
 mod digest;
 mod fault;
+mod hierarchy;
 mod kind;
 mod leading_bytes;
 mod limits;
-mod lineage;
 mod long_path;
 mod name;
 mod path_block;
@@ -49,6 +50,7 @@ mod short_path;
 mod small_text;
 mod summed;
 mod text;
+mod unreached;
 
 pub use bytes::split_once;
 pub use changes::PropChange;
@@ -62,3 +64,4 @@ pub use props::Props;
 pub use rel_path::RelPath;
 pub use rev::Rev;
 pub use text::Text;
+pub use unreached::impossible;

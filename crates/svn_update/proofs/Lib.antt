@@ -4,8 +4,6 @@ pub mod CopyLemmas
 pub mod DriveLemmas
 -- A run of a script, by the theorem of runs on one thread and that of runs on two.
 pub mod RunLemmas
--- What is printed of calls that are kept in lists.
-pub mod KeptLemmas
 -- Lines that are done one after the other.
 pub mod ScriptLemmas
 -- The working copy of a script stays true of its repository.

@@ -1,11 +1,10 @@
 -- Lines that are done one after the other.
 use Rattle.std.proofs.Common.{◌≡◌, ℕ, ◌<◌, Bool, List, [], ◌∷◌, ◌++◌, length, append_assoc, refl, ap, sym, subst, ◌∙◌, arith, nat_eq}
-use Rattle.std.proofs.Common.{Option, Some, None, IfSome, Result, Ok, Err, OnOk, IfErr}
+use Rattle.std.proofs.Common.{Some}
 use Rattle.std.specs.List.{slice_split}
 use Rattle.std.proofs.lemmas.List.{append-nil}
 use Rattle.std.proofs.lemmas.List.Splits.{length-slice_split}
 use Rattle.svn_script.specs.declared.command_line.Settings.{Settings}
-use Rattle.std.specs.Io.KnownBytes.{Appends}
 use Rattle.svn_repo.specs.declared.change.Change.{Change}
 use Rattle.svn_script.specs.declared.command.Command.TheVariants as command
 use Rattle.svn_script.specs.Reading.{lines_of, without_return, without_returns}
@@ -17,10 +16,6 @@ use Rattle.svn_update.specs.ScriptStates.{ScriptState, new_state}
 use Rattle.svn_update.specs.Scripts.{DoesLine, DoesLines, Prints}
 
 -- ---- a change that is kept
-
-pub appends_nothing : (o : Option (List ℕ)) → Appends o o []
-appends_nothing None = tt
-appends_nothing (Some xs) = sym (append-nil xs)
 
 pub keeps_change : (s : Settings) (line : List ℕ) (change : Change) (old new : ScriptState)
     → command_of line ≡ Some (command.Change change) → new ≡ record old { pending = old.pending ++ change ∷ [] } → DoesLine s line old new []
@@ -75,17 +70,3 @@ script_ends s script before rest mid end front back lines last h d =
       subst (λ (ls : List (List ℕ)). DoesLines s ls new_state end (front ++ back)) all
           (one_more_line s before rest new_state mid end front back h d),
     )
-
--- ---- facts of one variant
-
-pub on_ok : {T E : Type 0} (r : Result T E) (P Q : Type 0) → OnOk r P → (P → Q) → OnOk r Q
-on_ok (Ok x) P Q h f = f h
-on_ok (Err e) P Q h f = tt
-
-pub if_err : {T E : Type 0} (r : Result T E) (P Q : E → Type 0) → IfErr r P → ((e : E) → P e → Q e) → IfErr r Q
-if_err (Ok x) P Q h f = tt
-if_err (Err e) P Q h f = f e h
-
-pub if_some : {T : Type 0} (o : Option T) (P Q : T → Type 0) → IfSome o P → ((x : T) → P x → Q x) → IfSome o Q
-if_some None P Q h f = tt
-if_some (Some x) P Q h f = f x h

@@ -2,13 +2,17 @@
 --     prefixes p      the paths from the root down to p
 use Rattle.std.proofs.Common.{◌≡◌, ℕ, suc, ◌+◌, ◌-◌, Bool, true, false, cond, List, [], ◌∷◌, ◌++◌, length, take, map, refl, sym, ap, subst}
 use Rattle.std.proofs.Common.{◌∙◌, ◌⊎◌, inl, inr, Option, Some, None, true≢false, arith}
-use Rattle.std.specs.Prelude.{filter_map, slice_get, Result, Ok, Err, IfOk, MatchResult}
+use Rattle.std.specs.Prelude.{filter_map, slice_get}
 use Rattle.std.specs.List.{cons_option}
 use Rattle.std.specs.Option.{is_some, option_map, option_or}
 use Rattle.std.specs.BTreeMap.{is_at}
 use Rattle.std.specs.declared.cmp.Ordering.TheVariants.{Less}
 use Rattle.std.proofs.lemmas.List.{append-nil, map-append, take-map, length-map, length_push}
 use Rattle.std.proofs.lemmas.Option.{same_Some, slice_get-map}
+use Rattle.svn_lists.proofs.Filters.{filter_map-push}
+use Rattle.svn_lists.proofs.Options.{option_or_some}
+use Rattle.svn_lists.proofs.Parts.{append_one}
+use Rattle.svn_lists.proofs.Places.{slice_get-last}
 use Rattle.svn_types.specs.Names.{Path, path_cmp}
 use Rattle.svn_types.specs.Paths.{is_within, is_root, parent, path_eq, child, last_name}
 use Rattle.svn_report.specs.declared.entry.ReportEntry.{ReportEntry}
@@ -23,7 +27,7 @@ use Rattle.svn_wc.specs.Unswitched.{IsUnswitched}
 use Rattle.svn_wc.proofs.OwnPaths.{marked_path}
 use Rattle.svn_wc.proofs.Unswitched.{unswitched_below}
 use Rattle.svn_edit_law.proofs.Lookups.{at_path, get_in-append}
-use Rattle.svn_nodes.proofs.NodeOrder.{at_first, first_or_after, before_behind, order_behind, some_behind}
+use Rattle.svn_nodes.proofs.NodeOrder.{at_first, first_or_after, before_behind, order_behind}
 use Rattle.svn_types.proofs.PathsInOrder.{not_before_itself, not_both, below_after, within_between}
 use Rattle.svn_types.proofs.PathLemmas.{is_root-child, parent-child, path_cases, split_within, within_append, within_child}
 use Rattle.svn_types.proofs.PathLemmas.{path_eq-longer, same_path}
@@ -55,15 +59,6 @@ PathCases p = (p ≡ []) ⊎ ((q : Path) × (name : List ℕ) × (p ≡ child q 
 
 -- ---- lists
 
--- the last one
-pub last_get : {X : Type 0} (xs : List X) (x : X) → slice_get (xs ++ x ∷ []) (length (xs ++ x ∷ []) - 1) ≡ Some x
-last_get {X} xs x =
-    let e = length_push xs x in let k : length (xs ++ x ∷ []) - 1 ≡ length xs = omega arith in ap (slice_get (xs ++ x ∷ [])) k ∙ at xs
-  where
-    at : (ys : List X) → slice_get (ys ++ x ∷ []) (length ys) ≡ Some x
-    at [] = refl
-    at (y ∷ ys) = at ys
-
 unwrapped : {X : Type 0} (o u : Option X) → option_map (λ x. Some x) o ≡ Some u → o ≡ u
 unwrapped None u e = absurd (true≢false (sym (ap is_some e)))
 unwrapped (Some x) u e = same_Some (Some x) u e
@@ -75,7 +70,7 @@ last_known {X} ns xs x e =
     let n : length (map (λ (n : X). Some n) ns) ≡ length ns = length-map ns (λ n. Some n) in
     unwrapped (slice_get ns (length ns - 1)) x
     (sym (slice_get-map (λ (n : X). Some n) ns (length ns - 1)) ∙ ap (λ k. slice_get (map (λ (n : X). Some n) ns) (k - 1)) (sym n)
-    ∙ ap (λ (l : List (Option X)). slice_get l (length l - 1)) e ∙ last_get xs x)
+    ∙ ap (λ (l : List (Option X)). slice_get l (length l - 1)) e ∙ slice_get-last xs x)
 
 prefixes-last : (q : Path) → (front : List Path) × (prefixes q ≡ front ++ q ∷ [])
 prefixes-last q = by (path_cases q)
@@ -120,20 +115,6 @@ node_of known (Some n) p = refl
 pub crawled_first : (known : Bool) (nodes : List (Path × BaseNode)) (r : ReportView) → r.root ≡ node_path (get_in nodes []) → r.entries ≡ []
     → IsCrawled known nodes [] r nodes
 crawled_first known nodes r root entries = record { done = []; parts = refl; ancestors_are = none_yet refl refl; root = root; entries = entries }
-
-filter_map-push : {X Y : Type 0} (f : X → Option Y) (xs : List X) (x : X)
-    → filter_map f (xs ++ x ∷ []) ≡ filter_map f xs ++ cons_option (f x) []
-filter_map-push f [] x = refl
-filter_map-push {X} {Y} f (y ∷ xs) x = by (f y) (filter_map-push f xs x)
-  where
-    by : (o : Option Y) → filter_map f (xs ++ x ∷ []) ≡ filter_map f xs ++ cons_option (f x) []
-        → cons_option o (filter_map f (xs ++ x ∷ [])) ≡ cons_option o (filter_map f xs) ++ cons_option (f x) []
-    by None h = h
-    by (Some v) h = ap (λ l. v ∷ l) h
-
-pub append_one : {X : Type 0} (xs : List X) (y : X) (ys : List X) → xs ++ y ∷ ys ≡ (xs ++ y ∷ []) ++ ys
-append_one [] y ys = refl
-append_one (x ∷ xs) y ys = ap (λ l. x ∷ l) (append_one xs y ys)
 
 pub crawled_last : (known : Bool) (nodes : List (Path × BaseNode)) (ancestors : List (BaseNode × Bool)) (r : ReportView) → IsCrawled known nodes ancestors r []
     → r ≡ crawl nodes
@@ -192,7 +173,7 @@ module _ (known : Bool) (nodes : List (Path × BaseNode)) (order : InPathOrder n
   last_before front l d =
       before_behind c.done (e ∷ left) whole l.0 e.0
       (ap (λ xs. is_some (get_in xs l.0)) d ∙ ap is_some (get_in-append front (l ∷ []) l.0)
-      ∙ some_behind (get_in front l.0) (get_in (l ∷ []) l.0) (ap is_some (at_first l [])))
+      ∙ option_or_some (get_in front l.0) (get_in (l ∷ []) l.0) (ap is_some (at_first l [])))
       (ap is_some (at_first e left))
 
   -- what was taken is the last, or comes before it
@@ -399,10 +380,6 @@ crawled_on known nodes order w unswitched ancestors r e all left step crawled r2
         (line_of_leaf known nodes order ancestors r e left c w d)
 
 -- ---- answers
-
-pub if_ok_same : {X E : Type 0} (r : Result X E) (P : E → Type 0) (x y : X) → x ≡ y → MatchResult r (λ v. v ≡ x) P → IfOk r (λ v. v ≡ y)
-if_ok_same (Ok v) P x y e h = h ∙ e
-if_ok_same (Err v) P x y e h = tt
 
 -- what a present node has as its repository path
 pub path_is : (n : BaseNode) (p : Path) → Some p ≡ present_path n → p ≡ node_path (Some n)

@@ -1,17 +1,22 @@
 -- An edit of a copy without incomplete directories: it completes each directory that it opens, so after its last call all are complete.
-use Rattle.std.proofs.Common.{◌≡◌, ℕ, Bool, true, false, cond, ◌&&◌, ◌||◌, not, List, [], ◌∷◌, ◌++◌, length, refl, sym, ◌∙◌, ap, subst, nat_eq}
-use Rattle.std.proofs.Common.{true≢false, arith, zero, suc}
+use Rattle.std.proofs.Common.{◌≡◌, ℕ, Bool, true, false, cond, ◌&&◌, ◌||◌, not, List, [], ◌∷◌, ◌++◌, length, refl, sym, ◌∙◌, ap, subst}
+use Rattle.std.proofs.Common.{nat_eq}
+use Rattle.std.proofs.Common.{true≢false, arith}
 use Rattle.std.specs.Prelude.{Option, Some, None, is_some, slice_get, option_map}
 use Rattle.std.specs.Option.{option_or}
-use Rattle.std.proofs.lemmas.Bool.{eq-eqb}
+use Rattle.std.proofs.lemmas.Bool.{eq-eqb, false_from_ne_true, or_parts, eqb-true}
 use Rattle.std.proofs.lemmas.Option.{same_Some}
+use Rattle.std.proofs.lemmas.Map.Keys.{any_passes_from_place}
+use Rattle.svn_lists.proofs.Options.{some-none}
+use Rattle.svn_lists.proofs.Places.{slice_get_push_kept, slice_get-push}
+use Rattle.svn_lists.proofs.Somewhere.{any_push, any_weaker}
+use Rattle.svn_lists.proofs.Tests.{any_from_clash}
 use Rattle.svn_types.specs.declared.kind.Kind.{Kind}
 use Rattle.svn_types.specs.declared.kind.Kind.TheVariants.{File, Directory}
 use Rattle.svn_types.specs.Names.{Path}
 use Rattle.svn_types.specs.Props.{PropChange}
 use Rattle.svn_types.specs.Paths.{path_eq, is_within}
 use Rattle.svn_types.proofs.PathLemmas.{same_path, path_eq-same}
-use Rattle.svn_types.proofs.Places.{some_none}
 use Rattle.svn_editor.specs.declared.call.Call.{Call}
 use Rattle.svn_editor.specs.declared.call.Call.TheVariants.{SetTargetRevision, OpenRoot, DeleteEntry, AddDirectory, OpenDirectory}
 use Rattle.svn_editor.specs.declared.call.Call.TheVariants.{ChangeDirProp, CloseDirectory, AddFile, OpenFile, ChangeFileProp, ApplyText}
@@ -24,30 +29,19 @@ use Rattle.svn_editor.specs.Calls.{is_open_directory, a_directory_is_open, a_fil
 use Rattle.svn_editor.specs.Order.{order_fault, IsLawful}
 use Rattle.svn_editor.specs.declared.mode.Mode.{Mode}
 use Rattle.svn_editor.specs.Steps.{Action, Open, Add, Change, Text, Close, steps_of, target_of}
-use Rattle.svn_editor.proofs.OneMore.{any_at, any_more, any_weaker, or_parts, given_none, given_one, false_from}
-use Rattle.svn_editor.proofs.Nested.{true_eq}
+use Rattle.svn_editor.proofs.OneMore.{given_none, given_one}
 use Rattle.svn_editor.proofs.Accepted.{IsAccepted, accepted}
 use Rattle.svn_order.proofs.Sound.{IsSound, known, names, closes_named, given_closes}
 use Rattle.svn_order.proofs.Lawful.{sound}
 use Rattle.svn_model.specs.declared.base_node.BaseNode.{BaseNode}
 use Rattle.svn_model.specs.declared.base_node.BaseNode.TheVariants.{File as FileNode, Dir as DirNode, NotPresent}
 use Rattle.svn_model.specs.Nodes.{WorkingCopy, get_in, is_incomplete}
-use Rattle.svn_model.specs.Effects.{changes_at, texts_at, moved_path, joined_path, effect, stepped, below_after, closed_directory, closed_file}
+use Rattle.svn_model.specs.Effects.{changes_at, texts_at, moved_path, joined_path, effect, stepped, below_after, closed_directory}
+use Rattle.svn_model.specs.Effects.{closed_file}
 use Rattle.svn_model.specs.Effects.{step_effect, settled, edit_fault, refusal}
 use Rattle.svn_edit_law.proofs.StepEffects.{effect_alone, effect_none, effect_delete}
 use Rattle.svn_wc.specs.Taking.{IsOpenAt, IncompleteAreOpen}
 use Rattle.svn_wc.specs.Unswitched.{is_level, IsLevel}
-
--- ---- a list with one more
-
-get_kept : {X : Type 0} (xs : List X) (x : X) (i : ℕ) (y : X) → slice_get xs i ≡ Some y → slice_get (xs ++ x ∷ []) i ≡ Some y
-get_kept [] x i y h = absurd (some_none y (sym h))
-get_kept (z ∷ xs) x zero y h = h
-get_kept (z ∷ xs) x (suc i) y h = get_kept xs x i y h
-
-get_new : {X : Type 0} (xs : List X) (x : X) → slice_get (xs ++ x ∷ []) (length xs) ≡ Some x
-get_new [] x = refl
-get_new (z ∷ xs) x = get_new xs x
 
 -- ---- nodes
 
@@ -70,9 +64,6 @@ settled_complete mode target p (Some (FileNode r q text props)) = refl
 settled_complete mode target p (Some (DirNode r q complete props)) = refl
 settled_complete mode target p (Some NotPresent) = refl
 
-not_incomplete : {A : Type 0} → false ≡ true → A
-not_incomplete e = absurd (true≢false (sym e))
-
 -- ---- one more call
 
 module _ (calls : List Call) (d : Call) where
@@ -81,7 +72,7 @@ module _ (calls : List Call) (d : Call) where
     where
       by : (o : Option Given) → given_by d ≡ o → given (calls ++ d ∷ []) t ≡ Some g
       by None e = ap (λ gs. slice_get gs t) (given_none calls d e) ∙ h
-      by (Some x) e = ap (λ gs. slice_get gs t) (given_one calls d x e) ∙ get_kept (all_given calls) x t g h
+      by (Some x) e = ap (λ gs. slice_get gs t) (given_one calls d x e) ∙ slice_get_push_kept (all_given calls) x t g h
 
   -- an open directory that the call doesn't close
   open_still : (p : Path) (there : IsOpenAt calls p) → closes there.token d ≡ false → IsOpenAt (calls ++ d ∷ []) p
@@ -91,7 +82,7 @@ module _ (calls : List Call) (d : Call) where
     is = given_still there.token there.given_as there.is;
     path = there.path;
     kind = there.kind;
-    unclosed = any_more (closes there.token) calls d ∙ (λ i. there.unclosed i || still i);
+    unclosed = any_push (closes there.token) calls d ∙ (λ i. there.unclosed i || still i);
   }
 
   -- one that the call opens
@@ -102,10 +93,10 @@ module _ (calls : List Call) (d : Call) where
       record {
         token = t;
         given_as = g;
-        is = ap (λ gs. slice_get gs t) (given_one calls d g gives) ∙ get_new (all_given calls) g;
+        is = ap (λ gs. slice_get gs t) (given_one calls d g gives) ∙ slice_get-push (all_given calls) g;
         path = refl;
         kind = kind;
-        unclosed = any_more (closes t) calls d ∙ (λ i. before i || given_closes t d g gives i);
+        unclosed = any_push (closes t) calls d ∙ (λ i. before i || given_closes t d g gives i);
       }
 
 -- ---- what is incomplete after a call
@@ -154,10 +145,10 @@ module _ (mode : Mode) (calls : List Call) (w : WorkingCopy) (s : IsSound calls)
       → IsOpenAt (calls ++ CloseDirectory token ∷ []) p
   close_directory token p =
       alone (CloseDirectory token) p (path_of calls token) (Close Directory None) (λ o. refl)
-      (λ here h. not_incomplete (sym (closed_complete (changes_at (path_of calls token) (steps_of calls)) (w (path_of calls token))) ∙ h))
+      (λ here h. any_from_clash (sym (closed_complete (changes_at (path_of calls token) (steps_of calls)) (w (path_of calls token))) ∙ h))
       (λ other h. let there = before p h in
-      open_still calls (CloseDirectory token) p there (false_from (nat_eq token there.token) (λ same.
-      let at : path_of calls token ≡ p = ap (path_of calls) (true_eq token there.token same) ∙ ap given_path there.is ∙ there.path in
+      open_still calls (CloseDirectory token) p there (false_from_ne_true (nat_eq token there.token) (λ same.
+      let at : path_of calls token ≡ p = ap (path_of calls) (eqb-true token there.token same) ∙ ap given_path there.is ∙ there.path in
       true≢false (sym (path_eq-same p) ∙ ap (λ (x : Path). path_eq x p) (sym at) ∙ other))))
 
   -- what is closed as a file is no directory
@@ -179,9 +170,9 @@ module _ (mode : Mode) (calls : List Call) (w : WorkingCopy) (s : IsSound calls)
       shut h =
           let there = before p h in
           let file = known calls (CloseFile token sum) token File a refl in
-          open_still calls (CloseFile token sum) p there (false_from (nat_eq token there.token) (λ same.
+          open_still calls (CloseFile token sum) p there (false_from_ne_true (nat_eq token there.token) (λ same.
           let one : file.given_as ≡ there.given_as =
-          same_Some _ _ (sym file.is ∙ ap (given calls) (true_eq token there.token same) ∙ there.is) in
+          same_Some _ _ (sym file.is ∙ ap (given calls) (eqb-true token there.token same) ∙ there.is) in
           two_kinds there.given_as.kind (ap (λ (g : Given). kind_eq g.kind File) (sym one) ∙ file.kind) there.kind))
 
   delete : (path : Path) (rev parent : ℕ) (p : Path) → is_incomplete (effect mode calls (DeleteEntry path rev parent) w p) ≡ true
@@ -191,7 +182,7 @@ module _ (mode : Mode) (calls : List Call) (w : WorkingCopy) (s : IsSound calls)
       (by (is_within path p) (ap is_incomplete (effect_delete mode (target_of calls) (steps_of calls) path rev w p) ∙ h))
     where
       by : (b : Bool) → is_incomplete (cond b None (w p)) ≡ true → is_incomplete (w p) ≡ true
-      by true h = not_incomplete h
+      by true h = any_from_clash h
       by false h = h
 
   pub open_after : (c : Call) → IsAccepted calls c → IncompleteAreOpen (effect mode calls c w) (calls ++ c ∷ [])
@@ -206,7 +197,7 @@ module _ (mode : Mode) (calls : List Call) (w : WorkingCopy) (s : IsSound calls)
       unchanged (ChangeDirProp token name value) p (path_of calls token) (Change Directory (name, value)) (λ o. refl) refl (λ t. refl) h
   open_after (CloseDirectory token) a p h = close_directory token p h
   open_after (AddFile path parent token) a p h =
-      alone (AddFile path parent token) p path (Add File) (λ o. refl) (λ here h. not_incomplete h)
+      alone (AddFile path parent token) p path (Add File) (λ o. refl) (λ here h. any_from_clash h)
       (λ other h. kept (AddFile path parent token) p (λ t. refl) h) h
   open_after (OpenFile path parent base token) a p h =
       unchanged (OpenFile path parent base token) p path (Open File base) (λ o. refl) refl (λ t. refl) h
@@ -231,7 +222,8 @@ module _ (mode : Mode) (calls : List Call) (w : WorkingCopy) (s : IsSound calls)
       let unclosed : is_closed calls there.given_as.token ≡ false =
       ap (is_closed calls) (s.numbered there.token there.given_as there.is) ∙ there.unclosed in
       let is_open : is_open_directory calls there.given_as ≡ true = λ i. there.kind i && not (unclosed i) in
-      true≢false (sym (any_at (is_open_directory calls) (all_given calls) there.token there.given_as there.is is_open) ∙ shut)
+      true≢false (sym (any_passes_from_place (is_open_directory calls) (all_given calls) there.token there.given_as there.is is_open)
+      ∙ shut)
 
   pub level_at_end : IsAccepted calls CloseEdit → IsLevel (effect mode calls CloseEdit w)
   level_at_end a = (target_of calls, λ p n stands. by p n (w p) refl stands)
@@ -241,8 +233,8 @@ module _ (mode : Mode) (calls : List Call) (w : WorkingCopy) (s : IsSound calls)
 
       by : (p : Path) (n : BaseNode) (o : Option BaseNode) → w p ≡ o → settled mode (target_of calls) p o ≡ Some n
           → is_level (target_of calls) n ≡ true
-      by p n None e stands = absurd (some_none n (sym stands))
-      by p n (Some NotPresent) e stands = absurd (some_none n (sym stands))
+      by p n None e stands = absurd (some-none n (sym stands))
+      by p n (Some NotPresent) e stands = absurd (some-none n (sym stands))
       by p n (Some (FileNode r q text props)) e stands = ap (is_level (target_of calls)) (sym (same_Some _ n stands)) ∙ same
       by p n (Some (DirNode r q true props)) e stands = ap (is_level (target_of calls)) (sym (same_Some _ n stands)) ∙ same
       by p n (Some (DirNode r q false props)) e stands = absurd (none_incomplete a p (ap is_incomplete e))
@@ -251,7 +243,7 @@ module _ (mode : Mode) (calls : List Call) (w : WorkingCopy) (s : IsSound calls)
 
 in_order : (o : Option OrderFault) (f : Option EditFault) → option_or (option_map Order o) f ≡ None → o ≡ None
 in_order None f h = refl
-in_order (Some x) f h = absurd (some_none (Order x) h)
+in_order (Some x) f h = absurd (some-none (Order x) h)
 
 pub open_more : (checksum : List ℕ → List ℕ) (mode : Mode) (nodes : List (Path × BaseNode)) (calls : List Call) (c : Call)
     → IsLawful calls → refusal checksum mode calls c nodes ≡ None → IncompleteAreOpen (get_in nodes) calls
@@ -273,8 +265,8 @@ pub level_open : (w : WorkingCopy) → IsLevel w → IncompleteAreOpen w []
 level_open w level p h = by (w p) refl h
   where
     by : (o : Option BaseNode) → w p ≡ o → is_incomplete o ≡ true → IsOpenAt [] p
-    by None e h = not_incomplete h
-    by (Some (FileNode r q text props)) e h = not_incomplete h
-    by (Some (DirNode r q true props)) e h = not_incomplete h
-    by (Some (DirNode r q false props)) e h = not_incomplete (level.1 p (DirNode r q false props) e)
-    by (Some NotPresent) e h = not_incomplete h
+    by None e h = any_from_clash h
+    by (Some (FileNode r q text props)) e h = any_from_clash h
+    by (Some (DirNode r q true props)) e h = any_from_clash h
+    by (Some (DirNode r q false props)) e h = any_from_clash (level.1 p (DirNode r q false props) e)
+    by (Some NotPresent) e h = any_from_clash h

@@ -1,21 +1,24 @@
 -- The nodes behind a path and those below it, in path order: the next one is below it too exactly where it has more names.
-use Rattle.std.proofs.Common.{◌≡◌, ℕ, ◌-◌, ◌<◌, ◌≤◌, Bool, true, false, cond, List, [], ◌∷◌, ◌++◌, length, take, drop, refl, sym, ap, subst}
+use Rattle.std.proofs.Common.{◌≡◌, ℕ, ◌-◌, ◌<◌, ◌≤◌, Bool, true, false, cond, List, [], ◌∷◌, ◌++◌, length, refl, sym, ap, subst}
 use Rattle.std.proofs.Common.{◌∙◌, Option, Some, None, true≢false, arith, append_assoc, length-append}
 use Rattle.std.specs.Prelude.{slice_get}
 use Rattle.std.specs.Option.{is_some, option_or, option_copied}
 use Rattle.std.specs.Borrow.{Bor}
 use Rattle.std.specs.BTreeMap.{is_at}
 use Rattle.std.specs.declared.cmp.Ordering.TheVariants.{Less}
-use Rattle.std.proofs.lemmas.List.{append-nil, take-append-drop, length-take-le}
+use Rattle.std.proofs.lemmas.List.{append-nil}
+use Rattle.svn_lists.proofs.Options.{option_or_some}
+use Rattle.svn_lists.proofs.Parts.{cut_at}
+use Rattle.svn_lists.proofs.Places.{empty_from_no_last}
 use Rattle.svn_types.specs.Names.{Path, path_cmp}
 use Rattle.svn_types.specs.Paths.{is_within, is_below, parent, child}
 use Rattle.svn_types.proofs.PathsInOrder.{not_before_itself, not_both, below_after, within_between}
-use Rattle.svn_types.proofs.PathLemmas.{below_parts, split_within, is_within-chain, same_path, parent-child, split_at_last, none_at_last}
+use Rattle.svn_types.proofs.PathLemmas.{below_parts, split_within, is_within-chain, same_path, parent-child, split_at_last}
 use Rattle.svn_model.specs.declared.base_node.BaseNode.{BaseNode}
 use Rattle.svn_model.specs.Nodes.{get_in, InPathOrder, IsWorkingCopy, is_dir}
 use Rattle.svn_edit_law.proofs.CrawlReports.{directory_above}
 use Rattle.svn_edit_law.proofs.Lookups.{at_path, get_in-append}
-use Rattle.svn_nodes.proofs.NodeOrder.{at_first, first_or_after, before_behind, order_behind, some_behind}
+use Rattle.svn_nodes.proofs.NodeOrder.{at_first, first_or_after, before_behind, order_behind}
 use Rattle.svn_wc.specs.Truths.{all_below, IsPast, IsNoDeeper, IsNameBelow, IsLastName}
 use Rattle.svn_wc.proofs.Ancestors.{dir_some}
 use Rattle.svn_wc.proofs.Truly.{found_below, below_extended}
@@ -30,23 +33,11 @@ within_as_long p q within short = let parts = split_within p q within in by part
     by [] is = is ∙ append-nil p
     by (name ∷ r) is = let long = ap length is ∙ length-append p (name ∷ r) in absurd (omega arith)
 
--- a longer path goes on behind its first names
-cut_at : (n : ℕ) (p : Path) → n < length p → (q : Path) × (name : List ℕ) × (r : Path) × (p ≡ q ++ name ∷ r) × (length q ≡ n)
-cut_at n p long = by (drop n p) (take-append-drop n p)
-  where
-    first : length (take n p) ≡ n
-    first = length-take-le n p (omega arith)
-
-    by : (r : Path) → take n p ++ r ≡ p → (q : Path) × (name : List ℕ) × (r : Path) × (p ≡ q ++ name ∷ r) × (length q ≡ n)
-    by [] whole =
-        let all : length (take n p) ≡ length p = ap length (sym (append-nil (take n p)) ∙ whole) in absurd (omega (arith, all, first))
-    by (name ∷ r) whole = (take n p, name, r, sym whole, first)
-
 -- the last name of a path that has one name more than that
 pub last_told : (depth : ℕ) (q : Path) (name : Option (List ℕ)) → depth < length q → length q - depth ≡ 1
     → name ≡ slice_get q (length q - 1) → IsLastName depth q name
 last_told depth q None deeper one is =
-    let empty : length q ≡ 0 = ap length (none_at_last q (sym is)) in absurd (omega (arith, empty))
+    let empty : length q ≡ 0 = ap length (empty_from_no_last q (sym is)) in absurd (omega (arith, empty))
 last_told depth q (Some n) deeper one is = (omega arith, split_at_last q n (sym is))
 
 pub no_last_told : (depth : ℕ) (q : Path) (name : Option (List ℕ)) → (length q - depth ≡ 1 → ⊥) → name ≡ None → IsLastName depth q name
@@ -134,7 +125,7 @@ module _ (nodes : List (Path × BaseNode)) (order : InPathOrder nodes) (before :
         let below_q : is_below q c.0 ≡ true = subst (λ (p : Path). is_below q p ≡ true) (sym up.3) (below_extended q up.1 up.2) in
         let parts = below_parts q c.0 below_q in
         let stands : is_some (get_in nodes c.0) ≡ true =
-        ap is_some (in_parts c.0) ∙ some_behind (get_in front c.0) (get_in (c ∷ left) c.0) (ap is_some (at_first c left)) in
+        ap is_some (in_parts c.0) ∙ option_or_some (get_in front c.0) (get_in (c ∷ left) c.0) (ap is_some (at_first c left)) in
         let dir : is_dir (get_in nodes q) ≡ true =
         directory_above (get_in nodes) shape q c.0 below_q (λ none. true≢false (sym stands ∙ ap is_some none)) in
         from_all q parts.0 (below_after q c.0 parts.0 parts.1) (up.4 ∙ is_depth) (get_in front q) refl

@@ -1,6 +1,6 @@
 -- A path is forgotten: its node is no longer present, and those below it go.
 use Rattle.std.proofs.Common.{◌≡◌, Bool, true, false, ◌&&◌, not, cond, [], ◌∷◌, refl, sym, ◌∙◌, true≢false}
-use Rattle.std.specs.Prelude.{Option, Some, None, Result, Ok, Err, OnOk, is_err}
+use Rattle.std.specs.Prelude.{Option, Some, None}
 use Rattle.std.specs.Option.{option_map}
 use Rattle.svn_types.specs.Names.{Path}
 use Rattle.svn_types.specs.Paths.{path_eq, is_within, is_below, is_root}
@@ -20,11 +20,6 @@ all_went false new old others none = others refl
 pub rest_went : (b : Bool) (some old : Option BaseNode) → (b ≡ false → some ≡ old) → cond b None some ≡ cond b None old
 rest_went true some old others = refl
 rest_went false some old others = others refl
-
--- what holds of an answer that is no error
-pub when_ok : {X E : Type 0} (r : Result X E) (P : Type 0) → is_err r ≡ false → OnOk r P → P
-when_ok (Ok x) P none h = h
-when_ok (Err e) P none h = absurd (true≢false none)
 
 pub absent_forgotten : (w : WorkingCopy) (at p : Path) → is_present (w at) ≡ true
     → cond (is_below at p) None (cond (path_eq at p) (option_map (λ (n : BaseNode). NotPresent) (w at)) (w p)) ≡ forgotten w at p

@@ -1,23 +1,25 @@
 -- What the report of a copy says of all its nodes.
-use Rattle.std.proofs.Common.{◌≡◌, Bool, true, false, cond, ◌&&◌, ◌||◌, not, List, ℕ, [], ◌∷◌, ◌++◌, nat_eq, refl, sym, ap, ◌∙◌, Option, Some, None, true≢false}
+use Rattle.std.proofs.Common.{◌≡◌, Bool, true, false, cond, ◌&&◌, ◌||◌, not, List, ℕ, [], ◌∷◌, ◌++◌, nat_eq, refl, sym, ap, ◌∙◌, Option}
+use Rattle.std.proofs.Common.{Some, None, true≢false}
 use Rattle.std.proofs.Common.{append_assoc, append-nil, ◌+◌, suc, take, arith}
 use Rattle.std.specs.Prelude.{slice_get}
 use Rattle.std.specs.List.{list_any}
 use Rattle.std.specs.Option.{option_to_list}
 use Rattle.std.proofs.lemmas.List.Folds.{list_any-append}
-use Rattle.std.proofs.lemmas.Bool.{eq-eqb}
+use Rattle.std.proofs.lemmas.Bool.{eq-eqb, not-true, or_parts}
 use Rattle.std.proofs.lemmas.Option.{same_Some}
+use Rattle.svn_lists.proofs.Options.{some-none}
+use Rattle.svn_lists.proofs.Places.{take_next}
 use Rattle.svn_types.specs.Names.{Path}
 use Rattle.svn_types.specs.Paths.{path_eq, is_root, child, parent, last_name}
 use Rattle.svn_types.proofs.PathLemmas.{same_path, path_eq-symm, is_root-child, parent-child, last_name-child}
-use Rattle.svn_types.proofs.Places.{some_none, take_more}
-use Rattle.svn_editor.proofs.OneMore.{or_parts, not_true}
 use Rattle.svn_report.specs.declared.entry.ReportEntry.{ReportEntry}
 use Rattle.svn_report.specs.declared.entry.ReportEntry.TheVariants.{SetPath, LinkPath, DeletePath}
 use Rattle.svn_report.specs.Reports.{Entries, entry_at}
 use Rattle.svn_model.specs.declared.base_node.BaseNode.{BaseNode}
 use Rattle.svn_model.specs.declared.base_node.BaseNode.TheVariants.{File as FileNode, Dir as DirNode, NotPresent}
-use Rattle.svn_model.specs.Nodes.{get_in, InPathOrder, IsWorkingCopy, is_present, is_not_present, is_incomplete, is_dir, node_path, node_revision}
+use Rattle.svn_model.specs.Nodes.{get_in, InPathOrder, IsWorkingCopy, is_present, is_not_present, is_incomplete, is_dir, node_path}
+use Rattle.svn_model.specs.Nodes.{node_revision}
 use Rattle.svn_model.specs.Crawl.{is_switched, entry_for, crawl}
 use Rattle.svn_edit_law.proofs.Crawls.{crawled, entry_at-crawl}
 use Rattle.svn_wc.specs.Crawling.{is_link, is_complete_set, is_root_alone}
@@ -32,7 +34,7 @@ pub none_more : (es : Entries) (i : ℕ) → list_any (λ (e : Path × ReportEnt
 none_more es i before here =
     let p : Path × ReportEntry → Bool = λ e. is_link e.1 in
     let next : i + 1 ≡ suc i = omega arith in
-    ap (λ (k : ℕ). list_any p (take k es)) next ∙ sym (ap (list_any p) (take_more es i))
+    ap (λ (k : ℕ). list_any p (take k es)) next ∙ sym (ap (list_any p) (take_next es i))
     ∙ list_any-append p (take i es) (option_to_list (slice_get es i)) ∙ (λ j. before j || here j)
 
 -- what isn't among the entries is at no path
@@ -99,17 +101,17 @@ silent_level : (p : Path) (above : Option BaseNode) (n : BaseNode) (rev : ℕ) �
     → node_revision above ≡ rev → entry_for p above (Some n) ≡ None → is_level rev n ≡ true
 silent_level p above NotPresent rev root complete same silent =
     let told : entry_for p above (Some NotPresent) ≡ Some DeletePath = rw (root, complete) refl in
-    absurd (some_none DeletePath (sym told ∙ silent))
+    absurd (some-none DeletePath (sym told ∙ silent))
 silent_level p above (FileNode r q text props) rev root complete same silent =
     by (is_switched p above (Some (FileNode r q text props))) refl (nat_eq r (node_revision above)) refl
   where
     by : (s : Bool) → is_switched p above (Some (FileNode r q text props)) ≡ s → (b : Bool) → nat_eq r (node_revision above) ≡ b
         → nat_eq r rev ≡ true
     by true s b e =
-        absurd (some_none _ (sym (link_for p above (FileNode r q text props) root refl s) ∙ silent))
+        absurd (some-none _ (sym (link_for p above (FileNode r q text props) root refl s) ∙ silent))
     by false s false e =
         let told : entry_for p above (Some (FileNode r q text props)) ≡ Some (SetPath r false) = rw (root, s, complete, e) refl in
-        absurd (some_none _ (sym told ∙ silent))
+        absurd (some-none _ (sym told ∙ silent))
     by false s true e = ap (nat_eq r) (sym same) ∙ e
 silent_level p above (DirNode r q whole props) rev root complete same silent =
     by (is_switched p above (Some (DirNode r q whole props))) refl whole refl (nat_eq r (node_revision above)) refl
@@ -117,13 +119,13 @@ silent_level p above (DirNode r q whole props) rev root complete same silent =
     by : (s : Bool) → is_switched p above (Some (DirNode r q whole props)) ≡ s → (c : Bool) → whole ≡ c → (b : Bool)
         → nat_eq r (node_revision above) ≡ b → (whole && nat_eq r rev) ≡ true
     by true s c d b e =
-        absurd (some_none _ (sym (link_for p above (DirNode r q whole props) root refl s) ∙ silent))
+        absurd (some-none _ (sym (link_for p above (DirNode r q whole props) root refl s) ∙ silent))
     by false s false d b e =
         let told : entry_for p above (Some (DirNode r q whole props)) ≡ Some (SetPath r (not whole)) = rw (root, s, complete, d) refl in
-        absurd (some_none _ (sym told ∙ silent))
+        absurd (some-none _ (sym told ∙ silent))
     by false s true d false e =
         let told : entry_for p above (Some (DirNode r q whole props)) ≡ Some (SetPath r (not whole)) = rw (root, s, complete, d, e) refl in
-        absurd (some_none _ (sym told ∙ silent))
+        absurd (some-none _ (sym told ∙ silent))
     by false s true d true e = λ i. d i && (ap (nat_eq r) (sym same) ∙ e) i
 
 -- of one entry
@@ -165,10 +167,10 @@ module _ (nodes : List (Path × BaseNode)) (order : InPathOrder nodes) (shape : 
       by : (b : Bool) → path_eq one.entry.0 [] ≡ b
           → cond b (Some one.entry.1) None ≡ Some (SetPath (node_revision (Some n)) (is_incomplete (Some n)))
           → (one.entry.0 ≡ []) × (is_level rev n ≡ true)
-      by false e found = absurd (some_none _ (sym found))
+      by false e found = absurd (some-none _ (sym found))
       by true e found =
           let complete : is_incomplete (Some n) ≡ false =
-          not_true (is_incomplete (Some n)) (ap is_complete_set (sym (same_Some _ _ found)) ∙ one.complete) in (
+          not-true (is_incomplete (Some n)) (ap is_complete_set (sym (same_Some _ _ found)) ∙ one.complete) in (
             same_path one.entry.0 [] e,
             ap (λ (r : ℕ). is_level r n) (ap node_revision stands) ∙ level n is_dir_here complete,
           )
@@ -205,7 +207,7 @@ module _ (nodes : List (Path × BaseNode)) (order : InPathOrder nodes) (shape : 
       by : (o : Option BaseNode) → get_in nodes q ≡ o → is_level rev n ≡ true
       by None e =
           absurd (true≢false
-          (sym (shape.parents q name (λ none. some_none n (sym stands ∙ none))) ∙ ap is_dir e))
+          (sym (shape.parents q name (λ none. some-none n (sym stands ∙ none))) ∙ ap is_dir e))
       by (Some m) e =
           let here : AtLevel rev (Some m) = at_level rev m (above m e) in
           let up : get_in nodes (parent (child q name)) ≡ Some m = ap (get_in nodes) (parent-child q name) ∙ e in

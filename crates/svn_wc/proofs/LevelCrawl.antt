@@ -1,10 +1,12 @@
 -- What a copy reports if no path is switched, and all nodes are present, complete and of one revision: the root alone.
-use Rattle.std.proofs.Common.{◌≡◌, ◌≢◌, ℕ, Bool, true, false, ◌&&◌, not, cond, List, [], ◌∷◌, ◌++◌, nat_eq, refl, sym, ap, ◌∙◌, subst, Option, Some}
+use Rattle.std.proofs.Common.{◌≡◌, ◌≢◌, ℕ, Bool, true, false, ◌&&◌, not, cond, List, [], ◌∷◌, ◌++◌, nat_eq, refl, sym, ap, ◌∙◌, subst}
+use Rattle.std.proofs.Common.{Option, Some}
 use Rattle.std.proofs.Common.{None, true≢false, ◌⊎◌, inl, inr, append_assoc}
 use Rattle.std.specs.Prelude.{filter_map}
 use Rattle.std.specs.List.{list_all, cons_option}
 use Rattle.std.specs.Option.{is_some, option_map, option_or}
 use Rattle.std.proofs.lemmas.Bool.{and_parts, eqb-true, eq-eqb}
+use Rattle.svn_lists.proofs.Parts.{append_one}
 use Rattle.svn_types.specs.Names.{Path}
 use Rattle.svn_types.specs.Paths.{path_eq, is_root, child, parent, last_name}
 use Rattle.svn_types.proofs.PathLemmas.{path_eq_from, path_cases, parent-child, parent_and_last}
@@ -14,14 +16,15 @@ use Rattle.svn_report.specs.declared.entry.ReportEntry.TheVariants.{SetPath}
 use Rattle.svn_report.specs.Reports.{ReportView, with_entry}
 use Rattle.svn_model.specs.declared.base_node.BaseNode.{BaseNode}
 use Rattle.svn_model.specs.declared.base_node.BaseNode.TheVariants.{File as FileNode, Dir as DirNode, NotPresent}
-use Rattle.svn_model.specs.Nodes.{get_in, InPathOrder, IsWorkingCopy, is_present, is_not_present, is_incomplete, is_dir, node_path, node_revision}
+use Rattle.svn_model.specs.Nodes.{get_in, InPathOrder, IsWorkingCopy, is_present, is_not_present, is_incomplete, is_dir, node_path}
+use Rattle.svn_model.specs.Nodes.{node_revision}
 use Rattle.svn_model.specs.Crawl.{is_switched, entry_for, reported_at, crawl}
 use Rattle.svn_edit_law.proofs.CrawlReports.{root_first}
 use Rattle.svn_edit_law.proofs.NodeLists.{get_in-first}
 use Rattle.svn_edit_law.proofs.Lookups.{get_in-append}
 use Rattle.svn_nodes.proofs.NodeOrder.{at_first, before_behind}
 use Rattle.svn_wc.specs.Unswitched.{is_level, IsUnswitched, IsLevel}
-use Rattle.svn_wc.proofs.Ancestors.{next_stands, append_one}
+use Rattle.svn_wc.proofs.Ancestors.{next_stands}
 use Rattle.svn_wc.proofs.Unswitched.{dir_present}
 
 -- ---- one node

@@ -14,15 +14,18 @@ use Rattle.std.specs.Cmp.Lexicographic.{nat_list_cmp_total}
 use Rattle.std.proofs.lemmas.Map.{lookup-none}
 use Rattle.std.proofs.lemmas.Map.Entries.{none_below_head}
 use Rattle.std.proofs.lemmas.Map.Keys.{sorted_tail}
+use Rattle.svn_lists.proofs.Equality.{bytes_eq-same, same_bytes}
+use Rattle.svn_lists.proofs.Every.{all_push}
+use Rattle.svn_lists.proofs.Options.{option_or_some}
 use Rattle.svn_types.specs.Names.{Path, name_cmp, path_cmp}
 use Rattle.svn_types.specs.Paths.{child}
 use Rattle.svn_types.specs.Pairs.{InNameOrder, value_of}
-use Rattle.svn_types.proofs.NameLemmas.{Name, bytes_eq-same, same_bytes, same_name, name_cmp-same, reversed, value_of-first}
+use Rattle.svn_types.proofs.NameLemmas.{Name, same_name, name_cmp-same, reversed, value_of-first}
 use Rattle.svn_repo.specs.History.{History}
 use Rattle.svn_types.proofs.PathsInOrder.{paths_total, not_before_itself}
 use Rattle.svn_model.specs.declared.base_node.BaseNode.{BaseNode}
 use Rattle.svn_model.specs.Nodes.{get_in, InPathOrder}
-use Rattle.svn_nodes.proofs.NodeOrder.{at_first, before_behind, some_behind}
+use Rattle.svn_nodes.proofs.NodeOrder.{at_first, before_behind}
 use Rattle.svn_edit_law.proofs.Lookups.{get_in-append}
 use Rattle.svn_wc.specs.Truths.{AreUpTo, PassesTo, entries_at, entry_in}
 
@@ -82,10 +85,6 @@ pub record Passing (name : Name) (old new : List (Name × ℕ)) : Type 0 where
 
 pub passing_begins : (name : Name) (old : List (Name × ℕ)) → Passing name old old
 passing_begins name old = record { passed = []; parts = refl; before = tt }
-
-all_push : {X : Type 0} (P : X → Type 0) (xs : List X) (x : X) → AllByRecursion P xs → P x → AllByRecursion P (xs ++ x ∷ [])
-all_push P [] x all own = (own, tt)
-all_push P (y ∷ ys) x all own = (all.0, all_push P ys x all.1 own)
 
 pub passing_on : (name : Name) (old : List (Name × ℕ)) (e : Name × ℕ) (new : List (Name × ℕ)) → Passing name old (e ∷ new)
     → name_cmp e.0 name ≡ Less → Passing name old new
@@ -178,7 +177,7 @@ entry_beside p all entries entries2 c left name found s is passes order =
 still_left : (c : Path × BaseNode) (sub left2 : List (Path × BaseNode)) (q : Path) → is_some (get_in left2 q) ≡ true
     → is_some (get_in (c ∷ sub ++ left2) q) ≡ true
 still_left c sub left2 q some =
-    ap is_some (get_in-append (c ∷ sub) left2 q) ∙ some_behind (get_in (c ∷ sub) q) (get_in left2 q) some
+    ap is_some (get_in-append (c ∷ sub) left2 q) ∙ option_or_some (get_in (c ∷ sub) q) (get_in left2 q) some
 
 module _ (p : Path) (all entries : List (Name × ℕ)) (c : Path × BaseNode) (left sub left2 : List (Path × BaseNode))
     (s : EntriesBeside p all entries (c ∷ left)) (rest : left ≡ sub ++ left2) where

@@ -1,8 +1,13 @@
 -- Trees of the repository, and what a copy makes of them.
-use Rattle.std.proofs.Common.{◌≡◌, ℕ, ◌-◌, Bool, true, false, not, cond, List, [], ◌∷◌, ◌++◌, length, drop, refl, sym, ap, subst, ◌∙◌, Option}
+use Rattle.std.proofs.Common.{◌≡◌, ℕ, ◌-◌, Bool, true, false, not, cond, List, [], ◌∷◌, ◌++◌, length, drop, refl, sym, ap, subst, ◌∙◌}
+use Rattle.std.proofs.Common.{Option}
 use Rattle.std.proofs.Common.{Some, None, true≢false, append_assoc, append-nil}
-use Rattle.std.specs.Prelude.{slice_get, option_and_then, Result, Ok, Err, IfOk}
+use Rattle.std.specs.Prelude.{slice_get, option_and_then}
 use Rattle.std.specs.Option.{option_map}
+use Rattle.std.proofs.Math.Seq.{drop-append_seam}
+use Rattle.std.proofs.lemmas.Bool.{not-false}
+use Rattle.svn_lists.proofs.Options.{cond_none, some-none}
+use Rattle.svn_lists.proofs.Places.{empty_from_no_last}
 use Rattle.svn_types.specs.Names.{Path}
 use Rattle.svn_types.specs.Paths.{path_eq, is_within, is_below, is_root, parent, last_name}
 use Rattle.svn_types.specs.Pairs.{value_of}
@@ -22,10 +27,7 @@ use Rattle.svn_nodes.specs.Standing.{standing, Puts}
 use Rattle.svn_wc.specs.Building.{Refuses, tree_at}
 use Rattle.svn_wc.specs.Truths.{entry_in}
 use Rattle.svn_edit_law.proofs.CrawlReports.{directory_above}
-use Rattle.svn_edit_law.proofs.Parts.{drop_front}
-use Rattle.svn_types.proofs.PathLemmas.{none_at_last, split_within, apart_paths, below_from, path_eq-longer, path_eq-same, within_append}
-use Rattle.svn_types.proofs.Places.{some_none, passed}
-use Rattle.svn_editor.proofs.OneMore.{not_false}
+use Rattle.svn_types.proofs.PathLemmas.{split_within, apart_paths, below_from, path_eq-longer, path_eq-same, within_append}
 
 -- what was gathered is the tree
 pub tree_gathered : (h : History) (at q : Path) (rev n : ℕ) (w : WorkingCopy) → Puts (standing h rev q n) at (λ p. None) w
@@ -40,7 +42,7 @@ tree_gathered h at q rev n w puts found p = by (is_within at p) refl
     by : (b : Bool) → is_within at p ≡ b → w p ≡ cond b (checkout h q rev (drop (length at) p)) None
     by true i =
         let on = split_within at p i in
-        ap w on.1 ∙ inside on.0 ∙ ap (checkout h q rev) (sym (ap (drop (length at)) on.1 ∙ drop_front at on.0))
+        ap w on.1 ∙ inside on.0 ∙ ap (checkout h q rev) (sym (ap (drop (length at)) on.1 ∙ drop-append_seam at on.0))
     by false i = puts.outside p i
 
 pub tree_outside : (h : History) (at q : Path) (rev : ℕ) (p : Path) → is_within at p ≡ false → tree_at h at q rev p ≡ None
@@ -71,7 +73,7 @@ none_below_other w shape at p other below = by (w p) refl
   where
     by : (o : Option BaseNode) → w p ≡ o → o ≡ None
     by None e = refl
-    by (Some n) e = absurd (true≢false (sym (directory_above w shape at p below (λ none. some_none n (sym e ∙ none))) ∙ other))
+    by (Some n) e = absurd (true≢false (sym (directory_above w shape at p below (λ none. some-none n (sym e ∙ none))) ∙ other))
 
 pub file_placed : (h : History) → IsHistory h → (w : WorkingCopy) → IsWorkingCopy w → (at q : Path) (rev n : ℕ) → look h rev q ≡ Some n
     → is_file_kind (kind_of h n) ≡ true → is_dir (w at) ≡ false → (p : Path)
@@ -104,7 +106,7 @@ file_placed h laws w shape at q rev n found file other p = by (is_within at p) r
         → cond (path_eq at p) (Some (base_node h rev q n)) (w p) ≡ cond b (checkout h q rev (drop (length at) p)) (w p)
     by true i =
         let on = split_within at p i in
-        inside on.0 on.1 ∙ ap (checkout h q rev) (sym (ap (drop (length at)) on.1 ∙ drop_front at on.0))
+        inside on.0 on.1 ∙ ap (checkout h q rev) (sym (ap (drop (length at)) on.1 ∙ drop-append_seam at on.0))
     by false i = ap (λ (b : Bool). cond b (Some (base_node h rev q n)) (w p)) (apart_paths at p i)
 
 -- ---- where a tree may be placed
@@ -112,20 +114,12 @@ file_placed h laws w shape at q rev n found file other p = by (is_within at p) r
 pub may_place : (h : History) (w : WorkingCopy) (at : Path) (rev : ℕ) → place_fault h w at rev ≡ None
     → (is_root at ≡ false) × (is_dir (w (parent at)) ≡ true)
 may_place h w at rev f =
-    let one = passed (is_root at) _ _ f in
-    let two = passed (is_missing_revision h rev) _ _ one.1 in
-    let three = passed (not (is_dir (w (parent at)))) _ _ two.1 in
-    (one.0, not_false (is_dir (w (parent at))) three.0)
+    let one = cond_none (is_root at) _ _ f in
+    let two = cond_none (is_missing_revision h rev) _ _ one.1 in
+    let three = cond_none (not (is_dir (w (parent at)))) _ _ two.1 in
+    (one.0, not-false (is_dir (w (parent at))) three.0)
 
 -- ---- answers
-
-pub both_ok : {X E : Type 0} (P Q R : X → Type 0) (r : Result X E) → IfOk r P → IfOk r Q → ((x : X) → P x → Q x → R x) → IfOk r R
-both_ok P Q R (Ok x) p q f = f x p q
-both_ok P Q R (Err e) p q f = tt
-
-pub if_ok : {X E : Type 0} (P Q : X → Type 0) (r : Result X E) → IfOk r P → ((x : X) → P x → Q x) → IfOk r Q
-if_ok P Q (Ok x) h f = f x h
-if_ok P Q (Err e) h f = tt
 
 pub refuses_fault : (o : Option WcFault) (e : WcFault) → o ≡ Some e → Refuses o e
 refuses_fault o e is = subst (λ (u : Option WcFault). Refuses u e) (sym is) refl
@@ -136,7 +130,7 @@ refuses_memory o e is memory = subst (λ (u : Option WcFault). Refuses u e) (sym
 -- ---- the last name of a path
 
 pub last_none : (p : Path) → None ≡ slice_get p (length p - 1) → last_name p ≡ []
-last_none p h = ap last_name (none_at_last p (sym h))
+last_none p h = ap last_name (empty_from_no_last p (sym h))
 
 pub entry_is_below : (h : History) (o : Option ℕ) (name : List ℕ) → entry_in h o name ≡ entry_below h o name
 entry_is_below h None name = refl

@@ -9,9 +9,10 @@ use Rattle.std.specs.Ordering.{is_lt, is_eq}
 use Rattle.std.proofs.lemmas.Bool.{or_parts, or_from, cases_lt}
 use Rattle.std.proofs.lemmas.List.Sorted.{IsPermutation-sym, Contains-permutation, list_any-IsPermutation}
 use Rattle.std.proofs.lemmas.Map.Keys.{IsDistinct-IsPermutation}
+use Rattle.svn_lists.proofs.Options.{cond_none}
+use Rattle.svn_lists.proofs.Somewhere.{fails_at}
 use Rattle.svn_types.specs.Names.{Path, path_cmp}
 use Rattle.svn_types.specs.Paths.{path_eq}
-use Rattle.svn_types.proofs.Places.{passed}
 use Rattle.svn_types.proofs.PathsInOrder.{paths_total, at_path, before_apart, earlier}
 use Rattle.svn_types.proofs.PathLemmas.{same_path, path_eq-symm, path_eq-same}
 use Rattle.svn_model.specs.declared.base_node.BaseNode.{BaseNode}
@@ -72,12 +73,6 @@ only_next e (f ∷ fs) up = by (path_eq e.0 f.0) refl
 
 -- ---- what a search finds
 
-not_at : (f : Path × BaseNode → Bool) (es : List (Path × BaseNode)) → list_any f es ≡ false → (i : ℕ) (d : Path × BaseNode) → i < length es
-    → f (get_or es i d) ≡ false
-not_at f [] none i d inside = absurd (omega (arith, inside))
-not_at f (e ∷ es) none zero d inside = (or_parts (f e) (list_any f es) none).0
-not_at f (e ∷ es) none (suc i) d inside = not_at f es (or_parts (f e) (list_any f es) none).1 i d (omega (arith, inside))
-
 pub found_at : (es : List (Path × BaseNode)) → has_twice es ≡ false → (i : ℕ) (d : Path × BaseNode) → i < length es → (q : Path)
     → (get_or es i d).0 ≡ q → get_in es q ≡ Some (get_or es i d).1
 found_at [] once i d inside q is = absurd (omega (arith, inside))
@@ -85,7 +80,7 @@ found_at (e ∷ es) once zero d inside q is =
     get_in-first e es q ∙ ap (λ b. cond b (Some e.1) (get_in es q)) (ap (path_eq e.0) (sym is) ∙ path_eq-same e.0)
 found_at (e ∷ es) once (suc i) d inside q is =
     let parts = or_parts (list_any (is_of e.0) es) (has_twice es) once in
-    let other : path_eq e.0 q ≡ false = ap (path_eq e.0) (sym is) ∙ not_at (is_of e.0) es parts.0 i d (omega (arith, inside)) in
+    let other : path_eq e.0 q ≡ false = ap (path_eq e.0) (sym is) ∙ fails_at (is_of e.0) es parts.0 i d (omega (arith, inside)) in
     get_in-first e es q ∙ ap (λ b. cond b (Some e.1) (get_in es q)) other ∙ found_at es parts.1 i d (omega (arith, inside)) q is
 
 pub none_found : (es : List (Path × BaseNode)) (q : Path)
@@ -177,7 +172,7 @@ same_nodes xs ys same once q = by (get_in xs q) (get_in ys q) refl refl
 
 -- what a list without a fault has is what it has in any other order
 pub nodes_stay : (xs ys : List (Path × BaseNode)) → IsPermutation xs ys → nodes_fault xs ≡ None → (q : Path) → get_in ys q ≡ get_in xs q
-nodes_stay xs ys same none q = sym (same_nodes xs ys same (passed (has_twice xs) Twice _ none).0 q)
+nodes_stay xs ys same none q = sym (same_nodes xs ys same (cond_none (has_twice xs) Twice _ none).0 q)
 
 -- the fault of a list is that of the list in any other order
 pub same_fault : (xs ys : List (Path × BaseNode)) → IsPermutation xs ys → nodes_fault xs ≡ nodes_fault ys

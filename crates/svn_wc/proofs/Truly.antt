@@ -2,12 +2,10 @@
 use Rattle.std.proofs.Common.{◌≡◌, ℕ, ◌+◌, ◌-◌, ◌<◌, Bool, true, false, not, cond, List, [], ◌∷◌, ◌++◌, length, refl, sym, ap, subst, ◌∙◌}
 use Rattle.std.proofs.Common.{Option, Some, None, true≢false, arith, append_assoc, length-append}
 use Rattle.std.specs.Prelude.{◌&&◌, ◌||◌, bytes_eq, nat_lt, is_none, IfSome, MatchOption}
-use Rattle.std.specs.List.{list_any, list_all, AllByRecursion}
+use Rattle.std.specs.List.{list_any, AllByRecursion}
 use Rattle.std.specs.List.Sorted.{IsStrictlySortedBy}
 use Rattle.std.specs.Option.{is_some, option_or, option_map, option_copied}
 use Rattle.std.specs.Borrow.{Bor}
-use Rattle.std.specs.Bool.{then_some}
-use Rattle.std.specs.Cmp.{both_ways}
 use Rattle.std.specs.Cmp.Lexicographic.{pointwise_decides}
 use Rattle.std.specs.BTreeMap.{is_at}
 use Rattle.std.specs.Map.{keys_of}
@@ -15,9 +13,13 @@ use Rattle.std.specs.declared.cmp.Ordering.TheVariants.{Less}
 use Rattle.std.proofs.lemmas.Bool.{and_from, and_parts, lt-ltb}
 use Rattle.std.proofs.lemmas.List.{append-nil}
 use Rattle.std.proofs.lemmas.Map.Keys.{sorted_head, sorted_tail}
+use Rattle.svn_lists.proofs.Equality.{bytes_eq-same, same_bytes}
+use Rattle.svn_lists.proofs.Options.{option_or_some}
+use Rattle.svn_lists.proofs.Somewhere.{list_all_append}
+use Rattle.svn_lists.proofs.Tests.{same_tests}
 use Rattle.svn_types.specs.Names.{Path, name_cmp, path_cmp}
 use Rattle.svn_types.specs.Paths.{is_within, is_below, path_eq, child}
-use Rattle.svn_types.proofs.NameLemmas.{same_bytes, bytes_eq-same, at_name}
+use Rattle.svn_types.proofs.NameLemmas.{at_name}
 use Rattle.svn_types.proofs.PathsInOrder.{not_before_itself, not_both, below_after, within_between}
 use Rattle.svn_types.specs.Pairs.{value_of}
 use Rattle.svn_repo.specs.History.{History, NodeRow, node_at, look}
@@ -35,7 +37,7 @@ use Rattle.svn_wc.proofs.Placing.{entry_is_below}
 use Rattle.svn_wc.proofs.Merging.{EntriesBeside, entry_beside, beside_other, beside_on, entry_in_all, none_before_itself}
 use Rattle.svn_edit_law.proofs.Lookups.{at_path, get_in-append}
 use Rattle.svn_edit_law.proofs.TruthTests.{prop_decides}
-use Rattle.svn_nodes.proofs.NodeOrder.{at_first, first_or_after, before_behind, order_behind, some_behind}
+use Rattle.svn_nodes.proofs.NodeOrder.{at_first, first_or_after, before_behind, order_behind}
 use Rattle.svn_types.proofs.PathLemmas.{below_from, below_parts, split_within, within_append}
 use Rattle.svn_types.proofs.PathLemmas.{path_eq-longer, same_path, path_eq-symm, path_eq-same}
 
@@ -115,11 +117,6 @@ first_untrue_in-append h w (x ∷ xs) ys = by (is_untrue h w x.0 x.1) (first_unt
         ≡ option_or (cond b (Some x.0) (first_untrue_in h w xs)) (first_untrue_in h w ys)
     by true e = refl
     by false e = e
-
-all-append : {X : Type 0} (f : X → Bool) (xs ys : List X) → list_all f xs ≡ true → list_all f ys ≡ true → list_all f (xs ++ ys) ≡ true
-all-append f [] ys h g = g
-all-append f (x ∷ xs) ys h g =
-    let parts = and_parts (f x) (list_all f xs) h in and_from (f x) (list_all f (xs ++ ys)) parts.0 (all-append f xs ys parts.1 g)
 
 pub below_extended : (p : Path) (x : List ℕ) (r : Path) → is_below p (p ++ x ∷ r) ≡ true
 below_extended p x r = below_from p (p ++ x ∷ r) (within_append p (x ∷ r)) (path_eq-longer p x r)
@@ -239,12 +236,12 @@ module _ (h : History) (nodes : List (Path × BaseNode)) (order : InPathOrder no
     own_earlier : path_cmp e.0 c.0 ≡ Less
     own_earlier =
         earlier e.0 (ap is_some (get_in-append before (e ∷ s.taken) e.0)
-        ∙ some_behind (get_in before e.0) (get_in (e ∷ s.taken) e.0) (ap is_some (at_first e s.taken)))
+        ∙ option_or_some (get_in before e.0) (get_in (e ∷ s.taken) e.0) (ap is_some (at_first e s.taken)))
 
     taken_earlier : (p : Path) → is_some (get_in s.taken p) ≡ true → path_cmp p c.0 ≡ Less
     taken_earlier p some =
         earlier p (ap is_some (get_in-append before (e ∷ s.taken) p)
-        ∙ some_behind (get_in before p) (get_in (e ∷ s.taken) p) (later (is_at (path_cmp p) e.0)))
+        ∙ option_or_some (get_in before p) (get_in (e ∷ s.taken) p) (later (is_at (path_cmp p) e.0)))
       where
         later : (b : Bool) → is_some (cond b (Some e.1) (get_in s.taken p)) ≡ true
         later true = refl
@@ -304,7 +301,7 @@ module _ (h : History) (nodes : List (Path × BaseNode)) (order : InPathOrder no
           taken = s.taken ++ c ∷ sub;
           parts = s.parts ∙ ap (λ l. s.taken ++ c ∷ l) rest ∙ sym (append_assoc s.taken (c ∷ sub) left2);
           below =
-              all-append (λ (f : Path × BaseNode). is_below e.0 f.0) s.taken (c ∷ sub) s.below
+              list_all_append (λ (f : Path × BaseNode). is_below e.0 f.0) s.taken (c ∷ sub) s.below
               (and_from (is_below e.0 c.0) (all_below e.0 sub) next_below (all_below_below e.0 c.0 sub next_below deeper));
           first = (λ i. option_or (s.first i) (is i)) ∙ sym (first_untrue_in-append h (get_in nodes) s.taken (c ∷ sub));
           count = ap (λ n. n - cond (has_child e.0 c.0 names) 1 0) s.count
@@ -393,15 +390,7 @@ pub walks_alone : (h : History) (nodes : List (Path × BaseNode)) (e : Path × B
 walks_alone h nodes e old b test found is =
     record { taken = []; parts = refl; below = refl; first = is ∙ ap (λ x. cond x (Some e.0) None) test }
 
-pub copied_if : {X : Type 0} (b : Bool) (x : Bor X) → option_copied (then_some b x) ≡ cond b (Some x.now) None
-copied_if true x = refl
-copied_if false x = refl
-
 -- ---- what the repository has
-
--- two tests of one thing
-pub same_tests : (P : Type 0) (r t : Bool) → (r ≡ true → P) → (P → r ≡ true) → (t ≡ true → P) → (P → t ≡ true) → r ≡ t
-same_tests P r t f g h k = both_ways r t (λ e. k (f e)) (λ e. g (h e))
 
 -- a test that tells the same properties, after those of a node were read
 pub tests_props : (h : History) (n : ℕ) (r : Bool) (props others : Properties) → Some others ≡ option_map (λ row. row.props) (node_at h n)
@@ -567,7 +556,3 @@ pub check_ends : (h : History) (nodes left : List (Path × BaseNode)) (found : O
     → found ≡ first_untrue h nodes
 check_ends h nodes left found s none =
     s.first ∙ ap (first_untrue_in h (get_in nodes)) (sym (append-nil s.done) ∙ ap (λ l. s.done ++ l) (sym none) ∙ sym s.parts)
-
-pub option_or-copied : {X : Type 0} (a b : Option (Bor X)) → option_copied (option_or a b) ≡ option_or (option_copied a) (option_copied b)
-option_or-copied None b = refl
-option_or-copied (Some x) b = refl

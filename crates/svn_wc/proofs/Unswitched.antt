@@ -1,16 +1,19 @@
 -- Copies of which no path is switched stay so.
-use Rattle.std.proofs.Common.{◌≡◌, ◌≢◌, ℕ, Bool, true, false, cond, List, [], ◌∷◌, ◌++◌, refl, sym, ap, ◌∙◌, inl, inr, ◌⊎◌, Option, Some, None}
+use Rattle.std.proofs.Common.{◌≡◌, ◌≢◌, ℕ, Bool, true, false, cond, List, [], ◌∷◌, ◌++◌, refl, sym, ap, ◌∙◌, inl, inr, ◌⊎◌, Option, Some}
+use Rattle.std.proofs.Common.{None}
 use Rattle.std.proofs.Common.{append_assoc, true≢false, length, drop}
 use Rattle.std.proofs.lemmas.List.{append-nil}
+use Rattle.std.proofs.Math.Seq.{drop-append_seam}
+use Rattle.svn_lists.proofs.Tests.{any_from_clash}
 use Rattle.svn_types.specs.Names.{Path}
 use Rattle.svn_types.specs.Props.{PropChange}
 use Rattle.svn_types.specs.Paths.{path_eq, is_within, is_root, parent, last_name, child}
 use Rattle.svn_types.specs.declared.kind.Kind.{Kind}
 use Rattle.svn_types.specs.declared.kind.Kind.TheVariants.{File, Directory}
-use Rattle.svn_types.proofs.PathLemmas.{same_path, path_eq-same, path_cases, path_eq-symm, parent-child, last_name-child, within_shorter, path_eq-child}
+use Rattle.svn_types.proofs.PathLemmas.{same_path, path_eq-same, path_cases, path_eq-symm, parent-child, last_name-child, within_shorter}
+use Rattle.svn_types.proofs.PathLemmas.{path_eq-child}
 use Rattle.svn_types.proofs.PathLemmas.{path_eq_from, parent_and_last, split_within, within_append, below_from, path_eq-longer}
 use Rattle.svn_edit_law.proofs.CrawlReports.{directory_above}
-use Rattle.svn_edit_law.proofs.Parts.{drop_front}
 use Rattle.svn_editor.specs.declared.call.Call.{Call}
 use Rattle.svn_editor.specs.declared.call.Call.TheVariants.{CloseEdit}
 use Rattle.svn_editor.specs.declared.mode.Mode.TheVariants.{Update, SwitchTo}
@@ -18,7 +21,8 @@ use Rattle.svn_editor.specs.Steps.{Action, Delete, Open, Add, Change, Text, Clos
 use Rattle.svn_model.specs.declared.base_node.BaseNode.{BaseNode}
 use Rattle.svn_model.specs.declared.base_node.BaseNode.TheVariants.{File as FileNode, Dir as DirNode, NotPresent}
 use Rattle.svn_model.specs.Nodes.{WorkingCopy, IsWorkingCopy, is_present, is_dir, node_path}
-use Rattle.svn_model.specs.Effects.{effect, read_effect, step_effect, stepped, below_after, joined_path, settled, moved_path, opened_directory, closed_directory, closed_file}
+use Rattle.svn_model.specs.Effects.{effect, read_effect, step_effect, stepped, below_after, joined_path, settled, moved_path}
+use Rattle.svn_model.specs.Effects.{opened_directory, closed_directory, closed_file}
 use Rattle.svn_model.specs.Effects.{changes_at, texts_at}
 use Rattle.std.specs.Option.{option_map}
 use Rattle.svn_repo.specs.History.{History, look}
@@ -33,9 +37,6 @@ dir_present (Some (FileNode r q text props)) h = refl
 dir_present (Some (DirNode r q complete props)) h = refl
 dir_present (Some NotPresent) h = absurd (true≢false (sym h))
 
-not_present : {A : Type 0} → false ≡ true → A
-not_present e = absurd (true≢false (sym e))
-
 -- ---- the node at a step's path, where it has the path q or gets it
 
 abbrev Has : Path → Option BaseNode → Type 0
@@ -43,33 +44,33 @@ Has q o = is_present o ≡ true → node_path o ≡ q
 
 opened_has : (target : ℕ) (moved : Path → Path) → ((x : Path) → moved x ≡ x) → (q : Path) (o : Option BaseNode) → Has q o
     → Has q (opened_directory target moved o)
-opened_has target moved same q None h e = not_present e
+opened_has target moved same q None h e = any_from_clash e
 opened_has target moved same q (Some (FileNode r x text props)) h e = h refl
 opened_has target moved same q (Some (DirNode r x complete props)) h e = same x ∙ h refl
-opened_has target moved same q (Some NotPresent) h e = not_present e
+opened_has target moved same q (Some NotPresent) h e = any_from_clash e
 
 closed_has : (changes : List PropChange) (q : Path) (o : Option BaseNode) → Has q o → Has q (closed_directory changes o)
-closed_has changes q None h e = not_present e
+closed_has changes q None h e = any_from_clash e
 closed_has changes q (Some (FileNode r x text props)) h e = h refl
 closed_has changes q (Some (DirNode r x complete props)) h e = h refl
-closed_has changes q (Some NotPresent) h e = not_present e
+closed_has changes q (Some NotPresent) h e = any_from_clash e
 
 file_has : (target : ℕ) (moved : Path → Path) → ((x : Path) → moved x ≡ x) → (joined : Path) (changes : List PropChange)
     (texts : List (List ℕ)) (q : Path) (o : Option BaseNode) → Has q o
     → (is_present (closed_file target moved joined changes texts o) ≡ true → joined ≡ q)
     → Has q (closed_file target moved joined changes texts o)
-file_has target moved same joined changes texts q None h j e = not_present e
+file_has target moved same joined changes texts q None h j e = any_from_clash e
 file_has target moved same joined changes texts q (Some (FileNode r x text props)) h j e = same x ∙ h refl
 file_has target moved same joined changes texts q (Some (DirNode r x complete props)) h j e = h refl
 file_has target moved same joined changes texts q (Some NotPresent) h j e = j refl
 
 stepped_has : (target : ℕ) (earlier : List Step) (w : WorkingCopy) (p q : Path) (a : Action) → Has q (w p)
     → (is_present (stepped Update target earlier w p a) ≡ true → joined_path w p ≡ q) → Has q (stepped Update target earlier w p a)
-stepped_has target earlier w p q (Delete revision) h j = λ e. not_present e
+stepped_has target earlier w p q (Delete revision) h j = λ e. any_from_clash e
 stepped_has target earlier w p q (Open Directory base) h j = opened_has target (moved_path Update w p) (λ x. refl) q (w p) h
 stepped_has target earlier w p q (Open File base) h j = h
 stepped_has target earlier w p q (Add Directory) h j = λ e. j e
-stepped_has target earlier w p q (Add File) h j = λ e. not_present e
+stepped_has target earlier w p q (Add File) h j = λ e. any_from_clash e
 stepped_has target earlier w p q (Close Directory sum) h j = closed_has (changes_at p earlier) q (w p) h
 stepped_has target earlier w p q (Close File sum) h j =
     file_has target (moved_path Update w p) (λ x. refl) (joined_path w p) (changes_at p earlier) (texts_at p earlier) q (w p) h j
@@ -77,7 +78,7 @@ stepped_has target earlier w p q (Change kind change) h j = h
 stepped_has target earlier w p q (Text base_md5 text) h j = h
 
 below_has : (a : Action) (q : Path) (o : Option BaseNode) → Has q o → Has q (below_after a o)
-below_has (Delete revision) q o h = λ e. not_present e
+below_has (Delete revision) q o h = λ e. any_from_clash e
 below_has (Open kind base) q o h = h
 below_has (Add kind) q o h = h
 below_has (Close kind sum) q o h = h
@@ -119,7 +120,7 @@ module _ (w : WorkingCopy) (target : ℕ) (earlier : List Step) (a : Action) (un
           (cond (is_within (m ∷ r) (m ∷ r)) (below_after a (w (m ∷ r))) (w (m ∷ r)))) (path_eq-same (m ∷ r))
 
       stands : new (child p name) ≢ None
-      stands none = not_present (sym (ap is_present (sym here ∙ ap new is ∙ none)) ∙ e)
+      stands none = any_from_clash (sym (ap is_present (sym here ∙ ap new is ∙ none)) ∙ e)
 
       other : new p ≡ w p
       other =
@@ -172,10 +173,10 @@ read_unswitched w target earlier None unswitched shape = unswitched
 read_unswitched w target earlier (Some s) unswitched shape = step_unswitched w target earlier s unswitched shape
 
 settled_has : (target : ℕ) (p q : Path) (o : Option BaseNode) → Has q o → Has q (settled Update target p o)
-settled_has target p q None h e = not_present e
+settled_has target p q None h e = any_from_clash e
 settled_has target p q (Some (FileNode r x text props)) h e = h refl
 settled_has target p q (Some (DirNode r x complete props)) h e = h refl
-settled_has target p q (Some NotPresent) h e = not_present e
+settled_has target p q (Some NotPresent) h e = any_from_clash e
 
 -- the last call of an update leaves each path
 settled_unswitched : (w : WorkingCopy) (target : ℕ) → IsUnswitched w → IsWorkingCopy (λ p. settled Update target p (w p))
@@ -198,10 +199,10 @@ switch_unswitched w calls root shape p e = under p (w p) e ∙ ap (λ (r : Path)
   where
     under : (p : Path) (o : Option BaseNode) → is_present (settled (SwitchTo root) (target_of calls) p o) ≡ true
         → node_path (settled (SwitchTo root) (target_of calls) p o) ≡ root ++ p
-    under p None e = not_present e
+    under p None e = any_from_clash e
     under p (Some (FileNode r x text props)) e = refl
     under p (Some (DirNode r x complete props)) e = refl
-    under p (Some NotPresent) e = not_present e
+    under p (Some NotPresent) e = any_from_clash e
 
 -- ---- a checkout
 
@@ -215,7 +216,7 @@ checkout_has h q rev p e = by (look h rev (q ++ p)) e
 
     by : (o : Option ℕ) → is_present (option_map (base_node h rev (q ++ p)) o) ≡ true
         → node_path (option_map (base_node h rev (q ++ p)) o) ≡ q ++ p
-    by None e = not_present e
+    by None e = any_from_clash e
     by (Some n) e = of (kind_of h n) (q ++ p) (text_of h n) (props_of h n)
 
 pub checkout_unswitched : (h : History) (q : Path) (rev : ℕ) → IsWorkingCopy (checkout h q rev) → IsUnswitched (checkout h q rev)
@@ -230,8 +231,8 @@ forgotten_unswitched w at unswitched shape p e =
   where
     by : (x y : Bool) (o : Option BaseNode) {q : Path} → (is_present o ≡ true → node_path o ≡ q)
         → is_present (cond x (Some NotPresent) (cond y None o)) ≡ true → node_path (cond x (Some NotPresent) (cond y None o)) ≡ q
-    by true y o h e = not_present e
-    by false true o h e = not_present e
+    by true y o h e = any_from_clash e
+    by false true o h e = any_from_clash e
     by false false o h e = h e
 
     root : node_path (forgotten w at []) ≡ node_path (w [])
@@ -243,7 +244,7 @@ forgotten_unswitched w at unswitched shape p e =
 below_joined : (w : WorkingCopy) → IsUnswitched w → IsWorkingCopy w → (p q : Path) (name : List ℕ) → p ≡ child q name
     → is_present (w p) ≡ true → node_path (w p) ≡ node_path (w q) ++ last_name p
 below_joined w unswitched shape p q name is present =
-    let stands : w (child q name) ≢ None = λ none. not_present (sym (ap is_present (ap w is ∙ none)) ∙ present) in
+    let stands : w (child q name) ≢ None = λ none. any_from_clash (sym (ap is_present (ap w is ∙ none)) ∙ present) in
     unswitched p present ∙ ap (λ (x : Path). node_path (w []) ++ x) is ∙ sym (append_assoc (node_path (w [])) q (name ∷ []))
     ∙ ap (λ (x : Path). x ++ name ∷ []) (sym (unswitched q (dir_present (w q) (shape.parents q name stands))))
     ∙ ap (λ (x : Path). node_path (w q) ++ x) (sym (ap last_name is ∙ last_name-child q name))
@@ -278,7 +279,7 @@ module _ (h : History) (w : WorkingCopy) (at : Path) (rev : ℕ) (unswitched : I
       by false i e = unswitched p e
       by true i e =
           let on = split_within at p i in
-          let rest : drop (length at) p ≡ on.0 = ap (drop (length at)) on.1 ∙ drop_front at on.0 in
+          let rest : drop (length at) p ≡ on.0 = ap (drop (length at)) on.1 ∙ drop-append_seam at on.0 in
           checkout_has h (joined_path w at) rev (drop (length at) p) e ∙ (λ j. placed_path j ++ rest j)
           ∙ append_assoc (node_path (w [])) at on.0 ∙ ap (λ (x : Path). node_path (w []) ++ x) (sym on.1)
 
@@ -295,7 +296,7 @@ above_present w shape p [] e = ap (λ (x : Path). is_present (w x)) (sym (append
 above_present w shape p (n ∷ r) e =
     dir_present (w p)
     (directory_above w shape p (p ++ n ∷ r) (below_from p (p ++ n ∷ r) (within_append p (n ∷ r)) (path_eq-longer p n r))
-    (λ none. not_present (sym (ap is_present none) ∙ e)))
+    (λ none. any_from_clash (sym (ap is_present none) ∙ e)))
 
 -- so none is
 pub from_below : (w : WorkingCopy) → IsWorkingCopy w → NoneIsSwitched w → IsUnswitched w

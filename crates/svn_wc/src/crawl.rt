@@ -14,16 +14,18 @@ use std::alloc::{AllocError, Global};
 use svn_model::{BaseNode, WcFault};
 use svn_nodes::Nodes;
 use svn_report::{Report, Reporter, ReporterFault};
-use svn_types::{RelPath, Rev};
+use svn_types::{RelPath, Rev, impossible};
 
-// The nodes of a copy stand in path order, each below a directory, so no fault of a reporter but want of memory comes.
+// The answer of a reporter: a crawl has no fault but Memory.
 fn or_memory(answer: Result<(), ReporterFault>) -> Result<(), WcFault>
     ensures ok { OnOk result (IsOk answer) }
     ensures fault { IfErr result (λ e. e ≡ WcFault.Memory) }
 {
     match answer {
         Ok(()) => Ok(()),
-        Err(_) => Err(WcFault::Memory),
+        Err(ReporterFault::Memory) => Err(WcFault::Memory),
+        // the root comes first, then the other nodes in path order, each below a directory
+        Err(_) => Err(impossible(WcFault::Memory)),
     }
 }
 

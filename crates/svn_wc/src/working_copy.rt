@@ -7,7 +7,7 @@ ghost use Rattle.svn_model.specs.Nodes.{get_in, InPathOrder, IsTrueOf, IsWorking
 ghost use Rattle.svn_model.specs.Builders.{checkout};
 
 use crate::known::Known;
-use std::alloc::Global;
+use std::alloc::{AllocError, Global};
 use std::collections::BTreeMap;
 use std::collections::btree_map::Iter;
 use std::fmt;
@@ -97,6 +97,18 @@ impl WorkingCopy {
         ensures { result.now.entries ≡ self.now }
     {
         &self.nodes
+    }
+}
+
+impl Clone for WorkingCopy {
+    ghost is_clone = { λ copy clone. clone ≡ copy };
+
+    fn clone(&self) -> Result<WorkingCopy, AllocError> {
+        Ok(WorkingCopy {
+            alloc: self.alloc,
+            nodes: self.nodes.clone()?,
+            known: self.known,
+        })
     }
 }
 

@@ -30,7 +30,7 @@
 //! | check the order of calls | [`OrderCheck`] |
 //! | pass calls to another thread | [`link`] and [`notice`] |
 //!
-//! Calls that take memory are passed the allocator. A refusal is an enum with a `number`, a `name` and a text.
+//! Copies, reports, entries and properties are gone through by their `iter`. Calls that take memory are passed the allocator. A refusal is an enum with a `number`, a `name` and a text.
 //!
 //! ```
 //! let mut repo = Repo::new(alloc)?;

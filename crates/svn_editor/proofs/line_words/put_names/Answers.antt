@@ -1,15 +1,12 @@
-use Rattle.std.proofs.Common.{◌≡◌, ℕ, ◌+◌, ◌<◌, Bool, true, false, ◌&&◌, List, [], ◌∷◌, ◌++◌, length, map, take, drop, get_or, refl, ap, sym, ◌∙◌, arith}
+use Rattle.std.proofs.Common.{◌≡◌, ℕ, ◌+◌, ◌<◌, Bool, ◌&&◌, List, [], ◌∷◌, ◌++◌, length, map, take, drop, get_or, ap, sym, ◌∙◌, arith}
 use Rattle.std.proofs.Common.{rules}
 use Rattle.std.specs.List.{list_all}
 use Rattle.std.proofs.lemmas.List.{drop_more, get_or_at, length-map, length-take, map_more}
 use Rattle.std.proofs.lemmas.List.Edits.{map_over_more}
 use Rattle.std.proofs.lemmas.List.Folds.{list_all-append}
+use Rattle.std.proofs.Math.Bool.{and-true}
 use Rattle.svn_editor.specs.Words.{is_shown, path_byte}
 use Rattle.svn_editor.proofs.line_words.put_names.Goals as goal
-
-and_true : (b : Bool) → (b && true) ≡ b
-and_true true = refl
-and_true false = refl
 
 -- one byte more, which was read behind those that are changed
 shown_more : (t ys : List ℕ) (i : ℕ) (all one : Bool) → i < length t → ys ≡ map path_byte (take i t) ++ drop i t
@@ -24,7 +21,7 @@ shown_more t ys i all one lt parts so_far is =
     (λ k. so_far k && (is ∙ ap (λ (b : ℕ). is_shown (path_byte b)) read) k)
     ∙ sym
     (ap (list_all is_shown) (map_more path_byte t i 0 lt) ∙ list_all-append is_shown front (path_byte (get_or t i 0) ∷ [])
-    ∙ ap (λ (b : Bool). list_all is_shown front && b) (and_true (is_shown (path_byte (get_or t i 0)))))
+    ∙ ap (λ (b : Bool). list_all is_shown front && b) (and-true (is_shown (path_byte (get_or t i 0)))))
 
 pub loop-byte-preserved : goal.loop-byte-preserved
 loop-byte-preserved g c =

@@ -1,8 +1,9 @@
 use Rattle.std.proofs.Common.{◌≡◌, ◌<◌, ◌≤◌, ◌++◌, List, length, set, sym, ap, subst, ◌∙◌, arith}
+use Rattle.svn_lists.proofs.Places.{read_twice}
 use Rattle.svn_types.proofs.NameLemmas.{Name}
 use Rattle.svn_name_map.specs.Runs.{joined, IsRunFor, IsFoundAt}
 use Rattle.svn_name_map.proofs.Ordered.{none_below, put_last}
-use Rattle.svn_name_map.proofs.Joined.{value_read, none_read, set_read, same_read_run, joined_end, below_all_runs}
+use Rattle.svn_name_map.proofs.Joined.{value_read, none_read, set_read, joined_end, below_all_runs}
 use Rattle.svn_name_map.proofs.runs.insert_pair.Goals as goal
 
 pub returns-then-at-len-clause-before : goal.returns-then-at-len-clause-before
@@ -38,7 +39,7 @@ returns-in-Ok-clause-before g c =
     value_read runs c.args.name c.run_for-at.result at c.requires within c.index_mut.result.now c.index_mut.ensures.value
     c.set.result c.in-Ok.place
     (subst (λ r. IsFoundAt r c.args.name c.in-Ok.place)
-    (same_read_run runs c.run_for-at.result within c.index.result.now c.index_mut.result.now c.index.ensures c.index_mut.ensures.value)
+    (read_twice runs c.run_for-at.result within c.index.result.now c.index_mut.result.now c.index.ensures c.index_mut.ensures.value)
     c.in-Ok.ensures)
     c.set.ensures.before
 
@@ -54,7 +55,7 @@ returns-in-Ok-clause-put g c =
     ∙ set_read runs c.args.name c.run_for-at.result at c.requires within c.index_mut.result.now c.index_mut.ensures.value
     c.args.value c.in-Ok.place
     (subst (λ r. IsFoundAt r c.args.name c.in-Ok.place)
-    (same_read_run runs c.run_for-at.result within c.index.result.now c.index_mut.result.now c.index.ensures c.index_mut.ensures.value)
+    (read_twice runs c.run_for-at.result within c.index.result.now c.index_mut.result.now c.index.ensures c.index_mut.ensures.value)
     c.in-Ok.ensures)
 
 pub returns-in_ok-put-in-Err-clause-before : goal.returns-in_ok-put-in-Err-clause-before

@@ -1,8 +1,9 @@
 use Rattle.std.proofs.Common.{◌≡◌, ◌<◌, ◌≤◌, List, length, set, sym, ap, subst, ◌∙◌, arith}
+use Rattle.svn_lists.proofs.Places.{read_twice}
 use Rattle.svn_types.proofs.NameLemmas.{Name}
 use Rattle.svn_name_map.specs.Runs.{joined, IsRunFor, IsFoundAt}
 use Rattle.svn_name_map.proofs.Ordered.{none_below}
-use Rattle.svn_name_map.proofs.Joined.{value_read, none_read, set_read, same_read_run, below_all_runs}
+use Rattle.svn_name_map.proofs.Joined.{value_read, none_read, set_read, below_all_runs}
 use Rattle.svn_name_map.proofs.runs.set_value.Goals as goal
 
 pub returns-then-at-len-clause-before : goal.returns-then-at-len-clause-before
@@ -26,7 +27,7 @@ returns-in-Ok-clause-before g c =
     value_read runs c.args.name.now c.run_for-at.result at c.requires within c.index_mut.result.now c.index_mut.ensures.value
     c.set.result c.in-Ok.place
     (subst (λ r. IsFoundAt r c.args.name.now c.in-Ok.place)
-    (same_read_run runs c.run_for-at.result within c.index.result.now c.index_mut.result.now c.index.ensures c.index_mut.ensures.value)
+    (read_twice runs c.run_for-at.result within c.index.result.now c.index_mut.result.now c.index.ensures c.index_mut.ensures.value)
     c.in-Ok.ensures)
     c.set.ensures.before
 
@@ -42,7 +43,7 @@ returns-in-Ok-clause-set g c = λ v is.
     ∙ set_read runs c.args.name.now c.run_for-at.result at c.requires within c.index_mut.result.now c.index_mut.ensures.value
     c.args.value c.in-Ok.place
     (subst (λ r. IsFoundAt r c.args.name.now c.in-Ok.place)
-    (same_read_run runs c.run_for-at.result within c.index.result.now c.index_mut.result.now c.index.ensures c.index_mut.ensures.value)
+    (read_twice runs c.run_for-at.result within c.index.result.now c.index_mut.result.now c.index.ensures c.index_mut.ensures.value)
     c.in-Ok.ensures)
 
 pub returns-in-Err-clause-before : goal.returns-in-Err-clause-before

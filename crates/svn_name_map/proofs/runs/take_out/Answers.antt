@@ -1,10 +1,10 @@
 use Rattle.std.proofs.Common.{suc, take, drop, [], ◌++◌, List, length, get_or, set, sym, ap, ◌∙◌, arith}
 use Rattle.std.specs.List.{remove}
+use Rattle.svn_lists.proofs.Parts.{remove_only}
 use Rattle.svn_types.proofs.NameLemmas.{Name}
 use Rattle.svn_name_map.specs.Runs.{joined}
 use Rattle.std.proofs.lemmas.List.{get_or_read}
 use Rattle.std.proofs.lemmas.Result.{on_ok_weaker}
-use Rattle.svn_name_map.proofs.Ordered.{one_removed}
 use Rattle.svn_name_map.proofs.Joined.{around_set, around_remove}
 use Rattle.svn_name_map.proofs.runs.take_out.Goals as goal
 
@@ -28,4 +28,4 @@ returns-clause-removed g c =
     let test = c.if-len-gt1.false in
     ap joined c.remove-2.ensures.items ∙ around_remove runs m
     ∙ ap (λ (l : List (Name × _)). joined (take m runs) ++ (l ++ joined (drop (suc m) runs)))
-    (sym (one_removed (get_or runs m []) c.args.place (omega (arith, same, length, test)) c.requires.place))
+    (sym (remove_only (get_or runs m []) c.args.place (omega (arith, same, length, test)) c.requires.place))

@@ -1,7 +1,9 @@
 use Rattle.std.proofs.Common.{◌<◌, length, sym, subst, arith}
+use Rattle.svn_lists.proofs.Entries.{value_at}
+use Rattle.svn_lists.proofs.Places.{read_twice}
 use Rattle.svn_name_map.specs.Runs.{joined, IsFoundAt}
 use Rattle.svn_name_map.proofs.Ordered.{none_below}
-use Rattle.svn_name_map.proofs.Joined.{value_read, none_read, same_read_run, value_at, below_all_runs}
+use Rattle.svn_name_map.proofs.Joined.{value_read, none_read, below_all_runs}
 use Rattle.svn_name_map.proofs.runs.value_under.Goals as goal
 
 pub returns-then-at-runs : goal.returns-then-at-runs
@@ -17,7 +19,7 @@ returns-in-Ok g c =
     let r = c.index-runs-at-in-Ok.result in
     let found : IsFoundAt r c.args.name.now c.in-Ok.place =
     subst (λ s. IsFoundAt s c.args.name.now c.in-Ok.place)
-    (same_read_run runs c.run_for-at.result within c.index-runs-at.result r c.index-runs-at.is c.index-runs-at-in-Ok.is) c.in-Ok.ensures in
+    (read_twice runs c.run_for-at.result within c.index-runs-at.result r c.index-runs-at.is c.index-runs-at-in-Ok.is) c.in-Ok.ensures in
     value_read runs c.args.name.now c.run_for-at.result c.run_for-at.ensures c.requires within r c.index-runs-at-in-Ok.is
     c.index-values-place.result c.in-Ok.place found
     (value_at r c.values.result.now c.in-Ok.place c.index-values-place.result c.values.ensures found.0 c.index-values-place.is)

@@ -1,8 +1,10 @@
 use Rattle.std.proofs.Common.{◌≡◌, ◌+◌, ℕ, List, [], ◌∷◌, ◌++◌, length, length-append, arith, subst, sym, ap, ◌∙◌}
+use Rattle.std.specs.Prelude.{⊤}
+use Rattle.svn_lists.proofs.Options.{when_none}
 use Rattle.svn_types.specs.Pairs.{InNameOrder}
 use Rattle.svn_repo.specs.Readings.{entries_of}
 use Rattle.svn_nodes.specs.Gathered.{gathered}
-use Rattle.svn_nodes.proofs.Gathering.{fill_begins, fill_ends, fill_leaf, fill_free_at, fill_next_at, when_none}
+use Rattle.svn_nodes.proofs.Gathering.{fill_begins, fill_ends, fill_leaf, fill_free_at, fill_next_at}
 use Rattle.svn_nodes.proofs.gather.+gather.Goals as goal
 
 pub returns-in_default : goal.returns-in_default
@@ -10,7 +12,7 @@ returns-in_default t c =
     fill_leaf c.args.from.now.repo.now c.args.from.now.rev c.args.at.now c.args.repos_path.now c.args.id (gathered c.args.pairs.now.items)
     (gathered c.push_node.new.pairs.items)
     c.in_ok-push_node.ensures c.requires.free
-    (when_none c.entries.result (entries_of c.args.from.now.repo.now c.args.id ≡ []) c.in_default.not-Some c.entries.ensures.leaf)
+    (when_none c.entries.result (entries_of c.args.from.now.repo.now c.args.id ≡ []) (λ _. ⊤) c.in_default.not-Some c.entries.ensures.leaf)
 
 pub loop-name-init : goal.loop-name-init
 loop-name-init t c =

@@ -1,9 +1,9 @@
 use Rattle.std.proofs.Common.{◌≡◌, ◌++◌, [], rules, refl, ap, ◌∙◌}
 use Rattle.std.specs.List.{flat_map}
 use Rattle.std.proofs.Output.{has_written_append, has_written_of_eq}
+use Rattle.svn_lists.proofs.Parts.{next_item, no_item}
 use Rattle.svn_types.specs.Names.{Path}
 use Rattle.svn_nodes.specs.Lines.{prop_line}
-use Rattle.svn_nodes.proofs.Printing.{next_item, no_item}
 use Rattle.svn_nodes.proofs.lines.write_props.Goals as goal
 
 pub loop-name-init : goal.loop-name-init

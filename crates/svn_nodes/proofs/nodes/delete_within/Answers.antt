@@ -1,8 +1,9 @@
 use Rattle.std.proofs.Common.{cond, ap, ◌∙◌, None}
+use Rattle.svn_lists.proofs.Options.{removed_twice}
 use Rattle.svn_types.specs.Paths.{path_eq, is_below}
 use Rattle.svn_model.specs.Nodes.{get_in}
 use Rattle.svn_edit_law.proofs.Lookups.{get_in-updated}
-use Rattle.svn_nodes.proofs.Ranges.{removed_more, below_or_same}
+use Rattle.svn_nodes.proofs.Ranges.{below_or_same}
 use Rattle.svn_nodes.proofs.nodes.delete_within.Goals as goal
 
 pub returns : goal.returns
@@ -11,5 +12,5 @@ returns c = λ p.
     let old = get_in c.args.nodes.now.entries p in
     get_in-updated c.remove_below.new.nodes.entries c.remove.new.self.entries path None c.remove.ensures.updates.0 p
     ∙ ap (cond (path_eq path p) None) (c.remove_below.ensures p)
-    ∙ removed_more (is_below path p) (path_eq path p) old
+    ∙ removed_twice (is_below path p) (path_eq path p) old
     ∙ ap (λ b. cond b None old) (below_or_same path p)

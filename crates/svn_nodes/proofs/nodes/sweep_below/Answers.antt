@@ -1,7 +1,8 @@
 use Rattle.std.proofs.Common.{not, ◌∙◌, rules}
+use Rattle.svn_lists.proofs.Options.{left_out}
 use Rattle.svn_types.specs.Paths.{is_below}
 use Rattle.svn_model.specs.Nodes.{get_in}
-use Rattle.svn_nodes.proofs.Retaining.{retained_by, left_out}
+use Rattle.svn_nodes.proofs.Retaining.{retained_by}
 use Rattle.svn_nodes.proofs.nodes.sweep_below.Goals as goal
 
 pub returns : goal.returns

@@ -1,13 +1,14 @@
 use Rattle.std.proofs.Common.{◌≡◌, ◌<◌, ◌||◌, cond, length, sym, ap, ◌∙◌, Some, Bool, List, arith, take}
 use Rattle.std.proofs.lemmas.List.{take_more}
+use Rattle.svn_lists.proofs.Options.{set_twice}
+use Rattle.svn_lists.proofs.Somewhere.{any_push, any_take}
 use Rattle.svn_types.specs.Names.{Path}
 use Rattle.svn_types.specs.Paths.{path_eq}
-use Rattle.svn_editor.proofs.OneMore.{any_more}
 use Rattle.svn_model.specs.declared.base_node.BaseNode.{BaseNode}
 use Rattle.svn_model.specs.declared.base_node.BaseNode.TheVariants.{NotPresent}
 use Rattle.svn_model.specs.Nodes.{get_in}
 use Rattle.svn_edit_law.proofs.Lookups.{get_in-updated}
-use Rattle.svn_nodes.proofs.Replacing.{is_one, set_more, any_take}
+use Rattle.svn_nodes.proofs.Replacing.{is_one}
 use Rattle.svn_nodes.proofs.replace.make_places.Goals as goal
 
 pub loop-path-preserved : goal.loop-path-preserved
@@ -18,11 +19,11 @@ loop-path-preserved c = λ p.
     get_in-updated c.loop-path.nodes.entries c.insert.new.self.entries c.in_ok-clone.field-0
     (Some NotPresent) c.in_ok-insert.ensures.updates.0 p
     ∙ ap (cond (path_eq c.in_ok-clone.field-0 p) (Some NotPresent)) (c.loop-path.invariant p)
-    ∙ set_more (is_one (take c.loop-path.path-index c.args.paths.now) p) (path_eq c.in_ok-clone.field-0 p) (Some NotPresent)
+    ∙ set_twice (is_one (take c.loop-path.path-index c.args.paths.now) p) (path_eq c.in_ok-clone.field-0 p) (Some NotPresent)
     (get_in c.args.nodes.now.entries p)
     ∙ ap (λ (b : Bool). cond b (Some NotPresent) (get_in c.args.nodes.now.entries p))
     (ap (λ (q : Path). is_one (take c.loop-path.path-index c.args.paths.now) p || path_eq q p) (key ∙ c.path-item.is)
-    ∙ sym (ap (λ l. is_one l p) more ∙ any_more (λ q. path_eq q p) (take c.loop-path.path-index c.args.paths.now) _))
+    ∙ sym (ap (λ l. is_one l p) more ∙ any_push (λ q. path_eq q p) (take c.loop-path.path-index c.args.paths.now) _))
 
 pub returns-in_err-clone-clause-others : goal.returns-in_err-clone-clause-others
 returns-in_err-clone-clause-others c = λ p none.

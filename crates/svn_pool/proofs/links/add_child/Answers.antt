@@ -1,5 +1,6 @@
 use Rattle.std.proofs.Common.{◌≡◌, ◌<◌, ℕ, false, true, Option, None, Some, Ok, Err, IsSome, refl, sym, ap, subst, ◌∙◌, arith}
 use Rattle.std.proofs.Math.Path.{transport}
+use Rattle.svn_lists.proofs.Options.{none_from_test, none_from_not_some}
 use Rattle.svn_serials.specs.Serials.{get}
 use Rattle.svn_serials.proofs.Pairs.{updates_put}
 use Rattle.std.specs.BTreeMap.{insert_entry}
@@ -12,10 +13,10 @@ use Rattle.svn_pool.specs.Pools.{Entry, blocks_of, fixed_of}
 use Rattle.svn_pool.specs.declared.fault.PoolFault.{PoolFault}
 use Rattle.svn_pool.specs.declared.fault.PoolFault.TheVariants.{Gone, Memory}
 use Rattle.svn_pool.specs.declared.links.Linked.{Linked}
-use Rattle.svn_pool.specs.declared.links.Place.TheVariants.{Next}
+use Rattle.svn_pool.specs.declared.links.Anchor.TheVariants.{Next}
 use Rattle.svn_pool.proofs.Bare.{changes-bare, is_some-bare, put-bare}
 use Rattle.svn_pool.proofs.Counts.{sum_with}
-use Rattle.svn_pool.proofs.Kinship.{IsMoved, gone_from_test, gone_is_none, led_again, linked-add, linked-led, live_after}
+use Rattle.svn_pool.proofs.Kinship.{IsMoved, led_again, linked-add, linked-led, live_after}
 use Rattle.svn_pool.proofs.Outcomes.{fault_if_gone, fault_if_some}
 use Rattle.svn_pool.proofs.links.add_child.Goals as goal
 
@@ -25,7 +26,7 @@ held_still : (f : Entry → ℕ) (old led mid new : LinkedMap) (s : ℕ) (child 
     → bare led ≡ bare old → bare new ≡ bare mid → f child.pool ≡ 0 → sum_by f (values_of (bare new)) ≡ sum_by f (values_of (bare old))
 held_still f old led mid new s child fresh put before after zero =
     let none : get led s ≡ None =
-    gone_is_none (get led s) (λ h.
+    none_from_not_some (get led s) (λ h.
     let lt = fresh s (is_some-bare old s ∙ live_after led old (sym before) s h) in
     omega (arith, lt)) in
     let sum = sum_with f (bare led) (bare mid) s child.pool (put-bare led mid s child none put) in
@@ -35,7 +36,7 @@ held_still f old led mid new s child fresh put before after zero =
 pub returns-in_default-clause-answers : goal.returns-in_default-clause-answers
 returns-in_default-clause-answers g c =
     let o = live_at (bare c.args.pools.now) c.args.parent in
-    let none : o ≡ None = gone_from_test o (is_some-bare c.args.pools.now c.args.parent ∙ sym c.in_default.ensures.live) in
+    let none : o ≡ None = none_from_test o (is_some-bare c.args.pools.now c.args.parent ∙ sym c.in_default.ensures.live) in
     subst (λ (f : Option PoolFault). Answers {T = Unit {0}} f (Err Gone)) (sym (fault_if_gone o _ none)) refl
 
 pub returns-in_default-clause-linked : goal.returns-in_default-clause-linked

@@ -7,17 +7,17 @@ use Rattle.svn_serials.proofs.Pairs.{Updates, updates_written}
 use Rattle.svn_pool.specs.Linked.{LinkedMap, first_of, next_of, parent_in, place_by, place_in, place_of, sibling_before, standing}
 use Rattle.svn_pool.specs.Pools.{Entry, parent_of}
 use Rattle.svn_pool.specs.declared.links.Linked.{Linked}
-use Rattle.svn_pool.specs.declared.links.Place.{Place}
-use Rattle.svn_pool.specs.declared.links.Place.TheVariants.{First, Next}
+use Rattle.svn_pool.specs.declared.links.Anchor.{Anchor}
+use Rattle.svn_pool.specs.declared.links.Anchor.TheVariants.{First, Next}
 use Rattle.svn_pool.proofs.Bare.{live-bare, pool_in, relinked-bare}
 use Rattle.svn_pool.proofs.links.move_to.Goals as goal
 
 -- a pool that follows the sibling of a place stands there, where it is a child of the right pool
-seated : (x : Place) (parent : Option ℕ) → ((p : ℕ) → x ≡ First p → parent ≡ Some p) → place_by parent (sibling_before x) ≡ Some x
+seated : (x : Anchor) (parent : Option ℕ) → ((p : ℕ) → x ≡ First p → parent ≡ Some p) → place_by parent (sibling_before x) ≡ Some x
 seated (First p) parent h = ap (λ (o : Option ℕ). place_by o (sibling_before (First p))) (h p refl)
 seated (Next q) parent h = refl
 
-moved_to : (m n : LinkedMap) (s : ℕ) (l w : Linked Entry) (x : Place) → get m s ≡ Some l → get n s ≡ Some w → w.pool ≡ l.pool
+moved_to : (m n : LinkedMap) (s : ℕ) (l w : Linked Entry) (x : Anchor) → get m s ≡ Some l → get n s ≡ Some w → w.pool ≡ l.pool
     → w.before ≡ sibling_before x → (c : ℕ) → s ≡ c → ((p : ℕ) → x ≡ First p → parent_in m c ≡ Some p) → place_of n c ≡ Some x
 moved_to m n s l w x found now pool before c is parent =
     let mine : (p : ℕ) → x ≡ First p → w.pool.parent ≡ Some p =
@@ -27,7 +27,7 @@ moved_to m n s l w x found now pool before c is parent =
 -- a pool whose links alone are others: what stands at a place stays, where first child and next sibling do
 standing_stays : (m n : LinkedMap) (s : ℕ) (l w : Linked Entry) → get m s ≡ Some l → Updates m n s (Some w) → w.first ≡ l.first
     → w.next ≡ l.next
-    → (x : Place) → standing n x ≡ standing m x
+    → (x : Anchor) → standing n x ≡ standing m x
 standing_stays m n s l w found up first next (First p) = elim (cases_eq p s) [
   | inl is ↦
       ap (λ (k : ℕ). first_of (get n k)) is ∙ ap first_of up.here ∙ first ∙ sym (ap (λ (k : ℕ). first_of (get m k)) is ∙ ap first_of found)

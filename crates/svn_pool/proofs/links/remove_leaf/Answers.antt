@@ -1,4 +1,5 @@
 use Rattle.std.proofs.Common.{nat_eq, ◌≡◌, ◌+◌, ℕ, [], Option, None, Some, IfSome, is_some, length, refl, sym, ap, subst, ◌∙◌, arith}
+use Rattle.svn_lists.proofs.Options.{not_some_from_none}
 use Rattle.svn_serials.specs.Serials.{get}
 use Rattle.svn_serials.proofs.Pairs.{length_removed, remove_none, updates_removed}
 use Rattle.std.specs.Map.{remove_entry}
@@ -8,15 +9,15 @@ use Rattle.svn_pool.specs.Linked.{next_of, place_by, place_in}
 use Rattle.svn_pool.specs.Pools.{Entry}
 use Rattle.svn_pool.specs.declared.links.Beside.{Beside}
 use Rattle.svn_pool.specs.declared.links.Linked.{Linked}
-use Rattle.svn_pool.specs.declared.links.Place.{Place}
-use Rattle.svn_pool.specs.declared.links.Place.TheVariants.{First}
+use Rattle.svn_pool.specs.declared.links.Anchor.{Anchor}
+use Rattle.svn_pool.specs.declared.links.Anchor.TheVariants.{First}
 use Rattle.svn_pool.proofs.Bare.{changes-bare, is_some-bare, length-bare}
 use Rattle.svn_pool.proofs.Counts.{blocks_left, blocks_within, fixed_left}
-use Rattle.svn_pool.proofs.Kinship.{holder_beside, holder_stays, linked-again, linked-remove, linked-unplaced, next_beside, none_is_gone}
+use Rattle.svn_pool.proofs.Kinship.{holder_beside, holder_stays, linked-again, linked-remove, linked-unplaced, next_beside}
 use Rattle.svn_pool.proofs.links.remove_leaf.Goals as goal
 
 -- where the pool stood, as its links say, is where the walk finds it to stand, once its strings are given up
-place_found : (told before : Option ℕ) (w e : Entry) (x : Option Place) → told ≡ w.parent → w ≡ record { parent = e.parent; strings = [] }
+place_found : (told before : Option ℕ) (w e : Entry) (x : Option Anchor) → told ≡ w.parent → w ≡ record { parent = e.parent; strings = [] }
     → x ≡ place_by told before → place_by e.parent before ≡ x
 place_found told before w e x parent emptied is =
     ap (λ (o : Option ℕ). place_by o before) (sym (parent ∙ ap (λ (f : Entry). f.parent) emptied)) ∙ sym is
@@ -52,7 +53,7 @@ returns-in_default-clause-gone g c =
 
 pub returns-in_default-clause-fewer : goal.returns-in_default-clause-fewer
 returns-in_default-clause-fewer g c = λ live.
-    absurd (none_is_gone (get c.args.pools.now c.args.serial) (sym c.in_default.ensures.value)
+    absurd (not_some_from_none (get c.args.pools.now c.args.serial) (sym c.in_default.ensures.value)
     (sym (is_some-bare c.args.pools.now c.args.serial) ∙ live))
 
 -- there is one pool fewer

@@ -1,6 +1,7 @@
-use Rattle.std.proofs.Common.{nat_eq, ◌≡◌, ℕ, ◌++◌, [], ◌∷◌, true, length, Option, None, Some, is_some, Result, Ok, Err, IfOk}
-use Rattle.std.proofs.Common.{IsOk, OnOk, OnErr, refl, sym, ap, subst}
+use Rattle.std.proofs.Common.{nat_eq, ◌≡◌, ℕ, ◌++◌, [], ◌∷◌, true, length, Option, None, Some, is_some, Err, IfOk}
+use Rattle.std.proofs.Common.{IsOk, refl, sym, ap, subst}
 use Rattle.std.proofs.Common.{◌∙◌, arith}
+use Rattle.std.proofs.lemmas.Result.{on_err_weaker, on_ok_weaker}
 use Rattle.svn_serials.specs.Serials.{get}
 use Rattle.std.specs.Map.{set_value}
 use Rattle.svn_serials.proofs.Pairs.{rising_written, updates_written}
@@ -15,14 +16,6 @@ use Rattle.svn_pool.proofs.Bare.{changes-bare, holding, live-bare, live-found, p
 use Rattle.svn_pool.proofs.Counts.{sum_within, sum_written}
 use Rattle.svn_pool.proofs.Kinship.{linked-written}
 use Rattle.svn_pool.proofs.live.push_onto.Goals as goal
-
-on_ok : {T E : Type 0} {P Q : Type 0} (r : Result T E) → (P → Q) → OnOk r P → OnOk r Q
-on_ok (Ok x) f h = f h
-on_ok (Err e) f h = h
-
-on_err : {T E : Type 0} {P Q : Type 0} (r : Result T E) → (P → Q) → OnErr r P → OnErr r Q
-on_err (Ok x) f h = h
-on_err (Err e) f h = f h
 
 pub returns-in_default-clause-answers : goal.returns-in_default-clause-answers
 returns-in_default-clause-answers g c =
@@ -98,7 +91,7 @@ returns-clause-pushed g c =
     let change =
     changes-bare c.args.pools.now end c.args.serial (Some w)
     (updates_written c.args.pools.now c.args.serial w (ap is_some (sym c.in-Some.ensures.value))) in
-    on_ok c.push.result
+    on_ok_weaker c.push.result
     (λ pushed. subst (λ (o : Option Entry). Changes (bare c.args.pools.now) (bare end) c.args.serial
     (Some (record { parent = parent_of o; strings = strings_of_pool o ++ c.args.bytes.now ∷ [] })))
     (sym found) (subst (λ (e : Entry). Changes (bare c.args.pools.now) (bare end) c.args.serial (Some e)) pushed change))
@@ -107,7 +100,7 @@ returns-clause-pushed g c =
 pub returns-clause-spare : goal.returns-clause-spare
 returns-clause-spare g c =
     let found = live-found c.args.pools.now c.args.serial c.in-Some.ensures.value in
-    on_ok c.push.result
+    on_ok_weaker c.push.result
     (λ counts. subst (λ (o : Option Entry).
     c.push.new.stock.spare ≡ (stored c.args.stock.now (strings_of_pool o) (length c.args.bytes.now)).spare) (sym found)
     (ap (λ (b : Store). b.spare) counts))
@@ -117,7 +110,7 @@ pub returns-clause-refused : goal.returns-clause-refused
 returns-clause-refused g c =
     let l = c.in-Some.linked.now in
     let w : Linked Entry = holding l c.push.new.self in
-    on_err c.push.result
+    on_err_weaker c.push.result
     (λ same. relinked-bare c.args.pools.now (set_value (nat_eq c.args.serial) c.args.pools.now w) c.args.serial l w
     (sym c.in-Some.ensures.value) same
     refl)

@@ -2,6 +2,7 @@ use Rattle.std.proofs.Common.{nat_eq, ◌≡◌, ◌≢◌, ℕ, ◌+◌, ◌-�
 use Rattle.std.proofs.lemmas.Bool.{cases_lt, cond-true, eq-eqb}
 use Rattle.std.proofs.lemmas.List.Sums.{sum_by-cons}
 use Rattle.std.specs.Map.{set_value}
+use Rattle.svn_lists.proofs.Options.{none_from_not_some}
 use Rattle.svn_serials.specs.Serials.{IsRising, get}
 use Rattle.svn_serials.proofs.Pairs.{only_pair}
 use Rattle.svn_pool.specs.Linked.{LinkedMap, bare, blocks_held, fixed_held}
@@ -10,7 +11,6 @@ use Rattle.svn_pool.specs.Stores.{Store}
 use Rattle.svn_pool.specs.declared.links.Linked.{Linked}
 use Rattle.svn_pool.proofs.Alone.{is_alone, rootlet}
 use Rattle.svn_pool.proofs.Counts.{sum_within}
-use Rattle.svn_pool.proofs.Kinship.{gone_is_none}
 use Rattle.svn_pool.proofs.prune.leave_root.Goals as goal
 
 -- where all newer pools are gone, the root is there alone
@@ -22,7 +22,7 @@ alone old es root l lowest older newer rising found = only_pair es root l rising
     others : (q : ℕ) → q ≢ root → get es q ≡ None
     others q apart = elim (cases_lt root q) [
       | inl above ↦ newer q above
-      | inr below ↦ older q below ∙ gone_is_none (get old q) (λ live. let least = lowest q live in apart (omega arith))
+      | inr below ↦ older q below ∙ none_from_not_some (get old q) (λ live. let least = lowest q live in apart (omega arith))
     ]
 
 pub clear-requires : goal.clear-requires

@@ -1,11 +1,12 @@
 use Rattle.std.proofs.Common.{◌≡◌, ℕ, ◌<◌, List, length, arith, refl, subst, sym, inl}
 use Rattle.std.proofs.lemmas.Option.{slice_get_within}
+use Rattle.svn_lists.proofs.Results.{IfErr_returned}
 use Rattle.svn_repo.specs.declared.store.Node.{Node}
 use Rattle.svn_repo.specs.declared.change.CommitFault.TheVariants.{Memory}
 use Rattle.svn_repo.specs.Stored.{history_of, AreHeights}
 use Rattle.svn_repo.specs.Heights.{IsOrdered}
 use Rattle.svn_repo.specs.Changes.{AreRefused, IsRefused, Pending, latest_pending, pending_in}
-use Rattle.svn_repo.proofs.Runs.{handed_on, first_of}
+use Rattle.svn_repo.proofs.Runs.{first_of}
 use Rattle.svn_repo.proofs.Tallest.{draft_ordered, heights_kept}
 use Rattle.svn_repo.proofs.Commits.{start_draft, start_past, start_pending, still_sound, no_fault, is_revision}
 use Rattle.svn_repo.proofs.commit.push_revision.Goals as goal
@@ -31,7 +32,7 @@ returns-in_err-made-clause-fault c =
     let refused : IsRefused h c.args.changes.now c.in_err-made.field-0.0 =
     subst (λ (s : Pending). AreRefused h s c.args.changes.now c.in_err-made.field-0.0)
     (sym (start_pending roots old c.args.lines from c.requires.repository c.last_root-root.ensures)) told in
-    handed_on (λ e. e ≡ c.in_err-made.field-0.0) (IsRefused h c.args.changes.now) c.from_residual.result c.from_residual.ensures
+    IfErr_returned (λ e. e ≡ c.in_err-made.field-0.0) (IsRefused h c.args.changes.now) c.from_residual.result c.from_residual.ensures
     (λ e is. subst (IsRefused h c.args.changes.now) (sym is) refused)
 
 pub add_heights-requires-clause-ordered : goal.add_heights-requires-clause-ordered
@@ -70,7 +71,7 @@ returns-in_err-add_heights-clause-fault c =
     let h = history_of c.args.stored.now.roots.items c.args.stored.now.nodes.items c.args.lines in
     let can = first_of h (latest_pending h) c.args.changes.now (no_fault _ _ _ _ _ _ _ _ c.requires.repository c.last_root-root.ensures
     made c.make_all.ensures.kept) in
-    handed_on (λ e. e ≡ Memory) (IsRefused h c.args.changes.now) c.from_residual-in_err-add_heights.result
+    IfErr_returned (λ e. e ≡ Memory) (IsRefused h c.args.changes.now) c.from_residual-in_err-add_heights.result
     c.from_residual-in_err-add_heights.ensures (λ e is. inl (is, can))
 
 pub returns-in-Err-clause-fault : goal.returns-in-Err-clause-fault

@@ -1,5 +1,6 @@
 use Rattle.std.proofs.Common.{◌≡◌, ℕ, ◌∷◌, [], ◌++◌, Some, length, List, Option, ap, arith, rules, subst, sym, ◌∙◌}
 use Rattle.std.specs.Option.{option_and_then}
+use Rattle.svn_lists.proofs.Options.{and_then_same}
 use Rattle.svn_repo.specs.declared.store.Node.{Node}
 use Rattle.svn_repo.specs.Stored.{rows}
 use Rattle.svn_repo.specs.Trees.{Place, place_at}
@@ -9,7 +10,6 @@ use Rattle.std.proofs.lemmas.Option.{slice_get_within}
 use Rattle.svn_repo.proofs.EntryWrites.{puts_pushed, shape_put}
 use Rattle.svn_repo.proofs.Keeping.{kept_through, kept_put, kept_push}
 use Rattle.svn_repo.proofs.Thawing.{place_from_shape}
-use Rattle.svn_repo.proofs.Walking.{and_then_same}
 use Rattle.svn_repo.proofs.commit.put_text.Goals as goal
 
 pub returns-clause-ok : goal.returns-clause-ok

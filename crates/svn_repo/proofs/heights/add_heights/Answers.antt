@@ -3,11 +3,10 @@ use Rattle.std.specs.List.{slice_get}
 use Rattle.std.specs.Option.{option_map}
 use Rattle.std.proofs.lemmas.Grind.{common_steps}
 use Rattle.std.proofs.lemmas.Option.{slice_get_read}
+use Rattle.svn_lists.proofs.Places.{take_from_places, slice_get-set_other}
 use Rattle.svn_repo.specs.History.{entries_at}
 use Rattle.svn_repo.specs.Stored.{row_of, rows, entries_of}
 use Rattle.svn_repo.specs.Heights.{height_from, IsOrdered}
-use Rattle.svn_repo.proofs.EntryWrites.{slice_get-set_other}
-use Rattle.svn_repo.proofs.OldRevisions.{kept_take}
 use Rattle.svn_repo.proofs.Tallest.{AreDone, done_more}
 use Rattle.svn_repo.proofs.heights.add_heights.Goals as goal
 
@@ -41,4 +40,4 @@ nodes-preserved c =
 pub returns-clause-kept : goal.returns-clause-kept
 returns-clause-kept c =
     let inside : length c.args.heights.now.items ≤ length c.args.nodes.now = c.requires.ordered.inside in
-    kept_take c.args.heights.now.items c.nodes.heights.items (omega (arith, c.nodes.invariant.size)) c.nodes.invariant.same
+    take_from_places c.args.heights.now.items c.nodes.heights.items (omega (arith, c.nodes.invariant.size)) c.nodes.invariant.same

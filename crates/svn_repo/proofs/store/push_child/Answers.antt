@@ -1,8 +1,8 @@
 use Rattle.std.proofs.Common.{◌≡◌, ◌∙◌, ◌∷◌, [], List, ap}
 use Rattle.std.specs.List.{slice_get}
 use Rattle.std.proofs.lemmas.Option.{slice_get_within}
+use Rattle.svn_lists.proofs.Places.{slice_get-append}
 use Rattle.svn_repo.specs.declared.store.Node.{Node}
-use Rattle.svn_repo.proofs.EntryWrites.{slice_get-append}
 use Rattle.svn_repo.proofs.store.push_child.Goals as goal
 
 pub put_child-requires : goal.put_child-requires

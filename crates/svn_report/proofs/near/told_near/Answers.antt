@@ -1,5 +1,5 @@
 use Rattle.std.proofs.Common.{sym, ◌∙◌, arith}
-use Rattle.svn_report.proofs.Points.{point_between}
+use Rattle.svn_lists.proofs.Points.{point_between}
 use Rattle.svn_report.proofs.near.told_near.Goals as goal
 
 pub returns-else-passes_at-2 : goal.returns-else-passes_at-2

@@ -1,6 +1,7 @@
 use Rattle.std.proofs.Common.{sym, ◌∙◌}
+use Rattle.svn_lists.proofs.Options.{none_from_test}
 use Rattle.svn_serials.proofs.Held.{absent, found}
-use Rattle.svn_serials.proofs.Order.{none_from_test, value_in}
+use Rattle.svn_serials.proofs.Order.{value_in}
 use Rattle.svn_serials.proofs.slots.find_before_last.Goals as goal
 
 pub returns-in_default : goal.returns-in_default

@@ -1,5 +1,6 @@
 use Rattle.std.proofs.Common.{◌≡◌, ℕ, List, ◌++◌, sym, true≢false}
-use Rattle.svn_types.proofs.PathKeys.{when_none, not_more}
+use Rattle.svn_lists.proofs.Options.{when_none}
+use Rattle.svn_types.proofs.PathKeys.{not_more}
 use Rattle.svn_types.proofs.rel_path.is_one_more.Goals as goal
 
 pub returns-in_default-behind : goal.returns-in_default-behind

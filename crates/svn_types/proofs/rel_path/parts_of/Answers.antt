@@ -1,8 +1,8 @@
 use Rattle.std.proofs.Common.{◌≡◌, [], ◌∷◌, IfOk, arith, ap, sym, subst, ◌∙◌}
+use Rattle.svn_lists.proofs.Splits.{slice_split_one}
 use Rattle.svn_types.specs.Names.{Path, is_slash}
 use Rattle.svn_types.specs.NameFaults.{names_fault}
 use Rattle.svn_types.proofs.NameLemmas.{first_without_fault}
-use Rattle.svn_types.proofs.Splits.{slice_split_one}
 use Rattle.svn_types.proofs.rel_path.parts_of.Goals as goal
 
 pub from_checked-requires : goal.from_checked-requires

@@ -2,8 +2,8 @@ use Rattle.std.proofs.Common.{◌++◌, ap, sym, ◌∙◌}
 use Rattle.std.specs.List.{flat_map}
 use Rattle.std.proofs.lemmas.List.{take_all}
 use Rattle.std.proofs.Output.{has_written_append, has_written_of_eq}
+use Rattle.svn_lists.proofs.Parts.{flat_map-lists}
 use Rattle.svn_update.specs.Answers.{call_text}
-use Rattle.svn_update.proofs.KeptLemmas.{flat_map-lists}
 use Rattle.svn_update.proofs.answer.write_kept.Goals as goal
 
 pub returns : goal.returns

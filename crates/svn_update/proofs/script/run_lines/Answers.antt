@@ -1,8 +1,9 @@
 use Rattle.std.proofs.Common.{◌≡◌, ℕ, List, [], ◌∷◌, ◌++◌, length-append, append_assoc, sym, ap, ◌∙◌, arith}
 use Rattle.std.proofs.KnownBytes.{Appends-trans}
+use Rattle.svn_lists.proofs.Results.{OnOk_then}
 use Rattle.svn_script.specs.Reading.{lines_of}
 use Rattle.svn_update.specs.ScriptStates.{new_state}
-use Rattle.svn_update.proofs.ScriptLemmas.{one_more_line, next_line, script_ends, on_ok}
+use Rattle.svn_update.proofs.ScriptLemmas.{one_more_line, next_line, script_ends}
 use Rattle.svn_update.proofs.script.run_lines.Goals as goal
 
 pub lines-preserved : goal.lines-preserved
@@ -49,7 +50,7 @@ returns-in-Err-clause-bad g c = λ n e.
 pub returns-clause-ok : goal.returns-clause-ok
 returns-clause-ok g c =
     let inv = c.lines.invariant in
-    on_ok c.run_line-2.result _ _ c.run_line-2.ensures.ok
+    OnOk_then c.run_line-2.result c.run_line-2.ensures.ok
     (λ did. (
       inv.1 ++ did.0,
       script_ends c.args.host.now.settings c.args.script.now inv.0 c.lines.rest.now c.lines.state c.run_line-2.new.state inv.1 did.0 inv.2

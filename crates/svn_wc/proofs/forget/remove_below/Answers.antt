@@ -1,7 +1,8 @@
 use Rattle.std.proofs.Common.{◌∙◌, rules}
+use Rattle.svn_lists.proofs.Results.{when_ok}
 use Rattle.svn_types.specs.Paths.{is_below}
 use Rattle.svn_model.specs.Nodes.{get_in}
-use Rattle.svn_wc.proofs.Forgetting.{all_went, rest_went, when_ok}
+use Rattle.svn_wc.proofs.Forgetting.{all_went, rest_went}
 use Rattle.svn_wc.proofs.forget.remove_below.Goals as goal
 
 pub returns-then-is_err : goal.returns-then-is_err

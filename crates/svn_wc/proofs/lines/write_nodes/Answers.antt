@@ -1,8 +1,8 @@
 use Rattle.std.proofs.Common.{◌≡◌, ◌++◌, [], rules, refl, ap, ◌∙◌}
 use Rattle.std.specs.List.{flat_map}
 use Rattle.std.proofs.Output.{has_written_append, has_written_of_eq}
+use Rattle.svn_lists.proofs.Parts.{next_item, no_item}
 use Rattle.svn_nodes.specs.Lines.{node_lines}
-use Rattle.svn_nodes.proofs.Printing.{next_item, no_item}
 use Rattle.svn_wc.proofs.lines.write_nodes.Goals as goal
 
 pub loop-path-init : goal.loop-path-init

@@ -1,5 +1,6 @@
 use Rattle.std.proofs.Common.{◌≡◌, ◌-◌, ◌∷◌, [], List, ℕ, Option, Bool, true, false, cond, length, refl, sym, ap, subst, ◌∙◌}
 use Rattle.std.specs.Option.{option_copied, option_or}
+use Rattle.svn_lists.proofs.Options.{copied_if, option_or-copied}
 use Rattle.svn_types.specs.Names.{Path}
 use Rattle.svn_model.specs.declared.base_node.BaseNode.{BaseNode}
 use Rattle.svn_model.specs.Nodes.{get_in}
@@ -9,8 +10,8 @@ use Rattle.svn_wc.proofs.OwnPaths.{knows_own_path}
 use Rattle.svn_wc.proofs.Deeper.{deeper_is_within, no_deeper_is_past, name_told, in_all}
 use Rattle.svn_wc.proofs.Merging.{EntriesBeside, beside_begins}
 use Rattle.svn_wc.proofs.Truly.{SoFar, walk_begins, front, front_is, walk_on, walk_ends, rest_of_both, names_sorted}
-use Rattle.svn_wc.proofs.Truly.{option_or-copied, has_child, names_count, none_missing, entry_told, entry_counts, beside_next}
-use Rattle.svn_wc.proofs.Truly.{walks_alone, next_order, copied_if}
+use Rattle.svn_wc.proofs.Truly.{has_child, names_count, none_missing, entry_told, entry_counts, beside_next}
+use Rattle.svn_wc.proofs.Truly.{walks_alone, next_order}
 use Rattle.svn_wc.proofs.truth.+first_untrue_within.Goals as goal
 
 pub returns-in_default-clause-walked : goal.returns-in_default-clause-walked

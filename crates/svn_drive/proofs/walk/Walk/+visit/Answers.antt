@@ -1,6 +1,7 @@
 use Rattle.std.proofs.Common.{rules, ◌≡◌, ℕ, List, ◌+◌, false, [], ◌∷◌, ◌++◌, append-nil, refl, sym, ◌∙◌, ap, subst, arith}
 use Rattle.std.proofs.Common.{None, Ok, Err, OnOk}
 use Rattle.std.specs.List.{AllByRecursion}
+use Rattle.svn_lists.proofs.Parts.{empty_from_length}
 use Rattle.svn_types.specs.Names.{Path}
 use Rattle.svn_types.specs.Paths.{child}
 use Rattle.svn_model.specs.declared.stop.Stop.TheVariants.{Memory}
@@ -13,7 +14,7 @@ use Rattle.svn_drive.specs.Waiting.{waiting, visit_late, entered_late}
 use Rattle.svn_drive.specs.Walking.{IsEntered, request_of, entered_size}
 use Rattle.svn_drive.proofs.Waits.{waits_on, late-not_entered, late-not_there, late-entered}
 use Rattle.svn_drive.proofs.Visits.{size-not_entered, size-not_there, size-entered}
-use Rattle.svn_drive.proofs.VisitRuns.{no_items, visit_stopped, visit_left, visit_absent, visit_whole, name_stopped, names_memory}
+use Rattle.svn_drive.proofs.VisitRuns.{visit_stopped, visit_left, visit_absent, visit_whole, name_stopped, names_memory}
 use Rattle.svn_drive.proofs.VisitRuns.{name_done, visit_at, entered_stopped_as, entered_file_as, entered_below_as, entered_directory_as}
 use Rattle.svn_drive.proofs.walk.Walk.+visit.Goals as goal
 
@@ -235,7 +236,7 @@ visit_below-loop-below-preserved g t c =
 pub visit_below-returns-clause-waits : goal.visit_below-returns-clause-waits
 visit_below-returns-clause-waits g t c =
     let none : c.loop-below.below-iterator.rest.items ≡ [] =
-    no_items c.loop-below.below-iterator.rest.items c.loop-below.below-iterator.rest.len c.in-None.ensures.steps.0
+    empty_from_length c.loop-below.below-iterator.rest.items c.loop-below.below-iterator.rest.len c.in-None.ensures.steps.0
     c.loop-below.below-iterator.rest.ok.0 in
     let inv = rw none at c.loop-below.invariant in
     sym (append-nil (waiting c.args.self.now.repo.now c.loop-below.later.items)) ∙ inv.5

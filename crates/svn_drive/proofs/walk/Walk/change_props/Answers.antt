@@ -1,8 +1,9 @@
 use Rattle.std.proofs.Common.{rules, ◌≡◌, ◌∙◌, ◌∷◌, [], refl, sym, ap, subst, arith, Ok, Err}
 use Rattle.std.specs.Prelude.{map}
+use Rattle.svn_lists.proofs.Parts.{empty_from_length}
 use Rattle.svn_editor.specs.Steps.{Change}
 use Rattle.svn_model.specs.TreeCalls.{call_at, calls_at}
-use Rattle.svn_drive.proofs.VisitRuns.{Run, run_as, call_stopped, call_done, calls_done, no_items}
+use Rattle.svn_drive.proofs.VisitRuns.{Run, run_as, call_stopped, call_done, calls_done}
 use Rattle.svn_drive.proofs.walk.Walk.change_props.Goals as goal
 
 pub loop-change-init : goal.loop-change-init
@@ -48,7 +49,7 @@ loop-change-preserved g c =
 pub returns-clause-runs : goal.returns-clause-runs
 returns-clause-runs g c =
     let none : c.loop-change.change-iterator.rest.items ≡ [] =
-    no_items c.loop-change.change-iterator.rest.items c.loop-change.change-iterator.rest.len c.in-None.ensures.steps.0
+    empty_from_length c.loop-change.change-iterator.rest.items c.loop-change.change-iterator.rest.len c.in-None.ensures.steps.0
     c.loop-change.change-iterator.rest.ok.0 in
     let i = rw none at c.loop-change.invariant in
     let all : c.into_iter-change-iterator.result.rest.items ≡ c.args.changes.items = search rules in

@@ -1,8 +1,8 @@
 use Rattle.std.proofs.Common.{rules, ◌≡◌, ◌<◌, suc, List, [], ◌∷◌, ◌++◌, length, append-nil, sym, ◌∙◌, ap, subst, arith}
 use Rattle.std.specs.List.{AllByRecursion}
+use Rattle.svn_lists.proofs.Every.{all-append}
 use Rattle.svn_types.specs.Paths.{child}
 use Rattle.svn_model.specs.Tree.{names_below}
-use Rattle.svn_drive_law.proofs.Lists.{all-append}
 use Rattle.svn_types.proofs.NameLemmas.{Name}
 use Rattle.svn_drive.specs.declared.child_names.Below.{Below}
 use Rattle.svn_drive.specs.NamesLeft.{TakesChild, names_left}

@@ -1,9 +1,10 @@
 use Rattle.std.proofs.Common.{rules, ◌≡◌, ◌∙◌, ◌++◌, ◌∷◌, [], ap, append-nil, sym, Ok, Err}
+use Rattle.svn_lists.proofs.Results.{OnOk_from}
 use Rattle.svn_model.specs.declared.stop.Stop.TheVariants.{Memory}
 use Rattle.svn_drive.proofs.RunLemmas.{run_nothing, run_memory}
 use Rattle.svn_drive.proofs.FileEnds.{end_closed, end_waits, end_stopped, end_both}
 use Rattle.svn_drive.specs.Waiting.{waiting}
-use Rattle.svn_drive.proofs.Waits.{on_ok, file_closed, file_waits}
+use Rattle.svn_drive.proofs.Waits.{file_closed, file_waits}
 use Rattle.svn_drive.proofs.walk.Walk.end_file.Goals as goal
 
 pub returns-then-not-has_text-clause-runs : goal.returns-then-not-has_text-clause-runs
@@ -59,7 +60,7 @@ returns-then-not-has_text-clause-waits g c =
     file_closed c.args.self.now c.args.place.now.here.path c.args.opened.now.node c.texted-file.result c.requires.entered
     c.texted-file.ensures.told
     c.args.place.now.parent c.args.opened.now.token c.texted-file.ensures.token (sym c.if-not-has_text.ensures) in
-    on_ok _ c.close_file.result (sym (ap (λ l. waiting c.args.self.now.repo.now c.args.later.now.items ++ l) none
+    OnOk_from c.close_file.result (sym (ap (λ l. waiting c.args.self.now.repo.now c.args.later.now.items ++ l) none
     ∙ append-nil (waiting c.args.self.now.repo.now c.args.later.now.items)))
 
 pub returns-then-self-clause-waits : goal.returns-then-self-clause-waits

@@ -1,9 +1,9 @@
 use Rattle.std.proofs.Common.{[], Some, refl, ap, ◌∙◌, length}
+use Rattle.svn_lists.proofs.Results.{OnErr_from}
 use Rattle.svn_pool.specs.Pools.{pushed, strings_at}
 use Rattle.svn_edit.specs.declared.baton.Note.TheVariants.{Text as NewText}
 use Rattle.svn_edit.proofs.PoolStrings.{said_one}
 use Rattle.svn_edit.proofs.Saying.{first_noted, later_passed}
-use Rattle.svn_edit.proofs.Holding.{on_err}
 use Rattle.svn_edit.proofs.LeftPools.{unbegun, began_one}
 use Rattle.svn_edit.proofs.baton.Baton.note_text.Goals as goal
 
@@ -29,11 +29,12 @@ returns-else-is_none-clause-noted c =
 
 pub returns-in_err-place-clause-began : goal.returns-in_err-place-clause-began
 returns-in_err-place-clause-began c =
-    on_err c.from_residual.result (unbegun _ c.args.self.now c.args.self.now c.args.pools.now c.push.new.pools refl refl
+    OnErr_from c.from_residual.result (unbegun _ c.args.self.now c.args.self.now c.args.pools.now c.push.new.pools refl refl
     c.in_err-place.ensures.refused)
 
 pub returns-in_err-push-clause-began : goal.returns-in_err-push-clause-began
 returns-in_err-push-clause-began c =
     let old = c.args.self.now in
-    on_err c.from_residual-in_err-push.result (began_one old (record old { notes = c.push-2.new.self }) c.args.pools.now c.push.new.pools
+    OnErr_from c.from_residual-in_err-push.result
+    (began_one old (record old { notes = c.push-2.new.self }) c.args.pools.now c.push.new.pools
     c.args.text.now [] _ refl refl (c.in_ok-place.ensures.pushed ∙ ap (pushed c.args.pools.now old.pool.0) c.as_slice.ensures) refl)

@@ -12,13 +12,13 @@ returns-clause-begun c =
     begun _ c.args.pools.now c.push.new.self c.args.beneath.0 c.args.path (path_key c.args.path) refl
     c.new.ensures.items refl c.in-Ok.ensures.serial c.in-Ok.ensures.fresh c.in-Ok.ensures.apart
     (λ q e. c.in-Ok.ensures.childless q (ap (λ (v : Pools). parent_of (pool_at v q)) c.in-Ok.ensures.made ∙ e))
-    (c.in-Ok-push.ensures.pushed ∙ (λ i. pushed (c.in-Ok.ensures.made i) (c.in-Ok.ensures.serial i) (bytes i)))
+    (c.in_default.ensures.pushed ∙ (λ i. pushed (c.in-Ok.ensures.made i) (c.in-Ok.ensures.serial i) (bytes i)))
     refl
 
 -- the string was refused, and the new pool goes
-pub returns-in_default-push-clause-kept : goal.returns-in_default-push-clause-kept
-returns-in_default-push-clause-kept c =
-    let same = c.in_default-push.ensures.refused in
+pub returns-in-Err-push-clause-kept : goal.returns-in-Err-push-clause-kept
+returns-in-Err-push-clause-kept c =
+    let same = c.in-Err-push.ensures.refused in
     let serial = c.in-Ok.ensures.serial in
     undone c.args.pools.now c.push.new.self c.drop_pool.new.pools c.in-Ok.pool.0 c.args.beneath.0 (same ∙ c.in-Ok.ensures.made) serial
     c.in-Ok.ensures.fresh c.drop_pool.ensures

@@ -1,6 +1,7 @@
 use Rattle.std.proofs.Common.{◌∷◌, [], Some, refl, sym, subst}
 use Rattle.std.specs.Prelude.{None, Ok}
 use Rattle.md5.specs.Md5.{md5}
+use Rattle.svn_lists.proofs.Results.{OnOk_then, ok_by}
 use Rattle.svn_types.specs.declared.kind.Kind.TheVariants.{File, Directory}
 use Rattle.svn_editor.specs.declared.call.Call.{Call}
 use Rattle.svn_editor.specs.declared.call.Call.TheVariants.{OpenRoot, AddDirectory, OpenDirectory, CloseDirectory, AddFile, OpenFile}
@@ -8,7 +9,6 @@ use Rattle.svn_editor.specs.declared.call.Call.TheVariants.{ChangeDirProp, Chang
 use Rattle.svn_editor.specs.Calls.{Given}
 use Rattle.svn_editor.specs.Steps.{Open, Add, Change, Text}
 use Rattle.svn_edit.specs.Taking.{Takes}
-use Rattle.svn_edit.proofs.Holding.{map_ok, ok_by}
 use Rattle.svn_edit.proofs.Closes.{close_applied, close_holds, change_applied, text_applied, named_known}
 use Rattle.svn_edit.proofs.Bases.{file_of, no_file_base, file_base, sum_of_none}
 use Rattle.svn_edit.proofs.FileCloses.{file_applied, file_holds}
@@ -70,7 +70,8 @@ returns-in-AddFile c =
     token_taken c.args.self.now c.add_file.new.self nodes c.add_file.new.copy.entries
     call c.args.call.now r g _ (Add File) x.is refl refl refl
     (λ n. refl) refl refl (λ mode calls. refl) (λ mode calls. refl) c.add_file.ensures.gives c.add_file.ensures.unchanged
-    (file_base call call g _ _ r refl refl (map_ok r c.add_file.ensures.base (λ none b there. sum_of_none b.base c.add_file.new.copy.entries
+    (file_base call call g _ _ r refl refl
+    (OnOk_then r c.add_file.ensures.base (λ none b there. sum_of_none b.base c.add_file.new.copy.entries
     x.path (none b there))))
 
 pub returns-in-OpenFile : goal.returns-in-OpenFile
@@ -155,7 +156,7 @@ returns-in-CloseDirectory c =
     (closed_taken old new nodes nodes2 call r refl refl h.keeps
     (λ mode calls next noted. close_applied mode old new calls x.token call refl next md5 nodes nodes2 r h.closed h.refused)
     (unchanged_left old new call r h.unchanged) refl
-    (map_ok r h.gone (λ gone mode calls next last. close_holds mode old new calls x.token call refl next h.keeps gone)) h.others)
+    (OnOk_then r h.gone (λ gone mode calls next last. close_holds mode old new calls x.token call refl next h.keeps gone)) h.others)
 
 pub returns-in-CloseFile : goal.returns-in-CloseFile
 returns-in-CloseFile c =
@@ -171,7 +172,8 @@ returns-in-CloseFile c =
     (closed_taken old new nodes nodes2 call r refl refl h.keeps
     (λ mode calls next noted. file_applied mode old new calls x.token x.text_md5 call refl next nodes nodes2 r h.closes)
     (unchanged_left old new call r h.unchanged) refl
-    (map_ok r h.gone (λ gone mode calls next last. file_holds mode old new calls x.token x.text_md5 call refl next h.keeps gone)) h.others)
+    (OnOk_then r h.gone (λ gone mode calls next last. file_holds mode old new calls x.token x.text_md5 call refl next h.keeps gone))
+    h.others)
 
 pub returns-in-CloseEdit : goal.returns-in-CloseEdit
 returns-in-CloseEdit c =

@@ -1,12 +1,12 @@
 use Rattle.std.proofs.Common.{List, Some, sym, ap, subst, ◌∙◌, rules}
 use Rattle.std.proofs.lemmas.Map.Steps.{set_value_same}
+use Rattle.svn_lists.proofs.Results.{OnOk_then}
 use Rattle.svn_types.specs.Names.{Path}
 use Rattle.svn_model.specs.declared.base_node.BaseNode.{BaseNode}
 use Rattle.svn_model.specs.Nodes.{get_in}
 use Rattle.svn_model.specs.Effects.{moved_path, joined_path}
 use Rattle.svn_edit.specs.Closing.{ClosesFile}
 use Rattle.svn_edit_law.proofs.Lookups.{get_in-updated}
-use Rattle.svn_edit.proofs.Holding.{map_ok}
 use Rattle.svn_edit.proofs.FileCloses.{node_closes, nothing_closes}
 use Rattle.svn_edit.proofs.edit.Edit.close_file_of.Goals as goal
 
@@ -24,7 +24,7 @@ returns-then-is_present c =
     node_closes c.args.self.now c.args.baton.now c.args.text_md5.now at nodes _ c.in-Some-get_mut.node.now c.close_opened.new.node
     c.close_opened.result c.as_rel_path-path.ensures c.in-Some-get_mut.ensures.value
     c.close_opened.ensures.answers
-    (map_ok c.close_opened.result c.close_opened.ensures.closed (λ closed said s.
+    (OnOk_then c.close_opened.result c.close_opened.ensures.closed (λ closed said s.
     closed said (moved_path c.args.self.now.mode w at) (joined_path w at) s c.moved_again-moved.ensures))
     c.close_opened.ensures.refused
     (get_in-updated nodes _ at (Some c.close_opened.new.node) (written.3 (rw (← c.in-Some-get_mut.ensures.value) (search rules))).0)

@@ -1,6 +1,7 @@
 use Rattle.std.proofs.Common.{◌≡◌, Some, sym, ap, subst, ◌∙◌, rules}
 use Rattle.std.specs.Prelude.{IfOk, Result, Err, unwrap_or, filter_map}
 use Rattle.md5.specs.Md5.{md5}
+use Rattle.svn_lists.proofs.Results.{OnOk_then}
 use Rattle.svn_types.specs.Names.{Path}
 use Rattle.svn_editor.specs.declared.fault.EditFault.{EditFault}
 use Rattle.svn_model.specs.declared.base_node.BaseNode.{BaseNode}
@@ -8,7 +9,6 @@ use Rattle.svn_model.specs.declared.base_node.BaseNode.TheVariants.{NotPresent}
 use Rattle.svn_model.specs.Effects.{change_in, text_in, closed_file, moved_path, joined_path}
 use Rattle.svn_model.specs.Answering.{IsAnswer, AnswersCall}
 use Rattle.svn_nodes.specs.NodeTests.{sum_fault}
-use Rattle.svn_edit.proofs.Holding.{map_ok}
 use Rattle.svn_edit.proofs.edit.Edit.close_new.Goals as goal
 
 pub returns-in_err-close_opened-clause-answers : goal.returns-in_err-close_opened-clause-answers
@@ -45,7 +45,7 @@ returns-then-matches-clause-closed c = λ said w p s at j.
 pub returns-clause-closed : goal.returns-clause-closed
 returns-clause-closed c =
     let mode = c.args.self.now.mode in
-    map_ok c.close_opened-2.result c.close_opened-2.ensures.closed (λ closed said w p s same j.
+    OnOk_then c.close_opened-2.result c.close_opened-2.ensures.closed (λ closed said w p s same j.
     closed said (moved_path mode w p) (joined_path w p) s
     (subst (λ (x : Path). IfOk c.args.joined (λ q. q ≡ joined_path w x)
     → IfOk c.moved_by-moved.result (λ m. (was : Path) → moved_path mode w x was ≡ unwrap_or m was))

@@ -3,6 +3,7 @@ use Rattle.std.specs.Prelude.{Option, Err}
 use Rattle.std.specs.Option.{option_or}
 use Rattle.std.proofs.lemmas.Map.Steps.{set_value_same}
 use Rattle.md5.specs.Md5.{md5}
+use Rattle.svn_lists.proofs.Results.{OnErr_from}
 use Rattle.svn_types.specs.Paths.{path_eq}
 use Rattle.svn_types.specs.declared.kind.Kind.TheVariants.{Directory}
 use Rattle.svn_editor.specs.declared.fault.EditFault.{EditFault}
@@ -16,7 +17,7 @@ use Rattle.svn_edit.specs.Applying.{MakesBaton}
 use Rattle.svn_edit_law.proofs.Lookups.{get_in-updated}
 use Rattle.svn_edit_law.proofs.StepEffects.{effect_alone}
 use Rattle.svn_nodes.proofs.OpenFaults.{open_fault_is}
-use Rattle.svn_edit.proofs.Holding.{on_err, edit_kept}
+use Rattle.svn_edit.proofs.Holding.{edit_kept}
 use Rattle.svn_edit.proofs.LeftPools.{keeps_same, gives_refused}
 use Rattle.svn_edit.proofs.edit.Edit.open_directory.Goals as goal
 
@@ -38,10 +39,10 @@ returns-in_err-moved-clause-gives c =
     ((c.get_mut.follows.holds c.in-Some.node.now).0 ∙ set_value_same _ _ _ (sym c.in-Some.ensures.value))
 
 pub returns-in_err-moved-clause-unchanged : goal.returns-in_err-moved-clause-unchanged
-returns-in_err-moved-clause-unchanged c = on_err c.from_residual.result (keeps_same c.args.self.now)
+returns-in_err-moved-clause-unchanged c = OnErr_from c.from_residual.result (keeps_same c.args.self.now)
 
 pub returns-in_err-open_at-clause-unchanged : goal.returns-in_err-open_at-clause-unchanged
-returns-in_err-open_at-clause-unchanged c = on_err c.from_residual-in_err-open_at.result c.in_err-open_at.ensures.unchanged
+returns-in_err-open_at-clause-unchanged c = OnErr_from c.from_residual-in_err-open_at.result c.in_err-open_at.ensures.unchanged
 
 pub returns-in_err-open_at-clause-gives : goal.returns-in_err-open_at-clause-gives
 returns-in_err-open_at-clause-gives c =

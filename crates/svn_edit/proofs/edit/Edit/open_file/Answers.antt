@@ -2,6 +2,7 @@ use Rattle.std.proofs.Common.{◌≡◌, ℕ, List, None, Some, [], refl, sym, a
 use Rattle.std.specs.Prelude.{Option, IfSome, Err}
 use Rattle.std.specs.Option.{option_or}
 use Rattle.md5.specs.Md5.{md5}
+use Rattle.svn_lists.proofs.Results.{OnOk_then, OnErr_from}
 use Rattle.svn_types.specs.Names.{Path}
 use Rattle.svn_types.specs.declared.kind.Kind.TheVariants.{File}
 use Rattle.svn_editor.specs.declared.fault.EditFault.{EditFault}
@@ -14,7 +15,7 @@ use Rattle.svn_nodes.specs.NodeTests.{open_fault_of, deep_fault, IsSumOf}
 use Rattle.svn_edit.specs.Applying.{MakesBaton}
 use Rattle.svn_edit_law.proofs.StepEffects.{effect_none}
 use Rattle.svn_nodes.proofs.OpenFaults.{open_fault_is}
-use Rattle.svn_edit.proofs.Holding.{map_ok, on_err, applied_none, edit_kept}
+use Rattle.svn_edit.proofs.Holding.{applied_none, edit_kept}
 use Rattle.svn_edit.proofs.LeftPools.{keeps_same, own_answer, gives_refused}
 use Rattle.svn_edit.proofs.edit.Edit.open_file.Goals as goal
 
@@ -58,7 +59,7 @@ returns-clause-gives c =
     sym (open_fault_is md5 mode [] w p File c.args.base) ∙ ap (λ o. option_or o (deep_fault (moved_path mode w p (node_path (w p))))) shut
     ∙ c.in_ok-test_moved.ensures in
     record {
-      opened = map_ok c.open_at.result c.open_at.ensures.opened (λ made.
+      opened = OnOk_then c.open_at.result c.open_at.ensures.opened (λ made.
           subst (λ n. MakesBaton n p c.args.token old c.open_at.new.self) c.root-root.ensures.root
           (subst (λ (q : Path). MakesBaton c.root-root.result.0 q c.args.token old c.open_at.new.self) c.standing.ensures.path made));
       keeps = c.open_at.ensures.keeps;
@@ -67,7 +68,7 @@ returns-clause-gives c =
     }
 
 pub returns-clause-base : goal.returns-clause-base
-returns-clause-base c = map_ok c.open_at.result c.open_at.ensures.base (λ is b there.
+returns-clause-base c = OnOk_then c.open_at.result c.open_at.ensures.base (λ is b there.
     subst (λ (o : Option (List ℕ)). IsSumOf o c.args.copy.now.entries c.args.path.now) (sym (is b there))
     (subst (λ (n : Option BaseNode). IfSome c.kept_sum.result (λ s. s ≡ md5 (node_text n))) c.standing.ensures.node c.kept_sum.ensures))
 
@@ -75,4 +76,4 @@ pub returns-in-Some-clause-unchanged : goal.returns-in-Some-clause-unchanged
 returns-in-Some-clause-unchanged c = keeps_same c.args.self.now
 
 pub returns-in_err-test_moved-clause-unchanged : goal.returns-in_err-test_moved-clause-unchanged
-returns-in_err-test_moved-clause-unchanged c = on_err c.from_residual.result (keeps_same c.args.self.now)
+returns-in_err-test_moved-clause-unchanged c = OnErr_from c.from_residual.result (keeps_same c.args.self.now)

@@ -1,6 +1,7 @@
 use Rattle.std.proofs.Common.{◌≡◌, ◌≢◌, ◌++◌, ◌∷◌, [], None, refl, sym, subst, rules}
 use Rattle.std.specs.Prelude.{Option, Result, Err, IfErr}
 use Rattle.md5.specs.Md5.{md5}
+use Rattle.svn_lists.proofs.Results.{at_err, at_ok, err_by, ok_by, OnErr_from}
 use Rattle.svn_editor.specs.declared.fault.EditFault.{EditFault}
 use Rattle.svn_editor.specs.declared.fault.EditFault.TheVariants.{Memory}
 use Rattle.svn_editor.specs.Faults.{as_edit_fault}
@@ -10,8 +11,8 @@ use Rattle.svn_order.specs.StandsAfter as order
 use Rattle.svn_editor.proofs.Accepted.{not_ended}
 use Rattle.svn_model.specs.Effects.{edit_fault, refusal}
 use Rattle.svn_model.specs.Answering.{AnswersCall, WantsInOrder}
-use Rattle.svn_edit.proofs.Holding.{ok_by, at_ok, err_by, on_err, order_none, order_refused, not_memory, refusal_is, applied_answer, applied_copy, abort_is_last}
-use Rattle.svn_edit.proofs.Holding.{applied_err, at_err, copy_more, next_is}
+use Rattle.svn_edit.proofs.Holding.{order_none, order_refused, not_memory, refusal_is, applied_answer, applied_copy, abort_is_last}
+use Rattle.svn_edit.proofs.Holding.{applied_err, copy_more, next_is}
 use Rattle.svn_edit.specs.Applying.{batons_of}
 use Rattle.svn_edit.proofs.InOrder.{check_wants, rest_wants}
 use Rattle.svn_edit.proofs.Bases.{noted_more}
@@ -110,7 +111,7 @@ returns-in_err-step-clause-abort c =
     (not_memory fault (c.in_err-step.ensures.last (abort_is_last c.args.call.now aborts)))
 
 pub returns-in_err-step-clause-pools : goal.returns-in_err-step-clause-pools
-returns-in_err-step-clause-pools c = on_err c.from_residual.result (λ mode w0 calls s going.
+returns-in_err-step-clause-pools c = OnErr_from c.from_residual.result (λ mode w0 calls s going.
     let old = c.args.self.now in
     same_left old.pools old.pools (batons_of old) (batons_of old) calls c.args.call.now (s.going going).batons (pools_same old.pools)
     (λ t. refl))

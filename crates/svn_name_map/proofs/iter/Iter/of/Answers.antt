@@ -1,8 +1,8 @@
 use Rattle.std.proofs.Common.{List, ◌++◌, sym, ◌∙◌, ap}
 use Rattle.std.specs.List.{zip}
+use Rattle.svn_lists.proofs.Zips.{zip_parts}
 use Rattle.svn_types.proofs.NameLemmas.{Name}
 use Rattle.svn_name_map.specs.Runs.{joined}
-use Rattle.svn_name_map.proofs.Zipped.{zip_parts}
 use Rattle.svn_name_map.proofs.iter.Iter.of.Goals as goal
 
 pub returns : goal.returns

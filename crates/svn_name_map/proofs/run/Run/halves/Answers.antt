@@ -1,9 +1,10 @@
 use Rattle.std.proofs.Common.{List, take, drop, sym, ◌∙◌, ap, subst}
 use Rattle.std.specs.List.Sorted.{IsStrictlySortedBy}
 use Rattle.std.specs.Map.{keys_of}
+use Rattle.svn_lists.proofs.Sorted.{sorted_drop, sorted_take}
+use Rattle.svn_lists.proofs.Zips.{dropped_pairs, taken_pairs}
 use Rattle.svn_types.specs.Names.{name_cmp}
 use Rattle.svn_types.proofs.NameLemmas.{Name}
-use Rattle.svn_name_map.proofs.Zipped.{sorted_take, sorted_drop, taken_pairs, dropped_pairs}
 use Rattle.svn_name_map.proofs.run.Run.halves.Goals as goal
 
 pub copied-requires-clause-ordered : goal.copied-requires-clause-ordered

@@ -1,6 +1,6 @@
 use Rattle.std.proofs.Common.{length, ap, arith}
 use Rattle.std.specs.Arc.{arc_value}
-use Rattle.svn_name_map.proofs.Zipped.{length-pairs}
+use Rattle.svn_lists.proofs.Zips.{length-pairs}
 use Rattle.svn_name_map.proofs.run.Run.len.Goals as goal
 
 pub returns-clause-length : goal.returns-clause-length

@@ -3,9 +3,9 @@ use Rattle.std.specs.Arc.{arc_value}
 use Rattle.std.specs.List.Sorted.{IsStrictlySortedBy}
 use Rattle.std.specs.Map.{keys_of}
 use Rattle.std.proofs.lemmas.Map.Made.{keys_of-zip}
+use Rattle.svn_lists.proofs.Zips.{length-pairs}
 use Rattle.svn_types.specs.Names.{name_cmp}
 use Rattle.svn_types.proofs.NameLemmas.{Name}
-use Rattle.svn_name_map.proofs.Zipped.{length-pairs}
 use Rattle.svn_name_map.proofs.run.Run.names.Goals as goal
 
 pub returns-clause-names : goal.returns-clause-names

@@ -1,9 +1,9 @@
 use Rattle.std.proofs.Common.{◌≡◌, ◌∷◌, [], List, length, sym, ◌∙◌, ap, subst, arith}
 use Rattle.std.specs.Arc.{arc_value}
 use Rattle.std.specs.List.Sorted.{IsStrictlySortedBy}
+use Rattle.svn_lists.proofs.Sorted.{sorted_one}
 use Rattle.svn_types.specs.Names.{name_cmp}
 use Rattle.svn_types.proofs.NameLemmas.{Name}
-use Rattle.svn_name_map.proofs.Zipped.{sorted_one}
 use Rattle.svn_name_map.proofs.run.Run.of.Goals as goal
 
 pub invariant_of-result : goal.invariant_of-result

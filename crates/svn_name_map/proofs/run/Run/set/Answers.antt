@@ -5,7 +5,7 @@ use Rattle.std.specs.Map.{keys_of, values_of}
 use Rattle.std.proofs.lemmas.Map.Made.{keys_of-zip}
 use Rattle.std.proofs.lemmas.Slice.Zip.{seconds-zip}
 use Rattle.std.proofs.lemmas.Option.{slice_get_read}
-use Rattle.svn_name_map.proofs.Zipped.{length-pairs}
+use Rattle.svn_lists.proofs.Zips.{length-pairs}
 use Rattle.svn_name_map.proofs.run.Run.set.Goals as goal
 
 pub index_mut-requires : goal.index_mut-requires

@@ -1,7 +1,8 @@
 use Rattle.std.proofs.Common.{◌≡◌, ◌≤◌, ◌-◌, ◌/◌, ◌++◌, length, ◌∙◌, arith}
 use Rattle.std.specs.List.{insert}
+use Rattle.svn_lists.proofs.Parts.{insert_before, insert_behind}
 use Rattle.svn_types.proofs.NameLemmas.{Name}
-use Rattle.svn_name_map.proofs.Zipped.{place_before, place_behind, put_before, put_behind}
+use Rattle.svn_name_map.proofs.Zipped.{place_before, place_behind}
 use Rattle.svn_name_map.proofs.run.Run.with.Goals as goal
 use Rattle.svn_name_map.proofs.run.Run.with.Goals.{then-place-half+in_ok-insert, else-place-half+in_ok-insert-2}
 
@@ -28,10 +29,10 @@ returns g c =
           let parts : c.if-place-half.before ++ c.if-place-half.behind ≡ insert c.in_ok-before.before c.args.place e ++ c.in_ok-before.behind =
           cc w.in_ok-insert.ensures.ok in
           parts ∙ (λ i. insert (c.in_ok-before.ensures.before i) c.args.place e ++ c.in_ok-before.ensures.behind i)
-          ∙ put_before es e c.args.place half w.if-place-half.true within
+          ∙ insert_before es e c.args.place half w.if-place-half.true within
       | else-place-half+in_ok-insert-2 w ↦
           let parts : c.if-place-half.before ++ c.if-place-half.behind ≡ c.in_ok-before.before ++ insert c.in_ok-before.behind (c.args.place - half) e =
           cc w.in_ok-insert-2.ensures.ok in
           parts ∙ (λ i. c.in_ok-before.ensures.before i ++ insert (c.in_ok-before.ensures.behind i) (c.args.place - half) e)
-          ∙ put_behind es e c.args.place half (omega (arith, w.if-place-half.false)) within
+          ∙ insert_behind es e c.args.place half (omega (arith, w.if-place-half.false)) within
     ]

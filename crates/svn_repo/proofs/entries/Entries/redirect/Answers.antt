@@ -1,8 +1,9 @@
 use Rattle.std.proofs.Common.{◌≡◌, ℕ, List, Some, refl, sym, ap, ◌∙◌, cond}
 use Rattle.std.specs.BTreeMap.{insert_entry}
+use Rattle.svn_lists.proofs.Equality.{bytes_eq-same}
 use Rattle.svn_types.specs.Names.{name_cmp}
 use Rattle.svn_types.specs.Pairs.{value_of}
-use Rattle.svn_types.proofs.NameLemmas.{Name, bytes_eq-same}
+use Rattle.svn_types.proofs.NameLemmas.{Name}
 use Rattle.svn_name_map.proofs.Changed.{put_back}
 use Rattle.svn_repo.proofs.entries.Entries.redirect.Goals as goal
 

@@ -2,10 +2,11 @@ use Rattle.std.proofs.Common.{nat_eq, ◌≡◌, None, inr, set, get_or, sym, ap
 use Rattle.std.proofs.lemmas.List.{set-get_or}
 use Rattle.std.specs.Map.{set_value}
 use Rattle.std.specs.Option.{ghost_name_of}
+use Rattle.svn_lists.proofs.Options.{some_value}
 use Rattle.svn_serials.specs.Serials.{IsRising, get}
 use Rattle.svn_serials.specs.Slots.{IsFilledAt, IsSound, held, values_in}
 use Rattle.svn_serials.proofs.Held.{get_at, held_write}
-use Rattle.svn_serials.proofs.Order.{cases_some, rising_held, serial_at, value_at}
+use Rattle.svn_serials.proofs.Order.{rising_held, serial_at, value_at}
 use Rattle.svn_serials.proofs.Sound.{sound_write}
 use borrow.Follows.Closed.{read_of}
 use Rattle.svn_serials.proofs.map.SerialMap.get_mut.Goals as goal
@@ -31,7 +32,7 @@ returns-in-Some g c =
     let s = c.index_mut.result.now in
     let at : IsFilledAt ss q i = subst (λ ts. IsFilledAt ts q i) c.as_slice.ensures.value c.in-Some.ensures in
     let serial = serial_at ss i s at.within c.index_mut.ensures.value in
-    let v = cases_some (get_or (values_in ss) i None) at.value in
+    let v = some_value (get_or (values_in ss) i None) at.value in
     let same : set ss i s ≡ ss = ap (set ss i) c.index_mut.ensures.value ∙ set-get_or ss i s in
     let written =
     λ (w : g.row.V.Denot). held_write s.serial v.0 w ss i c.self.invariant.order at.within serial v.1

@@ -1,13 +1,13 @@
 use Rattle.std.proofs.Common.{sym, ap, ◌∙◌, subst, List, []}
 use Rattle.std.specs.BTreeMap.{BTreeMap}
 use Rattle.md5.specs.Md5.{md5}
+use Rattle.svn_lists.proofs.Results.{OnErr_then, OnOk_then}
 use Rattle.svn_types.specs.Names.{Path}
 use Rattle.svn_model.specs.declared.base_node.BaseNode.{BaseNode}
 use Rattle.svn_model.specs.Effects.{refusal}
 use Rattle.svn_edit.specs.Applying.{StandsAfter}
 use Rattle.svn_edit.specs.Leaving.{PoolsAfter}
 use Rattle.svn_model.specs.Answering.{AnswersCall}
-use Rattle.svn_edit.proofs.Holding.{map_ok, map_err}
 use Rattle.svn_edit.proofs.ShapedCalls.{shaped_call}
 use Rattle.std.proofs.Math.Logic.{∥∥₁_elim, ∥∥₁_map}
 use Rattle.svn_wc.specs.Taking.{IsInShape}
@@ -29,11 +29,11 @@ returns-clause-in_order c = λ mode w0 calls s.
     (sym c.copy.view_is) s)
 
 pub returns-clause-accepted : goal.returns-clause-accepted
-returns-clause-accepted c = map_ok c.call-answer.result c.call-answer.ensures.accepted (λ f mode w0 calls s.
+returns-clause-accepted c = OnOk_then c.call-answer.result c.call-answer.ensures.accepted (λ f mode w0 calls s.
     f mode w0 calls (subst (λ (n : List (Path × BaseNode)). StandsAfter mode w0 c.args.self.now.edit n calls) (sym c.copy.view_is) s))
 
 pub returns-clause-refused : goal.returns-clause-refused
-returns-clause-refused c = map_err c.call-answer.result c.call-answer.ensures.refused (λ f mode w0 calls s.
+returns-clause-refused c = OnErr_then c.call-answer.result c.call-answer.ensures.refused (λ f mode w0 calls s.
     f mode w0 calls (subst (λ (n : List (Path × BaseNode)). StandsAfter mode w0 c.args.self.now.edit n calls) (sym c.copy.view_is) s)
     ∙ c.copy.view_is)
 

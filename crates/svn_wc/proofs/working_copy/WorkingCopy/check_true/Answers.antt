@@ -1,10 +1,11 @@
 use Rattle.std.proofs.Common.{◌≡◌, ◌∷◌, List, Option, None, sym, ap, subst, ◌∙◌, true≢false}
 use Rattle.std.specs.Option.{option_copied, option_or, is_some}
+use Rattle.svn_lists.proofs.Options.{option_or-copied}
 use Rattle.svn_types.specs.Names.{Path}
 use Rattle.svn_model.specs.declared.base_node.BaseNode.{BaseNode}
 use Rattle.svn_model.specs.Nodes.{InPathOrder}
 use Rattle.svn_model.specs.Truth.{first_untrue}
-use Rattle.svn_wc.proofs.Truly.{Checked, check_on, check_ends, option_or-copied}
+use Rattle.svn_wc.proofs.Truly.{Checked, check_on, check_ends}
 use Rattle.svn_wc.proofs.working_copy.WorkingCopy.check_true.Goals as goal
 
 pub nodes-preserved : goal.nodes-preserved

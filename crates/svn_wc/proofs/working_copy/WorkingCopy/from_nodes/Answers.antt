@@ -1,9 +1,9 @@
 use Rattle.std.proofs.Common.{◌≡◌, None, sym, subst, ◌∙◌, rules, true≢false}
+use Rattle.svn_lists.proofs.Options.{cond_none}
 use Rattle.svn_model.specs.declared.wc_fault.WcFault.TheVariants.{Twice}
 use Rattle.svn_model.specs.Nodes.{IsWorkingCopy}
 use Rattle.svn_model.specs.Refusals.{has_twice, nodes_fault}
 use Rattle.svn_edit_law.specs.CopyLaws.{AllEndNamed}
-use Rattle.svn_edit_law.proofs.Builds.{passed}
 use Rattle.svn_wc.proofs.EachOnce.{gathered_once}
 use Rattle.svn_wc.proofs.working_copy.WorkingCopy.from_nodes.Goals as goal
 
@@ -11,7 +11,7 @@ pub returns-clause-nodes : goal.returns-clause-nodes
 returns-clause-nodes c = λ p.
     let nodes = c.sorted-nodes.result.items in
     let none : nodes_fault nodes ≡ None = search rules in
-    c.in_ok-map.ensures.0 p ∙ gathered_once nodes (passed (has_twice nodes) Twice _ none).0 p
+    c.in_ok-map.ensures.0 p ∙ gathered_once nodes (cond_none (has_twice nodes) Twice _ none).0 p
     ∙ c.sorted-nodes.ensures.nodes (sym c.sorted-nodes.ensures.fault ∙ none) p
 
 pub invariant_of-result : goal.invariant_of-result

@@ -9,16 +9,16 @@ pub const MAX_DEPTH: usize = 14;
 /// A path: its names by their places in the table, counted from 1, and 0 behind the last. So places are ordered as paths are: name by
 /// name, a prefix first.
 #[derive(Clone, Copy, PartialEq, Eq, PartialOrd, Ord)]
-pub struct Place {
+pub struct PlainPath {
     names: [u8; MAX_DEPTH],
 }
 
 /// The root.
-pub const ROOT: Place = Place {
+pub const ROOT: PlainPath = PlainPath {
     names: [0; MAX_DEPTH],
 };
 
-impl Place {
+impl PlainPath {
     pub fn names(&self) -> &[u8] {
         &self.names
     }
@@ -38,7 +38,7 @@ impl Place {
     }
 
     /// The path one name longer; None where it has too many.
-    pub fn join(self, name: u8) -> Option<Place> {
+    pub fn join(self, name: u8) -> Option<PlainPath> {
         let depth = self.depth();
         let mut joined = self;
         let free = joined.names.get_mut(depth)?;
@@ -47,7 +47,7 @@ impl Place {
     }
 
     /// The first so many names.
-    pub fn prefix(self, length: usize) -> Place {
+    pub fn prefix(self, length: usize) -> PlainPath {
         let mut prefix = self;
         for (at, name) in prefix.names.iter_mut().enumerate() {
             if at >= length {
@@ -58,7 +58,7 @@ impl Place {
     }
 
     /// The path one name shorter; None at the root.
-    pub fn parent(self) -> Option<Place> {
+    pub fn parent(self) -> Option<PlainPath> {
         let length = self.depth().checked_sub(1)?;
         Some(self.prefix(length))
     }
@@ -70,7 +70,7 @@ impl Place {
     }
 
     /// Whether it is the other, or stands beneath it.
-    pub fn is_within(&self, above: &Place) -> bool {
+    pub fn is_within(&self, above: &PlainPath) -> bool {
         for (mine, its) in self.names.iter().zip(above.names.iter()) {
             if *its != 0 && *its != *mine {
                 return false;
@@ -80,7 +80,7 @@ impl Place {
     }
 
     /// The same place with other names behind it.
-    pub fn with(self, names: &[u8]) -> Option<Place> {
+    pub fn with(self, names: &[u8]) -> Option<PlainPath> {
         let mut joined = self;
         for name in names {
             if *name != 0 {
@@ -91,7 +91,7 @@ impl Place {
     }
 
     /// A place within one path, put in the same way within another.
-    pub fn moved(self, from: Place, to: Place) -> Option<Place> {
+    pub fn moved(self, from: PlainPath, to: PlainPath) -> Option<PlainPath> {
         let behind = self.names.get(from.depth()..)?;
         to.with(behind)
     }
@@ -107,7 +107,7 @@ fn written(name: u8, is_printed: bool) -> &'static str {
 }
 
 fn write_names<W: fmt::Write>(
-    place: &Place,
+    place: &PlainPath,
     is_printed: bool,
     f: &mut fmt::Formatter<W>,
 ) -> fmt::Result {
@@ -125,7 +125,7 @@ fn write_names<W: fmt::Write>(
 }
 
 /// A place as a word of a script.
-impl fmt::Display for Place {
+impl fmt::Display for PlainPath {
     fn fmt<W: fmt::Write>(&self, f: &mut fmt::Formatter<W>) -> fmt::Result {
         if self.is_root() {
             return f.write_str(".");
@@ -136,7 +136,7 @@ impl fmt::Display for Place {
 
 /// A place as a text that the library reads as a path.
 #[derive(Clone, Copy)]
-pub struct Raw(pub Place);
+pub struct Raw(pub PlainPath);
 
 impl fmt::Display for Raw {
     fn fmt<W: fmt::Write>(&self, f: &mut fmt::Formatter<W>) -> fmt::Result {
