@@ -5,7 +5,7 @@ use std::alloc::Global;
 use std::process::Abort;
 use std::test::Fail;
 use svn_report::ReporterFault::{NotRootFirst, ParentLater, Repeated, TooDeep, UnderDeleted};
-use svn_report::{EntryLine, Report, ReportEntry, Reporter, ReporterFault};
+use svn_report::{EntryLine, Report, Reporter, ReporterFault};
 use svn_types::{Name, RelPath, Rev};
 
 // A call of a reporter, with texts in the place of paths. What it has stands in the order in which it is printed.
@@ -282,10 +282,8 @@ static NESTED_IN_ORDER: [Answered; 7] = [
 enum Question {
     // the names below it, each with a comma
     Names,
-    // these, whether an entry is below it, and its own entry: asked from a position on, if one is given
-    All(Option<usize>),
-    // the positions at which those names are found, from the first entry on, each with a comma; and the one after them
-    Positions,
+    // these, whether an entry is below it, and its own entry
+    All,
 }
 
 // A path, and what a report answers about it.
@@ -314,17 +312,9 @@ static ALL: [Told; 9] = [
     ("d/e/f", "set d/e/f 1"),
 ];
 
-// Where it is asked to look: at each entry, after the last one, and far after that.
-const POSITIONS: [usize; 10] = [0, 1, 2, 3, 4, 5, 6, 7, 8, usize::MAX];
-
-// The positions of the first entries below the names below a path, and of the first after them.
-static FOUND_AT: [Told; 5] = [
-    ("", "1,4,5,7,"),
-    ("b", "2,3,4,"),
-    ("b/x", "2,3,"),
-    ("b c", "5,"),
-    ("d/e", "5,6,7,"),
-];
+// Its entries in the order of their paths, each with a semicolon.
+const IN_PATH_ORDER: &str =
+    "set . 1;set b 1;set b/x/y 1;set b/y 1;set b%20c 1;set d/e/a 1;set d/e/f 1;";
 
 // By calls: whoever names a table itself is proved with all that is in it, at each of its steps.
 fn names_below() -> &'static [Told] {
@@ -335,34 +325,11 @@ fn all() -> &'static [Told] {
     &ALL
 }
 
-fn found_at() -> &'static [Told] {
-    &FOUND_AT
-}
-
-// The name that comes after the last one, looked for from a position on, if there is one.
-fn next_name<'a>(
-    report: &'a Report,
-    path: &RelPath,
-    last: Option<&Name>,
-    near: &mut Option<usize>,
-) -> Result<Option<&'a Name>, Fail> {
-    match near {
-        Some(near) => Ok(report.next_name_near(path, last, near)?),
-        None => Ok(report.next_name_below(path, last)?),
-    }
-}
-
 // Asks for one name after the other, and writes each with a comma.
-fn push_names(
-    out: &mut String,
-    report: &Report,
-    path: &RelPath,
-    near: Option<usize>,
-) -> Result<(), Fail> {
-    let mut near = near;
+fn push_names(out: &mut String, report: &Report, path: &RelPath) -> Result<(), Fail> {
     let mut last: Option<Name> = None;
     for _ in 0..=report.len() {
-        let Some(name) = next_name(report, path, last.as_ref(), &mut near)? else {
+        let Some(name) = report.next_name_below(path, last.as_ref())? else {
             break;
         };
         out.push_str(name.as_str())?;
@@ -372,51 +339,14 @@ fn push_names(
     Ok(())
 }
 
-fn has_below(report: &Report, path: &RelPath, near: Option<usize>) -> bool {
-    match near {
-        Some(near) => report.has_entry_below_near(path, near),
-        None => report.has_entry_below(path),
-    }
-}
-
-fn entry_of<'a>(
-    report: &'a Report,
-    path: &RelPath,
-    near: Option<usize>,
-) -> Option<&'a ReportEntry> {
-    match near {
-        Some(near) => report.entry_near(path, near),
-        None => report.entry_at(path),
-    }
-}
-
-fn push_all(
-    out: &mut String,
-    report: &Report,
-    path: &RelPath,
-    near: Option<usize>,
-) -> Result<(), Fail> {
-    push_names(out, report, path, near)?;
-    if has_below(report, path, near) {
+fn push_all(out: &mut String, report: &Report, path: &RelPath) -> Result<(), Fail> {
+    push_names(out, report, path)?;
+    if report.has_entry_below(path) {
         out.push_str("below;")?;
     }
-    if let Some(entry) = entry_of(report, path, near) {
+    if let Some(entry) = report.entry_at(path) {
         let line = EntryLine { path, entry };
         write!(out, "{line}")?;
-    }
-    Ok(())
-}
-
-fn push_positions(out: &mut String, report: &Report, path: &RelPath) -> Result<(), Fail> {
-    let mut near = 0;
-    let mut last: Option<Name> = None;
-    for _ in 0..=report.len() {
-        let name = report.next_name_near(path, last.as_ref(), &mut near)?;
-        write!(out, "{near},")?;
-        let Some(name) = name else {
-            break;
-        };
-        last = Some(name.clone()?);
     }
     Ok(())
 }
@@ -428,9 +358,8 @@ fn push_answer(
     question: Question,
 ) -> Result<(), Fail> {
     match question {
-        Question::Names => push_names(out, report, path, None),
-        Question::All(near) => push_all(out, report, path, near),
-        Question::Positions => push_positions(out, report, path),
+        Question::Names => push_names(out, report, path),
+        Question::All => push_all(out, report, path),
     }
 }
 
@@ -480,21 +409,29 @@ fn names_beneath_a_path_come_in_their_order(rt: HostRuntime) -> Result<(), Fail>
 }
 
 #[test]
-fn a_position_changes_no_answer(rt: HostRuntime) -> Result<(), Fail> {
-    in_both_orders(&rt, rt.alloc(), Question::All(None), all())?;
-    for near in POSITIONS {
-        in_both_orders(&rt, rt.alloc(), Question::All(Some(near)), all())?;
+fn a_report_tells_what_is_at_a_path_and_below(rt: HostRuntime) -> Result<(), Fail> {
+    in_both_orders(&rt, rt.alloc(), Question::All, all())
+}
+
+fn push_in_path_order(out: &mut String, alloc: Global, report: &Report) -> Result<(), Fail> {
+    let entries = report.in_path_order(alloc)?;
+    for (path, entry) in entries {
+        let line = EntryLine { path, entry };
+        write!(out, "{line};")?;
     }
     Ok(())
 }
 
+fn is_listed(rt: &impl Abort, alloc: Global, calls: &[Answered]) -> Result<(), Fail> {
+    let report = report_of(rt, alloc, calls)?;
+    let mut found = String::new(alloc);
+    push_in_path_order(&mut found, alloc, &report)?;
+    assert_eq!(rt; found.as_str(), IN_PATH_ORDER);
+    Ok(())
+}
+
 #[test]
-fn a_position_goes_along_with_the_names(rt: HostRuntime) -> Result<(), Fail> {
-    are_answered(
-        &rt,
-        rt.alloc(),
-        &NESTED_IN_ORDER,
-        Question::Positions,
-        found_at(),
-    )
+fn entries_are_listed_in_path_order(rt: HostRuntime) -> Result<(), Fail> {
+    is_listed(&rt, rt.alloc(), &NESTED)?;
+    is_listed(&rt, rt.alloc(), &NESTED_IN_ORDER)
 }

@@ -34,7 +34,7 @@ use Rattle.svn_drive.proofs.Waits.{late-height, late-not_entered}
 
 -- ---- where nothing is reported at a path or below it
 
-pub none_at : (es : List (Path × ReportEntry)) (c : Path) → has_entry_within es c ≡ false → entry_at es c ≡ None
+none_at : (es : List (Path × ReportEntry)) (c : Path) → has_entry_within es c ≡ false → entry_at es c ≡ None
 none_at [] c h = refl
 none_at (e ∷ es) c h =
     let parts = or_parts (is_within c e.0) (has_entry_within es c) h in

@@ -16,6 +16,10 @@ pub mod WholeRuns
 pub mod Checks
 -- Where a walk passes a child over: nothing is called there.
 pub mod Idle
+-- A part of a report, cut by the names at a depth.
+pub mod ByName
+-- Parts of a report: what is reported below a path, its own entry, and the parts of its names.
+pub mod Parts
 -- The names below a path, taken from three lists in order: each once, with what stands under it.
 pub mod NamesLeft
 -- A walk over the names at which something is done: it does what one over all names does.

@@ -5,7 +5,7 @@
 --     step_kept      what is left then is in order, and has what stands under each name
 --     behind_another      a name is another than one behind it
 use Rattle.std.proofs.Common.{◌≡◌, ◌≢◌, ◌⊎◌, inl, inr, ℕ, Bool, true, false, ◌&&◌, ◌||◌, List, [], ◌∷◌, ◌++◌, refl, sym, ◌∙◌, ap}
-use Rattle.std.proofs.Common.{subst, true≢false}
+use Rattle.std.proofs.Common.{subst, true≢false, length}
 use Rattle.std.specs.Prelude.{Option, Some, None, cond, is_some, unwrap_or, fold, bytes_eq}
 use Rattle.std.specs.List.{list_any}
 use Rattle.std.specs.Map.{keys_of}
@@ -18,7 +18,7 @@ use Rattle.std.proofs.lemmas.Bool.{or_left, or_right, or_parts, not-false}
 use Rattle.svn_lists.proofs.Equality.{bytes_eq-same, same_bytes}
 use Rattle.svn_lists.proofs.Orderings.{less_from_is_lt}
 use Rattle.svn_types.specs.Names.{Path, name_cmp}
-use Rattle.svn_types.specs.Paths.{child}
+use Rattle.svn_types.specs.Paths.{child, is_within}
 use Rattle.svn_types.specs.Pairs.{InNameOrder, value_of}
 use Rattle.svn_types.proofs.NameLemmas.{Name, same_name, name_cmp-same, lt_chain, reversed, flipped}
 use Rattle.svn_types.proofs.NameLemmas.{has_name-fold}
@@ -26,8 +26,8 @@ use Rattle.svn_types.proofs.NameLemmas.{value_of-first, no_name_no_value}
 use Rattle.svn_types.proofs.NameSets.{fold_sorted}
 use Rattle.svn_repo.specs.History.{History}
 use Rattle.svn_report.specs.Reports.{Entries}
-use Rattle.svn_report.specs.ReportNames.{next_name as next_reported, names_in as reported_in, reported_names, has_entry_within}
-use Rattle.svn_report.proofs.ReportedNames.{put_reported, has_name-reported}
+use Rattle.svn_report.specs.ReportNames.{next_name as next_reported, names_in as reported_in, has_entry_within}
+use Rattle.svn_report.proofs.ReportedNames.{has_name-reported}
 use Rattle.svn_model.specs.Follow.{Request, source_node, target_node}
 use Rattle.svn_model.specs.Tree.{next_name, names_in, names_at, names_below}
 use Rattle.svn_model.proofs.Children.{entry_below}
@@ -35,20 +35,19 @@ use Rattle.svn_drive_law.proofs.Ways.{not_before, Ordered, ordered-fold, ordered
 use Rattle.svn_drive.specs.declared.child_names.Below.{Below}
 use Rattle.svn_drive.specs.declared.child_names.NamesLeft.{NamesLeft}
 use Rattle.svn_drive.specs.declared.place.Place.{Place}
-use Rattle.svn_drive.specs.Firsts.{entries_at, first_of, first_key, earlier, TakesName, TakesValue}
-use Rattle.svn_drive.specs.NamesLeft.{source_of, target_of, first_name, names_left, TakesChild, IsBelow, InOrder, has_name, HasAll, AreLeft}
+use Rattle.svn_drive.specs.Firsts.{entries_at, first_of, first_key, earlier, InOrder, TakesValue}
+use Rattle.svn_drive.specs.NamesLeft.{source_of, target_of, reported_of, first_name, names_left, TakesChild, IsBelow, has_name, HasAll}
+use Rattle.svn_drive.specs.NamesLeft.{AreLeft}
+use Rattle.svn_drive.specs.Parts.{IsPart, Named, by_name, entries_in, entries_under, none_or}
 use Rattle.svn_drive.specs.Walking.{IsAt, entry_of}
+use Rattle.svn_drive.proofs.ByName.{all_after, ordered_of}
 use Rattle.svn_drive.proofs.Idle.{entry-below}
+use Rattle.svn_drive.proofs.Parts.{names_ordered, part_named, part_under}
 
 -- ---- names in their order
 
 has_own : (n : Name) (ns : List Name) → has_name (n ∷ ns) n ≡ true
 has_own n ns = ap (λ b. b || has_name ns n) (bytes_eq-same n)
-
--- a name before the first one is before all
-all_after : (n k : Name) (ms : List Name) → name_cmp n k ≡ Less → Ordered (k ∷ ms) → list_any (not_before n) (k ∷ ms) ≡ false
-all_after n k ms e h =
-    (subst (λ o. Ordered (match_ordering o (n ∷ k ∷ ms) (k ∷ ms) (k ∷ insert_key name_cmp ms n))) e (ordered-fold (n ∷ []) (k ∷ ms) h)).0
 
 one_after : (n : Name) (ns : List Name) (m : Name) → list_any (not_before n) ns ≡ false → has_name ns m ≡ true → name_cmp n m ≡ Less
 one_after n [] m a h = absurd (true≢false (sym h))
@@ -82,9 +81,6 @@ same_list (x ∷ xs) (y ∷ ys) h k e = by (name_cmp x y) refl (same_list xs ys 
         let before = all_after y x xs (reversed x y Greater q) h in
         absurd (true≢false (sym (has_own y ys) ∙ sym (e y) ∙ ordered_apart y (x ∷ xs) before))
     by Equal q ih = let s = same_name x y q in λ i. s i ∷ ih (λ m. rest s m (bytes_eq x m) refl) i
-
-ordered_of : (ns : List Name) → InOrder ns → Ordered ns
-ordered_of ns e = subst Ordered e (ordered-fold ns [] tt)
 
 in_order : (ns : List Name) → Ordered ns → InOrder ns
 in_order ns h = same_list (fold (insert_key name_cmp) [] ns) ns (ordered-fold ns [] tt) h (λ m. has_name-fold ns [] m)
@@ -154,14 +150,22 @@ no_first : (ns : List Name) → first_of ns ≡ None → ns ≡ []
 no_first [] e = refl
 no_first (n ∷ ns) e = absurd (true≢false (ap is_some e))
 
+pub nothing_left : {V : Type 0} (es : List (Name × V)) → first_key es ≡ None → es ≡ []
+nothing_left {V} [] e = refl
+nothing_left {V} (x ∷ es) e = absurd (true≢false (ap is_some e))
+
 pub none_left : (l : NamesLeft) → first_name l ≡ None → names_left l ≡ []
 none_left l e =
-    let all = neither (earlier (first_key l.source) (first_key l.target)) (first_of l.reported) e in
+    let all = neither (earlier (first_key l.source) (first_key l.target)) (first_key l.reported) e in
     let entries = neither (first_key l.source) (first_key l.target) all.0 in
     λ i. fold (insert_key name_cmp) []
-    (no_first (keys_of l.source) entries.0 i ++ no_first (keys_of l.target) entries.1 i ++ no_first l.reported all.1 i)
+    (no_first (keys_of l.source) entries.0 i ++ no_first (keys_of l.target) entries.1 i ++ no_first (keys_of l.reported) all.1 i)
 
 -- ---- one list, of which the name is taken where it is the first
+
+abbrev TakesName : Name → List Name → Bool → List Name → Type 0
+TakesName name ns true rest = ns ≡ name ∷ rest
+TakesName name ns false rest = (rest ≡ ns) × (first_of ns ≢ Some name)
 
 record Taken (n : Name) (ns : List Name) (b : Bool) (rest : List Name) : Type 0 where
   pub after : list_any (not_before n) rest ≡ false
@@ -192,52 +196,48 @@ is_taken : (n : Name) (ns : List Name) (b : Bool) (rest : List Name) → TakesNa
 is_taken n ns true rest t e = refl
 is_taken n ns false rest t e = absurd (t.1 e)
 
-name_taken : (n : Name) (ns : List Name) (b : Bool) (rest : List Name) → Taken n ns b rest → has_name ns n ≡ b
-name_taken n ns b rest t = t.has n ∙ (λ i. b && bytes_eq-same n i || ordered_apart n rest t.after i) ∙ by b
-  where
-    by : (x : Bool) → (x && true || false) ≡ x
-    by true = refl
-    by false = refl
+-- ---- the same of what stands under names
 
-name_kept : (n m : Name) (ns : List Name) (b : Bool) (rest : List Name) → Taken n ns b rest → bytes_eq n m ≡ false
-    → has_name ns m ≡ has_name rest m
-name_kept n m ns b rest t e = t.has m ∙ ap (λ x. b && x || has_name rest m) e ∙ by b
-  where
-    by : (x : Bool) → (x && false || has_name rest m) ≡ has_name rest m
-    by true = refl
-    by false = refl
-
--- ---- the same of entries
-
-as_names : (n : Name) (es : List (Name × ℕ)) (o : Option ℕ) (rest : List (Name × ℕ)) → TakesValue n es o rest
+as_names : {V : Type 0} (n : Name) (es : List (Name × V)) (o : Option V) (rest : List (Name × V)) → TakesValue n es o rest
     → TakesName n (keys_of es) (is_some o) (keys_of rest)
-as_names n es (Some v) rest t = ap keys_of t
-as_names n es None rest t = (ap keys_of t.0, t.1)
+as_names {V} n es (Some v) rest t = ap keys_of t
+as_names {V} n es None rest t = (ap keys_of t.0, t.1)
 
-value_taken : (n : Name) (es : List (Name × ℕ)) (o : Option ℕ) (rest : List (Name × ℕ)) → TakesValue n es o rest
+value_taken : {V : Type 0} (n : Name) (es : List (Name × V)) (o : Option V) (rest : List (Name × V)) → TakesValue n es o rest
     → list_any (not_before n) (keys_of rest) ≡ false → value_of es n ≡ o
-value_taken n es (Some v) rest t after =
-    ap (λ (l : List (Name × ℕ)). value_of l n) t ∙ value_of-first (n, v) rest n
+value_taken {V} n es (Some v) rest t after =
+    ap (λ (l : List (Name × V)). value_of l n) t ∙ value_of-first (n, v) rest n
     ∙ ap (λ b. cond b (Some v) (value_of rest n)) (bytes_eq-same n)
-value_taken n es None rest t after =
+value_taken {V} n es None rest t after =
     no_name_no_value es n
-    (ordered_apart n (keys_of es) (ap (λ (l : List (Name × ℕ)). list_any (not_before n) (keys_of l)) (sym t.0) ∙ after))
+    (ordered_apart n (keys_of es) (ap (λ (l : List (Name × V)). list_any (not_before n) (keys_of l)) (sym t.0) ∙ after))
 
-value_kept : (n m : Name) (es : List (Name × ℕ)) (o : Option ℕ) (rest : List (Name × ℕ)) → TakesValue n es o rest → bytes_eq n m ≡ false
+value_kept : {V : Type 0} (n m : Name) (es : List (Name × V)) (o : Option V) (rest : List (Name × V)) → TakesValue n es o rest → bytes_eq n m ≡ false
     → value_of es m ≡ value_of rest m
-value_kept n m es (Some v) rest t e =
-    ap (λ (l : List (Name × ℕ)). value_of l m) t ∙ value_of-first (n, v) rest m ∙ ap (λ b. cond b (Some v) (value_of rest m)) e
-value_kept n m es None rest t e = ap (λ (l : List (Name × ℕ)). value_of l m) (sym t.0)
+value_kept {V} n m es (Some v) rest t e =
+    ap (λ (l : List (Name × V)). value_of l m) t ∙ value_of-first (n, v) rest m ∙ ap (λ b. cond b (Some v) (value_of rest m)) e
+value_kept {V} n m es None rest t e = ap (λ (l : List (Name × V)). value_of l m) (sym t.0)
+
+or_none : (part : Entries) → unwrap_or (none_or part) [] ≡ part
+or_none [] = refl
+or_none (e ∷ part) = refl
+
+-- where no name is left none is taken
+pub none_taken : (n : Name) (gs : Named) (part : Entries) → gs ≡ [] → part ≡ [] → TakesValue n gs (none_or part) gs
+none_taken n gs part e p = subst (λ (q : Entries). TakesValue n gs (none_or q) gs) (sym p) (refl, λ k. none (sym (ap first_key e) ∙ k))
+  where
+    none : None ≡ Some n → ⊥
+    none z = cc
 
 -- ---- three lists
 
 has_left : (l : NamesLeft) (m : Name)
     → has_name (names_left l) m
-    ≡ ((has_name (keys_of l.source) m || has_name (keys_of l.target) m) || has_name l.reported m)
+    ≡ ((has_name (keys_of l.source) m || has_name (keys_of l.target) m) || has_name (keys_of l.reported) m)
 has_left l m =
-    has_name-fold (keys_of l.source ++ keys_of l.target ++ l.reported) [] m
-    ∙ list_any-append (λ n. bytes_eq n m) (keys_of l.source ++ keys_of l.target) l.reported
-    ∙ ap (λ b. b || has_name l.reported m) (list_any-append (λ n. bytes_eq n m) (keys_of l.source) (keys_of l.target))
+    has_name-fold (keys_of l.source ++ keys_of l.target ++ keys_of l.reported) [] m
+    ∙ list_any-append (λ n. bytes_eq n m) (keys_of l.source ++ keys_of l.target) (keys_of l.reported)
+    ∙ ap (λ b. b || has_name (keys_of l.reported) m) (list_any-append (λ n. bytes_eq n m) (keys_of l.source) (keys_of l.target))
 
 join : (a b c e x y z : Bool) → ((a || b) || c) ≡ true → (((a && e || x) || (b && e || y)) || (c && e || z)) ≡ (e || ((x || y) || z))
 join true b c true x y z h = refl
@@ -263,17 +263,20 @@ module _ (d : Request) (place : Place) (l : NamesLeft) (n : Name) (below : Below
   abbrev in_target : Option ℕ
   in_target = target_of below
 
+  abbrev in_reported : Option Entries
+  in_reported = none_or (reported_of below)
+
   abbrev from_source : Option Name
   from_source = first_key l.source
 
   abbrev from_target : Option Name
   from_target = first_key l.target
 
-  early : NotBefore (earlier (earlier from_source from_target) (first_of l.reported)) n
+  early : NotBefore (earlier (earlier from_source from_target) (first_key l.reported)) n
   early = subst (λ o. NotBefore o n) (sym t.first) (not_self n)
 
-  both_early : NotBefore (earlier from_source from_target) n × NotBefore (first_of l.reported) n
-  both_early = neither_before (earlier from_source from_target) (first_of l.reported) n early
+  both_early : NotBefore (earlier from_source from_target) n × NotBefore (first_key l.reported) n
+  both_early = neither_before (earlier from_source from_target) (first_key l.reported) n early
 
   all_early : NotBefore from_source n × NotBefore from_target n
   all_early = neither_before from_source from_target n both_early.0
@@ -288,13 +291,14 @@ module _ (d : Request) (place : Place) (l : NamesLeft) (n : Name) (below : Below
       taken n (keys_of l.target) (is_some in_target) (keys_of l'.target) (ordered_of (keys_of l.target) left.target) all_early.1
       (as_names n l.target in_target l'.target t.target)
 
-  of_reported : Taken n l.reported below.is_reported l'.reported
+  of_reported : Taken n (keys_of l.reported) (is_some in_reported) (keys_of l'.reported)
   of_reported =
-      taken n l.reported below.is_reported l'.reported
-      (ordered_of l.reported left.reported) both_early.1 t.reported
+      taken n (keys_of l.reported) (is_some in_reported) (keys_of l'.reported)
+      (ordered_of (keys_of l.reported) left.reported) both_early.1
+      (as_names n l.reported in_reported l'.reported t.reported)
 
-  somewhere : ((is_some in_source || is_some in_target) || below.is_reported) ≡ true
-  somewhere = by (one_of (earlier from_source from_target) (first_of l.reported) n t.first)
+  somewhere : ((is_some in_source || is_some in_target) || is_some in_reported) ≡ true
+  somewhere = by (one_of (earlier from_source from_target) (first_key l.reported) n t.first)
     where
       entries : (from_source ≡ Some n) ⊎ (from_target ≡ Some n) → (is_some in_source || is_some in_target) ≡ true
       entries (inl q) =
@@ -304,37 +308,38 @@ module _ (d : Request) (place : Place) (l : NamesLeft) (n : Name) (below : Below
           or_right (is_some in_source) (is_some in_target)
           (is_taken n (keys_of l.target) (is_some in_target) (keys_of l'.target) (as_names n l.target in_target l'.target t.target) q)
 
-      by : (earlier from_source from_target ≡ Some n) ⊎ (first_of l.reported ≡ Some n)
-          → ((is_some in_source || is_some in_target) || below.is_reported) ≡ true
-      by (inl q) = or_left (is_some in_source || is_some in_target) below.is_reported (entries (one_of from_source from_target n q))
+      by : (earlier from_source from_target ≡ Some n) ⊎ (first_key l.reported ≡ Some n)
+          → ((is_some in_source || is_some in_target) || is_some in_reported) ≡ true
+      by (inl q) = or_left (is_some in_source || is_some in_target) (is_some in_reported) (entries (one_of from_source from_target n q))
       by (inr q) =
-          or_right (is_some in_source || is_some in_target) below.is_reported
-          (is_taken n l.reported below.is_reported l'.reported t.reported q)
+          or_right (is_some in_source || is_some in_target) (is_some in_reported)
+          (is_taken n (keys_of l.reported) (is_some in_reported) (keys_of l'.reported)
+          (as_names n l.reported in_reported l'.reported t.reported) q)
 
   same_names_left : (m : Name) → has_name (names_left l) m ≡ has_name (n ∷ names_left l') m
   same_names_left m =
       has_left l m ∙ (λ i. (of_source.has m i || of_target.has m i) || of_reported.has m i)
-      ∙ join (is_some in_source) (is_some in_target) below.is_reported (bytes_eq n m) (has_name (keys_of l'.source) m)
-      (has_name (keys_of l'.target) m) (has_name l'.reported m) somewhere
+      ∙ join (is_some in_source) (is_some in_target) (is_some in_reported) (bytes_eq n m) (has_name (keys_of l'.source) m)
+      (has_name (keys_of l'.target) m) (has_name (keys_of l'.reported) m) somewhere
       ∙ ap (λ b. bytes_eq n m || b) (sym (has_left l' m))
 
   after_all : list_any (not_before n) (names_left l') ≡ false
   after_all =
-      after_each n (names_left l') (ordered-fold (keys_of l'.source ++ keys_of l'.target ++ l'.reported) [] tt)
+      after_each n (names_left l') (ordered-fold (keys_of l'.source ++ keys_of l'.target ++ keys_of l'.reported) [] tt)
       (λ m h. by m (has_name (keys_of l'.source) m) refl (has_name (keys_of l'.target) m) refl (sym (has_left l' m) ∙ h))
     where
       by : (m : Name) (a : Bool) → has_name (keys_of l'.source) m ≡ a → (b : Bool) → has_name (keys_of l'.target) m ≡ b
-          → ((has_name (keys_of l'.source) m || has_name (keys_of l'.target) m) || has_name l'.reported m) ≡ true → name_cmp n m ≡ Less
+          → ((has_name (keys_of l'.source) m || has_name (keys_of l'.target) m) || has_name (keys_of l'.reported) m) ≡ true → name_cmp n m ≡ Less
       by m true q b r h = one_after n (keys_of l'.source) m of_source.after q
       by m false q true r h = one_after n (keys_of l'.target) m of_target.after r
       by m false q false r h =
-          one_after n l'.reported m of_reported.after (sym (λ i. (q i || r i) || has_name l'.reported m) ∙ h)
+          one_after n (keys_of l'.reported) m of_reported.after (sym (λ i. (q i || r i) || has_name (keys_of l'.reported) m) ∙ h)
 
   pub left_step : names_left l ≡ n ∷ names_left l'
   left_step =
       same_list (names_left l) (n ∷ names_left l')
-      (ordered-fold (keys_of l.source ++ keys_of l.target ++ l.reported) [] tt)
-      (after_all, ordered-fold (keys_of l'.source ++ keys_of l'.target ++ l'.reported) [] tt) same_names_left
+      (ordered-fold (keys_of l.source ++ keys_of l.target ++ keys_of l.reported) [] tt)
+      (after_all, ordered-fold (keys_of l'.source ++ keys_of l'.target ++ keys_of l'.reported) [] tt) same_names_left
 
   pub step_under : IsBelow d place below
   step_under =
@@ -347,8 +352,11 @@ module _ (d : Request) (place : Place) (l : NamesLeft) (n : Name) (below : Below
             sym (all.target ∙ value_taken n l.target in_target l'.target t.target of_target.after)
             ∙ ap (entry_of d.history place.target) (sym t.named);
         reported =
-            sym (all.reported ∙ name_taken n l.reported below.is_reported l'.reported of_reported)
-            ∙ ap (λ (m : Name). has_entry_within d.report.entries (child place.here.path m)) (sym t.named);
+            subst (λ (m : Name). IsPart d.report.entries (is_within (child place.here.path m)) (reported_of below)) (sym t.named)
+            (subst (IsPart d.report.entries (is_within (child place.here.path n)))
+            (ap (λ (o : Option Entries). unwrap_or o []) (value_taken n l.reported in_reported l'.reported t.reported of_reported.after)
+            ∙ or_none (reported_of below))
+            all.reported);
       }
 
   others : (m : Name) → has_name (names_left l') m ≡ true → (b : Bool) → bytes_eq n m ≡ b → b ≡ false
@@ -361,7 +369,7 @@ module _ (d : Request) (place : Place) (l : NamesLeft) (n : Name) (below : Below
       record {
         source = in_order (keys_of l'.source) of_source.ordered;
         target = in_order (keys_of l'.target) of_target.ordered;
-        reported = in_order l'.reported of_reported.ordered;
+        reported = in_order (keys_of l'.reported) of_reported.ordered;
         under = under;
       }
     where
@@ -374,7 +382,9 @@ module _ (d : Request) (place : Place) (l : NamesLeft) (n : Name) (below : Below
             source = all.source ∙ value_kept n m l.source in_source l'.source t.source other;
             target = all.target ∙ value_kept n m l.target in_target l'.target t.target other;
             reported =
-                all.reported ∙ name_kept n m l.reported below.is_reported l'.reported of_reported other;
+                subst (IsPart d.report.entries (is_within (child place.here.path m)))
+                (ap (λ (o : Option Entries). unwrap_or o []) (value_kept n m l.reported in_reported l'.reported t.reported other))
+                all.reported;
           }
 
 -- ---- at first
@@ -389,8 +399,9 @@ same_names : (p : Path) (es : Entries) → reported_in p es ≡ names_in p es
 same_names p [] = refl
 same_names p (e ∷ es) = λ i. same_next p e.0 i ++ same_names p es i
 
-has_name-names_in : (p : Path) (es : Entries) (m : Name) → has_name (reported_names p es) m ≡ has_name (names_in p es) m
-has_name-names_in p es m = has_name-fold (reported_in p es) [] m ∙ ap (λ (l : List Name). has_name l m) (same_names p es)
+named_within : (p : Path) (es : Entries) (m : Name) → has_name (names_in p es) m ≡ has_entry_within es (child p m)
+named_within p es m =
+    sym (has_name-fold (reported_in p es) [] m ∙ ap (λ (l : List Name). has_name l m) (same_names p es)) ∙ has_name-reported p es m
 
 keys_at : (h : History) (o : Option ℕ) → keys_of (entries_at h o) ≡ names_at h o
 keys_at h None = refl
@@ -402,21 +413,21 @@ value_at h (Some n) m = refl
 
 module _ (d : Request) (place : Place) (at : IsAt d place) (l : NamesLeft) (src : l.source ≡ entries_at d.history place.source)
     (tgt : l.target ≡ entries_at d.history place.target)
-    (rep : l.reported ≡ reported_names place.here.path d.report.entries) where
+    (rep : l.reported ≡ by_name (length place.here.path) (entries_in place.below)) where
   abbrev p : Path
   p = place.here.path
 
   pub all_left : names_left l ≡ names_below d p
   all_left =
-      same_list (names_left l) (names_below d p) (ordered-fold (keys_of l.source ++ keys_of l.target ++ l.reported) [] tt)
+      same_list (names_left l) (names_below d p) (ordered-fold (keys_of l.source ++ keys_of l.target ++ keys_of l.reported) [] tt)
       (ordered_below d p) same
     where
       same : (m : Name) → has_name (names_left l) m ≡ has_name (names_below d p) m
       same m =
           has_left l m
-          ∙ (λ i. (has_name (keys_of (src i)) m || has_name (keys_of (tgt i)) m) || has_name (rep i) m)
+          ∙ (λ i. (has_name (keys_of (src i)) m || has_name (keys_of (tgt i)) m) || has_name (keys_of (rep i)) m)
           ∙ (λ i. (has_name (keys_at d.history place.source i) m || has_name (keys_at d.history place.target i) m)
-          || has_name-names_in p d.report.entries m i)
+          || (part_named d.report.entries p (entries_in place.below) at.below m ∙ sym (named_within p d.report.entries m)) i)
           ∙ (λ i. (has_name (names_at d.history (at.source i)) m || has_name (names_at d.history (at.target i)) m)
           || has_name (names_in p d.report.entries) m)
           ∙ sym (has_name-fold
@@ -432,7 +443,8 @@ module _ (d : Request) (place : Place) (at : IsAt d place) (l : NamesLeft) (src 
         source = fold_sorted (keys_of l.source) s;
         target = fold_sorted (keys_of l.target) t;
         reported =
-            ap (λ (ns : List Name). fold (insert_key name_cmp) [] ns) rep ∙ put_reported [] p d.report.entries ∙ sym rep;
+            in_order (keys_of l.reported)
+            (subst (λ (gs : Named). Ordered (keys_of gs)) (sym rep) (names_ordered d.report.entries p (entries_in place.below) at.below));
         under = λ m h. record {
           source =
               entry-below d.history place.source m ∙ value_at d.history place.source m
@@ -440,6 +452,8 @@ module _ (d : Request) (place : Place) (at : IsAt d place) (l : NamesLeft) (src 
           target =
               entry-below d.history place.target m ∙ value_at d.history place.target m
               ∙ ap (λ (es : List (Name × ℕ)). value_of es m) (sym tgt);
-          reported = sym (has_name-reported p d.report.entries m) ∙ ap (λ (ns : List Name). has_name ns m) (sym rep);
+          reported =
+              subst (λ (gs : Named). IsPart d.report.entries (is_within (child p m)) (entries_under gs m)) (sym rep)
+              (part_under d.report.entries p (entries_in place.below) at.below m);
         };
       }

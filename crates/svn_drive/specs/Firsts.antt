@@ -1,10 +1,12 @@
 -- Names in order, and how the first is taken.
 --     entries_at h node      the entries of a node
+--     InOrder ns      names that stand in order, each once
 --     earlier a b      the earlier of two names
---     TakesName name ns taken rest      the name is taken where it is the first; TakesValue: the same of entries
-use Rattle.std.specs.Prelude.{◌≡◌, ◌≢◌, ℕ, Bool, true, false, List, [], ◌∷◌, Option, Some, None, if◌then◌else◌}
+--     TakesValue name es taken rest      the value under the name is taken where that is the first
+use Rattle.std.specs.Prelude.{◌≡◌, ◌≢◌, ℕ, List, [], ◌∷◌, fold, Option, Some, None, if◌then◌else◌}
 use denote.Ref.{Bor}
 use Rattle.std.specs.Map.{keys_of}
+use Rattle.std.specs.BTreeSet.{insert_key}
 use Rattle.std.specs.Ordering.{is_lt}
 use Rattle.svn_types.specs.Names.{name_cmp}
 use Rattle.svn_repo.specs.History.{History}
@@ -18,13 +20,17 @@ entries_at h (Some n) = entries_of h n
 abbrev pub shown_entry : Bor (List ℕ) × Bor ℕ → List ℕ × ℕ
 shown_entry e = (e.0.now, e.1.now)
 
+-- the names stand in order, each once
+abbrev pub InOrder : List (List ℕ) → Type 0
+InOrder ns = fold (insert_key name_cmp) [] ns ≡ ns
+
 -- ---- the first name of several lists
 
 abbrev pub first_of : List (List ℕ) → Option (List ℕ)
 first_of [] = None
 first_of (n ∷ ns) = Some n
 
-abbrev pub first_key : List (List ℕ × ℕ) → Option (List ℕ)
+abbrev pub first_key : {V : Type 0} → List (List ℕ × V) → Option (List ℕ)
 first_key es = first_of (keys_of es)
 
 abbrev pub earlier : Option (List ℕ) → Option (List ℕ) → Option (List ℕ)
@@ -35,10 +41,6 @@ earlier (Some m) (Some n) = if is_lt (name_cmp n m) then Some n else Some m
 -- ---- one name is taken
 
 -- the name was the first and is taken, or it isn't the first
-abbrev pub TakesName : List ℕ → List (List ℕ) → Bool → List (List ℕ) → Type 0
-TakesName name ns true rest = ns ≡ name ∷ rest
-TakesName name ns false rest = (rest ≡ ns) × (first_of ns ≢ Some name)
-
-abbrev pub TakesValue : List ℕ → List (List ℕ × ℕ) → Option ℕ → List (List ℕ × ℕ) → Type 0
+abbrev pub TakesValue : {V : Type 0} → List ℕ → List (List ℕ × V) → Option V → List (List ℕ × V) → Type 0
 TakesValue name es (Some v) rest = es ≡ (name, v) ∷ rest
 TakesValue name es None rest = (rest ≡ es) × (first_key es ≢ Some name)

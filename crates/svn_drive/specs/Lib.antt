@@ -4,5 +4,6 @@ pub mod Targets
 pub mod Waiting
 pub mod Checking
 pub mod Firsts
+pub mod Parts
 pub mod NamesLeft
 pub mod Children

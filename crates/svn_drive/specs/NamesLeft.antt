@@ -1,6 +1,6 @@
 -- The names that are left below a path, of two directories and a report, and how the first of them is taken.
 --     names_left l      the names, in order and each once
---     source_of below, target_of below      the nodes under a name, as numbers
+--     source_of below, target_of below, reported_of below      the nodes under a name, as numbers, and the entries
 --     TakesChild l name below l'      the first name was taken, with what stands under it
 --     IsBelow d place below      what stands under a name below a place
 --     AreLeft d place l      the lists are in order, and have what stands under each name that is left
@@ -10,14 +10,15 @@ use Rattle.std.specs.List.{list_any}
 use Rattle.std.specs.Map.{keys_of}
 use Rattle.std.specs.BTreeSet.{insert_key}
 use Rattle.svn_types.specs.Names.{name_cmp}
-use Rattle.svn_types.specs.Paths.{child}
+use Rattle.svn_types.specs.Paths.{child, is_within}
 use Rattle.svn_types.specs.Pairs.{value_of}
-use Rattle.svn_report.specs.ReportNames.{has_entry_within}
+use Rattle.svn_report.specs.Reports.{Entries}
 use Rattle.svn_model.specs.Follow.{Request}
 use Rattle.svn_drive.specs.declared.child_names.Below.{Below}
 use Rattle.svn_drive.specs.declared.child_names.NamesLeft.{NamesLeft}
 use Rattle.svn_drive.specs.declared.place.Place.{Place}
-use Rattle.svn_drive.specs.Firsts.{first_of, first_key, earlier, TakesName, TakesValue}
+use Rattle.svn_drive.specs.Firsts.{first_key, earlier, InOrder, TakesValue}
+use Rattle.svn_drive.specs.Parts.{IsPart, entries_in, entries_under, none_or}
 use Rattle.svn_drive.specs.Walking.{entry_of}
 
 -- ---- one name is taken
@@ -28,31 +29,30 @@ source_of below = option_copied below.source
 abbrev pub target_of : Below → Option ℕ
 target_of below = option_copied below.target
 
+abbrev pub reported_of : Below → Entries
+reported_of below = entries_in below.reported
+
 abbrev pub first_name : NamesLeft → Option (List ℕ)
-first_name l = earlier (earlier (first_key l.source) (first_key l.target)) (first_of l.reported)
+first_name l = earlier (earlier (first_key l.source) (first_key l.target)) (first_key l.reported)
 
 pub record TakesChild (l : NamesLeft) (name : List ℕ) (below : Below) (l' : NamesLeft) : Type 0 where
   pub first : first_name l ≡ Some name
   pub named : below.name.now ≡ name
   pub source : TakesValue name l.source (source_of below) l'.source
   pub target : TakesValue name l.target (target_of below) l'.target
-  pub reported : TakesName name l.reported below.is_reported l'.reported
+  pub reported : TakesValue name l.reported (none_or (reported_of below)) l'.reported
 
 abbrev pub names_left : NamesLeft → List (List ℕ)
-names_left l = fold (insert_key name_cmp) [] (keys_of l.source ++ keys_of l.target ++ l.reported)
+names_left l = fold (insert_key name_cmp) [] (keys_of l.source ++ keys_of l.target ++ keys_of l.reported)
 
 -- ---- what stands under a name
 
 pub record IsBelow (d : Request) (place : Place) (below : Below) : Type 0 where
   pub source : source_of below ≡ entry_of d.history place.source below.name.now
   pub target : target_of below ≡ entry_of d.history place.target below.name.now
-  pub reported : below.is_reported ≡ has_entry_within d.report.entries (child place.here.path below.name.now)
+  pub reported : IsPart d.report.entries (is_within (child place.here.path below.name.now)) (reported_of below)
 
 -- ---- what is left
-
--- the names stand in order, each once
-abbrev pub InOrder : List (List ℕ) → Type 0
-InOrder ns = fold (insert_key name_cmp) [] ns ≡ ns
 
 abbrev pub has_name : List (List ℕ) → List ℕ → Bool
 has_name ns name = list_any (λ n. bytes_eq n name) ns
@@ -61,10 +61,10 @@ has_name ns name = list_any (λ n. bytes_eq n name) ns
 pub record HasAll (d : Request) (place : Place) (l : NamesLeft) (name : List ℕ) : Type 0 where
   pub source : entry_of d.history place.source name ≡ value_of l.source name
   pub target : entry_of d.history place.target name ≡ value_of l.target name
-  pub reported : has_entry_within d.report.entries (child place.here.path name) ≡ has_name l.reported name
+  pub reported : IsPart d.report.entries (is_within (child place.here.path name)) (entries_under l.reported name)
 
 pub record AreLeft (d : Request) (place : Place) (l : NamesLeft) : Type 0 where
   pub source : InOrder (keys_of l.source)
   pub target : InOrder (keys_of l.target)
-  pub reported : InOrder l.reported
+  pub reported : InOrder (keys_of l.reported)
   pub under : (name : List ℕ) → has_name (names_left l) name ≡ true → HasAll d place l name

@@ -13,13 +13,14 @@ use Rattle.svn_editor.specs.declared.mode.Mode.TheVariants.{Update, SwitchTo}
 use Rattle.svn_editor.specs.Steps.{mode_at}
 use Rattle.svn_repo.specs.History.{History, node_at, child_in, look}
 use Rattle.svn_repo.specs.Readings.{is_directory_at}
-use Rattle.svn_types.specs.Paths.{child, is_root}
+use Rattle.svn_types.specs.Paths.{child, is_below, is_root}
 use Rattle.svn_report.specs.declared.entry.ReportEntry.{ReportEntry}
 use Rattle.svn_report.specs.declared.entry.ReportEntry.TheVariants.{LinkPath}
 use Rattle.svn_editor.specs.Calls.{number_eq}
 use Rattle.svn_report.specs.ReportNames.{has_entry_within}
 use Rattle.svn_report.specs.Reports.{ReportView, has_entry_below}
 use Rattle.svn_drive.specs.Checking.{seen_as}
+use Rattle.svn_drive.specs.Parts.{IsPart, entries_in}
 use Rattle.svn_drive.specs.declared.place.Place.{Place}
 use Rattle.svn_drive.specs.declared.walk.Walk.{Walk}
 use Rattle.svn_drive.specs.declared.visit.Texted.{Texted}
@@ -64,6 +65,7 @@ pub record IsNearlyAt (d : Request) (place : Place) : Type 0 where
   pub start : place.here.start ≤ length place.here.path
   pub source : place.source ≡ source_node d place.here.path
   pub target : place.target ≡ target_node d place.here.path
+  pub below : IsPart d.report.entries (is_below place.here.path) (entries_in place.below)
 
 abbrev pub is_changed_at : Request → Place → Bool
 is_changed_at d place =
@@ -76,6 +78,7 @@ pub record IsAt (d : Request) (place : Place) : Type 0 where
   pub start : place.here.start ≤ length place.here.path
   pub source : place.source ≡ source_node d place.here.path
   pub target : place.target ≡ target_node d place.here.path
+  pub below : IsPart d.report.entries (is_below place.here.path) (entries_in place.below)
   pub touched : place.is_touched ≡ is_touched d place.here.path
 
 -- ---- what is passed over

@@ -1,11 +1,10 @@
 //! Whether a repository can serve a report.
-ghost use Rattle.std.specs.Prelude.{◌≡◌, ◌≤◌, ◌<◌, ◌++◌, ◌∷◌, [], ◌&&◌, length, IfOk, IsFalse, Some, None, Err, not, false};
+ghost use Rattle.std.specs.Prelude.{◌≡◌, ◌≤◌, ◌<◌, ◌++◌, ◌∷◌, [], ◌&&◌, ℕ, List, length, IfOk, Some, None, Err, not};
 ghost use Rattle.std.specs.Option.{option_copied};
 ghost use Rattle.svn_types.specs.Names.{depth_limit};
 ghost use Rattle.svn_types.specs.Paths.{parent};
 ghost use Rattle.svn_repo.specs.History.{look, walk, node_at};
-ghost use Rattle.svn_report.specs.Reports.{entry_at};
-ghost use Rattle.svn_report.specs.ReportNames.{has_entry_within};
+ghost use Rattle.svn_report.specs.Reports.{ReportView, entry_at};
 ghost use Rattle.svn_model.specs.Checks.{fault_of, first_fault};
 ghost use Rattle.svn_model.specs.Sources.{source, source_at, reported, reported_root, reported_child};
 ghost use Rattle.svn_drive.specs.Checking.{AnswersCheck, seen_as, fault_by, fault_at};
@@ -19,8 +18,7 @@ use svn_report::{Report, ReportEntry};
 use svn_types::{Name, PathFault, RelPath, Rev};
 
 /// What a report says of a path: its own entry, the nearest at or above it, and its repository path, which is `base` with the path's names from
-/// the `start`-th on. That may be more names than a path has, so it isn't built. Near the position `near` the report is to look for what it has
-/// there or below.
+/// the `start`-th on. That may be more names than a path has, so it isn't built.
 #[derive(Drop)]
 pub(crate) struct Seen<'a> {
     pub(crate) path: RelPath,
@@ -28,11 +26,7 @@ pub(crate) struct Seen<'a> {
     pub(crate) governing: Option<&'a ReportEntry>,
     pub(crate) base: &'a RelPath,
     pub(crate) start: usize,
-    pub(crate) near: usize,
 }
-
-// A position at which no report has an entry: nothing is looked at there.
-const NOWHERE: usize = usize::MAX;
 
 /// What a check reads.
 #[derive(Clone, Copy)]
@@ -69,8 +63,8 @@ pub(crate) fn all_hold(first: bool, second: bool) -> bool
     first && second
 }
 
-// A path one name longer.
-fn child_path(alloc: Global, path: &RelPath, name: &Name) -> Result<RelPath, AllocError>
+/// A path one name longer.
+pub(crate) fn child_path(alloc: Global, path: &RelPath, name: &Name) -> Result<RelPath, AllocError>
     requires short { length path.now < depth_limit }
     ensures { IfOk result (λ p. p ≡ path.now ++ name.now ∷ []) }
 {
@@ -82,6 +76,39 @@ fn child_path(alloc: Global, path: &RelPath, name: &Name) -> Result<RelPath, All
     }
 }
 
+impl<'a> Seen<'a> {
+    /// What is said of the path of a child, by its own entry.
+    #[inline(always)]
+    pub(crate) fn child(&self, path: RelPath, own: Option<&'a ReportEntry>) -> Seen<'a>
+        requires start { self.now.start ≤ length self.now.path }
+        requires longer { length self.now.path ≤ length path }
+        ensures path { result.path ≡ path }
+        ensures seen { (r : ReportView) (name : List ℕ) → path ≡ self.now.path ++ name ∷ [] → option_copied own.entry ≡ entry_at r.entries path → seen_as result ≡ reported_child r (seen_as self.now) name }
+        ensures start { result.start ≤ length result.path }
+    {
+        let governing = own_or(own, self.governing);
+        match own {
+            Some(ReportEntry::LinkPath { repos_path, .. }) => {
+                let start = path.components().len();
+                Seen {
+                    path,
+                    own,
+                    governing,
+                    base: repos_path,
+                    start,
+                }
+            }
+            _ => Seen {
+                path,
+                own,
+                governing,
+                base: self.base,
+                start: self.start,
+            },
+        }
+    }
+}
+
 impl<'a> Check<'a> {
     /// What the report says of the root. Takes no memory.
     pub(crate) fn seen_root(&self) -> Seen<'a>
@@ -89,70 +116,26 @@ impl<'a> Check<'a> {
         ensures start { result.start ≤ length result.path }
     {
         let path = RelPath::root(self.alloc);
-        // the root is reported first
-        let own = self.report.entry_near(&path, 0);
+        let own = self.report.entry_at(&path);
         Seen {
             path,
             own,
             governing: own,
             base: self.report.root(),
             start: 0,
-            near: 0,
         }
     }
 
-    // The entry at a path, looked for near a position first; where nothing is reported at it or below it, it isn't looked for.
-    #[tactic(auto, using(crate::proofs::Idle::none_at))]
-    fn own_entry(&self, path: &RelPath, is_reported: bool, near: usize) -> Option<&'a ReportEntry>
-        requires { IsFalse is_reported → has_entry_within self.now.report.now.entries path.now ≡ false }
-        ensures { option_copied result ≡ entry_at self.now.report.now.entries path.now }
-    {
-        if is_reported {
-            self.report.entry_near(path, near)
-        } else {
-            None
-        }
-    }
-
-    /// What it says of a child, and whether anything is reported there or below may be known. It is looked for near a position first.
-    #[inline(always)]
-    pub(crate) fn seen_child(
-        &self,
-        above: &Seen<'a>,
-        name: &Name,
-        is_reported: bool,
-        near: usize,
-    ) -> Result<Seen<'a>, AllocError>
+    // What it says of a child.
+    fn seen_child(&self, above: &Seen<'a>, name: &Name) -> Result<Seen<'a>, AllocError>
         requires start { above.now.start ≤ length above.now.path }
         requires short { length above.now.path < depth_limit }
-        requires reported { IsFalse is_reported → has_entry_within self.now.report.now.entries (above.now.path ++ name.now ∷ []) ≡ false }
         ensures seen { IfOk result (λ s. seen_as s ≡ reported_child self.now.report.now (seen_as above.now) name.now) }
         ensures start { IfOk result (λ s. s.start ≤ length s.path) }
     {
         let path = child_path(self.alloc, &above.path, name)?;
-        let own = self.own_entry(&path, is_reported, near);
-        let governing = own_or(own, above.governing);
-        match own {
-            Some(ReportEntry::LinkPath { repos_path, .. }) => {
-                let start = path.components().len();
-                Ok(Seen {
-                    path,
-                    own,
-                    governing,
-                    base: repos_path,
-                    start,
-                    near,
-                })
-            }
-            _ => Ok(Seen {
-                path,
-                own,
-                governing,
-                base: above.base,
-                start: above.start,
-                near,
-            }),
-        }
+        let own = self.report.entry_at(&path);
+        Ok(above.child(path, own))
     }
 
     // What it says of the path of these names.
@@ -163,7 +146,7 @@ impl<'a> Check<'a> {
     {
         let mut seen = self.seen_root();
         for name in names {
-            seen = self.seen_child(&seen, name, true, NOWHERE)?;
+            seen = self.seen_child(&seen, name)?;
         }
         Ok(seen)
     }
@@ -181,13 +164,13 @@ impl<'a> Check<'a> {
         }
     }
 
-    // The nodes that the client has at a path and at its parent; at the root both are the root's. What is reported is looked for at a position
-    // first.
+    // The nodes that the client has at the path of an entry and at its parent; at the root both are the root's.
     fn sources(
         &self,
-        i: usize,
         path: &RelPath,
+        entry: &'a ReportEntry,
     ) -> Result<(Option<NodeId>, Option<NodeId>), AllocError>
+        requires { entry_at self.now.report.now.entries path.now ≡ Some entry.now }
         ensures here { IfOk result (λ n. n.0 ≡ source_at self.now.repo.now self.now.report.now path.now) }
         ensures above { IfOk result (λ n. n.1 ≡ source_at self.now.repo.now self.now.report.now (parent path.now)) }
     {
@@ -196,9 +179,9 @@ impl<'a> Check<'a> {
                 let root = self.seen_root();
                 Ok((self.source(&root), self.source(&root)))
             }
-            Some((last, names)) => {
+            Some((_, names)) => {
                 let above = self.seen_at(names)?;
-                let here = self.seen_child(&above, last, true, i)?;
+                let here = above.child(path.clone()?, Some(entry));
                 Ok((self.source(&here), self.source(&above)))
             }
         }
@@ -235,11 +218,12 @@ impl<'a> Check<'a> {
         &self,
         i: usize,
         path: &RelPath,
-        entry: &ReportEntry,
+        entry: &'a ReportEntry,
     ) -> Result<Option<ReportFault>, AllocError>
+        requires { entry_at self.now.report.now.entries path.now ≡ Some entry.now }
         ensures { IfOk result (λ f. f ≡ fault_of self.now.repo.now self.now.report.now i path.now entry.now) }
     {
-        let (here, above) = self.sources(i, path)?;
+        let (here, above) = self.sources(path, entry)?;
         Ok(self.fault_by(i, entry, path.is_root(), here, above))
     }
 
@@ -250,6 +234,7 @@ impl<'a> Check<'a> {
         let Some((path, entry)) = self.report.entry(i) else {
             return Ok(());
         };
+        self.report.law();
         match self.fault_of(i, path, entry) {
             Ok(None) => Ok(()),
             Ok(Some(fault)) => Err(fault),

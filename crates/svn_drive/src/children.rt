@@ -25,7 +25,7 @@ impl<'a> Walk<'a> {
         requires below { IsBelow (request_of self.now) place.now below.now }
         ensures { IsTrue result → IsIdle (request_of self.now) (place.now.here.path ++ below.now.name.now ∷ []) }
     {
-        if below.is_reported.get() {
+        if !below.reported.is_empty() {
             false
         } else if starts_empty(place.here.governing) {
             false
@@ -55,21 +55,21 @@ impl<'a> Walk<'a> {
     }
 
     // The names below a place, of its entries on both sides and of those that are reported.
-    fn names_left(&self, place: &Place<'a>) -> Result<NamesLeft<'a>, AllocError>
+    fn names_left(&self, place: &Place<'a>) -> NamesLeft<'a>
         requires { IsAt (request_of self.now) place.now }
-        ensures all { IfOk result (λ l. names_left l ≡ names_below (request_of self.now) place.now.here.path) }
-        ensures under { IfOk result (λ l. AreLeft (request_of self.now) place.now l) }
+        ensures all { names_left result ≡ names_below (request_of self.now) place.now.here.path }
+        ensures under { AreLeft (request_of self.now) place.now result }
     {
         let old = entries_at(self.repo, place.source);
         let source = EntriesLeft::of(old);
         let new = entries_at(self.repo, place.target);
         let target = EntriesLeft::of(new);
-        let reported = ReportedLeft::of(self.report, &place.here.path, place.here.near)?;
-        Ok(NamesLeft {
+        let reported = ReportedLeft::of(place.below, place.here.path.components().len());
+        NamesLeft {
             source,
             target,
             reported,
-        })
+        }
     }
 
     /// The children of a place at which something is done, in order.
@@ -79,8 +79,8 @@ impl<'a> Walk<'a> {
         ensures under { IfOk result (λ v. AllByRecursion (IsChild (request_of self.now) place.now) v.items) }
     {
         let mut children = Vec::new(self.alloc);
-        let mut left = self.names_left(place)?;
-        'names: while let Some(below) = left.take_first()? {
+        let mut left = self.names_left(place);
+        'names: while let Some(below) = left.take_first() {
             if self.is_idle_child(place, &below) {
                 continue;
             }

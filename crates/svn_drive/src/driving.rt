@@ -1,13 +1,14 @@
 //! Drives: the calls that bring a client from what it reports to a revision.
-ghost use Rattle.std.specs.Prelude.{◌≡◌, ◌+◌, [], length, Result, Err, None, IfSome, IfErr};
+ghost use Rattle.std.specs.Prelude.{◌≡◌, ◌+◌, ◌++◌, [], length, Result, Err, None, IfSome, IfErr, OnOk};
 ghost use Rattle.svn_editor.specs.declared.call.Call.TheVariants.{AbortEdit};
 ghost use Rattle.svn_editor.specs.declared.fault.EditFault.{EditFault};
 ghost use Rattle.svn_model.specs.Checks.{target_fault};
 ghost use Rattle.svn_model.specs.Ends.{Runs, LeavesSome, Drives, end_of};
-ghost use Rattle.svn_model.specs.TreeCalls.{drive_calls};
+ghost use Rattle.svn_model.specs.TreeCalls.{drive_calls, visit_calls, visit_size};
 ghost use Rattle.svn_drive.specs.Checking.{AreOfDrive};
 ghost use Rattle.svn_drive.specs.Counts.{with_last};
-ghost use Rattle.svn_drive.specs.Walking.{IsAt, request_of, asked};
+ghost use Rattle.svn_drive.specs.Waiting.{waiting, visit_late};
+ghost use Rattle.svn_drive.specs.Walking.{request_of, asked};
 ghost use Rattle.svn_drive.specs.Targets.{fault_between};
 ghost use Rattle.std.specs.Option.{option_copied};
 ghost use Rattle.svn_editor.specs.declared.mode.Mode.TheVariants.{Update, SwitchTo};
@@ -15,8 +16,9 @@ ghost use Rattle.svn_editor.specs.Steps.{mode_at};
 
 use crate::making::{Progress, make, make_last};
 use crate::nodes::are_related;
-use crate::place::Place;
+use crate::report_part::ReportPart;
 use crate::request::{DriveOptions, Request};
+use crate::visit::Texted;
 use crate::walk::Walk;
 use std::alloc::Global;
 use svn_drive_law::the_calls_are_a_drive;
@@ -48,33 +50,44 @@ pub fn fault_between(
 }
 
 impl<'a> Walk<'a> {
-    // Why no drive leads to the target.
-    fn target_fault(&self, root: &Place<'a>) -> Option<DriveFault>
-        requires at { IsAt (request_of self.now) root.now }
-        requires root { root.now.here.path ≡ [] }
+    // Why no drive leads to the target. It takes no memory.
+    fn target_fault(&self) -> Option<DriveFault>
         ensures { result ≡ target_fault (request_of self.now) }
     {
-        fault_between(self.repo, self.target, root.source, root.target)
+        fault_between(
+            self.repo,
+            self.target,
+            self.root_source(),
+            self.root_target(),
+        )
+    }
+
+    // All calls at the root and below it, but for the texts that wait.
+    fn visit_root<E: Editor>(
+        &self,
+        editor: &mut E,
+        progress: &mut Progress,
+        later: &mut Vec<Texted>,
+    ) -> Result<(), Stop>
+        ensures runs { Runs E.answers self.now.limit (visit_calls (request_of self.now) self.now.late [] 0 progress.old.next) result editor.old editor.new progress.old.made progress.new.made }
+        ensures tokens { OnOk result (progress.new.next ≡ progress.old.next + visit_size (request_of self.now) []) }
+        ensures waits { OnOk result (waiting self.now.repo.now later.new.items ≡ waiting self.now.repo.now later.old.items ++ visit_late (request_of self.now) self.now.late [] 0 progress.old.next) }
+    {
+        let entries = self.report.in_path_order(self.alloc)?;
+        let root = self.root(ReportPart::of(&entries));
+        self.visit(&root, editor, progress, later)
     }
 
     // All calls.
-    fn run<E: Editor>(
-        &self,
-        root: &Place<'a>,
-        editor: &mut E,
-        progress: &mut Progress,
-    ) -> Result<(), Stop>
-        requires at { IsAt (request_of self.now) root.now }
-        requires root { root.now.here.path ≡ [] }
-        requires parent { root.now.parent ≡ 0 }
-        requires first { progress.old.next ≡ 0 }
+    fn run<E: Editor>(&self, editor: &mut E, progress: &mut Progress) -> Result<(), Stop>
+        requires { progress.old.next ≡ 0 }
         ensures runs { Runs E.answers self.now.limit (drive_calls (request_of self.now) self.now.late) result editor.old editor.new progress.old.made (with_last result progress.new.made) }
         ensures before_last { IfErr result (λ stop. LeavesSome stop progress.new.made (progress.old.made + length (drive_calls (request_of self.now) self.now.late))) }
     {
         let mut later = Vec::new(self.alloc);
         let first = Call::SetTargetRevision { rev: self.target };
         make(self.limit, editor, progress, first)?;
-        self.visit(root, editor, progress, &mut later)?;
+        self.visit_root(editor, progress, &mut later)?;
         if self.late {
             self.give_late(&later, editor, progress)?;
         }
@@ -82,19 +95,12 @@ impl<'a> Walk<'a> {
     }
 
     // A drive whose target has no fault.
-    fn drive_from<E: Editor>(
-        &self,
-        root: &Place<'a>,
-        editor: &mut E,
-    ) -> Result<DriveEnd, DriveFault>
-        requires at { IsAt (request_of self.now) root.now }
-        requires root { root.now.here.path ≡ [] }
-        requires parent { root.now.parent ≡ 0 }
-        requires target { target_fault (request_of self.now) ≡ None }
+    fn drive_tested<E: Editor>(&self, editor: &mut E) -> Result<DriveEnd, DriveFault>
+        requires { target_fault (request_of self.now) ≡ None }
         ensures { Drives E.answers self.now.limit (target_fault (request_of self.now)) (drive_calls (request_of self.now) self.now.late) result editor.old editor.new }
     {
         let mut progress = Progress::new();
-        match self.run(root, editor, &mut progress) {
+        match self.run(editor, &mut progress) {
             Ok(()) => Ok(DriveEnd::Closed {
                 calls: progress.made_with_last(),
             }),
@@ -102,25 +108,15 @@ impl<'a> Walk<'a> {
         }
     }
 
-    // The same from the root.
-    fn drive_tested<E: Editor>(&self, editor: &mut E) -> Result<DriveEnd, DriveFault>
-        requires { target_fault (request_of self.now) ≡ None }
-        ensures { Drives E.answers self.now.limit (target_fault (request_of self.now)) (drive_calls (request_of self.now) self.now.late) result editor.old editor.new }
-    {
-        let root = self.root();
-        self.drive_from(&root, editor)
-    }
-
     // A whole drive.
     fn drive<E: Editor>(&self, editor: &mut E) -> Result<DriveEnd, DriveFault>
         ensures calls { Drives E.answers self.now.limit (target_fault (request_of self.now)) (drive_calls (request_of self.now) self.now.late) result editor.old editor.new }
         ensures refused { IfSome (target_fault (request_of self.now)) (λ fault. (result ≡ Err fault) × (editor.new ≡ editor.old)) }
     {
-        let root = self.root();
-        if let Some(fault) = self.target_fault(&root) {
-            return Err(fault);
+        match self.target_fault() {
+            Some(fault) => Err(fault),
+            None => self.drive_tested(editor),
         }
-        self.drive_from(&root, editor)
     }
 
     // What is asked for.

@@ -27,6 +27,7 @@ mod lists_left;
 mod making;
 mod nodes;
 mod place;
+mod report_part;
 mod request;
 mod visit;
 mod walk;

@@ -1,17 +1,17 @@
-//! Names in order that are left, of a directory and of a report, of which the first is at hand.
-ghost use Rattle.std.specs.Prelude.{◌≡◌, ◌∷◌, ℕ, List, [], drop, unwrap_or, option_map, IfOk, MatchOption};
+//! What is left of a directory and of a report, name by name, of which the first is at hand.
+ghost use Rattle.std.specs.Prelude.{◌≡◌, ◌∷◌, ℕ, List, [], drop, unwrap_or, option_map, MatchOption};
 ghost use Rattle.std.specs.Option.{option_copied};
+ghost use Rattle.std.specs.Map.{keys_of};
 ghost use Rattle.std.specs.Map.Iter.{TakesFirst};
 ghost use Rattle.svn_types.specs.Pairs.{InNameOrder};
-ghost use Rattle.svn_report.specs.ReportNames.{reported_names};
-ghost use Rattle.svn_drive.specs.Firsts.{entries_at, shown_entry, first_of, first_key, TakesName, TakesValue};
+ghost use Rattle.svn_drive.specs.Firsts.{entries_at, shown_entry, first_key, InOrder, TakesValue};
+ghost use Rattle.svn_drive.specs.Parts.{AreDeeper, by_name, entries_in, none_or};
 
-use std::alloc::AllocError;
+use crate::report_part::ReportPart;
 use std::marker::Model;
 use svn_name_map::Iter;
 use svn_repo::{Entries, NodeId, Repo};
-use svn_report::Report;
-use svn_types::{Name, RelPath};
+use svn_types::Name;
 
 /// The entries of a directory that are left, of which the first is at hand.
 #[derive(Drop)]
@@ -113,70 +113,63 @@ impl<'a> EntriesLeft<'a> {
     }
 }
 
-/// The names that are left directly below a path at or below which a report has entries, of which the first is at hand.
+/// The entries of a report that are left below a path, by the names directly below it, of which the first is at hand. A contract sees the names
+/// with the entries at or below each.
 #[derive(Drop)]
 pub(crate) struct ReportedLeft<'a> {
-    report: &'a Report,
-    path: RelPath,
+    rest: ReportPart<'a>,
+    // how many names the path has
+    depth: usize,
     first: Option<&'a Name>,
-    // where the report is asked to look first: the position of the entry that gave the first name, or, where none is left, of what stands behind
-    near: usize,
 }
 
 impl<'a> Model for ReportedLeft<'a> {
-    ghost use Rattle.std.specs.Prelude.{ℕ, List};
+    ghost use Rattle.std.specs.Prelude.{◌≡◌};
     ghost use Rattle.std.specs.Option.{option_copied};
-    ghost use Rattle.svn_report.specs.ReportNames.{reported_names, names_from};
+    ghost use Rattle.svn_drive.specs.Firsts.{first_key};
+    ghost use Rattle.svn_drive.specs.Parts.{AreDeeper, Named, by_name, entries_in};
 
-    ghost Value = { List (List ℕ) };
+    ghost Value = { Named };
 
-    ghost view = { λ l. names_from (option_copied l.first) (reported_names l.path l.report.now.entries) };
+    ghost view = { λ l. by_name l.depth (entries_in l.rest) };
+
+    ghost invariant = { λ l. (option_copied l.first ≡ first_key (by_name l.depth (entries_in l.rest))) × AreDeeper l.depth (entries_in l.rest) };
 }
 
 impl<'a> ReportedLeft<'a> {
-    /// All names, looked for near a position of the report first. A clone of the path takes no memory.
-    pub(crate) fn of(
-        report: &'a Report,
-        path: &RelPath,
-        near: usize,
-    ) -> Result<ReportedLeft<'a>, AllocError>
-        ensures { IfOk result (λ l. l ≡ reported_names path.now report.now.entries) }
+    /// All entries below a path of so many names.
+    pub(crate) fn of(below: ReportPart<'a>, depth: usize) -> ReportedLeft<'a>
+        requires { AreDeeper depth (entries_in below) }
+        ensures { result ≡ by_name depth (entries_in below.entry) }
     {
-        let mut near = near;
-        let first = report.next_name_near(path, None, &mut near)?;
-        Ok(ReportedLeft {
-            report,
-            path: path.clone()?,
-            first,
-            near,
-        })
-    }
-
-    /// The position near which the report has what stands under the first name, or would have what stands under one before it.
-    pub(crate) fn near(&self) -> usize {
-        self.near
+        ReportedLeft {
+            rest: below,
+            depth,
+            first: below.first_name(depth),
+        }
     }
 
     /// The first name.
     pub(crate) fn first_name(&self) -> Option<&'a Name>
-        ensures { option_copied result ≡ first_of self.now }
+        ensures { option_copied result ≡ first_key self.now }
     {
         self.first
     }
 
-    /// Whether the name is the first, which is then taken.
-    pub(crate) fn take(&mut self, name: &Name) -> Result<bool, AllocError>
-        ensures { IfOk result (λ b. TakesName name.now self.old b self.new) }
+    /// The entries at or below the name, if it is the first, which is then taken; else none.
+    pub(crate) fn take(&mut self, name: &Name) -> ReportPart<'a>
+        requires { InOrder (keys_of self.old) }
+        ensures { TakesValue name.now self.old (none_or (entries_in result)) self.new }
     {
         let Some(first) = self.first else {
-            return Ok(false);
+            return ReportPart::none();
         };
         if first != name {
-            return Ok(false);
+            return ReportPart::none();
         }
-        self.first = self
-            .report
-            .next_name_near(&self.path, Some(first), &mut self.near)?;
-        Ok(true)
+        let (taken, rest) = self.rest.split_name(self.depth, name);
+        self.rest = rest;
+        self.first = rest.first_name(self.depth);
+        taken
     }
 }

@@ -1,13 +1,15 @@
 //! What a walk knows at a path.
 
 use crate::check::Seen;
+use crate::report_part::ReportPart;
 use svn_editor::Token;
 use svn_repo::NodeId;
 
-/// A path of the client: what the report says of it, whether it and its parent are kept, and the nodes on both sides.
+/// A path of the client: what the report says of it, its entries below it, whether it and its parent are kept, and the nodes on both sides.
 #[derive(Drop)]
 pub(crate) struct Place<'a> {
     pub(crate) here: Seen<'a>,
+    pub(crate) below: ReportPart<'a>,
     pub(crate) is_kept: bool,
     pub(crate) parent_is_kept: bool,
     pub(crate) source: Option<NodeId>,

@@ -2,19 +2,23 @@
 ghost use Rattle.std.specs.Prelude.{◌≡◌, ◌&&◌, not, true, is_some, ◌<◌, ◌≤◌, length, if◌then◌else◌, IfOk, [], ◌∷◌, ◌++◌};
 ghost use Rattle.std.specs.Option.{option_copied};
 ghost use Rattle.svn_types.specs.Names.{depth_limit};
+ghost use Rattle.svn_types.specs.Paths.{is_below, is_within};
+ghost use Rattle.svn_report.specs.Reports.{has_entry_below};
 ghost use Rattle.svn_model.specs.Sources.{source, reported_child};
 ghost use Rattle.svn_model.specs.Tree.{is_entered};
-ghost use Rattle.svn_model.specs.Follow.{root_path};
+ghost use Rattle.svn_model.specs.Follow.{root_path, source_node, target_node};
 ghost use Rattle.svn_drive.specs.Checking.{seen_as};
 ghost use Rattle.svn_drive.specs.NamesLeft.{IsBelow};
+ghost use Rattle.svn_drive.specs.Parts.{IsPart, entries_in};
 ghost use Rattle.svn_drive.specs.Walking.{IsAt, IsNearlyAt, is_changed_at, linked_node, candidate_node, request_of};
 ghost use Rattle.svn_editor.specs.Steps.{mode_at};
 
-use crate::check::{Check, Seen, all_hold};
+use crate::check::{Check, Seen, all_hold, child_path};
 use crate::child_names::Below;
 use crate::entries::{is_hidden, starts_empty};
 use crate::nodes::{are_related, is_directory};
 use crate::place::Place;
+use crate::report_part::ReportPart;
 use std::alloc::{AllocError, Global};
 use svn_editor::Token;
 use svn_repo::{NodeId, Repo};
@@ -54,17 +58,25 @@ impl<'a> Walk<'a> {
         }
     }
 
+    // Whether something is reported below a place.
+    #[inline(always)]
+    fn has_below(&self, place: &Place<'a>) -> bool
+        requires { IsNearlyAt (request_of self.now) place.now }
+        ensures { result ≡ has_entry_below self.now.report.now.entries place.now.here.path }
+    {
+        !place.below.is_empty()
+    }
+
     // Whether something is to be done at a kept path, or below it.
     #[inline(always)]
     fn is_changed(&self, place: &Place<'a>) -> bool
+        requires { IsNearlyAt (request_of self.now) place.now }
         ensures { result ≡ is_changed_at (request_of self.now) place.now }
     {
         place.here.path.is_root()
             || place.source != place.target
             || (starts_empty(place.here.own) && is_directory(self.repo, place.source))
-            || self
-                .report
-                .has_entry_below_near(&place.here.path, place.here.near)
+            || self.has_below(place)
     }
 
     // With whether something is to be done there, which is the last to be found out.
@@ -92,21 +104,38 @@ impl<'a> Walk<'a> {
         }
     }
 
-    /// The root. Takes no memory.
-    pub(crate) fn root(&self) -> Place<'a>
+    /// The node that the client has at the root.
+    pub(crate) fn root_source(&self) -> Option<NodeId>
+        ensures { result ≡ source_node (request_of self.now) [] }
+    {
+        let reading = self.reading();
+        reading.source(&reading.seen_root())
+    }
+
+    /// The node that the target has at the root.
+    pub(crate) fn root_target(&self) -> Option<NodeId>
+        ensures { result ≡ target_node (request_of self.now) [] }
+    {
+        self.repo.lookup(self.target, self.root_path())
+    }
+
+    /// The root, by all entries of the report. It takes no memory.
+    pub(crate) fn root(&self, reported: ReportPart<'a>) -> Place<'a>
+        requires { IsPart self.now.report.now.entries (is_within []) (entries_in reported) }
         ensures at { IsAt (request_of self.now) result }
         ensures path { result.here.path ≡ [] }
         ensures parent { result.parent ≡ 0 }
     {
+        self.report.law();
         let here = self.reading().seen_root();
-        let source = self.reading().source(&here);
-        let target = self.repo.lookup(self.target, self.root_path());
+        let (_, below) = reported.split_own(&here.path);
         self.with_touched(Place {
             here,
+            below,
             is_kept: true,
             parent_is_kept: true,
-            source,
-            target,
+            source: self.root_source(),
+            target: self.root_target(),
             is_touched: true,
             parent: Token(0),
         })
@@ -161,12 +190,14 @@ impl<'a> Walk<'a> {
         above: &Place<'a>,
         here: Seen<'a>,
         below: &Below<'a>,
+        reported: ReportPart<'a>,
         parent: Token,
     ) -> Place<'a>
         requires at { IsAt (request_of self.now) above.now }
         requires below { IsBelow (request_of self.now) above.now below.now }
         requires here { seen_as here ≡ reported_child self.now.report.now (seen_as above.now.here) below.now.name.now }
         requires start { here.start ≤ length here.path }
+        requires reported { IsPart self.now.report.now.entries (is_below here.path) (entries_in reported) }
         ensures at { IsAt (request_of self.now) result }
         ensures path { result.here.path ≡ here.entry.path }
         ensures parent { result.parent ≡ parent }
@@ -179,6 +210,7 @@ impl<'a> Walk<'a> {
         let target = target_of(is_kept, &there, &beneath);
         self.with_touched(Place {
             here,
+            below: reported,
             is_kept,
             parent_is_kept: above.is_kept,
             source,
@@ -203,13 +235,11 @@ impl<'a> Walk<'a> {
         ensures path { IfOk result (λ p. (p.here.path ≡ above.now.here.path ++ below.now.name.now ∷ []) × (length p.here.path ≤ depth_limit)) }
         ensures parent { IfOk result (λ p. p.parent ≡ parent) }
     {
-        let here = self.reading().seen_child(
-            &above.here,
-            below.name,
-            below.is_reported.get(),
-            below.near,
-        )?;
-        Ok(self.child_seen(above, here, below, parent))
+        self.report.law();
+        let path = child_path(self.alloc, &above.here.path, below.name)?;
+        let (own, reported) = below.reported.split_own(&path);
+        let here = above.here.child(path, own);
+        Ok(self.child_seen(above, here, below, reported, parent))
     }
 
     /// Whether the client has something there that goes.

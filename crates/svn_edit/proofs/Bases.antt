@@ -29,7 +29,7 @@ use Rattle.svn_serials.specs.Serials.{IsRising, get}
 use Rattle.svn_serials.proofs.Pairs.{Updates, updates_removed}
 use Rattle.svn_edit.specs.declared.baton.Baton.{Baton}
 use Rattle.svn_edit.specs.declared.baton.Note.{Note}
-use Rattle.svn_edit.specs.declared.edit.Edit.{Edit}
+use Rattle.svn_edit.specs.declared.pending.Pending.{Pending}
 use Rattle.svn_edit.specs.Applying.{Batons, BatonMap, BatonNoted, MakesBaton, batons_of, IsNoted, KeepsBases, OpensBase, Holds, IsNext}
 use Rattle.svn_nodes.specs.NodeTests.{IsSumOf}
 use Rattle.svn_edit.proofs.HeldBatons.{given_other, open_given}
@@ -45,7 +45,7 @@ not_abort _ h = refl
 
 -- ---- a call that is taken
 
-module _ (mode : Mode) (old new : Edit) (calls : List Call) (d : Call) (nodes nodes2 : List (Path × BaseNode)) (next : IsNext mode old calls d)
+module _ (mode : Mode) (old new : Pending) (calls : List Call) (d : Call) (nodes nodes2 : List (Path × BaseNode)) (next : IsNext mode old calls d)
     (going : is_last d ≡ false) (copy : (p : Path) → get_in nodes2 p ≡ effect mode calls d (get_in nodes) p)
     (holds : Holds mode new (calls ++ d ∷ [])) (keeps : KeepsBases d (batons_of old) (batons_of new))
     (opens : OpensBase d (batons_of new) nodes2) (noted : IsNoted calls (batons_of old) nodes) where
@@ -109,11 +109,11 @@ removed_others m n t rising removed u b there = by (cases_eq u t)
     by (inl same) = absurd (none-some b (sym (ap (get n) same ∙ updates.here) ∙ there))
     by (inr away) = sym (updates.away u away) ∙ there
 
-abbrev Kept : Edit → Edit → Call → Result (Unit {0}) EditFault → Type 0
+abbrev Kept : Pending → Pending → Call → Result (Unit {0}) EditFault → Type 0
 Kept old new d r =
     OnOk r ((mode : Mode) (calls : List Call) → IsNext mode old calls d → is_last d ≡ false → KeepsBases d (batons_of old) (batons_of new))
 
-pub made_bases : (old new : Edit) (c d : Call) (g : Given) (r : Result (Unit {0}) EditFault) (beneath : ℕ) → d ≡ c → given_by c ≡ Some g
+pub made_bases : (old new : Pending) (c d : Call) (g : Given) (r : Result (Unit {0}) EditFault) (beneath : ℕ) → d ≡ c → given_by c ≡ Some g
     → OnOk r (MakesBaton beneath g.path g.token old new) → Kept old new d r
 made_bases old new c d g r beneath is gives made = OnOk_then r made (λ m mode calls next last u b there apart. (
   b,
@@ -122,7 +122,7 @@ made_bases old new c d g r beneath is gives made = OnOk_then r made (λ m mode c
   refl,
 ))
 
-pub said_bases : (old new : Edit) (c d : Call) (m : ℕ) (k : Kind) (note : Note) (strings : List (List ℕ)) (r : Result (Unit {0}) EditFault)
+pub said_bases : (old new : Pending) (c d : Call) (m : ℕ) (k : Kind) (note : Note) (strings : List (List ℕ)) (r : Result (Unit {0}) EditFault)
     → d ≡ c → is_abort c ≡ false → named_by c ≡ Some (m, k)
     → OnOk r ((b : Baton) → batons_of old m ≡ Some b → BatonNoted m b note strings old.pools (batons_of old) new.pools (batons_of new))
     → Kept old new d r
@@ -143,11 +143,11 @@ said_bases old new c d m k note strings r is going named notes = OnOk_then r not
         )
     by x at y u b there (inr away) = (b, sym (y.tokens u away) ∙ there, refl, refl)
 
-pub gone_bases : (old new : Edit) (d : Call) (r : Result (Unit {0}) EditFault)
+pub gone_bases : (old new : Pending) (d : Call) (r : Result (Unit {0}) EditFault)
     → OnOk r ((u : ℕ) (b : Baton) → batons_of new u ≡ Some b → batons_of old u ≡ Some b) → Kept old new d r
 gone_bases old new d r others = OnOk_then r others (λ h mode calls next last u b there apart. (b, h u b there, refl, refl))
 
-pub still_bases : (old : Edit) (d : Call) → KeepsBases d (batons_of old) (batons_of old)
+pub still_bases : (old : Pending) (d : Call) → KeepsBases d (batons_of old) (batons_of old)
 still_bases old d u b there apart = (b, there, refl, refl)
 
 -- ---- what a call opens

@@ -28,7 +28,7 @@ use Rattle.svn_order.proofs.Sound.{IsKnown, known}
 use Rattle.svn_order.proofs.Lawful.{sound}
 use Rattle.svn_model.specs.declared.base_node.BaseNode.{BaseNode}
 use Rattle.svn_edit.specs.declared.baton.Baton.{Baton}
-use Rattle.svn_edit.specs.declared.edit.Edit.{Edit}
+use Rattle.svn_edit.specs.declared.pending.Pending.{Pending}
 use Rattle.svn_serials.specs.Serials.{get}
 use Rattle.svn_serials.proofs.Pairs.{Updates}
 use Rattle.svn_edit.specs.declared.baton.Note.{Note}
@@ -68,7 +68,7 @@ changes_are p = among_said change_in p (changes_at p) refl (λ s steps. refl) qu
     quiet (Change k x) h = absurd (true≢false h)
     quiet _ h = refl
 
-module _ (mode : Mode) (edit : Edit) (calls : List Call) (c d : Call) (m : ℕ) (k : Kind) (is : d ≡ c) (next : IsNext mode edit calls d)
+module _ (mode : Mode) (edit : Pending) (calls : List Call) (c d : Call) (m : ℕ) (k : Kind) (is : d ≡ c) (next : IsNext mode edit calls d)
     (going : is_abort c ≡ false) (named : named_by c ≡ Some (m, k)) where
   pub next_accepted : IsAccepted calls c
   next_accepted = accepted calls c going (ap (order_fault calls) (sym is) ∙ next.in_order)
@@ -100,7 +100,7 @@ says_of pools at calls t b is = record {
 }
 
 -- a call that closes a token, below which no directory is open
-pub gone_holds : (mode : Mode) (old new : Edit) (calls : List Call) (c d : Call) (t : ℕ) (k : Kind) → d ≡ c → IsNext mode old calls d
+pub gone_holds : (mode : Mode) (old new : Pending) (calls : List Call) (c d : Call) (t : ℕ) (k : Kind) → d ≡ c → IsNext mode old calls d
     → is_abort c ≡ false → named_by c ≡ Some (t, k)
     → next_target (target_of calls) c ≡ target_of calls → given_by c ≡ None → noted c ≡ None → closes t c ≡ true
     → ((u : ℕ) → u ≢ t → closes u c ≡ false)
@@ -123,7 +123,7 @@ gone_holds mode old new calls c d t k is next going named still gives says shut 
     apart e = none-some _ (sym (ap parent_of next.holds.batons.root) ∙ ap (λ s. parent_of (pool_at old.pools s)) (sym e)
         ∙ ap parent_of baton.2.pool)
 
-module _ (mode : Mode) (old new : Edit) (calls : List Call) (t : ℕ) (d : Call) (is : d ≡ CloseDirectory t)
+module _ (mode : Mode) (old new : Pending) (calls : List Call) (t : ℕ) (d : Call) (is : d ≡ CloseDirectory t)
     (next : IsNext mode old calls d) where
   baton : (b : Baton) × (batons_of old t ≡ Some b) × IsBaton old.pools (batons_of old) calls t b
   baton = named_baton mode old calls (CloseDirectory t) d t Directory is next refl refl
@@ -203,7 +203,7 @@ pub applied_same : (fault : Option EditFault) (w : WorkingCopy) (nodes : List (P
 applied_same fault w nodes (Ok done) h same = (h, same)
 applied_same fault w nodes (Err e) h same = (h, refl)
 
-pub note_holds : (mode : Mode) (old new : Edit) (calls : List Call) (c d : Call) (m : ℕ) (k : Kind) (act : Action) → d ≡ c
+pub note_holds : (mode : Mode) (old new : Pending) (calls : List Call) (c d : Call) (m : ℕ) (k : Kind) (act : Action) → d ≡ c
     → IsNext mode old calls d → is_abort c ≡ false → named_by c ≡ Some (m, k)
     → next_target (target_of calls) c ≡ target_of calls → given_by c ≡ None → noted c ≡ Some (m, act)
     → ((t : ℕ) → closes t c ≡ false) → KeepsEdit old new
@@ -217,7 +217,7 @@ note_holds mode old new calls c d m k act is next going named still gives says s
     (pathed calls next.lawful) gives says shut b.1 new.pools (batons_of new) (notes b.0 b.1))
 
 -- a change of a property does nothing yet
-pub change_applied : (checksum : List ℕ → List ℕ) (mode : Mode) (edit : Edit) (calls : List Call) (c d : Call) (m : ℕ) (k : Kind)
+pub change_applied : (checksum : List ℕ → List ℕ) (mode : Mode) (edit : Pending) (calls : List Call) (c d : Call) (m : ℕ) (k : Kind)
     (x : PropChange) (nodes : List (Path × BaseNode)) (r : Result (Unit {0}) EditFault) → d ≡ c
     → edit_fault checksum mode calls c nodes ≡ step_fault checksum mode (steps_of calls) (get_in nodes) (path_of calls m) (Change k x)
     → effect mode calls c (get_in nodes) ≡ step_effect mode (target_of calls) (steps_of calls)
@@ -231,7 +231,7 @@ change_applied checksum mode edit calls c d m k x nodes r is faults effects answ
     (λ p. effect_none mode (target_of calls) (steps_of calls) (path_of calls m) (Change k x) (get_in nodes) (λ o. refl) refl p
     ∙ sym (ap (λ (v : WorkingCopy). v p) effects)))
 
-pub text_applied : (checksum : List ℕ → List ℕ) (mode : Mode) (edit : Edit) (calls : List Call) (t : ℕ) (sum : Option (List ℕ))
+pub text_applied : (checksum : List ℕ → List ℕ) (mode : Mode) (edit : Pending) (calls : List Call) (t : ℕ) (sum : Option (List ℕ))
     (text : List ℕ) (d : Call) (nodes : List (Path × BaseNode)) (r : Result (Unit {0}) EditFault)
     → d ≡ ApplyText t sum text → IsNext mode edit calls d
     → ((b : Baton) → batons_of edit t ≡ Some b → AnswersCall (step_fault checksum Update [] (get_in nodes) b.path (Text sum text)) r)

@@ -25,7 +25,7 @@ use Rattle.svn_model.specs.Answering.{AnswersCall}
 use Rattle.svn_edit_law.proofs.OnePath.{pathed}
 use Rattle.svn_edit_law.proofs.StepEffects.{effect_alone}
 use Rattle.svn_edit.specs.declared.baton.Baton.{Baton}
-use Rattle.svn_edit.specs.declared.edit.Edit.{Edit}
+use Rattle.svn_edit.specs.declared.pending.Pending.{Pending}
 use Rattle.svn_nodes.specs.NodeTests.{sum_fault, FileIsClosed}
 use Rattle.svn_edit.specs.Applying.{Applied, KeepsEdit, batons_of, is_open, IsBaton, BatonGone, IsLeaf, Says, Holds, IsNext}
 use Rattle.svn_edit.specs.Closing.{ClosesFile}
@@ -72,7 +72,7 @@ nothing_closed mode rev at p changes texts nodes nodes2 same none kept q =
     by true e = ap w (sym (same_path p q e)) ∙ sym here ∙ ap closed here
 
 -- what stands at the path of a baton is closed there
-pub node_closes : (edit : Edit) (b : Baton) (sum : Option (List ℕ)) (at : Path) (nodes nodes2 : List (Path × BaseNode)) (old new : BaseNode)
+pub node_closes : (edit : Pending) (b : Baton) (sum : Option (List ℕ)) (at : Path) (nodes nodes2 : List (Path × BaseNode)) (old new : BaseNode)
     (r : Result (Unit {0}) EditFault) → at ≡ b.path → Some old ≡ get_in nodes at
     → ((said : List Action) → Says b edit.pools said → AnswersCall (sum_fault md5 sum (filter_map text_in said) (Some old)) r)
     → OnOk r ((said : List Action) → Says b edit.pools said → Some new ≡ closed_file edit.target
@@ -89,7 +89,7 @@ node_closes edit b sum at nodes nodes2 old new r same there answers closed refus
 }
 
 -- where nothing stands, nothing changes
-pub nothing_closes : (edit : Edit) (b : Baton) (sum : Option (List ℕ)) (at : Path) (nodes nodes2 : List (Path × BaseNode))
+pub nothing_closes : (edit : Pending) (b : Baton) (sum : Option (List ℕ)) (at : Path) (nodes nodes2 : List (Path × BaseNode))
     (r : Result (Unit {0}) EditFault) → at ≡ b.path → None ≡ get_in nodes at → nodes2 ≡ nodes
     → ((said : List Action) → Says b edit.pools said → AnswersCall (sum_fault md5 sum (filter_map text_in said) None) r)
     → ClosesFile edit b sum nodes r nodes2
@@ -107,7 +107,7 @@ applied_parts : (fault : Option EditFault) (w : WorkingCopy) (nodes nodes2 : Lis
 applied_parts fault w nodes nodes2 (Ok done) h f g = (h, f)
 applied_parts fault w nodes nodes2 (Err e) h f g = (h, g)
 
-module _ (mode : Mode) (old new : Edit) (calls : List Call) (t : ℕ) (sum : Option (List ℕ)) (d : Call) (is : d ≡ CloseFile t sum)
+module _ (mode : Mode) (old new : Pending) (calls : List Call) (t : ℕ) (sum : Option (List ℕ)) (d : Call) (is : d ≡ CloseFile t sum)
     (next : IsNext mode old calls d) where
   baton : (b : Baton) × (batons_of old t ≡ Some b) × IsBaton old.pools (batons_of old) calls t b
   baton = named_baton mode old calls (CloseFile t sum) d t File is next refl refl

@@ -1,6 +1,6 @@
 -- What an edit holds after one more call.
 use Rattle.std.proofs.Common.{◌≡◌, ℕ, Bool, true, false, true≢false, cond, List, [], ◌∷◌, ◌++◌, refl, sym, ◌∙◌, ap, subst}
-use Rattle.std.specs.Prelude.{Option, Some, None, Result, Ok, Err, OnOk, IfErr}
+use Rattle.std.specs.Prelude.{Option, Some, None, Result, Ok, Err, OnOk, OnErr, IfErr}
 use Rattle.std.specs.Option.{option_or, option_map}
 use Rattle.svn_lists.proofs.Results.{OnOk_then}
 use Rattle.svn_types.specs.Names.{Path}
@@ -21,11 +21,13 @@ use Rattle.svn_editor.proofs.Accepted.{accepted, not_ended}
 use Rattle.svn_order.proofs.Lawful.{sound}
 use Rattle.svn_model.specs.declared.base_node.BaseNode.{BaseNode}
 use Rattle.svn_edit.specs.declared.edit.Edit.{Edit}
+use Rattle.svn_edit.specs.declared.pending.Pending.{Pending}
 use Rattle.svn_model.specs.Nodes.{WorkingCopy, get_in, is_present}
 use Rattle.svn_model.specs.Effects.{effect, after, edit_fault, refusal, added_node, joined_path, step_fault, step_effect}
 use Rattle.svn_nodes.specs.NodeTests.{deep_fault}
 use Rattle.svn_edit.specs.Applying.{Applied, KeepsEdit, MakesBaton, batons_of, pool_above, Holds, IsNext, StandsAfter}
 use Rattle.svn_edit.specs.Applying.{HoldsBatons}
+use Rattle.svn_edit.specs.Carrying.{CarriedOut}
 use Rattle.svn_model.specs.Answering.{IsAnswer, AnswersCall}
 use Rattle.svn_edit_law.proofs.Appending.{after-more, next_target, target-more}
 use Rattle.svn_edit_law.proofs.OnePath.{noted, pathed}
@@ -70,17 +72,16 @@ applied_some fault w nodes nodes2 (Err e) none same h = (subst (IsAnswer fault) 
 -- ---- what is held
 
 -- an edit that no call changed
-pub edit_kept : (edit : Edit) → KeepsEdit edit edit
-edit_kept edit = record { stage = refl; order = refl; target = refl; mode = refl }
+pub edit_kept : (edit : Pending) → KeepsEdit edit edit
+edit_kept edit = record { target = refl; mode = refl }
 
-module _ (mode : Mode) (old new : Edit) (calls : List Call) (c d : Call) (is : d ≡ c) (next : IsNext mode old calls d)
+module _ (mode : Mode) (old new : Pending) (calls : List Call) (c d : Call) (is : d ≡ c) (next : IsNext mode old calls d)
     (keeps : KeepsEdit old new) (still : next_target (target_of calls) c ≡ target_of calls) where
   pub in_order : order_fault calls c ≡ None
   in_order = ap (order_fault calls) (sym is) ∙ next.in_order
 
   pub holds_by : HoldsBatons new.pools (batons_of new) (calls ++ c ∷ []) → Holds mode new (calls ++ d ∷ [])
   holds_by h = record {
-    stage = keeps.stage ∙ next.holds.stage;
     mode_is = keeps.mode ∙ next.holds.mode_is;
     target = keeps.target ∙ next.holds.target ∙ sym (ap (λ (x : Call). target_of (calls ++ x ∷ [])) is
         ∙ target-more calls c next.lawful in_order ∙ still);
@@ -88,7 +89,7 @@ module _ (mode : Mode) (old new : Edit) (calls : List Call) (c d : Call) (is : d
   }
 
 -- a call that gives a token
-pub given_holds : (old new : Edit) (c d : Call) (g : Given) (r : Result (Unit {0}) EditFault) → d ≡ c → ((n : ℕ) → next_target n c ≡ n)
+pub given_holds : (old new : Pending) (c d : Call) (g : Given) (r : Result (Unit {0}) EditFault) → d ≡ c → ((n : ℕ) → next_target n c ≡ n)
     → given_by c ≡ Some g → noted c ≡ None → is_abort c ≡ false → KeepsEdit old new → (beneath : ℕ)
     → beneath ≡ pool_above old.pools.root (batons_of old) (Some g) → OnOk r (MakesBaton beneath g.path g.token old new)
     → OnOk r ((mode : Mode) (calls : List Call) → IsNext mode old calls d → is_last d ≡ false → Holds mode new (calls ++ d ∷ []))
@@ -99,7 +100,7 @@ given_holds old new c d g r is still gives says going keeps beneath place made =
     (subst (λ n. MakesBaton n g.path g.token old new) place baton)))
 
 -- a call that changes no baton
-pub holds_still : (mode : Mode) (old : Edit) (calls : List Call) (c d : Call) → d ≡ c → IsNext mode old calls d
+pub holds_still : (mode : Mode) (old : Pending) (calls : List Call) (c d : Call) → d ≡ c → IsNext mode old calls d
     → next_target (target_of calls) c ≡ target_of calls → given_by c ≡ None → noted c ≡ None → ((t : ℕ) → closes t c ≡ false)
     → Holds mode old (calls ++ d ∷ [])
 holds_still mode old calls c d is next still none says shut =
@@ -127,6 +128,11 @@ pub applied_copy : (fault : Option EditFault) (w : WorkingCopy) (nodes nodes2 : 
 applied_copy fault w nodes nodes2 (Ok done) h = h.1
 applied_copy fault w nodes nodes2 (Err e) h = tt
 
+pub applied_refusal : (fault : Option EditFault) (w : WorkingCopy) (nodes nodes2 : List (Path × BaseNode)) (r : Result (Unit {0}) EditFault)
+    → Applied fault w nodes r nodes2 → OnErr r (nodes2 ≡ nodes)
+applied_refusal fault w nodes nodes2 (Ok done) h = tt
+applied_refusal fault w nodes nodes2 (Err e) h = h.1
+
 -- the copy after one more call
 pub copy_more : (mode : Mode) (w0 : WorkingCopy) (calls : List Call) (c : Call) (nodes nodes2 : List (Path × BaseNode))
     → ((p : Path) → get_in nodes p ≡ after mode w0 calls p)
@@ -136,21 +142,27 @@ copy_more mode w0 calls c nodes nodes2 before same p =
     let whole : get_in nodes ≡ after mode w0 calls = λ i q. before q i in
     same p ∙ ap (λ (w : WorkingCopy). effect mode calls c w p) whole ∙ sym (ap (λ (w : WorkingCopy). w p) (after-more mode w0 calls c))
 
--- an edit that goes on holds what it should, also once the order check took the call
-pub next_is : (mode : Mode) (w0 : WorkingCopy) (edit edit2 : Edit) (nodes : List (Path × BaseNode)) (calls : List Call) (c : Call)
-    → StandsAfter mode w0 edit nodes calls → order_fault calls c ≡ None
-    → (Holds mode edit calls → Holds mode edit2 calls) → IsNext mode edit2 calls c
-next_is mode w0 edit edit2 nodes calls c s h same = record {
-  holds = same (s.going (not_ended calls c h));
+-- an edit without its order check
+pub carried_of : (mode : Mode) (w0 : WorkingCopy) (edit : Edit) (nodes : List (Path × BaseNode)) (calls : List Call)
+    → StandsAfter mode w0 edit nodes calls → CarriedOut mode w0 edit.pending nodes calls
+carried_of mode w0 edit nodes calls s = record {
   lawful = s.order.lawful;
-  in_order = h;
+  copy = s.copy;
+  going = s.going;
+  noted = s.noted;
 }
+
+-- an edit that goes on holds what it should
+pub next_is : (mode : Mode) (w0 : WorkingCopy) (edit : Pending) (nodes : List (Path × BaseNode)) (calls : List Call) (c : Call)
+    → CarriedOut mode w0 edit nodes calls → order_fault calls c ≡ None → IsNext mode edit calls c
+next_is mode w0 edit nodes calls c s h = record { holds = s.going (not_ended calls c h); lawful = s.lawful; in_order = h }
 
 -- ---- results
 
-pub applied_err : (fault : Option EditFault) (w : WorkingCopy) (nodes nodes2 : List (Path × BaseNode)) (r : Result (Unit {0}) EditFault)
-    (e : EditFault) → r ≡ Err e → Applied fault w nodes r nodes2 → nodes2 ≡ nodes
-applied_err fault w nodes nodes2 r e is h = (subst (λ (x : Result (Unit {0}) EditFault). Applied fault w nodes x nodes2) is h).1
+pub err_kept : (nodes nodes2 : List (Path × BaseNode)) (r : Result (Unit {0}) EditFault) → IfErr r (λ e. (e ≡ Memory) × (nodes2 ≡ nodes))
+    → OnErr r (nodes2 ≡ nodes)
+err_kept nodes nodes2 (Ok done) h = tt
+err_kept nodes nodes2 (Err e) h = h.1
 
 abbrev pub refused_by : OrderFault → Result (Unit {0}) OrderFault
 refused_by e = Err e
@@ -164,7 +176,7 @@ order_refused (Some f) e rest h = ap (λ (x : OrderFault). Some (Order x)) (sym 
 
 -- ---- one step read with the mode and the target of the edit
 
-pub applied_read : (checksum : List ℕ → List ℕ) (mode : Mode) (edit : Edit) (calls : List Call) (c d : Call)
+pub applied_read : (checksum : List ℕ → List ℕ) (mode : Mode) (edit : Pending) (calls : List Call) (c d : Call)
     (nodes nodes2 : List (Path × BaseNode)) (r : Result (Unit {0}) EditFault) → d ≡ c → IsNext mode edit calls d
     → (F : Mode → Option EditFault) (W : Mode → ℕ → WorkingCopy) → edit_fault checksum mode calls c nodes ≡ F mode
     → effect mode calls c (get_in nodes) ≡ W mode (target_of calls)

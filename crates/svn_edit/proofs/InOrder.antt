@@ -5,7 +5,6 @@ use Rattle.std.specs.List.{list_any}
 use Rattle.svn_editor.specs.declared.call.Call.{Call}
 use Rattle.svn_editor.specs.declared.call.Call.TheVariants.{AbortEdit}
 use Rattle.svn_editor.specs.declared.fault.EditFault.{EditFault}
-use Rattle.svn_editor.specs.declared.fault.EditFault.TheVariants.{Memory}
 use Rattle.svn_editor.specs.declared.fault.OrderFault.{OrderFault}
 use Rattle.svn_editor.specs.declared.fault.OrderFault.TheVariants as order
 use Rattle.svn_editor.specs.Calls.{is_last}

@@ -29,6 +29,7 @@ use Rattle.svn_model.specs.Effects.{step_fault}
 use Rattle.svn_model.specs.Answering.{IsAnswer}
 use Rattle.svn_edit.specs.declared.baton.Baton.{Baton}
 use Rattle.svn_edit.specs.declared.edit.Edit.{Edit}
+use Rattle.svn_edit.specs.declared.pending.Pending.{Pending}
 use Rattle.svn_edit.specs.declared.opening.NewNode.{NewNode}
 use Rattle.svn_edit.specs.declared.edit.Stage.TheVariants.{Going, Refused, Ended}
 use Rattle.svn_edit.specs.Applying.{Batons, batons_of, pool_or, pool_above, pool_entry, IsLeaf, HoldsBatons, PoolGone}
@@ -150,14 +151,14 @@ same_left pools pools2 at at2 calls c h same tokens = held_left pools pools2 at 
   back = λ t d e. (d, sym (tokens t) ∙ e, came_same pools pools2 (call_strings c t) d (same.pools d.pool.0));
 })
 
-pub keeps_left : (old new : Edit) (calls : List Call) (c : Call) → HoldsBatons old.pools (batons_of old) calls → KeepsPools old new
+pub keeps_left : (old new : Pending) (calls : List Call) (c : Call) → HoldsBatons old.pools (batons_of old) calls → KeepsPools old new
     → HoldsPools new.pools (batons_of new) calls c
 keeps_left old new calls c h same = same_left old.pools new.pools (batons_of old) (batons_of new) calls c h same.pools same.batons
 
 pub pools_same : (pools : Pools) → SamePools pools pools
 pools_same pools = record { pools = λ s. refl; root = refl; count = refl }
 
-pub keeps_same : (edit : Edit) → KeepsPools edit edit
+pub keeps_same : (edit : Pending) → KeepsPools edit edit
 keeps_same edit = record { pools = pools_same edit.pools; batons = λ t. refl }
 
 -- a pool that was made goes again
@@ -173,7 +174,7 @@ taken_back old made new s fresh others root count gone = record {
 }
 
 -- a baton that was made goes again
-pub baton_taken_back : (old made new : Edit) (beneath : ℕ) (p : Path) (t : ℕ) → MakesBaton beneath p t old made → LetsGo t made new
+pub baton_taken_back : (old made new : Pending) (beneath : ℕ) (p : Path) (t : ℕ) → MakesBaton beneath p t old made → LetsGo t made new
     → batons_of old t ≡ None → KeepsPools old new
 baton_taken_back old made new beneath p t m goes none =
     let gone = goes m.baton _ m.token m.begun.made m.begun.leaf (λ e. m.begun.apart (e ∙ m.begun.root)) in record {
@@ -197,7 +198,7 @@ undone old made new s beneath is serial fresh goes leaf apart =
 
 -- ---- a baton began to note
 
-module _ (old new : Edit) (calls : List Call) (c : Call) (t : ℕ) (b : Baton) (strings : List (List ℕ))
+module _ (old new : Pending) (calls : List Call) (c : Call) (t : ℕ) (b : Baton) (strings : List (List ℕ))
     (h : HoldsBatons old.pools (batons_of old) calls) (there : batons_of old t ≡ Some b) (brings : call_strings c t ≡ strings)
     (n : NoteBegan t b strings old new) where
   root_away : old.pools.root ≢ b.pool.0
@@ -314,7 +315,7 @@ began_two b d t u x y whole path pool is among = record {
 }
 
 -- nothing of the note was pushed
-pub none_began : (t : ℕ) (b : Baton) (strings : List (List ℕ)) (edit : Edit) → batons_of edit t ≡ Some b → NoteBegan t b strings edit edit
+pub none_began : (t : ℕ) (b : Baton) (strings : List (List ℕ)) (edit : Pending) → batons_of edit t ≡ Some b → NoteBegan t b strings edit edit
 none_began t b strings edit there = record {
   baton = b;
   began = unbegun strings b b edit.pools edit.pools refl refl refl;
@@ -323,7 +324,7 @@ none_began t b strings edit there = record {
 }
 
 -- what was begun with the baton that a look-up lent
-pub began_of : (t u : ℕ) (strings : List (List ℕ)) (x d : Baton) (old new : Edit) → u ≡ t → Some x ≡ batons_of old u
+pub began_of : (t u : ℕ) (strings : List (List ℕ)) (x d : Baton) (old new : Pending) → u ≡ t → Some x ≡ batons_of old u
     → BatonBegan strings x old.pools d new.pools → Updates old.batons new.batons u (Some d) → (b : Baton)
     → batons_of old t ≡ Some b → NoteBegan t b strings old new
 began_of t u strings x d old new key lent began updates b there =
@@ -338,7 +339,7 @@ began_of t u strings x d old new key lent began updates b there =
 
 -- ---- a token that wasn't given
 
-pub fresh_token : (mode : Mode) (edit : Edit) (calls : List Call) (c d : Call) (g : Given) → d ≡ c → IsNext mode edit calls d
+pub fresh_token : (mode : Mode) (edit : Pending) (calls : List Call) (c d : Call) (g : Given) → d ≡ c → IsNext mode edit calls d
     → given_by c ≡ Some g → is_abort c ≡ false → batons_of edit g.token ≡ None
 fresh_token mode edit calls c d g is next gives going = nothing (batons_of edit g.token) (next.holds.batons.opened g.token
     ∙ unopened calls g.token (omega (arith, token)))
@@ -356,8 +357,8 @@ pub own_answer : (e : EditFault) → IsAnswer (Some e) e
 own_answer Memory = tt
 own_answer _ = refl
 
-pub gives_refused : (beneath : ℕ) (p : Path) (t : ℕ) (act : Action) (old : Edit) (nodes : List (Path × BaseNode))
-    (r : Result (Unit {0}) EditFault) (e : EditFault) (new : Edit) (nodes2 : List (Path × BaseNode)) → r ≡ Err e
+pub gives_refused : (beneath : ℕ) (p : Path) (t : ℕ) (act : Action) (old : Pending) (nodes : List (Path × BaseNode))
+    (r : Result (Unit {0}) EditFault) (e : EditFault) (new : Pending) (nodes2 : List (Path × BaseNode)) → r ≡ Err e
     → IsAnswer (step_fault md5 old.mode [] (get_in nodes) p act) e → KeepsEdit old new → nodes2 ≡ nodes
     → GivesToken beneath p t act old nodes r new nodes2
 gives_refused beneath p t act old nodes r e new nodes2 is h keeps same =
@@ -372,25 +373,25 @@ made_opened p fault node (Err e) h = tt
 
 -- ---- a refused call
 
-abbrev LeavesAll : Edit → Edit → Call → Result (Unit {0}) EditFault → Type 0
+abbrev LeavesAll : Pending → Pending → Call → Result (Unit {0}) EditFault → Type 0
 LeavesAll old new d r = OnErr r ((mode : Mode) (calls : List Call) → IsNext mode old calls d → HoldsPools new.pools (batons_of new) calls d)
 
 -- one that leaves the pools as they were
-pub kept_left : (old new : Edit) (d : Call) (r : Result (Unit {0}) EditFault) → OnErr r (KeepsPools old new) → LeavesAll old new d r
+pub kept_left : (old new : Pending) (d : Call) (r : Result (Unit {0}) EditFault) → OnErr r (KeepsPools old new) → LeavesAll old new d r
 kept_left old new d r same = OnErr_then r same (λ kept mode calls next. keeps_left old new calls d next.holds.batons kept)
 
 -- one that leaves the whole edit
-pub unchanged_left : (old new : Edit) (d : Call) (r : Result (Unit {0}) EditFault) → OnErr r (new ≡ old) → LeavesAll old new d r
+pub unchanged_left : (old new : Pending) (d : Call) (r : Result (Unit {0}) EditFault) → OnErr r (new ≡ old) → LeavesAll old new d r
 unchanged_left old new d r same = kept_left old new d r (OnErr_then r same (λ e. subst (KeepsPools old) (sym e) (keeps_same old)))
 
 -- one that gives a token, and leaves the pools where that had no baton
-pub given_left : (old new : Edit) (c d : Call) (g : Given) (r : Result (Unit {0}) EditFault) → d ≡ c → given_by c ≡ Some g
+pub given_left : (old new : Pending) (c d : Call) (g : Given) (r : Result (Unit {0}) EditFault) → d ≡ c → given_by c ≡ Some g
     → is_abort c ≡ false → (batons_of old g.token ≡ None → OnErr r (KeepsPools old new)) → LeavesAll old new d r
 given_left old new c d g r is gives going kept = err_by r (λ e bad mode calls next.
     keeps_left old new calls d next.holds.batons (at_err r e bad (kept (fresh_token mode old calls c d g is next gives going))))
 
 -- one that says something
-pub said_left : (old new : Edit) (c d : Call) (m : ℕ) (k : Kind) (strings : List (List ℕ)) (r : Result (Unit {0}) EditFault) → d ≡ c
+pub said_left : (old new : Pending) (c d : Call) (m : ℕ) (k : Kind) (strings : List (List ℕ)) (r : Result (Unit {0}) EditFault) → d ≡ c
     → is_abort c ≡ false → named_by c ≡ Some (m, k) → call_strings c m ≡ cond (nat_eq m m) strings []
     → OnErr r ((b : Baton) → batons_of old m ≡ Some b → NoteBegan m b strings old new) → LeavesAll old new d r
 said_left old new c d m k strings r is going named brings said = OnErr_then r said (λ began mode calls next.
@@ -403,7 +404,7 @@ said_left old new c d m k strings r is going named brings said = OnErr_then r sa
 pub ended_after : (edit : Edit) (nodes : List (Path × BaseNode)) (c : Call) (e : EditFault) → edit.stage ≡ Ended
     → PoolsAfter edit nodes c (Err e) edit
 ended_after edit nodes c e is = record {
-  first = λ mode w0 calls s going. absurd (ended_going (sym is ∙ (s.going going).stage));
+  first = λ mode w0 calls s going. absurd (ended_going (sym is ∙ s.stage going));
   later = λ calls d left. absurd (ended_refused (sym is ∙ left.0));
 }
   where
@@ -416,7 +417,7 @@ ended_after edit nodes c e is = record {
 pub refused_after : (old new : Edit) (nodes : List (Path × BaseNode)) (c : Call) (r : Result (Unit {0}) EditFault) → old.stage ≡ Refused
     → ((calls : List Call) (d : Call) → IsLeft calls d old → LeavesPools c old new) → PoolsAfter old nodes c r new
 refused_after old new nodes c r is later = record {
-  first = err_by r (λ e bad mode w0 calls s going. absurd (refused_going (sym is ∙ (s.going going).stage)));
+  first = err_by r (λ e bad mode w0 calls s going. absurd (refused_going (sym is ∙ s.stage going)));
   later = later;
 }
   where
@@ -426,7 +427,7 @@ refused_after old new nodes c r is later = record {
 pub going_after : (old new : Edit) (nodes : List (Path × BaseNode)) (c : Call) (r : Result (Unit {0}) EditFault) → old.stage ≡ Going
     → OnErr r (IsRefused new)
     → OnErr r ((mode : Mode) (w0 : WorkingCopy) (calls : List Call) → StandsAfter mode w0 old nodes calls → list_any is_last calls ≡ false
-    → HoldsPools new.pools (batons_of new) calls c)
+    → HoldsPools new.pending.pools (batons_of new.pending) calls c)
     → PoolsAfter old nodes c r new
 going_after old new nodes c r is dead left = record {
   first = err_by r (λ e bad mode w0 calls s going. (at_err r e bad dead, at_err r e bad left mode w0 calls s going));

@@ -24,6 +24,8 @@ pub mod FileCloses
 pub mod Switching
 -- What a call that is in order makes of an edit, by what its function says.
 pub mod Takings
+-- What a call that is in order and not refused makes of an edit that tests neither.
+pub mod Carrying
 -- An edit that no call was given to.
 pub mod Beginning
 -- The shape of the copy after a call of an applier.

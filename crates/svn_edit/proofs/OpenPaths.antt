@@ -9,11 +9,12 @@ use Rattle.svn_editor.specs.Calls.{is_last, path_of}
 use Rattle.svn_model.specs.declared.base_node.BaseNode.{BaseNode}
 use Rattle.svn_model.specs.Nodes.{WorkingCopy}
 use Rattle.svn_edit.specs.declared.baton.Baton.{Baton}
-use Rattle.svn_edit.specs.declared.edit.Edit.{Edit}
-use Rattle.svn_edit.specs.Applying.{StandsAfter, batons_of, path_open}
+use Rattle.svn_edit.specs.declared.pending.Pending.{Pending}
+use Rattle.svn_edit.specs.Applying.{batons_of, path_open}
+use Rattle.svn_edit.specs.Carrying.{CarriedOut}
 
-module _ (mode : Mode) (w0 : WorkingCopy) (edit : Edit) (nodes : List (Path × BaseNode)) (calls : List Call)
-    (stands : StandsAfter mode w0 edit nodes calls) (going : list_any is_last calls ≡ false) (t : ℕ) where
+module _ (mode : Mode) (w0 : WorkingCopy) (edit : Pending) (nodes : List (Path × BaseNode)) (calls : List Call)
+    (stands : CarriedOut mode w0 edit nodes calls) (going : list_any is_last calls ≡ false) (t : ℕ) where
   by_test : (b : Bool) → is_some (batons_of edit t) ≡ b → (if b then Some (path_of calls t) else None) ≡ path_open calls t
   by_test b is = ap (λ (x : Bool). if x then Some (path_of calls t) else None) (sym is ∙ (stands.going going).batons.opened t)
 

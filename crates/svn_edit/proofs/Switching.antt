@@ -17,6 +17,7 @@ use Rattle.svn_model.specs.declared.base_node.BaseNode.{BaseNode}
 use Rattle.svn_model.specs.Nodes.{WorkingCopy, get_in}
 use Rattle.svn_model.specs.Effects.{is_settled_deep, settled, settle_fault, effect, edit_fault}
 use Rattle.svn_edit.specs.declared.edit.Edit.{Edit}
+use Rattle.svn_edit.specs.declared.pending.Pending.{Pending}
 use Rattle.svn_edit.specs.Applying.{open_count, live_count, Applied, IsNext, OneIsLeft, StandsAfter}
 use Rattle.svn_edit.proofs.OpenCounts.{none_open}
 
@@ -31,7 +32,7 @@ none_deep (n ∷ nodes) = none_deep nodes
 pub update_ends : (nodes : List (Path × BaseNode)) → settle_fault Update nodes ≡ None
 update_ends nodes = ap (λ b. cond b (Some TooDeep) None) (none_deep nodes)
 
-pub end_applied : (checksum : List ℕ → List ℕ) (mode : Mode) (edit : Edit) (calls : List Call) (d : Call)
+pub end_applied : (checksum : List ℕ → List ℕ) (mode : Mode) (edit : Pending) (calls : List Call) (d : Call)
     (nodes nodes2 : List (Path × BaseNode)) (r : Result (Unit {0}) EditFault) → d ≡ CloseEdit → IsNext mode edit calls d
     → Applied (settle_fault edit.mode nodes) (λ p. settled edit.mode edit.target p (get_in nodes p)) nodes r nodes2
     → Applied (edit_fault checksum mode calls d nodes) (effect mode calls d (get_in nodes)) nodes r nodes2
@@ -43,15 +44,15 @@ end_applied checksum mode edit calls d nodes nodes2 r is next h =
     next.holds.target h))
 
 -- nothing is open then
-pub end_left : (mode : Mode) (edit : Edit) (calls : List Call) (d : Call) → d ≡ CloseEdit → IsNext mode edit calls d → OneIsLeft edit
+pub end_left : (mode : Mode) (edit : Pending) (calls : List Call) (d : Call) → d ≡ CloseEdit → IsNext mode edit calls d → OneIsLeft edit
 end_left mode edit calls d is next = next.holds.batons.count ∙ ap (λ n. n + 1)
     (none_open calls (ap (order_fault calls) (sym is) ∙ next.in_order))
 
 -- how many pools are live
 pub live_is : (mode : Mode) (w0 : WorkingCopy) (edit : Edit) (nodes : List (Path × BaseNode)) (calls : List Call)
-    → StandsAfter mode w0 edit nodes calls → map_of.len edit.pools.live ≡ live_count calls
+    → StandsAfter mode w0 edit nodes calls → map_of.len edit.pending.pools.live ≡ live_count calls
 live_is mode w0 edit nodes calls s = by (list_any is_last calls) refl
   where
-    by : (b : Bool) → list_any is_last calls ≡ b → map_of.len edit.pools.live ≡ cond b 1 (open_count calls + 1)
+    by : (b : Bool) → list_any is_last calls ≡ b → map_of.len edit.pending.pools.live ≡ cond b 1 (open_count calls + 1)
     by true h = s.left h
     by false h = (s.going h).batons.count

@@ -29,6 +29,7 @@ use Rattle.svn_edit.specs.declared.baton.Note.{Note}
 use Rattle.svn_edit.specs.declared.baton.Note.TheVariants.{Text as NewText}
 use Rattle.svn_edit.specs.declared.baton.NotedText.{NotedText}
 use Rattle.svn_edit.specs.declared.edit.Edit.{Edit}
+use Rattle.svn_edit.specs.declared.pending.Pending.{Pending}
 use Rattle.svn_edit.specs.declared.edit.Stage.TheVariants.{Going, Refused, Ended}
 use Rattle.svn_model.specs.Nodes.{WorkingCopy, get_in}
 use Rattle.svn_types.specs.Props.{with_changes}
@@ -200,22 +201,20 @@ pub record BatonGone (t : ℕ) (b : Baton) (pools : Pools) (at : Batons) (pools2
 -- ---- one call
 
 -- what isn't of the batons is as before
-pub record KeepsEdit (old new : Edit) : Type 0 where
-  pub stage : new.stage ≡ old.stage
-  pub order : new.order ≡ old.order
+pub record KeepsEdit (old new : Pending) : Type 0 where
   pub target : new.target ≡ old.target
   pub mode : new.mode ≡ old.mode
 
-abbrev pub batons_of : Edit → Batons
+abbrev pub batons_of : Pending → Batons
 batons_of edit = get edit.batons
 
 -- a token's baton goes, and its pool, where none lies beneath that
-abbrev pub LetsGo : ℕ → Edit → Edit → Type 0
+abbrev pub LetsGo : ℕ → Pending → Pending → Type 0
 LetsGo t old new =
     (b : Baton) (e : Entry) → batons_of old t ≡ Some b → pool_at old.pools b.pool.0 ≡ Some e → IsLeaf old.pools b.pool.0
     → b.pool.0 ≢ old.pools.root → BatonGone t b old.pools (batons_of old) new.pools (batons_of new)
 
-abbrev pub MakesBaton : ℕ → Path → ℕ → Edit → Edit → Type 0
+abbrev pub MakesBaton : ℕ → Path → ℕ → Pending → Pending → Type 0
 MakesBaton beneath p t old new = BatonMade beneath p t old.pools (batons_of old) new.pools (batons_of new)
 
 -- the answer is the fault, or there is none and the copy is as the effect says
@@ -243,36 +242,37 @@ OpensBase c at nodes =
 
 -- ---- the whole
 
-pub record Holds (mode : Mode) (edit : Edit) (calls : List Call) : Type 0 where
-  pub stage : edit.stage ≡ Going
+pub record Holds (mode : Mode) (edit : Pending) (calls : List Call) : Type 0 where
   pub mode_is : edit.mode ≡ mode
   pub target : edit.target ≡ target_of calls
   pub batons : HoldsBatons edit.pools (batons_of edit) calls
 
 -- of the pools the first alone is live
-abbrev pub OneIsLeft : Edit → Type 0
+abbrev pub OneIsLeft : Pending → Type 0
 OneIsLeft edit = map.len edit.pools.live ≡ 1
 
 pub record StandsAfter (mode : Mode) (w0 : WorkingCopy) (edit : Edit) (nodes : List (Path × BaseNode)) (calls : List Call) : Type 0 where
   pub order : order.StandsAfter edit.order calls
   pub copy : (p : Path) → get_in nodes p ≡ after mode w0 calls p
-  pub going : list_any is_last calls ≡ false → Holds mode edit calls
+  pub stage : list_any is_last calls ≡ false → edit.stage ≡ Going
+  pub going : list_any is_last calls ≡ false → Holds mode edit.pending calls
   pub ended : list_any is_last calls ≡ true → edit.stage ≡ Ended
-  pub left : list_any is_last calls ≡ true → OneIsLeft edit
-  pub noted : list_any is_last calls ≡ false → IsNoted calls (batons_of edit) nodes
+  pub left : list_any is_last calls ≡ true → OneIsLeft edit.pending
+  pub noted : list_any is_last calls ≡ false → IsNoted calls (batons_of edit.pending) nodes
 
 -- the call was taken, and the stage is not yet noted
 pub record TakenInOrder (mode : Mode) (w0 : WorkingCopy) (edit : Edit) (nodes : List (Path × BaseNode)) (calls : List Call)
     (c : Call) : Type 0 where
   pub order : order.StandsAfter edit.order (calls ++ c ∷ [])
   pub copy : (p : Path) → get_in nodes p ≡ after mode w0 (calls ++ c ∷ []) p
-  pub holds : is_last c ≡ false → Holds mode edit (calls ++ c ∷ [])
-  pub left : is_last c ≡ true → OneIsLeft edit
-  pub noted : is_last c ≡ false → IsNoted (calls ++ c ∷ []) (batons_of edit) nodes
+  pub stage : is_last c ≡ false → edit.stage ≡ Going
+  pub holds : is_last c ≡ false → Holds mode edit.pending (calls ++ c ∷ [])
+  pub left : is_last c ≡ true → OneIsLeft edit.pending
+  pub noted : is_last c ≡ false → IsNoted (calls ++ c ∷ []) (batons_of edit.pending) nodes
   pub earlier : list_any is_last calls ≡ false
 
 -- the calls so far are in order, and so is the next
-pub record IsNext (mode : Mode) (edit : Edit) (calls : List Call) (c : Call) : Type 0 where
+pub record IsNext (mode : Mode) (edit : Pending) (calls : List Call) (c : Call) : Type 0 where
   pub holds : Holds mode edit calls
   pub lawful : IsLawful calls
   pub in_order : order_fault calls c ≡ None

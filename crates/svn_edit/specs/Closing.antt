@@ -10,11 +10,11 @@ use Rattle.svn_model.specs.Nodes.{get_in}
 use Rattle.svn_model.specs.Effects.{change_in, text_in}
 use Rattle.svn_model.specs.Answering.{AnswersCall}
 use Rattle.svn_edit.specs.declared.baton.Baton.{Baton}
-use Rattle.svn_edit.specs.declared.edit.Edit.{Edit}
+use Rattle.svn_edit.specs.declared.pending.Pending.{Pending}
 use Rattle.svn_nodes.specs.NodeTests.{sum_fault, FileIsClosed}
 use Rattle.svn_edit.specs.Applying.{Says}
 
-pub record ClosesFile (edit : Edit) (b : Baton) (sum : Option (List ℕ)) (nodes : List (Path × BaseNode))
+pub record ClosesFile (edit : Pending) (b : Baton) (sum : Option (List ℕ)) (nodes : List (Path × BaseNode))
     (answer : Result (Unit {0}) EditFault) (nodes2 : List (Path × BaseNode)) : Type 0 where
   pub answers : (said : List Action) → Says b edit.pools said
       → AnswersCall (sum_fault md5 sum (filter_map text_in said) (get_in nodes b.path)) answer

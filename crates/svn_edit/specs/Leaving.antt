@@ -19,6 +19,7 @@ use Rattle.svn_model.specs.Nodes.{WorkingCopy}
 use Rattle.svn_model.specs.Said.{said_at}
 use Rattle.svn_edit.specs.declared.baton.Baton.{Baton}
 use Rattle.svn_edit.specs.declared.edit.Edit.{Edit}
+use Rattle.svn_edit.specs.declared.pending.Pending.{Pending}
 use Rattle.svn_edit.specs.Noted.{strings_of, strings_of_value}
 use Rattle.svn_edit.specs.Applying.{Batons, batons_of, is_open, open_count, pool_above, IsRefused, OneIsLeft, StandsAfter}
 
@@ -52,13 +53,13 @@ pub record HoldsPools (pools : Pools) (at : Batons) (calls : List Call) (c : Cal
   pub count : map.len pools.live ≡ open_count calls + 1
 
 abbrev pub IsLeft : List Call → Call → Edit → Type 0
-IsLeft calls c edit = IsRefused edit × HoldsPools edit.pools (batons_of edit) calls c
+IsLeft calls c edit = IsRefused edit × HoldsPools edit.pending.pools (batons_of edit.pending) calls c
 
 -- ---- one call
 
 -- a call after the refusal: giving up leaves one pool, any other all of them
 abbrev pub LeavesPools : Call → Edit → Edit → Type 0
-LeavesPools AbortEdit old new = OneIsLeft new
+LeavesPools AbortEdit old new = OneIsLeft new.pending
 LeavesPools _ old new = new ≡ old
 
 pub record PoolsAfter (old : Edit) (nodes : List (Path × BaseNode)) (call : Call) (answer : Result (Unit {0}) EditFault) (new : Edit)
@@ -75,7 +76,7 @@ pub record SamePools (old new : Pools) : Type 0 where
   pub root : new.root ≡ old.root
   pub count : map.len new.live ≡ map.len old.live
 
-pub record KeepsPools (old new : Edit) : Type 0 where
+pub record KeepsPools (old new : Pending) : Type 0 where
   pub pools : SamePools old.pools new.pools
   pub batons : (t : ℕ) → batons_of new t ≡ batons_of old t
 
@@ -93,7 +94,7 @@ pub record BatonBegan (strings : List (List ℕ)) (b : Baton) (old : Pools) (d :
   pub count : (e : Entry) → pool_at old b.pool.0 ≡ Some e → map.len new.live ≡ map.len old.live
 
 -- the baton of a token did
-pub record NoteBegan (t : ℕ) (b : Baton) (strings : List (List ℕ)) (old new : Edit) : Type 0 where
+pub record NoteBegan (t : ℕ) (b : Baton) (strings : List (List ℕ)) (old new : Pending) : Type 0 where
   pub baton : Baton
   pub began : BatonBegan strings b old.pools baton new.pools
   pub token : batons_of new t ≡ Some baton

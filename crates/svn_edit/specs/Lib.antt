@@ -4,3 +4,4 @@ pub mod Leaving
 pub mod Taking
 pub mod Closing
 pub mod Opening
+pub mod Carrying

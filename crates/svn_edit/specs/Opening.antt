@@ -8,12 +8,12 @@ use Rattle.svn_editor.specs.Steps.{Action}
 use Rattle.svn_model.specs.declared.base_node.BaseNode.{BaseNode}
 use Rattle.svn_model.specs.Nodes.{get_in}
 use Rattle.svn_model.specs.Effects.{step_fault, step_effect}
-use Rattle.svn_edit.specs.declared.edit.Edit.{Edit}
+use Rattle.svn_edit.specs.declared.pending.Pending.{Pending}
 use Rattle.svn_edit.specs.Applying.{Applied, KeepsEdit, MakesBaton}
 
 -- the nodes are what the step alone makes of them, and the token has a baton, with its pool beneath that one; refused, the nodes stay
-pub record GivesToken (beneath : ℕ) (p : Path) (t : ℕ) (act : Action) (old : Edit) (nodes : List (Path × BaseNode))
-    (answer : Result (Unit {0}) EditFault) (new : Edit) (nodes2 : List (Path × BaseNode)) : Type 0 where
+pub record GivesToken (beneath : ℕ) (p : Path) (t : ℕ) (act : Action) (old : Pending) (nodes : List (Path × BaseNode))
+    (answer : Result (Unit {0}) EditFault) (new : Pending) (nodes2 : List (Path × BaseNode)) : Type 0 where
   pub opened : OnOk answer (MakesBaton beneath p t old new)
   pub keeps : KeepsEdit old new
   pub applied : Applied (step_fault md5 old.mode [] (get_in nodes) p act)

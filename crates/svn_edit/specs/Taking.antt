@@ -12,45 +12,45 @@ use Rattle.svn_editor.specs.declared.mode.Mode.TheVariants.{Update}
 use Rattle.svn_model.specs.declared.base_node.BaseNode.{BaseNode}
 use Rattle.svn_model.specs.Nodes.{get_in}
 use Rattle.svn_model.specs.Effects.{effect, edit_fault}
-use Rattle.svn_edit.specs.declared.edit.Edit.{Edit}
+use Rattle.svn_edit.specs.declared.pending.Pending.{Pending}
 use Rattle.svn_edit.specs.Applying.{batons_of, Applied, IsNoted, KeepsBases, OpensBase, Holds, IsNext, OneIsLeft}
 use Rattle.svn_edit.specs.Leaving.{HoldsPools}
 
 -- the nodes are what the call's effect makes of them, or it is refused by the call's fault and they stay
-abbrev pub AppliesCall : Edit → List (Path × BaseNode) → Call → Result (Unit {0}) EditFault → List (Path × BaseNode) → Type 0
+abbrev pub AppliesCall : Pending → List (Path × BaseNode) → Call → Result (Unit {0}) EditFault → List (Path × BaseNode) → Type 0
 AppliesCall old nodes c answer nodes2 =
     (mode : Mode) (calls : List Call) → IsNext mode old calls c → IsNoted calls (batons_of old) nodes
     → Applied (edit_fault md5 mode calls c nodes) (effect mode calls c (get_in nodes)) nodes answer nodes2
 
 -- an edit that goes on holds what it should
-abbrev pub HoldsCall : Edit → Call → Result (Unit {0}) EditFault → Edit → Type 0
+abbrev pub HoldsCall : Pending → Call → Result (Unit {0}) EditFault → Pending → Type 0
 HoldsCall old c answer new =
     OnOk answer ((mode : Mode) (calls : List Call) → IsNext mode old calls c → is_last c ≡ false → Holds mode new (calls ++ c ∷ []))
 
 -- and so does what is noted of the texts of its open files
-abbrev pub KeepsCallBases : Edit → Call → Result (Unit {0}) EditFault → Edit → Type 0
+abbrev pub KeepsCallBases : Pending → Call → Result (Unit {0}) EditFault → Pending → Type 0
 KeepsCallBases old c answer new =
     OnOk answer ((mode : Mode) (calls : List Call) → IsNext mode old calls c → is_last c ≡ false
     → KeepsBases c (batons_of old) (batons_of new))
 
 -- a refused one has the pools of the accepted calls
-abbrev pub LeavesCallPools : Edit → Call → Result (Unit {0}) EditFault → Edit → Type 0
+abbrev pub LeavesCallPools : Pending → Call → Result (Unit {0}) EditFault → Pending → Type 0
 LeavesCallPools old c answer new =
     OnErr answer ((mode : Mode) (calls : List Call) → IsNext mode old calls c → HoldsPools new.pools (batons_of new) calls c)
 
 -- one that ended has one pool
-abbrev pub LeavesOne : Edit → Call → Result (Unit {0}) EditFault → Edit → Type 0
+abbrev pub LeavesOne : Pending → Call → Result (Unit {0}) EditFault → Pending → Type 0
 LeavesOne old c answer new =
     is_last c ≡ true → OnOk answer ((mode : Mode) (calls : List Call) → IsNext mode old calls c → OneIsLeft new)
 
-pub record Takes (old : Edit) (nodes : List (Path × BaseNode)) (c : Call) (answer : Result (Unit {0}) EditFault) (new : Edit)
+pub record Takes (old : Pending) (nodes : List (Path × BaseNode)) (c : Call) (answer : Result (Unit {0}) EditFault) (new : Pending)
     (nodes2 : List (Path × BaseNode)) : Type 0 where
   pub applied : AppliesCall old nodes c answer nodes2
+  pub refused : OnErr answer (nodes2 ≡ nodes)
   pub holds : HoldsCall old c answer new
   pub last : is_last c ≡ true → old.mode ≡ Update → IfErr answer (λ e. e ≢ Memory)
   pub abort : is_abort c ≡ true → IfErr answer (λ e. e ≢ Memory)
   pub left : LeavesOne old c answer new
-  pub order : new.order ≡ old.order
   pub bases : KeepsCallBases old c answer new
   pub base : OnOk answer (OpensBase c (batons_of new) nodes2)
   pub pools : LeavesCallPools old c answer new

@@ -15,7 +15,7 @@ ghost use Rattle.svn_edit.specs.Applying.{Applied, KeepsEdit, LetsGo, Says, bato
 ghost use Rattle.svn_edit.specs.Closing.{ClosesFile};
 
 use crate::baton::{Baton, drop_pool};
-use crate::edit::Edit;
+use crate::pending::Pending;
 use std::alloc::AllocError;
 use svn_editor::{Digest, EditFault, Mode, Token};
 use svn_model::BaseNode;
@@ -38,7 +38,7 @@ fn moved_to(joined: Result<RelPath, AllocError>) -> Result<Option<RelPath>, Allo
     Ok(Some(joined?))
 }
 
-impl Edit {
+impl Pending {
     // Lets go what an edit keeps of a token.
     pub(crate) fn close_baton(&mut self, token: Token)
         ensures gone { LetsGo token self.old self.new }

@@ -1,5 +1,5 @@
 //! An edit of a copy, call by call.
-ghost use Rattle.std.specs.Prelude.{◌≡◌, ◌≢◌, ◌+◌, ◌↔◌, IsTrue, [], ◌∷◌, ◌++◌, List, IfOk, IfErr, OnOk, OnErr, Ok, Some, None, true, false, if◌then◌else◌};
+ghost use Rattle.std.specs.Prelude.{◌≡◌, ◌≢◌, ◌+◌, ◌↔◌, IsTrue, [], ◌∷◌, ◌++◌, List, IfOk, IfErr, OnOk, OnErr, true, false};
 ghost use Rattle.md5.specs.Md5.{md5};
 ghost use Rattle.svn_types.specs.Names.{Path};
 ghost use Rattle.svn_editor.specs.Calls.{is_last, is_abort};
@@ -7,30 +7,20 @@ ghost use Rattle.std.specs.Option.{option_copied};
 ghost use Rattle.std.specs.List.{list_any};
 ghost use Rattle.svn_editor.specs.declared.mode.Mode.{Mode};
 ghost use Rattle.svn_editor.specs.declared.mode.Mode.TheVariants.{Update};
-ghost use Rattle.svn_editor.specs.Steps.{Delete, Text as TextOf};
-ghost use Rattle.svn_edit.specs.declared.baton.Note.TheVariants.{Text as NewText};
-ghost use Rattle.svn_edit.specs.Noted.{note_of_value, strings_of_value};
-ghost use Rattle.svn_edit.specs.declared.baton.Baton.{Baton};
 ghost use Rattle.svn_model.specs.declared.base_node.BaseNode.{BaseNode};
 ghost use Rattle.svn_model.specs.Nodes.{WorkingCopy, get_in};
-ghost use Rattle.svn_model.specs.Effects.{is_too_long, step_effect, step_fault, refusal};
-ghost use Rattle.svn_edit.specs.Applying.{Applied, KeepsEdit, MakesBaton, BatonNoted, TakenInOrder, batons_of, StandsAfter, path_open, live_count, open_count, HasEnded, IsRefused, StaysRefused, StaysEnded, LeavesRefused};
-ghost use Rattle.svn_nodes.specs.NodeTests.{IsSumOf};
-ghost use Rattle.svn_edit.specs.Leaving.{HoldsPools, IsLeft, LeavesPools, PoolsAfter, KeepsPools, NoteBegan};
-ghost use Rattle.svn_edit.specs.Taking.{Takes};
+ghost use Rattle.svn_model.specs.Effects.{refusal};
+ghost use Rattle.svn_edit.specs.Applying.{TakenInOrder, batons_of, StandsAfter, path_open, live_count, open_count, HasEnded, IsRefused, StaysRefused, StaysEnded, LeavesRefused};
+ghost use Rattle.svn_edit.specs.Leaving.{HoldsPools, IsLeft, LeavesPools, PoolsAfter};
 ghost use Rattle.svn_model.specs.Answering.{AnswersCall, WantsInOrder};
 ghost use Rattle.std.specs.FinMap as map;
-ghost use Rattle.svn_pool.specs.Ancestry.{IsCleared};
 
-use crate::baton::{Baton, drop_pool};
-use crate::open_path::OpenPath;
+use crate::pending::Pending;
 use std::alloc::Global;
-use svn_editor::{Call, Digest, EditFault, Mode, OrderFault, Token};
-use svn_nodes::{Nodes, nodes, or_memory};
+use svn_editor::{Call, EditFault, Mode, OrderFault, Token};
+use svn_nodes::Nodes;
 use svn_order::OrderCheck;
-use svn_pool::{PoolId, PoolTree};
-use svn_serials::SerialMap;
-use svn_types::{MAX_SIZE, PropName, RelPath, Rev, Text, impossible};
+use svn_types::RelPath;
 
 /// How far an edit is.
 #[derive(Clone, Copy)]
@@ -43,40 +33,12 @@ pub(crate) enum Stage {
     Ended,
 }
 
-/// An edit: how far it is, the check of the order of its calls, and a baton for each open file and directory: what is to be done at its close.
-/// The strings that it keeps until then lie in pools, one for each baton.
+/// An edit: how far it is, the check of the order of its calls, and what the calls in order leave to be done.
 #[derive(Drop)]
 pub struct Edit {
     pub(crate) stage: Stage,
     pub(crate) order: OrderCheck,
-    pub(crate) target: Rev,
-    /// Whether it is of an update, or of a switch of the whole copy.
-    pub(crate) mode: Mode,
-    pub(crate) pools: PoolTree<Global>,
-    // The token that a call in order names has a baton. But the calls so far, from which that follows, are in no field and in no
-    // condition of a call, so where a baton is looked up the branch without one stays, and is `impossible`.
-    pub(crate) batons: SerialMap<Baton, Global>,
-    /// The text that came last, from its call to the next close of a file, where a clone of it copies no bytes and knows their checksum.
-    /// That close may install it, once it is found to be what lies in the pool.
-    pub(crate) given: Option<Text>,
-    pub(crate) alloc: Global,
-}
-
-// A clone of a text that copies no bytes and knows their checksum, where the text keeps that.
-fn kept(text: &Text) -> Option<Text> {
-    match text.kept_checksum() {
-        Some(_) => text.clone().ok(),
-        None => None,
-    }
-}
-
-fn is_too_long(value: Option<&Text>) -> bool
-    ensures { result ≡ is_too_long (option_copied value.entry) }
-{
-    match value {
-        Some(value) => value.len() > MAX_SIZE,
-        None => false,
-    }
+    pub(crate) pending: Pending,
 }
 
 impl Edit {
@@ -85,36 +47,26 @@ impl Edit {
         ensures begun { IfOk result (λ e. (nodes : List (Path × BaseNode)) → StandsAfter mode (get_in nodes) e nodes []) }
         ensures memory { IfErr result (λ e. e ≡ EditFault.Memory) }
     {
-        let Ok(pools) = PoolTree::new(alloc) else {
-            return Err(EditFault::Memory);
-        };
+        let pending = Pending::new(alloc, mode)?;
         Ok(Edit {
             stage: Stage::Going,
             order: OrderCheck::new(alloc),
-            target: Rev(0),
-            mode,
-            pools,
-            batons: SerialMap::new(alloc),
-            given: None,
-            alloc,
+            pending,
         })
     }
 
     /// Whether it is an edit of an update, and not of a switch of the whole copy. It takes no memory.
     pub fn is_update(&self) -> bool
-        ensures { IsTrue result ↔ (self.now.mode ≡ Update) }
+        ensures { IsTrue result ↔ (self.now.pending.mode ≡ Update) }
     {
-        matches!(self.mode, Mode::Update)
+        matches!(self.pending.mode, Mode::Update)
     }
 
     /// The path of the file or directory that is open under a token. It takes no memory.
     pub fn open_path(&self, token: Token) -> Option<&RelPath>
         ensures { (mode : Mode) (w0 : WorkingCopy) (nodes : List (Path × BaseNode)) (calls : List Call) → StandsAfter mode w0 self.now nodes calls → list_any is_last calls ≡ false → option_copied result ≡ path_open calls token }
     {
-        match self.batons.get(token.0) {
-            Some(baton) => Some(baton.path.as_rel_path()),
-            None => None,
-        }
+        self.pending.open_path(token)
     }
 
     /// Takes the next call, and changes the copy as it says. The order check's faults come first, then those of the copy: DeleteEntry
@@ -129,7 +81,7 @@ impl Edit {
         ensures refused { OnErr result ((mode : Mode) (w0 : WorkingCopy) (calls : List Call) → StandsAfter mode w0 self.old copy.old.entries calls → copy.new.entries ≡ copy.old.entries) }
         ensures dead { LeavesRefused self.old.stage result self.new }
         ensures was_refused { IsRefused self.old → StaysRefused call.now result self.new × (copy.new ≡ copy.old) }
-        ensures last { is_last call.now ≡ true → self.old.mode ≡ Update → IfErr result (λ e. e ≢ EditFault.Memory) }
+        ensures last { is_last call.now ≡ true → self.old.pending.mode ≡ Update → IfErr result (λ e. e ≢ EditFault.Memory) }
         ensures abort { is_abort call.now ≡ true → IfErr result (λ e. e ≢ EditFault.Memory) }
         ensures ended { HasEnded self.old → StaysEnded self.old result self.new × (copy.new ≡ copy.old) }
         ensures pools { PoolsAfter self.old copy.old.entries call.now result self.new }
@@ -143,11 +95,11 @@ impl Edit {
 
     /// How many pools are live: one, and one for each file or directory that is open. It takes no memory.
     pub fn live_pools(&self) -> u64
-        ensures live { result ≡ map.len self.now.pools.live }
+        ensures live { result ≡ map.len self.now.pending.pools.live }
         ensures count { (mode : Mode) (w0 : WorkingCopy) (nodes : List (Path × BaseNode)) (calls : List Call) → StandsAfter mode w0 self.now nodes calls → result ≡ live_count calls }
         ensures left { (calls : List Call) (c : Call) → IsLeft calls c self.now → result ≡ open_count calls + 1 }
     {
-        self.pools.live()
+        self.pending.pools.live()
     }
 
     // Takes the next call after a refusal.
@@ -157,7 +109,7 @@ impl Edit {
         ensures left { (calls : List Call) (c : Call) → IsLeft calls c self.old → LeavesPools call.now self.old self.new }
     {
         if matches!(call, Call::AbortEdit) {
-            self.drop_batons();
+            self.pending.drop_batons();
             self.stage = Stage::Ended;
             Ok(())
         } else {
@@ -171,10 +123,10 @@ impl Edit {
         ensures in_order { (mode : Mode) (w0 : WorkingCopy) (calls : List Call) → StandsAfter mode w0 self.old copy.old.entries calls → WantsInOrder calls call.now result }
         ensures accepted { OnOk result ((mode : Mode) (w0 : WorkingCopy) (calls : List Call) → StandsAfter mode w0 self.old copy.old.entries calls → StandsAfter mode w0 self.new copy.new.entries (calls ++ call.now ∷ [])) }
         ensures refused { OnErr result ((mode : Mode) (w0 : WorkingCopy) (calls : List Call) → StandsAfter mode w0 self.old copy.old.entries calls → copy.new.entries ≡ copy.old.entries) }
-        ensures last { is_last call.now ≡ true → self.old.mode ≡ Update → IfErr result (λ e. e ≢ EditFault.Memory) }
+        ensures last { is_last call.now ≡ true → self.old.pending.mode ≡ Update → IfErr result (λ e. e ≢ EditFault.Memory) }
         ensures abort { is_abort call.now ≡ true → IfErr result (λ e. e ≢ EditFault.Memory) }
         ensures dead { OnErr result (IsRefused self.new) }
-        ensures left { OnErr result ((mode : Mode) (w0 : WorkingCopy) (calls : List Call) → StandsAfter mode w0 self.old copy.old.entries calls → list_any is_last calls ≡ false → HoldsPools self.new.pools (batons_of self.new) calls call.now) }
+        ensures left { OnErr result ((mode : Mode) (w0 : WorkingCopy) (calls : List Call) → StandsAfter mode w0 self.old copy.old.entries calls → list_any is_last calls ≡ false → HoldsPools self.new.pending.pools (batons_of self.new.pending) calls call.now) }
     {
         let answer = self.take_in_order(copy, call);
         if answer.is_err() {
@@ -189,160 +141,12 @@ impl Edit {
         ensures answers { (mode : Mode) (w0 : WorkingCopy) (calls : List Call) → StandsAfter mode w0 self.old copy.old.entries calls → AnswersCall (refusal md5 mode calls call.now copy.old.entries) result }
         ensures in_order { (mode : Mode) (w0 : WorkingCopy) (calls : List Call) → StandsAfter mode w0 self.old copy.old.entries calls → WantsInOrder calls call.now result }
         ensures accepted { OnOk result ((mode : Mode) (w0 : WorkingCopy) (calls : List Call) → StandsAfter mode w0 self.old copy.old.entries calls → TakenInOrder mode w0 self.new copy.new.entries calls call.now) }
-        ensures last { is_last call.now ≡ true → self.old.mode ≡ Update → IfErr result (λ e. e ≢ EditFault.Memory) }
+        ensures last { is_last call.now ≡ true → self.old.pending.mode ≡ Update → IfErr result (λ e. e ≢ EditFault.Memory) }
         ensures abort { is_abort call.now ≡ true → IfErr result (λ e. e ≢ EditFault.Memory) }
         ensures refused { OnErr result ((mode : Mode) (w0 : WorkingCopy) (calls : List Call) → StandsAfter mode w0 self.old copy.old.entries calls → copy.new.entries ≡ copy.old.entries) }
-        ensures pools { OnErr result ((mode : Mode) (w0 : WorkingCopy) (calls : List Call) → StandsAfter mode w0 self.old copy.old.entries calls → list_any is_last calls ≡ false → HoldsPools self.new.pools (batons_of self.new) calls call.now) }
+        ensures pools { OnErr result ((mode : Mode) (w0 : WorkingCopy) (calls : List Call) → StandsAfter mode w0 self.old copy.old.entries calls → list_any is_last calls ≡ false → HoldsPools self.new.pending.pools (batons_of self.new.pending) calls call.now) }
     {
         self.order.step(call)?;
-        self.apply(copy, call)
-    }
-
-    // Applies a call that is in order.
-    fn apply(&mut self, copy: &mut Nodes, call: &Call) -> Result<(), EditFault>
-        ensures { Takes self.old copy.old.entries call.now result self.new copy.new.entries }
-    {
-        match call {
-            Call::SetTargetRevision { rev } => {
-                self.target = *rev;
-                Ok(())
-            }
-            Call::OpenRoot { base, token } => self.open_root(copy, *base, *token),
-            Call::DeleteEntry { path, rev, .. } => self.delete_entry(copy, path, *rev),
-            Call::AddDirectory {
-                path,
-                parent,
-                token,
-            } => self.add_directory(copy, path, *parent, *token),
-            Call::OpenDirectory {
-                path,
-                parent,
-                base,
-                token,
-            } => self.open_directory(copy, path, *base, Some(*parent), *token),
-            Call::CloseDirectory { token } => self.close_directory(copy, *token),
-            Call::AddFile {
-                path,
-                parent,
-                token,
-            } => self.add_file(copy, path, *parent, *token),
-            Call::OpenFile {
-                path,
-                parent,
-                base,
-                token,
-            } => self.open_file(copy, path, *base, *parent, *token),
-            Call::ChangeDirProp { token, name, value } => { self.change_prop(*token, name, value) }
-            Call::ChangeFileProp { token, name, value } => { self.change_prop(*token, name, value) }
-            Call::ApplyText {
-                token,
-                base_md5,
-                text,
-            } => self.apply_text(copy, *token, base_md5, text),
-            Call::CloseFile { token, text_md5 } => self.close_file(copy, *token, text_md5),
-            Call::CloseEdit => self.close_edit(copy),
-            Call::AbortEdit => {
-                self.drop_batons();
-                Ok(())
-            }
-        }
-    }
-
-    // Closes all that is open, and nothing is done for it.
-    fn drop_batons(&mut self)
-        ensures keeps { KeepsEdit self.old self.new }
-        ensures cleared { IsCleared self.old.pools self.new.pools self.old.pools.root }
-    {
-        self.batons.clear();
-        let root = self.pools.root();
-        match self.pools.clear(root) {
-            Ok(()) => (),
-            Err(_) => (),
-        }
-    }
-
-    // Opens a baton, with what is noted of the base of its text.
-    pub(crate) fn open_baton(
-        &mut self,
-        beneath: PoolId,
-        path: OpenPath,
-        token: Token,
-        base: Option<Digest>,
-    ) -> Result<(), EditFault>
-        ensures opened { OnOk result (MakesBaton beneath.0 path token self.old self.new) }
-        ensures base { OnOk result ((b : Baton) → batons_of self.new token ≡ Some b → b.base ≡ base) }
-        ensures keeps { KeepsEdit self.old self.new }
-        ensures unchanged { OnErr result (KeepsPools self.old self.new) }
-        ensures fault { IfErr result (λ e. e ≡ EditFault.Memory) }
-    {
-        let Ok(mut baton) = Baton::open(self.alloc, &mut self.pools, beneath, path) else {
-            return Err(EditFault::Memory);
-        };
-        baton.base = base;
-        let pool = baton.pool;
-        let Ok(_) = self.batons.insert(token.0, baton) else {
-            drop_pool(&mut self.pools, pool);
-            return Err(EditFault::Memory);
-        };
-        Ok(())
-    }
-
-    fn delete_entry(&self, copy: &mut Nodes, path: &RelPath, rev: Rev) -> Result<(), EditFault>
-        ensures { let a = Delete rev in let w = get_in copy.old.entries in Applied (step_fault md5 self.now.mode [] w path.now a) (step_effect self.now.mode self.now.target [] (record { path = path.now; action = a }) w) copy.old.entries result copy.new.entries }
-    {
-        if let Some(fault) = nodes::delete_fault(copy.get(path), rev) {
-            return Err(fault);
-        }
-        nodes::delete_within(self.alloc, copy, path);
-        Ok(())
-    }
-
-    fn change_prop(
-        &mut self,
-        token: Token,
-        name: &PropName,
-        value: &Option<Text>,
-    ) -> Result<(), EditFault>
-        ensures keeps { KeepsEdit self.old self.new }
-        ensures began { OnErr result ((b : Baton) → batons_of self.old token ≡ Some b → NoteBegan token b (name.now ∷ strings_of_value value.now) self.old self.new) }
-        ensures answers { AnswersCall (if is_too_long value.now then Some EditFault.TooLong else None) result }
-        ensures noted { OnOk result ((b : Baton) → batons_of self.old token ≡ Some b → BatonNoted token b (note_of_value value.now) (name.now ∷ strings_of_value value.now) self.old.pools (batons_of self.old) self.new.pools (batons_of self.new)) }
-    {
-        if is_too_long(value.as_ref()) {
-            return Err(EditFault::TooLong);
-        }
-        match self.batons.get_mut(token.0) {
-            Some(baton) => or_memory(baton.note_change(&mut self.pools, name, value)),
-            // what a call in order changes is open
-            None => Err(impossible(EditFault::Memory)),
-        }
-    }
-
-    fn apply_text(
-        &mut self,
-        copy: &Nodes,
-        token: Token,
-        base_md5: &Option<Digest>,
-        text: &Text,
-    ) -> Result<(), EditFault>
-        ensures keeps { KeepsEdit self.old self.new }
-        ensures began { OnErr result ((b : Baton) → batons_of self.old token ≡ Some b → NoteBegan token b (text.now ∷ []) self.old self.new) }
-        ensures answers { (b : Baton) → batons_of self.old token ≡ Some b → IsSumOf b.base copy.now.entries b.path → AnswersCall (step_fault md5 Update [] (get_in copy.now.entries) b.path (TextOf base_md5.now text.now)) result }
-        ensures noted { OnOk result ((b : Baton) → batons_of self.old token ≡ Some b → BatonNoted token b NewText (text.now ∷ []) self.old.pools (batons_of self.old) self.new.pools (batons_of self.new)) }
-    {
-        if is_too_long(Some(text)) {
-            return Err(EditFault::TooLong);
-        }
-        match self.batons.get_mut(token.0) {
-            Some(baton) => {
-                if nodes::is_wrong_base(base_md5, baton.base, copy, baton.path.as_rel_path()) {
-                    return Err(EditFault::BaseChecksum);
-                }
-                self.given = kept(text);
-                or_memory(baton.note_text(&mut self.pools, text))
-            }
-            // what a call in order changes is open
-            None => Err(impossible(EditFault::Memory)),
-        }
+        self.pending.apply(copy, call)
     }
 }

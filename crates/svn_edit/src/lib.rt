@@ -4,6 +4,9 @@
 //! of `svn_wc` holds an edit beside its copy, and is an `Editor`. What an edit asks of one node, and what it does to it, is in `svn_nodes`; here
 //! are its batons, each with a pool of what was said of an open file or directory.
 //!
+//! [`Pending`] is the part of an edit below the check of the order of calls. A caller who knows that the calls are in order and that none is
+//! refused may use it by itself: `carry` does what such a call says, and tests neither.
+//!
 //! ```
 //! let mut edit = Edit::new(alloc, Mode::Update)?;
 //! edit.call(&mut nodes, &Call::SetTargetRevision { rev: Rev(2) })?;
@@ -14,7 +17,9 @@
 //! Promises, all of `Edit::call`, for every list of calls after which the edit stands (`StandsAfter` of `specs/Applying.antt`), in an update and a
 //! switch: the next call is answered as the rules of the edit demand, or Memory (`answers`); accepted, the nodes are what the definition's
 //! effect makes of them (`accepted`); refused, they are as they were (`refused`), and only giving up is left (`dead`, `was_refused`); after
-//! the end each call is Ended (`ended`). `CloseEdit` of an update and `AbortEdit` take no memory (`last`, `abort`).
+//! the end each call is Ended (`ended`). `CloseEdit` of an update and `AbortEdit` take no memory (`last`, `abort`). Those of `Pending::carry`, in
+//! `Carries` of `specs/Carrying.antt`: a known call has its effect (`carried`), or the fault is Memory (`memory`); after a fault, of any call, the
+//! nodes are as they were (`refused`).
 #![tactic(auto)]
 
 mod baton;
@@ -22,5 +27,7 @@ mod closing;
 mod edit;
 mod open_path;
 mod opening;
+mod pending;
 
 pub use edit::Edit;
+pub use pending::Pending;

@@ -2,10 +2,11 @@
 ghost use Rattle.std.specs.Prelude.{◌≡◌, [], Option, IfOk, IfErr, OnOk, OnErr, Some, None, unwrap_or, if◌then◌else◌};
 ghost use Rattle.std.specs.Option.{option_copied, option_or};
 ghost use Rattle.svn_types.specs.Names.{Path};
-ghost use Rattle.svn_types.specs.Paths.{path_eq};
+ghost use Rattle.svn_types.specs.Paths.{parent as directory_of, path_eq};
 ghost use Rattle.svn_types.specs.declared.kind.Kind.TheVariants.{File, Directory};
 ghost use Rattle.svn_editor.specs.Steps.{Open, Add};
 ghost use Rattle.svn_model.specs.Nodes.{get_in, is_present, node_path};
+ghost use Rattle.svn_model.specs.declared.base_node.BaseNode.TheVariants.{NotPresent};
 ghost use Rattle.svn_model.specs.Effects.{added_node, joined_path, moved_path};
 ghost use Rattle.svn_model.specs.Answering.{AnswersCall};
 ghost use Rattle.svn_nodes.specs.NodeTests.{open_fault_of, deep_fault, AnswersAs, IsSumOf};
@@ -15,9 +16,9 @@ ghost use Rattle.svn_edit.specs.Opening.{GivesToken};
 ghost use Rattle.svn_edit.specs.Leaving.{KeepsPools};
 
 use crate::baton::Baton;
-use crate::edit::Edit;
 use crate::open_path;
 use crate::open_path::OpenPath;
+use crate::pending::Pending;
 use svn_editor::{Digest, EditFault, Mode, Token};
 use svn_model::BaseNode;
 use svn_nodes::{Nodes, nodes, or_memory, paths};
@@ -32,7 +33,19 @@ struct NewNode {
     node: BaseNode,
 }
 
-impl Edit {
+// What a file is made of that is added to the directory above. Until its close it stands as not present.
+fn file_below(path: &RelPath, above: RelPath) -> Result<NewNode, EditFault>
+    requires { above ≡ directory_of path.now }
+    ensures { MakesNode path.now None NotPresent result }
+{
+    Ok(NewNode {
+        at: or_memory(path.clone())?,
+        opened: or_memory(OpenPath::added(path, above))?,
+        node: BaseNode::NotPresent,
+    })
+}
+
+impl Pending {
     // The baton of the directory that a call names as parent, if it names one.
     fn baton_of(&self, parent: Option<Token>) -> Option<&Baton>
         ensures { let root = self.now.pools.root in pool_or root (option_copied result) ≡ pool_of_parent root (batons_of self.now) parent }
@@ -190,6 +203,17 @@ impl Edit {
         self.open_at(root, own, token, nodes::kept_sum(node))
     }
 
+    // Opens a file that is known to be there and not to be refused: it isn't looked up, and nothing is noted of its text.
+    pub(crate) fn open_known_file(&mut self, path: &RelPath, token: Token) -> Result<(), EditFault>
+        ensures opened { OnOk result (MakesBaton self.old.pools.root path.now token self.old self.new) }
+        ensures base { OnOk result ((b : Baton) → batons_of self.new token ≡ Some b → b.base ≡ None) }
+        ensures keeps { KeepsEdit self.old self.new }
+        ensures fault { IfErr result (λ e. e ≡ EditFault.Memory) }
+    {
+        let root = self.pools.root();
+        self.open_at(root, path, token, None)
+    }
+
     // What an added directory is made of.
     fn new_directory(
         &self,
@@ -213,7 +237,7 @@ impl Edit {
         })
     }
 
-    // What an added file is made of. Until its close it stands as not present.
+    // What an added file is made of.
     fn new_file(
         &self,
         copy: &Nodes,
@@ -224,11 +248,15 @@ impl Edit {
     {
         let above = or_memory(open_path::above(self.alloc, path, parent))?;
         paths::test_joined(self.alloc, copy, &above, path)?;
-        Ok(NewNode {
-            at: or_memory(path.clone())?,
-            opened: or_memory(OpenPath::added(path, above))?,
-            node: BaseNode::NotPresent,
-        })
+        file_below(path, above)
+    }
+
+    // The same, where it is known not to be too deep.
+    fn known_file(&self, path: &RelPath, parent: Option<&Baton>) -> Result<NewNode, EditFault>
+        ensures { MakesNode path.now None NotPresent result }
+    {
+        let above = or_memory(open_path::above(self.alloc, path, parent))?;
+        file_below(path, above)
     }
 
     // Puts a new node where none is present, once its baton is open. Where the node isn't put, the baton goes again.
@@ -312,6 +340,24 @@ impl Edit {
     {
         let root = self.pools.root();
         let new = self.new_file(copy, path, self.batons.get(parent.0));
+        self.add(copy, path, new, root, token)
+    }
+
+    // Adds a file that is known not to be too deep.
+    pub(crate) fn add_known_file(
+        &mut self,
+        copy: &mut Nodes,
+        path: &RelPath,
+        parent: Token,
+        token: Token,
+    ) -> Result<(), EditFault>
+        ensures opened { OnOk result (MakesBaton self.old.pools.root path.now token self.old self.new) }
+        ensures base { OnOk result ((b : Baton) → batons_of self.new token ≡ Some b → b.base ≡ None) }
+        ensures keeps { KeepsEdit self.old self.new }
+        ensures applied { let w = get_in copy.old.entries in Applied (if is_present (w path.now) then Some EditFault.EntryExists else None) (λ p. if path_eq path.now p then Some NotPresent else w p) copy.old.entries result copy.new.entries }
+    {
+        let root = self.pools.root();
+        let new = self.known_file(path, self.batons.get(parent.0));
         self.add(copy, path, new, root, token)
     }
 }

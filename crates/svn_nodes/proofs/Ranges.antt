@@ -173,6 +173,20 @@ below_there path p es = by (is_within path p) refl (path_eq path p) refl
     by true w true same = ap is_some (found false (itself same (path_cmp path p) refl))
     by true w false same = ap is_some (found true (ap (λ o. is_lt o && not false) (below_after path p w same)))
 
+-- where the next node behind a path isn't within it, none is below it
+pub none_below : (path : Path) (es left : List (Path × BaseNode)) → left ≡ nodes_behind path es → InPathOrder left → IsPast path left
+    → (p : Path) → is_below path p ≡ true → get_in es p ≡ None
+none_below path es left h order past p below =
+    missing (get_in es p) (paths_are path (nodes_behind path es) [] left (taken_none path (nodes_behind path es) left from)
+    (subst InPathOrder from order) past p ∙ below_there path p es ∙ ap (λ b. b && is_some (get_in es p)) below)
+  where
+    from : left ≡ from_path path (nodes_behind path es)
+    from = h ∙ sym (from_behind path es)
+
+    missing : (o : Option BaseNode) → false ≡ is_some o → o ≡ None
+    missing None h = refl
+    missing (Some n) h = absurd (true≢false (sym h))
+
 -- ---- a run of what is in order is in order
 
 order_front : (xs ys : List (Path × BaseNode)) → InPathOrder (xs ++ ys) → InPathOrder xs

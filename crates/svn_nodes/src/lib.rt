@@ -27,6 +27,7 @@
 #![tactic(auto)]
 
 pub mod ahead;
+mod append;
 pub mod ending;
 pub mod gather;
 pub mod lines;

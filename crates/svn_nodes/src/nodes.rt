@@ -207,8 +207,8 @@ pub fn sweep_below(nodes: &mut Nodes, path: &RelPath)
     nodes.retain(|other, _| stays(path, other));
 }
 
-// Removes what stands below a path, at the cost of what goes. Where the memory of a list is refused, each node is looked at.
-fn remove_below(alloc: Global, nodes: &mut Nodes, path: &RelPath)
+/// Removes what stands below a path, at the cost of what goes. Where the memory of a list is refused, each node is looked at.
+pub(crate) fn remove_below(alloc: Global, nodes: &mut Nodes, path: &RelPath)
     ensures { (p : Path) → get_in nodes.new.entries p ≡ (if is_below path.now p then None else get_in nodes.old.entries p) }
 {
     match few_below(alloc, nodes, path) {

@@ -8,6 +8,7 @@ ghost use Rattle.svn_types.specs.Paths.{path_eq, is_within};
 ghost use Rattle.svn_model.specs.Nodes.{get_in, InPathOrder, is_dir};
 
 use crate::ahead::Ahead;
+use crate::append::{append_within, has_none_below};
 use crate::nodes::{Nodes, remove_all};
 use crate::overwrite::overwrite_all;
 use std::alloc::{AllocError, Global};
@@ -152,6 +153,9 @@ pub fn replace_within(
     ensures replaced { OnOk result ((p : Path) → get_in nodes.new.entries p ≡ (if is_within at.now p then get_in part.entries p else get_in nodes.old.entries p)) }
     ensures unchanged { OnErr result (nodes.new.entries ≡ nodes.old.entries) }
 {
+    if has_none_below(nodes, at) {
+        return append_within(alloc, nodes, at, part);
+    }
     let gone = paths_without(alloc, at, nodes, &part)?;
     let new = paths_without(alloc, at, &part, nodes)?;
     make_room(nodes, &new)?;

@@ -6,7 +6,7 @@ use Rattle.std.specs.List.Sorted.{IsPartitionPoint, IsPartitionedBy}
 use Rattle.std.specs.declared.cmp.Ordering.{Ordering}
 use Rattle.std.specs.declared.cmp.Ordering.TheVariants.{Less, Equal, Greater}
 use Rattle.std.specs.Ordering.{is_le, is_lt, ordering_then, ordering_reverse, is_eq}
-use Rattle.std.proofs.lemmas.Bool.{and_parts, cases_lt, not-false, not-true}
+use Rattle.std.proofs.lemmas.Bool.{and_parts, cases_lt, not-false}
 use Rattle.std.proofs.lemmas.List.{take_all}
 use Rattle.std.proofs.lemmas.Option.{slice_get_within, slice_get-get_or, get_or_from_slice_get, same_Some}
 use Rattle.std.specs.Cmp.Lexicographic.{texts_ties}
@@ -22,7 +22,7 @@ use Rattle.svn_report.specs.LawfulReports.{AreLawfulEntries}
 use Rattle.svn_report.specs.ReportOrder.{InPathOrder, IsNextEntry, IsPreviousEntry, IsFirstBehind, ComesLast, has_entry, is_behind_name}
 use Rattle.svn_report.specs.ReportOrder.{is_ahead_of_name}
 use Rattle.svn_types.proofs.NameLemmas.{Name, level_names}
-use Rattle.svn_types.proofs.PathLemmas.{same_path, path_eq-same}
+use Rattle.svn_types.proofs.PathLemmas.{same_path}
 use Rattle.svn_types.proofs.PathsInOrder.{paths_total, path_tie, not_before_itself, not_both, within_between}
 
 -- where a path stands that has an entry
@@ -197,6 +197,19 @@ none_past es x q ordered h has l = by (cases_lt r.0 (length es - 1))
         let at = same_Some x r.1 (sym h ∙ ap (slice_get es) same ∙ r.2) in
         not_before_itself q (ap (λ (z : Path). path_cmp z q) (sym (ap (λ (e : Path × ReportEntry). e.0) at ∙ r.3)) ∙ l)
 
+pub next_past : (es : Entries) (p : Path) (x : Path × ReportEntry) → InPathOrder es → slice_get es (length es - 1) ≡ Some x
+    → is_le (path_cmp x.0 p) ≡ true → IsNextEntry es p None
+next_past es p x ordered h le q l = by (has_entry es q) refl
+  where
+    after : (o : Ordering) → path_cmp x.0 p ≡ o → is_le o ≡ true → path_cmp x.0 q ≡ Less
+    after Less e u = paths_total.trans x.0 p q e l
+    after Equal e u = ap (λ (z : Path). path_cmp z q) (path_tie x.0 p e) ∙ l
+    after Greater e u = absurd (true≢false (sym u))
+
+    by : (b : Bool) → has_entry es q ≡ b → b ≡ false
+    by true has = absurd (none_past es x q ordered h has (after (path_cmp x.0 p) refl le))
+    by false has = refl
+
 pub previous_last : (es : Entries) (p : Path) (x : Path × ReportEntry) → InPathOrder es → AreLawfulEntries es
     → slice_get es (length es - 1) ≡ Some x → is_lt (path_cmp x.0 p) ≡ true → IsPreviousEntry es p (Some x.0)
 previous_last es p x ordered lawful h l = (
@@ -223,61 +236,17 @@ pub previous_none_at : (es : Entries) (p : Path) (i : ℕ) → InPathOrder es �
     → IsPartitionPoint (λ e. is_lt (path_cmp e.0 p) ≡ true) (λ e. is_lt (path_cmp e.0 p) ≡ false) es i → i ≡ zero → IsPreviousEntry es p None
 previous_none_at es p i ordered lawful point e = λ q l. none_passing es (λ q. is_lt (path_cmp q p)) i ordered lawful point e q (ap is_lt l)
 
--- ---- a path that has no entry, by the point of a comparison
-
-not_before : (p : Path) → is_lt (path_cmp p p) ≡ false
-not_before p = by (path_cmp p p) refl
-  where
-    by : (o : Ordering) → path_cmp p p ≡ o → is_lt o ≡ false
-    by Less e = absurd (not_before_itself p e)
-    by Equal e = refl
-    by Greater e = refl
-
-pub none_at : (es : Entries) (p : Path) (i : ℕ) → InPathOrder es → AreLawfulEntries es
-    → IsPartitionPoint (λ e. is_lt (path_cmp e.0 p) ≡ true) (λ e. is_lt (path_cmp e.0 p) ≡ false) es i
-    → None ≡ option_map (λ e. e.0) (slice_get es i) → has_entry es p ≡ false
-none_at es p i ordered lawful point e = by (slice_get es i) refl e
-  where
-    by : (o : Option (Path × ReportEntry)) → slice_get es i ≡ o → None ≡ option_map (λ e. e.0) o → has_entry es p ≡ false
-    by None h e = none_failing es (λ q. is_lt (path_cmp q p)) i ordered lawful point h p (not_before p)
-    by (Some x) h e = absurd (some-none x.0 (sym e))
-
-pub another_at : (es : Entries) (p q : Path) (i : ℕ) → InPathOrder es → AreLawfulEntries es
-    → IsPartitionPoint (λ e. is_lt (path_cmp e.0 p) ≡ true) (λ e. is_lt (path_cmp e.0 p) ≡ false) es i
-    → Some q ≡ option_map (λ e. e.0) (slice_get es i) → path_eq p q ≡ false → has_entry es p ≡ false
-another_at es p q i ordered lawful point e apart = by (slice_get es i) refl e
-  where
-    pred : Path → Bool
-    pred r = is_lt (path_cmp r p)
-
-    ahead : (x : Path × ReportEntry) → pred x.0 ≡ false → path_eq p x.0 ≡ false → path_cmp p x.0 ≡ Less
-    ahead x fails other = at (path_cmp p x.0) refl
-      where
-        at : (o : Ordering) → path_cmp p x.0 ≡ o → path_cmp p x.0 ≡ Less
-        at Less e = e
-        at Equal e = absurd (true≢false (sym (path_eq-same p) ∙ ap (path_eq p) (path_tie p x.0 e) ∙ other))
-        at Greater e = absurd (true≢false (sym (ap is_lt (paths_total.antisymm x.0 p ∙ ap ordering_reverse e)) ∙ fails))
-
-    by : (o : Option (Path × ReportEntry)) → slice_get es i ≡ o → Some q ≡ option_map (λ e. e.0) o → has_entry es p ≡ false
-    by None h e = absurd (some-none q e)
-    by (Some x) h e = at (has_entry es p) refl
-      where
-        other : path_eq p x.0 ≡ false
-        other = ap (path_eq p) (sym (same_Some q x.0 e)) ∙ apart
-
-        at : (b : Bool) → has_entry es p ≡ b → b ≡ false
-        at true has =
-            absurd (first_failing es pred i ordered lawful point x h p (not_before p) has
-            (ahead x (fails_at es pred i ordered lawful point x h).0 other))
-        at false has = refl
-
 -- ---- behind a name beneath a path
 
 pub behind_parts : (p : Path) (n : Name) (q : Path) → is_behind_name p n q ≡ true
     → (path_cmp (child p n) q ≡ Less) × (is_within (child p n) q ≡ false)
 behind_parts p n q h =
     let parts = and_parts (is_lt (path_cmp (child p n) q)) (not (is_within (child p n) q)) h in
-    (less_from_is_lt (path_cmp (child p n) q) parts.0, not-true (is_within (child p n) q) parts.1)
+    (less_from_is_lt (path_cmp (child p n) q) parts.0, apart (is_within (child p n) q) parts.1)
+  where
+    apart : (b : Bool) → not b ≡ true → b ≡ false
+    apart true h = absurd (true≢false (sym h))
+    apart false h = refl
 
 behind_from : (p : Path) (n : Name) (q : Path) → path_cmp (child p n) q ≡ Less → is_within (child p n) q ≡ false
     → is_behind_name p n q ≡ true

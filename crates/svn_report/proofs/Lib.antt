@@ -10,3 +10,5 @@ pub mod NextNames
 pub mod ReportedNames
 -- what follows the revision in an entry's line
 mod Endings
+-- the entries in path order, as they came or sorted
+mod Sorting

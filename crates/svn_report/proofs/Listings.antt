@@ -41,11 +41,6 @@ lookup_entry (e ∷ es) p =
     ap (λ b. cond b (Some e.1) (lookup (path_eq p) es)) (path_eq-symm p e.0)
     ∙ ap (λ o. cond (path_eq e.0 p) (Some e.1) o) (lookup_entry es p)
 
--- the entry that stands at a position is the one at its path
-pub entry_there : (es : Entries) (p : Path) (i : ℕ) (x : Path × ReportEntry) → AreLawfulEntries es → slice_get es i ≡ Some x
-    → path_eq x.0 p ≡ true → Some x.1 ≡ entry_at es p
-entry_there es p i x lawful h s = sym (lawful.each_once i x h) ∙ ap (entry_at es) (same_path x.0 p s)
-
 -- an entry somewhere has an entry at its path, and the other way round
 pub somewhere : (f : Path → Bool) (es : Entries) → list_any (λ e. f e.0) es ≡ true
     → (q : Path) × (f q ≡ true) × (is_some (entry_at es q) ≡ true)

@@ -1,14 +1,12 @@
-//! Entries that came in the order of their paths: what stands next to a path is found near a position, or else by halves. A position says
-//! where to look first, and changes no answer.
-ghost use Rattle.std.specs.Prelude.{◌≡◌, IsTrue, false, slice_get};
+//! Entries that came in the order of their paths: what stands next to a path is found by halves.
+ghost use Rattle.std.specs.Prelude.{◌≡◌, IsTrue, slice_get};
 ghost use Rattle.std.specs.Option.{option_copied, option_map};
 ghost use Rattle.std.specs.Ordering.{is_le, is_lt};
 ghost use Rattle.svn_types.specs.Names.{path_cmp};
 ghost use Rattle.svn_report.specs.LawfulReports.{AreLawfulEntries};
-ghost use Rattle.svn_report.specs.ReportOrder.{InPathOrder, ComesLast, IsNextEntry, IsPreviousEntry, IsFirstBehind, has_entry, is_behind_name, is_ahead_of_name};
+ghost use Rattle.svn_report.specs.ReportOrder.{InPathOrder, ComesLast, IsNextEntry, IsPreviousEntry, IsFirstBehind, is_behind_name, is_ahead_of_name};
 
 use crate::entry::ReportEntry;
-use crate::near::{partition_near, told_near};
 use indexmap::IndexMap;
 use svn_types::{Name, RelPath};
 
@@ -22,54 +20,28 @@ fn path_at(entries: &IndexMap<RelPath, ReportEntry>, i: usize) -> Option<&RelPat
     }
 }
 
-/// The first path behind a path, and its position in the place of the one given.
+/// The first path behind a path. Reports are mostly made in path order, so most calls ask behind the last path: that takes no search.
 pub(crate) fn next_in_order<'a>(
     entries: &'a IndexMap<RelPath, ReportEntry>,
     path: &RelPath,
-    near: &mut usize,
 ) -> Option<&'a RelPath>
     requires ordered { InPathOrder entries.now.entries }
     requires lawful { AreLawfulEntries entries.now.entries }
     ensures { IsNextEntry entries.now.entries path.now (option_copied result) }
 {
-    let i = partition_near(
-        entries,
-        *near,
+    let (last, _) = entries.last()?;
+    if last <= path {
+        return None;
+    }
+    let i = entries.partition_point(
         |other: &RelPath, _entry: &ReportEntry| -> bool
             ensures { result ≡ is_le (path_cmp other.now path.entry.now) }
         { other <= path },
     );
-    *near = i;
     path_at(entries, i)
 }
 
-/// Whether the entries next to a position tell that a path has none.
-pub(crate) fn is_missing_near(
-    entries: &IndexMap<RelPath, ReportEntry>,
-    path: &RelPath,
-    near: usize,
-) -> bool
-    requires ordered { InPathOrder entries.now.entries }
-    requires lawful { AreLawfulEntries entries.now.entries }
-    ensures { IsTrue result → has_entry entries.now.entries path.now ≡ false }
-{
-    let told = told_near(
-        entries,
-        near,
-        &|other: &RelPath, _entry: &ReportEntry| -> bool
-            ensures { result ≡ is_lt (path_cmp other.now path.entry.now) }
-        { other < path },
-    );
-    let Some(i) = told else {
-        return false;
-    };
-    match path_at(entries, i) {
-        Some(next) => path != next,
-        None => true,
-    }
-}
-
-/// The last path before a path. Reports are mostly made in path order, so most calls ask behind the last path: that takes no search.
+/// The last path before a path.
 pub(crate) fn previous_in_order<'a>(
     entries: &'a IndexMap<RelPath, ReportEntry>,
     path: &RelPath,
@@ -79,6 +51,7 @@ pub(crate) fn previous_in_order<'a>(
     ensures { IsPreviousEntry entries.now.entries path.now (option_copied result) }
 {
     let (last, _) = entries.last()?;
+    // as in `next_in_order`
     if last < path {
         return Some(last);
     }
@@ -108,25 +81,21 @@ fn is_behind_name(other: &RelPath, path: &RelPath, name: &Name) -> bool
     }
 }
 
-/// The first path behind a name beneath a path, and behind all that stands beneath that name; and its position in the place of the one given.
+/// The first path behind a name beneath a path, and behind all that stands beneath that name.
 pub(crate) fn first_behind<'a>(
     entries: &'a IndexMap<RelPath, ReportEntry>,
     path: &RelPath,
     name: &Name,
-    near: &mut usize,
 ) -> Option<&'a RelPath>
     requires ordered { InPathOrder entries.now.entries }
     requires lawful { AreLawfulEntries entries.now.entries }
     ensures { IsFirstBehind entries.now.entries path.now name.now (option_copied result) }
 {
-    let i = partition_near(
-        entries,
-        *near,
+    let i = entries.partition_point(
         |other: &RelPath, _entry: &ReportEntry| -> bool
             ensures { result ≡ is_ahead_of_name path.entry.now name.entry.now other.now }
         { !is_behind_name(other, path, name) },
     );
-    *near = i;
     path_at(entries, i)
 }
 

@@ -17,17 +17,16 @@
 //!
 //! Promises: each call answers the first fault in the order and no other, want of memory last (`answer`); an accepted one adds exactly
 //! its entry (`added`), a refused one leaves the reporter as it was (`unchanged`). The readers of a `Report` are exact, and
-//! `next_name_below` enumerates the names beneath a path, each once (`first`, `in_turn`). `entry_near`, `has_entry_below_near` and
-//! `next_name_near` answer the same, and are told where to look first. What holds of every report is the contract of
-//! `Report::law` (`IsReport` of `specs/LawfulReports.antt`). `Display` has exactly the bytes of `specs/Lines.antt`. Whether a repository
-//! has what a report says, `check_report` of `svn_drive` asks.
+//! `next_name_below` enumerates the names beneath a path, each once (`first`, `in_turn`); `in_path_order` has the same entries, in the order
+//! of their paths (`same`, `ordered`). What holds of every report is the contract of `Report::law` (`IsReport` of
+//! `specs/LawfulReports.antt`). `Display` has exactly the bytes of `specs/Lines.antt`. Whether a repository has what a report says,
+//! `check_report` of `svn_drive` asks.
 #![tactic(auto)]
 
 mod entry;
 mod in_order;
 mod lines;
 mod listing;
-mod near;
 mod path_index;
 mod report;
 mod report_iter;

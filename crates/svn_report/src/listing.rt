@@ -1,17 +1,19 @@
 //! Entries at paths, found by their place, by their path, and by what stands above or beneath a path.
-ghost use Rattle.std.specs.Prelude.{◌≡◌, ◌++◌, ◌∷◌, [], ℕ, length, slice_get, ◌<◌, IsTrue, ◌↔◌, OnOk, OnErr, IfOk, IfSome, MatchOption, is_some, Some, None};
-ghost use Rattle.std.specs.List.{list_any};
+ghost use Rattle.std.specs.Prelude.{◌≡◌, ◌++◌, ◌∷◌, [], ℕ, length, map, slice_get, ◌<◌, IsTrue, ◌↔◌, OnOk, OnErr, IfOk, IfSome, MatchOption, IsPermutation, is_some, Some, None};
+ghost use Rattle.std.specs.List.{IsDistinct, list_any};
+ghost use Rattle.std.specs.List.Sorted.{IsStrictlySortedBy};
+ghost use Rattle.std.specs.Map.{keys_of};
+ghost use Rattle.std.specs.Map.Iter.{deref_pair};
 ghost use Rattle.std.specs.Option.{option_copied, option_map, option_to_list};
-ghost use Rattle.svn_types.specs.Names.{depth_limit};
+ghost use Rattle.svn_types.specs.Names.{depth_limit, path_cmp};
+ghost use Rattle.svn_types.specs.Paths.{path_eq};
 ghost use Rattle.svn_report.specs.Reports.{entry_at, has_entry_below, is_deleted_above, is_deleted_at, is_link_too_deep, reporter_fault};
 ghost use Rattle.svn_report.specs.LawfulReports.{AreLawfulEntries};
 ghost use Rattle.svn_report.specs.ReportNames.{next_name, IsNextName};
 ghost use Rattle.svn_report.specs.ReportOrder.{ComesLast, InPathOrder, IsFirstBehind, IsIndexed, IsKept, IsNextEntry, IsPreviousEntry};
 
 use crate::entry::ReportEntry;
-use crate::in_order::{
-    comes_last, first_behind, is_missing_near, next_in_order, previous_in_order,
-};
+use crate::in_order::{comes_last, first_behind, next_in_order, previous_in_order};
 use crate::path_index::PathIndex;
 use crate::reporter_fault::ReporterFault;
 use indexmap::IndexMap;
@@ -71,6 +73,18 @@ fn leave_order(
     Ok(())
 }
 
+// Entries in the order of their paths, of which no two are the same. It takes no memory.
+fn sorted<'a>(
+    mut entries: Vec<(&'a RelPath, &'a ReportEntry)>,
+) -> Vec<(&'a RelPath, &'a ReportEntry)>
+    requires { IsDistinct path_eq (keys_of (map deref_pair entries.items)) }
+    ensures same { IsPermutation (map deref_pair entries.entry.items) (map deref_pair result.items) }
+    ensures ordered { IsStrictlySortedBy path_cmp (keys_of (map deref_pair result.items)) }
+{
+    entries.sort_unstable_by(|one, other| one.0.cmp(other.0));
+    entries
+}
+
 impl Listing {
     /// No entries. It takes no memory.
     pub fn new(alloc: Global) -> Listing
@@ -118,6 +132,18 @@ impl Listing {
         self.entries.iter()
     }
 
+    /// The same in the order of their paths. AllocError where memory for the list is refused.
+    pub fn in_path_order(&self, alloc: Global) -> Result<Vec<(&RelPath, &ReportEntry)>, AllocError>
+        ensures same { IfOk result (λ v. IsPermutation self.now (map deref_pair v.items)) }
+        ensures ordered { IfOk result (λ v. IsStrictlySortedBy path_cmp (keys_of (map deref_pair v.items))) }
+    {
+        let entries: Vec<(&RelPath, &ReportEntry)> = self.entries.iter().collect(alloc)?;
+        match self.index {
+            Some(_) => Ok(sorted(entries)),
+            None => Ok(entries),
+        }
+    }
+
     /// The entry at a path.
     #[tactic(auto, using(crate::proofs::Listings::lookup_entry))]
     pub fn entry_at(&self, path: &RelPath) -> Option<&ReportEntry>
@@ -126,39 +152,13 @@ impl Listing {
         self.entries.get(path)
     }
 
-    // Whether the entries next to a position tell that a path has none.
-    fn is_missing_near(&self, path: &RelPath, near: usize) -> bool
-        ensures { IsTrue result → entry_at self.now path.now ≡ None }
-    {
-        match &self.index {
-            Some(_) => false,
-            None => is_missing_near(&self.entries, path, near),
-        }
-    }
-
-    /// The same, looked for near a position first.
-    pub fn entry_near(&self, path: &RelPath, near: usize) -> Option<&ReportEntry>
-        ensures { option_copied result ≡ entry_at self.now path.now }
-    {
-        if let Some((other, entry)) = self.entries.get_index(near) {
-            if other == path {
-                return Some(entry);
-            }
-        }
-        if self.is_missing_near(path, near) {
-            None
-        } else {
-            self.entry_at(path)
-        }
-    }
-
-    // The first path behind a path, looked for near a position. What stands beneath it comes first.
-    fn next(&self, path: &RelPath, near: &mut usize) -> Option<&RelPath>
+    // The first path behind a path. What stands beneath it comes first.
+    fn next(&self, path: &RelPath) -> Option<&RelPath>
         ensures { IsNextEntry self.now path.now (option_copied result) }
     {
         match &self.index {
             Some(index) => index.next(path),
-            None => next_in_order(&self.entries, path, near),
+            None => next_in_order(&self.entries, path),
         }
     }
 
@@ -172,49 +172,41 @@ impl Listing {
         }
     }
 
-    /// Whether an entry stands strictly beneath a path. Reports are mostly made in path order, so most calls ask behind the last path.
+    /// Whether an entry stands strictly beneath a path.
     pub fn has_entry_below(&self, path: &RelPath) -> bool
         ensures { result ≡ has_entry_below self.now path.now }
     {
-        self.has_entry_below_near(path, self.entries.len())
-    }
-
-    /// The same, looked for near a position first.
-    pub fn has_entry_below_near(&self, path: &RelPath, near: usize) -> bool
-        ensures { result ≡ has_entry_below self.now path.now }
-    {
-        let mut near = near;
-        match self.next(path, &mut near) {
+        match self.next(path) {
             Some(next) => next.is_within(path),
             None => false,
         }
     }
 
     // The first name beneath the path at or below which an entry stands.
-    fn first_name_below(&self, path: &RelPath, near: &mut usize) -> Option<&Name>
+    fn first_name_below(&self, path: &RelPath) -> Option<&Name>
         ensures name { IsNextName path.now self.now None (option_copied result) }
         ensures bounded { IfSome result (λ _. length path.now < depth_limit) }
     {
-        match self.next(path, near) {
+        match self.next(path) {
             Some(next) => name_below(path, next),
             None => None,
         }
     }
 
     // The first path behind a name beneath a path, where the entries are in path order.
-    fn first_behind(&self, path: &RelPath, last: &Name, near: &mut usize) -> Option<&RelPath>
+    fn first_behind(&self, path: &RelPath, last: &Name) -> Option<&RelPath>
         requires { InPathOrder self.now }
         ensures { IsFirstBehind self.now path.now last.now (option_copied result) }
     {
-        first_behind(&self.entries, path, last, near)
+        first_behind(&self.entries, path, last)
     }
 
     // The first such name that comes after a name, where the entries are in path order.
-    fn name_in_order(&self, path: &RelPath, last: &Name, near: &mut usize) -> Option<&Name>
+    fn name_in_order(&self, path: &RelPath, last: &Name) -> Option<&Name>
         requires { InPathOrder self.now }
         ensures { IsNextName path.now self.now (Some last.now) (option_copied result) }
     {
-        match self.first_behind(path, last, near) {
+        match self.first_behind(path, last) {
             Some(next) => name_below(path, next),
             None => None,
         }
@@ -234,7 +226,7 @@ impl Listing {
             Ok(child) => child,
             Err(PathFault::Memory) => return Err(AllocError),
             // Beneath a path of 128 names nothing can stand, so there is no first name, and none after another.
-            Err(_) => return Ok(self.first_name_below(path, &mut 0)),
+            Err(_) => return Ok(self.first_name_below(path)),
         };
         match index.next_ending(child) {
             Some(next) => Ok(name_below(path, next)),
@@ -243,17 +235,12 @@ impl Listing {
     }
 
     // The first such name that comes after a name.
-    fn name_below_after(
-        &self,
-        path: &RelPath,
-        last: &Name,
-        near: &mut usize,
-    ) -> Result<Option<&Name>, AllocError>
+    fn name_below_after(&self, path: &RelPath, last: &Name) -> Result<Option<&Name>, AllocError>
         ensures { IfOk result (λ found. IsNextName path.now self.now (Some last.now) (option_copied found)) }
     {
         match &self.index {
             Some(index) => self.name_by_index(index, path, last),
-            None => Ok(self.name_in_order(path, last, near)),
+            None => Ok(self.name_in_order(path, last)),
         }
     }
 
@@ -266,23 +253,9 @@ impl Listing {
     ) -> Result<Option<&Name>, AllocError>
         ensures { IfOk result (λ found. IsNextName path.now self.now (option_copied after.entry) (option_copied found)) }
     {
-        let mut near = self.entries.len();
-        self.next_name_near(path, after, &mut near)
-    }
-
-    /// The same, looked for near a position first. Where the entries are in path order the position becomes that of the first path behind those
-    /// that were passed, which gives the name if there is one.
-    pub fn next_name_near(
-        &self,
-        path: &RelPath,
-        after: Option<&Name>,
-        near: &mut usize,
-    ) -> Result<Option<&Name>, AllocError>
-        ensures { IfOk result (λ found. IsNextName path.now self.now (option_copied after.entry) (option_copied found)) }
-    {
         match after {
-            Some(last) => self.name_below_after(path, last, near),
-            None => Ok(self.first_name_below(path, near)),
+            Some(last) => self.name_below_after(path, last),
+            None => Ok(self.first_name_below(path)),
         }
     }
 

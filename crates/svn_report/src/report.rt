@@ -1,6 +1,10 @@
 //! Reports of what a client has.
-ghost use Rattle.std.specs.Prelude.{◌≡◌, ◌++◌, ◌∷◌, [], ℕ, length, slice_get, IsTrue, ◌↔◌, OnOk, OnErr, IfOk, Some, None};
+ghost use Rattle.std.specs.Prelude.{◌≡◌, ◌++◌, ◌∷◌, [], ℕ, length, map, slice_get, IsTrue, ◌↔◌, OnOk, OnErr, IfOk, IsPermutation, Some, None};
+ghost use Rattle.std.specs.List.Sorted.{IsStrictlySortedBy};
+ghost use Rattle.std.specs.Map.{keys_of};
+ghost use Rattle.std.specs.Map.Iter.{deref_pair};
 ghost use Rattle.std.specs.Option.{option_copied, option_map};
+ghost use Rattle.svn_types.specs.Names.{path_cmp};
 ghost use Rattle.svn_report.specs.Reports.{ReportView, entry_at, has_entry_below, reporter_fault, Answers, with_entry};
 ghost use Rattle.svn_report.specs.LawfulReports.{IsReport};
 ghost use Rattle.svn_report.specs.ReportNames.{IsNextName, reported_names, names_after, names_from};
@@ -23,6 +27,7 @@ pub struct Report {
 }
 
 impl Model for Report {
+    ghost use Rattle.svn_types.specs.Names.{path_cmp};
     ghost use Rattle.svn_report.specs.Reports.{ReportView};
 
     ghost Value = { ReportView };
@@ -76,6 +81,15 @@ impl Report {
         }
     }
 
+    /// The entries and their paths, in the order of the paths. AllocError where memory for the list is refused. It costs what the report does
+    /// where its entries came in that order, as a crawl's do, and else what it takes to sort them.
+    pub fn in_path_order(&self, alloc: Global) -> Result<Vec<(&RelPath, &ReportEntry)>, AllocError>
+        ensures same { IfOk result (λ v. IsPermutation self.now.entries (map deref_pair v.items)) }
+        ensures ordered { IfOk result (λ v. IsStrictlySortedBy path_cmp (keys_of (map deref_pair v.items))) }
+    {
+        self.listing.in_path_order(alloc)
+    }
+
     /// The entry at a path. The cost doesn't grow with the report.
     pub fn entry_at(&self, path: &RelPath) -> Option<&ReportEntry>
         ensures { option_copied result ≡ entry_at self.now.entries path.now }
@@ -83,29 +97,11 @@ impl Report {
         self.listing.entry_at(path)
     }
 
-    /// The same, looked for near a position first. Any position gives the same answer. Where the entry stands there, or the entries came in path
-    /// order and the path has none and would stand there or directly behind, it costs a few comparisons of paths, and else these more than
-    /// [`entry_at`](Report::entry_at).
-    pub fn entry_near(&self, path: &RelPath, near: usize) -> Option<&ReportEntry>
-        ensures { option_copied result ≡ entry_at self.now.entries path.now }
-    {
-        self.listing.entry_near(path, near)
-    }
-
     /// Whether an entry stands strictly beneath a path. The cost grows with the logarithm of the report.
     pub fn has_entry_below(&self, path: &RelPath) -> bool
         ensures { result ≡ has_entry_below self.now.entries path.now }
     {
         self.listing.has_entry_below(path)
-    }
-
-    /// The same, looked for near a position first. Any position gives the same answer. Where the entries came in path order and the first behind the
-    /// path stands there or directly behind, it costs a few comparisons of paths, and else these more than
-    /// [`has_entry_below`](Report::has_entry_below).
-    pub fn has_entry_below_near(&self, path: &RelPath, near: usize) -> bool
-        ensures { result ≡ has_entry_below self.now.entries path.now }
-    {
-        self.listing.has_entry_below_near(path, near)
     }
 
     /// The first name directly beneath a path, in the order of names, at or below which an entry stands; with `after` the first of those that
@@ -123,22 +119,6 @@ impl Report {
             IfOk result (λ found. names_after (option_copied after.entry) names ≡ names_from (option_copied found) names) }
     {
         self.listing.next_name_below(path, after)
-    }
-
-    /// The same, looked for near a position first, and refused memory where [`next_name_below`](Report::next_name_below) is. Any position gives the
-    /// same answer. Where the entries came in path order the position becomes that of the first entry whose path gives the name, and else it stays.
-    /// Who asks for one name after the other with one position pays a few comparisons of paths for each name beneath which no entry stands.
-    pub fn next_name_near(
-        &self,
-        path: &RelPath,
-        after: Option<&Name>,
-        near: &mut usize,
-    ) -> Result<Option<&Name>, AllocError>
-        ensures first { IfOk result (λ found. IsNextName path.now self.now.entries (option_copied after.entry) (option_copied found)) }
-        ensures in_turn { let names = reported_names path.now self.now.entries in
-            IfOk result (λ found. names_after (option_copied after.entry) names ≡ names_from (option_copied found) names) }
-    {
-        self.listing.next_name_near(path, after, near)
     }
 }
 
@@ -166,6 +146,7 @@ pub struct Reporter {
 }
 
 impl Model for Reporter {
+    ghost use Rattle.svn_types.specs.Names.{path_cmp};
     ghost use Rattle.svn_report.specs.Reports.{ReportView};
 
     ghost Value = { ReportView };

@@ -5,23 +5,22 @@ use Rattle.std.specs.Prelude.{◌⊎◌, not, if◌then◌else◌, Option, Some,
 use Rattle.std.proofs.lemmas.List.{take-append-le}
 use Rattle.std.proofs.lemmas.List.Elements.{filter-append}
 use Rattle.std.proofs.Math.Seq.{take-length}
+use Rattle.md5.specs.Md5.{md5}
 use Rattle.svn_types.specs.Names.{Path}
 use Rattle.svn_editor.specs.declared.call.Call.{Call}
-use Rattle.svn_editor.specs.declared.call.Call.TheVariants.{AbortEdit}
 use Rattle.svn_editor.specs.declared.fault.EditFault.{EditFault}
 use Rattle.svn_editor.specs.Calls.{is_abort}
 use Rattle.svn_editor.specs.declared.mode.Mode.{Mode}
-use Rattle.svn_edit.specs.declared.edit.Edit.{Edit}
-use Rattle.svn_edit.specs.Applying.{StandsAfter}
+use Rattle.svn_edit.specs.declared.pending.Pending.{Pending}
+use Rattle.svn_edit.specs.Carrying.{CarriedOut, Carries}
 use Rattle.svn_edit_law.specs.Laws.{calls_are_applied_in_turn}
 use Rattle.svn_model.specs.Nodes.{WorkingCopy, get_in}
-use Rattle.svn_model.specs.Effects.{after}
-use Rattle.svn_wc.specs.Taking.{TakesCall}
+use Rattle.svn_model.specs.Effects.{after, IsAccepted, AllAccepted}
 use Rattle.svn_run.specs.UpdateTheorem.{Nodes}
 use Rattle.svn_run.specs.Takes.{unaborted, Skips, Skipped, Accepted, Refused, Offered, IsCounted}
-use Rattle.svn_run.proofs.Applying.{IsOver, refused_over, over_stays, abort_stays}
+use Rattle.svn_run.proofs.Accepting.{accepted_before, accepted_last, accepted_next}
 
--- one call more is given to the applier, unless it is an `AbortEdit`
+-- one call more is carried out, unless it is an `AbortEdit`
 unaborted-one : (c : Call) (b : Bool) → is_abort c ≡ b → unaborted (c ∷ []) ≡ (if not b then c ∷ [] else [])
 unaborted-one c b is = ap (λ x. if not x then c ∷ [] else []) is
 
@@ -36,57 +35,67 @@ unaborted-abort calls c abort = filter-append (λ x. not (is_abort x)) calls (c 
 abbrev no_number : Option ℕ
 no_number = None
 
--- where no number was told the edit goes on, else it is over
-abbrev pub Stage : Mode → WorkingCopy → Edit → Nodes → List Call → Option ℕ → Type 0
-Stage mode w0 edit nodes calls None = StandsAfter mode w0 edit nodes calls
-Stage mode w0 edit nodes calls (Some n) = IsOver edit
+-- where no number was told, all of the calls were carried out
+abbrev pub GoesOn : Mode → WorkingCopy → Pending → Nodes → List Call → Option ℕ → Type 0
+GoesOn mode w0 edit nodes calls None = CarriedOut mode w0 edit nodes calls
+GoesOn mode w0 edit nodes calls (Some n) = Unit {0}
 
--- the applier was given these calls, up to the first that it refused
-pub record Holding (mode : Mode) (w0 : WorkingCopy) (edit : Edit) (nodes : Nodes) (calls : List Call) (number : Option ℕ)
+-- these calls were carried out, up to the first that was refused
+pub record Holding (mode : Mode) (w0 : WorkingCopy) (edit : Pending) (nodes : Nodes) (calls : List Call) (number : Option ℕ)
     (accepted : ℕ) : Type 0 where
   pub counted : IsCounted number accepted (length calls)
   pub copy : (p : Path) → get_in nodes p ≡ after mode w0 (take accepted calls) p
-  pub stage : Stage mode w0 edit nodes calls number
+  pub on : GoesOn mode w0 edit nodes calls number
+
+-- where all are accepted, those before the last are
+earlier : (mode : Mode) (w0 : WorkingCopy) (calls : List Call) (c : Call) → AllAccepted md5 mode w0 (unaborted (calls ++ c ∷ []))
+    → AllAccepted md5 mode w0 (unaborted calls)
+earlier mode w0 calls c h = by (is_abort c) refl
+  where
+    by : (b : Bool) → is_abort c ≡ b → AllAccepted md5 mode w0 (unaborted calls)
+    by true q = subst (AllAccepted md5 mode w0) (unaborted-abort calls c q) h
+    by false q = accepted_before mode [] w0 (unaborted calls) c (subst (AllAccepted md5 mode w0) (unaborted-inner calls c q) h)
 
 module _ (mode : Mode) (w0 : WorkingCopy) where
-  pub begins : (edit : Edit) (nodes : Nodes) → StandsAfter mode w0 edit nodes [] → Holding mode w0 edit nodes [] None 0
-  begins edit nodes stands = record { counted = refl; copy = stands.copy; stage = stands }
+  pub begins : (edit : Pending) (nodes : Nodes) → CarriedOut mode w0 edit nodes [] → Holding mode w0 edit nodes [] None 0
+  begins edit nodes carried = record { counted = refl; copy = carried.copy; on = carried }
 
   pub count_within : (number : Option ℕ) (accepted all : ℕ) → IsCounted number accepted all → accepted ≤ all
   count_within None accepted all h = omega arith
   count_within (Some n) accepted all h = let lt = h.1 in omega arith
 
-  -- ---- one more call
+  -- ---- one call more
 
-  accepts : (edit : Edit) (nodes : Nodes) (calls : List Call) (accepted : ℕ) (c : Call) (edit' : Edit) (nodes' : Nodes) (accepted' : ℕ)
-      → Holding mode w0 edit nodes calls None accepted → TakesCall edit nodes c (Ok tt) edit' nodes' → accepted' ≡ accepted + 1
+  accepts : (edit : Pending) (nodes : Nodes) (calls : List Call) (accepted : ℕ) (c : Call) (edit' : Pending) (nodes' : Nodes) (accepted' : ℕ)
+      → Holding mode w0 edit nodes calls None accepted → Carries edit nodes c (Ok tt) edit' nodes'
+      → IsAccepted md5 mode calls (after mode w0 calls) c → accepted' ≡ accepted + 1
       → Holding mode w0 edit' nodes' (calls ++ c ∷ []) None accepted'
-  accepts edit nodes calls accepted c edit' nodes' accepted' h took more =
-      let stands = took.accepted mode w0 calls h.stage in
+  accepts edit nodes calls accepted c edit' nodes' accepted' h carries accept more =
+      let carried = accepted_next mode w0 calls edit nodes c edit' nodes' carries h.on accept in
       let was = h.counted in
       let all : accepted' ≡ length (calls ++ c ∷ []) = omega (arith, length-append calls (c ∷ [])) in
       record {
         counted = all;
-        copy = λ p. stands.copy p
+        copy = λ p. carried.copy p
             ∙ ap (λ l. after mode w0 l p) (sym (ap (λ n. take n (calls ++ c ∷ [])) all ∙ take-length (calls ++ c ∷ [])));
-        stage = stands;
+        on = carried;
       }
 
-  refuses : (edit : Edit) (nodes : Nodes) (calls : List Call) (accepted : ℕ) (c : Call) (fault : EditFault) (edit' : Edit) (nodes' : Nodes)
-      → Holding mode w0 edit nodes calls None accepted → TakesCall edit nodes c (Err fault) edit' nodes'
+  refuses : (edit : Pending) (nodes : Nodes) (calls : List Call) (accepted : ℕ) (c : Call) (fault : EditFault) (edit' : Pending) (nodes' : Nodes)
+      → Holding mode w0 edit nodes calls None accepted → Carries edit nodes c (Err fault) edit' nodes'
       → Holding mode w0 edit' nodes' (calls ++ c ∷ []) (Some (accepted + 1)) accepted
-  refuses edit nodes calls accepted c fault edit' nodes' h took =
-      let o = refused_over mode w0 calls edit nodes c fault edit' nodes' took h.stage in
+  refuses edit nodes calls accepted c fault edit' nodes' h carries =
       let was = h.counted in
       let le : accepted ≤ length calls = omega arith in
       record {
         counted = (refl, omega (arith, length-append calls (c ∷ [])));
-        copy = λ p. ap (λ n. get_in n p) o.0 ∙ h.copy p ∙ ap (λ l. after mode w0 l p) (sym (take-append-le accepted calls (c ∷ []) le));
-        stage = o.1;
+        copy = λ p. ap (λ (n : Nodes). get_in n p) carries.refused ∙ h.copy p
+            ∙ ap (λ l. after mode w0 l p) (sym (take-append-le accepted calls (c ∷ []) le));
+        on = tt;
       }
 
   -- a call that isn't given leaves all as it is
-  skips : (edit : Edit) (nodes : Nodes) (calls : List Call) (number : Option ℕ) (accepted : ℕ) (c : Call) → Skips c number
+  skips : (edit : Pending) (nodes : Nodes) (calls : List Call) (number : Option ℕ) (accepted : ℕ) (c : Call) → Skips c number
       → Holding mode w0 edit nodes (unaborted calls) number accepted
       → Holding mode w0 edit nodes (unaborted (calls ++ c ∷ [])) number accepted
   skips edit nodes calls number accepted c why h = by (is_abort c) refl number why h
@@ -102,18 +111,20 @@ module _ (mode : Mode) (w0 : WorkingCopy) where
           let longer : Holding mode w0 edit nodes (unaborted calls ++ c ∷ []) (Some n) accepted = record {
             counted = (h.counted.0, omega (arith, length-append (unaborted calls) (c ∷ [])));
             copy = λ p. h.copy p ∙ ap (λ l. after mode w0 l p) (sym (take-append-le accepted (unaborted calls) (c ∷ []) le));
-            stage = h.stage;
+            on = tt;
           } in
           subst (λ l. Holding mode w0 edit nodes l (Some n) accepted) (sym (unaborted-inner calls c q)) longer
 
-  pub holds_next : (calls : List Call) (c : Call) (number : Option ℕ) (accepted : ℕ) (edit : Edit) (nodes : Nodes) (number' : Option ℕ)
-      (accepted' : ℕ) (edit' : Edit) (nodes' : Nodes)
-      → Offered c number accepted edit nodes number' accepted' edit' nodes' → Holding mode w0 edit nodes (unaborted calls) number accepted
+  pub holds_next : calls_are_applied_in_turn → (calls : List Call) (c : Call) (number : Option ℕ) (accepted : ℕ) (edit : Pending) (nodes : Nodes)
+      (number' : Option ℕ) (accepted' : ℕ) (edit' : Pending) (nodes' : Nodes)
+      → Offered c number accepted edit nodes number' accepted' edit' nodes' → AllAccepted md5 mode w0 (unaborted (calls ++ c ∷ []))
+      → (AllAccepted md5 mode w0 (unaborted calls) → Holding mode w0 edit nodes (unaborted calls) number accepted)
       → Holding mode w0 edit' nodes' (unaborted (calls ++ c ∷ [])) number' accepted'
-  holds_next calls c number accepted edit nodes number' accepted' edit' nodes' offered h =
+  holds_next more calls c number accepted edit nodes number' accepted' edit' nodes' offered accept before =
+      let h = before (earlier mode w0 calls c accept) in
       ⊎_elim
       (λ (t : Skipped c number accepted edit nodes number' accepted' edit' nodes').
-      subst (λ (y : Option ℕ × ℕ × Edit × Nodes). Holding mode w0 y.2 y.3 (unaborted (calls ++ c ∷ [])) y.0 y.1)
+      subst (λ (y : Option ℕ × ℕ × Pending × Nodes). Holding mode w0 y.2 y.3 (unaborted (calls ++ c ∷ [])) y.0 y.1)
       (λ i. (sym t.same_number i, sym t.same_count i, sym t.same_edit i, sym t.same_nodes i))
       (skips edit nodes calls number accepted c t.why h))
       (λ (u : Accepted c number accepted edit nodes number' accepted' edit' nodes'
@@ -123,7 +134,8 @@ module _ (mode : Mode) (w0 : WorkingCopy) where
       subst (λ (y : List Call × Option ℕ). Holding mode w0 edit' nodes' y.0 y.1 accepted')
       (λ i. (sym (unaborted-inner calls c t.inner) i, sym t.none_told i))
       (accepts edit nodes (unaborted calls) accepted c edit' nodes' accepted'
-      (subst (λ n. Holding mode w0 edit nodes (unaborted calls) n accepted) t.untold h) t.took t.one_more))
+      (subst (λ n. Holding mode w0 edit nodes (unaborted calls) n accepted) t.untold h) t.carried
+      (accepted_last more mode w0 (unaborted calls) c (subst (AllAccepted md5 mode w0) (unaborted-inner calls c t.inner) accept)) t.one_more))
       (λ (t : Refused c number accepted edit nodes number' accepted' edit' nodes').
       subst (λ (y : List Call × Option ℕ × ℕ). Holding mode w0 edit' nodes' y.0 y.1 y.2)
       (λ i. (sym (unaborted-inner calls c t.inner) i, sym t.told i, sym t.same_count i))
@@ -132,23 +144,9 @@ module _ (mode : Mode) (w0 : WorkingCopy) where
       u)
       offered
 
-  -- ---- the end
-
-  -- giving the edit up leaves the copy as it is
-  pub given_up : calls_are_applied_in_turn
-      → (edit : Edit) (nodes : Nodes) (calls : List Call) (number : Option ℕ) (accepted : ℕ) (answer : Result (Unit {0}) EditFault)
-      (edit' : Edit) (nodes' : Nodes)
-      → Holding mode w0 edit nodes calls number accepted → TakesCall edit nodes AbortEdit answer edit' nodes' → (p : Path)
-      → get_in nodes' p ≡ after mode w0 (take accepted calls) p
-  given_up more edit nodes calls None accepted answer edit' nodes' h took p =
-      abort_stays more mode w0 calls edit nodes answer edit' nodes' took h.stage p
-      ∙ ap (λ l. after mode w0 l p) (sym (ap (λ n. take n calls) h.counted ∙ take-length calls))
-  given_up more edit nodes calls (Some n) accepted answer edit' nodes' h took p =
-      ap (λ n. get_in n p) (over_stays edit nodes AbortEdit answer edit' nodes' took h.stage) ∙ h.copy p
-
 -- at most one more was accepted
-pub within_next : (c : Call) (number : Option ℕ) (accepted : ℕ) (edit : Edit) (nodes : Nodes) (number' : Option ℕ) (accepted' : ℕ)
-    (edit' : Edit) (nodes' : Nodes)
+pub within_next : (c : Call) (number : Option ℕ) (accepted : ℕ) (edit : Pending) (nodes : Nodes) (number' : Option ℕ) (accepted' : ℕ)
+    (edit' : Pending) (nodes' : Nodes)
     → Offered c number accepted edit nodes number' accepted' edit' nodes' → accepted' ≤ accepted + 1
 within_next c number accepted edit nodes number' accepted' edit' nodes' offered =
     ⊎_elim

@@ -8,12 +8,12 @@ use Rattle.svn_editor.specs.declared.call.Call.{Call}
 use Rattle.svn_editor.specs.declared.mode.Mode.{Mode}
 use Rattle.svn_model.specs.Checks.{target_fault}
 use Rattle.svn_model.specs.Drive.{IsDrive}
-use Rattle.svn_model.specs.Effects.{after}
+use Rattle.svn_model.specs.Effects.{after, AllAccepted}
 use Rattle.svn_model.specs.Nodes.{get_in, InPathOrder, IsTrueOf, IsWorkingCopy}
 use Rattle.svn_model.specs.TreeCalls.{drive_calls}
 use Rattle.svn_model.specs.Result.{result}
 use Rattle.svn_repo.specs.History.{History}
-use Rattle.svn_law.specs.Laws.{IsTrueCopy, IsRequestOf, request_of}
+use Rattle.svn_law.specs.Laws.{IsTrueCopy, IsRequestOf, Composes, request_of}
 use Rattle.svn_run.specs.declared.outcome.Outcome.{Outcome}
 use Rattle.svn_run.specs.declared.outcome.Outcome.TheVariants.{Closed, Aborted}
 use Rattle.svn_run.specs.RunLaws.{RunLaws}
@@ -46,45 +46,51 @@ module _ (laws : RunLaws) (a : Asked) (true_copy : IsTrueCopy a.history a.copy) 
   pub the_drive : IsDrive (request a) a.late_texts (drive_for a)
   the_drive = laws.drives (request a) a.late_texts true_copy.history ask.report ask.checkable target
 
-  module _ (left : Nodes) (in_order : InPathOrder left) (o : Outcome)
-      (came : CameTo (drive_for a) a.mode a.cancel_after (get_in a.copy) left o) where
+  pub composed : Composes (request a) (get_in a.copy) (drive_for a)
+  composed = laws.composes (request a) (get_in a.copy) a.late_texts (drive_for a) ask the_drive
+
+  -- the copy accepts each of the calls after those before it
+  pub drive_accepted : AllAccepted md5 a.mode (get_in a.copy) (drive_for a)
+  drive_accepted = composed.accepted
+
+  module _ (left : Nodes) (o : Outcome) (came : CameTo (drive_for a) a.mode a.cancel_after (get_in a.copy) left o) where
     prefix : IsWorkingCopy (after a.mode (get_in a.copy) (take (accepted_in o) (drive_for a)))
         × IsTrueOf a.history (after a.mode (get_in a.copy) (take (accepted_in o) (drive_for a)))
     prefix = laws.stays_true (request a) (get_in a.copy) a.late_texts (drive_for a) (accepted_in o) ask the_drive
 
-    same : after a.mode (get_in a.copy) (take (accepted_in o) (drive_for a)) ≡ get_in left
+    pub same : after a.mode (get_in a.copy) (take (accepted_in o) (drive_for a)) ≡ get_in left
     same = λ i p. sym (came.copy p) i
 
     pub sound : IsSound a left
     sound = record { truth = subst (IsTrueOf a.history) same prefix.1; shape = subst IsWorkingCopy same prefix.0 }
 
-    pub stays : IsTrueCopy a.history left
-    stays = record { history = true_copy.history; in_order = in_order; shape = sound.shape; true_of = sound.truth }
-
     pub ends : (o : Outcome) → ((p : Path) → get_in left p ≡ after a.mode (get_in a.copy) (take (accepted_in o) (drive_for a)) p)
         → IfClosed o (λ calls. calls ≡ length (drive_for a))
         → IfClosed o (λ calls. (calls ≡ length (drive_for a)) × ((p : Path) → get_in left p ≡ result (request a) p))
-    ends (Closed calls) copy all =
-        let composed = laws.composes (request a) (get_in a.copy) a.late_texts (drive_for a) ask the_drive in (
-          all,
-          λ p. copy p ∙ ap (λ cs. after a.mode (get_in a.copy) cs p) (ap (λ n. take n (drive_for a)) all ∙ take-length (drive_for a))
-              ∙ composed.ends p,
-        )
+    ends (Closed calls) copy all = (
+      all,
+      λ p. copy p ∙ ap (λ cs. after a.mode (get_in a.copy) cs p) (ap (λ n. take n (drive_for a)) all ∙ take-length (drive_for a))
+          ∙ composed.ends p,
+    )
     ends (Aborted made accepted late cause) copy all = tt
 
-    abbrev pub ran : Ran a left o
-    ran = record {
-      drive = drive_for a;
-      is_drive = the_drive;
-      copy = came.copy;
-      accepted = came.accepted;
-      made = came.made;
-      closed = ends o came.copy came.closed;
-      aborted = came.aborted;
-      limit = came.within;
-      cancelled = came.cancelled;
-      late = came.late;
-      resumed = laws.resumes (request a) (get_in a.copy) a.late_texts (drive_for a) (accepted_in o) left ask the_drive in_order came.copy;
-      later = λ t mode late calls has drove. laws.composes (request_of a.history left t mode md5) (get_in left) late calls
-          (asks laws a.history left t mode stays has) drove;
-    }
+    module _ (in_order : InPathOrder left) where
+      pub stays : IsTrueCopy a.history left
+      stays = record { history = true_copy.history; in_order = in_order; shape = sound.shape; true_of = sound.truth }
+
+      abbrev pub ran : Ran a left o
+      ran = record {
+        drive = drive_for a;
+        is_drive = the_drive;
+        copy = came.copy;
+        accepted = came.accepted;
+        made = came.made;
+        closed = ends o came.copy came.closed;
+        aborted = came.aborted;
+        limit = came.within;
+        cancelled = came.cancelled;
+        late = came.late;
+        resumed = laws.resumes (request a) (get_in a.copy) a.late_texts (drive_for a) (accepted_in o) left ask the_drive in_order came.copy;
+        later = λ t mode late calls has drove. laws.composes (request_of a.history left t mode md5) (get_in left) late calls
+            (asks laws a.history left t mode stays has) drove;
+      }

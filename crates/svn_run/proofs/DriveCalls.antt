@@ -6,17 +6,16 @@ use Rattle.svn_types.specs.Names.{Path}
 use Rattle.svn_types.specs.Paths.{parent, is_root}
 use Rattle.svn_editor.specs.declared.call.Call.{Call}
 use Rattle.svn_editor.specs.declared.call.Call.TheVariants.{SetTargetRevision, OpenRoot, OpenDirectory, CloseEdit}
-use Rattle.svn_editor.specs.Calls.{is_last}
+use Rattle.svn_editor.specs.Calls.{is_abort, is_last}
 use Rattle.svn_editor.specs.Steps.{Action, Delete, Open, Add, Change, Text, Close, Step}
 use Rattle.svn_link.specs.Calls.{is_over}
 use Rattle.svn_model.specs.Follow.{Request}
 use Rattle.svn_model.specs.Drive.{token_of, call_of, opened_after, numbered, calls_of, IsDrive}
-use Rattle.svn_run.specs.Counts.{one_for}
-use Rattle.svn_run.proofs.Counting.{AllCounted}
+use Rattle.svn_run.proofs.Counting.{AllInner}
 
 -- a call inside a drive
 record IsInner (c : Call) : Type 0 where
-  counted : one_for c ≡ 1
+  unaborted : is_abort c ≡ false
   more : is_last c ≡ false
 
 either : (b : Bool) (c d : Call) → IsInner c → IsInner d → IsInner (if b then c else d)
@@ -24,25 +23,25 @@ either true c d x y = x
 either false c d x y = y
 
 inner : (opened : List Path) (p : Path) (a : Action) → IsInner (call_of opened p a)
-inner opened p (Delete revision) = record { counted = refl; more = refl }
+inner opened p (Delete revision) = record { unaborted = refl; more = refl }
 inner opened p (Open Directory base) =
     either (is_root p) (OpenRoot base (length opened)) (OpenDirectory p (token_of opened (parent p)) base (length opened))
-    (record { counted = refl; more = refl }) (record { counted = refl; more = refl })
-inner opened p (Open File base) = record { counted = refl; more = refl }
-inner opened p (Add Directory) = record { counted = refl; more = refl }
-inner opened p (Add File) = record { counted = refl; more = refl }
-inner opened p (Change Directory change) = record { counted = refl; more = refl }
-inner opened p (Change File change) = record { counted = refl; more = refl }
-inner opened p (Text base_md5 text) = record { counted = refl; more = refl }
-inner opened p (Close Directory checksum) = record { counted = refl; more = refl }
-inner opened p (Close File checksum) = record { counted = refl; more = refl }
+    (record { unaborted = refl; more = refl }) (record { unaborted = refl; more = refl })
+inner opened p (Open File base) = record { unaborted = refl; more = refl }
+inner opened p (Add Directory) = record { unaborted = refl; more = refl }
+inner opened p (Add File) = record { unaborted = refl; more = refl }
+inner opened p (Change Directory change) = record { unaborted = refl; more = refl }
+inner opened p (Change File change) = record { unaborted = refl; more = refl }
+inner opened p (Text base_md5 text) = record { unaborted = refl; more = refl }
+inner opened p (Close Directory checksum) = record { unaborted = refl; more = refl }
+inner opened p (Close File checksum) = record { unaborted = refl; more = refl }
 
-counted-numbered : (opened : List Path) (steps : List Step) → AllCounted (numbered opened steps ++ CloseEdit ∷ [])
-counted-numbered opened [] = (refl, tt)
-counted-numbered opened (s ∷ steps) = ((inner opened s.path s.action).counted, counted-numbered (opened_after opened s.path s.action) steps)
+inner-numbered : (opened : List Path) (steps : List Step) → AllInner (numbered opened steps ++ CloseEdit ∷ [])
+inner-numbered opened [] = (refl, tt)
+inner-numbered opened (s ∷ steps) = ((inner opened s.path s.action).unaborted, inner-numbered (opened_after opened s.path s.action) steps)
 
-pub drive_counted : (d : Request) (late : Bool) (calls : List Call) → IsDrive d late calls → AllCounted calls
-drive_counted d late calls is = subst AllCounted (sym is.numbered_calls) (refl, counted-numbered [] is.steps)
+pub drive_inner : (d : Request) (late : Bool) (calls : List Call) → IsDrive d late calls → AllInner calls
+drive_inner d late calls is = subst AllInner (sym is.numbered_calls) (refl, inner-numbered [] is.steps)
 
 is_over-cons : (c : Call) (calls : List Call) → is_last c ≡ false → is_over calls ≡ false → is_over (c ∷ calls) ≡ false
 is_over-cons c [] one rest = one

@@ -5,12 +5,12 @@ use Rattle.std.specs.Prelude.{not, nat_eq, Option, Some, None, IfSome, is_some, 
 use Rattle.std.proofs.lemmas.Bool.{eq-eqb, eqb-true, eqb-false, ne_eqb}
 use Rattle.std.proofs.lemmas.List.{length-take-le}
 use Rattle.std.proofs.Math.Seq.{take-length}
+use Rattle.md5.specs.Md5.{md5}
 use Rattle.svn_lists.proofs.Parts.{take_take_le}
 use Rattle.svn_types.specs.Names.{Path}
 use Rattle.svn_editor.specs.declared.call.Call.{Call}
 use Rattle.svn_editor.specs.declared.call.Call.TheVariants.{AbortEdit}
 use Rattle.svn_editor.specs.declared.fault.EditFault.TheVariants as edit
-use Rattle.svn_editor.specs.Calls.{is_abort}
 use Rattle.svn_editor.specs.declared.mode.Mode.{Mode}
 use Rattle.svn_link.specs.Calls.{is_over}
 use Rattle.svn_link.specs.Ends.{LinkEnd, NoticeEnd, Passed}
@@ -20,7 +20,7 @@ use Rattle.svn_model.specs.declared.drive_end.DriveEnd.TheVariants.{Closed as Al
 use Rattle.svn_model.specs.declared.drive_fault.DriveFault.{DriveFault}
 use Rattle.svn_model.specs.declared.drive_fault.DriveFault.TheVariants as fault
 use Rattle.svn_model.specs.Nodes.{WorkingCopy, get_in}
-use Rattle.svn_model.specs.Effects.{after}
+use Rattle.svn_model.specs.Effects.{after, AllAccepted}
 use Rattle.svn_run.specs.declared.driving.Driven.{Driven}
 use Rattle.svn_run.specs.declared.taking.Taken.{Taken}
 use Rattle.svn_run.specs.declared.outcome.Cause.{Cause}
@@ -28,24 +28,17 @@ use Rattle.svn_run.specs.declared.outcome.Cause.TheVariants as cause
 use Rattle.svn_run.specs.declared.outcome.Outcome.{Outcome}
 use Rattle.svn_run.specs.declared.outcome.Outcome.TheVariants.{Closed, Aborted}
 use Rattle.svn_run.specs.UpdateTheorem.{Nodes, made_in, OnCause, calls_made}
-use Rattle.svn_run.specs.Counts.{one_unless, one_for}
 use Rattle.svn_run.specs.Coming.{CameTo}
 use Rattle.svn_run.specs.Driven.{IsStopped, IsWhole, StopsOn, SentAs, IsDriven}
 use Rattle.svn_run.specs.Finishing.{late_of, threads_outcome, IsFinished}
 use Rattle.svn_run.specs.Takes.{unaborted, IsCounted, IsTaken}
-use Rattle.svn_run.proofs.Counting.{AllCounted, counted-take, some_within}
+use Rattle.svn_run.proofs.Accepting.{accepted_first}
+use Rattle.svn_run.proofs.Counting.{AllInner, inner-take, some_within}
 use Rattle.svn_run.proofs.Applied.{unaborted-abort}
 
-inner_call : (c : Call) → one_for c ≡ 1 → is_abort c ≡ false
-inner_call c h = by (is_abort c) refl h
-  where
-    by : (b : Bool) → is_abort c ≡ b → one_unless b ≡ 1 → is_abort c ≡ false
-    by true q h = absurd (omega arith)
-    by false q h = q
-
-unaborted_all : (calls : List Call) → AllCounted calls → unaborted calls ≡ calls
+unaborted_all : (calls : List Call) → AllInner calls → unaborted calls ≡ calls
 unaborted_all [] h = refl
-unaborted_all (c ∷ calls) h = ap (λ b. if not b then c ∷ unaborted calls else unaborted calls) (inner_call c h.0)
+unaborted_all (c ∷ calls) h = ap (λ b. if not b then c ∷ unaborted calls else unaborted calls) h.0
     ∙ ap (λ l. c ∷ l) (unaborted_all calls h.1)
 
 -- the calls that were made, where not all of the drive's were
@@ -57,7 +50,7 @@ made_whole drive n e =
     sym (ap (λ b. take n drive ++ (if b then [] else AbortEdit ∷ [])) (eq-eqb n (length drive) e) ∙ append-nil (take n drive)
     ∙ ap (λ j. take j drive) e ∙ take-length drive)
 
-module _ (drive : List Call) (all : AllCounted drive) (mode : Mode) (limit : Option ℕ) (w0 : WorkingCopy) (left : Nodes) where
+module _ (drive : List Call) (all : AllInner drive) (mode : Mode) (limit : Option ℕ) (w0 : WorkingCopy) (left : Nodes) where
   -- the outcome, and the calls that both threads passed
   pub record Came (o : Outcome) (passed : List Call) : Type 0 where
     pub came : CameTo drive mode limit w0 left o
@@ -89,7 +82,7 @@ module _ (drive : List Call) (all : AllCounted drive) (mode : Mode) (limit : Opt
         → OnCause why ((limit ≡ Some k) × (accepted ≡ k)) → Came (picked (nat_eq accepted (length calls)) (length calls - 1) late why) calls
     stopped k s late same why cancel =
         let inner : unaborted calls ≡ take k drive = ap unaborted s.calls_are ∙ unaborted-abort (take k drive) AbortEdit refl
-        ∙ unaborted_all (take k drive) (counted-take k drive all) in
+        ∙ unaborted_all (take k drive) (inner-take k drive all) in
         let part = s.part in
         let short : length (take k drive) ≡ k = length-take-le k drive (omega arith) in
         let given : length (unaborted calls) ≡ k = ap length inner ∙ short in
@@ -202,23 +195,42 @@ module _ (drive : List Call) (all : AllCounted drive) (mode : Mode) (limit : Opt
             all_accepted q =
                 let counts : accepted ≡ length (unaborted calls) = subst (λ o. IsCounted o accepted (length (unaborted calls))) q counted in
                 let inner : unaborted calls ≡ take k drive = ap unaborted sent.1.calls_are ∙ unaborted-abort (take k drive) AbortEdit refl
-                ∙ unaborted_all (take k drive) (counted-take k drive all) in
+                ∙ unaborted_all (take k drive) (inner-take k drive all) in
                 let part = sent.1.part in
                 counts ∙ ap length inner ∙ length-take-le k drive (omega arith)
         by (Some m) q = stopped k sent.1 None (λ n e. absurd cc) cause.Memory tt
     comes (Err e) seen sent same = stopped sent.0.0 sent.0.1 (late_of (Err e)) (stops_told seen e sent.1 same) cause.Memory tt
 
--- the calls that were sent are those that were taken, and what the applier made of them is told
-pub finished : (drive : List Call) (all : AllCounted drive) (mode : Mode) (limit : Option ℕ) (w0 : WorkingCopy) (left : Nodes) (o : LinkEnd)
-    (w : NoticeEnd) (i : LinkEnd) (n : NoticeEnd) (d : Driven) (u : Taken) (outcome : Outcome) (passed : Passed)
+module _ (drive : List Call) (all : AllInner drive) (mode : Mode) (limit : Option ℕ) (w0 : WorkingCopy)
+    (accept : AllAccepted md5 mode w0 drive) (calls : List Call) where
+  stopped_accepted : (k : ℕ) → IsStopped drive limit calls k → AllAccepted md5 mode w0 (unaborted calls)
+  stopped_accepted k s =
+      let inner : unaborted calls ≡ take k drive = ap unaborted s.calls_are ∙ unaborted-abort (take k drive) AbortEdit refl
+      ∙ unaborted_all (take k drive) (inner-take k drive all) in
+      subst (AllAccepted md5 mode w0) (sym inner) (accepted_first mode k [] w0 drive accept)
+
+  -- the calls that were sent are accepted
+  sent_accepted : (end : Result DriveEnd DriveFault) (seen : Option ℕ) → SentAs drive limit calls seen end
+      → AllAccepted md5 mode w0 (unaborted calls)
+  sent_accepted (Ok (AllMade n)) seen sent =
+      subst (AllAccepted md5 mode w0) (sym (ap unaborted sent.calls_are ∙ unaborted_all drive all)) accept
+  sent_accepted (Ok (GivenUp k)) seen sent = stopped_accepted k sent.1
+  sent_accepted (Err e) seen sent = stopped_accepted sent.0.0 sent.0.1
+
+-- the calls that were sent are those that were taken, and what the carrier made of them is told
+pub finished : (drive : List Call) (all : AllInner drive) (mode : Mode) (limit : Option ℕ) (w0 : WorkingCopy)
+    → AllAccepted md5 mode w0 drive
+    → (left : Nodes) (o : LinkEnd) (w : NoticeEnd) (i : LinkEnd) (n : NoticeEnd) (d : Driven) (u : Taken) (outcome : Outcome) (passed : Passed)
     → IsDriven drive limit o w d → IsTaken mode w0 i n u left → IsFinished d u outcome passed
     → CameTo drive mode limit w0 left outcome × (passed.sent ≡ calls_made drive (made_in outcome))
     × (passed.taken ≡ calls_made drive (made_in outcome))
-finished drive all mode limit w0 left o w i n d u outcome passed driven taken f =
+finished drive all mode limit w0 accept left o w i n d u outcome passed driven taken f =
     let same : u.inbox.calls ≡ d.outbox.calls = sym f.taken ∙ f.whole ∙ f.sent in
     let sent = driven.sent (ap is_over (sym same) ∙ taken.over) in
-    let counted = subst (λ l. IsCounted u.teller.number u.accepted (length (unaborted l))) same taken.counted in
-    let copy : (p : Path) → get_in left p ≡ after mode w0 (take u.accepted (unaborted d.outbox.calls)) p = λ p. taken.copy p
+    let accepted = subst (λ l. AllAccepted md5 mode w0 (unaborted l)) (sym same)
+    (sent_accepted drive all mode limit w0 accept d.outbox.calls d.end d.watcher.number sent) in
+    let counted = subst (λ l. IsCounted u.teller.number u.accepted (length (unaborted l))) same (taken.counted accepted) in
+    let copy : (p : Path) → get_in left p ≡ after mode w0 (take u.accepted (unaborted d.outbox.calls)) p = λ p. taken.copy accepted p
     ∙ ap (λ l. after mode w0 (take u.accepted (unaborted l)) p) same in
     let c = comes drive all mode limit w0 left d.outbox.calls u.teller.number u.accepted counted copy d.end d.watcher.number sent f.seen in
     let is : outcome ≡ threads_outcome d.end (length d.outbox.calls) u.accepted (is_some u.teller.number) = f.outcome

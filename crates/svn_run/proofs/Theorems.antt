@@ -1,5 +1,5 @@
 -- The theorems of a run on one thread and of one on two, from their parts.
-use Rattle.std.proofs.Common.{◌≡◌, ℕ, true, false, [], refl, sym, ap, subst, ◌∙◌}
+use Rattle.std.proofs.Common.{◌≡◌, ℕ, true, false, [], refl, sym, ap, subst, ◌∙◌, inr}
 use Rattle.std.specs.Prelude.{if◌then◌else◌, Option, Some, None, Result, Ok, Err, IfOk, IfErr, OnErr}
 use Rattle.std.specs.Option.{option_or}
 use Rattle.svn_link.specs.Ends.{Passed}
@@ -7,12 +7,12 @@ use Rattle.svn_model.specs.Nodes.{get_in, InPathOrder}
 use Rattle.svn_law.specs.Laws.{IsTrueCopy}
 use Rattle.svn_run.specs.declared.outcome.Outcome.{Outcome}
 use Rattle.svn_run.specs.declared.outcome.RunFault.{RunFault}
-use Rattle.svn_run.specs.declared.outcome.RunFault.TheVariants.{Memory, Capacity}
-use Rattle.svn_run.specs.Coming.{CameTo, CameInTurn}
+use Rattle.svn_run.specs.declared.outcome.RunFault.TheVariants.{Memory, Capacity, NoThread}
+use Rattle.svn_run.specs.Coming.{CameInTurn}
 use Rattle.svn_run.specs.Beginning.{fault_at}
 use Rattle.svn_run.specs.RunLaws.{RunLaws}
 use Rattle.svn_run.specs.UpdateTheorem.{Nodes, Asked, is_capacity, fault_in_turn, fault_in_threads, IsRefusal, IsWantOfMemory}
-use Rattle.svn_run.specs.UpdateTheorem.{IsWantInThreads, made_in, late_in, calls_made, IsSound, TurnTheorem, ThreadsTheorem}
+use Rattle.svn_run.specs.UpdateTheorem.{IsWantInThreads, late_in, IsSound, RanInThreads, TurnTheorem, ThreadsTheorem}
 use Rattle.svn_run.proofs.Beginning.{same_fault, has_target}
 use Rattle.svn_run.proofs.Composing.{drive_for, sound, ran}
 
@@ -56,17 +56,11 @@ module _ (laws : RunLaws) (a : Asked) (true_copy : IsTrueCopy a.history a.copy) 
       refused = tt;
       unchanged = tt;
       begun = no_fault;
-      ran = ran laws a true_copy (has_target laws a true_copy none) left in_order o ended.came;
+      ran = ran laws a true_copy (has_target laws a true_copy none) left o ended.came in_order;
       one_more = ended.one_more;
       never_late = never;
-      sound = sound laws a true_copy (has_target laws a true_copy none) left in_order o ended.came;
+      sound = sound laws a true_copy (has_target laws a true_copy none) left o ended.came;
     }
-
-    pub in_turn : (left : Nodes) (answer : Result Outcome RunFault) → InPathOrder left
-        → IfOk answer (CameInTurn (drive_for a) a.mode a.cancel_after (get_in a.copy) left) → IfOk answer (λ o. late_in o ≡ None)
-        → IfErr answer (λ e. e ≡ Memory) → OnErr answer (left ≡ a.copy) → TurnTheorem a left answer
-    in_turn left (Ok o) in_order came never memory same = came_in_turn left o in_order came never
-    in_turn left (Err e) in_order came never memory same = without_memory left e same memory
 
 -- ---- two threads
 
@@ -109,15 +103,14 @@ module _ (laws : RunLaws) (a : Asked) (true_copy : IsTrueCopy a.history a.copy) 
         sound = subst (IsSound a) (sym same) (unmoved laws a true_copy);
       }
 
-      -- it ended
-      pub came_in_threads : (left : Nodes) (o : Outcome) (passed : Passed) → InPathOrder left
-          → CameTo (drive_for a) a.mode a.cancel_after (get_in a.copy) left o
-          → passed.sent ≡ calls_made (drive_for a) (made_in o) → passed.taken ≡ calls_made (drive_for a) (made_in o)
-          → ThreadsTheorem a capacity left (Ok (o, passed))
-      came_in_threads left o passed in_order came sent taken = record {
+      -- it ended, or no thread could be made
+      pub in_threads : (left : Nodes) (answer : Result (Outcome × Passed) RunFault) → IfOk answer (λ x. RanInThreads a left x.0 x.1)
+          → IfErr answer (λ e. e ≡ NoThread) → OnErr answer (left ≡ a.copy) → ThreadsTheorem a capacity left answer
+      in_threads left (Ok x) did fault same = record {
         refused = tt;
         unchanged = tt;
         begun = no_fault_in_threads;
-        ran = record { ran = ran laws a true_copy (has_target laws a true_copy none) left in_order o came; sent = sent; taken = taken };
-        sound = sound laws a true_copy (has_target laws a true_copy none) left in_order o came;
+        ran = did;
+        sound = record { truth = did.ran.resumed.asked.true_of; shape = did.ran.resumed.asked.shape };
       }
+      in_threads left (Err e) did fault same = wanting left e same (inr fault)

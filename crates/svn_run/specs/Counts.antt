@@ -1,25 +1,23 @@
--- An applier that counts its calls.
---     CountsCall ..      the edit, the copy and the two counts before, the call, its answer, and all of them after
-use Rattle.std.specs.Prelude.{◌≡◌, ℕ, ◌+◌, ◌⊎◌, Bool, true, false, Result, Ok, Err}
+-- A carrier that counts its calls.
+--     CountsCall ..      the edit, the nodes and the two counts before, the call, its answer, and all of them after
+use Rattle.std.specs.Prelude.{◌≡◌, ℕ, ◌+◌, ◌⊎◌, true, false, Result, Ok, Err}
 use Rattle.svn_editor.specs.declared.call.Call.{Call}
 use Rattle.svn_editor.specs.Calls.{is_abort}
 use Rattle.svn_editor.specs.declared.fault.EditFault.{EditFault}
-use Rattle.svn_edit.specs.declared.edit.Edit.{Edit}
-use Rattle.svn_wc.specs.Taking.{TakesCall}
+use Rattle.svn_edit.specs.declared.pending.Pending.{Pending}
+use Rattle.svn_edit.specs.Carrying.{Carries}
 use Rattle.svn_run.specs.UpdateTheorem.{Nodes}
 
--- an `AbortEdit` isn't counted
-abbrev pub one_unless : Bool → ℕ
-one_unless true = 0
-one_unless false = 1
+-- nothing is done
+abbrev pub Stays : Pending → Nodes → ℕ → ℕ → Pending → Nodes → ℕ → ℕ → Type 0
+Stays edit nodes made accepted new left made' accepted' = (new ≡ edit) × (left ≡ nodes) × (made' ≡ made) × (accepted' ≡ accepted)
 
-abbrev pub one_for : Call → ℕ
-one_for call = one_unless (is_abort call)
-
-abbrev pub CountsCall : Edit → Nodes → ℕ → ℕ → Call → Result (Unit {0}) EditFault → Edit → Nodes → ℕ → ℕ → Type 0
+-- an `AbortEdit` is neither carried out nor counted
+abbrev pub CountsCall : Pending → Nodes → ℕ → ℕ → Call → Result (Unit {0}) EditFault → Pending → Nodes → ℕ → ℕ → Type 0
 CountsCall edit nodes made accepted call (Ok done) new left made' accepted' =
-    TakesCall edit nodes call (Ok tt) new left × (made' ≡ made + one_for call) × (accepted' ≡ accepted + one_for call)
+    ((is_abort call ≡ true) × Stays edit nodes made accepted new left made' accepted')
+    ⊎ ((is_abort call ≡ false) × Carries edit nodes call (Ok tt) new left × (made' ≡ made + 1) × (accepted' ≡ accepted + 1))
 CountsCall edit nodes made accepted call (Err fault) new left made' accepted' =
-    (TakesCall edit nodes call (Err fault) new left × (made' ≡ made + one_for call) × (accepted' ≡ accepted))
     -- no number is left for another call
-    ⊎ ((new ≡ edit) × (left ≡ nodes) × (made' ≡ made) × (accepted' ≡ accepted))
+    Stays edit nodes made accepted new left made' accepted'
+    ⊎ ((is_abort call ≡ false) × Carries edit nodes call (Err fault) new left × (made' ≡ made + 1) × (accepted' ≡ accepted))

@@ -5,6 +5,7 @@ pub mod Courses
 pub mod Driven
 pub mod FaultNumbers
 pub mod Finishing
+pub mod Knowing
 pub mod Senders
 pub mod Printing
 pub mod RunLaws

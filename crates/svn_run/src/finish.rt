@@ -6,7 +6,6 @@ ghost use Rattle.svn_run.specs.Finishing.{late_of, made_of, cause_of, threads_ou
 use crate::driving::Driven;
 use crate::outcome::{Cause, Outcome, memory_of};
 use crate::taking::Taken;
-use crate::two_threads::Both;
 use std::sync::Wait;
 use svn_editor::EditFault;
 use svn_link::{Settled, settle, settle_notice};
@@ -14,13 +13,12 @@ use svn_model::{DriveEnd, DriveFault};
 use svn_types::impossible;
 
 /// Joins the ends again, and says how the run ended.
-pub(crate) fn finish<R: Wait>(rt: &R, both: Both) -> (Outcome, Settled)
-    requires link { both.taken.inbox.link ≡ both.driven.outbox.link }
-    requires notice { both.driven.watcher.notice ≡ both.taken.teller.notice }
-    requires over { is_over both.taken.inbox.calls ≡ true }
-    ensures { IsFinished both.driven both.taken result.0 result.1 }
+pub(crate) fn finish<R: Wait>(rt: &R, driven: Driven, taken: Taken) -> (Outcome, Settled)
+    requires link { taken.inbox.link ≡ driven.outbox.link }
+    requires notice { driven.watcher.notice ≡ taken.teller.notice }
+    requires over { is_over taken.inbox.calls ≡ true }
+    ensures { IsFinished driven taken result.0 result.1 }
 {
-    let Both { driven, taken } = both;
     let Driven {
         outbox,
         watcher,

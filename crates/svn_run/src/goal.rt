@@ -1,7 +1,7 @@
 //! What comes before the first call of a run.
 ghost use Rattle.std.specs.Prelude.{◌≡◌, [], true, IfOk};
 ghost use Rattle.std.specs.Option.{option_copied};
-ghost use Rattle.svn_edit.specs.Applying.{StandsAfter};
+ghost use Rattle.svn_edit.specs.Carrying.{CarriedOut};
 ghost use Rattle.svn_editor.specs.Steps.{mode_at};
 ghost use Rattle.svn_model.specs.Nodes.{get_in, is_dir};
 ghost use Rattle.svn_run.specs.Beginning.{fault_at};
@@ -10,7 +10,7 @@ ghost use Rattle.svn_run.specs.UpdateTheorem.{Nodes};
 use crate::outcome::RunFault;
 use std::alloc::{AllocError, Global};
 use svn_drive::{DriveOptions, Request, fault_between};
-use svn_edit::Edit;
+use svn_edit::Pending;
 use svn_editor::{EditFault, Mode};
 use svn_repo::Repo;
 use svn_types::{RelPath, Rev};
@@ -63,12 +63,12 @@ impl<'a> Goal<'a> {
     }
 }
 
-/// The edit that leads where the request says, to which no call was given. The only fault is Memory.
-pub(crate) fn edit_of(alloc: Global, request: &Request) -> Result<Edit, EditFault>
-    ensures { IfOk result (λ e. (nodes : Nodes) → StandsAfter request.now.mode (get_in nodes) e nodes []) }
+/// The edit that leads where the request says, of which no call was carried out. The only fault is Memory.
+pub(crate) fn pending_of(alloc: Global, request: &Request) -> Result<Pending, EditFault>
+    ensures { IfOk result (λ e. (nodes : Nodes) → CarriedOut request.now.mode (get_in nodes) e nodes []) }
 {
     let Ok(mode) = Mode::of(request.mode.root()) else {
         return Err(EditFault::Memory);
     };
-    Edit::new(alloc, mode)
+    Pending::new(alloc, mode)
 }

@@ -1,25 +1,33 @@
 //! Runs on two threads: the driver in one of its own, the working copy in the caller's.
-ghost use Rattle.std.specs.Prelude.{◌≡◌, None, Some, [], IfOk, IfErr, true, false};
+ghost use Rattle.std.specs.Prelude.{◌≡◌, None, Some, [], IfOk, IfErr, OnErr, true, false};
 ghost use Rattle.std.specs.Option.{option_copied};
 ghost use Rattle.svn_editor.specs.declared.mode.Mode.TheVariants.{Update, SwitchTo};
 ghost use Rattle.svn_editor.specs.Steps.{mode_at};
+ghost use Rattle.svn_edit.specs.Carrying.{CarriedOut};
+ghost use Rattle.svn_model.specs.Crawl.{crawl};
 ghost use Rattle.svn_model.specs.Nodes.{get_in, IsTrueOf};
 ghost use Rattle.svn_run.specs.Beginning.{fault_at};
-ghost use Rattle.svn_run.specs.UpdateTheorem.{asked, is_capacity, ThreadsTheorem};
+ghost use Rattle.svn_run.specs.UpdateTheorem.{asked, is_capacity, RanInThreads, ThreadsTheorem};
 
+use crate::carrier::Carrier;
 use crate::finish::finish;
 use crate::gate::Gate;
-use crate::goal::Goal;
+use crate::goal::{Goal, pending_of};
+use crate::known::known_after;
 use crate::laws::{laws, true_copy};
 use crate::listener::{Listener, NoListener};
 use crate::outcome::{Outcome, RunFault};
-use crate::two_threads::{Ends, run_both};
+use crate::spare::spare_copy;
+use crate::two_threads::{Both, Ends, run_both};
 use std::alloc::Global;
+use std::mem;
 use std::sync::Wait;
 use std::thread::Threads;
 use svn_drive::{DriveOptions, Request};
+use svn_edit::Pending;
 use svn_link::{LinkFault, MAX_CAPACITY, Settled, link, notice};
 use svn_repo::Repo;
+use svn_report::Report;
 use svn_types::{RelPath, Rev};
 use svn_wc::WorkingCopy;
 
@@ -210,7 +218,7 @@ fn run_at<R: Threads + Wait + Sync, G: Gate, L: Listener>(
     run_tested(rt, gate, alloc, listener, repo, copy, &request, capacity)
 }
 
-// A run whose target is there, and whose capacity is one.
+// A run whose target is there, and whose capacity is one. Until it ends another copy is in the place of the caller's.
 fn run_tested<R: Threads + Wait + Sync, G: Gate, L: Listener>(
     rt: &R,
     gate: &G,
@@ -234,14 +242,72 @@ fn run_tested<R: Threads + Wait + Sync, G: Gate, L: Listener>(
     let Ok(ends) = ends_of(alloc, capacity) else {
         return Err(RunFault::Memory);
     };
+    let Ok(pending) = pending_of(alloc, request) else {
+        return Err(RunFault::Memory);
+    };
+    let Ok(spare) = spare_copy(alloc) else {
+        return Err(RunFault::Memory);
+    };
+    let own = mem::replace(copy, spare);
+    let (left, answer) = run_copy(
+        rt, gate, alloc, listener, request, repo, &report, ends, pending, own,
+    );
+    *copy = left;
+    answer
+}
+
+// The same, once all is made that a run needs: the calls change the nodes by themselves, and a copy is made of what they leave. The only fault is
+// NoThread.
+fn run_copy<R: Threads + Wait + Sync, G: Gate, L: Listener>(
+    rt: &R,
+    gate: &G,
+    alloc: Global,
+    listener: &mut L,
+    request: &Request,
+    repo: &Repo,
+    report: &Report,
+    ends: Ends,
+    pending: Pending,
+    copy: WorkingCopy,
+) -> (WorkingCopy, Result<(Outcome, Settled), RunFault>)
+    requires truth { IsTrueOf repo.now (get_in copy) }
+    requires target { fault_at repo.now request.now.target request.now.mode (get_in copy []) ≡ None }
+    requires report { report.now ≡ crawl copy }
+    requires begun { CarriedOut request.now.mode (get_in copy) pending copy [] }
+    requires sent { ends.outbox.calls ≡ [] }
+    requires taken { ends.inbox.calls ≡ [] }
+    requires told { ends.teller.number ≡ None }
+    requires link { ends.inbox.link ≡ ends.outbox.link }
+    requires notice { ends.watcher.notice ≡ ends.teller.notice }
+    ensures ran { IfOk result.1 (λ x. RanInThreads (asked repo.now copy request.now.target request.now.mode request.now.options.late_texts request.now.options.cancel_after) result.0 x.0 x.1) }
+    ensures fault { IfErr result.1 (λ e. e ≡ RunFault.NoThread) }
+    ensures unchanged { OnErr result.1 (result.0 ≡ copy) }
+{
+    laws();
+    true_copy(repo, &copy);
+    let (loose, known) = copy.loosen();
+    let carrier = Carrier {
+        alloc,
+        pending,
+        copy: loose,
+    };
     match run_both(
-        rt, gate, alloc, listener, request, repo, &report, ends, copy,
+        rt, gate, alloc, listener, request, repo, report, ends, carrier,
     ) {
         Ok(both) => {
-            copy.law();
-            Ok(finish(rt, both))
+            let Both {
+                driven,
+                taken,
+                carrier,
+            } = both;
+            let (outcome, settled) = finish(rt, driven, taken);
+            let left = carrier
+                .copy
+                .tie(known_after(known, &request.mode, &outcome));
+            left.law();
+            (left, Ok((outcome, settled)))
         }
-        Err(fault) => Err(fault),
+        Err(carrier) => (carrier.copy.tie(known), Err(RunFault::NoThread)),
     }
 }
 

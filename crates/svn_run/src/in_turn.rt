@@ -1,29 +1,37 @@
 //! Runs on one thread: the driver gives each call to the copy as it makes it.
-ghost use Rattle.std.specs.Prelude.{◌≡◌, None, [], IfOk, IfErr, OnErr};
+ghost use Rattle.std.specs.Prelude.{◌≡◌, None, [], Ok};
 ghost use Rattle.std.specs.Option.{option_copied};
 ghost use Rattle.svn_editor.specs.declared.mode.Mode.TheVariants.{Update, SwitchTo};
 ghost use Rattle.svn_editor.specs.Steps.{mode_at};
-ghost use Rattle.svn_edit.specs.Applying.{StandsAfter};
+ghost use Rattle.md5.specs.Md5.{md5};
+ghost use Rattle.svn_edit.specs.Carrying.{CarriedOut};
 ghost use Rattle.svn_model.specs.Checks.{target_fault};
+ghost use Rattle.svn_model.specs.Crawl.{crawl};
 ghost use Rattle.svn_model.specs.Drive.{IsDrive};
+ghost use Rattle.svn_model.specs.Effects.{AllAccepted};
 ghost use Rattle.svn_model.specs.Nodes.{WorkingCopy as CopyMap, get_in, IsTrueOf};
 ghost use Rattle.svn_run.specs.Beginning.{fault_at};
 ghost use Rattle.svn_run.specs.Coming.{CameInTurn, turn_outcome};
 ghost use Rattle.svn_run.specs.Courses.{request_for, drive_for};
 ghost use Rattle.svn_run.specs.UpdateTheorem.{asked, late_in, TurnTheorem};
 
+use crate::carrier::Carrier;
 use crate::counted::Counted;
-use crate::goal::{Goal, edit_of};
+use crate::goal::{Goal, pending_of};
+use crate::known::known_after;
 use crate::laws::{laws, true_copy};
 use crate::listener::{Listener, NoListener};
 use crate::outcome::{Cause, Outcome, RunFault, memory_of};
+use crate::spare::spare_copy;
 use std::alloc::Global;
+use std::mem;
 use svn_drive::{DriveOptions, Request, drive_tested};
+use svn_edit::Pending;
 use svn_model::{DriveEnd, DriveFault};
 use svn_repo::Repo;
 use svn_report::Report;
 use svn_types::{RelPath, Rev};
-use svn_wc::{Applier, WorkingCopy};
+use svn_wc::WorkingCopy;
 
 /// Updates a working copy to a revision of the repository, on one thread.
 ///
@@ -121,7 +129,7 @@ fn run_at<L: Listener>(
     run_tested(alloc, listener, repo, copy, &request)
 }
 
-// A run whose target is there.
+// A run whose target is there. Until it ends another copy is in the place of the caller's.
 fn run_tested<L: Listener>(
     alloc: Global,
     listener: &mut L,
@@ -138,62 +146,75 @@ fn run_tested<L: Listener>(
     let Ok(report) = copy.crawl_and_learn(alloc) else {
         return Err(RunFault::Memory);
     };
-    let outcome = drive_copy(alloc, listener, request, repo, &report, copy);
-    copy.law();
-    outcome
+    let Ok(pending) = pending_of(alloc, request) else {
+        return Err(RunFault::Memory);
+    };
+    let Ok(spare) = spare_copy(alloc) else {
+        return Err(RunFault::Memory);
+    };
+    let own = mem::replace(copy, spare);
+    let (left, outcome) = drive_copy(alloc, listener, request, repo, &report, pending, own);
+    *copy = left;
+    Ok(outcome)
 }
 
-// The same, once the report is made.
+// The same, once the report is made: the calls change the nodes by themselves, and a copy is made of what they leave.
 fn drive_copy<L: Listener>(
     alloc: Global,
     listener: &mut L,
     request: &Request,
     repo: &Repo,
     report: &Report,
-    copy: &mut WorkingCopy,
-) -> Result<Outcome, RunFault>
-    requires target { target_fault (request_for repo.now report.now request.now) ≡ None }
-    requires drive { IsDrive (request_for repo.now report.now request.now) request.now.options.late_texts (drive_for repo.now report.now request.now) }
-    ensures came { IfOk result (λ o. CameInTurn (drive_for repo.now report.now request.now) request.now.mode request.now.options.cancel_after (get_in copy.old) copy.new o) }
-    ensures never_late { IfOk result (λ o. late_in o ≡ None) }
-    ensures memory { IfErr result (λ e. e ≡ RunFault.Memory) }
-    ensures unchanged { OnErr result (copy.new ≡ copy.old) }
+    pending: Pending,
+    copy: WorkingCopy,
+) -> (WorkingCopy, Outcome)
+    requires truth { IsTrueOf repo.now (get_in copy) }
+    requires target { fault_at repo.now request.now.target request.now.mode (get_in copy []) ≡ None }
+    requires report { report.now ≡ crawl copy }
+    requires begun { CarriedOut request.now.mode (get_in copy) pending copy [] }
+    ensures { TurnTheorem (asked repo.now copy request.now.target request.now.mode request.now.options.late_texts request.now.options.cancel_after) result.0 (Ok result.1) }
 {
-    let Ok(edit) = edit_of(alloc, request) else {
-        return Err(RunFault::Memory);
-    };
+    laws();
+    true_copy(repo, &copy);
+    let (loose, known) = copy.loosen();
     let mut counted = Counted {
-        alloc,
-        applier: Applier::with_edit(copy, edit),
+        carrier: Carrier {
+            alloc,
+            pending,
+            copy: loose,
+        },
         listener,
         made: 0,
         accepted: 0,
     };
     let end = drive_counted(alloc, request, repo, report, &mut counted);
     let Counted {
-        applier,
+        carrier,
         made,
         accepted,
         ..
     } = counted;
-    let _copy = applier.into_copy();
-    Ok(outcome_of(&end, made, accepted))
+    let outcome = outcome_of(&end, made, accepted);
+    let left = carrier
+        .copy
+        .tie(known_after(known, &request.mode, &outcome));
+    left.law();
+    (left, outcome)
 }
 
-// Drives the applier, and counts its calls.
+// Drives the carrier, and counts its calls.
 fn drive_counted<L: Listener>(
     alloc: Global,
     request: &Request,
     repo: &Repo,
     report: &Report,
-    counted: &mut Counted<'_, '_, L>,
+    counted: &mut Counted<'_, L>,
 ) -> Result<DriveEnd, DriveFault>
     requires target { target_fault (request_for repo.now report.now request.now) ≡ None }
     requires drive { IsDrive (request_for repo.now report.now request.now) request.now.options.late_texts (drive_for repo.now report.now request.now) }
     requires made { counted.old.made ≡ 0 }
     requires accepted { counted.old.accepted ≡ 0 }
-    ensures came { (w0 : CopyMap) → StandsAfter request.now.mode w0 counted.old.applier.edit counted.old.applier.copy.now [] → CameInTurn (drive_for repo.now report.now request.now) request.now.mode request.now.options.cancel_after w0 counted.new.applier.copy.now (turn_outcome result counted.new.made counted.new.accepted) }
-    ensures same_copy { counted.new.applier.copy.ghost_name ≡ counted.old.applier.copy.ghost_name }
+    ensures { (w0 : CopyMap) → CarriedOut request.now.mode w0 counted.old.carrier.pending counted.old.carrier.copy.nodes.entries [] → AllAccepted md5 request.now.mode w0 (drive_for repo.now report.now request.now) → CameInTurn (drive_for repo.now report.now request.now) request.now.mode request.now.options.cancel_after w0 counted.new.carrier.copy.nodes.entries (turn_outcome result counted.new.made counted.new.accepted) }
 {
     laws();
     drive_tested(alloc, repo, report, request, counted)

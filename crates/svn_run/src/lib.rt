@@ -15,8 +15,12 @@
 //! Promises: the contract of each is the update theorem, `TurnTheorem` and `ThreadsTheorem` of `specs/UpdateTheorem.antt`: for every repository,
 //! true copy, target, cancel number, place of texts, capacity, gate and schedule. On one thread runs return; on two they may wait, and
 //! nothing is claimed of when the other thread goes on.
+//!
+//! Inside, the calls go to an edit that tests neither their order nor what the copy would refuse, since by the laws of `svn_law` there is nothing to
+//! find; until the run ends the nodes are not in the copy (`carrier.rt`).
 #![tactic(auto)]
 
+mod carrier;
 mod counted;
 mod driving;
 mod finish;
@@ -24,10 +28,12 @@ mod gate;
 mod goal;
 mod in_threads;
 mod in_turn;
+mod known;
 mod laws;
 mod listener;
 mod outcome;
 mod sender;
+mod spare;
 mod taking;
 mod two_threads;
 

@@ -1,11 +1,6 @@
 //! What hears of the calls of a run as they take effect.
-ghost use Rattle.std.specs.Prelude.{◌≡◌};
-ghost use Rattle.svn_wc.specs.Taking.{TakesCall};
-
-use std::alloc::Global;
-use svn_editor::{Call, EditFault, Editor};
+use svn_editor::Call;
 use svn_types::RelPath;
-use svn_wc::Applier;
 
 /// Hears of each call that the copy accepted, in their order, once each, in the thread of the caller: to show progress, or to keep a log. What it does
 /// changes nothing of the run, which waits for it. `AbortEdit` isn't told.
@@ -30,46 +25,4 @@ impl Listener for NoListener {
     }
 
     fn accepted(&mut self, _call: &Call, _path: Option<&RelPath>) {}
-}
-
-// A clone, which shares the names of the path and takes no memory.
-fn shared(path: &RelPath) -> Option<RelPath> {
-    match path.clone() {
-        Ok(path) => Some(path),
-        Err(_) => None,
-    }
-}
-
-// The path of what a call is about, before it is given to the applier.
-fn path_of(alloc: Global, applier: &Applier<'_>, call: &Call) -> Option<RelPath> {
-    if let Call::OpenRoot { .. } = call {
-        return Some(RelPath::root(alloc));
-    }
-    match call.path() {
-        Some(path) => shared(path),
-        None => shared(applier.open_path(call.token()?)?),
-    }
-}
-
-/// Gives a call to the applier, and tells the listener where it was accepted.
-#[inline(always)]
-pub(crate) fn apply_heard<L: Listener>(
-    alloc: Global,
-    applier: &mut Applier<'_>,
-    listener: &mut L,
-    call: Call,
-) -> Result<(), EditFault>
-    ensures taken { TakesCall applier.old.edit applier.old.copy.now call result applier.new.edit applier.new.copy.now }
-    ensures same_copy { applier.new.copy.ghost_name ≡ applier.old.copy.ghost_name }
-{
-    if !listener.is_listening() {
-        return applier.call(call);
-    }
-    let path = path_of(alloc, applier, &call);
-    let answer = applier.apply(&call);
-    if answer.is_ok() {
-        listener.accepted(&call, path.as_ref());
-    }
-    drop(call);
-    answer
 }

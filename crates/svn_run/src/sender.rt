@@ -3,7 +3,6 @@ ghost use Rattle.std.specs.Prelude.{◌≡◌, false, Some, IfSome};
 ghost use Rattle.svn_editor.specs.Calls.{is_abort};
 ghost use Rattle.svn_run.specs.Senders.{can_send, IsEnded};
 
-use crate::counted::is_abort;
 use crate::gate::Gate;
 use std::marker::Model;
 use std::sync::Wait;
@@ -87,7 +86,7 @@ fn refused_call<R: Wait>(rt: &R, watcher: &mut Watcher, call: &Call) -> Option<u
     ensures looked { is_abort call.now ≡ false → result ≡ watcher.new.number }
     ensures notice { watcher.new.notice ≡ watcher.old.notice }
 {
-    if is_abort(call) {
+    if call.is_abort() {
         None
     } else {
         watcher.seen(rt)

@@ -1,20 +1,17 @@
 //! The caller's side of a run.
 ghost use Rattle.std.specs.Prelude.{◌≡◌, ◌≤◌, [], None, length, false};
-ghost use Rattle.svn_edit.specs.Applying.{StandsAfter};
+ghost use Rattle.svn_edit.specs.Carrying.{CarriedOut};
 ghost use Rattle.svn_editor.specs.declared.mode.Mode.{Mode};
 ghost use Rattle.svn_link.specs.Calls.{is_over};
 ghost use Rattle.svn_model.specs.Nodes.{WorkingCopy as CopyMap};
 ghost use Rattle.svn_run.specs.Takes.{IsStep, IsTaken};
 
-use crate::counted::is_abort;
+use crate::carrier::Carrier;
 use crate::gate::Gate;
 use crate::laws::laws;
-use crate::listener::{Listener, apply_heard};
-use std::alloc::Global;
+use crate::listener::Listener;
 use std::sync::Wait;
-use svn_editor::{Call, Editor};
 use svn_link::{Inbox, Teller};
-use svn_wc::Applier;
 
 /// The caller's ends, and how many of the calls that it took were accepted.
 #[derive(Drop)]
@@ -24,21 +21,18 @@ pub(crate) struct Taken {
     pub(crate) accepted: u64,
 }
 
-/// Takes all calls, up to the last one. The applier gets them until it refuses one, whose number is told before the next
-/// is taken. An edit that wasn't closed is given up at the end.
+/// Takes all calls, up to the last one. They are carried out until one is refused, whose number is told before the next is taken.
 pub(crate) fn take_all<R: Wait, G: Gate, L: Listener>(
     rt: &R,
     gate: &G,
-    alloc: Global,
     listener: &mut L,
     inbox: Inbox,
     teller: Teller,
-    applier: &mut Applier<'_>,
+    carrier: &mut Carrier,
 ) -> Taken
     requires calls { inbox.calls ≡ [] }
     requires told { teller.number ≡ None }
-    ensures taken { (mode : Mode) (w0 : CopyMap) → StandsAfter mode w0 applier.old.edit applier.old.copy.now [] → IsTaken mode w0 inbox teller result applier.new.copy.now }
-    ensures same_copy { applier.new.copy.ghost_name ≡ applier.old.copy.ghost_name }
+    ensures { (mode : Mode) (w0 : CopyMap) → CarriedOut mode w0 carrier.old.pending carrier.old.copy.nodes.entries [] → IsTaken mode w0 inbox teller result carrier.new.copy.nodes.entries }
 {
     laws();
     let mut taken = Taken {
@@ -50,37 +44,32 @@ pub(crate) fn take_all<R: Wait, G: Gate, L: Listener>(
         if taken.inbox.over() {
             break;
         }
-        take_one(rt, gate, alloc, listener, &mut taken, applier);
-    }
-    if taken.accepted < taken.inbox.taken() {
-        let _answer = applier.call(Call::AbortEdit);
+        take_one(rt, gate, listener, &mut taken, carrier);
     }
     taken
 }
 
-// Takes a call, and gives it to the applier where that refused none. An `AbortEdit` waits for the end.
+// Takes a call, and carries it out where none was refused. Of an `AbortEdit` nothing is left to be done: what is open goes with the edit.
 fn take_one<R: Wait, G: Gate, L: Listener>(
     rt: &R,
     gate: &G,
-    alloc: Global,
     listener: &mut L,
     taken: &mut Taken,
-    applier: &mut Applier<'_>,
+    carrier: &mut Carrier,
 )
     requires more { is_over taken.old.inbox.calls ≡ false }
     requires counted { taken.old.accepted ≤ length taken.old.inbox.calls }
-    ensures step { IsStep taken.old applier.old.edit applier.old.copy.now taken.new applier.new.edit applier.new.copy.now }
-    ensures same_copy { applier.new.copy.ghost_name ≡ applier.old.copy.ghost_name }
+    ensures { IsStep taken.old carrier.old.pending carrier.old.copy.nodes.entries taken.new carrier.new.pending carrier.new.copy.nodes.entries }
 {
     let call = taken.inbox.take(rt);
     gate.after_take(taken.inbox.taken());
-    if is_abort(&call) {
+    if call.is_abort() {
         return;
     }
     if taken.teller.told() {
         return;
     }
-    match apply_heard(alloc, applier, listener, call) {
+    match carrier.carry(listener, call) {
         Ok(()) => taken.accepted += 1,
         Err(_) => taken.teller.refused(rt, taken.accepted + 1),
     }

@@ -26,6 +26,8 @@ pub mod SortedNodes
 pub mod Unswitched
 -- What is known of a copy after a call of an applier: that no path is switched, and that it is level.
 pub mod UnswitchedCalls
+-- The same of whole lists of calls: an update leaves no path switched.
+pub mod UnswitchedRuns
 -- Nodes that are what the repository has at one revision are level; and level nodes have the root's revision.
 pub mod Level
 -- What a copy reports if no path is switched and all nodes are of one revision: the root alone.

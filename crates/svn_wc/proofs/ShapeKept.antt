@@ -25,7 +25,7 @@ use Rattle.svn_edit.specs.Leaving.{PoolsAfter}
 use Rattle.svn_edit.specs.Applying.{StandsAfter, HasEnded, IsRefused, StaysRefused, StaysEnded, LeavesRefused}
 use Rattle.svn_edit.proofs.ShapedCalls.{shaped_call}
 use Rattle.svn_edit_law.proofs.Appending.{after-more}
-use Rattle.svn_wc.specs.Taking.{TakesCall, IsBegun, GoesOn, IsInShape, IncompleteAreOpen}
+use Rattle.svn_wc.specs.Taking.{TakesCall, GoesOn, IsInShape, IncompleteAreOpen}
 use Rattle.svn_wc.specs.Unswitched.{IsLevel}
 use Rattle.svn_wc.proofs.Completing.{open_more, level_open}
 
@@ -51,13 +51,13 @@ IsWorkingCopy-prop w a b i = record {
 -- ---- no call yet
 
 pub begun_in_shape : (was_level : Bool) (edit : Edit) (nodes : List (Path × BaseNode)) → (was_level ≡ true → IsLevel (get_in nodes))
-    → IsBegun edit nodes → IsWorkingCopy (get_in nodes) → IsInShape was_level edit nodes
-begun_in_shape was_level edit nodes level begun shape going = record {
-  mode = begun.0;
+    → (mode : Mode) → StandsAfter mode (get_in nodes) edit nodes [] → IsWorkingCopy (get_in nodes) → IsInShape was_level edit nodes
+begun_in_shape was_level edit nodes level mode begun shape going = record {
+  mode = mode;
   start = get_in nodes;
   calls = [];
-  stands = begun.1;
-  shape = shaped_first begun.0 (get_in nodes) shape;
+  stands = begun;
+  shape = shaped_first mode (get_in nodes) shape;
   opened = λ was. level_open (get_in nodes) (level was);
 }
 
@@ -75,7 +75,7 @@ pub taken : (answer : Result (Unit {0}) EditFault) (old new : Edit) (m m' : BTre
     → (IsRefused old → StaysRefused c answer new × (m' ≡ m))
     → (HasEnded old → StaysEnded old answer new × (m' ≡ m))
     → PoolsAfter old m.entries c answer new
-    → (is_last c ≡ true → old.mode ≡ Update → IfErr answer (λ e. e ≢ Memory))
+    → (is_last c ≡ true → old.pending.mode ≡ Update → IfErr answer (λ e. e ≢ Memory))
     → (is_abort c ≡ true → IfErr answer (λ e. e ≢ Memory))
     → TakesCall old m.entries c answer new m'.entries
 taken answer old new m m' c named answers in_order accepted refused dead was_refused ended pools last abort = record {

@@ -38,7 +38,7 @@ module _ (was_level : Bool) (old new : Edit) (w w' : List (Path × BaseNode)) (c
         by false e = refl
         by true e = absurd (ended_otherwise (sym (g.stands.ended e) ∙ is))
 
-    mode_is : old.stage ≡ Going → g.mode ≡ old.mode
+    mode_is : old.stage ≡ Going → g.mode ≡ old.pending.mode
     mode_is is = sym ((g.stands.going (going is)).mode_is)
 
     taken_effect : StandsAfter g.mode g.start new w' (g.calls ++ c ∷ []) → get_in w' ≡ effect g.mode g.calls c (get_in w)
@@ -56,7 +56,7 @@ module _ (was_level : Bool) (old new : Edit) (w w' : List (Path × BaseNode)) (c
 
   -- an update
   pub kept_unswitched : (answer : Result (Unit {0}) EditFault) → TakesCall old w c answer new w' → IsInShape was_level old w
-      → IsWorkingCopy (get_in w') → old.mode ≡ Update → IsUnswitched (get_in w) → IsUnswitched (get_in w')
+      → IsWorkingCopy (get_in w') → old.pending.mode ≡ Update → IsUnswitched (get_in w) → IsUnswitched (get_in w')
   kept_unswitched answer takes shape after update unswitched = by old.stage refl answer takes
     where
       by : (stage : Stage) → old.stage ≡ stage → (answer : Result (Unit {0}) EditFault) → TakesCall old w c answer new w'
@@ -74,7 +74,7 @@ module _ (was_level : Bool) (old new : Edit) (w w' : List (Path × BaseNode)) (c
 
   -- the last call of a switch
   pub closed_unswitched : (answer : Result (Unit {0}) EditFault) → TakesCall old w c answer new w' → IsInShape was_level old w
-      → IsWorkingCopy (get_in w') → (root : Path) → old.mode ≡ SwitchTo root → c ≡ CloseEdit → answer ≡ Ok tt
+      → IsWorkingCopy (get_in w') → (root : Path) → old.pending.mode ≡ SwitchTo root → c ≡ CloseEdit → answer ≡ Ok tt
       → IsUnswitched (get_in w')
   closed_unswitched answer takes shape after root switch close ok = by old.stage refl answer takes ok
     where
@@ -93,14 +93,14 @@ module _ (was_level : Bool) (old new : Edit) (w w' : List (Path × BaseNode)) (c
 
   -- what an applier notes
   pub still_unswitched : (answer : Result (Unit {0}) EditFault) → TakesCall old w c answer new w' → IsInShape was_level old w
-      → IsWorkingCopy (get_in w') → (is_update : Bool) → IsTrue is_update ↔ (old.mode ≡ Update) → (was result : Bool)
+      → IsWorkingCopy (get_in w') → (is_update : Bool) → IsTrue is_update ↔ (old.pending.mode ≡ Update) → (was result : Bool)
       → (is_update ≡ true → result ≡ was) → (is_update ≡ false → result ≡ true → (c ≡ CloseEdit) × (answer ≡ Ok tt)) → result ≡ true
       → (was ≡ true → IsUnswitched (get_in w)) → IsUnswitched (get_in w')
   still_unswitched answer takes shape after true iff was result update switch known before =
       kept_unswitched answer takes shape after (iff.0 refl) (before (sym (update refl) ∙ known))
-  still_unswitched answer takes shape after false iff was result update switch known before = by old.mode refl
+  still_unswitched answer takes shape after false iff was result update switch known before = by old.pending.mode refl
     where
-      by : (m : Mode) → old.mode ≡ m → IsUnswitched (get_in w')
+      by : (m : Mode) → old.pending.mode ≡ m → IsUnswitched (get_in w')
       by Update is = absurd (true≢false (sym (iff.1 is)))
       by (SwitchTo root) is =
           let closed = switch refl known in closed_unswitched answer takes shape after root is closed.0 closed.1

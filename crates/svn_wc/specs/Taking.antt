@@ -1,6 +1,5 @@
 -- What an applier makes of a call.
 --     TakesCall edit nodes call answer edit' nodes'      the edit and the copy before, the call, its answer, and both after
---     IsBegun edit nodes      no call was given to the edit, which is one of this copy
 --     IncompleteAreOpen w calls      each incomplete directory of the copy was opened by the calls, and not closed
 --     IsInShape was_level edit nodes      as long as the edit goes on, the copy has the shape that its calls leave, and if it was level before them,
 --                                         the directories that they opened alone are incomplete
@@ -41,12 +40,9 @@ pub record TakesCall (old : Edit) (w : List (Path × BaseNode)) (call : Call) (a
   -- after a refusal too the pools are those of what is open
   pub pools : PoolsAfter old w call answer new
   -- want of memory isn't answered to the last call of an update
-  pub last : is_last call ≡ true → old.mode ≡ Update → IfErr answer (λ e. e ≢ Memory)
+  pub last : is_last call ≡ true → old.pending.mode ≡ Update → IfErr answer (λ e. e ≢ Memory)
   -- nor to giving up
   pub abort : is_abort call ≡ true → IfErr answer (λ e. e ≢ Memory)
-
-abbrev pub IsBegun : Edit → List (Path × BaseNode) → Type 0
-IsBegun edit nodes = (mode : Mode) × StandsAfter mode (get_in nodes) edit nodes []
 
 -- the calls opened a directory at the path, and did not close it
 pub record IsOpenAt (calls : List Call) (p : Path) : Type 0 where

@@ -14,7 +14,7 @@ ghost use Rattle.svn_edit_law.specs.Laws.{OpensNamed, IsShapedAfter};
 ghost use Rattle.svn_edit.specs.Leaving.{IsLeft, PoolsAfter};
 ghost use Rattle.svn_edit.specs.Applying.{open_count, live_count, OneIsLeft, StandsAfter, path_open, HasEnded, IsRefused, StaysRefused, StaysEnded, LeavesRefused};
 ghost use Rattle.svn_model.specs.Answering.{AnswersCall, WantsInOrder};
-ghost use Rattle.svn_wc.specs.Taking.{IsBegun, IsInShape};
+ghost use Rattle.svn_wc.specs.Taking.{IsInShape};
 
 use crate::known::Known;
 use crate::paths::last_name_allowed;
@@ -54,31 +54,6 @@ impl<'a> Applier<'a> {
         })
     }
 
-    /// An applier by an edit that was begun before, and that no call was given to. It takes no memory.
-    pub fn with_edit(copy: &'a mut WorkingCopy, edit: Edit) -> Applier<'a>
-        requires { IsBegun edit copy.old }
-        ensures edit { result.edit ≡ edit }
-        ensures nodes { result.copy.now ≡ copy.old }
-        ensures same_copy { result.copy.ghost_name ≡ copy.entry.ghost_name }
-    {
-        copy.law();
-        let was_level = copy.known.level;
-        Applier {
-            copy,
-            edit,
-            was_level,
-        }
-    }
-
-    /// The copy that it was given, so that what holds of it now can be said after the applier is gone. It takes no memory.
-    pub fn into_copy(self) -> &'a mut WorkingCopy
-        ensures nodes { result.now ≡ self.entry.copy.now }
-        ensures same_copy { result.ghost_name ≡ self.entry.copy.ghost_name }
-    {
-        let Applier { copy, .. } = self;
-        copy
-    }
-
     /// An applier of a switch of the whole copy to that path of the repository. The only fault is Memory. A path of over 64 names is
     /// refused at OpenRoot, as TooDeep.
     pub fn new_switch(
@@ -116,7 +91,7 @@ impl<'a> Applier<'a> {
         ensures was_refused { IsRefused self.old.edit → StaysRefused call.now result self.new.edit × (self.new.copy.now ≡ self.old.copy.now) }
         ensures ended { HasEnded self.old.edit → StaysEnded self.old.edit result self.new.edit × (self.new.copy.now ≡ self.old.copy.now) }
         ensures pools { PoolsAfter self.old.edit self.old.copy.now call.now result self.new.edit }
-        ensures last { is_last call.now ≡ true → self.old.edit.mode ≡ Update → IfErr result (λ e. e ≢ Memory) }
+        ensures last { is_last call.now ≡ true → self.old.edit.pending.mode ≡ Update → IfErr result (λ e. e ≢ Memory) }
         ensures abort { is_abort call.now ≡ true → IfErr result (λ e. e ≢ Memory) }
         ensures same_copy { self.new.copy.ghost_name ≡ self.old.copy.ghost_name }
     {
@@ -144,7 +119,7 @@ impl<'a> Applier<'a> {
     /// After a refusal what is open is what the accepted calls left open, until AbortEdit.
     pub fn live_pools(&self) -> u64
         ensures left { (calls : List Call) (c : Call) → IsLeft calls c self.now.edit → result ≡ open_count calls + 1 }
-        ensures alone { OneIsLeft self.now.edit → result ≡ 1 }
+        ensures alone { OneIsLeft self.now.edit.pending → result ≡ 1 }
         ensures count { (mode : Mode) (w0 : CopyMap) (calls : List Call) → StandsAfter mode w0 self.now.edit self.now.copy.now calls → result ≡ live_count calls }
     {
         self.edit.live_pools()

@@ -12,11 +12,11 @@ use svn_report::{Report, ReportEntry};
 
 /// What is known of all nodes of a copy. What is not known may hold all the same.
 #[derive(Clone, Copy)]
-pub(crate) struct Known {
-    /// No path is switched: then no two paths are compared.
-    pub(crate) unswitched: bool,
+pub struct Known {
+    /// No path is switched: then a crawl compares no two paths.
+    pub unswitched: bool,
     /// All nodes are present, complete and of one revision: then a crawl of a copy without switched paths looks at none of them.
-    pub(crate) level: bool,
+    pub level: bool,
 }
 
 impl Known {

@@ -4,7 +4,8 @@
 //! [`WorkingCopy`] is a map from paths to [`BaseNode`]s. `checkout`, `checkout_at` and `from_nodes` make one; `place`, `switch` and `forget` change
 //! it without a drive, or refuse by a [`WcFault`]; `check_true` is the test of truth, `crawl` its report, and `Display` prints its nodes.
 //! `crawl_and_learn` reports the same, and may make later crawls faster: use it where the copy may be changed.
-//! [`Applier`] is the editor that applies a driver's calls.
+//! [`Applier`] is the editor that applies a driver's calls. Whoever can prove of a whole run that it leaves a copy takes the nodes out for it
+//! (`loosen`), and makes a copy of them again at its end ([`LooseCopy`], [`Known`]).
 //!
 //! ```
 //! let mut copy = WorkingCopy::checkout(alloc, &repo, Rev(1))?;
@@ -22,7 +23,7 @@
 //! moment (`law`). `check_true` finds the first untrue path, and none exactly where the copy is true (`first`, `is_true`, `true_is_ok`).
 //! `crawl` is the report of the definition (`report`), and what is printed is `copy_text` of `specs/Lines.antt`. The applier answers and changes
 //! as the definitions of an edit say, after every list of calls that it accepted (`TakesCall` of `specs/Taking.antt`, the `answers` of its
-//! `Editor`).
+//! `Editor`). `LooseCopy::tie` asks that the nodes have the shape of a copy and are as is said to be known of them (`shape`, `unswitched`, `level`).
 #![tactic(auto)]
 
 mod above;
@@ -33,10 +34,13 @@ mod forget;
 mod known;
 mod lines;
 mod listed;
+mod loose;
 mod paths;
 mod truth;
 mod working_copy;
 
 pub use applier::Applier;
+pub use known::Known;
+pub use loose::LooseCopy;
 pub use svn_model::{BaseNode, WcFault};
 pub use working_copy::WorkingCopy;

@@ -9,6 +9,8 @@ mod builders;
 #[cfg(test)]
 mod calls;
 #[cfg(test)]
+mod carried;
+#[cfg(test)]
 mod changes;
 #[cfg(test)]
 mod drive_links;

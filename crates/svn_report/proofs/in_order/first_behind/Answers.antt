@@ -10,7 +10,7 @@ returns c =
     let p = c.args.path.now in
     let n = c.args.name.now in
     let parts = parted es (is_ahead_of_name p n) c.requires.ordered (ahead_parts p n) in
-    behind_at es p n c.partition_near-i.result _ c.requires.ordered c.requires.lawful
-    (c.partition_near-i.ensures (λ e. is_ahead_of_name p n e.0)
+    behind_at es p n c.partition_point-i.result _ c.requires.ordered c.requires.lawful
+    (c.partition_point-i.ensures.partitioned (λ e. is_ahead_of_name p n e.0)
     (always_returns_same _ _ _ (λ a r f k. search (rules, of_calls))) parts)
     c.path_at.ensures

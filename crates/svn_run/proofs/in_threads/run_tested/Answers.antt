@@ -1,23 +1,10 @@
-use Rattle.std.specs.Prelude.{None}
-use Rattle.std.proofs.Common.{rules, ◌≡◌, true, false, sym, subst, refl, ◌∙◌, inl, List}
-use Rattle.svn_drive.specs.Walking.{asked as request}
-use Rattle.svn_editor.specs.declared.call.Call.{Call}
-use Rattle.svn_model.specs.Checks.{target_fault}
-use Rattle.svn_model.specs.Drive.{IsDrive}
-use Rattle.svn_types.specs.Names.{Path}
-use Rattle.svn_model.specs.declared.base_node.BaseNode.{BaseNode}
-use Rattle.svn_model.specs.Nodes.{get_in}
-use Rattle.svn_model.specs.TreeCalls.{drive_calls}
-use Rattle.svn_report.specs.Reports.{ReportView}
-use Rattle.svn_run.specs.Coming.{CameTo}
-use Rattle.svn_run.specs.Courses.{request_for, drive_for}
-use Rattle.svn_run.specs.Takes.{IsTaken}
-use Rattle.svn_run.specs.UpdateTheorem.{asked, made_in, calls_made}
-use Rattle.svn_run.proofs.Beginning.{has_target}
-use Rattle.svn_run.proofs.Composing.{the_drive}
-use Rattle.svn_run.proofs.DriveCalls.{drive_counted}
-use Rattle.svn_run.proofs.Ending.{finished}
-use Rattle.svn_run.proofs.Theorems.{wanting, came_in_threads}
+use Rattle.std.proofs.Common.{◌≡◌, [], sym, ap, subst, refl, ◌∙◌, inl}
+use Rattle.std.specs.Prelude.{None, IfOk, OnErr}
+use Rattle.svn_model.specs.Crawl.{crawl}
+use Rattle.svn_model.specs.Nodes.{get_in, IsTrueOf}
+use Rattle.svn_run.specs.Beginning.{fault_at}
+use Rattle.svn_run.specs.UpdateTheorem.{Nodes, asked, RanInThreads}
+use Rattle.svn_run.proofs.Theorems.{wanting, in_threads}
 use Rattle.svn_run.proofs.in_threads.run_tested.Goals as goal
 
 pub returns-in_default : goal.returns-in_default
@@ -34,60 +21,51 @@ returns-in_default-ends_of g c =
     wanting c.laws.ensures a c.true_copy.ensures c.args.capacity c.requires.target c.requires.capacity c.crawl_and_learn.new.self _
     c.crawl_and_learn.ensures.same (inl refl)
 
-pub run_both-requires-clause-target : goal.run_both-requires-clause-target
-run_both-requires-clause-target g c κs within =
+pub returns-in_default-pending_of : goal.returns-in_default-pending_of
+returns-in_default-pending_of g c =
     let r = c.args.request.now in
     let a = asked c.args.repo.now c.args.copy.now r.target r.mode r.options.late_texts r.options.cancel_after in
-    let has = has_target c.laws.ensures a c.true_copy.ensures c.requires.target in
-    subst (λ (v : ReportView). target_fault (request_for a.history v r) ≡ None) (sym c.in-Ok.ensures.report) has
+    wanting c.laws.ensures a c.true_copy.ensures c.args.capacity c.requires.target c.requires.capacity c.crawl_and_learn.new.self _
+    c.crawl_and_learn.ensures.same (inl refl)
 
-pub run_both-requires-clause-drive : goal.run_both-requires-clause-drive
-run_both-requires-clause-drive g c κs within =
+pub returns-in_default-spare_copy : goal.returns-in_default-spare_copy
+returns-in_default-spare_copy g c =
     let r = c.args.request.now in
     let a = asked c.args.repo.now c.args.copy.now r.target r.mode r.options.late_texts r.options.cancel_after in
-    let has = has_target c.laws.ensures a c.true_copy.ensures c.requires.target in
-    let drive = the_drive c.laws.ensures a c.true_copy.ensures has in
-    subst
-    (λ (v : ReportView). IsDrive (request_for a.history v r) r.options.late_texts (drive_for a.history v r))
-    (sym c.in-Ok.ensures.report) drive
+    wanting c.laws.ensures a c.true_copy.ensures c.args.capacity c.requires.target c.requires.capacity c.crawl_and_learn.new.self _
+    c.crawl_and_learn.ensures.same (inl refl)
 
-pub returns-in-Ok-run_both : goal.returns-in-Ok-run_both
-returns-in-Ok-run_both g c =
+pub run_copy-left-requires-clause-truth : goal.run_copy-left-requires-clause-truth
+run_copy-left-requires-clause-truth g c κs within =
+    let same = c.replace-own.ensures.value ∙ c.crawl_and_learn.ensures.same in
+    subst (λ (w : Nodes). IsTrueOf c.args.repo.now (get_in w)) (sym same) c.requires.truth
+
+pub run_copy-left-requires-clause-target : goal.run_copy-left-requires-clause-target
+run_copy-left-requires-clause-target g c κs within =
     let r = c.args.request.now in
-    let mode = r.mode in
-    let late = r.options.late_texts in
-    let limit = r.options.cancel_after in
-    let a = asked c.args.repo.now c.args.copy.now r.target mode late limit in
-    let has = has_target c.laws.ensures a c.true_copy.ensures c.requires.target in
-    let ends = c.in-Ok-ends_of.ends in
-    let both = c.in-Ok-run_both.both in
-    let left = c.run_both.new.copy in
-    let asks = request_for a.history c.in-Ok.report r in
-    let drive = drive_for a.history c.in-Ok.report r in
-    let is_drive = subst
-    (λ (v : ReportView). IsDrive (request_for a.history v r) late (drive_for a.history v r))
-    (sym c.in-Ok.ensures.report) (the_drive c.laws.ensures a c.true_copy.ensures has) in
-    let all = drive_counted asks late drive is_drive in
-    let o = c.finish.result.0 in
-    let passed = c.finish.result.1 in
-    let taken = subst
-    (λ (w : List (Path × BaseNode)). IsTaken mode (get_in w) ends.inbox ends.teller both.taken left)
-    c.crawl_and_learn.ensures.same c.in-Ok-run_both.ensures.taken in
-    let f = finished drive all mode limit (get_in c.args.copy.now) left ends.outbox ends.watcher ends.inbox ends.teller
-    both.driven both.taken o passed
-    c.in-Ok-run_both.ensures.driven taken c.finish.ensures in
-    let came = subst
-    (λ (v : ReportView).
-    let calls : List Call = drive_calls (request a.history v r.target mode) late in
-    CameTo calls mode limit (get_in c.args.copy.now) left o × (passed.sent ≡ calls_made calls (made_in o))
-    × (passed.taken ≡ calls_made calls (made_in o)))
-    c.in-Ok.ensures.report f in
-    came_in_threads c.laws.ensures a c.true_copy.ensures c.args.capacity c.requires.target c.requires.capacity left o passed
-    c.law.ensures.order came.0 came.1 came.2
+    let same = c.replace-own.ensures.value ∙ c.crawl_and_learn.ensures.same in
+    subst (λ (w : Nodes). fault_at c.args.repo.now r.target r.mode (get_in w []) ≡ None) (sym same) c.requires.target
+
+pub run_copy-left-requires-clause-report : goal.run_copy-left-requires-clause-report
+run_copy-left-requires-clause-report g c κs within =
+    let same = c.replace-own.ensures.value ∙ c.crawl_and_learn.ensures.same in
+    c.in-Ok.ensures.report ∙ ap (λ (w : Nodes). crawl w) (sym same)
+
+pub run_copy-left-requires-clause-begun : goal.run_copy-left-requires-clause-begun
+run_copy-left-requires-clause-begun g c κs within = c.in-Ok-pending_of.ensures c.replace-own.result
 
 pub returns : goal.returns
 returns g c =
     let r = c.args.request.now in
     let a = asked c.args.repo.now c.args.copy.now r.target r.mode r.options.late_texts r.options.cancel_after in
-    wanting c.laws.ensures a c.true_copy.ensures c.args.capacity c.requires.target c.requires.capacity c.run_both.new.copy c.in-Err.fault
-    (c.in-Err.ensures.unchanged ∙ c.crawl_and_learn.ensures.same) c.in-Err.ensures.fault
+    let same = c.replace-own.ensures.value ∙ c.crawl_and_learn.ensures.same in
+    let run = c.run_copy-left in
+    let left = run.result.0 in
+    let answer = run.result.1 in
+    let ran = subst
+    (λ (w : Nodes).
+    IfOk answer (λ x. RanInThreads (asked c.args.repo.now w r.target r.mode r.options.late_texts r.options.cancel_after) left x.0 x.1))
+    same run.ensures.ran in
+    let unchanged = subst (λ (w : Nodes). OnErr answer (left ≡ w)) same run.ensures.unchanged in
+    in_threads c.laws.ensures a c.true_copy.ensures c.args.capacity c.requires.target c.requires.capacity left answer ran run.ensures.fault
+    unchanged

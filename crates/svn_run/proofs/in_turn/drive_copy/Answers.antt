@@ -1,26 +1,71 @@
-use Rattle.std.proofs.Common.{rules, sym, subst, []}
-use Rattle.svn_lists.proofs.Equality.{holds_of_equal}
-use Rattle.svn_drive.specs.Walking.{asked}
-use Rattle.svn_edit.specs.declared.edit.Edit.{Edit}
-use Rattle.svn_edit.specs.Applying.{StandsAfter}
+use Rattle.std.proofs.Common.{sym, subst}
 use Rattle.svn_model.specs.Nodes.{get_in}
-use Rattle.svn_model.specs.TreeCalls.{drive_calls}
-use Rattle.svn_run.specs.declared.outcome.Outcome.{Outcome}
 use Rattle.svn_run.specs.Coming.{CameInTurn}
-use Rattle.svn_run.specs.UpdateTheorem.{Nodes}
+use Rattle.svn_run.specs.UpdateTheorem.{Nodes, asked}
+use Rattle.svn_run.proofs.Beginning.{has_target}
+use Rattle.svn_run.proofs.Composing.{drive_for, sound}
+use Rattle.svn_run.proofs.Knowing.{unswitched, level}
+use Rattle.svn_run.proofs.Reported.{target, is_drive, came}
+use Rattle.svn_run.proofs.Theorems.{came_in_turn}
 use Rattle.svn_run.proofs.in_turn.drive_copy.Goals as goal
 
-pub returns-clause-came : goal.returns-clause-came
-returns-clause-came g c =
-    let mode = c.args.request.now.mode in
-    let w0 = get_in c.args.copy.now in
-    let drive = drive_calls (asked c.args.repo.now c.args.report.now c.args.request.now.target mode) c.args.request.now.options.late_texts in
-    let stands = subst (λ (y : Edit × Nodes). StandsAfter mode w0 y.0 y.1 [])
-    (λ i. (sym c.with_edit.ensures.edit i, sym c.with_edit.ensures.nodes i)) (c.in-Ok.ensures c.args.copy.now) in
-    let came = subst (λ (o : Outcome). CameInTurn drive mode c.args.request.now.options.cancel_after w0 c.drive_counted-end.new.counted.applier.copy.now o)
-    (sym c.outcome_of.ensures.outcome) (c.drive_counted-end.ensures.came w0 stands) in
-    holds_of_equal (λ (x : Nodes). CameInTurn drive mode c.args.request.now.options.cancel_after w0 x c.outcome_of.result)
-    c.drive_counted-end.new.counted.applier.copy.now _ (search rules) came
+pub drive_counted-end-requires-clause-target : goal.drive_counted-end-requires-clause-target
+drive_counted-end-requires-clause-target g c =
+    let r = c.args.request.now in
+    let a = asked c.args.repo.now c.args.copy r.target r.mode r.options.late_texts r.options.cancel_after in
+    target c.laws.ensures a c.true_copy.ensures c.requires.target c.args.report.now c.requires.report
 
-pub with_edit-requires : goal.with_edit-requires
-with_edit-requires g c = (c.args.request.now.mode, c.in-Ok.ensures c.args.copy.now)
+pub drive_counted-end-requires-clause-drive : goal.drive_counted-end-requires-clause-drive
+drive_counted-end-requires-clause-drive g c =
+    let r = c.args.request.now in
+    let a = asked c.args.repo.now c.args.copy r.target r.mode r.options.late_texts r.options.cancel_after in
+    is_drive c.laws.ensures a c.true_copy.ensures c.requires.target c.args.report.now c.requires.report
+
+pub tie-left-requires-clause-shape : goal.tie-left-requires-clause-shape
+tie-left-requires-clause-shape g c =
+    let r = c.args.request.now in
+    let a = asked c.args.repo.now c.args.copy r.target r.mode r.options.late_texts r.options.cancel_after in
+    let has = has_target c.laws.ensures a c.true_copy.ensures c.requires.target in
+    let left = c.drive_counted-end.new.counted.carrier.copy.nodes.entries in
+    let h = came c.laws.ensures a c.true_copy.ensures c.requires.target c.args.report.now c.requires.report c.args.pending
+    c.loosen-loose.result.0.nodes.entries left c.outcome_of-outcome.result _ c.outcome_of-outcome.ensures.outcome c.loosen-loose.ensures.nodes
+    c.requires.begun c.drive_counted-end.ensures in
+    (sound c.laws.ensures a c.true_copy.ensures has left c.outcome_of-outcome.result h.came).shape
+
+pub tie-left-requires-clause-unswitched : goal.tie-left-requires-clause-unswitched
+tie-left-requires-clause-unswitched g c =
+    let r = c.args.request.now in
+    let a = asked c.args.repo.now c.args.copy r.target r.mode r.options.late_texts r.options.cancel_after in
+    let has = has_target c.laws.ensures a c.true_copy.ensures c.requires.target in
+    let left = c.drive_counted-end.new.counted.carrier.copy.nodes.entries in
+    let h = came c.laws.ensures a c.true_copy.ensures c.requires.target c.args.report.now c.requires.report c.args.pending
+    c.loosen-loose.result.0.nodes.entries left c.outcome_of-outcome.result _ c.outcome_of-outcome.ensures.outcome c.loosen-loose.ensures.nodes
+    c.requires.begun c.drive_counted-end.ensures in
+    unswitched c.laws.ensures a c.true_copy.ensures has left c.outcome_of-outcome.result h.came c.loosen-loose.result.1 c.known_after.result
+    c.known_after.ensures c.loosen-loose.ensures.unswitched
+
+pub tie-left-requires-clause-level : goal.tie-left-requires-clause-level
+tie-left-requires-clause-level g c =
+    let r = c.args.request.now in
+    let a = asked c.args.repo.now c.args.copy r.target r.mode r.options.late_texts r.options.cancel_after in
+    let has = has_target c.laws.ensures a c.true_copy.ensures c.requires.target in
+    let left = c.drive_counted-end.new.counted.carrier.copy.nodes.entries in
+    let h = came c.laws.ensures a c.true_copy.ensures c.requires.target c.args.report.now c.requires.report c.args.pending
+    c.loosen-loose.result.0.nodes.entries left c.outcome_of-outcome.result _ c.outcome_of-outcome.ensures.outcome c.loosen-loose.ensures.nodes
+    c.requires.begun c.drive_counted-end.ensures in
+    level c.laws.ensures a c.true_copy.ensures has left c.outcome_of-outcome.result h.came c.loosen-loose.result.1 c.known_after.result
+    c.known_after.ensures
+
+pub returns : goal.returns
+returns g c =
+    let r = c.args.request.now in
+    let a = asked c.args.repo.now c.args.copy r.target r.mode r.options.late_texts r.options.cancel_after in
+    let nodes = c.drive_counted-end.new.counted.carrier.copy.nodes.entries in
+    let outcome = c.outcome_of-outcome.result in
+    let h = came c.laws.ensures a c.true_copy.ensures c.requires.target c.args.report.now c.requires.report c.args.pending
+    c.loosen-loose.result.0.nodes.entries nodes outcome _ c.outcome_of-outcome.ensures.outcome c.loosen-loose.ensures.nodes
+    c.requires.begun c.drive_counted-end.ensures in
+    let left = c.tie-left.result in
+    came_in_turn c.laws.ensures a c.true_copy.ensures c.requires.target left outcome c.law.ensures.order
+    (subst (λ (w : Nodes). CameInTurn (drive_for a) a.mode a.cancel_after (get_in a.copy) w outcome) (sym c.tie-left.ensures) h)
+    c.outcome_of-outcome.ensures.never_late

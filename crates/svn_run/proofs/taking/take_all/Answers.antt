@@ -1,49 +1,55 @@
-use Rattle.std.proofs.Common.{rules, ◌≡◌, ◌∷◌, ◌∙◌, ◌+◌, [], length, sym, ap, subst, arith, length-append}
+use Rattle.std.proofs.Common.{rules, ◌≡◌, ℕ, List, ◌∷◌, ◌∙◌, ◌+◌, [], length, ap, subst, arith, length-append, refl, sym}
+use Rattle.std.specs.Prelude.{Option}
+use Rattle.md5.specs.Md5.{md5}
+use Rattle.svn_editor.specs.declared.call.Call.{Call}
+use Rattle.svn_model.specs.Effects.{AllAccepted}
 use Rattle.svn_run.specs.Takes.{unaborted}
-use Rattle.svn_run.proofs.Applied.{Holding, holds_next, within_next, given_up}
+use Rattle.svn_run.proofs.Applied.{Holding, begins, holds_next, within_next}
 use Rattle.svn_run.proofs.taking.take_all.Goals as goal
+
+pub loop-init : goal.loop-init
+loop-init g c =
+    let first = c.args.carrier.now in
+    record {
+      link = refl;
+      notice = refl;
+      counted = omega arith;
+      holds = λ mode w0 carried accept.
+          subst
+          (λ (y : List Call × Option ℕ). Holding mode w0 first.pending first.copy.nodes.entries (unaborted y.0) y.1 0)
+          (λ i. (sym c.requires.calls i, sym c.requires.told i)) (begins mode w0 first.pending first.copy.nodes.entries carried);
+    }
 
 pub loop-preserved : goal.loop-preserved
 loop-preserved g c =
     let i = c.loop.invariant in
-    let s = c.take_one.ensures.step in
+    let s = c.take_one.ensures in
     let was = c.loop.taken in
     let now = c.take_one.new.taken in
+    let old = c.loop.carrier in
+    let new = c.take_one.new.carrier in
     let longer : length now.inbox.calls ≡ length was.inbox.calls + 1 = ap length s.calls ∙ length-append was.inbox.calls (s.call ∷ []) in
-    let one = within_next s.call was.teller.number was.accepted c.loop.applier.edit c.loop.applier.copy.now now.teller.number now.accepted
-    c.take_one.new.applier.edit c.take_one.new.applier.copy.now s.offered in
+    let one = within_next s.call was.teller.number was.accepted old.pending old.copy.nodes.entries now.teller.number now.accepted
+    new.pending new.copy.nodes.entries s.offered in
     let before = i.counted in
     record {
       link = s.link ∙ i.link;
       notice = s.notice ∙ i.notice;
-      name = c.take_one.ensures.same_copy ∙ i.name;
       counted = omega arith;
-      holds = λ mode w0 stands.
-          subst (λ l. Holding mode w0 c.take_one.new.applier.edit c.take_one.new.applier.copy.now (unaborted l) now.teller.number
-          now.accepted) (sym s.calls)
-          (holds_next mode w0 was.inbox.calls s.call was.teller.number was.accepted c.loop.applier.edit c.loop.applier.copy.now
-          now.teller.number now.accepted c.take_one.new.applier.edit c.take_one.new.applier.copy.now s.offered
-          (i.holds mode w0 stands));
+      holds = λ mode w0 carried accept.
+          subst (λ l. Holding mode w0 new.pending new.copy.nodes.entries (unaborted l) now.teller.number now.accepted) (sym s.calls)
+          (holds_next mode w0 c.laws.ensures.more was.inbox.calls s.call was.teller.number was.accepted old.pending old.copy.nodes.entries
+          now.teller.number now.accepted new.pending new.copy.nodes.entries s.offered
+          (subst (λ l. AllAccepted md5 mode w0 (unaborted l)) s.calls accept) (i.holds mode w0 carried));
     }
 
-pub returns-then-taken-clause-taken : goal.returns-then-taken-clause-taken
-returns-then-taken-clause-taken g c = λ mode w0 stands.
+pub returns : goal.returns
+returns g c = λ mode w0 carried.
     let i = c.loop.invariant in
-    let h = i.holds mode w0 stands in
-    let t = c.loop.taken in
-    let a = c.loop.applier in
-    let left = c.call-answer.new.self in
     record {
       link = i.link;
       notice = i.notice;
       over = search rules;
-      counted = h.counted;
-      copy = given_up mode w0 c.laws.ensures.more a.edit a.copy.now (unaborted t.inbox.calls) t.teller.number t.accepted
-          c.call-answer.result left.edit left.copy.now h c.call-answer.ensures.0;
+      counted = λ accept. let h = i.holds mode w0 carried accept in h.counted;
+      copy = λ accept. let h = i.holds mode w0 carried accept in h.copy;
     }
-
-pub returns-else-taken-clause-taken : goal.returns-else-taken-clause-taken
-returns-else-taken-clause-taken g c = λ mode w0 stands.
-    let i = c.loop.invariant in
-    let h = i.holds mode w0 stands in
-    record { link = i.link; notice = i.notice; over = search rules; counted = h.counted; copy = h.copy }

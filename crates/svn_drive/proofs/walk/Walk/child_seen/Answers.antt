@@ -25,4 +25,5 @@ with_touched-requires c =
       start = search rules;
       source = child_source (request_of c.args.self.now) c.args.above.now c.args.below.now.name.now c.requires.at x;
       target = child_target (request_of c.args.self.now) c.args.above.now c.args.below.now.name.now c.requires.at x;
+      below = c.requires.reported;
     }

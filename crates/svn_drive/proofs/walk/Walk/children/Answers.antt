@@ -44,11 +44,11 @@ names-init c =
     let d = request_of c.args.self.now in
     let none : c.new-children.result.items ≡ [] = c.new-children.ensures.items in
     record {
-      left = c.in_ok-left.ensures.under;
+      left = c.names_left-left.ensures.under;
       same =
           walk_same d c.args.place.now.here.path (names_below d c.args.place.now.here.path)
-          (names_of c.new-children.result.items ++ names_left c.in_ok-left.left)
-          (sym c.in_ok-left.ensures.all ∙ ap (λ (l : List Below). names_of l ++ names_left c.in_ok-left.left) (sym none));
+          (names_of c.new-children.result.items ++ names_left c.names_left-left.result)
+          (sym c.names_left-left.ensures.all ∙ ap (λ (l : List Below). names_of l ++ names_left c.names_left-left.result) (sym none));
       under = subst (AllByRecursion (IsChild d c.args.place.now)) (sym none) tt;
     }
 

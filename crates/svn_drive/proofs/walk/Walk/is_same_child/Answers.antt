@@ -5,6 +5,7 @@ use Rattle.svn_model.specs.Sources.{starts_empty}
 use Rattle.svn_model.specs.Follow.{Followed}
 use Rattle.svn_drive.specs.Walking.{IsQuiet, request_of}
 use Rattle.svn_drive.proofs.Idle.{idle_child}
+use Rattle.svn_drive.proofs.Parts.{nothing_in}
 use Rattle.svn_drive.proofs.walk.Walk.is_same_child.Goals as goal
 
 pub returns-else-starts_empty : goal.returns-else-starts_empty
@@ -15,7 +16,7 @@ returns-else-starts_empty c = λ t.
     record {
       kept = ap (λ (f : Followed). f.is_kept) followed ∙ c.requires.kept;
       shown = ap (λ (f : Followed). starts_empty f.here.governing) followed ∙ sym c.if-starts_empty.ensures;
-      unreported = sym c.requires.below.reported ∙ sym c.get.ensures ∙ c.if-get.false;
+      unreported = nothing_in d.report.entries _ _ c.requires.below.reported (c.is_empty.ensures.0 (search rules));
     } in
     let old = c.copied-source.ensures ∙ c.requires.below.source in
     let new = c.copied-target.ensures ∙ c.requires.below.target in

@@ -1,4 +1,4 @@
-use Rattle.std.proofs.Common.{rules, ◌≡◌, ◌∙◌, ◌∷◌, [], ap, subst, Err}
+use Rattle.std.proofs.Common.{rules, ◌≡◌, ◌∙◌, ◌∷◌, [], refl, ap, subst, Err}
 use Rattle.svn_editor.specs.declared.call.Call.TheVariants.{CloseEdit}
 use Rattle.svn_drive.specs.Counts.{with_last}
 use Rattle.svn_drive.specs.Waiting.{waiting, visit_late}
@@ -17,43 +17,43 @@ returns-in_err-make g c =
     c.in_err-make.field-0.0 c.make.new.editor c.make.new.progress.made c.in_err-make.ensures.runs in
     record { runs = rw same whole.0; before_last = rw same whole.1 }
 
-pub returns-in_err-visit : goal.returns-in_err-visit
-returns-in_err-visit g c =
-    let same : c.from_residual-in_err-visit.result ≡ Err c.in_err-visit.field-0.0 = search rules in
+pub returns-in_err-visit_root : goal.returns-in_err-visit_root
+returns-in_err-visit_root g c =
+    let same : c.from_residual-in_err-visit_root.result ≡ Err c.in_err-visit_root.field-0.0 = search rules in
     let whole =
     run_visit_stopped g.E.Editor.answers c.args.self.now.limit
     (request_of c.args.self.now) c.args.self.now.late c.args.editor.now c.args.progress.now.made
-    c.in_err-visit.field-0.0 c.args.root.now.here.path c.args.root.now.parent c.make.new.progress.next c.make.new.editor c.visit.new.editor
-    c.make.new.progress.made c.visit.new.progress.made
-    c.requires.root c.requires.parent (c.make.ensures.tokens ∙ c.requires.first) c.in_ok-make.ensures.runs c.in_err-visit.ensures.runs in
+    c.in_err-visit_root.field-0.0 [] 0 c.make.new.progress.next c.make.new.editor c.visit_root.new.editor
+    c.make.new.progress.made c.visit_root.new.progress.made
+    refl refl (c.make.ensures.tokens ∙ c.requires) c.in_ok-make.ensures.runs c.in_err-visit_root.ensures.runs in
     record { runs = rw same whole.0; before_last = rw same whole.1 }
 
 pub returns-in_err-give_late : goal.returns-in_err-give_late
 returns-in_err-give_late g c =
     let same : c.from_residual-in_err-give_late.result ≡ Err c.in_err-give_late.field-0.0 = search rules in
-    let first = c.make.ensures.tokens ∙ c.requires.first in
+    let first = c.make.ensures.tokens ∙ c.requires in
     let lates : waiting c.args.self.now.repo.now c.deref.result.now ≡ visit_late (request_of c.args.self.now) c.args.self.now.late [] 0 0 =
     ap (waiting c.args.self.now.repo.now) c.deref.ensures.value
-    ∙ lates_as (request_of c.args.self.now) c.args.self.now.late c.args.self.now.repo.now c.new-later.result.items c.visit.new.later.items
-    c.args.root.now.here.path c.args.root.now.parent c.make.new.progress.next
-    c.new-later.ensures.items c.requires.root c.requires.parent first c.in_ok-visit.ensures.waits in
+    ∙ lates_as (request_of c.args.self.now) c.args.self.now.late c.args.self.now.repo.now c.new-later.result.items c.visit_root.new.later.items
+    [] 0 c.make.new.progress.next
+    c.new-later.ensures.items refl refl first c.in_ok-visit_root.ensures.waits in
     let whole =
     run_late_stopped g.E.Editor.answers c.args.self.now.limit
     (request_of c.args.self.now) c.args.self.now.late c.args.editor.now c.args.progress.now.made
-    c.args.root.now.here.path c.args.root.now.parent c.make.new.progress.next c.make.new.editor c.visit.new.editor c.make.new.progress.made
-    c.visit.new.progress.made
-    c.requires.root c.requires.parent first c.in_ok-make.ensures.runs c.in_ok-visit.ensures.runs
+    [] 0 c.make.new.progress.next c.make.new.editor c.visit_root.new.editor c.make.new.progress.made
+    c.visit_root.new.progress.made
+    refl refl first c.in_ok-make.ensures.runs c.in_ok-visit_root.ensures.runs
     c.in_err-give_late.field-0.0 (waiting c.args.self.now.repo.now c.deref.result.now) c.give_late.new.editor c.give_late.new.progress.made
     lates c.in_err-give_late.ensures.runs in
     record { runs = rw same whole.0; before_last = rw same whole.1 }
 
 pub returns : goal.returns
 returns g c =
-    let first = c.make.ensures.tokens ∙ c.requires.first in
+    let first = c.make.ensures.tokens ∙ c.requires in
     let lates =
-    lates_as (request_of c.args.self.now) c.args.self.now.late c.args.self.now.repo.now c.new-later.result.items c.visit.new.later.items
-    c.args.root.now.here.path c.args.root.now.parent c.make.new.progress.next
-    c.new-later.ensures.items c.requires.root c.requires.parent first c.in_ok-visit.ensures.waits in
+    lates_as (request_of c.args.self.now) c.args.self.now.late c.args.self.now.repo.now c.new-later.result.items c.visit_root.new.later.items
+    [] 0 c.make.new.progress.next
+    c.new-later.ensures.items refl refl first c.in_ok-visit_root.ensures.waits in
     let limit = c.args.self.now.limit in
     let d = request_of c.args.self.now in
     let late = c.args.self.now.late in
@@ -64,9 +64,9 @@ returns g c =
       | then-self+in_ok-give_late w ↦
           rw w.progress-is
           (run_late g.E.Editor.answers limit d late c.args.editor.now made
-          c.args.root.now.here.path c.args.root.now.parent c.make.new.progress.next c.make.new.editor c.visit.new.editor
-          c.make.new.progress.made c.visit.new.progress.made
-          c.requires.root c.requires.parent first c.in_ok-make.ensures.runs c.in_ok-visit.ensures.runs
+          [] 0 c.make.new.progress.next c.make.new.editor c.visit_root.new.editor
+          c.make.new.progress.made c.visit_root.new.progress.made
+          refl refl first c.in_ok-make.ensures.runs c.in_ok-visit_root.ensures.runs
           c.make_last.result (waiting c.args.self.now.repo.now w.deref.result.now) w.give_late.new.editor c.make_last.new.editor
           w.give_late.new.progress.made
           (ap (waiting c.args.self.now.repo.now) w.deref.ensures.value ∙ lates) w.in_ok-give_late.ensures.runs
@@ -79,13 +79,13 @@ returns g c =
       | else-self w ↦
           rw w.progress-is
           (run_in_place g.E.Editor.answers limit d late c.args.editor.now made
-          c.args.root.now.here.path c.args.root.now.parent c.make.new.progress.next c.make.new.editor c.visit.new.editor
-          c.make.new.progress.made c.visit.new.progress.made
-          c.requires.root c.requires.parent first c.in_ok-make.ensures.runs c.in_ok-visit.ensures.runs
+          [] 0 c.make.new.progress.next c.make.new.editor c.visit_root.new.editor
+          c.make.new.progress.made c.visit_root.new.progress.made
+          refl refl first c.in_ok-make.ensures.runs c.in_ok-visit_root.ensures.runs
           c.make_last.result c.make_last.new.editor w.if-self.false
           (subst
           (λ e. Run g.E.Editor.answers limit (CloseEdit ∷ []) c.make_last.result e c.make_last.new.editor
-          c.visit.new.progress.made (with_last c.make_last.result c.visit.new.progress.made))
+          c.visit_root.new.progress.made (with_last c.make_last.result c.visit_root.new.progress.made))
           w.editor-is
           (rw w.progress-is at c.make_last.ensures.runs))
           c.make_last.ensures.has_number)

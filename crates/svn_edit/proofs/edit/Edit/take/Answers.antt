@@ -16,6 +16,7 @@ returns-then-is_last-clause-accepted c = OnOk_then c.take_in_order-answer.result
     record {
       order = t.order;
       copy = t.copy;
+      stage = λ h. absurd (true≢false (sym ended ∙ h));
       going = λ h. absurd (true≢false (sym ended ∙ h));
       ended = λ h. refl;
       left = λ h. t.left last;
@@ -32,6 +33,7 @@ returns-else-is_last-clause-accepted c = OnOk_then c.take_in_order-answer.result
     record {
       order = t.order;
       copy = t.copy;
+      stage = λ h. t.stage going;
       going = λ h. t.holds going;
       ended = λ h. absurd (true≢false (sym h ∙ still));
       left = λ h. absurd (true≢false (sym h ∙ still));

@@ -1,18 +1,16 @@
-use Rattle.std.proofs.Common.{◌≡◌, ◌≢◌, ◌++◌, ◌∷◌, [], None, refl, sym, subst, rules}
+use Rattle.std.proofs.Common.{◌≡◌, ◌≢◌, None, refl, sym, subst, rules}
 use Rattle.std.specs.Prelude.{Option, Result, Err, IfErr}
 use Rattle.md5.specs.Md5.{md5}
-use Rattle.svn_lists.proofs.Results.{at_err, at_ok, err_by, ok_by, OnErr_from}
+use Rattle.svn_lists.proofs.Results.{at_err, at_ok, err_by, OnErr_then, ok_by, OnErr_from}
 use Rattle.svn_editor.specs.declared.fault.EditFault.{EditFault}
 use Rattle.svn_editor.specs.declared.fault.EditFault.TheVariants.{Memory}
 use Rattle.svn_editor.specs.Faults.{as_edit_fault}
-use Rattle.svn_order.specs.declared.order.OrderCheck.{OrderCheck}
 use Rattle.svn_editor.specs.Order.{order_fault}
-use Rattle.svn_order.specs.StandsAfter as order
 use Rattle.svn_editor.proofs.Accepted.{not_ended}
 use Rattle.svn_model.specs.Effects.{edit_fault, refusal}
 use Rattle.svn_model.specs.Answering.{AnswersCall, WantsInOrder}
 use Rattle.svn_edit.proofs.Holding.{order_none, order_refused, not_memory, refusal_is, applied_answer, applied_copy, abort_is_last}
-use Rattle.svn_edit.proofs.Holding.{applied_err, copy_more, next_is}
+use Rattle.svn_edit.proofs.Holding.{copy_more, carried_of, next_is}
 use Rattle.svn_edit.specs.Applying.{batons_of}
 use Rattle.svn_edit.proofs.InOrder.{check_wants, rest_wants}
 use Rattle.svn_edit.proofs.Bases.{noted_more}
@@ -23,9 +21,8 @@ pub returns-clause-answers : goal.returns-clause-answers
 returns-clause-answers c = λ mode w0 calls s.
     let call = c.args.call.now in
     let none : order_fault calls call ≡ None = order_none (order_fault calls call) (c.in_ok-step.ensures.answers calls s.order) in
-    let next = next_is mode w0 c.args.self.now (record c.args.self.now { order = c.step.new.self }) c.args.copy.now.entries calls call s
-    none
-    (λ h. record { stage = h.stage; mode_is = h.mode_is; target = h.target; batons = h.batons }) in
+    let next = next_is mode w0 c.args.self.now.pending c.args.copy.now.entries calls call
+    (carried_of mode w0 c.args.self.now c.args.copy.now.entries calls s) none in
     subst (λ (f : Option EditFault). AnswersCall f c.apply.result) (sym (refusal_is md5 mode calls call c.args.copy.now.entries none))
     (applied_answer _ _ _ _ c.apply.result (c.apply.ensures.applied mode calls next (s.noted (not_ended calls call none))))
 
@@ -37,21 +34,18 @@ pub returns-clause-accepted : goal.returns-clause-accepted
 returns-clause-accepted c = ok_by c.apply.result (λ ok mode w0 calls s.
     let call = c.args.call.now in
     let none : order_fault calls call ≡ None = order_none (order_fault calls call) (c.in_ok-step.ensures.answers calls s.order) in
-    let next = next_is mode w0 c.args.self.now (record c.args.self.now { order = c.step.new.self }) c.args.copy.now.entries calls call s
-    none
-    (λ h. record { stage = h.stage; mode_is = h.mode_is; target = h.target; batons = h.batons }) in
+    let next = next_is mode w0 c.args.self.now.pending c.args.copy.now.entries calls call
+    (carried_of mode w0 c.args.self.now c.args.copy.now.entries calls s) none in
     record {
-      order = subst (λ (o : OrderCheck). order.StandsAfter o (calls ++ call ∷ [])) (sym c.apply.ensures.order)
-          (c.in_ok-step.ensures.accepted calls s.order);
+      order = c.in_ok-step.ensures.accepted calls s.order;
       copy = copy_more mode w0 calls call c.args.copy.now.entries c.apply.new.copy.entries s.copy
           (at_ok c.apply.result ok (applied_copy _ _ _ _ c.apply.result (c.apply.ensures.applied mode calls next (s.noted (not_ended calls call none)))));
-      holds = λ going.
-          let h = at_ok c.apply.result ok c.apply.ensures.holds mode calls next going in
-          record { stage = h.stage; mode_is = h.mode_is; target = h.target; batons = h.batons };
+      stage = λ going. s.stage (not_ended calls call none);
+      holds = λ going. at_ok c.apply.result ok c.apply.ensures.holds mode calls next going;
       left = λ last. at_ok c.apply.result ok (c.apply.ensures.left last) mode calls next;
       noted = λ going.
           let h = at_ok c.apply.result ok c.apply.ensures.holds mode calls next going in
-          noted_more mode (record c.args.self.now { order = c.step.new.self }) c.apply.new.self calls call c.args.copy.now.entries
+          noted_more mode c.args.self.now.pending c.apply.new.self calls call c.args.copy.now.entries
           c.apply.new.copy.entries next going
           (at_ok c.apply.result ok (applied_copy _ _ _ _ c.apply.result (c.apply.ensures.applied mode calls next
           (s.noted (not_ended calls call none)))))
@@ -61,21 +55,14 @@ returns-clause-accepted c = ok_by c.apply.result (λ ok mode w0 calls s.
     })
 
 pub returns-clause-refused : goal.returns-clause-refused
-returns-clause-refused c = err_by c.apply.result (λ e bad mode w0 calls s.
-    let call = c.args.call.now in
-    let none : order_fault calls call ≡ None = order_none (order_fault calls call) (c.in_ok-step.ensures.answers calls s.order) in
-    let next = next_is mode w0 c.args.self.now (record c.args.self.now { order = c.step.new.self }) c.args.copy.now.entries calls call s
-    none
-    (λ h. record { stage = h.stage; mode_is = h.mode_is; target = h.target; batons = h.batons }) in
-    applied_err _ _ _ _ c.apply.result e bad (c.apply.ensures.applied mode calls next (s.noted (not_ended calls call none))))
+returns-clause-refused c = OnErr_then c.apply.result c.apply.ensures.refused (λ same mode w0 calls s. same)
 
 pub returns-clause-pools : goal.returns-clause-pools
 returns-clause-pools c = err_by c.apply.result (λ e bad mode w0 calls s going.
     let call = c.args.call.now in
     let none : order_fault calls call ≡ None = order_none (order_fault calls call) (c.in_ok-step.ensures.answers calls s.order) in
-    let next = next_is mode w0 c.args.self.now (record c.args.self.now { order = c.step.new.self }) c.args.copy.now.entries calls call s
-    none
-    (λ h. record { stage = h.stage; mode_is = h.mode_is; target = h.target; batons = h.batons }) in
+    let next = next_is mode w0 c.args.self.now.pending c.args.copy.now.entries calls call
+    (carried_of mode w0 c.args.self.now c.args.copy.now.entries calls s) none in
     at_err c.apply.result e bad c.apply.ensures.pools mode calls next)
 
 -- ---- a call out of order
@@ -112,6 +99,6 @@ returns-in_err-step-clause-abort c =
 
 pub returns-in_err-step-clause-pools : goal.returns-in_err-step-clause-pools
 returns-in_err-step-clause-pools c = OnErr_from c.from_residual.result (λ mode w0 calls s going.
-    let old = c.args.self.now in
+    let old = c.args.self.now.pending in
     same_left old.pools old.pools (batons_of old) (batons_of old) calls c.args.call.now (s.going going).batons (pools_same old.pools)
     (λ t. refl))

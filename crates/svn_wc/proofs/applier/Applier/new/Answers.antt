@@ -15,6 +15,6 @@ invariant_of-result c =
     let begun = c.in_ok-edit.ensures.begun c.args.copy.now in
     record {
       in_shape = ∣ begun_in_shape _ c.in_ok-edit.edit c.args.copy.now (λ known.
-          subst (λ (l : List (Path × BaseNode)). IsLevel (get_in l)) c.copy.view_is (c.copy.invariant.2 known)) (Update, begun)
+          subst (λ (l : List (Path × BaseNode)). IsLevel (get_in l)) c.copy.view_is (c.copy.invariant.2 known)) Update begun
           c.law.ensures.shape ∣₁;
     }

@@ -20,6 +20,6 @@ invariant_of-result c =
     record {
       in_shape = ∣ begun_in_shape _ c.in_ok-edit.edit nodes (λ known.
           subst (λ (l : List (Path × BaseNode)). IsLevel (get_in l)) c.copy.view_is (c.copy.invariant.2 known))
-          (SwitchTo c.in-Ok.root, c.in_ok-edit.ensures.begun nodes)
+          (SwitchTo c.in-Ok.root) (c.in_ok-edit.ensures.begun nodes)
           c.law.ensures.shape ∣₁;
     }
