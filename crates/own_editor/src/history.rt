@@ -1,4 +1,4 @@
-//! The history that the copy is brought through.
+//! The history that the copy is updated through.
 use anyhow::Result;
 use std::alloc::Global;
 use yumbeltir::{Change, PropName, RelPath, Repo, Text};
@@ -34,7 +34,7 @@ fn set(alloc: Global, at: &str, name: &str, value: &str) -> Result<Change> {
     })
 }
 
-// What is there first.
+// The changes of revision 1.
 fn first(alloc: Global) -> Result<Vec<Change>> {
     Ok(vec![in alloc;
         put(alloc, "README", "read me")?,
@@ -47,7 +47,7 @@ fn first(alloc: Global) -> Result<Vec<Change>> {
     ]?)
 }
 
-// Each kind of change.
+// The changes of revision 2, which have each kind of change.
 fn second(alloc: Global) -> Result<Vec<Change>> {
     Ok(vec![in alloc;
         remove(alloc, "README")?,

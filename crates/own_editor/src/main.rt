@@ -1,4 +1,4 @@
-//! An editor of one's own: it hands each call on to the applier, and prints what `svn update` prints of it.
+//! An editor of your own: it passes each call to the applier, and prints what `svn update` prints for it.
 #![tactic(auto)]
 
 mod history;
@@ -9,7 +9,7 @@ use std::alloc::Global;
 use update_lines::UpdateLines;
 use yumbeltir::{Applier, DriveEnd, Repo, Request, Rev, WorkingCopy, drive_request};
 
-// Updates the copy, and says what came of it.
+// Updates the copy, and prints the outcome.
 fn update<R: Print>(
     rt: &R,
     alloc: Global,

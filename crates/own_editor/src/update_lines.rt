@@ -4,7 +4,7 @@ ghost use Rattle.std.specs.Prelude.{⊤};
 use std::alloc::{AllocError, Global};
 use yumbeltir::{Applier, Call, EditFault, Editor, RelPath};
 
-// What comes before the path in a line: what happened to the node, and to the properties of one that was there before.
+// The two columns before the path in a line: what happened to the node, and whether the properties of an existing node changed.
 #[derive(Clone, Copy)]
 struct Columns {
     node: char,
@@ -26,7 +26,7 @@ const DELETED: Columns = Columns {
     props: ' ',
 };
 
-// A line that is printed once its call has taken effect.
+// A line, which is printed after its call was accepted.
 #[derive(Drop)]
 struct Line {
     columns: Columns,
@@ -34,12 +34,12 @@ struct Line {
 }
 
 /// An editor that prints a line for each node that is added, deleted or changed: `A`, `D` and `U` in the first column, and `U` in the second
-/// where properties of what was there before are changed.
+/// if the properties of an existing node are changed.
 #[derive(Drop)]
 pub(crate) struct UpdateLines<'a, R: Print> {
     rt: &'a R,
     applier: Applier<'a>,
-    // of what was opened or added, by tokens, which are 0, 1, 2 and so on
+    // for each node that was opened or added, by its token: tokens are 0, 1, 2 and so on
     seen: Vec<Columns>,
     has_changed: bool,
 }
@@ -83,7 +83,7 @@ impl<'a, R: Print> UpdateLines<'a, R> {
         }
     }
 
-    // What the call gives a line for: a directory is told when it is added, before what is in it, a file at its close.
+    // The columns of the call's line, if it has one: an added directory has its line before those of its contents, a file at its close.
     fn columns(&self, call: &Call) -> Option<Columns> {
         let columns = match call {
             Call::DeleteEntry { .. } => DELETED,
@@ -99,7 +99,7 @@ impl<'a, R: Print> UpdateLines<'a, R> {
         is_line.then_some(columns)
     }
 
-    // The path of what a call is about, while that is open.
+    // The path of the node that a call is about, if that is open.
     fn path<'s>(&'s self, call: &'s Call) -> Option<&'s RelPath> {
         match call.path() {
             Some(path) => Some(path),
@@ -119,7 +119,7 @@ impl<'a, R: Print> UpdateLines<'a, R> {
 }
 
 impl<'a, R: Print> Editor for UpdateLines<'a, R> {
-    // nothing is claimed of it but that it returns
+    // this promises only that the call returns
     ghost answers = { λ before call answer after. ⊤ };
 
     fn call(&mut self, call: Call) -> Result<(), EditFault> {

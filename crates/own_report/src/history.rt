@@ -1,4 +1,4 @@
-//! The history that the client has parts of.
+//! The history of which the client has parts.
 use anyhow::Result;
 use std::alloc::Global;
 use yumbeltir::{Change, RelPath, Repo, Rev, Text};

@@ -1,4 +1,4 @@
-//! A report of one's own: what a client has that is no working copy of this library, said by hand, and the calls that bring it to a revision.
+//! A report of your own, for a client that has no working copy of this library, and the calls that bring the client to a revision.
 #![tactic(auto)]
 
 mod history;
@@ -9,7 +9,7 @@ use yumbeltir::{
     Recorder, RelPath, Repo, Report, Reporter, Request, Rev, check_report, drive_request,
 };
 
-// A client that checked revision 1 out, updated `lib/new` alone, switched `lib/old` to a branch, deleted a file, and was cut off while `doc` came.
+// A client that checked out revision 1, updated only `lib/new`, switched `lib/old` to a branch, deleted a file, and was stopped in `doc`.
 fn report(alloc: Global) -> Result<Report> {
     let mut reporter = Reporter::new(alloc);
     reporter.set_path(&RelPath::root(alloc), Rev(1), false)?;

@@ -38,7 +38,7 @@ pub(crate) struct Walk<'a> {
     pub(crate) limit: Option<u64>,
 }
 
-// The node that a child has in the target: the one that keeps it, else the one beneath its parent's.
+// The node that a child has in the target: the one that keeps it, else the one below its parent's.
 fn target_of(is_kept: bool, there: &Option<NodeId>, beneath: &Option<NodeId>) -> Option<NodeId>
     ensures { result ≡ (if is_kept then there.now else beneath.now) }
 {
@@ -67,7 +67,7 @@ impl<'a> Walk<'a> {
         !place.below.is_empty()
     }
 
-    // Whether something is to be done at a kept path, or below it.
+    // Whether the drive changes a kept path, or something below it.
     #[inline(always)]
     fn is_changed(&self, place: &Place<'a>) -> bool
         requires { IsNearlyAt (request_of self.now) place.now }
@@ -79,7 +79,7 @@ impl<'a> Walk<'a> {
             || self.has_below(place)
     }
 
-    // With whether something is to be done there, which is the last to be found out.
+    // The place with `is_touched`, which depends on its other fields.
     #[inline(always)]
     fn with_touched(&self, place: Place<'a>) -> Place<'a>
         requires { IsNearlyAt (request_of self.now) place }
@@ -172,7 +172,7 @@ impl<'a> Walk<'a> {
         }
     }
 
-    // The node in the target that would keep a child of a kept place, by the one beneath its parent's: only an update follows links.
+    // The node in the target that would keep a child of a kept place, by the one below its parent's: only an update follows links.
     #[inline(always)]
     fn candidate(&self, here: &Seen<'a>, beneath: &Option<NodeId>) -> Option<NodeId>
         ensures { result ≡ candidate_node (request_of self.now) (mode_at (option_copied self.now.switch_to)) (option_copied here.now.own) beneath.now }
@@ -220,7 +220,7 @@ impl<'a> Walk<'a> {
         })
     }
 
-    /// The child of a place, by its name and what stands under that.
+    /// The child of a place, by its name and what is below that.
     #[inline(always)]
     pub(crate) fn child(
         &self,
@@ -242,7 +242,7 @@ impl<'a> Walk<'a> {
         Ok(self.child_seen(above, here, below, reported, parent))
     }
 
-    /// Whether the client has something there that goes.
+    /// Whether the client has a node there that the drive deletes.
     pub(crate) fn is_gone(place: &Place<'a>) -> bool
         ensures { result ≡ (is_some place.now.source && not place.now.is_kept && place.now.parent_is_kept) }
     {

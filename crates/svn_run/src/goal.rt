@@ -16,7 +16,7 @@ use svn_repo::Repo;
 use svn_types::{RelPath, Rev};
 use svn_wc::{BaseNode, WorkingCopy};
 
-/// What a run is asked for, with a path that is lent: the fault of a target comes before want of memory for a clone of the path.
+/// The goal of a run, with a borrowed path: a fault of the target is reported before the path is cloned, which may be out of memory.
 #[derive(Clone, Copy)]
 pub(crate) struct Goal<'a> {
     pub(crate) target: Rev,
@@ -25,7 +25,7 @@ pub(crate) struct Goal<'a> {
 }
 
 impl<'a> Goal<'a> {
-    /// Why no run leads there: there is no such revision, nothing stands there where the root would be, or another node does.
+    /// Why no run can reach the goal: there is no such revision, the root's target path has no node, or a node that isn't related.
     pub(crate) fn fault(&self, alloc: Global, repo: &Repo, copy: &WorkingCopy) -> Option<RunFault>
         requires root { is_dir (get_in copy.now []) ≡ true }
         ensures { result ≡ fault_at repo.now self.now.target (mode_at (option_copied self.now.to)) (get_in copy.now []) }
@@ -51,7 +51,7 @@ impl<'a> Goal<'a> {
         }
     }
 
-    /// The request. AllocError where an allocation failed.
+    /// The request. AllocError if an allocation fails.
     pub(crate) fn request(&self) -> Result<Request, AllocError>
         ensures { IfOk result (λ r. r ≡ record { target = self.now.target; mode = mode_at (option_copied self.now.to); options = self.now.options }) }
     {
@@ -63,7 +63,7 @@ impl<'a> Goal<'a> {
     }
 }
 
-/// The edit that leads where the request says, of which no call was carried out. The only fault is Memory.
+/// The edit of the request, before its first call. The only fault is Memory.
 pub(crate) fn pending_of(alloc: Global, request: &Request) -> Result<Pending, EditFault>
     ensures { IfOk result (λ e. (nodes : Nodes) → CarriedOut request.now.mode (get_in nodes) e nodes []) }
 {

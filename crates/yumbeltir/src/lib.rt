@@ -10,27 +10,28 @@
 //!         └── notice of an early stop ──────▲              (a thread of its own)
 //! ```
 //!
-//! The copy reports its nodes, the driver compares the report with the target revision and makes the calls of an edit, and the applier makes
-//! each take effect.
+//! The copy reports its nodes, the driver compares the report with the target revision and makes the calls of an edit, and the applier
+//! carries each of them out.
 //!
 //! | To do this | use that |
 //! |---|---|
-//! | make a history | [`Repo`], `commit` with [`Change`]s |
-//! | look into it | `Repo::lookup`, `kind`, `text`, `props`, `entries` |
-//! | check a revision out, place, switch, forget | [`WorkingCopy`] |
-//! | say what is wanted: a revision, an update or a switch, a stop after so many calls, texts last | [`Request`] |
+//! | commit revisions | [`Repo`], `commit` with [`Change`]s |
+//! | read a revision | `Repo::lookup`, `kind`, `text`, `props`, `entries` |
+//! | check out a revision, place, switch, forget | [`WorkingCopy`] |
+//! | describe a run: the revision, an update or a switch, a limit on calls, texts last | [`Request`] |
 //! | update a copy, or bring its root to another path | [`run_in_turn`], or [`run`] with the driver in a thread of its own |
-//! | the same with arguments in the place of a request | [`update_in_turn`], [`switch_to_in_turn`]; [`update`], [`switch_to`] with [`Options`] |
-//! | hear of each call that takes effect, with its path | [`Listener`] |
-//! | hear of the calls as they pass between the threads | [`Gate`] |
-//! | test whether a copy is what the repository has | `WorkingCopy::check_true` |
+//! | the same with arguments instead of a request | [`update_in_turn`], [`switch_to_in_turn`]; [`update`], [`switch_to`] with [`Options`] |
+//! | follow the calls that take effect, with their paths | [`Listener`] |
+//! | follow the calls that pass between the threads | [`Gate`] |
+//! | test whether a copy agrees with the repository | `WorkingCopy::check_true` |
 //! | report what a client of your own has | [`Reporter`], which makes a [`Report`]; [`check_report`] |
-//! | get the calls of an update or of a switch | [`drive_request`], into an [`Editor`] of yours or a [`Recorder`]; [`drive`], [`drive_switch`] |
-//! | take the calls of an update | implement [`Editor`]; [`Applier`] is the one that changes a copy |
+//! | get the calls of an update or of a switch | [`drive_request`], with an [`Editor`] of yours or a [`Recorder`]; [`drive`], [`drive_switch`] |
+//! | receive the calls of an update | implement [`Editor`]; [`Applier`] is the one that changes a copy |
 //! | check the order of calls | [`OrderCheck`] |
 //! | pass calls to another thread | [`link`] and [`notice`] |
 //!
-//! Copies, reports, entries and properties are gone through by their `iter`. Calls that take memory are passed the allocator. A refusal is an enum with a `number`, a `name` and a text.
+//! Copies, reports, entries and properties have `iter`. Calls that allocate take the allocator as an argument. Each error is an enum with a
+//! `number`, a `name` and a text.
 //!
 //! ```
 //! let mut repo = Repo::new(alloc)?;
@@ -41,7 +42,7 @@
 //! println!(rt; "{outcome}")?;
 //! ```
 //!
-//! prints `closed 7`. Nothing of its own is here: the promises are those of the crates that it hands on, which `docs/PROVED.md` lists.
+//! prints `closed 7`. This crate only re-exports names: the promises are those of the crates that define them, which `docs/PROVED.md` lists.
 #![tactic(auto)]
 
 pub use svn_drive::{
