@@ -16,7 +16,7 @@ use svn_repo::Repo;
 use svn_types::{RelPath, Rev};
 use svn_wc::{BaseNode, WorkingCopy};
 
-/// The goal of a run, with a borrowed path: a fault of the target is reported before the path is cloned, which may be out of memory.
+/// The goal of a run, with a borrowed path: a fault of the target is reported before the path is cloned, which can fail for memory.
 #[derive(Clone, Copy)]
 pub(crate) struct Goal<'a> {
     pub(crate) target: Rev,
