@@ -1,6 +1,6 @@
 -- What is known of a copy after a call of an applier: that no path is switched, and that it is level.
-use Rattle.std.proofs.Common.{◌≡◌, Bool, true, false, List, [], ◌∷◌, ◌++◌, refl, sym, ap, ◌∙◌, subst, Some, None, true≢false, ◌↔◌, IsTrue}
-use Rattle.std.specs.Prelude.{Result, Ok, Err, Option}
+use Rattle.std.proofs.Common.{◌≡◌, Bool, true, false, List, [], ◌∷◌, ◌++◌, refl, sym, ap, ◌∙◌, subst, None, true≢false, ◌↔◌, IsTrue}
+use Rattle.std.specs.Prelude.{Result, Ok, Err}
 use Rattle.std.specs.List.{list_any}
 use Rattle.std.specs.Coded.{Coded-set, coded_list, coded_ℕ}
 use Rattle.svn_types.specs.Names.{Path}
