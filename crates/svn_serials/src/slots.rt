@@ -93,8 +93,8 @@ fn place_before_last<V>(slots: &[Slot<V>], serial: u64, last: u64, near: usize) 
     place_with_gaps(slots, serial, near)
 }
 
-// Where a serial stands among slots of which some were left out: at a place that it may be near, or the next, or else it is searched. Not
-// inlined, since most look-ups end before it.
+// Where a serial stands among slots of which some were left out: at a place that it may be near, or the next, or first of all, as a root
+// does whose newer serials come and go, or else it is searched. Not inlined, since most look-ups end before it.
 #[inline(never)]
 fn place_with_gaps<V>(slots: &[Slot<V>], serial: u64, near: usize) -> Option<usize>
     requires { IsInOrder slots.now }
@@ -108,6 +108,9 @@ fn place_with_gaps<V>(slots: &[Slot<V>], serial: u64, near: usize) -> Option<usi
     let next = near.saturating_add(1);
     if stands_at(slots, next, serial) {
         return Some(next);
+    }
+    if stands_at(slots, 0, serial) {
+        return Some(0);
     }
     place_by_halves(slots, serial)
 }
