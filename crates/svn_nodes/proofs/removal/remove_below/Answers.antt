@@ -4,7 +4,7 @@ use Rattle.svn_lists.proofs.Options.{removed_where}
 use Rattle.svn_types.specs.Names.{Path}
 use Rattle.svn_types.specs.Paths.{path_eq, is_below}
 use Rattle.svn_model.specs.Nodes.{get_in}
-use Rattle.svn_nodes.proofs.nodes.remove_below.Goals as goal
+use Rattle.svn_nodes.proofs.removal.remove_below.Goals as goal
 
 pub returns-in-Ok-Some : goal.returns-in-Ok-Some
 returns-in-Ok-Some c = λ p.

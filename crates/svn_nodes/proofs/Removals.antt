@@ -1,0 +1,52 @@
+-- Nodes below a path are removed: handfuls of their paths are noted, and go.
+use Rattle.std.proofs.Common.{◌≡◌, ◌∷◌, ◌++◌, ◌||◌, [], Bool, true, false, cond, List, map, refl, sym, ap, ◌∙◌, Option, Some, None}
+use Rattle.std.specs.Option.{is_some}
+use Rattle.std.specs.List.{list_any}
+use Rattle.std.proofs.lemmas.List.{map-append}
+use Rattle.svn_types.specs.Names.{Path}
+use Rattle.svn_types.specs.Paths.{path_eq, is_within}
+use Rattle.svn_model.specs.declared.base_node.BaseNode.{BaseNode}
+use Rattle.svn_nodes.specs.Handfuls.{is_noted}
+use Rattle.svn_nodes.proofs.Ranges.{Taken, taken_none, taken_more}
+
+-- ---- a handful
+
+-- the nodes were taken one by one, and their paths noted
+pub record Noted (path : Path) (es : List (Path × BaseNode)) (places : List (Option Path)) (left : List (Path × BaseNode)) : Type 0 where
+  pub paths : List Path
+  pub are : places ≡ map (λ (q : Path). Some q) paths
+  pub taken : Taken path es paths left
+
+pub noted_none : (path : Path) (es : List (Path × BaseNode)) (places : List (Option Path)) (left : List (Path × BaseNode))
+    → places ≡ [] → Taken path es [] left → Noted path es places left
+noted_none path es places left none t = record { paths = []; are = none; taken = t }
+
+pub noted_more : (path : Path) (es : List (Path × BaseNode)) (places : List (Option Path)) (e : Path × BaseNode)
+    (left : List (Path × BaseNode)) → Noted path es places (e ∷ left) → is_within path e.0 ≡ true
+    → Noted path es (places ++ Some e.0 ∷ []) left
+noted_more path es places e left t w = record {
+  paths = t.paths ++ e.0 ∷ [];
+  are = ap (λ (l : List (Option Path)). l ++ Some e.0 ∷ []) t.are ∙ sym (map-append (λ (q : Path). Some q) t.paths (e.0 ∷ []));
+  taken = taken_more path es t.paths e left t.taken w;
+}
+
+pub noted_paths : (paths : List Path) (p : Path) → is_noted (map (λ (q : Path). Some q) paths) p ≡ list_any (λ q. path_eq q p) paths
+noted_paths [] p = refl
+noted_paths (q ∷ paths) p = ap (λ b. path_eq q p || b) (noted_paths paths p)
+
+-- ---- one after the other
+
+-- where all that stands goes, nothing is left
+pub gone : (o : Option BaseNode) → cond (is_some o) None o ≡ None
+gone None = refl
+gone (Some n) = refl
+
+-- what stands below a path went, and nothing else
+pub all_went : (b : Bool) (new old : Option BaseNode) → (b ≡ false → new ≡ old) → (b ≡ true → new ≡ None) → new ≡ cond b None old
+all_went true new old others none = none refl
+all_went false new old others none = others refl
+
+-- the rest of it went, where some did before
+pub rest_went : (b : Bool) (some old : Option BaseNode) → (b ≡ false → some ≡ old) → cond b None some ≡ cond b None old
+rest_went true some old others = refl
+rest_went false some old others = others refl
