@@ -1,13 +1,15 @@
 -- Nodes below a path are removed: handfuls of their paths are noted, and go.
-use Rattle.std.proofs.Common.{◌≡◌, ◌∷◌, ◌++◌, ◌||◌, [], Bool, true, false, cond, List, map, refl, sym, ap, ◌∙◌, Option, Some, None}
-use Rattle.std.specs.Option.{is_some}
+use Rattle.std.proofs.Common.{◌≡◌, ℕ, ◌+◌, ◌∷◌, ◌++◌, ◌||◌, [], Bool, true, false, cond, List, map, take, refl, sym, ap, ◌∙◌, Option, Some, None}
+use Rattle.std.specs.Option.{is_some, option_map_or}
 use Rattle.std.specs.List.{list_any}
 use Rattle.std.proofs.lemmas.List.{map-append}
+use Rattle.svn_lists.proofs.Options.{removed_twice}
+use Rattle.svn_lists.proofs.Somewhere.{any_push}
 use Rattle.svn_types.specs.Names.{Path}
 use Rattle.svn_types.specs.Paths.{path_eq, is_within}
 use Rattle.svn_model.specs.declared.base_node.BaseNode.{BaseNode}
 use Rattle.svn_nodes.specs.Handfuls.{is_noted}
-use Rattle.svn_nodes.proofs.Ranges.{Taken, taken_none, taken_more}
+use Rattle.svn_nodes.proofs.Ranges.{Taken, taken_more}
 
 -- ---- a handful
 
@@ -35,6 +37,16 @@ noted_paths [] p = refl
 noted_paths (q ∷ paths) p = ap (λ b. path_eq q p || b) (noted_paths paths p)
 
 -- ---- one after the other
+
+-- what is noted next goes too
+pub noted_next : (places : List (Option Path)) (i : ℕ) (o : Option Path) (p : Path) (old now new : Option BaseNode)
+    → take (i + 1) places ≡ take i places ++ o ∷ [] → now ≡ cond (is_noted (take i places) p) None old
+    → new ≡ cond (option_map_or (λ q. path_eq q p) o false) None now → new ≡ cond (is_noted (take (i + 1) places) p) None old
+noted_next places i o p old now new more before after =
+    after ∙ ap (cond (option_map_or (λ q. path_eq q p) o false) None) before
+    ∙ removed_twice (is_noted (take i places) p) (option_map_or (λ q. path_eq q p) o false) old
+    ∙ ap (λ b. cond b None old) (sym (ap (λ (l : List (Option Path)). is_noted l p) more
+    ∙ any_push (λ (o : Option Path). option_map_or (λ q. path_eq q p) o false) (take i places) o))
 
 -- where all that stands goes, nothing is left
 pub gone : (o : Option BaseNode) → cond (is_some o) None o ≡ None

@@ -1,5 +1,5 @@
 //! A part comes at a path below which no node is: its nodes are appended to those of the copy.
-ghost use Rattle.std.specs.Prelude.{◌≡◌, true, false, IsTrue, OnOk, OnErr, Some, None, if◌then◌else◌};
+ghost use Rattle.std.specs.Prelude.{◌≡◌, true, false, OnOk, OnErr, Some, None, if◌then◌else◌};
 ghost use Rattle.svn_types.specs.Names.{Path};
 ghost use Rattle.svn_types.specs.Paths.{path_eq, is_within, is_below};
 ghost use Rattle.svn_model.specs.Nodes.{get_in};
@@ -7,7 +7,6 @@ ghost use Rattle.svn_model.specs.Nodes.{get_in};
 use crate::nodes::Nodes;
 use crate::removal::remove_below;
 use std::alloc::AllocError;
-use std::ops::Bound;
 use svn_model::BaseNode;
 use svn_types::RelPath;
 

@@ -1,20 +1,18 @@
 //! What an edit asks of a node, and how it changes one. A node is passed as `None` where a copy has none at a path.
-ghost use Rattle.std.specs.Prelude.{◌≡◌, not, nat_eq, IfOk, IfSome, OnOk, OnErr, Some, None, is_some, unwrap_or, if◌then◌else◌, ◌&&◌};
+ghost use Rattle.std.specs.Prelude.{◌≡◌, nat_eq, IfOk, IfSome, OnOk, OnErr, Some, None, unwrap_or, if◌then◌else◌};
 ghost use Rattle.std.specs.Option.{option_copied};
-ghost use Rattle.std.specs.List.{list_any};
 ghost use Rattle.md5.specs.Md5.{md5};
 ghost use Rattle.svn_types.specs.Names.{Path};
-ghost use Rattle.svn_types.specs.Paths.{path_eq, is_within, is_below};
+ghost use Rattle.svn_types.specs.Paths.{path_eq};
 ghost use Rattle.svn_model.specs.Nodes.{get_in, is_present, node_text};
 ghost use Rattle.svn_model.specs.Effects.{opened_directory, is_wrong_sum};
 ghost use Rattle.svn_model.specs.Answering.{AnswersCall};
 ghost use Rattle.svn_nodes.specs.NodeTests.{AnswersAs, IsSumOf, delete_fault_of, open_fault_of};
 
 use crate::memory::or_memory;
-use std::alloc::{AllocError, Global};
+use std::alloc::Global;
 use std::collections::BTreeMap;
 use std::collections::btree_map::Entry;
-use std::ops::Bound;
 use svn_editor::EditFault;
 use svn_model::BaseNode;
 use svn_types::{Digest, Kind, Props, RelPath, Rev, Text};

@@ -1,6 +1,7 @@
 //! What removes nodes from a copy. Nothing here takes memory.
 ghost use Rattle.std.specs.Prelude.{◌≡◌, ◌<◌, true, false, not, IsTrue, IfOk, None, is_some, if◌then◌else◌};
 ghost use Rattle.std.specs.List.{list_any};
+ghost use Rattle.std.specs.Option.{option_map_or};
 ghost use Rattle.arrayvec.specs.ArrayVec.{array_vec_len};
 ghost use Rattle.svn_types.specs.Names.{Path};
 ghost use Rattle.svn_types.specs.Paths.{path_eq, is_within, is_below};
@@ -89,14 +90,22 @@ fn handful_below(
     Ok(paths)
 }
 
+// Removes the node at a path, if one is noted.
+fn remove_at(nodes: &mut Nodes, place: &Option<RelPath>)
+    ensures { (p : Path) → get_in nodes.new.entries p ≡ (if option_map_or (λ q. path_eq q p) place.now false then None else get_in nodes.old.entries p) }
+{
+    let Some(path) = place else {
+        return;
+    };
+    nodes.remove(path);
+}
+
 // Removes the nodes at the paths that are noted.
 fn remove_noted(nodes: &mut Nodes, places: &[Option<RelPath>])
     ensures { (p : Path) → get_in nodes.new.entries p ≡ (if is_noted places.now p then None else get_in nodes.old.entries p) }
 {
     for place in places {
-        if let Some(path) = place {
-            nodes.remove(path);
-        }
+        remove_at(nodes, place);
     }
 }
 
