@@ -1,6 +1,6 @@
 -- Nodes below a path are removed: handfuls of their paths are noted, and go.
-use Rattle.std.proofs.Common.{◌≡◌, ℕ, ◌+◌, ◌∷◌, ◌++◌, ◌||◌, [], Bool, true, false, cond, List, map, take, refl, sym, ap, ◌∙◌, Option, Some, None}
-use Rattle.std.specs.Option.{is_some, option_map_or}
+use Rattle.std.proofs.Common.{◌≡◌, ℕ, ◌+◌, ◌∷◌, ◌++◌, ◌||◌, [], true, false, cond, List, map, take, refl, sym, ap, ◌∙◌, Option, Some, None}
+use Rattle.std.specs.Option.{option_map_or}
 use Rattle.std.specs.List.{list_any}
 use Rattle.std.proofs.lemmas.List.{map-append}
 use Rattle.svn_lists.proofs.Options.{removed_twice}
@@ -47,18 +47,3 @@ noted_next places i o p old now new more before after =
     ∙ removed_twice (is_noted (take i places) p) (option_map_or (λ q. path_eq q p) o false) old
     ∙ ap (λ b. cond b None old) (sym (ap (λ (l : List (Option Path)). is_noted l p) more
     ∙ any_push (λ (o : Option Path). option_map_or (λ q. path_eq q p) o false) (take i places) o))
-
--- where all that stands goes, nothing is left
-pub gone : (o : Option BaseNode) → cond (is_some o) None o ≡ None
-gone None = refl
-gone (Some n) = refl
-
--- what stands below a path went, and nothing else
-pub all_went : (b : Bool) (new old : Option BaseNode) → (b ≡ false → new ≡ old) → (b ≡ true → new ≡ None) → new ≡ cond b None old
-all_went true new old others none = none refl
-all_went false new old others none = others refl
-
--- the rest of it went, where some did before
-pub rest_went : (b : Bool) (some old : Option BaseNode) → (b ≡ false → some ≡ old) → cond b None some ≡ cond b None old
-rest_went true some old others = refl
-rest_went false some old others = others refl

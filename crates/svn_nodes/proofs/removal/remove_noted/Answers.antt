@@ -1,4 +1,4 @@
-use Rattle.std.proofs.Common.{◌<◌, ◌∷◌, ◌++◌, [], length, List, Option, sym, ap, ◌∙◌, take, arith}
+use Rattle.std.proofs.Common.{◌<◌, ◌∷◌, ◌++◌, [], length, Option, sym, ap, ◌∙◌, take, arith}
 use Rattle.std.proofs.lemmas.List.{take_more}
 use Rattle.svn_types.specs.Names.{Path}
 use Rattle.svn_model.specs.Nodes.{get_in}
