@@ -26,6 +26,7 @@ use crate::baton::{Baton, drop_pool};
 use crate::open_path::OpenPath;
 use std::alloc::Global;
 use svn_editor::{Call, Digest, EditFault, Mode, Token};
+use svn_nodes::removal::delete_within;
 use svn_nodes::{Nodes, nodes, or_memory};
 use svn_pool::{PoolId, PoolTree};
 use svn_serials::SerialMap;
@@ -217,7 +218,7 @@ impl Pending {
         if let Some(fault) = nodes::delete_fault(copy.get(path), rev) {
             return Err(fault);
         }
-        nodes::delete_within(self.alloc, copy, path);
+        delete_within(copy, path);
         Ok(())
     }
 

@@ -12,6 +12,8 @@ pub mod Settling
 pub mod NodeRanges
 -- What stands at a path and below is replaced: room is made for what comes, then what was there goes.
 pub mod Replacing
+-- Nodes below a path are removed: handfuls of their paths are noted, and go.
+pub mod Removals
 -- A part is appended to nodes of which none is below its path.
 pub mod Appending
 -- Nodes gone through beside others: which of their paths the others lack.

@@ -173,6 +173,26 @@ below_there path p es = by (is_within path p) refl (path_eq path p) refl
     by true w true same = ap is_some (found false (itself same (path_cmp path p) refl))
     by true w false same = ap is_some (found true (ap (λ o. is_lt o && not false) (below_after path p w same)))
 
+-- of those behind a path, only what is below it was taken
+pub taken_below : (path p : Path) (es : List (Path × BaseNode)) (paths : List Path) (left : List (Path × BaseNode))
+    → Taken path (nodes_behind path es) paths left → is_below path p ≡ false → list_any (λ q. path_eq q p) paths ≡ false
+taken_below path p es paths left t out = ap (list_any (λ q. path_eq q p)) t.are ∙ by (is_within path p) refl
+  where
+    there : (n : BaseNode) → get_in t.taken p ≡ Some n → is_some (get_in (nodes_behind path es) p) ≡ true
+    there n h =
+        ap (λ (l : List (Path × BaseNode)). is_some (get_in l p)) (sym (from_behind path es) ∙ t.split)
+        ∙ ap is_some (get_in-append t.taken left p) ∙ ap (λ o. is_some (option_or o (get_in left p))) h
+
+    none : is_within path p ≡ true → (o : Option BaseNode) → get_in t.taken p ≡ o → is_some o ≡ false
+    none w None h = refl
+    none w (Some n) h =
+        sym (ap (λ b. b && is_some (get_in (nodes_behind path es) p)) w ∙ there n h)
+        ∙ below_there path p es ∙ ap (λ b. b && is_some (get_in es p)) out
+
+    by : (w : Bool) → is_within path p ≡ w → list_any (λ q. path_eq q p) (keys_of t.taken) ≡ false
+    by false w = none_outside path p (keys_of t.taken) t.within w
+    by true w = any_key t.taken p ∙ none w (get_in t.taken p) refl
+
 -- where the next node behind a path isn't within it, none is below it
 pub none_below : (path : Path) (es left : List (Path × BaseNode)) → left ≡ nodes_behind path es → InPathOrder left → IsPast path left
     → (p : Path) → is_below path p ≡ true → get_in es p ≡ None

@@ -5,3 +5,4 @@ pub mod Standing
 pub mod Tails
 pub mod Overwriting
 pub mod Lines
+pub mod Handfuls

@@ -1,33 +1,17 @@
 //! A part comes at a path below which no node is: its nodes are appended to those of the copy.
-ghost use Rattle.std.specs.Prelude.{◌≡◌, true, false, IsTrue, OnOk, OnErr, Some, None, if◌then◌else◌};
+ghost use Rattle.std.specs.Prelude.{◌≡◌, true, false, OnOk, OnErr, Some, None, if◌then◌else◌};
 ghost use Rattle.svn_types.specs.Names.{Path};
 ghost use Rattle.svn_types.specs.Paths.{path_eq, is_within, is_below};
 ghost use Rattle.svn_model.specs.Nodes.{get_in};
 
-use crate::nodes::{Nodes, remove_below};
-use std::alloc::{AllocError, Global};
-use std::ops::Bound;
+use crate::nodes::Nodes;
+use crate::removal::remove_below;
+use std::alloc::AllocError;
 use svn_model::BaseNode;
 use svn_types::RelPath;
 
-/// Whether no node is below a path. It takes no memory.
-pub(crate) fn has_none_below(nodes: &Nodes, at: &RelPath) -> bool
-    ensures { IsTrue result → (p : Path) → is_below at.now p ≡ true → get_in nodes.now.entries p ≡ None }
-{
-    let mut after = nodes.range((Bound::Excluded(at), Bound::Unbounded));
-    match after.next() {
-        Some((next, _)) => !next.is_within(at),
-        None => true,
-    }
-}
-
 // Moves nodes below a path to where none is, or leaves what is there as it was.
-fn append_below(
-    alloc: Global,
-    nodes: &mut Nodes,
-    at: &RelPath,
-    mut part: Nodes,
-) -> Result<(), AllocError>
+fn append_below(nodes: &mut Nodes, at: &RelPath, mut part: Nodes) -> Result<(), AllocError>
     requires free { (p : Path) → is_below at.now p ≡ true → get_in nodes.old.entries p ≡ None }
     requires below { (p : Path) → is_below at.now p ≡ false → get_in part.entries p ≡ None }
     ensures moved { OnOk result ((p : Path) → get_in nodes.new.entries p ≡ (if is_below at.now p then get_in part.entries p else get_in nodes.old.entries p)) }
@@ -38,7 +22,7 @@ fn append_below(
     match nodes.append(&mut part) {
         Ok(()) => Ok(()),
         Err(error) => {
-            remove_below(alloc, nodes, at);
+            remove_below(nodes, at);
             let _after = nodes.len();
             Err(error)
         }
@@ -72,7 +56,6 @@ fn set(nodes: &mut Nodes, at: &RelPath, node: Option<BaseNode>) -> Result<(), Al
 /// where an allocation fails; then the nodes stay as they were. It looks up each path of the part once, or goes over all nodes once where the part
 /// is large.
 pub(crate) fn append_within(
-    alloc: Global,
     nodes: &mut Nodes,
     at: &RelPath,
     mut part: Nodes,
@@ -84,11 +67,11 @@ pub(crate) fn append_within(
 {
     let _before = nodes.len();
     let own = part.remove(at);
-    append_below(alloc, nodes, at, part)?;
+    append_below(nodes, at, part)?;
     match set(nodes, at, own) {
         Ok(()) => Ok(()),
         Err(refused) => {
-            remove_below(alloc, nodes, at);
+            remove_below(nodes, at);
             let _after = nodes.len();
             Err(refused)
         }

@@ -2,10 +2,11 @@
 //!
 //! [`Nodes`] is the map. Its functions are named with their module, each of which has one subject:
 //!
-//! - [`nodes`]: what an edit asks of a node before it deletes, adds or opens it, how it changes it, and what removes nodes
+//! - [`nodes`]: what an edit asks of a node before it deletes, adds or opens it, and how it changes it
 //! - [`paths`]: the repository paths that nodes get, with at most 64 names
 //! - [`ending`]: what the last call of an edit does to all nodes
 //! - [`gather`]: the nodes of a tree of the repository, by an [`Origin`](gather::Origin)
+//! - [`removal`]: what removes the nodes below a path
 //! - [`replace`]: a part in the place of the nodes at a path and below
 //! - [`ahead`]: the pairs of a map, one after the other, with the next in sight
 //! - [`lines`]: a node as printed lines
@@ -17,7 +18,7 @@
 //! if let Some(fault) = nodes::delete_fault(all.get(&path), Rev(1)) {
 //!     return Err(fault);
 //! }
-//! nodes::delete_within(alloc, &mut all, &path);
+//! removal::delete_within(&mut all, &path);
 //! ```
 //!
 //! Promises: a change of the map says what each path has afterwards, by the definition of the edit or by the tree of the repository (`added`,
@@ -35,6 +36,7 @@ mod memory;
 pub mod nodes;
 mod overwrite;
 pub mod paths;
+pub mod removal;
 pub mod replace;
 
 pub use memory::or_memory;

@@ -1,20 +1,18 @@
-//! What an edit asks of a node, and how it changes one; and what removes nodes. A node is passed as `None` where a copy has none at a path.
-ghost use Rattle.std.specs.Prelude.{◌≡◌, not, nat_eq, IfOk, IfSome, OnOk, OnErr, Some, None, is_some, unwrap_or, if◌then◌else◌, ◌&&◌};
+//! What an edit asks of a node, and how it changes one. A node is passed as `None` where a copy has none at a path.
+ghost use Rattle.std.specs.Prelude.{◌≡◌, nat_eq, IfOk, IfSome, OnOk, OnErr, Some, None, unwrap_or, if◌then◌else◌};
 ghost use Rattle.std.specs.Option.{option_copied};
-ghost use Rattle.std.specs.List.{list_any};
 ghost use Rattle.md5.specs.Md5.{md5};
 ghost use Rattle.svn_types.specs.Names.{Path};
-ghost use Rattle.svn_types.specs.Paths.{path_eq, is_within, is_below};
+ghost use Rattle.svn_types.specs.Paths.{path_eq};
 ghost use Rattle.svn_model.specs.Nodes.{get_in, is_present, node_text};
 ghost use Rattle.svn_model.specs.Effects.{opened_directory, is_wrong_sum};
 ghost use Rattle.svn_model.specs.Answering.{AnswersCall};
 ghost use Rattle.svn_nodes.specs.NodeTests.{AnswersAs, IsSumOf, delete_fault_of, open_fault_of};
 
 use crate::memory::or_memory;
-use std::alloc::{AllocError, Global};
+use std::alloc::Global;
 use std::collections::BTreeMap;
 use std::collections::btree_map::Entry;
-use std::ops::Bound;
 use svn_editor::EditFault;
 use svn_model::BaseNode;
 use svn_types::{Digest, Kind, Props, RelPath, Rev, Text};
@@ -160,70 +158,6 @@ pub fn open_directory(alloc: Global, node: &mut BaseNode, target: Rev, moved: Op
         }
         *complete = false;
     }
-}
-
-/// Removes the nodes at these paths. It takes no memory, and looks each path up.
-pub(crate) fn remove_all(nodes: &mut Nodes, paths: &[RelPath])
-    ensures { (p : Path) → get_in nodes.new.entries p ≡ (if list_any (λ q. path_eq q p) paths.now then None else get_in nodes.old.entries p) }
-{
-    for path in paths {
-        nodes.remove(path);
-    }
-}
-
-// The paths of the nodes below a path, in path order: None where they are over a quarter of all. AllocError where a growth is refused.
-fn few_below(
-    alloc: Global,
-    nodes: &Nodes,
-    path: &RelPath,
-) -> Result<Option<Vec<RelPath>>, AllocError>
-    ensures { IfOk result (λ found. IfSome found (λ v. (p : Path) → list_any (λ q. path_eq q p) v.items ≡ (is_below path.now p && is_some (get_in nodes.now.entries p)))) }
-{
-    let most = nodes.len() / 4;
-    let mut paths = Vec::new(alloc);
-    for (other, _) in nodes.range((Bound::Excluded(path), Bound::Unbounded)) {
-        if !other.is_within(path) {
-            break;
-        }
-        if paths.len() == most {
-            return Ok(None);
-        }
-        paths.push(other.clone()?)?;
-    }
-    Ok(Some(paths))
-}
-
-// Whether a path isn't below another.
-fn stays(path: &RelPath, other: &RelPath) -> bool
-    ensures { result ≡ not (is_below path.now other.now) }
-{
-    path == other || !other.is_within(path)
-}
-
-/// Removes the nodes below a path in one pass over all nodes, which is cheaper than to find many of them one by one. It takes no memory.
-pub fn sweep_below(nodes: &mut Nodes, path: &RelPath)
-    ensures { (p : Path) → get_in nodes.new.entries p ≡ (if is_below path.now p then None else get_in nodes.old.entries p) }
-{
-    nodes.retain(|other, _| stays(path, other));
-}
-
-/// Removes what stands below a path, at the cost of what goes. Where the memory of a list is refused, each node is looked at.
-pub(crate) fn remove_below(alloc: Global, nodes: &mut Nodes, path: &RelPath)
-    ensures { (p : Path) → get_in nodes.new.entries p ≡ (if is_below path.now p then None else get_in nodes.old.entries p) }
-{
-    match few_below(alloc, nodes, path) {
-        Ok(Some(paths)) => remove_all(nodes, &paths),
-        _ => sweep_below(nodes, path),
-    }
-}
-
-/// Removes the nodes at a path and below, at the cost of what goes. It never fails: where the memory for a list of their paths is refused, it
-/// goes over all nodes.
-pub fn delete_within(alloc: Global, nodes: &mut Nodes, path: &RelPath)
-    ensures { (p : Path) → get_in nodes.new.entries p ≡ (if is_within path.now p then None else get_in nodes.old.entries p) }
-{
-    remove_below(alloc, nodes, path);
-    nodes.remove(path);
 }
 
 // A clone of a text, once its checksum was tested.

@@ -8,9 +8,10 @@ ghost use Rattle.svn_types.specs.Paths.{path_eq, is_within};
 ghost use Rattle.svn_model.specs.Nodes.{get_in, InPathOrder, is_dir};
 
 use crate::ahead::Ahead;
-use crate::append::{append_within, has_none_below};
-use crate::nodes::{Nodes, remove_all};
+use crate::append::append_within;
+use crate::nodes::Nodes;
 use crate::overwrite::overwrite_all;
+use crate::removal::{has_none_below, remove_all};
 use std::alloc::{AllocError, Global};
 use std::cmp::Ordering;
 use std::ops::Bound;
@@ -154,7 +155,7 @@ pub fn replace_within(
     ensures unchanged { OnErr result (nodes.new.entries ≡ nodes.old.entries) }
 {
     if has_none_below(nodes, at) {
-        return append_within(alloc, nodes, at, part);
+        return append_within(nodes, at, part);
     }
     let gone = paths_without(alloc, at, nodes, &part)?;
     let new = paths_without(alloc, at, &part, nodes)?;

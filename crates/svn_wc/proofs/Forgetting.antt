@@ -11,16 +11,6 @@ use Rattle.svn_model.specs.Builders.{forgotten}
 use Rattle.svn_model.specs.Refusals.{forget_fault}
 use Rattle.svn_model.specs.declared.wc_fault.WcFault.TheVariants.{IsRoot, Missing}
 
--- what stands below a path went, and nothing else
-pub all_went : (b : Bool) (new old : Option BaseNode) → (b ≡ false → new ≡ old) → (b ≡ true → new ≡ None) → new ≡ cond b None old
-all_went true new old others none = none refl
-all_went false new old others none = others refl
-
--- the rest of it went, where some did before
-pub rest_went : (b : Bool) (some old : Option BaseNode) → (b ≡ false → some ≡ old) → cond b None some ≡ cond b None old
-rest_went true some old others = refl
-rest_went false some old others = others refl
-
 pub absent_forgotten : (w : WorkingCopy) (at p : Path) → is_present (w at) ≡ true
     → cond (is_below at p) None (cond (path_eq at p) (option_map (λ (n : BaseNode). NotPresent) (w at)) (w p)) ≡ forgotten w at p
 absent_forgotten w at p present = by (path_eq at p) (is_within at p) (w at) present

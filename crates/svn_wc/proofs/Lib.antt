@@ -18,8 +18,6 @@ pub mod EachOnce
 pub mod Completing
 -- A call of an applier keeps the copy in its shape, whatever the call and its answer.
 pub mod ShapeKept
--- The next node below a path, and what is left without it.
-pub mod Removing
 -- A list sorted by its paths: what stands twice, and what a search finds.
 pub mod SortedNodes
 -- Copies of which no path is switched stay so.

@@ -3,7 +3,7 @@ use Rattle.svn_lists.proofs.Options.{left_out}
 use Rattle.svn_types.specs.Paths.{is_below}
 use Rattle.svn_model.specs.Nodes.{get_in}
 use Rattle.svn_nodes.proofs.Retaining.{retained_by}
-use Rattle.svn_nodes.proofs.nodes.sweep_below.Goals as goal
+use Rattle.svn_nodes.proofs.removal.sweep_below.Goals as goal
 
 pub returns : goal.returns
 returns c = λ p.

@@ -7,7 +7,7 @@ use Rattle.svn_types.specs.Names.{Path}
 use Rattle.svn_types.specs.Paths.{path_eq}
 use Rattle.svn_model.specs.Nodes.{get_in}
 use Rattle.svn_edit_law.proofs.Lookups.{get_in-updated}
-use Rattle.svn_nodes.proofs.nodes.remove_all.Goals as goal
+use Rattle.svn_nodes.proofs.removal.remove_all.Goals as goal
 
 pub loop-path-preserved : goal.loop-path-preserved
 loop-path-preserved c = λ p.

@@ -4,7 +4,7 @@ use Rattle.svn_types.specs.Paths.{path_eq, is_below}
 use Rattle.svn_model.specs.Nodes.{get_in}
 use Rattle.svn_edit_law.proofs.Lookups.{get_in-updated}
 use Rattle.svn_nodes.proofs.Ranges.{below_or_same}
-use Rattle.svn_nodes.proofs.nodes.delete_within.Goals as goal
+use Rattle.svn_nodes.proofs.removal.delete_within.Goals as goal
 
 pub returns : goal.returns
 returns c = λ p.

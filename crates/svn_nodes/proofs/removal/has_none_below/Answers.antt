@@ -4,7 +4,7 @@ use Rattle.svn_types.specs.Paths.{is_within}
 use Rattle.svn_model.specs.declared.base_node.BaseNode.{BaseNode}
 use Rattle.svn_model.specs.Nodes.{InPathOrder}
 use Rattle.svn_nodes.proofs.Ranges.{none_below, order_run, IsPast, nothing_left, outside_next}
-use Rattle.svn_nodes.proofs.append.has_none_below.Goals as goal
+use Rattle.svn_nodes.proofs.removal.has_none_below.Goals as goal
 
 pub returns-in-None : goal.returns-in-None
 returns-in-None c = λ yes.
