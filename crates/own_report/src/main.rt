@@ -5,9 +5,7 @@ mod history;
 
 use anyhow::Result;
 use std::alloc::Global;
-use yumbeltir::{
-    Recorder, RelPath, Repo, Report, Reporter, Request, Rev, check_report, drive_request,
-};
+use yumbeltir::{Recorder, RelPath, Report, Reporter, Request, Rev, check_report, drive_request};
 
 // A client that checked out revision 1, updated only `lib/new`, switched `lib/old` to a branch, deleted a file, and was stopped in `doc`.
 fn report(alloc: Global) -> Result<Report> {

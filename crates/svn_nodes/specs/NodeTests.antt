@@ -10,7 +10,6 @@ use Rattle.svn_types.specs.Names.{Path}
 use Rattle.svn_types.specs.Paths.{path_eq}
 use Rattle.svn_types.specs.Limits.{path_limit}
 use Rattle.svn_editor.specs.declared.mode.Mode.{Mode}
-use Rattle.svn_editor.specs.declared.mode.Mode.TheVariants.{Update, SwitchTo}
 use Rattle.svn_editor.specs.declared.fault.EditFault.{EditFault}
 use Rattle.svn_editor.specs.declared.fault.EditFault.TheVariants.{NoEntry, WrongKind, WrongRevision, TextChecksum, TooDeep}
 use Rattle.svn_model.specs.declared.base_node.BaseNode.{BaseNode}

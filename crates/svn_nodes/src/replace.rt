@@ -1,5 +1,5 @@
 //! What stands at a path and below is replaced.
-ghost use Rattle.std.specs.Prelude.{◌≡◌, ◌&&◌, ◌||◌, true, false, IsTrue, IsFalse, IfOk, OnOk, OnErr, Some, None, is_some, is_none, if◌then◌else◌};
+ghost use Rattle.std.specs.Prelude.{◌≡◌, ◌&&◌, true, false, IsTrue, IsFalse, IfOk, OnOk, OnErr, Some, None, is_some, is_none, if◌then◌else◌};
 ghost use Rattle.std.specs.List.{list_any};
 ghost use Rattle.std.specs.Option.{option_or};
 ghost use Rattle.std.specs.declared.cmp.Ordering.TheVariants.{Less};
