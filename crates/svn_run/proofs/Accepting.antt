@@ -1,5 +1,5 @@
 -- The calls of a drive, each of which the copy accepts after those before it.
-use Rattle.std.proofs.Common.{◌≡◌, ℕ, zero, suc, List, [], ◌∷◌, ◌++◌, take, append-nil, append_assoc, sym, ap, subst, ◌∙◌}
+use Rattle.std.proofs.Common.{ℕ, zero, suc, List, [], ◌∷◌, ◌++◌, take, append-nil, append_assoc, sym, subst}
 use Rattle.std.specs.Prelude.{Ok}
 use Rattle.md5.specs.Md5.{md5}
 use Rattle.svn_editor.specs.declared.call.Call.{Call}

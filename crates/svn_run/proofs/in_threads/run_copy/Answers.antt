@@ -1,4 +1,4 @@
-use Rattle.std.proofs.Common.{◌≡◌, [], sym, subst, ◌∙◌}
+use Rattle.std.proofs.Common.{[], sym, subst, ◌∙◌}
 use Rattle.svn_edit.specs.Carrying.{CarriedOut}
 use Rattle.svn_model.specs.Nodes.{get_in, IsWorkingCopy}
 use Rattle.svn_wc.specs.Unswitched.{IsUnswitched, IsLevel}
