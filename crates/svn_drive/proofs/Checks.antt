@@ -1,5 +1,5 @@
 -- What a check finds: the nodes of what is seen, and the first fault, entry by entry.
-use Rattle.std.proofs.Common.{◌≡◌, ℕ, zero, suc, ◌<◌, ◌≤◌, List, [], ◌∷◌, ◌++◌, ◌+◌, length, length-append, drop, refl, sym, ◌∙◌, ap, arith}
+use Rattle.std.proofs.Common.{◌≡◌, ℕ, zero, suc, ◌<◌, List, [], ◌∷◌, ◌++◌, ◌+◌, length, length-append, drop, refl, sym, ◌∙◌, ap, arith}
 use Rattle.std.specs.Prelude.{false, Option, Some, None, slice_get, option_and_then, cond}
 use Rattle.std.specs.Option.{option_or}
 use Rattle.svn_types.proofs.NameLemmas.{Name}

@@ -14,7 +14,7 @@ use Rattle.svn_report.specs.Reports.{ReportView, entry_at}
 use Rattle.svn_editor.specs.declared.mode.Mode.{Mode}
 use Rattle.svn_editor.specs.declared.mode.Mode.TheVariants.{Update, SwitchTo}
 use Rattle.svn_model.specs.Sources.{Reported, source, reported_child, reported_root, linked_or, is_set_or_link, starts_empty, revision_of}
-use Rattle.svn_model.specs.Follow.{Request, Followed, candidate, root_path, follow, follow_root, follow_child, target_path, source_node}
+use Rattle.svn_model.specs.Follow.{Request, Followed, candidate, follow, follow_root, follow_child, target_path, source_node}
 use Rattle.svn_model.specs.Follow.{target_node}
 use Rattle.svn_drive.specs.declared.check.Seen.{Seen}
 use Rattle.svn_drive.specs.declared.place.Place.{Place}
@@ -35,12 +35,6 @@ module _ (d : Request) (here : Seen) (says : seen_as here ≡ reported_root d.re
   pub root_followed : root_as ≡ follow d here.path
   root_followed =
       (λ i. record { here = says i; is_kept = true; parent_is_kept = true; target_path = (whole i).target_path }) ∙ sym whole
-
-  pub root_source : source d.history (seen_as here) ≡ source_node d here.path
-  root_source = ap (source d.history) says ∙ ap (λ (f : Followed). source d.history f.here) (sym whole)
-
-  pub root_target : look d.history d.target (root_path d.mode d.report.root) ≡ target_node d here.path
-  root_target = ap (λ (f : Followed). look d.history d.target f.target_path) (sym whole)
 
 -- ---- the node that the client has at a child
 

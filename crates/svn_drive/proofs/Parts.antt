@@ -3,7 +3,7 @@
 --     has_part, nothing_in, something_in      an entry passes where the part has one
 --     own_is, others_are, own_part      the path's own entry is the first of the part at or below it, and the others are the part below it
 --     deeper, names_ordered, part_under, part_named      a part below a path, by the names directly below it
-use Rattle.std.proofs.Common.{◌≡◌, ◌≢◌, ◌<◌, Bool, true, false, ◌&&◌, ◌||◌, not, cond, List, [], ◌∷◌, length, refl, sym}
+use Rattle.std.proofs.Common.{◌≡◌, ◌<◌, Bool, true, false, ◌&&◌, ◌||◌, not, cond, List, [], ◌∷◌, length, refl, sym}
 use Rattle.std.proofs.Common.{◌∙◌, ap}
 use Rattle.std.proofs.Common.{subst, arith, true≢false}
 use Rattle.std.specs.Prelude.{Option, Some, None, is_some, unwrap_or, bytes_eq, IsPermutation}

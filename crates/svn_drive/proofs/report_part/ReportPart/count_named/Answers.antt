@@ -1,4 +1,4 @@
-use Rattle.std.proofs.Common.{rules, of_calls, ◌≡◌, ◌≤◌, ◌∙◌, sym, length}
+use Rattle.std.proofs.Common.{rules, of_calls, ◌≤◌, ◌∙◌, sym, length}
 use Rattle.std.specs.Map.Iter.{deref_pair}
 use Rattle.std.proofs.lemmas.List.Sorted.{IsPartitionPoint-from_clause}
 use Rattle.svn_drive.proofs.ByName.{apart_next, apart_none, cut_at, cut_one, parts, says}
