@@ -39,13 +39,14 @@ pub parent_source : (h : History) (r : ReportView) (names p : Path) (name : Name
     → above ≡ reported r names → source h above ≡ source_at h r (parent p)
 parent_source h r names p name above whole a = ap (source h) (a ∙ ap (reported r) (sym (ap parent whole ∙ parent-child names name)))
 
--- what is seen above a path has room for a name
-pub seen_short : (r : ReportView) (names p : Path) (name : Name) (above : Reported) → p ≡ names ++ name ∷ [] → length p ≤ 128
-    → above ≡ reported r names → length above.path < 128
-seen_short r names p name above whole short a =
-    let one : length above.path ≡ length names = ap (λ (s : Reported). length s.path) a ∙ ap length (reported-path r names) in
-    let two : length p ≡ length names + 1 = ap length whole ∙ length-append names (name ∷ []) in
-    omega (arith, one, two, short)
+-- the path of what is seen one name above
+pub seen_above : (r : ReportView) (names p : Path) (name : Name) (above : Reported) → p ≡ names ++ name ∷ [] → above ≡ reported r names
+    → p ≡ above.path ++ name ∷ []
+seen_above r names p name above whole a =
+    whole ∙ ap (λ (q : Path). q ++ name ∷ []) (sym (ap (λ (s : Reported). s.path) a ∙ reported-path r names))
+
+pub one_longer : (p q : Path) (name : Name) → p ≡ q ++ name ∷ [] → length p ≡ length q + 1
+one_longer p q name whole = ap length whole ∙ length-append q (name ∷ [])
 
 -- ---- entry by entry
 
