@@ -8,7 +8,8 @@
 #![tactic(auto)]
 
 pub use svn_editor::{
-    Call, ChecksumWord, Digest, EditFault, Editor, OrderFault, PathWord, Recorder, Token, Word,
+    Call, ChecksumWord, Digest, EditFault, Editor, Mode, OrderFault, PathWord, Recorder, Token,
+    Word,
 };
 pub use svn_order::OrderCheck;
-pub use svn_report::{EntryLine, Report, ReportEntry, Reporter, ReporterFault};
+pub use svn_report::{EntryLine, Report, ReportEntry, ReportIter, Reporter, ReporterFault};

@@ -68,4 +68,4 @@ pub use svn_types::{
     Digest, Kind, MAX_CAPACITY, MAX_COMPONENTS, MAX_DEPTH, MAX_NAME_LEN, MAX_SIZE, Name, PathFault,
     PropChange, PropName, Props, RelPath, Rev, Text,
 };
-pub use svn_wc::{Applier, WorkingCopy};
+pub use svn_wc::{Applier, Known, LooseCopy, WorkingCopy};
