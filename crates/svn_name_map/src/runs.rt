@@ -28,7 +28,7 @@ fn run_for<V>(runs: &[Run<V>], name: &Name) -> usize
     run_before(runs, name)
 }
 
-// The same where the last run is too far, found by halves.
+// The same where the last run is too far: a binary search.
 fn run_before<V>(runs: &[Run<V>], name: &Name) -> usize
     requires order { InNameOrder (joined runs.now) }
     requires some { 0 < length runs.now }

@@ -1,4 +1,4 @@
-//! Entries that came in the order of their paths: what stands next to a path is found by halves.
+//! Entries that came in the order of their paths: what is next to a path is found by a binary search.
 ghost use Rattle.std.specs.Prelude.{◌≡◌, IsTrue, slice_get};
 ghost use Rattle.std.specs.Option.{option_copied, option_map};
 ghost use Rattle.std.specs.Ordering.{is_le, is_lt};

@@ -21,7 +21,7 @@ pub(crate) struct Taken {
     pub(crate) accepted: u64,
 }
 
-/// Takes all calls, up to the last one. They are carried out until one is refused, whose number is told before the next is taken.
+/// Takes all calls, up to the last one. Each takes effect until one is refused, whose number is noted before the next is taken.
 pub(crate) fn take_all<R: Wait, G: Gate, L: Listener>(
     rt: &R,
     gate: &G,

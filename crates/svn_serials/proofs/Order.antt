@@ -176,7 +176,7 @@ module _ {V : Type 0} where
   with_first' (s ∷ ss) k within h =
       let at = get_or-map (λ (t : Slot V). t.serial) (s ∷ ss) k s 0 within in let least = h s in omega arith
 
-  -- what a search by halves says
+  -- what a binary search says
   module _ (ss : List (Slot V)) (p q : ℕ) where
     abbrev pub IsPlaceFor : Type 0
     IsPlaceFor = IsPartitionPoint (λ s. ltb s.serial q ≡ true) (λ s. ltb s.serial q ≡ false) ss p

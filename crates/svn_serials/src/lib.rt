@@ -12,7 +12,7 @@
 //! end go at once, and all others as soon as more than half of the slots are empty. So an operation costs a constant on average where
 //! serials are given in rising order, and there are at most twice as many slots as values, and one more; the vector keeps its memory.
 //! A look-up tries the last slot, then the slot where the serial stands if none from it on was left out, then the one where a value was
-//! removed last, the one after it and the first, and then searches by halves.
+//! removed last, the one after it and the first, and then makes a binary search.
 //!
 //! Promises: a map is seen as the list of its pairs in rising order, and each call says what becomes of that list and no more
 //! (`value`, `put`, `removed`, `writes_back`); an insert that finds no memory changes nothing (`refused`).
