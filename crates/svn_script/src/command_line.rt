@@ -4,7 +4,7 @@ ghost use Rattle.svn_script.specs.FaultNumbers.{words_fault_number, words_status
 
 use clap::error::ErrorKind;
 use clap::{Arg, ArgAction, ArgMatches, Command, value_parser};
-use std::alloc::Global;
+use std::alloc::{AllocError, Global};
 use svn_types::MAX_CAPACITY;
 use thiserror::Error;
 
@@ -13,12 +13,14 @@ const DEFAULT_CAPACITY: usize = 64;
 
 const ABOUT: &str = "Runs a script of repository and working copy commands from standard input.";
 
-const BEHIND: &str = "\
+const WAYS: &[&str] = &["sha1", "whole"];
+
+const AFTER: &str = "\
 The commands are described in docs/SCRIPT.md.
 
 Status 0: the script ended, refused commands included.
-Status 1: reading or writing failed, or memory was refused.
-Status 2: a line of the script, or one of these words, is at fault.
+Status 1: reading or writing failed, or an allocation.
+Status 2: a line of the script, the dump, or one of these words is at fault.
 
 Example: printf 'put f a\\ncommit\\ncheckout 1\\nshow\\n' | svnup";
 
@@ -40,6 +42,24 @@ impl Default for Settings {
             in_turn: false,
         }
     }
+}
+
+/// The dump that the repository of a script is loaded from.
+#[derive(Clone, Copy, Debug, PartialEq, Eq)]
+pub struct History<'a> {
+    /// The path of its file.
+    pub dump: &'a str,
+    /// Whether texts are kept whole; else each is replaced by its SHA-1 checksum.
+    pub whole_texts: bool,
+}
+
+/// What the words of a call of `svnup` ask for.
+#[derive(Clone, Copy, Debug, PartialEq, Eq)]
+pub struct Invocation<'a> {
+    /// How the script's runs are made.
+    pub settings: Settings,
+    /// Where the script's repository comes from; None for a new one.
+    pub history: Option<History<'a>>,
 }
 
 /// Why the words of the command line give no settings. `svnup` prints it to standard error.
@@ -91,14 +111,47 @@ fn in_turn_option<'a>(alloc: Global) -> Arg<'a> {
         .help("Run driver and working copy in turn, on one thread")
 }
 
-// What the words are for `svnup`.
-fn parse_words<'a>(alloc: Global, words: &'a [&'a str]) -> Result<ArgMatches<'a>, clap::Error> {
-    let command = Command::new(alloc, "svnup")
+fn history_option<'a>(alloc: Global) -> Arg<'a> {
+    Arg::new(alloc, "history")
+        .long("history")
+        .value_name("DUMP")
+        .help("Begin with the repository of this dump (svnadmin dump)")
+}
+
+fn texts_option<'a>(alloc: Global) -> Arg<'a> {
+    Arg::new(alloc, "texts")
+        .long("texts")
+        .value_name("HOW")
+        .value_parser(WAYS)
+        .default_value("sha1")
+        .help("Keep each text of the dump whole, or its SHA-1 checksum in its place")
+}
+
+// The words that say how runs are made.
+fn settings_command<'a>(alloc: Global) -> Result<Command<'a>, AllocError> {
+    Command::new(alloc, "svnup")
         .about(ABOUT)
-        .after_help(BEHIND)
+        .after_help(AFTER)
         .arg(capacity_option(alloc))?
-        .arg(in_turn_option(alloc))?;
-    command.try_get_matches_from(words)
+        .arg(in_turn_option(alloc))
+}
+
+// The same, and those that say where the repository comes from.
+fn invocation_command<'a>(alloc: Global) -> Result<Command<'a>, AllocError> {
+    settings_command(alloc)?
+        .arg(history_option(alloc))?
+        .arg(texts_option(alloc))
+}
+
+fn parse_settings<'a>(alloc: Global, words: &'a [&'a str]) -> Result<ArgMatches<'a>, clap::Error> {
+    settings_command(alloc)?.try_get_matches_from(words)
+}
+
+fn parse_invocation<'a>(
+    alloc: Global,
+    words: &'a [&'a str],
+) -> Result<ArgMatches<'a>, clap::Error> {
+    invocation_command(alloc)?.try_get_matches_from(words)
 }
 
 // The capacity that was given. No number but these passes the parser of its argument.
@@ -122,16 +175,47 @@ fn fault_of(alloc: Global, error: &clap::Error) -> WordsFault {
     }
 }
 
-/// Reads the words of a call of `svnup`, the first of which is the program's name: `svnup [--capacity N] [--in-turn]`, where N is 1 to
-/// 4,096, by default 64. BadWords where they aren't of this form, or ask for help by `-h` or `--help`; Memory where a growth was refused.
+fn settings_of(matches: &ArgMatches<'_>) -> Settings
+    ensures least { 1 ≤ result.capacity }
+    ensures most { result.capacity ≤ MAX_CAPACITY }
+{
+    Settings {
+        capacity: capacity_of(matches),
+        in_turn: matches.get_flag("in-turn"),
+    }
+}
+
+fn history_of<'a>(matches: &ArgMatches<'a>) -> Option<History<'a>> {
+    let dump = matches.get_str("history")?;
+    let whole_texts = matches.get_str("texts") == Some("whole");
+    Some(History { dump, whole_texts })
+}
+
+/// Reads words that say how the runs of a script are made, the first of which is the program's name: `svnup [--capacity N] [--in-turn]`, where N is
+/// 1 to 4,096, by default 64. BadWords where they aren't of this form, or ask for help by `-h` or `--help`; Memory where an allocation failed.
 pub fn read_words<'a>(alloc: Global, words: &'a [&'a str]) -> Result<Settings, WordsFault>
     ensures least { IfOk result (λ s. 1 ≤ s.capacity) }
     ensures most { IfOk result (λ s. s.capacity ≤ MAX_CAPACITY) }
 {
-    match parse_words(alloc, words) {
-        Ok(matches) => Ok(Settings {
-            capacity: capacity_of(&matches),
-            in_turn: matches.get_flag("in-turn"),
+    match parse_settings(alloc, words) {
+        Ok(matches) => Ok(settings_of(&matches)),
+        Err(error) => Err(fault_of(alloc, &error)),
+    }
+}
+
+/// Reads the words of a call of `svnup`, the first of which is the program's name: those of `read_words`, and `[--history DUMP] [--texts sha1|whole]`, by
+/// default `sha1`. BadWords where they aren't of this form, or ask for help by `-h` or `--help`; Memory where an allocation failed.
+pub fn read_invocation<'a>(
+    alloc: Global,
+    words: &'a [&'a str],
+) -> Result<Invocation<'a>, WordsFault>
+    ensures least { IfOk result (λ r. 1 ≤ r.settings.capacity) }
+    ensures most { IfOk result (λ r. r.settings.capacity ≤ MAX_CAPACITY) }
+{
+    match parse_invocation(alloc, words) {
+        Ok(matches) => Ok(Invocation {
+            settings: settings_of(&matches),
+            history: history_of(&matches),
         }),
         Err(error) => Err(fault_of(alloc, &error)),
     }

@@ -2,7 +2,8 @@
 //! the command line. `docs/SCRIPT.md` is the manual of the language.
 //!
 //! [`read_script`] reads all bytes or refuses them by a [`ScriptFault`]; [`read_command`] makes a [`Command`] of one line, or says by a
-//! [`LineFault`] that it is none; [`read_words`] makes [`Settings`] of the words of the command line, or a [`WordsFault`].
+//! [`LineFault`] that it is none; [`read_words`] makes [`Settings`] of the words of the command line, and [`read_invocation`] of these and of the dump
+//! to begin with an [`Invocation`], or a [`WordsFault`].
 //!
 //! ```
 //! let script = read_script(alloc, reader)?;
@@ -29,7 +30,7 @@ mod verb;
 mod words;
 
 pub use command::{Command, read_command};
-pub use command_line::{Settings, WordsFault, read_words};
+pub use command_line::{History, Invocation, Settings, WordsFault, read_invocation, read_words};
 pub use fault::ScriptFault;
 pub use lines::{read_script, without_return};
 pub use svn_types::{MAX_SCRIPT, split_once};

@@ -12,8 +12,8 @@ use Rattle.svn_script.specs.Commands.{command_of}
 use Rattle.svn_update.specs.declared.answer.Refusal.TheVariants.{Memory as ListMemory}
 use Rattle.svn_update.specs.declared.answer.Answer.TheVariants.{Silent, Refused}
 use Rattle.svn_update.specs.Answers.{answer_text}
-use Rattle.svn_update.specs.ScriptStates.{ScriptState, new_state}
-use Rattle.svn_update.specs.Scripts.{DoesLine, DoesLines, Prints}
+use Rattle.svn_update.specs.ScriptStates.{ScriptState}
+use Rattle.svn_update.specs.Scripts.{DoesLine, DoesLines, PrintsFrom}
 
 -- ---- a change that is kept
 
@@ -61,12 +61,12 @@ next_line rest line after e =
 
 -- ---- the end
 
-pub script_ends : (s : Settings) (script : List ℕ) (before : List (List ℕ)) (rest : List ℕ) (mid end : ScriptState) (front back : List ℕ)
-    → lines_of script ≡ before ++ lines_of rest → slice_split (λ b. nat_eq b 10) rest ≡ rest ∷ [] → DoesLines s before new_state mid front
-    → DoesLine s rest mid end back → Prints s script (front ++ back)
-script_ends s script before rest mid end front back lines last h d =
+pub script_ends : (s : Settings) (script : List ℕ) (before : List (List ℕ)) (rest : List ℕ) (begin mid end : ScriptState) (front back : List ℕ)
+    → lines_of script ≡ before ++ lines_of rest → slice_split (λ b. nat_eq b 10) rest ≡ rest ∷ [] → DoesLines s before begin mid front
+    → DoesLine s rest mid end back → PrintsFrom s begin script (front ++ back)
+script_ends s script before rest begin mid end front back lines last h d =
     let all : before ++ rest ∷ [] ≡ lines_of script = sym (lines ∙ ap (λ (ls : List (List ℕ)). before ++ ls) (ap without_returns last)) in (
       end,
-      subst (λ (ls : List (List ℕ)). DoesLines s ls new_state end (front ++ back)) all
-          (one_more_line s before rest new_state mid end front back h d),
+      subst (λ (ls : List (List ℕ)). DoesLines s ls begin end (front ++ back)) all
+          (one_more_line s before rest begin mid end front back h d),
     )

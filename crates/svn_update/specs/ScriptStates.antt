@@ -17,6 +17,10 @@ pub record ScriptState : Type 0 where
 abbrev pub CopyIsTrue : History → Option (List (Path × BaseNode)) → Type 0
 CopyIsTrue h copy = IfSome copy (λ nodes. IsTrueOf h (get_in nodes))
 
--- a script begins with a new repository
+-- a script begins with a repository, and no changes and no working copy
+abbrev pub state_on : History → ScriptState
+state_on h = record { repo = h; pending = []; copy = None }
+
+-- the repository is a new one where no other is given
 abbrev pub new_state : ScriptState
-new_state = record { repo = new_history; pending = []; copy = None }
+new_state = state_on new_history

@@ -1,7 +1,8 @@
 -- Scripts: what their lines do, and what they print.
 --     DoesLines s lines old new text      the lines, done one after the other, take the old state to the new one and print the text
---     Prints s script text      the text is one that the whole script prints, run by the settings s
---     StopsAt s script n text      line n is no command, and the lines before it print the text
+--     PrintsFrom s begin script text      the text is one that the whole script prints, run by the settings s from the state begin
+--     StopsFrom s begin script n text      line n is no command, and the lines before it print the text
+--     Prints s script text, StopsAt s script n text      the same from a new repository
 use Rattle.std.specs.Prelude.{◌≡◌, ℕ, ◌+◌, ◌≤◌, Bool, true, false, List, [], ◌∷◌, ◌++◌, length, Option, Some, None, IfSome}
 use Rattle.std.specs.Io.KnownBytes.{IsAtEnd}
 use Rattle.svn_types.specs.Limits.{script_limit}
@@ -30,10 +31,10 @@ DoesLines s (line ∷ lines) old new text =
 
 -- ---- whole scripts
 
-abbrev pub Prints : Settings → List ℕ → List ℕ → Type 0
-Prints s script text = (end : ScriptState) × DoesLines s (lines_of script) new_state end text
+abbrev pub PrintsFrom : Settings → ScriptState → List ℕ → List ℕ → Type 0
+PrintsFrom s begin script text = (end : ScriptState) × DoesLines s (lines_of script) begin end text
 
-pub record StopsAt (s : Settings) (script : List ℕ) (n : ℕ) (text : List ℕ) : Type 0 where
+pub record StopsFrom (s : Settings) (begin : ScriptState) (script : List ℕ) (n : ℕ) (text : List ℕ) : Type 0 where
   pub before : List (List ℕ)
   pub line : List ℕ
   pub behind : List (List ℕ)
@@ -41,7 +42,13 @@ pub record StopsAt (s : Settings) (script : List ℕ) (n : ℕ) (text : List ℕ
   pub number : n ≡ length before + 1
   pub bad : command_of line ≡ None
   pub end : ScriptState
-  pub done : DoesLines s before new_state end text
+  pub done : DoesLines s before begin end text
+
+abbrev pub Prints : Settings → List ℕ → List ℕ → Type 0
+Prints s = PrintsFrom s new_state
+
+abbrev pub StopsAt : Settings → List ℕ → ℕ → List ℕ → Type 0
+StopsAt s = StopsFrom s new_state
 
 -- a reader was read to its end, and gave no script that is too long
 abbrev pub IsReadWhole : Option (List ℕ) → Option (List ℕ) → Type 0

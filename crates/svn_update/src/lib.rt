@@ -2,16 +2,16 @@
 //! has it whole as `library`, and its most used names besides.
 //!
 //! [`run_script`] reads a script, does its lines one after the other and writes what they print, as [`Settings`] say; a [`ScriptFault`] says
-//! why it ended before its time. `docs/SCRIPT.md` is the manual of the language.
+//! why it ended before its time. [`run_script_on`] does the same on a repository that is there. `docs/SCRIPT.md` is the manual of the language.
 //!
 //! ```
 //! let mut writer = BufWriter::new(rt.alloc(), io::writer(rt))?;
 //! run_script(rt, rt.alloc(), &mut rt.reader(), &mut writer, &Settings::default())?;
 //! ```
 //!
-//! Who needs no script depends on `yumbeltir` alone, and builds no reader of command lines.
+//! Without scripts, depend on `yumbeltir` alone, which builds no reader of command lines.
 //!
-//! Promises, all of `run_script`, for a reader and a writer whose bytes are known: what was written is an output of the script by the
+//! Promises, all of `run_script` and `run_script_on`, for a reader and a writer whose bytes are known: what was written is an output of the script by the
 //! definitions of `specs/` (`ok`), at a bad line that of the lines before (`bad_line`); the script was read to its end, or nothing was done
 //! (`ok_read`, `err_read`, `refused_whole`, `too_long`). Which commands are refused when, `specs/Commands.antt` and `specs/Runs.antt` say.
 #![tactic(auto)]
@@ -24,8 +24,10 @@ mod runs;
 mod script;
 mod state;
 
-pub use script::run_script;
-pub use svn_script::{MAX_SCRIPT, ScriptFault, Settings, WordsFault, read_words};
+pub use script::{run_script, run_script_on};
+pub use svn_script::{
+    History, Invocation, MAX_SCRIPT, ScriptFault, Settings, WordsFault, read_invocation, read_words,
+};
 pub use yumbeltir as library;
 pub use yumbeltir::{
     BaseNode, Cause, Change, CommitFault, Entries, Gate, Kind, Name, NoGate, NodeId, Options,

@@ -5,7 +5,8 @@ ghost use Rattle.svn_script.specs.Commands.{command_of};
 ghost use Rattle.svn_update.specs.declared.answer.Answer.{Answer};
 ghost use Rattle.svn_update.specs.Answers.{answer_text};
 ghost use Rattle.svn_update.specs.Commands.{Does};
-ghost use Rattle.svn_update.specs.Scripts.{DoesLine, IsReadWhole, Prints, StopsAt, is_of_a_line, is_refused_whole};
+ghost use Rattle.svn_update.specs.ScriptStates.{state_on};
+ghost use Rattle.svn_update.specs.Scripts.{DoesLine, IsReadWhole, Prints, PrintsFrom, StopsAt, StopsFrom, is_of_a_line, is_refused_whole};
 
 use crate::answer::{Answer, Refusal};
 use crate::state::State;
@@ -13,6 +14,7 @@ use std::alloc::Global;
 use std::io::{Read, Write};
 use std::sync::Wait;
 use std::thread::Threads;
+use svn_repo::Repo;
 use svn_script::{
     Command, LineFault, MAX_SCRIPT, ScriptFault, Settings, read_command, read_script, split_once,
     without_return,
@@ -77,37 +79,55 @@ fn run_line<T: Threads + Wait + Sync, W: Write>(
 // Does the lines of a script one after the other.
 fn run_lines<T: Threads + Wait + Sync, W: Write>(
     host: &Host<'_, T>,
+    state: &mut State,
     script: &[u8],
     writer: &mut W,
 ) -> Result<(), ScriptFault>
     requires { length script.now ≤ MAX_SCRIPT }
-    ensures ok { OnOk result ((text : List ℕ) × Prints host.now.settings script.now text × Appends (W.contents writer.old) (W.contents writer.new) text) }
-    ensures bad { IfErr result (λ e. (n : ℕ) → e ≡ ScriptFault.BadLine n → (text : List ℕ) × StopsAt host.now.settings script.now n text × Appends (W.contents writer.old) (W.contents writer.new) text) }
+    ensures ok { OnOk result ((text : List ℕ) × PrintsFrom host.now.settings state.old script.now text × Appends (W.contents writer.old) (W.contents writer.new) text) }
+    ensures bad { IfErr result (λ e. (n : ℕ) → e ≡ ScriptFault.BadLine n → (text : List ℕ) × StopsFrom host.now.settings state.old script.now n text × Appends (W.contents writer.old) (W.contents writer.new) text) }
     ensures begun { IfErr result (λ e. is_refused_whole e ≡ false) }
 {
-    let Ok(mut state) = State::new(host.alloc) else {
-        return Err(ScriptFault::Memory);
-    };
     let mut rest = script;
     let mut number = 1u64;
     'lines: while let Some((line, after)) = split_once(rest, b'\n') {
-        if let Err(fault) = run_line(host, &mut state, without_return(line), number, writer) {
+        if let Err(fault) = run_line(host, state, without_return(line), number, writer) {
             return Err(fault);
         }
         rest = after;
         number += 1;
     }
-    run_line(host, &mut state, rest, number, writer)
+    run_line(host, state, rest, number, writer)
+}
+
+// Does the lines of a script that was read, on a repository, and flushes the writer at the end.
+fn run_on<T: Threads + Wait + Sync, W: Write>(
+    host: &Host<'_, T>,
+    repo: Repo,
+    script: &[u8],
+    writer: &mut W,
+) -> Result<(), ScriptFault>
+    requires { length script.now ≤ MAX_SCRIPT }
+    ensures ok { OnOk result ((text : List ℕ) × PrintsFrom host.now.settings (state_on repo) script.now text × Appends (W.contents writer.old) (W.contents writer.new) text) }
+    ensures bad { IfErr result (λ e. (n : ℕ) → e ≡ ScriptFault.BadLine n → (text : List ℕ) × StopsFrom host.now.settings (state_on repo) script.now n text × Appends (W.contents writer.old) (W.contents writer.new) text) }
+    ensures begun { IfErr result (λ e. is_refused_whole e ≡ false) }
+{
+    let mut state = State::on(host.alloc, repo);
+    let ended = run_lines(host, &mut state, script, writer);
+    match writer.flush() {
+        Ok(()) => ended,
+        Err(_) => Err(ScriptFault::Write),
+    }
 }
 
 /// Runs a script: reads it to its end, then does its lines one after the other and writes what they print, and flushes the writer at the end.
 /// BadLine where a line is no command: what the lines before it printed is written. TooLong over 16,777,216 bytes, and Read where the reader
-/// fails: no line was done. Write where the writer fails, once the script was read. Memory where a growth is refused while the script or a
-/// line of it is read; where one is refused to a command, that command prints its refusal.
+/// fails: no line was done. Write where the writer fails, once the script was read. Memory where an allocation fails while the script or a
+/// line of it is read; where one fails in a command, that command prints its refusal.
 ///
 /// The settings say how `update` and `switch-to` run: with `in_turn` on this thread, else with the driver in a thread of its own and at most
-/// `capacity` calls waiting, which refuses them by Capacity unless it is 1 to 4,096. The output is the same but for wants of memory
-/// or of a thread. It waits where the reader, the writer and the other thread do.
+/// `capacity` calls waiting, which refuses them by Capacity unless it is 1 to 4,096. The output is the same unless memory runs out or no
+/// thread can be made. It waits where the reader, the writer and the other thread do.
 pub fn run_script<T: Threads + Wait + Sync, R: Read, W: Write>(
     rt: &T,
     alloc: Global,
@@ -129,14 +149,44 @@ pub fn run_script<T: Threads + Wait + Sync, R: Read, W: Write>(
         Ok(script) => script,
         Err(fault) => return Err(fault),
     };
+    let Ok(repo) = Repo::new(alloc) else {
+        return Err(ScriptFault::Memory);
+    };
     let host = Host {
         rt,
         alloc,
         settings: *settings,
     };
-    let ended = run_lines(&host, &script, writer);
-    match writer.flush() {
-        Ok(()) => ended,
-        Err(_) => Err(ScriptFault::Write),
-    }
+    run_on(&host, repo, &script, writer)
+}
+
+/// Runs a script on a repository that is there, in the place of a new one. All else is as with `run_script`.
+pub fn run_script_on<T: Threads + Wait + Sync, R: Read, W: Write>(
+    rt: &T,
+    alloc: Global,
+    repo: Repo,
+    reader: &mut R,
+    writer: &mut W,
+    settings: &Settings,
+) -> Result<(), ScriptFault>
+    // what is written is an output of the script that was read, begun with this repository
+    ensures ok { OnOk result (IfSome (R.remaining reader.old) (λ script. (text : List ℕ) × PrintsFrom settings.now (state_on repo) script text × Appends (W.contents writer.old) (W.contents writer.new) text)) }
+    // at a bad line it is that of the lines before
+    ensures bad_line { IfErr result (λ e. (n : ℕ) → e ≡ ScriptFault.BadLine n → IfSome (R.remaining reader.old) (λ script. (text : List ℕ) × StopsFrom settings.now (state_on repo) script n text × Appends (W.contents writer.old) (W.contents writer.new) text)) }
+    // lines are done only of a script that was read to its end and isn't too long
+    ensures ok_read { OnOk result (IsReadWhole (R.remaining reader.old) (R.remaining reader.new)) }
+    ensures err_read { IfErr result (λ e. is_of_a_line e ≡ true → IsReadWhole (R.remaining reader.old) (R.remaining reader.new)) }
+    ensures refused_whole { IfErr result (λ e. is_refused_whole e ≡ true → writer.new ≡ writer.old) }
+    ensures too_long { IfErr result (λ e. e ≡ ScriptFault.TooLong → IfSome (R.remaining reader.old) (λ script. MAX_SCRIPT < length script)) }
+{
+    let script = match read_script(alloc, reader) {
+        Ok(script) => script,
+        Err(fault) => return Err(fault),
+    };
+    let host = Host {
+        rt,
+        alloc,
+        settings: *settings,
+    };
+    run_on(&host, repo, &script, writer)
 }

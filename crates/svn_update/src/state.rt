@@ -1,8 +1,8 @@
 //! What a script works on, and what its commands do.
-ghost use Rattle.std.specs.Prelude.{◌≡◌, ◌∷◌, ◌++◌, [], IfOk, OnOk, OnErr};
+ghost use Rattle.std.specs.Prelude.{◌≡◌, ◌∷◌, ◌++◌, [], OnOk, OnErr};
 ghost use Rattle.std.specs.Io.KnownBytes.{Appends};
 ghost use Rattle.svn_update.specs.Answers.{answer_text};
-ghost use Rattle.svn_update.specs.ScriptStates.{new_state};
+ghost use Rattle.svn_update.specs.ScriptStates.{state_on};
 ghost use Rattle.svn_update.specs.Commands.{AddsChange, Does};
 
 use crate::answer::{Answer, AnswerLines, Refusal};
@@ -40,16 +40,16 @@ impl Model for State {
 }
 
 impl State {
-    /// A new repository, no changes and no working copy.
-    pub(crate) fn new(alloc: Global) -> Result<State, CommitFault>
-        ensures { IfOk result (λ s. s ≡ new_state) }
+    /// A repository, no changes and no working copy.
+    pub(crate) fn on(alloc: Global, repo: Repo) -> State
+        ensures { result ≡ state_on repo }
     {
-        Ok(State {
+        State {
             alloc,
-            repo: Repo::new(alloc)?,
+            repo,
             pending: Vec::new(alloc),
             copy: None,
-        })
+        }
     }
 
     /// One more change for the next commit. AllocError where a growth is refused: the state is as it was.

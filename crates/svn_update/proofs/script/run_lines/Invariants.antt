@@ -1,7 +1,6 @@
 use Rattle.std.proofs.Common.{◌≡◌, ◌+◌, ◌++◌, ◌≤◌, List, ℕ, length}
 use Rattle.std.specs.Io.KnownBytes.{Appends}
 use Rattle.svn_script.specs.Reading.{lines_of}
-use Rattle.svn_update.specs.ScriptStates.{new_state}
 use Rattle.svn_update.specs.Scripts.{DoesLines}
 use Rattle.svn_update.proofs.script.run_lines.Given as goal
 
@@ -13,6 +12,6 @@ abbrev pub invariant-lines : goal.invariant-lines
 invariant-lines g l =
     (before : List (List ℕ)) × (text : List ℕ)
     × (lines_of l.script ≡ before ++ lines_of l.rest) × (l.number ≡ length before + 1)
-    × DoesLines l.host.settings before new_state l.state text
+    × DoesLines l.host.settings before l.initial.state l.state text
     × Appends (g.W.Write.contents l.initial.writer) (g.W.Write.contents l.writer) text
     × (l.number + length l.rest ≤ 16777217)
