@@ -18,7 +18,7 @@ lines-preserved g c =
       inv.1 ++ did.0,
       inv.2 ∙ ap (λ (ls : List (List ℕ)). inv.0 ++ ls) next ∙ sym (append_assoc inv.0 (line ∷ []) (lines_of after)),
       omega (arith, inv.3, length-append inv.0 (line ∷ [])),
-      one_more_line c.args.host.now.settings inv.0 line c.args.state.old c.lines.state c.run_line.new.state inv.1 did.0 inv.4 did.1,
+      one_more_line c.args.host.now.settings inv.0 line c.args.state.now c.lines.state c.run_line.new.state inv.1 did.0 inv.4 did.1,
       Appends-trans _ _ _ _ _ inv.5 did.2,
       omega (arith, inv.6, c.in-Some.ensures.shorter),
     )
@@ -52,7 +52,7 @@ returns-clause-ok g c =
     OnOk_then c.run_line-2.result c.run_line-2.ensures.ok
     (λ did. (
       inv.1 ++ did.0,
-      script_ends c.args.host.now.settings c.args.script.now inv.0 c.lines.rest.now c.args.state.old c.lines.state c.run_line-2.new.state inv.1 did.0 inv.2
+      script_ends c.args.host.now.settings c.args.script.now inv.0 c.lines.rest.now c.args.state.now c.lines.state c.run_line-2.new.state inv.1 did.0 inv.2
           c.in_default-split_once.ensures.parts inv.4 did.1,
       Appends-trans _ _ _ _ _ inv.5 did.2,
     ))
