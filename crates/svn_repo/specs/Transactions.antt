@@ -1,27 +1,36 @@
 -- A transaction: a repository whose next revision is being made, change by change.
---     begun h      nothing is changed yet
---     with_change o change      the same with one change more
-use Rattle.std.specs.Prelude.{◌≡◌, ℕ, ◌-◌, ◌≤◌, List, [], length, take, slice_get, Option, Some, None}
+--     pending_of o      the tree that the changes so far have made, and the next line
+--     IsBegun h o      nothing is changed yet
+--     IsChanged o change o'      one change more is made
+use Rattle.std.specs.Prelude.{◌≡◌, ℕ, ◌-◌, ◌≤◌, List, [], length, take, map, slice_get, Option, Some, None}
 use Rattle.svn_types.specs.declared.kind.Kind.{Kind}
 use Rattle.svn_types.specs.declared.kind.Kind.TheVariants.{File, Directory}
 use Rattle.svn_repo.specs.declared.change.Change.{Change}
 use Rattle.svn_repo.specs.declared.store.Node.{Node}
-use Rattle.svn_repo.specs.History.{History}
-use Rattle.svn_repo.specs.Stored.{IsStored}
-use Rattle.svn_repo.specs.Trees.{Place}
+use Rattle.svn_repo.specs.History.{NodeRow, History}
+use Rattle.svn_repo.specs.Stored.{row_of, IsStored}
+use Rattle.svn_repo.specs.Trees.{Place, tree_below}
 use Rattle.svn_repo.specs.Drafts.{past_in}
-use Rattle.svn_repo.specs.Changes.{Pending, AllMade, latest_pending, after_change, pending_in}
+use Rattle.svn_repo.specs.Changes.{Pending, AllMade, latest_pending, after_change}
 
--- the revisions so far, and the one that is being made over the last of them
+-- the revisions so far, and a draft of the next one: the nodes, of which those of the revisions are the first, its root, and the next line
 pub record OpenRevision : Type 0 where
   pub history : History
-  pub pending : Pending
+  pub nodes : List NodeRow
+  pub root : ℕ
+  pub lines : ℕ
 
-abbrev pub begun : History → OpenRevision
-begun h = record { history = h; pending = latest_pending h }
+-- the tree that the changes so far have made, and the next line
+abbrev pub pending_of : OpenRevision → Pending
+pending_of o = record { tree = tree_below (λ n. slice_get o.nodes n) (length o.history.nodes) o.root; lines = o.lines }
 
-abbrev pub with_change : OpenRevision → Change → OpenRevision
-with_change o change = record { history = o.history; pending = after_change o.history o.pending change }
+-- nothing is changed yet
+abbrev pub IsBegun : History → OpenRevision → Type 0
+IsBegun h o = (o.history ≡ h) × (pending_of o ≡ latest_pending h)
+
+-- one change more is made
+abbrev pub IsChanged : OpenRevision → Change → OpenRevision → Type 0
+IsChanged o change o' = (o'.history ≡ o.history) × (pending_of o' ≡ after_change o.history (pending_of o) change)
 
 -- ---- what the look-ups answer
 
@@ -41,7 +50,12 @@ text_or_empty (Some p) = p.text
 -- ---- what is stored
 
 abbrev pub open_in : ℕ → List ℕ → List Node → ℕ → ℕ → ℕ → OpenRevision
-open_in base roots nodes lines root next = record { history = past_in base roots nodes lines; pending = pending_in base nodes root next }
+open_in base roots nodes lines root next = record {
+  history = past_in base roots nodes lines;
+  nodes = map row_of nodes;
+  root = root;
+  lines = next;
+}
 
 -- the nodes before the base are a repository's, and the others are those of a draft on which some changes were made
 pub record IsOpen (base : ℕ) (roots : List ℕ) (nodes : List Node) (lines root next : ℕ) (heights : List ℕ) : Type 0 where

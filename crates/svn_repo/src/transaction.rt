@@ -2,7 +2,7 @@
 ghost use Rattle.std.specs.Prelude.{◌≡◌, ◌≢◌, ℕ, ◌+◌, ◌-◌, ◌≤◌, ◌⊎◌, length, take, slice_get, Some, None, [], IfOk, IfErr, IfNone, IfSome, OnOk, OnErr, option_map, option_and_then};
 ghost use Rattle.std.specs.Option.{option_copied};
 ghost use Rattle.svn_repo.specs.Changes.{IsRevision, change_fault};
-ghost use Rattle.svn_repo.specs.Transactions.{begun, with_change, file_text, text_or_empty};
+ghost use Rattle.svn_repo.specs.Transactions.{IsBegun, IsChanged, pending_of, file_text, text_or_empty};
 
 use crate::change::{Change, CommitFault};
 use crate::commit::{examine, last_root, make, push_root};
@@ -52,7 +52,7 @@ fn give_up(stored: &mut Stored, base: usize, lines: u64) -> Draft
 impl Repo {
     /// Begins a revision on the last one. It takes no memory.
     pub fn begin(self) -> Transaction
-        ensures { result ≡ begun self.now }
+        ensures { IsBegun self.now result }
     {
         let Repo { stored, lines } = self;
         let base = stored.nodes.len();
@@ -69,14 +69,14 @@ impl Transaction {
     /// Makes a change, after those made so far. One that can't be made is refused and leaves all as it was. Out of memory, all
     /// changes so far are given up. It costs what the change costs in [`Repo::commit`].
     pub fn change(&mut self, change: &Change) -> Result<(), CommitFault>
-        ensures made { OnOk result (change_fault self.old.history self.old.pending change.now ≡ None) }
-        ensures ok { OnOk result (self.new ≡ with_change self.old change.now) }
-        ensures fault { IfErr result (λ e. (e ≡ CommitFault.Memory) ⊎ (change_fault self.old.history self.old.pending change.now ≡ Some e)) }
+        ensures made { OnOk result (change_fault self.old.history (pending_of self.old) change.now ≡ None) }
+        ensures ok { OnOk result (IsChanged self.old change.now self.new) }
+        ensures fault { IfErr result (λ e. (e ≡ CommitFault.Memory) ⊎ (change_fault self.old.history (pending_of self.old) change.now ≡ Some e)) }
         // out of memory comes last: where the change can't be made, its fault is returned
-        ensures memory { IfErr result (λ e. e ≡ CommitFault.Memory → change_fault self.old.history self.old.pending change.now ≡ None) }
+        ensures memory { IfErr result (λ e. e ≡ CommitFault.Memory → change_fault self.old.history (pending_of self.old) change.now ≡ None) }
         ensures never_full { IfErr result (λ e. e ≢ CommitFault.Full) }
         ensures unchanged { IfErr result (λ e. e ≢ CommitFault.Memory → self.new ≡ self.old) }
-        ensures given_up { IfErr result (λ e. e ≡ CommitFault.Memory → self.new ≡ begun self.old.history) }
+        ensures given_up { IfErr result (λ e. e ≡ CommitFault.Memory → IsBegun self.old.history self.new) }
     {
         let past = Past {
             roots: &self.stored.roots,
@@ -101,7 +101,7 @@ impl Transaction {
     /// Whether a file or a directory is at a path; None where nothing is. It costs the length of the path times the logarithm of the
     /// entries, as the other look-ups, and like them takes no memory.
     pub fn kind(&self, path: &RelPath) -> Option<Kind>
-        ensures { result ≡ option_map (λ p. p.kind) (self.now.pending.tree path.now) }
+        ensures { result ≡ option_map (λ p. p.kind) ((pending_of self.now).tree path.now) }
     {
         let at = node_below(&self.stored.nodes, self.draft.root, path.components());
         kind_at(&self.stored.nodes, at)
@@ -109,10 +109,10 @@ impl Transaction {
 
     /// The text of the file at a path, as it is stored: its clones share its bytes. None at a directory, and where nothing is.
     pub fn text(&self, path: &RelPath) -> Option<&Text>
-        ensures value { option_copied result ≡ option_and_then file_text (self.now.pending.tree path.now) }
+        ensures value { option_copied result ≡ option_and_then file_text ((pending_of self.now).tree path.now) }
         // where no file is, there is no text
-        ensures no_text { IfNone result (text_or_empty (self.now.pending.tree path.now) ≡ []) }
-        ensures text { IfSome result (λ text. text.now ≡ text_or_empty (self.now.pending.tree path.now)) }
+        ensures no_text { IfNone result (text_or_empty ((pending_of self.now).tree path.now) ≡ []) }
+        ensures text { IfSome result (λ text. text.now ≡ text_or_empty ((pending_of self.now).tree path.now)) }
     {
         let id = node_below(&self.stored.nodes, self.draft.root, path.components())?;
         let node = self.stored.nodes.get(id.index)?;
@@ -124,7 +124,7 @@ impl Transaction {
 
     /// The properties of the node at a path; None where nothing is.
     pub fn props(&self, path: &RelPath) -> Option<&Props>
-        ensures { option_copied result ≡ option_map (λ p. p.props) (self.now.pending.tree path.now) }
+        ensures { option_copied result ≡ option_map (λ p. p.props) ((pending_of self.now).tree path.now) }
     {
         let id = node_below(&self.stored.nodes, self.draft.root, path.components())?;
         let node = self.stored.nodes.get(id.index)?;
@@ -142,8 +142,8 @@ impl Transaction {
     /// it was. No changes make a revision with the same root node. It costs what the nodes cost that the changes made.
     pub fn commit(&mut self) -> Result<Rev, CommitFault>
         ensures ok { IfOk result (λ r. r ≡ length self.old.history.roots) }
-        ensures revision { OnOk result (IsRevision self.old.history self.new.history self.old.pending) }
-        ensures begun { OnOk result (self.new ≡ begun self.new.history) }
+        ensures revision { OnOk result (IsRevision self.old.history self.new.history (pending_of self.old)) }
+        ensures begun { OnOk result (IsBegun self.new.history self.new) }
         ensures fault { IfErr result (λ e. e ≡ CommitFault.Memory) }
         ensures unchanged { OnErr result (self.new ≡ self.old) }
     {
@@ -164,9 +164,10 @@ impl Transaction {
 
     /// Gives the changes so far up, and begins again on the last revision. It takes no memory.
     pub fn abort(&mut self)
-        ensures { self.new ≡ begun self.old.history }
+        ensures { IsBegun self.old.history self.new }
     {
-        self.draft = give_up(&mut self.stored, self.draft.base, self.lines);
+        let base = self.draft.base;
+        self.draft = give_up(&mut self.stored, base, self.lines);
     }
 
     /// The repository. Changes that aren't committed are given up. It takes no memory.
