@@ -1,8 +1,9 @@
 -- A transaction: how it begins, what one change more makes of it, and how it becomes one more revision.
-use Rattle.std.proofs.Common.{◌≡◌, ℕ, ◌-◌, ◌<◌, ◌≤◌, List, [], ◌∷◌, ◌++◌, length, take, map, refl, arith}
+use Rattle.std.proofs.Common.{◌≡◌, ℕ, ◌-◌, ◌<◌, ◌≤◌, cond, List, [], ◌∷◌, ◌++◌, length, take, map, refl, arith}
 use Rattle.std.proofs.Common.{Option, Some, None, subst, sym, ap, ◌∙◌, length-append, length-take-le, take_all}
+use Rattle.std.specs.Prelude.{nat_lt}
 use Rattle.std.specs.List.{slice_get}
-use Rattle.std.specs.Option.{option_or}
+use Rattle.std.specs.Option.{option_and_then, option_map, option_or}
 use Rattle.std.proofs.lemmas.List.{length-map}
 use Rattle.std.proofs.lemmas.Option.{slice_get_within}
 use Rattle.svn_lists.proofs.Options.{option_or_none, option_or_next}
@@ -10,14 +11,15 @@ use Rattle.svn_lists.proofs.Places.{take_from_places, slice_get-take, slice_get_
 use Rattle.svn_repo.specs.declared.store.Node.{Node}
 use Rattle.svn_repo.specs.declared.change.Change.{Change}
 use Rattle.svn_repo.specs.declared.change.CommitFault.{CommitFault}
-use Rattle.svn_repo.specs.History.{History, Nodes}
+use Rattle.svn_types.specs.Names.{Path}
+use Rattle.svn_repo.specs.History.{History, Nodes, walk}
 use Rattle.svn_repo.specs.Stored.{row_of, rows, history_of, IsHeight, IsStored, AreHeights}
 use Rattle.svn_repo.specs.Heights.{IsOrdered}
-use Rattle.svn_repo.specs.Trees.{tree_below}
-use Rattle.svn_repo.specs.Drafts.{IsDraft, KeepsOld, AreRootsBelow, IsPast, past_in}
+use Rattle.svn_repo.specs.Trees.{place_of, place_at, tree_below}
+use Rattle.svn_repo.specs.Drafts.{IsDraft, KeepsOld, AreRootsBelow, IsPast, past_in, tree_in}
 use Rattle.svn_repo.specs.Changes.{Pending, pending_in, change_fault, changes_fault, after_change, after_changes}
 use Rattle.svn_repo.specs.Changes.{IsMade, AllMade, IsRevision}
-use Rattle.svn_repo.specs.Transactions.{IsOpen, IsBegun, IsChanged, open_in, pending_of}
+use Rattle.svn_repo.specs.Transactions.{OpenRevision, IsOpen, IsBegun, IsChanged, open_in, pending_of}
 use Rattle.svn_repo.proofs.OldRevisions.{nodes_are, past_kept}
 use Rattle.svn_repo.proofs.Tallest.{draft_ordered, heights_kept}
 use Rattle.svn_repo.proofs.Commits.{start_draft, start_past, start_pending, roots_below, still_sound, is_revision, pending}
@@ -118,14 +120,37 @@ module _ (base : ℕ) (roots : List ℕ) (nodes : List Node) (lines root next : 
   roots_old = subst (λ (b : ℕ). AreRootsBelow b roots) size
       (roots_below roots (take base nodes) lines o.from o.stored.repository o.last)
 
+  -- a fault of the nodes, each read through what holds them, is that of the transaction
+  fault_here : (tops hs : List ℕ) (ns : List Node) → tops ≡ roots → hs ≡ heights → ns ≡ nodes → (l : ℕ) (change : Change)
+      → change_fault (past_in (length hs) tops ns l) (pending_in (length hs) ns root next) change ≡ change_fault
+      (past_in base roots nodes l) (pending_in base nodes root next) change
+  fault_here tops hs ns tops_are hs_are ns_are l change =
+      ap (λ (r : List ℕ). change_fault (past_in (length hs) r ns l) (pending_in (length hs) ns root next) change) tops_are
+      ∙ ap (λ (v : List Node). change_fault (past_in (length hs) roots v l) (pending_in (length hs) v root next) change) ns_are
+      ∙ ap (λ (b : ℕ). change_fault (past_in b roots nodes l) (pending_in b nodes root next) change) (ap length hs_are ∙ height_count)
+
+  module _ (tops hs : List ℕ) (ns : List Node) (tops_are : tops ≡ roots) (hs_are : hs ≡ heights) (ns_are : ns ≡ nodes) (change : Change)
+      (found : Option CommitFault) (told : (l s : ℕ) → found ≡ change_fault (past_in (length hs) tops ns l)
+      (pending_in (length hs) ns root s) change) where
+    pub fault_told : (v : OpenRevision) → open_in base roots nodes lines root next ≡ v
+        → found ≡ change_fault v.history (pending_of v) change
+    fault_told v seen =
+        told lines next ∙ fault_here tops hs ns tops_are hs_are ns_are lines change
+        ∙ ap (λ (s : Pending). change_fault (past_in base roots nodes lines) s change)
+        (sym (pending_is base roots nodes lines root next o.inside))
+        ∙ ap (λ (w : OpenRevision). change_fault w.history (pending_of w) change) seen
+
+    pub can_be_made : found ≡ None → (l : ℕ) → change_fault (past_in base roots nodes l) (pending_in base nodes root next) change ≡ None
+    can_be_made none l = sym (told l next ∙ fault_here tops hs ns tops_are hs_are ns_are l change) ∙ none
+
   -- one change more
   module _ (new : List Node) (to after : ℕ) (change : Change) (stays : KeepsOld base nodes new)
       (can : (l : ℕ) → change_fault (past_in base roots nodes l) (pending_in base nodes root next) change ≡ None)
       (step : IsMade base roots nodes new root next to after change) where
-    h : History
+    abbrev h : History
     h = history_of roots (take base nodes) lines
 
-    first : Pending
+    abbrev first : Pending
     first = pending_in (length (take base nodes)) (take base nodes) o.from lines
 
     same_old : take base new ≡ take base nodes
@@ -209,13 +234,49 @@ module _ (base : ℕ) (roots : List ℕ) (nodes : List Node) (lines root next : 
     next_last = subst (λ (r : List ℕ). slice_get r (length r - 1) ≡ Some root) (sym pushed)
         (slice_get_push_at roots root (length (roots ++ root ∷ []) - 1) (omega (arith, length-append roots (root ∷ []))))
 
-    pub next_revision : IsRevision (past_in base roots nodes lines) (history_of roots' nodes next)
-        (pending_of (open_in base roots nodes lines root next))
-    next_revision =
-        let R : List ℕ → Pending → Type 0 = λ r s. IsRevision (past_in base roots nodes lines) (history_of r nodes next) s in
-        let by_changes = is_revision roots (take base nodes) nodes lines next o.from root o.changes o.stored.repository o.last o.made kept in
-        let by_draft = subst (R (roots ++ root ∷ [])) (sym (pending roots (take base nodes) nodes lines next o.from root o.changes
-        o.stored.repository o.last o.made kept)) by_changes in
-        subst (λ (r : List ℕ). R r (pending_of (open_in base roots nodes lines root next))) (sym pushed)
-        (subst (R (roots ++ root ∷ [])) (sym (pending_is base roots nodes lines root next o.inside))
-        (subst (λ (b : ℕ). R (roots ++ root ∷ []) (pending_in b nodes root next)) size by_draft))
+    module _ (count : ℕ) (count_is : count ≡ length nodes) where
+      pub is_next_open : IsOpen count roots' nodes next root next heights'
+      is_next_open = is_begun_open roots' nodes next heights' root next_stored next_last count count_is
+
+      next_history : history_of roots' nodes next ≡ past_in count roots' nodes next
+      next_history = ap (λ (v : List Node). history_of roots' v next) (sym (take_all count nodes (omega arith)))
+
+      pub is_next : IsBegun (past_in count roots' nodes next) (open_in count roots' nodes next root next)
+      is_next = subst (λ (g : History). IsBegun g (open_in count roots' nodes next root next)) next_history
+          (is_begun roots' nodes next heights' root next_stored next_last count count_is)
+
+      pub next_revision : IsRevision (past_in base roots nodes lines) (past_in count roots' nodes next)
+          (pending_of (open_in base roots nodes lines root next))
+      next_revision =
+          let R : List ℕ → Pending → Type 0 = λ r s. IsRevision (past_in base roots nodes lines) (history_of r nodes next) s in
+          let by_changes = is_revision roots (take base nodes) nodes lines next o.from root o.changes o.stored.repository o.last o.made
+          kept in
+          let by_draft = subst (R (roots ++ root ∷ [])) (sym (pending roots (take base nodes) nodes lines next o.from root o.changes
+          o.stored.repository o.last o.made kept)) by_changes in
+          let seen : R (roots ++ root ∷ []) (pending_of (open_in base roots nodes lines root next)) =
+          subst (R (roots ++ root ∷ [])) (sym (pending_is base roots nodes lines root next o.inside))
+          (subst (λ (b : ℕ). R (roots ++ root ∷ []) (pending_in b nodes root next)) size by_draft) in
+          subst (λ (g : History). IsRevision (past_in base roots nodes lines) g (pending_of (open_in base roots nodes lines root next)))
+          next_history (subst (λ (r : List ℕ). R r (pending_of (open_in base roots nodes lines root next))) (sym pushed) seen)
+
+-- ---- what the look-ups find
+
+module _ (base : ℕ) (roots : List ℕ) (nodes : List Node) (lines root next : ℕ) (inside : base ≤ length nodes) (q : Path) where
+  tree_is : (pending_of (open_in base roots nodes lines root next)).tree q ≡ tree_in base nodes root q
+  tree_is = ap (λ (s : Pending). s.tree q) (pending_is base roots nodes lines root next inside)
+
+  pub no_node_at : None ≡ walk (rows nodes) root q → (pending_of (open_in base roots nodes lines root next)).tree q ≡ None
+  no_node_at e = tree_is ∙ ap (option_and_then (place_at (rows nodes) base)) (sym e)
+
+  module _ (n : ℕ) (found : Some n ≡ walk (rows nodes) root q) where
+    pub place_is : (node : Node) → slice_get nodes n ≡ Some node
+        → (number : Option ℕ) × ((pending_of (open_in base roots nodes lines root next)).tree q ≡ Some (place_of number (row_of node)))
+    place_is node e = (
+      cond (nat_lt n base) (Some n) None,
+      tree_is ∙ ap (option_and_then (place_at (rows nodes) base)) (sym found)
+          ∙ ap (λ o. option_map (place_of (cond (nat_lt n base) (Some n) None)) (option_map row_of o)) e,
+    )
+
+    pub no_place_at : slice_get nodes n ≡ None → (pending_of (open_in base roots nodes lines root next)).tree q ≡ None
+    no_place_at e = tree_is ∙ ap (option_and_then (place_at (rows nodes) base)) (sym found)
+        ∙ ap (λ o. option_map (place_of (cond (nat_lt n base) (Some n) None)) (option_map row_of o)) e

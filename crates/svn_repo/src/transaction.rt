@@ -1,13 +1,15 @@
 //! A revision that is made change by change, with look-ups in between.
-ghost use Rattle.std.specs.Prelude.{◌≡◌, ◌≢◌, ℕ, ◌+◌, ◌-◌, ◌≤◌, ◌⊎◌, length, take, slice_get, Some, None, [], IfOk, IfErr, IfNone, IfSome, OnOk, OnErr, option_map, option_and_then};
+ghost use Rattle.std.specs.Prelude.{◌≡◌, ◌≢◌, ℕ, ◌+◌, ◌-◌, ◌≤◌, ◌⊎◌, length, take, slice_get, Some, None, [], IfOk, IfErr, Option, IfNone, IfSome, OnOk, OnErr, option_map, option_and_then};
 ghost use Rattle.std.specs.Option.{option_copied};
 ghost use Rattle.svn_repo.specs.Changes.{IsRevision, change_fault};
+ghost use Rattle.svn_repo.specs.Stored.{row_of};
+ghost use Rattle.svn_repo.specs.Trees.{place_of};
 ghost use Rattle.svn_repo.specs.Transactions.{IsBegun, IsChanged, pending_of, file_text, text_or_empty};
 
 use crate::change::{Change, CommitFault};
 use crate::commit::{examine, last_root, make, push_root};
 use crate::repo::Repo;
-use crate::store::{Content, Draft, Past, Stored, kind_at, node_below};
+use crate::store::{Content, Draft, Node, Past, Stored, node_below};
 use std::marker::Model;
 use svn_types::{Kind, Props, RelPath, Rev, Text};
 
@@ -52,7 +54,7 @@ fn give_up(stored: &mut Stored, base: usize, lines: u64) -> Draft
 impl Repo {
     /// Begins a revision on the last one. It takes no memory.
     pub fn begin(self) -> Transaction
-        ensures { IsBegun self.now result }
+        ensures { IsBegun self result }
     {
         let Repo { stored, lines } = self;
         let base = stored.nodes.len();
@@ -98,13 +100,23 @@ impl Transaction {
         }
     }
 
+    // The node at a path of the draft.
+    fn node(&self, path: &RelPath) -> Option<&Node>
+        ensures none { IfNone result ((pending_of self.now).tree path.now ≡ None) }
+        ensures some { IfSome result (λ node. (number : Option ℕ) × ((pending_of self.now).tree path.now ≡ Some (place_of number (row_of node.now)))) }
+    {
+        let id = node_below(&self.stored.nodes, self.draft.root, path.components())?;
+        let node = self.stored.nodes.get(id.index)?;
+        Some(node)
+    }
+
     /// Whether a file or a directory is at a path; None where nothing is. It costs the length of the path times the logarithm of the
     /// entries, as the other look-ups, and like them takes no memory.
     pub fn kind(&self, path: &RelPath) -> Option<Kind>
         ensures { result ≡ option_map (λ p. p.kind) ((pending_of self.now).tree path.now) }
     {
-        let at = node_below(&self.stored.nodes, self.draft.root, path.components());
-        kind_at(&self.stored.nodes, at)
+        let node = self.node(path)?;
+        Some(node.kind())
     }
 
     /// The text of the file at a path, as it is stored: its clones share its bytes. None at a directory, and where nothing is.
@@ -114,8 +126,7 @@ impl Transaction {
         ensures no_text { IfNone result (text_or_empty ((pending_of self.now).tree path.now) ≡ []) }
         ensures text { IfSome result (λ text. text.now ≡ text_or_empty ((pending_of self.now).tree path.now)) }
     {
-        let id = node_below(&self.stored.nodes, self.draft.root, path.components())?;
-        let node = self.stored.nodes.get(id.index)?;
+        let node = self.node(path)?;
         match &node.content {
             Content::Text(text) => Some(text),
             Content::Listing(_) => None,
@@ -126,8 +137,7 @@ impl Transaction {
     pub fn props(&self, path: &RelPath) -> Option<&Props>
         ensures { option_copied result ≡ option_map (λ p. p.props) ((pending_of self.now).tree path.now) }
     {
-        let id = node_below(&self.stored.nodes, self.draft.root, path.components())?;
-        let node = self.stored.nodes.get(id.index)?;
+        let node = self.node(path)?;
         Some(&node.props)
     }
 
@@ -172,7 +182,7 @@ impl Transaction {
 
     /// The repository. Changes that aren't committed are given up. It takes no memory.
     pub fn into_repo(self) -> Repo
-        ensures { result ≡ self.now.history }
+        ensures { result ≡ self.history }
     {
         let Transaction {
             mut stored,
