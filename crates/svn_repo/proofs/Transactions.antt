@@ -1,13 +1,13 @@
 -- A transaction: how it begins, what one change more makes of it, and how it becomes one more revision.
 use Rattle.std.proofs.Common.{◌≡◌, ℕ, ◌-◌, ◌<◌, ◌≤◌, cond, List, [], ◌∷◌, ◌++◌, length, take, map, refl, arith}
-use Rattle.std.proofs.Common.{Option, Some, None, subst, sym, ap, ◌∙◌, length-append, length-take-le, take_all}
+use Rattle.std.proofs.Common.{Option, Some, None, subst, sym, ap, ◌∙◌, length-take-le, take_all}
 use Rattle.std.specs.Prelude.{nat_lt}
 use Rattle.std.specs.List.{slice_get}
 use Rattle.std.specs.Option.{option_and_then, option_map, option_or}
 use Rattle.std.proofs.lemmas.List.{length-map}
 use Rattle.std.proofs.lemmas.Option.{slice_get_within}
 use Rattle.svn_lists.proofs.Options.{option_or_none, option_or_next}
-use Rattle.svn_lists.proofs.Places.{take_from_places, slice_get-take, slice_get_push_at}
+use Rattle.svn_lists.proofs.Places.{take_from_places, slice_get-take, slice_get-last}
 use Rattle.svn_repo.specs.declared.store.Node.{Node}
 use Rattle.svn_repo.specs.declared.change.Change.{Change}
 use Rattle.svn_repo.specs.declared.change.CommitFault.{CommitFault}
@@ -232,7 +232,7 @@ module _ (base : ℕ) (roots : List ℕ) (nodes : List Node) (lines root next : 
 
     pub next_last : slice_get roots' (length roots' - 1) ≡ Some root
     next_last = subst (λ (r : List ℕ). slice_get r (length r - 1) ≡ Some root) (sym pushed)
-        (slice_get_push_at roots root (length (roots ++ root ∷ []) - 1) (omega (arith, length-append roots (root ∷ []))))
+        (slice_get-last roots root)
 
     module _ (count : ℕ) (count_is : count ≡ length nodes) where
       pub is_next_open : IsOpen count roots' nodes next root next heights'
