@@ -103,7 +103,7 @@ module _ (roots : List ℕ) (old new : List Node) (lines next : ℕ) (from root 
   pub no_fault : commit_fault (history_of roots old lines) changes ≡ None
   no_fault = ap (λ s. changes_fault (history_of roots old lines) s changes) (start_pending roots old lines from sound last) ∙ made.no_fault
 
-  pending : pending_in (length old) new root next ≡ after_changes (history_of roots old lines)
+  pub pending : pending_in (length old) new root next ≡ after_changes (history_of roots old lines)
       (latest_pending (history_of roots old lines)) changes
   pending = made.pending ∙ sym (ap (λ s. after_changes (history_of roots old lines) s changes)
       (start_pending roots old lines from sound last))

@@ -37,6 +37,8 @@ pub mod Lawful
 pub mod UnansweredFaults
 -- A draft on which all changes were made is one more revision.
 pub mod Commits
+-- A transaction: how it begins, what one change more makes of it, and how it becomes one more revision.
+pub mod Transactions
 -- The laws of commits, from their definition.
 pub mod Meanings
 -- What no change removes stands on, and keeps its line: the law of lines.

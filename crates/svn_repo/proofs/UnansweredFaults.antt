@@ -75,7 +75,7 @@ copy_other h t rev source p =
     (or_other (fault_if (is_some (t p)) Exists) _ (if_other (is_some (t p)) Exists (λ q. cc, λ q. cc))
     (copy_depth_other (node_at h) (look h rev source) p))))
 
-change_other : (h : History) (s : Pending) (c : Change) → IsOther (change_fault h s c)
+pub change_other : (h : History) (s : Pending) (c : Change) → IsOther (change_fault h s c)
 change_other h s (MakeDir p) =
     or_other (root_fault p) _ (root_other p) (or_other (above_fault s.tree p) _ (above_other s.tree p)
     (or_other (fault_if (is_some (s.tree p)) Exists) _ (if_other (is_some (s.tree p)) Exists (λ q. cc, λ q. cc)) (depth_other p)))

@@ -7,3 +7,4 @@ pub mod Drafts
 pub mod Changes
 pub mod Readings
 pub mod Laws
+pub mod Transactions

@@ -5,7 +5,8 @@ ghost use Rattle.std.specs.Result.{result_err};
 ghost use Rattle.svn_repo.specs.History.{History, child_in};
 ghost use Rattle.svn_types.specs.Paths.{parent};
 ghost use Rattle.svn_repo.specs.Drafts.{IsFound, IsNear, IsClosedIn, IsDraft, IsListing, IsGrafted, KeepsOld, AreRootsBelow, IsPast, look_in, old_part, past_in, tree_in};
-ghost use Rattle.svn_repo.specs.Stored.{rows, row_of, entries_of, history_of, IsStored};
+ghost use Rattle.svn_repo.specs.Stored.{rows, row_of, entries_of, history_of, AreHeights, IsHeight, IsStored};
+ghost use Rattle.svn_repo.specs.Heights.{IsOrdered};
 ghost use Rattle.svn_repo.specs.Trees.{leaf, nothing, place_at, place_of};
 ghost use Rattle.svn_repo.specs.Changes.{above_fault, change_fault, root_fault, pending_in, with_text, new_directory, IsMade, AllMade, AreRefused, IsRefused, IsExtended, PutsText};
 
@@ -135,8 +136,8 @@ fn source_of(nodes: &[Node], roots: &[NodeId], rev: Rev, names: &[Name]) -> Node
     lookup_in(nodes, roots, rev, names).unwrap()
 }
 
-// Makes a change on a draft.
-fn make(
+/// Makes a change on a draft.
+pub(crate) fn make(
     nodes: &mut Vec<Node>,
     roots: &[NodeId],
     draft: Draft,
@@ -182,8 +183,8 @@ fn make(
     }
 }
 
-// What is known to stand where a change works; or why it can't be made.
-fn examine(
+/// What is known to stand where a change works; or why it can't be made.
+pub(crate) fn examine(
     nodes: &[Node],
     past: &Past<'_>,
     root: NodeId,
@@ -229,12 +230,27 @@ fn make_all(
     Ok(draft)
 }
 
-// The root of the last revision.
-fn last_root(stored: &Stored) -> NodeId
+/// The root of the last revision.
+pub(crate) fn last_root(stored: &Stored) -> NodeId
     requires { 1 ≤ length stored.now.roots.items }
     ensures { slice_get stored.now.roots.items (length stored.now.roots.items - 1) ≡ Some result }
 {
     stored.roots[stored.roots.len() - 1]
+}
+
+/// Puts the root of a draft after the others, and adds the heights of its nodes. Out of memory, some heights may stay.
+pub(crate) fn push_root(stored: &mut Stored, root: NodeId) -> Result<(), AllocError>
+    requires ordered { IsOrdered stored.old.nodes.items (length stored.old.heights.items) }
+    requires known { (n k : ℕ) → slice_get stored.old.heights.items n ≡ Some k → IsHeight (rows stored.old.nodes.items) n k }
+    ensures roots { OnOk result (stored.new.roots.items ≡ stored.old.roots.items ++ root ∷ []) }
+    ensures heights { OnOk result (AreHeights stored.old.nodes.items stored.new.heights.items) }
+    ensures nodes_kept { stored.new.nodes.items ≡ stored.old.nodes.items }
+    ensures roots_kept { OnErr result (stored.new.roots.items ≡ stored.old.roots.items) }
+    ensures heights_kept { take (length stored.old.heights.items) stored.new.heights.items ≡ stored.old.heights.items }
+{
+    add_heights(&stored.nodes, &mut stored.heights)?;
+    stored.roots.push(root)?;
+    Ok(())
 }
 
 // Makes the changes in order on a draft over the last revision, puts its root behind the others, and answers the next line.
@@ -254,11 +270,8 @@ fn push_revision(stored: &mut Stored, lines: u64, changes: &[Change]) -> Result<
         heights: &stored.heights,
     };
     let made = make_all(&mut stored.nodes, &past, start, changes)?;
-    add_heights(&stored.nodes, &mut stored.heights)?;
-    match stored.roots.push(made.root) {
-        Ok(()) => Ok(made.lines),
-        Err(_) => Err(CommitFault::Memory),
-    }
+    push_root(stored, made.root)?;
+    Ok(made.lines)
 }
 
 /// Adds one more revision, the changes made in order on the last one, and answers the next line. A refusal leaves all as it was.

@@ -2,6 +2,7 @@
 //!
 //! A [`Repo`] takes lists of [`Change`]s as commits, and refuses one with a [`CommitFault`]. What stands at a path of a revision is a node,
 //! named by a [`NodeId`], which the readers take: `kind`, `text`, `props`, `entries` ([`Entries`]) and `line`.
+//! A [`Transaction`] makes a revision change by change, with look-ups in between.
 //!
 //! ```
 //! let mut repo = Repo::new(alloc)?;
@@ -29,9 +30,11 @@ mod near;
 mod refusal;
 mod repo;
 mod store;
+mod transaction;
 
 pub use change::{Change, CommitFault};
 pub use entries::{Entries, NodeId};
 pub use laws::{changes_keep_lines, copies_keep_nodes, revisions_stay, untouched_paths_keep_nodes};
 pub use repo::Repo;
 pub use svn_types::{Kind, Name, PathFault, PropName, Props, RelPath, Rev, Text};
+pub use transaction::Transaction;

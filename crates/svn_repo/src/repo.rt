@@ -20,9 +20,9 @@ use svn_types::{Kind, Props, RelPath, Rev, Text};
 /// didn't change: one node number is one node revision, wherever it stands. It is kept in memory. A contract sees it as its history.
 #[derive(Debug, Drop)]
 pub struct Repo {
-    stored: Stored,
+    pub(crate) stored: Stored,
     // The line of the next new node.
-    lines: u64,
+    pub(crate) lines: u64,
 }
 
 impl Model for Repo {

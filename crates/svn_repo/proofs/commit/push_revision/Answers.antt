@@ -35,51 +35,38 @@ returns-in_err-made-clause-fault c =
     IfErr_returned (λ e. e ≡ c.in_err-made.field-0.0) (IsRefused h c.args.changes.now) c.from_residual.result c.from_residual.ensures
     (λ e is. subst (IsRefused h c.args.changes.now) (sym is) refused)
 
-pub add_heights-requires-clause-ordered : goal.add_heights-requires-clause-ordered
-add_heights-requires-clause-ordered c =
+pub push_root-requires-clause-ordered : goal.push_root-requires-clause-ordered
+push_root-requires-clause-ordered c =
     let ordered : IsOrdered c.make_all.new.nodes.items (length c.args.stored.now.nodes.items) =
     draft_ordered (length c.args.stored.now.nodes.items) c.make_all.new.nodes.items c.in_ok-made.made.root c.in_ok-made.ensures.ok.draft in
-    rw (c.deref-3.ensures.value, c.requires.known.size) ordered
+    rw c.requires.known.size ordered
 
-pub add_heights-requires-clause-old : goal.add_heights-requires-clause-old
-add_heights-requires-clause-old c = λ n k e.
+pub push_root-requires-clause-known : goal.push_root-requires-clause-known
+push_root-requires-clause-known c = λ n k e.
     let known = c.requires.known in
     let below : n < length c.args.stored.now.heights.items = slice_get_within c.args.stored.now.heights.items n k e in
-    rw c.deref-3.ensures.value (heights_kept c.args.stored.now.nodes.items c.make_all.new.nodes.items c.args.stored.now.heights.items
-    c.in_ok-made.made.root known c.in_ok-made.ensures.ok.draft c.make_all.ensures.kept n k e (omega (arith, known.size)))
+    heights_kept c.args.stored.now.nodes.items c.make_all.new.nodes.items c.args.stored.now.heights.items
+    c.in_ok-made.made.root known c.in_ok-made.ensures.ok.draft c.make_all.ensures.kept n k e (omega (arith, known.size))
 
-pub returns-in-Ok-clause-ok : goal.returns-in-Ok-clause-ok
-returns-in-Ok-clause-ok c =
+pub returns-clause-ok : goal.returns-clause-ok
+returns-clause-ok c =
     let sound = c.requires.repository in
     let last = c.last_root-root.ensures in
     let kept = c.make_all.ensures.kept in
     let made = rw c.deref.ensures.value at c.in_ok-made.ensures.ok in
-    let known : AreHeights c.make_all.new.nodes.items c.add_heights.new.heights.items =
-    subst (λ (nodes : List Node). AreHeights nodes c.add_heights.new.heights.items) c.deref-3.ensures.value
-    c.in_ok-add_heights.ensures.ok in
-    rw c.in-Ok.ensures.items (
-      record { repository = still_sound _ _ _ _ _ _ _ _ sound last made kept; known = known },
+    rw (c.in_ok-push_root.ensures.roots, c.push_root.ensures.nodes_kept) (
+      record { repository = still_sound _ _ _ _ _ _ _ _ sound last made kept; known = c.in_ok-push_root.ensures.heights },
       (
         no_fault _ _ _ _ _ _ _ _ sound last made kept,
         is_revision _ _ _ _ _ _ _ _ sound last made kept,
       ),
     )
 
-pub returns-in_err-add_heights-clause-fault : goal.returns-in_err-add_heights-clause-fault
-returns-in_err-add_heights-clause-fault c =
+pub returns-in_err-push_root-clause-fault : goal.returns-in_err-push_root-clause-fault
+returns-in_err-push_root-clause-fault c =
     let made = rw c.deref.ensures.value at c.in_ok-made.ensures.ok in
     let h = history_of c.args.stored.now.roots.items c.args.stored.now.nodes.items c.args.lines in
     let can = first_of h (latest_pending h) c.args.changes.now (no_fault _ _ _ _ _ _ _ _ c.requires.repository c.last_root-root.ensures
     made c.make_all.ensures.kept) in
-    IfErr_returned (λ e. e ≡ Memory) (IsRefused h c.args.changes.now) c.from_residual-in_err-add_heights.result
-    c.from_residual-in_err-add_heights.ensures (λ e is. inl (is, can))
-
-pub returns-in-Err-clause-fault : goal.returns-in-Err-clause-fault
-returns-in-Err-clause-fault c =
-    let made = rw c.deref.ensures.value at c.in_ok-made.ensures.ok in
-    let h = history_of c.args.stored.now.roots.items c.args.stored.now.nodes.items c.args.lines in
-    inl (
-      refl,
-      first_of h (latest_pending h) c.args.changes.now (no_fault _ _ _ _ _ _ _ _ c.requires.repository c.last_root-root.ensures
-          made c.make_all.ensures.kept),
-    )
+    IfErr_returned (λ e. e ≡ Memory) (IsRefused h c.args.changes.now) c.from_residual-in_err-push_root.result
+    c.from_residual-in_err-push_root.ensures (λ e is. inl (is, can))
