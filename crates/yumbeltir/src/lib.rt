@@ -16,6 +16,7 @@
 //! | To do this | use that |
 //! |---|---|
 //! | commit revisions | [`Repo`], `commit` with [`Change`]s |
+//! | make a revision change by change, with look-ups in between | `Repo::begin`, [`Transaction`] |
 //! | read a revision | `Repo::lookup`, `kind`, `text`, `props`, `entries` |
 //! | check out a revision, place, switch, forget | [`WorkingCopy`] |
 //! | describe a run: the revision, an update or a switch, a limit on calls, texts last | [`Request`] |
@@ -58,7 +59,7 @@ pub use svn_link::{
 pub use svn_model::{BaseNode, DriveEnd, DriveFault, ReportFault, WcFault};
 pub use svn_name_map::Iter;
 pub use svn_order::OrderCheck;
-pub use svn_repo::{Change, CommitFault, Entries, NodeId, Repo};
+pub use svn_repo::{Change, CommitFault, Entries, NodeId, Repo, Transaction};
 pub use svn_report::{EntryLine, Report, ReportEntry, ReportIter, Reporter, ReporterFault};
 pub use svn_run::{
     Cause, Gate, Listener, NoGate, NoListener, Options, Outcome, RunFault, run, run_in_turn,
