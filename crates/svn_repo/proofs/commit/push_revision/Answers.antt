@@ -1,9 +1,8 @@
-use Rattle.std.proofs.Common.{◌≡◌, ℕ, ◌<◌, List, length, arith, refl, subst, sym, inl}
+use Rattle.std.proofs.Common.{◌≡◌, ◌<◌, length, arith, subst, sym, inl}
 use Rattle.std.proofs.lemmas.Option.{slice_get_within}
 use Rattle.svn_lists.proofs.Results.{IfErr_returned}
-use Rattle.svn_repo.specs.declared.store.Node.{Node}
 use Rattle.svn_repo.specs.declared.change.CommitFault.TheVariants.{Memory}
-use Rattle.svn_repo.specs.Stored.{history_of, AreHeights}
+use Rattle.svn_repo.specs.Stored.{history_of}
 use Rattle.svn_repo.specs.Heights.{IsOrdered}
 use Rattle.svn_repo.specs.Changes.{AreRefused, IsRefused, Pending, latest_pending, pending_in}
 use Rattle.svn_repo.proofs.Runs.{first_of}
