@@ -192,22 +192,19 @@ module _ (base : ℕ) (roots : List ℕ) (nodes : List Node) (lines root next : 
 
   -- the changes are given up
   module _ (new : List Node) (given_up : new ≡ take base nodes) where
-    pub old_size : base ≡ length new
-    old_size = sym size ∙ ap length (sym given_up)
-
-    pub old_stored : IsStored roots new lines heights
+    old_stored : IsStored roots new lines heights
     old_stored = subst (λ (v : List Node). IsStored roots v lines heights) (sym given_up) o.stored
 
-    pub old_history : history_of roots new lines ≡ past_in base roots nodes lines
+    old_history : history_of roots new lines ≡ past_in base roots nodes lines
     old_history = ap (λ (v : List Node). history_of roots v lines) given_up
 
-    pub is_aborted_open : (from : ℕ) → slice_get roots (length roots - 1) ≡ Some from → IsOpen base roots new lines from lines heights
-    is_aborted_open from last = is_begun_open roots new lines heights from old_stored last base old_size
+    module _ (count from : ℕ) (count_is : count ≡ length new) (last : slice_get roots (length roots - 1) ≡ Some from) where
+      pub is_aborted_open : IsOpen count roots new lines from lines heights
+      is_aborted_open = is_begun_open roots new lines heights from old_stored last count count_is
 
-    pub is_aborted : (from : ℕ) → slice_get roots (length roots - 1) ≡ Some from
-        → IsBegun (past_in base roots nodes lines) (open_in base roots new lines from lines)
-    is_aborted from last = subst (λ (h : History). IsBegun h (open_in base roots new lines from lines)) old_history
-        (is_begun roots new lines heights from old_stored last base old_size)
+      pub is_aborted : IsBegun (past_in base roots nodes lines) (open_in count roots new lines from lines)
+      is_aborted = subst (λ (g : History). IsBegun g (open_in count roots new lines from lines)) old_history
+          (is_begun roots new lines heights from old_stored last count count_is)
 
   -- what a change leaves that ran out of memory
   pub given_up : (mid new : List Node) → KeepsOld base nodes mid → new ≡ take base mid → new ≡ take base nodes

@@ -230,12 +230,16 @@ fn make_all(
     Ok(draft)
 }
 
-/// The root of the last revision.
-pub(crate) fn last_root(stored: &Stored) -> NodeId
+/// A draft over the last revision, on which no change is made yet.
+pub(crate) fn start_draft(stored: &Stored, lines: u64) -> Draft
     requires { 1 ≤ length stored.now.roots.items }
-    ensures { slice_get stored.now.roots.items (length stored.now.roots.items - 1) ≡ Some result }
+    ensures base { result.base ≡ length stored.now.nodes.items }
+    ensures root { slice_get stored.now.roots.items (length stored.now.roots.items - 1) ≡ Some result.root }
+    ensures lines { result.lines ≡ lines }
 {
-    stored.roots[stored.roots.len() - 1]
+    let base = stored.nodes.len();
+    let root = stored.roots[stored.roots.len() - 1];
+    Draft { base, root, lines }
 }
 
 /// Puts the root of a draft after the others, and adds the heights of its nodes. Out of memory, some heights may stay.
@@ -262,9 +266,7 @@ fn push_revision(stored: &mut Stored, lines: u64, changes: &[Change]) -> Result<
     ensures nodes_kept { OnErr result (KeepsOld (length stored.old.nodes.items) stored.old.nodes.items stored.new.nodes.items) }
     ensures heights_kept { OnErr result (take (length stored.old.nodes.items) stored.new.heights.items ≡ stored.old.heights.items) }
 {
-    let root = last_root(stored);
-    let base = stored.nodes.len();
-    let start = Draft { base, root, lines };
+    let start = start_draft(stored, lines);
     let past = Past {
         roots: &stored.roots,
         heights: &stored.heights,

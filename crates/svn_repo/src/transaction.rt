@@ -7,7 +7,7 @@ ghost use Rattle.svn_repo.specs.Trees.{place_of};
 ghost use Rattle.svn_repo.specs.Transactions.{IsBegun, IsChanged, pending_of, file_text, text_or_empty};
 
 use crate::change::{Change, CommitFault};
-use crate::commit::{examine, last_root, make, push_root};
+use crate::commit::{examine, make, push_root, start_draft};
 use crate::repo::Repo;
 use crate::store::{Content, Draft, Node, Past, Stored, node_below};
 use std::marker::Model;
@@ -36,19 +36,18 @@ impl Model for Transaction {
     ghost invariant = { λ t. IsOpen t.draft.base t.stored.roots.items t.stored.nodes.items t.lines t.draft.root t.draft.lines t.stored.heights.items };
 }
 
-// Takes the nodes of a draft away, and answers a draft without changes.
+// Gives up the changes made on a draft over so many nodes, and begins another.
 fn give_up(stored: &mut Stored, base: usize, lines: u64) -> Draft
     requires { 1 ≤ length stored.old.roots.items }
     ensures nodes { stored.new.nodes.items ≡ take base stored.old.nodes.items }
     ensures roots { stored.new.roots.items ≡ stored.old.roots.items }
     ensures heights { stored.new.heights.items ≡ stored.old.heights.items }
-    ensures base { result.base ≡ base }
+    ensures base { result.base ≡ length stored.new.nodes.items }
     ensures root { slice_get stored.old.roots.items (length stored.old.roots.items - 1) ≡ Some result.root }
     ensures lines { result.lines ≡ lines }
 {
     stored.nodes.truncate(base);
-    let root = last_root(stored);
-    Draft { base, root, lines }
+    start_draft(stored, lines)
 }
 
 impl Repo {
@@ -57,12 +56,11 @@ impl Repo {
         ensures { IsBegun self result }
     {
         let Repo { stored, lines } = self;
-        let base = stored.nodes.len();
-        let root = last_root(&stored);
+        let draft = start_draft(&stored, lines);
         Transaction {
             stored,
             lines,
-            draft: Draft { base, root, lines },
+            draft,
         }
     }
 }

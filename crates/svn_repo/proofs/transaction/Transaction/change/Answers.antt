@@ -70,10 +70,10 @@ pub invariant_of-self-in-Err-make : goal.invariant_of-self-in-Err-make
 invariant_of-self-in-Err-make c =
     let told = c.give_up-self-inside.ensures in
     let gone = given_up _ _ _ _ _ _ _ c.self.invariant c.make.new.nodes.items _ c.make.ensures.kept told.nodes in
-    rw (told.roots, told.heights, told.base, told.lines) (is_aborted_open _ _ _ _ _ _ _ c.self.invariant _ gone _ told.root)
+    rw (told.roots, told.heights, told.lines) (is_aborted_open _ _ _ _ _ _ _ c.self.invariant _ gone _ _ told.base told.root)
 
 pub returns-in-Err-make-clause-given_up : goal.returns-in-Err-make-clause-given_up
 returns-in-Err-make-clause-given_up c =
     let told = c.give_up-self-inside.ensures in
     let gone = given_up _ _ _ _ _ _ _ c.self.invariant c.make.new.nodes.items _ c.make.ensures.kept told.nodes in
-    λ e. rw (← c.self.view_is, told.roots, told.base, told.lines) (is_aborted _ _ _ _ _ _ _ c.self.invariant _ gone _ told.root)
+    λ e. rw (← c.self.view_is, told.roots, told.lines) (is_aborted _ _ _ _ _ _ _ c.self.invariant _ gone _ _ told.base told.root)
