@@ -1,0 +1,20 @@
+-- numbers
+pub mod NumberLemmas
+-- readers
+pub mod Streams
+pub mod Sequences
+pub mod Counting
+-- the headers of a record
+pub mod BlockLemmas
+-- property sections
+pub mod PropertyLemmas
+-- so many bytes
+pub mod Pieces
+-- headers with a type
+pub mod FieldLemmas
+-- a reader, made
+pub mod Openings
+-- records
+pub mod RecordLemmas
+-- what is written
+pub mod Appends

@@ -1,0 +1,12 @@
+pub mod Reading
+pub mod Numbers
+pub mod Blocks
+pub mod Counts
+pub mod Headers
+pub mod Fields
+pub mod Properties
+pub mod Shapes
+pub mod Sections
+pub mod Records
+pub mod Readers
+pub mod Written

@@ -1,0 +1,200 @@
+//! Bytes off a reader: one, a record's headers, or so many.
+ghost use Rattle.std.specs.Prelude.{ℕ, List, Option, false, ◌≡◌, ◌∷◌, [], ◌<◌, ◌≤◌, ◌^◌, ◌+◌, ◌-◌, length, take, IfOk, IfErr, min};
+ghost use Rattle.std.specs.Io.{ReadsAtMost};
+ghost use Rattle.std.specs.Io.Buffered.{reader_remaining};
+ghost use Rattle.std.specs.Io.KnownBytes.{Consumes, Keeps, IsAtEnd, ReadConsumes};
+ghost use Rattle.svn_dump.specs.Reading.{Reads};
+ghost use Rattle.svn_dump.specs.Counts.{Counts};
+ghost use Rattle.svn_dump.specs.Blocks.{byte_at, headers_at, block_at, bytes_at, with_front, is_space, is_line_feed, PieceRead};
+
+use crate::fault::{DumpFault, Reason};
+use std::alloc::Global;
+use std::io::{BufReader, Read, Result as IoResult};
+
+/// The most bytes that are read at a time.
+pub(crate) const PIECE: usize = 8192;
+
+/// A reader that counts the bytes that were taken from it, so that a contract can say where a record begins.
+pub(crate) trait Input {
+    // The bytes that reads will give from here on, where they are known.
+    ghost remaining: { Self → Option (List ℕ) };
+
+    // How many were taken so far.
+    ghost taken: { Self → ℕ };
+
+    /// As `Read::read`.
+    fn read(&mut self, buf: &mut [u8]) -> IoResult<usize>
+        ensures bound { ReadsAtMost result buf.new }
+        ensures bytes { ReadConsumes (remaining self.old) (remaining self.new) result buf.new }
+        ensures counted { Counts (taken self.old) (remaining self.old) (taken self.new) (remaining self.new) };
+}
+
+/// A reader with a buffer before it, which counts the bytes that were taken from it.
+#[derive(Drop)]
+pub(crate) struct Source<R> {
+    input: BufReader<R>,
+    taken: u64,
+}
+
+impl<R: Read + Drop> Source<R> {
+    pub(crate) fn new(alloc: Global, input: R) -> Result<Source<R>, DumpFault>
+        ensures bytes { IfOk result (λ s. reader_remaining R.remaining s.input ≡ R.remaining input) }
+        ensures none_taken { IfOk result (λ s. s.taken ≡ 0) }
+        ensures fault { IfErr result (λ e. e ≡ DumpFault.Memory) }
+    {
+        match BufReader::new(alloc, input) {
+            Ok(input) => Ok(Source { input, taken: 0 }),
+            Err(_) => Err(DumpFault::Memory),
+        }
+    }
+
+    /// How many bytes were taken so far.
+    pub(crate) fn taken(&self) -> u64
+        ensures { result ≡ self.now.taken }
+    {
+        self.taken
+    }
+}
+
+impl<R: Read> Input for Source<R> {
+    ghost remaining = { λ s. reader_remaining R.remaining s.input };
+
+    ghost taken = { λ s. s.taken };
+
+    fn read(&mut self, buf: &mut [u8]) -> IoResult<usize> {
+        let count = self.input.read(buf)?;
+        self.taken = self.taken.saturating_add(count as u64);
+        Ok(count)
+    }
+}
+
+// The next byte, if there is one.
+fn read_byte<S: Input>(source: &mut S) -> Result<Option<u8>, DumpFault>
+    ensures bytes { Reads (λ b. b) (S.remaining source.old) (S.remaining source.new) result byte_at }
+    ensures counted { Counts (S.taken source.old) (S.remaining source.old) (S.taken source.new) (S.remaining source.new) }
+{
+    let mut byte = [0u8; 1];
+    match source.read(&mut byte) {
+        Ok(0) => Ok(None),
+        Ok(_) => Ok(Some(byte[0])),
+        Err(_) => Err(DumpFault::Read),
+    }
+}
+
+// Whether a byte is white space to C's `isspace`.
+fn is_space(byte: u8) -> bool
+    ensures { result ≡ is_space byte }
+{
+    byte == b' ' || (9..=13).contains(&byte)
+}
+
+fn is_line_feed(byte: u8) -> bool
+    ensures { result ≡ is_line_feed byte }
+{
+    byte == b'\n'
+}
+
+// Reads the headers whose first byte was read: lines up to the first empty one, of which nothing is kept.
+fn read_headers<S: Input>(
+    alloc: Global,
+    source: &mut S,
+    first: u8,
+    room: usize,
+) -> Result<Vec<u8>, DumpFault>
+    ensures headers { Reads (λ v. v.items) (S.remaining source.old) (S.remaining source.new) result (λ bs. with_front (first ∷ []) (headers_at false room bs)) }
+    ensures counted { Counts (S.taken source.old) (S.remaining source.old) (S.taken source.new) (S.remaining source.new) }
+    ensures bounded { IfOk result (λ v. length v.items ≤ room + 1) }
+{
+    let mut block = Vec::new(alloc);
+    block.push(first)?;
+    let mut fresh = false;
+    let mut left = room;
+    'bytes: loop {
+        let byte = match read_byte(source) {
+            Ok(Some(byte)) => byte,
+            Ok(None) => return Err(DumpFault::Refused(Reason::CutOff)),
+            Err(fault) => return Err(fault),
+        };
+        if fresh && is_line_feed(byte) {
+            return Ok(block);
+        }
+        if left == 0 {
+            return Err(DumpFault::Refused(Reason::HeadersTooLong));
+        }
+        left -= 1;
+        block.push(byte)?;
+        fresh = is_line_feed(byte);
+    }
+}
+
+/// Reads the headers of the next record, each line with its line feed, after blank lines and lines that begin with white space; no bytes at the
+/// end of all. These lines and the headers have `room` bytes at most together.
+pub(crate) fn read_block<S: Input>(
+    alloc: Global,
+    source: &mut S,
+    room: usize,
+) -> Result<Vec<u8>, DumpFault>
+    ensures headers { Reads (λ v. v.items) (S.remaining source.old) (S.remaining source.new) result (block_at false room) }
+    ensures counted { Counts (S.taken source.old) (S.remaining source.old) (S.taken source.new) (S.remaining source.new) }
+    ensures bounded { IfOk result (λ v. length v.items ≤ room) }
+{
+    let mut blank = false;
+    let mut left = room;
+    'bytes: loop {
+        let byte = match read_byte(source) {
+            Ok(Some(byte)) => byte,
+            Ok(None) => return Ok(Vec::new(alloc)),
+            Err(fault) => return Err(fault),
+        };
+        if left == 0 {
+            return Err(DumpFault::Refused(Reason::HeadersTooLong));
+        }
+        left -= 1;
+        if !blank && !is_space(byte) {
+            return read_headers(alloc, source, byte, left);
+        }
+        blank = !is_line_feed(byte);
+    }
+}
+
+/// Reads at least one byte and at most `left`, which isn't 0, into the front of a piece, and returns how many.
+pub(crate) fn read_piece<S: Input>(
+    source: &mut S,
+    piece: &mut [u8; PIECE],
+    left: u64,
+) -> Result<usize, DumpFault>
+    requires { 0 < left }
+    ensures count { IfOk result (λ n. (0 < n) × (n ≤ left) × (n ≤ length piece.new)) }
+    ensures bytes { PieceRead (S.remaining source.old) (S.remaining source.new) result piece.new }
+    ensures counted { Counts (S.taken source.old) (S.remaining source.old) (S.taken source.new) (S.remaining source.new) }
+{
+    let room = if left < PIECE as u64 {
+        left as usize
+    } else {
+        PIECE
+    };
+    match source.read(&mut piece[..room]) {
+        Ok(0) => Err(DumpFault::Refused(Reason::CutOff)),
+        Ok(count) => Ok(count),
+        Err(_) => Err(DumpFault::Read),
+    }
+}
+
+/// Reads so many bytes.
+pub(crate) fn read_bytes<S: Input>(
+    alloc: Global,
+    source: &mut S,
+    count: usize,
+) -> Result<Vec<u8>, DumpFault>
+    ensures bytes { Reads (λ v. v.items) (S.remaining source.old) (S.remaining source.new) result (bytes_at count) }
+    ensures counted { Counts (S.taken source.old) (S.remaining source.old) (S.taken source.new) (S.remaining source.new) }
+{
+    let mut bytes = Vec::with_capacity(alloc, count)?;
+    let mut piece = [0u8; PIECE];
+    'pieces: while bytes.len() < count {
+        let left = (count - bytes.len()) as u64;
+        let read = read_piece(source, &mut piece, left)?;
+        bytes.extend_from_slice(&piece[..read])?;
+    }
+    Ok(bytes)
+}

@@ -1,0 +1,44 @@
+//! Dumps of Subversion's repositories, as `svnadmin dump` and `svnrdump dump` write them, read and written record by record. A dump is a list of
+//! records: its format, the identity of the repository, and for each revision one record, then one for each node that it changes.
+//!
+//! [`Reader`] reads formats 2 and 3 off any `Read`. It holds one record at a time, of at most as many bytes as [`Limits`] says, and keeps texts as they
+//! are, or what stands in for them ([`Texts`]). [`push_format`], [`push_revision`] and [`push_node`] write. What a record does to a repository is a matter
+//! of the crate `svn_history`.
+//!
+//! ```
+//! let limits = Limits { headers: 65536, props: 1_048_576, text: 1_048_576 };
+//! let mut reader = Reader::new(alloc, File::open(rt, "repo.dump")?, limits, Texts::Whole)?;
+//! while let Some(record) = reader.next_record()? {
+//!     if let Record::Node(node) = record {
+//!         println!(rt; "{}", node.path)?;
+//!     }
+//! }
+//! ```
+//!
+//! Promises: what `next_record` returns is the record that the format gives for the bytes that are left, just its bytes are taken, and a refusal is the
+//! first fault from left to right (`record_at` of `specs/Records.antt`, which knows no reader); only a failed read and want of memory are free. What is
+//! written is `written` of `specs/Written.antt`.
+#![tactic(auto)]
+
+mod fault;
+mod fields;
+mod headers;
+mod input;
+mod number;
+mod properties;
+mod reader;
+mod record;
+mod sections;
+mod shape;
+mod sums;
+mod writer;
+
+pub use fault::{DumpFault, Reason};
+pub use reader::Reader;
+pub use record::{
+    Action, CopySource, NodeRecord, PropChanges, PropSection, Record, Sha1Sum, TextDelta,
+    TextSection,
+};
+pub use sections::{Limits, Texts, kept_text};
+pub use sums::stand_in;
+pub use writer::{push_format, push_node, push_revision};

@@ -1,0 +1,256 @@
+//! Dumps, read record by record.
+ghost use Rattle.std.specs.Prelude.{◌≡◌, ◌≢◌, ◌↔◌, [], false, codes, IfOk, IsTrue};
+ghost use Rattle.std.specs.Option.{option_copied};
+ghost use Rattle.svn_dump.specs.Blocks.{block_at};
+ghost use Rattle.svn_dump.specs.Headers.{header_value, if_once};
+ghost use Rattle.svn_dump.specs.Reading.{Gives, Reads};
+ghost use Rattle.svn_dump.specs.Records.{is_given, other_subject, subject_of, node_of, format_value, node_at, passed_at, headed_at, record_at};
+ghost use Rattle.svn_dump.specs.Counts.{Counts};
+ghost use Rattle.svn_dump.specs.Readers.{left_in, Opens, headers_len, Shows, UnlessBroken};
+
+use crate::fault::{DumpFault, Reason};
+use crate::fields::{action_in, kind_in, number_in, path_in, source_in};
+use crate::headers::{are_headers, header};
+use crate::input::{Source, read_block};
+use crate::record::{NodeRecord, Record};
+use crate::sections::{Limits, Texts, read_prop_section, read_text_section, skip_sections};
+use crate::shape::{lengths_in, shape_in};
+use std::alloc::Global;
+use std::io::Read;
+use svn_types::Rev;
+
+/// A dump, read record by record (`svn_repos_parse_dumpstream3` of `svn_repos.h`).
+#[derive(Drop)]
+pub struct Reader<R> {
+    source: Source<R>,
+    alloc: Global,
+    limits: Limits,
+    texts: Texts,
+    // The headers of the record that was read last, and how many bytes are before them.
+    block: Vec<u8>,
+    begun: u64,
+}
+
+// What a record is about.
+enum Subject {
+    Other,
+    Revision(Rev),
+    Node,
+}
+
+// The format of a dump, from the headers of its first record.
+fn read_format(block: &[u8]) -> Result<u64, DumpFault>
+    ensures { Gives (λ n. n) result (format_value block.now) }
+{
+    let Some(format) = number_in(block, b"SVN-fs-dump-format-version")? else {
+        return Err(DumpFault::Refused(Reason::NotADump));
+    };
+    if 2 <= format && format <= 3 {
+        Ok(format)
+    } else {
+        Err(DumpFault::Refused(Reason::Version(format)))
+    }
+}
+
+fn is_given(block: &[u8], name: &[u8]) -> Result<bool, DumpFault>
+    ensures { Gives (λ b. b) result (is_given block.now name.now) }
+{
+    Ok(header(block, name)?.is_some())
+}
+
+#[tactic(auto, unfolding(crate::specs::Records::subject_of))]
+fn subject_of(block: &[u8]) -> Result<Subject, DumpFault>
+    ensures { Gives (λ subject. subject) result (subject_of block.now) }
+{
+    if !are_headers(block) {
+        return Err(DumpFault::Refused(Reason::NotAHeader));
+    }
+    match number_in(block, b"Revision-number")? {
+        Some(number) => Ok(Subject::Revision(Rev(number))),
+        None => other_subject(block),
+    }
+}
+
+// What a record is about that isn't a revision.
+fn other_subject(block: &[u8]) -> Result<Subject, DumpFault>
+    ensures { Gives (λ subject. subject) result (other_subject block.now) }
+{
+    let is_node = is_given(block, b"Node-path")?;
+    let has_uuid = is_given(block, b"UUID")?;
+    let has_format = is_given(block, b"SVN-fs-dump-format-version")?;
+    if is_node {
+        Ok(Subject::Node)
+    } else if has_uuid || has_format {
+        Ok(Subject::Other)
+    } else {
+        Err(DumpFault::Refused(Reason::UnknownRecord))
+    }
+}
+
+// A node's record without its sections.
+#[tactic(auto, unfolding(crate::specs::Records::node_of))]
+fn read_node(alloc: Global, block: &[u8]) -> Result<NodeRecord, DumpFault>
+    ensures { Gives (λ node. node) result (node_of block.now) }
+{
+    let path = path_in(alloc, block)?;
+    let kind = kind_in(block)?;
+    let action = action_in(block)?;
+    let source = source_in(alloc, block)?;
+    Ok(NodeRecord {
+        path,
+        kind,
+        action,
+        source,
+        props: None,
+        text: None,
+    })
+}
+
+// How many bytes a record's headers have, with the empty line that ends them; none at the end of all.
+fn headers_len(block: &[u8]) -> u64
+    ensures { result ≡ headers_len block.now }
+{
+    if block.is_empty() {
+        0
+    } else {
+        block.len() as u64 + 1
+    }
+}
+
+impl<R: Read + Drop> Reader<R> {
+    /// A dump that is read from here on. It reads the first record, which gives the format. At most `limits` is held at a time.
+    #[tactic(auto, unfolding(crate::specs::Records::format_at))]
+    pub fn new(
+        alloc: Global,
+        input: R,
+        limits: Limits,
+        texts: Texts,
+    ) -> Result<Reader<R>, DumpFault>
+        ensures bytes { Opens limits (R.remaining input) (left_in R.remaining) result }
+        ensures limits { IfOk result (λ r. r.limits ≡ limits) }
+        ensures texts { IfOk result (λ r. r.texts ≡ texts) }
+        ensures counted { IfOk result (λ r. Counts 0 (R.remaining input) r.source.taken (left_in R.remaining r)) }
+        ensures shown { IfOk result (λ r. Shows limits 0 (R.remaining input) r.begun r.block.items) }
+    {
+        let mut source = Source::new(alloc, input)?;
+        let block = read_block(alloc, &mut source, limits.headers)?;
+        let begun = source.taken().saturating_sub(headers_len(&block));
+        let _format = read_format(&block)?;
+        Ok(Reader {
+            source,
+            alloc,
+            limits,
+            texts,
+            block,
+            begun,
+        })
+    }
+
+    /// How texts are kept.
+    pub fn texts(&self) -> Texts
+        ensures { result ≡ self.now.texts }
+    {
+        self.texts
+    }
+
+    /// Where the record begins that was read last, or refused: so many bytes of the dump are before its headers. Where these are at fault, they and
+    /// the blank lines before them begin there; after the end it is the dump's length.
+    pub fn begun(&self) -> u64
+        ensures { result ≡ self.now.begun }
+    {
+        self.begun
+    }
+
+    /// The path of the node whose record was read last, or refused, if its headers could be read and give one: its bytes as they are in the dump.
+    pub fn path(&self) -> Option<&[u8]>
+        ensures { option_copied result ≡ if_once (header_value self.now.block.items (codes "Node-path")) }
+    {
+        match header(&self.block, b"Node-path") {
+            Ok(path) => path,
+            Err(_) => None,
+        }
+    }
+
+    // Reads the headers of the next record; whether there is one.
+    fn read_headers(&mut self) -> Result<bool, DumpFault>
+        ensures headers { Reads (λ _. self.new.block.items) (left_in R.remaining self.old) (left_in R.remaining self.new) result (block_at false self.old.limits.headers) }
+        ensures found { IfOk result (λ found. IsTrue found ↔ (self.new.block.items ≢ [])) }
+        ensures counted { Counts self.old.source.taken (left_in R.remaining self.old) self.new.source.taken (left_in R.remaining self.new) }
+        ensures shown { UnlessBroken result (Shows self.old.limits self.old.source.taken (left_in R.remaining self.old) self.new.begun self.new.block.items) }
+        ensures limits { self.new.limits ≡ self.old.limits }
+        ensures texts { self.new.texts ≡ self.old.texts }
+    {
+        self.block.clear();
+        self.begun = self.source.taken();
+        self.block = read_block(self.alloc, &mut self.source, self.limits.headers)?;
+        self.begun = self.source.taken().saturating_sub(headers_len(&self.block));
+        Ok(!self.block.is_empty())
+    }
+
+    // Reads the node that the headers begin.
+    #[tactic(auto, unfolding(crate::specs::Records::node_at))]
+    fn read_node(&mut self) -> Result<Record, DumpFault>
+        ensures bytes { Reads (λ r. r) (left_in R.remaining self.old) (left_in R.remaining self.new) result (node_at self.old.limits self.old.texts self.old.block.items) }
+        ensures counted { Counts self.old.source.taken (left_in R.remaining self.old) self.new.source.taken (left_in R.remaining self.new) }
+        ensures block { self.new.block ≡ self.old.block }
+        ensures begun { self.new.begun ≡ self.old.begun }
+        ensures limits { self.new.limits ≡ self.old.limits }
+        ensures texts { self.new.texts ≡ self.old.texts }
+    {
+        let mut node = read_node(self.alloc, &self.block)?;
+        let shape = shape_in(&self.block)?;
+        let Limits { props, text, .. } = self.limits;
+        node.props = read_prop_section(self.alloc, &mut self.source, &shape, props)?;
+        node.text = read_text_section(self.alloc, &mut self.source, &shape, self.texts, text)?;
+        Ok(Record::Node(node))
+    }
+
+    // Passes over what belongs to the headers.
+    fn pass(&mut self, what: Record) -> Result<Record, DumpFault>
+        ensures bytes { Reads (λ r. r) (left_in R.remaining self.old) (left_in R.remaining self.new) result (passed_at what self.old.block.items) }
+        ensures counted { Counts self.old.source.taken (left_in R.remaining self.old) self.new.source.taken (left_in R.remaining self.new) }
+        ensures block { self.new.block ≡ self.old.block }
+        ensures begun { self.new.begun ≡ self.old.begun }
+        ensures limits { self.new.limits ≡ self.old.limits }
+        ensures texts { self.new.texts ≡ self.old.texts }
+    {
+        let lengths = lengths_in(&self.block)?;
+        match skip_sections(&mut self.source, lengths) {
+            Ok(()) => Ok(what),
+            Err(fault) => Err(fault),
+        }
+    }
+
+    // Reads the record that the headers begin.
+    fn read_record(&mut self) -> Result<Record, DumpFault>
+        ensures bytes { Reads (λ r. r) (left_in R.remaining self.old) (left_in R.remaining self.new) result (headed_at self.old.limits self.old.texts self.old.block.items) }
+        ensures counted { Counts self.old.source.taken (left_in R.remaining self.old) self.new.source.taken (left_in R.remaining self.new) }
+        ensures block { self.new.block ≡ self.old.block }
+        ensures begun { self.new.begun ≡ self.old.begun }
+        ensures limits { self.new.limits ≡ self.old.limits }
+        ensures texts { self.new.texts ≡ self.old.texts }
+    {
+        match subject_of(&self.block)? {
+            Subject::Node => self.read_node(),
+            Subject::Revision(rev) => self.pass(Record::Revision { rev }),
+            Subject::Other => self.pass(Record::Other),
+        }
+    }
+
+    /// The next record; None at the end. It is the one that `record_at` gives for the bytes that are left, and just its bytes are taken; a refusal is
+    /// the first fault from left to right.
+    #[tactic(auto, using(crate::proofs::RecordLemmas::no_record, crate::proofs::RecordLemmas::no_headers, crate::proofs::RecordLemmas::one_record, crate::proofs::RecordLemmas::bad_record))]
+    pub fn next_record(&mut self) -> Result<Option<Record>, DumpFault>
+        ensures bytes { Reads (λ r. r) (left_in R.remaining self.old) (left_in R.remaining self.new) result (record_at self.old.limits self.old.texts) }
+        ensures counted { Counts self.old.source.taken (left_in R.remaining self.old) self.new.source.taken (left_in R.remaining self.new) }
+        ensures shown { UnlessBroken result (Shows self.old.limits self.old.source.taken (left_in R.remaining self.old) self.new.begun self.new.block.items) }
+        ensures limits { self.new.limits ≡ self.old.limits }
+        ensures texts { self.new.texts ≡ self.old.texts }
+    {
+        if !self.read_headers()? {
+            return Ok(None);
+        }
+        let record = self.read_record()?;
+        Ok(Some(record))
+    }
+}

@@ -1,0 +1,243 @@
+//! The two sections after a record's headers.
+ghost use Rattle.std.specs.Prelude.{◌≡◌, ◌&&◌, nat_lt, IfOk};
+ghost use Rattle.svn_dump.specs.Counts.{Counts};
+ghost use Rattle.svn_dump.specs.Reading.{Gives, Reads};
+ghost use Rattle.svn_dump.specs.Sections.{after_sections, empty_delta_at, keeps, kept, prop_section_of, sized_props_at, prop_section_at, whole_text_at, text_delta_at, text_at, text_section_at, skipped};
+
+use crate::fault::{DumpFault, Reason};
+use crate::input::{Input, PIECE, read_bytes, read_piece};
+use crate::properties::{read_changes, read_props};
+use crate::record::{PropChanges, PropSection, Sha1Sum, TextDelta, TextSection};
+use crate::shape::{GivenSums, Lengths, Shape};
+use crate::sums::{check_sums, read_text, stand_in};
+use sha1::Sha1;
+use std::alloc::{AllocError, Global};
+use svn_types::{MAX_SIZE, Text};
+
+/// How texts are kept.
+#[derive(Clone, Copy, Debug, PartialEq, Eq)]
+pub enum Texts {
+    /// As they are.
+    Whole,
+    /// Each replaced by `$sha1$` and its SHA-1 checksum in hexadecimal digits: texts that differ have stand-ins that differ, as far as SHA-1 goes.
+    Sha1,
+}
+
+/// The most bytes of what is held at a time.
+#[derive(Clone, Copy, Debug)]
+pub struct Limits {
+    /// Of a record's headers, with the blank lines before them.
+    pub headers: usize,
+    /// Of a property section.
+    pub props: usize,
+    /// Of a text or a text delta that is kept.
+    pub text: usize,
+}
+
+/// Room for two paths of 64 names of 255 bytes in the headers, for 16 MiB of properties, and for the longest text that a repository takes.
+impl Default for Limits {
+    ghost is_default = { λ l. (l.headers ≡ 65536) × (l.props ≡ 16777216) × (l.text ≡ 1048576) };
+
+    fn default() -> Limits {
+        Limits {
+            headers: 1 << 16,
+            props: 1 << 24,
+            text: MAX_SIZE,
+        }
+    }
+}
+
+// Passes over so many bytes.
+fn skip_bytes<S: Input>(source: &mut S, len: u64) -> Result<(), DumpFault>
+    ensures bytes { Reads (λ u. u) (S.remaining source.old) (S.remaining source.new) result (skipped len) }
+    ensures counted { Counts (S.taken source.old) (S.remaining source.old) (S.taken source.new) (S.remaining source.new) }
+{
+    let mut piece = [0u8; PIECE];
+    let mut left = len;
+    'pieces: while left > 0 {
+        let count = read_piece(source, &mut piece, left)?;
+        left -= count as u64;
+    }
+    Ok(())
+}
+
+/// Passes over both sections.
+pub(crate) fn skip_sections<S: Input>(source: &mut S, lengths: Lengths) -> Result<(), DumpFault>
+    ensures bytes { Reads (λ u. u) (S.remaining source.old) (S.remaining source.new) result (after_sections lengths) }
+    ensures counted { Counts (S.taken source.old) (S.remaining source.old) (S.taken source.new) (S.remaining source.new) }
+{
+    skip_bytes(source, lengths.props.unwrap_or(0))?;
+    skip_bytes(source, lengths.text.unwrap_or(0))
+}
+
+// The properties that a section's bytes give.
+fn props_of(alloc: Global, bytes: &[u8], changes: bool) -> Result<PropSection, DumpFault>
+    ensures { Gives (λ section. section) result (prop_section_of changes bytes.now) }
+{
+    if changes {
+        let list = read_changes(alloc, bytes)?;
+        return Ok(PropSection::Delta(PropChanges::new(list)));
+    }
+    Ok(PropSection::Whole(read_props(alloc, bytes)?))
+}
+
+// Reads a property section of so many bytes.
+fn read_sized_props<S: Input>(
+    alloc: Global,
+    source: &mut S,
+    len: u64,
+    changes: bool,
+    limit: usize,
+) -> Result<PropSection, DumpFault>
+    ensures bytes { Reads (λ section. section) (S.remaining source.old) (S.remaining source.new) result (sized_props_at changes limit len) }
+    ensures counted { Counts (S.taken source.old) (S.remaining source.old) (S.taken source.new) (S.remaining source.new) }
+{
+    if len > limit as u64 {
+        return Err(DumpFault::Refused(Reason::PropsTooLong(len, limit as u64)));
+    }
+    let bytes = read_bytes(alloc, source, len as usize)?;
+    props_of(alloc, &bytes, changes)
+}
+
+/// Reads the property section, if there is one.
+pub(crate) fn read_prop_section<S: Input>(
+    alloc: Global,
+    source: &mut S,
+    shape: &Shape,
+    limit: usize,
+) -> Result<Option<PropSection>, DumpFault>
+    ensures bytes { Reads (λ section. section) (S.remaining source.old) (S.remaining source.new) result (prop_section_at shape.now limit) }
+    ensures counted { Counts (S.taken source.old) (S.remaining source.old) (S.taken source.new) (S.remaining source.new) }
+{
+    let Some(len) = shape.lengths.props else {
+        return Ok(None);
+    };
+    let section = read_sized_props(alloc, source, len, shape.changes_props, limit)?;
+    Ok(Some(section))
+}
+
+// Reads a text of so many bytes, as it is kept.
+fn read_whole_text<S: Input>(
+    alloc: Global,
+    source: &mut S,
+    len: u64,
+    texts: Texts,
+    given: GivenSums,
+) -> Result<Text, DumpFault>
+    ensures bytes { Reads (λ text. text) (S.remaining source.old) (S.remaining source.new) result (whole_text_at texts given len) }
+    ensures counted { Counts (S.taken source.old) (S.remaining source.old) (S.taken source.new) (S.remaining source.new) }
+{
+    let text = read_text(alloc, source, len, texts == Texts::Whole)?;
+    check_sums(&text, given)?;
+    match texts {
+        Texts::Whole => Ok(Text::new(text.bytes)),
+        Texts::Sha1 => Ok(stand_in(alloc, &text.sha1)?),
+    }
+}
+
+/// The bytes of a text delta that leads to no bytes: its format alone.
+const EMPTY_DELTA: u64 = 4;
+
+// Passes over a text delta of so many bytes whose text has no checksum, and gives what stands in for no bytes: svnadmin gives none of an empty text.
+fn read_empty_delta<S: Input>(
+    alloc: Global,
+    source: &mut S,
+    len: u64,
+) -> Result<TextSection, DumpFault>
+    ensures bytes { Reads (λ section. section) (S.remaining source.old) (S.remaining source.new) result (empty_delta_at len) }
+    ensures counted { Counts (S.taken source.old) (S.remaining source.old) (S.taken source.new) (S.remaining source.new) }
+{
+    if len > EMPTY_DELTA {
+        return Err(DumpFault::Refused(Reason::NoSha1));
+    }
+    skip_bytes(source, len)?;
+    let text = kept_text(alloc, Texts::Sha1, b"")?;
+    Ok(TextSection::Whole(text))
+}
+
+/// What a text of these bytes is kept as.
+pub fn kept_text(alloc: Global, texts: Texts, bytes: &[u8]) -> Result<Text, AllocError>
+    ensures { IfOk result (λ text. text ≡ kept texts bytes.now) }
+{
+    match texts {
+        Texts::Whole => Text::from_slice(alloc, bytes),
+        Texts::Sha1 => {
+            let sum = Sha1::digest(bytes);
+            stand_in(alloc, &Sha1Sum(sum))
+        }
+    }
+}
+
+// Reads a text delta of so many bytes, or gives what stands in for the text that it leads to.
+fn read_text_delta<S: Input>(
+    alloc: Global,
+    source: &mut S,
+    len: u64,
+    texts: Texts,
+    given: GivenSums,
+) -> Result<TextSection, DumpFault>
+    ensures bytes { Reads (λ section. section) (S.remaining source.old) (S.remaining source.new) result (text_delta_at texts given len) }
+    ensures counted { Counts (S.taken source.old) (S.remaining source.old) (S.taken source.new) (S.remaining source.new) }
+{
+    let GivenSums { md5, sha1 } = given;
+    match (texts, sha1) {
+        (Texts::Whole, _) => {
+            let delta = Text::new(read_bytes(alloc, source, len as usize)?);
+            Ok(TextSection::Delta(TextDelta { delta, md5, sha1 }))
+        }
+        (Texts::Sha1, Some(sha1)) => {
+            skip_bytes(source, len)?;
+            Ok(TextSection::Whole(stand_in(alloc, &sha1)?))
+        }
+        (Texts::Sha1, None) => read_empty_delta(alloc, source, len),
+    }
+}
+
+// Reads a text, or a text delta, of so many bytes.
+fn read_sized_text<S: Input>(
+    alloc: Global,
+    source: &mut S,
+    len: u64,
+    shape: &Shape,
+    texts: Texts,
+) -> Result<TextSection, DumpFault>
+    ensures bytes { Reads (λ section. section) (S.remaining source.old) (S.remaining source.new) result (text_at shape.now texts len) }
+    ensures counted { Counts (S.taken source.old) (S.remaining source.old) (S.taken source.new) (S.remaining source.new) }
+{
+    if shape.changes_text {
+        return read_text_delta(alloc, source, len, texts, shape.sums);
+    }
+    let text = read_whole_text(alloc, source, len, texts, shape.sums)?;
+    Ok(TextSection::Whole(text))
+}
+
+// Whether a text of so many bytes is too long to be kept.
+fn is_too_long(len: u64, texts: Texts, limit: usize) -> bool
+    ensures { result ≡ (keeps texts && nat_lt limit len) }
+{
+    match texts {
+        Texts::Whole => len > limit as u64,
+        Texts::Sha1 => false,
+    }
+}
+
+/// Reads the text section, if there is one.
+pub(crate) fn read_text_section<S: Input>(
+    alloc: Global,
+    source: &mut S,
+    shape: &Shape,
+    texts: Texts,
+    limit: usize,
+) -> Result<Option<TextSection>, DumpFault>
+    ensures bytes { Reads (λ section. section) (S.remaining source.old) (S.remaining source.new) result (text_section_at shape.now texts limit) }
+    ensures counted { Counts (S.taken source.old) (S.remaining source.old) (S.taken source.new) (S.remaining source.new) }
+{
+    let Some(len) = shape.lengths.text else {
+        return Ok(None);
+    };
+    if is_too_long(len, texts, limit) {
+        return Err(DumpFault::Refused(Reason::TextTooLong(len, limit as u64)));
+    }
+    let section = read_sized_text(alloc, source, len, shape, texts)?;
+    Ok(Some(section))
+}

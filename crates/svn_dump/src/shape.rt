@@ -1,0 +1,81 @@
+//! What a record's headers say of the sections after them.
+ghost use Rattle.std.specs.Prelude.{◌≡◌, ◌+◌, nat_eq, unwrap_or};
+ghost use Rattle.svn_dump.specs.Reading.{Gives};
+ghost use Rattle.svn_dump.specs.Shapes.{lengths_of, sums_of, shape_of};
+
+use crate::fault::{DumpFault, Reason};
+use crate::fields::{is_true, md5_in, number_in, sha1_in};
+use crate::record::Sha1Sum;
+use svn_types::Digest;
+
+/// How long the sections of a record are, where it has them.
+#[derive(Clone, Copy)]
+pub(crate) struct Lengths {
+    pub(crate) props: Option<u64>,
+    pub(crate) text: Option<u64>,
+}
+
+/// The checksums of a text, if they are given.
+#[derive(Clone, Copy)]
+pub(crate) struct GivenSums {
+    pub(crate) md5: Option<Digest>,
+    pub(crate) sha1: Option<Sha1Sum>,
+}
+
+/// What the sections of a node are.
+#[derive(Clone, Copy)]
+pub(crate) struct Shape {
+    pub(crate) lengths: Lengths,
+    pub(crate) sums: GivenSums,
+    /// Whether the properties are changes of those before.
+    pub(crate) changes_props: bool,
+    /// Whether the text is a difference from the one before.
+    pub(crate) changes_text: bool,
+}
+
+// Whether the length of both sections is the one that is given for them together.
+fn agree(props: Option<u64>, text: Option<u64>, both: u64) -> bool
+    ensures { result ≡ nat_eq (unwrap_or props 0 + unwrap_or text 0) both }
+{
+    props.unwrap_or(0).checked_add(text.unwrap_or(0)) == Some(both)
+}
+
+/// The lengths that a record gives, if they agree.
+pub(crate) fn lengths_in(block: &[u8]) -> Result<Lengths, DumpFault>
+    ensures { Gives (λ lengths. lengths) result (lengths_of block.now) }
+{
+    let props = number_in(block, b"Prop-content-length")?;
+    let text = number_in(block, b"Text-content-length")?;
+    match number_in(block, b"Content-length")? {
+        Some(both) if !agree(props, text, both) => Err(DumpFault::Refused(Reason::Lengths)),
+        _ => Ok(Lengths { props, text }),
+    }
+}
+
+/// The checksums that a record gives for its text. Before Subversion 1.6 the MD5 checksum had another name.
+pub(crate) fn sums_in(block: &[u8]) -> Result<GivenSums, DumpFault>
+    ensures { Gives (λ sums. sums) result (sums_of block.now) }
+{
+    let new = md5_in(block, b"Text-content-md5")?;
+    let old = md5_in(block, b"Text-content-checksum")?;
+    let sha1 = sha1_in(block, b"Text-content-sha1")?;
+    let md5 = if new.is_some() { new } else { old };
+    Ok(GivenSums { md5, sha1 })
+}
+
+/// What a node's headers say of its sections.
+#[tactic(auto, unfolding(crate::specs::Shapes::shape_of))]
+pub(crate) fn shape_in(block: &[u8]) -> Result<Shape, DumpFault>
+    ensures { Gives (λ shape. shape) result (shape_of block.now) }
+{
+    let lengths = lengths_in(block)?;
+    let sums = sums_in(block)?;
+    let changes_props = is_true(block, b"Prop-delta")?;
+    let changes_text = is_true(block, b"Text-delta")?;
+    Ok(Shape {
+        lengths,
+        sums,
+        changes_props,
+        changes_text,
+    })
+}

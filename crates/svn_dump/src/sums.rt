@@ -1,0 +1,117 @@
+//! Texts, read with their checksums.
+ghost use Rattle.std.specs.Prelude.{◌≡◌, ℕ, List, ◌++◌, [], IfOk, IfErr, OnOk, if◌then◌else◌};
+ghost use Rattle.md5.specs.Md5.{md5};
+ghost use Rattle.sha1.specs.Sha1.{sha1};
+ghost use Rattle.svn_dump.specs.Counts.{Counts};
+ghost use Rattle.svn_dump.specs.Reading.{Gives, Reads};
+ghost use Rattle.svn_dump.specs.Sections.{checked, stand_in, summed_at, Sums};
+
+use crate::fault::{DumpFault, Reason};
+use crate::input::{Input, PIECE, read_piece};
+use crate::record::Sha1Sum;
+use crate::shape::GivenSums;
+use md5::{Digest as Hasher, Md5};
+use sha1::Sha1;
+use std::alloc::{AllocError, Global};
+use svn_types::{Digest, Text};
+
+// The checksums of what was read so far.
+#[derive(Drop)]
+struct Running {
+    md5: Md5,
+    sha1: Sha1,
+}
+
+impl Running {
+    fn new() -> Running
+        ensures { Sums result [] }
+    {
+        Running {
+            md5: Md5::new(),
+            sha1: Sha1::new(),
+        }
+    }
+
+    fn update(&mut self, piece: &[u8])
+        ensures { (m : List ℕ) → Sums self.old m → Sums self.new (m ++ piece.now) }
+    {
+        self.md5.update(piece);
+        self.sha1.update(piece);
+    }
+
+    fn finish(self) -> (Digest, Sha1Sum)
+        ensures { (m : List ℕ) → Sums self m → result ≡ (md5 m, sha1 m) }
+    {
+        let Running { md5, sha1 } = self;
+        let md5 = md5.finalize();
+        let sha1 = sha1.finalize();
+        (Digest(md5), Sha1Sum(sha1))
+    }
+}
+
+/// A text that was read: its bytes, if they were to be kept, and its checksums.
+#[derive(Drop)]
+pub(crate) struct SummedText {
+    pub(crate) bytes: Vec<u8>,
+    pub(crate) md5: Digest,
+    pub(crate) sha1: Sha1Sum,
+}
+
+// Keeps a piece, if asked.
+fn keep(bytes: &mut Vec<u8>, piece: &[u8], keeps: bool) -> Result<(), DumpFault>
+    ensures kept { OnOk result (bytes.new.items ≡ (if keeps then bytes.old.items ++ piece.now else bytes.old.items)) }
+    ensures fault { IfErr result (λ e. e ≡ DumpFault.Memory) }
+{
+    if keeps {
+        bytes.extend_from_slice(piece)?;
+    }
+    Ok(())
+}
+
+/// Reads a text of so many bytes, and keeps them if asked.
+pub(crate) fn read_text<S: Input>(
+    alloc: Global,
+    source: &mut S,
+    len: u64,
+    keeps: bool,
+) -> Result<SummedText, DumpFault>
+    ensures bytes { Reads (λ t. (t.bytes.items, t.md5, t.sha1)) (S.remaining source.old) (S.remaining source.new) result (summed_at keeps len) }
+    ensures counted { Counts (S.taken source.old) (S.remaining source.old) (S.taken source.new) (S.remaining source.new) }
+{
+    let mut running = Running::new();
+    let mut bytes = Vec::new(alloc);
+    let mut piece = [0u8; PIECE];
+    let mut left = len;
+    'pieces: while left > 0 {
+        let count = read_piece(source, &mut piece, left)?;
+        let read = &piece[..count];
+        running.update(read);
+        keep(&mut bytes, read, keeps)?;
+        left -= count as u64;
+    }
+    let (md5, sha1) = running.finish();
+    Ok(SummedText { bytes, md5, sha1 })
+}
+
+/// Compares the checksums of a text with those that are given.
+pub(crate) fn check_sums(text: &SummedText, given: GivenSums) -> Result<(), DumpFault>
+    ensures { (m : List ℕ) → text.now.md5 ≡ md5 m → text.now.sha1 ≡ sha1 m → Gives (λ _. m) result (checked given m) }
+{
+    if given.md5.is_some_and(|md5| md5 != text.md5) {
+        return Err(DumpFault::Refused(Reason::WrongMd5));
+    }
+    if given.sha1.is_some_and(|sha1| sha1 != text.sha1) {
+        return Err(DumpFault::Refused(Reason::WrongSha1));
+    }
+    Ok(())
+}
+
+/// What stands in for the text with this checksum: `$sha1$` and the checksum in lower-case hexadecimal digits.
+pub fn stand_in(alloc: Global, sha1: &Sha1Sum) -> Result<Text, AllocError>
+    ensures { IfOk result (λ text. text ≡ stand_in sha1.now) }
+{
+    let mut word = Vec::with_capacity(alloc, 46)?;
+    word.extend_from_slice(b"$sha1$")?;
+    word.extend_from_slice(hex::encode(alloc, &sha1.0[..])?.as_bytes())?;
+    Ok(Text::new(word))
+}

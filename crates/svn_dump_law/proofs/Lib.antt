@@ -1,0 +1,26 @@
+-- the headers of a record, as names with their values: what is looked up in their lines
+pub mod HeaderFields
+-- the bytes of a record, cut into its headers and what is after them
+pub mod HeaderBlocks
+-- numbers in decimal digits
+pub mod Decimals
+-- checksums in hexadecimal digits
+pub mod HexSums
+-- paths as texts
+pub mod PathFields
+-- property sections
+pub mod PropSections
+-- texts and text deltas
+pub mod TextSections
+-- the headers of a node, as names with their values
+pub mod NodeFields
+-- values that are looked up in headers
+pub mod FieldValues
+-- records, read from their headers on
+pub mod RecordReads
+-- nodes, read as they were written
+pub mod NodeReads
+-- revisions, and whole dumps, read as they were written
+pub mod DumpReads
+-- worked examples, computed
+pub mod Rows

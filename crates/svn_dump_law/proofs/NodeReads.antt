@@ -1,0 +1,178 @@
+-- Nodes, read as they were written.
+use Rattle.std.proofs.Common.{◌≡◌, ℕ, ◌+◌, ◌^◌, ◌<◌, ◌≤◌, Bool, true, false, List, [], ◌∷◌, ◌++◌, length, replicate, Option, Some, None, Ok, option_map, unwrap_or, IfSome, refl, sym, ap, ◌∙◌, arith, append_assoc, codes, decimal}
+use Rattle.hex.specs.Hex.{encode_lower}
+use Rattle.md5.proofs.StandardFacts.{length-md5}
+use Rattle.svn_types.specs.declared.kind.Kind.{Kind}
+use Rattle.svn_types.specs.declared.kind.Kind.TheVariants.{File, Directory}
+use Rattle.svn_types.specs.PathTexts.{path_text}
+use Rattle.svn_dump.specs.declared.record.Action.{Action}
+use Rattle.svn_dump.specs.declared.record.Action.TheVariants.{Add, Change, Delete, Replace}
+use Rattle.svn_dump.specs.declared.record.CopySource.{CopySource}
+use Rattle.svn_dump.specs.declared.record.NodeRecord.{NodeRecord}
+use Rattle.svn_dump.specs.declared.record.PropSection.{PropSection}
+use Rattle.svn_dump.specs.declared.record.Record.TheVariants.{Node}
+use Rattle.svn_dump.specs.declared.record.TextSection.{TextSection}
+use Rattle.svn_dump.specs.declared.record.TextSection.TheVariants as text
+use Rattle.svn_dump.specs.declared.sections.Limits.{Limits}
+use Rattle.svn_dump.specs.declared.sections.Texts.{Texts}
+use Rattle.svn_dump.specs.declared.sections.Texts.TheVariants.{Whole, Sha1}
+use Rattle.svn_dump.specs.Reading.{◌>>=◌}
+use Rattle.svn_dump.specs.Headers.{header_value}
+use Rattle.svn_dump.specs.Fields.{path_of, kind_of, action_of, source_value, source_of, as_number}
+use Rattle.svn_dump.specs.Shapes.{shape_of}
+use Rattle.svn_dump.specs.Sections.{if_given, sized_props_at, sized_text_at}
+use Rattle.svn_dump.specs.Records.{node_of, node_at, headed_at, record_at}
+use Rattle.svn_dump.specs.Written.{prop_section, text_section, action_word, headers_of, written}
+use Rattle.svn_dump_law.specs.Laws.{IsPath, IsSource, IsPropSection, IsTextSection, IsSum, IsWritable, CanKeep, props_len, text_len, kept_text, kept_node}
+use Rattle.svn_dump_law.proofs.HeaderFields.{Field, AreFields, lines, lines_are_headers}
+use Rattle.svn_dump_law.proofs.HeaderBlocks.{block_of_lines}
+use Rattle.svn_dump_law.proofs.HexSums.{IsBytes-md5, IsBytes-sha1, length-sha1}
+use Rattle.svn_dump_law.proofs.PathFields.{path_of_path_text}
+use Rattle.svn_dump_law.proofs.PropSections.{is_delta, sized_section_read}
+use Rattle.svn_dump_law.proofs.TextSections.{sized_text_read}
+use Rattle.svn_dump_law.proofs.NodeFields.{kind_word, flag, changes_props, changes_text, md5_given, sha1_given, both_lengths, both_small, node_fields, node_fields_lawful, headers_are_lines}
+use Rattle.svn_dump_law.proofs.FieldValues.{value_found, given_at, number_at, sum_at, flag_at, lengths_agree}
+use Rattle.svn_dump_law.proofs.RecordReads.{record_of_block, headed_node, node_of_values, lengths_of_values, sums_of_values, shape_of_values, node_of_sections}
+
+-- ---- what the node is
+
+kind_read : (kind : Option Kind) → kind_of (option_map kind_word kind) ≡ Ok kind
+kind_read None = refl
+kind_read (Some File) = refl
+kind_read (Some Directory) = refl
+
+action_read : (action : Action) → action_of (Some (action_word action)) ≡ Ok action
+action_read Add = refl
+action_read Change = refl
+action_read Delete = refl
+action_read Replace = refl
+
+source_read : (block : List ℕ) (source : Option CopySource) → IfSome source IsSource
+    → header_value block (codes "Node-copyfrom-rev") ≡ Ok (option_map (λ (s : CopySource). decimal s.rev) source)
+    → header_value block (codes "Node-copyfrom-path") ≡ Ok (option_map (λ (s : CopySource). path_text s.path) source)
+    → source_value block ≡ Ok source
+source_read block None h e f = rw (ap (λ r. r >>= as_number) e, f) refl
+source_read block (Some source) h e f =
+    rw (number_at block (codes "Node-copyfrom-rev") (Some source.rev) h.rev e, f, path_of_path_text source.path h.path) refl
+
+module _ (node : NodeRecord) (props text : Option ℕ) (lawful : AreFields (node_fields node props text)) where
+  node_of_lines : IsPath node.path → IfSome node.source IsSource → node_of (lines (node_fields node props text))
+      ≡ Ok (record { path = node.path; kind = node.kind; action = node.action; source = node.source; props = None; text = None })
+  node_of_lines path source =
+      let fields = node_fields node props text in
+      node_of_values (lines fields) node.path node.kind node.action node.source
+      (ap (λ r. r >>= λ value. path_of (unwrap_or value [])) (value_found fields (codes "Node-path") (Some (path_text node.path)) lawful refl)
+      ∙ path_of_path_text node.path path)
+      (ap (λ r. r >>= kind_of) (value_found fields (codes "Node-kind") (option_map kind_word node.kind) lawful refl) ∙ kind_read node.kind)
+      (ap (λ r. r >>= action_of) (value_found fields (codes "Node-action") (Some (action_word node.action)) lawful refl) ∙ action_read node.action)
+      (source_read (lines fields) node.source source
+      (value_found fields (codes "Node-copyfrom-rev") (option_map (λ (s : CopySource). decimal s.rev) node.source) lawful refl)
+      (value_found fields (codes "Node-copyfrom-path") (option_map (λ (s : CopySource). path_text s.path) node.source) lawful refl))
+
+  shape_of_lines : unwrap_or props 0 + unwrap_or text 0 < 2 ^ 64 → IfSome (md5_given node.text) (IsSum 16) → IfSome (sha1_given node.text) (IsSum 20)
+      → shape_of (lines (node_fields node props text))
+      ≡ Ok (record { lengths = record { props = props; text = text }; sums = record { md5 = md5_given node.text; sha1 = sha1_given node.text };
+      changes_props = changes_props node.props; changes_text = changes_text node.text })
+  shape_of_lines small md5 sha1 =
+      let fields = node_fields node props text in
+      let block = lines fields in
+      let both = both_lengths props text in
+      shape_of_values block props text (md5_given node.text) (sha1_given node.text) (changes_props node.props) (changes_text node.text)
+      (lengths_of_values block props text both
+      (number_at block (codes "Prop-content-length") props (omega (arith, small))
+      (value_found fields (codes "Prop-content-length") (option_map decimal props) lawful refl))
+      (number_at block (codes "Text-content-length") text (omega (arith, small))
+      (value_found fields (codes "Text-content-length") (option_map decimal text) lawful refl))
+      (number_at block (codes "Content-length") both (both_small props text small)
+      (value_found fields (codes "Content-length") (option_map decimal both) lawful refl))
+      (lengths_agree props text))
+      (sums_of_values block (md5_given node.text) (sha1_given node.text)
+      (sum_at 16 block (codes "Text-content-md5") (md5_given node.text) md5
+      (value_found fields (codes "Text-content-md5") (option_map encode_lower (md5_given node.text)) lawful refl))
+      (sum_at 16 block (codes "Text-content-checksum") None tt (value_found fields (codes "Text-content-checksum") None lawful refl))
+      (sum_at 20 block (codes "Text-content-sha1") (sha1_given node.text) sha1
+      (value_found fields (codes "Text-content-sha1") (option_map encode_lower (sha1_given node.text)) lawful refl)))
+      (flag_at block (codes "Prop-delta") (changes_props node.props)
+      (value_found fields (codes "Prop-delta") (flag (changes_props node.props)) lawful refl))
+      (flag_at block (codes "Text-delta") (changes_text node.text)
+      (value_found fields (codes "Text-delta") (flag (changes_text node.text)) lawful refl))
+
+  headed_lines : (limits : Limits) (texts : Texts) (after : List ℕ) → headed_at limits texts (lines (node_fields node props text)) after
+      ≡ node_at limits texts (lines (node_fields node props text)) after
+  headed_lines limits texts after =
+      let fields = node_fields node props text in
+      let block = lines fields in
+      headed_node limits texts block after (lines_are_headers fields lawful)
+      (ap (λ r. r >>= as_number) (value_found fields (codes "Revision-number") None lawful refl))
+      (given_at block (codes "Node-path") (Some (path_text node.path))
+      (value_found fields (codes "Node-path") (Some (path_text node.path)) lawful refl))
+      (given_at block (codes "UUID") None (value_found fields (codes "UUID") None lawful refl))
+      (given_at block (codes "SVN-fs-dump-format-version") None (value_found fields (codes "SVN-fs-dump-format-version") None lawful refl))
+
+-- ---- its sections
+
+sums_lawful : (section : Option TextSection) → IfSome section IsTextSection
+    → IfSome (md5_given section) (IsSum 16) × IfSome (sha1_given section) (IsSum 20)
+sums_lawful None h = (tt, tt)
+sums_lawful (Some (text.Whole bytes)) h = ((length-md5 bytes, IsBytes-md5 bytes), (length-sha1 bytes, IsBytes-sha1 bytes))
+sums_lawful (Some (text.Delta delta)) h = h
+
+len_or_none : (o : Option (List ℕ)) → unwrap_or (option_map length o) 0 ≡ length (unwrap_or o [])
+len_or_none None = refl
+len_or_none (Some bytes) = refl
+
+props_read : (section : Option PropSection) (limit : ℕ) (rest : List ℕ) → IfSome section IsPropSection
+    → length (unwrap_or (prop_section section) []) ≤ limit → length (unwrap_or (prop_section section) []) < 2 ^ 64
+    → if_given (option_map length (prop_section section)) (sized_props_at (changes_props section) limit) (unwrap_or (prop_section section) [] ++ rest)
+    ≡ Ok (section, rest)
+props_read None limit rest h fits small = refl
+props_read (Some section) limit rest h fits small =
+    ap (λ r. r >>= λ read. Ok (Some read.0, read.1)) (sized_section_read section limit rest h fits small)
+
+text_read : (texts : Texts) (section : Option TextSection) (props text : Option ℕ) (delta : Bool) (limit : ℕ) (rest : List ℕ)
+    → IfSome section (CanKeep texts limit)
+    → if_given (option_map length (text_section section))
+    (sized_text_at (record { lengths = record { props = props; text = text }; sums = record { md5 = md5_given section; sha1 = sha1_given section };
+    changes_props = delta; changes_text = changes_text section }) texts limit) (unwrap_or (text_section section) [] ++ rest)
+    ≡ Ok (kept_text texts section, rest)
+text_read Whole None props text delta limit rest fits = refl
+text_read Sha1 None props text delta limit rest fits = refl
+text_read Whole (Some section) props text delta limit rest fits =
+    ap (λ r. r >>= λ read. Ok (Some read.0, read.1)) (sized_text_read Whole section props text delta limit rest fits)
+text_read Sha1 (Some section) props text delta limit rest fits =
+    ap (λ r. r >>= λ read. Ok (Some read.0, read.1)) (sized_text_read Sha1 section props text delta limit rest fits)
+
+-- ---- the record
+
+-- the record, cut after its headers
+record_parts : (headers props text end rest : List ℕ) → ((((headers ++ 10 ∷ []) ++ props) ++ text) ++ end) ++ rest
+    ≡ headers ++ 10 ∷ (props ++ (text ++ (end ++ rest)))
+record_parts headers props text end rest = simp append_assoc refl
+
+pub node_read : (limits : Limits) (texts : Texts) (node : NodeRecord) (empty_lines : ℕ) (rest : List ℕ) → IsWritable limits texts node
+    → empty_lines ≤ 2
+    → record_at limits texts (replicate empty_lines 10 ++ (written node ++ rest)) ≡ Ok (Some (Node (kept_node texts node)), 10 ∷ 10 ∷ rest)
+node_read limits texts node empty_lines rest h few =
+    let props = option_map length (prop_section node.props) in
+    let text = option_map length (text_section node.text) in
+    let fields = node_fields node props text in
+    let same = headers_are_lines node props text in
+    let small : unwrap_or props 0 + unwrap_or text 0 < 2 ^ 64 =
+    omega (arith, h.lengths, len_or_none (prop_section node.props), len_or_none (text_section node.text)) in
+    let lawful = node_fields_lawful node props text h.path h.source small in
+    let sums = sums_lawful node.text h.text in
+    let mid = unwrap_or (text_section node.text) [] ++ (10 ∷ 10 ∷ rest) in
+    let after = unwrap_or (prop_section node.props) [] ++ mid in
+    let parts : written node ++ rest ≡ lines fields ++ 10 ∷ after =
+    record_parts (headers_of node) (unwrap_or (prop_section node.props) []) (unwrap_or (text_section node.text) []) (10 ∷ 10 ∷ []) rest
+    ∙ ap (λ (l : List ℕ). l ++ 10 ∷ after) same in
+    let fits : empty_lines + length (lines fields) ≤ limits.headers = omega (arith, h.headers_fit, ap length same, few) in
+    let whole = node_of_sections limits texts (lines fields) after mid (10 ∷ 10 ∷ rest)
+    (record { path = node.path; kind = node.kind; action = node.action; source = node.source; props = None; text = None }) props text
+    (md5_given node.text) (sha1_given node.text) (changes_props node.props) (changes_text node.text) node.props (kept_text texts node.text)
+    (node_of_lines node props text lawful h.path h.source) (shape_of_lines node props text lawful small sums.0 sums.1)
+    (props_read node.props limits.props mid h.props h.props_fit (omega (arith, h.lengths)))
+    (text_read texts node.text props text (changes_props node.props) limits.text (10 ∷ 10 ∷ rest) h.text_fits) in
+    ap (λ (l : List ℕ). record_at limits texts (replicate empty_lines 10 ++ l)) parts
+    ∙ record_of_block limits texts (replicate empty_lines 10 ++ (lines fields ++ 10 ∷ after)) _ _ after (Node (kept_node texts node)) (10 ∷ 10 ∷ rest)
+    (block_of_lines empty_lines fields limits.headers after lawful refl fits) (headed_lines node props text lawful limits texts after ∙ whole)
