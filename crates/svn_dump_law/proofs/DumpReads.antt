@@ -35,7 +35,8 @@ revision_fields rev =
 fields_lawful : (rev : ℕ) → rev < 2 ^ 64 → AreFields (revision_fields rev)
 fields_lawful rev small = (
   record { name = refl; name_line = refl; value = (spelled rev small).no_line_feed },
-  (record { name = refl; name_line = refl; value = refl }, (record { name = refl; name_line = refl; value = refl }, tt)))
+  (record { name = refl; name_line = refl; value = refl }, (record { name = refl; name_line = refl; value = refl }, tt)),
+)
 
 -- a record of three lines
 three_lines : (a b c end rest : List ℕ) → (((a ++ b) ++ c) ++ end) ++ rest ≡ (a ++ (b ++ (c ++ []))) ++ (end ++ rest)
@@ -122,12 +123,16 @@ kept_so limits texts (r ∷ records) empty_lines room few h =
         → IsReadAs limits texts (replicate empty_lines 10 ++ (written_record r ++ flat_map written_record records))
         (kept_record texts r ∷ map (kept_record texts) records)
     one Other lawful more = absurd lawful
-    one (Revision rev) lawful more =
-        (10 ∷ flat_map written_record records,
-        revision_read limits texts rev empty_lines (flat_map written_record records) lawful room few, more 1 (omega arith))
-    one (Node node) lawful more =
-        (10 ∷ 10 ∷ flat_map written_record records,
-        node_read limits texts node empty_lines (flat_map written_record records) lawful few, more 2 (omega arith))
+    one (Revision rev) lawful more = (
+      10 ∷ flat_map written_record records,
+      revision_read limits texts rev empty_lines (flat_map written_record records) lawful room few,
+      more 1 (omega arith),
+    )
+    one (Node node) lawful more = (
+      10 ∷ 10 ∷ flat_map written_record records,
+      node_read limits texts node empty_lines (flat_map written_record records) lawful few,
+      more 2 (omega arith),
+    )
 
 whole_records : (records : List Record) → map (kept_record Whole) records ≡ records
 whole_records [] = refl

@@ -186,15 +186,38 @@ pub node_fields_lawful : (node : NodeRecord) (props text : Option ℕ) → IsPat
     → unwrap_or props 0 + unwrap_or text 0 < 2 ^ 64 → AreFields (node_fields node props text)
 node_fields_lawful node props text path source small = (
   record { name = refl; name_line = refl; value = path_lacks_line_feed node.path path.names },
-  (record { name = refl; name_line = refl; value = mapped kind_word node.kind kind_plain },
-  (record { name = refl; name_line = refl; value = action_plain node.action },
-  (record { name = refl; name_line = refl; value = rev_plain node.source source },
-  (record { name = refl; name_line = refl; value = source_plain node.source source },
-  (record { name = refl; name_line = refl; value = flag_plain (changes_props node.props) },
-  (record { name = refl; name_line = refl; value = flag_plain (changes_text node.text) },
-  (record { name = refl; name_line = refl; value = mapped encode_lower (md5_given node.text) encoded_lacks_line_feed },
-  (record { name = refl; name_line = refl; value = mapped encode_lower (sha1_given node.text) encoded_lacks_line_feed },
-  (record { name = refl; name_line = refl; value = number_plain props (omega (arith, small)) },
-  (record { name = refl; name_line = refl; value = number_plain text (omega (arith, small)) },
-  (record { name = refl; name_line = refl; value = number_plain (both_lengths props text) (both_small props text small) },
-  tt))))))))))))
+  (
+    record { name = refl; name_line = refl; value = mapped kind_word node.kind kind_plain },
+    (
+      record { name = refl; name_line = refl; value = action_plain node.action },
+      (
+        record { name = refl; name_line = refl; value = rev_plain node.source source },
+        (
+          record { name = refl; name_line = refl; value = source_plain node.source source },
+          (
+            record { name = refl; name_line = refl; value = flag_plain (changes_props node.props) },
+            (
+              record { name = refl; name_line = refl; value = flag_plain (changes_text node.text) },
+              (
+                record { name = refl; name_line = refl; value = mapped encode_lower (md5_given node.text) encoded_lacks_line_feed },
+                (
+                  record { name = refl; name_line = refl; value = mapped encode_lower (sha1_given node.text) encoded_lacks_line_feed },
+                  (
+                    record { name = refl; name_line = refl; value = number_plain props (omega (arith, small)) },
+                    (
+                      record { name = refl; name_line = refl; value = number_plain text (omega (arith, small)) },
+                      (
+                        record { name = refl; name_line = refl; value = number_plain (both_lengths props text) (both_small props text small) },
+                        tt,
+                      ),
+                    ),
+                  ),
+                ),
+              ),
+            ),
+          ),
+        ),
+      ),
+    ),
+  ),
+)

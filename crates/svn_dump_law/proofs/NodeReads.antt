@@ -71,8 +71,12 @@ module _ (node : NodeRecord) (props text : Option ℕ) (lawful : AreFields (node
 
   shape_of_lines : unwrap_or props 0 + unwrap_or text 0 < 2 ^ 64 → IfSome (md5_given node.text) (IsSum 16) → IfSome (sha1_given node.text) (IsSum 20)
       → shape_of (lines (node_fields node props text))
-      ≡ Ok (record { lengths = record { props = props; text = text }; sums = record { md5 = md5_given node.text; sha1 = sha1_given node.text };
-      changes_props = changes_props node.props; changes_text = changes_text node.text })
+      ≡ Ok (record {
+        lengths = record { props = props; text = text };
+        sums = record { md5 = md5_given node.text; sha1 = sha1_given node.text };
+        changes_props = changes_props node.props;
+        changes_text = changes_text node.text;
+      })
   shape_of_lines small md5 sha1 =
       let fields = node_fields node props text in
       let block = lines fields in
@@ -132,8 +136,12 @@ props_read (Some section) limit rest h fits small =
 text_read : (texts : Texts) (section : Option TextSection) (props text : Option ℕ) (delta : Bool) (limit : ℕ) (rest : List ℕ)
     → IfSome section (CanKeep texts limit)
     → if_given (option_map length (text_section section))
-    (sized_text_at (record { lengths = record { props = props; text = text }; sums = record { md5 = md5_given section; sha1 = sha1_given section };
-    changes_props = delta; changes_text = changes_text section }) texts limit) (unwrap_or (text_section section) [] ++ rest)
+    (sized_text_at (record {
+      lengths = record { props = props; text = text };
+      sums = record { md5 = md5_given section; sha1 = sha1_given section };
+      changes_props = delta;
+      changes_text = changes_text section;
+    }) texts limit) (unwrap_or (text_section section) [] ++ rest)
     ≡ Ok (kept_text texts section, rest)
 text_read Whole None props text delta limit rest fits = refl
 text_read Sha1 None props text delta limit rest fits = refl

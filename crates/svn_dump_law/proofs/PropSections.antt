@@ -141,9 +141,13 @@ changes_read removes [] zero h few = absurd (omega (arith, few))
 changes_read removes [] (suc most) h few = refl
 changes_read removes (c ∷ changes) zero h few =
     absurd
-    (omega
-    (arith, few, h.0.some, length-append (entry c.0 c.1 ++ change_entries changes) (codes "PROPS-END\n"),
-    length-append (entry c.0 c.1) (change_entries changes)))
+    (omega (
+      arith,
+      few,
+      h.0.some,
+      length-append (entry c.0 c.1 ++ change_entries changes) (codes "PROPS-END\n"),
+      length-append (entry c.0 c.1) (change_entries changes),
+    ))
 changes_read removes (c ∷ changes) (suc most) h few =
     let after = change_entries changes ++ codes "PROPS-END\n" in
     let parts = append_assoc (entry c.0 c.1) (change_entries changes) (codes "PROPS-END\n") in
@@ -181,10 +185,11 @@ whole_reads : (all : List Prop) → All IsPropName (keys_of all) → length (cha
 whole_reads [] h small = tt
 whole_reads (p ∷ all) h small =
     let both = length-append (entry p.0 (Some p.1)) (change_entries (settings all)) in
-    let runs = length-append (run 75 p.0) (run 86 p.1) in
-    (set_reads false p.0 p.1 (All-head IsPropName p.0 (keys_of all) h) (omega (arith, small, both, runs, length_run 75 p.0))
-    (omega (arith, small, both, runs, length_run 86 p.1)),
-    whole_reads all (All-tail IsPropName p.0 (keys_of all) h) (omega (arith, small, both)))
+    let runs = length-append (run 75 p.0) (run 86 p.1) in (
+      set_reads false p.0 p.1 (All-head IsPropName p.0 (keys_of all) h) (omega (arith, small, both, runs, length_run 75 p.0))
+          (omega (arith, small, both, runs, length_run 86 p.1)),
+      whole_reads all (All-tail IsPropName p.0 (keys_of all) h) (omega (arith, small, both)),
+    )
 
 -- a name after all others is put at the end
 put_last : (done : List Prop) (p : Prop) (rest : List Prop) → InNameOrder (done ++ p ∷ rest) → insert_entry name_cmp done p.0 p.1 ≡ done ++ p ∷ []

@@ -60,22 +60,47 @@ sums_of_values block (Some md5) sha1 e f g = rw (e, f, g) refl
 pub shape_of_values : (block : List ℕ) (props text : Option ℕ) (md5 sha1 : Option (List ℕ)) (changes_props changes_text : Bool)
     → lengths_of block ≡ Ok (record { props = props; text = text }) → sums_of block ≡ Ok (record { md5 = md5; sha1 = sha1 })
     → true_value block (codes "Prop-delta") ≡ Ok changes_props → true_value block (codes "Text-delta") ≡ Ok changes_text
-    → shape_of block ≡ Ok (record { lengths = record { props = props; text = text }; sums = record { md5 = md5; sha1 = sha1 };
-    changes_props = changes_props; changes_text = changes_text })
+    → shape_of block ≡ Ok (record {
+      lengths = record { props = props; text = text };
+      sums = record { md5 = md5; sha1 = sha1 };
+      changes_props = changes_props;
+      changes_text = changes_text;
+    })
 unfolding shape_of
 shape_of_values block props text md5 sha1 changes_props changes_text e f g h = rw (e, f, g, h) refl
 
 pub node_of_sections : (limits : Limits) (texts : Texts) (block bytes mid rest : List ℕ) (node : NodeRecord) (props text : Option ℕ)
     (md5 sha1 : Option (List ℕ)) (changes_props changes_text : Bool) (prop_section : Option PropSection) (text_section : Option TextSection)
     → node_of block ≡ Ok node
-    → shape_of block ≡ Ok (record { lengths = record { props = props; text = text }; sums = record { md5 = md5; sha1 = sha1 };
-    changes_props = changes_props; changes_text = changes_text })
-    → prop_section_at (record { lengths = record { props = props; text = text }; sums = record { md5 = md5; sha1 = sha1 };
-    changes_props = changes_props; changes_text = changes_text }) limits.props bytes ≡ Ok (prop_section, mid)
-    → text_section_at (record { lengths = record { props = props; text = text }; sums = record { md5 = md5; sha1 = sha1 };
-    changes_props = changes_props; changes_text = changes_text }) texts limits.text mid ≡ Ok (text_section, rest)
-    → node_at limits texts block bytes ≡ Ok (Node (record { path = node.path; kind = node.kind; action = node.action; source = node.source;
-    props = prop_section; text = text_section }), rest)
+    → shape_of block ≡ Ok (record {
+      lengths = record { props = props; text = text };
+      sums = record { md5 = md5; sha1 = sha1 };
+      changes_props = changes_props;
+      changes_text = changes_text;
+    })
+    → prop_section_at (record {
+      lengths = record { props = props; text = text };
+      sums = record { md5 = md5; sha1 = sha1 };
+      changes_props = changes_props;
+      changes_text = changes_text;
+    }) limits.props bytes ≡ Ok (prop_section, mid)
+    → text_section_at (record {
+      lengths = record { props = props; text = text };
+      sums = record { md5 = md5; sha1 = sha1 };
+      changes_props = changes_props;
+      changes_text = changes_text;
+    }) texts limits.text mid ≡ Ok (text_section, rest)
+    → node_at limits texts block bytes ≡ Ok (
+      Node (record {
+        path = node.path;
+        kind = node.kind;
+        action = node.action;
+        source = node.source;
+        props = prop_section;
+        text = text_section;
+      }),
+      rest,
+    )
 unfolding node_at
 node_of_sections limits texts block bytes mid rest node props text md5 sha1 changes_props changes_text prop_section text_section e f g h =
     rw (e, f, g, h) refl

@@ -130,14 +130,17 @@ changed_read = refl
 
 -- with stand-ins for texts
 changed_kept : record_at limits Sha1 changed_bytes
-    ≡ Ok (Some (Node (record {
-      path = changed_copy.path;
-      kind = changed_copy.kind;
-      action = changed_copy.action;
-      source = changed_copy.source;
-      props = changed_copy.props;
-      text = Some (text.Whole (codes "$sha1$f572d396fae9206628714fb2ce00f72e94f2258f"));
-    })), codes "\n\n")
+    ≡ Ok (
+      Some (Node (record {
+        path = changed_copy.path;
+        kind = changed_copy.kind;
+        action = changed_copy.action;
+        source = changed_copy.source;
+        props = changed_copy.props;
+        text = Some (text.Whole (codes "$sha1$f572d396fae9206628714fb2ce00f72e94f2258f"));
+      })),
+      codes "\n\n",
+    )
 unfolding is_utf8 chars lib.Utf8.encode headers_at block_at changes_at encode_with decode_pairs shape_of subject_of node_of node_at record_at
 changed_kept = refl
 
@@ -170,7 +173,7 @@ unfolding is_utf8 chars lib.Utf8.encode
 path_g = record {
   names = All-cons IsName (codes "d") (codes "f: g" ∷ []) name_d (All-cons IsName (codes "f: g") [] name_g (All-nil IsName));
   texts = All-cons IsUtf8 (codes "d") (codes "f: g" ∷ []) (IsUtf8-from_is_utf8 (codes "d") refl)
-  (All-cons IsUtf8 (codes "f: g") [] (IsUtf8-from_is_utf8 (codes "f: g") refl) (All-nil IsUtf8));
+      (All-cons IsUtf8 (codes "f: g") [] (IsUtf8-from_is_utf8 (codes "f: g") refl) (All-nil IsUtf8));
   bounded = lit≤ tt;
 }
 
@@ -186,7 +189,7 @@ changed_is_writable = record {
   path = path_f;
   source = record { path = path_g; rev = lit< tt };
   props = All-cons (λ c. IsPropName c.0) (codes "b", Some (codes "x")) ((codes "a", None) ∷ []) prop_b
-  (All-cons (λ c. IsPropName c.0) (codes "a", None) [] prop_a (All-nil (λ c. IsPropName c.0)));
+      (All-cons (λ c. IsPropName c.0) (codes "a", None) [] prop_a (All-nil (λ c. IsPropName c.0)));
   text = ((refl, bytes_from_test hello_md5 refl), (refl, bytes_from_test hello_sha1 refl));
   headers_fit = lit≤ tt;
   props_fit = lit≤ tt;

@@ -34,8 +34,12 @@ own_sums bytes = rw (bytes_eq-same (md5 bytes), bytes_eq-same (sha1 bytes)) refl
 -- a text of so many bytes as it is kept, and what is after it
 pub sized_text_read : (texts : Texts) (section : TextSection) (props text : Option ℕ) (changes_props : Bool) (limit : ℕ) (rest : List ℕ)
     → CanKeep texts limit section
-    → sized_text_at (record { lengths = record { props = props; text = text }; sums = record { md5 = md5_of section; sha1 = sha1_of section };
-    changes_props = changes_props; changes_text = is_text_delta section }) texts limit (length (text_bytes section)) (text_bytes section ++ rest)
+    → sized_text_at (record {
+      lengths = record { props = props; text = text };
+      sums = record { md5 = md5_of section; sha1 = sha1_of section };
+      changes_props = changes_props;
+      changes_text = is_text_delta section;
+    }) texts limit (length (text_bytes section)) (text_bytes section ++ rest)
     ≡ Ok (kept_section texts section, rest)
 sized_text_read Whole (text.Whole bytes) props len changes_props limit rest fits =
     rw (le-ltb limit (length bytes) fits, cut_whole bytes rest, own_sums bytes) refl
