@@ -29,7 +29,7 @@ pub mod Standing
 pub mod Known
 -- A change that is made by one graft.
 pub mod Pendings
--- One more change of a list of changes.
+-- One more change of a list of changes: as a loop over the list comes to it, and after all the others.
 pub mod Runs
 -- What a commit makes is within the limits, and of its line's kind: a law of the definitions alone.
 pub mod Lawful

@@ -3,10 +3,9 @@ use Rattle.std.proofs.Common.{◌≡◌, ℕ, ◌-◌, ◌<◌, ◌≤◌, cond,
 use Rattle.std.proofs.Common.{Option, Some, None, subst, sym, ap, ◌∙◌, length-take-le, take_all}
 use Rattle.std.specs.Prelude.{nat_lt}
 use Rattle.std.specs.List.{slice_get}
-use Rattle.std.specs.Option.{option_and_then, option_map, option_or}
+use Rattle.std.specs.Option.{option_and_then, option_map}
 use Rattle.std.proofs.lemmas.List.{length-map}
 use Rattle.std.proofs.lemmas.Option.{slice_get_within}
-use Rattle.svn_lists.proofs.Options.{option_or_none, option_or_next}
 use Rattle.svn_lists.proofs.Places.{take_from_places, slice_get-take, slice_get-last}
 use Rattle.svn_repo.specs.declared.store.Node.{Node}
 use Rattle.svn_repo.specs.declared.change.Change.{Change}
@@ -17,27 +16,13 @@ use Rattle.svn_repo.specs.Stored.{row_of, rows, history_of, IsHeight, IsStored, 
 use Rattle.svn_repo.specs.Heights.{IsOrdered}
 use Rattle.svn_repo.specs.Trees.{place_of, place_at, tree_below}
 use Rattle.svn_repo.specs.Drafts.{IsDraft, KeepsOld, AreRootsBelow, IsPast, past_in, tree_in}
-use Rattle.svn_repo.specs.Changes.{Pending, pending_in, change_fault, changes_fault, after_change, after_changes}
+use Rattle.svn_repo.specs.Changes.{Pending, pending_in, change_fault, after_change}
 use Rattle.svn_repo.specs.Changes.{IsMade, AllMade, IsRevision}
 use Rattle.svn_repo.specs.Transactions.{OpenRevision, IsOpen, IsBegun, IsChanged, open_in, pending_of}
 use Rattle.svn_repo.proofs.OldRevisions.{nodes_are, past_kept}
+use Rattle.svn_repo.proofs.Runs.{no_fault-push, after_changes-push}
 use Rattle.svn_repo.proofs.Tallest.{draft_ordered, heights_kept}
 use Rattle.svn_repo.proofs.Commits.{start_draft, start_past, start_pending, roots_below, still_sound, is_revision, pending}
-
--- ---- a list of changes, and one more
-
-no_fault-push : (h : History) (s : Pending) (cs : List Change) (c : Change) → changes_fault h s cs ≡ None
-    → change_fault h (after_changes h s cs) c ≡ None → changes_fault h s (cs ++ c ∷ []) ≡ None
-no_fault-push h s [] c e f = ap (λ (o : Option CommitFault). option_or o None) f
-no_fault-push h s (d ∷ cs) c e f =
-    let parts = option_or_none (change_fault h s d) (changes_fault h (after_change h s d) cs) e in
-    option_or_next (change_fault h s d) (changes_fault h (after_change h s d) (cs ++ c ∷ [])) parts.0
-    ∙ no_fault-push h (after_change h s d) cs c parts.1 f
-
-after_changes-push : (h : History) (s : Pending) (cs : List Change) (c : Change)
-    → after_changes h s (cs ++ c ∷ []) ≡ after_change h (after_changes h s cs) c
-after_changes-push h s [] c = refl
-after_changes-push h s (d ∷ cs) c = after_changes-push h (after_change h s d) cs c
 
 -- ---- the nodes before the base
 
