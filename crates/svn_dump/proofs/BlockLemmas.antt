@@ -48,11 +48,13 @@ pub headers_full : (front : List ℕ) (fresh : Bool) (room b : ℕ) (bs : List �
 unfolding headers_at
 headers_full front fresh room b bs e f = rw (e, f) refl
 
--- a byte more
-pub headers_more : (front : List ℕ) (fresh : Bool) (room b : ℕ) (bs : List ℕ) → (fresh && is_line_feed b) ≡ false → nat_eq room 0 ≡ false
-    → with_front front (headers_at fresh room (b ∷ bs)) ≡ with_front (front ++ b ∷ []) (headers_at (is_line_feed b) (room - 1) bs)
+-- a byte more, after which the front is this
+pub headers_more : (front next_front : List ℕ) (fresh next_fresh : Bool) (room b : ℕ) (bs : List ℕ) → (fresh && is_line_feed b) ≡ false
+    → nat_eq room 0 ≡ false → next_front ≡ front ++ b ∷ [] → next_fresh ≡ is_line_feed b
+    → with_front front (headers_at fresh room (b ∷ bs)) ≡ with_front next_front (headers_at next_fresh (room - 1) bs)
 unfolding headers_at
-headers_more front fresh room b bs e f = rw (e, f) (fronts front (b ∷ []) (headers_at (is_line_feed b) (room - 1) bs))
+headers_more front next_front fresh next_fresh room b bs e f same_front same_fresh =
+    rw (e, f, same_front, same_fresh) (fronts front (b ∷ []) (headers_at (is_line_feed b) (room - 1) bs))
 
 -- no byte more
 pub headers_cut : (front : List ℕ) (fresh : Bool) (room : ℕ) → with_front front (headers_at fresh room []) ≡ Err CutOff
@@ -68,10 +70,10 @@ unfolding block_at
 block_full blank room b bs f = rw f refl
 
 -- a byte that is passed over
-pub block_blank : (blank : Bool) (room b : ℕ) (bs : List ℕ) → nat_eq room 0 ≡ false → (blank || is_space b) ≡ true
-    → block_at blank room (b ∷ bs) ≡ block_at (not (is_line_feed b)) (room - 1) bs
+pub block_blank : (blank line_feed : Bool) (room b : ℕ) (bs : List ℕ) → nat_eq room 0 ≡ false → (blank || is_space b) ≡ true
+    → line_feed ≡ is_line_feed b → block_at blank room (b ∷ bs) ≡ block_at (not line_feed) (room - 1) bs
 unfolding block_at
-block_blank blank room b bs f e = rw (f, e) refl
+block_blank blank line_feed room b bs f e same = rw (f, e, same) refl
 
 -- the first byte of the headers
 pub block_begins : (blank : Bool) (room b : ℕ) (bs : List ℕ) → nat_eq room 0 ≡ false → (blank || is_space b) ≡ false

@@ -47,11 +47,13 @@ abbrev pub after_headers : List ℕ → Result (List ℕ × List ℕ) Reason →
 after_headers bytes (Ok read) = read.1
 after_headers bytes (Err reason) = bytes
 
+-- the headers are those that are found, and so many of all bytes are before them
 abbrev pub HeadersShown : ℕ → List ℕ → ℕ → List ℕ → Result (List ℕ × List ℕ) Reason → Type 0
 HeadersShown taken bytes begun block found =
     (block ≡ found_headers found)
     × ((all : ℕ) → OfAll all taken (Some bytes) → begun + headers_len block + length (after_headers bytes found) ≡ all)
 
+-- of the bytes that are left, after so many were taken
 unfoldable pub Shows : Limits → ℕ → Option (List ℕ) → ℕ → List ℕ → Type 0
 Shows limits taken None begun block = Unit {0}
 Shows limits taken (Some bytes) begun block = HeadersShown taken bytes begun block (block_at false limits.headers bytes)

@@ -8,10 +8,10 @@ use crate::fault::{DumpFault, Reason};
 use svn_types::split_once;
 
 // The value of a header, before which is a space.
-fn read_value(behind: &[u8]) -> Option<&[u8]>
-    ensures { (name : List ℕ) → option_map (λ (value : List ℕ). (name, value)) (option_copied result) ≡ valued name behind.now }
+fn read_value(after: &[u8]) -> Option<&[u8]>
+    ensures { (name : List ℕ) → option_map (λ (value : List ℕ). (name, value)) (option_copied result) ≡ valued name after.now }
 {
-    match behind {
+    match after {
         [b' ', value @ ..] => Some(value),
         _ => None,
     }
@@ -21,10 +21,10 @@ fn read_value(behind: &[u8]) -> Option<&[u8]>
 fn read_header(line: &[u8]) -> Option<(&[u8], &[u8])>
     ensures { MatchOption result (header_of line.now ≡ None) (λ h. header_of line.now ≡ Some (h.0.now, h.1.now)) }
 {
-    let Some((name, behind)) = split_once(line, b':') else {
+    let Some((name, after)) = split_once(line, b':') else {
         return None;
     };
-    match read_value(behind) {
+    match read_value(after) {
         Some(value) => Some((name, value)),
         None => None,
     }

@@ -16,8 +16,9 @@
 //! ```
 //!
 //! Promises: what `next_record` returns is the record that the format gives for the bytes that are left, just its bytes are taken, and a refusal is the
-//! first fault from left to right (`record_at` of `specs/Records.antt`, which knows no reader); only a failed read and want of memory are free. What is
-//! written is `written` of `specs/Written.antt`.
+//! first fault from left to right (`record_at` of `specs/Records.antt`, which knows no reader); only a failed read and an allocation that failed are free.
+//! `begun` and `path` are then where that record begins and the path that its headers give, also of a record that is refused (`Shows` of
+//! `specs/Readers.antt`). What is written is `written` of `specs/Written.antt`.
 #![tactic(auto)]
 
 mod fault;

@@ -25,7 +25,7 @@ fn read_length(line: &[u8], letter: u8) -> Option<u64>
     }
 }
 
-// The first so many bytes and those after the line feed behind them.
+// The first so many bytes and those after the line feed that ends them.
 fn cut_line(bytes: &[u8], len: u64) -> Option<(&[u8], &[u8])>
     ensures parts { MatchOption result (cut_line bytes.now (Some len) ≡ None) (λ r. cut_line bytes.now (Some len) ≡ Some (r.0.now, r.1.now)) }
     ensures shorter { IfSome result (λ r. length r.1.now < length bytes.now) }

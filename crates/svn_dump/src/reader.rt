@@ -238,7 +238,7 @@ impl<R: Read + Drop> Reader<R> {
     }
 
     /// The next record; None at the end. It is the one that `record_at` gives for the bytes that are left, and just its bytes are taken; a refusal is
-    /// the first fault from left to right.
+    /// the first fault from left to right. After an error the reader is somewhere within the record, and what it reads next is unspecified.
     #[tactic(auto, using(crate::proofs::RecordLemmas::no_record, crate::proofs::RecordLemmas::no_headers, crate::proofs::RecordLemmas::one_record, crate::proofs::RecordLemmas::bad_record))]
     pub fn next_record(&mut self) -> Result<Option<Record>, DumpFault>
         ensures bytes { Reads (λ r. r) (left_in R.remaining self.old) (left_in R.remaining self.new) result (record_at self.old.limits self.old.texts) }

@@ -1,11 +1,11 @@
 -- Numbers in decimal digits.
-use Rattle.std.proofs.Common.{◌≡◌, ℕ, ◌+◌, ◌-◌, ◌*◌, ◌/◌, ◌%◌, ◌^◌, ◌<◌, ◌≤◌, Bool, true, false, not, ◌&&◌, List, [], ◌∷◌, ◌++◌, length, Option, Some, None, refl, sym, ap, ◌∙◌, arith, nat_eq, nat_le, nat_lt, decimal, length-append}
+use Rattle.std.proofs.Common.{◌≡◌, ℕ, ◌+◌, ◌-◌, ◌*◌, ◌/◌, ◌%◌, ◌^◌, ◌<◌, ◌≤◌, true, false, not, List, [], ◌∷◌, ◌++◌, length, Some, refl, ◌∙◌, arith, nat_eq, decimal, length-append}
 use Rattle.std.specs.List.{list_all}
 use Rattle.std.proofs.lemmas.Bool.{ne_eqb, le-leb, lt-ltb}
 use Rattle.std.proofs.lemmas.Fmt.{decimal_by_steps, length-decimal-le}
 use Rattle.svn_lists.proofs.Somewhere.{list_all_push}
-use Rattle.svn_dump.specs.Numbers.{is_digit, decimal_from, decimal_value, fitting, has_bytes, number_of}
-use Rattle.svn_dump_law.proofs.HeaderFields.{lacks}
+use Rattle.svn_dump.specs.Numbers.{is_digit, decimal_from, number_of}
+use Rattle.svn_dump_law.proofs.Lacking.{lacks}
 
 -- digits that spell a number
 pub record Spells (n : ℕ) (digits : List ℕ) : Type 0 where

@@ -1,5 +1,5 @@
 -- Revisions, and whole dumps, read as they were written.
-use Rattle.std.proofs.Common.{◌≡◌, ℕ, ◌+◌, ◌^◌, ◌<◌, ◌≤◌, Bool, true, false, List, [], ◌∷◌, ◌++◌, length, replicate, map, Option, Some, None, Ok, All, refl, sym, ap, subst, ◌∙◌, arith, append_assoc, append-nil, codes, decimal, nat_le, length-append}
+use Rattle.std.proofs.Common.{◌≡◌, ℕ, ◌+◌, ◌^◌, ◌<◌, ◌≤◌, List, [], ◌∷◌, ◌++◌, length, replicate, map, Some, None, Ok, All, refl, ap, subst, ◌∙◌, arith, append_assoc, append-nil, codes, decimal, length-append}
 use Rattle.std.specs.List.{flat_map}
 use Rattle.std.proofs.lemmas.Bool.{le-leb}
 use Rattle.std.proofs.lemmas.Fmt.{length-decimal-le}
@@ -10,15 +10,14 @@ use Rattle.svn_dump.specs.declared.sections.Limits.{Limits}
 use Rattle.svn_dump.specs.declared.sections.Texts.{Texts}
 use Rattle.svn_dump.specs.declared.sections.Texts.TheVariants.{Whole, Sha1}
 use Rattle.svn_dump.specs.Reading.{◌>>=◌}
-use Rattle.svn_dump.specs.Blocks.{block_at}
-use Rattle.svn_dump.specs.Fields.{as_number, number_value}
+use Rattle.svn_dump.specs.Fields.{as_number}
 use Rattle.svn_dump.specs.Sections.{after_sections}
 use Rattle.svn_dump.specs.Shapes.{lengths_of}
-use Rattle.svn_dump.specs.Records.{passed_at, headed_at, record_after, record_at, format_of, format_value, format_at}
-use Rattle.svn_dump.specs.Written.{line, number_line, written, revision_record, format_record}
+use Rattle.svn_dump.specs.Records.{headed_at, record_at, format_at}
+use Rattle.svn_dump.specs.Written.{line, number_line, revision_record, format_record}
 use Rattle.svn_dump_law.specs.Laws.{header_room, written_record, IsWritableRecord, kept_record, kept_records, IsReadAs}
 use Rattle.svn_dump_law.proofs.HeaderFields.{Field, AreFields, lines, lines_are_headers}
-use Rattle.svn_dump_law.proofs.HeaderBlocks.{block_of_lines, blank_lines, block_none}
+use Rattle.svn_dump_law.proofs.HeaderBlocks.{block_of_lines, block_none}
 use Rattle.svn_dump_law.proofs.Decimals.{spelled}
 use Rattle.svn_dump_law.proofs.PropSections.{cut_whole}
 use Rattle.svn_dump_law.proofs.FieldValues.{value_found, number_at}
@@ -45,7 +44,8 @@ three_lines a b c end rest = simp (append_assoc, append-nil) refl
 lines_fit : (rev : ℕ) → rev < 2 ^ 64 → length (lines (revision_fields rev)) ≤ 81
 lines_fit rev small =
     let digits = length-decimal-le 20 rev (omega arith) (omega (arith, small)) small in
-    omega (arith, digits, length-append (decimal rev ++ 10 ∷ []) (lines ((codes "Prop-content-length", Some (codes "10")) ∷ (codes "Content-length", Some (codes "10")) ∷ [])), length-append (decimal rev) (10 ∷ []))
+    let after = lines ((codes "Prop-content-length", Some (codes "10")) ∷ (codes "Content-length", Some (codes "10")) ∷ []) in
+    omega (arith, digits, length-append (decimal rev ++ 10 ∷ []) after, length-append (decimal rev) (10 ∷ []))
 
 lengths_read : (rev : ℕ) → rev < 2 ^ 64 → lengths_of (lines (revision_fields rev)) ≡ Ok (record { props = Some 10; text = None })
 lengths_read rev small =
@@ -56,7 +56,8 @@ lengths_read rev small =
     (ap (λ r. r >>= as_number) (value_found fields (codes "Text-content-length") None lawful refl))
     (ap (λ r. r >>= as_number) (value_found fields (codes "Content-length") (Some (codes "10")) lawful refl)) refl
 
-section_passed : (rest : List ℕ) → after_sections (record { props = Some 10; text = None }) (codes "PROPS-END\n" ++ 10 ∷ rest) ≡ Ok (tt, 10 ∷ rest)
+section_passed : (rest : List ℕ)
+    → after_sections (record { props = Some 10; text = None }) (codes "PROPS-END\n" ++ 10 ∷ rest) ≡ Ok (tt, 10 ∷ rest)
 section_passed rest = rw (cut_whole (codes "PROPS-END\n") (10 ∷ rest), cut_whole [] (10 ∷ rest)) refl
 
 headed_read : (limits : Limits) (texts : Texts) (rev : ℕ) (rest : List ℕ) → rev < 2 ^ 64
@@ -75,7 +76,9 @@ pub revision_read : (limits : Limits) (texts : Texts) (rev empty_lines : ℕ) (r
 revision_read limits texts rev empty_lines rest small room few =
     let fields = revision_fields rev in
     let after = codes "PROPS-END\n" ++ 10 ∷ rest in
-    let parts : revision_record rev ++ rest ≡ lines fields ++ 10 ∷ after = three_lines (number_line (codes "Revision-number") rev) (line (codes "Prop-content-length") (codes "10")) (line (codes "Content-length") (codes "10")) (codes "\nPROPS-END\n\n") rest in
+    let parts : revision_record rev ++ rest ≡ lines fields ++ 10 ∷ after =
+    three_lines (number_line (codes "Revision-number") rev) (line (codes "Prop-content-length") (codes "10"))
+    (line (codes "Content-length") (codes "10")) (codes "\nPROPS-END\n\n") rest in
     ap (λ (l : List ℕ). record_at limits texts (replicate empty_lines 10 ++ l)) parts
     ∙ record_of_block limits texts (replicate empty_lines 10 ++ (lines fields ++ 10 ∷ after)) _ _ after (Revision rev) (10 ∷ rest)
     (block_of_lines empty_lines fields limits.headers after (fields_lawful rev small) refl (omega (arith, room, few, lines_fit rev small)))
@@ -119,7 +122,8 @@ kept_so limits texts (r ∷ records) empty_lines room few h =
     (λ lines enough. kept_so limits texts records lines room enough (All-tail (IsWritableRecord limits texts) r records h))
   where
     one : (r : Record) → IsWritableRecord limits texts r
-        → ((lines : ℕ) → lines ≤ 2 → IsReadAs limits texts (replicate lines 10 ++ flat_map written_record records) (map (kept_record texts) records))
+        → ((lines : ℕ) → lines ≤ 2
+        → IsReadAs limits texts (replicate lines 10 ++ flat_map written_record records) (map (kept_record texts) records))
         → IsReadAs limits texts (replicate empty_lines 10 ++ (written_record r ++ flat_map written_record records))
         (kept_record texts r ∷ map (kept_record texts) records)
     one Other lawful more = absurd lawful
@@ -148,4 +152,5 @@ pub records_read : (limits : Limits) (texts : Texts) (records : List Record) →
     → All (IsWritableRecord limits texts) records
     → IsReadAs limits texts (flat_map written_record records) (kept_records texts records)
 records_read limits texts records room h =
-    subst (IsReadAs limits texts (flat_map written_record records)) (kept_ones texts records) (kept_so limits texts records 0 room (omega arith) h)
+    subst (IsReadAs limits texts (flat_map written_record records)) (kept_ones texts records)
+    (kept_so limits texts records 0 room (omega arith) h)

@@ -26,8 +26,8 @@ pub number_at : (block name : List ℕ) (o : Option ℕ) → unwrap_or o 0 < 2 ^
 number_at block name None small e = ap (λ r. r >>= as_number) e
 number_at block name (Some n) small e = ap (λ r. r >>= as_number) e ∙ ap number_or_fault (number_of_decimal n small)
 
-pub sum_at : (size : ℕ) (block name : List ℕ) (o : Option (List ℕ)) → IfSome o (IsSum size) → header_value block name ≡ Ok (option_map encode_lower o)
-    → sum_value size block name ≡ Ok o
+pub sum_at : (size : ℕ) (block name : List ℕ) (o : Option (List ℕ)) → IfSome o (IsSum size)
+    → header_value block name ≡ Ok (option_map encode_lower o) → sum_value size block name ≡ Ok o
 sum_at size block name None h e = ap (λ r. r >>= as_sum size) e
 sum_at size block name (Some sum) h e = ap (λ r. r >>= as_sum size) e ∙ ap sum_or_fault (decode_sized-encode_lower sum size h.0 h.1)
 

@@ -1,10 +1,11 @@
 -- The bytes of a record, cut into its headers and what is after them.
-use Rattle.std.proofs.Common.{◌≡◌, ℕ, zero, suc, ◌+◌, ◌-◌, ◌≤◌, Bool, true, false, not, ◌&&◌, ◌||◌, List, [], ◌∷◌, ◌++◌, length, replicate, Option, Some, None, Result, Ok, Err, refl, sym, ap, ◌∙◌, append_assoc, append-nil, arith, nat_eq, length-append}
+use Rattle.std.proofs.Common.{◌≡◌, ℕ, zero, suc, ◌+◌, ◌-◌, ◌≤◌, Bool, true, false, not, ◌&&◌, List, [], ◌∷◌, ◌++◌, length, replicate, Option, Some, None, Result, Ok, Err, refl, sym, ap, ◌∙◌, append_assoc, arith, nat_eq, length-append}
 use Rattle.std.proofs.lemmas.Bool.{and_parts, ne_eqb}
 use Rattle.svn_dump.specs.declared.fault.Reason.{Reason}
 use Rattle.svn_dump.specs.Blocks.{headers_at, block_at, with_front, is_line_feed, is_space}
 use Rattle.svn_dump.specs.Written.{line}
-use Rattle.svn_dump_law.proofs.HeaderFields.{lacks, lacks_parts, not_true, Field, AreFields, is_value, value_line, lines, header_text, line_parts, text_is_line}
+use Rattle.svn_dump_law.proofs.Lacking.{lacks, lacks_parts, not_true}
+use Rattle.svn_dump_law.proofs.HeaderFields.{Field, AreFields, is_value, value_line, lines, header_text, line_parts, text_is_line}
 
 -- ---- one line
 
@@ -50,7 +51,8 @@ line_rest front (b ∷ text) room left more plain fits =
 
 whole_line : (front : List ℕ) (b : ℕ) (text : List ℕ) (room left : ℕ) (more : List ℕ) → lacks 10 (b ∷ text) ≡ true
     → room ≡ length (b ∷ text) + 1 + left
-    → with_front front (headers_at true room ((b ∷ text) ++ 10 ∷ more)) ≡ with_front (front ++ ((b ∷ text) ++ 10 ∷ [])) (headers_at true left more)
+    → with_front front (headers_at true room ((b ∷ text) ++ 10 ∷ more))
+    ≡ with_front (front ++ ((b ∷ text) ++ 10 ∷ [])) (headers_at true left more)
 whole_line front b text room left more plain fits =
     let parts = lacks_parts 10 b text plain in
     one_byte front true room (room - 1) b (text ++ 10 ∷ more) parts.0 (omega (arith, fits))
@@ -142,8 +144,9 @@ blank_lines (suc count) room bytes =
     ∙ blank_lines count room bytes
 
 -- the headers after so many empty lines
-pub block_of_lines : (count : ℕ) (fields : List Field) (limit : ℕ) (rest : List ℕ) → AreFields fields → begins_header (lines fields ++ 10 ∷ rest) ≡ true
-    → count + length (lines fields) ≤ limit → block_at false limit (replicate count 10 ++ (lines fields ++ 10 ∷ rest)) ≡ Ok (lines fields, rest)
+pub block_of_lines : (count : ℕ) (fields : List Field) (limit : ℕ) (rest : List ℕ) → AreFields fields
+    → begins_header (lines fields ++ 10 ∷ rest) ≡ true → count + length (lines fields) ≤ limit
+    → block_at false limit (replicate count 10 ++ (lines fields ++ 10 ∷ rest)) ≡ Ok (lines fields, rest)
 block_of_lines count fields limit rest h first fits =
     let room = limit - count in
     let whole : limit ≡ count + room = omega (arith, fits) in

@@ -1,60 +1,10 @@
 -- The headers of a record as names with their values, and what is looked up in the lines that are written of them.
-use Rattle.std.proofs.Common.{◌≡◌, ℕ, ◌+◌, ◌<◌, ◌≤◌, Bool, true, false, cond, not, ◌&&◌, ◌||◌, List, [], ◌∷◌, ◌++◌, length, take, drop, get_or, Option, Some, None, Result, Ok, refl, sym, ap, ap₂, ◌∙◌, append_assoc, append-nil, arith, codes, nat_eq, nat_lt, bytes_eq, is_some, option_and_then, length-append}
-use Rattle.std.specs.List.{list_all, flat_map, filter_map, cons_option, onto_first, position, position_or_len, slice_split, AllByRecursion}
-use Rattle.std.proofs.lemmas.Bool.{and_parts, lt-ltb}
-use Rattle.std.proofs.lemmas.List.Splits.{slice_split-cons_yes, slice_split-cons_no}
+use Rattle.std.proofs.Common.{◌≡◌, ℕ, ◌+◌, Bool, true, false, cond, ◌&&◌, ◌||◌, List, [], ◌∷◌, ◌++◌, length, take, drop, Option, Some, None, Ok, refl, sym, ap, ap₂, ◌∙◌, append_assoc, nat_eq, bytes_eq, is_some, option_and_then}
+use Rattle.std.specs.List.{list_all, flat_map, filter_map, cons_option, AllByRecursion}
 use Rattle.std.proofs.Math.Seq.{take-append_seam, drop-append-add}
-use Rattle.svn_lists.proofs.Somewhere.{list_all_append}
-use Rattle.svn_lists.proofs.Tests.{nat_eq-same}
-use Rattle.svn_dump.specs.declared.fault.Reason.{Reason}
-use Rattle.svn_dump.specs.Headers.{lines_of, header_of, if_named, value_in, values_of, valued, single, header_value, is_header, are_headers}
+use Rattle.svn_dump.specs.Headers.{lines_of, header_of, if_named, value_in, values_of, valued, single, is_header, are_headers}
 use Rattle.svn_dump.specs.Written.{line}
-
--- ---- bytes without one of a kind
-
-abbrev pub lacks : ℕ → List ℕ → Bool
-lacks c bytes = list_all (λ b. not (nat_eq b c)) bytes
-
-pub not_true : (b : Bool) → not b ≡ true → b ≡ false
-not_true false h = refl
-not_true true h = cc
-
-pub lacks_parts : (c b : ℕ) (bytes : List ℕ) → lacks c (b ∷ bytes) ≡ true → (nat_eq b c ≡ false) × (lacks c bytes ≡ true)
-lacks_parts c b bytes h =
-    let parts = and_parts (not (nat_eq b c)) (lacks c bytes) h in
-    (not_true (nat_eq b c) parts.0, parts.1)
-
-pub lacks_append : (c : ℕ) (xs ys : List ℕ) → lacks c xs ≡ true → lacks c ys ≡ true → lacks c (xs ++ ys) ≡ true
-lacks_append c xs ys h k = list_all_append (λ b. not (nat_eq b c)) xs ys h k
-
--- the first part of what is cut at a byte that the part hasn't
-pub first_part : (c : ℕ) (part more : List ℕ) → lacks c part ≡ true
-    → slice_split (λ b. nat_eq b c) (part ++ c ∷ more) ≡ part ∷ slice_split (λ b. nat_eq b c) more
-first_part c [] more h = slice_split-cons_yes (λ b. nat_eq b c) c more (nat_eq-same c)
-first_part c (b ∷ part) more h =
-    let parts = lacks_parts c b part h in
-    slice_split-cons_no (λ x. nat_eq x c) b (part ++ c ∷ more) parts.0 ∙ ap (onto_first b) (first_part c part more parts.1)
-
--- what hasn't the byte is one part
-pub one_part : (c : ℕ) (part : List ℕ) → lacks c part ≡ true → slice_split (λ b. nat_eq b c) part ≡ part ∷ []
-one_part c [] h = refl
-one_part c (b ∷ part) h =
-    let parts = lacks_parts c b part h in
-    slice_split-cons_no (λ x. nat_eq x c) b part parts.0 ∙ ap (onto_first b) (one_part c part parts.1)
-
-first_place : (c : ℕ) (part more : List ℕ) → lacks c part ≡ true → position_or_len (λ b. nat_eq b c) (part ++ c ∷ more) ≡ length part
-first_place c [] more h = rw (nat_eq-same c) refl
-first_place c (b ∷ part) more h =
-    let parts = lacks_parts c b part h in
-    let after = first_place c part more parts.1 in
-    rw parts.0 (omega (arith, after))
-
--- where the byte is first that the part hasn't
-pub place_after : (c : ℕ) (part more : List ℕ) → lacks c part ≡ true → position (λ b. nat_eq b c) (part ++ c ∷ more) ≡ Some (length part)
-place_after c part more h =
-    let all = part ++ c ∷ more in
-    let within : nat_lt (length part) (length all) ≡ true = lt-ltb _ _ (omega (arith, length-append part (c ∷ more))) in
-    ap (λ n. cond (nat_lt n (length all)) (Some n) None) (first_place c part more h) ∙ ap (λ b. cond b (Some (length part)) None) within
+use Rattle.svn_dump_law.proofs.Lacking.{lacks, lacks_append, first_part, place_after}
 
 -- ---- fields
 
@@ -154,7 +104,8 @@ lines_are_headers (f ∷ fields) h = one f.0 f.1 h.0.name h.0.name_line h.0.valu
     one own None plain line_like fits rest = rest
     one own (Some value) plain line_like fits rest =
         let header : is_some (header_of (header_text own value)) ≡ true = ap is_some (header_of_text own value plain) in
-        ap (list_all is_header) (lines_of_line own value (lines fields) line_like fits) ∙ both (nat_eq (length (header_text own value)) 0) header rest
+        ap (list_all is_header) (lines_of_line own value (lines fields) line_like fits)
+        ∙ both (nat_eq (length (header_text own value)) 0) header rest
       where
         both : (b : Bool) {h r : Bool} → h ≡ true → r ≡ true → ((b || h) && r) ≡ true
         both true e f = f

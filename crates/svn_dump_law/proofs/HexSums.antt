@@ -1,14 +1,13 @@
 -- Checksums in hexadecimal digits.
-use Rattle.std.proofs.Common.{◌≡◌, ℕ, zero, suc, ◌+◌, ◌*◌, ◌/◌, ◌%◌, ◌^◌, ◌<◌, Bool, true, false, not, List, [], ◌∷◌, ◌++◌, length, get_or, Ok, refl, sym, ap, ◌∙◌, arith, nat_eq, length-append, mod-lt, w32}
+use Rattle.std.proofs.Common.{◌≡◌, ℕ, zero, suc, ◌*◌, ◌/◌, ◌%◌, ◌^◌, ◌<◌, true, not, List, [], ◌∷◌, ◌++◌, length, refl, arith, nat_eq, length-append, w32}
 use Rattle.std.specs.Prelude.{slice_index}
 use Rattle.std.specs.Int.{to_le_bytes, to_be_bytes, byte_at}
 use Rattle.md5.specs.Md5.{md5}
 use Rattle.md5.specs.Md5 as md5_spec
-use Rattle.md5.proofs.StandardFacts.{length-md5}
 use Rattle.sha1.specs.Sha1.{sha1}
 use Rattle.sha1.specs.Sha1 as sha1_spec
 use Rattle.hex.specs.Hex.{IsBytes, encode_with, encode_lower, lower_digits}
-use Rattle.svn_dump_law.proofs.HeaderFields.{lacks, lacks_parts}
+use Rattle.svn_dump_law.proofs.Lacking.{lacks, lacks_parts}
 
 -- ---- checksums are bytes
 

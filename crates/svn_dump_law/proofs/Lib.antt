@@ -1,3 +1,5 @@
+-- bytes that lack one: what is cut at that byte
+pub mod Lacking
 -- the headers of a record, as names with their values: what is looked up in their lines
 pub mod HeaderFields
 -- the bytes of a record, cut into its headers and what is after them

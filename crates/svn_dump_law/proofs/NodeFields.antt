@@ -1,5 +1,5 @@
 -- The headers of a node's record, as names with their values.
-use Rattle.std.proofs.Common.{◌≡◌, ℕ, ◌+◌, ◌^◌, ◌<◌, Bool, true, false, cond, ◌||◌, List, [], ◌∷◌, ◌++◌, length, Option, Some, None, option_map, unwrap_or, is_some, IfSome, refl, sym, ap, ◌∙◌, append_assoc, append-nil, codes, decimal, arith}
+use Rattle.std.proofs.Common.{◌≡◌, ℕ, ◌+◌, ◌^◌, ◌<◌, Bool, true, false, cond, ◌||◌, List, [], ◌∷◌, ◌++◌, Option, Some, None, option_map, unwrap_or, is_some, IfSome, refl, ap, ◌∙◌, append_assoc, append-nil, codes, decimal, arith}
 use Rattle.hex.specs.Hex.{encode_lower}
 use Rattle.svn_types.specs.declared.kind.Kind.{Kind}
 use Rattle.svn_types.specs.declared.kind.Kind.TheVariants.{File, Directory}
@@ -14,7 +14,8 @@ use Rattle.svn_dump.specs.declared.record.TextSection.{TextSection}
 use Rattle.svn_dump.specs.declared.record.TextSection.TheVariants as text
 use Rattle.svn_dump.specs.Written.{kind_line, action_word, source_lines, prop_lines, sum_line, sum_lines, text_lines, length_line, length_lines, headers}
 use Rattle.svn_dump_law.specs.Laws.{IsPath, IsSource}
-use Rattle.svn_dump_law.proofs.HeaderFields.{Field, AreFields, is_value, lacks, value_line, lines}
+use Rattle.svn_dump_law.proofs.Lacking.{lacks}
+use Rattle.svn_dump_law.proofs.HeaderFields.{Field, AreFields, is_value, value_line, lines}
 use Rattle.svn_dump_law.proofs.Decimals.{spelled}
 use Rattle.svn_dump_law.proofs.HexSums.{encoded_lacks_line_feed}
 use Rattle.svn_dump_law.proofs.PathFields.{path_lacks_line_feed}
@@ -89,7 +90,8 @@ sum_is name None = refl
 sum_is name (Some sum) = refl
 
 sums_are : (first second : Option (List ℕ)) → sum_lines first second
-    ≡ value_line (codes "Text-content-md5") (option_map encode_lower first) ++ value_line (codes "Text-content-sha1") (option_map encode_lower second)
+    ≡ value_line (codes "Text-content-md5") (option_map encode_lower first)
+    ++ value_line (codes "Text-content-sha1") (option_map encode_lower second)
 sums_are first second = λ i. sum_is (codes "Text-content-md5") first i ++ sum_is (codes "Text-content-sha1") second i
 
 text_lines_are : (section : Option TextSection) → text_lines section
@@ -138,9 +140,10 @@ headers_are_lines node props text =
     let text_len = value_line (codes "Text-content-length") (option_map decimal text) in
     let both_len = value_line (codes "Content-length") (option_map decimal (both_lengths props text)) in
     let written_so : headers node props text
-    ≡ (((((path ++ kind) ++ action) ++ (rev ++ from)) ++ prop_delta) ++ (text_delta ++ (first ++ second))) ++ ((props_len ++ text_len) ++ both_len) =
-    λ i. (((((path ++ kind_lines node.kind i) ++ action) ++ source_is node.source i) ++ prop_lines_are node.props i) ++ text_lines_are node.text i)
-    ++ lengths_are props text i in
+    ≡ (((((path ++ kind) ++ action) ++ (rev ++ from)) ++ prop_delta) ++ (text_delta ++ (first ++ second)))
+    ++ ((props_len ++ text_len) ++ both_len) =
+    λ i. (((((path ++ kind_lines node.kind i) ++ action) ++ source_is node.source i) ++ prop_lines_are node.props i)
+    ++ text_lines_are node.text i) ++ lengths_are props text i in
     written_so ∙ in_order path kind action rev from prop_delta text_delta first second props_len text_len both_len
 
 -- ---- lawful values

@@ -1,5 +1,5 @@
 -- Nodes, read as they were written.
-use Rattle.std.proofs.Common.{◌≡◌, ℕ, ◌+◌, ◌^◌, ◌<◌, ◌≤◌, Bool, true, false, List, [], ◌∷◌, ◌++◌, length, replicate, Option, Some, None, Ok, option_map, unwrap_or, IfSome, refl, sym, ap, ◌∙◌, arith, append_assoc, codes, decimal}
+use Rattle.std.proofs.Common.{◌≡◌, ℕ, ◌+◌, ◌^◌, ◌<◌, ◌≤◌, Bool, List, [], ◌∷◌, ◌++◌, length, replicate, Option, Some, None, Ok, option_map, unwrap_or, IfSome, refl, ap, ◌∙◌, arith, append_assoc, codes, decimal}
 use Rattle.hex.specs.Hex.{encode_lower}
 use Rattle.md5.proofs.StandardFacts.{length-md5}
 use Rattle.svn_types.specs.declared.kind.Kind.{Kind}
@@ -18,17 +18,17 @@ use Rattle.svn_dump.specs.declared.sections.Texts.{Texts}
 use Rattle.svn_dump.specs.declared.sections.Texts.TheVariants.{Whole, Sha1}
 use Rattle.svn_dump.specs.Reading.{◌>>=◌}
 use Rattle.svn_dump.specs.Headers.{header_value}
-use Rattle.svn_dump.specs.Fields.{path_of, kind_of, action_of, source_value, source_of, as_number}
+use Rattle.svn_dump.specs.Fields.{path_of, kind_of, action_of, source_value, as_number}
 use Rattle.svn_dump.specs.Shapes.{shape_of}
 use Rattle.svn_dump.specs.Sections.{if_given, sized_props_at, sized_text_at}
 use Rattle.svn_dump.specs.Records.{node_of, node_at, headed_at, record_at}
 use Rattle.svn_dump.specs.Written.{prop_section, text_section, action_word, headers_of, written}
-use Rattle.svn_dump_law.specs.Laws.{IsPath, IsSource, IsPropSection, IsTextSection, IsSum, IsWritable, CanKeep, props_len, text_len, kept_text, kept_node}
-use Rattle.svn_dump_law.proofs.HeaderFields.{Field, AreFields, lines, lines_are_headers}
+use Rattle.svn_dump_law.specs.Laws.{IsPath, IsSource, IsPropSection, IsTextSection, IsSum, IsWritable, CanKeep, kept_text, kept_node}
+use Rattle.svn_dump_law.proofs.HeaderFields.{AreFields, lines, lines_are_headers}
 use Rattle.svn_dump_law.proofs.HeaderBlocks.{block_of_lines}
 use Rattle.svn_dump_law.proofs.HexSums.{IsBytes-md5, IsBytes-sha1, length-sha1}
 use Rattle.svn_dump_law.proofs.PathFields.{path_of_path_text}
-use Rattle.svn_dump_law.proofs.PropSections.{is_delta, sized_section_read}
+use Rattle.svn_dump_law.proofs.PropSections.{sized_section_read}
 use Rattle.svn_dump_law.proofs.TextSections.{sized_text_read}
 use Rattle.svn_dump_law.proofs.NodeFields.{kind_word, flag, changes_props, changes_text, md5_given, sha1_given, both_lengths, both_small, node_fields, node_fields_lawful, headers_are_lines}
 use Rattle.svn_dump_law.proofs.FieldValues.{value_found, given_at, number_at, sum_at, flag_at, lengths_agree}
@@ -64,13 +64,14 @@ module _ (node : NodeRecord) (props text : Option ℕ) (lawful : AreFields (node
       (ap (λ r. r >>= λ value. path_of (unwrap_or value [])) (value_found fields (codes "Node-path") (Some (path_text node.path)) lawful refl)
       ∙ path_of_path_text node.path path)
       (ap (λ r. r >>= kind_of) (value_found fields (codes "Node-kind") (option_map kind_word node.kind) lawful refl) ∙ kind_read node.kind)
-      (ap (λ r. r >>= action_of) (value_found fields (codes "Node-action") (Some (action_word node.action)) lawful refl) ∙ action_read node.action)
+      (ap (λ r. r >>= action_of) (value_found fields (codes "Node-action") (Some (action_word node.action)) lawful refl)
+      ∙ action_read node.action)
       (source_read (lines fields) node.source source
       (value_found fields (codes "Node-copyfrom-rev") (option_map (λ (s : CopySource). decimal s.rev) node.source) lawful refl)
       (value_found fields (codes "Node-copyfrom-path") (option_map (λ (s : CopySource). path_text s.path) node.source) lawful refl))
 
-  shape_of_lines : unwrap_or props 0 + unwrap_or text 0 < 2 ^ 64 → IfSome (md5_given node.text) (IsSum 16) → IfSome (sha1_given node.text) (IsSum 20)
-      → shape_of (lines (node_fields node props text))
+  shape_of_lines : unwrap_or props 0 + unwrap_or text 0 < 2 ^ 64 → IfSome (md5_given node.text) (IsSum 16)
+      → IfSome (sha1_given node.text) (IsSum 20) → shape_of (lines (node_fields node props text))
       ≡ Ok (record {
         lengths = record { props = props; text = text };
         sums = record { md5 = md5_given node.text; sha1 = sha1_given node.text };
@@ -127,8 +128,8 @@ len_or_none (Some bytes) = refl
 
 props_read : (section : Option PropSection) (limit : ℕ) (rest : List ℕ) → IfSome section IsPropSection
     → length (unwrap_or (prop_section section) []) ≤ limit → length (unwrap_or (prop_section section) []) < 2 ^ 64
-    → if_given (option_map length (prop_section section)) (sized_props_at (changes_props section) limit) (unwrap_or (prop_section section) [] ++ rest)
-    ≡ Ok (section, rest)
+    → if_given (option_map length (prop_section section)) (sized_props_at (changes_props section) limit)
+    (unwrap_or (prop_section section) [] ++ rest) ≡ Ok (section, rest)
 props_read None limit rest h fits small = refl
 props_read (Some section) limit rest h fits small =
     ap (λ r. r >>= λ read. Ok (Some read.0, read.1)) (sized_section_read section limit rest h fits small)
@@ -167,8 +168,8 @@ node_read limits texts node empty_lines rest h few =
     let same = headers_are_lines node props text in
     let small : unwrap_or props 0 + unwrap_or text 0 < 2 ^ 64 =
     omega (arith, h.lengths, len_or_none (prop_section node.props), len_or_none (text_section node.text)) in
-    let lawful = node_fields_lawful node props text h.path h.source small in
-    let sums = sums_lawful node.text h.text in
+    let lawful = node_fields_lawful node props text h.lawful.path h.lawful.source small in
+    let sums = sums_lawful node.text h.lawful.text in
     let mid = unwrap_or (text_section node.text) [] ++ (10 ∷ 10 ∷ rest) in
     let after = unwrap_or (prop_section node.props) [] ++ mid in
     let parts : written node ++ rest ≡ lines fields ++ 10 ∷ after =
@@ -178,9 +179,10 @@ node_read limits texts node empty_lines rest h few =
     let whole = node_of_sections limits texts (lines fields) after mid (10 ∷ 10 ∷ rest)
     (record { path = node.path; kind = node.kind; action = node.action; source = node.source; props = None; text = None }) props text
     (md5_given node.text) (sha1_given node.text) (changes_props node.props) (changes_text node.text) node.props (kept_text texts node.text)
-    (node_of_lines node props text lawful h.path h.source) (shape_of_lines node props text lawful small sums.0 sums.1)
-    (props_read node.props limits.props mid h.props h.props_fit (omega (arith, h.lengths)))
+    (node_of_lines node props text lawful h.lawful.path h.lawful.source) (shape_of_lines node props text lawful small sums.0 sums.1)
+    (props_read node.props limits.props mid h.lawful.props h.props_fit (omega (arith, h.lengths)))
     (text_read texts node.text props text (changes_props node.props) limits.text (10 ∷ 10 ∷ rest) h.text_fits) in
     ap (λ (l : List ℕ). record_at limits texts (replicate empty_lines 10 ++ l)) parts
-    ∙ record_of_block limits texts (replicate empty_lines 10 ++ (lines fields ++ 10 ∷ after)) _ _ after (Node (kept_node texts node)) (10 ∷ 10 ∷ rest)
+    ∙ record_of_block limits texts (replicate empty_lines 10 ++ (lines fields ++ 10 ∷ after)) _ _ after (Node (kept_node texts node))
+    (10 ∷ 10 ∷ rest)
     (block_of_lines empty_lines fields limits.headers after lawful refl fits) (headed_lines node props text lawful limits texts after ∙ whole)

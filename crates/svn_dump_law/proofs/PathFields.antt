@@ -1,16 +1,15 @@
 -- Paths as texts.
-use Rattle.std.proofs.Common.{◌≡◌, ℕ, zero, suc, ◌<◌, ◌≤◌, Bool, true, false, not, ◌&&◌, List, [], ◌∷◌, ◌++◌, length, Option, Some, None, Ok, IsUtf8, All, refl, sym, ap, ◌∙◌, arith, nat_eq, nat_le, nat_lt, append-nil}
+use Rattle.std.proofs.Common.{◌≡◌, ℕ, ◌≤◌, true, false, List, [], ◌∷◌, ◌++◌, length, None, Ok, IsUtf8, All, refl, sym, ap, ◌∙◌, arith, nat_eq, append-nil}
 use Rattle.std.specs.List.{list_all, flat_map, slice_split}
-use Rattle.std.specs.Str.{is_utf8}
 use Rattle.std.proofs.lemmas.Bool.{and_parts, ne_eqb, le-ltb}
 use Rattle.std.proofs.lemmas.List.Elements.{All-head, All-tail}
 use Rattle.std.proofs.lemmas.Str.{IsUtf8-append, IsUtf8-nil, is_utf8-from_IsUtf8}
 use Rattle.svn_types.specs.Names.{Path, IsName, is_plain, is_slash, path_of_text, name_limit, depth_limit}
-use Rattle.svn_types.specs.NameFaults.{name_fault, names_fault, count_fault, path_fault}
+use Rattle.svn_types.specs.NameFaults.{name_fault, names_fault, path_fault}
 use Rattle.svn_types.specs.PathTexts.{path_text}
-use Rattle.svn_dump.specs.Fields.{without_slash, path_of_bytes, path_or_fault, path_of}
+use Rattle.svn_dump.specs.Fields.{without_slash, path_of_bytes, path_of}
 use Rattle.svn_dump_law.specs.Laws.{IsPath}
-use Rattle.svn_dump_law.proofs.HeaderFields.{lacks, lacks_append, lacks_parts, first_part, one_part}
+use Rattle.svn_dump_law.proofs.Lacking.{lacks, lacks_append, lacks_parts, first_part, one_part}
 
 -- ---- names
 

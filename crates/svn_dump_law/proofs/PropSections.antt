@@ -1,8 +1,7 @@
 -- Property sections, read as they were written.
-use Rattle.std.proofs.Common.{Less, ◌≡◌, ℕ, zero, suc, ◌+◌, ◌^◌, ◌<◌, ◌≤◌, Bool, true, false, cond, not, ◌&&◌, List, [], ◌∷◌, ◌++◌, length, take, drop, get_or, map, fold, Option, Some, None, Result, Ok, Err, All, refl, sym, ap, ap₂, subst, ◌∙◌, arith, append_assoc, append-nil, nat_eq, nat_lt, codes, decimal, option_and_then, length-append}
-use Rattle.std.specs.List.{flat_map, position, AllByRecursion}
+use Rattle.std.proofs.Common.{Less, ◌≡◌, ℕ, zero, suc, ◌+◌, ◌^◌, ◌<◌, ◌≤◌, Bool, true, false, cond, ◌&&◌, List, [], ◌∷◌, ◌++◌, length, take, drop, map, Option, Some, None, Ok, All, refl, sym, ap, ap₂, subst, ◌∙◌, arith, append_assoc, append-nil, nat_eq, codes, decimal, option_and_then, length-append}
+use Rattle.std.specs.List.{flat_map, AllByRecursion}
 use Rattle.std.specs.BTreeMap.{insert_entry}
-use Rattle.std.specs.List.Sorted.{IsStrictlySortedBy}
 use Rattle.std.specs.Map.{keys_of}
 use Rattle.std.specs.Ordering.{match_ordering}
 use Rattle.std.proofs.lemmas.Bool.{lt-ltb, le-ltb, ne_eqb}
@@ -12,20 +11,18 @@ use Rattle.std.proofs.Math.Seq.{take-append_seam, drop-append-add, drop-append_s
 use Rattle.svn_lists.proofs.Entries.{all_keys_right}
 use Rattle.svn_types.specs.Names.{IsPropName, name_cmp, name_limit, is_prop_text}
 use Rattle.svn_types.specs.NameFaults.{prop_name_fault}
-use Rattle.svn_types.specs.Pairs.{InNameOrder, with_value}
+use Rattle.svn_types.specs.Pairs.{InNameOrder}
 use Rattle.svn_types.specs.Props.{PropChange, with_changes}
 use Rattle.svn_types.proofs.NameLemmas.{reversed}
-use Rattle.svn_dump.specs.declared.fault.Reason.{Reason}
 use Rattle.svn_dump.specs.declared.record.PropSection.{PropSection}
 use Rattle.svn_dump.specs.declared.record.PropSection.TheVariants as props
 use Rattle.svn_dump.specs.Reading.{◌>>=◌}
-use Rattle.svn_dump.specs.Numbers.{number_of}
-use Rattle.svn_dump.specs.Properties.{length_of, cut_line, run_at, named, set_at, change_at, is_end, changes_at, changes_of, props_of}
+use Rattle.svn_dump.specs.Properties.{length_of, cut_line, run_at, set_at, change_at, is_end, changes_at}
 use Rattle.svn_dump.specs.Blocks.{bytes_at}
 use Rattle.svn_dump.specs.Sections.{prop_section_of, sized_props_at}
 use Rattle.svn_dump.specs.Written.{run, entry, entries, prop_bytes}
 use Rattle.svn_dump_law.specs.Laws.{IsPropSection}
-use Rattle.svn_dump_law.proofs.HeaderFields.{lacks, place_after}
+use Rattle.svn_dump_law.proofs.Lacking.{lacks, place_after}
 use Rattle.svn_dump_law.proofs.Decimals.{spelled, number_of_decimal}
 
 -- ---- so many bytes
@@ -63,7 +60,8 @@ run_line wanted letter bytes rest other small =
     let plain : lacks 10 head ≡ true = rw other (spelled (length bytes) small).no_line_feed in
     ap (run_at wanted) (run_parts letter bytes rest)
     ∙ ap (λ o. option_and_then (λ i. cut_line (drop (i + 1) all) (length_of wanted (take i all))) o) (place_after 10 head after plain)
-    ∙ ap₂ (λ (rest_of front : List ℕ). cut_line rest_of (length_of wanted front)) (drop-append-add head (10 ∷ after) 1) (take-append_seam head (10 ∷ after))
+    ∙ ap₂ (λ (below front : List ℕ). cut_line below (length_of wanted front)) (drop-append-add head (10 ∷ after) 1)
+    (take-append_seam head (10 ∷ after))
     ∙ ap (λ n. cut_line after (cond (nat_eq letter wanted && true) n None)) (number_of_decimal (length bytes) small)
 
 cut_at_line : (bytes rest : List ℕ) → cut_line (bytes ++ 10 ∷ rest) (Some (length bytes)) ≡ Some (bytes, rest)
@@ -117,7 +115,8 @@ set_reads removes name value lawful small_name small = record {
     by : (removes : Bool) (rest : List ℕ) → change_at removes ((run 75 name ++ run 86 value) ++ rest) ≡ Ok ((name, Some value), rest)
     by false rest = set_read name value rest lawful small_name small
     by true rest =
-        let none = ap (run_at 68) (append_assoc (run 75 name) (run 86 value) rest) ∙ other_run 68 75 name (run 86 value ++ rest) refl refl small_name in
+        let none =
+        ap (run_at 68) (append_assoc (run 75 name) (run 86 value) rest) ∙ other_run 68 75 name (run 86 value ++ rest) refl refl small_name in
         rw none (set_read name value rest lawful small_name small)
 
 removal_reads : (name : List ℕ) → IsPropName name → length name < 2 ^ 64 → ReadsAs true (name, None)
@@ -159,8 +158,10 @@ delta_reads : (changes : List PropChange) → All (λ (c : PropChange). IsPropNa
 delta_reads [] h small = tt
 delta_reads (c ∷ changes) h small =
     let P = λ (c : PropChange). IsPropName c.0 in
-    let both = length-append (entry c.0 c.1) (change_entries changes) in
-    (one c.0 c.1 (All-head P c changes h) (omega (arith, small, both)), delta_reads changes (All-tail P c changes h) (omega (arith, small, both)))
+    let both = length-append (entry c.0 c.1) (change_entries changes) in (
+      one c.0 c.1 (All-head P c changes h) (omega (arith, small, both)),
+      delta_reads changes (All-tail P c changes h) (omega (arith, small, both)),
+    )
   where
     one : (name : List ℕ) (value : Option (List ℕ)) → IsPropName name → length (entry name value) < 2 ^ 64 → ReadsAs true (name, value)
     one name None lawful small = removal_reads name lawful (omega (arith, small, length_run 68 name))
@@ -192,7 +193,8 @@ whole_reads (p ∷ all) h small =
     )
 
 -- a name after all others is put at the end
-put_last : (done : List Prop) (p : Prop) (rest : List Prop) → InNameOrder (done ++ p ∷ rest) → insert_entry name_cmp done p.0 p.1 ≡ done ++ p ∷ []
+put_last : (done : List Prop) (p : Prop) (rest : List Prop) → InNameOrder (done ++ p ∷ rest)
+    → insert_entry name_cmp done p.0 p.1 ≡ done ++ p ∷ []
 put_last [] p rest sorted = refl
 put_last (e ∷ done) p rest sorted =
     let above = sorted_head name_cmp e.0 (keys_of (done ++ p ∷ rest)) sorted in

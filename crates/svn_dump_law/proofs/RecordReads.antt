@@ -1,6 +1,5 @@
 -- Records, read from their headers on.
-use Rattle.std.proofs.Common.{◌≡◌, ℕ, Bool, true, false, List, [], ◌∷◌, Option, Some, None, Ok, refl, codes}
-use Rattle.std.specs.Option.{option_or}
+use Rattle.std.proofs.Common.{◌≡◌, ℕ, Bool, true, false, List, ◌∷◌, Option, Some, None, Ok, refl, codes}
 use Rattle.svn_types.specs.Names.{Path}
 use Rattle.svn_types.specs.declared.kind.Kind.{Kind}
 use Rattle.svn_dump.specs.declared.record.Action.{Action}
@@ -8,7 +7,7 @@ use Rattle.svn_dump.specs.declared.record.CopySource.{CopySource}
 use Rattle.svn_dump.specs.declared.record.NodeRecord.{NodeRecord}
 use Rattle.svn_dump.specs.declared.record.PropSection.{PropSection}
 use Rattle.svn_dump.specs.declared.record.Record.{Record}
-use Rattle.svn_dump.specs.declared.record.Record.TheVariants.{Other, Revision, Node}
+use Rattle.svn_dump.specs.declared.record.Record.TheVariants.{Revision, Node}
 use Rattle.svn_dump.specs.declared.record.TextSection.{TextSection}
 use Rattle.svn_dump.specs.declared.sections.Limits.{Limits}
 use Rattle.svn_dump.specs.declared.sections.Texts.{Texts}

@@ -1,7 +1,7 @@
--- Worked examples of the laws, computed: what is written of a record, what is read of that, and that the laws are about such records. The bytes are what
--- svnadmin writes, but for the line feeds at the end of a node without sections, of which it writes one fewer.
+-- Worked examples of the laws, computed: what is written of a record, what is read of that, and that the laws are about such a record.
+-- The first and the third are as svnadmin writes them; after a node without sections it writes one line feed less.
 use Rattle.std.proofs.Common.{lit<, lit≤, arith, zero, suc, nat_lt}
-use Rattle.std.specs.Prelude.{◌≡◌, ℕ, true, false, List, [], ◌∷◌, ◌++◌, codes, Option, Some, None, Ok, All, IsUtf8, refl}
+use Rattle.std.specs.Prelude.{◌≡◌, ℕ, true, List, [], ◌∷◌, ◌++◌, codes, Some, None, Ok, IsUtf8, refl}
 use Rattle.std.specs.Fmt.{digits}
 use Rattle.std.specs.List.{list_all}
 use Rattle.std.proofs.lemmas.Bool.{and_parts, ltb-true}
@@ -13,7 +13,7 @@ use Rattle.md5.specs.Md5.{md5}
 use Rattle.md5.specs.Md5 as m
 use Rattle.sha1.specs.Sha1.{sha1}
 use Rattle.sha1.specs.Sha1 as s
-use Rattle.svn_types.specs.Names.{Path, IsName, IsPropName}
+use Rattle.svn_types.specs.Names.{IsName, IsPropName}
 use Rattle.svn_types.specs.declared.kind.Kind.TheVariants.{File, Directory}
 use Rattle.svn_dump.specs.declared.record.Action.TheVariants.{Add, Change, Delete}
 use Rattle.svn_dump.specs.declared.record.NodeRecord.{NodeRecord}
@@ -86,11 +86,13 @@ abbrev empty_bytes : List ℕ
 empty_bytes = codes "Node-path: e\nNode-kind: file\nNode-action: add\nText-content-md5: d41d8cd98f00b204e9800998ecf8427e\nText-content-sha1: da39a3ee5e6b4b0d3255bfef95601890afd80709\nProp-content-length: 10\nText-content-length: 0\nContent-length: 10\n\nPROPS-END\n\n\n"
 
 empty_written : written empty_file ≡ empty_bytes
-unfolding digits encode_with m.block_words m.rounds m.compress m.hash_after m.digest_bytes md5 s.first_words s.schedule s.rounds s.compress s.hash_after s.digest_bytes sha1
+unfolding digits encode_with m.block_words m.rounds m.compress m.hash_after m.digest_bytes md5
+    s.first_words s.schedule s.rounds s.compress s.hash_after s.digest_bytes sha1
 empty_written = refl
 
 empty_read : record_at limits Whole empty_bytes ≡ Ok (Some (Node empty_file), codes "\n\n")
-unfolding is_utf8 chars lib.Utf8.encode headers_at block_at changes_at decode_pairs shape_of subject_of node_of node_at record_at m.block_words m.rounds m.compress m.hash_after m.digest_bytes md5 s.first_words s.schedule s.rounds s.compress s.hash_after s.digest_bytes sha1
+unfolding is_utf8 chars lib.Utf8.encode headers_at block_at changes_at decode_pairs shape_of subject_of node_of node_at record_at
+    m.block_words m.rounds m.compress m.hash_after m.digest_bytes md5 s.first_words s.schedule s.rounds s.compress s.hash_after s.digest_bytes sha1
 empty_read = refl
 
 -- ---- a copy whose text and properties differ from its source's: a property is set, and one is removed; the source's name has a colon
@@ -186,11 +188,13 @@ prop_b = record { bounded = lit≤ tt; text = refl }
 changed_is_writable : IsWritable limits Whole changed_copy
 unfolding digits encode_with
 changed_is_writable = record {
-  path = path_f;
-  source = record { path = path_g; rev = lit< tt };
-  props = All-cons (λ c. IsPropName c.0) (codes "b", Some (codes "x")) ((codes "a", None) ∷ []) prop_b
-      (All-cons (λ c. IsPropName c.0) (codes "a", None) [] prop_a (All-nil (λ c. IsPropName c.0)));
-  text = ((refl, bytes_from_test hello_md5 refl), (refl, bytes_from_test hello_sha1 refl));
+  lawful = record {
+    path = path_f;
+    source = record { path = path_g; rev = lit< tt };
+    props = All-cons (λ c. IsPropName c.0) (codes "b", Some (codes "x")) ((codes "a", None) ∷ []) prop_b
+        (All-cons (λ c. IsPropName c.0) (codes "a", None) [] prop_a (All-nil (λ c. IsPropName c.0)));
+    text = ((refl, bytes_from_test hello_md5 refl), (refl, bytes_from_test hello_sha1 refl));
+  };
   headers_fit = lit≤ tt;
   props_fit = lit≤ tt;
   text_fits = lit≤ tt;

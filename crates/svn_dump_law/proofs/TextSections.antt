@@ -1,5 +1,5 @@
 -- Texts and text deltas, read as they were written.
-use Rattle.std.proofs.Common.{◌≡◌, ℕ, ◌≤◌, Bool, true, false, List, [], ◌++◌, length, Option, Some, None, Ok, refl, ap, ◌∙◌, bytes_eq, nat_lt, codes, unwrap_or, MatchOption}
+use Rattle.std.proofs.Common.{◌≡◌, ℕ, ◌≤◌, Bool, true, false, List, [], ◌++◌, length, Option, Some, None, Ok, refl, unwrap_or, MatchOption}
 use Rattle.std.proofs.lemmas.Bool.{le-ltb}
 use Rattle.svn_lists.proofs.Equality.{bytes_eq-same}
 use Rattle.md5.specs.Md5.{md5}
@@ -8,8 +8,6 @@ use Rattle.svn_dump.specs.declared.record.TextSection.{TextSection}
 use Rattle.svn_dump.specs.declared.record.TextSection.TheVariants as text
 use Rattle.svn_dump.specs.declared.sections.Texts.{Texts}
 use Rattle.svn_dump.specs.declared.sections.Texts.TheVariants.{Whole, Sha1}
-use Rattle.svn_dump.specs.Reading.{◌>>=◌}
-use Rattle.svn_dump.specs.Blocks.{bytes_at}
 use Rattle.svn_dump.specs.Sections.{stand_in, stand_in_at, checked, sized_text_at}
 use Rattle.svn_dump.specs.Written.{text_bytes}
 use Rattle.svn_dump_law.specs.Laws.{CanKeep, kept_section}

@@ -1,4 +1,7 @@
--- The laws of dumps, as statements: what is written of a record is read as that record. Each is the contract of the function of its name, which does nothing.
+-- The laws of dumps, as statements: what is written of a record is read as that record. Each is the contract of the function of its name.
+--     IsNodeRecord node      what each node's record has that the types hold
+--     IsWritable limits texts node      the same, and its lengths are within the limits
+--     IsReadAs limits texts bytes records      reading record after record gives these, and then the end
 use Rattle.std.specs.Prelude.{◌≡◌, ℕ, ◌+◌, ◌^◌, ◌<◌, ◌≤◌, List, [], ◌∷◌, ◌++◌, length, codes, replicate, map, Option, Some, None, Ok, All, IsUtf8, IfSome, MatchOption, unwrap_or, option_map}
 use Rattle.std.specs.List.{flat_map}
 use Rattle.std.specs.Map.{keys_of}
@@ -47,7 +50,7 @@ abbrev pub IsTextSection : TextSection → Type 0
 IsTextSection (text.Whole bytes) = Unit {0}
 IsTextSection (text.Delta delta) = IfSome delta.md5 (IsSum 16) × IfSome delta.sha1 (IsSum 20)
 
--- A text that is kept is within the limit. In place of a text delta its SHA-1 checksum is kept: it is given, or the delta is that of no bytes.
+-- A text that is kept is within the limit. Where texts have stand-ins, a text delta comes with its SHA-1 checksum, or is that of no bytes.
 abbrev pub CanKeep : Texts → ℕ → TextSection → Type 0
 CanKeep Whole limit section = length (text_bytes section) ≤ limit
 CanKeep Sha1 limit (text.Whole bytes) = Unit {0}
@@ -60,12 +63,16 @@ props_len node = length (unwrap_or (prop_section node.props) [])
 abbrev pub text_len : NodeRecord → ℕ
 text_len node = length (unwrap_or (text_section node.text) [])
 
--- the parts are lawful, the lengths are within the limits, and the length of both sections is a number of 64 bits
-pub record IsWritable (limits : Limits) (texts : Texts) (node : NodeRecord) : Type 0 where
+-- what each record has that the types hold
+pub record IsNodeRecord (node : NodeRecord) : Type 0 where
   pub path : IsPath node.path
   pub source : IfSome node.source IsSource
   pub props : IfSome node.props IsPropSection
   pub text : IfSome node.text IsTextSection
+
+-- its lengths are within the limits too, and that of both sections is a number of 64 bits
+pub record IsWritable (limits : Limits) (texts : Texts) (node : NodeRecord) : Type 0 where
+  pub lawful : IsNodeRecord node
   -- with the two empty lines after the record before it
   pub headers_fit : length (headers_of node) + 2 ≤ limits.headers
   pub props_fit : props_len node ≤ limits.props
@@ -86,7 +93,14 @@ kept_text Sha1 section = option_map (kept_section Sha1) section
 
 abbrev pub kept_node : Texts → NodeRecord → NodeRecord
 kept_node texts node =
-    record { path = node.path; kind = node.kind; action = node.action; source = node.source; props = node.props; text = kept_text texts node.text }
+    record {
+      path = node.path;
+      kind = node.kind;
+      action = node.action;
+      source = node.source;
+      props = node.props;
+      text = kept_text texts node.text;
+    }
 
 -- a node's record, after at most two empty lines and whatever follows; the two line feeds at its end are left
 abbrev pub nodes_are_read_back : Type 0
@@ -94,7 +108,8 @@ nodes_are_read_back =
     (limits : Limits) (texts : Texts) (node : NodeRecord) (empty_lines : ℕ) (rest : List ℕ)
     → IsWritable limits texts node
     → empty_lines ≤ 2
-    → record_at limits texts (replicate empty_lines 10 ++ (written node ++ rest)) ≡ Ok (Some (Node (kept_node texts node)), codes "\n\n" ++ rest)
+    → record_at limits texts (replicate empty_lines 10 ++ (written node ++ rest))
+    ≡ Ok (Some (Node (kept_node texts node)), codes "\n\n" ++ rest)
 
 -- with whole texts it is the node itself
 abbrev pub whole_nodes_are_read_back : Type 0
@@ -105,7 +120,7 @@ whole_nodes_are_read_back =
 
 -- ---- revisions
 
--- room for the headers of a revision's record or of a dump's first, with the empty lines before them
+-- room for the headers of a revision's record or of a dump's first, with the empty lines before them: they have at most 83 bytes
 abbrev pub header_room : ℕ
 header_room = 100
 

@@ -41,8 +41,8 @@ bytes-preserved g c =
       goes_on (g.S.Input.remaining c.args.source.now) (g.S.Input.remaining c.bytes.source) (g.S.Input.remaining c.read_byte.new.source)
           c.in-Ok-Some.byte _ _ (block_at (not c.is_line_feed-blank.result) (c.bytes.left - 1))
           c.bytes.invariant.0 (rw c.in-Ok-Some.field-0-is at c.in-Ok-Some.ensures.bytes)
-          (λ bs. block_blank c.bytes.blank c.bytes.left c.in-Ok-Some.byte bs room passed
-          ∙ ap (λ f. block_at (not f) (c.bytes.left - 1) bs) (sym c.is_line_feed-blank.ensures)),
+          (λ bs. block_blank c.bytes.blank c.is_line_feed-blank.result c.bytes.left c.in-Ok-Some.byte bs room passed
+          c.is_line_feed-blank.ensures),
       omega (arith, c.bytes.invariant.1),
       λ all taken. c.read_byte.ensures.counted all (c.bytes.invariant.2 all taken),
     )

@@ -1,4 +1,4 @@
-use Rattle.std.proofs.Common.{◌≡◌, ◌&&◌, ◌-◌, false, Err, sym, ap, ◌∙◌, arith}
+use Rattle.std.proofs.Common.{◌≡◌, ◌&&◌, ◌-◌, false, Err, sym, ◌∙◌, arith}
 use Rattle.svn_dump.specs.declared.fault.Reason.TheVariants.{CutOff, HeadersTooLong}
 use Rattle.svn_dump.specs.declared.fault.DumpFault.TheVariants.{Refused}
 use Rattle.svn_dump.specs.Blocks.{headers_at, is_line_feed, with_front}
@@ -38,15 +38,12 @@ bytes-preserved g c =
       | else-fresh-via-then-fresh+else-is_line_feed w ↦ not_second c.bytes.fresh _ (sym w.is_line_feed.ensures ∙ w.if-is_line_feed.false)
       | else-fresh-via-else-fresh w ↦ not_first c.bytes.fresh _ w.if-fresh.false
     ] in
-    let room = not_zero c.bytes.left (omega arith) in
-    let pushed = c.in_ok-push-2.ensures.items in
-    let fresh = c.is_line_feed-fresh.ensures in (
+    let room = not_zero c.bytes.left (omega arith) in (
       goes_on (g.S.Input.remaining c.args.source.now) (g.S.Input.remaining c.bytes.source) (g.S.Input.remaining c.read_byte.new.source)
           c.in-Ok-Some.byte _ _ (λ bs. with_front c.push-in-bytes.new.self.items (headers_at c.is_line_feed-fresh.result (c.bytes.left - 1) bs))
           c.bytes.invariant.0 (rw c.in-Ok-Some.field-0-is at c.in-Ok-Some.ensures.bytes)
-          (λ bs. headers_more c.bytes.block.items c.bytes.fresh c.bytes.left c.in-Ok-Some.byte bs more room
-          ∙ ap (λ front. with_front front (headers_at (is_line_feed c.in-Ok-Some.byte) (c.bytes.left - 1) bs)) (sym pushed)
-          ∙ ap (λ f. with_front c.push-in-bytes.new.self.items (headers_at f (c.bytes.left - 1) bs)) (sym fresh)),
+          (λ bs. headers_more c.bytes.block.items c.push-in-bytes.new.self.items c.bytes.fresh c.is_line_feed-fresh.result c.bytes.left
+          c.in-Ok-Some.byte bs more room c.in_ok-push-2.ensures.items c.is_line_feed-fresh.ensures),
       omega (arith, c.bytes.invariant.1, c.in_ok-push-2.ensures.len),
       λ all taken. c.read_byte.ensures.counted all (c.bytes.invariant.2 all taken),
     )
