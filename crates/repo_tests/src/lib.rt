@@ -1,5 +1,5 @@
-//! Tests of names, paths, properties and texts; of the map from names; and of commits: what is there after them, which are refused, and how long
-//! and deep things may be.
+//! Tests of names, paths, properties and texts; of the map from names; and of commits and transactions: what is there after them, which are refused,
+//! and how long and deep things may be.
 #![tactic(auto)]
 
 #[cfg(test)]
@@ -32,3 +32,5 @@ mod steps;
 mod tails;
 #[cfg(test)]
 mod texts;
+#[cfg(test)]
+mod transactions;

@@ -57,7 +57,7 @@ fn copy(alloc: Global, path: RelPath, rev: u64, source: &str) -> Result<Change, 
     Ok(Change::CopyFrom { rev, source, path })
 }
 
-fn change_of(alloc: Global, path: RelPath, act: Act) -> Result<Change, Fail> {
+pub(crate) fn change_of(alloc: Global, path: RelPath, act: Act) -> Result<Change, Fail> {
     match act {
         Act::MakeDir => Ok(Change::MakeDir { path }),
         Act::Put(text) => put(alloc, path, text, 1),
