@@ -24,7 +24,7 @@ use Rattle.svn_dump.specs.Sections.{if_given, sized_props_at, sized_text_at}
 use Rattle.svn_dump.specs.Records.{node_of, node_at, headed_at, record_at}
 use Rattle.svn_dump.specs.Written.{prop_section, text_section, action_word, headers_of, written}
 use Rattle.svn_dump_law.specs.Laws.{IsPath, IsSource, IsPropSection, IsTextSection, IsSum, IsWritable, CanKeep, kept_text, kept_node}
-use Rattle.svn_dump_law.proofs.HeaderFields.{AreFields, lines, lines_are_headers}
+use Rattle.svn_dump_law.proofs.HeaderFields.{AreFields, lines, lines_are_headers, given, found}
 use Rattle.svn_dump_law.proofs.HeaderBlocks.{block_of_lines}
 use Rattle.svn_dump_law.proofs.HexSums.{IsBytes-md5, IsBytes-sha1, length-sha1}
 use Rattle.svn_dump_law.proofs.PathFields.{path_of_path_text}
@@ -56,19 +56,23 @@ source_read block (Some source) h e f =
     rw (number_at block (codes "Node-copyfrom-rev") (Some source.rev) h.rev e, f, path_of_path_text source.path h.path) refl
 
 module _ (node : NodeRecord) (props text : Option ℕ) (lawful : AreFields (node_fields node props text)) where
+  header : (name : List ℕ) (value : Option (List ℕ)) → found name (node_fields node props text) ≡ given value ++ []
+      → header_value (lines (node_fields node props text)) name ≡ Ok value
+  header name value e = value_found (node_fields node props text) name value lawful e
+
   node_of_lines : IsPath node.path → IfSome node.source IsSource → node_of (lines (node_fields node props text))
       ≡ Ok (record { path = node.path; kind = node.kind; action = node.action; source = node.source; props = None; text = None })
   node_of_lines path source =
       let fields = node_fields node props text in
       node_of_values (lines fields) node.path node.kind node.action node.source
-      (ap (λ r. r >>= λ value. path_of (unwrap_or value [])) (value_found fields (codes "Node-path") (Some (path_text node.path)) lawful refl)
+      (ap (λ r. r >>= λ value. path_of (unwrap_or value [])) (header (codes "Node-path") (Some (path_text node.path)) refl)
       ∙ path_of_path_text node.path path)
-      (ap (λ r. r >>= kind_of) (value_found fields (codes "Node-kind") (option_map kind_word node.kind) lawful refl) ∙ kind_read node.kind)
-      (ap (λ r. r >>= action_of) (value_found fields (codes "Node-action") (Some (action_word node.action)) lawful refl)
+      (ap (λ r. r >>= kind_of) (header (codes "Node-kind") (option_map kind_word node.kind) refl) ∙ kind_read node.kind)
+      (ap (λ r. r >>= action_of) (header (codes "Node-action") (Some (action_word node.action)) refl)
       ∙ action_read node.action)
       (source_read (lines fields) node.source source
-      (value_found fields (codes "Node-copyfrom-rev") (option_map (λ (s : CopySource). decimal s.rev) node.source) lawful refl)
-      (value_found fields (codes "Node-copyfrom-path") (option_map (λ (s : CopySource). path_text s.path) node.source) lawful refl))
+      (header (codes "Node-copyfrom-rev") (option_map (λ (s : CopySource). decimal s.rev) node.source) refl)
+      (header (codes "Node-copyfrom-path") (option_map (λ (s : CopySource). path_text s.path) node.source) refl))
 
   shape_of_lines : unwrap_or props 0 + unwrap_or text 0 < 2 ^ 64 → IfSome (md5_given node.text) (IsSum 16)
       → IfSome (sha1_given node.text) (IsSum 20) → shape_of (lines (node_fields node props text))
@@ -85,22 +89,22 @@ module _ (node : NodeRecord) (props text : Option ℕ) (lawful : AreFields (node
       shape_of_values block props text (md5_given node.text) (sha1_given node.text) (changes_props node.props) (changes_text node.text)
       (lengths_of_values block props text both
       (number_at block (codes "Prop-content-length") props (omega (arith, small))
-      (value_found fields (codes "Prop-content-length") (option_map decimal props) lawful refl))
+      (header (codes "Prop-content-length") (option_map decimal props) refl))
       (number_at block (codes "Text-content-length") text (omega (arith, small))
-      (value_found fields (codes "Text-content-length") (option_map decimal text) lawful refl))
+      (header (codes "Text-content-length") (option_map decimal text) refl))
       (number_at block (codes "Content-length") both (both_small props text small)
-      (value_found fields (codes "Content-length") (option_map decimal both) lawful refl))
+      (header (codes "Content-length") (option_map decimal both) refl))
       (lengths_agree props text))
       (sums_of_values block (md5_given node.text) (sha1_given node.text)
       (sum_at 16 block (codes "Text-content-md5") (md5_given node.text) md5
-      (value_found fields (codes "Text-content-md5") (option_map encode_lower (md5_given node.text)) lawful refl))
-      (sum_at 16 block (codes "Text-content-checksum") None tt (value_found fields (codes "Text-content-checksum") None lawful refl))
+      (header (codes "Text-content-md5") (option_map encode_lower (md5_given node.text)) refl))
+      (sum_at 16 block (codes "Text-content-checksum") None tt (header (codes "Text-content-checksum") None refl))
       (sum_at 20 block (codes "Text-content-sha1") (sha1_given node.text) sha1
-      (value_found fields (codes "Text-content-sha1") (option_map encode_lower (sha1_given node.text)) lawful refl)))
+      (header (codes "Text-content-sha1") (option_map encode_lower (sha1_given node.text)) refl)))
       (flag_at block (codes "Prop-delta") (changes_props node.props)
-      (value_found fields (codes "Prop-delta") (flag (changes_props node.props)) lawful refl))
+      (header (codes "Prop-delta") (flag (changes_props node.props)) refl))
       (flag_at block (codes "Text-delta") (changes_text node.text)
-      (value_found fields (codes "Text-delta") (flag (changes_text node.text)) lawful refl))
+      (header (codes "Text-delta") (flag (changes_text node.text)) refl))
 
   headed_lines : (limits : Limits) (texts : Texts) (after : List ℕ) → headed_at limits texts (lines (node_fields node props text)) after
       ≡ node_at limits texts (lines (node_fields node props text)) after
@@ -108,11 +112,11 @@ module _ (node : NodeRecord) (props text : Option ℕ) (lawful : AreFields (node
       let fields = node_fields node props text in
       let block = lines fields in
       headed_node limits texts block after (lines_are_headers fields lawful)
-      (ap (λ r. r >>= as_number) (value_found fields (codes "Revision-number") None lawful refl))
+      (ap (λ r. r >>= as_number) (header (codes "Revision-number") None refl))
       (given_at block (codes "Node-path") (Some (path_text node.path))
-      (value_found fields (codes "Node-path") (Some (path_text node.path)) lawful refl))
-      (given_at block (codes "UUID") None (value_found fields (codes "UUID") None lawful refl))
-      (given_at block (codes "SVN-fs-dump-format-version") None (value_found fields (codes "SVN-fs-dump-format-version") None lawful refl))
+      (header (codes "Node-path") (Some (path_text node.path)) refl))
+      (given_at block (codes "UUID") None (header (codes "UUID") None refl))
+      (given_at block (codes "SVN-fs-dump-format-version") None (header (codes "SVN-fs-dump-format-version") None refl))
 
 -- ---- its sections
 

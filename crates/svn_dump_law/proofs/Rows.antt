@@ -1,5 +1,5 @@
 -- Worked examples of the laws, computed: what is written of a record, what is read of that, and that the laws are about such a record.
--- The first and the third are as svnadmin writes them; after a node without sections it writes one line feed less.
+-- All but the last are what svnadmin writes, which ends a node without sections by one line feed less.
 use Rattle.std.proofs.Common.{lit<, lit≤, arith, zero, suc, nat_lt}
 use Rattle.std.specs.Prelude.{◌≡◌, ℕ, true, List, [], ◌∷◌, ◌++◌, codes, Some, None, Ok, IsUtf8, refl}
 use Rattle.std.specs.Fmt.{digits}
@@ -95,7 +95,7 @@ unfolding is_utf8 chars lib.Utf8.encode headers_at block_at changes_at decode_pa
     m.block_words m.rounds m.compress m.hash_after m.digest_bytes md5 s.first_words s.schedule s.rounds s.compress s.hash_after s.digest_bytes sha1
 empty_read = refl
 
--- ---- a copy whose text and properties differ from its source's: a property is set, and one is removed; the source's name has a colon
+-- ---- a file of six bytes, with a property of none
 
 -- the checksums of `hello` and a line feed
 abbrev hello_md5 : List ℕ
@@ -103,6 +103,31 @@ hello_md5 = 177 ∷ 148 ∷ 106 ∷ 201 ∷ 36 ∷ 146 ∷ 210 ∷ 52 ∷ 124 �
 
 abbrev hello_sha1 : List ℕ
 hello_sha1 = 245 ∷ 114 ∷ 211 ∷ 150 ∷ 250 ∷ 233 ∷ 32 ∷ 102 ∷ 40 ∷ 113 ∷ 79 ∷ 178 ∷ 206 ∷ 0 ∷ 247 ∷ 46 ∷ 148 ∷ 242 ∷ 37 ∷ 143 ∷ []
+
+abbrev added_file : NodeRecord
+added_file = record {
+  path = codes "f" ∷ [];
+  kind = Some File;
+  action = Add;
+  source = None;
+  props = Some (props.Whole ((codes "a", []) ∷ []));
+  text = Some (text.Whole (codes "hello\n"));
+}
+
+abbrev added_bytes : List ℕ
+added_bytes = codes "Node-path: f\nNode-kind: file\nNode-action: add\nText-content-md5: b1946ac92492d2347c6235b4d2611184\nText-content-sha1: f572d396fae9206628714fb2ce00f72e94f2258f\nProp-content-length: 21\nText-content-length: 6\nContent-length: 27\n\nK 1\na\nV 0\n\nPROPS-END\nhello\n\n\n"
+
+added_written : written added_file ≡ added_bytes
+unfolding digits encode_with m.block_words m.rounds m.compress m.hash_after m.digest_bytes md5
+    s.first_words s.schedule s.rounds s.compress s.hash_after s.digest_bytes sha1
+added_written = refl
+
+added_read : record_at limits Whole added_bytes ≡ Ok (Some (Node added_file), codes "\n\n")
+unfolding is_utf8 chars lib.Utf8.encode headers_at block_at changes_at decode_pairs shape_of subject_of node_of node_at record_at
+    m.block_words m.rounds m.compress m.hash_after m.digest_bytes md5 s.first_words s.schedule s.rounds s.compress s.hash_after s.digest_bytes sha1
+added_read = refl
+
+-- ---- a copy whose text and properties differ from its source's: a property is set, and one is removed; the source's name has a colon
 
 abbrev changed_copy : NodeRecord
 changed_copy = record {
