@@ -53,6 +53,6 @@ returns-clause-ok g c =
     (λ did. (
       inv.1 ++ did.0,
       script_ends c.args.host.now.settings c.args.script.now inv.0 c.lines.rest.now c.args.state.now c.lines.state c.run_line-2.new.state inv.1 did.0 inv.2
-          c.in_default-split_once.ensures.parts inv.4 did.1,
+          c.in_default.ensures.parts inv.4 did.1,
       Appends-trans _ _ _ _ _ inv.5 did.2,
     ))
