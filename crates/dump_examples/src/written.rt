@@ -1,0 +1,119 @@
+//! A history that was made here, written as a dump and loaded again.
+
+use crate::history::{load_all, loader_of, trees};
+use anyhow::Result;
+use std::alloc::Global;
+use svn_dump::{Texts, push_format, push_revision};
+use svn_history::push_commit;
+use svn_repo::{Change, Repo, Transaction};
+use svn_types::{PropName, RelPath, Rev, Text};
+
+// A change by its paths and a value.
+#[derive(Clone, Copy)]
+enum Step {
+    Commit,
+    MakeDir(&'static str),
+    PutFile(&'static str, &'static str),
+    SetProp(&'static str, &'static str),
+    RemoveProp(&'static str),
+    Remove(&'static str),
+    Copy(u64, &'static str, &'static str),
+}
+
+static STEPS: [Step; 19] = [
+    Step::MakeDir("trunk"),
+    Step::MakeDir("trunk/lib"),
+    Step::PutFile("trunk/lib/a.c", "int main;\n"),
+    Step::SetProp("trunk/lib/a.c", "native"),
+    Step::PutFile("trunk/empty", ""),
+    Step::Commit,
+    Step::Copy(1, "trunk", "branch"),
+    Step::PutFile("branch/lib/a.c", "int other;\n"),
+    Step::SetProp("branch", "two\nlines"),
+    Step::Commit,
+    Step::Commit,
+    Step::RemoveProp("branch/lib/a.c"),
+    Step::SetProp("", ""),
+    Step::Remove("trunk/lib"),
+    Step::PutFile("trunk/lib", "K 3\nV"),
+    Step::Commit,
+    Step::Copy(2, "branch/lib", "trunk/old"),
+    Step::Remove("trunk/old/a.c"),
+    Step::Commit,
+];
+
+fn path_of(alloc: Global, text: &str) -> Result<RelPath> {
+    Ok(RelPath::parse(alloc, text)?)
+}
+
+fn prop_change(alloc: Global, path: &str, value: Option<&str>) -> Result<Change> {
+    let value = match value {
+        Some(value) => Some(Text::from_slice(alloc, value.as_bytes())?),
+        None => None,
+    };
+    Ok(Change::SetProp {
+        path: path_of(alloc, path)?,
+        name: PropName::parse(alloc, "svn:eol-style")?,
+        value,
+    })
+}
+
+// The change of a step; none where it is a commit.
+fn change_of(alloc: Global, step: Step) -> Result<Option<Change>> {
+    let change = match step {
+        Step::Commit => return Ok(None),
+        Step::MakeDir(path) => Change::MakeDir {
+            path: path_of(alloc, path)?,
+        },
+        Step::PutFile(path, text) => Change::PutFile {
+            path: path_of(alloc, path)?,
+            text: Text::from_slice(alloc, text.as_bytes())?,
+        },
+        Step::SetProp(path, value) => prop_change(alloc, path, Some(value))?,
+        Step::RemoveProp(path) => prop_change(alloc, path, None)?,
+        Step::Remove(path) => Change::Remove {
+            path: path_of(alloc, path)?,
+        },
+        Step::Copy(rev, source, path) => Change::CopyFrom {
+            rev: Rev(rev),
+            source: path_of(alloc, source)?,
+            path: path_of(alloc, path)?,
+        },
+    };
+    Ok(Some(change))
+}
+
+fn commit(
+    dump: &mut Vec<u8>,
+    transaction: &mut Transaction,
+    changes: &mut Vec<Change>,
+) -> Result<()> {
+    push_commit(dump, transaction, changes)?;
+    changes.clear();
+    Ok(())
+}
+
+fn make_all(dump: &mut Vec<u8>, transaction: &mut Transaction) -> Result<()> {
+    let alloc = *dump.allocator();
+    let mut changes = Vec::new(alloc);
+    for step in &STEPS {
+        match change_of(alloc, *step)? {
+            Some(change) => changes.push(change)?,
+            None => commit(dump, transaction, &mut changes)?,
+        }
+    }
+    Ok(())
+}
+
+/// Whether the history is the same when it is loaded.
+pub fn loads_again(alloc: Global) -> Result<bool> {
+    let mut dump = Vec::new(alloc);
+    let mut transaction = Repo::new(alloc)?.begin();
+    push_format(&mut dump, 2)?;
+    push_revision(&mut dump, Rev(0))?;
+    make_all(&mut dump, &mut transaction)?;
+    let repo = transaction.into_repo();
+    let mut again = loader_of(alloc, dump.as_slice(), Texts::Whole)?;
+    load_all(&mut again)?;
+    Ok(trees(alloc, &repo)? == trees(alloc, &again.into_repo())?)
+}

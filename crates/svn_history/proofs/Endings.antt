@@ -1,0 +1,146 @@
+-- A revision that ends, and the next one that begins.
+use Rattle.std.proofs.Common.{◌≡◌, ℕ, zero, suc, ◌<◌, ◌≤◌, Bool, true, false, cond, List, length, Option, Some, None, refl, subst, sym, ap, ◌∙◌, inl, inr, arith}
+use Rattle.std.proofs.Common.{true≢false}
+use Rattle.std.specs.Prelude.{◌⊎◌, MatchOption, nat_lt, nat_le, nat_eq, not, is_some}
+use Rattle.std.proofs.lemmas.Bool.Decides.{nat_tests}
+use Rattle.svn_repo.specs.History.{History}
+use Rattle.svn_repo.specs.Transactions.{OpenRevision, IsBegun}
+use Rattle.svn_dump.specs.declared.sections.Limits.{Limits}
+use Rattle.svn_dump.specs.declared.sections.Texts.{Texts}
+use Rattle.svn_history.specs.declared.fault.LoadFault.{LoadFault}
+use Rattle.svn_history.specs.declared.fault.LoadFault.TheVariants as faults
+use Rattle.svn_history.specs.Steps.{draft_of, begun}
+use Rattle.svn_history.specs.Loading.{NodesAt, EmptyCommits}
+use Rattle.svn_history.specs.Parts.{Loading, IfKnown, LoadsNodes, Ends, revision_limit, may_begin, begin_fault, next_fault, Begins}
+use Rattle.svn_history.specs.Parts.{revision_0, revision, LoadsPart, NodesFault, PartFault, bad_nodes, bad_number, outside, out_of_memory}
+use Rattle.svn_history.specs.Parts.{unfinished, finished, RefusesNodes, RefusesPart}
+use Rattle.svn_history.proofs.Stepping.{begun_is}
+
+pub begun_again : (h : History) (o : OpenRevision) → IsBegun h o → draft_of o ≡ begun o.history
+begun_again h o is = begun_is h o is ∙ ap begun (sym is.0)
+
+-- ---- the next revision
+
+none_before : (rev : Option ℕ) → not (is_some rev) ≡ true → rev ≡ None
+none_before None e = refl
+none_before (Some r) e = absurd (true≢false (sym e))
+
+-- what the tests of a revision's number say
+can_begin : (rev : Option ℕ) (count next : ℕ) → begin_fault rev count next ≡ None
+    → (nat_lt revision_limit next ≡ false) × (may_begin rev count next ≡ true)
+can_begin rev count next e = by (nat_lt revision_limit next) (may_begin rev count next) refl refl e
+  where
+    by : (a b : Bool) → nat_lt revision_limit next ≡ a → may_begin rev count next ≡ b
+        → cond a (Some faults.TooManyRevisions) (cond b None (Some faults.NotRising)) ≡ None
+        → (nat_lt revision_limit next ≡ false) × (may_begin rev count next ≡ true)
+    by true b p q h = absurd (cc)
+    by false false p q h = absurd (cc)
+    by false true p q h = (p, q)
+
+begins_first : (rev : Option ℕ) (h : History) (number : ℕ) → number ≡ 0 → begin_fault rev (length h.roots) number ≡ None
+    → Begins rev (Some number) h h
+begins_first rev h number is e =
+    let zero_fault : begin_fault rev (length h.roots) 0 ≡ None = subst (λ (n : ℕ). begin_fault rev (length h.roots) n ≡ None) is e in
+    revision_0 (ap (λ (n : ℕ). Some n) is) (none_before rev (can_begin rev (length h.roots) 0 zero_fault).1) refl
+
+later_number : (rev : Option ℕ) (count number : ℕ) → 0 < number → may_begin rev count number ≡ true → count ≤ number
+later_number rev count number above e = by (nat_eq number 0) refl e
+  where
+    by : (b : Bool) → nat_eq number 0 ≡ b → cond b (not (is_some rev)) (nat_le count number) ≡ true → count ≤ number
+    by true p q = absurd (grind (arith, nat_tests))
+    by false p q = grind (arith, nat_tests)
+
+begins_later : (rev : Option ℕ) (h h' : History) (number : ℕ) → 0 < number → begin_fault rev (length h.roots) number ≡ None
+    → EmptyCommits h h' → (length h.roots ≤ number → length h'.roots ≡ number) → Begins rev (Some number) h h'
+begins_later rev h h' number above e commits size =
+    let can = can_begin rev (length h.roots) number e in
+    let small : number ≤ revision_limit = (let test : nat_lt revision_limit number ≡ false = can.0 in grind (arith, nat_tests)) in
+    revision number refl above small (record {
+      commits = commits;
+      size = size (later_number rev (length h.roots) number above can.1);
+    })
+
+pub begins_number : (rev : Option ℕ) (h h' : History) (number : ℕ) → begin_fault rev (length h.roots) number ≡ None → EmptyCommits h h'
+    → (length h.roots ≤ number → length h'.roots ≡ number) → (number ≡ 0 → h' ≡ h) → Begins rev (Some number) h h'
+begins_number rev h h' zero e commits size first =
+    subst (λ (g : History). Begins rev (Some 0) h g) (sym (first refl)) (begins_first rev h 0 refl e)
+begins_number rev h h' (suc n) e commits size first = begins_later rev h h' (suc n) (omega arith) e commits size
+
+-- ---- a part
+
+pub part_by : (limits : Limits) (texts : Texts) (old mid new : Loading) (rev next : Option ℕ) (ended filled : History)
+    → LoadsNodes limits texts old next mid → mid.rev ≡ old.rev → rev ≡ old.rev → Ends mid.rev mid.draft ended → Begins rev next ended filled
+    → new.draft ≡ begun filled → new.rev ≡ next → new.left ≡ mid.left → LoadsPart limits texts old new
+part_by limits texts old mid new rev next ended filled nodes same same' ends begins start next_is left = record {
+  nodes = nodes.nodes;
+  bytes = subst (λ (l : Option (List ℕ)). IfKnown old.left l (λ bytes rest. NodesAt limits texts bytes nodes.nodes new.rev rest)) (sym left)
+      (subst (λ (n : Option ℕ). IfKnown old.left mid.left (λ bytes rest. NodesAt limits texts bytes nodes.nodes n rest)) (sym next_is)
+      nodes.bytes);
+  read = mid.draft;
+  made = nodes.made;
+  ended = ended;
+  ended_is = subst (λ (r : Option ℕ). Ends r mid.draft ended) same ends;
+  filled = filled;
+  begins = subst (λ (n : Option ℕ). Begins old.rev n ended filled) (sym next_is)
+      (subst (λ (r : Option ℕ). Begins r next ended filled) same' begins);
+  draft = start;
+}
+
+-- ---- what is refused
+
+pub nodes_refused : (limits : Limits) (texts : Texts) (old : Loading) (e : LoadFault) (h : History) → RefusesNodes limits texts old e
+    → h ≡ old.draft.history → RefusesPart limits texts old e h
+nodes_refused limits texts old e h why same = record { fault = by old.left why; history = unfinished same }
+  where
+    by : (l : Option (List ℕ)) → MatchOption l (Unit {0}) (λ bytes. NodesFault limits texts old.rev old.draft bytes e)
+        → MatchOption l (Unit {0}) (λ bytes. PartFault limits texts old.rev old.draft bytes e)
+    by None w = tt
+    by (Some bytes) w = bad_nodes w
+
+out_of_memory_at : (limits : Limits) (texts : Texts) (old : Loading) (e : LoadFault) → e ≡ faults.Memory
+    → MatchOption old.left (Unit {0}) (λ bytes. PartFault limits texts old.rev old.draft bytes e)
+out_of_memory_at limits texts old e is = by old.left
+  where
+    by : (l : Option (List ℕ)) → MatchOption l (Unit {0}) (λ bytes. PartFault limits texts old.rev old.draft bytes e)
+    by None = tt
+    by (Some bytes) = bad_nodes (outside (out_of_memory is))
+
+pub end_refused : (limits : Limits) (texts : Texts) (old : Loading) (e : LoadFault) (h : History) → e ≡ faults.Memory
+    → h ≡ old.draft.history → RefusesPart limits texts old e h
+end_refused limits texts old e h is same = record { fault = out_of_memory_at limits texts old e is; history = unfinished same }
+
+pub next_refused : (limits : Limits) (texts : Texts) (old mid : Loading) (rev next : Option ℕ) (ended h : History) (e : LoadFault)
+    → LoadsNodes limits texts old next mid → mid.rev ≡ old.rev → rev ≡ old.rev → Ends mid.rev mid.draft ended → EmptyCommits ended h
+    → (e ≡ faults.Memory) ⊎ (next_fault rev (length ended.roots) next ≡ Some e) → RefusesPart limits texts old e h
+next_refused limits texts old mid rev next ended h e nodes same same' ends commits why = record {
+  fault = by_fault why;
+  history = finished nodes.nodes mid.draft ended nodes.made here commits;
+}
+  where
+    here : Ends old.rev mid.draft ended
+    here = subst (λ (r : Option ℕ). Ends r mid.draft ended) same ends
+
+    by : (left left' : Option (List ℕ)) → IfKnown left left' (λ bytes rest. NodesAt limits texts bytes nodes.nodes next rest)
+        → next_fault old.rev (length ended.roots) next ≡ Some e
+        → MatchOption left (Unit {0}) (λ bytes. PartFault limits texts old.rev old.draft bytes e)
+    by None left' known is = tt
+    by (Some bytes) None known is = absurd known
+    by (Some bytes) (Some rest) known is = bad_number nodes.nodes rest mid.draft ended next known nodes.made here is
+
+    by_fault : (e ≡ faults.Memory) ⊎ (next_fault rev (length ended.roots) next ≡ Some e)
+        → MatchOption old.left (Unit {0}) (λ bytes. PartFault limits texts old.rev old.draft bytes e)
+    by_fault (inl is) = out_of_memory_at limits texts old e is
+    by_fault (inr is) = by old.left mid.left nodes.bytes
+        (subst (λ (r : Option ℕ). next_fault r (length ended.roots) next ≡ Some e) same' is)
+
+-- ---- the same limits, and texts kept the same
+
+pub part_as : (limits limits' : Limits) (texts texts' : Texts) (old new : Loading) → limits' ≡ limits → texts' ≡ texts
+    → LoadsPart limits' texts' old new → LoadsPart limits texts old new
+part_as limits limits' texts texts' old new same same' h =
+    subst (λ (t : Texts). LoadsPart limits t old new) same' (subst (λ (l : Limits). LoadsPart l texts' old new) same h)
+
+pub refuses_as : (limits limits' : Limits) (texts texts' : Texts) (old : Loading) (e : LoadFault) (h : History) → limits' ≡ limits
+    → texts' ≡ texts → RefusesPart limits' texts' old e h → RefusesPart limits texts old e h
+refuses_as limits limits' texts texts' old e h same same' why =
+    subst (λ (t : Texts). RefusesPart limits t old e h) same' (subst (λ (l : Limits). RefusesPart l texts' old e h) same why)

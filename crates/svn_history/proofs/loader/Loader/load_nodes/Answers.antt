@@ -1,0 +1,97 @@
+use Rattle.std.proofs.Common.{◌≡◌, ℕ, Option, refl, subst, sym, ap, ◌∙◌}
+use Rattle.svn_lists.proofs.Results.{IfErr_returned}
+use Rattle.svn_dump.specs.Readers.{left_in}
+use Rattle.svn_history.specs.declared.fault.LoadFault.{LoadFault}
+use Rattle.svn_history.specs.Results.{of_dump}
+use Rattle.svn_history.specs.Steps.{draft_of}
+use Rattle.svn_history.specs.Parts.{loading, RefusesNodes, Takes}
+use Rattle.svn_history.proofs.Parts.{at_start, end_read, fault_read, one_more, revision_read, record_refused}
+use Rattle.svn_history.proofs.loader.Loader.load_nodes.Goals as goal
+
+pub records-init : goal.records-init
+records-init g c =
+    let first = c.args.self.now in
+    record {
+      nodes = at_start first.records.limits first.records.texts first.rev (left_in g.R.Read.remaining first.records)
+          (draft_of first.transaction);
+      limits = refl;
+      texts = refl;
+      rev = refl;
+      history = refl;
+    }
+
+pub returns-in_err-what-clause-fault : goal.returns-in_err-what-clause-fault
+returns-in_err-what-clause-fault g c =
+    let first = c.args.self.now in
+    let now = c.records.self in
+    let inv = c.records.invariant in
+    let left = left_in g.R.Read.remaining in
+    let Q : LoadFault → Type 0 = RefusesNodes first.records.limits first.records.texts (loading g.R.Read.remaining first) in
+    let why : Q (of_dump c.in_err-what.field-0.0) =
+    fault_read first.records.limits now.records.limits first.records.texts now.records.texts first.records.texts first.rev first.rev
+    (left first.records) (left now.records) (left c.next_record.new.self) (draft_of first.transaction) (draft_of now.transaction)
+    inv.nodes inv.limits inv.texts refl refl c.in_err-what.field-0.0 c.in_err-what.ensures.bytes in
+    IfErr_returned (λ e. e ≡ of_dump c.in_err-what.field-0.0) Q c.from_residual.result c.from_residual.ensures
+    (λ e is. subst Q (sym is) why)
+
+pub returns-in_err-rev-clause-fault : goal.returns-in_err-rev-clause-fault
+returns-in_err-rev-clause-fault g c =
+    let first = c.args.self.now in
+    let now = c.records.self in
+    let inv = c.records.invariant in
+    let left = left_in g.R.Read.remaining in
+    let Q : LoadFault → Type 0 = RefusesNodes first.records.limits first.records.texts (loading g.R.Read.remaining first) in
+    let why : Q c.in_err-rev.field-0.0 =
+    record_refused first.records.limits now.records.limits first.records.texts now.records.texts c.next_record.new.self.texts first.rev
+    now.rev (left first.records) (left now.records) (left c.next_record.new.self) (draft_of first.transaction)
+    (draft_of now.transaction) inv.nodes inv.limits inv.texts (c.next_record.ensures.texts ∙ inv.texts) inv.rev
+    (left c.next_record.new.self) (draft_of now.transaction) c.in_ok-what.field-0 c.in-Some.what c.in-Some.is refl
+    c.in_ok-what.ensures.bytes c.in_err-rev.field-0.0 c.in_err-rev.ensures.fault in
+    IfErr_returned (λ e. e ≡ c.in_err-rev.field-0.0) Q c.from_residual-in_err-rev.result c.from_residual-in_err-rev.ensures
+    (λ e is. subst Q (sym is) why)
+
+pub returns-in-Some-2-clause-nodes : goal.returns-in-Some-2-clause-nodes
+returns-in-Some-2-clause-nodes g c =
+    let first = c.args.self.now in
+    let now = c.records.self in
+    let inv = c.records.invariant in
+    let left = left_in g.R.Read.remaining in
+    let new = c.take.new.self in
+    revision_read first.records.limits now.records.limits first.records.texts now.records.texts c.next_record.new.self.texts first.rev
+    now.rev (left first.records) (left now.records) (left c.next_record.new.self) (draft_of first.transaction)
+    (draft_of now.transaction) inv.nodes inv.limits inv.texts (c.next_record.ensures.texts ∙ inv.texts) inv.rev (left new.records)
+    (draft_of new.transaction) c.in_ok-what.field-0 c.in-Some.what c.in-Some.is (ap left c.take.ensures.records)
+    c.in_ok-what.ensures.bytes new.rev c.in-Some-2.rev
+    (subst (λ (n : Option ℕ). Takes c.next_record.new.self.texts now.rev c.in-Some.what (draft_of now.transaction)
+    (draft_of new.transaction) n) c.in-Some-2.is c.in_ok-rev.ensures.takes)
+
+pub returns-in_default-clause-nodes : goal.returns-in_default-clause-nodes
+returns-in_default-clause-nodes g c =
+    let first = c.args.self.now in
+    let now = c.records.self in
+    let inv = c.records.invariant in
+    let left = left_in g.R.Read.remaining in
+    end_read first.records.limits now.records.limits first.records.texts now.records.texts first.records.texts first.rev now.rev
+    (left first.records) (left now.records) (left c.next_record.new.self) (draft_of first.transaction) (draft_of now.transaction)
+    inv.nodes inv.limits inv.texts refl inv.rev c.in_ok-what.field-0 c.in_default.is c.in_ok-what.ensures.bytes
+
+pub records-preserved : goal.records-preserved
+records-preserved g c =
+    let first = c.args.self.now in
+    let now = c.records.self in
+    let inv = c.records.invariant in
+    let left = left_in g.R.Read.remaining in
+    let new = c.take.new.self in
+    record {
+      nodes = one_more first.records.limits now.records.limits first.records.texts now.records.texts c.next_record.new.self.texts
+          first.rev now.rev (left first.records) (left now.records) (left c.next_record.new.self) (draft_of first.transaction)
+          (draft_of now.transaction) inv.nodes inv.limits inv.texts (c.next_record.ensures.texts ∙ inv.texts) inv.rev (left new.records)
+          (draft_of new.transaction) c.in_ok-what.field-0 c.in-Some.what c.in-Some.is (ap left c.take.ensures.records)
+          c.in_ok-what.ensures.bytes
+          (subst (λ (n : Option ℕ). Takes c.next_record.new.self.texts now.rev c.in-Some.what (draft_of now.transaction)
+          (draft_of new.transaction) n) c.in_default-2.is c.in_ok-rev.ensures.takes);
+      limits = cc;
+      texts = cc;
+      rev = c.take.ensures.rev ∙ inv.rev;
+      history = c.take.ensures.history ∙ inv.history;
+    }

@@ -1,0 +1,17 @@
+use Rattle.std.proofs.Common.{◌≡◌, true, false, rules}
+use Rattle.std.specs.Prelude.{is_some}
+use Rattle.svn_lists.proofs.Results.{OnOk_then}
+use Rattle.svn_history.specs.Steps.{draft_of}
+use Rattle.svn_history.specs.Changes.{at, changes_nothing}
+use Rattle.svn_history.proofs.Altering.{made_alteration}
+use Rattle.svn_history.proofs.records.change.Goals as goal
+
+pub returns-clause-made : goal.returns-clause-made
+returns-clause-made c =
+    let node = c.args.node.now in
+    let old = draft_of c.args.transaction.now in
+    let there : is_some (at old node.path) ≡ true = search rules in
+    let some : changes_nothing node (at old node.path) ≡ false = search rules in
+    OnOk_then c.put_props.result c.put_props.ensures.made
+    (λ h. made_alteration node old (draft_of c.put_text.new.transaction) (draft_of c.put_props.new.transaction) there some
+    c.in_ok-put_text.ensures.made h)

@@ -1,0 +1,36 @@
+//! Real histories: the revisions of a dump, loaded into a repository, and commits written as the revisions of one.
+//!
+//! A [`Loader`] reads a dump of `svn_dump` record by record, and makes the changes that a record stands for on a transaction of `svn_repo`, which it
+//! commits at the end of each revision. Revisions keep their numbers. [`push_commit`] makes a commit and writes it as a revision of a dump.
+//!
+//! ```
+//! let reader = Reader::new(alloc, File::open(rt, "repo.dump")?, limits, Texts::Whole)?;
+//! let mut loader = Loader::new(alloc, reader, Repo::new(alloc)?);
+//! while let Some(rev) = loader.next_revision()? {
+//!     println!(rt; "loaded {rev}")?;
+//! }
+//! let repo = loader.into_repo();
+//! ```
+//!
+//! Promises: what a record changes is `record_changes` of `specs/Changes.antt`, with the first fault from left to right. A call of `next_revision` makes
+//! one commit of the records of one revision, with empty commits for the numbers that are left out (`one`); a refusal has its own cause, leaves the
+//! revisions before (`fault`), and stays (`refused`, `again`). A dump that is loaded to its end is the bytes' revisions, each a commit (`dump` of
+//! `load_all`, by `Loads` of `specs/Loading.antt`). What is written is one record for each change (`written`), a commit that is refused leaves no byte
+//! (`unwritten`), and what is written of a commit that sets no property loads as the same commit ([`written_commits_load`]). Out of memory, and a
+//! reader that fails, may come anywhere. Of a reader whose bytes no contract knows, it is proved what the records do that it gives, but not which
+//! bytes they are.
+#![tactic(auto)]
+
+mod delta;
+mod fault;
+mod laws;
+mod loader;
+mod records;
+mod refusal;
+mod writing;
+
+pub use fault::LoadFault;
+pub use laws::written_commits_load;
+pub use loader::{Loader, MAX_REVISION};
+pub use refusal::Refusal;
+pub use writing::{push_change, push_commit};

@@ -1,0 +1,79 @@
+//! Why the program refuses.
+
+use std::alloc::{AllocError, AllocFailed};
+use std::{fmt, io};
+use svn_editor::PathWord;
+use svn_history::LoadFault;
+use svn_types::{PathFault, RelPath, Rev};
+
+/// Why nothing is done, or no more than was.
+#[derive(Debug, Drop)]
+pub(crate) enum Fault {
+    /// The words of the command line can't be had.
+    Words(io::Error),
+    /// The file can't be opened.
+    Unopened(io::Error),
+    /// The dump is refused: where, and why.
+    Dump(String),
+    /// The history has no such revision; the last one.
+    NoRevision(Rev, Rev),
+    /// The revision has nothing at the path.
+    NoNode(Rev, RelPath),
+    /// The path that was asked for isn't lawful.
+    BadPath(PathFault),
+    /// The line of this number, counted from 1, is no command.
+    BadLine(u64),
+    /// The line of this number is longer than a line may be.
+    LongLine(u64),
+    /// The change or the commit of the line of this number can't be made.
+    Refused(u64, LoadFault),
+    /// The script couldn't be read to its end.
+    Read,
+    /// The output couldn't be written.
+    Write,
+    /// An allocation failed.
+    Memory,
+}
+
+impl Fault {
+    /// Whether it is a fault of what is read, which its line then names.
+    pub(crate) fn is_of_input(&self) -> bool {
+        !matches!(self, Fault::BadPath(_) | Fault::Write | Fault::Memory)
+    }
+}
+
+impl From<AllocError> for Fault {
+    fn from(_error: AllocError) -> Fault {
+        Fault::Memory
+    }
+}
+
+impl<T: Drop> From<AllocFailed<T>> for Fault {
+    fn from(_error: AllocFailed<T>) -> Fault {
+        Fault::Memory
+    }
+}
+
+impl fmt::Display for Fault {
+    fn fmt<W: fmt::Write>(&self, f: &mut fmt::Formatter<W>) -> fmt::Result {
+        match self {
+            Fault::Words(error) => write!(f, "words of the command line: {error}"),
+            Fault::Unopened(error) => write!(f, "{error}"),
+            Fault::Dump(text) => write!(f, "{text}"),
+            Fault::NoRevision(rev, last) => {
+                write!(f, "there is no r{}: the last is r{}", rev.0, last.0)
+            }
+            Fault::NoNode(rev, path) => {
+                let path = PathWord(path);
+                write!(f, "r{}: nothing is at {path}", rev.0)
+            }
+            Fault::BadPath(fault) => write!(f, "bad path: {fault}"),
+            Fault::BadLine(line) => write!(f, "line {line}: bad line"),
+            Fault::LongLine(line) => write!(f, "line {line}: line too long"),
+            Fault::Refused(line, fault) => write!(f, "line {line}: {fault}"),
+            Fault::Read => f.write_str("read fault"),
+            Fault::Write => f.write_str("write fault"),
+            Fault::Memory => f.write_str("out of memory"),
+        }
+    }
+}

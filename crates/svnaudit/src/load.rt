@@ -1,0 +1,107 @@
+//! A history, loaded from a dump.
+
+use crate::fault::Fault;
+use crate::progress::Progress;
+use std::alloc::Global;
+use std::io::Read;
+use std::rt::Clock;
+use svn_dump::{DumpFault, Limits, Reader, Reason, Texts};
+use svn_history::{LoadFault, Loader, Refusal};
+use svn_repo::Repo;
+use svn_types::Rev;
+
+// What to try where texts are kept in another way.
+fn advice(fault: LoadFault, texts: Texts) -> &'static str {
+    match (fault, texts) {
+        (LoadFault::Dump(DumpFault::Refused(Reason::TextTooLong(_, _))), Texts::Whole) => {
+            " (try --texts sha1)"
+        }
+        (LoadFault::Dump(DumpFault::Refused(Reason::NoSha1)), Texts::Sha1) => {
+            " (try --texts whole)"
+        }
+        _ => "",
+    }
+}
+
+fn fault_of(alloc: Global, refusal: &Refusal<'_>, texts: Texts) -> Fault {
+    if refusal.fault == LoadFault::Memory {
+        return Fault::Memory;
+    }
+    let advice = advice(refusal.fault, texts);
+    match format!(in alloc; "{refusal}{advice}") {
+        Ok(text) => Fault::Dump(text),
+        Err(_) => Fault::Memory,
+    }
+}
+
+// A dump whose first record is refused.
+fn at_front(alloc: Global, fault: DumpFault, texts: Texts) -> Fault {
+    let refusal = Refusal {
+        byte: 0,
+        rev: None,
+        path: None,
+        fault: LoadFault::from(fault),
+    };
+    fault_of(alloc, &refusal, texts)
+}
+
+// A dump of which a later record is refused.
+fn at_record<R: Read + Drop>(alloc: Global, loader: &Loader<R>) -> Fault {
+    match loader.refusal() {
+        Some(refusal) => fault_of(alloc, &refusal, loader.records().texts()),
+        None => Fault::Memory,
+    }
+}
+
+// Loads the revisions up to one, or to the end of the dump.
+fn load_up_to<T: Clock + Eprint, R: Read + Drop>(
+    loader: &mut Loader<R>,
+    rev: Rev,
+    progress: &mut Progress<'_, T>,
+) -> Result<(), LoadFault> {
+    for _ in 0..u64::MAX {
+        if loader.latest() >= rev {
+            return Ok(());
+        }
+        if loader.next_revision()?.is_none() {
+            return Ok(());
+        }
+        progress.tell(loader.latest(), loader.records().begun());
+    }
+    Ok(())
+}
+
+// What was loaded, if it has the revision.
+fn loaded<R: Read + Drop>(loader: Loader<R>, rev: Rev) -> Result<Repo, Fault> {
+    let last = loader.latest();
+    if last < rev {
+        return Err(Fault::NoRevision(rev, last));
+    }
+    Ok(loader.into_repo())
+}
+
+fn open<R: Read + Drop>(alloc: Global, input: R, texts: Texts) -> Result<Loader<R>, Fault> {
+    let Ok(repo) = Repo::new(alloc) else {
+        return Err(Fault::Memory);
+    };
+    match Reader::new(alloc, input, Limits::default(), texts) {
+        Ok(records) => Ok(Loader::new(alloc, records, repo)),
+        Err(fault) => Err(at_front(alloc, fault, texts)),
+    }
+}
+
+/// The history of a dump, at least up to a revision, which it has; what comes after that isn't read.
+pub(crate) fn load<T: Clock + Eprint, R: Read + Drop>(
+    alloc: Global,
+    input: R,
+    texts: Texts,
+    rev: Rev,
+    progress: &mut Progress<'_, T>,
+) -> Result<Repo, Fault> {
+    let mut loader = open(alloc, input, texts)?;
+    if load_up_to(&mut loader, rev, progress).is_err() {
+        return Err(at_record(alloc, &loader));
+    }
+    progress.end(loader.latest(), loader.records().begun());
+    loaded(loader, rev)
+}

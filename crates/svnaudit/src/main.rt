@@ -1,0 +1,103 @@
+//! `svnaudit`: prints trees of a history that is given as a dump of Subversion, and writes the history that a script makes as a dump.
+//! `docs/AUDIT.md` is the manual.
+#![tactic(auto)]
+
+mod command_line;
+mod fault;
+mod lines;
+mod load;
+mod output;
+mod progress;
+mod show;
+mod source;
+mod write;
+
+use crate::command_line::{Request, request_of};
+use crate::fault::Fault;
+use crate::show::show_dump;
+use crate::write::write_script;
+use std::env;
+use std::env::Env;
+use std::process::ExitCode;
+use std::rt::{Clock, Files};
+
+// The status where anything is refused; 1 is left for what a question about a history may answer.
+const REFUSED: u8 = 2;
+
+// The words of the command line, the first of which is the program's name.
+fn words(rt: &(impl Env + AllocGlobal)) -> Result<Vec<String>, Fault> {
+    let words = match env::args(rt) {
+        Ok(words) => words,
+        Err(error) => return Err(Fault::Words(error)),
+    };
+    match words.collect(rt.alloc()) {
+        Ok(words) => Ok(words),
+        Err(_) => Err(Fault::Memory),
+    }
+}
+
+// Does what is asked, and says what is refused.
+fn answer<T: Files + Input + Print + Eprint + Clock + AllocGlobal>(
+    rt: &T,
+    request: &Request<'_>,
+) -> ExitCode {
+    let done = match request {
+        Request::Show(show) => show_dump(rt, show),
+        Request::Write(write) => write_script(rt, write),
+    };
+    match done {
+        Ok(()) => ExitCode::SUCCESS,
+        Err(fault) => refuse(rt, request, &fault),
+    }
+}
+
+// Where standard error can't be written either, the status alone tells.
+fn refuse<T: Eprint>(rt: &T, request: &Request<'_>, fault: &Fault) -> ExitCode {
+    let source = request.source();
+    let _ = if fault.is_of_input() {
+        eprintln!(rt; "svnaudit: {source}: {fault}")
+    } else {
+        eprintln!(rt; "svnaudit: {fault}")
+    };
+    ExitCode::from(REFUSED)
+}
+
+fn run<T: Files + Input + Print + Eprint + Clock + AllocGlobal>(
+    rt: &T,
+    words: &[String],
+) -> ExitCode {
+    let mut texts = Vec::new(rt.alloc());
+    for word in words {
+        if texts.push(word.as_str()).is_err() {
+            return out_of_memory(rt);
+        }
+    }
+    match request_of(rt.alloc(), &texts) {
+        Ok(request) => answer(rt, &request),
+        Err(error) => {
+            // the text of words that are none of a call, or the help that was asked for
+            let _ = error.print(rt);
+            if error.use_stderr() {
+                ExitCode::from(REFUSED)
+            } else {
+                ExitCode::SUCCESS
+            }
+        }
+    }
+}
+
+fn out_of_memory<T: Eprint>(rt: &T) -> ExitCode {
+    let fault = Fault::Memory;
+    let _ = eprintln!(rt; "svnaudit: {fault}");
+    ExitCode::from(REFUSED)
+}
+
+fn main(rt: HostRuntime) -> ExitCode {
+    match words(&rt) {
+        Ok(words) => run(&rt, &words),
+        Err(fault) => {
+            let _ = eprintln!(rt; "svnaudit: {fault}");
+            ExitCode::from(REFUSED)
+        }
+    }
+}
