@@ -10,6 +10,8 @@ mod cut_scripts;
 #[cfg(test)]
 mod failing_streams;
 #[cfg(test)]
+mod given_repository;
+#[cfg(test)]
 mod limits;
 #[cfg(test)]
 mod long_scripts;
