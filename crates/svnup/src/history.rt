@@ -59,19 +59,10 @@ fn at_front(alloc: Global, fault: DumpFault) -> HistoryFault {
     fault_of(alloc, &refusal)
 }
 
-fn load_all<R: Read + Drop>(loader: &mut Loader<R>) -> Result<(), LoadFault> {
-    for _ in 0..u64::MAX {
-        if loader.next_revision()?.is_none() {
-            return Ok(());
-        }
-    }
-    Ok(())
-}
-
 // The repository of a dump, if all of it can be loaded.
 fn loaded<R: Read + Drop>(alloc: Global, loader: Loader<R>) -> Result<Repo, HistoryFault> {
     let mut loader = loader;
-    if load_all(&mut loader).is_ok() {
+    if loader.load_all().is_ok() {
         return Ok(loader.into_repo());
     }
     match loader.refusal() {
