@@ -17,7 +17,7 @@ fn fault_of(alloc: Global, dump: &[u8], texts: Texts) -> Result<Option<LoadFault
     Ok(load_all(&mut loader).err())
 }
 
-// A dump with a file, with these bytes behind its first headers.
+// A dump with a file, with these bytes after its first headers.
 fn dump_with(alloc: Global, rest: &[u8]) -> Result<Vec<u8>> {
     let mut dump = FRONT.to_vec(alloc)?;
     dump.extend_from_slice(FILE)?;

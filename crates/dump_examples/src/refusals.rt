@@ -236,7 +236,7 @@ fn has_first(alloc: Global, repo: &Repo, texts: Texts, latest: u64) -> Result<bo
     Ok(repo.latest() == Rev(latest) && tree(alloc, repo, 1)?.as_str() == wanted)
 }
 
-// A loader of the front with a record behind it.
+// A loader of the front with a record after it.
 fn loader_of(alloc: Global, dump: &[u8], texts: Texts) -> Result<Loader<&[u8]>> {
     let reader = Reader::new(alloc, dump, LIMITS, texts)?;
     Ok(Loader::new(alloc, reader, Repo::new(alloc)?))

@@ -23,7 +23,7 @@ enum Piece {
     Last,
 }
 
-// Puts the next bytes of a line behind the others.
+// Puts the next bytes of a line after the others.
 fn read_piece<R: Read + Drop>(
     input: &mut BufReader<R>,
     line: &mut Vec<u8>,

@@ -52,7 +52,7 @@ impl<'a, T: Clock + Eprint> Progress<'a, T> {
         }
     }
 
-    // Where standard error can't be written, nothing is told.
+    // Where standard error can't be written, nothing is printed.
     fn line(&self, rev: Rev, bytes: u64) {
         let number = rev.0;
         let _ = eprintln!(self.rt; "svnaudit: r{number}, {bytes} bytes");
