@@ -1,6 +1,8 @@
 //! Histories, loaded revision by revision.
-ghost use Rattle.std.specs.Prelude.{◌≡◌, ◌+◌, ◌≤◌, ◌⊎◌, length, Some, None, Err, IfOk, IfErr, IfSome, OnOk, option_map};
+ghost use Rattle.std.specs.Prelude.{◌≡◌, ◌+◌, ◌≤◌, ◌⊎◌, length, Some, None, Err, IfOk, IfErr, IfSome, OnOk, option_map, codes};
 ghost use Rattle.std.specs.Result.{result_err};
+ghost use Rattle.std.specs.Option.{option_copied};
+ghost use Rattle.svn_dump.specs.Headers.{header_value, if_once};
 ghost use Rattle.svn_history.specs.Results.{Fails};
 ghost use Rattle.svn_history.specs.Steps.{IsMade, draft_of, begun};
 ghost use Rattle.svn_history.specs.Loading.{EmptyCommits, LoadsDump};
@@ -91,7 +93,10 @@ impl<R: Read + Drop> Loader<R> {
 
     /// Why the dump isn't loaded further, and where; None as long as nothing was refused.
     pub fn refusal(&self) -> Option<Refusal<'_>>
-        ensures { option_map (λ r. r.fault) result ≡ self.now.refused }
+        ensures fault { option_map (λ r. r.fault) result ≡ self.now.refused }
+        ensures byte { IfSome result (λ r. r.byte ≡ self.now.records.begun) }
+        ensures rev { IfSome result (λ r. r.rev ≡ self.now.rev) }
+        ensures path { IfSome result (λ r. option_copied r.path ≡ if_once (header_value self.now.records.block.items (codes "Node-path"))) }
     {
         let fault = self.refused?;
         Some(Refusal {
