@@ -5,8 +5,8 @@ ghost use Rattle.svn_link.specs.Ends.{IsCapacity};
 use crate::fault::LinkFault;
 use crate::inbox::Inbox;
 use crate::outbox::Outbox;
-use crate::queue::{Hand, InOrder, Roles};
-use crossbeam_channel::bounded_with;
+use crate::queue::Counted;
+use rtrb::RingBuffer;
 use std::alloc::Global;
 use svn_editor::Call;
 use svn_types::MAX_CAPACITY;
@@ -23,19 +23,16 @@ pub fn link(alloc: Global, capacity: usize) -> Result<(Outbox, Inbox), LinkFault
     if capacity < 1 || capacity > MAX_CAPACITY {
         return Err(LinkFault::Capacity);
     }
-    let (sender, receiver, mut sends) = bounded_with::<Call, Hand, InOrder, Global>(
+    let (producer, consumer) = RingBuffer::<Call>::with_protocol::<Global, Counted>(
         alloc, capacity,
     )?;
-    let takes = sender.another::<Roles>(&mut sends);
     let outbox = Outbox {
-        sender,
-        pass: sends,
+        producer,
         count: 0,
         over: false,
     };
     let inbox = Inbox {
-        receiver,
-        pass: takes,
+        consumer,
         count: 0,
         over: false,
     };
