@@ -85,7 +85,7 @@ found_fault h r i e inside inv = by e
     by Memory is = tt
     by RootNotDir is = same RootNotDir is
 
--- a fault that is found is the answer
+-- a fault that is found is the result
 pub is_answer : (o : Option ReportFault) (e : ReportFault) → o ≡ Some e → IsCheckAnswer o e
 is_answer o NoEntries is = is
 is_answer o (NoSuchRevision n) is = is

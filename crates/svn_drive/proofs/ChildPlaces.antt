@@ -79,6 +79,25 @@ source_entry h r above here name o says own before shown =
     always true o = refl
     always false o = refl
 
+-- a child by its own entry
+abbrev child_by : Reported → Name → Option ReportEntry → Reported
+child_by above name own = record {
+  path = child above.path name;
+  own = own;
+  governing = option_or own above.governing;
+  repos_path = linked_or own (child above.repos_path name);
+}
+
+-- a child that is set to a revision is an entry of the node that its parent's path has in it
+pub set_source : (h : History) (r : ReportView) (above here : Reported) (name : Name) (rev : ℕ) (start_empty : Bool) (o : Option ℕ)
+    → here ≡ reported_child r above name → here.own ≡ Some (SetPath rev start_empty) → o ≡ look h rev above.repos_path
+    → entry_of h o name ≡ source h here
+set_source h r above here name rev start_empty o says own node =
+    let mine : here.own ≡ entry_at r.entries (child above.path name) = ap (λ (s : Reported). s.own) says in
+    entry-below h o name ∙ ap (λ x. entry_below h x name) node ∙ sym (look-child h rev above.repos_path name)
+    ∙ ap (λ x. source h (child_by above name x)) (sym own ∙ mine)
+    ∙ ap (source h) (sym says)
+
 -- ---- a child
 
 -- what is read of a child, node by node

@@ -72,7 +72,7 @@ module _ (w : Walk) (p : Path) (n : ℕ) (file : Texted) (e : IsEntered (request
   abbrev d : Request
   d = request_of w
 
-  -- a file's end, by what is told
+  -- a file's end, by what is reported
   abbrev end_by : Bool → List ℕ → ℕ → List Action
   end_by o old m =
       cond o (cond (bytes_eq old (text_of w.repo.now m)) [] (Text (Some (md5 old)) (text_of w.repo.now m) ∷ []))

@@ -20,7 +20,7 @@ pub mod Idle
 pub mod ByName
 -- Parts of a report: what is reported below a path, its own entry, and the parts of its names.
 pub mod Parts
--- The names below a path, taken from three lists in order: each once, with what stands under it.
+-- The names below a path, taken from three lists in order: each once, with what is under it.
 pub mod NamesLeft
 -- A walk over the names at which something is done: it does what one over all names does.
 pub mod SkippedNames

@@ -1,9 +1,9 @@
--- What is left of the names below a path: that the first name is taken from what is left, and what stands under it.
---     all_left, left_at_first      at first all names are left, with what stands under them
+-- What is left of the names below a path: that the first name is taken from what is left, and what is under it.
+--     all_left, left_at_first      at first all names are left, with what is under them
 --     left_step      the names that are left are the one that was taken, and those that are left then
---     step_under      what stands under the name that was taken
---     step_kept      what is left then is in order, and has what stands under each name
---     behind_another      a name is another than one behind it
+--     step_under      what is under the name that was taken
+--     step_kept      what is left then is in order, and has what is under each name
+--     behind_another      a name is another than one after it
 use Rattle.std.proofs.Common.{◌≡◌, ◌≢◌, ◌⊎◌, inl, inr, ℕ, Bool, true, false, ◌&&◌, ◌||◌, List, [], ◌∷◌, ◌++◌, refl, sym, ◌∙◌, ap}
 use Rattle.std.proofs.Common.{subst, true≢false, length}
 use Rattle.std.specs.Prelude.{Option, Some, None, cond, is_some, unwrap_or, fold, bytes_eq}
@@ -96,7 +96,7 @@ after_each n (k ∷ ns) h f = all_after n k ns (f k (has_own k ns)) h
 not_self : (n : Name) → is_lt (name_cmp n n) ≡ false
 not_self n = ap is_lt (name_cmp-same n)
 
--- a name is another than one that stands behind it
+-- a name is another than one that is after it
 pub behind_another : (n m : Name) → name_cmp n m ≡ Less → Some m ≢ Some n
 behind_another n m l q =
     true≢false (sym (ap is_lt l) ∙ ap (λ (o : Option Name). is_lt (name_cmp n (unwrap_or o n))) q ∙ not_self n)
@@ -161,7 +161,7 @@ none_left l e =
     λ i. fold (insert_key name_cmp) []
     (no_first (keys_of l.source) entries.0 i ++ no_first (keys_of l.target) entries.1 i ++ no_first (keys_of l.reported) all.1 i)
 
--- ---- one list, of which the name is taken where it is the first
+-- ---- one list: the name is taken if it is the first
 
 abbrev TakesName : Name → List Name → Bool → List Name → Type 0
 TakesName name ns true rest = ns ≡ name ∷ rest
@@ -196,7 +196,7 @@ is_taken : (n : Name) (ns : List Name) (b : Bool) (rest : List Name) → TakesNa
 is_taken n ns true rest t e = refl
 is_taken n ns false rest t e = absurd (t.1 e)
 
--- ---- the same of what stands under names
+-- ---- the same of what is under names
 
 as_names : {V : Type 0} (n : Name) (es : List (Name × V)) (o : Option V) (rest : List (Name × V)) → TakesValue n es o rest
     → TakesName n (keys_of es) (is_some o) (keys_of rest)

@@ -222,7 +222,7 @@ module _ (es : Entries) (lawful : AreLawfulEntries es) (p : Path) where
   pub others_are : (part : Entries) → IsPart es (is_within p) part → IsPart es (is_below p) (without_own p part)
   others_are part h = (own_and_others part h).1
 
--- the same of a path that is told otherwise, and of what is answered
+-- the same of a path that is reported otherwise, and of what is returned
 pub own_part : (es : Entries) → AreLawfulEntries es → (p : Path) (part : Entries) → IsPart es (is_within p) part → (q r : Path)
     (own : Option ReportEntry) (rest : Entries) → q ≡ p → r ≡ q → own ≡ own_entry q part → rest ≡ without_own q part
     → (own ≡ entry_at es q) × IsPart es (is_below r) rest
@@ -297,7 +297,7 @@ module _ (es : Entries) (p : Path) (part : Entries) (h : IsPart es (is_below p) 
   pub deeper : AreDeeper (length p) part
   deeper = each (λ e b. name_deeper p e.0 b) part lower
 
-  -- the names stand in order
+  -- the names are in order
   ordered : (fs : Entries) → AllByRecursion (λ e. is_below p e.0 ≡ true) fs → IsStrictlySortedBy path_cmp (keys_of fs)
       → Ordered (keys_of (by_name (length p) fs))
   ordered [] b s = tt
@@ -333,7 +333,7 @@ module _ (es : Entries) (p : Path) (part : Entries) (h : IsPart es (is_below p) 
   more : (m : Name) (q : Path) → is_within (child p m) q ≡ true → is_below p q ≡ true
   more m q w = let parts = below_from_child p q m w in below_from p q parts.0 parts.1
 
-  -- what stands under a name is the part at or below the child
+  -- what is under a name is the part at or below the child
   pub part_under : (m : Name) → IsPart es (is_within (child p m)) (entries_under (by_name (length p) part) m)
   part_under m =
       subst (IsPart es (is_within (child p m)))

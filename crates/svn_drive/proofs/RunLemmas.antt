@@ -22,7 +22,7 @@ leaves_two Full made all lt = lt
 leaves_two Memory made all lt = omega arith
 leaves_two (Editor fault) made all lt = omega arith
 
--- and one for all but want of a number
+-- and one for all but a missing number
 pub leaves_one : (s : Stop) (made all : ℕ) → s ≢ Full → made < all → LeavesSome s made all
 leaves_one Cancelled made all ne lt = lt
 leaves_one Full made all ne lt = absurd (ne refl)

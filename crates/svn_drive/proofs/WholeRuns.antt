@@ -46,7 +46,7 @@ module _ {E : Type 0} (answers : E → Call → Result (Unit {0}) EditFault → 
   abbrev rest : List Call
   rest = visits ++ (lates ++ last)
 
-  -- the calls of a drive, where so many were accepted before the last; and a stop comes before that
+  -- the calls of a drive, where that many were accepted before the last; and a stop comes before that
   abbrev pub Whole : Result (Unit {0}) Stop → E → ℕ → Type 0
   Whole r f b = Run answers limit (drive_calls d late) r e f a (with_last r b)
       × IfErr r (λ s. LeavesSome s b (a + length (drive_calls d late)))

@@ -1,5 +1,5 @@
--- What check and drive answer, for a report that can be served.
---     AnswersCheck fault answer      the report's first fault, or none where there is none; memory may be refused besides
+-- What check and drive return, for a report that can be served.
+--     AnswersCheck fault answer      the report's first fault, or none where there is none; Memory is also allowed
 --     AreOfDrive d late calls      the calls are those of the drive, where the report can be served and the target has the root
 --     seen_as seen      what is seen of a path, as what a report says of it
 --     fault_by h i e root here above      the fault of an entry, by the nodes at its path and above

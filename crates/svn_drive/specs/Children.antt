@@ -1,5 +1,5 @@
 -- The children of a place at which something is done.
---     IsChild d place below      what stands under the name is known, and the path has room for a name
+--     IsChild d place below      what is under the name is known, and the path has room for a name
 --     SameWalk d p ns ms      a walk over the one list of names below the path does what one over the other does
 use Rattle.std.specs.Prelude.{◌≡◌, ℕ, ◌<◌, Bool, List, length, map}
 use Rattle.svn_types.specs.Names.{Path, depth_limit}

@@ -1,6 +1,6 @@
 -- Names in order, and how the first is taken.
 --     entries_at h node      the entries of a node
---     InOrder ns      names that stand in order, each once
+--     InOrder ns      names that are in order, each once
 --     earlier a b      the earlier of two names
 --     TakesValue name es taken rest      the value under the name is taken where that is the first
 use Rattle.std.specs.Prelude.{◌≡◌, ◌≢◌, ℕ, List, [], ◌∷◌, fold, Option, Some, None, if◌then◌else◌}
@@ -20,7 +20,7 @@ entries_at h (Some n) = entries_of h n
 abbrev pub shown_entry : Bor (List ℕ) × Bor ℕ → List ℕ × ℕ
 shown_entry e = (e.0.now, e.1.now)
 
--- the names stand in order, each once
+-- the names are in order, each once
 abbrev pub InOrder : List (List ℕ) → Type 0
 InOrder ns = fold (insert_key name_cmp) [] ns ≡ ns
 

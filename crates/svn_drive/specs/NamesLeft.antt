@@ -1,9 +1,9 @@
 -- The names that are left below a path, of two directories and a report, and how the first of them is taken.
 --     names_left l      the names, in order and each once
 --     source_of below, target_of below, reported_of below      the nodes under a name, as numbers, and the entries
---     TakesChild l name below l'      the first name was taken, with what stands under it
---     IsBelow d place below      what stands under a name below a place
---     AreLeft d place l      the lists are in order, and have what stands under each name that is left
+--     TakesChild l name below l'      the first name was taken, with what is under it
+--     IsBelow d place below      what is under a name below a place
+--     AreLeft d place l      the lists are in order, and have what is under each name that is left
 use Rattle.std.specs.Prelude.{◌≡◌, ℕ, Bool, true, List, [], ◌++◌, fold, bytes_eq, Option, Some}
 use Rattle.std.specs.Option.{option_copied}
 use Rattle.std.specs.List.{list_any}
@@ -45,7 +45,7 @@ pub record TakesChild (l : NamesLeft) (name : List ℕ) (below : Below) (l' : Na
 abbrev pub names_left : NamesLeft → List (List ℕ)
 names_left l = fold (insert_key name_cmp) [] (keys_of l.source ++ keys_of l.target ++ keys_of l.reported)
 
--- ---- what stands under a name
+-- ---- what is under a name
 
 pub record IsBelow (d : Request) (place : Place) (below : Below) : Type 0 where
   pub source : source_of below ≡ entry_of d.history place.source below.name.now
@@ -57,7 +57,7 @@ pub record IsBelow (d : Request) (place : Place) (below : Below) : Type 0 where
 abbrev pub has_name : List (List ℕ) → List ℕ → Bool
 has_name ns name = list_any (λ n. bytes_eq n name) ns
 
--- what is left under the name is what stands there
+-- what is left under the name is what is there
 pub record HasAll (d : Request) (place : Place) (l : NamesLeft) (name : List ℕ) : Type 0 where
   pub source : entry_of d.history place.source name ≡ value_of l.source name
   pub target : entry_of d.history place.target name ≡ value_of l.target name

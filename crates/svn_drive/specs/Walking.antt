@@ -1,10 +1,11 @@
 -- What a walk knows at a path.
 --     request_of w      what the walk was asked for
 --     IsAt d place      the place has what there is to know of its path
---     IsQuiet d p name      what stands at the name below the path is what the path's nodes have, and nothing is reported there
+--     IsKnown d place known      a node was looked up for a revision at the client's path of the place, or none was
+--     IsQuiet d p name      what is at the name below the path is what the path's nodes have, and nothing is reported there
 --     IsIdle d p      nothing is done at the path, nor below it
 use Rattle.std.specs.Prelude.{◌≡◌, ◌≤◌, ◌<◌, ◌⊎◌, length, ℕ, Bool, ◌&&◌, ◌||◌, not, is_some, true, ◌+◌, bytes_eq, if◌then◌else◌, List, []}
-use Rattle.std.specs.Prelude.{◌∷◌, ◌++◌, Option, Some, None, option_and_then, false}
+use Rattle.std.specs.Prelude.{◌∷◌, ◌++◌, Option, Some, None, IfSome, option_and_then, false}
 use Rattle.std.specs.Option.{option_copied}
 use Rattle.md5.specs.Md5.{md5}
 use Rattle.svn_types.specs.Names.{Path, depth_limit}
@@ -21,6 +22,7 @@ use Rattle.svn_report.specs.ReportNames.{has_entry_within}
 use Rattle.svn_report.specs.Reports.{ReportView, has_entry_below}
 use Rattle.svn_drive.specs.Checking.{seen_as}
 use Rattle.svn_drive.specs.Parts.{IsPart, entries_in}
+use Rattle.svn_drive.specs.declared.place.Known.{Known}
 use Rattle.svn_drive.specs.declared.place.Place.{Place}
 use Rattle.svn_drive.specs.declared.walk.Walk.{Walk}
 use Rattle.svn_drive.specs.declared.visit.Texted.{Texted}
@@ -54,12 +56,12 @@ abbrev pub linked_node : Request → Option ReportEntry → Option ℕ → Optio
 linked_node d (Some (LinkPath q rev start_empty)) beneath = look d.history d.target q
 linked_node d _ beneath = beneath
 
--- the node in the target that would keep a child of a kept path, by the one beneath its parent's
+-- the node in the target that would keep a child of a kept path, by the one below its parent's
 abbrev pub candidate_node : Request → Mode → Option ReportEntry → Option ℕ → Option ℕ
 candidate_node d Update own beneath = linked_node d own beneath
 candidate_node d (SwitchTo root) own beneath = beneath
 
--- what is told of the path, but for the test whether something is to be done there
+-- what is reported of the path, but for the test whether something must be done there
 pub record IsNearlyAt (d : Request) (place : Place) : Type 0 where
   pub followed : followed_of d place ≡ follow d place.here.path
   pub start : place.here.start ≤ length place.here.path
@@ -80,6 +82,10 @@ pub record IsAt (d : Request) (place : Place) : Type 0 where
   pub target : place.target ≡ target_node d place.here.path
   pub below : IsPart d.report.entries (is_below place.here.path) (entries_in place.below)
   pub touched : place.is_touched ≡ is_touched d place.here.path
+
+-- the node is what the history has in that revision, at the path that the client has at the place
+abbrev pub IsKnown : Request → Place → Option Known → Type 0
+IsKnown d place known = IfSome known (λ k. k.node ≡ look d.history k.rev (seen_as place.here).repos_path)
 
 -- ---- what is passed over
 
@@ -116,7 +122,7 @@ pub record IsEntered (d : Request) (p : Path) (n : ℕ) (k : Kind) : Type 0 wher
 abbrev pub old_text : History → Texted → List ℕ
 old_text h file = if file.has_old then text_of h file.old else []
 
--- what is told of a file is what its path says
+-- what is reported of a file is what its path says
 pub record IsTold (w : Walk) (p : Path) (n : ℕ) (file : Texted) : Type 0 where
   pub node : file.node ≡ n
   pub opened : file.is_opened ≡ is_touched (request_of w) p

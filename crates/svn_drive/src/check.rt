@@ -47,9 +47,9 @@ fn node_below(repo: &Repo, from: NodeId, names: &[Name]) -> Option<NodeId>
     Some(node)
 }
 
-// The node at a path of two parts in a revision.
+/// The node at a path of two parts in a revision.
 #[tactic(auto, using(crate::proofs::Checks::below_none, crate::proofs::Checks::below_found))]
-fn lookup_below(repo: &Repo, rev: Rev, base: &RelPath, names: &[Name]) -> Option<NodeId>
+pub(crate) fn lookup_below(repo: &Repo, rev: Rev, base: &RelPath, names: &[Name]) -> Option<NodeId>
     ensures { result ≡ look repo.now rev (base.now ++ names.now) }
 {
     let from = repo.lookup(rev, base)?;
@@ -244,10 +244,10 @@ impl<'a> Check<'a> {
 }
 
 /// Whether a repository can serve a report: Ok where it has all that the report says. NoEntries at an empty report; else the fault of the first
-/// entry that has one: NoSuchRevision, NoNode, at the root RootNotDir, below it ParentNotDir. Memory where memory is refused before that, but
+/// entry that has one: NoSuchRevision, NoNode, at the root RootNotDir, below it ParentNotDir. Memory if an allocation fails before that, but
 /// not of an empty report.
 ///
-/// It costs each entry the square of its depth: each path above it is made and looked for in the report.
+/// Its cost is the square of the depth for each entry: each path above it is made and looked up in the report.
 pub fn check_report(alloc: Global, repo: &Repo, report: &Report) -> Result<(), ReportFault>
     ensures answer { AnswersCheck (first_fault repo.now report.now) result }
     ensures no_entries { report.now.entries ≡ [] → result ≡ Err ReportFault.NoEntries }

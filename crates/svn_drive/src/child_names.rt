@@ -1,4 +1,4 @@
-//! The names directly below a path, in order, and what stands under each.
+//! The names directly below a path, in order, and what is under each.
 ghost use Rattle.std.specs.Prelude.{◌≡◌, [], Some, None, MatchOption};
 ghost use Rattle.std.specs.Map.{keys_of};
 ghost use Rattle.std.specs.Option.{option_copied};
@@ -12,7 +12,7 @@ use std::cmp::Ordering;
 use svn_repo::NodeId;
 use svn_types::Name;
 
-/// What stands under a name below a place: the entries of the nodes on both sides, and those of the report at it or below it.
+/// What is under a name below a place: the entries of the nodes on both sides, and those of the report at it or below it.
 #[derive(Drop)]
 pub(crate) struct Below<'a> {
     pub(crate) name: &'a Name,
@@ -22,7 +22,7 @@ pub(crate) struct Below<'a> {
 }
 
 impl<'a> Below<'a> {
-    // What stands under a name at which and below which nothing is reported.
+    // What is under a name at which and below which nothing is reported.
     #[inline(always)]
     fn unreported(
         name: &'a Name,
@@ -73,7 +73,7 @@ impl<'a> NamesLeft<'a> {
         earlier(entries, self.reported.first_name())
     }
 
-    // Takes the first name of all, with what stands under it.
+    // Takes the first name of all, with what is under it.
     fn take(&mut self, name: &'a Name) -> Below<'a>
         requires first { first_name self.old ≡ Some name.now }
         requires ordered { InOrder (keys_of self.old.reported) }
@@ -121,7 +121,7 @@ impl<'a> NamesLeft<'a> {
         }
     }
 
-    /// Takes the first name of all, if one is left, with what stands under it.
+    /// Takes the first name of all, if one is left, with what is under it.
     #[inline(always)]
     pub(crate) fn take_first(&mut self) -> Option<Below<'a>>
         requires { InOrder (keys_of self.old.reported) }

@@ -1,4 +1,4 @@
-//! The children of a place: those at which something is to be done.
+//! The children of a place: those at which something must be done.
 ghost use Rattle.std.specs.Prelude.{◌≡◌, IsTrue, IsFalse, ◌++◌, ◌∷◌, [], ◌<◌, length, IfOk};
 ghost use Rattle.std.specs.List.{AllByRecursion};
 ghost use Rattle.svn_types.specs.Names.{depth_limit};

@@ -157,12 +157,12 @@ fn give_up<E: Editor>(stop: Stop, made: u64, editor: &mut E) -> Result<DriveEnd,
 /// Drives an editor from a report to a revision: an update. The report is one that the repository can serve (`check_report` is the test; of
 /// another the calls are those that the walk of `svn_model/specs/Tree.antt` gives, and need not lead anywhere).
 ///
-/// Answers Closed where all calls were made and accepted, and Cancelled where `cancel_after` calls were, before the last. Before any call
+/// Returns Closed where all calls were made and accepted, and Cancelled where `cancel_after` calls were, before the last. Before any call
 /// come, in this order, NoSuchTarget, NoRoot where the target has nothing at the repository path of the report's root, OtherRoot where a node
 /// of another line is there. All others come later: Full, Memory and Editor, for a call that was refused. After Cancelled and after
-/// these the last call was `AbortEdit`, and what it answered counts for nothing. It waits where the editor does.
+/// these the last call was `AbortEdit`, and its result counts for nothing. It waits where the editor does.
 ///
-/// It costs what the report and the entries of the directories do that are opened or added, by their depth.
+/// Its cost is that of the report and of the entries of opened and added directories, times their depth.
 pub fn drive<'a, E: Editor>(
     alloc: Global,
     repo: &'a Repo,
@@ -172,7 +172,7 @@ pub fn drive<'a, E: Editor>(
     editor: &mut E,
 ) -> Result<DriveEnd, DriveFault>
     ensures calls { Drives E.answers options.cancel_after (target_fault (asked repo.now report.now target Update)) (drive_calls (asked repo.now report.now target Update) options.late_texts) result editor.old editor.new }
-    // whatever memory there is, a target that can't be reached is told by its fault, and no call is made
+    // whatever memory there is, a target that can't be reached is reported by its fault, and no call is made
     ensures refused { IfSome (target_fault (asked repo.now report.now target Update)) (λ fault. (result ≡ Err fault) × (editor.new ≡ editor.old)) }
     ensures of_definition { AreOfDrive (asked repo.now report.now target Update) options.late_texts (drive_calls (asked repo.now report.now target Update) options.late_texts) }
 {
@@ -190,7 +190,7 @@ pub fn drive<'a, E: Editor>(
 }
 
 /// Drives an editor from a report to another path of the repository, at a revision: a switch of the whole copy (`svn_ra_do_switch3` of
-/// `svn_ra.h`). NoRoot and OtherRoot are faults of what stands at that path in the target; all else is
+/// `svn_ra.h`). NoRoot and OtherRoot are faults of what is at that path in the target; all else is
 /// as in [`drive`].
 pub fn drive_switch<'a, E: Editor>(
     alloc: Global,

@@ -13,7 +13,17 @@
 //! assert_eq!(rt; end, DriveEnd::Closed { calls: recorder.calls().len() as u64 });
 //! ```
 //!
-//! Promises: `check_report` answers the first fault in the order of the definition (`answer`). For every report and every editor the calls
+//! Files: `check` reads what a report says of a path, from what it says of the parent, and looks up the nodes. `driving` starts a drive and gives it
+//! up; `request` is what a drive is asked for. `visit` walks down and calls the editor; `making` makes the calls and counts calls and tokens. `place` and
+//! `walk` find what a path is, `nodes` what a node has. The entries of a report are listed once, in path order, so those at or below a path are a slice
+//! of the list (`report_part`); `entries` is what one says. `lists_left` goes through a directory's entries, or through such a slice, name by name;
+//! `child_names` through the entries of both sides and the reported names together, so that each name comes once; `children` keeps those at
+//! which something must be done.
+//!
+//! To change which calls a drive makes, begin with the definition (`svn_model/specs/Steps.antt`, `TreeCalls.antt`) and the laws of `svn_drive_law`; then
+//! `visit`.
+//!
+//! Promises: `check_report` returns the first fault in the order of the definition (`answer`). For every report and every editor the calls
 //! made are those of one list, `drive_calls` of `svn_model/specs/TreeCalls.antt`, each accepted, or the first of them and then `AbortEdit`, or
 //! none (`calls`); for a report that can be served that list is the drive of the definition (`of_definition`).
 #![tactic(auto)]

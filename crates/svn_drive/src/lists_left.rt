@@ -1,4 +1,4 @@
-//! What is left of a directory and of a report, name by name, of which the first is at hand.
+//! What is left of a directory and of a report, name by name, with the first ready to be read.
 ghost use Rattle.std.specs.Prelude.{◌≡◌, ◌∷◌, ℕ, List, [], drop, unwrap_or, option_map, MatchOption};
 ghost use Rattle.std.specs.Option.{option_copied};
 ghost use Rattle.std.specs.Map.{keys_of};
@@ -13,7 +13,7 @@ use svn_name_map::Iter;
 use svn_repo::{Entries, NodeId, Repo};
 use svn_types::Name;
 
-/// The entries of a directory that are left, of which the first is at hand.
+/// The entries of a directory that are left, with the first ready to be read.
 #[derive(Drop)]
 pub(crate) struct EntriesLeft<'a> {
     first: Option<(&'a Name, &'a NodeId)>,
@@ -33,7 +33,7 @@ impl<'a> Model for EntriesLeft<'a> {
     ghost invariant = { λ l. IfNone l.first (unwrap_or l.rest [] ≡ []) };
 }
 
-// Takes the next entry. Inlined, so that what it answers stays where it is read.
+// Takes the next entry. Inlined, so that its result stays where it is read.
 #[inline(always)]
 fn next_entry<'a>(rest: &mut Option<Iter<'a, NodeId>>) -> Option<(&'a Name, &'a NodeId)>
     ensures { TakesFirst shown_entry (unwrap_or rest.old []) result (unwrap_or rest.new []) }
@@ -113,7 +113,7 @@ impl<'a> EntriesLeft<'a> {
     }
 }
 
-/// The entries of a report that are left below a path, by the names directly below it, of which the first is at hand. A contract sees the names
+/// The entries of a report that are left below a path, by the names directly below it, with the first ready to be read. A contract sees the names
 /// with the entries at or below each.
 #[derive(Drop)]
 pub(crate) struct ReportedLeft<'a> {
@@ -137,7 +137,7 @@ impl<'a> Model for ReportedLeft<'a> {
 }
 
 impl<'a> ReportedLeft<'a> {
-    /// All entries below a path of so many names.
+    /// All entries below a path of that many names.
     pub(crate) fn of(below: ReportPart<'a>, depth: usize) -> ReportedLeft<'a>
         requires { AreDeeper depth (entries_in below) }
         ensures { result ≡ by_name depth (entries_in below.entry) }

@@ -1,4 +1,4 @@
-//! Calls, one by one, and their count. They are made inline: a call that is handed on by value is copied in pieces, at each hand once more.
+//! Calls, one by one, and their count. They are made inline: a call that is passed on by value is copied in pieces, once more at each step.
 ghost use Rattle.std.specs.Prelude.{◌≡◌, ◌≢◌, ◌+◌, ◌∷◌, [], OnOk, IfErr};
 ghost use Rattle.svn_model.specs.Ends.{Runs};
 ghost use Rattle.svn_drive.specs.Counts.{with_last};

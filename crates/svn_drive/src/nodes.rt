@@ -38,7 +38,7 @@ pub(crate) fn node_under(repo: &Repo, node: NodeId, name: &Name) -> Option<NodeI
     }
 }
 
-/// The text of a file; of what is none, no byte.
+/// The text of a file; for anything else no byte.
 pub(crate) fn text_of(repo: &Repo, node: NodeId) -> &[u8]
     ensures { result.now ≡ text_of repo.now node }
 {
@@ -48,7 +48,7 @@ pub(crate) fn text_of(repo: &Repo, node: NodeId) -> &[u8]
     }
 }
 
-/// The checksum of the text of a file; of what is none, that of no byte.
+/// The checksum of the text of a file; for anything else that of no byte.
 pub(crate) fn checksum_of(repo: &Repo, node: NodeId) -> Digest
     ensures { result ≡ md5 (text_of repo.now node) }
 {
@@ -65,7 +65,7 @@ pub(crate) fn checksum_of_nothing() -> Digest
     Digest::of(&[])
 }
 
-/// The text of a file, which shares the repository's bytes; of what is none, no byte.
+/// The text of a file, which shares the repository's bytes; for anything else no byte.
 pub(crate) fn shared_text(alloc: Global, repo: &Repo, node: NodeId) -> Result<Text, AllocError>
     ensures { IfOk result (λ t. t ≡ text_of repo.now node) }
 {
@@ -86,7 +86,7 @@ pub(crate) fn props_of<'r>(repo: &'r Repo, node: NodeId, none: &'r Props) -> &'r
     }
 }
 
-/// Whether a node is a file or a directory; what is none is a file.
+/// Whether a node is a file or a directory; a missing one counts as a file.
 pub(crate) fn kind_of(repo: &Repo, node: NodeId) -> Kind
     ensures { result ≡ kind_of repo.now node }
 {

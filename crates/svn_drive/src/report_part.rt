@@ -1,4 +1,4 @@
-//! Parts of a report, whose entries stand in the order of their paths: so those at or below one path stand side by side.
+//! Parts of a report, whose entries are in the order of their paths: so those at or below one path are side by side.
 ghost use Rattle.std.specs.Prelude.{◌≡◌, ◌≤◌, ◌<◌, ◌∷◌, [], bytes_eq, false, drop, length, map, slice_get, take, IsTrue, ◌↔◌, Some};
 ghost use Rattle.std.specs.Map.{keys_of};
 ghost use Rattle.std.specs.Map.Iter.{deref_pair};

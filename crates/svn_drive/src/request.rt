@@ -54,7 +54,7 @@ impl Request {
         }
     }
 
-    /// Given up after so many calls, if the drive has more.
+    /// Given up after that many calls, if the drive has more.
     pub fn cancel_after(self, calls: u64) -> Request
         ensures { result ≡ record { target = self.target; mode = self.mode; options = record { cancel_after = Some calls; late_texts = self.options.late_texts } } }
     {

@@ -56,8 +56,8 @@ fn old_text<'r>(repo: &'r Repo, file: &Texted) -> &'r [u8]
     }
 }
 
-// How many times as many files there is room for where there was none for one more. They may be those of a whole tree: so each is copied
-// a third of a time, and with twice as many once.
+// The factor by which the room for files grows. They may be those of a whole tree: so each is copied
+// a third of a time on average, with a factor of two once.
 const GROWTH: usize = 4;
 
 fn postpone(later: &mut Vec<Texted>, file: Texted) -> Result<(), AllocError>
@@ -280,7 +280,7 @@ impl<'a> Walk<'a> {
         make(self.limit, editor, progress, call)
     }
 
-    // What is to be known of a file for its text.
+    // What must be known of a file for its text.
     fn texted(&self, place: &Place<'a>, opened: &Opened) -> Texted
         requires { IsAt (request_of self.now) place.now }
         ensures told { IsTold self.now place.now.here.path opened.now.node result }
@@ -343,8 +343,9 @@ impl<'a> Walk<'a> {
         ensures waits { OnOk result (waiting self.now.repo.now later.new.items ≡ waiting self.now.repo.now later.old.items ++ in_turn (λ q next. visit_late (request_of self.now) self.now.late q token next) (visit_size (request_of self.now)) place.now.here.path progress.old.next (names_below (request_of self.now) place.now.here.path)) }
     {
         let children = self.children(place)?;
+        let mut known = None;
         for below in children {
-            let child = self.child(place, &below, token)?;
+            let child = self.child(place, &below, token, &mut known)?;
             self.visit(&child, editor, progress, later)?;
         }
         Ok(())

@@ -1,23 +1,24 @@
 //! What a drive is made from, and the places that it walks over. A place is made inline, where it stays.
-ghost use Rattle.std.specs.Prelude.{◌≡◌, ◌&&◌, not, true, is_some, ◌<◌, ◌≤◌, length, if◌then◌else◌, IfOk, [], ◌∷◌, ◌++◌};
+ghost use Rattle.std.specs.Prelude.{◌≡◌, ◌&&◌, not, true, Some, is_some, ◌<◌, ◌≤◌, length, if◌then◌else◌, IfOk, [], ◌∷◌, ◌++◌};
 ghost use Rattle.std.specs.Option.{option_copied};
 ghost use Rattle.svn_types.specs.Names.{depth_limit};
 ghost use Rattle.svn_types.specs.Paths.{is_below, is_within};
 ghost use Rattle.svn_report.specs.Reports.{has_entry_below};
+ghost use Rattle.svn_repo.specs.History.{look};
 ghost use Rattle.svn_model.specs.Sources.{source, reported_child};
 ghost use Rattle.svn_model.specs.Tree.{is_entered};
 ghost use Rattle.svn_model.specs.Follow.{root_path, source_node, target_node};
 ghost use Rattle.svn_drive.specs.Checking.{seen_as};
 ghost use Rattle.svn_drive.specs.NamesLeft.{IsBelow};
 ghost use Rattle.svn_drive.specs.Parts.{IsPart, entries_in};
-ghost use Rattle.svn_drive.specs.Walking.{IsAt, IsNearlyAt, is_changed_at, linked_node, candidate_node, request_of};
+ghost use Rattle.svn_drive.specs.Walking.{IsAt, IsNearlyAt, IsKnown, is_changed_at, entry_of, linked_node, candidate_node, request_of};
 ghost use Rattle.svn_editor.specs.Steps.{mode_at};
 
-use crate::check::{Check, Seen, all_hold, child_path};
+use crate::check::{Check, Seen, all_hold, child_path, lookup_below};
 use crate::child_names::Below;
 use crate::entries::{is_hidden, starts_empty};
-use crate::nodes::{are_related, is_directory};
-use crate::place::Place;
+use crate::nodes::{are_related, is_directory, node_under};
+use crate::place::{Known, Place};
 use crate::report_part::ReportPart;
 use std::alloc::{AllocError, Global};
 use svn_editor::Token;
@@ -141,15 +142,66 @@ impl<'a> Walk<'a> {
         })
     }
 
+    // The node that a place has in a revision, at the path that the client has there. The children of one directory are mostly of few revisions,
+    // so the last answer is kept.
+    fn known_in(&self, place: &Place<'a>, rev: Rev, known: Option<Known>) -> Known
+        requires start { place.now.here.start ≤ length place.now.here.path }
+        requires known { IsKnown (request_of self.now) place.now known }
+        ensures node { result.node ≡ look self.now.repo.now rev (seen_as place.now.here).repos_path }
+        ensures known { IsKnown (request_of self.now) place.now (Some result) }
+    {
+        if let Some(last) = known {
+            if last.rev == rev {
+                return last;
+            }
+        }
+        let names = &place.here.path.components()[place.here.start..];
+        let node = lookup_below(self.repo, rev, place.here.base, names);
+        Known { rev, node }
+    }
+
+    // The entry of a node under a name. Mostly the node is the one that the client has at the place, whose entry is at hand.
+    fn entry_of(
+        &self,
+        place: &Place<'a>,
+        node: &Option<NodeId>,
+        below: &Below<'a>,
+    ) -> Option<NodeId>
+        requires { IsBelow (request_of self.now) place.now below.now }
+        ensures { result ≡ entry_of self.now.repo.now node.now below.now.name.now }
+    {
+        if node == &place.source {
+            return below.source.copied();
+        }
+        match node {
+            Some(id) => node_under(self.repo, *id, below.name),
+            None => None,
+        }
+    }
+
     // The node that the client has at a child: the entry of its parent's node, but where the report has an entry of its own.
     #[inline(always)]
-    fn child_source(&self, above: &Place<'a>, here: &Seen<'a>, below: &Below<'a>) -> Option<NodeId>
+    fn child_source(
+        &self,
+        above: &Place<'a>,
+        here: &Seen<'a>,
+        below: &Below<'a>,
+        known: &mut Option<Known>,
+    ) -> Option<NodeId>
         requires at { IsAt (request_of self.now) above.now }
         requires below { IsBelow (request_of self.now) above.now below.now }
         requires here { seen_as here.now ≡ reported_child self.now.report.now (seen_as above.now.here) below.now.name.now }
         requires start { here.now.start ≤ length here.now.path }
-        ensures { result ≡ source self.now.repo.now (seen_as here.now) }
+        requires known { IsKnown (request_of self.now) above.now known.old }
+        ensures source { result ≡ source self.now.repo.now (seen_as here.now) }
+        ensures known { IsKnown (request_of self.now) above.now known.new }
     {
+        if let Some(ReportEntry::SetPath { rev, .. }) = here.own {
+            let last = self.known_in(above, *rev, *known);
+            let source = self.entry_of(above, &last.node, below);
+            *known = Some(last);
+            return source;
+        }
         if here.own.is_some() {
             self.reading().source(here)
         } else if is_hidden(None, here.governing) {
@@ -192,17 +244,20 @@ impl<'a> Walk<'a> {
         below: &Below<'a>,
         reported: ReportPart<'a>,
         parent: Token,
+        known: &mut Option<Known>,
     ) -> Place<'a>
         requires at { IsAt (request_of self.now) above.now }
         requires below { IsBelow (request_of self.now) above.now below.now }
         requires here { seen_as here ≡ reported_child self.now.report.now (seen_as above.now.here) below.now.name.now }
         requires start { here.start ≤ length here.path }
         requires reported { IsPart self.now.report.now.entries (is_below here.path) (entries_in reported) }
+        requires known { IsKnown (request_of self.now) above.now known.old }
         ensures at { IsAt (request_of self.now) result }
         ensures path { result.here.path ≡ here.entry.path }
         ensures parent { result.parent ≡ parent }
+        ensures known { IsKnown (request_of self.now) above.now known.new }
     {
-        let source = self.child_source(above, &here, below);
+        let source = self.child_source(above, &here, below, known);
         let beneath = below.target.copied();
         let there = self.candidate(&here, &beneath);
         let related = are_related(self.repo, &source, &there);
@@ -220,26 +275,29 @@ impl<'a> Walk<'a> {
         })
     }
 
-    /// The child of a place, by its name and what is below that.
+    /// The child of a place, by its name and what is below that, and what is known of the place itself.
     #[inline(always)]
     pub(crate) fn child(
         &self,
         above: &Place<'a>,
         below: &Below<'a>,
         parent: Token,
+        known: &mut Option<Known>,
     ) -> Result<Place<'a>, AllocError>
         requires at { IsAt (request_of self.now) above.now }
         requires below { IsBelow (request_of self.now) above.now below.now }
         requires short { length above.now.here.path < depth_limit }
+        requires known { IsKnown (request_of self.now) above.now known.old }
         ensures at { IfOk result (λ p. IsAt (request_of self.now) p) }
         ensures path { IfOk result (λ p. (p.here.path ≡ above.now.here.path ++ below.now.name.now ∷ []) × (length p.here.path ≤ depth_limit)) }
         ensures parent { IfOk result (λ p. p.parent ≡ parent) }
+        ensures known { IsKnown (request_of self.now) above.now known.new }
     {
         self.report.law();
         let path = child_path(self.alloc, &above.here.path, below.name)?;
         let (own, reported) = below.reported.split_own(&path);
         let here = above.here.child(path, own);
-        Ok(self.child_seen(above, here, below, reported, parent))
+        Ok(self.child_seen(above, here, below, reported, parent, known))
     }
 
     /// Whether the client has a node there that the drive deletes.

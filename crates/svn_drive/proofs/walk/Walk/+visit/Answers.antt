@@ -130,6 +130,9 @@ visit_below-child-requires-clause-short g t c =
     let inv = rw items at c.loop-below.invariant in
     inv.6.0.room
 
+pub visit_below-child-requires-clause-known : goal.visit_below-child-requires-clause-known
+visit_below-child-requires-clause-known g t c = c.loop-below.invariant.7
+
 pub visit_below-loop-below-init : goal.visit_below-loop-below-init
 visit_below-loop-below-init g t c =
     let all : c.into_iter-below-iterator.result.rest.items ≡ c.in_ok-children.children.items = search rules in
@@ -155,6 +158,7 @@ visit_below-loop-below-init g t c =
           ∙ ap (λ l. waiting c.args.self.now.repo.now c.args.later.now.items ++ l)
           (sym (same.waits c.args.self.now.late c.args.token c.args.progress.now.next)),
       subst (AllByRecursion (IsChild (request_of c.args.self.now) c.args.place.now)) (sym all) c.in_ok-children.ensures.under,
+      tt,
     )
 
 pub visit_below-returns-in_err-child-clause-runs : goal.visit_below-returns-in_err-child-clause-runs
@@ -231,6 +235,7 @@ visit_below-loop-below-preserved g t c =
           c.in_ok-child.ensures.parent)
           tokens,
       inv.6.1,
+      c.in_ok-child.ensures.known,
     )
 
 pub visit_below-returns-clause-waits : goal.visit_below-returns-clause-waits

@@ -7,7 +7,7 @@ use Rattle.svn_model.specs.Tree.{names_below}
 use Rattle.svn_model.specs.TreeCalls.{in_turn, sizes, visit_calls, visit_size}
 use Rattle.svn_drive.specs.Children.{IsChild, names_of}
 use Rattle.svn_drive.specs.Waiting.{waiting, visit_late}
-use Rattle.svn_drive.specs.Walking.{request_of}
+use Rattle.svn_drive.specs.Walking.{IsKnown, request_of}
 use Rattle.svn_drive.proofs.walk.Walk.+visit.Given as goal
 
 -- a path has at most 128 names, and a place comes before those below it
@@ -37,3 +37,4 @@ invariant-visit_below-loop-below g l =
     × (waiting l.self.repo.now l.later.items ++ lates l.progress.next left
     ≡ waiting l.self.repo.now l.initial.later.items ++ lates l.initial.progress.next all)
     × AllByRecursion (IsChild d l.place) l.below-iterator.rest.items
+    × IsKnown d l.place l.known
