@@ -6,10 +6,12 @@
 //! Subversion make them. A dump that can't be loaded so has the refusal.
 #![tactic(auto)]
 
+mod bases;
 mod broken;
 mod history;
 mod lengths;
 mod lines;
+mod many;
 mod readers;
 mod refusals;
 mod written;
@@ -90,6 +92,9 @@ fn main(rt: HostRuntime) -> Result<()> {
         "a dump with a changed byte has the revisions before",
         changed,
     )?;
+    let deltas = fs::read(&rt, "deltas.dump")?;
+    let passed = bases::passed_wrongly(alloc, &deltas)?;
+    say(&rt, "the text before a delta is compared", passed)?;
     let failed = readers::failed_wrongly(alloc, &dump)?;
     say(
         &rt,
@@ -100,6 +105,12 @@ fn main(rt: HostRuntime) -> Result<()> {
     say(&rt, "a dump may come in pieces of any size", pieces)?;
     let long = lengths::taken_wrongly(alloc)?;
     say(&rt, "long headers and sections end as expected", long)?;
+    let many = many::taken_wrongly(alloc)?;
+    say(
+        &rt,
+        "ten million properties are refused or passed over",
+        many,
+    )?;
     let same = written::loads_again(alloc)?;
     say(
         &rt,

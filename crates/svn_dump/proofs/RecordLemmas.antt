@@ -50,6 +50,24 @@ whole_node limits texts block old mid new node shape props text n s p t =
     (reads_made (λ (x : Option TextSection). x) (λ (r : Record). r) (with_sections node props) mid new text (with_sections node props text)
     (text_section_at shape texts limits.text) t refl)))
 
+-- the text section can't be read
+pub text_fault : (limits : Limits) (texts : Texts) (block : List ℕ) (old mid new : Option (List ℕ)) (node : NodeRecord) (shape : Shape)
+    (props : Option PropSection) (e : DumpFault) → node_of block ≡ Ok node → shape_of block ≡ Ok shape
+    → Reads (λ s. s) old mid (Ok props) (prop_section_at shape limits.props)
+    → Reads (λ (s : Option TextSection). s) mid new (Err e) (text_section_at shape texts limits.text)
+    → Reads (λ r. r) old new (Err e) (node_at limits texts block)
+unfolding node_at
+text_fault limits texts block old mid new node shape props e n s p t =
+    let refused : Result Record DumpFault = Err e in
+    known_first (λ (x : NodeRecord). x) (λ (r : Record). r) old new node refused (node_of block)
+    (λ (x : NodeRecord) (bs : List ℕ). shape_of block >>= λ y. sections_after limits texts x y bs) n
+    (known_first (λ (x : Shape). x) (λ (r : Record). r) old new shape refused (shape_of block)
+    (λ (y : Shape) (bs : List ℕ). sections_after limits texts node y bs) s
+    (reads_then (λ (x : Option PropSection). x) (λ (r : Record). r) old mid new props refused (prop_section_at shape limits.props)
+    (text_after limits texts node shape) p
+    (reads_fault (λ (x : Option TextSection). x) (λ (r : Record). r) mid new e (text_section_at shape texts limits.text)
+    (λ text. Ok (with_sections node props text.0, text.1)) t)))
+
 -- sections that are passed over end too soon
 pub passed_fault : (what : Record) (block : List ℕ) (old new : Option (List ℕ)) (lengths : Lengths) (e : DumpFault) → lengths_of block ≡ Ok lengths
     → Reads (λ (u : Unit {0}). u) old new (Err e) (after_sections lengths) → Reads (λ r. r) old new (Err e) (passed_at what block)

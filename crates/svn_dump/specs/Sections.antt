@@ -102,10 +102,19 @@ abbrev pub stand_in_at : Option (List ℕ) → ℕ → List ℕ → Read TextSec
 stand_in_at None len bytes = empty_delta_at len bytes
 stand_in_at (Some sum) len bytes = bytes_at len bytes >>= λ read. Ok (text.Whole (stand_in sum), read.1)
 
-abbrev pub text_delta_at : Texts → GivenSums → ℕ → List ℕ → Read TextSection
-text_delta_at Whole given len bytes =
-    bytes_at len bytes >>= λ read. Ok (text.Delta (record { delta = read.0; md5 = given.md5; sha1 = given.sha1 }), read.1)
-text_delta_at Sha1 given len bytes = stand_in_at given.sha1 len bytes
+-- a delta with all checksums that are given
+abbrev pub delta_with : Shape → List ℕ → TextSection
+delta_with shape delta = text.Delta (record {
+  delta = delta;
+  base_md5 = shape.base_sums.md5;
+  base_sha1 = shape.base_sums.sha1;
+  md5 = shape.sums.md5;
+  sha1 = shape.sums.sha1;
+})
+
+abbrev pub text_delta_at : Shape → Texts → ℕ → List ℕ → Read TextSection
+text_delta_at shape Whole len bytes = bytes_at len bytes >>= λ read. Ok (delta_with shape read.0, read.1)
+text_delta_at shape Sha1 len bytes = stand_in_at shape.sums.sha1 len bytes
 
 abbrev pub keeps : Texts → Bool
 keeps Whole = true
@@ -113,7 +122,7 @@ keeps Sha1 = false
 
 abbrev pub text_at : Shape → Texts → ℕ → List ℕ → Read TextSection
 text_at shape texts len bytes =
-    if shape.changes_text then text_delta_at texts shape.sums len bytes
+    if shape.changes_text then text_delta_at shape texts len bytes
     else whole_text_at texts shape.sums len bytes >>= λ read. Ok (text.Whole read.0, read.1)
 
 abbrev pub sized_text_at : Shape → Texts → ℕ → ℕ → List ℕ → Read TextSection

@@ -31,10 +31,18 @@ sums_of block = do
   sha1 ← sum_value 20 block (codes "Text-content-sha1")
   Ok (record { md5 = option_or new old; sha1 = sha1 })
 
+-- those of the text that a text delta is applied to
+abbrev pub base_sums_of : List ℕ → Result GivenSums Reason
+base_sums_of block = do
+  md5 ← sum_value 16 block (codes "Text-delta-base-md5")
+  sha1 ← sum_value 20 block (codes "Text-delta-base-sha1")
+  Ok (record { md5 = md5; sha1 = sha1 })
+
 unfoldable pub shape_of : List ℕ → Result Shape Reason
 shape_of block = do
   lengths ← lengths_of block
   sums ← sums_of block
+  base ← base_sums_of block
   changes_props ← true_value block (codes "Prop-delta")
   changes_text ← true_value block (codes "Text-delta")
-  Ok (record { lengths = lengths; sums = sums; changes_props = changes_props; changes_text = changes_text })
+  Ok (record { lengths = lengths; sums = sums; base_sums = base; changes_props = changes_props; changes_text = changes_text })

@@ -17,6 +17,7 @@ use Rattle.svn_dump.specs.declared.record.CopySource.{CopySource}
 use Rattle.svn_dump.specs.declared.record.NodeRecord.{NodeRecord}
 use Rattle.svn_dump.specs.declared.record.PropSection.{PropSection}
 use Rattle.svn_dump.specs.declared.record.PropSection.TheVariants as props
+use Rattle.svn_dump.specs.declared.record.TextDelta.{TextDelta}
 use Rattle.svn_dump.specs.declared.record.TextSection.{TextSection}
 use Rattle.svn_dump.specs.declared.record.TextSection.TheVariants as text
 
@@ -91,10 +92,18 @@ sum_line name (Some sum) = line name (encode_lower sum)
 abbrev pub sum_lines : Option (List ℕ) → Option (List ℕ) → List ℕ
 sum_lines first second = sum_line (codes "Text-content-md5") first ++ sum_line (codes "Text-content-sha1") second
 
+-- those of the text that a delta is applied to
+abbrev pub base_sum_lines : Option (List ℕ) → Option (List ℕ) → List ℕ
+base_sum_lines first second = sum_line (codes "Text-delta-base-md5") first ++ sum_line (codes "Text-delta-base-sha1") second
+
+abbrev pub delta_lines : TextDelta → List ℕ
+delta_lines delta =
+    line (codes "Text-delta") (codes "true") ++ base_sum_lines delta.base_md5 delta.base_sha1 ++ sum_lines delta.md5 delta.sha1
+
 abbrev pub text_lines : Option TextSection → List ℕ
 text_lines None = []
 text_lines (Some (text.Whole bytes)) = sum_lines (Some (md5 bytes)) (Some (sha1 bytes))
-text_lines (Some (text.Delta delta)) = line (codes "Text-delta") (codes "true") ++ sum_lines delta.md5 delta.sha1
+text_lines (Some (text.Delta delta)) = delta_lines delta
 
 abbrev pub length_line : List ℕ → Option ℕ → List ℕ
 length_line name None = []

@@ -69,6 +69,12 @@ pub enum Reason {
     /// A text delta whose text is to be replaced by its SHA-1 checksum, which isn't given.
     #[error("a text delta without the SHA-1 checksum of its text")]
     NoSha1,
+    /// The MD5 checksum of the text that a text delta is applied to isn't the one that is given for it.
+    #[error("the text before isn't of the MD5 checksum that its delta gives")]
+    WrongBaseMd5,
+    /// The SHA-1 checksum of that text isn't the one that is given for it.
+    #[error("the text before isn't of the SHA-1 checksum that its delta gives")]
+    WrongBaseSha1,
     /// The text's MD5 checksum isn't the one that is given.
     #[error("the text isn't of its MD5 checksum")]
     WrongMd5,

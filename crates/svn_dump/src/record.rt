@@ -86,9 +86,13 @@ pub enum PropSection {
 pub struct TextDelta {
     /// The difference.
     pub delta: Text,
+    /// The MD5 checksum of the text that it is applied to.
+    pub base_md5: Option<Digest>,
+    /// The SHA-1 checksum of that text.
+    pub base_sha1: Option<Sha1Sum>,
     /// The MD5 checksum of the text that it leads to.
     pub md5: Option<Digest>,
-    /// The SHA-1 checksum of that text.
+    /// The SHA-1 checksum of the text that it leads to.
     pub sha1: Option<Sha1Sum>,
 }
 

@@ -2,7 +2,7 @@
 ghost use Rattle.std.specs.Prelude.{◌≡◌, ◌&&◌, nat_lt, IfOk};
 ghost use Rattle.svn_dump.specs.Counts.{Counts};
 ghost use Rattle.svn_dump.specs.Reading.{Gives, Reads};
-ghost use Rattle.svn_dump.specs.Sections.{after_sections, empty_delta_at, keeps, kept, prop_section_of, sized_props_at, prop_section_at, whole_text_at, text_delta_at, text_at, text_section_at, skipped};
+ghost use Rattle.svn_dump.specs.Sections.{after_sections, empty_delta_at, keeps, kept, prop_section_of, sized_props_at, prop_section_at, whole_text_at, delta_with, text_delta_at, text_at, text_section_at, skipped};
 
 use crate::fault::{DumpFault, Reason};
 use crate::input::{Input, PIECE, read_bytes, read_piece};
@@ -168,22 +168,34 @@ pub fn kept_text(alloc: Global, texts: Texts, bytes: &[u8]) -> Result<Text, Allo
     }
 }
 
+// A text delta with the checksums that are given.
+fn with_sums(delta: Text, shape: &Shape) -> TextDelta
+    ensures { TextSection.Delta result ≡ delta_with shape.now delta }
+{
+    TextDelta {
+        delta,
+        base_md5: shape.base_sums.md5,
+        base_sha1: shape.base_sums.sha1,
+        md5: shape.sums.md5,
+        sha1: shape.sums.sha1,
+    }
+}
+
 // Reads a text delta of so many bytes, or gives what stands in for the text that it leads to.
 fn read_text_delta<S: Input>(
     alloc: Global,
     source: &mut S,
     len: u64,
+    shape: &Shape,
     texts: Texts,
-    given: GivenSums,
 ) -> Result<TextSection, DumpFault>
-    ensures bytes { Reads (λ section. section) (S.remaining source.old) (S.remaining source.new) result (text_delta_at texts given len) }
+    ensures bytes { Reads (λ section. section) (S.remaining source.old) (S.remaining source.new) result (text_delta_at shape.now texts len) }
     ensures counted { Counts (S.taken source.old) (S.remaining source.old) (S.taken source.new) (S.remaining source.new) }
 {
-    let GivenSums { md5, sha1 } = given;
-    match (texts, sha1) {
+    match (texts, shape.sums.sha1) {
         (Texts::Whole, _) => {
             let delta = Text::new(read_bytes(alloc, source, len as usize)?);
-            Ok(TextSection::Delta(TextDelta { delta, md5, sha1 }))
+            Ok(TextSection::Delta(with_sums(delta, shape)))
         }
         (Texts::Sha1, Some(sha1)) => {
             skip_bytes(source, len)?;
@@ -205,7 +217,7 @@ fn read_sized_text<S: Input>(
     ensures counted { Counts (S.taken source.old) (S.remaining source.old) (S.taken source.new) (S.remaining source.new) }
 {
     if shape.changes_text {
-        return read_text_delta(alloc, source, len, texts, shape.sums);
+        return read_text_delta(alloc, source, len, shape, texts);
     }
     let text = read_whole_text(alloc, source, len, texts, shape.sums)?;
     Ok(TextSection::Whole(text))

@@ -1,7 +1,7 @@
 //! What a record's headers say of the sections after them.
 ghost use Rattle.std.specs.Prelude.{◌≡◌, ◌+◌, nat_eq, unwrap_or};
 ghost use Rattle.svn_dump.specs.Reading.{Gives};
-ghost use Rattle.svn_dump.specs.Shapes.{lengths_of, sums_of, shape_of};
+ghost use Rattle.svn_dump.specs.Shapes.{lengths_of, sums_of, base_sums_of, shape_of};
 
 use crate::fault::{DumpFault, Reason};
 use crate::fields::{is_true, md5_in, number_in, sha1_in};
@@ -27,6 +27,8 @@ pub(crate) struct GivenSums {
 pub(crate) struct Shape {
     pub(crate) lengths: Lengths,
     pub(crate) sums: GivenSums,
+    /// Those of the text that a text delta is applied to.
+    pub(crate) base_sums: GivenSums,
     /// Whether the properties are changes of those before.
     pub(crate) changes_props: bool,
     /// Whether the text is a difference from the one before.
@@ -63,6 +65,15 @@ pub(crate) fn sums_in(block: &[u8]) -> Result<GivenSums, DumpFault>
     Ok(GivenSums { md5, sha1 })
 }
 
+/// The checksums that a record gives for the text that its text delta is applied to.
+pub(crate) fn base_sums_in(block: &[u8]) -> Result<GivenSums, DumpFault>
+    ensures { Gives (λ sums. sums) result (base_sums_of block.now) }
+{
+    let md5 = md5_in(block, b"Text-delta-base-md5")?;
+    let sha1 = sha1_in(block, b"Text-delta-base-sha1")?;
+    Ok(GivenSums { md5, sha1 })
+}
+
 /// What a node's headers say of its sections.
 #[tactic(auto, unfolding(crate::specs::Shapes::shape_of))]
 pub(crate) fn shape_in(block: &[u8]) -> Result<Shape, DumpFault>
@@ -70,11 +81,13 @@ pub(crate) fn shape_in(block: &[u8]) -> Result<Shape, DumpFault>
 {
     let lengths = lengths_in(block)?;
     let sums = sums_in(block)?;
+    let base_sums = base_sums_in(block)?;
     let changes_props = is_true(block, b"Prop-delta")?;
     let changes_text = is_true(block, b"Text-delta")?;
     Ok(Shape {
         lengths,
         sums,
+        base_sums,
         changes_props,
         changes_text,
     })

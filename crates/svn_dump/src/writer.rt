@@ -4,7 +4,7 @@ ghost use Rattle.std.specs.List.{flat_map};
 ghost use Rattle.md5.specs.Md5.{md5};
 ghost use Rattle.sha1.specs.Sha1.{sha1};
 ghost use Rattle.svn_types.specs.PathTexts.{path_text};
-ghost use Rattle.svn_dump.specs.Written.{line, number_line, run, entry, entries, prop_bytes, prop_section, text_section, kind_line, action_word, source_lines, subject_lines, prop_lines, sum_line, sum_lines, text_lines, length_line, length_lines, headers, written, revision_record, format_record};
+ghost use Rattle.svn_dump.specs.Written.{line, number_line, run, entry, entries, prop_bytes, prop_section, text_section, kind_line, action_word, source_lines, subject_lines, prop_lines, sum_line, sum_lines, base_sum_lines, delta_lines, text_lines, length_line, length_lines, headers, written, revision_record, format_record};
 
 use crate::record::{Action, CopySource, NodeRecord, PropSection, Sha1Sum, TextDelta, TextSection};
 use itoa::Buffer;
@@ -209,24 +209,24 @@ fn push_prop_lines(out: &mut Vec<u8>, props: &Option<PropSection>) -> Result<(),
     }
 }
 
-fn push_md5(out: &mut Vec<u8>, sum: Option<Digest>) -> Result<(), AllocError>
-    ensures { OnOk result (out.new.items ≡ out.old.items ++ sum_line (codes "Text-content-md5") sum) }
+fn push_md5(out: &mut Vec<u8>, name: &[u8], sum: Option<Digest>) -> Result<(), AllocError>
+    ensures { OnOk result (out.new.items ≡ out.old.items ++ sum_line name.now sum) }
 {
     let Some(sum) = sum else {
         return Ok(());
     };
     let word = hex::encode(*out.allocator(), &sum.0[..])?;
-    push_line(out, b"Text-content-md5", word.as_bytes())
+    push_line(out, name, word.as_bytes())
 }
 
-fn push_sha1(out: &mut Vec<u8>, sum: Option<Sha1Sum>) -> Result<(), AllocError>
-    ensures { OnOk result (out.new.items ≡ out.old.items ++ sum_line (codes "Text-content-sha1") sum) }
+fn push_sha1(out: &mut Vec<u8>, name: &[u8], sum: Option<Sha1Sum>) -> Result<(), AllocError>
+    ensures { OnOk result (out.new.items ≡ out.old.items ++ sum_line name.now sum) }
 {
     let Some(sum) = sum else {
         return Ok(());
     };
     let word = hex::encode(*out.allocator(), &sum.0[..])?;
-    push_line(out, b"Text-content-sha1", word.as_bytes())
+    push_line(out, name, word.as_bytes())
 }
 
 fn push_sums(
@@ -236,8 +236,19 @@ fn push_sums(
 ) -> Result<(), AllocError>
     ensures { OnOk result (out.new.items ≡ out.old.items ++ sum_lines first second) }
 {
-    push_md5(out, first)?;
-    push_sha1(out, second)
+    push_md5(out, b"Text-content-md5", first)?;
+    push_sha1(out, b"Text-content-sha1", second)
+}
+
+fn push_base_sums(
+    out: &mut Vec<u8>,
+    first: Option<Digest>,
+    second: Option<Sha1Sum>,
+) -> Result<(), AllocError>
+    ensures { OnOk result (out.new.items ≡ out.old.items ++ base_sum_lines first second) }
+{
+    push_md5(out, b"Text-delta-base-md5", first)?;
+    push_sha1(out, b"Text-delta-base-sha1", second)
 }
 
 fn push_whole_sums(out: &mut Vec<u8>, text: &Text) -> Result<(), AllocError>
@@ -248,9 +259,10 @@ fn push_whole_sums(out: &mut Vec<u8>, text: &Text) -> Result<(), AllocError>
 }
 
 fn push_delta_lines(out: &mut Vec<u8>, text: &TextDelta) -> Result<(), AllocError>
-    ensures { OnOk result (out.new.items ≡ out.old.items ++ (line (codes "Text-delta") (codes "true") ++ sum_lines text.now.md5 text.now.sha1)) }
+    ensures { OnOk result (out.new.items ≡ out.old.items ++ delta_lines text.now) }
 {
     push_line(out, b"Text-delta", b"true")?;
+    push_base_sums(out, text.base_md5, text.base_sha1)?;
     push_sums(out, text.md5, text.sha1)
 }
 

@@ -12,7 +12,7 @@ use Rattle.svn_dump.specs.declared.record.PropSection.{PropSection}
 use Rattle.svn_dump.specs.declared.record.PropSection.TheVariants as props
 use Rattle.svn_dump.specs.declared.record.TextSection.{TextSection}
 use Rattle.svn_dump.specs.declared.record.TextSection.TheVariants as text
-use Rattle.svn_dump.specs.Written.{kind_line, action_word, source_lines, prop_lines, sum_line, sum_lines, text_lines, length_line, length_lines, headers}
+use Rattle.svn_dump.specs.Written.{kind_line, action_word, source_lines, prop_lines, sum_line, sum_lines, base_sum_lines, text_lines, length_line, length_lines, headers}
 use Rattle.svn_dump_law.specs.Laws.{IsPath, IsSource}
 use Rattle.svn_dump_law.proofs.Lacking.{lacks}
 use Rattle.svn_dump_law.proofs.HeaderFields.{Field, AreFields, is_value, value_line, lines}
@@ -20,7 +20,7 @@ use Rattle.svn_dump_law.proofs.Decimals.{spelled}
 use Rattle.svn_dump_law.proofs.HexSums.{encoded_lacks_line_feed}
 use Rattle.svn_dump_law.proofs.PathFields.{path_lacks_line_feed}
 use Rattle.svn_dump_law.proofs.PropSections.{is_delta}
-use Rattle.svn_dump_law.proofs.TextSections.{md5_of, sha1_of, is_text_delta}
+use Rattle.svn_dump_law.proofs.TextSections.{md5_of, sha1_of, base_md5_of, base_sha1_of, is_text_delta}
 
 -- ---- values
 
@@ -48,6 +48,14 @@ abbrev pub sha1_given : Option TextSection → Option (List ℕ)
 sha1_given None = None
 sha1_given (Some section) = sha1_of section
 
+abbrev pub base_md5_given : Option TextSection → Option (List ℕ)
+base_md5_given None = None
+base_md5_given (Some section) = base_md5_of section
+
+abbrev pub base_sha1_given : Option TextSection → Option (List ℕ)
+base_sha1_given None = None
+base_sha1_given (Some section) = base_sha1_of section
+
 abbrev pub both_lengths : Option ℕ → Option ℕ → Option ℕ
 both_lengths props text = cond (is_some props || is_some text) (Some (unwrap_or props 0 + unwrap_or text 0)) None
 
@@ -61,6 +69,8 @@ node_fields node props text =
     ∷ (codes "Node-copyfrom-path", option_map (λ (s : CopySource). path_text s.path) node.source)
     ∷ (codes "Prop-delta", flag (changes_props node.props))
     ∷ (codes "Text-delta", flag (changes_text node.text))
+    ∷ (codes "Text-delta-base-md5", option_map encode_lower (base_md5_given node.text))
+    ∷ (codes "Text-delta-base-sha1", option_map encode_lower (base_sha1_given node.text))
     ∷ (codes "Text-content-md5", option_map encode_lower (md5_given node.text))
     ∷ (codes "Text-content-sha1", option_map encode_lower (sha1_given node.text))
     ∷ (codes "Prop-content-length", option_map decimal props)
@@ -94,14 +104,21 @@ sums_are : (first second : Option (List ℕ)) → sum_lines first second
     ++ value_line (codes "Text-content-sha1") (option_map encode_lower second)
 sums_are first second = λ i. sum_is (codes "Text-content-md5") first i ++ sum_is (codes "Text-content-sha1") second i
 
+base_sums_are : (first second : Option (List ℕ)) → base_sum_lines first second
+    ≡ value_line (codes "Text-delta-base-md5") (option_map encode_lower first)
+    ++ value_line (codes "Text-delta-base-sha1") (option_map encode_lower second)
+base_sums_are first second = λ i. sum_is (codes "Text-delta-base-md5") first i ++ sum_is (codes "Text-delta-base-sha1") second i
+
 text_lines_are : (section : Option TextSection) → text_lines section
-    ≡ value_line (codes "Text-delta") (flag (changes_text section))
+    ≡ (value_line (codes "Text-delta") (flag (changes_text section))
+    ++ (value_line (codes "Text-delta-base-md5") (option_map encode_lower (base_md5_given section))
+    ++ value_line (codes "Text-delta-base-sha1") (option_map encode_lower (base_sha1_given section))))
     ++ (value_line (codes "Text-content-md5") (option_map encode_lower (md5_given section))
     ++ value_line (codes "Text-content-sha1") (option_map encode_lower (sha1_given section)))
 text_lines_are None = refl
 text_lines_are (Some (text.Whole bytes)) = refl
 text_lines_are (Some (text.Delta delta)) =
-    ap (λ (l : List ℕ). value_line (codes "Text-delta") (flag true) ++ l) (sums_are delta.md5 delta.sha1)
+    λ i. (value_line (codes "Text-delta") (flag true) ++ base_sums_are delta.base_md5 delta.base_sha1 i) ++ sums_are delta.md5 delta.sha1 i
 
 length_is : (name : List ℕ) (len : Option ℕ) → length_line name len ≡ value_line name (option_map decimal len)
 length_is name None = refl
@@ -119,10 +136,10 @@ lengths_are props text =
     both true n = refl
     both false n = refl
 
-in_order : (p k a r q d t m s pl tl cl : List ℕ)
-    → (((((p ++ k) ++ a) ++ (r ++ q)) ++ d) ++ (t ++ (m ++ s))) ++ ((pl ++ tl) ++ cl)
-    ≡ p ++ (k ++ (a ++ (r ++ (q ++ (d ++ (t ++ (m ++ (s ++ (pl ++ (tl ++ (cl ++ [])))))))))))
-in_order p k a r q d t m s pl tl cl = simp (append_assoc, append-nil) refl
+in_order : (p k a r q d t n o m s pl tl cl : List ℕ)
+    → (((((p ++ k) ++ a) ++ (r ++ q)) ++ d) ++ ((t ++ (n ++ o)) ++ (m ++ s))) ++ ((pl ++ tl) ++ cl)
+    ≡ p ++ (k ++ (a ++ (r ++ (q ++ (d ++ (t ++ (n ++ (o ++ (m ++ (s ++ (pl ++ (tl ++ (cl ++ [])))))))))))))
+in_order p k a r q d t n o m s pl tl cl = simp (append_assoc, append-nil) refl
 
 -- the headers that are written are the lines of these fields
 pub headers_are_lines : (node : NodeRecord) (props text : Option ℕ) → headers node props text ≡ lines (node_fields node props text)
@@ -134,17 +151,19 @@ headers_are_lines node props text =
     let from = value_line (codes "Node-copyfrom-path") (option_map (λ (s : CopySource). path_text s.path) node.source) in
     let prop_delta = value_line (codes "Prop-delta") (flag (changes_props node.props)) in
     let text_delta = value_line (codes "Text-delta") (flag (changes_text node.text)) in
+    let base_first = value_line (codes "Text-delta-base-md5") (option_map encode_lower (base_md5_given node.text)) in
+    let base_second = value_line (codes "Text-delta-base-sha1") (option_map encode_lower (base_sha1_given node.text)) in
     let first = value_line (codes "Text-content-md5") (option_map encode_lower (md5_given node.text)) in
     let second = value_line (codes "Text-content-sha1") (option_map encode_lower (sha1_given node.text)) in
     let props_len = value_line (codes "Prop-content-length") (option_map decimal props) in
     let text_len = value_line (codes "Text-content-length") (option_map decimal text) in
     let both_len = value_line (codes "Content-length") (option_map decimal (both_lengths props text)) in
     let written_so : headers node props text
-    ≡ (((((path ++ kind) ++ action) ++ (rev ++ from)) ++ prop_delta) ++ (text_delta ++ (first ++ second)))
+    ≡ (((((path ++ kind) ++ action) ++ (rev ++ from)) ++ prop_delta) ++ ((text_delta ++ (base_first ++ base_second)) ++ (first ++ second)))
     ++ ((props_len ++ text_len) ++ both_len) =
     λ i. (((((path ++ kind_lines node.kind i) ++ action) ++ source_is node.source i) ++ prop_lines_are node.props i)
     ++ text_lines_are node.text i) ++ lengths_are props text i in
-    written_so ∙ in_order path kind action rev from prop_delta text_delta first second props_len text_len both_len
+    written_so ∙ in_order path kind action rev from prop_delta text_delta base_first base_second first second props_len text_len both_len
 
 -- ---- lawful values
 
@@ -202,16 +221,22 @@ node_fields_lawful node props text path source small = (
             (
               record { name = refl; name_line = refl; value = flag_plain (changes_text node.text) },
               (
-                record { name = refl; name_line = refl; value = mapped encode_lower (md5_given node.text) encoded_lacks_line_feed },
+                record { name = refl; name_line = refl; value = mapped encode_lower (base_md5_given node.text) encoded_lacks_line_feed },
                 (
-                  record { name = refl; name_line = refl; value = mapped encode_lower (sha1_given node.text) encoded_lacks_line_feed },
+                  record { name = refl; name_line = refl; value = mapped encode_lower (base_sha1_given node.text) encoded_lacks_line_feed },
                   (
-                    record { name = refl; name_line = refl; value = number_plain props (omega (arith, small)) },
+                    record { name = refl; name_line = refl; value = mapped encode_lower (md5_given node.text) encoded_lacks_line_feed },
                     (
-                      record { name = refl; name_line = refl; value = number_plain text (omega (arith, small)) },
+                      record { name = refl; name_line = refl; value = mapped encode_lower (sha1_given node.text) encoded_lacks_line_feed },
                       (
-                        record { name = refl; name_line = refl; value = number_plain (both_lengths props text) (both_small props text small) },
-                        tt,
+                        record { name = refl; name_line = refl; value = number_plain props (omega (arith, small)) },
+                        (
+                          record { name = refl; name_line = refl; value = number_plain text (omega (arith, small)) },
+                          (
+                            record { name = refl; name_line = refl; value = number_plain (both_lengths props text) (both_small props text small) },
+                            tt,
+                          ),
+                        ),
                       ),
                     ),
                   ),

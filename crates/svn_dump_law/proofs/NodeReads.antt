@@ -30,9 +30,9 @@ use Rattle.svn_dump_law.proofs.HexSums.{IsBytes-md5, IsBytes-sha1, length-sha1}
 use Rattle.svn_dump_law.proofs.PathFields.{path_of_path_text}
 use Rattle.svn_dump_law.proofs.PropSections.{sized_section_read}
 use Rattle.svn_dump_law.proofs.TextSections.{sized_text_read}
-use Rattle.svn_dump_law.proofs.NodeFields.{kind_word, flag, changes_props, changes_text, md5_given, sha1_given, both_lengths, both_small, node_fields, node_fields_lawful, headers_are_lines}
+use Rattle.svn_dump_law.proofs.NodeFields.{kind_word, flag, changes_props, changes_text, md5_given, sha1_given, base_md5_given, base_sha1_given, both_lengths, both_small, node_fields, node_fields_lawful, headers_are_lines}
 use Rattle.svn_dump_law.proofs.FieldValues.{value_found, given_at, number_at, sum_at, flag_at, lengths_agree}
-use Rattle.svn_dump_law.proofs.RecordReads.{record_of_block, headed_node, node_of_values, lengths_of_values, sums_of_values, shape_of_values, node_of_sections}
+use Rattle.svn_dump_law.proofs.RecordReads.{record_of_block, headed_node, node_of_values, lengths_of_values, sums_of_values, base_sums_of_values, shape_of_values, node_of_sections}
 
 -- ---- what the node is
 
@@ -55,6 +55,13 @@ source_read block None h e f = rw (ap (λ r. r >>= as_number) e, f) refl
 source_read block (Some source) h e f =
     rw (number_at block (codes "Node-copyfrom-rev") (Some source.rev) h.rev e, f, path_of_path_text source.path h.path) refl
 
+-- the checksums that are written are so long
+record AreSums (section : Option TextSection) : Type 0 where
+  pub md5 : IfSome (md5_given section) (IsSum 16)
+  pub sha1 : IfSome (sha1_given section) (IsSum 20)
+  pub base_md5 : IfSome (base_md5_given section) (IsSum 16)
+  pub base_sha1 : IfSome (base_sha1_given section) (IsSum 20)
+
 module _ (node : NodeRecord) (props text : Option ℕ) (lawful : AreFields (node_fields node props text)) where
   header : (name : List ℕ) (value : Option (List ℕ)) → found name (node_fields node props text) ≡ given value ++ []
       → header_value (lines (node_fields node props text)) name ≡ Ok value
@@ -74,19 +81,20 @@ module _ (node : NodeRecord) (props text : Option ℕ) (lawful : AreFields (node
       (header (codes "Node-copyfrom-rev") (option_map (λ (s : CopySource). decimal s.rev) node.source) refl)
       (header (codes "Node-copyfrom-path") (option_map (λ (s : CopySource). path_text s.path) node.source) refl))
 
-  shape_of_lines : unwrap_or props 0 + unwrap_or text 0 < 2 ^ 64 → IfSome (md5_given node.text) (IsSum 16)
-      → IfSome (sha1_given node.text) (IsSum 20) → shape_of (lines (node_fields node props text))
+  shape_of_lines : unwrap_or props 0 + unwrap_or text 0 < 2 ^ 64 → AreSums node.text → shape_of (lines (node_fields node props text))
       ≡ Ok (record {
         lengths = record { props = props; text = text };
         sums = record { md5 = md5_given node.text; sha1 = sha1_given node.text };
+        base_sums = record { md5 = base_md5_given node.text; sha1 = base_sha1_given node.text };
         changes_props = changes_props node.props;
         changes_text = changes_text node.text;
       })
-  shape_of_lines small md5 sha1 =
+  shape_of_lines small sums =
       let fields = node_fields node props text in
       let block = lines fields in
       let both = both_lengths props text in
-      shape_of_values block props text (md5_given node.text) (sha1_given node.text) (changes_props node.props) (changes_text node.text)
+      shape_of_values block props text (md5_given node.text) (sha1_given node.text) (base_md5_given node.text)
+      (base_sha1_given node.text) (changes_props node.props) (changes_text node.text)
       (lengths_of_values block props text both
       (number_at block (codes "Prop-content-length") props (omega (arith, small))
       (header (codes "Prop-content-length") (option_map decimal props) refl))
@@ -96,11 +104,16 @@ module _ (node : NodeRecord) (props text : Option ℕ) (lawful : AreFields (node
       (header (codes "Content-length") (option_map decimal both) refl))
       (lengths_agree props text))
       (sums_of_values block (md5_given node.text) (sha1_given node.text)
-      (sum_at 16 block (codes "Text-content-md5") (md5_given node.text) md5
+      (sum_at 16 block (codes "Text-content-md5") (md5_given node.text) sums.md5
       (header (codes "Text-content-md5") (option_map encode_lower (md5_given node.text)) refl))
       (sum_at 16 block (codes "Text-content-checksum") None tt (header (codes "Text-content-checksum") None refl))
-      (sum_at 20 block (codes "Text-content-sha1") (sha1_given node.text) sha1
+      (sum_at 20 block (codes "Text-content-sha1") (sha1_given node.text) sums.sha1
       (header (codes "Text-content-sha1") (option_map encode_lower (sha1_given node.text)) refl)))
+      (base_sums_of_values block (base_md5_given node.text) (base_sha1_given node.text)
+      (sum_at 16 block (codes "Text-delta-base-md5") (base_md5_given node.text) sums.base_md5
+      (header (codes "Text-delta-base-md5") (option_map encode_lower (base_md5_given node.text)) refl))
+      (sum_at 20 block (codes "Text-delta-base-sha1") (base_sha1_given node.text) sums.base_sha1
+      (header (codes "Text-delta-base-sha1") (option_map encode_lower (base_sha1_given node.text)) refl)))
       (flag_at block (codes "Prop-delta") (changes_props node.props)
       (header (codes "Prop-delta") (flag (changes_props node.props)) refl))
       (flag_at block (codes "Text-delta") (changes_text node.text)
@@ -120,11 +133,15 @@ module _ (node : NodeRecord) (props text : Option ℕ) (lawful : AreFields (node
 
 -- ---- its sections
 
-sums_lawful : (section : Option TextSection) → IfSome section IsTextSection
-    → IfSome (md5_given section) (IsSum 16) × IfSome (sha1_given section) (IsSum 20)
-sums_lawful None h = (tt, tt)
-sums_lawful (Some (text.Whole bytes)) h = ((length-md5 bytes, IsBytes-md5 bytes), (length-sha1 bytes, IsBytes-sha1 bytes))
-sums_lawful (Some (text.Delta delta)) h = h
+sums_lawful : (section : Option TextSection) → IfSome section IsTextSection → AreSums section
+sums_lawful None h = record { md5 = tt; sha1 = tt; base_md5 = tt; base_sha1 = tt }
+sums_lawful (Some (text.Whole bytes)) h = record {
+  md5 = (length-md5 bytes, IsBytes-md5 bytes);
+  sha1 = (length-sha1 bytes, IsBytes-sha1 bytes);
+  base_md5 = tt;
+  base_sha1 = tt;
+}
+sums_lawful (Some (text.Delta delta)) h = record { md5 = h.2; sha1 = h.3; base_md5 = h.0; base_sha1 = h.1 }
 
 len_or_none : (o : Option (List ℕ)) → unwrap_or (option_map length o) 0 ≡ length (unwrap_or o [])
 len_or_none None = refl
@@ -144,6 +161,7 @@ text_read : (texts : Texts) (section : Option TextSection) (props text : Option 
     (sized_text_at (record {
       lengths = record { props = props; text = text };
       sums = record { md5 = md5_given section; sha1 = sha1_given section };
+      base_sums = record { md5 = base_md5_given section; sha1 = base_sha1_given section };
       changes_props = delta;
       changes_text = changes_text section;
     }) texts limit) (unwrap_or (text_section section) [] ++ rest)
@@ -182,8 +200,9 @@ node_read limits texts node empty_lines rest h few =
     let fits : empty_lines + length (lines fields) ≤ limits.headers = omega (arith, h.headers_fit, ap length same, few) in
     let whole = node_of_sections limits texts (lines fields) after mid (10 ∷ 10 ∷ rest)
     (record { path = node.path; kind = node.kind; action = node.action; source = node.source; props = None; text = None }) props text
-    (md5_given node.text) (sha1_given node.text) (changes_props node.props) (changes_text node.text) node.props (kept_text texts node.text)
-    (node_of_lines node props text lawful h.lawful.path h.lawful.source) (shape_of_lines node props text lawful small sums.0 sums.1)
+    (md5_given node.text) (sha1_given node.text) (base_md5_given node.text) (base_sha1_given node.text) (changes_props node.props)
+    (changes_text node.text) node.props (kept_text texts node.text)
+    (node_of_lines node props text lawful h.lawful.path h.lawful.source) (shape_of_lines node props text lawful small sums)
     (props_read node.props limits.props mid h.lawful.props h.props_fit (omega (arith, h.lengths)))
     (text_read texts node.text props text (changes_props node.props) limits.text (10 ∷ 10 ∷ rest) h.text_fits) in
     ap (λ (l : List ℕ). record_at limits texts (replicate empty_lines 10 ++ l)) parts

@@ -14,7 +14,7 @@ use Rattle.svn_dump.specs.declared.sections.Texts.{Texts}
 use Rattle.svn_dump.specs.Blocks.{block_at}
 use Rattle.svn_dump.specs.Headers.{are_headers}
 use Rattle.svn_dump.specs.Fields.{number_value, sum_value, true_value, path_value, kind_value, action_value, source_value}
-use Rattle.svn_dump.specs.Shapes.{lengths_of, sums_of, shape_of, agreeing}
+use Rattle.svn_dump.specs.Shapes.{lengths_of, sums_of, base_sums_of, shape_of, agreeing}
 use Rattle.svn_dump.specs.Sections.{prop_section_at, text_section_at}
 use Rattle.svn_dump.specs.Records.{is_given, subject_of, node_of, node_at, passed_at, headed_at, record_at}
 
@@ -56,36 +56,46 @@ pub sums_of_values : (block : List ℕ) (md5 sha1 : Option (List ℕ)) → sum_v
 sums_of_values block None sha1 e f g = rw (e, f, g) refl
 sums_of_values block (Some md5) sha1 e f g = rw (e, f, g) refl
 
-pub shape_of_values : (block : List ℕ) (props text : Option ℕ) (md5 sha1 : Option (List ℕ)) (changes_props changes_text : Bool)
+pub base_sums_of_values : (block : List ℕ) (md5 sha1 : Option (List ℕ)) → sum_value 16 block (codes "Text-delta-base-md5") ≡ Ok md5
+    → sum_value 20 block (codes "Text-delta-base-sha1") ≡ Ok sha1 → base_sums_of block ≡ Ok (record { md5 = md5; sha1 = sha1 })
+base_sums_of_values block md5 sha1 e f = rw (e, f) refl
+
+pub shape_of_values : (block : List ℕ) (props text : Option ℕ) (md5 sha1 base_md5 base_sha1 : Option (List ℕ))
+    (changes_props changes_text : Bool)
     → lengths_of block ≡ Ok (record { props = props; text = text }) → sums_of block ≡ Ok (record { md5 = md5; sha1 = sha1 })
+    → base_sums_of block ≡ Ok (record { md5 = base_md5; sha1 = base_sha1 })
     → true_value block (codes "Prop-delta") ≡ Ok changes_props → true_value block (codes "Text-delta") ≡ Ok changes_text
     → shape_of block ≡ Ok (record {
       lengths = record { props = props; text = text };
       sums = record { md5 = md5; sha1 = sha1 };
+      base_sums = record { md5 = base_md5; sha1 = base_sha1 };
       changes_props = changes_props;
       changes_text = changes_text;
     })
 unfolding shape_of
-shape_of_values block props text md5 sha1 changes_props changes_text e f g h = rw (e, f, g, h) refl
+shape_of_values block props text md5 sha1 base_md5 base_sha1 changes_props changes_text e f b g h = rw (e, f, b, g, h) refl
 
 pub node_of_sections : (limits : Limits) (texts : Texts) (block bytes mid rest : List ℕ) (node : NodeRecord) (props text : Option ℕ)
-    (md5 sha1 : Option (List ℕ)) (changes_props changes_text : Bool) (prop_section : Option PropSection) (text_section : Option TextSection)
+    (md5 sha1 base_md5 base_sha1 : Option (List ℕ)) (changes_props changes_text : Bool) (prop_section : Option PropSection) (text_section : Option TextSection)
     → node_of block ≡ Ok node
     → shape_of block ≡ Ok (record {
       lengths = record { props = props; text = text };
       sums = record { md5 = md5; sha1 = sha1 };
+      base_sums = record { md5 = base_md5; sha1 = base_sha1 };
       changes_props = changes_props;
       changes_text = changes_text;
     })
     → prop_section_at (record {
       lengths = record { props = props; text = text };
       sums = record { md5 = md5; sha1 = sha1 };
+      base_sums = record { md5 = base_md5; sha1 = base_sha1 };
       changes_props = changes_props;
       changes_text = changes_text;
     }) limits.props bytes ≡ Ok (prop_section, mid)
     → text_section_at (record {
       lengths = record { props = props; text = text };
       sums = record { md5 = md5; sha1 = sha1 };
+      base_sums = record { md5 = base_md5; sha1 = base_sha1 };
       changes_props = changes_props;
       changes_text = changes_text;
     }) texts limits.text mid ≡ Ok (text_section, rest)
@@ -101,5 +111,5 @@ pub node_of_sections : (limits : Limits) (texts : Texts) (block bytes mid rest :
       rest,
     )
 unfolding node_at
-node_of_sections limits texts block bytes mid rest node props text md5 sha1 changes_props changes_text prop_section text_section e f g h =
+node_of_sections limits texts block bytes mid rest node props text md5 sha1 base_md5 base_sha1 changes_props changes_text prop_section text_section e f g h =
     rw (e, f, g, h) refl

@@ -104,6 +104,13 @@ hello_md5 = 177 ∷ 148 ∷ 106 ∷ 201 ∷ 36 ∷ 146 ∷ 210 ∷ 52 ∷ 124 �
 abbrev hello_sha1 : List ℕ
 hello_sha1 = 245 ∷ 114 ∷ 211 ∷ 150 ∷ 250 ∷ 233 ∷ 32 ∷ 102 ∷ 40 ∷ 113 ∷ 79 ∷ 178 ∷ 206 ∷ 0 ∷ 247 ∷ 46 ∷ 148 ∷ 242 ∷ 37 ∷ 143 ∷ []
 
+-- those of no bytes
+abbrev empty_md5 : List ℕ
+empty_md5 = 212 ∷ 29 ∷ 140 ∷ 217 ∷ 143 ∷ 0 ∷ 178 ∷ 4 ∷ 233 ∷ 128 ∷ 9 ∷ 152 ∷ 236 ∷ 248 ∷ 66 ∷ 126 ∷ []
+
+abbrev empty_sha1 : List ℕ
+empty_sha1 = 218 ∷ 57 ∷ 163 ∷ 238 ∷ 94 ∷ 107 ∷ 75 ∷ 13 ∷ 50 ∷ 85 ∷ 191 ∷ 239 ∷ 149 ∷ 96 ∷ 24 ∷ 144 ∷ 175 ∷ 216 ∷ 7 ∷ 9 ∷ []
+
 abbrev added_file : NodeRecord
 added_file = record {
   path = codes "f" ∷ [];
@@ -138,13 +145,15 @@ changed_copy = record {
   props = Some (props.Delta ((codes "b", Some (codes "x")) ∷ (codes "a", None) ∷ []));
   text = Some (text.Delta (record {
     delta = 83 ∷ 86 ∷ 78 ∷ 0 ∷ 0 ∷ 0 ∷ 6 ∷ 1 ∷ 6 ∷ 134 ∷ 104 ∷ 101 ∷ 108 ∷ 108 ∷ 111 ∷ 10 ∷ [];
+    base_md5 = Some empty_md5;
+    base_sha1 = Some empty_sha1;
     md5 = Some hello_md5;
     sha1 = Some hello_sha1;
   }));
 }
 
 abbrev changed_bytes : List ℕ
-changed_bytes = codes "Node-path: f\nNode-kind: file\nNode-action: add\nNode-copyfrom-rev: 2\nNode-copyfrom-path: d/f: g\nProp-delta: true\nText-delta: true\nText-content-md5: b1946ac92492d2347c6235b4d2611184\nText-content-sha1: f572d396fae9206628714fb2ce00f72e94f2258f\nProp-content-length: 28\nText-content-length: 16\nContent-length: 44\n\nK 1\nb\nV 1\nx\nD 1\na\nPROPS-END\n"
+changed_bytes = codes "Node-path: f\nNode-kind: file\nNode-action: add\nNode-copyfrom-rev: 2\nNode-copyfrom-path: d/f: g\nProp-delta: true\nText-delta: true\nText-delta-base-md5: d41d8cd98f00b204e9800998ecf8427e\nText-delta-base-sha1: da39a3ee5e6b4b0d3255bfef95601890afd80709\nText-content-md5: b1946ac92492d2347c6235b4d2611184\nText-content-sha1: f572d396fae9206628714fb2ce00f72e94f2258f\nProp-content-length: 28\nText-content-length: 16\nContent-length: 44\n\nK 1\nb\nV 1\nx\nD 1\na\nPROPS-END\n"
     ++ 83 ∷ 86 ∷ 78 ∷ 0 ∷ 0 ∷ 0 ∷ 6 ∷ 1 ∷ 6 ∷ 134 ∷ 104 ∷ 101 ∷ 108 ∷ 108 ∷ 111 ∷ 10 ∷ [] ++ codes "\n\n"
 
 changed_written : written changed_copy ≡ changed_bytes
@@ -218,7 +227,12 @@ changed_is_writable = record {
     source = record { path = path_g; rev = lit< tt };
     props = All-cons (λ c. IsPropName c.0) (codes "b", Some (codes "x")) ((codes "a", None) ∷ []) prop_b
         (All-cons (λ c. IsPropName c.0) (codes "a", None) [] prop_a (All-nil (λ c. IsPropName c.0)));
-    text = ((refl, bytes_from_test hello_md5 refl), (refl, bytes_from_test hello_sha1 refl));
+    text = (
+      (refl, bytes_from_test empty_md5 refl),
+      (refl, bytes_from_test empty_sha1 refl),
+      (refl, bytes_from_test hello_md5 refl),
+      (refl, bytes_from_test hello_sha1 refl),
+    );
   };
   headers_fit = lit≤ tt;
   props_fit = lit≤ tt;

@@ -22,6 +22,15 @@ abbrev pub sha1_of : TextSection → Option (List ℕ)
 sha1_of (text.Whole bytes) = Some (sha1 bytes)
 sha1_of (text.Delta delta) = delta.sha1
 
+-- those of the text that a delta is applied to
+abbrev pub base_md5_of : TextSection → Option (List ℕ)
+base_md5_of (text.Whole bytes) = None
+base_md5_of (text.Delta delta) = delta.base_md5
+
+abbrev pub base_sha1_of : TextSection → Option (List ℕ)
+base_sha1_of (text.Whole bytes) = None
+base_sha1_of (text.Delta delta) = delta.base_sha1
+
 abbrev pub is_text_delta : TextSection → Bool
 is_text_delta (text.Whole bytes) = false
 is_text_delta (text.Delta delta) = true
@@ -35,6 +44,7 @@ pub sized_text_read : (texts : Texts) (section : TextSection) (props text : Opti
     → sized_text_at (record {
       lengths = record { props = props; text = text };
       sums = record { md5 = md5_of section; sha1 = sha1_of section };
+      base_sums = record { md5 = base_md5_of section; sha1 = base_sha1_of section };
       changes_props = changes_props;
       changes_text = is_text_delta section;
     }) texts limit (length (text_bytes section)) (text_bytes section ++ rest)

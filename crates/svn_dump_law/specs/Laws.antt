@@ -48,7 +48,8 @@ IsSum size sum = (length sum ≡ size) × IsBytes sum
 
 abbrev pub IsTextSection : TextSection → Type 0
 IsTextSection (text.Whole bytes) = Unit {0}
-IsTextSection (text.Delta delta) = IfSome delta.md5 (IsSum 16) × IfSome delta.sha1 (IsSum 20)
+IsTextSection (text.Delta delta) =
+    IfSome delta.base_md5 (IsSum 16) × IfSome delta.base_sha1 (IsSum 20) × IfSome delta.md5 (IsSum 16) × IfSome delta.sha1 (IsSum 20)
 
 -- A text that is kept is within the limit. Where texts have stand-ins, a text delta comes with its SHA-1 checksum, or is that of no bytes.
 abbrev pub CanKeep : Texts → ℕ → TextSection → Type 0

@@ -81,12 +81,23 @@ fn sha1_is_lawful(sum: Option<Sha1Sum>)
     }
 }
 
+fn delta_is_lawful(delta: &TextDelta)
+    ensures base_md5 { IfSome delta.now.base_md5 (IsSum 16) }
+    ensures base_sha1 { IfSome delta.now.base_sha1 (IsSum 20) }
+    ensures md5 { IfSome delta.now.md5 (IsSum 16) }
+    ensures sha1 { IfSome delta.now.sha1 (IsSum 20) }
+{
+    md5_is_lawful(delta.base_md5);
+    sha1_is_lawful(delta.base_sha1);
+    md5_is_lawful(delta.md5);
+    sha1_is_lawful(delta.sha1);
+}
+
 fn text_section_is_lawful(section: &Option<TextSection>)
     ensures { IfSome section.now IsTextSection }
 {
-    if let Some(TextSection::Delta(TextDelta { md5, sha1, .. })) = section {
-        md5_is_lawful(*md5);
-        sha1_is_lawful(*sha1);
+    if let Some(TextSection::Delta(delta)) = section {
+        delta_is_lawful(delta);
     }
 }
 

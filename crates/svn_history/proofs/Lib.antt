@@ -13,5 +13,19 @@ pub mod Endings
 pub mod Writings
 -- A dump that is loaded to its end.
 pub mod Whole
+-- One property of a node set or removed.
+pub mod OneProp
+-- The properties of what is in a draft.
+pub mod DraftProps
 -- What is written of a change is loaded as the change.
 pub mod Reloading
+-- A commit leaves the properties of all revisions lawful.
+pub mod CommittedProps
+-- Drafts that are the same but for the numbers of their nodes.
+pub mod SameDrafts
+-- Bytes are at most one dump.
+pub mod OneReading
+-- The same revisions, loaded twice.
+pub mod SameHistories
+-- What is written of commits, read and loaded.
+pub mod WrittenDumps

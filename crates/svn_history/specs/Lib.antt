@@ -6,3 +6,5 @@ pub mod Loading
 pub mod Parts
 pub mod Writing
 pub mod Laws
+pub mod SameHistories
+pub mod WrittenDumps

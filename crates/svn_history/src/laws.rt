@@ -1,8 +1,33 @@
 //! What loading and writing mean for one another. These functions do nothing: each promises a law of the definitions.
-ghost use Rattle.svn_history.specs.Laws.{WrittenCommitsLoad};
+ghost use Rattle.svn_history.specs.Laws.{DraftsAreLawful, WrittenCommitsLoad};
+ghost use Rattle.svn_history.specs.SameHistories.{DumpsLoadAsOne};
+ghost use Rattle.svn_history.specs.WrittenDumps.{WrittenDumpsLoad};
 
-/// What [`push_commit`](crate::push_commit) writes of a commit is loaded as the same commit, where no change sets a property: the records lead to the
-/// tree and the lines that the changes lead to.
+use svn_dump_law::dumps_are_read_back;
+
+/// Whatever changes a transaction has made so far, the properties in its draft are in the order of their names and within the limit of a commit, since
+/// they are so in the repository that it began with ([`Repo::law`](svn_repo::Repo::law)).
+pub fn drafts_are_lawful()
+    ensures { DraftsAreLawful }
+{}
+
+/// What [`push_commit`](crate::push_commit) writes of a commit is loaded as the same commit: the records lead to the tree and the lines that the
+/// changes lead to.
 pub fn written_commits_load()
     ensures { WrittenCommitsLoad }
 {}
+
+/// A dump loads as one history: whatever two loadings of its bytes on one repository lead to is the same at each path of each revision, node by node and
+/// line by line, but for the numbers that the nodes have.
+pub fn dumps_load_as_one()
+    ensures { DumpsLoadAsOne }
+{}
+
+/// What the writer writes loads as the same history, node by node and line by line. Where [`push_commit`](crate::push_commit) made commits one after
+/// another, and their bytes are put after a dump's beginning, a reader with limits that the records are within reads a dump, and its revisions lead from
+/// the repository that the commits began on to the history that they led to. Whatever a loader makes of it is the same.
+pub fn written_dumps_load()
+    ensures { WrittenDumpsLoad }
+{
+    dumps_are_read_back();
+}

@@ -16,9 +16,10 @@
 //! one commit of the records of one revision, with empty commits for the numbers that are left out (`one`); a refusal has its own cause, leaves the
 //! revisions before (`fault`), and stays (`refused`, `again`). A dump that is loaded to its end is the bytes' revisions, each a commit (`dump` of
 //! `load_all`, by `Loads` of `specs/Loading.antt`). What is written is one record for each change (`written`), a commit that is refused leaves no byte
-//! (`unwritten`), and what is written of a commit that sets no property loads as the same commit ([`written_commits_load`]). Out of memory, and a
-//! reader that fails, may come anywhere. Of a reader whose bytes no contract knows, it is proved what the records do that it gives, but not which
-//! bytes they are.
+//! (`unwritten`), and what is written of a commit loads as the same commit ([`written_commits_load`]). From the bytes on: what was written of commits one
+//! after another is a dump, and loads as the same history, node by node and line by line ([`written_dumps_load`]); a dump loads as one history, but for
+//! the numbers of its nodes ([`dumps_load_as_one`]). Out of memory, and a reader that fails, may come anywhere. Of a reader whose bytes no contract knows,
+//! it is proved what the records do that it gives, but not which bytes they are.
 #![tactic(auto)]
 
 mod delta;
@@ -30,7 +31,7 @@ mod refusal;
 mod writing;
 
 pub use fault::LoadFault;
-pub use laws::written_commits_load;
+pub use laws::{drafts_are_lawful, dumps_load_as_one, written_commits_load, written_dumps_load};
 pub use loader::{Loader, MAX_REVISION};
 pub use refusal::Refusal;
 pub use writing::{push_change, push_commit};
