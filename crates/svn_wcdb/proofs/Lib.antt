@@ -1,0 +1,15 @@
+-- numbers
+pub mod NumberLemmas
+-- properties
+pub mod PropertyLemmas
+-- paths
+pub mod PathTexts
+-- tests of pages and records
+pub mod PageTests
+pub mod RecordTests
+-- reading, chains of overflow pages, trees of tables
+pub mod ReadingLemmas
+pub mod ChainLemmas
+pub mod TreeLemmas
+-- rows of NODES
+pub mod NodeLemmas

@@ -1,0 +1,146 @@
+-- The base tree of a working copy.
+--     base_tree_of bytes      the base tree that the bytes of a database stand for, or the first fault
+use Rattle.std.specs.Prelude.{◌≡◌, ℕ, ◌+◌, min, Bool, not, ◌&&◌, List, [], ◌∷◌, ◌++◌, length, nat_eq, Option, Some, None, true, false, Result, Ok, Err, if◌then◌else◌}
+use Rattle.svn_model.specs.declared.base_node.BaseNode.{BaseNode}
+use Rattle.svn_types.specs.Names.{Path}
+use Rattle.svn_wcdb.specs.declared.base_tree.BaseTree.{BaseTree}
+use Rattle.svn_wcdb.specs.declared.base_tree.Origin.{Origin}
+use Rattle.svn_wcdb.specs.declared.fault.Reason.{Reason}
+use Rattle.svn_wcdb.specs.declared.fault.Reason.TheVariants.{NotOneRoot, NoRoot, NoRepository, OtherRepository, BadColumn}
+use Rattle.svn_wcdb.specs.declared.fault.TableName.{TableName}
+use Rattle.svn_wcdb.specs.declared.fault.TableName.TheVariants as tables
+use Rattle.svn_wcdb.specs.declared.nodes.Found as nodes
+use Rattle.svn_wcdb.specs.declared.notes.Notes.{Notes}
+use Rattle.svn_wcdb.specs.declared.refusal.Refusal.{Refusal}
+use Rattle.svn_wcdb.specs.declared.table.TableRow.{TableRow}
+use Rattle.svn_wcdb.specs.Columns.{column, text_in}
+use Rattle.svn_wcdb.specs.Images.{image_of}
+use Rattle.svn_wcdb.specs.Nodes.{NodeRow, row_of, base_of}
+use Rattle.svn_wcdb.specs.Paths.{path_of}
+use Rattle.svn_wcdb.specs.Reading.{◌>>=◌, given, each, Fails}
+use Rattle.svn_wcdb.specs.Schema.{table_of}
+use Rattle.svn_wcdb.specs.Tables.{table_rows}
+
+-- where it comes from, its nodes in the order of their rows, and what was passed over
+pub record Base : Type 0 where
+  pub origin : Origin
+  pub nodes : List (Path × BaseNode)
+  pub notes : Notes
+
+-- the same of a refusal, which says where it is too
+abbrev pub Finds : {X Y : Type 0} → (X → Y) → Result X Refusal → Result Y Reason → Type 0
+Finds view (Ok x) read = read ≡ Ok (view x)
+Finds view (Err refusal) read = Fails refusal.fault read
+
+-- a tree as the code has it
+abbrev pub seen_base : BaseTree → Base
+seen_base tree = record { origin = tree.origin; nodes = tree.nodes.items; notes = tree.notes }
+
+abbrev pub is_number : Option ℕ → ℕ → Bool
+is_number None n = false
+is_number (Some m) n = nat_eq m n
+
+abbrev pub is_no_byte : Option (List ℕ) → Bool
+is_no_byte None = false
+is_no_byte (Some bytes) = nat_eq (length bytes) 0
+
+-- ---- the root
+
+abbrev pub is_root : NodeRow → Bool
+is_root row = is_number row.op_depth 0 && is_no_byte row.path
+
+-- the number of the one row
+abbrev pub one_root : List TableRow → Result ℕ Reason
+one_root [] = Err NotOneRoot
+one_root (row ∷ []) = Ok row.rowid
+one_root (row ∷ other ∷ rows) = Err NotOneRoot
+
+-- the repository of the root
+abbrev pub repos_in : List TableRow → Result ℕ Reason
+repos_in [] = Err NoRoot
+repos_in (row ∷ rows) = row_of row.bytes >>= λ columns. if is_root columns then given NoRepository columns.repos_id else repos_in rows
+
+-- ---- the repository
+
+abbrev pub text_given : ℕ → List ℕ → Result (List ℕ) Reason
+text_given c row = text_in c (column row c) >>= given (BadColumn c)
+
+unfoldable pub origin_of : List ℕ → Result Origin Reason
+origin_of row = text_given 2 row >>= λ uuid. text_given 1 row >>= λ url. Ok (record { uuid = uuid; url = url })
+
+abbrev pub origin_in : ℕ → List TableRow → Result Origin Reason
+origin_in id [] = Err NoRepository
+origin_in id (row ∷ rows) = if nat_eq row.rowid id then origin_of row.bytes else origin_in id rows
+
+-- ---- the nodes
+
+-- the nodes so far, and what was passed over
+abbrev pub Found : Type 0
+Found = List (Path × BaseNode) × Notes
+
+-- as the code has them
+abbrev pub seen_found : nodes.Found → Found
+seen_found found = (found.nodes.items, found.notes)
+
+abbrev pub none_yet : Found
+none_yet = ([], record { changes = 0; externals = 0; actual = 0; locks = 0; work = 0 })
+
+-- one more, of at most 18446744073709551615
+abbrev pub counted : ℕ → ℕ
+counted n = min (n + 1) 18446744073709551615
+
+abbrev pub one_change : Found → Found
+one_change found = (found.0, record (found.1) { changes = counted found.1.changes })
+
+abbrev pub one_external : Found → Found
+one_external found = (found.0, record (found.1) { externals = counted found.1.externals })
+
+abbrev pub one_node : NodeRow → Found → Result Found Reason
+one_node row found =
+    given (BadColumn 1) row.path >>= λ text. path_of text >>= λ path. base_of row >>= λ node. Ok (found.0 ++ (path, node) ∷ [], found.1)
+
+-- a row of that working copy and repository
+unfoldable pub node_after : ℕ → ℕ → NodeRow → Found → Result Found Reason
+node_after wc_id repos_id row found =
+    if not (is_number row.wc_id wc_id) then Err NotOneRoot
+    else if not (is_number row.op_depth 0) then Ok (one_change found)
+    else if row.is_external then Ok (one_external found)
+    else if not (is_number row.repos_id repos_id) then Err OtherRepository
+    else one_node row found
+
+unfoldable pub record_after : ℕ → ℕ → TableRow → Found → Result Found Reason
+record_after wc_id repos_id row found = row_of row.bytes >>= λ columns. node_after wc_id repos_id columns found
+
+-- a row of a local change adds no node
+abbrev pub LocalRowsChangeNothing : Type 0
+LocalRowsChangeNothing =
+    (wc_id repos_id : ℕ) (row : TableRow) (columns : NodeRow) (found : Found) → row_of row.bytes ≡ Ok columns → is_number columns.wc_id wc_id ≡ true
+    → is_number columns.op_depth 0 ≡ false → record_after wc_id repos_id row found ≡ Ok (one_change found)
+
+-- ---- the other tables
+
+abbrev pub count_of : ℕ → List ℕ → List TableRow → TableName → Result ℕ Reason
+count_of size bytes schema table = table_of size bytes schema table >>= λ rows. Ok (length rows)
+
+abbrev pub notes_of : ℕ → List ℕ → List TableRow → Notes → Result Notes Reason
+notes_of size bytes schema notes = do
+  actual ← count_of size bytes schema tables.ActualNode
+  locks ← count_of size bytes schema tables.WcLock
+  work ← count_of size bytes schema tables.WorkQueue
+  Ok (record notes { actual = actual; locks = locks; work = work })
+
+unfoldable pub tree_of : ℕ → List ℕ → Result Base Reason
+tree_of size bytes = do
+  schema ← table_rows size bytes 1
+  roots ← table_of size bytes schema tables.Wcroot
+  wc_id ← one_root roots
+  rows ← table_of size bytes schema tables.Nodes
+  repos_id ← repos_in rows
+  repositories ← table_of size bytes schema tables.Repository
+  origin ← origin_in repos_id repositories
+  found ← each (record_after wc_id repos_id) rows none_yet
+  notes ← notes_of size bytes schema found.1
+  Ok (record { origin = origin; nodes = found.0; notes = notes })
+
+unfoldable pub base_tree_of : List ℕ → Result Base Reason
+base_tree_of bytes = image_of bytes >>= λ size. tree_of size bytes

@@ -1,0 +1,15 @@
+pub mod Reading
+pub mod Numbers
+pub mod Skels
+pub mod Properties
+pub mod Columns
+pub mod StandIns
+pub mod Paths
+pub mod Nodes
+pub mod Images
+pub mod Pages
+pub mod Records
+pub mod Trees
+pub mod Tables
+pub mod Schema
+pub mod Bases

@@ -1,0 +1,66 @@
+//! The base tree of a working copy: where it comes from, and its nodes.
+ghost use Rattle.std.specs.Prelude.{◌≡◌};
+ghost use Rattle.svn_wcdb.specs.Bases.{Finds, seen_base, base_tree_of};
+
+use crate::fault::TableName;
+use crate::image::Image;
+use crate::nodes::read_nodes;
+use crate::notes::{Notes, read_notes};
+use crate::origin::{one_root, origin_in, repos_in};
+use crate::refusal::Refusal;
+use crate::schema::rows_of;
+use crate::tree::read_table;
+use std::alloc::Global;
+use svn_model::BaseNode;
+use svn_types::{RelPath, Text};
+
+/// Where a working copy comes from.
+#[derive(Debug, Drop)]
+pub struct Origin {
+    /// The repository's UUID.
+    pub uuid: Text,
+    /// The URL of its root, as the database has it.
+    pub url: Text,
+}
+
+/// The base nodes of a working copy, in the order of their rows.
+#[derive(Debug, Drop)]
+pub struct BaseTree {
+    /// The repository.
+    pub origin: Origin,
+    /// The nodes; of a file's text its stand-in.
+    pub nodes: Vec<(RelPath, BaseNode)>,
+    /// What was passed over.
+    pub notes: Notes,
+}
+
+/// Reads the base tree of a working copy from the bytes of its database, `.svn/wc.db`. Whether a journal is beside it, and whether the file changed
+/// while it was read ([`Image::change_counter`](crate::Image::change_counter)), the caller has to look.
+///
+/// What it returns is what the bytes stand for (`base_tree_of`), or the first fault in this order: of the header NotADatabase, PageSize, WriteAheadLog,
+/// Encoding, Format, CutOff; of the schema's table, and then of WCROOT, NODES and REPOSITORY, NoTable, Loop, BadPage, TooDeep, BadOverflow and BadRecord
+/// as the pages and rows come; NotOneRoot; NoRoot and NoRepository, and BadColumn in the rows up to the root's; then row by row of NODES, with its path,
+/// BadColumn of the first column from the left, NotOneRoot, OtherRepository, NotUtf8 and BadPath, BadPresence, Excluded, ServerExcluded, BadKind, Depth,
+/// IncompleteFile, NoRevision, NoReposPath, NoChecksum, BadProperties and BadPropName; then the tables that are counted. Memory where an allocation failed.
+///
+/// The rows of NODES are in memory while they are read: no more bytes than the file has, and some 40 for each.
+#[tactic(auto, unfolding(crate::specs::Bases::base_tree_of, crate::specs::Bases::tree_of))]
+pub fn read_base_tree(alloc: Global, bytes: &[u8]) -> Result<BaseTree, Refusal>
+    ensures { Finds seen_base result (base_tree_of bytes.now) }
+{
+    let image = Image::new(bytes)?;
+    let schema = read_table(alloc, &image, 1)?;
+    let roots = rows_of(alloc, &image, &schema, TableName::Wcroot)?;
+    let wc_id = one_root(&roots)?;
+    let rows = rows_of(alloc, &image, &schema, TableName::Nodes)?;
+    let repos_id = repos_in(&rows)?;
+    let repositories = rows_of(alloc, &image, &schema, TableName::Repository)?;
+    let origin = origin_in(alloc, repos_id, &repositories)?;
+    let found = read_nodes(alloc, wc_id, repos_id, &rows)?;
+    let notes = read_notes(alloc, &image, &schema, found.notes)?;
+    Ok(BaseTree {
+        origin,
+        nodes: found.nodes,
+        notes,
+    })
+}

@@ -1,0 +1,72 @@
+//! The base nodes of a working copy of Subversion 1.8 to 1.14 (format 31), from the bytes of its database `.svn/wc.db`, read only. No file is opened
+//! here: a program reads the files and passes their bytes. It also has to see that no journal is beside the database, and that the file didn't change
+//! while it was read ([`Image::change_counter`]).
+//!
+//! ```
+//! let tree = read_base_tree(alloc, &bytes)?;
+//! let copy = WorkingCopy::from_nodes(alloc, tree.nodes)?;
+//! ```
+//!
+//! `from_nodes` (of `svn_wc`) refuses what no single row shows: a path that comes twice, a node without a directory above it. The text of a file is its
+//! stand-in, `$sha1$` and 40 digits, as in `svn_dump`; [`pristine_path`] says where the text itself is, [`is_pristine`] whether what was read there is it.
+//!
+//! | Files, lowest first | What they do | Definitions in `specs/` |
+//! |---|---|---|
+//! | `fault`, `refusal` | why a database is refused, and at which path | `Reading` |
+//! | `number`, `skel`, `properties` | numbers, lists of atoms (skels), properties | `Numbers`, `Skels`, `Properties` |
+//! | `image` | the header of the file, and page n | `Images` |
+//! | `table`, `payload`, `tree` | the rows of a table; a row's bytes, which may go on in overflow pages | `Pages`, `Records`, `Tables` |
+//! | `columns`, `schema` | the value in a column; the rows of a table by its name | `Columns`, `Schema` |
+//! | `row`, `paths`, `node`, `pristine` | a row of NODES as a base node; stand-ins | `Nodes`, `Paths`, `StandIns` |
+//! | `notes`, `origin`, `nodes`, `base_tree` | what is passed over; the repository; the nodes; the whole | `Bases` |
+//! | `laws` | laws about these definitions | |
+//!
+//! A row of NODES is passed over and counted where `op_depth` isn't 0 (a local change) or `file_external` is set. Else it is a base node, or refused:
+//!
+//! | Presence | Kind | Depth | Base node |
+//! |---|---|---|---|
+//! | `normal` | `dir` | `infinity` or NULL | a directory, complete |
+//! | `incomplete` | `dir` | `infinity` or NULL | a directory, not complete |
+//! | `normal` | `file` | any | a file |
+//! | `not-present` | any | any | not present |
+//!
+//! The first fault from left to right is the refusal: of the header; of the pages and rows of the schema, WCROOT, NODES and REPOSITORY; of the root; of
+//! the rows of NODES, in their order and with their paths; of the tables that are counted. [`read_base_tree`] has the list.
+//!
+//! Hostile files: a table takes no more pages than the file has and 20 levels, so reading ends, and no loop of pages costs more than the file. In
+//! memory are the rows of the tables that are read, of each no more bytes than the file has and some 40 for each row; a flag for each byte of a page
+//! while it is looked at; and the nodes.
+//!
+//! Promises: a tree is returned only if it is what the bytes stand for, and else the refusal is the first fault (`read_base_tree`, by `base_tree_of`).
+//! Only a failed allocation may come anywhere. That the tests of pages and records are the kit's definitions of them: [`pages_are_well_formed`],
+//! [`records_are_whole`]. That the path of a refusal is that of the row has no contract.
+#![tactic(auto)]
+
+mod base_tree;
+mod columns;
+mod fault;
+mod image;
+mod laws;
+mod node;
+mod nodes;
+mod notes;
+mod number;
+mod origin;
+mod paths;
+mod payload;
+mod pristine;
+mod properties;
+mod refusal;
+mod row;
+mod schema;
+mod skel;
+mod table;
+mod tree;
+
+pub use base_tree::{BaseTree, Origin, read_base_tree};
+pub use fault::{Reason, TableName, WcdbFault};
+pub use image::Image;
+pub use laws::{local_rows_change_nothing, pages_are_well_formed, records_are_whole};
+pub use notes::Notes;
+pub use pristine::{is_pristine, is_stand_in, pristine_path, stand_in};
+pub use refusal::Refusal;

@@ -1,0 +1,83 @@
+//! What is passed over, since no base node depends on it.
+ghost use Rattle.std.specs.Prelude.{◌≡◌};
+ghost use Rattle.svn_wcdb.specs.Bases.{counted, count_of, none_yet, notes_of};
+ghost use Rattle.svn_wcdb.specs.Reading.{Gives};
+
+use crate::fault::{TableName, WcdbFault};
+use crate::image::Image;
+use crate::schema::rows_of;
+use crate::table::TableRow;
+use std::alloc::Global;
+
+/// How much was passed over; a number that doesn't fit stays at the greatest.
+#[derive(Clone, Copy, Debug, PartialEq, Eq)]
+pub struct Notes {
+    /// Rows of local changes: nodes that were added, deleted, copied, moved or replaced.
+    pub changes: u64,
+    /// Files that a property `svn:externals` put into the working copy.
+    pub externals: u64,
+    /// Paths with local properties, a changelist or a conflict (ACTUAL_NODE).
+    pub actual: u64,
+    /// Locks that an operation holds, or left when it was cut off (WC_LOCK).
+    pub locks: u64,
+    /// What an operation has still to do (WORK_QUEUE).
+    pub work: u64,
+}
+
+impl Notes {
+    pub(crate) fn new() -> Notes
+        ensures { result ≡ none_yet.1 }
+    {
+        Notes {
+            changes: 0,
+            externals: 0,
+            actual: 0,
+            locks: 0,
+            work: 0,
+        }
+    }
+
+    pub(crate) fn add_change(&mut self)
+        ensures { self.new ≡ record self.old { changes = counted self.old.changes } }
+    {
+        self.changes = self.changes.saturating_add(1);
+    }
+
+    pub(crate) fn add_external(&mut self)
+        ensures { self.new ≡ record self.old { externals = counted self.old.externals } }
+    {
+        self.externals = self.externals.saturating_add(1);
+    }
+}
+
+fn count_rows(
+    alloc: Global,
+    image: &Image,
+    schema: &[TableRow],
+    table: TableName,
+) -> Result<u64, WcdbFault>
+    ensures { Gives (λ n. n) result (count_of image.now.size image.now.bytes.now schema.now table) }
+{
+    let rows = rows_of(alloc, image, schema, table)?;
+    Ok(rows.len() as u64)
+}
+
+/// The notes, with those of the tables that no base node is in.
+pub(crate) fn read_notes(
+    alloc: Global,
+    image: &Image,
+    schema: &[TableRow],
+    notes: Notes,
+) -> Result<Notes, WcdbFault>
+    ensures { Gives (λ n. n) result (notes_of image.now.size image.now.bytes.now schema.now notes) }
+{
+    let actual = count_rows(alloc, image, schema, TableName::ActualNode)?;
+    let locks = count_rows(alloc, image, schema, TableName::WcLock)?;
+    let work = count_rows(alloc, image, schema, TableName::WorkQueue)?;
+    Ok(Notes {
+        actual,
+        locks,
+        work,
+        ..notes
+    })
+}

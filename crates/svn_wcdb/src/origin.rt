@@ -1,0 +1,99 @@
+//! The root of a working copy, and the repository that it comes from.
+ghost use Rattle.std.specs.Prelude.{◌≡◌};
+ghost use Rattle.svn_wcdb.specs.Bases.{is_number, is_root, one_root, repos_in, text_given, origin_of, origin_in};
+ghost use Rattle.svn_wcdb.specs.Nodes.{seen};
+ghost use Rattle.svn_wcdb.specs.declared.fault.Reason.TheVariants.{NoRepository};
+ghost use Rattle.svn_wcdb.specs.Reading.{Gives, Answers, given};
+
+use crate::base_tree::Origin;
+use crate::columns::text_at;
+use crate::fault::{Reason, WcdbFault};
+use crate::row::Row;
+use crate::table::TableRow;
+use std::alloc::Global;
+use svn_types::Text;
+
+/// The number of the one row of WCROOT.
+pub(crate) fn one_root(rows: &[TableRow]) -> Result<u64, Reason>
+    ensures { Answers (λ id. id) result (one_root rows.now) }
+{
+    match rows {
+        [row] => Ok(row.rowid),
+        _ => Err(Reason::NotOneRoot),
+    }
+}
+
+/// Whether a column has that number.
+pub(crate) fn is_number(column: Option<u64>, number: u64) -> bool
+    ensures { result ≡ is_number column number }
+{
+    match column {
+        Some(found) => found == number,
+        None => false,
+    }
+}
+
+fn is_root(row: &Row) -> bool
+    ensures { result ≡ is_root (seen row.now) }
+{
+    match row.path {
+        Some(path) => is_number(row.op_depth, 0) && path.is_empty(),
+        None => false,
+    }
+}
+
+fn repository_of(row: &Row) -> Result<u64, Reason>
+    ensures { Answers (λ id. id) result (given NoRepository row.now.repos_id) }
+{
+    match row.repos_id {
+        Some(id) => Ok(id),
+        None => Err(Reason::NoRepository),
+    }
+}
+
+/// The repository of the root.
+pub(crate) fn repos_in(rows: &[TableRow]) -> Result<u64, Reason>
+    ensures { Answers (λ id. id) result (repos_in rows.now) }
+{
+    let mut rest = rows;
+    'rows: while let Some((first, after)) = rest.split_first() {
+        let row = Row::read(first.bytes.as_slice())?;
+        if is_root(&row) {
+            return repository_of(&row);
+        }
+        rest = after;
+    }
+    Err(Reason::NoRoot)
+}
+
+fn text_given(alloc: Global, row: &[u8], column: u32) -> Result<Text, WcdbFault>
+    ensures { Gives (λ text. text) result (text_given column row.now) }
+{
+    match text_at(row, column)? {
+        Some(text) => Ok(Text::from_slice(alloc, text)?),
+        None => Err(WcdbFault::Refused(Reason::BadColumn(column))),
+    }
+}
+
+#[tactic(auto, unfolding(crate::specs::Bases::origin_of))]
+fn origin_of(alloc: Global, row: &[u8]) -> Result<Origin, WcdbFault>
+    ensures { Gives (λ origin. origin) result (origin_of row.now) }
+{
+    let uuid = text_given(alloc, row, 2)?;
+    let url = text_given(alloc, row, 1)?;
+    Ok(Origin { uuid, url })
+}
+
+/// The repository with that number.
+pub(crate) fn origin_in(alloc: Global, id: u64, rows: &[TableRow]) -> Result<Origin, WcdbFault>
+    ensures { Gives (λ origin. origin) result (origin_in id rows.now) }
+{
+    let mut rest = rows;
+    'rows: while let Some((first, after)) = rest.split_first() {
+        if first.rowid == id {
+            return origin_of(alloc, first.bytes.as_slice());
+        }
+        rest = after;
+    }
+    Err(WcdbFault::Refused(Reason::NoRepository))
+}

@@ -1,0 +1,58 @@
+//! Rows of NODES (`wc-metadata.sql`): what of their columns a base node is made of.
+ghost use Rattle.svn_wcdb.specs.Nodes.{seen, row_of};
+ghost use Rattle.svn_wcdb.specs.Reading.{Answers};
+
+use crate::columns::{blob_at, is_set, number_at, text_at};
+use crate::fault::Reason;
+
+/// A row of NODES. Columns that no base node depends on aren't here.
+#[derive(Clone, Copy, Debug)]
+pub(crate) struct Row<'a> {
+    /// The root of the working copy that has the node.
+    pub(crate) wc_id: Option<u64>,
+    /// Its path in the working copy.
+    pub(crate) path: Option<&'a [u8]>,
+    /// 0 for the base tree; else a local change, as deep as the path where it was made.
+    pub(crate) op_depth: Option<u64>,
+    /// Its repository.
+    pub(crate) repos_id: Option<u64>,
+    /// Its path in the repository.
+    pub(crate) repos_path: Option<&'a [u8]>,
+    /// Its revision.
+    pub(crate) revision: Option<u64>,
+    /// Whether it is there.
+    pub(crate) presence: Option<&'a [u8]>,
+    /// A file or a directory.
+    pub(crate) kind: Option<&'a [u8]>,
+    /// Its properties, as a list of atoms.
+    pub(crate) properties: Option<&'a [u8]>,
+    /// How much of a directory is there.
+    pub(crate) depth: Option<&'a [u8]>,
+    /// The checksum of a file's text.
+    pub(crate) checksum: Option<&'a [u8]>,
+    /// Whether it is a file that a property `svn:externals` put here.
+    pub(crate) is_external: bool,
+}
+
+impl<'a> Row<'a> {
+    /// Reads a record of NODES. BadColumn, of the first one that has a value of another type.
+    #[tactic(auto, unfolding(crate::specs::Nodes::row_of))]
+    pub(crate) fn read(bytes: &'a [u8]) -> Result<Row<'a>, Reason>
+        ensures { Answers seen result (row_of bytes.now) }
+    {
+        Ok(Row {
+            wc_id: number_at(bytes, 0)?,
+            path: text_at(bytes, 1)?,
+            op_depth: number_at(bytes, 2)?,
+            repos_id: number_at(bytes, 4)?,
+            repos_path: text_at(bytes, 5)?,
+            revision: number_at(bytes, 6)?,
+            presence: text_at(bytes, 7)?,
+            kind: text_at(bytes, 10)?,
+            properties: blob_at(bytes, 11)?,
+            depth: text_at(bytes, 12)?,
+            checksum: text_at(bytes, 13)?,
+            is_external: is_set(bytes, 21),
+        })
+    }
+}

@@ -1,0 +1,87 @@
+//! Where the tables of a database are, as its schema says, the table at page 1.
+ghost use Rattle.std.specs.Prelude.{◌≡◌};
+ghost use Rattle.svn_wcdb.specs.Columns.{column};
+ghost use Rattle.svn_wcdb.specs.Reading.{Gives};
+ghost use Rattle.svn_wcdb.specs.Schema.{name_of, is_text, page_number, root_in, root_of, table_of};
+
+use crate::columns::value_at;
+use crate::fault::{Reason, TableName, WcdbFault};
+use crate::image::Image;
+use crate::table::TableRow;
+use crate::tree::read_table;
+use sqlite_value::value::ValueRef;
+use std::alloc::Global;
+
+fn name_of(table: TableName) -> &'static [u8]
+    ensures { result.now ≡ name_of table }
+{
+    match table {
+        TableName::Nodes => b"NODES",
+        TableName::Repository => b"REPOSITORY",
+        TableName::Wcroot => b"WCROOT",
+        TableName::Pristine => b"PRISTINE",
+        TableName::ActualNode => b"ACTUAL_NODE",
+        TableName::WcLock => b"WC_LOCK",
+        TableName::WorkQueue => b"WORK_QUEUE",
+    }
+}
+
+fn is_text(row: &[u8], place: u32, text: &[u8]) -> bool
+    ensures { result ≡ is_text (column row.now place) text.now }
+{
+    match value_at(row, place) {
+        ValueRef::Text(found) => found == text,
+        ValueRef::Null | ValueRef::Int(_) | ValueRef::Real(_) | ValueRef::Blob(_) => false,
+    }
+}
+
+fn page_number(row: &[u8], place: u32) -> Option<u32>
+    ensures { result ≡ page_number (column row.now place) }
+{
+    match value_at(row, place) {
+        ValueRef::Int(page) => u32::try_from(page).ok(),
+        ValueRef::Null | ValueRef::Real(_) | ValueRef::Text(_) | ValueRef::Blob(_) => None,
+    }
+}
+
+// The root page of a table, where that is the table that this row of the schema is about.
+#[tactic(auto, unfolding(crate::specs::Schema::root_in))]
+fn root_in(name: &[u8], row: &[u8]) -> Option<u32>
+    ensures { result ≡ root_in name.now row.now }
+{
+    if is_text(row, 0, b"table") && is_text(row, 1, name) {
+        page_number(row, 3)
+    } else {
+        None
+    }
+}
+
+fn root_of(name: &[u8], schema: &[TableRow]) -> Option<u32>
+    ensures { result ≡ root_of name.now schema.now }
+{
+    let mut rest = schema;
+    'rows: while let Some((row, after)) = rest.split_first() {
+        let root = root_in(name, row.bytes.as_slice());
+        if root.is_some() {
+            return root;
+        }
+        rest = after;
+    }
+    None
+}
+
+/// The rows of a table. NoTable, or why they can't be read.
+#[tactic(auto, unfolding(crate::specs::Schema::table_of))]
+pub(crate) fn rows_of(
+    alloc: Global,
+    image: &Image,
+    schema: &[TableRow],
+    table: TableName,
+) -> Result<Vec<TableRow>, WcdbFault>
+    ensures { Gives (λ rows. rows.items) result (table_of image.now.size image.now.bytes.now schema.now table) }
+{
+    match root_of(name_of(table), schema) {
+        Some(root) => read_table(alloc, image, root),
+        None => Err(WcdbFault::Refused(Reason::NoTable(table))),
+    }
+}

@@ -1,0 +1,34 @@
+//! The rows of a table, and how many pages of the file it may still take.
+
+use std::alloc::Global;
+use svn_types::Text;
+
+/// A row of a table: its number, as SQLite's 64 bits, and its record.
+#[derive(Debug, Drop)]
+pub(crate) struct TableRow {
+    pub(crate) rowid: u64,
+    pub(crate) bytes: Text,
+}
+
+/// The rows of a table that were read so far.
+#[derive(Debug, Drop)]
+pub(crate) struct Table {
+    pub(crate) rows: Vec<TableRow>,
+    // How many pages of the file the table may still take.
+    pub(crate) spare: usize,
+}
+
+impl Table {
+    ghost use Rattle.std.specs.Prelude.{◌≡◌, []};
+    ghost use Rattle.svn_wcdb.specs.Tables.{seen_rows};
+
+    /// No row yet.
+    pub(crate) fn new(alloc: Global, pages: usize) -> Table
+        ensures { seen_rows result ≡ ([], pages) }
+    {
+        Table {
+            rows: Vec::new(alloc),
+            spare: pages,
+        }
+    }
+}
