@@ -7,15 +7,16 @@ use svn_dump::Texts;
 use svn_types::Rev;
 
 const ABOUT: &str =
-    "Looks into the history of a repository, which is given as a dump of Subversion.";
+    "Compares working copies with the history of a repository, which is given as a dump of Subversion.";
 
 const AFTER: &str = "\
 docs/AUDIT.md describes what is printed and what is refused.
 
-Status 0: it was done.
-Status 2: a word, the dump, or a line of the script was refused.
+Status 0: it was done; with check, each copy is true.
+Status 1: a copy is untrue.
+Status 2: a word, the dump, a copy, or a line of the script was refused.
 
-Example: svnadmin dump repo | svnaudit show - 4 trunk/lib";
+Example: svnadmin dump repo | svnaudit check - copy";
 
 const WAYS: &[&str] = &["sha1", "whole"];
 
@@ -43,11 +44,46 @@ pub(crate) struct Write<'a> {
     pub(crate) progress: bool,
 }
 
+/// What is asked about working copies.
+#[derive(Clone, Copy, Debug, PartialEq, Eq)]
+pub(crate) enum Topic {
+    /// `check DUMP WC..`: whether each is true of the history.
+    Check,
+    /// `report DUMP WC`: what a client reports.
+    Report,
+    /// `update DUMP WC [REV]`: the lines that an update prints.
+    Update,
+    /// `calls DUMP WC [REV]`: the calls of an update.
+    Calls,
+    /// `nodes DUMP WC [REV]`: the nodes after an update.
+    Nodes,
+}
+
+/// A question about working copies.
+#[derive(Debug, Drop)]
+pub(crate) struct Question<'a> {
+    /// What is asked.
+    pub(crate) topic: Topic,
+    /// The dump.
+    pub(crate) dump: Source<'a>,
+    /// The folders of the copies: one, but for `check`.
+    pub(crate) copies: Vec<&'a str>,
+    /// The revision that is updated to; None for the last one.
+    pub(crate) rev: Option<Rev>,
+    /// How texts are kept.
+    pub(crate) texts: Texts,
+    /// Whether an untrue copy is taken all the same.
+    pub(crate) allow_untrue: bool,
+    /// Whether to tell how far the dump was read.
+    pub(crate) progress: bool,
+}
+
 /// What is asked for.
-#[derive(Clone, Copy, Debug)]
+#[derive(Debug, Drop)]
 pub(crate) enum Request<'a> {
     Show(Show<'a>),
     Write(Write<'a>),
+    Ask(Question<'a>),
 }
 
 impl<'a> Request<'a> {
@@ -56,6 +92,7 @@ impl<'a> Request<'a> {
         match self {
             Request::Show(show) => show.dump,
             Request::Write(write) => write.script,
+            Request::Ask(question) => question.dump,
         }
     }
 }
@@ -107,12 +144,90 @@ fn write_command<'a>(alloc: Global) -> Result<Command<'a>, AllocError> {
         .arg(progress_option(alloc))
 }
 
+// The words that all questions about working copies have.
+fn question_command<'a>(
+    alloc: Global,
+    name: &'a str,
+    about: &'a str,
+) -> Result<Command<'a>, AllocError> {
+    Command::new(alloc, name)
+        .about(about)
+        .arg(word(alloc, "dump", "DUMP", "The dump, or - for standard input").required(true))?
+        .arg(texts_option(alloc))?
+        .arg(progress_option(alloc))
+}
+
+fn check_command<'a>(alloc: Global) -> Result<Command<'a>, AllocError> {
+    question_command(
+        alloc,
+        "check",
+        "Say whether working copies are true of the history",
+    )?
+    .arg(
+        word(alloc, "copies", "WC", "A folder of a working copy")
+            .required(true)
+            .num_args(1..),
+    )
+}
+
+// The words of a question about one copy.
+fn copy_command<'a>(
+    alloc: Global,
+    name: &'a str,
+    about: &'a str,
+) -> Result<Command<'a>, AllocError> {
+    question_command(alloc, name, about)?
+        .arg(word(alloc, "copies", "WC", "The folder of a working copy").required(true))?
+        .arg(
+            Arg::new(alloc, "allow-untrue")
+                .long("allow-untrue")
+                .action(ArgAction::SetTrue)
+                .help("Take an untrue copy all the same"),
+        )
+}
+
+// The same with the revision that is updated to.
+fn update_command<'a>(
+    alloc: Global,
+    name: &'a str,
+    about: &'a str,
+) -> Result<Command<'a>, AllocError> {
+    copy_command(alloc, name, about)?.arg(word(
+        alloc,
+        "rev",
+        "REV",
+        "The number of the revision, by default the last",
+    )
+    .value_parser(value_parser!(u64)))
+}
+
 fn command<'a>(alloc: Global) -> Result<Command<'a>, AllocError> {
     Command::new(alloc, "svnaudit")
         .about(ABOUT)
         .after_help(AFTER)
         .subcommand_required(true)
         .disable_help_subcommand(true)
+        .subcommand(check_command(alloc)?)?
+        .subcommand(copy_command(
+            alloc,
+            "report",
+            "Print what the client of a working copy reports",
+        )?)?
+        .subcommand(update_command(
+            alloc,
+            "update",
+            "Print the lines that an update of a working copy prints",
+        )?)?
+        .subcommand(update_command(
+            alloc,
+            "calls",
+            "Print the calls of the editor in an update of a working copy",
+        )?)?
+        .subcommand(update_command(
+            alloc,
+            "nodes",
+            "Print the nodes of a working copy after an update",
+        )?)?
         .subcommand(show_command(alloc)?)?
         .subcommand(write_command(alloc)?)
 }
@@ -141,13 +256,52 @@ fn write_of<'a>(matches: &ArgMatches<'a>) -> Write<'a> {
     }
 }
 
+fn copies_of<'a>(alloc: Global, matches: &ArgMatches<'a>) -> Result<Vec<&'a str>, AllocError> {
+    match matches.get_strs("copies") {
+        Some(copies) => Vec::from_slice(alloc, copies),
+        None => Ok(Vec::new(alloc)),
+    }
+}
+
+fn question_of<'a>(
+    alloc: Global,
+    topic: Topic,
+    matches: &ArgMatches<'a>,
+) -> Result<Question<'a>, AllocError> {
+    Ok(Question {
+        topic,
+        dump: Source(matches.get_str("dump").unwrap_or("-")),
+        copies: copies_of(alloc, matches)?,
+        rev: matches.get_one::<u64>("rev").map(|number| Rev(number)),
+        texts: texts_of(matches),
+        allow_untrue: matches.get_flag("allow-untrue"),
+        progress: matches.get_flag("progress"),
+    })
+}
+
+fn topic_of(name: &str) -> Option<Topic> {
+    match name {
+        "check" => Some(Topic::Check),
+        "report" => Some(Topic::Report),
+        "update" => Some(Topic::Update),
+        "calls" => Some(Topic::Calls),
+        "nodes" => Some(Topic::Nodes),
+        _ => None,
+    }
+}
+
 /// What the words of a call ask for, the first of which is the program's name.
 pub(crate) fn request_of<'a>(alloc: Global, words: &'a [&'a str]) -> Result<Request<'a>, Error> {
     let matches = command(alloc)?.try_get_matches_from(words)?;
-    match matches.subcommand() {
-        Some(("show", show)) => Ok(Request::Show(show_of(show))),
-        Some((_, write)) => Ok(Request::Write(write_of(write))),
+    let Some((name, words)) = matches.subcommand() else {
         // a subcommand is required
-        None => Err(Error::from(AllocError)),
+        return Err(Error::from(AllocError));
+    };
+    if let Some(topic) = topic_of(name) {
+        return Ok(Request::Ask(question_of(alloc, topic, words)?));
+    }
+    match name {
+        "show" => Ok(Request::Show(show_of(words))),
+        _ => Ok(Request::Write(write_of(words))),
     }
 }

@@ -2,8 +2,10 @@
 
 use std::alloc::{AllocError, AllocFailed};
 use std::{fmt, io};
+use svn_audit::Untrue;
 use svn_editor::PathWord;
 use svn_history::LoadFault;
+use svn_model::{DriveFault, WcFault};
 use svn_types::{PathFault, RelPath, Rev};
 
 /// Why nothing is done, or no more than was.
@@ -27,7 +29,27 @@ pub(crate) enum Fault {
     LongLine(u64),
     /// The change or the commit of the line of this number can't be made.
     Refused(u64, LoadFault),
-    /// The script couldn't be read to its end.
+    /// The folder is in no working copy.
+    NoCopy,
+    /// Nothing of the base is at the folder, or no directory.
+    NoFolder,
+    /// The journal of the database isn't empty.
+    Journal,
+    /// The database was changed while it was read.
+    Changed,
+    /// The copy is of another repository than the dump: their UUIDs.
+    OtherRepository(String),
+    /// The database is refused, at the path of a row where there is one.
+    Database(String),
+    /// The nodes of the database are no working copy.
+    Nodes(WcFault),
+    /// A pristine text is refused: which one, and why.
+    Pristine(String),
+    /// The update can't be made.
+    Drive(DriveFault),
+    /// The copy isn't true of the history: an untrue path.
+    Untrue(Untrue),
+    /// The script, or the dump, couldn't be read to its end.
     Read,
     /// The output couldn't be written.
     Write,
@@ -71,6 +93,17 @@ impl fmt::Display for Fault {
             Fault::BadLine(line) => write!(f, "line {line}: bad line"),
             Fault::LongLine(line) => write!(f, "line {line}: line too long"),
             Fault::Refused(line, fault) => write!(f, "line {line}: {fault}"),
+            Fault::NoCopy => f.write_str("no working copy"),
+            Fault::NoFolder => f.write_str("no directory of the working copy"),
+            Fault::Journal => f.write_str("the database has a journal: `svn cleanup` comes first"),
+            Fault::Changed => f.write_str("the working copy changed while it was read"),
+            Fault::OtherRepository(text) | Fault::Database(text) | Fault::Pristine(text) => write!(
+                f,
+                "{text}"
+            ),
+            Fault::Nodes(fault) => write!(f, "{fault}"),
+            Fault::Drive(fault) => write!(f, "{fault}"),
+            Fault::Untrue(untrue) => write!(f, "untrue: {untrue} (see --allow-untrue)"),
             Fault::Read => f.write_str("read fault"),
             Fault::Write => f.write_str("write fault"),
             Fault::Memory => f.write_str("out of memory"),

@@ -5,6 +5,7 @@ use crate::progress::Progress;
 use std::alloc::Global;
 use std::io::Read;
 use std::rt::Clock;
+use svn_disk_audit::load_all;
 use svn_dump::{DumpFault, Limits, Reader, Reason, Texts};
 use svn_history::{LoadFault, Loader, Refusal};
 use svn_repo::Repo;
@@ -104,4 +105,19 @@ pub(crate) fn load<T: Clock + Eprint, R: Read + Drop>(
     }
     progress.end(loader.latest(), loader.records().begun());
     loaded(loader, rev)
+}
+
+/// The history of a whole dump.
+pub(crate) fn load_whole<T: Clock + Eprint, R: Read + Drop>(
+    alloc: Global,
+    input: R,
+    texts: Texts,
+    progress: &mut Progress<'_, T>,
+) -> Result<Repo, Fault> {
+    let mut loader = open(alloc, input, texts)?;
+    if load_all(&mut loader, progress).is_err() {
+        return Err(at_record(alloc, &loader));
+    }
+    progress.end(loader.latest(), loader.records().begun());
+    Ok(loader.into_repo())
 }

@@ -1,19 +1,28 @@
-//! `svnaudit`: prints trees of a history that is given as a dump of Subversion, and writes the history that a script makes as a dump.
+//! `svnaudit`: compares working copies with a history that is given as a dump of Subversion, prints trees of the history, and writes the history
+//! that a script makes as a dump.
 //! `docs/AUDIT.md` is the manual.
 #![tactic(auto)]
 
+mod answers;
 mod command_line;
+mod dump_front;
 mod fault;
+mod folder;
 mod lines;
 mod load;
+mod on_disk;
 mod output;
+mod passed_over;
+mod pristine;
 mod progress;
+mod questions;
 mod show;
 mod source;
 mod write;
 
 use crate::command_line::{Request, request_of};
 use crate::fault::Fault;
+use crate::questions::{Verdict, ask};
 use crate::show::show_dump;
 use crate::write::write_script;
 use std::env;
@@ -21,8 +30,19 @@ use std::env::Env;
 use std::process::ExitCode;
 use std::rt::{Clock, Files};
 
-// The status where anything is refused; 1 is left for what a question about a history may answer.
+// The status where a copy is untrue.
+const UNTRUE: u8 = 1;
+
+// The status where anything is refused.
 const REFUSED: u8 = 2;
+
+fn status_of(verdict: Verdict) -> ExitCode {
+    match verdict {
+        Verdict::True => ExitCode::SUCCESS,
+        Verdict::Untrue => ExitCode::from(UNTRUE),
+        Verdict::Refused => ExitCode::from(REFUSED),
+    }
+}
 
 // The words of the command line, the first of which is the program's name.
 fn words(rt: &(impl Env + AllocGlobal)) -> Result<Vec<String>, Fault> {
@@ -42,11 +62,12 @@ fn answer<T: Files + Input + Print + Eprint + Clock + AllocGlobal>(
     request: &Request<'_>,
 ) -> ExitCode {
     let done = match request {
-        Request::Show(show) => show_dump(rt, show),
-        Request::Write(write) => write_script(rt, write),
+        Request::Show(show) => show_dump(rt, show).map(|()| Verdict::True),
+        Request::Write(write) => write_script(rt, write).map(|()| Verdict::True),
+        Request::Ask(question) => ask(rt, question),
     };
     match done {
-        Ok(()) => ExitCode::SUCCESS,
+        Ok(verdict) => status_of(verdict),
         Err(fault) => refuse(rt, request, &fault),
     }
 }

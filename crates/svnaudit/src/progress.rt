@@ -2,6 +2,7 @@
 
 use std::rt::Clock;
 use std::time::Instant;
+use svn_disk_audit::Listener;
 use svn_types::Rev;
 
 /// The seconds between two lines.
@@ -56,5 +57,11 @@ impl<'a, T: Clock + Eprint> Progress<'a, T> {
     fn line(&self, rev: Rev, bytes: u64) {
         let number = rev.0;
         let _ = eprintln!(self.rt; "svnaudit: r{number}, {bytes} bytes");
+    }
+}
+
+impl<T: Clock + Eprint> Listener for Progress<'_, T> {
+    fn loaded(&mut self, rev: Rev, bytes: u64) {
+        self.tell(rev, bytes);
     }
 }

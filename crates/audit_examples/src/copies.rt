@@ -1,0 +1,35 @@
+//! Histories and copies from files.
+
+use anyhow::{Result, bail};
+use std::fs;
+use std::rt::Files;
+use svn_audit::copy_below;
+use svn_dump::{Limits, Reader, Texts};
+use svn_history::Loader;
+use svn_repo::Repo;
+use svn_types::RelPath;
+use svn_wc::WorkingCopy;
+use svn_wcdb::read_base_tree;
+
+/// The history of a dump, its texts as their SHA-1 checksums.
+pub(crate) fn history_of<R: Files + AllocGlobal>(rt: &R, name: &str) -> Result<Repo> {
+    let alloc = rt.alloc();
+    let file = fs::File::open(rt, name)?;
+    let records = Reader::new(alloc, file, Limits::default(), Texts::Sha1)?;
+    let mut loader = Loader::new(alloc, records, Repo::new(alloc)?);
+    loader.load_all()?;
+    Ok(loader.into_repo())
+}
+
+/// The working copy of a database.
+pub(crate) fn copy_in<R: Files + AllocGlobal>(rt: &R, name: &str) -> Result<WorkingCopy> {
+    let alloc = rt.alloc();
+    let bytes = fs::read(rt, name)?;
+    match read_base_tree(alloc, &bytes) {
+        Ok(tree) => Ok(copy_below(alloc, &RelPath::root(alloc), tree.nodes)?),
+        Err(refusal) => {
+            let fault = refusal.fault;
+            bail!("{name}: {fault}")
+        }
+    }
+}

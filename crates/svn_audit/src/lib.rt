@@ -1,0 +1,24 @@
+//! Audits of working copies: all that isn't in a copy as the repository has it, with the reason of each, and what an update of a copy prints.
+//!
+//! ```
+//! let untrue = untrue_paths(alloc, &repo, &copy)?;
+//! for node in &untrue {
+//!     println!(rt; "{node}")?;
+//! }
+//! ```
+//!
+//! prints `a: r3 has x at a, which the copy lacks` and `a/z: r3 has nothing at a/z`.
+//!
+//! Promises: [`untrue_paths`] returns exactly the untrue paths of a copy, in path order, each with the first reason that applies (`untrue`), and
+//! none exactly where the copy is true (`is_true`, `true_is_empty`).
+#![tactic(auto)]
+
+mod below;
+mod lines;
+mod reason;
+mod untrue;
+
+pub use below::copy_below;
+pub use lines::{NodeChange, UpdateLine, update_lines};
+pub use reason::{Reason, Untrue};
+pub use untrue::untrue_paths;

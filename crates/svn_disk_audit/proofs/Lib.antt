@@ -1,0 +1,2 @@
+-- What the parts of an audit say together.
+pub mod Verdicts
