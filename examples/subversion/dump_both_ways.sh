@@ -2,9 +2,10 @@
 # Histories go both ways: one that Subversion made is dumped in each way that it has, and `svnaudit show` prints each of its revisions as Subversion lists
 # it; and one that a script makes is written by `svnaudit write`, loaded by `svnadmin load`, and Subversion lists each revision as `svnup` shows it.
 #
-# It needs Debian's package `subversion`, python3, and two programs as `rt run` builds them: crates/svnaudit/out/svnaudit and crates/svnup/out/svnup, or
-# those that the variables SVNAUDIT and SVNUP name. It works in a folder of its own, which goes at the end, and is no part of the gate. The last line
-# counts what differs.
+# It needs Debian's package `subversion`, python3, for random histories `python3-subversion` too, and two programs as `rt run` builds them:
+# crates/svnaudit/out/svnaudit and crates/svnup/out/svnup, or those that the variables SVNAUDIT and SVNUP name. RANDOM_HISTORIES says how many
+# histories are made at random, by default 6. It works in a folder of its own, which goes at the end, and is no part of the gate. The last line counts
+# what differs.
 set -u
 here=$(cd "$(dirname "${BASH_SOURCE[0]}")" && pwd)
 top=$(cd "$here/../.." && pwd)
@@ -91,6 +92,26 @@ at=$(grep -abo 'Node-path: trunk/a big.bin' long.dump | cut -d: -f1)
 says "long text" "svnaudit: long.dump: byte $at: r1 trunk/a%20big.bin: text of 3145728 bytes, the most is 1048576 (try --texts sha1)" \
     "$SVNAUDIT" show --texts whole long.dump 1
 echo "$compared compared, $wrong wrong"
+
+echo "== ${RANDOM_HISTORIES:=6} random histories"
+if /usr/bin/python3 -c 'import svn.fs' 2>/dev/null; then
+    for seed in $(seq "$RANDOM_HISTORIES"); do
+        "$here/random_history.py" "$seed" 12 "random$seed" || { wrong=$((wrong + 1)); continue; }
+        svnadmin dump -q "random$seed" >plain.random
+        svnadmin dump -q --deltas "random$seed" >deltas.random
+        for rev in $(seq 0 12); do
+            "$here/random_history.py" --show "random$seed" "$rev" >wanted
+            for dump in plain deltas; do
+                "$SVNAUDIT" show --texts whole $dump.random "$rev" >got
+                same "random history $seed, $dump r$rev" wanted got
+            done
+        done
+        rm -rf "random$seed"
+    done
+    echo "$compared compared, $wrong wrong"
+else
+    echo "    passed over: this needs Debian's package python3-subversion"
+fi
 
 echo "== a script's history, in Subversion"
 cat >all.script <<'SCRIPT'

@@ -1,5 +1,5 @@
 #!/bin/bash
-# A switched directory stands below a directory that is replaced. Subversion follows the switch in the new directory too, and
+# A switched directory is below a directory that is replaced. Subversion follows the switch in the new directory too, and
 # records what it puts there as ordinary: the copy is false, `svn status` finds nothing, and a commit fails.
 . "$(dirname "$0")/beside.sh"
 mkdir -p other/d/s other/b; echo a >other/b/y; svn -q add other/d other/b; commit

@@ -13,7 +13,7 @@ first() {
 second() {
     svn -q rm README e && svn -q commit -m half && svn -q update
     mkdir e doc && printf x >doc/x && printf abc >lib/a && printf abc >lib/c && printf d >lib/d
-    svn -q add e doc lib/d && svn -q propset p 1 doc lib/b lib/d lib && svn -q propset p 2 lib/c && svn -q propset q 1 .
+    svn -q add e doc lib/d && svn -q propset p 1 doc lib/b lib/d lib . && svn -q propset p 2 lib/c
 }
 (cd other && first) && commit
 svn -q checkout -r 1 "$url" wc

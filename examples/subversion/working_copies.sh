@@ -1,0 +1,186 @@
+#!/bin/bash
+# Working copies that `svn` makes, and what `svnaudit` says of them before they are updated: the report, compared with what the client then sends to
+# `svnserve`; the lines, compared with those that `svn update` prints; and the nodes, compared with what the database has afterwards. And copies that
+# aren't true, of which `svn status` prints nothing.
+#
+# It needs Debian's packages `subversion` and `sqlite3`, python3, and `svnaudit` as `rt run` builds it: crates/svnaudit/out/svnaudit, or the program that the
+# variable SVNAUDIT names. RANDOM_COPIES says how many copies are made at random, by default 40. It works in a folder of its own, which goes at the end,
+# and is no part of the gate. The last line counts what differs.
+set -u
+here=$(cd "$(dirname "${BASH_SOURCE[0]}")" && pwd)
+top=$(cd "$here/../.." && pwd)
+SVNAUDIT=${SVNAUDIT:-$top/crates/svnaudit/out/svnaudit}
+for it in svnadmin svnserve sqlite3; do
+    command -v $it >/dev/null || { echo "this needs the program $it, of Debian's packages subversion and sqlite3" >&2; exit 2; }
+done
+[ -x "$SVNAUDIT" ] || { echo "there is no program $SVNAUDIT: run 'rt run' in crates/svnaudit first, or name it in SVNAUDIT" >&2; exit 2; }
+. "$here/dump_history.sh"
+. "$here/false_copies.sh"
+room=$(mktemp -d)
+trap 'rm -rf "$room"' EXIT
+cd "$room" || exit 2
+compared=0 wrong=0
+echo "== Subversion $(svn --version -q)"
+
+# same WHAT WANTED GOT: whether two files are the same
+same() {
+    compared=$((compared + 1))
+    cmp -s "$2" "$3" && return
+    wrong=$((wrong + 1))
+    echo "$1 DIFFERS:"
+    diff "$2" "$3" | head -6 | sed 's/^/    /'
+}
+
+# what the client says is kept, and the server stops after as many bytes as are in `cut_after`, by killing the client
+cat >tunnel <<TUNNEL
+#!/bin/bash
+client=\$PPID
+if [ -s "$room/cut_after" ]; then
+    tee -a "$room/said" | svnserve -t | { dd bs=1 count="\$(cat "$room/cut_after")" status=none; kill -9 \$client; }
+else
+    tee -a "$room/said" | svnserve -t
+fi
+TUNNEL
+chmod +x tunnel
+# (svn appends the words \`HOST svnserve -t\`, which are not wanted)
+client() { svn --config-option "config:tunnels:kept=$room/tunnel" --non-interactive "$@"; }
+
+make_history repo || exit 1
+svnadmin dump -q repo >dump
+url=svn+kept://x$room/repo
+last=$(svnlook youngest repo)
+
+# checkout NAME PATH REV
+checkout() { rm -rf "$1"; client checkout -q "$url/$2@$3" -r "$3" "$1"; }
+
+# printed NAME: the lines of `svn update` that are about nodes, sorted
+printed() { grep -E '^[ADU ][U ]   ?[^ ]' | sed -E "s|^(....).(.)|\\1 \\2|" | grep -E "^(A |D |U | U|UU)   " | sed "s|^\(.....\)$1/|\1|; s|^\(.....\)$1\$|\1.|" | LC_ALL=C sort; }
+
+# compare NAME PATH REV [nolines]: what is said of the copy of PATH before, and what an update to REV does
+compare() {
+    local name=$1 path=$2 rev=$3 lines=${4-}
+    echo "    $name, to r$rev"
+    # (at once: a slow build takes seconds for each)
+    "$SVNAUDIT" report dump "$name" >report 2>/dev/null &
+    "$SVNAUDIT" update dump "$name" "$rev" >lines 2>/dev/null &
+    "$SVNAUDIT" nodes dump "$name" "$rev" >nodes 2>/dev/null &
+    "$SVNAUDIT" check dump "$name" >got 2>&1
+    wait
+    grep -q "^$name: true: " got || { wrong=$((wrong + 1)); echo "$name IS NOT CALLED TRUE:"; sed 's/^/    /' got; }
+    compared=$((compared + 1))
+    : >said
+    svn cleanup "$name"
+    client update --accept postpone --ignore-externals -r "$rev" "$name" >update 2>errors
+    # (the order of a report's entries is free but for that of above and below)
+    "$here/reports.py" said "$url" "$path" | LC_ALL=C sort >wanted
+    LC_ALL=C sort -o report report
+    same "$name: the report" wanted report
+    if [ "$lines" != nolines ]; then
+        printed "$name" <update >wanted
+        same "$name: the lines" wanted lines
+    fi
+    "$here/nodes.py" "$name" >wanted
+    same "$name: the nodes after the update" wanted nodes
+}
+
+echo "== named copies"
+checkout plain trunk 4; compare plain trunk 9
+checkout back trunk 12; compare back trunk 2
+checkout whole '' 2; compare whole '' "$last"
+checkout mixed '' 9
+client update -q -r 4 mixed/branches; client update -q -r 3 mixed/trunk/odd; client update -q -r 8 mixed/trunk/a.c
+compare mixed '' 12
+checkout switched trunk 8
+client switch -q --ignore-ancestry "$url/branches/1.x/lib@7" -r 7 switched/library; client switch -q --ignore-ancestry "$url/branches/early/a.c@8" -r 8 switched/a.c
+compare switched trunk 9
+checkout not_present '' 8
+client update -q -r 2 not_present/branches/early; client update -q -r 1 not_present/trunk/a.c
+compare not_present '' 10
+checkout below branches/1.x 7; client update -q -r 5 below/lib; compare below branches/1.x 9
+checkout local trunk 5
+echo mine >>local/lib/one; svn -q propset mine 1 local/lib; mkdir local/new; echo new >local/new/file; svn -q add local/new; svn -q remove local/empty
+svn -q move local/binary local/moved; svn -q copy local/odd local/odd2; compare local trunk 6 nolines
+checkout conflicts trunk 4
+echo mine >conflicts/a.c; svn -q propset note mine conflicts; client update -q --accept postpone -r 8 conflicts
+echo other >conflicts/library/uno; compare conflicts trunk 9 nolines
+for bytes in 600 2000 4000 6000 8000; do
+    checkout cut trunk 2
+    echo $bytes >cut_after
+    (client update -q -r 12 cut) >/dev/null 2>&1
+    rm -f cut_after
+    compare cut trunk 12 nolines
+done
+
+echo "== a folder within a copy"
+checkout plain trunk 8
+(cd plain/library && "$SVNAUDIT" check ../../dump . >../../got 2>&1; "$SVNAUDIT" report ../../dump sub >>../../got 2>&1)
+printf '%s\n' ".: true: 4 nodes, r8" "root trunk/library/sub" "set . 8" >wanted
+same "a folder within a copy" wanted got
+
+echo "== ${RANDOM_COPIES:=40} copies at random"
+RANDOM=1
+for n in $(seq "$RANDOM_COPIES"); do
+    rev=$((RANDOM % last + 1)) to=$((RANDOM % last + 1)) path=
+    checkout random '' $rev
+    for step in 1 2 3; do
+        path=$(cd random && find . -mindepth 1 -not -path '*/.svn*' | LC_ALL=C sort | sed -n "$((RANDOM % 40 + 1))p")
+        [ -n "$path" ] && client update -q --accept postpone -r $((RANDOM % last + 1)) "random/$path@" >/dev/null 2>&1
+    done
+    [ -d random/.svn ] || continue
+    # where an entry is below what became a file, Subversion fails with E160013
+    cp -a random again; client update -q -r $to again >/dev/null 2>errors; rm -rf again
+    if grep -q 'E160013\|E160005\|E155' errors; then continue; fi
+    compare random '' $to
+done
+
+echo "== copies that aren't true, of which svn status prints nothing"
+make_false_copies
+url=svn+kept://x$room/repo
+for name in $false_copies; do
+    [ -z "$(svn status -q "$name")" ] || { wrong=$((wrong + 1)); echo "$name: SVN STATUS PRINTS SOMETHING"; }
+    svnadmin dump -q "$name.repo" | "$SVNAUDIT" check - "$name" >got
+    [ $? = 1 ] || { wrong=$((wrong + 1)); echo "$name: THE STATUS ISN'T 1"; }
+    sed "s/^/$name: untrue: /" "$name.untrue" >wanted
+    same "$name" wanted got
+    sed 's/^/    /' got
+done
+
+echo "== refusals"
+# refused WHAT LINE COMMAND..: refused by one line, with status 2, and nothing on standard output
+refused() {
+    local what=$1 line=$2 status
+    shift 2
+    "$@" >out 2>got
+    status=$?
+    printf '%s\n' "$line" >wanted
+    same "$what" wanted got
+    [ $status = 2 ] && [ ! -s out ] || { wrong=$((wrong + 1)); echo "$what: STATUS $status, or something is printed"; }
+}
+refused 'no copy' "svnaudit: repo: no working copy" "$SVNAUDIT" check dump repo
+refused 'no folder' "svnaudit: nowhere: No such file or directory (os error 2)" "$SVNAUDIT" check dump nowhere
+refused 'another repository' "svnaudit: lost_row: the working copy is of repository $(svnlook uuid lost_row.repo), the dump is of $(svnlook uuid repo)" "$SVNAUDIT" check dump lost_row
+refused 'an untrue copy' "svnaudit: lost_row: untrue: b: r1 has y at b, which the copy lacks (see --allow-untrue)" "$SVNAUDIT" report lost_row.dump lost_row
+checkout odd trunk 4
+text=$(cd odd/.svn/pristine && find . -size +0 -name '*.svn-base' | LC_ALL=C sort | head -1); sum=$(basename "$text" .svn-base); text=odd/.svn/pristine/$text
+cp "$text" kept
+: >"$text" 2>/dev/null || { chmod u+w "$text"; : >"$text"; }
+refused 'an empty pristine text' "svnaudit: odd: pristine text \$sha1\$$sum: the file is empty" "$SVNAUDIT" check dump odd
+echo other >"$text"
+refused 'another pristine text' "svnaudit: odd: pristine text \$sha1\$$sum: the file has another SHA-1 checksum" "$SVNAUDIT" check dump odd
+rm -f "$text"
+refused 'no pristine text' "svnaudit: odd: pristine text \$sha1\$$sum: No such file or directory (os error 2)" "$SVNAUDIT" check dump odd
+cp kept "$text"
+echo journal >odd/.svn/wc.db-journal
+refused 'a journal' 'svnaudit: odd: the database has a journal: `svn cleanup` comes first' "$SVNAUDIT" check dump odd
+: >odd/.svn/wc.db-journal
+client update -q -r 4 --set-depth files odd/lib
+refused 'another depth' "svnaudit: odd: lib: a directory of another depth than infinity" "$SVNAUDIT" check dump odd
+checkout odd trunk 4; client update -q --set-depth exclude odd/lib
+refused 'an excluded node' "svnaudit: odd: lib: an excluded node" "$SVNAUDIT" check dump odd
+sqlite3 odd/.svn/wc.db 'pragma user_version = 29'
+refused 'another format' "svnaudit: odd: working copy format 29; format 31 is read" "$SVNAUDIT" check dump odd
+printf 'no database' >odd/.svn/wc.db
+refused 'no database' "svnaudit: odd: not a database of SQLite 3" "$SVNAUDIT" check dump odd
+
+echo "$compared compared, $wrong wrong"
+[ $wrong = 0 ]
