@@ -3,74 +3,76 @@ use anyhow::Result;
 use std::alloc::Global;
 use yumbeltir::{Change, PropName, RelPath, Repo, Text};
 
-fn path(alloc: Global, text: &str) -> Result<RelPath> {
-    Ok(RelPath::parse(alloc, text)?)
+// What a revision changes at a path: it puts a file, makes a directory, removes the node, or sets the property `p`.
+#[derive(Clone, Copy)]
+enum Step {
+    Put(&'static str),
+    MakeDir,
+    Remove,
+    Set(&'static str),
 }
 
-fn put(alloc: Global, file: &str, text: &str) -> Result<Change> {
-    Ok(Change::PutFile {
-        path: path(alloc, file)?,
-        text: Text::from_slice(alloc, text.as_bytes())?,
-    })
+const FIRST: &[(&str, Step)] = &[
+    ("README", Step::Put("read me")),
+    ("e", Step::Put("a file")),
+    ("lib", Step::MakeDir),
+    ("lib/a", Step::Put("a")),
+    ("lib/b", Step::Put("b")),
+    ("lib/c", Step::Put("c")),
+    ("lib/c", Step::Set("1")),
+];
+
+// It has each kind of change.
+const SECOND: &[(&str, Step)] = &[
+    ("README", Step::Remove),
+    ("e", Step::Remove),
+    ("e", Step::MakeDir),
+    ("doc", Step::MakeDir),
+    ("doc/x", Step::Put("x")),
+    ("doc", Step::Set("1")),
+    ("lib/a", Step::Put("abc")),
+    ("lib/b", Step::Set("1")),
+    ("lib/c", Step::Put("abc")),
+    ("lib/c", Step::Set("2")),
+    ("lib/d", Step::Put("d")),
+    ("lib/d", Step::Set("1")),
+    ("lib", Step::Set("1")),
+    ("", Step::Set("1")),
+];
+
+fn text(alloc: Global, text: &str) -> Result<Text> {
+    Ok(Text::from_slice(alloc, text.as_bytes())?)
 }
 
-fn make_dir(alloc: Global, at: &str) -> Result<Change> {
-    Ok(Change::MakeDir {
-        path: path(alloc, at)?,
-    })
+fn change(alloc: Global, path: RelPath, step: Step) -> Result<Change> {
+    match step {
+        Step::Put(bytes) => Ok(Change::PutFile {
+            path,
+            text: text(alloc, bytes)?,
+        }),
+        Step::MakeDir => Ok(Change::MakeDir { path }),
+        Step::Remove => Ok(Change::Remove { path }),
+        Step::Set(value) => Ok(Change::SetProp {
+            path,
+            name: PropName::parse(alloc, "p")?,
+            value: Some(text(alloc, value)?),
+        }),
+    }
 }
 
-fn remove(alloc: Global, at: &str) -> Result<Change> {
-    Ok(Change::Remove {
-        path: path(alloc, at)?,
-    })
-}
-
-fn set(alloc: Global, at: &str, name: &str, value: &str) -> Result<Change> {
-    Ok(Change::SetProp {
-        path: path(alloc, at)?,
-        name: PropName::parse(alloc, name)?,
-        value: Some(Text::from_slice(alloc, value.as_bytes())?),
-    })
-}
-
-// The changes of revision 1.
-fn first(alloc: Global) -> Result<Vec<Change>> {
-    Ok(vec![in alloc;
-        put(alloc, "README", "read me")?,
-        put(alloc, "e", "a file")?,
-        make_dir(alloc, "lib")?,
-        put(alloc, "lib/a", "a")?,
-        put(alloc, "lib/b", "b")?,
-        put(alloc, "lib/c", "c")?,
-        set(alloc, "lib/c", "p", "1")?,
-    ]?)
-}
-
-// The changes of revision 2, which have each kind of change.
-fn second(alloc: Global) -> Result<Vec<Change>> {
-    Ok(vec![in alloc;
-        remove(alloc, "README")?,
-        remove(alloc, "e")?,
-        make_dir(alloc, "e")?,
-        make_dir(alloc, "doc")?,
-        put(alloc, "doc/x", "x")?,
-        set(alloc, "doc", "p", "1")?,
-        put(alloc, "lib/a", "abc")?,
-        set(alloc, "lib/b", "p", "1")?,
-        put(alloc, "lib/c", "abc")?,
-        set(alloc, "lib/c", "p", "2")?,
-        put(alloc, "lib/d", "d")?,
-        set(alloc, "lib/d", "p", "1")?,
-        set(alloc, "lib", "p", "1")?,
-        set(alloc, "", "q", "1")?,
-    ]?)
+fn commit(alloc: Global, repo: &mut Repo, steps: &[(&str, Step)]) -> Result<()> {
+    let mut changes = Vec::new(alloc);
+    for (path, step) in steps {
+        changes.push(change(alloc, RelPath::parse(alloc, path)?, *step)?)?;
+    }
+    repo.commit(&changes)?;
+    Ok(())
 }
 
 /// A repository of two revisions.
 pub(crate) fn repository(alloc: Global) -> Result<Repo> {
     let mut repo = Repo::new(alloc)?;
-    repo.commit(&first(alloc)?)?;
-    repo.commit(&second(alloc)?)?;
+    commit(alloc, &mut repo, FIRST)?;
+    commit(alloc, &mut repo, SECOND)?;
     Ok(repo)
 }

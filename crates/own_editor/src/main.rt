@@ -23,7 +23,7 @@ fn update<R: Print>(
     let mut editor = UpdateLines::new(rt, alloc, applier);
     let request = Request::update(target);
     match drive_request(alloc, repo, &report, &request, &mut editor)? {
-        DriveEnd::Closed { .. } if editor.has_changed() => println!(rt;
+        DriveEnd::Closed { .. } if editor.has_changed => println!(rt;
             "Updated to revision {target}."
         )?,
         DriveEnd::Closed { .. } => println!(rt; "At revision {target}.")?,

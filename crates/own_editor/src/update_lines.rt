@@ -6,42 +6,24 @@ use yumbeltir::{Applier, Call, EditFault, Editor, RelPath};
 
 // The two columns before the path in a line: what happened to the node, and whether the properties of an existing node changed.
 #[derive(Clone, Copy)]
-struct Columns {
-    node: char,
-    props: char,
-}
+struct Columns(char, char);
 
-const UNCHANGED: Columns = Columns {
-    node: ' ',
-    props: ' ',
-};
+const UNCHANGED: Columns = Columns(' ', ' ');
 
-const ADDED: Columns = Columns {
-    node: 'A',
-    props: ' ',
-};
+const ADDED: Columns = Columns('A', ' ');
 
-const DELETED: Columns = Columns {
-    node: 'D',
-    props: ' ',
-};
+const DELETED: Columns = Columns('D', ' ');
 
-// A line, which is printed after its call was accepted.
-#[derive(Drop)]
-struct Line {
-    columns: Columns,
-    path: RelPath,
-}
-
-/// An editor that prints a line for each node that is added, deleted or changed: `A`, `D` and `U` in the first column, and `U` in the second
-/// if the properties of an existing node are changed.
+/// An editor that passes each call to an applier, and prints a line for each node that is added (`A`), deleted (`D`) or changed (`U`, in the
+/// second column if its properties are).
 #[derive(Drop)]
 pub(crate) struct UpdateLines<'a, R: Print> {
     rt: &'a R,
     applier: Applier<'a>,
-    // for each node that was opened or added, by its token: tokens are 0, 1, 2 and so on
-    seen: Vec<Columns>,
-    has_changed: bool,
+    // for each node that was opened or added, by its token: the columns of the line at its close. Tokens are 0, 1, 2 and so on
+    at_close: Vec<Option<Columns>>,
+    /// Whether a line was printed.
+    pub(crate) has_changed: bool,
 }
 
 impl<'a, R: Print> UpdateLines<'a, R> {
@@ -49,54 +31,39 @@ impl<'a, R: Print> UpdateLines<'a, R> {
         UpdateLines {
             rt,
             applier,
-            seen: Vec::new(alloc),
+            at_close: Vec::new(alloc),
             has_changed: false,
         }
     }
 
-    /// Whether a line was printed.
-    pub(crate) fn has_changed(&self) -> bool {
-        self.has_changed
-    }
-
-    fn note(&mut self, call: &Call) -> Result<(), AllocError> {
-        match call {
+    // The columns of the call's line, if it has one. An added directory has its line before those of its contents.
+    fn columns(&mut self, call: &Call) -> Result<Option<Columns>, AllocError> {
+        let (now, at_close) = match call {
+            Call::DeleteEntry { .. } => return Ok(Some(DELETED)),
+            Call::AddDirectory { .. } => (Some(ADDED), None),
+            Call::AddFile { .. } => (None, Some(ADDED)),
             Call::OpenRoot { .. } | Call::OpenDirectory { .. } | Call::OpenFile { .. } => {
-                self.seen.push(UNCHANGED)?
+                (None, Some(UNCHANGED))
             }
-            Call::AddDirectory { .. } | Call::AddFile { .. } => self.seen.push(ADDED)?,
-            _ => self.note_change(call),
-        }
-        Ok(())
-    }
-
-    fn note_change(&mut self, call: &Call) {
-        if let Some(token) = call.token()
-            && let Some(seen) = self.seen.get_mut(token.0 as usize)
-            && seen.node != 'A'
-        {
-            match call {
-                Call::ApplyText { .. } => seen.node = 'U',
-                Call::ChangeDirProp { .. } | Call::ChangeFileProp { .. } => seen.props = 'U',
-                _ => (),
-            }
-        }
-    }
-
-    // The columns of the call's line, if it has one: an added directory has its line before those of its contents, a file at its close.
-    fn columns(&self, call: &Call) -> Option<Columns> {
-        let columns = match call {
-            Call::DeleteEntry { .. } => DELETED,
-            Call::AddDirectory { .. } => ADDED,
-            Call::CloseFile { token, .. } => *self.seen.get(token.0 as usize)?,
-            Call::CloseDirectory { token } => match self.seen.get(token.0 as usize)? {
-                seen if seen.node == 'A' => UNCHANGED,
-                seen => *seen,
-            },
-            _ => UNCHANGED,
+            _ => return Ok(self.change(call)),
         };
-        let is_line = columns.node != ' ' || columns.props != ' ';
-        is_line.then_some(columns)
+        self.at_close.push(at_close)?;
+        Ok(now)
+    }
+
+    // The same for a call on an open node.
+    fn change(&mut self, call: &Call) -> Option<Columns> {
+        let columns = self.at_close.get_mut(call.token()?.0 as usize)?.as_mut()?;
+        match call {
+            Call::CloseFile { .. } | Call::CloseDirectory { .. } => {
+                return (columns.0 != ' ' || columns.1 != ' ').then_some(*columns);
+            }
+            _ if columns.0 == 'A' => (),
+            Call::ApplyText { .. } => columns.0 = 'U',
+            Call::ChangeDirProp { .. } | Call::ChangeFileProp { .. } => columns.1 = 'U',
+            _ => (),
+        }
+        None
     }
 
     // The path of the node that a call is about, if that is open.
@@ -107,12 +74,9 @@ impl<'a, R: Print> UpdateLines<'a, R> {
         }
     }
 
-    fn line_of(&self, call: &Call) -> Result<Option<Line>, AllocError> {
-        match (self.columns(call), self.path(call)) {
-            (Some(columns), Some(path)) => Ok(Some(Line {
-                columns,
-                path: path.clone()?,
-            })),
+    fn line_of(&mut self, call: &Call) -> Result<Option<(Columns, RelPath)>, AllocError> {
+        match (self.columns(call)?, self.path(call)) {
+            (Some(columns), Some(path)) => Ok(Some((columns, path.clone()?))),
             _ => Ok(None),
         }
     }
@@ -123,12 +87,11 @@ impl<'a, R: Print> Editor for UpdateLines<'a, R> {
     ghost answers = { λ before call answer after. ⊤ };
 
     fn call(&mut self, call: Call) -> Result<(), EditFault> {
-        self.note(&call)?;
         let line = self.line_of(&call)?;
         self.applier.call(call)?;
-        if let Some(Line { columns, path }) = &line {
+        if let Some((Columns(node, props), path)) = &line {
             // a line that can't be written doesn't stop the update
-            let _answer = println!(self.rt; "{}{}   {path}", columns.node, columns.props);
+            let _answer = println!(self.rt; "{node}{props}   {path}");
             self.has_changed = true;
         }
         Ok(())
