@@ -7,7 +7,7 @@ use svn_types::{PropName, RelPath, Rev, Text};
 /// The bytes of a checksum, if there is one.
 pub(crate) type Md5 = Option<[u8; 16]>;
 
-/// A call with texts in the place of its path, its name and its bytes. What it has stands in the order in which it is printed.
+/// A call with texts in the place of its path, its name and its bytes. Its fields are in the order in which they are printed.
 #[derive(Clone, Copy)]
 pub(crate) enum Row {
     SetTargetRevision(u64),

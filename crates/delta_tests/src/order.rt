@@ -1,4 +1,4 @@
-//! Calls in and out of order: rows of calls, each with its answer.
+//! Calls in and out of order: rows of calls, each with its result.
 use crate::calls::Row::{
     AbortEdit, AddDirectory, AddFile, ApplyText, ChangeDirProp, ChangeFileProp, CloseDirectory,
     CloseEdit, CloseFile, DeleteEntry, OpenRoot, SetTargetRevision,
@@ -19,7 +19,7 @@ type Answered = (Row, Result<(), OrderFault>);
 // How most edits begin.
 static BEGUN: [Answered; 2] = [(SetTargetRevision(1), Ok(())), (OpenRoot(0, 0), Ok(()))];
 
-// Then two files are open in the root, of which the second is current.
+// Then two files are open in the root; the second is current.
 static TWO_FILES: [Answered; 4] = [
     (SetTargetRevision(1), Ok(())),
     (OpenRoot(0, 0), Ok(())),
@@ -61,7 +61,7 @@ fn row_is_answered(
     are_answered(rt, alloc, &mut check, row)
 }
 
-// Each row stands by itself, behind the same beginning.
+// Each row is by itself, after the same beginning.
 fn rows_are_answered(
     rt: &impl Abort,
     alloc: Global,

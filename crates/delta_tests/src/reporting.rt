@@ -1,4 +1,4 @@
-//! Reports: rows of calls, each with its answer, and the lines as they are printed; and the names beneath a path.
+//! Reports: rows of calls, each with its result, and the lines as they are printed; and the names below a path.
 use crate::calls::path;
 use Entry::{Delete, Link, Set};
 use std::alloc::Global;
@@ -8,7 +8,7 @@ use svn_report::ReporterFault::{NotRootFirst, ParentLater, Repeated, TooDeep, Un
 use svn_report::{EntryLine, Report, Reporter, ReporterFault};
 use svn_types::{Name, RelPath, Rev};
 
-// A call of a reporter, with texts in the place of paths. What it has stands in the order in which it is printed.
+// A call of a reporter, with texts in the place of paths. Its fields are in the order in which they are printed.
 #[derive(Clone, Copy)]
 enum Entry {
     Set(&'static str, u64, bool),
@@ -86,7 +86,7 @@ static REPEATED: Reported = (
     "set . 1\nset a 1\n",
 );
 
-// Nothing is reported beneath a delete.
+// Nothing is reported below a delete.
 static BENEATH_A_DELETE: Reported = (
     &[
         (Set("", 1, false), Ok(())),
@@ -96,7 +96,7 @@ static BENEATH_A_DELETE: Reported = (
     "set . 1\ndelete b\n",
 );
 
-// A parent is reported before what is beneath.
+// A parent is reported before what is below.
 static PARENT_LATER: Reported = (
     &[
         (Set("", 1, false), Ok(())),
@@ -210,7 +210,7 @@ fn a_report_is_printed_with_its_root(rt: HostRuntime) -> Result<(), Fail> {
     prints(&rt, rt.alloc(), &report, lines)
 }
 
-// Links `z` and so many names `a` beneath it to a path of one name.
+// Links `z` and that many names `a` below it to a path of one name.
 fn link_deep(
     alloc: Global,
     reporter: &mut Reporter,
@@ -286,7 +286,7 @@ enum Question {
     All,
 }
 
-// A path, and what a report answers about it.
+// A path, and what a report returns for it.
 type Told = (&'static str, &'static str);
 
 // The names below each path of the nested report.
@@ -299,7 +299,7 @@ static NAMES_BELOW: [Told; 6] = [
     ("e", ""),
 ];
 
-// All that it answers about each path.
+// All that it returns for each path.
 static ALL: [Told; 9] = [
     ("", "b,b c,d,below;set . 1"),
     ("a", ""),
@@ -316,7 +316,7 @@ static ALL: [Told; 9] = [
 const IN_PATH_ORDER: &str =
     "set . 1;set b 1;set b/x/y 1;set b/y 1;set b%20c 1;set d/e/a 1;set d/e/f 1;";
 
-// By calls: whoever names a table itself is proved with all that is in it, at each of its steps.
+// By calls: a function that names a table itself is proved with all its contents, at each step.
 fn names_below() -> &'static [Told] {
     &NAMES_BELOW
 }

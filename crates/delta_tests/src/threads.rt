@@ -67,7 +67,7 @@ fn is_revision(call: &Call, number: u64) -> bool {
     }
 }
 
-// Takes until the Inbox is over, and tells that one of the calls was refused. Whether the revisions came as 0, 1, 2, ..
+// Takes until the Inbox is over, and reports that one of the calls was refused. Whether the revisions came as 0, 1, 2, ..
 fn take_all<R: Wait>(rt: &R, inbox: &mut Inbox, teller: &mut Teller, refused: u64) -> bool
     ensures { (inbox.new.link ≡ inbox.old.link) × (teller.new.notice ≡ teller.old.notice) }
 {

@@ -1,4 +1,4 @@
-//! Words that are put behind a text.
+//! Words that are appended to a text.
 use arrayvec::ArrayString;
 use std::alloc::Global;
 use std::fmt;

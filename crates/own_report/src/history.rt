@@ -1,4 +1,4 @@
-//! The history of which the client has parts.
+//! The history that the client has parts of.
 use anyhow::Result;
 use std::alloc::Global;
 use yumbeltir::{Change, RelPath, Repo, Rev, Text};

@@ -1,9 +1,9 @@
-// The calls of a row, and what they answer.
+// The calls of a row, and what they return.
 use std::alloc::{AllocError, Allocator, Global};
 use std::process::Abort;
 use svn_pool::{PoolFault, PoolId, PoolTree};
 
-// A call on a tree. Pools are named by their serials; a string is one letter, so many times.
+// A call on a tree. Pools are named by their serials; a string is one letter, repeated.
 #[derive(Clone, Copy)]
 pub(crate) enum Call {
     Root,
@@ -127,7 +127,7 @@ fn strings<A: Allocator + Copy>(tree: &PoolTree<A>, pool: u64) -> Answer {
     Answer::Read(u32::MAX, bytes)
 }
 
-// Makes the calls of a row and compares their answers.
+// Makes the calls of a row and compares their results.
 pub(crate) fn run<R: Abort, A: Allocator + Copy>(
     rt: &R,
     alloc: Global,

@@ -1,4 +1,4 @@
-// Each block goes back to the heap, as the bytes tell that a heap of limited size has left.
+// Each block goes back to the heap, as the free bytes of a heap of limited size show.
 use crate::call::{Answer, Call, run};
 use crate::rows::{BRANCH, HALVES, HALVES_AND_EMPTY, LENGTHS, LONG_AND_SHORT};
 use linked_list_allocator::LocalHeap;

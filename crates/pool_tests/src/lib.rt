@@ -1,6 +1,6 @@
-//! Tests of the pools: worked rows, trees emptied in all orders beside a plain model, and heaps that run out.
+//! Tests of the pools: worked rows, trees emptied in all orders, compared with a plain model, and heaps that run out.
 //!
-//! A row is a list of calls with the answer that each has to give, so that one list serves with ample memory and
+//! A row is a list of calls with the result that each must give, so that one list serves with ample memory and
 //! with little.
 #![tactic(auto)]
 

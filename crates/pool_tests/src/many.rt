@@ -10,7 +10,7 @@ use svn_pool::{PoolFault, PoolId, PoolTree};
 
 const POOLS: u64 = 150;
 
-// Room for so many blocks, and not for what a tree asks for at once where it finds more.
+// Room for that many blocks, and not for what a tree asks for at once where it finds more.
 const HEAP: usize = 4_194_304;
 
 static SHORT: [u8; 20] = [1; 20];
@@ -40,7 +40,7 @@ fn put_all<A: Allocator + Copy, R: Abort>(rt: &R, tree: &mut PoolTree<A>) -> Res
     Ok(())
 }
 
-// Makes so many pools with strings, and reads them.
+// Makes that many pools with strings, and reads them.
 fn fill<A: Allocator + Copy, R: Abort>(rt: &R, tree: &mut PoolTree<A>) -> Result<(), Fail> {
     put_all(rt, tree)?;
     assert_eq!(rt; tree.blocks(), POOLS);

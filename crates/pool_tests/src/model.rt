@@ -1,6 +1,6 @@
 // Pools as a list with a parent each: what the tree is compared with.
 
-// The root and four pools beneath it.
+// The root and four pools below it.
 pub(crate) const POOLS: usize = 5;
 
 // The place of the pool's parent, whether it is live, and whether it has its string.
@@ -11,7 +11,7 @@ pub(crate) struct Plain {
     pub(crate) filled: bool,
 }
 
-// Each pool is live and has a string, and stands behind its parent.
+// Each pool is live and has a string, and is after its parent.
 pub(crate) fn planted(parents: [usize; POOLS]) -> [Plain; POOLS] {
     parents.map(|parent| Plain {
         parent,
@@ -27,7 +27,7 @@ pub(crate) fn is_live(pools: &[Plain], at: usize) -> bool {
     }
 }
 
-// Takes the pools beneath one away: those whose parent is that pool, or went before them.
+// Takes the pools below one away: those whose parent is that pool, or went before them.
 fn remove_beneath(pools: &mut [Plain; POOLS], top: usize) {
     for at in 1..POOLS {
         let parent = pools[at].parent;

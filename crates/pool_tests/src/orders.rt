@@ -1,15 +1,15 @@
-// All trees of four pools beneath the root, emptied in all orders, beside the plain model.
+// All trees of four pools below the root, emptied in all orders, beside the plain model.
 use crate::model::{POOLS, Plain, clear, destroy, is_live, planted};
 use std::alloc::Global;
 use std::test::Fail;
 use svn_pool::{PoolFault, PoolId, PoolTree};
 
-// The parents that a number from 0 to 23 stands for: one for the first pool, one of two for the second, and so on.
+// The parents that a number from 0 to 23 encodes: one for the first pool, one of two for the second, and so on.
 fn parents(shape: usize) -> [usize; POOLS] {
     [0, 0, shape % 2, shape / 2 % 3, shape / 6 % 4]
 }
 
-// The order that a number from 0 to 23 stands for: one of four places, one of the three that are left, and so on.
+// The order that a number from 0 to 23 encodes: one of four places, one of the three that are left, and so on.
 fn order(number: usize) -> [usize; 4] {
     let mut places = [1usize, 2, 3, 4];
     places.swap(0, number % 4);
@@ -69,7 +69,7 @@ fn counts(tree: &PoolTree<Global>) -> (u64, u64, u64) {
     (tree.live(), tree.blocks(), tree.spare())
 }
 
-// Clears a pool in both, and tells whether the answer is right.
+// Clears a pool in both, and returns whether the result is right.
 fn clears(tree: &mut PoolTree<Global>, model: &mut [Plain; POOLS], at: usize) -> bool {
     let live = is_live(model, at);
     if live {

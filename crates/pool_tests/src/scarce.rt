@@ -1,4 +1,4 @@
-// Heaps that run out: a refused call changes nothing, and gives its answer once there is memory.
+// Heaps that run out: a refused call changes nothing, and gives its result once there is memory.
 use crate::call::{Answer, Call, answer_of, run};
 use crate::rows::{BRANCH, EXHAUSTED, HALVES, HALVES_AND_EMPTY, LENGTHS, LONG_AND_SHORT};
 use linked_list_allocator::LocalHeap;
@@ -10,16 +10,16 @@ use svn_pool::{PoolFault, PoolTree};
 // More than a row needs.
 const HEAP: usize = 65_536;
 
-// The heap gives memory in units of so many bytes.
+// The heap gives memory in units of that many bytes.
 const UNIT: usize = 16;
 
-// By so many bytes a heap grows from one run of a row to the next. No allocation of a tree is smaller, so none is passed over.
+// By that many bytes a heap grows from one run of a row to the next. No allocation of a tree is smaller, so none is passed over.
 const STEP: usize = 32;
 
 // Memory that is kept from a tree until it is refused some.
 type Held<'a> = Option<Vec<u8, &'a LocalHeap>>;
 
-// A tree on a heap of which a part is held.
+// A tree on a heap part of which is held.
 #[derive(Drop)]
 struct Scarce<'a> {
     tree: PoolTree<&'a LocalHeap>,
@@ -43,7 +43,7 @@ impl<'a> Scarce<'a> {
         (self.tree.live(), self.tree.blocks(), self.tree.spare())
     }
 
-    // Makes a call, and where memory is wanting gives the held part back and makes it again.
+    // Makes a call, and if it runs out of memory gives the held part back and makes it again.
     fn answer<R: Abort>(
         &mut self,
         rt: &R,
@@ -61,7 +61,7 @@ impl<'a> Scarce<'a> {
     }
 }
 
-// Makes the calls of a row, and compares their answers.
+// Makes the calls of a row, and compares their results.
 fn are_answered<R: Abort>(
     rt: &R,
     alloc: Global,
@@ -75,13 +75,13 @@ fn are_answered<R: Abort>(
     Ok(())
 }
 
-// A tree on a heap of which all is held but so many steps.
+// A tree on a heap that is held except for that many steps.
 fn scarce_on(heap: &LocalHeap, steps: usize) -> Result<Scarce<'_>, PoolFault> {
     let held = Vec::with_capacity(heap, HEAP.saturating_sub(steps.saturating_mul(STEP)))?;
     Scarce::new(heap, held)
 }
 
-// Runs a row with so many steps of the heap at first, and tells whether a call was refused.
+// Runs a row with that many steps of the heap at first, and returns whether a call was refused.
 fn is_refused<R: Abort>(
     rt: &R,
     alloc: Global,
@@ -122,7 +122,7 @@ fn blocks_go_on_after_refusals(rt: HostRuntime) -> Result<(), Fail> {
     sweep(&rt, rt.alloc(), &LONG_AND_SHORT)
 }
 
-// Sixty pools beneath the root, three beneath each of the first twenty, and their end.
+// Sixty pools below the root, three below each of the first twenty, and their end.
 fn forest(alloc: Global) -> Result<Vec<(Call, Answer)>, AllocError> {
     let mut row = Vec::new(alloc);
     for parent in 0..20u64 {

@@ -6,7 +6,7 @@ use svn_serials::SerialMap;
 
 #[derive(Clone, Copy)]
 enum Call {
-    // A serial and its value. The answer is the value that it had.
+    // A serial and its value. The result is the value that it had.
     Insert(u64, u64),
     Get(u64),
     Remove(u64),

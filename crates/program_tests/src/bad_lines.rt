@@ -124,7 +124,7 @@ static NO_PATHS: [&[u8]; 17] = [
     b"put a//b a",
 ];
 
-// A path's bytes have to be UTF-8: no lone byte, no cut character, no overlong form, no surrogate, nothing over U+10FFFF.
+// A path's bytes must be UTF-8: no lone byte, no cut character, no overlong form, no surrogate, nothing over U+10FFFF.
 static NOT_UTF8: [&[u8]; 7] = [
     b"mkdir \xff",
     b"mkdir %FF",
@@ -169,7 +169,7 @@ static NO_PROPERTIES: [&[u8]; 15] = [
     b"unprop f -p",
 ];
 
-// Each table is a static of its own, and named here alone: whoever names a table is proved with all that stands in it, at each of its steps.
+// Each table is a static of its own, and named here alone: a function that names a table is proved with all its contents, at each step.
 fn tables() -> [&'static [&'static [u8]]; 9] {
     [
         &NO_NAMES,
@@ -202,7 +202,7 @@ fn lines_that_are_no_command(rt: HostRuntime) -> Result<(), AllocError> {
     Ok(())
 }
 
-// `mkdir` of a path that begins with this so many times.
+// `mkdir` of a path that begins with this, repeated.
 fn is_too_long(
     rt: &(impl Abort + AllocGlobal + Threads + Wait + Sync),
     part: &str,

@@ -74,7 +74,7 @@ struct Before {
 }
 
 impl Before {
-    // What the beginning of a line prints behind these.
+    // What the beginning of a line prints after these.
     fn output_of(&self, line: &Line, at: usize) -> Result<String, AllocError> {
         let mut output = self.output.clone()?;
         if at == line.text.len() {
@@ -83,7 +83,7 @@ impl Before {
         Ok(output)
     }
 
-    // How a script ends behind so many bytes of a line.
+    // How a script ends after that many bytes of a line.
     fn end_of(&self, line: &Line, at: usize) -> Result<(), ScriptFault> {
         if 0 < at && at < line.shortest {
             return Err(ScriptFault::BadLine(self.lines.saturating_add(1)));
@@ -119,7 +119,7 @@ impl Before {
     }
 }
 
-// Each beginning of a line behind those before it, and then the whole line.
+// Each beginning of a line after those before it, and then the whole line.
 fn cut_each(
     rt: &(impl Abort + AllocGlobal + Threads + Wait + Sync),
     before: &mut Before,

@@ -6,7 +6,7 @@ use std::sync::Wait;
 use std::thread::Threads;
 use svn_update::Settings;
 
-// Lines that begin so, then this so many times, then the rest of them; and what they print.
+// Lines that begin so, then this, repeated, then the rest of them; and what they print.
 struct Long {
     first: &'static str,
     part: &'static str,
@@ -94,7 +94,7 @@ fn long_and_deep_words(rt: HostRuntime) -> Result<(), AllocError> {
     Ok(())
 }
 
-// Lines that make so many directories, each in the one before, in one revision.
+// Lines that make that many directories, each in the one before, in one revision.
 fn nested_lines(alloc: Global, depth: usize) -> Result<String, AllocError> {
     let mut script = String::new(alloc);
     let mut path = String::from_str(alloc, "a")?;
@@ -165,7 +165,7 @@ fn switched_paths_have_a_greatest_depth(rt: HostRuntime) -> Result<(), AllocErro
 const UPDATED: &str =
     "put f a\ncommit\ncheckout 0\nupdate 1\nupdate 9\nswitch-to f 1\nswitch-to . 1\n";
 
-// A queue of so many calls. Where two threads run, its capacity is looked at behind the target.
+// A queue of that many calls. Where two threads run, its capacity is looked at after the target.
 fn updates(
     rt: &(impl Abort + AllocGlobal + Threads + Wait + Sync),
     capacity: usize,

@@ -6,7 +6,7 @@ use std::sync::Wait;
 use std::thread::Threads;
 use svn_update::{MAX_SCRIPT, ScriptFault, run_script};
 
-// Gives a script, and behind it a comment of so many bytes, or one without end.
+// Gives a script, and after it a comment of that many bytes, or one without end.
 #[derive(Drop)]
 struct LongReader<'a> {
     head: &'a [u8],

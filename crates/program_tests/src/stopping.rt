@@ -7,13 +7,13 @@ use std::sync::Wait;
 use std::thread::Threads;
 use svn_update::Settings;
 
-// The run stopped after so many calls, and made again.
+// The run stopped after that many calls, and made again.
 fn script_of(alloc: Global, stop: &Stop, calls: u64, late: &str) -> Result<String, AllocError> {
     let (before, run) = (stop.before.0, stop.run);
     format!(in alloc; "{before}{run} {calls}{late}\n{run}{late}\nshow\n")
 }
 
-// What it prints, but for the number of calls of the second run: what comes before that and what behind it.
+// What it prints, but for the number of calls of the second run: what comes before that and what after it.
 fn first_output(alloc: Global, stop: &Stop, calls: u64) -> Result<String, AllocError> {
     let before = stop.before.1;
     format!(in alloc; "{before}aborted {calls} {calls} Cancelled\nclosed ")

@@ -1,4 +1,4 @@
-// Scripts, each beside what it prints.
+// Scripts, each with what it prints.
 use crate::rows::{drives, forms, links, refusals, updates};
 use crate::scripts::{IN_TURN, MANY_CALLS, ONE_CALL, ends};
 use std::alloc::{AllocError, Global};
@@ -10,7 +10,7 @@ use svn_update::Settings;
 // Lines of a script, and what they print.
 pub(crate) type Part = (&'static str, &'static str);
 
-// Rows that are run each behind the same lines and before the same others, as a script of its own.
+// Rows that are run each after the same lines and before the same others, as a script of its own.
 pub(crate) struct Table {
     pub(crate) before: Part,
     pub(crate) rows: &'static [Part],
@@ -25,12 +25,12 @@ pub(crate) const TWO_REVISIONS: Part = (
     "committed 1\ncommitted 2\nok\n",
 );
 
-// The three parts of a script, one behind the other, and those of its output.
+// The three parts of a script, one after the other, and those of its output.
 fn joined(alloc: Global, before: &str, row: &str, after: &str) -> Result<String, AllocError> {
     format!(in alloc; "{before}{row}{after}")
 }
 
-// A row of the table prints what stands beside it.
+// A row of the table prints what it says.
 fn row_prints(
     rt: &(impl Abort + AllocGlobal + Threads + Wait + Sync),
     settings: &Settings,
@@ -56,8 +56,8 @@ fn each_row_prints(
     Ok(())
 }
 
-// What is read, changed and driven, what is switched, and what is refused. Each table is a static of its own, and named here alone: whoever
-// names a table is proved with all that stands in it, at each of its steps.
+// What is read, changed and driven, what is switched, and what is refused. Each table is a static of its own, and named here alone: a function that
+// names a table is proved with all its contents, at each step.
 fn tables() -> [&'static Table; 14] {
     [
         &forms::WORDS,

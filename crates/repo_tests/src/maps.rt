@@ -64,14 +64,14 @@ fn clone_of(both: &Both) -> Result<Both, AllocError> {
     Ok(Both { map, tree })
 }
 
-// Whether all calls answer the same, and a clone from before them stays as it was.
+// Whether all calls return the same, and a clone from before them stays as it was.
 fn stay_same(both: &mut Both, alloc: Global, order: (u64, u64)) -> Result<bool, AllocError> {
     let kept = clone_of(both)?;
     let same = change_all(both, alloc, order)?;
     Ok(same && are_same(&both.map, &both.tree) && are_same(&kept.map, &kept.tree))
 }
 
-// Whether all calls answer the same, from empty maps on.
+// Whether all calls return the same, from empty maps on.
 fn agree(alloc: Global, order: (u64, u64)) -> Result<bool, AllocError> {
     let mut both = Both {
         map: NameMap::new(alloc),

@@ -151,7 +151,7 @@ fn bytes_are_names_of_properties_or_not(rt: HostRuntime) {
     }
 }
 
-// A text so many times, and another one after it.
+// A text repeated, and another one after it.
 static LONG: &[(Part, &str, usize, &str, u32)] = &[
     // the number of components comes last
     (Part::Path, "a/", 127, "a", 0),

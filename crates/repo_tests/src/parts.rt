@@ -4,7 +4,7 @@ use std::process::Abort;
 use std::test::Fail;
 use svn_types::RelPath;
 
-/// So many names of so many bytes. The first is of letters `a`, the next of letters `b`, and so on.
+/// That many names of that many bytes. The first is of letters `a`, the next of letters `b`, and so on.
 pub(crate) type Names = (usize, usize);
 
 fn push_name(out: &mut String, letter: char, len: usize) -> Result<(), Fail> {
@@ -102,7 +102,7 @@ fn is_alike(alloc: Global, path: &RelPath, text: &str) -> Result<bool, Fail> {
     )
 }
 
-/// A path has to be the one of this text, and to have its place in the order.
+/// A path must be the one of this text, and to have its place in the order.
 pub(crate) fn is_path(
     rt: &impl Abort,
     alloc: Global,

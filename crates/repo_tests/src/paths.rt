@@ -73,7 +73,7 @@ fn answer_at(alloc: Global, at: &str, question: Question) -> Result<String, Fail
     answer(alloc, &path(alloc, at)?, question)
 }
 
-// A path, the question and its answer.
+// A path, the question and its result.
 type Row = (&'static str, Question, &'static str);
 
 static ROWS: [Row; 10] = [

@@ -1,4 +1,4 @@
-//! What is asked of a history, and all that it tells.
+//! What is asked of a history, and all that it returns.
 use crate::steps::{Step, take_all};
 use std::alloc::Global;
 use std::process::Abort;
@@ -27,7 +27,7 @@ pub(crate) enum Question {
     Compare(By, Location, Location),
 }
 
-/// Steps and questions, and what they answer in turn, each with a comma.
+/// Steps and questions, and their results in turn, each with a comma.
 pub(crate) struct History {
     pub(crate) steps: &'static [Step],
     pub(crate) questions: &'static [Question],
@@ -135,7 +135,7 @@ fn told(alloc: Global, history: &History) -> Result<String, Fail> {
     Ok(out)
 }
 
-/// A history has to tell what its row says.
+/// A history must return what its row says.
 pub(crate) fn is_told(rt: &impl Abort, alloc: Global, history: &History) -> Result<(), Fail> {
     let found = told(alloc, history)?;
     assert_eq!(rt; found.as_str(), history.told);

@@ -8,7 +8,7 @@ use svn_repo::{Change, PropName, RelPath, Repo, Rev, Text};
 pub(crate) enum Act {
     MakeDir,
     Put(&'static str),
-    // a text of so many bytes
+    // a text of that many bytes
     PutLong(usize),
     // the value of the property `p`
     Set(&'static str),
@@ -23,14 +23,14 @@ pub(crate) enum Act {
 #[derive(Clone, Copy)]
 pub(crate) enum Step {
     At(&'static str, Act),
-    // at the path of so many names `a`
+    // at the path of that many names `a`
     Deep(usize, Act),
-    // so many directories `a`, each in the one before
+    // that many directories `a`, each in the one before
     Nest(usize),
     Commit,
 }
 
-// A text, so many times.
+// A text, repeated.
 fn text_of(alloc: Global, text: &str, times: usize) -> Result<Text, Fail> {
     let text = text.repeat(alloc, times)?;
     Ok(Text::new(text.as_bytes().to_vec(alloc)?))
@@ -123,7 +123,7 @@ fn take(
     }
 }
 
-/// Takes the steps in order, and writes the answer of each commit.
+/// Takes the steps in order, and writes the result of each commit.
 pub(crate) fn take_all(
     alloc: Global,
     repo: &mut Repo,

@@ -1,4 +1,4 @@
-//! Texts and their checksums. A checksum has room beside up to 14 bytes and beside over 30, and is computed anew from 15 to 30.
+//! Texts and their checksums. A checksum is kept for up to 14 bytes and for over 30, and is computed again for 15 to 30.
 use std::alloc::Global;
 use std::process::Abort;
 use std::test::Fail;

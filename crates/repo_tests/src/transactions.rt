@@ -1,4 +1,4 @@
-//! What a transaction answers, change by change.
+//! What a transaction returns, change by change.
 use crate::steps::{Act, change_of};
 use std::alloc::Global;
 use std::process::Abort;
@@ -66,7 +66,7 @@ fn commit(open: &mut Transaction, out: &mut String) -> Result<(), Fail> {
     Ok(())
 }
 
-// Takes a step, and writes what is answered.
+// Takes a step, and writes what is returned.
 fn answer(
     alloc: Global,
     open: Transaction,

@@ -74,7 +74,7 @@ static REFUSALS: [Refusal; 6] = [
     },
 ];
 
-// By a call: whoever names the table itself is proved with all that stands in it, at each of its steps.
+// By a call: a function that names the table itself is proved with all its contents, at each step.
 fn refusals() -> &'static [Refusal] {
     &REFUSALS
 }

@@ -14,7 +14,7 @@ use svn_wc::WorkingCopy;
 
 const HISTORY: [Step; 4] = [MakeDir("d"), MakeDir("d/e"), Put("d/e/x", "a"), Commit];
 
-// The calls of an update from the empty revision, each behind its path.
+// The calls of an update from the empty revision, each after its path.
 const HEARD: &str = "
 - set_target_revision 1
 . open_root 0 #0
@@ -49,7 +49,7 @@ const HEARD_OF_THREE: &str = "
 d add_directory d #0 #1
 ";
 
-// Writes what it hears, as far as memory is given.
+// Writes what it hears, until an allocation fails.
 #[derive(Drop)]
 struct Log {
     text: String,
@@ -68,7 +68,7 @@ impl Listener for Log {
     }
 }
 
-// A run on two threads, with a queue of so many calls, or else on one.
+// A run on two threads, with a queue of that many calls, or else on one.
 fn run_with<R: Threads + Wait + Sync>(
     rt: &R,
     alloc: Global,

@@ -406,7 +406,7 @@ pub(crate) static WHOLE_COPY: Row = Row {
                 shown: ". dir 3 b\nd dir 3 b/d\nd/x file 3 b/d/x a\nf file 3 b/f abc\n",
             },
         },
-        // an update follows each path where it stands
+        // an update follows each path where it is
         Stop {
             late_texts: false,
             after: 3,
@@ -432,7 +432,7 @@ static WHOLE_COPY_SWITCHED_BELOW: Row = Row {
     stops: &[],
 };
 
-// Each row is a static of its own, and named here alone: whoever names a table is proved with all that stands in it, at each of its steps.
+// Each row is a static of its own, and named here alone: a function that names a table is proved with all its contents, at each step.
 pub(crate) fn rows() -> [&'static Row; 17] {
     [
         &ONE_FILE,

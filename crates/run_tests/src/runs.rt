@@ -79,7 +79,7 @@ fn passed(outcome: Outcome) -> u64 {
     }
 }
 
-// As many calls have to be sent and taken as the outcome says.
+// As many calls must be sent and taken as the outcome says.
 fn counted(outcome: Outcome, sent: u64, taken: u64) -> Result<Answer, Fail> {
     let calls = passed(outcome);
     if sent != calls || taken != calls {
@@ -157,7 +157,7 @@ fn in_threads<R: Threads + Wait + Sync>(
     }
 }
 
-// The copy has to be true.
+// The copy must be true.
 pub(crate) fn run<R: Threads + Wait + Sync>(
     rt: &R,
     alloc: Global,

@@ -39,7 +39,7 @@ fn request_of(
     }
 }
 
-// An answer, that the copy is true, and what it has.
+// A result, that the copy is true, and what it has.
 fn ended(alloc: Global, answer: Answer, shown: &str) -> Result<String, AllocError> {
     format!(in alloc; "{answer:?}\ntrue\n{shown}")
 }

@@ -11,10 +11,10 @@ use svn_repo::Repo;
 use svn_run::{Gate, Options, Outcome, update};
 use svn_types::Rev;
 
-// How often a thread looks for the other before it gives up. Each look gives way to others, so that it is enough where much else runs.
+// How often a thread checks for the other before it gives up. Each check yields to others, so that it suffices where much else runs.
 const LOOKS: u64 = 10_000_000;
 
-// Waits until the other thread has come so far; the answer says whether it has.
+// Waits until the other thread has come that far; the result says whether it has.
 fn comes(count: &AtomicU64, n: u64) -> bool {
     for _ in 0..LOOKS {
         if count.load(Ordering::SeqCst) >= n {
@@ -31,7 +31,7 @@ const IN_PLACE: Options = Options {
     late_texts: false,
 };
 
-// The third call is held back until the first was taken, and that one until the third is to be sent.
+// The third call is held back until the first was taken, and that one until the third is about to be sent.
 #[derive(Drop)]
 struct Meeting {
     begun: AtomicU64,
@@ -40,7 +40,7 @@ struct Meeting {
 }
 
 impl Meeting {
-    // Says how far this side has come, and waits until the other has come as far as it is to.
+    // Says how far this side has come, and waits until the other has come as far as it must.
     fn meet(&self, here: &AtomicU64, n: u64, there: &AtomicU64, other: u64) {
         here.store(n, Ordering::SeqCst);
         if !comes(there, other) {
@@ -144,7 +144,7 @@ impl Gate for Counting {
     }
 }
 
-// A gate hears of so many calls at each side.
+// A gate hears of that many calls at each side.
 fn hears<R: Threads + Wait + Sync + Abort>(
     rt: &R,
     alloc: Global,

@@ -1,4 +1,4 @@
-//! Runs each script of its folder, on one thread and on two, and says whether it prints what the output beside it has.
+//! Runs each script of its folder, on one thread and on two, and says whether it prints what its file of output has.
 #![tactic(auto)]
 
 use anyhow::Result;

@@ -12,7 +12,7 @@ use svn_types::{MAX_COMPONENTS, Name, RelPath, Rev};
 // The calls that an add and a close make for each directory of a chain as deep as a path can be.
 const CHAIN_CALLS: u64 = 256;
 
-// Takes calls, and checks them if it is to.
+// Takes calls, and checks them if asked to.
 #[derive(Drop)]
 struct Feed {
     check: OrderCheck,
@@ -208,7 +208,7 @@ fn time<R: Clock + Eprint>(
     Ok(())
 }
 
-/// Times so many calls of each kind, and a report of so many entries.
+/// Times that many calls of each kind, and a report of that many entries.
 pub(crate) fn run<R: Clock + Eprint>(rt: &R, alloc: Global, count: u64) -> Result<(), Fault> {
     for (what, work) in WORKS {
         time(rt, alloc, what, work, count)?;

@@ -74,7 +74,7 @@ fn take_plain<R: Wait>(rt: &R, receiver: Receiver<Call>) -> u64 {
     taken
 }
 
-// Sends so many calls, and a last one.
+// Sends that many calls, and a last one.
 fn send_all<R: Wait>(rt: &R, sending: Sending, calls: u64) {
     match sending {
         Sending::Link(outbox) => send_linked(rt, outbox, calls),
@@ -113,7 +113,7 @@ fn plain(alloc: Global, capacity: usize) -> Result<(Sending, Taking), Fault> {
     Ok((Sending::Plain(sender), Taking::Plain(receiver)))
 }
 
-// How many of so many calls pass in a second.
+// How many of that many calls pass in a second.
 fn rate<R: Threads + Wait + Sync + Clock>(
     rt: &R,
     sending: Sending,
@@ -143,7 +143,7 @@ fn time<R: Threads + Wait + Sync + Clock + Eprint>(
     Ok(())
 }
 
-/// Times so many calls at each capacity.
+/// Times that many calls at each capacity.
 pub(crate) fn run<R: Threads + Wait + Sync + Clock + Eprint>(
     rt: &R,
     alloc: Global,

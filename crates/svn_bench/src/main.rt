@@ -1,4 +1,4 @@
-//! Times parts of the library that no script shows by themselves, one or all of them.
+//! Times parts of the library that no script shows alone, one or all of them.
 //!
 //! The first argument is what is timed: `edits` (the order check and reports), `pools`, `link` or `all`. The second is how many calls,
 //! entries or pools there are, by default 100,000. The times go to standard error.
@@ -60,7 +60,7 @@ fn count_of(word: &str) -> Result<u64, Fault> {
     }
 }
 
-// The words behind the program's name.
+// The words after the program's name.
 fn words<R: Env + AllocGlobal>(rt: &R) -> Result<(Option<String>, Option<String>), Fault> {
     let mut words = env::args(rt)?;
     let what = words.nth(1);

@@ -15,7 +15,7 @@ enum Before {
     Nothing,
     // the root's strings
     Strings,
-    // pools with a string and so many children each
+    // pools with a string and that many children each
     Pools(u64),
 }
 
@@ -112,7 +112,7 @@ static ROWS: [Row; 9] = [
     },
 ];
 
-// A row with the string that it pushes, and so many of them, or so many pools.
+// A row with the string that it pushes, and how many of them, or how many pools.
 #[derive(Clone, Copy)]
 struct Work<'a> {
     before: Before,
@@ -146,7 +146,7 @@ fn time<R: Clock + Eprint>(rt: &R, alloc: Global, row: &Row, wanted: u64) -> Res
     Ok(())
 }
 
-/// Times the rows with so many pools.
+/// Times the rows with that many pools.
 pub(crate) fn run<R: Clock + Eprint>(rt: &R, alloc: Global, wanted: u64) -> Result<(), Fault> {
     for row in &ROWS {
         time(rt, alloc, row, wanted)?;

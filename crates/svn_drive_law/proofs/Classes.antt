@@ -105,7 +105,7 @@ switched_to d root m =
     same true x = refl
     same false x = refl
 
--- a request that can be served: the target has the root, what is reported stands in directories, and no path is much longer than its
+-- a request that can be served: the target has the root, what is reported is in directories, and no path is much longer than its
 -- repository path
 pub record Served (d : Request) : Type 0 where
   pub history : IsHistory d.history

@@ -124,7 +124,7 @@ abbrev pub InTurn : List Action → Type 0
 InTurn [] = Unit {0}
 InTurn (a ∷ acts) = AllOf (precedes a) acts × InTurn acts
 
--- before an action that stands in turn there was no close
+-- before an action that is in turn there was no close
 pub none_closed : (xs : List Action) (a : Action) (ys : List Action) → InTurn (xs ++ a ∷ ys) → list_any is_close xs ≡ false
 none_closed [] a ys h = refl
 none_closed (x ∷ xs) a ys h = by x (all_part (λ a. precedes x a ≡ true) xs a ys h.0) (none_closed xs a ys h.1)
@@ -255,7 +255,7 @@ course_of d p = as_written (target_node d p) (by (is_gone d p) (target_node d p)
     as_written (Some m) s = s
 
 module _ (d : Request) (p : Path) where
-  -- ---- where an action stands in a course
+  -- ---- where an action is in a course
 
   -- what was done at a path after its open or add of a node of that kind
   pub data Begun (k : Kind) (xs : List Action) : Type 0 where
@@ -379,7 +379,7 @@ module _ (d : Request) (p : Path) where
 
   -- ---- what a course says
 
-  -- its actions stand in turn
+  -- its actions are in turn
   pub course_in_turn : (l : List Action) → Course d p l → InTurn l
   course_in_turn l nothing = tt
   course_in_turn l (gone_only r f) = (tt, tt)

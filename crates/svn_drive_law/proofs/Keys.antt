@@ -32,7 +32,7 @@ marks_total = subst IsTotalOrder (λ i m n. mark_cmp-code m n i) (on_texts code)
 pub keys_total : IsTotalOrder (slice_cmp mark_cmp)
 keys_total = lists_total marks_total
 
--- the path that a key stands for
+-- the path of a key
 abbrev pub path_in : List Mark → Path
 path_in [] = []
 path_in (Named n ∷ k) = n ∷ path_in k
@@ -61,7 +61,7 @@ path_in-key d true p (Close File c) = by (has_text d p)
     by false = path_in-map p
 path_in-key d false p (Close File c) = path_in-map p
 
--- marks that the order doesn't tell apart are the same, and so are keys
+-- marks that the order doesn't distinguish are the same, and so are keys
 tied_names : (m n : Name) → slice_cmp nat_cmp m n ≡ Equal → m ≡ n
 tied_names = slice_cmp-IsAntisymmetric nat_cmp-IsAntisymmetric
 
@@ -74,7 +74,7 @@ tied_marks End End h = refl
 pub tied_keys : (j k : List Mark) → slice_cmp mark_cmp j k ≡ Equal → j ≡ k
 tied_keys = slice_cmp-IsAntisymmetric tied_marks
 
--- two steps of which neither comes after the other are at one path
+-- two steps, neither after the other, are at one path
 pub same_place : (d : Request) (late : Bool) (s t : Step) → comes_after d late s t ≡ false → comes_after d late t s ≡ false
     → s.path ≡ t.path
 same_place d late s t h k =

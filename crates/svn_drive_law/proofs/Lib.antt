@@ -1,8 +1,8 @@
--- the keys of steps, their order, and the path that each stands for
+-- the keys of steps, their order, and the path of each
 pub mod Keys
 -- what a path's actions are, one after the other
 pub mod Courses
--- what a report says of a path, and what stands there by what stands at its parent
+-- what a report says of a path, and what is there by what is at its parent
 pub mod Reporting
 -- a path has steps only below a directory that is opened or added
 pub mod Classes
@@ -10,7 +10,7 @@ pub mod Classes
 pub mod Ways
 -- the steps of a tree at one path: what is done there, once
 pub mod TreePaths
--- the steps of a tree stand in order of their keys
+-- the steps of a tree are in order of their keys
 pub mod TreeOrder
 -- what a checkable report asks for can be served, and the list of its tree is its drive
 pub mod ReportDrives
@@ -22,7 +22,7 @@ pub mod TreeNumbers
 pub mod CallDrives
 -- there is one list of steps with the steps of each path, in order of the keys
 pub mod OneDrive
--- a new path stands below one that is touched or new
+-- a new path is below one that is touched or new
 pub mod NewPaths
 -- when a target has no fault
 pub mod Targets

@@ -1,4 +1,4 @@
--- A new path stands below one that is touched or new.
+-- A new path is below one that is touched or new.
 use Rattle.std.proofs.Common.{◌≡◌, ℕ, true, ◌||◌, not, refl, sym, ◌∙◌, ap, true≢false}
 use Rattle.std.specs.Prelude.{Option, Some, None, is_some}
 use Rattle.std.specs.List.{list_any}

@@ -83,7 +83,7 @@ module _ (d : Request) (history : IsHistory d.history) (report : IsReport d.repo
       by [] k = refl
       by (e ∷ es) k = k
 
-  -- an entry stands below a directory
+  -- an entry is below a directory
   entry_below_directory : (p : Path) (name : Name) (x : ReportEntry) → (says (child p name)).own ≡ Some x
       → is_directory_at h (source h (says p)) ≡ true
   entry_below_directory p name x o =

@@ -1,4 +1,4 @@
--- What a report says of a path, and what stands at a path by what stands at its parent.
+-- What a report says of a path, and what is at a path by what is at its parent.
 use Rattle.std.proofs.Common.{◌≡◌, ℕ, Bool, true, false, ◌&&◌, ◌||◌, not, refl, sym, ◌∙◌, ap, subst, true≢false}
 use Rattle.std.specs.Prelude.{Option, Some, None, cond, is_some}
 use Rattle.std.specs.Option.{option_or}
@@ -41,7 +41,7 @@ pub own-is : (r : ReportView) (p : Path) → (reported r p).own ≡ entry_at r.e
 own-is r = path_ind (λ p. (reported r p).own ≡ entry_at r.entries p) refl
     (λ p name ih. ap (λ (s : Reported). s.own) (reported-child r p name) ∙ ap (λ q. entry_at r.entries (child q name)) (reported-path r p))
 
--- where no entry stands at the path, and the parent's entry isn't one that starts empty
+-- where no entry is at the path, and the parent's entry isn't one that starts empty
 pub open_above : (s : Reported) → OwnGoverns s → (is_some s.own || not (starts_empty s.governing)) ≡ true → starts_empty s.own ≡ false
     → starts_empty s.governing ≡ false
 open_above s g h e = by s.own refl

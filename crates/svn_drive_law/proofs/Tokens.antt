@@ -1,4 +1,4 @@
--- The numbers of opened paths, and the calls of steps that stand at one path.
+-- The numbers of opened paths, and the calls of steps that are at one path.
 use Rattle.std.proofs.Common.{◌≡◌, ℕ, zero, suc, Bool, true, false, ◌||◌, List, [], ◌∷◌, ◌++◌, length, refl, sym, ◌∙◌, ap, true≢false}
 use Rattle.std.proofs.Common.{append_assoc, append-nil}
 use Rattle.std.specs.Prelude.{cond, map}
@@ -135,9 +135,9 @@ entry_call opened p (Add Directory) e = refl
 entry_call opened p (Add File) e = refl
 entry_call opened p a e = absurd (true≢false (sym e))
 
--- ---- what is done at a path: nothing, or an entry and what stands inside
+-- ---- what is done at a path: nothing, or an entry and what is inside
 
--- in front, behind and late; whether there is something below, and how many tokens are given
+-- in front, after and late; whether there is something below, and how many tokens are given
 pub data Shape : List Action → List Action → List Action → Bool → ℕ → Type 0 where
   bare : Shape [] [] [] false 0
   entry : (a : Action) (xs ys zs : List Action) (b : Bool) → is_entry a ≡ true → AllOf is_inner xs → AllOf is_inner ys → AllOf is_inner zs

@@ -236,7 +236,7 @@ module _ (d : Request) (late : Bool) where
   abbrev last : Path → List Action
   last p = last_at d p (target_node d p)
 
-  -- what is opened stands within the path
+  -- what is opened is within the path
   under : (n : ℕ) (p : Path) → Under p (entered (tree n p))
   under zero p = tt
   under (suc n) p =
@@ -352,7 +352,7 @@ module _ (d : Request) (late : Bool) where
       (by_names (waiting n) p (names_below d p))
       (names_waiting (waiting n) p (λ m. waiting_entered n (child p m)) (names_below d p))
 
-  -- its calls, where all of the tree is opened, behind paths that don't stand in it
+  -- its calls, where all of the tree is opened, after paths that don't are in it
   pub waiting_numbered : (n : ℕ) (p : Path) (up : ℕ) (xs ys : List Path) → Clear p xs
       → numbered (xs ++ (entered (tree n p) ++ ys)) (waiting n p) ≡ late_calls d late n p up (length xs)
   waiting_numbered zero p up xs ys h = refl

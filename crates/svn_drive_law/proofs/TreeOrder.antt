@@ -1,4 +1,4 @@
--- The steps of a tree stand in order of their keys.
+-- The steps of a tree are in order of their keys.
 use Rattle.std.proofs.Common.{◌≡◌, ℕ, zero, suc, Bool, true, false, ◌&&◌, ◌||◌, List, [], ◌∷◌, ◌++◌, refl, sym, ◌∙◌, ap, subst, true≢false}
 use Rattle.std.proofs.Common.{append_assoc, append-nil}
 use Rattle.std.specs.Prelude.{Option, Some, None, cond, map}
@@ -61,7 +61,7 @@ module _ (d : Request) (late : Bool) where
     append_in_order xs ys h.1 k a.1,
   )
 
-  -- where each of the first stands before each of the second
+  -- where each of the first is before each of the second
   all_before : (P Q : Step → Type 0) → ((x y : Step) → P x → Q y → comes_after d late x y ≡ false) → (xs ys : List Step)
       → AllByRecursion P xs → AllByRecursion Q ys
       → AllByRecursion (NoneBefore ys) xs
@@ -276,7 +276,7 @@ module _ (d : Request) (late : Bool) where
   abbrev late_key : Bool → Path → List Mark
   late_key l p = cond l (End ∷ map Named p) (map Named p)
 
-  -- the end of a file, of which a text is a text of the path
+  -- the end of a file: its text is a text of the path
   end_keys : (p : Path) (n : ℕ) → (list_any is_text (file_end d p n) ≡ true → has_text d p ≡ true)
       → AtKey p (late_key (is_late d late p) p) (file_end d p n)
   end_keys p n h = by_touched (is_touched d p) h

@@ -2,7 +2,7 @@
 --     the_tree_is_a_drive      of every checkable report the steps of the tree are a drive's
 --     the_calls_are_a_drive      the calls of the walk are those of a drive
 --     drive_is_determined      there is at most one
---     new_paths_have_parents      what is added stands in a directory that is opened or added
+--     new_paths_have_parents      what is added is in a directory that is opened or added
 --     existing_targets_have_no_fault      of a copy of the repository's root
 use Rattle.std.specs.Prelude.{◌≡◌, ℕ, ◌<◌, ◌≤◌, Bool, true, ◌||◌, List, [], length, None}
 use Rattle.svn_types.specs.Names.{Path}

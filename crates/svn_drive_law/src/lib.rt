@@ -1,5 +1,5 @@
 //! The laws of drives: which calls lead a client from what it reports to a target. They are stated over the definitions of `svn_model`
-//! alone, in `specs/Laws.antt`. Each law is the contract of a function that does nothing: who calls the function has the law.
+//! alone, in `specs/Laws.antt`. Each law is the contract of a function with an empty body: a caller of the function has the law.
 //!
 //! ```
 //! pub fn caller()
@@ -10,8 +10,9 @@
 //! ```
 //!
 //! The premises of all but [`drive_is_determined`] are a lawful repository, a report that a reporter made and that the repository can serve,
-//! and a target without fault (for [`existing_targets_have_no_fault`] one that is there); the contracts `Repo::law`, `Report::law`, `check_report` and `drive` give them. `svn_drive` uses
-//! [`the_calls_are_a_drive`]. How the laws are proved, `docs/PROOF.md` tells.
+//! and a target without fault (for [`existing_targets_have_no_fault`] one that is there); the contracts `Repo::law`, `Report::law`, `check_report`
+//! and `drive` give them. `svn_drive` uses [`the_calls_are_a_drive`]. `proofs/Lib.antt` names the files of lemmas in their order, and `docs/PROOF.md` says
+//! how the laws are proved.
 #![tactic(auto)]
 
 ghost use Rattle.svn_drive_law.specs.Laws.{drive_is_determined, existing_targets_have_no_fault, new_paths_have_parents};
@@ -34,7 +35,7 @@ pub fn drive_is_determined()
     ensures { drive_is_determined }
 {}
 
-/// In the drive of a report that the repository can serve, what is added stands in a directory that is opened or added.
+/// In the drive of a report that the repository can serve, what is added is in a directory that is opened or added.
 pub fn new_paths_have_parents()
     ensures { new_paths_have_parents }
 {}

@@ -66,7 +66,7 @@ err_of : {P : EditFault → Type 0} (r : Answer) → ((e : EditFault) → r ≡ 
 err_of (Ok done) f = tt
 err_of (Err e) f = f e refl
 
--- the nodes are what the effect of a call that is known makes of them, or memory was wanted and they stay
+-- the nodes are what the effect of a call that is known makes of them, or memory ran out and they stay
 abbrev pub AppliesKnown : Pending → List (Path × BaseNode) → Call → Answer → List (Path × BaseNode) → Type 0
 AppliesKnown old nodes c r nodes2 =
     (mode : Mode) (calls : List Call) → IsNext mode old calls c → IsNoted calls (batons_of old) nodes
@@ -183,7 +183,7 @@ added_carries old new nodes nodes2 p parent token r order opened none keeps h =
     absent true deep is = is
     absent false deep is = refl
 
--- a text comes, of which no checksum is looked at
+-- a text comes whose checksum is not looked at
 pub text_carries : (old new : Pending) (nodes : List (Path × BaseNode)) (t : ℕ) (sum : Option (List ℕ)) (text : List ℕ) (r : Answer)
     → InPathOrder nodes → KeepsEdit old new
     → ((b : Baton) → batons_of old t ≡ Some b → IsSumOf b.base nodes b.path

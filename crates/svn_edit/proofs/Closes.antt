@@ -185,7 +185,7 @@ module _ (mode : Mode) (old new : Pending) (calls : List Call) (t : ℕ) (d : Ca
 
 -- ---- a call that is noted
 
--- what was said of the baton that a look-up lent
+-- what was said of the baton that a look-up returned
 pub noted_of : (t u : ℕ) (note : Note) (strings : List (List ℕ)) (x d : Baton) (pools pools2 : Pools) (m n : BatonMap)
     → u ≡ t → Some x ≡ get m u → BatonSaid note strings x pools d pools2 → Updates m n u (Some d) → (b : Baton)
     → get m t ≡ Some b → BatonNoted t b note strings pools (get m) pools2 (get n)

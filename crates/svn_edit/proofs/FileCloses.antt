@@ -39,7 +39,7 @@ texts_are p = among_said text_in p (texts_at p) refl (λ s steps. refl) quiet
     quiet (Text sum x) h = absurd (true≢false h)
     quiet _ h = refl
 
--- the file at a path is closed where it stands
+-- the file at a path is closed where it is
 pub node_closed : (mode : Mode) (rev : ℕ) (at p : Path) (changes : List PropChange) (texts : List (List ℕ))
     (nodes nodes2 : List (Path × BaseNode)) (old new : BaseNode) → at ≡ p → Some old ≡ get_in nodes at
     → Some new ≡ closed_file rev (moved_path mode (get_in nodes) at) (joined_path (get_in nodes) at) changes texts (Some old)
@@ -51,7 +51,7 @@ node_closed mode rev at p changes texts nodes nodes2 old new same there closed w
     (λ q. written q ∙ ap (λ (v : Option BaseNode). cond (path_eq at q) v (w q))
     (closed ∙ ap (closed_file rev (moved_path mode w at) (joined_path w at) changes texts) there))
 
--- where nothing stands, the close of a file changes nothing
+-- where nothing is, the close of a file changes nothing
 pub nothing_closed : (mode : Mode) (rev : ℕ) (at p : Path) (changes : List PropChange) (texts : List (List ℕ))
     (nodes nodes2 : List (Path × BaseNode)) → at ≡ p → None ≡ get_in nodes at → nodes2 ≡ nodes
     → FileIsClosed mode rev p changes texts nodes nodes2
@@ -71,7 +71,7 @@ nothing_closed mode rev at p changes texts nodes nodes2 same none kept q =
     by false e = refl
     by true e = ap w (sym (same_path p q e)) ∙ sym here ∙ ap closed here
 
--- what stands at the path of a baton is closed there
+-- what is at the path of a baton is closed there
 pub node_closes : (edit : Pending) (b : Baton) (sum : Option (List ℕ)) (at : Path) (nodes nodes2 : List (Path × BaseNode)) (old new : BaseNode)
     (r : Result (Unit {0}) EditFault) → at ≡ b.path → Some old ≡ get_in nodes at
     → ((said : List Action) → Says b edit.pools said → AnswersCall (sum_fault md5 sum (filter_map text_in said) (Some old)) r)
@@ -88,7 +88,7 @@ node_closes edit b sum at nodes nodes2 old new r same there answers closed refus
   refused = OnErr_then r refused kept;
 }
 
--- where nothing stands, nothing changes
+-- where nothing is, nothing changes
 pub nothing_closes : (edit : Pending) (b : Baton) (sum : Option (List ℕ)) (at : Path) (nodes nodes2 : List (Path × BaseNode))
     (r : Result (Unit {0}) EditFault) → at ≡ b.path → None ≡ get_in nodes at → nodes2 ≡ nodes
     → ((said : List Action) → Says b edit.pools said → AnswersCall (sum_fault md5 sum (filter_map text_in said) None) r)

@@ -145,21 +145,21 @@ pub above_same : (root : ℕ) (at at2 : Batons) (o : Option Given) → ((g : Giv
 above_same root at at2 None h = refl
 above_same root at at2 (Some g) h = above_by root at at2 g.parent g.kind (λ m k e. h g m refl k e)
 
--- ---- pools beneath the first
+-- ---- pools below the first
 
 pub beneath_kept : (f f2 : ℕ → Option Entry) (r : ℕ) → ((q p : ℕ) → parent_of (f q) ≡ Some p → parent_of (f2 q) ≡ Some p) → (n q : ℕ)
     → IsAbove f r n q → IsAbove f2 r n q
 beneath_kept f f2 r keep zero q h = keep q r h
 beneath_kept f f2 r keep (suc n) q h = (h.0, keep q h.0 h.1, beneath_kept f f2 r keep n h.0 h.2)
 
--- without a pool that has none beneath it
+-- without a pool that has none below it
 beneath_without : (f f2 : ℕ → Option Entry) (r s : ℕ) → ((q : ℕ) → parent_of (f q) ≢ Some s) → ((q : ℕ) → q ≢ s → f2 q ≡ f q) → (n q : ℕ)
     → q ≢ s → IsAbove f r n q → IsAbove f2 r n q
 beneath_without f f2 r s leaf same zero q away h = ap parent_of (same q away) ∙ h
 beneath_without f f2 r s leaf same (suc n) q away h =
     (h.0, ap parent_of (same q away) ∙ h.1, beneath_without f f2 r s leaf same n h.0 (λ e. leaf q (h.1 ∙ ap Some e)) h.2)
 
--- the pool beneath which a token's is made
+-- the pool below which a token's is made
 above_beneath : (pools : Pools) (at : Batons) (calls : List Call) → HoldsBatons pools at calls → (k : Kind) (above : Option ℕ)
     → pool_of_kind pools.root at above k ≢ pools.root
     → IsBeneath (pool_at pools) pools.root (pool_of_kind pools.root at above k)
@@ -452,7 +452,7 @@ module _ (pools : Pools) (at : Batons) (calls : List Call) (c : Call) (m : ℕ) 
   root_away : pools.root ≢ b.pool.0
   root_away = root_apart pools at calls h m b there
 
-  -- no other pool lies beneath its pool
+  -- no other pool lies below its pool
   pub held_leaf : IsLeaf pools b.pool.0
   held_leaf s beneath = by (cases_eq s pools.root)
     where

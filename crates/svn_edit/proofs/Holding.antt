@@ -47,7 +47,7 @@ pub applied_refused : (fault : Option EditFault) (w : WorkingCopy) (nodes nodes2
 applied_refused fault w nodes nodes2 r e is h same =
     subst (λ (x : Result (Unit {0}) EditFault). Applied fault w nodes x nodes2) (sym is) (h, same)
 
--- where a node is present, that is told, and no other fault
+-- where a node is present, that is reported, and no other fault
 pub add_answer : (present : Bool) (fault : Option EditFault) (f r : EditFault) → (present ≡ false → IsAnswer fault f)
     → r ≡ cond present EntryExists f → IsAnswer (cond present (Some EntryExists) fault) r
 add_answer true fault f r h is = subst (IsAnswer (Some EntryExists)) (sym is) refl
@@ -107,7 +107,7 @@ holds_still mode old calls c d is next still none says shut =
     holds_by mode old old calls c d is next (edit_kept old) still
     (held_still old.pools (batons_of old) calls c next.holds.batons none says shut)
 
--- ---- answers
+-- ---- results
 
 pub order_none : (fault : Option OrderFault) → Answers fault (Ok tt) → fault ≡ None
 order_none None h = refl
@@ -192,7 +192,7 @@ applied_read checksum mode edit calls c d nodes nodes2 r is next F W faults effe
     subst (λ (x : Option EditFault). Applied x (effect mode calls d (get_in nodes)) nodes r nodes2) fault
     (subst (λ (v : WorkingCopy). Applied (F edit.mode) v nodes r nodes2) after h)
 
--- what isn't want of memory isn't answered as such
+-- what isn't Memory isn't returned as such
 pub not_memory : (e : OrderFault) → (e ≡ NoMemory → ⊥) → as_edit_fault e ≡ Memory → ⊥
 not_memory NoMemory n = absurd (n refl)
 not_memory e n = λ m. cc

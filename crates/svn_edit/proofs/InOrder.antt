@@ -1,4 +1,4 @@
--- Want of memory is answered to no call that is out of order.
+-- Memory is returned for no call that is out of order.
 use Rattle.std.proofs.Common.{◌≡◌, ◌≢◌, Bool, true, false, cond, List, refl, sym, ap, ◌∙◌}
 use Rattle.std.specs.Prelude.{Option, Some, None, Result, Ok, Err}
 use Rattle.std.specs.List.{list_any}
@@ -22,7 +22,7 @@ other : (b : Bool) (fault : OrderFault) (rest : Option OrderFault) → fault ≢
 other true fault rest ne h q = ne cc
 other false fault rest ne h q = h q
 
--- the order's rules have no want of memory
+-- the order's rules have no Memory
 of_rules : (calls : List Call) (c : Call) → NotMemory (fault_in_order calls c)
 of_rules calls c =
     other (is_target_late calls c) order.TargetFirst _ (λ q. cc)

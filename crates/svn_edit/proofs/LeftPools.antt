@@ -323,7 +323,7 @@ none_began t b strings edit there = record {
   tokens = λ u n. refl;
 }
 
--- what was begun with the baton that a look-up lent
+-- what was begun with the baton that a look-up returned
 pub began_of : (t u : ℕ) (strings : List (List ℕ)) (x d : Baton) (old new : Pending) → u ≡ t → Some x ≡ batons_of old u
     → BatonBegan strings x old.pools d new.pools → Updates old.batons new.batons u (Some d) → (b : Baton)
     → batons_of old t ≡ Some b → NoteBegan t b strings old new
@@ -399,7 +399,7 @@ said_left old new c d m k strings r is going named brings said = OnErr_then r sa
     began_left old new calls d m b.0 strings next.holds.batons b.1
     (ap (λ (x : Call). call_strings x m) is ∙ brings ∙ ap (λ same. cond same strings []) (eq-eqb m m refl)) (began b.0 b.1))
 
--- ---- a call's answer and the pools
+-- ---- a call's result and the pools
 
 pub ended_after : (edit : Edit) (nodes : List (Path × BaseNode)) (c : Call) (e : EditFault) → edit.stage ≡ Ended
     → PoolsAfter edit nodes c (Err e) edit

@@ -10,7 +10,7 @@ pub mod OpenPaths
 pub mod HeldBatons
 -- What an edit holds after one more call.
 pub mod Holding
--- Want of memory is answered to no call that is out of order.
+-- Memory is returned for no call that is out of order.
 pub mod InOrder
 -- The pools that a refused call leaves.
 pub mod LeftPools
@@ -20,7 +20,7 @@ pub mod Closes
 pub mod Bases
 -- The close of a file: its text is checked, what was said of it is done, and its baton goes.
 pub mod FileCloses
--- The last call among the others: what it answers and leaves, and how many pools are live.
+-- The last call among the others: what it returns and leaves, and how many pools are live.
 pub mod Switching
 -- What a call that is in order makes of an edit, by what its function says.
 pub mod Takings

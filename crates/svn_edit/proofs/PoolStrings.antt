@@ -124,7 +124,7 @@ begun b t u beneath p text path notes none pool fresh apart childless is spelled
       ∙ ap Some pool);
 }
 
--- ---- a pool without pools beneath it
+-- ---- a pool without pools below it
 
 no_beneath : (t : Pools) (s : ℕ) → IsLeaf t s → (n q : ℕ) → IsAbove (pool_at t) s n q → ⊥
 no_beneath t s leaf zero q h = leaf q h
@@ -147,7 +147,7 @@ leaf_gone t u s e live leaf d = record {
       | inr n ↦ others q n ∙ sym (removed_away t.live s q n)
     ])
 
--- the first pool is emptied: nothing else is left, since all others lie beneath it
+-- the first pool is emptied: nothing else is left, since all others lie below it
 pub one_left : (t u : Pools) (e : Entry) → pool_at t t.root ≡ Some e → ((s : ℕ) (x : Entry) → pool_at t s ≡ Some x → s ≢ t.root
     → IsBeneath (pool_at t) t.root s)
     → IsCleared t u t.root → fin.len u.live ≡ 1

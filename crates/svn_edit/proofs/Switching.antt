@@ -1,4 +1,4 @@
--- The last call among the others: what it answers and leaves, and how many pools are live.
+-- The last call among the others: what it returns and leaves, and how many pools are live.
 use Rattle.std.proofs.Common.{◌≡◌, ℕ, ◌+◌, Bool, true, false, cond, List, [], ◌∷◌, refl, sym, ◌∙◌, ap, subst}
 use Rattle.std.specs.Prelude.{Some, None, Result}
 use Rattle.std.specs.List.{list_any}

@@ -75,7 +75,7 @@ abbrev pub pool_or : ℕ → Option Baton → ℕ
 pool_or root None = root
 pool_or root (Some b) = b.pool.0
 
--- the pool beneath which a token's is made: for a directory that of its parent, else that of the edit
+-- the pool below which a token's is made: for a directory that of its parent, else that of the edit
 abbrev pub pool_of_parent : ℕ → Batons → Option ℕ → ℕ
 pool_of_parent root at None = root
 pool_of_parent root at (Some m) = pool_or root (at m)
@@ -124,7 +124,7 @@ pub record HoldsBatons (pools : Pools) (at : Batons) (calls : List Call) : Type 
   pub beneath : (s : ℕ) (e : Entry) → pool_at pools s ≡ Some e → s ≢ pools.root → IsBeneath (pool_at pools) pools.root s
   pub count : map.len pools.live ≡ open_count calls + 1
 
--- no pool lies beneath it
+-- no pool lies below it
 abbrev pub IsLeaf : Pools → ℕ → Type 0
 IsLeaf pools s = (q : ℕ) → parent_of (pool_at pools q) ≢ Some s
 
@@ -208,7 +208,7 @@ pub record KeepsEdit (old new : Pending) : Type 0 where
 abbrev pub batons_of : Pending → Batons
 batons_of edit = get edit.batons
 
--- a token's baton goes, and its pool, where none lies beneath that
+-- a token's baton goes, and its pool, where none lies below that
 abbrev pub LetsGo : ℕ → Pending → Pending → Type 0
 LetsGo t old new =
     (b : Baton) (e : Entry) → batons_of old t ≡ Some b → pool_at old.pools b.pool.0 ≡ Some e → IsLeaf old.pools b.pool.0
@@ -217,7 +217,7 @@ LetsGo t old new =
 abbrev pub MakesBaton : ℕ → Path → ℕ → Pending → Pending → Type 0
 MakesBaton beneath p t old new = BatonMade beneath p t old.pools (batons_of old) new.pools (batons_of new)
 
--- the answer is the fault, or there is none and the copy is as the effect says
+-- the result is the fault, or there is none and the copy is as the effect says
 abbrev pub Applied : Option EditFault → WorkingCopy → List (Path × BaseNode) → Result (Unit {0}) EditFault → List (Path × BaseNode) → Type 0
 Applied fault w nodes (Ok done) nodes2 = (fault ≡ None) × ((p : Path) → get_in nodes2 p ≡ w p)
 Applied fault w nodes (Err e) nodes2 = IsAnswer fault e × (nodes2 ≡ nodes)
@@ -247,7 +247,7 @@ pub record Holds (mode : Mode) (edit : Pending) (calls : List Call) : Type 0 whe
   pub target : edit.target ≡ target_of calls
   pub batons : HoldsBatons edit.pools (batons_of edit) calls
 
--- of the pools the first alone is live
+-- only the first pool is live
 abbrev pub OneIsLeft : Pending → Type 0
 OneIsLeft edit = map.len edit.pools.live ≡ 1
 
@@ -283,7 +283,7 @@ HasEnded edit = edit.stage ≡ Ended
 abbrev pub IsRefused : Edit → Type 0
 IsRefused edit = edit.stage ≡ Refused
 
--- after a refusal giving up alone is left
+-- after a refusal only `AbortEdit` is left
 abbrev pub StaysRefused : Call → Result (Unit {0}) EditFault → Edit → Type 0
 StaysRefused AbortEdit answer new = (answer ≡ Ok tt) × HasEnded new
 StaysRefused _ answer new = (answer ≡ Err (Order Dead)) × IsRefused new

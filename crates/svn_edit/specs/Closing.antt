@@ -1,4 +1,4 @@
--- What the close of a file by its baton does, and how it is answered.
+-- What the close of a file by its baton does, and what it returns.
 --     ClosesFile edit b sum nodes answer nodes2      to the nodes of a copy
 use Rattle.std.specs.Prelude.{◌≡◌, ℕ, List, Option, Result, OnOk, OnErr, filter_map}
 use Rattle.md5.specs.Md5.{md5}

@@ -1,6 +1,6 @@
--- The pools of an edit after a refused call: the accepted calls say what they are, but that strings of the refused one may stand behind.
+-- The pools of an edit after a refused call: the accepted calls say what they are, but that strings of the refused one may be after.
 --     IsLeft calls c edit      the edit accepted these calls, refused c after them, and was not given up
---     PoolsAfter old nodes call answer new      what a call and its answer make of the pools
+--     PoolsAfter old nodes call answer new      what a call and its result make of the pools
 use Rattle.std.specs.Prelude.{nat_eq, ◌≡◌, ◌≢◌, ℕ, ◌+◌, false, List, [], ◌∷◌, ◌++◌, Some, None, is_some, Result, OnErr, if◌then◌else◌}
 use Rattle.std.specs.List.{list_any, flat_map}
 use Rattle.std.specs.FinMap as map

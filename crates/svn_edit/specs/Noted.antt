@@ -1,5 +1,5 @@
 -- What the strings of an open file's or directory's pool say: the path by its key, and then what the calls on it are about.
---     changes_said notes strings, texts_said notes strings      the same, read from strings and what is noted beside them
+--     changes_said notes strings, texts_said notes strings      the same, read from strings and the notes on them
 use Rattle.std.specs.Prelude.{ℕ, Bool, true, false, List, [], ◌∷◌, Option, Some, None}
 use Rattle.svn_types.specs.Props.{PropChange}
 use Rattle.svn_editor.specs.Steps.{Action, Change, Text}

@@ -1,4 +1,4 @@
--- What an open or an add does, and how it is answered.
+-- What an open or an add does, and what it returns.
 --     GivesToken beneath p t act old nodes answer new nodes2      at a path, to an edit and the nodes of its copy
 use Rattle.std.specs.Prelude.{ℕ, List, [], Result, OnOk}
 use Rattle.md5.specs.Md5.{md5}
@@ -11,7 +11,7 @@ use Rattle.svn_model.specs.Effects.{step_fault, step_effect}
 use Rattle.svn_edit.specs.declared.pending.Pending.{Pending}
 use Rattle.svn_edit.specs.Applying.{Applied, KeepsEdit, MakesBaton}
 
--- the nodes are what the step alone makes of them, and the token has a baton, with its pool beneath that one; refused, the nodes stay
+-- the nodes are what the step alone makes of them, and the token has a baton, with its pool below that one; refused, the nodes stay
 pub record GivesToken (beneath : ℕ) (p : Path) (t : ℕ) (act : Action) (old : Pending) (nodes : List (Path × BaseNode))
     (answer : Result (Unit {0}) EditFault) (new : Pending) (nodes2 : List (Path × BaseNode)) : Type 0 where
   pub opened : OnOk answer (MakesBaton beneath p t old new)

@@ -1,4 +1,4 @@
--- What a call that is in order makes of an edit and of the nodes of its copy, and how it is answered.
+-- What a call that is in order makes of an edit and of the nodes of its copy, and what it returns.
 --     Takes old nodes call answer new nodes2      it took an edit and nodes to these
 use Rattle.std.specs.Prelude.{◌≡◌, ◌≢◌, true, false, List, [], ◌∷◌, ◌++◌, Result, OnOk, OnErr, IfErr}
 use Rattle.md5.specs.Md5.{md5}

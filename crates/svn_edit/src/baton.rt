@@ -20,7 +20,7 @@ use svn_editor::Digest;
 use svn_pool::{PoolFault, PoolId, PoolTree, Reader};
 use svn_types::{PathFault, PropName, Props, Text, impossible};
 
-/// What the strings of a baton's pool say, behind the first, which is the path's key.
+/// What the strings of a baton's pool say, after the first, which is the path's key.
 #[derive(Clone, Copy, Default)]
 pub(crate) enum Note {
     /// Two strings: the name of a property, and its new value.
@@ -41,7 +41,7 @@ fn has_change(notes: &[Note]) -> bool
         .any(|note| matches!(note, Note::Set | Note::Remove))
 }
 
-// How many notes a baton holds in place: a text or a few properties take no block beside it.
+// How many notes a baton holds in place: a text or a few properties need no other block.
 const FEW_NOTES: usize = 8;
 
 /// Where the text that came for a file lies among the strings of its pool.
@@ -82,7 +82,7 @@ fn push(pools: &mut PoolTree<Global>, pool: PoolId, bytes: &[u8]) -> Result<u32,
     }
 }
 
-/// Destroys a pool that has none beneath it.
+/// Destroys a pool that has none below it.
 pub(crate) fn drop_pool(pools: &mut PoolTree<Global>, pool: PoolId)
     ensures { (e : Entry) → pool_at pools.old pool.0 ≡ Some e → IsLeaf pools.old pool.0 → pool.0 ≢ pools.old.root → PoolGone pool.0 pools.old pools.new }
 {
@@ -93,7 +93,7 @@ pub(crate) fn drop_pool(pools: &mut PoolTree<Global>, pool: PoolId)
 }
 
 impl Baton {
-    /// A baton whose pool is made beneath another, and holds the path's key. Where memory is refused, no pool is left.
+    /// A baton whose pool is made below another, and holds the path's key. If an allocation fails, no pool is left.
     pub(crate) fn open(
         alloc: Global,
         pools: &mut PoolTree<Global>,
@@ -120,7 +120,7 @@ impl Baton {
         })
     }
 
-    /// Notes a change of a property. Where memory is refused, the first of the strings may have been pushed.
+    /// Notes a change of a property. If an allocation fails, the first of the strings may have been pushed.
     pub(crate) fn note_change(
         &mut self,
         pools: &mut PoolTree<Global>,
@@ -140,7 +140,7 @@ impl Baton {
         Ok(())
     }
 
-    /// Notes the text. Where one was noted before, that one counts. Where memory is refused, the string may have been pushed.
+    /// Notes the text. Where one was noted before, that one counts. If an allocation fails, the string may have been pushed.
     pub(crate) fn note_text(
         &mut self,
         pools: &mut PoolTree<Global>,

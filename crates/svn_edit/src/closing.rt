@@ -39,7 +39,7 @@ fn moved_to(joined: Result<RelPath, AllocError>) -> Result<Option<RelPath>, Allo
 }
 
 impl Pending {
-    // Lets go what an edit keeps of a token.
+    // Drops what an edit keeps of a token.
     pub(crate) fn close_baton(&mut self, token: Token)
         ensures gone { LetsGo token self.old self.new }
         ensures others { (u : ℕ) (b : Baton) → batons_of self.new u ≡ Some b → batons_of self.old u ≡ Some b }
@@ -50,7 +50,7 @@ impl Pending {
         }
     }
 
-    // Closes a directory where it stands. On a refusal it is as it was.
+    // Closes a directory where it is. On a refusal it is as it was.
     fn complete(&self, node: &mut BaseNode, baton: &Baton) -> Result<(), EditFault>
         ensures closed { OnOk result ((said : List Action) → Says baton.now self.now.pools said → Some node.new ≡ closed_directory (filter_map change_in said) (Some node.old)) }
         ensures refused { IfErr result (λ e. (e ≡ EditFault.Memory) × (node.new ≡ node.old)) }
@@ -112,7 +112,7 @@ impl Pending {
         }
     }
 
-    // Closes what stands as a file or a directory, with the repository path that it gets, if it gets one. On a refusal it is as it was.
+    // Closes what is a file or a directory, with the repository path that it gets, if it gets one. On a refusal it is as it was.
     fn close_opened(
         &self,
         node: &mut BaseNode,
@@ -144,7 +144,7 @@ impl Pending {
         Ok(())
     }
 
-    // What an added file is before anything that was said of it is done.
+    // An added file before any change of it is applied.
     fn empty_file(&self) -> BaseNode
         ensures { result ≡ FileNode self.now.target [] [] [] }
     {
@@ -156,8 +156,8 @@ impl Pending {
         }
     }
 
-    // Closes what stands at the path of a baton, with the repository path that it gets if it is an added file: that stands as not present.
-    // What stands as a file is closed like an opened one.
+    // Closes what is at the path of a baton, with the repository path that it gets if it is an added file: that one is not present.
+    // What is a file is closed like an opened one.
     fn close_new(
         &self,
         node: &mut BaseNode,
@@ -179,7 +179,7 @@ impl Pending {
         self.close_opened(node, baton, text_md5, moved)
     }
 
-    // Closes a file where nothing stands: its text is tested, and nothing changes.
+    // Closes a file where nothing is: its text is tested, and nothing changes.
     fn close_nothing(&self, baton: &Baton, text_md5: &Option<Digest>) -> Result<(), EditFault>
         ensures { (said : List Action) → Says baton.now self.now.pools said → AnswersCall (sum_fault md5 text_md5.now (filter_map text_in said) None) result }
     {
@@ -187,7 +187,7 @@ impl Pending {
         Ok(())
     }
 
-    // Closes the file of a baton, with the repository path that it gets if it is an added one. That is made before, and its refusal told
+    // Closes the file of a baton, with the repository path that it gets if it is an added one. That is made before, and its refusal reported
     // after that of the text.
     fn close_joined(
         &self,
@@ -205,7 +205,7 @@ impl Pending {
         }
     }
 
-    // Closes the file of a baton. By the calls in order it is looked up once. Where an opened one stands as not present, which can't come,
+    // Closes the file of a baton. By the calls in order it is looked up once. Where an opened one is not present, which can't come,
     // it is closed like an added one.
     fn close_file_of(
         &self,
@@ -268,7 +268,7 @@ impl Pending {
         }
     }
 
-    // All growths come before any change.
+    // All allocations come before any change.
     fn close_switch(&self, copy: &mut Nodes, root: &RelPath) -> Result<(), EditFault>
         ensures { let mode = SwitchTo root.now in Applied (settle_fault mode copy.old.entries) (λ p. settled mode self.now.target p (get_in copy.old.entries p)) copy.old.entries result copy.new.entries }
     {

@@ -22,18 +22,18 @@ use svn_nodes::Nodes;
 use svn_order::OrderCheck;
 use svn_types::RelPath;
 
-/// How far an edit is.
+/// The state of an edit.
 #[derive(Clone, Copy)]
 pub(crate) enum Stage {
     /// Every call so far was accepted, and none was the last.
     Going,
-    /// A call was refused: only giving up is left.
+    /// A call was refused: only `AbortEdit` may follow.
     Refused,
     /// The edit was ended or given up.
     Ended,
 }
 
-/// An edit: how far it is, the check of the order of its calls, and what the calls in order leave to be done.
+/// An edit: its state, the check of the order of its calls, and what the calls in order leave to be done.
 #[derive(Drop)]
 pub struct Edit {
     pub(crate) stage: Stage,

@@ -8,7 +8,7 @@ use std::marker::Model;
 use svn_nodes::paths::parent_path;
 use svn_types::RelPath;
 
-/// The path of an open file or directory. An added file keeps that of its directory beside it: its close asks for the directory's node.
+/// The path of an open file or directory. An added file also keeps its directory's: its close looks up the directory's node.
 /// A contract sees the path alone.
 #[derive(Drop)]
 pub(crate) struct OpenPath {
@@ -64,7 +64,7 @@ impl OpenPath {
     }
 }
 
-/// The path of the directory that a path is in. Where that is the parent, as in each call in order, a clone shares its path.
+/// The path of the directory that a path is in. If that is the parent, as in each call in order, a clone shares its path.
 pub(crate) fn above(
     alloc: Global,
     path: &RelPath,

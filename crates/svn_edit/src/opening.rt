@@ -33,7 +33,7 @@ struct NewNode {
     node: BaseNode,
 }
 
-// What a file is made of that is added to the directory above. Until its close it stands as not present.
+// What a file is made of that is added to the directory above. Until its close it is not present.
 fn file_below(path: &RelPath, above: RelPath) -> Result<NewNode, EditFault>
     requires { above ≡ directory_of path.now }
     ensures { MakesNode path.now None NotPresent result }
@@ -56,7 +56,7 @@ impl Pending {
         }
     }
 
-    // The pool beneath which that of a directory is made.
+    // The pool below which that of a directory is made.
     fn pool_of(&self, parent: Option<&Baton>) -> PoolId
         ensures { result.0 ≡ pool_or self.now.pools.root (option_copied parent.entry) }
     {
@@ -286,7 +286,7 @@ impl Pending {
         }
     }
 
-    // Adds what was made for a path, if it could be made. That one is present there is told before any other fault.
+    // Adds what was made for a path, if it could be made. That one is present there is reported before any other fault.
     fn add(
         &mut self,
         copy: &mut Nodes,

@@ -40,8 +40,8 @@ pub struct Pending {
     /// Whether it is of an update, or of a switch of the whole copy.
     pub(crate) mode: Mode,
     pub(crate) pools: PoolTree<Global>,
-    // The token that a call in order names has a baton. But the calls so far, from which that follows, stand in no field and in no
-    // condition of a call, so where a baton is looked up the branch without one stays, and answers Memory.
+    // The token that a call in order names has a baton. But the calls so far, from which that follows, are in no field and in no
+    // condition of a call, so where a baton is looked up the branch without one stays, and returns Memory.
     pub(crate) batons: SerialMap<Baton, Global>,
     /// The text that came last, from its call to the next close of a file, where a clone of it copies no bytes and knows their checksum.
     /// That close may install it, once it is found to be what lies in the pool.
@@ -103,7 +103,7 @@ impl Pending {
         }
     }
 
-    /// Does what a call says that is known to be in order and not to be refused, and tests neither. The only fault of such a call is Memory. Of any
+    /// Applies a call that is known to be in order and not to be refused, and tests neither. The only fault of such a call is Memory. Of any
     /// other call nothing is promised but that a fault leaves the copy as it was. AbortEdit changes nothing, and has no fault.
     pub fn carry(&mut self, copy: &mut Nodes, call: &Call) -> Result<(), EditFault>
         ensures { Carries self.old copy.old.entries call.now result self.new copy.new.entries }

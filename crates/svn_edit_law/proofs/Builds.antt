@@ -229,7 +229,7 @@ module _ (w : WorkingCopy) (at : Path) where
   left_here : left at ≡ Some NotPresent
   left_here = ap (λ b. cond b (Some NotPresent) (cond (is_within at at) None (w at))) (path_eq-same at)
 
-  -- within the path nothing is present, and beneath it there is nothing
+  -- within the path nothing is present, and below it there is nothing
   left_within : (p : Path) → is_within at p ≡ true → (left p ≡ Some NotPresent) ⊎ (left p ≡ None)
   left_within p e = by (path_eq at p)
     where

@@ -181,7 +181,7 @@ link_is p above (DirNode u v c ps) q r s h = (refl, by (is_root p) (is_switched 
     by false false true k = cc
     by false false false k = cc
 
--- ---- what stands above
+-- ---- what is above
 
 not_none_of_dir : (o : Option BaseNode) → is_dir o ≡ true → o ≢ None
 not_none_of_dir o h e = true≢false (sym h ∙ ap is_dir e)
@@ -192,7 +192,7 @@ directory_over w shape (m ∷ r) p name h =
     let up = directory_over w shape r (child p name) m (λ e. h (ap w (sym (append_assoc p (name ∷ []) (m ∷ r))) ∙ e)) in
     shape.parents p name (not_none_of_dir (w (child p name)) up)
 
--- above what is in the copy stand directories
+-- above what is in the copy there are directories
 pub directory_above : (w : WorkingCopy) → IsWorkingCopy w → (p q : Path) → is_below p q ≡ true → w q ≢ None → is_dir (w p) ≡ true
 directory_above w shape p q below some = by (split_within p q parts.0)
   where

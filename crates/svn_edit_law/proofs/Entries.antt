@@ -1,4 +1,4 @@
--- The entries of a directory: their names, and where each stands below a path.
+-- The entries of a directory: their names, and where each is below a path.
 use Rattle.std.proofs.Common.{◌≡◌, ◌≢◌, ℕ, Bool, true, false, ◌||◌, List, [], ◌∷◌, refl, sym, ◌∙◌, ap, subst}
 use Rattle.std.specs.Prelude.{Some, None, cond, bytes_eq}
 use Rattle.std.proofs.lemmas.Bool.{or_right}

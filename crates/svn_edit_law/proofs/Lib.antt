@@ -1,8 +1,8 @@
--- the last name of a path, and where nothing stands nothing changes
+-- the last name of a path, and where nothing is, nothing changes
 pub mod PathParts
 -- a copy as a map, and as the function from paths
 pub mod Lookups
--- lists of nodes in path order, and what stands at each path
+-- lists of nodes in path order, and what is at each path
 pub mod NodeLists
 -- what one step does at each path
 pub mod StepEffects
@@ -12,13 +12,13 @@ pub mod Appending
 pub mod OnePath
 -- the shape of a copy after one node is changed, after a delete and after the end
 pub mod OneNode
--- where an edit opened a directory, a directory stands from then on
+-- where an edit opened a directory, a directory is there from then on
 pub mod OpenStand
--- what stands at the path of an open file stays until its close
+-- what is at the path of an open file stays until its close
 pub mod FilesStand
 -- a call that isn't refused keeps the shape of the copy
 pub mod Shape
--- the entries of a directory, and where each stands below a path
+-- the entries of a directory, and where each is below a path
 pub mod Entries
 -- a copy with another tree at a path: its shape and its truth
 pub mod Parts

@@ -13,7 +13,7 @@ pub get_in-updated : (m n : List (Path × BaseNode)) (k : Path) (v : Option Base
     → ((q : Path) → get_in n q ≡ cond (is_at (path_cmp k) q) v (get_in m q)) → (p : Path) → get_in n p ≡ cond (path_eq k p) v (get_in m p)
 get_in-updated m n k v h p = h p ∙ ap (λ b. cond b v (get_in m p)) (at_path k p)
 
--- what two lists have, one behind the other
+-- what two lists have, one after the other
 pub get_in-append : (xs ys : List (Path × BaseNode)) (p : Path) → get_in (xs ++ ys) p ≡ option_or (get_in xs p) (get_in ys p)
 get_in-append [] ys p = refl
 get_in-append (x ∷ xs) ys p = by (is_at (path_cmp p) x.0) (get_in-append xs ys p)

@@ -1,4 +1,4 @@
--- Lists of nodes in path order: what stands at each path.
+-- Lists of nodes in path order: what is at each path.
 use Rattle.std.proofs.Common.{◌≡◌, Bool, true, false, List, [], ◌∷◌, refl, sym, ◌∙◌, ap}
 use Rattle.std.specs.Prelude.{Option, Some, None, cond}
 use Rattle.std.specs.declared.cmp.Ordering.TheVariants.{Less}

@@ -43,7 +43,7 @@ present_stands o h none = true≢false (sym h ∙ ap is_present none)
 pub short_enough : (n : ℕ) → nat_lt path_limit n ≡ false → n ≤ path_limit
 short_enough n h = grind (arith, nat_tests)
 
--- a path and the repository path of what stands there
+-- a path and the repository path of what is there
 abbrev pub Fits : Path → Option BaseNode → Type 0
 Fits p o = (length (node_path o) ≤ path_limit) × (length p ≤ path_limit + length (node_path o))
 

@@ -27,7 +27,7 @@ use Rattle.svn_model.specs.Said.{says, said_at}
 use Rattle.svn_edit_law.specs.Laws.{IsPathed}
 use Rattle.svn_edit_law.proofs.Appending.{steps-more, said-append}
 
--- ---- the call that says something, of which token, and what
+-- ---- the call about something: its token, and what it says
 
 abbrev pub noted : Call → Option (ℕ × Action)
 noted (ChangeDirProp token name value) = Some (token, Change Directory (name, value))

@@ -1,4 +1,4 @@
--- At the path of each directory that an edit opened stands a directory, from then on.
+-- At the path of each directory that an edit opened there is a directory, from then on.
 use Rattle.std.proofs.Common.{◌≡◌, ℕ, Bool, true, false, cond, List, [], ◌∷◌, ◌++◌, refl, sym, ◌∙◌, ap, true≢false, inl, inr}
 use Rattle.std.proofs.Common.{append_assoc, append-nil}
 use Rattle.std.specs.Prelude.{Option, Some, None, ◌⊎◌}
@@ -85,7 +85,7 @@ module _ (mode : Mode) (calls : List Call) (w : WorkingCopy) where
       by false e = h
 
   module _ (c : Call) (s : IsSound calls) (a : IsAccepted calls c) where
-    -- what stands at a path opened before
+    -- what is at a path opened before
     dir_kept : (t : ℕ) (g : Given) → given calls t ≡ Some g → is_dir (w g.path) ≡ true → is_dir (effect mode calls c w g.path) ≡ true
     dir_kept t g e h = by c a
       where
@@ -126,7 +126,7 @@ module _ (mode : Mode) (calls : List Call) (w : WorkingCopy) where
         by CloseEdit b = settled_is_dir mode (target_of calls) g.path (w g.path) h
         by AbortEdit b = h
 
-    -- what stands at a path that is opened now: of an open a directory stood there before, since the call isn't refused
+    -- what is at a path that is opened now: of an open a directory was there before, since the call isn't refused
     dir_made : (g : Given) → given_by c ≡ Some g → kind_eq g.kind Directory ≡ true → (is_open_of c ≡ true → is_dir (w g.path) ≡ true)
         → is_dir (effect mode calls c w g.path) ≡ true
     dir_made g e k stood = by c e stood

@@ -1,4 +1,4 @@
--- A copy in which something stands at a path and below it in the place of what stood there.
+-- A copy in which something is at a path and below it in the place of what was there.
 use Rattle.std.proofs.Common.{◌≡◌, ◌≢◌, ℕ, ◌+◌, ◌≤◌, Bool, true, false, ◌&&◌, List, [], ◌∷◌, ◌++◌, length, refl, sym, ◌∙◌, ap, subst}
 use Rattle.std.proofs.Common.{true≢false, append_assoc, length-append, arith}
 use Rattle.std.specs.Prelude.{Option, Some, None, option_map, bytes_eq}
@@ -39,7 +39,7 @@ first_within (m ∷ at) (x ∷ p) name h n =
 
 -- ---- truth
 
--- where what stands at no path within the part changes, and the part's root stands, each node outside stays true
+-- where what is at no path within the part changes, and the part's root is there, each node outside stays true
 pub outside_true : (h : History) (w w' : WorkingCopy) (at : Path) → ((p : Path) → is_within at p ≡ false → w' p ≡ w p) → w' at ≢ None
     → (p : Path) → is_within at p ≡ false → IsTrueNode h w p (w p) → IsTrueNode h w' p (w' p)
 outside_true h w w' at same there p out t = subst (IsTrueNode h w' p) (sym (same p out)) (by (w p) t)
@@ -67,7 +67,7 @@ outside_true h w w' at same there p out t = subst (IsTrueNode h w' p) (sym (same
 
 -- ---- a tree of the repository
 
--- at the path and below stands the tree that revision r has at q
+-- at the path and below is the tree that revision r has at q
 abbrev pub IsTree : History → WorkingCopy → Path → Path → ℕ → Type 0
 IsTree h v at q r = (s : Path) → v (at ++ s) ≡ checkout h q r s
 
@@ -75,7 +75,7 @@ module _ (h : History) (v : WorkingCopy) (at q : Path) (r : ℕ) (tree : IsTree 
   no_node : (m : ℕ) (p : Path) → None ≡ Some (base_node h r p m) → ⊥
   no_node m p e = cc
 
-  -- what stands at a child is an entry of the node above
+  -- what is at a child is an entry of the node above
   entry_stands : (s : Path) (n : ℕ) (name : Name) (m : ℕ) → look h r (q ++ s) ≡ Some n → value_of (entries_of h n) name ≡ Some m
       → v (child (at ++ s) name) ≢ None
   entry_stands s n name m e f none =
@@ -185,7 +185,7 @@ module _ (h : History) (v : WorkingCopy) (at q : Path) (r : ℕ) (tree : IsTree 
 
 -- ---- the shape
 
--- at a path and below stands something else, which has the shape of a part
+-- at a path and below is something else, which has the shape of a part
 pub record Replaces (w w' : WorkingCopy) (at : Path) : Type 0 where
   pub not_root : is_root at ≡ false
   pub outside : (p : Path) → is_within at p ≡ false → w' p ≡ w p

@@ -12,7 +12,7 @@ use Rattle.svn_model.specs.Nodes.{WorkingCopy}
 pub last_is : (p : Path) (n : List ℕ) → slice_get p (length p - 1) ≡ Some n → last_name p ≡ n ∷ []
 last_is p n h = ap last_name (split_at_last p n h) ∙ last_name-child (parent p) n
 
--- where nothing stands, nothing changes
+-- where nothing is, nothing changes
 pub none_changed : (w : WorkingCopy) (k : Path) (f : Option BaseNode → Option BaseNode) → w k ≡ None → f None ≡ None → (p : Path)
     → w p ≡ cond (path_eq k p) (f (w k)) (w p)
 none_changed w k f none still p = by (path_eq k p) refl

@@ -164,7 +164,7 @@ module _ (checksum : List ℕ → List ℕ) (mode : Mode) (nodes : List (Path ×
   unchanged p x still same =
       subst IsWorkingCopy (λ i r. effect_none mode (target_of calls) (steps_of calls) p x w still same r i) stood.shape
 
-  -- an entry's parent is an open directory, and one stands there
+  -- an entry's parent is an open directory, and one is there
   module _ (c : Call) (a : IsAccepted calls c) where
     entry_in : (m : ℕ) (p : Path) → named_by c ≡ Some (m, Directory) → entry_of c ≡ Some p
         → (is_root p ≡ false) × (is_dir (w (parent_of p)) ≡ true)
@@ -303,7 +303,7 @@ module _ (checksum : List ℕ → List ℕ) (mode : Mode) (nodes : List (Path ×
       settled_shape mode (target_of calls) nodes stood.shape (cond_none (list_any (is_settled_deep mode) nodes) _ _ f).0
   shape_kept AbortEdit a n f = stood.shape
 
-  -- ---- what stands at open paths after a call
+  -- ---- what is at open paths after a call
 
   opens_standing : (c : Call) → edit_fault checksum mode calls c nodes ≡ None → (g : Given) → given_by c ≡ Some g → is_open_of c ≡ true
       → kind_eq g.kind Directory ≡ true → is_dir (w g.path) ≡ true

@@ -64,7 +64,7 @@ module _ (nodes : List (Path × BaseNode)) (named : AllEndNamed nodes) (none : n
   deep : list_any is_node_too_deep nodes ≡ false
   deep = (cond_none (list_any is_node_too_deep nodes) TooDeep None third.1).0
 
-  -- what stands somewhere
+  -- what is somewhere
   some_node : (p : Path) → w p ≢ None → (b : BaseNode) × (w p ≡ Some b)
   some_node p some = by (w p) refl
     where

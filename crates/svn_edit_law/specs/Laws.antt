@@ -31,19 +31,19 @@ pub record IsPathed (calls : List Call) : Type 0 where
 abbrev pub tokens_have_paths : Type 0
 tokens_have_paths = (calls : List Call) → IsLawful calls → IsPathed calls
 
--- ---- what stands at open paths
+-- ---- what is at open paths
 
--- at each directory that was given, closed or not, stands a directory
+-- at each directory that was given, closed or not, there is a directory
 abbrev pub OpenDirectoriesStand : WorkingCopy → List Call → Type 0
 OpenDirectoriesStand w calls = (t : ℕ) (g : Given) → given calls t ≡ Some g → kind_eq g.kind Directory ≡ true → is_dir (w g.path) ≡ true
 
--- an open, which the copy refuses where no directory stands
+-- an open, which the copy refuses where there is no directory
 abbrev pub is_open_of : Call → Bool
 is_open_of (OpenRoot base token) = true
 is_open_of (OpenDirectory path parent base token) = true
 is_open_of _ = false
 
--- the directory that the call opens stands there
+-- the directory that the call opens is there
 abbrev pub OpensStanding : WorkingCopy → Call → Type 0
 OpensStanding w c = (g : Given) → given_by c ≡ Some g → is_open_of c ≡ true → kind_eq g.kind Directory ≡ true → is_dir (w g.path) ≡ true
 
@@ -52,7 +52,7 @@ directories_stay =
     (mode : Mode) (w : WorkingCopy) (calls : List Call) (c : Call) → IsLawful calls → order_fault calls c ≡ None → is_abort c ≡ false
     → OpenDirectoriesStand w calls → OpensStanding w c → OpenDirectoriesStand (effect mode calls c w) (calls ++ c ∷ [])
 
--- what stands at an open file's path stays until its close
+-- what is at an open file's path stays until its close
 abbrev pub files_stay : Type 0
 files_stay =
     (mode : Mode) (w : WorkingCopy) (calls : List Call) (c : Call) → IsLawful calls → order_fault calls c ≡ None → is_abort c ≡ false
@@ -80,7 +80,7 @@ OpenFilesFit mode w calls =
     (t : ℕ) (g : Given) → given calls t ≡ Some g → g.kind ≡ File → is_closed calls t ≡ false → is_joined_at_close mode (w g.path) ≡ true
     → length (joined_path w g.path) ≤ path_limit
 
--- a copy after these calls: the shape, and what stands where they opened something
+-- a copy after these calls: the shape, and what is where they opened something
 pub record IsShapedAfter (mode : Mode) (w : WorkingCopy) (calls : List Call) : Type 0 where
   pub shape : IsWorkingCopy w
   pub directories : OpenDirectoriesStand w calls
@@ -104,7 +104,7 @@ AllTakenFrom checksum mode earlier w [] = Unit {0}
 AllTakenFrom checksum mode earlier w (c ∷ calls) =
     IsTaken checksum mode earlier w c × OpensNamed c × AllTakenFrom checksum mode (earlier ++ c ∷ []) (effect mode earlier c w) calls
 
--- a whole list of calls, of which none is refused
+-- a whole list of calls none of which is refused
 abbrev pub calls_keep_the_shape : Type 0
 calls_keep_the_shape =
     (checksum : List ℕ → List ℕ) (mode : Mode) (w : WorkingCopy) (calls : List Call) → IsWorkingCopy w

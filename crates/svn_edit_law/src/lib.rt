@@ -1,6 +1,6 @@
 //! The laws of edits and of copies: what calls do to a working copy, one after the other, and what it reports. They are stated
 //! over the definitions of `svn_model` alone, in `specs/Laws.antt` (edits) and `specs/CopyLaws.antt` (copies without a drive). Each law is
-//! the contract of a function that does nothing: who calls the function has the law.
+//! the contract of a function with an empty body: a caller of the function has the law.
 //!
 //! ```
 //! pub fn check_true(&self, repo: &Repo) -> Result<(), &RelPath>
@@ -11,7 +11,7 @@
 //! ```
 //!
 //! `svn_edit` and `svn_wc` use them: the builders of a copy and its test of truth by the laws of copies, the applier by those of edits.
-//! How the laws are proved, `docs/PROOF.md` tells.
+//! `proofs/Lib.antt` names the files of lemmas in their order, and `docs/PROOF.md` says how the laws are proved.
 #![tactic(auto)]
 
 ghost use Rattle.svn_edit_law.specs.Laws.{a_call_keeps_the_shape, calls_are_applied_in_turn, calls_keep_the_shape};
@@ -29,22 +29,22 @@ pub fn tokens_have_paths()
     ensures { tokens_have_paths }
 {}
 
-/// Where an edit opened a directory stands one, as long as each open finds one there.
+/// Where an edit opened a directory there is one, as long as each open finds one there.
 pub fn directories_stay()
     ensures { directories_stay }
 {}
 
-/// What stands at an open file's path stays until its close.
+/// What is at an open file's path stays until its close.
 pub fn files_stay()
     ensures { files_stay }
 {}
 
-/// A call that isn't refused keeps the shape of the copy, with what stands at open paths: of an update and of a switch.
+/// A call that isn't refused keeps the shape of the copy, with what is at open paths: of an update and of a switch.
 pub fn a_call_keeps_the_shape()
     ensures { a_call_keeps_the_shape }
 {}
 
-/// Calls of which none is refused leave a copy that has the shape of one.
+/// Calls none of which is refused leave a copy that has the shape of one.
 pub fn calls_keep_the_shape()
     ensures { calls_keep_the_shape }
 {}

@@ -4,7 +4,7 @@ pub mod PrintedWords
 pub mod OrderRows
 -- What one more call adds to the readings of a list of calls.
 pub mod OneMore
--- What an accepted call tells of the calls before it.
+-- What follows from an accepted call for the calls before it.
 pub mod Accepted
 -- What was given to a token, and which tokens are above one another.
 pub mod Nested

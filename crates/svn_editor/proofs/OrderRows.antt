@@ -39,7 +39,7 @@ closed_parent = refl
 not_innermost : fault (AddDirectory a 0 1 ∷ []) (AddDirectory b 0 2) ≡ Some NotInnermost
 not_innermost = refl
 
--- a file may stand in any open directory
+-- a file may be in any open directory
 file_elsewhere : fault (AddDirectory a 0 1 ∷ []) (AddFile f 0 2) ≡ None
 file_elsewhere = refl
 
@@ -73,7 +73,7 @@ open_below = refl
 prop_late : fault (AddDirectory a 0 1 ∷ []) (ChangeDirProp 0 (97 ∷ []) None) ≡ Some PropLate
 prop_late = refl
 
--- no subdirectory after a property change that came behind one
+-- no subdirectory after a property change that came after one
 subdirectory_late : fault (AddDirectory a 0 1 ∷ CloseDirectory 1 ∷ ChangeDirProp 0 (97 ∷ []) None ∷ []) (AddDirectory b 0 2) ≡ Some PropLate
 subdirectory_late = refl
 

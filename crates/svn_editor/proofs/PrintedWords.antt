@@ -22,7 +22,7 @@ use Rattle.svn_editor.specs.Words.{escaped, is_shown, path_byte, path_word, toke
 
 -- ---- the names of a path, printed from its key
 
--- the first name, the others each behind the byte 1, and that byte
+-- the first name, the others each after the byte 1, and that byte
 key_ends : (n : List ℕ) (p : Path) → path_key (n ∷ p) ≡ (n ++ flat_map (λ m. 1 ∷ m) p) ++ 1 ∷ []
 key_ends n [] = sym (append_assoc n [] (1 ∷ []))
 key_ends n (m ∷ p) =
@@ -91,7 +91,7 @@ pub escaped_more : (bs : List ℕ) (i : ℕ) → i < length bs
     → flat_map escaped (take (i + 1) bs) ≡ flat_map escaped (take i bs) ++ escaped (get_or bs i 0)
 escaped_more bs i h = ap (flat_map escaped) (take_more bs i 0 h) ∙ sym (flat_map_more escaped [] (take i bs) (get_or bs i 0))
 
--- what is printed behind a part
+-- what is printed after a part
 pub behind_piece : (done rest piece behind all : List ℕ) → rest ≡ piece ++ behind → done ++ flat_map escaped rest ≡ all
     → (done ++ flat_map escaped piece) ++ flat_map escaped behind ≡ all
 behind_piece done rest piece behind all parts e =

@@ -37,7 +37,7 @@ abbrev pub is_abort : Call → Bool
 is_abort AbortEdit = true
 is_abort _ = false
 
--- a token that an open or an add gives: of which kind of node, at which path, below which token
+-- a token that an open or an add gives: the kind of node, its path, and the token above
 pub record Given : Type 0 where
   pub kind : Kind
   pub path : Path
@@ -52,7 +52,7 @@ given_by (AddFile path parent token) = Some (record { kind = File; path = path; 
 given_by (OpenFile path parent base token) = Some (record { kind = File; path = path; parent = Some parent; token = token })
 given_by _ = None
 
--- the token that a call is about, and of which kind of node it has to be: its own or, of an open, an add or a delete, the parent's
+-- the token that a call is about, and the kind of node that it must have: its own or, for an open, an add or a delete, the parent's
 abbrev pub named_by : Call → Option (ℕ × Kind)
 named_by (DeleteEntry path rev parent) = Some (parent, Directory)
 named_by (AddDirectory path parent token) = Some (parent, Directory)

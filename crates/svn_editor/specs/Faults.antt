@@ -1,5 +1,5 @@
--- How the answers of a check and of an editor go together.
---     as_edit_fault fault      what an editor answers where the check of the order answers that fault
+-- How the results of a check and of an editor go together.
+--     as_edit_fault fault      what an editor returns where the check of the order returns that fault
 use Rattle.svn_editor.specs.declared.fault.OrderFault.{OrderFault}
 use Rattle.svn_editor.specs.declared.fault.OrderFault.TheVariants.{Memory}
 use Rattle.svn_editor.specs.declared.fault.EditFault.{EditFault}

@@ -87,7 +87,7 @@ abbrev pub is_open_below : List Call → Call → Bool
 is_open_below calls (CloseDirectory token) = a_subdirectory_is_open calls token
 is_open_below calls _ = false
 
--- A property change while a subdirectory is open, or of a postponed file. After a change that came behind a subdirectory, no other
+-- A property change while a subdirectory is open, or of a postponed file. After a change that came after a subdirectory, no other
 -- subdirectory is opened.
 abbrev pub is_prop_late : List Call → Call → Bool
 is_prop_late calls (ChangeDirProp token name value) = a_subdirectory_is_open calls token
@@ -154,7 +154,7 @@ IsLawfulAfter earlier (c ∷ calls) = (order_fault earlier c ≡ None) × IsLawf
 abbrev pub IsLawful : List Call → Type 0
 IsLawful calls = IsLawfulAfter [] calls
 
--- the answer to a call with this fault, or with none; where there is none, memory may still be refused
+-- the result of a call with this fault, or with none; where there is none, Memory is still allowed
 abbrev pub Answers : Option OrderFault → Result (Unit {0}) OrderFault → Type 0
 Answers None (Ok done) = Unit {0}
 Answers None (Err e) = e ≡ Memory

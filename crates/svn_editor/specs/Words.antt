@@ -1,4 +1,4 @@
--- The words of printed lines: what stands for bytes, for a path, a token and a checksum. A number is printed as `decimal` of std.
+-- The words of printed lines: how bytes, a path, a token and a checksum are printed. A number is printed as `decimal` of std.
 --     word bytes, path_word p, token_word t, checksum_word sum      what is printed
 --     spaced words      the words of a line
 use Rattle.std.specs.Prelude.{◌/◌, ◌%◌, ℕ, Bool, true, ◌&&◌, not, List, [], ◌∷◌, ◌++◌, nat_le, nat_eq, Option, Some, None}

@@ -8,7 +8,7 @@ use svn_types::{Digest, PropName, RelPath, Rev, Text};
 
 /// One call of an edit, as in `svn_delta.h`.
 ///
-/// The opening and adding calls give a token to what they open, and later calls name it by that token, which stands where
+/// The opening and adding calls give a token to what they open, and later calls name it by that token, which is where
 /// Subversion has a baton. The tokens of an edit are 0, 1, 2 and so on, in the order of these calls. A path is one from the root
 /// of the edit, of at most 128 names, and a path of an entry is its directory's with one name more. Texts and values have no bound
 /// here: the receiver refuses those of over 1,048,576 bytes.
@@ -26,7 +26,7 @@ pub enum Call {
         /// The root's token.
         token: Token,
     },
-    /// Removes an entry of the directory `parent`, which the receiver has at `rev`, with all that stands beneath it.
+    /// Removes an entry of the directory `parent`, which the receiver has at `rev`, with everything below it.
     DeleteEntry {
         /// The path of the entry.
         path: RelPath,
@@ -102,7 +102,7 @@ pub enum Call {
     ApplyText {
         /// The token of the file.
         token: Token,
-        /// The checksum of the text that it replaces, if the sender tells it.
+        /// The checksum of the text that it replaces, if the sender gives it.
         base_md5: Option<Digest>,
         /// The new text.
         text: Text,
@@ -111,7 +111,7 @@ pub enum Call {
     CloseFile {
         /// The token of the file.
         token: Token,
-        /// The checksum of the file's text from then on, if the sender tells it.
+        /// The checksum of the file's text from then on, if the sender gives it.
         text_md5: Option<Digest>,
     },
     /// Ends the edit: no call follows.

@@ -3,7 +3,7 @@
 use crate::call::Call;
 use crate::fault::EditFault;
 
-/// What takes the calls of an edit, one by one, and answers each: the editor of `svn_delta.h`, with one call for each of its functions.
+/// What takes the calls of an edit, one by one, each with a result: the editor of `svn_delta.h`, with one call for each of its functions.
 ///
 /// A driver makes the calls in this order:
 /// - `SetTargetRevision` is the first call, and comes once; `CloseEdit` or `AbortEdit` is the last. `OpenRoot` comes once, before any call on an
@@ -19,16 +19,16 @@ use crate::fault::EditFault;
 ///
 /// A call that is refused changes nothing of what is edited. After a refusal the driver makes `AbortEdit` and no other call; an editor may
 /// refuse any other. `AbortEdit` may come at any time before the end. It is the driver that makes it, whether a call was refused, memory is
-/// gone or the edit isn't wanted any more; an editor doesn't give itself up. What it answers changes nothing: the edit is over.
+/// gone or the edit isn't wanted any more; an editor doesn't give itself up. Whatever it returns, the edit is over.
 ///
-/// A call may wait where an editor says so: one that hands its calls on to another thread waits until that thread has room for them, and the
+/// A call may wait where an editor says so: one that passes its calls on to another thread waits until that thread has room for them, and the
 /// driver with it. Any other editor comes back at once.
 pub trait Editor {
     ghost use Rattle.std.specs.Prelude.{Result};
     ghost use Rattle.svn_editor.specs.declared.call.Call.{Call};
     ghost use Rattle.svn_editor.specs.declared.fault.EditFault.{EditFault};
 
-    // of the editor before, the call, its answer and the editor after
+    // of the editor before, the call, its result and the editor after
     ghost answers: { Self → Call → Result (Unit {0}) EditFault → Self → Type 0 };
 
     /// Takes the next call, or refuses it with the reason. A refused call has changed nothing of what is edited.

@@ -7,7 +7,7 @@ use std::alloc::AllocError;
 use thiserror::Error;
 
 /// Why a call is out of order, by the rules of `svn_delta.h`, which are prose at [`Editor`](crate::Editor). A call that breaks several has the
-/// fault that `OrderCheck::step` of `svn_order` names first. Subversion asserts some of the rules, and leaves open what comes of breaking others.
+/// fault that `OrderCheck::step` of `svn_order` names first. Subversion asserts some of the rules, and leaves the effect of breaking others undefined.
 #[derive(Clone, Copy, Debug, PartialEq, Eq, Error)]
 pub enum OrderFault {
     /// The first call isn't that of the target revision, or a later one is.
@@ -55,7 +55,7 @@ pub enum OrderFault {
     /// The path isn't that of the parent with one name more.
     #[error("the path isn't the parent's with one name more")]
     WrongPath,
-    /// A growth was refused.
+    /// An allocation failed.
     #[error("out of memory")]
     Memory,
     /// The text or the close of a file comes while a directory is open, after a call on another file or on a directory.
@@ -115,7 +115,7 @@ impl OrderFault {
     }
 }
 
-/// Why an editor refuses a call. Which faults an editor has, and when, it says itself; those of a working copy stand here.
+/// Why an editor refuses a call. Each editor states which faults it has, and when; those of a working copy are here.
 #[derive(Clone, Copy, Debug, PartialEq, Eq, Error)]
 pub enum EditFault {
     /// The call is out of order; the fault is not `OrderFault::Memory`, which is `Memory` here.
@@ -137,7 +137,7 @@ pub enum EditFault {
     /// one came).
     #[error("the resulting text has another checksum")]
     TextChecksum,
-    /// A growth was refused.
+    /// An allocation failed.
     #[error("out of memory")]
     Memory,
     /// Something is present at the path that is added.
@@ -149,7 +149,7 @@ pub enum EditFault {
     /// The text, or the value of a property, has over 1,048,576 bytes.
     #[error("a text or a value has over 1048576 bytes")]
     TooLong,
-    /// The receiver in another thread refused an earlier call, of this number, counted from 1: the sender is to stop.
+    /// The receiver in another thread refused an earlier call, of this number, counted from 1: the sender must stop.
     #[error("call {0} was refused")]
     Late(u64),
 }
@@ -217,7 +217,7 @@ impl From<AllocError> for EditFault {
     }
 }
 
-/// Want of memory stays want of memory; any other fault is a call out of order.
+/// Memory stays Memory; any other fault is a call out of order.
 impl From<OrderFault> for EditFault {
     ghost from_gives = { λ fault e. e ≡ as_edit_fault fault };
 

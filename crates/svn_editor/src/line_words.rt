@@ -1,4 +1,4 @@
-//! Words that are put behind others in a text, as far as no byte of them is escaped: a line that is put together so is printed by one write.
+//! Words that are appended to others in a text, if no byte of them is escaped: a line built so is printed by one write.
 ghost use Rattle.std.specs.Prelude.{◌≡◌, ◌≤◌, ◌++◌, length, map, true, OnOk};
 ghost use Rattle.std.specs.List.{flat_map, list_all};
 ghost use Rattle.svn_editor.specs.Words.{escaped, is_shown, path_byte, path_word, word};
@@ -9,14 +9,14 @@ use std::fmt::Write;
 use std::{fmt, str};
 use svn_types::RelPath;
 
-// How long the key of a path may be that is put together at all, and for which smaller arrays are enough.
+// The longest key of a path that is appended at all, and the longest ones for which smaller arrays suffice.
 const MAX_KEY: usize = 512;
 
 const LONG_KEY: usize = 384;
 
 const SHORT_KEY: usize = 64;
 
-// Puts bytes that are printed as they are behind a text.
+// Appends bytes that are printed as they are.
 fn push_shown(bytes: &[u8], text: &mut ArrayString<1024>) -> fmt::Result
     requires { list_all is_shown bytes.now ≡ true }
     ensures { OnOk result (text.new.bytes ≡ text.old.bytes ++ flat_map escaped bytes.now) }
@@ -26,7 +26,7 @@ fn push_shown(bytes: &[u8], text: &mut ArrayString<1024>) -> fmt::Result
     Ok(())
 }
 
-// Puts the text of a key in its place, and answers whether all bytes are then printed as they are.
+// Puts the text of a key in its place, and returns whether all bytes are then printed as they are.
 #[inline(always)]
 fn put_names<const K: usize>(text: &mut [u8; K]) -> bool
     ensures text { text.new ≡ map path_byte text.old }
@@ -41,8 +41,8 @@ fn put_names<const K: usize>(text: &mut [u8; K]) -> bool
     all
 }
 
-// Puts the names of a path, of whose key this is all but the last byte, behind a text. All of an array is looked at, so that no byte is looked
-// at by itself; what stands behind the key is printed as it is.
+// Appends the names of a path to a text, given its key without the last byte. All of an array is tested at once, and not byte by
+// byte; what is after the key is printed as it is.
 #[inline(always)]
 fn push_key<const K: usize>(key: &[u8], text: &mut ArrayString<1024>) -> fmt::Result
     requires fits { length key.now ≤ K }
@@ -72,7 +72,7 @@ fn push_names(key: &[u8], text: &mut ArrayString<1024>) -> fmt::Result
     }
 }
 
-/// Puts the word of a path behind a text. Error where there is no room for it, where a byte of it is escaped, and over 512 bytes.
+/// Appends the word of a path to a text. Error where there is no room for it, where a byte of it is escaped, and over 512 bytes.
 pub fn push_path(path: &RelPath, text: &mut ArrayString<1024>) -> fmt::Result
     ensures { OnOk result (text.new.bytes ≡ text.old.bytes ++ path_word path.now) }
 {
@@ -85,7 +85,7 @@ pub fn push_path(path: &RelPath, text: &mut ArrayString<1024>) -> fmt::Result
     }
 }
 
-/// Puts bytes as one word behind a text. Error where there is no room for it, and where a byte of it is escaped.
+/// Appends bytes as one word to a text. Error where there is no room for it, and where a byte of it is escaped.
 pub fn push_word(bytes: &[u8], text: &mut ArrayString<1024>) -> fmt::Result
     ensures { OnOk result (text.new.bytes ≡ text.old.bytes ++ word bytes.now) }
 {

@@ -16,7 +16,7 @@ pub enum Mode {
 }
 
 impl Mode {
-    /// A switch to a path, if there is one, else an update. AllocError where an allocation failed.
+    /// A switch to a path, if there is one, else an update. AllocError if an allocation fails.
     pub fn of(root: Option<&RelPath>) -> Result<Mode, AllocError>
         ensures { IfOk result (λ m. m ≡ mode_at (option_copied root.entry)) }
     {

@@ -1,4 +1,4 @@
-//! An editor that keeps what it is told.
+//! An editor that keeps the calls it is given.
 ghost use Rattle.std.specs.Prelude.{◌≡◌, [], ◌++◌, ◌∷◌, MatchResult};
 ghost use Rattle.svn_editor.specs.declared.fault.EditFault.TheVariants.{Memory};
 
@@ -8,7 +8,7 @@ use crate::fault::EditFault;
 use std::alloc::Global;
 use std::marker::Model;
 
-/// An editor that keeps the calls in order. A contract sees it as their list. It refuses a call for want of memory alone, and is then
+/// An editor that keeps the calls in order. A contract sees it as their list. It refuses a call only when out of memory, and is then
 /// as it was.
 #[derive(Debug, Drop)]
 pub struct Recorder {

@@ -38,7 +38,7 @@ fn hex_digit(digit: u8) -> u8
     }
 }
 
-// Whether all bytes are printed as they are. It goes on after one that isn't, so that many are looked at at a time.
+// Whether all bytes are printed as they are. It doesn't stop at one that isn't, so that many are tested at a time.
 pub(crate) fn are_shown(bytes: &[u8]) -> bool
     ensures { result ≡ list_all is_shown bytes.now }
 {
@@ -58,7 +58,7 @@ fn write_shown<W: fmt::Write>(bytes: &[u8], f: &mut fmt::Formatter<W>) -> fmt::R
     f.write_str(unsafe { str::from_utf8_unchecked(bytes) })
 }
 
-// Puts what a byte is printed as behind the first bytes of a text, and answers how many they are then.
+// Puts what a byte is printed as after the first bytes of a text, and returns how many they are then.
 fn put_byte(byte: u8, text: &mut [u8; 192], len: usize) -> usize
     requires { len + 3 ≤ 192 }
     ensures bounded { result ≤ len + 3 }
@@ -76,7 +76,7 @@ fn put_byte(byte: u8, text: &mut [u8; 192], len: usize) -> usize
     }
 }
 
-// Puts what a part of a word is printed as at the beginning of a text, and answers how many bytes that is.
+// Puts what a part of a word is printed as at the beginning of a text, and returns how many bytes that is.
 fn put_escaped(piece: &[u8], text: &mut [u8; 192]) -> usize
     requires { length piece.now ≤ 64 }
     ensures bounded { result ≤ 192 }
@@ -165,7 +165,7 @@ fn write_key_piece<W: fmt::Write>(key: &[u8], f: &mut fmt::Formatter<W>) -> fmt:
     requires { length key.now ≤ 64 }
     ensures { DisplaysOnOk W.write_str_gives f.old result (Some (flat_map escaped (map path_byte key.now))) f.new }
 {
-    // what stands behind the key is printed as it is, so that all of the array can be looked at
+    // what is after the key is printed as it is, so that all of the array can be tested
     let mut text = [b'/'; PIECE];
     text[..key.len()].copy_from_slice(key);
     put_slashes(&mut text);
@@ -177,7 +177,7 @@ fn write_key_piece<W: fmt::Write>(key: &[u8], f: &mut fmt::Formatter<W>) -> fmt:
     }
 }
 
-// The names of a path, of whose key this is all but the last byte.
+// The names of a path, given its key without the last byte.
 fn write_names<W: fmt::Write>(key: &[u8], f: &mut fmt::Formatter<W>) -> fmt::Result
     ensures { DisplaysOnOk W.write_str_gives f.old result (Some (flat_map escaped (map path_byte key.now))) f.new }
 {

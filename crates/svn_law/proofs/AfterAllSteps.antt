@@ -143,12 +143,12 @@ module _ (d : Request) (w : WorkingCopy) (setting : Setting d w) where
     pub same_complete : complete ≡ not (starts_empty_at d p)
     pub same_props : cond complete props [] ≡ source_props d p (source_node d p)
 
-  -- what stands at a kept path of that kind
+  -- what is at a kept path of that kind
   abbrev pub KeptAs : Path → Kind → Type 0
   KeptAs p File = KeptFile p
   KeptAs p Directory = KeptDirectory p
 
-  -- what stands at a kept path, of the target's kind
+  -- what is at a kept path, of the target's kind
   pub kept_as : (p : Path) (n : ℕ) → is_kept d p ≡ true → target_node d p ≡ Some n → KeptAs p (kind_of h n)
   kept_as p n k t = subst (KeptAs p) (sym (kept_directory d setting.served p m.0 n k m.1 t)) (by (w p) refl (setting.true_of p))
     where
@@ -267,7 +267,7 @@ module _ (d : Request) (w : WorkingCopy) (setting : Setting d w) where
       cs : List PropChange
       cs = changes_between old (props_of h n)
 
-  -- and so does a new one, whatever stood there before
+  -- and so does a new one, whatever was there before
   new_all : (p : Path) (n : ℕ) (k : Kind) (before : List Action) (found : Option BaseNode) → target_node d p ≡ Some n
       → changes_in before ≡ [] → texts_in before ≡ []
       → acted d p before found (new_actions d n k) ≡ Some (base_node_by k d.target (target_path d p) (text_of h n) (props_of h n))

@@ -1,4 +1,4 @@
--- Calls and steps: a drive's calls, read with paths in the place of tokens, are its steps. So after its first calls each path stands as its
+-- Calls and steps: a drive's calls, read with paths in the place of tokens, are its steps. So after its first calls each path is as its
 -- own actions say.
 use Rattle.std.proofs.Common.{◌≡◌, ℕ, suc, Bool, true, false, ◌||◌, List, [], ◌∷◌, ◌++◌, refl, sym, ◌∙◌, ap, true≢false}
 use Rattle.std.proofs.Common.{append_assoc, append-nil, subst}
@@ -33,7 +33,7 @@ use Rattle.svn_law.proofs.Described.{Setting}
 use Rattle.svn_law.proofs.States.{is_at, actions_at, state, step_cut}
 use Rattle.svn_drive_law.proofs.Tokens.{is_opened, opened_last}
 
--- ---- the paths that stand for the tokens
+-- ---- the paths of the tokens
 
 abbrev pub opened_from : List Path → List Step → List Path
 opened_from opened [] = opened

@@ -1,4 +1,4 @@
--- After the first steps of a drive each path stands as its own actions say.
+-- After the first steps of a drive each path is as its own actions say.
 use Rattle.std.proofs.Common.{◌≡◌, ◌≢◌, ℕ, Bool, true, false, ◌⊎◌, List, [], ◌∷◌, ◌++◌, refl, sym, ◌∙◌, ap, subst, true≢false}
 use Rattle.std.proofs.Common.{append_assoc, append-nil, inl, inr}
 use Rattle.std.proofs.lemmas.Bool.{false_from_ne_true}
@@ -131,7 +131,7 @@ module _ (d : Request) (w : WorkingCopy) (setting : Setting d w) where
             (sym (ap (is_kept d) c.2) ∙ k))
             ∙ sym (ap (target_path d) c.2)
 
-    -- in an update a present node at a path that is opened stands at the target's path
+    -- in an update a present node at a path that is opened is at the target's path
     opened_path : d.mode ≡ Update → (xs : List Action) → acts ≡ xs → is_kept d s.path ≡ true → PathIs (target_path d s.path) (w' s.path)
     opened_path m xs e kept =
         subst (PathIs (target_path d s.path)) (sym (stands s.path ∙ ap (acted d s.path [] (base w done s.path)) e))
@@ -231,7 +231,7 @@ module _ (d : Request) (w : WorkingCopy) (setting : Setting d w) where
   pub has_entry : (p : Path) → EnteredDirectory d setting.served p → list_any is_entry (path_actions d p) ≡ true
   has_entry p e = any_implied (is_entry_of Directory) is_entry (entry_of_is_entry Directory) (path_actions d p) (directory_entered p e)
 
-  -- a directory that is begun stands, at the target's path
+  -- a directory that is begun is there, at the target's path
   pub begun_directory : (p : Path) → EnteredDirectory d setting.served p → (k : Kind) → TargetKind d p k → (xs : List Action)
       → Begun d p k xs
       → (found : Option BaseNode) → (is_kept d p ≡ true → found ≡ w p)
@@ -284,7 +284,7 @@ module _ (d : Request) (w : WorkingCopy) (setting : Setting d w) where
             false_from_ne_true (path_eq s.path q)
             (λ z. true≢false (sym (sym (path_eq-child q name) ∙ ap (λ x. path_eq q x) (sym e ∙ same_path s.path q z) ∙ path_eq-same q)))
 
-    -- so it stands at the target's path
+    -- so it is at the target's path
     pub joined_next : (w' : WorkingCopy) → ((p : Path) → w' p ≡ state d w done p) → joined_path w' s.path ≡ child (target_path d q) name
     joined_next w' stands =
         ap (joined_path w') e ∙ ap (λ x. node_path (w' x) ++ last_name (child q name)) (parent-child q name)
@@ -308,7 +308,7 @@ module _ (d : Request) (w : WorkingCopy) (setting : Setting d w) where
       (none_below_next d late done s p (before_next d late done s rest drive.in_order)
       (main_key d late s.path s.action (delete_is_main s.action k)) b)
 
-  -- after each step of a drive, each path stands as its own actions say
+  -- after each step of a drive, each path is as its own actions say
   pub stands_after : (late : Bool) (done steps rest : List Step) → IsDriveOf d late (done ++ (steps ++ rest)) → (w' : WorkingCopy)
       → ((p : Path) → w' p ≡ state d w done p)
       → (p : Path) → after_steps d done w' steps p ≡ state d w (done ++ steps) p

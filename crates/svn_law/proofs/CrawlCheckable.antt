@@ -68,7 +68,7 @@ module _ (h : History) (nodes : List (Path × BaseNode)) (t : IsTrueCopy h nodes
       sym (ap revision_of g) ∙ ((covers h nodes t p).present (ap is_present e ∙ pr)).revision ∙ ap node_revision e in
       (ap (λ r. nat_lt r (length h.roots)) rev ∙ revision_there h (node_revision (Some b)) (node_path (Some b)) s.0 s.2, ap is_none s.1)
 
-  -- where a set or a link stands, a node is present
+  -- where a set or a link is, a node is present
   set_is_present : (p : Path) (b : BaseNode) (x : ReportEntry) → get_in nodes p ≡ Some b → (reported (crawl nodes) p).own ≡ Some x
       → is_present (Some b) ≡ true → is_set_or_link (Some x) ≡ true
   set_is_present p b x e o pr =

@@ -38,7 +38,7 @@ pub record Shows (s : Reported) (found : Option BaseNode) : Type 0 where
   pub repos_path : s.repos_path ≡ node_path found
   pub empty : starts_empty s.own ≡ is_incomplete found
 
--- where a set or a link stands at the path
+-- where a set or a link is at the path
 shows_own : (s : Reported) (found : Option BaseNode) (e : ReportEntry) → OwnGoverns s → s.own ≡ Some e → is_set_or_link (Some e) ≡ true
     → revision_of (Some e) ≡ node_revision found → starts_empty (Some e) ≡ is_incomplete found → s.repos_path ≡ node_path found
     → Shows s found

@@ -138,7 +138,7 @@ module _ (T : Path → ℕ) where
 
 -- ---- at a step of a drive
 
--- the close of a file that has a text stands where the text does
+-- the close of a file that has a text is where the text does
 text_key : (d : Request) (late : Bool) (x u : Step) → is_text x.action ≡ true → is_close_of File u.action ≡ true → u.path ≡ x.path
     → has_text d x.path ≡ true → key_of d late u ≡ key_of d late x
 text_key d late x u h k e t =

@@ -1,4 +1,4 @@
--- A true copy that a report describes: what stands in it is what the request's sources have there.
+-- A true copy that a report describes: what is in it is what the request's sources have there.
 --     Setting d w      the request of a report that describes the true copy w, and can be served
 use Rattle.std.proofs.Common.{◌≡◌, ℕ, true, refl, sym, ◌∙◌, ap, true≢false}
 use Rattle.std.specs.Prelude.{Option, Some, None, is_some}
@@ -46,7 +46,7 @@ module _ (d : Request) (w : WorkingCopy) (setting : Setting d w) where
   pub is_source_present : (p : Path) (n : ℕ) → source_node d p ≡ Some n → is_present (w p) ≡ true
   is_source_present p n s = (setting.describes p).present ∙ sym (ap (λ x. is_some (source d.history x)) (follow-here d p)) ∙ ap is_some s
 
-  -- what stands at the source of a path is a node of the copy there
+  -- what is at the source of a path is a node of the copy there
   pub source_from_copy : (p : Path) (node : Option BaseNode) → w p ≡ node → IsTrueNode h w p node → is_present node ≡ true
       → (m : ℕ) × (source_node d p ≡ Some m) × (is_dir node ≡ true → kind_of h m ≡ Directory)
   source_from_copy p None e tr k = absurd (true≢false (sym k))

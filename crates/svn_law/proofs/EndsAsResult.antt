@@ -76,7 +76,7 @@ module _ (d : Request) (w : WorkingCopy) (setting : Setting d w) where
   settled_base p File text props = ap (λ q. Some (FileNode d.target q text props)) (settled_at p)
   settled_base p Directory text props = ap (λ q. Some (DirNode d.target q true props)) (settled_at p)
 
-  -- what stands there is what the result has, but for its revision and path
+  -- what is there is what the result has, but for its revision and path
   settled_untouched : (p : Path) (n : ℕ) (k : Kind) → source_node d p ≡ Some n → starts_empty_at d p ≡ false → is_kept d p ≡ true
       → KeptAs d w setting p k
       → settled d.mode d.target p (w p) ≡ Some (base_node_by k d.target (target_path d p) (text_of h n) (props_of h n))
@@ -168,7 +168,7 @@ module _ (d : Request) (w : WorkingCopy) (setting : Setting d w) where
           ∙ sym (list_any-append is_delete (actions_at q done) (actions_at q (s ∷ rest)))
           ∙ ap (list_any is_delete) (path_cut d late done (s ∷ rest) drive q) ∙ gone_deletes d q g
 
-  -- where all actions of a path are done it stands as they end
+  -- where all actions of a path are done it is as they end
   pub state_all : (late : Bool) (done rest : List Step) → IsDriveOf d late (done ++ rest) → (p : Path)
       → actions_at p done ≡ path_actions d p → state d w done p ≡ ended d w setting p (base w done p)
   state_all late done rest drive p e =

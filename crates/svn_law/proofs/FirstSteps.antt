@@ -22,7 +22,7 @@ use Rattle.svn_model.specs.Steps.{Mark, Named, End, mark_cmp, key, key_of, comes
 use Rattle.svn_drive_law.proofs.Courses.{is_delete, is_entry}
 use Rattle.svn_law.proofs.States.{is_at, actions_at}
 
--- ---- keys of paths that stand below one another
+-- ---- keys of paths that are below one another
 
 longer_key : (p q : Path) (x : List Mark) → is_within p q ≡ true → path_eq p q ≡ false
     → is_gt (slice_cmp mark_cmp (map Named q ++ x) (map Named p)) ≡ true
@@ -65,7 +65,7 @@ key_above d late p q a b = by_action a
     by_action (Close Directory c) = longer_key p q (End ∷ []) parts.0 apart
     by_action (Close File c) = either (late && has_text d q)
 
--- ---- what stands before and after the next step
+-- ---- what is before and after the next step
 
 pub before_next : (d : Request) (late : Bool) (done : List Step) (s : Step) (rest : List Step) → InKeyOrder d late (done ++ s ∷ rest)
     → AllByRecursion (λ t. comes_after d late t s ≡ false) done

@@ -17,7 +17,7 @@ use Rattle.svn_law.proofs.States.{acted, acted-append, act}
 
 -- ---- the place in the target
 
--- a present node stands at that repository path
+-- a present node is at that repository path
 abbrev pub PathIs : Path → Option BaseNode → Type 0
 PathIs q found = is_present found ≡ true → node_path found ≡ q
 
@@ -41,7 +41,7 @@ pub acted_path : (d : Request) (p : Path) (before acts : List Action) (found : O
 acted_path d p before [] found h = h
 acted_path d p before (a ∷ acts) found h = acted_path d p (before ++ a ∷ []) acts (act d p before a found) (act_path d p before a found h)
 
--- after an add a present node stands at the target's path, whatever was there
+-- after an add a present node is at the target's path, whatever was there
 pub added_path : (d : Request) (p : Path) (before inner : List Action) (k : Kind) (found : Option BaseNode)
     → PathIs (target_path d p) (acted d p [] found (before ++ Add k ∷ inner))
 added_path d p before inner k found =

@@ -1,12 +1,12 @@
 -- the changes between two lists of properties turn the first into the second
 pub mod PropChanges
--- what stands in a copy that a report describes is what the request's sources have there
+-- what is in a copy that a report describes is what the request's sources have there
 pub mod Described
 -- the crawl of a true copy describes it
 pub mod CrawlDescribes
 -- the crawl of a true copy is checkable
 pub mod CrawlCheckable
--- what stands at each path after the first steps of a drive
+-- what is at each path after the first steps of a drive
 pub mod States
 -- which steps of other paths are among the first steps of a drive
 pub mod FirstSteps
@@ -14,9 +14,9 @@ pub mod FirstSteps
 pub mod Deletes
 -- what the actions of a path leave as it is
 pub mod Keeping
--- after the first steps of a drive each path stands as its own actions say
+-- after the first steps of a drive each path is as its own actions say
 pub mod AfterSteps
--- calls and steps: after a drive's first calls each path stands as its own actions say
+-- calls and steps: after a drive's first calls each path is as its own actions say
 pub mod AfterCalls
 -- what a path has after all of its actions
 pub mod AfterAllSteps
@@ -44,7 +44,7 @@ pub mod LawfulDrives
 pub mod Composition
 -- how far the first steps of a drive have come at each path
 pub mod Progress
--- after the first steps each path has what stood there, a node that is begun, or the target's node
+-- after the first steps each path has what was there, a node that is begun, or the target's node
 pub mod PrefixStates
 -- after the first steps or calls of a drive the copy has its shape and is true
 pub mod PrefixTruth

@@ -66,7 +66,7 @@ abbrev pub AllFit : Request → Path → List Action → Option BaseNode → Lis
 AllFit d p before found [] = Unit {0}
 AllFit d p before found (a ∷ acts) = (own_fault d p before found a ≡ None) × AllFit d p (before ++ a ∷ []) (act d p before a found) acts
 
--- the actions of two lists fit where those of the second do behind the first
+-- the actions of two lists fit where those of the second do after the first
 fit-append : (d : Request) (p : Path) (before xs ys : List Action) (found : Option BaseNode) → AllFit d p before found xs
     → AllFit d p (before ++ xs) (acted d p before found xs) ys → AllFit d p before found (xs ++ ys)
 fit-append d p before [] ys found h k = subst (λ b. AllFit d p b found ys) (append-nil before) k
@@ -76,7 +76,7 @@ fit-append d p before (x ∷ xs) ys found h k = (
       (subst (λ b. AllFit d p b (acted d p (before ++ x ∷ []) (act d p before x found) xs) ys) (sym (append_assoc before (x ∷ []) xs)) k),
 )
 
--- behind quiet actions the node is the same
+-- after quiet actions the node is the same
 fit-quiet : (d : Request) (p : Path) (before xs ys : List Action) (found : Option BaseNode) → AllOf is_quiet xs → AllFit d p before found xs
     → AllFit d p (before ++ xs) found ys → AllFit d p before found (xs ++ ys)
 fit-quiet d p before xs ys found q h k =
@@ -239,7 +239,7 @@ module _ (d : Request) (w : WorkingCopy) (setting : Setting d w) where
         tt,
       )
 
-  -- the actions of a new path, where nothing stands
+  -- the actions of a new path, where nothing is
   new_fits : (p : Path) (n : ℕ) (k : Kind) (before : List Action) (found : Option BaseNode) → target_node d p ≡ Some n
       → is_present found ≡ false → texts_in before ≡ []
       → AllFit d p before found (new_actions d n k)

@@ -90,14 +90,14 @@ module _ (d : Request) (w : WorkingCopy) (setting : Setting d w) (late : Bool) (
             path = g.path ∙ parts.0;
           }
 
-  -- the token stands for the kind
+  -- the token is of that kind
   kind_known : (k : Kind) (p : Path) → list_any (has (is_entry_of k) p) done ≡ true → not (is_of_kind k (given earlier (T p))) ≡ false
   kind_known k p h =
       let n = known k p h in ap (λ o. not (is_of_kind k o)) n.is_found ∙ ap (λ l. not (kind_eq l k)) n.kind ∙ ap not (kind_eq-same k)
 
   -- the directory above
   module _ (not_root : is_root s.path ≡ false) where
-    -- it has been entered, and its token is known and tells it
+    -- it has been entered, and its token is known and says which it is
     above_entered : list_any (has (is_entry_of Directory) (parent s.path)) done ≡ true
     above_entered = above_done d w setting late done s rest drive not_root
 
@@ -178,7 +178,7 @@ module _ (d : Request) (w : WorkingCopy) (setting : Setting d w) (late : Bool) (
 
   -- its own path
   module _ (i : is_inner s.action ≡ true) where
-    -- its entry, and what its token tells
+    -- its entry, and what its token says
     own : Within d late done s rest drive
     own = own_entry d late done s rest drive i
 

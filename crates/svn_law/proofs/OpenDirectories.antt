@@ -29,14 +29,14 @@ use Rattle.svn_law.proofs.TokenNumbers.{none_twice}
 
 -- ---- the order of keys
 
--- the keys of paths stand as the paths do
+-- the keys of paths are ordered as the paths
 named_cmp : (p q : Path) → slice_cmp mark_cmp (map Named p) (map Named q) ≡ slice_cmp name_cmp p q
 named_cmp [] [] = refl
 named_cmp [] (n ∷ q) = refl
 named_cmp (m ∷ p) [] = refl
 named_cmp (m ∷ p) (n ∷ q) = ap (ordering_then (name_cmp m n)) (named_cmp p q)
 
--- a path's end comes behind all that is below it
+-- a path's end comes after all that is below it
 pub before_end : (p : Path) (name : Name) (x : List Mark)
     → slice_cmp mark_cmp (map Named (child p name) ++ x) (map Named p ++ (End ∷ [])) ≡ Less
 before_end [] name x = refl
@@ -156,7 +156,7 @@ module _ (d : Request) (late : Bool) (done : List Step) (s : Step) (rest : List 
           by (Close File c) k f = absurd (true≢false (sym f))
           by a k f = refl
 
-  -- ---- what stands between a step and the next
+  -- ---- what is between a step and the next
 
   module _ (front : List Step) (e : Step) (back : List Step) (cut : front ++ e ∷ back ≡ done) where
     -- the drive, cut at the earlier step
@@ -174,7 +174,7 @@ module _ (d : Request) (late : Bool) (done : List Step) (s : Step) (rest : List 
         (all_right (λ y. Before d late y s) front (e ∷ back)
         (subst (AllByRecursion (λ y. Before d late y s)) (sym cut) (before_step d late done s rest drive))).1
 
-    -- the directories opened behind the one above have been closed
+    -- the directories opened after the one above have been closed
     pub closed_between : (name : Name) → s.path ≡ child e.path name → is_entry s.action ≡ true → is_entry e.action ≡ true
         → AllByRecursion (λ y. is_entry_of Directory y.action ≡ true → list_any (has (is_close_of Directory) y.path) done ≡ true) back
     closed_between name child_of s_entry e_entry =

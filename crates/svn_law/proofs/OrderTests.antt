@@ -108,7 +108,7 @@ module _ (T : Path → ℕ) where
           by (Close File c) e q = eq-eqb (T x.path) (T r) (ap T e)
           by a e q = absurd (true≢false (sym q))
 
-  -- where steps stand in order, no directory's property is changed after a directory below it was entered
+  -- where steps are in order, no directory's property is changed after a directory below it was entered
   pub none_changed_late : (d : Request) (late : Bool) (q : Path) → Tells T q → (xs : List Step) → InKeyOrder d late xs
       → AllByRecursion (λ x. is_root x.path ≡ true → is_root_action x.action ≡ true) xs
       → changed_late (map (call_at T) xs) (T q) ≡ false
@@ -143,7 +143,7 @@ module _ (T : Path → ℕ) where
                   (main_key d late u.path u.action (change_main u.action parts.1) ∙ ap (map Named) parts.0)
                   ∙ key_above d late q y.path y.action (ap (is_below q) sub.1 ∙ is_below-child q sub.0))
 
--- the first steps stand in order
+-- the first steps are in order
 pub front_in_order : (d : Request) (late : Bool) (xs ys : List Step) → InKeyOrder d late (xs ++ ys) → InKeyOrder d late xs
 front_in_order d late [] ys o = tt
 front_in_order d late (x ∷ xs) ys o = (

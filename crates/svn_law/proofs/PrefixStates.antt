@@ -1,4 +1,4 @@
--- What stands at each path after the first steps of a drive: what stood there before, a node that is begun, or the target's node.
+-- What is at each path after the first steps of a drive: what was there before, a node that is begun, or the target's node.
 use Rattle.std.proofs.Common.{◌≡◌, ℕ, Bool, true, false, ◌||◌, List, [], ◌∷◌, ◌++◌, refl, sym, ◌∙◌, ap, subst, true≢false, append-nil}
 use Rattle.std.proofs.lemmas.Bool.{or_parts}
 use Rattle.std.specs.Prelude.{Option, Some, None, cond, map, filter}
@@ -72,11 +72,11 @@ none_main_after d late s (u ∷ rest) p name at c h = by (is_at (child p name) u
     by true e ih = (by_main (is_main u.action) e refl, ih)
     by false e ih = ih
 
--- ---- what stands
+-- ---- what is there
 
 module _ (d : Request) (w : WorkingCopy) (setting : Setting d w) (late : Bool) (steps rest : List Step)
     (drive : IsDriveOf d late (steps ++ rest)) where
-  -- what stands at a path after the first steps
+  -- what is at a path after the first steps
   pub data Stands (p : Path) : Option BaseNode → Type 0 where
     absent : Stands p None
     not_present : Stands p (Some NotPresent)
@@ -149,7 +149,7 @@ module _ (d : Request) (w : WorkingCopy) (setting : Setting d w) (late : Bool) (
   begun p File z = not_present
   begun p Directory z = open_directory z
 
-  -- what stands before an action of the path
+  -- what is before an action of the path
   some_left : (p : Path) (x : Action) (xs : List Action) (y : Action) → Place d p (x ∷ xs) y → list_any is_close (x ∷ xs) ≡ false
       → (found : Option BaseNode) → (is_kept d p ≡ true → found ≡ w p) → Stands p (acted d p [] found (x ∷ xs))
   some_left p x xs y place c found b = by place

@@ -65,7 +65,7 @@ module _ (d : Request) (w : WorkingCopy) (setting : Setting d w) where
   pub kept_target : (p : Path) → is_kept d p ≡ true → (n : ℕ) × (target_node d p ≡ Some n)
   kept_target p k = related_target (target_node d p) (source_node d p) (kept_related d setting.served p k)
 
-  -- a path that isn't kept stands in the target below its parent
+  -- a path that isn't kept is in the target below its parent
   placed_below : (p : Path) (name : Name) → is_kept d (child p name) ≡ false
       → target_node d (child p name) ≡ entry_below h (target_node d p) name
   placed_below p name k =
@@ -138,7 +138,7 @@ module _ (d : Request) (w : WorkingCopy) (setting : Setting d w) where
   true_short v p (Some (FileNode r q x ps)) t k = setting.served.history.paths_short r q t.0 t.1
   true_short v p (Some (DirNode r q c ps)) t k = setting.served.history.paths_short r q t.0 t.1
 
-  -- the target's node is true where its entries stand
+  -- the target's node is true where its entries are
   true_base : (v : WorkingCopy) (p : Path) (n : ℕ) → target_node d p ≡ Some n
       → ((name : Name) (m : ℕ) → kind_of h n ≡ Directory → value_of (entries_of h n) name ≡ Some m → v (child p name) ≢ None)
       → IsTrueNode h v p (Some (base_node h d.target (target_path d p) n))
@@ -237,7 +237,7 @@ module _ (d : Request) (w : WorkingCopy) (setting : Setting d w) where
     abbrev standing : (p : Path) → Stands d w setting late steps rest drive p (now p)
     standing p = stands d w setting late steps rest drive p
 
-    -- each entry of a closed directory stands
+    -- each entry of a closed directory is there
     closed_below : (p : Path) (n : ℕ) → target_node d p ≡ Some n → (is_touched d p || is_new d p) ≡ true
         → actions_at p steps ≡ path_actions d p
         → (name : Name) (m : ℕ) → kind_of h n ≡ Directory → value_of (entries_of h n) name ≡ Some m → now (child p name) ≢ None

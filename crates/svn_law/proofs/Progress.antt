@@ -58,7 +58,7 @@ taken_at d late f q (s ∷ steps) rest o h = by (is_at q s) (f s.action) refl re
     by true false e u k ih = ih (sym (ap (λ b. b || list_any f (actions_at q steps)) u) ∙ k)
     by false b e u k ih = ih k
 
--- what stands above a path stands above its children
+-- what is above a path is above its children
 pub below_deeper : (q p : Path) (name : Name) → is_below q p ≡ true → is_below q (child p name) ≡ true
 below_deeper q p name h =
     let parts = and_parts (is_within q p) (not (path_eq q p)) h in
@@ -128,7 +128,7 @@ module _ (d : Request) (w : WorkingCopy) (setting : Setting d w) (late : Bool) (
       (sym (list_any-append is_entry (actions_at p steps) (actions_at p rest)) ∙ ap (list_any is_entry) (cut p) ∙ has_entry d w setting p e)
       (none_left is_entry entry_is_main (actions_at p rest) n)
 
-  -- an old node that stands, with nothing deleted there or above, is kept, or nothing is done there
+  -- an old node that is there, with nothing deleted there or above, is kept, or nothing is done there
   pub kept_or_old : (p : Path) → is_present (w p) ≡ true → is_deleted_above steps p ≡ false
       → list_any is_delete (actions_at p steps) ≡ false → (is_kept d p ≡ true) ⊎ (actions_at p steps ≡ [])
   kept_or_old p present h k = by (is_kept d p) (actions_at p steps) refl refl
@@ -161,9 +161,9 @@ module _ (d : Request) (w : WorkingCopy) (setting : Setting d w) (late : Bool) (
       by false [] e u = inr refl
       by false (a ∷ l) e u = let g = gone_above d w setting p present e in absurd (by_gone a l u g.0 g.1 g.2 (path_eq g.0 p) refl)
 
-  -- ---- directories stand
+  -- ---- directories that are there
 
-  -- an entered directory stands, once its main actions are done
+  -- an entered directory is there, once its main actions are done
   pub entered_is_dir : (p : Path) → EnteredDirectory d setting.served p → NoneMain (actions_at p rest) → is_dir (state d w steps p) ≡ true
   entered_is_dir p e n =
       let b =
@@ -177,7 +177,7 @@ module _ (d : Request) (w : WorkingCopy) (setting : Setting d w) (late : Bool) (
       all_left (λ a. leaves a ≡ true) (actions_at p steps) (actions_at p rest)
       (subst (AllOf leaves) (sym (cut p)) (kept_leaves d p (path_actions d p) (course_of d p) k))
 
-  -- a kept directory stands
+  -- a kept directory is there
   pub kept_is_dir : (p : Path) → is_kept d p ≡ true → is_dir (w p) ≡ true → is_dir (state d w steps p) ≡ true
   kept_is_dir p k dir =
       keep_dir d p [] (actions_at p steps) (base w steps p) (kept_done p k) (ap is_dir (kept_base d w late steps rest drive p k) ∙ dir)
@@ -188,7 +188,7 @@ module _ (d : Request) (w : WorkingCopy) (setting : Setting d w) (late : Bool) (
       keep_present d p [] (actions_at p steps) (base w steps p) (kept_done p k)
       (ap is_present (kept_base d w late steps rest drive p k) ∙ kept_present d w setting p k)
 
-  -- once a path is opened or added something stands there
+  -- once a path is opened or added something is there
   pub entered_some : (p : Path) → list_any is_entry (path_actions d p) ≡ true → NoneMain (actions_at p rest)
       → is_some (state d w steps p) ≡ true
   entered_some p any n =
@@ -204,7 +204,7 @@ module _ (d : Request) (w : WorkingCopy) (setting : Setting d w) (late : Bool) (
           ap (λ l. is_some (acted d p [] (base w steps p) l)) e ∙ ap is_some (acted-append d p [] before (Add k ∷ inner) (base w steps p))
           ∙ keep_some d p (before ++ Add k ∷ []) inner (Some (added_node k d.target (target_path d p))) (inner_leaves k inner h) refl
 
-  -- an old directory with nothing deleted there or above stands
+  -- an old directory with nothing deleted there or above is there
   pub old_is_dir : (p : Path) → is_dir (w p) ≡ true → is_deleted_above steps p ≡ false → list_any is_delete (actions_at p steps) ≡ false
       → is_dir (state d w steps p) ≡ true
   old_is_dir p dir h k = by (kept_or_old p (dir_present (w p) dir) h k)
@@ -213,7 +213,7 @@ module _ (d : Request) (w : WorkingCopy) (setting : Setting d w) (late : Bool) (
       by (inl kept) = kept_is_dir p kept dir
       by (inr none) = ap (λ l. is_dir (acted d p [] (base w steps p) l)) none ∙ ap (λ b. is_dir (cond b None (w p))) h ∙ dir
 
-  -- ---- the parent of what stands
+  -- ---- the parent of what is there
 
   pub none_deleted : (p : Path) (name : Name) → is_deleted_above steps (child p name) ≡ false
       → (is_deleted_above steps p ≡ false) × (list_any is_delete (actions_at p steps) ≡ false)
@@ -223,7 +223,7 @@ module _ (d : Request) (w : WorkingCopy) (setting : Setting d w) (late : Bool) (
         (λ e. true≢false (sym (deleted_by p (child p name) steps e (is_below-child p name)) ∙ h)),
   )
 
-  -- where nothing is done at a path, nor deleted above, what stood below it stands
+  -- where nothing is done at a path, nor deleted above, what was below it is there
   pub old_below : (p : Path) (name : Name) → actions_at p steps ≡ [] → is_deleted_above steps p ≡ false
       → state d w steps (child p name) ≡ w (child p name)
   old_below p name none h = by (actions_at (child p name) steps) refl

@@ -62,7 +62,7 @@ related_some h (Some m) t e = refl
 
 -- ---- another report, of a copy whose nodes are old ones or the target's
 
--- what may stand at a path of the copy that is left, for the path to lead to the same place
+-- what may be at a path of the copy that is left, for the path to lead to the same place
 pub data Leads (d : Request) (w : WorkingCopy) (r : ReportView) (p : Path) (found : Option BaseNode) : Type 0 where
   not_there : is_present found ≡ false → is_kept d p ≡ false → Leads d w r p found
   as_before : w p ≡ found → is_present found ≡ true → (is_kept (reported_again d r) p ≡ true → is_kept d p ≡ true) → Leads d w r p found
@@ -104,7 +104,7 @@ module _ (d : Request) (w : WorkingCopy) (setting : Setting d w) (update : d.mod
       ap (λ m. candidate m (reported r (child p name)).repos_path (child (target_path again p) name)) update
       ∙ sym ((describes (child p name)).repos_path k)
 
-  -- what is kept is present, and stands at its place in the target
+  -- what is kept is present, and is at its place in the target
   placed : (p : Path) → is_kept d p ≡ true → Leads d w r p (v p) → (is_present (v p) ≡ true) × (node_path (v p) ≡ target_path d p)
   placed p k (not_there e f) = absurd (true≢false (sym k ∙ f))
   placed p k (as_before e present f) = (present, ap node_path (sym e) ∙ kept_path_is d w setting update p k (ap is_present e ∙ present))

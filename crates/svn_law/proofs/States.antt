@@ -1,4 +1,4 @@
--- What stands at each path after the first steps of a drive, path by path.
+-- What is at each path after the first steps of a drive, path by path.
 use Rattle.std.proofs.Common.{ℕ, ◌≡◌, Bool, true, false, ◌&&◌, ◌||◌, not, List, [], ◌∷◌, ◌++◌, refl, sym, ◌∙◌, ap, true≢false}
 use Rattle.std.proofs.Common.{append_assoc, append-nil}
 use Rattle.std.proofs.Math.Bool.{and-false, or-false, or-true}
@@ -99,7 +99,7 @@ changes_at-actions p = said_at (changes_at p) change_in p refl (λ s steps. refl
 pub texts_at-actions : (p : Path) (steps : List Step) → texts_at p steps ≡ texts_in (actions_at p steps)
 texts_at-actions p = said_at (texts_at p) text_in p refl (λ s steps. refl)
 
--- the actions of a path, cut behind the first steps of a drive
+-- the actions of a path, cut after the first steps of a drive
 pub path_cut : (d : Request) (late : Bool) (steps rest : List Step) → IsDriveOf d late (steps ++ rest) → (p : Path)
     → actions_at p steps ++ actions_at p rest ≡ path_actions d p
 path_cut d late steps rest drive p = sym (actions_at-append p steps rest) ∙ actions_at-drive d late (steps ++ rest) drive p

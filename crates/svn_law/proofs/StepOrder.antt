@@ -29,7 +29,7 @@ use Rattle.svn_law.proofs.AfterSteps.{directory_entered, entered_above, none_lef
 
 -- ---- lists of steps
 
--- a step of the list that passes the test, with what is before it and behind it
+-- a step of the list that passes the test, with what is before it and after it
 pub record Found (f : Step → Bool) (l : List Step) : Type 0 where
   pub front : List Step
   pub here : Step
@@ -37,7 +37,7 @@ pub record Found (f : Step → Bool) (l : List Step) : Type 0 where
   pub cut : front ++ here ∷ back ≡ l
   pub passes : f here ≡ true
 
--- what passes a test somewhere stands somewhere
+-- what passes a test somewhere is somewhere in the list
 pub find : (f : Step → Bool) (l : List Step) → list_any f l ≡ true → Found f l
 find f [] h = absurd (true≢false (sym h))
 find f (x ∷ l) h = by (f x) refl h (find f l)
@@ -89,7 +89,7 @@ members (x ∷ xs) = (
 
 -- ---- before and after a step of a drive
 
--- how a step stands to a later one
+-- how a step compares with a later one
 abbrev pub Before : Request → Bool → Step → Step → Type 0
 Before d late t s = (comes_after d late t s ≡ false) × (t.path ≡ s.path → precedes t.action s.action ≡ true)
 
@@ -124,7 +124,7 @@ module _ (d : Request) (late : Bool) (done : List Step) (s : Step) (rest : List 
       all_both (λ t. comes_after d late t s ≡ false) (λ t. t.path ≡ s.path → precedes t.action s.action ≡ true) done
       (before_next d late done s rest drive.in_order) (at_steps (λ x. precedes x s.action) s.path done turns.0)
 
-  -- and each one behind it behind it
+  -- and each one after it after it
   pub after_step : AllByRecursion (λ u. Before d late s u) rest
   after_step =
       all_both (λ u. comes_after d late s u ≡ false) (λ u. s.path ≡ u.path → precedes s.action u.action ≡ true) rest

@@ -89,7 +89,7 @@ is_opened-entered (s ∷ steps) p =
 abbrev pub Tells : (Path → ℕ) → Path → Type 0
 Tells T p = (q : Path) → nat_eq (T q) (T p) ≡ path_eq q p
 
--- an opened path is told from all others by its token
+-- its token distinguishes an opened path from all others
 pub tells_opened : (opened : List Path) (p : Path) → is_opened opened p ≡ true → Tells (token_of opened) p
 tells_opened [] p h q = absurd (true≢false (sym h))
 tells_opened (o ∷ opened) p h q = by (path_eq p o) (path_eq q o) refl refl h (λ k. tells_opened opened p k q)
@@ -112,7 +112,7 @@ is_root_action (Open File r) = false
 is_root_action (Add k) = false
 is_root_action a = true
 
--- inner actions may stand at the root
+-- inner actions may be at the root
 inner_at_root : (k : Kind) (a : Action) → inner_of k a ≡ true → is_root_action a ≡ true
 inner_at_root k (Change l c) e = refl
 inner_at_root k (Text s t) e = refl
@@ -147,7 +147,7 @@ none_twice d late t s h b = has_not is_entry s.path t (λ e. each t.action s.act
     each (Open k r) a e q = absurd (true≢false (sym e))
 
 module _ (d : Request) (w : WorkingCopy) (setting : Setting d w) (late : Bool) where
-  -- at the root no other stands
+  -- no other is at the root
   root_course : (l : List Action) → Course d [] l → AllOf is_root_action l
   root_course l nothing = tt
   root_course l (gone_only r f) = absurd (true≢false f)
@@ -201,13 +201,13 @@ module _ (d : Request) (w : WorkingCopy) (setting : Setting d w) (late : Bool) w
             ap (λ q. list_any (has (is_entry_of Directory) q) done) (ap parent c.2 ∙ parent-child c.0 c.1)
             ∙ parent_done d w setting late done s rest drive c.0 c.1 c.2
 
-    -- an entry among the steps done has its token, and it is known which path it stands for
+    -- an entry among the steps done has its token, and it is known which path that is for
     token_done : (k : Kind) (p : Path) → list_any (has (is_entry_of k) p) done ≡ true → token_of (entered done) p ≡ T p
     token_done k p h =
         sym (token_stays (entered done) p (entered (s ∷ rest)) (is_opened-entered done p ∙ any_entry k p done h))
         ∙ ap (λ l. token_of l p) (sym (entered-append done (s ∷ rest)))
 
-    -- what has been entered is told from all others
+    -- what has been entered is distinguished from all others
     pub tells_done : (k : Kind) (p : Path) → list_any (has (is_entry_of k) p) done ≡ true → Tells T p
     tells_done k p h =
         tells_opened (entered all) p (is_opened-entered all p ∙ in_whole (has is_entry p) done (s ∷ rest) (any_entry k p done h))

@@ -1,5 +1,6 @@
 //! The laws that join the driver and the working copy, over the definitions of `svn_model` alone, in `specs/Laws.antt`. Each law is the
-//! contract of a function that does nothing: who calls the function has the law.
+//! contract of a function with an empty body: a caller of the function has the law. So the contracts of driver and copy can be combined without
+//! either knowing the other.
 //!
 //! ```
 //! crawl_says_what_stands();
@@ -9,7 +10,8 @@
 //!
 //! Their premise is `IsRequestOf`: a true working copy, a report that describes it and that the repository can serve, and a target without
 //! fault. The crawl of a true copy is such a report ([`crawl_says_what_stands`]). `svn_run` makes the update theorem of them and of the
-//! contracts of driver, applier and link. How they are proved, `docs/PROOF.md` tells.
+//! contracts of driver, applier and link. `proofs/Lib.antt` names the files of lemmas in their order, `proofs/Rows` has worked examples, computed from
+//! the definitions, and `docs/PROOF.md` says how the laws are proved.
 #![tactic(auto)]
 
 ghost use Rattle.svn_law.specs.Laws.{crawl_says_what_stands, drive_composes, each_call_is_accepted, prefixes_stay_true};

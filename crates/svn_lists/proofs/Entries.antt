@@ -54,7 +54,7 @@ pub entries_between-all : {K X : Type 0} (order : K → K → Ordering) (es : Li
 entries_between-all order [] = refl
 entries_between-all order (e ∷ es) = ap (λ l. e ∷ l) (entries_between-all order es)
 
--- ---- R is a total order that tells all keys apart
+-- ---- R is a total order that distinguishes all keys
 
 module _ {K : Type 0} {R : K → K → Ordering} (total : IsTotalOrder R) (exact : (x y : K) → R x y ≡ Equal → x ≡ y) where
   pub at_same : (q k : K) → is_at (R q) k ≡ true → q ≡ k
@@ -182,7 +182,7 @@ module _ {V : Type 0} where
   none_passes k n (e ∷ es) less above =
       let more = less_from_nat_cmp n e.0 above.0 in (ne_eqb k e.0 (λ same. omega arith), none_passes k n es less above.1)
 
-  -- the three ways in which a pair is put before, at or behind the first
+  -- the three ways in which a pair is put before, at or after the first
   pub put_cases : (P : List (ℕ × V) → Type 0) (k : ℕ) (w : V) (e : ℕ × V) (es : List (ℕ × V)) → (k < e.0 → P ((k, w) ∷ e ∷ es))
       → (k ≡ e.0 → P ((e.0, w) ∷ es)) → (e.0 < k → P (e ∷ insert_entry nat_cmp es k w)) → P (insert_entry nat_cmp (e ∷ es) k w)
   put_cases P k w e es before here later =

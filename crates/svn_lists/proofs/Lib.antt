@@ -2,7 +2,7 @@
 pub mod Tests
 -- what the comparison of two numbers returns, and orderings one after the other
 pub mod Orderings
--- numbers of two digits, of which the first decides
+-- numbers of two digits where the first decides
 pub mod Digits
 -- what is equal, tests of equality, and that of lists of bytes
 pub mod Equality

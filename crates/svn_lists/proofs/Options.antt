@@ -94,7 +94,7 @@ pub cond_some_or : {X : Type 0} (a b : Bool) (x : X) (o p : Option X) → a ≡ 
 cond_some_or a true x o p e f = ap (λ c. cond c (Some x) o) e
 cond_some_or a false x o p e f = ap (λ c. cond c (Some x) o) e ∙ f refl
 
--- the same, with another row behind the first
+-- the same, with another row after the first
 pub cond_some_or_then : {X : Type 0} (a b : Bool) (x : X) (o q p : Option X) → a ≡ b → (b ≡ false → option_or o q ≡ p)
     → option_or (cond a (Some x) o) q ≡ cond b (Some x) p
 cond_some_or_then a true x o q p e f = ap (λ c. option_or (cond c (Some x) o) q) e

@@ -50,7 +50,7 @@ push_cases {X} (z ∷ xs) (b ∷ bs) after x y e =
     (λ (t : (rest : List X) × (xs ≡ bs ++ y ∷ rest)). inr (t.0, let same = t.1 in cc))
     (push_cases xs bs after x y cc)
 
--- a longer list goes on behind its first elements
+-- a longer list goes on after its first elements
 pub cut_at : {X : Type 0} (n : ℕ) (xs : List X) → n < length xs
     → (ys : List X) × (y : X) × (zs : List X) × (xs ≡ ys ++ y ∷ zs) × (length ys ≡ n)
 cut_at {X} n xs long = by (drop n xs) (take-append-drop n xs)

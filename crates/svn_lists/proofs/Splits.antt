@@ -55,7 +55,7 @@ slice_split_one p [] few = refl
 slice_split_one p (x ∷ xs) few =
     only_part (p x) x xs (slice_split p xs) (omega (arith, length-slice_split p xs)) few (slice_split_one p xs)
 
--- the rest behind the first of two parts is the second
+-- the rest after the first of two parts is the second
 pub slice_split_two : {X : Type 0} (p : X → Bool) (xs first second : List X) → slice_split p xs ≡ first ∷ slice_split p second
     → length (slice_split p xs) ≤ 2 → slice_split p xs ≡ first ∷ second ∷ []
 slice_split_two p xs first second cut few =

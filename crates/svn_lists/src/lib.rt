@@ -1,3 +1,4 @@
-//! Facts about lists, options and numbers that the library of the kit doesn't have, each once, for the proofs of all crates. They speak of
-//! nothing of this repository, and the crate has no code: `proofs/Lib.antt` says which file has what.
+//! Facts about lists, options, results and numbers that the standard library doesn't have, each stated once and as generally as possible, for
+//! the proofs of all crates. The crate has no code: `proofs/Lib.antt` says which file has what. A lemma that speaks of paths, texts, nodes or
+//! calls belongs to the crate of its subject.
 #![tactic(auto)]

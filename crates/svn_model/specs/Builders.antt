@@ -1,6 +1,6 @@
 -- The copies that a client makes without a drive.
 --     checkout h q r      the whole tree at q in revision r
---     placed h w p q r      the copy with the tree at q of revision r in the place of what stands at p and below
+--     placed h w p q r      the copy with the tree at q of revision r in the place of what is at p and below
 --     forgotten w p      the copy with p as not present
 use Rattle.std.specs.Prelude.{ℕ, ◌++◌, length, drop, Some, None, option_map, if◌then◌else◌}
 use Rattle.svn_types.specs.Names.{Path}

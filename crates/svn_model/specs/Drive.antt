@@ -1,5 +1,5 @@
 -- The calls of a drive: its steps with their tokens, between the first call and the last.
---     numbered opened steps      the calls of the steps, where tokens 0, 1, .. stand for the paths opened before
+--     numbered opened steps      the calls of the steps, where tokens 0, 1, .. are those of the paths opened before
 --     IsDrive d late calls      the calls are those of a drive
 use Rattle.std.specs.Prelude.{◌≡◌, ℕ, suc, Bool, List, [], ◌∷◌, ◌++◌, length, if◌then◌else◌}
 use Rattle.svn_types.specs.declared.kind.Kind.TheVariants.{File, Directory}

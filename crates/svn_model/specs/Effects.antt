@@ -69,7 +69,7 @@ abbrev pub closed_directory : List PropChange → Option BaseNode → Option Bas
 closed_directory changes (Some (DirNode r q complete props)) = Some (DirNode r q true (with_changes props changes))
 closed_directory changes other = other
 
--- an added file stands as not present until it is closed
+-- an added file is not present until it is closed
 abbrev pub closed_file : ℕ → (Path → Path) → Path → List PropChange → List (List ℕ) → Option BaseNode → Option BaseNode
 closed_file target moved joined changes texts (Some (FileNode r q text props)) =
     Some (FileNode target (moved q) (text_or texts text) (with_changes props changes))
@@ -80,7 +80,7 @@ abbrev pub added_node : Kind → ℕ → Path → BaseNode
 added_node File target joined = NotPresent
 added_node Directory target joined = DirNode target joined false []
 
--- what stands at the step's own path after it
+-- what is at the step's own path after it
 abbrev pub stepped : Mode → ℕ → List Step → WorkingCopy → Path → Action → Option BaseNode
 stepped mode target earlier w p (Delete revision) = None
 stepped mode target earlier w p (Open Directory base) = opened_directory target (moved_path mode w p) (w p)
@@ -179,7 +179,7 @@ is_settled_deep (SwitchTo root) node = is_present (Some node.1) && nat_lt path_l
 abbrev pub settle_fault : Mode → List (Path × BaseNode) → Option EditFault
 settle_fault mode nodes = if list_any (is_settled_deep mode) nodes then Some TooDeep else None
 
--- the copy is given as its list of nodes, of which the last call looks at each
+-- the copy is given as its list of nodes; the last call looks at each
 abbrev pub edit_fault : (List ℕ → List ℕ) → Mode → List Call → Call → List (Path × BaseNode) → Option EditFault
 edit_fault checksum mode earlier CloseEdit nodes = settle_fault mode nodes
 edit_fault checksum mode earlier c nodes = read_fault checksum mode (steps_of earlier) (get_in nodes) (step_of earlier c)
@@ -203,7 +203,7 @@ AllAcceptedFrom checksum mode earlier w (c ∷ calls) =
 abbrev pub AllAccepted : (List ℕ → List ℕ) → Mode → WorkingCopy → List Call → Type 0
 AllAccepted checksum mode w calls = AllAcceptedFrom checksum mode [] w calls
 
--- the refusals of the calls, as if each were made after those before it; the paths are those at which something may stand
+-- the refusals of the calls, as if each were made after those before it; the paths are those at which something may be
 abbrev pub refusals_from : (List ℕ → List ℕ) → Mode → List Path → List Call → WorkingCopy → List Call → List (Call × EditFault)
 refusals_from checksum mode paths earlier w [] = []
 refusals_from checksum mode paths earlier w (c ∷ calls) =

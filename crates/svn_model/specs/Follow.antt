@@ -26,7 +26,7 @@ pub record Followed : Type 0 where
   pub parent_is_kept : Bool
   pub target_path : Path
 
--- the path in the target at which a child would be kept, by its repository path and the one beneath its parent's
+-- the path in the target at which a child would be kept, by its repository path and the one below its parent's
 abbrev pub candidate : Mode → Path → Path → Path
 candidate Update repos_path beneath = repos_path
 candidate (SwitchTo root) repos_path beneath = beneath

@@ -1,4 +1,4 @@
--- A working copy: what stands at each path.
+-- A working copy: what is at each path.
 --     get_in nodes      a list of nodes in path order, as the function from paths
 --     IsWorkingCopy w      the shape that every working copy has
 --     IsTrueOf h w      each present node is what the repository has there
@@ -24,7 +24,7 @@ WorkingCopy = Path → Option BaseNode
 abbrev pub get_in : List (Path × BaseNode) → WorkingCopy
 get_in nodes p = lookup (is_at (path_cmp p)) nodes
 
--- the paths stand in strict order
+-- the paths are in strict order
 abbrev pub InPathOrder : List (Path × BaseNode) → Type 0
 InPathOrder nodes = IsStrictlySortedBy path_cmp (keys_of nodes)
 

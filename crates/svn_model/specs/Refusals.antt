@@ -1,4 +1,4 @@
--- Why a copy can't be made or changed without a drive: the first fault in the order in which they are looked for, want of memory aside.
+-- Why a copy can't be made or changed without a drive: the first fault in the order in which they are looked for, apart from Memory.
 --     checkout_fault h q r      the tree at q in revision r, as a copy
 --     place_fault h w p r      the tree that revision r has where the parent's repository path leads, at p
 --     switch_fault h w p q r      the tree at q in revision r, at p
@@ -73,7 +73,7 @@ forget_fault w p =
 abbrev pub is_of : Path → Path × BaseNode → Bool
 is_of p node = path_eq p node.0
 
--- a path stands twice in the list
+-- a path is twice in the list
 abbrev pub has_twice : List (Path × BaseNode) → Bool
 has_twice [] = false
 has_twice (node ∷ nodes) = list_any (is_of node.0) nodes || has_twice nodes
@@ -85,7 +85,7 @@ is_orphan w node = not (is_root node.0) && not (is_dir (w (parent node.0)))
 abbrev pub is_node_too_deep : Path × BaseNode → Bool
 is_node_too_deep node = is_present (Some node.1) && is_too_deep node.0 (node_path (Some node.1))
 
--- each test is on the whole list, in whatever order it stands
+-- each test is on the whole list, in whatever order that is
 abbrev pub nodes_fault : List (Path × BaseNode) → Option WcFault
 nodes_fault nodes =
     if has_twice nodes then Some Twice

@@ -28,7 +28,7 @@ names_at h (Some n) = keys_of (entries_of h n)
 abbrev pub entry_names : Request → Option ℕ → List (List ℕ)
 entry_names d o = names_at d.history o
 
--- the next name of the second path behind the first, if it stands below it
+-- the next name of the second path after the first, if it is below it
 abbrev pub next_name : Path → Path → List (List ℕ)
 next_name [] [] = []
 next_name [] (n ∷ q) = n ∷ []
@@ -112,14 +112,14 @@ abbrev pub flat : {X : Type 0} → List (List X) → List X
 flat [] = []
 flat (xs ∷ xss) = xs ++ flat xss
 
--- what stands at each name below a path, name by name
+-- what is at each name below a path, name by name
 abbrev pub by_names : (Path → List Step) → Path → List (List ℕ) → List Step
 by_names f p names = flat (map (λ name. f (child p name)) names)
 
 abbrev pub below_of : Request → (Path → List Step) → Path → List Step
 below_of d f p = if enters_directory d p then by_names f p (names_below d p) else []
 
--- the steps at and below a path, as far down as the number says: those in front at a path, those below it, and those behind
+-- the steps at and below a path, as far down as the number says: those in front at a path, those below it, and those after
 abbrev pub steps_by : Request → (Path → List Action) → (Path → List Action) → ℕ → Path → List Step
 steps_by d front back zero p = []
 steps_by d front back (suc height) p = steps_at p (front p) ++ (below_of d (steps_by d front back height) p ++ steps_at p (back p))

@@ -1,5 +1,5 @@
 -- The test of truth: the first path of a copy whose node isn't what the repository has there.
---     is_untrue h w p node      the node is another than the repository has, or a complete directory lacks an entry
+--     is_untrue h w p node      the node differs from the repository's, or an entry of a complete directory is missing
 --     first_untrue h nodes      the first such path of the list
 use Rattle.std.specs.Prelude.{ℕ, Bool, true, false, ◌&&◌, ◌||◌, not, List, [], ◌∷◌, bytes_eq, Option, Some, None, is_none, if◌then◌else◌}
 use Rattle.std.specs.List.{list_any}

@@ -1,4 +1,4 @@
-//! What stands at a path of a working copy.
+//! What is at a path of a working copy.
 ghost use Rattle.std.specs.Prelude.{◌≡◌, Some};
 ghost use Rattle.std.specs.Option.{option_copied};
 ghost use Rattle.svn_model.specs.Nodes.{is_present, is_dir, is_incomplete, present_kind, present_revision, present_path, present_props, file_text};
@@ -8,7 +8,7 @@ use svn_types::{Kind, Props, RelPath, Rev, Text};
 /// What a working copy has at a path, as it came from the repository (a node of the base tree, `svn_wc.h`). There are no local changes.
 #[derive(Clone, Debug, PartialEq, Eq, Drop)]
 pub enum BaseNode {
-    /// A file: what stands at `repos_path` in revision `rev`.
+    /// A file: what is at `repos_path` in revision `rev`.
     File {
         /// The revision that it has.
         rev: Rev,
@@ -19,7 +19,7 @@ pub enum BaseNode {
         /// Its properties.
         props: Props,
     },
-    /// A directory: what stands at `repos_path` in revision `rev`. While it isn't complete, entries may be missing and properties may be others.
+    /// A directory: what is at `repos_path` in revision `rev`. While it isn't complete, entries may be missing and properties may be others.
     Dir {
         /// The revision that it has, or is on its way to.
         rev: Rev,

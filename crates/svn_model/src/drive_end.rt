@@ -1,6 +1,6 @@
 //! How a drive ends.
 
-/// How a drive ended that neither was refused nor met a refusal.
+/// How a drive ended, if it was neither refused nor had a call refused.
 #[derive(Clone, Copy, Debug, PartialEq, Eq)]
 pub enum DriveEnd {
     /// All calls were made and accepted, `CloseEdit` the last.

@@ -13,7 +13,7 @@ pub enum DriveFault {
     /// The repository has no such target revision. No call was made.
     #[error("there is no such target revision")]
     NoSuchTarget,
-    /// A growth was refused. Calls may have been made; then the last was `AbortEdit`.
+    /// An allocation failed. Calls may have been made; then the last was `AbortEdit`.
     #[error("out of memory")]
     Memory,
     /// The editor refused a call, for this reason. After it the driver made `AbortEdit`.
@@ -25,7 +25,7 @@ pub enum DriveFault {
     /// The root of the copy isn't in the target. No call was made.
     #[error("nothing stands in the target where the root would be")]
     NoRoot,
-    /// What stands in the target where the root would be is of another line. No call was made.
+    /// What is in the target where the root would be is of another line. No call was made.
     #[error("the root in the target is another node")]
     OtherRoot,
 }

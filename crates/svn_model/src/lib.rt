@@ -1,6 +1,6 @@
 //! What an update means, in definitions: what a report says of the repository, where each path leads, the drive of an edit,
-//! what a working copy is and when it is true, and what each call does to it. Driver, copy, laws and the update theorem are stated in
-//! the words of its `specs/`, so whoever audits the project reads these first; `docs/DEFINITIONS.md` has them in prose.
+//! what a working copy is and when it is true, what each call does to it, the result, and how a drive may end. Driver, copy, laws and the update
+//! theorem are stated in the words of its `specs/`, so an audit begins with these; `docs/DEFINITIONS.md` has them in prose.
 //!
 //! The code here is the values that the definitions speak of: [`BaseNode`], what a copy has at a path; [`WcFault`], [`ReportFault`] and
 //! [`DriveFault`], why copy, repository and driver refuse; [`Stop`] and [`DriveEnd`], how a drive ends.
@@ -10,6 +10,8 @@
 //!     println!(rt; "{rev}: {} bytes", text.len())?;
 //! }
 //! ```
+//!
+//! To change a definition: change it here, see which rows and lemmas of `svn_drive_law`, `svn_edit_law` and `svn_law` fail, and read `docs/PROOF.md`.
 //!
 //! Promises: the numbers of the faults are as defined (`specs/FaultNumbers.antt`). That the definitions fit one another is what `svn_drive_law`,
 //! `svn_edit_law` and `svn_law` prove.

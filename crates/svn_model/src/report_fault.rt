@@ -15,13 +15,13 @@ pub enum ReportFault {
     /// The entry names a revision that the repository doesn't have.
     #[error("entry {0} of the report names a revision that isn't there")]
     NoSuchRevision(usize),
-    /// Nothing stands in the repository at the entry's path and revision, where the entry isn't a delete.
+    /// Nothing is in the repository at the entry's path and revision, where the entry isn't a delete.
     #[error("entry {0} of the report names a node that isn't there")]
     NoNode(usize),
     /// The path above the entry isn't a directory in the repository, by what the report says of it.
     #[error("entry {0} of the report stands below what is no directory")]
     ParentNotDir(usize),
-    /// A growth was refused before the first of the other faults was found.
+    /// An allocation failed before the first of the other faults was found.
     #[error("out of memory")]
     Memory,
     /// The root of the report isn't a directory in the repository.

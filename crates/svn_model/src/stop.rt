@@ -5,14 +5,14 @@ ghost use Rattle.svn_model.specs.declared.stop.Stop.TheVariants.{Memory};
 use std::alloc::AllocError;
 use svn_editor::EditFault;
 
-/// Why a driver makes no more of its calls, but `AbortEdit`.
+/// Why a driver makes no more calls but `AbortEdit`.
 #[derive(Clone, Copy, Debug, PartialEq, Eq)]
 pub enum Stop {
-    /// So many calls were made as were asked for.
+    /// As many calls were made as were asked for.
     Cancelled,
     /// No number is left for another call: 18,446,744,073,709,551,614 were made, and the next isn't the last.
     Full,
-    /// A growth was refused.
+    /// An allocation failed.
     Memory,
     /// The editor refused a call.
     Editor(EditFault),

@@ -6,7 +6,7 @@ ghost use Rattle.svn_model.specs.declared.wc_fault.WcFault.TheVariants.{Memory};
 use std::alloc::AllocError;
 use thiserror::Error;
 
-/// Why a working copy can't be made, or can't be changed without a drive. Which fault comes first, each call says. A refusal leaves the copy as it was.
+/// Why a working copy can't be made, or can't be changed without a drive. Each call says which fault comes first. A refusal leaves the copy as it was.
 #[derive(Clone, Copy, Debug, PartialEq, Eq, Error)]
 pub enum WcFault {
     /// The repository has no such revision.
@@ -24,13 +24,13 @@ pub enum WcFault {
     /// A repository path has over 64 names, or a path over 64 more than its repository path.
     #[error("a path has too many names")]
     TooDeep,
-    /// A growth was refused.
+    /// An allocation failed.
     #[error("out of memory")]
     Memory,
     /// A list of nodes has a path twice.
     #[error("a path is given twice")]
     Twice,
-    /// A list of nodes has no root, or one that is no directory; or what is to be checked out is a file.
+    /// A list of nodes has no root, or one that is no directory; or what would be checked out is a file.
     #[error("the root isn't a directory")]
     BadRoot,
 }

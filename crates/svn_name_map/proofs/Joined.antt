@@ -92,7 +92,7 @@ module _ {V : Type 0} where
       (above_from name (r ++ joined (drop (suc m) runs)) q.0
       (subst (λ (es : List (Name × V)). InNameOrder es) (from_run_read runs m r within is) (order_from runs m order)) q.2 (sym (first q.0 q.1)))
 
-  -- behind the last run stands nothing
+  -- after the last run there is nothing
   pub above_none : (name : Name) (runs : List (List (Name × V))) → IsAbove name (joined (drop (length runs) runs))
   above_none name [] = tt
   above_none name (r ∷ runs) = above_none name runs
@@ -201,7 +201,7 @@ module _ {V : Type 0} where
       step : (n : ℕ) → suc n + 1 ≡ suc (n + 1)
       step n = omega arith
 
-  -- behind the first of few runs stands nothing
+  -- after the first of few runs there is nothing
   pub above_few : (name : Name) (runs : List (List (Name × V))) → length runs ≤ 1 → IsAbove name (joined (drop 1 runs))
   above_few name [] few = tt
   above_few name (r ∷ []) few = tt

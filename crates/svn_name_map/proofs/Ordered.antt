@@ -1,4 +1,4 @@
--- Pairs in order of their names: a name among the pairs before it and those behind it.
+-- Pairs in order of their names: a name among the pairs before it and those after it.
 use Rattle.std.proofs.Common.{◌≡◌, ℕ, zero, suc, Bool, true, false, cond, List, [], ◌∷◌, ◌++◌, take, drop, set, refl, sym, ap, ◌∙◌}
 use Rattle.std.proofs.Common.{None, Some, subst}
 use Rattle.std.specs.Prelude.{slice_get}
@@ -18,11 +18,11 @@ use Rattle.svn_types.specs.Pairs.{InNameOrder, value_of}
 use Rattle.svn_types.proofs.NameLemmas.{Name, same_name, name_cmp-same}
 use Rattle.svn_name_map.specs.Runs.{IsBelow, IsAbove, IsPlaceFor}
 
--- a name behind another compares so from the other side
+-- a name after another compares so from the other side
 pub behind : (q name : Name) → name_cmp q name ≡ Less → name_cmp name q ≡ Greater
 behind q name less = nat_list_cmp_total.antisymm name q ∙ ap ordering_reverse less
 
--- a name in order that stands behind another
+-- a name in order that is after another
 below_found : (k name : Name) (ks : List Name) (i : ℕ) → AllByRecursion (λ y. name_cmp k y ≡ Less) ks → slice_get ks i ≡ Some name
     → name_cmp name k ≡ Greater
 below_found k name [] i all found = let none : None ≡ Some name = found in cc
@@ -30,7 +30,7 @@ below_found k name (y ∷ ks) zero all found = (let same : y ≡ name = cc in be
 below_found k name (y ∷ ks) (suc i) all found = below_found k name ks i all.1 found
 
 module _ {V : Type 0} where
-  -- ---- before and behind a list
+  -- ---- before and after a list
 
   pub none_above : (name : Name) (es : List (Name × V)) → IsAbove name es → value_of es name ≡ None
   none_above name [] above = refl
@@ -42,7 +42,7 @@ module _ {V : Type 0} where
   none_below name (e ∷ es) below =
       ap (λ o. cond (is_eq o) (Some e.1) (value_of es name)) (behind e.0 name below.0) ∙ none_below name es below.1
 
-  -- behind all of a list, a pair is put in at its end
+  -- after all of a list, a pair is put in at its end
   pub put_last : (name : Name) (v : V) (es : List (Name × V)) → IsBelow name es → insert_entry name_cmp es name v ≡ es ++ (name, v) ∷ []
   put_last name v [] below = refl
   put_last name v (e ∷ es) below =
@@ -208,7 +208,7 @@ module _ {V : Type 0} where
   in_order-before [] ys order = tt
   in_order-before (x ∷ xs) ys order = (all_keys_left (λ y. name_cmp x.0 y ≡ Less) xs ys order.0, in_order-before xs ys order.1)
 
-  -- what stands before a list that doesn't begin behind a name
+  -- what is before a list that doesn't begin after a name
   pub below_from : (name : Name) (xs ys : List (Name × V)) (q : Name) → InNameOrder (xs ++ ys) → slice_get (keys_of ys) 0 ≡ Some q
       → is_gt (name_cmp q name) ≡ false → IsBelow name xs
   unfolding IsStrictlySortedBy
@@ -229,7 +229,7 @@ module _ {V : Type 0} where
       step Equal is h = subst (λ z. name_cmp x.0 z ≡ Less) (same_name q name is) under
       step Greater is h = let clash : true ≡ false = h in cc
 
-  -- a list that begins behind a name
+  -- a list that begins after a name
   pub above_from : (name : Name) (es : List (Name × V)) (q : Name) → InNameOrder es → slice_get (keys_of es) 0 ≡ Some q
       → is_gt (name_cmp q name) ≡ true → IsAbove name es
   unfolding IsStrictlySortedBy

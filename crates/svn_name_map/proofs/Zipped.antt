@@ -27,9 +27,9 @@ use Rattle.svn_types.specs.Names.{name_cmp}
 use Rattle.svn_types.proofs.NameLemmas.{Name, same_name}
 use Rattle.svn_name_map.specs.Runs.{IsBelow, IsAbove, IsFoundAt, IsPlaceFor}
 
--- ---- where a name stands
+-- ---- where a name is
 
--- a name stands nowhere among names, and would stand at a place
+-- a name is nowhere among names, and would be at a place
 abbrev pub IsGap : List Name → Name → ℕ → Type 0
 IsGap ks name i =
     (i ≤ length ks) × AllByRecursion (λ q. name_cmp q name ≡ Less) (take i ks) × AllByRecursion (λ q. name_cmp name q ≡ Less) (drop i ks)
@@ -41,7 +41,7 @@ weakly_sorted ks s k d low below =
 pub searchable : (ks : List Name) (name : Name) → IsStrictlySortedBy name_cmp ks → IsNonDecreasingBy (λ y. ordering_index (name_cmp y name)) ks
 searchable ks name s = searchable_from_sorted nat_list_cmp_total (λ (y : Name). y) ks name (weakly_sorted ks s)
 
--- behind the last
+-- after the last
 pub gap_behind : (ks : List Name) (name last : Name) → IsStrictlySortedBy name_cmp ks → 0 < length ks → last ≡ get_or ks (length ks - 1) last
     → name_cmp last name ≡ Less → IsGap ks name (length ks)
 gap_behind ks name last s some is less =
@@ -101,7 +101,7 @@ module _ {V : Type 0} (es : List (Name × V)) where
   found_from_equal ks name q i are within is same =
       found_at ks name i are (slice_get_read ks (length ks) i q refl within is ∙ ap Some (same_name q name same))
 
-  -- what a search answers
+  -- what a search returns
   pub searched : (ks : List Name) (name : Name) (r : Result ℕ ℕ) → ks ≡ keys_of es → IsStrictlySortedBy name_cmp ks
       → IsSearchInRange r (length ks) → IfOk r (HoldsAt (λ y. name_cmp y name ≡ Equal) ks) → IsBinarySearchResult (λ y. name_cmp y name) ks r
       → MatchResult r (IsFoundAt es name) (IsPlaceFor es name)
@@ -109,7 +109,7 @@ module _ {V : Type 0} (es : List (Name × V)) where
       found_at ks name i are (slice_get-get_or ks i name within ∙ ap Some (same_name (get_or ks i name) name (same name)))
   searched ks name (Err i) are s within same position = place_from_gap ks name i are (gap_between ks name i within (position (searchable ks name s)))
 
-  -- ---- in the first pairs, or in those behind them
+  -- ---- in the first pairs, or in those after them
 
   module _ (name : Name) (place first : ℕ) (at : IsPlaceFor es name place) where
     pub place_before : (front : List (Name × V)) → front ≡ take first es → place ≤ first → first ≤ length es → IsPlaceFor front name place

@@ -19,7 +19,7 @@ const MAX_LEN: usize = (1 << 63) - 1;
 /// Values by names. A clone shares the names. A contract sees it as the list of its pairs, in byte order of the names.
 #[derive(Debug, Drop)]
 pub struct NameMap<V> {
-    // Each begins behind the one before.
+    // Each begins after the one before.
     runs: Vec<Run<V>>,
     // How many pairs they have.
     len: usize,
@@ -81,7 +81,7 @@ impl<V> NameMap<V> {
 }
 
 impl<V: Copy> NameMap<V> {
-    /// Gives a name that has a value another one, and answers the one before; None where it has none, and then nothing has changed. It takes no
+    /// Gives a name that has a value another one, and returns the one before; None where it has none, and then nothing has changed. It takes no
     /// memory.
     pub fn set(&mut self, name: &Name, value: V) -> Option<V>
         ensures before { result ≡ value_of self.old name.now }
@@ -93,7 +93,7 @@ impl<V: Copy> NameMap<V> {
         set_value(&mut self.runs, name, value)
     }
 
-    /// Gives a name a value, and answers the one that it had. The only error is that there is no memory, or no room for one pair more, and then
+    /// Gives a name a value, and returns the one that it had. The only error is that there is no memory, or no room for one pair more, and then
     /// nothing has changed.
     pub fn insert(&mut self, name: Name, value: V) -> Result<Option<V>, AllocError>
         ensures before { IfOk result (λ found. found ≡ value_of self.old name) }
@@ -110,7 +110,7 @@ impl<V: Copy> NameMap<V> {
         Ok(before)
     }
 
-    /// Takes a name out, and answers the value that it had. The only error is that there is no memory, and then nothing has changed.
+    /// Takes a name out, and returns the value that it had. The only error is that there is no memory, and then nothing has changed.
     pub fn remove(&mut self, name: &Name) -> Result<Option<V>, AllocError>
         ensures before { IfOk result (λ found. found ≡ value_of self.old name.now) }
         ensures removed { OnOk result (self.new ≡ remove_entry (is_at (name_cmp name.now)) self.old) }

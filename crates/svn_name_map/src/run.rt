@@ -1,4 +1,4 @@
-//! Some pairs of a map that stand next to one another.
+//! Some neighbouring pairs of a map.
 ghost use Rattle.std.specs.Prelude.{◌≡◌, ℕ, ◌<◌, ◌≤◌, List, [], ◌∷◌, ◌++◌, length, take, drop, IfOk, OnOk, OnErr, set, slice_get, Some, MatchResult};
 ghost use Rattle.std.specs.Arc.{arc_value};
 ghost use Rattle.std.specs.List.{insert, remove, zip};
@@ -81,7 +81,7 @@ impl<V> Run<V> {
         self.values.as_slice()
     }
 
-    /// Whether its first name is behind a name.
+    /// Whether its first name is after a name.
     pub(crate) fn begins_behind(&self, name: &Name) -> bool
         ensures value { (q : List ℕ) → slice_get (keys_of self.now) 0 ≡ Some q → result ≡ is_gt (name_cmp q name.now) }
         ensures ordered { InNameOrder self.now }
@@ -90,7 +90,7 @@ impl<V> Run<V> {
         self.names()[0].cmp(name).is_gt()
     }
 
-    /// Where a name stands; or where it would. Names mostly come in their order, and then the last one answers without a search.
+    /// Where a name is, or where it would be. Names mostly come in their order; then a comparison with the last one suffices.
     pub(crate) fn find(&self, name: &Name) -> Result<usize, usize>
         ensures { MatchResult result (IsFoundAt self.now name.now) (IsPlaceFor self.now name.now) }
     {
@@ -103,7 +103,7 @@ impl<V> Run<V> {
         }
     }
 
-    /// Gives the name at a place another value, and answers the one before.
+    /// Gives the name at a place another value, and returns the one before.
     pub(crate) fn set(&mut self, place: usize, value: V) -> V
         requires { place < length self.old }
         ensures before { slice_get (values_of self.old) place ≡ Some result }
@@ -128,7 +128,7 @@ impl<V> Run<V> {
         }
     }
 
-    /// Takes the pair at a place out, where it isn't the only one, and answers its value.
+    /// Takes the pair at a place out, where it isn't the only one, and returns its value.
     pub(crate) fn remove(&mut self, place: usize) -> Result<V, AllocError>
     where
         V: Drop,

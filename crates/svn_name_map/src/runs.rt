@@ -1,4 +1,4 @@
-//! The runs of a map, each behind the one before.
+//! The runs of a map, each after the one before.
 ghost use Rattle.std.specs.Prelude.{◌≡◌, ◌<◌, ℕ, suc, take, drop, ◌++◌, length, slice_get, slice_index_or, [], Some, None, IfOk, OnOk, OnErr};
 ghost use Rattle.std.specs.List.{remove};
 ghost use Rattle.std.specs.Option.{option_copied};
@@ -12,7 +12,7 @@ use crate::run::{MAX_RUN, Run};
 use std::alloc::AllocError;
 use svn_types::Name;
 
-// The run in which a name stands, if it stands anywhere, and into which it goes: the last that doesn't begin behind it, or else the first.
+// The run that has a name, if any has, and into which it is put: the last that doesn't begin after it, or else the first.
 // Where there is no run, 0. Most maps have one.
 fn run_for<V>(runs: &[Run<V>], name: &Name) -> usize
     requires { InNameOrder (joined runs.now) }
@@ -62,7 +62,7 @@ pub(crate) fn value_under<'a, V>(runs: &'a [Run<V>], name: &Name) -> Option<&'a 
     }
 }
 
-/// Gives a name that has a value another one, and answers the one before.
+/// Gives a name that has a value another one, and returns the one before.
 pub(crate) fn set_value<V: Copy>(runs: &mut Vec<Run<V>>, name: &Name, value: V) -> Option<V>
     requires { InNameOrder (joined runs.old.items) }
     ensures before { result ≡ value_of (joined runs.old.items) name.now }
@@ -79,7 +79,7 @@ pub(crate) fn set_value<V: Copy>(runs: &mut Vec<Run<V>>, name: &Name, value: V) 
     }
 }
 
-// Puts a pair in, at a place of a run. Where memory is refused, nothing has changed.
+// Puts a pair in, at a place of a run. If an allocation fails, nothing has changed.
 fn put<V: Copy>(
     runs: &mut Vec<Run<V>>,
     at: usize,
@@ -103,7 +103,7 @@ fn put<V: Copy>(
     }
 }
 
-// Puts a pair in behind a run that is full, which stays full.
+// Puts a pair in after a run that is full, which stays full.
 fn put_behind<V: Copy>(
     runs: &mut Vec<Run<V>>,
     at: usize,
@@ -142,7 +142,7 @@ fn put_within<V: Copy>(
     Ok(())
 }
 
-/// Gives a name a value, and answers the one that it had. Where memory is refused, nothing has changed.
+/// Gives a name a value, and returns the one that it had. If an allocation fails, nothing has changed.
 pub(crate) fn insert_pair<V: Copy>(
     runs: &mut Vec<Run<V>>,
     name: Name,
@@ -184,7 +184,7 @@ fn take_out<V: Copy>(runs: &mut Vec<Run<V>>, at: usize, place: usize) -> Result<
     Ok(value)
 }
 
-/// Takes a name out, and answers the value that it had. Where memory is refused, nothing has changed.
+/// Takes a name out, and returns the value that it had. If an allocation fails, nothing has changed.
 pub(crate) fn remove_pair<V: Copy>(
     runs: &mut Vec<Run<V>>,
     name: &Name,

@@ -1,4 +1,4 @@
--- Nodes are gone through beside others, both in path order: the paths at which the others have nothing.
+-- Nodes compared with others, both in path order: the paths at which the others have nothing.
 use Rattle.std.proofs.Common.{◌≡◌, Bool, true, false, ◌&&◌, ◌||◌, cond, List, [], ◌∷◌, ◌++◌, refl, sym, ap, subst, ◌∙◌}
 use Rattle.std.proofs.Common.{Option, Some, None, true≢false}
 use Rattle.std.specs.Prelude.{is_none}
@@ -18,7 +18,7 @@ use Rattle.svn_nodes.proofs.Ranges.{from_path, Taken, taken_none, taken_more, Is
 use Rattle.svn_nodes.proofs.NodeRanges.{within_from}
 use Rattle.svn_nodes.proofs.Replacing.{is_one}
 
--- what stands elsewhere than at the first path is among the others
+-- what is elsewhere than at the first path is among the others
 not_first : (e : Path × BaseNode) (es : List (Path × BaseNode)) (p : Path) → path_eq e.0 p ≡ false → get_in (e ∷ es) p ≡ get_in es p
 not_first e es p other = get_in-first e es p ∙ ap (λ b. cond b (Some e.1) (get_in es p)) other
 
@@ -126,7 +126,7 @@ module _ (at : Path) (nodes others beside beside2 : List (Path × BaseNode)) (pa
   ordered : InPathOrder (e ∷ left)
   ordered = order_behind s.taken.taken (e ∷ left) (subst InPathOrder s.taken.split s.whole)
 
-  -- there: the path was found beside, and so it is among the others
+  -- there: the path was found on the other side, and so it is among the others
   pub compare_on : (there : Bool) → there ≡ is_some (get_in beside e.0) → InPathOrder beside2
       → ((p : Path) → path_cmp e.0 p ≡ Less → get_in beside2 p ≡ get_in beside p) → paths2 ≡ cond there paths (paths ++ e.0 ∷ [])
       → Compared at nodes others beside2 paths2 left

@@ -24,11 +24,11 @@ use Rattle.svn_nodes.proofs.Sweeps.{swept_on, among_left, value_of-first}
 
 module _ (h : History) (rev : ℕ) (at q : Path) (n : ℕ) (w w1 : WorkingCopy)
     (put : (p : Path) → w1 p ≡ cond (path_eq at p) (Some (base_node h rev q n)) (w p)) where
-  -- nothing stands yet at an entry that is left
+  -- nothing is yet at an entry that is left
   abbrev pub Free : List ℕ → Path → Option BaseNode → Type 0
   Free name r found = found ≡ None
 
-  -- what belongs there stands at an entry that is done
+  -- what belongs there is at an entry that is done
   abbrev pub Filled : List ℕ → Path → Option BaseNode → Type 0
   Filled name r found = found ≡ standing_at h rev q name (value_of (entries_of h n) name) r
 

@@ -2,7 +2,7 @@
 pub mod NodeOrder
 -- Why a node isn't opened.
 pub mod OpenFaults
--- The nodes at a path and below stand next to each other: those from the path on, as long as they are within it.
+-- The nodes at a path and below are next to each other: those from the path on, as long as they are within it.
 pub mod Ranges
 -- What a walk over all nodes leaves of them, where a test of their paths decides.
 pub mod Retaining
@@ -10,17 +10,17 @@ pub mod Retaining
 pub mod Settling
 -- Ranges of nodes, and how one is gone through from the last node back.
 pub mod NodeRanges
--- What stands at a path and below is replaced: room is made for what comes, then what was there goes.
+-- What is at a path and below is replaced: room is made for what comes, then what was there goes.
 pub mod Replacing
 -- Nodes below a path are removed: handfuls of their paths are noted, and go.
 pub mod Removals
--- A part is appended to nodes of which none is below its path.
+-- A part is appended to nodes none of which is below its path.
 pub mod Appending
--- Nodes gone through beside others: which of their paths the others lack.
+-- Nodes compared with others: which of their paths the others don't have.
 pub mod Comparing
--- A part is put over nodes that stand at all its paths, in one pass over them.
+-- A part is put over nodes that are at all its paths, in one pass over them.
 pub mod Overwriting
--- What stands below a path, one name at a time.
+-- What is below a path, one name at a time.
 pub mod Trees
 -- One entry of a directory after the other.
 pub mod Sweeps

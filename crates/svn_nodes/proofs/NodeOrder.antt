@@ -39,7 +39,7 @@ pub first_or_after : (P : Type 0) (e : Path × BaseNode) (es : List (Path × Bas
 first_or_after P e es order p some first after = first_or_other P e es p some first
     (λ later. after (after_all e.0 es (sorted_head path_cmp e.0 (keys_of es) order) p later))
 
--- what stands behind others comes after each of them
+-- what is after others comes after each of them
 pub before_behind : (xs ys : List (Path × BaseNode)) → InPathOrder (xs ++ ys) → (p k : Path) → is_some (get_in xs p) ≡ true
     → is_some (get_in ys k) ≡ true → path_cmp p k ≡ Less
 before_behind [] ys order p k here there = absurd (true≢false (sym here))

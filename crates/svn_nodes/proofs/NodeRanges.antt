@@ -32,19 +32,19 @@ not_before_above (m ∷ []) = refl
 not_before_above (m ∷ n ∷ p) =
     ap (λ o. is_lt (ordering_then o (path_cmp (n ∷ p) (parent (n ∷ p))))) (name_cmp-same m) ∙ not_before_above (n ∷ p)
 
--- what stands at a path in a range is in the range
+-- what is at a path in a range is in the range
 pub get_in-between : (lo hi : Bound Path) (es : List (Path × BaseNode)) (p : Path) → range_contains path_cmp lo hi p ≡ true
     → get_in (entries_between path_cmp lo hi es) p ≡ get_in es p
 get_in-between lo hi es p inside =
     lookup-filter-keys (is_at (path_cmp p)) (range_contains path_cmp lo hi) true
     (λ k h. ap (range_contains path_cmp lo hi) (sym (same_path p k (sym (at_path p k) ∙ h))) ∙ inside) es
 
--- what stands above a path is among the nodes up to the path
+-- what is above a path is among the nodes up to the path
 pub above_among : (es : List (Path × BaseNode)) (p : Path)
     → get_in (entries_between path_cmp Unbounded (Included p) es) (parent p) ≡ get_in es (parent p)
 above_among es p = get_in-between Unbounded (Included p) es (parent p) (ap not (not_before_above p))
 
--- what stands at a path or below is among the nodes from the path on
+-- what is at a path or below is among the nodes from the path on
 pub within_from : (at : Path) (es : List (Path × BaseNode)) (p : Path) → is_within at p ≡ true
     → get_in (entries_between path_cmp (Included at) Unbounded es) p ≡ get_in es p
 within_from at es p within =
@@ -54,7 +54,7 @@ module _ (xs : List (Path × BaseNode)) (e : Path × BaseNode) where
   last_or : (p : Path) → get_in (xs ++ e ∷ []) p ≡ option_or (get_in xs p) (cond (path_eq e.0 p) (Some e.1) None)
   last_or p = get_in-append xs (e ∷ []) p ∙ ap (option_or (get_in xs p)) (get_in-first e [] p)
 
-  -- what stands elsewhere than at the last path is among the others
+  -- what is elsewhere than at the last path is among the others
   pub not_last : (p : Path) → path_eq e.0 p ≡ false → get_in (xs ++ e ∷ []) p ≡ get_in xs p
   not_last p other = last_or p ∙ ap (λ b. option_or (get_in xs p) (cond b (Some e.1) None)) other ∙ or_none (get_in xs p)
     where
@@ -72,6 +72,6 @@ module _ (xs : List (Path × BaseNode)) (e : Path × BaseNode) where
         get_in-append xs (e ∷ []) e.0
         ∙ ap (λ o. option_or o (get_in (e ∷ []) e.0)) (none_from e.0 (not_before_itself e.0) (get_in xs e.0) refl) ∙ found_first e []
 
-    -- nothing stands behind the last path
+    -- nothing is after the last path
     pub none_behind : (p : Path) → path_cmp e.0 p ≡ Less → get_in (xs ++ e ∷ []) p ≡ None
     none_behind p before = not_last p (before_apart e.0 p before) ∙ none_from p (not_both e.0 p before) (get_in xs p) refl

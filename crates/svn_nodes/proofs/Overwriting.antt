@@ -1,4 +1,4 @@
--- A part is put over nodes that stand at all its paths, in one pass over them.
+-- A part is put over nodes that are at all its paths, in one pass over them.
 use Rattle.std.proofs.Common.{◌≡◌, Bool, true, false, cond, List, [], ◌∷◌, refl, sym, ◌∙◌, ap, true≢false}
 use Rattle.std.specs.Prelude.{Option, Some, None, is_some, unwrap_or}
 use Rattle.std.specs.Map.Calls.{RetainsPairs}
@@ -21,11 +21,11 @@ Nodes = List (Path × BaseNode)
 abbrev pub StandsIn : Nodes → Nodes → Type 0
 StandsIn part es = (q : Path) → is_some (get_in part q) ≡ true → is_some (get_in es q) ≡ true
 
--- what stands in a list and not at its first path stands behind that
+-- what is in a list and not at its first path is after that
 behind : (e : Path × BaseNode) (es : Nodes) (q : Path) → path_eq e.0 q ≡ false → is_some (get_in (e ∷ es) q) ≡ true → is_some (get_in es q) ≡ true
 behind e es q apart there = ap (λ (b : Bool). is_some (cond b (Some e.1) (get_in es q))) (sym apart) ∙ ap is_some (sym (get_in-first e es q)) ∙ there
 
--- and what stands behind comes after the first path
+-- and what is after comes after the first path
 comes_after : (e : Path × BaseNode) (es : Nodes) → InPathOrder (e ∷ es) → (q : Path) → is_some (get_in es q) ≡ true → path_cmp e.0 q ≡ Less
 comes_after e es order q there = by (get_in es q) refl there
   where
@@ -42,7 +42,7 @@ apart_after p q less = by (path_eq p q) refl
 
 -- ---- one node, and what is left of a part in order
 
--- nothing of the part stands at the node's path, if its first node stands at another
+-- nothing of the part is at the node's path, if its first node is at another
 absent_here : (d e : Path × BaseNode) (ds es : Nodes) → InPathOrder (d ∷ ds) → InPathOrder (e ∷ es) → StandsIn (d ∷ ds) (e ∷ es)
     → path_eq d.0 e.0 ≡ false → get_in (d ∷ ds) e.0 ≡ None
 absent_here d e ds es parted ordered within apart = by (get_in (d ∷ ds) e.0) refl

@@ -1,4 +1,4 @@
--- The nodes at a path and below stand next to each other: those from the path on, as long as they are within it.
+-- The nodes at a path and below are next to each other: those from the path on, as long as they are within it.
 use Rattle.std.proofs.Common.{◌≡◌, ℕ, Bool, true, false, cond, ◌&&◌, ◌||◌, not, List, [], ◌∷◌, ◌++◌, take, drop, refl, sym, ◌∙◌}
 use Rattle.std.proofs.Common.{ap, subst, true≢false, append_assoc}
 use Rattle.std.specs.Prelude.{Option, Some, None}
@@ -132,11 +132,11 @@ module _ (path : Path) (es : List (Path × BaseNode)) (paths : List Path) (left 
 
 -- ---- the nodes below a path
 
--- those behind the path
+-- those after the path
 abbrev pub nodes_behind : Path → List (Path × BaseNode) → List (Path × BaseNode)
 nodes_behind path es = entries_between path_cmp (Excluded path) Unbounded es
 
--- those behind a path are from the path on
+-- those after a path are from the path on
 pub from_behind : (path : Path) (es : List (Path × BaseNode)) → from_path path (nodes_behind path es) ≡ nodes_behind path es
 from_behind path [] = refl
 from_behind path (e ∷ es) = by (path_cmp path e.0) refl (from_behind path es)
@@ -150,7 +150,7 @@ from_behind path (e ∷ es) = by (path_cmp path e.0) refl (from_behind path es)
     by Equal h rest = rest
     by Greater h rest = rest
 
--- what stands behind a path and within it stands below it
+-- what is after a path and within it is below it
 pub below_there : (path p : Path) (es : List (Path × BaseNode))
     → (is_within path p && is_some (get_in (nodes_behind path es) p)) ≡ (is_below path p && is_some (get_in es p))
 below_there path p es = by (is_within path p) refl (path_eq path p) refl
@@ -173,7 +173,7 @@ below_there path p es = by (is_within path p) refl (path_eq path p) refl
     by true w true same = ap is_some (found false (itself same (path_cmp path p) refl))
     by true w false same = ap is_some (found true (ap (λ o. is_lt o && not false) (below_after path p w same)))
 
--- of those behind a path, only what is below it was taken
+-- of those after a path, only what is below it was taken
 pub taken_below : (path p : Path) (es : List (Path × BaseNode)) (paths : List Path) (left : List (Path × BaseNode))
     → Taken path (nodes_behind path es) paths left → is_below path p ≡ false → list_any (λ q. path_eq q p) paths ≡ false
 taken_below path p es paths left t out = ap (list_any (λ q. path_eq q p)) t.are ∙ by (is_within path p) refl
@@ -193,7 +193,7 @@ taken_below path p es paths left t out = ap (list_any (λ q. path_eq q p)) t.are
     by false w = none_outside path p (keys_of t.taken) t.within w
     by true w = any_key t.taken p ∙ none w (get_in t.taken p) refl
 
--- where the next node behind a path isn't within it, none is below it
+-- where the next node after a path isn't within it, none is below it
 pub none_below : (path : Path) (es left : List (Path × BaseNode)) → left ≡ nodes_behind path es → InPathOrder left → IsPast path left
     → (p : Path) → is_below path p ≡ true → get_in es p ≡ None
 none_below path es left h order past p below =

@@ -1,4 +1,4 @@
--- What stands at a path and below is replaced: first there is room for all that comes, then what was there goes, and what comes takes its
+-- What is at a path and below is replaced: first there is room for all that comes, then what was there goes, and what comes takes its
 -- place.
 use Rattle.std.proofs.Common.{◌≡◌, Bool, true, false, cond, List, [], ◌∷◌, ◌++◌, refl, sym, ap, subst, ◌∙◌, Option, Some, None, true≢false}
 use Rattle.std.proofs.lemmas.List.{append-nil}

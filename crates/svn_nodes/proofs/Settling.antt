@@ -19,7 +19,7 @@ use Rattle.svn_types.proofs.PathLemmas.{same_path}
 use Rattle.svn_edit_law.proofs.Lookups.{at_path}
 use Rattle.svn_edit_law.proofs.NodeLists.{absent_after}
 
--- what is kept of a node is what the last call leaves of it, and the nodes behind it are then held
+-- what is kept of a node is what the last call leaves of it, and the nodes after it are then held
 pub record Settles {F : Type 0} (mode : Mode) (target : ℕ) (held : F → List (Path × BaseNode) → Type 0) (e : Path × BaseNode)
     (es : List (Path × BaseNode)) (keep : Bool) (node : BaseNode) (after : F) : Type 0 where
   pub kept : cond keep (Some node) None ≡ settled mode target e.0 (Some e.1)

@@ -1,4 +1,4 @@
--- Pairs that are gone through with the next of them in sight.
+-- Pairs that are gone through with the next of them ready to be read.
 --     behind_first xs      all but the first
 use Rattle.std.specs.Prelude.{List, [], ◌∷◌}
 

@@ -1,4 +1,4 @@
--- Paths that are noted in places of which some may be empty.
+-- Paths that are noted in places, some of them empty.
 --     is_noted places p      the path is in one of the places
 use Rattle.std.specs.Prelude.{List, Bool, Option, false}
 use Rattle.std.specs.List.{list_any}

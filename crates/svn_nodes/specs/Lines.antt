@@ -1,6 +1,6 @@
 -- The printed lines of the nodes of a copy.
 --     line words          words, ended by a line feed
---     node_lines (p, n)   a node at its path, and behind it a line for each of its properties
+--     node_lines (p, n)   a node at its path, and after it a line for each of its properties
 use Rattle.std.specs.Prelude.{ℕ, Bool, true, false, List, [], ◌∷◌, ◌++◌, codes}
 use Rattle.std.specs.List.{flat_map}
 use Rattle.std.specs.Fmt.{decimal}
@@ -21,7 +21,7 @@ node_words p (File rev from text props) = path_word p ∷ codes "file" ∷ decim
 node_words p (Dir rev from complete props) = path_word p ∷ codes "dir" ∷ decimal rev ∷ path_word from ∷ complete_words complete
 node_words p NotPresent = path_word p ∷ codes "not-present" ∷ []
 
--- what stands before a property of the node at the path
+-- what is before a property of the node at the path
 abbrev pub prop_start : Path → List ℕ
 prop_start p = path_word p ++ codes " prop "
 

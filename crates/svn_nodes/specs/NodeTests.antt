@@ -1,5 +1,5 @@
 -- What an edit asks of the nodes of a copy, and what its end makes of them.
---     Gives fault value answer      the answer of a call that gives a value: that fault, or there is none and the value is this one
+--     Gives fault value answer      the result of a call that gives a value: that fault, or there is none and the value is this one
 --     AnswersAs fault answer      the same of the fault alone
 --     IsSumOf sum nodes p      the checksum, if there is one, is that of the text at the path
 use Rattle.std.specs.Prelude.{ℕ, not, List, [], ◌∷◌, ◌++◌, length, nat_eq, nat_lt, Option, Some, None, IfSome, Result, Ok, Err}

@@ -1,6 +1,6 @@
--- Nodes that are gone through in order, and beside them a part that is put over them.
---     next_at left p      the first node of the part that is left, if it stands at the path
---     behind_at left p      what is left of the part behind the path
+-- Nodes and a part that is put over them, gone through together in order.
+--     next_at left p      the first node of the part that is left, if it is at the path
+--     behind_at left p      what is left of the part after the path
 use Rattle.std.specs.Prelude.{List, [], ◌∷◌, Option, Some, None, if◌then◌else◌}
 use Rattle.svn_types.specs.Names.{Path}
 use Rattle.svn_types.specs.Paths.{path_eq}

@@ -1,6 +1,6 @@
 -- Trees of the repository as a copy has them, and how one is gathered.
---     standing h rev q n      what stands below path q, where q has node n of revision rev
---     Puts part q w w'     the part stands at q and below, and elsewhere nothing changed
+--     standing h rev q n      what is below path q, where q has node n of revision rev
+--     Puts part q w w'     the part is at q and below, and elsewhere nothing changed
 use Rattle.std.specs.Prelude.{◌≡◌, ℕ, true, false, List, [], ◌∷◌, ◌++◌, Option, Some, option_map, option_and_then, is_some}
 use Rattle.svn_types.specs.Names.{Path}
 use Rattle.svn_types.specs.Paths.{is_within}
@@ -16,7 +16,7 @@ standing h rev q n r = option_map (base_node h rev (q ++ r)) (walk (node_at h) n
 abbrev pub SameOutside : Path → WorkingCopy → WorkingCopy → Type 0
 SameOutside q w w' = (p : Path) → is_within q p ≡ false → w' p ≡ w p
 
--- at q and below stands the part, and elsewhere nothing changed
+-- at q and below is the part, and elsewhere nothing changed
 pub record Puts (part : WorkingCopy) (q : Path) (w w' : WorkingCopy) : Type 0 where
   pub inside : (r : Path) → w' (q ++ r) ≡ part r
   pub outside : SameOutside q w w'
@@ -36,6 +36,6 @@ pub record IsSwept {V : Type 0} (q : Path) (left : List (List ℕ × V)) (before
 abbrev pub AreAmong : {V : Type 0} → List (List ℕ × V) → List (List ℕ × V) → Type 0
 AreAmong {V} left all = (name : List ℕ) (v : V) → value_of left name ≡ Some v → value_of all name ≡ Some v
 
--- what stands below a name of q, if it has a node
+-- what is below a name of q, if it has a node
 abbrev pub standing_at : History → ℕ → Path → List ℕ → Option ℕ → WorkingCopy
 standing_at h rev q name node r = option_and_then (λ n. standing h rev (q ++ name ∷ []) n r) node

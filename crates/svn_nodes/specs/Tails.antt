@@ -1,5 +1,5 @@
 -- Paths that are tails of others.
---     IsTail front p q      p is what is left of q without so many names, if a number is told
+--     IsTail front p q      p is what is left of q without that many names, if a number is given
 use Rattle.std.specs.Prelude.{◌≡◌, ℕ, ◌≤◌, length, drop, Option, IfSome}
 use Rattle.svn_types.specs.Names.{Path}
 

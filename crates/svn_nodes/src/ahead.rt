@@ -1,4 +1,4 @@
-//! The pairs of a map, one after the other, the next of them in sight.
+//! The pairs of a map, one after the other, the next of them ready to be read.
 ghost use Rattle.std.specs.Prelude.{◌≡◌, ◌∷◌, [], List, MatchOption};
 ghost use Rattle.std.specs.BTreeMap.{IsOrdered, IsRun};
 ghost use Rattle.std.specs.BTreeMap.Range.{entries_between};
@@ -15,7 +15,7 @@ use std::ops::Bound;
 #[derive(Drop)]
 pub struct Ahead<'a, K, V> {
     next: Option<(&'a K, &'a V)>,
-    // behind that one
+    // after that one
     left: Range<'a, K, V>,
 }
 

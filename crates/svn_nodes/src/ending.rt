@@ -14,7 +14,7 @@ use std::vec::IntoIter;
 use svn_model::BaseNode;
 use svn_types::{MAX_DEPTH, PathFault, RelPath, Rev, impossible};
 
-// Gives a present node the revision, and tells whether it is present.
+// Gives a present node the revision, and returns whether it is present.
 fn settle(node: &mut BaseNode, target: Rev) -> bool
     ensures kept { result ≡ is_present (Some node.old) }
     ensures revised { node.new ≡ at_revision target node.old }
@@ -52,19 +52,19 @@ pub fn is_settled_deep(nodes: &Nodes, root: &RelPath) -> bool
     false
 }
 
-// A path with the names of another behind its own.
+// A path with the names of another after its own.
 fn under(alloc: Global, root: &RelPath, path: &RelPath) -> Result<RelPath, AllocError>
     ensures { IfOk result (λ q. q ≡ root.now ++ path.now) }
 {
     match root.join_path(alloc, path) {
         Ok(whole) => Ok(whole),
         Err(PathFault::Memory) => Err(AllocError),
-        // an edit has asked `is_settled_deep` before: no path comes to have over 64 names
+        // an edit has called `is_settled_deep` before: no path comes to have over 64 names
         Err(_) => Err(impossible(AllocError)),
     }
 }
 
-/// The repository paths that a switch to a root gives the present nodes, in path order. AllocError where an allocation fails, or a path came to
+/// The repository paths that a switch to a root gives the present nodes, in path order. AllocError if an allocation fails, or a path came to
 /// have over 128 names.
 pub fn moved_paths(alloc: Global, nodes: &Nodes, root: &RelPath) -> Result<Vec<RelPath>, AllocError>
     ensures { IfOk result (λ v. v.items ≡ moved_paths root.now nodes.now.entries) }
@@ -89,7 +89,7 @@ fn set_path(node: &mut BaseNode, moved: RelPath)
     }
 }
 
-// Gives a present node the revision and the next repository path, and tells whether it is present.
+// Gives a present node the revision and the next repository path, and returns whether it is present.
 fn settle_next(node: &mut BaseNode, target: Rev, moved: &mut IntoIter<RelPath>) -> bool
     ensures kept { result ≡ is_present (Some node.old) }
     ensures settled { node.new ≡ settled_next target (into_iter_items moved.old) node.old }

@@ -37,8 +37,8 @@ fn clone_text(alloc: Global, repo: &Repo, id: NodeId) -> Result<Text, AllocError
     }
 }
 
-/// A node of the repository as a copy has it that is up to date, with the repository path that is passed. AllocError where an allocation fails:
-/// properties and text are clones of what the repository has. Inlined, so that it is made where it stays.
+/// A node of the repository as a copy has it that is up to date, with the repository path that is passed. AllocError if an allocation fails:
+/// properties and text are clones of what the repository has. Inlined, so that it is made in place.
 #[inline(always)]
 pub fn node_of(
     alloc: Global,
@@ -66,8 +66,8 @@ pub fn node_of(
     }
 }
 
-/// The map of these pairs; of several at one path the last counts. In path order, they are put into it one behind the other, and no place is
-/// searched. AllocError where an allocation fails.
+/// The map of these pairs; of several at one path the last counts. In path order, they are put into it one after the other, and no place is
+/// searched. AllocError if an allocation fails.
 pub fn map_of(
     alloc: Global,
     pairs: Vec<(RelPath, BaseNode)>,
@@ -135,7 +135,7 @@ fn push_node(
     Ok(())
 }
 
-// Adds a node beneath which nothing stands, which gets the paths themselves.
+// Adds a node below which nothing is, which gets the paths themselves.
 fn push_leaf(
     from: &Origin<'_>,
     at: RelPath,

@@ -13,10 +13,10 @@ use svn_editor::{PathWord, Word, push_path, push_word};
 use svn_model::BaseNode;
 use svn_types::{PropName, Props, RelPath, Rev, Text};
 
-// How long the beginning of a property's line may be to be put together once for all properties of a node.
+// The longest beginning of a property's line that is built once for all properties of a node.
 const MAX_START: usize = 96;
 
-// What stands before each property of a node: where it is short, as a text that was put together once.
+// What is before each property of a node: if it is short, as a text that was built once.
 #[derive(Drop)]
 struct PropStart<'a> {
     path: &'a RelPath,
@@ -103,7 +103,7 @@ fn write_props<W: fmt::Write>(
     Ok(())
 }
 
-// The line of a file, without the properties behind it.
+// The line of a file, without the properties after it.
 fn write_file<W: fmt::Write>(
     path: &RelPath,
     rev: Rev,
@@ -164,7 +164,7 @@ fn write_pieces<W: fmt::Write>(
     }
 }
 
-/// The texts of a node's line while it is put together: the word of its path, and the line. They have room for 1,024 bytes each, in place, and
+/// The texts of a node's line while it is built: the word of its path, and the line. They have room for 1,024 bytes each, in place, and
 /// serve for one node after the other.
 #[derive(Drop)]
 pub struct LineTexts {
@@ -182,7 +182,7 @@ impl LineTexts {
     }
 }
 
-// Puts the word of a repository path behind a line. Mostly that is the path in the copy.
+// Appends the word of a repository path to a line. Mostly that is the path in the copy.
 fn put_from(
     path: &RelPath,
     at: &ArrayString<1024>,
@@ -200,7 +200,7 @@ fn put_from(
     }
 }
 
-// Puts the beginning of a node's line together: its path, what it is, and its revision.
+// Builds the beginning of a node's line: its path, what it is, and its revision.
 fn put_start(
     at: &ArrayString<1024>,
     kind: &str,
@@ -216,7 +216,7 @@ fn put_start(
     Ok(())
 }
 
-// Puts the line of a file together.
+// Builds the line of a file.
 fn put_file(
     path: &RelPath,
     rev: Rev,
@@ -237,7 +237,7 @@ fn put_file(
     Ok(())
 }
 
-// Puts the line of a directory together that is complete.
+// Builds the line of a complete directory.
 fn put_directory(path: &RelPath, rev: Rev, from: &RelPath, texts: &mut LineTexts) -> fmt::Result
     ensures { OnOk result (texts.new.line.bytes ≡ line (path_word path.now ∷ codes "dir" ∷ decimal rev ∷ path_word from.now ∷ [])) }
 {
@@ -250,7 +250,7 @@ fn put_directory(path: &RelPath, rev: Rev, from: &RelPath, texts: &mut LineTexts
     Ok(())
 }
 
-// Puts a node's line together, if it is short, has no byte that is escaped, and is not of a kind that is seldom there.
+// Builds a node's line, if it is short, has no byte that is escaped, and is not of a rare kind.
 fn put_line(path: &RelPath, node: &BaseNode, texts: &mut LineTexts) -> fmt::Result
     ensures { OnOk result (texts.new.line.bytes ≡ line (node_words path.now node.now)) }
 {
@@ -277,7 +277,7 @@ fn put_line(path: &RelPath, node: &BaseNode, texts: &mut LineTexts) -> fmt::Resu
     }
 }
 
-// A node's line. Most are put together first, since one write costs less than many.
+// A node's line. Most are built first, since one write costs less than many.
 fn write_line<W: fmt::Write>(
     path: &RelPath,
     node: &BaseNode,
@@ -293,7 +293,7 @@ fn write_line<W: fmt::Write>(
 }
 
 /// Writes a node at its path, as lines that end with a line feed: `PATH file REV REPOSPATH TEXT`, `PATH dir REV REPOSPATH`, followed by
-/// ` incomplete` where it is that, or `PATH not-present`; behind that one line for each of its properties, in order of their names,
+/// ` incomplete` where it is that, or `PATH not-present`; after that one line for each of its properties, in order of their names,
 /// `PATH prop NAME VALUE`. Paths, texts and values are words, as in a printed call. The only fault is the writer's. It takes no memory.
 pub fn write_node<W: fmt::Write>(
     path: &RelPath,

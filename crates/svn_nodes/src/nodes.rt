@@ -117,7 +117,7 @@ pub fn open_file_fault(node: Option<&BaseNode>, base: Rev) -> Option<EditFault>
     }
 }
 
-// The checksum of a node's text: of what is no file, of no byte.
+// The checksum of a node's text; for anything but a file that of no byte.
 fn checksum_of(node: Option<&BaseNode>) -> Digest
     ensures { result ≡ md5 (node_text (option_copied node.entry)) }
 {
@@ -202,7 +202,7 @@ pub fn tested_text(
     }
 }
 
-/// Whether a checksum is given, and is another than that of a node's text: of what is no file, of no byte. It takes no memory.
+/// Whether a checksum is given, and is another than that of a node's text; anything but a file counts as having no byte. It takes no memory.
 pub fn is_wrong_sum(given: &Option<Digest>, node: Option<&BaseNode>) -> bool
     ensures { result ≡ is_wrong_sum given.now (md5 (node_text (option_copied node.entry))) }
 {

@@ -13,11 +13,11 @@ use std::mem::replace;
 use svn_model::BaseNode;
 use svn_types::RelPath;
 
-/// What is left of a part, in path order, the first node of it in sight. A contract sees it as the list of its nodes.
+/// What is left of a part, in path order, with its first node ready to be read. A contract sees it as the list of its nodes.
 #[derive(Drop)]
 struct Left {
     first: Option<(RelPath, BaseNode)>,
-    // behind that one
+    // after that one
     rest: IntoIter<RelPath, BaseNode, Global>,
 }
 
@@ -44,7 +44,7 @@ impl Left {
         Left { first, rest }
     }
 
-    // Takes the first node, if it stands at a path.
+    // Takes the first node, if it is at a path.
     fn take_at(&mut self, path: &RelPath) -> Option<BaseNode>
         ensures node { result ≡ next_at self.old path.now }
         ensures left { self.new ≡ behind_at self.old path.now }
@@ -71,7 +71,7 @@ fn overwrite(path: &RelPath, node: &mut BaseNode, left: &mut Left)
     }
 }
 
-/// Puts a part over nodes that stand at all its paths. It takes no memory, and goes over all nodes once.
+/// Puts a part over nodes that are at all its paths. It takes no memory, and goes over all nodes once.
 pub(crate) fn overwrite_all(nodes: &mut Nodes, part: Nodes)
     requires places { (p : Path) → is_some (get_in part.entries p) ≡ true → is_some (get_in nodes.old.entries p) ≡ true }
     ensures { (p : Path) → get_in nodes.new.entries p ≡ option_or (get_in part.entries p) (get_in nodes.old.entries p) }

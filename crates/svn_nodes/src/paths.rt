@@ -15,7 +15,7 @@ use svn_editor::{EditFault, Mode};
 use svn_model::BaseNode;
 use svn_types::{MAX_DEPTH, Name, PathFault, RelPath, impossible};
 
-/// The path with one more name. AllocError where an allocation fails, or the path has 128 names, which no path of a repository has.
+/// The path with one more name. AllocError if an allocation fails, or the path has 128 names, which no path of a repository has.
 pub fn child_path(alloc: Global, path: &RelPath, name: &Name) -> Result<RelPath, AllocError>
     ensures path { IfOk result (λ p. p ≡ path.now ++ name.now ∷ []) }
     ensures bounded { OnOk result (length path.now + 1 < depth_limit + 1) }
@@ -28,7 +28,7 @@ pub fn child_path(alloc: Global, path: &RelPath, name: &Name) -> Result<RelPath,
     }
 }
 
-/// The path without its last name, the root's being the root. AllocError where an allocation fails.
+/// The path without its last name, the root's being the root. AllocError if an allocation fails.
 pub fn parent_path(alloc: Global, path: &RelPath) -> Result<RelPath, AllocError>
     ensures { IfOk result (λ p. p ≡ parent path.now) }
 {
@@ -39,7 +39,7 @@ pub fn parent_path(alloc: Global, path: &RelPath) -> Result<RelPath, AllocError>
     }
 }
 
-// TooDeep for a repository path of so many names, if they are over 64.
+// TooDeep for a repository path of that many names, if they are over 64.
 fn test_depth(names: usize) -> Result<(), EditFault>
     ensures { (p : Path) → length p ≡ names → AnswersCall (deep_fault p) result }
 {
@@ -49,7 +49,7 @@ fn test_depth(names: usize) -> Result<(), EditFault>
     Ok(())
 }
 
-// The same of a repository path with the last name of a path behind it. That path isn't made.
+// The same of a repository path with the last name of a path after it. That path isn't made.
 fn test_last(above: &RelPath, path: &RelPath) -> Result<(), EditFault>
     ensures { AnswersCall (deep_fault (above.now ++ last_name path.now)) result }
 {
@@ -82,7 +82,7 @@ fn repos_path<'a>(node: Option<&'a BaseNode>, root: &'a RelPath) -> &'a RelPath
     }
 }
 
-// A repository path with the last name of a path behind it. Where that is the path itself, a clone shares it.
+// A repository path with the last name of a path after it. If that is the path itself, a clone shares it.
 fn with_last_name(alloc: Global, above: &RelPath, path: &RelPath) -> Result<RelPath, AllocError>
     ensures { IfOk result (λ q. q ≡ above.now ++ last_name path.now) }
 {
@@ -137,7 +137,7 @@ pub fn test_standing(alloc: Global, node: Option<&BaseNode>) -> Result<(), EditF
 }
 
 /// The repository path that an added file gets at its close, by the path of the directory above it. Its length was tested when it was added.
-/// AllocError where an allocation fails.
+/// AllocError if an allocation fails.
 pub fn joined_again(
     alloc: Global,
     copy: &Nodes,
@@ -160,7 +160,7 @@ pub fn joined_at(alloc: Global, copy: &Nodes, path: &RelPath) -> Result<RelPath,
 }
 
 /// The repository path that an opened file gets at its close: nothing where it keeps its own, as in an update, which has no root. Its length was
-/// tested when it was opened. AllocError where an allocation fails.
+/// tested when it was opened. AllocError if an allocation fails.
 pub fn moved_again(
     alloc: Global,
     mode: &Mode,
@@ -178,7 +178,7 @@ pub fn moved_again(
     Ok(Some(joined_at(alloc, copy, path)?))
 }
 
-/// The same by the path that the file would get if it was added, or by what refused that.
+/// The same by the path that the file would get if it was added, or by the fault of making that.
 pub fn moved_by(
     mode: &Mode,
     path: &RelPath,

@@ -17,7 +17,7 @@ use svn_types::RelPath;
 // How many paths are noted at a time. A map's own key can't be borrowed while it is removed, so a clone is noted, which shares its names.
 const HANDFUL: usize = 32;
 
-// Where over this part of all nodes are below a path, a pass over all of them costs less than to look each of those up.
+// Where over this part of all nodes are below a path, a pass over all of them costs less than looking up each of those.
 const MANY: usize = 4;
 
 /// Whether no node is below a path.
@@ -31,7 +31,7 @@ pub(crate) fn has_none_below(nodes: &Nodes, at: &RelPath) -> bool
     }
 }
 
-// Whether over so many nodes are below a path.
+// Whether over that many nodes are below a path.
 fn are_over_below(nodes: &Nodes, path: &RelPath, most: usize) -> bool {
     let mut left = most;
     for (next, _) in nodes.range((Bound::Excluded(path), Bound::Unbounded)) {
@@ -119,7 +119,7 @@ fn remove_handful_below(nodes: &mut Nodes, path: &RelPath) -> Result<bool, Alloc
     Ok(!paths.is_full())
 }
 
-// Removes so many of the nodes below a path, and returns whether these were all.
+// Removes that many of the nodes below a path, and returns whether these were all.
 fn remove_few_below(nodes: &mut Nodes, path: &RelPath, most: usize) -> bool
     ensures others { (p : Path) → is_below path.now p ≡ false → get_in nodes.new.entries p ≡ get_in nodes.old.entries p }
     ensures all { IsTrue result → (p : Path) → is_below path.now p ≡ true → get_in nodes.new.entries p ≡ None }

@@ -1,4 +1,4 @@
-//! What stands at a path and below is replaced.
+//! What is at a path and below is replaced.
 ghost use Rattle.std.specs.Prelude.{◌≡◌, ◌&&◌, true, false, IsTrue, IsFalse, IfOk, OnOk, OnErr, Some, None, is_some, is_none, if◌then◌else◌};
 ghost use Rattle.std.specs.List.{list_any};
 ghost use Rattle.std.specs.Option.{option_or};
@@ -18,10 +18,10 @@ use std::ops::Bound;
 use svn_model::BaseNode;
 use svn_types::RelPath;
 
-// Where a part has over this part of all nodes, a pass over them costs less than to look each of its paths up.
+// Where a part has over this part of all nodes, a pass over them costs less than looking up each of its paths.
 const MANY: usize = 8;
 
-// Whether something stands at a path among nodes that are gone through in order: those up to the path are passed.
+// Whether something is at a path among nodes that are gone through in order: those up to the path are passed.
 fn pass_to(beside: &mut Ahead<'_, RelPath, BaseNode>, path: &RelPath) -> bool
     ensures ordered { InPathOrder beside.old → InPathOrder beside.new }
     ensures found { InPathOrder beside.old → result ≡ is_some (get_in beside.old path.now) }
@@ -40,7 +40,7 @@ fn pass_to(beside: &mut Ahead<'_, RelPath, BaseNode>, path: &RelPath) -> bool
     false
 }
 
-// The paths of nodes, at a path and below, at which others have nothing. Both are gone through in order, side by side.
+// The paths of nodes, at a path and below, at which others have nothing. Both are gone through together, in order.
 fn paths_without(
     alloc: Global,
     at: &RelPath,
@@ -73,7 +73,7 @@ fn make_places(nodes: &mut Nodes, paths: &[RelPath]) -> Result<(), AllocError>
     Ok(())
 }
 
-// Makes places at paths where nothing stands, or leaves the nodes as they were.
+// Makes places at paths where nothing is, or leaves the nodes as they were.
 fn make_room(nodes: &mut Nodes, paths: &[RelPath]) -> Result<(), AllocError>
     requires free { (p : Path) → list_any (λ q. path_eq q p) paths.now ≡ true → get_in nodes.old.entries p ≡ None }
     ensures others { OnOk result ((p : Path) → list_any (λ q. path_eq q p) paths.now ≡ false → get_in nodes.new.entries p ≡ get_in nodes.old.entries p) }
@@ -103,7 +103,7 @@ fn put(nodes: &mut Nodes, path: RelPath, node: BaseNode)
     }
 }
 
-// Puts a part into the nodes, at paths where something stands.
+// Puts a part into the nodes, at paths where something is.
 fn put_all(nodes: &mut Nodes, part: Nodes)
     requires places { (p : Path) → is_some (get_in part.entries p) ≡ true → is_some (get_in nodes.old.entries p) ≡ true }
     ensures { (p : Path) → get_in nodes.new.entries p ≡ option_or (get_in part.entries p) (get_in nodes.old.entries p) }
@@ -115,7 +115,7 @@ fn put_all(nodes: &mut Nodes, part: Nodes)
     }
 }
 
-// Puts a part into the nodes, at paths where something stands: in one pass over all nodes, where it has many of them.
+// Puts a part into the nodes, at paths where something is: in one pass over all nodes, where it has many of them.
 fn put_over(nodes: &mut Nodes, part: Nodes)
     requires places { (p : Path) → is_some (get_in part.entries p) ≡ true → is_some (get_in nodes.old.entries p) ≡ true }
     ensures { (p : Path) → get_in nodes.new.entries p ≡ option_or (get_in part.entries p) (get_in nodes.old.entries p) }
@@ -142,7 +142,7 @@ pub fn replace_alone(nodes: &mut Nodes, at: &RelPath, node: BaseNode) -> Result<
     Ok(true)
 }
 
-/// Puts a part, all of whose nodes are at a path or below it, in the place of the nodes there. AllocError where an allocation fails; then the nodes
+/// Puts a part, all of whose nodes are at a path or below it, in the place of the nodes there. AllocError if an allocation fails; then the nodes
 /// stay as they were. It costs what goes and what comes, or one pass over all nodes where the part has over an eighth of them.
 pub fn replace_within(
     alloc: Global,

@@ -94,7 +94,7 @@ pub ChangesAt-beyond : (Change : OpenedDirectory → OpenedDirectory → Type 0)
     → ChangesAt i Change ds ds
 ChangesAt-beyond Change ds i j p h = subst (λ (k : ℕ). ChangesAt k Change ds ds) p (ChangesAt-past Change ds j h)
 
--- the directory in which an entry stands, by the parts of the entry's path
+-- the directory in which an entry is, by the parts of the entry's path
 pub entry_set : (Change : List ℕ → OpenedDirectory → OpenedDirectory → Type 0) (ds : List OpenedDirectory) (path above : Path)
     (name : List ℕ) (b d : OpenedDirectory) → IsEntry path above name → length above < length ds → b ≡ get_or ds (length above) b
     → shown d ≡ shown b → Change name b d
@@ -137,7 +137,7 @@ entry_whole (m ∷ n ∷ p) h = ap (λ r. m ∷ r) (entry_whole (n ∷ p) refl)
 pub whole_path : (p q : Path) (n : List ℕ) → IsEntry p q n → p ≡ q ++ n ∷ []
 whole_path p q n e = entry_whole p e.below_root ∙ (λ i. e.parent_is i ++ e.name_is i ∷ [])
 
--- an entry stands in a directory whose path with the entry's name is the entry's
+-- an entry is in a directory whose path with the entry's name is the entry's
 pub parent_by_name : (d p q : Path) (n : List ℕ) (r : Bool) → IsEntry p q n → (IsTrue r ↔ (p ≡ d ++ n ∷ [])) → r ≡ path_eq d q
 parent_by_name d p q n r e test = by r (path_eq d q) refl test
   where

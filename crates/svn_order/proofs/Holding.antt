@@ -230,7 +230,7 @@ file_close_held s t calls token md5 h sound a n = record {
   current = current_is s calls (CloseFile token md5) t.current h n.current_is;
 }
 
--- a call of which no part of the check takes note
+-- a call that changes no part of the check
 quiet_held : (s t : OrderCheck) (calls : List Call) (c : Call) → Holds s calls → given_by c ≡ None → ((q : ℕ) → closes q c ≡ false)
     → ((q : ℕ) → applies_text q c ≡ false) → ((d : OpenedDirectory) → IsApart c d) → t.stage ≡ stage_after (calls ++ c ∷ [])
     → t.tokens.items ≡ s.tokens.items → t.directories.items ≡ s.directories.items → t.current ≡ current_file (calls ++ c ∷ []) → Holds t (calls ++ c ∷ [])

@@ -36,7 +36,7 @@ AreDirectories ds calls = (i : ℕ) (d : OpenedDirectory) → slice_get ds i ≡
 
 -- ---- places and paths
 
--- a directory stands at the length of its path
+-- a directory is at the length of its path
 pub depth_held : (s : OrderCheck) (calls : List Call) (i : ℕ) (d : OpenedDirectory) → Holds s calls → IsSound calls
     → slice_get s.directories.items i ≡ Some d → length d.path ≡ i
 depth_held s calls i d h sound e =

@@ -68,7 +68,7 @@ changed_other f (x ∷ ns) (suc i) (suc j) h = changed_other f ns i j (λ e. h (
 abbrev pub AreTokens : List GivenToken → List Call → Type 0
 AreTokens ns calls = (t : ℕ) (n : GivenToken) → slice_get ns t ≡ Some n → IsTokenOf calls t n
 
--- a token of which a call says nothing
+-- a token that a call doesn't concern
 token_still : (calls : List Call) (c : Call) (t : ℕ) (n : GivenToken) → given_by c ≡ None → closes t c ≡ false → applies_text t c ≡ false
     → IsTokenOf calls t n → IsTokenOf (calls ++ c ∷ []) t n
 token_still calls c t n e no_close no_text was = record {

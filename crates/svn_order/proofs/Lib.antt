@@ -1,4 +1,4 @@
--- names in order: what is behind them, what a search finds, one more
+-- names in order: what is after them, what a search finds, one more
 pub mod OrderedNames
 -- one element of a list of tokens or of open directories changed
 pub mod Changes
@@ -18,5 +18,5 @@ pub mod HoldingTokens
 pub mod HoldingDirectories
 -- the check holds what the calls say, one more call included
 pub mod Holding
--- a step while the edit goes on: its answer, what it accepts, what a refusal leaves
+-- a step while the edit goes on: its result, what it accepts, what a refusal leaves
 pub mod Stepping

@@ -1,4 +1,4 @@
--- Names in order: what is behind all of them, what a search finds, and one name more.
+-- Names in order: what is after all of them, what a search finds, and one name more.
 use Rattle.std.proofs.Common.{◌≡◌, ℕ, suc, ◌-◌, ◌<◌, ◌≤◌, ◌⊎◌, inl, inr, Bool, true, false, cond, ◌||◌, List, [], ◌∷◌, ◌++◌}
 use Rattle.std.proofs.Common.{length, get_or, refl, sym, ◌∙◌, ap, arith}
 use Rattle.std.specs.Prelude.{bytes_eq, slice_get}
@@ -33,7 +33,7 @@ none (x ∷ xs) n others =
     or_from (bytes_eq n x) (list_any (bytes_eq n) xs) (others 0 x (omega arith))
     (none xs n (λ i d inside. others (suc i) d (omega (arith, inside))))
 
--- the last is below a name that is behind it
+-- the last is below a name that is after it
 last_below : (xs : List Name) (n : Name) → is_behind (slice_get xs (length xs - 1)) n ≡ true → (d : Name) → 0 < length xs
     → name_cmp (get_or xs (length xs - 1) d) n ≡ Less
 last_below xs n behind d some =

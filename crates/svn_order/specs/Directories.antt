@@ -1,4 +1,4 @@
--- What is remembered of the directories that are open, the innermost last. Each stands at the place that is the length of its path.
+-- What is remembered of the directories that are open, the innermost last. Each is at the place that is the length of its path.
 use Rattle.std.specs.Prelude.{◌≡◌, ℕ, ◌-◌, Bool, true, false, ◌&&◌, ◌||◌, not, List, [], ◌∷◌, ◌++◌, length, map, nat_eq, Option}
 use Rattle.std.specs.Prelude.{Some, None, MatchOption, slice_get, take}
 use Rattle.std.specs.Option.{option_map}

@@ -11,7 +11,7 @@ has_name names n = list_any (bytes_eq n) names
 abbrev pub Inserts : List (List ℕ) → List ℕ → List (List ℕ) → Type 0
 Inserts old n new = (m : List ℕ) → has_name new m ≡ (has_name old m || bytes_eq n m)
 
--- a name is behind another, if there is that one
+-- a name is after another, if there is that one
 abbrev pub is_behind : Option (List ℕ) → List ℕ → Bool
 is_behind None n = true
 is_behind (Some last) n = is_lt (name_cmp last n)

@@ -1,6 +1,6 @@
 -- What an order check does with a call that it accepts.
 --     Notes old c new      the check before, the call, and the check after
---     Takes old c answer new      the same of any call while the edit goes on, with its answer
+--     Takes old c answer new      the same of any call while the edit goes on, with its result
 use Rattle.std.specs.Prelude.{◌≡◌, ℕ, false, List, [], ◌∷◌, ◌++◌, Option, Some, None, if◌then◌else◌, Result, Ok, Err}
 use Rattle.std.specs.Prelude.{MatchResult}
 use Rattle.svn_types.specs.declared.kind.Kind.TheVariants.{File, Directory}

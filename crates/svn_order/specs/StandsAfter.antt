@@ -63,7 +63,7 @@ pub record StandsAfter (check : OrderCheck) (calls : List Call) : Type 0 where
   pub going : list_any is_last calls ≡ false → Holds check calls
   pub ended : list_any is_last calls ≡ true → HasEnded check
 
--- ---- answers that are the same whatever came before
+-- ---- results that are the same whatever came before
 
 -- after the end
 abbrev pub StaysEnded : OrderCheck → Result (Unit {0}) OrderFault → OrderCheck → Type 0
@@ -74,7 +74,7 @@ abbrev pub StaysDead : Call → Result (Unit {0}) OrderFault → OrderCheck → 
 StaysDead AbortEdit answer new = (answer ≡ Ok tt) × HasEnded new
 StaysDead _ answer new = (answer ≡ Err fault.Dead) × IsDead new
 
--- what an answer leaves where it is a refusal: nothing is in order any more, unless the edit has ended
+-- what a result leaves where it is a refusal: nothing is in order any more, unless the edit has ended
 abbrev pub LeavesDead : Result (Unit {0}) OrderFault → OrderCheck → Type 0
 LeavesDead (Ok done) new = Unit {0}
 LeavesDead (Err fault.Ended) new = Unit {0}

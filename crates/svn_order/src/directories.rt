@@ -1,4 +1,4 @@
-//! The directories that are open, each with what later calls may ask of it. The innermost is the last; each stands at the place that is the
+//! The directories that are open, each with what later calls may ask of it. The innermost is the last; each is at the place that is the
 //! length of its path.
 ghost use Rattle.std.specs.Prelude.{◌≡◌, OnOk};
 ghost use Rattle.svn_order.specs.Directories.{innermost_of, holds_entry, is_opened_in, is_deleted_in, changed_late_in, IsNew, InsertsOpened, InsertsDeleted, OpensEntry, DeletesEntry, OpensSubdirectory, ChangesProp, Opens, without_last, EntrySplit, IsEntry};
@@ -58,7 +58,7 @@ fn split_entry(path: &RelPath) -> Option<(&Name, &[Name])>
     path.components().split_last()
 }
 
-// Whether a directory is the one in which the entry of that name stands, whose path is given too.
+// Whether a directory is the one that has the entry of that name, whose path is given too.
 fn is_parent(directory: &RelPath, above: &[Name], name: &Name, path: &RelPath) -> bool
     requires { IsEntry path.now above.now name.now }
     ensures { result ≡ path_eq directory.now above.now }
@@ -131,7 +131,7 @@ fn insert_deleted(directory: &mut OpenedDirectory, name: &Name) -> Result<(), Al
     Ok(())
 }
 
-/// Notes that the entry was opened or added. AllocError where a growth is refused.
+/// Notes that the entry was opened or added. AllocError if an allocation fails.
 pub fn open_entry(directories: &mut Vec<OpenedDirectory>, path: &RelPath) -> Result<(), AllocError>
     ensures { OnOk result (OpensEntry directories.old.items path.now directories.new.items) }
 {
@@ -144,7 +144,7 @@ pub fn open_entry(directories: &mut Vec<OpenedDirectory>, path: &RelPath) -> Res
     Ok(())
 }
 
-/// Notes that the entry was deleted. AllocError where a growth is refused.
+/// Notes that the entry was deleted. AllocError if an allocation fails.
 pub fn delete_entry(
     directories: &mut Vec<OpenedDirectory>,
     path: &RelPath,
@@ -182,7 +182,7 @@ pub fn change_prop(directories: &mut Vec<OpenedDirectory>)
     }
 }
 
-/// Opens a directory, which is the innermost from then on. AllocError where a growth is refused.
+/// Opens a directory, which is the innermost from then on. AllocError if an allocation fails.
 pub fn open(
     directories: &mut Vec<OpenedDirectory>,
     alloc: Global,

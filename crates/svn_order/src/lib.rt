@@ -12,9 +12,18 @@
 //! assert_eq!(rt; check.step(&Call::AbortEdit), Err(OrderFault::Ended));
 //! ```
 //!
-//! Promises, all of `step`, and for every list of calls after which the check stands (`StandsAfter`): the first rule that the call breaks
-//! is answered, or want of memory (`answers`); what is accepted is one call more (`accepted`); what comes after a refusal and after the
-//! end (`refused`, `dead`, `ended`); `CloseEdit` and `AbortEdit` are never refused for memory (`last`).
+//! Files: `order` has the check; `tokens` what each token was given to, and whether it is closed and has its text; `directories` the open
+//! directories, innermost last, with the names of the entries that calls were about (`name_set`: a list while they come in order); `order_rules`
+//! tests one rule after the other on these parts, in the order of the definition.
+//!
+//! In `specs/`, `StandsAfter` says what each part holds of the calls so far, `OrderState` the rules as tests on the parts, and `OrderChanges` what a
+//! call changes. So the proof has two halves: the tests on the parts are those of the definition (`proofs/Looking`, `Answering`), and one more call
+//! keeps what the parts hold (`Holding*`, `svn_editor/proofs/OneMore`). To add a rule: a test in `Order.antt`, its form in `OrderState.antt` and
+//! `order_rules.rt`, and a lemma between them.
+//!
+//! Promises, all of `step`, for every list of calls that the check has seen (`StandsAfter`): the first rule that the call breaks is returned, or
+//! Memory (`answers`); an accepted call is one call more (`accepted`); what comes after a refusal and after the end (`refused`, `dead`, `ended`);
+//! `CloseEdit` and `AbortEdit` are never refused for memory (`last`).
 #![tactic(auto)]
 
 mod directories;

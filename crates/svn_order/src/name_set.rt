@@ -1,4 +1,4 @@
-//! Sets of names, most of which come in order.
+//! Sets of names that mostly come in order.
 ghost use Rattle.std.specs.Prelude.{◌≡◌, [], OnOk};
 ghost use Rattle.std.specs.List.{list_any};
 ghost use Rattle.std.specs.Prelude.{bytes_eq, slice_get, length, ◌-◌};
@@ -11,8 +11,8 @@ use std::collections::BTreeSet;
 use std::marker::Model;
 use svn_types::Name;
 
-/// A set of names. Those that came in their order stand in a list, so that a name behind its last costs one comparison; the others stand in a
-/// tree, so that no order of names is dear.
+/// A set of names. Those that came in their order are in a list, so that a name after its last costs one comparison; the others are in a
+/// tree, so that no order of names is expensive.
 #[derive(Debug, Drop)]
 pub struct NameSet {
     in_order: Vec<Name>,
@@ -31,7 +31,7 @@ impl Model for NameSet {
     ghost invariant = { λ s. IsSorted name_cmp s.in_order.items };
 }
 
-// Whether a name is behind the last of some names, or there is none.
+// Whether a name is after the last of some names, or there is none.
 fn is_behind(names: &[Name], name: &Name) -> bool
     ensures { result ≡ is_behind (slice_get names.now (length names.now - 1)) name.now }
 {
@@ -73,7 +73,7 @@ impl NameSet {
         is_among(&self.in_order, name) || self.others.contains(name)
     }
 
-    /// Puts a name into it. AllocError where a growth is refused.
+    /// Puts a name into it. AllocError if an allocation fails.
     pub fn insert(&mut self, name: Name) -> Result<(), AllocError>
         ensures { OnOk result (Inserts self.old name self.new) }
     {

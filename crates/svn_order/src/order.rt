@@ -17,7 +17,7 @@ use std::alloc::{AllocError, Global};
 use svn_editor::{Call, OrderFault, Token};
 use svn_types::{Kind, RelPath};
 
-/// How far an edit is; `OrderCheck` alone uses it.
+/// The state of an edit; only `OrderCheck` uses it.
 #[derive(Clone, Copy, Debug)]
 pub enum Stage {
     /// No call was taken.
@@ -26,11 +26,11 @@ pub enum Stage {
     During,
     /// The edit was ended or given up.
     Ended,
-    /// A call was refused: only giving up is left.
+    /// A call was refused: only `AbortEdit` may follow.
     Dead,
 }
 
-/// Tells which calls of an edit are in order, by the rules of `svn_delta.h`, which are prose at `svn_editor::Editor`.
+/// Checks which calls of an edit are in order, by the rules of `svn_delta.h`, which are prose at `svn_editor::Editor`.
 ///
 /// It remembers a few bytes of each token, and of the directories that are open their paths and the names of the entries that calls were
 /// about. The cost of a step grows with the length of the path that the call has, and with the logarithm of the entries of its directory;
@@ -60,9 +60,9 @@ impl OrderCheck {
 
     /// Looks at the next call, and takes it if it is in order.
     ///
-    /// The first fault in this order is answered: Ended, Dead, TargetFirst, UnknownToken, ClosedToken, TokenOrder, WrongPath, FileOpen,
+    /// The first fault in this order is returned: Ended, Dead, TargetFirst, UnknownToken, ClosedToken, TokenOrder, WrongPath, FileOpen,
     /// TooEarly, NotInnermost, OpenBelow, PropLate, DeleteLate, EntryAgain, TextAgain, RootNotClosed, Memory. After a fault other than Ended
-    /// the edit is dead: every call but `AbortEdit` is answered Dead. `AbortEdit` is in order at any time before the end, and neither it nor
+    /// the edit is dead: every call but `AbortEdit` returns Dead. `AbortEdit` is in order at any time before the end, and neither it nor
     /// `CloseEdit` takes memory.
     pub fn step(&mut self, call: &Call) -> Result<(), OrderFault>
         ensures answers { (calls : List Call) → StandsAfter self.old calls → Answers (order_fault calls call.now) result }

@@ -9,7 +9,7 @@ use crate::{directories, tokens};
 use svn_editor::{Call, OrderFault, Token};
 use svn_types::Kind;
 
-// The token that a call is about, and of which kind of node it has to be: its own or, of an open, an add or a delete, the parent's.
+// The token that a call is about, and the kind of node that it must have: its own or, for an open, an add or a delete, the parent's.
 #[inline(always)]
 fn named_by(call: &Call) -> Option<(Token, Kind)>
     ensures { result ≡ named_by call.now }
@@ -46,8 +46,8 @@ fn given_by(call: &Call) -> Option<Token>
 }
 
 impl OrderCheck {
-    // The first fault that the call has, want of memory aside. Each arm is compiled for its kind of call alone: the rules, which are inlined, then
-    // don't ask again which it is.
+    // The first fault that the call has, apart from Memory. Each arm is compiled for its kind of call: the rules, which are inlined, then
+    // don't test again which it is.
     pub(crate) fn fault_of(&self, call: &Call) -> Option<OrderFault>
         ensures { result ≡ fault_in self.now call.now }
     {

@@ -72,7 +72,7 @@ pub fn has_unclosed_file(tokens: &[GivenToken]) -> bool
     tokens.iter().any(is_unclosed_file)
 }
 
-/// Gives the next token, to a node of this kind. AllocError where a growth is refused.
+/// Gives the next token, to a node of this kind. AllocError if an allocation fails.
 pub fn give(tokens: &mut Vec<GivenToken>, kind: Kind) -> Result<(), AllocError>
     ensures { OnOk result (tokens.new.items ≡ tokens.old.items ++ token_of kind ∷ []) }
 {

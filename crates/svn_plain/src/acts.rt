@@ -24,7 +24,7 @@ const KEY_LENGTH: usize = 15;
 // What comes after every name.
 const END_MARK: u8 = 255;
 
-/// Where a call stands: a path in path order, an end mark behind it or before it, and 0 behind the last.
+/// Where a call is: a path in path order, an end mark after it or before it, and 0 after the last.
 type Key = [u8; KEY_LENGTH];
 
 const _: () = prove!(KEY_LENGTH == MAX_DEPTH + 1);
@@ -50,7 +50,7 @@ fn path_key(path: PlainPath) -> Key {
     key
 }
 
-// The end mark behind the path.
+// The end mark after the path.
 fn close_key(path: PlainPath) -> Key {
     let mut key = path_key(path);
     if let Some(place) = key.get_mut(path.depth()) {

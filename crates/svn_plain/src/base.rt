@@ -1,4 +1,4 @@
-//! Working copies, as the model has them: a flat map from path to what stands there.
+//! Working copies, as the model has them: a flat map from path to what is there.
 
 use crate::fault::{Fault, Result};
 use crate::history::{History, Node, Values};
@@ -9,7 +9,7 @@ use std::collections::BTreeMap;
 use svn_model::WcFault;
 use svn_types::Kind;
 
-/// What stands at a path of a copy.
+/// What is at a path of a copy.
 #[derive(Clone, Copy, PartialEq, Eq)]
 pub enum Base {
     File {
@@ -48,7 +48,7 @@ pub fn base_of(node: &Node, rev: u64, repos: PlainPath) -> Base {
     }
 }
 
-/// Everything at a path and beneath goes.
+/// Everything at a path and below goes.
 pub fn remove_within(tree: &mut BaseTree, path: PlainPath) {
     tree.retain(|place, _base| !place.is_within(&path));
 }
@@ -66,7 +66,7 @@ fn put_node(
     Ok(())
 }
 
-// What a revision has at a repository path and beneath, put at a path.
+// What a revision has at a repository path and below, put at a path.
 fn put_tree(
     tree: &mut BaseTree,
     history: &History,
@@ -83,7 +83,7 @@ fn put_tree(
     Ok(())
 }
 
-/// Why a copy can't be made of what stands at a path of a revision.
+/// Why a copy can't be made of what is at a path of a revision.
 pub fn checkout_fault(history: &History, rev: u64, path: PlainPath) -> Option<WcFault> {
     if history.tree(rev).is_none() {
         return Some(WcFault::NoSuchRevision);
@@ -95,7 +95,7 @@ pub fn checkout_fault(history: &History, rev: u64, path: PlainPath) -> Option<Wc
     }
 }
 
-/// The copy of what stands at a path of a revision.
+/// The copy of what is at a path of a revision.
 pub fn checked_out(
     alloc: Global,
     history: &History,
@@ -107,7 +107,7 @@ pub fn checked_out(
     Ok(tree)
 }
 
-/// The repository path that a path has where it isn't switched: that of the directory above with the name behind it. None where
+/// The repository path that a path has where it isn't switched: that of the directory above with the name after it. None where
 /// no directory is above.
 pub fn own_repos(tree: &BaseTree, path: PlainPath) -> Option<PlainPath> {
     let parent = path.parent()?;
@@ -117,7 +117,7 @@ pub fn own_repos(tree: &BaseTree, path: PlainPath) -> Option<PlainPath> {
     }
 }
 
-/// Why nothing can be put at a path: with `repos` what stands at another repository path.
+/// Why nothing can be put at a path: with `repos` what is at another repository path.
 pub fn placing_fault(
     tree: &BaseTree,
     history: &History,
@@ -140,7 +140,7 @@ pub fn placing_fault(
     }
 }
 
-/// Puts what a revision has at the path's own repository path, or at another, in the place of what stands at the path.
+/// Puts what a revision has at the path's own repository path, or at another, in the place of what is at the path.
 pub fn put_at(
     tree: &mut BaseTree,
     history: &History,
@@ -164,7 +164,7 @@ pub fn forgetting_fault(tree: &BaseTree, path: PlainPath) -> Option<WcFault> {
     }
 }
 
-/// What stands at the path counts as not present.
+/// What is at the path counts as not present.
 pub fn forget(tree: &mut BaseTree, path: PlainPath) -> Result<()> {
     remove_within(tree, path);
     tree.insert(path, Base::NotPresent)?;

@@ -54,7 +54,7 @@ pub struct Draft {
     pub next_number: u64,
 }
 
-// Why there is no way to a path: what is above it has to be a directory, and with `whole` something has to stand at the path too.
+// Why there is no way to a path: what is above it must be a directory, and with `whole` something must be at the path too.
 fn way_fault(tree: &Tree, path: PlainPath, whole: bool) -> Option<CommitFault> {
     for length in 0..path.depth() {
         match tree.get(&path.prefix(length)) {
@@ -87,7 +87,7 @@ impl Draft {
         })
     }
 
-    // Why nothing can be made at a path: it is the root, or there is no way, or what stands there is in the way.
+    // Why nothing can be made at a path: it is the root, or there is no way, or what is there is in the way.
     fn making_fault(&self, path: PlainPath, makes_file: bool) -> Option<CommitFault> {
         if path.is_root() {
             return Some(CommitFault::IsRoot);
@@ -233,7 +233,7 @@ impl Draft {
         Ok(())
     }
 
-    /// Makes the changes a revision, unless one can't be made, and begins anew behind the last revision.
+    /// Makes the changes a revision, unless one can't be made, and begins anew after the last revision.
     pub fn commit(&mut self, history: &mut History) -> Result<Option<CommitFault>> {
         let fault = self.fault;
         if fault.is_none() {

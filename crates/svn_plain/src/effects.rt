@@ -50,7 +50,7 @@ fn add_file(tree: &mut BaseTree, path: PlainPath) -> Result<()> {
 }
 
 impl Edition {
-    // The repository path of what is opened: what it had, or in a switch the parent's with the name behind it.
+    // The repository path of what is opened: what it had, or in a switch the parent's with the name after it.
     fn opened_repos(&self, tree: &BaseTree, path: PlainPath, had: PlainPath) -> Result<PlainPath> {
         match self.to {
             None => Ok(had),
@@ -155,7 +155,7 @@ impl Edition {
         }
     }
 
-    /// The copy after the first so many of the calls between the first and the last.
+    /// The copy after the first n of the calls between the first and the last.
     pub fn after(&self, before: &BaseTree, acts: &[Act], count: usize) -> Result<BaseTree> {
         let mut tree = before.clone()?;
         for (at, act) in acts.iter().enumerate() {

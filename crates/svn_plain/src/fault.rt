@@ -1,4 +1,4 @@
-//! Why the model gives no answer.
+//! Why the model gives no result.
 
 use std::alloc::{AllocError, AllocFailed};
 use std::result;
@@ -7,7 +7,7 @@ use std::result;
 #[derive(Clone, Copy)]
 pub struct Fault(pub &'static str);
 
-/// An answer of the model.
+/// A result of the model.
 pub type Result<T> = result::Result<T, Fault>;
 
 impl From<AllocError> for Fault {

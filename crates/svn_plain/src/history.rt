@@ -62,7 +62,7 @@ impl History {
         self.revisions.get(rev as usize)
     }
 
-    /// What stands at a path in a revision.
+    /// What is at a path in a revision.
     pub fn look(&self, rev: u64, place: Option<PlainPath>) -> Option<Node> {
         let place = place?;
         self.tree(rev)?.get(&place).copied()

@@ -1,7 +1,11 @@
 //! A plain and slow model of repositories, working copies and updates, written from their definitions: flat maps from path to
-//! node, each path asked by itself, and a drive's calls put in order by sorting. A program compares the library with it on
+//! node, each path looked at alone, and a drive's calls put in order by sorting. A program compares the library with it on
 //! random histories. It has none of the library's code, only the names of its kinds and faults. Paths have at most 14 names of a table, texts and
 //! values come from a table too, and what would go beyond is an error.
+//!
+//! Files: `plain_path` and `words` have paths, names and texts; `history` and `draft` commits; `base` and `truth` copies; `report` and `request` what a
+//! report says and where each path leads; `acts` and `lines` the calls of a drive; `effects` what calls do; `fault` why the model gives no result. A
+//! rule of the library that changes must be changed here by hand.
 #![tactic(auto)]
 
 mod acts;

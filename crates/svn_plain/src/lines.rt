@@ -70,7 +70,7 @@ impl Tokens {
     }
 }
 
-// A word of a line behind its first.
+// A word of a line after its first.
 #[derive(Clone, Copy)]
 enum Part {
     Path(PlainPath),
@@ -131,7 +131,7 @@ fn changed(token: Part, name: usize, value: Option<Word>) -> [Part; 4] {
     [token, name, value, Part::None]
 }
 
-// The words behind it.
+// The words after it.
 fn parts(act: &Act, parent: u64, token: u64) -> [Part; 4] {
     let (path, none) = (Part::Path(act.path), Part::None);
     let (parent, token) = (Part::Token(parent), Part::Token(token));

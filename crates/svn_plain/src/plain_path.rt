@@ -6,7 +6,7 @@ use std::fmt;
 /// The most names that a place has.
 pub const MAX_DEPTH: usize = 14;
 
-/// A path: its names by their places in the table, counted from 1, and 0 behind the last. So places are ordered as paths are: name by
+/// A path: its names by their places in the table, counted from 1, and 0 after the last. So places are ordered as paths are: name by
 /// name, a prefix first.
 #[derive(Clone, Copy, PartialEq, Eq, PartialOrd, Ord)]
 pub struct PlainPath {
@@ -46,7 +46,7 @@ impl PlainPath {
         Some(joined)
     }
 
-    /// The first so many names.
+    /// The first that many names.
     pub fn prefix(self, length: usize) -> PlainPath {
         let mut prefix = self;
         for (at, name) in prefix.names.iter_mut().enumerate() {
@@ -69,7 +69,7 @@ impl PlainPath {
         self.names.get(length).copied()
     }
 
-    /// Whether it is the other, or stands beneath it.
+    /// Whether it is the other, or is below it.
     pub fn is_within(&self, above: &PlainPath) -> bool {
         for (mine, its) in self.names.iter().zip(above.names.iter()) {
             if *its != 0 && *its != *mine {
@@ -79,7 +79,7 @@ impl PlainPath {
         true
     }
 
-    /// The same place with other names behind it.
+    /// The same place with other names after it.
     pub fn with(self, names: &[u8]) -> Option<PlainPath> {
         let mut joined = self;
         for name in names {

@@ -108,7 +108,7 @@ impl Report {
         nearest
     }
 
-    /// The repository path of a path: that of a link at it, else that of the parent with the name behind it.
+    /// The repository path of a path: that of a link at it, else that of the parent with the name after it.
     pub fn repos(&self, path: PlainPath) -> Option<PlainPath> {
         let mut repos = Some(self.root);
         for length in 1..path.depth().saturating_add(1) {
@@ -141,7 +141,7 @@ impl Report {
         }
     }
 
-    /// Whether an entry stands strictly beneath a path.
+    /// Whether an entry is strictly below a path.
     pub fn has_entry_below(&self, path: PlainPath) -> bool {
         for place in self.entries.keys() {
             if place.is_within(&path) && *place != path {

@@ -1,4 +1,4 @@
-//! Where each path of a copy leads in the target, and what the copy is then to have.
+//! Where each path of a copy leads in the target, and what the copy must have then.
 
 use crate::base::{Base, BaseTree, base_of};
 use crate::fault::Result;
@@ -39,14 +39,14 @@ pub struct Facts {
     pub target: Option<Node>,
 }
 
-/// Why no run leads to the target. The first that holds is answered.
+/// Why no run leads to the target. The first that holds is returned.
 #[derive(Clone, Copy, Debug, PartialEq, Eq)]
 pub enum TargetFault {
     /// There is no such revision.
     NoSuchRevision,
-    /// Nothing stands in the target where the copy's root would be.
+    /// Nothing is in the target where the copy's root would be.
     NoRoot,
-    /// Another thing stands there.
+    /// Another thing is there.
     OtherRoot,
 }
 

@@ -1,6 +1,6 @@
-//! The names, texts and properties of which random histories are made.
+//! The names, texts and properties that random histories are made of.
 
-/// Names in byte order, each with the word that stands for it in a script. Some begin with others, and go on with a byte that comes
+/// Names in byte order, each with its word in a script. Some begin with others, and go on with a byte that comes
 /// before the slash.
 pub const NAMES: [(&str, &str); 10] = [
     ("%", "%25"),
@@ -41,7 +41,7 @@ pub struct Word(u8);
 pub const NO_TEXT: Word = Word(0);
 
 impl Word {
-    /// The text of a place in the table, which begins again behind its last.
+    /// The text of a place in the table, which begins again after its last.
     pub fn nth(place: u64) -> Word {
         Word((place % TEXT_COUNT) as u8)
     }
@@ -54,7 +54,7 @@ impl Word {
         }
     }
 
-    /// The word that stands for it.
+    /// Its word.
     pub fn printed(self) -> &'static str {
         match TEXTS.get(usize::from(self.0)) {
             Some((_raw, printed)) => printed,

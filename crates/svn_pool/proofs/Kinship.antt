@@ -40,7 +40,7 @@ holder_live : (m : LinkedMap) (x : Anchor) (c : ℕ) → standing m x ≡ Some c
 holder_live m (First p) c e = first_live (get m p) c e
 holder_live m (Next q) c e = next_live (get m q) c e
 
--- what stands at a place depends on its holder alone
+-- what is at a place depends on its holder alone
 same_holder : (m n : LinkedMap) (x : Anchor) → get n (holder x) ≡ get m (holder x) → standing n x ≡ standing m x
 same_holder m n (First p) e = ap first_of e
 same_holder m n (Next q) e = ap next_of e
@@ -131,7 +131,7 @@ linked-written m n linked s l w found parent put unique =
     by firsts nexts (First p) = firsts p
     by firsts nexts (Next q) = nexts q
 
--- the pool z stands at x, by the link of its holder
+-- the pool z is at x, by the link of its holder
 pub record IsStood (m n : LinkedMap) (x : Anchor) (z : Option ℕ) : Type 0 where
   pub here : IsSome (get m (holder x)) → standing n x ≡ z
   pub others : (y : Anchor) → y ≢ x → standing n y ≡ standing m y
@@ -244,7 +244,7 @@ module _ (old mid : LinkedMap) (linked : IsLinked old) (s : ℕ) (leaf : IsLeaf 
       let lt = (linked.kin.next s s (linked.inverse.there (Next s) s (ap next_of found ∙ e))).2 in
       omega (arith, lt)
 
-  -- its own links but for the next aside, all stand where they did
+  -- but for its own links except the next, all are where they were
   same_standing : (y : Anchor) → y ≢ Next s → standing mid y ≡ standing old y
   same_standing y apart = elim (cases_eq (holder y) s) [
     | inl is ↦ elim (held_by y s is) [
@@ -275,7 +275,7 @@ module _ (old mid : LinkedMap) (linked : IsLinked old) (s : ℕ) (leaf : IsLeaf 
         unique = subst IsUnique (sym same) (unique-bare mid unique);
       }
 
-  -- it stood nowhere
+  -- it was nowhere
   pub linked-unplaced : place_by l.pool.parent l.before ≡ None → IsLinked mid
   linked-unplaced none =
       let place : place_of old s ≡ None = ap place_in found ∙ none in
@@ -310,7 +310,7 @@ module _ (old mid : LinkedMap) (linked : IsLinked old) (s : ℕ) (leaf : IsLeaf 
           let its = linked.kin.next c s (linked.inverse.there (Next s) c e) in
           absurd (not_some_from_none (parent_in old c) (sym its.1 ∙ parent) its.0)
 
-  -- it stood at x
+  -- it was at x
   module _ (x : Anchor) (at : place_by l.pool.parent l.before ≡ Some x) where
     s_at : place_of old s ≡ Some x
     s_at = ap place_in found ∙ at
@@ -330,7 +330,7 @@ module _ (old mid : LinkedMap) (linked : IsLinked old) (s : ℕ) (leaf : IsLeaf 
     pub holder_stays : IsSome (get mid (holder x))
     holder_stays = ap is_some (away (holder x) other_holder) ∙ holder_live old x s was
 
-    -- the next stands there now
+    -- the next is there now
     module _ (closed new : LinkedMap) (put : IsStood mid closed x l.next) (moved : IsMoved closed new l.next x) where
       bare_same : bare new ≡ bare mid
       bare_same = moved.pools ∙ put.pools

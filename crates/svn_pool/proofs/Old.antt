@@ -49,7 +49,7 @@ old_stays_old t s old = record {
       );
 }
 
--- where s has no child, nothing is beneath it
+-- where s has no child, nothing is below it
 none_beneath : (t : Pools) (s : ℕ) → ((c : ℕ) → parent_of (pool_at t c) ≢ Some s) → (n q : ℕ) → IsAbove (pool_at t) s n q → ⊥
 none_beneath t s leaf zero q above = leaf q above
 none_beneath t s leaf (suc n) q above = none_beneath t s leaf n above.0 above.2

@@ -166,10 +166,10 @@ module _ {root last used spare : ℕ} {pools end : LinkedMap} {old : Pools} (tre
           ∙ pruned.others q (λ b. not (beneath_same (live_at (bare pools)) (pool_at old) (λ k. sym (parents_old k)) s q b)));
     }
 
--- the tree's invariant stands again
+-- the tree's invariant holds again
 module _ {root last used after : ℕ} {pools end : LinkedMap} (tree : IsTree pools root last used) (linked : IsLinked end)
     (counted : after ≡ blocks_held (bare end)) (s : ℕ) where
-  -- after all beneath a pool are gone
+  -- after everything below a pool is gone
   module _ (pruned : IsPruned (bare pools) (bare end) s) where
     still_live : (q : ℕ) → IsSome (live_at (bare end) q) → IsSome (live_at (bare pools) q)
     still_live q h =

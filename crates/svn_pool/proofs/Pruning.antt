@@ -1,4 +1,4 @@
--- The removal of the pools beneath one, step by step.
+-- The removal of the pools below one, step by step.
 use Rattle.std.proofs.Common.{◌≡◌, ◌≢◌, ◌⊎◌, ℕ, zero, suc, ◌+◌, ◌<◌, Option, None, Some, IsSome, refl, sym, ap, subst, ◌∙◌}
 use Rattle.std.proofs.Common.{inl, inr, arith}
 use Rattle.std.proofs.lemmas.Bool.{cases_eq}
@@ -14,7 +14,7 @@ use Rattle.svn_pool.proofs.Kinship.{live_child}
 use Rattle.svn_pool.proofs.Siblings.{no_child}
 use Rattle.svn_pool.specs.declared.links.Anchor.TheVariants.{First}
 
--- at is live, and top or beneath it; what is gone by now was beneath top
+-- at is live, and top or below it; what is gone by now was below top
 pub record IsOnWay (old now : LivePools) (top at : ℕ) : Type 0 where
   pub either : (q : ℕ) → (live_at now q ≡ live_at old q) ⊎ ((live_at now q ≡ None) × IsBeneath (live_at old) top q)
   pub here : IsSome (live_at now at)

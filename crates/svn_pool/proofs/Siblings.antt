@@ -1,5 +1,5 @@
--- Places and what stands there, as a pool is put in before what stands at a place, and as a pool is taken out, so that what
--- followed it stands at its place: places and pools stay inverse, and agree with the parents.
+-- Places and what is there, as a pool is put in before what is at a place, and as a pool is taken out, so that what
+-- followed it is at its place: places and pools stay inverse, and agree with the parents.
 use Rattle.std.proofs.Common.{◌≡◌, ◌≢◌, ◌⊎◌, ℕ, zero, suc, ◌+◌, ◌<◌, ◌≤◌, Option, None, Some, IsSome, is_some, refl, sym, ap, ◌∙◌}
 use Rattle.std.proofs.Common.{inl, inr, arith}
 use Rattle.std.proofs.lemmas.Bool.{cases_eq}
@@ -24,11 +24,11 @@ same_place (First a) (Next b) = inr (λ e. first_or_next a b e)
 same_place (Next a) (First b) = inr (λ e. first_or_next b a (sym e))
 same_place (Next a) (Next b) = elim (cases_eq a b) [ inl is ↦ inl (ap Next is) | inr apart ↦ inr (λ e. apart (next_is a b e)) ]
 
--- a change of what stands at x and behind the pool s; z is what follows s on the side where s is there
+-- a change of what is at x and after the pool s; z is what follows s on the side where s is there
 module _ (standing after : Anchor → Option ℕ) (place new : ℕ → Option Anchor) (inverse : IsInverse standing place) (x : Anchor)
     (s : ℕ) (z : Option ℕ) (apart : Next s ≢ x) (others : (y : Anchor) → y ≢ x → y ≢ Next s → after y ≡ standing y)
     (other : (c : ℕ) → c ≢ s → z ≢ Some c → new c ≡ place c) where
-  -- s goes: z stands at its place
+  -- s goes: z is at its place
   module _ (was : standing x ≡ Some s) (next : standing (Next s) ≡ z) (now : after x ≡ z) (none : after (Next s) ≡ None)
       (gone : new s ≡ None) (moved : (c : ℕ) → z ≡ Some c → new c ≡ Some x) where
     there_without : (y : Anchor) (c : ℕ) → after y ≡ Some c → new c ≡ Some y
@@ -223,6 +223,6 @@ module _ (parent : ℕ → Option ℕ) (place : ℕ → Option Anchor) (standing
           let lt = newer.2 in
           later q (omega (arith, left, lt)) (newer.1 ∙ is)
 
-  -- where no pool stands as p's first child, no pool has the parent p
+  -- if p has no first child, no pool has the parent p
   pub no_child : (c : ℕ) → parent c ≡ Some p → ⊥
   no_child c is = no_child_within 18446744073709551616 c (omega arith) is

@@ -124,7 +124,7 @@ contents-put m n before after s e put =
       | inr apart ↦ put.1 q apart ∙ sym (get-contents m before q) ∙ sym (inserted_away (contents m) s e q apart)
     ])
 
--- what a tree's fields mean, where its invariant stands
+-- what a tree's fields mean, where its invariant is
 module _ {root last used spare : ℕ} {pools : LinkedMap} {t : Pools} (tree : IsTree pools root last used)
     (view : seen root last (bare pools) spare ≡ t) where
   pub pool_is : (q : ℕ) → pool_at t q ≡ live_at (bare pools) q

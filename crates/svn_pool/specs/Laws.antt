@@ -6,7 +6,7 @@ use Rattle.svn_pool.specs.Pools.{Pools, pool_at, parent_of, strings_at, created,
 use Rattle.svn_pool.specs.Refusals.{create_fault, push_fault, clear_fault, destroy_fault}
 use Rattle.svn_pool.specs.declared.fault.PoolFault.TheVariants.{Gone}
 
--- what the calls answer of a serial whose pool is gone
+-- what the calls return for a serial whose pool is gone
 pub record AnswersGone (t : Pools) (s : ℕ) : Type 0 where
   pub create : create_fault t s ≡ Some Gone
   pub push : (n : ℕ) → push_fault t s n ≡ Some Gone

@@ -49,7 +49,7 @@ abbrev pub sibling_before : Anchor → Option ℕ
 sibling_before (First p) = None
 sibling_before (Next q) = Some q
 
--- where a pool with that parent stands that follows that sibling
+-- where there is a pool with that parent that follows that sibling
 abbrev pub place_by : Option ℕ → Option ℕ → Option Anchor
 place_by parent (Some q) = Some (Next q)
 place_by parent None = option_map First parent
@@ -63,24 +63,24 @@ abbrev pub holder : Anchor → ℕ
 holder (First p) = p
 holder (Next q) = q
 
--- the pool that stands at a place
+-- the pool that is at a place
 abbrev pub standing : LinkedMap → Anchor → Option ℕ
 standing pools (First p) = first_of (get pools p)
 standing pools (Next q) = next_of (get pools q)
 
--- where a pool stands
+-- where a pool is
 abbrev pub place_of : LinkedMap → ℕ → Option Anchor
 place_of pools c = place_in (get pools c)
 
 abbrev pub parent_in : LinkedMap → ℕ → Option ℕ
 parent_in pools c = parent_of (live_at (bare pools) c)
 
--- what stands at a place, and where a pool stands, are inverse
+-- what is at a place, and where a pool is, are inverse
 pub record IsInverse (at : Anchor → Option ℕ) (place : ℕ → Option Anchor) : Type 0 where
   pub there : (x : Anchor) (c : ℕ) → at x ≡ Some c → place c ≡ Some x
   pub back : (x : Anchor) (c : ℕ) → place c ≡ Some x → at x ≡ Some c
 
--- children alone stand somewhere: one as its parent's first child, and each other behind a sibling that is newer
+-- only children have a place: one as its parent's first child, and each other after a sibling that is newer
 pub record IsKin (parent : ℕ → Option ℕ) (place : ℕ → Option Anchor) : Type 0 where
   pub placed : (c p : ℕ) → parent c ≡ Some p → IsSome (place c)
   pub first : (c p : ℕ) → place c ≡ Some (First p) → parent c ≡ Some p
@@ -110,7 +110,7 @@ blocks_held pools = sum_by blocks_of (values_of pools)
 abbrev pub fixed_held : LivePools → ℕ
 fixed_held pools = sum_by fixed_of (values_of pools)
 
--- all beneath s are gone, and the others are as they were
+-- everything below s is gone, and the others are as they were
 pub record IsPruned (old new : LivePools) (s : ℕ) : Type 0 where
   pub beneath : (q : ℕ) → IsBeneath (live_at old) s q → live_at new q ≡ None
   pub others : (q : ℕ) → (IsBeneath (live_at old) s q → ⊥) → live_at new q ≡ live_at old q

@@ -4,7 +4,7 @@ use denote.Ref.{Bor}
 use Rattle.svn_pool.specs.Frames.{Contents, unframe}
 use Rattle.svn_pool.specs.Layout.{strings_of}
 
--- the pages behind references
+-- the pages after references
 abbrev pub targets : List (Bor Contents) → List Contents
 targets ps = map (λ p. p.now) ps
 

@@ -1,4 +1,4 @@
--- Why a call on the tree is refused, want of memory aside, in the order of the tests.
+-- Why a call on the tree is refused, apart from Memory, in the order of the tests.
 use Rattle.std.specs.Prelude.{ℕ, nat_le, nat_eq, if◌then◌else◌, Option, None, Some}
 use Rattle.svn_pool.specs.Pools.{Entry, Pools, pool_at, store_of}
 use Rattle.svn_pool.specs.Stores.{string_fault}

@@ -17,7 +17,7 @@ serves b n = nat_le n 8188 && nat_le 1 b.spare
 abbrev pub taken : Store → ℕ → Store
 taken b n = record { used = b.used + 1; spare = if serves b n then b.spare - 1 else b.spare }
 
--- why no block can be taken, want of memory aside: both counts together fit 64 bits
+-- why no block can be taken, apart from Memory: both counts together fit 64 bits
 abbrev pub take_fault : Store → ℕ → Option PoolFault
 take_fault b n = if serves b n then None else (if nat_eq (b.used + b.spare) 18446744073709551615 then Some Full else None)
 
@@ -33,7 +33,7 @@ fits ss n = nat_le (n + 4) (layout ss).room
 abbrev pub stored : Store → List (List ℕ) → ℕ → Store
 stored b ss n = if fits ss n then b else taken b n
 
--- why a string of n bytes can't follow the strings ss, want of memory aside, in the order of the tests
+-- why a string of n bytes can't follow the strings ss, apart from Memory, in the order of the tests
 abbrev pub string_fault : Store → List (List ℕ) → ℕ → Option PoolFault
 string_fault b ss n = if not (nat_le n 1048576) then Some TooLong
     else (if nat_eq (length ss) 4294967295 then Some Full else (if fits ss n then None else take_fault b n))

@@ -41,7 +41,7 @@ pub(crate) struct Linked<P> {
 
 pub(crate) type Live<A> = SerialMap<Linked<Pool<A>>, A>;
 
-// A pool without children and siblings, which stands nowhere.
+// A pool without children and siblings, which is nowhere.
 pub(crate) fn unlinked<P>(pool: P) -> Linked<P>
     ensures { result ≡ record { pool = pool; first = None; next = None; before = None } }
 {
@@ -81,7 +81,7 @@ pub(crate) fn first_child<A: Allocator + Copy>(pools: &Live<A>, parent: u64) -> 
     linked.first
 }
 
-// Sets the first child of a pool, and tells which it was, if the pool is live.
+// Sets the first child of a pool, and returns the one before, if the pool is live.
 fn set_first<A: Allocator + Copy>(
     pools: &mut Live<A>,
     serial: u64,
@@ -101,7 +101,7 @@ fn set_first<A: Allocator + Copy>(
     Some(replace(&mut linked.first, first))
 }
 
-// Sets the sibling that follows a pool, and tells the pool's first child.
+// Sets the sibling that follows a pool, and returns the pool's first child.
 fn set_next<A: Allocator + Copy>(pools: &mut Live<A>, serial: u64, next: Option<u64>) -> Option<u64>
     ensures child { result ≡ first_of (get pools.old serial) }
     ensures next { IsSome (get pools.old serial) → next_of (get pools.new serial) ≡ next }
@@ -117,7 +117,7 @@ fn set_next<A: Allocator + Copy>(pools: &mut Live<A>, serial: u64, next: Option<
     linked.first
 }
 
-// Where a pool stands. The root, which has no parent, stands nowhere.
+// Where a pool is. The root, which has no parent, is nowhere.
 fn place_by(parent: Option<u64>, before: Option<u64>) -> Option<Anchor>
     ensures { result ≡ place_by parent before }
 {
@@ -139,7 +139,7 @@ fn sibling_before(place: Anchor) -> Option<u64>
     }
 }
 
-// Sets what stands at a place, and tells the pool whose link the place is, with its first child.
+// Sets what is at a place, and returns the pool whose link the place is, with its first child.
 fn set_standing<A: Allocator + Copy>(
     pools: &mut Live<A>,
     place: Anchor,
@@ -167,7 +167,7 @@ fn set_standing<A: Allocator + Copy>(
     }
 }
 
-// Sets where a pool stands, if there is one: as the first child of its parent, or behind a sibling. It tells that pool.
+// Sets where a pool is, if there is one: as the first child of its parent, or after a sibling. It returns that pool.
 fn move_to<A: Allocator + Copy>(
     pools: &mut Live<A>,
     pool: Option<u64>,
@@ -225,8 +225,8 @@ pub(crate) fn add_child<A: Allocator + Copy>(
     Ok(())
 }
 
-// Removes a pool without children. Its fixed blocks become spare. It tells the pool that took its place, or else the one whose link
-// that place is: its parent or a sibling. Inlined, since `destroy` has no use for what is told.
+// Removes a pool without children. Its fixed blocks become spare. It returns the pool that took its place, or else the one whose link
+// that place is: its parent or a sibling. Inlined, since `destroy` has no use for what it returns.
 #[inline(always)]
 pub(crate) fn remove_leaf<A: Allocator + Copy>(
     pools: &mut Live<A>,

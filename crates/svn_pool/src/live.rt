@@ -39,7 +39,7 @@ pub(crate) fn push_onto<A: Allocator + Copy>(
     linked.pool.push(stock, bytes)
 }
 
-// Gives up the strings of a pool, and tells its first child, if the pool is live.
+// Gives up the strings of a pool, and returns its first child, if the pool is live.
 pub(crate) fn empty<A: Allocator + Copy>(
     pools: &mut Live<A>,
     stock: &mut Stock<A>,

@@ -1,5 +1,5 @@
-// The bytes of a page: beside its block while they are few, and then in it. So many pools that hold little lie close together,
-// and of their blocks, which have to be there for what may come, no memory is touched. Until a block is written it is as good as any
+// The bytes of a page: beside its block while they are few, and then in it. So pools that hold little lie close together,
+// and the memory of their blocks, which must be ready for more strings, is not touched. Until a block is written it may serve for any
 // other that holds as much, and may be exchanged for one whose memory was touched before.
 ghost use Rattle.std.specs.Prelude.{◌≡◌, ◌+◌, ◌^◌, ◌<◌, ◌≤◌, ◌++◌, [], length, IfSome};
 
@@ -31,7 +31,7 @@ impl<A: Allocator + Copy> Model for Memory<A> {
 }
 
 impl<A: Allocator + Copy> Memory<A> {
-    // Room for `cap` bytes, none of which is written, or `None` where the allocator refuses.
+    // Room for `cap` bytes, none of it written, or `None` if the allocation fails.
     pub(crate) fn new(arena: Arena<A>, cap: usize) -> Option<Memory<A>>
         requires { cap < 2 ^ 63 }
         ensures { IfSome result (λ m. m ≡ record { cap = cap; bytes = [] }) }
@@ -67,7 +67,7 @@ impl<A: Allocator + Copy> Memory<A> {
         self.many.bytes()
     }
 
-    // Whether so many bytes more would be the first in the block.
+    // Whether that many bytes more would be the first in the block.
     pub(crate) fn begins_block(&self, more: usize) -> bool {
         self.many.is_empty() && more > self.few.remaining_capacity()
     }

@@ -27,7 +27,7 @@ impl<A: Allocator + Copy> Model for Owned<A> {
 }
 
 impl<A: Allocator + Copy> Owned<A> {
-    // An empty block, or `None` where the allocator refuses.
+    // An empty block, or `None` if the allocation fails.
     pub(crate) fn new(arena: Arena<A>, cap: usize) -> Option<Owned<A>>
         requires { cap < 2 ^ 63 }
         ensures { IfSome result (λ o. o ≡ record { cap = cap; bytes = [] }) }

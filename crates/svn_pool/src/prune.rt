@@ -1,4 +1,4 @@
-// How all pools beneath one are removed: step by step, or all at once where that is the root.
+// How all pools below one are removed: step by step, or all at once where that is the root.
 ghost use Rattle.std.specs.Prelude.{◌≡◌, ℕ, ◌+◌, ◌<◌, ◌≤◌, None, IsSome};
 ghost use Rattle.svn_serials.specs.Serials.{get};
 ghost use Rattle.svn_pool.specs.Linked.{IsAlone, IsLinked, IsPruned, bare, blocks_held, first_of, fixed_held, live_at};
@@ -8,8 +8,8 @@ use crate::pool::Pool;
 use crate::stock::Stock;
 use std::alloc::Allocator;
 
-// Removes the pools beneath `top`, of which `first` is its first child. It goes down to a pool without children, removes it and
-// goes on beside it: at its next sibling, or at its parent where none is left. So each step goes down once or removes one: the
+// Removes the pools below `top`, where `first` is its first child. It goes down to a pool without children, removes it and
+// goes on next to it: at its next sibling, or at its parent where none is left. So each step goes down once or removes one: the
 // steps are at most twice the pools that go, and none takes memory. Inlined, since most pools that are destroyed have no children.
 #[inline(always)]
 pub(crate) fn prune<A: Allocator + Copy>(

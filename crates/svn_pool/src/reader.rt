@@ -67,7 +67,7 @@ impl<'a, A: Allocator + Copy> Iterator for Reader<'a, A> {
         Some(string)
     }
 
-    // How many strings there are is not looked at.
+    // The number of strings is not used.
     fn size_hint(&self) -> (usize, Option<usize>) {
         (0, None)
     }

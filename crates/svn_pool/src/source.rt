@@ -6,10 +6,10 @@ use std::rc::Rc;
 // What blocks are taken from, and go back to. Its memory goes back with the last of them.
 pub(crate) type Arena<A> = Rc<Bump<A>, A>;
 
-// As many blocks as pools that lie beneath one another may need come from an arena that is as small as it can be.
+// As many blocks as pools that lie below one another may need come from an arena that is as small as it can be.
 const FEW_BLOCKS: u64 = 64;
 
-// What the arena of the others has for its first blocks, in bytes. It is asked for at once, and not touched: an allocator gives a piece
+// What the arena of the others has for its first blocks, in bytes. It is requested at once, and not touched: an allocator gives a piece
 // of this size addresses of its own, and memory as it is written.
 const MANY_BYTES: usize = 1 << 26;
 
@@ -18,7 +18,7 @@ pub(crate) struct Source<A: Allocator + Copy> {
     alloc: A,
     // The arena of the fixed blocks, once there is one.
     shared: Option<Arena<A>>,
-    // The fixed blocks for which it was asked.
+    // The fixed blocks that it was made for.
     asked: u64,
 }
 
@@ -35,13 +35,13 @@ impl<A: Allocator + Copy> Source<A> {
         self.alloc
     }
 
-    // An arena for one block: `None` where the allocator refuses.
+    // An arena for one block: `None` if the allocation fails.
     pub(crate) fn arena_of_its_own(&self) -> Option<Arena<A>> {
         shared_out(self.alloc, Bump::new(self.alloc))
     }
 
-    // The arena of the fixed blocks, for one more of them: `None` where the allocator refuses. For many blocks there is a second one. Where that is
-    // refused, the first goes on.
+    // The arena of the fixed blocks, for one more of them: `None` if the allocation fails. For many blocks there is a second one; if that fails,
+    // the first goes on.
     pub(crate) fn arena_of_all(&mut self) -> Option<Arena<A>> {
         if self.shared.is_none() {
             self.shared = self.arena_of_its_own();

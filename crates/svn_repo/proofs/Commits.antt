@@ -92,7 +92,7 @@ module _ (roots : List ℕ) (old : List Node) (lines : ℕ) (from : ℕ)
   start_pending = let P : Tree → Pending = λ t. record { tree = t; lines = lines } in
       let same : (latest_pending (history_of roots old lines)).tree ≡ tree_in (length old) old from = λ i q. start_tree q i in ap P same
 
--- ---- what stands in the new revision
+-- ---- what is in the new revision
 
 module _ (roots : List ℕ) (old new : List Node) (lines next : ℕ) (from root : ℕ) (changes : List Change)
     (sound : IsRepository (history_of roots old lines)) (last : slice_get roots (length roots - 1) ≡ Some from)
@@ -227,7 +227,7 @@ module _ (roots : List ℕ) (old new : List Node) (lines next : ℕ) (from root 
         subst (IsDirectoryIn (map row_of new)) same new_root
   ]
 
-  -- ---- what stands is lawful
+  -- ---- what is there is lawful
 
   state : IsLawfulState (history_of roots old lines)
       (after_changes (history_of roots old lines) (latest_pending (history_of roots old lines)) changes)
@@ -242,7 +242,7 @@ module _ (roots : List ℕ) (old new : List Node) (lines next : ℕ) (from root 
   new_place m = ap (λ k. option_map (place_of (cond (nat_lt m k) (Some m) None)) (slice_get (map row_of new) m)) new_size
       ∙ ap (option_map (place_of (cond (nat_lt m (length new)) (Some m) None))) (nodes_are new m)
 
-  -- a place that stands is lawful whatever its number is
+  -- a place in the tree is lawful whatever its number is
   by_row : (kinds : ℕ → Kind) (q : Path) (a b : Option ℕ) (o : Option NodeRow) (x : Place) → option_map (place_of a) o ≡ Some x
       → ((y : Place) → option_map (place_of b) o ≡ Some y → IsLawfulPlace kinds next q y) → IsLawfulPlace kinds next q x
   by_row kinds q a b None x e lawful = cc

@@ -46,7 +46,7 @@ shape_put old new at name child put m = elim (cases_eq m at) [
   | inr ne ↦ ap (λ o. option_map (place_of None) (option_map row_of o)) (put.others m ne)
 ]
 
--- a child is put, and then a node behind the others: in the other order all is the same
+-- a child is put, and then a node after the others: in the other order all is the same
 pub puts_pushed : (old new : List Node) (node : Node) (at : ℕ) (name : List ℕ) (child : Option ℕ) → at < length old
     → PutsChild old new at name child → PutsChild (old ++ node ∷ []) (new ++ node ∷ []) at name child
 puts_pushed old new node at name child below put =
@@ -69,7 +69,7 @@ puts_pushed old new node at name child below put =
       named = put.named;
     }
 
--- the name of an old child is made to lead to its copy, and then the copy is put behind the others
+-- the name of an old child is made to lead to its copy, and then the copy is appended to the others
 pub copied_behind : (base : ℕ) (old mid new : List Node) (at n : ℕ) (name : List ℕ) (node : Node)
     → child_in (rows old at) name ≡ Some n → n < base → base ≤ at → at < length old → PutsChild old mid at name (Some (length old))
     → new ≡ mid ++ node ∷ [] → rows mid n ≡ Some (row_of node) → ThawsChild base old new at name (length old)

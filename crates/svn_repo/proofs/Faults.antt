@@ -127,7 +127,7 @@ pub way_above : (t : Tree) (path above : Path) (last : List ℕ) → path ≡ ab
     → IsWay t above × (is_directory_place (t above) ≡ true)
 way_above t path above last split no_fault = way_from_fault t above last (subst (λ (p : Path). above_fault t p ≡ None) split no_fault)
 
--- the way to a path that stands, with no fault above it
+-- the way to a path that is there, with no fault above it
 pub way_whole : (t : Tree) (p : Path) → above_fault t p ≡ None → is_some (t p) ≡ true → IsWay t p
 way_whole t [] h stands = record { directories = λ i b. absurd (omega arith); present = at_root }
   where
@@ -149,7 +149,7 @@ way_whole t (m ∷ p) h stands =
     here d w zero b = some_directory (t []) d
     here d w (suc i) b = w.present i (omega arith)
 
--- ---- what is wrong with a path at which nothing may stand
+-- ---- what is wrong with a path at which nothing may be
 
 pub taken_path : (t : Tree) (p : Path) (rest : Option CommitFault) → above_fault t p ≡ None → is_some (t p) ≡ true
     → option_or (above_fault t p) (option_or (fault_if (is_some (t p)) Exists) rest) ≡ Some Exists

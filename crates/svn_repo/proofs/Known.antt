@@ -1,4 +1,4 @@
--- What follows where a node is known to stand at a path: no fault lies above it, and where it is a fresh node, all above it is fresh already.
+-- What follows where a node is known to be at a path: no fault lies above it, and where it is a fresh node, all above it is fresh already.
 use Rattle.std.proofs.Common.{◌≡◌, ℕ, ◌<◌, ◌≤◌, cond, List, [], ◌∷◌, ◌++◌, length, refl, arith, Option, Some, None, sym, ap, subst}
 use Rattle.std.proofs.Common.{◌∙◌, inl, inr}
 use Rattle.std.specs.List.{slice_get}
@@ -63,12 +63,12 @@ above_last base nodes root n node (name ∷ p) last h here k =
     let s = and_then_parts (λ m. walk (rows nodes) m p) (child_in (rows nodes root) name) n h in
     above_child base nodes root s.0 name (p ++ last ∷ []) s.1 ∙ above_last base nodes s.0 n node p last s.2 here k
 
--- what the directory has under the last name is what stands at the path
+-- what the directory has under the last name is what is at the path
 pub walk_last : (nodes : List Node) (root n : ℕ) (p : Path) (last : List ℕ) → walk (rows nodes) root p ≡ Some n
     → walk (rows nodes) root (p ++ last ∷ []) ≡ child_in (rows nodes n) last
 walk_last nodes root n p last h = walk_on (rows nodes) root n p (last ∷ []) h ∙ and_then_every (child_in (rows nodes n) last)
 
--- where a node stands, nothing is wrong with the way there
+-- where a node is, nothing is wrong with the way there
 pub no_walk_fault : (base : ℕ) (nodes : List Node) (root n : ℕ) (p : Path) → root < length nodes → IsClosedIn nodes
     → walk (rows nodes) root p ≡ Some n → walk_fault (tree_in base nodes root) p ≡ None
 no_walk_fault base nodes root n p inside closed h =
@@ -91,7 +91,7 @@ pub fresh_root : (base : ℕ) (nodes : List Node) (root n : ℕ) (p : Path) → 
     → walk (rows nodes) root p ≡ Some n → base ≤ root
 fresh_root base nodes root n p draft fresh h = fresh_above base nodes root root n p draft fresh h
 
--- the way to a fresh node is as it would be if it were made afresh
+-- the way to a fresh node is as it would be if it were made anew
 pub thawed_already : (base : ℕ) (nodes : List Node) (root n : ℕ) (p : Path) → IsDraft base nodes root → base ≤ n
     → walk (rows nodes) root p ≡ Some n → IsThawed base nodes nodes root root p n
 thawed_already base nodes root n p draft fresh h = record {

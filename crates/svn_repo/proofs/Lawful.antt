@@ -30,7 +30,7 @@ use Rattle.svn_repo.proofs.Walking.{walk_on, rest_below_is}
 use Rattle.svn_repo.proofs.Pendings.{CanCopy, can_copy}
 use Rattle.svn_name_map.proofs.Pairs.{in_order-nil, in_order-with_value, values-with_value}
 
--- ---- a walk reaches as far as it is long
+-- ---- a walk reaches its whole length
 
 found_passes : (es : List (List ℕ × ℕ)) (u : ℕ → Bool) (name : List ℕ) (m : ℕ) → value_of es name ≡ Some m → u m ≡ true
     → list_any (λ e. u e.1) es ≡ true
@@ -159,7 +159,7 @@ file_by_fault y = by y.kind refl
 
 -- ---- one change
 
--- the changes so far have made lawful trees, of which the kinds are those of the lines
+-- the changes so far have made lawful trees whose kinds are those of the lines
 pub record IsLawfulState (h : History) (s : Pending) : Type 0 where
   pub kinds : ℕ → Kind
   pub tree : IsLawfulTree kinds s.lines s.tree

@@ -1,4 +1,4 @@
--- A draft with the root made afresh, with a new node put in, and with an old node put in.
+-- A draft with the root made anew, with a new node put in, and with an old node put in.
 use Rattle.std.proofs.Common.{◌≡◌, ℕ, ◌<◌, ◌≤◌, true, cond, List, [], ◌∷◌, ◌++◌, length, refl, arith, Option, Some, None, subst, sym, ap}
 use Rattle.std.proofs.Common.{◌∙◌, length-append, ◌⊎◌, inl, inr}
 use Rattle.std.specs.Option.{option_and_then, option_map, is_some}
@@ -115,7 +115,7 @@ pub thawed_above : (base : ℕ) (old mid : List Node) (from root at : ℕ) (path
 thawed_above base old mid from root at path above last split no_fault thawed =
     thawed_listing base old mid from root at above thawed (way_above (tree_in base old from) path above last split no_fault).1
 
--- what stands under the last name of a path, once the directory above is made afresh, is what stood at the path
+-- what is under the last name of a path, once the directory above is made anew, is what was at the path
 pub found_above : (base : ℕ) (old mid : List Node) (from root at : ℕ) (above : Path) (last : List ℕ)
     → IsThawed base old mid from root above at
     → option_and_then (place_at (rows mid) base) (child_in (rows mid at) last) ≡ tree_in base old from (above ++ last ∷ [])

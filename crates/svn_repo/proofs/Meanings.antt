@@ -95,7 +95,7 @@ stays h h' changes (one_more mid first rest commit commits) =
       (λ n b. later.1 n (grown h mid first commit n b) ∙ revision.old_nodes n b),
     )
 
--- what stands anywhere after a commit is a node
+-- what is at any path after a commit is a node
 pub exist_after : (h mid : History) (changes : List Change) → NodesExist h → IsCommit h mid changes → NodesExist mid
 exist_after h mid changes exist commit r p n e = elim (cases_lt r (length h.roots)) [
   | inl below ↦

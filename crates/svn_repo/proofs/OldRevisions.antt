@@ -1,4 +1,4 @@
--- The revisions that a draft is made over, read from the nodes that have the draft's behind them.
+-- The revisions that a draft is made over, read from the nodes that have the draft's after them.
 use Rattle.std.proofs.Common.{◌≡◌, ℕ, zero, suc, ◌+◌, ◌-◌, ◌<◌, ◌≤◌, true, false, cond, List, [], ◌∷◌, ◌++◌, length, take, map}
 use Rattle.std.proofs.Common.{get_or, refl, arith, Option, Some, None, subst, sym, ap, ◌∙◌, length-take, inl, inr}
 use Rattle.std.specs.Prelude.{nat_lt, nat_le, IsSome}
@@ -74,7 +74,7 @@ module _ (base : ℕ) (roots : List ℕ) (nodes : List Node) (inside : base ≤ 
   tree_below_top l r top e q = past_tree l r q ∙ ap (λ o. option_and_then (place_at (rows nodes) base)
       (option_and_then (λ n. walk (rows nodes) n q) o)) e
 
-  -- below the source of a copy stands what stands below its node
+  -- below the source of a copy is what is below its node
   pub copied_part : (l r node : ℕ) (source : Path) → look_in nodes roots r source ≡ Some node
       → (λ (q : Path). tree_at (past_in base roots nodes l) r (source ++ q)) ≡ tree_in base nodes node
   copied_part l r node source e = λ i q. at q i
@@ -85,7 +85,7 @@ module _ (base : ℕ) (roots : List ℕ) (nodes : List Node) (inside : base ≤ 
           tree_below_top l r s.0 s.1 (source ++ q) ∙ ap (option_and_then (place_at (rows nodes) base))
           (walk_on (rows nodes) s.0 node source q s.2)
 
-  -- what stands at the source of a copy is a node
+  -- what is at the source of a copy is a node
   pub source_found : (l r : ℕ) (source : Path) → is_some (tree_at (past_in base roots nodes l) r source) ≡ true
       → IsSome (look_in nodes roots r source)
   source_found l r source h = by (look_in nodes roots r source) refl
@@ -149,7 +149,7 @@ within_limit a k h = elim (cases_lt 64 (a + k)) [
   | inr above ↦ lt-leb (65 - a) k (omega arith) ∙ sym (le-ltb 64 (a + k) above)
 ]
 
--- the test by a height is the test of what stands below
+-- the test by a height is the test of what is below
 pub depth_by_height : (f : Nodes) (n k : ℕ) (p : Path) → 1 ≤ length p → IsHeight f n k
     → nat_lt path_limit (length p + k) ≡ reaches f (path_limit + 1 - length p) n
 depth_by_height f n k p h height = sym (height.exact (path_limit + 1 - length p) (omega arith) ∙ within_limit (length p) k h)
@@ -197,7 +197,7 @@ past_kept roots heights old mid size past kept = record {
         ∙ sym (take_from_places old mid kept.grown kept.same)
         ∙ ap (λ k. take k mid) (sym size)
 
--- a fault asked of the nodes with the draft behind them is that of the history
+-- a fault asked of the nodes with the draft after them is that of the history
 pub fault_is : (roots heights : List ℕ) (old mid nodes : List Node) → nodes ≡ mid → length heights ≡ length old
     → KeepsOld (length old) old mid → (l top next : ℕ) (c : Change)
     → change_fault (past_in (length heights) roots nodes l) (pending_in (length heights) nodes top next) c ≡ change_fault

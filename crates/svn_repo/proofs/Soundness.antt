@@ -1,4 +1,4 @@
--- The first repository, and what every repository tells its readers.
+-- The first repository, and what its readers may rely on in every repository.
 use Rattle.std.proofs.Common.{◌≡◌, ℕ, zero, suc, ◌<◌, ◌≤◌, cond, List, [], ◌∷◌, length, map, refl, arith, Option, Some, None, subst, sym}
 use Rattle.std.proofs.Common.{ap, ◌∙◌}
 use Rattle.std.specs.Prelude.{nat_lt, nat_le, IsSome}

@@ -1,4 +1,4 @@
--- What stands at a path of a draft.
+-- What is at a path of a draft.
 use Rattle.std.proofs.Common.{◌≡◌, ℕ, ◌<◌, true, cond, List, length, refl, Option, Some, None, sym, ap, ◌∙◌}
 use Rattle.std.specs.Prelude.{nat_lt}
 use Rattle.std.specs.List.{slice_get}
@@ -24,7 +24,7 @@ pub by_walk : (base : ℕ) (nodes : List Node) (o : Option ℕ) → ((n : ℕ) �
 by_walk base nodes None h = refl
 by_walk base nodes (Some n) h = sym (is_some-place_at base nodes n (h n refl))
 
--- where the way leads to a node, something stands
+-- where the way leads to a node, something is there
 pub stands_at : (base : ℕ) (nodes : List Node) (root n : ℕ) (p : Path) → root < length nodes → IsClosedIn nodes
     → walk (rows nodes) root p ≡ Some n → is_some (tree_in base nodes root p) ≡ true
 stands_at base nodes root n p inside closed e = ap (λ o. is_some (option_and_then (place_at (rows nodes) base) o)) e

@@ -1,4 +1,4 @@
--- What no change removes stands on, and keeps its line: the law of lines.
+-- What no change removes stays, and keeps its line: the law of lines.
 use Rattle.std.proofs.Common.{◌≡◌, ℕ, Bool, true, false, cond, List, [], ◌∷◌, ◌++◌, append_assoc, length, refl, Option, Some, None, subst}
 use Rattle.std.proofs.Common.{sym, ap, ◌∙◌, append-nil}
 use Rattle.std.specs.Prelude.{nat_lt}
@@ -28,7 +28,7 @@ use Rattle.svn_repo.proofs.Walking.{walk-append, rest_below_is}
 use Rattle.svn_repo.proofs.Faults.{some_directory}
 use Rattle.svn_repo.proofs.Meanings.{rest_below_append, some_row, latest_after, stays}
 
--- something of the line and the kind of x stands there
+-- something of the line and the kind of x is there
 abbrev Keeps : Option Place → Place → Type 0
 Keeps o x = (y : Place) × (o ≡ Some y) × (y.line ≡ x.line) × (y.kind ≡ x.kind)
 
@@ -36,7 +36,7 @@ Keeps o x = (y : Place) × (o ≡ Some y) × (y.line ≡ x.line) × (y.kind ≡ 
 abbrev AreDirectories : Tree → Path → Type 0
 AreDirectories t q = (p : Path) (name : List ℕ) (r : Path) → q ≡ p ++ name ∷ r → is_directory_place (t p) ≡ true
 
--- a node of the line stands at q
+-- a node of the line is at q
 abbrev Stands : Tree → Path → ℕ → Type 0
 Stands t q line = AreDirectories t q × ((x : Place) × (t q ≡ Some x) × (x.line ≡ line))
 
@@ -192,7 +192,7 @@ all_kept h s (c ∷ cs) q line none left stands =
     let k = kept_at h s c q x.0 f.0 n.0 stands.0 x.1 in
     all_kept h (after_change h s c) cs q line f.1 n.1 (above_kept h s c q f.0 n.0 stands.0, (k.0, k.1, k.2 ∙ x.2))
 
--- what stands in a revision, as a place of its tree
+-- what is in a revision, as a place of its tree
 place_in : (h mid : History) (r : ℕ) (q : Path) (y : Place) → StandsIn h mid r q (Some y) → Keeps (tree_at mid r q) y
 place_in h mid r q y stands =
     let n : ℕ = stands.0 in
@@ -240,7 +240,7 @@ all_commits h h' changes q line (one_more mid first rest commit commits) left st
     let n = or_parts (list_any (removes q) first) (list_any (removes q) rest) (sym (list_any-append (removes q) first rest) ∙ left) in
     all_commits mid h' rest q line commits n.1 (stands_after h mid first q line commit n.0 stands)
 
--- ---- what stands in a repository
+-- ---- what is in a repository
 
 walk_split : (f : Nodes) (n m : ℕ) (p q : Path) → walk f n (p ++ q) ≡ Some m → (k : ℕ) × (walk f n p ≡ Some k) × (walk f k q ≡ Some m)
 walk_split f n m p q e = and_then_parts (λ k. walk f k q) (walk f n p) m (sym (walk-append f n p q) ∙ e)

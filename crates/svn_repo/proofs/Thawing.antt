@@ -1,4 +1,4 @@
--- One node made afresh: the tree stays as it was but for the number there, and the nodes still are a draft.
+-- One node made anew: the tree stays as it was but for the number there, and the nodes still are a draft.
 use Rattle.std.proofs.Common.{◌≡◌, ◌≢◌, ℕ, ◌+◌, ◌<◌, ◌≤◌, true, false, cond, List, [], ◌∷◌, ◌++◌, length, refl, arith, Option, Some, None}
 use Rattle.std.proofs.Common.{subst, sym, ap, ◌∙◌, append-nil, length-append, ◌⊎◌, inl, inr}
 use Rattle.std.specs.Prelude.{bytes_eq, nat_lt}
@@ -148,7 +148,7 @@ step_already base old root at p name result draft way found fresh =
       tree_else = λ q ne. refl;
     }
 
--- the child is an old node, of which a copy is made
+-- the child is an old node, which is copied
 module _ (base : ℕ) (old between new : List Node) (root at : ℕ) (p : Path) (name : List ℕ) (n : ℕ) (node : Node)
     (draft : IsDraft base old root) (way : walk (rows old) root p ≡ Some at) (fresh : base ≤ at)
     (found : child_in (rows old at) name ≡ Some n) (is_old : n < base)

@@ -111,7 +111,7 @@ rest_below_is (m ∷ p) (x ∷ q) r h = elim (cases_Bool (bytes_eq m x)) [
   | inr t ↦ let h2 = rw t at h in let bad : None ≡ Some r = h2 in cc
 ]
 
--- the new way below p and a name: what stood at the name is replaced by w
+-- the new way below p and a name: what was at the name is replaced by w
 pub walk_after_put : (f g : Nodes) (k n : ℕ) (p : Path) (name : List ℕ) (w : Option ℕ) → SameBut f g k
     → ((x : List ℕ) → child_in (g k) x ≡ cond (bytes_eq name x) w (child_in (f k) x)) → IsOnlyWay f n p k
     → ((c : ℕ) → w ≡ Some c → IsApart f c k) → (q : Path)

@@ -1,4 +1,4 @@
--- The way down: what a thawed way still has of the way that stood.
+-- The way down: what a thawed way still has of the way before.
 use Rattle.std.proofs.Common.{◌≡◌, ℕ, ◌+◌, ◌<◌, Bool, true, false, cond, List, [], ◌∷◌, ◌++◌, length, take, get_or, refl, arith, Option}
 use Rattle.std.proofs.Common.{Some, None, sym, ap, ◌∙◌}
 use Rattle.std.specs.Prelude.{IsSome, nat_lt}

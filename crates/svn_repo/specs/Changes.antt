@@ -58,14 +58,14 @@ abbrev pub value_fault : Option (List ℕ) → Option CommitFault
 value_fault None = None
 value_fault (Some value) = size_fault value
 
--- on the way to a path that has to stand
+-- on the way to a path that must be there
 abbrev pub walk_fault : Tree → Path → Option CommitFault
 walk_fault t p = option_or (above_fault t p) (missing_fault (t p))
 
 abbrev pub revision_fault : History → ℕ → Option CommitFault
 revision_fault h r = fault_if (nat_le (length h.roots) r) NoSuchRevision
 
--- a node below the source would stand at a path of too many names
+-- a node below the source would be at a path of too many names
 abbrev pub copy_depth_fault : Nodes → Option ℕ → Path → Option CommitFault
 copy_depth_fault nodes None p = None
 copy_depth_fault nodes (Some n) p = fault_if (reaches nodes (path_limit + 1 - length p) n) TooDeep
@@ -96,7 +96,7 @@ change_fault h s (CopyFrom rev source path) = option_or (root_fault path) (copy_
 abbrev pub new_directory : ℕ → Place
 new_directory line = record { number = None; line = line; kind = Directory; text = []; props = [] }
 
--- a file with the text: the one that stood there, or a new one
+-- a file with the text: the one that was there, or a new one
 abbrev pub with_text : ℕ → Option Place → List ℕ → Place
 with_text line None text = record { number = None; line = line; kind = File; text = text; props = [] }
 with_text line (Some old) text = record { number = None; line = old.line; kind = File; text = text; props = old.props }
@@ -142,7 +142,7 @@ IsNumbered h p n = MatchOption p.number (length h.nodes ≤ n) (λ m. n ≡ m)
 abbrev pub IsNodeOf : Place → NodeRow → Type 0
 IsNodeOf p row = (row.line ≡ p.line) × (row.kind ≡ p.kind) × (row.text ≡ p.text) × (row.props ≡ p.props)
 
--- at the path of revision r stands what the tree has there
+-- at the path of revision r is what the tree has there
 abbrev pub StandsIn : History → History → ℕ → Path → Option Place → Type 0
 StandsIn h h' r q None = look h' r q ≡ None
 StandsIn h h' r q (Some p) = (n : ℕ) × (row : NodeRow) × (look h' r q ≡ Some n) × (node_at h' n ≡ Some row) × IsNumbered h p n
@@ -154,7 +154,7 @@ pub record IsRevision (h h' : History) (s : Pending) : Type 0 where
   pub revisions : length h'.roots ≡ length h.roots + 1
   -- it has what the changes made of the last one
   pub tree : (q : Path) → StandsIn h h' (length h.roots) q (s.tree q)
-  -- no fresh node stands twice
+  -- no fresh node is at two paths
   pub distinct : (p q : Path) (n : ℕ) → length h.nodes ≤ n → look h' (length h.roots) p ≡ Some n → look h' (length h.roots) q ≡ Some n
       → p ≡ q
   -- the old revisions and the old nodes stay
@@ -173,7 +173,7 @@ IsExtended roots old lines roots' new heights' changes next =
 
 -- ---- changes on a draft
 
--- a file with the text is put behind the nodes, and the name in the directory leads to it; where a file stood under the name, it keeps
+-- a file with the text is appended to the nodes, and the name in the directory leads to it; where a file was under the name, it keeps
 -- that one's line and properties
 pub record PutsText (lines : ℕ) (text : List ℕ) (old new : List Node) (at : ℕ) (name : List ℕ) : Type 0 where
   pub node : Node
@@ -199,7 +199,7 @@ pub record AllMade (roots : List ℕ) (old new : List Node) (from lines root nex
   pub pending : pending_in (length old) new root next ≡ after_changes (history_of roots old lines)
       (pending_in (length old) old from lines) changes
 
--- the changes are refused: the first of them that can't be made has the fault, or memory is wanted, where the first can be made
+-- the changes are refused: the first of them that can't be made has the fault, or memory runs out, where the first can be made
 abbrev pub AreRefused : History → Pending → List Change → CommitFault → Type 0
 AreRefused h s changes e = ((e ≡ Memory) × (changes_fault h s (take 1 changes) ≡ None)) ⊎ (changes_fault h s changes ≡ Some e)
 

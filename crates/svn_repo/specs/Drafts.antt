@@ -1,4 +1,4 @@
--- The stored nodes while a commit is made. Those from the base on are made by it, and stand at one path at most.
+-- The stored nodes while a commit is made. Those from the base on are made by it, and are at one path at most.
 use Rattle.std.specs.Prelude.{◌≡◌, ◌≢◌, ℕ, ◌<◌, ◌≤◌, List, [], ◌∷◌, ◌++◌, length, bytes_eq, slice_get, Option, Some, None, option_map}
 use Rattle.std.specs.Prelude.{option_and_then, if◌then◌else◌, take, ◌⊎◌}
 use Rattle.std.specs.List.{All}
@@ -53,7 +53,7 @@ pub record PutsChild (old new : List Node) (at : ℕ) (name : List ℕ) (child :
 abbrev pub CopiesNode : List Node → List Node → ℕ → Type 0
 CopiesNode old new n = (node : Node) × (new ≡ old ++ node ∷ []) × (rows old n ≡ Some (row_of node))
 
--- the child of a directory is made afresh, where it isn't yet, and the name leads to it
+-- the child of a directory is made anew, where it isn't yet, and the name leads to it
 pub data ThawsChild (base : ℕ) (old new : List Node) (at : ℕ) (name : List ℕ) (result : ℕ) : Type 0 where
   already : child_in (rows old at) name ≡ Some result → base ≤ result → new ≡ old → ThawsChild base old new at name result
   copied : (n : ℕ) (between : List Node) → child_in (rows old at) name ≡ Some n → n < base → result ≡ length old → CopiesNode old between n
@@ -62,18 +62,18 @@ pub data ThawsChild (base : ℕ) (old new : List Node) (at : ℕ) (name : List �
 abbrev pub tree_in : ℕ → List Node → ℕ → Tree
 tree_in base nodes root = tree_below (rows nodes) base root
 
--- every node from the root to p is made afresh, and the last one is n
+-- every node from the root to p is made anew, and the last one is n
 pub record IsThawed (base : ℕ) (old new : List Node) (from root : ℕ) (p : Path) (n : ℕ) : Type 0 where
   pub draft : IsDraft base new root
   pub here : walk (rows new) root p ≡ Some n
   pub fresh : base ≤ n
   pub tree : (q : Path) → tree_in base new root q ≡ touch (tree_in base old from) p q
 
--- what is known to stand at the path, if anything is
+-- what is known to be at the path, if anything is
 abbrev pub IsFound : List Node → ℕ → Path → Option ℕ → Type 0
 IsFound nodes root p found = (n : ℕ) → found ≡ Some n → walk (rows nodes) root p ≡ Some n
 
--- what is known to stand where a change works: the node whose property is set, and of other changes the directory above
+-- what is known to be where a change works: the node whose property is set, and of other changes the directory above
 abbrev pub IsNear : List Node → ℕ → Change → Option ℕ → Type 0
 IsNear nodes root (MakeDir path) near = IsFound nodes root (parent path) near
 IsNear nodes root (PutFile path text) near = IsFound nodes root (parent path) near
@@ -86,7 +86,7 @@ pub record KeepsOld (base : ℕ) (old new : List Node) : Type 0 where
   pub grown : length old ≤ length new
   pub same : (m : ℕ) → m < base → slice_get new m ≡ slice_get old m
 
--- the part stands at p, below directories made afresh
+-- the part is at p, below directories made anew
 pub record IsGrafted (base : ℕ) (old new : List Node) (from root : ℕ) (p : Path) (part : Tree) : Type 0 where
   pub draft : IsDraft base new root
   pub fresh : base ≤ root
@@ -109,7 +109,7 @@ pub record SetsProp (old new : List Node) (at : ℕ) (name : List ℕ) (value : 
 
 -- ---- the revisions that a draft is made over
 
--- the node at a path in a revision, where the nodes may have a draft's behind them
+-- the node at a path in a revision, where the nodes may have a draft's after them
 abbrev pub look_in : List Node → List ℕ → ℕ → Path → Option ℕ
 look_in nodes roots r p = option_and_then (λ n. walk (rows nodes) n p) (slice_get roots r)
 
@@ -121,7 +121,7 @@ past_in base roots nodes lines = history_of roots (take base nodes) lines
 abbrev pub AreRootsBelow : ℕ → List ℕ → Type 0
 AreRootsBelow base roots = (r n : ℕ) → slice_get roots r ≡ Some n → n < base
 
--- the old nodes, of which there are as many as heights, lead to old nodes, and have these heights
+-- the old nodes, as many as heights, lead to old nodes, and have these heights
 pub record IsOldPart (heights : List ℕ) (nodes : List Node) : Type 0 where
   pub inside : length heights ≤ length nodes
   pub closed : (n m : ℕ) (name : List ℕ) → n < length heights → child_in (rows nodes n) name ≡ Some m → m < length heights

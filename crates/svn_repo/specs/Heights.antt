@@ -12,7 +12,7 @@ abbrev pub height_above : Option ℕ → ℕ
 height_above None = path_limit
 height_above (Some k) = if nat_lt k path_limit then k + 1 else path_limit
 
--- the height of a directory of which the entries so far make the given height
+-- the height of a directory whose entries so far make the given height
 abbrev pub height_from : List ℕ → ℕ → List (List ℕ × ℕ) → ℕ
 height_from heights height [] = height
 height_from heights height (e ∷ es) = height_from heights (max height (height_above (slice_get heights e.1))) es

@@ -1,5 +1,5 @@
 -- A repository as its readers see it: the root node of each revision, and what each node is.
--- A node number stands for one node revision, so equal numbers have equal lines, contents and subtrees.
+-- A node number means one node revision, so equal numbers have equal lines, contents and subtrees.
 --     look h r p      the node at path p in revision r
 --     walk nodes n p      the node at path p below node n
 --     reaches nodes k n      whether a path of k names leads down from node n
@@ -49,7 +49,7 @@ abbrev pub reaches : Nodes → ℕ → ℕ → Bool
 reaches nodes zero n = true
 reaches nodes (suc k) n = list_any (λ e. reaches nodes k e.1) (entries_at (nodes n))
 
--- ---- what the readers answer
+-- ---- what the readers return
 
 abbrev pub text_in : NodeRow → Option (List ℕ)
 text_in row = text_by row.kind row.text

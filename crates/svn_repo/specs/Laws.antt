@@ -2,8 +2,8 @@
 --     AreCommits h changes h'      commits one after another, with all these changes, lead from h to h'
 --     RevisionsStay      old revisions have the nodes that they had, and the nodes stay what they are
 --     CopiesKeepNodes      a copy and its source are one node revision
---     ChangesKeepLines      what no change removes stands on, and is of the line that it was
---     UntouchedPathsKeepNodes      where nothing at, above or below a path was changed, one node revision stands there
+--     ChangesKeepLines      what no change removes stays, and keeps its line
+--     UntouchedPathsKeepNodes      where nothing at, above or below a path was changed, one node revision is there
 use Rattle.std.specs.Prelude.{◌≡◌, ℕ, ◌-◌, ◌<◌, Bool, true, false, ◌||◌, List, [], ◌∷◌, ◌++◌, length, Some, IsSome}
 use Rattle.std.specs.List.{list_any}
 use Rattle.svn_repo.specs.declared.change.Change.{Change}
@@ -23,7 +23,7 @@ pub data AreCommits : History → List Change → History → Type 0 where
 abbrev pub latest_of : History → ℕ
 latest_of h = length h.roots - 1
 
--- what stands anywhere is a node
+-- what is at any path is a node
 abbrev pub NodesExist : History → Type 0
 NodesExist h = (r : ℕ) (p : Path) (n : ℕ) → look h r p ≡ Some n → IsSome (node_at h n)
 
@@ -39,7 +39,7 @@ touches p (SetProp path name value) = is_within p path
 touches p (Remove path) = is_within p path || is_within path p
 touches p (CopyFrom rev source path) = is_within p path || is_within path p
 
--- at the path of a copy and at each path below, save where a later change of the same commit touches it
+-- at the path of a copy and at each path below, unless a later change of the same commit touches it
 abbrev pub CopiesKeepNodes : Type 0
 CopiesKeepNodes = (h h' : History) (before after : List Change) (rev : ℕ) (source path q : Path) → NodesExist h
     → IsCommit h h' (before ++ CopyFrom rev source path ∷ after) → list_any (touches (path ++ q)) after ≡ false

@@ -56,7 +56,7 @@ AllNames (e ∷ es) = IsName e.0 × AllNames es
 abbrev pub StandsAt : History → ℕ → Path → ℕ → Type 0
 StandsAt h r p n = look h r p ≡ Some n
 
--- the root is a directory of line 0 in every revision; what stands has a line that was given, of one kind, and is within the limits
+-- the root is a directory of line 0 in every revision; each node has a line that was given, of one kind, and is within the limits
 pub record IsHistory (h : History) : Type 0 where
   pub root_line : (r n : ℕ) → StandsAt h r [] n → line_of h n ≡ 0
   pub root_is_directory : (r n : ℕ) → StandsAt h r [] n → kind_of h n ≡ Directory

@@ -50,7 +50,7 @@ pub record IsLawfulRow (row : NodeRow) : Type 0 where
   pub in_order : InNameOrder row.entries
   pub named : All IsName (keys_of row.entries)
 
--- what stands at the path is within the limits, and is of its line's kind; the root is of line 0
+-- what is at the path is within the limits, and is of its line's kind; the root is of line 0
 pub record IsLawfulPlace (kinds : ℕ → Kind) (lines : ℕ) (q : Path) (x : Place) : Type 0 where
   pub short : length q ≤ path_limit
   pub props_in_order : InNameOrder x.props
@@ -60,7 +60,7 @@ pub record IsLawfulPlace (kinds : ℕ → Kind) (lines : ℕ) (q : Path) (x : Pl
   pub kind : x.kind ≡ kinds x.line
   pub root_line : q ≡ [] → x.line ≡ 0
 
--- all that stands in the tree is lawful
+-- all that is in the tree is lawful
 abbrev pub IsLawfulTree : (ℕ → Kind) → ℕ → Tree → Type 0
 IsLawfulTree kinds lines t = (q : Path) (x : Place) → t q ≡ Some x → IsLawfulPlace kinds lines q x
 

@@ -13,7 +13,7 @@ use Rattle.svn_repo.specs.Trees.{Place, tree_below}
 use Rattle.svn_repo.specs.Drafts.{past_in}
 use Rattle.svn_repo.specs.Changes.{Pending, AllMade, latest_pending, after_change}
 
--- the revisions so far, and a draft of the next one: the nodes, of which those of the revisions are the first, its root, and the next line
+-- the revisions so far, and a draft of the next one: the nodes (those of the revisions first), its root, and the next line
 pub record OpenRevision : Type 0 where
   pub history : History
   pub nodes : List NodeRow
@@ -32,7 +32,7 @@ IsBegun h o = (o.history ≡ h) × (pending_of o ≡ latest_pending h)
 abbrev pub IsChanged : OpenRevision → Change → OpenRevision → Type 0
 IsChanged o change o' = (o'.history ≡ o.history) × (pending_of o' ≡ after_change o.history (pending_of o) change)
 
--- ---- what the look-ups answer
+-- ---- what the look-ups return
 
 -- the text of a file
 abbrev pub file_text : Place → Option (List ℕ)

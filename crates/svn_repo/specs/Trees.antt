@@ -1,6 +1,6 @@
--- The tree of a revision while a commit is made: what stands at each path, with no shared nodes.
+-- The tree of a revision while a commit is made: what is at each path, with no shared nodes.
 --     tree_at h r      the tree of a revision
---     graft t p part      the part put at p, with every directory above p made afresh
+--     graft t p part      the part put at p, with every directory above p made anew
 use Rattle.std.specs.Prelude.{◌≡◌, ℕ, ◌<◌, ◌≤◌, Bool, true, false, length, take, List, [], ◌∷◌, ◌++◌, Option, Some, None, option_map}
 use Rattle.std.specs.Prelude.{option_and_then, is_some, nat_lt, if◌then◌else◌}
 use Rattle.svn_types.specs.declared.kind.Kind.{Kind}
@@ -10,7 +10,7 @@ use Rattle.svn_types.specs.Pairs.{with_value}
 use Rattle.svn_repo.specs.Walks.{rest_below, led}
 use Rattle.svn_repo.specs.History.{NodeRow, History, Nodes, node_at, walk, look}
 
--- what stands at a path: the node that it still is, or none where it was made afresh, and its content but for its entries
+-- what is at a path: the node that it still is, or none where it was made anew, and its content but for its entries
 pub record Place : Type 0 where
   pub number : Option ℕ
   pub line : ℕ
@@ -42,7 +42,7 @@ touched p = record { number = None; line = p.line; kind = p.kind; text = p.text;
 abbrev pub is_within : Path → Path → Bool
 is_within p q = is_some (rest_below p q)
 
--- every node from the root to p made afresh
+-- every node from the root to p made anew
 abbrev pub touch : Tree → Path → Tree
 touch t p q = if is_within q p then option_map touched (t q) else t q
 
@@ -57,7 +57,7 @@ is_directory_place (Some p) = is_directory_kind p.kind
     is_directory_kind File = false
     is_directory_kind Directory = true
 
--- every node above p is a directory, and p stands
+-- every node above p is a directory, and p is there
 pub record IsWay (t : Tree) (p : Path) : Type 0 where
   pub directories : (i : ℕ) → i < length p → is_directory_place (t (take i p)) ≡ true
   pub present : (i : ℕ) → i ≤ length p → is_some (t (take i p)) ≡ true

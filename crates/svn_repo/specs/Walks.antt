@@ -1,6 +1,6 @@
 -- Places of paths below one another, and what changes where something else is put at a path.
 --     rest_below p q      the rest of q, where p is a prefix of it
---     led rest here other      what stands in the new part at the rest, or else what stood before
+--     led rest here other      what is in the new part at the rest, or else what was before
 use Rattle.std.specs.Prelude.{[], ◌∷◌, bytes_eq, Option, Some, None, if◌then◌else◌}
 use Rattle.svn_types.specs.Names.{Path}
 

@@ -7,43 +7,43 @@ use std::alloc::AllocError;
 use svn_types::{PropName, RelPath, Rev, Text};
 use thiserror::Error;
 
-/// One change of a commit (of a transaction, `svn_fs.h`). Each makes afresh every directory above its path; what it doesn't make stays the node
-/// revision that it was. What `Repo::commit` asks of a field stands there; and directories have to stand above each path.
+/// One change of a commit (of a transaction, `svn_fs.h`). Each makes every directory above its path anew; what it doesn't make stays the node
+/// revision that it was. The fields say what `Repo::commit` requires of them; besides, each path must be below directories.
 #[derive(Clone, Debug, PartialEq, Eq, Drop)]
 pub enum Change {
-    /// Makes a directory of a new line, without entries and properties, where nothing stands.
+    /// Makes a directory of a new line, without entries and properties, where nothing is.
     MakeDir {
         /// Of at most 64 names, and not the root.
         path: RelPath,
     },
-    /// Gives the file at the path this text; it keeps its line and its properties. Where nothing stands it makes a file of a new line.
+    /// Gives the file at the path this text; it keeps its line and its properties. Where nothing is it makes a file of a new line.
     PutFile {
         /// Of at most 64 names, and not the root.
         path: RelPath,
         /// Of at most 1,048,576 bytes.
         text: Text,
     },
-    /// Sets a property of the node at the path, or removes it where there is no value. To remove what isn't set is no fault.
+    /// Sets a property of the node at the path, or removes it where there is no value. Removing one that isn't set is no fault.
     SetProp {
-        /// Where a node stands; the root too.
+        /// Where a node is; the root too.
         path: RelPath,
         /// Of 1 to 255 bytes, as every name of a property.
         name: PropName,
         /// Of at most 1,048,576 bytes.
         value: Option<Text>,
     },
-    /// Removes the node at the path, with all beneath it.
+    /// Removes the node at the path, with everything below it.
     Remove {
-        /// Where a node stands that isn't the root.
+        /// Where a node is that isn't the root.
         path: RelPath,
     },
-    /// Puts the source's own node revision, of an existing revision, at a path where nothing stands (`svn_fs_copy` of `svn_fs.h`).
+    /// Puts the source's own node revision, of an existing revision, at a path where nothing is (`svn_fs_copy` of `svn_fs.h`).
     CopyFrom {
         /// An existing revision, so not the one that the commit makes.
         rev: Rev,
-        /// Where the source stands in that revision; the root too.
+        /// Where the source is in that revision; the root too.
         source: RelPath,
-        /// Not the root, and such that what is beneath the source has paths of at most 64 names here.
+        /// Not the root, and such that what is below the source has paths of at most 64 names here.
         path: RelPath,
     },
 }
@@ -52,22 +52,22 @@ pub enum Change {
 /// NoSuchRevision, TooLong, then Missing or NotDir on the ways down, then Exists, NotFile, TooDeep, Memory.
 #[derive(Clone, Copy, Debug, PartialEq, Eq, Error)]
 pub enum CommitFault {
-    /// Something stands where a directory is to be made or a copy put.
+    /// Something is where a directory would be made or a copy put.
     #[error("something stands at the path")]
     Exists,
-    /// Nothing stands at the path, at its source, or at a path above one of them.
+    /// Nothing is at the path, at its source, or at a path above one of them.
     #[error("nothing stands at the path")]
     Missing,
-    /// A file stands above the path or its source.
+    /// A file is above the path or its source.
     #[error("a file stands where a directory is needed")]
     NotDir,
-    /// A directory stands where a text is to be put.
+    /// A directory is where a text would be put.
     #[error("a directory stands where a file is needed")]
     NotFile,
-    /// The root is to be made, put, removed or copied to.
+    /// The root would be made, put, removed or copied to.
     #[error("the root can't be changed so")]
     IsRoot,
-    /// A node would stand at a path of over 64 names.
+    /// A node would be at a path of over 64 names.
     #[error("a path has over 64 names")]
     TooDeep,
     /// The source of a copy is in a revision that doesn't exist.
@@ -76,10 +76,10 @@ pub enum CommitFault {
     /// A text or a value has over 1,048,576 bytes.
     #[error("a text has over 1048576 bytes")]
     TooLong,
-    /// No revision, line or node number is left. Want of memory always comes before it, so it is never answered.
+    /// No revision, line or node number is left. Memory always comes before it, so it is never returned.
     #[error("no number is left")]
     Full,
-    /// A growth was refused.
+    /// An allocation failed.
     #[error("out of memory")]
     Memory,
 }

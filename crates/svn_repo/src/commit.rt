@@ -45,7 +45,7 @@ fn put_directory(
     put_made(nodes, draft, names, near, node)
 }
 
-// A file with a text, which keeps the line and the properties of the file that stood there.
+// A file with a text, which keeps the line and the properties of the file that was there.
 fn file_node(
     nodes: &Vec<Node>,
     at: Option<NodeId>,
@@ -74,7 +74,7 @@ fn file_node(
     }
 }
 
-// Puts a text under a name of a directory, and says whether a file stood there. The name leads to the file before that is made, so that it is
+// Puts a text under a name of a directory, and says whether a file was there. The name leads to the file before it is made, so that it is
 // looked up once.
 fn put_text(
     nodes: &mut Vec<Node>,
@@ -96,7 +96,7 @@ fn put_text(
     Ok(old.is_some())
 }
 
-// Puts a text at a path, and says whether a file stood there.
+// Puts a text at a path, and says whether a file was there.
 fn put_file(
     nodes: &mut Vec<Node>,
     draft: Draft,
@@ -120,7 +120,7 @@ fn put_file(
     Ok((root, stood))
 }
 
-// The next line after a text is put where something stood, or nothing.
+// The next line after a text is put where something or nothing was.
 fn next_line(lines: u64, stood: bool) -> u64
     requires { lines + 1 < 2 ^ 64 }
     ensures { result ≡ (if stood then lines else lines + 1) }
@@ -183,7 +183,7 @@ pub(crate) fn make(
     }
 }
 
-/// What is known to stand where a change works; or why it can't be made.
+/// What is known to be where a change works; or why it can't be made.
 pub(crate) fn examine(
     nodes: &[Node],
     past: &Past<'_>,
@@ -203,7 +203,7 @@ pub(crate) fn examine(
     }
 }
 
-// Makes the changes in order; the fault of the first that can't be made, else.
+// Makes the changes in order, or returns the fault of the first that can't be made.
 fn make_all(
     nodes: &mut Vec<Node>,
     past: &Past<'_>,
@@ -257,7 +257,7 @@ pub(crate) fn push_root(stored: &mut Stored, root: NodeId) -> Result<(), AllocEr
     Ok(())
 }
 
-// Makes the changes in order on a draft over the last revision, puts its root behind the others, and answers the next line.
+// Makes the changes in order on a draft over the last revision, puts its root after the others, and returns the next line.
 fn push_revision(stored: &mut Stored, lines: u64, changes: &[Change]) -> Result<u64, CommitFault>
     requires { IsStored stored.old.roots.items stored.old.nodes.items lines stored.old.heights.items }
     ensures ok { IfOk result (IsExtended stored.old.roots.items stored.old.nodes.items lines stored.new.roots.items stored.new.nodes.items stored.new.heights.items changes.now) }
@@ -276,7 +276,7 @@ fn push_revision(stored: &mut Stored, lines: u64, changes: &[Change]) -> Result<
     Ok(made.lines)
 }
 
-/// Adds one more revision, the changes made in order on the last one, and answers the next line. A refusal leaves all as it was.
+/// Adds one more revision, the changes made in order on the last one, and returns the next line. A refusal leaves all as it was.
 pub(crate) fn extend(
     stored: &mut Stored,
     lines: u64,

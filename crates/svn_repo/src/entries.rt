@@ -12,7 +12,7 @@ use svn_name_map::{Iter, NameMap};
 use svn_types::Name;
 
 /// Names a node revision of a repository (a node-revision ID, `svn_fs_id_t` of `svn_fs.h`). Two that are equal have one line, one content and one
-/// subtree. A repository answers None of one that it doesn't have, as another's may be. A contract sees it as its number.
+/// subtree. A repository returns None of one that it doesn't have, as another's may be. A contract sees it as its number.
 #[derive(Clone, Copy, Debug, PartialEq, Eq, PartialOrd, Ord, Hash)]
 pub struct NodeId {
     pub(crate) index: usize,
@@ -28,7 +28,7 @@ impl Model for NodeId {
     ghost inverse = { λ n. record { index = n } };
 }
 
-/// The entries of a directory: a node under each name, of which there are as many as memory holds. A contract sees them as pairs of a name and a
+/// The entries of a directory: a node under each name; only memory limits their number. A contract sees them as pairs of a name and a
 /// node, in byte order of the names.
 #[derive(Debug, Drop)]
 pub struct Entries {
@@ -84,7 +84,7 @@ impl Entries {
         self.map.iter()
     }
 
-    // Makes a name lead to a node, and answers where it led.
+    // Makes a name lead to a node, and returns where it led.
     pub(crate) fn insert(&mut self, name: Name, node: NodeId) -> Result<Option<NodeId>, AllocError>
         ensures found { IfOk result (λ found. found ≡ value_of self.old name) }
         ensures ok { OnOk result (self.new ≡ insert_entry name_cmp self.old name node) }
@@ -94,7 +94,7 @@ impl Entries {
         Ok(self.map.insert(name, node)?)
     }
 
-    // Makes a name lead to another node, if it leads to one below a bound, and answers where it led. It takes no memory.
+    // Makes a name lead to another node, if it leads to one below a bound, and returns where it led. It takes no memory.
     pub(crate) fn redirect(&mut self, name: &Name, bound: usize, node: NodeId) -> Option<NodeId>
         ensures found { result ≡ value_of self.old name.now }
         ensures stays { (n : ℕ) → result ≡ Some n → bound ≤ n → self.new ≡ self.old }
@@ -109,7 +109,7 @@ impl Entries {
         Some(found)
     }
 
-    // Makes a name lead nowhere, and answers where it led.
+    // Makes a name lead nowhere, and returns where it led.
     pub(crate) fn remove(&mut self, name: &Name) -> Result<Option<NodeId>, AllocError>
         ensures found { IfOk result (λ found. found ≡ value_of self.old name.now) }
         ensures ok { OnOk result (self.new ≡ remove_entry (is_at (name_cmp name.now)) self.old) }

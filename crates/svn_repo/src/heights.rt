@@ -40,7 +40,7 @@ fn height_of(node: &Node, heights: &[u8]) -> u8
     }
 }
 
-/// Adds the heights of the last nodes, from the last one on: each has children that stood before, or later ones.
+/// Adds the heights of the last nodes, from the last one on: each has children that was before, or later ones.
 pub(crate) fn add_heights(nodes: &[Node], heights: &mut Vec<u8>) -> Result<(), AllocError>
     requires ordered { IsOrdered nodes.now (length heights.old.items) }
     requires old { (n k : ℕ) → slice_get heights.old.items n ≡ Some k → IsHeight (rows nodes.now) n k }

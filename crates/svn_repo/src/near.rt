@@ -1,4 +1,4 @@
-//! Where a change works: what stands there is looked up once, to say whether the change can be made and to make it.
+//! Where a change works: what is there is looked up once, to say whether the change can be made and to make it.
 ghost use Rattle.std.specs.Prelude.{◌≡◌};
 ghost use Rattle.svn_types.specs.Paths.{parent};
 ghost use Rattle.svn_repo.specs.Drafts.{IsNear};
@@ -18,8 +18,8 @@ fn names_above(names: &[Name]) -> &[Name]
     }
 }
 
-/// The node whose property a change sets, or the directory in which it puts something new, if it stands. What removes and what copies looks its
-/// paths up by itself.
+/// The node whose property a change sets, or the directory in which it puts something new, if that is there. Removing and copying look their
+/// paths up themselves.
 pub(crate) fn find_near(nodes: &[Node], root: NodeId, change: &Change) -> Option<NodeId>
     ensures { IsNear nodes.now root change.now result }
 {

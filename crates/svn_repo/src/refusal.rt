@@ -29,7 +29,7 @@ struct RevPath<'a> {
     names: &'a [Name],
 }
 
-// What stands at a path: else the fault of the first place above that is missing or no directory.
+// What is at a path: else the fault of the first place above that is missing or no directory.
 fn find(nodes: &[Node], root: NodeId, names: &[Name]) -> Result<Option<NodeId>, CommitFault>
     requires root_in { root < length nodes.now }
     requires closed { IsClosedIn nodes.now }
@@ -72,7 +72,7 @@ fn find_from(
     find(nodes, root, names)
 }
 
-// The node at a path where one has to stand: else the fault of the way there, or that nothing stands at its end.
+// The node at a path where one must be: else the fault of the way there, or that nothing is at its end.
 fn find_node(nodes: &[Node], root: NodeId, names: &[Name]) -> Result<NodeId, CommitFault>
     requires root_in { root < length nodes.now }
     requires closed { IsClosedIn nodes.now }
@@ -207,7 +207,7 @@ fn fault_of_prop(
     find_node(nodes, root, names).err()
 }
 
-// Why a copy of a node can't be put at a path: something below it would stand too deep. The height of each old node is known.
+// Why a copy of a node can't be put at a path: something below it would be too deep. The height of each old node is known.
 fn fault_of_height(heights: &[u8], node: NodeId, names: &[Name]) -> Option<CommitFault>
     requires node_in { node < length heights.now }
     requires depth { length names.now ≤ depth_limit }
@@ -220,7 +220,7 @@ fn fault_of_height(heights: &[u8], node: NodeId, names: &[Name]) -> Option<Commi
     }
 }
 
-// Why what stands at the source, below a root that stood before, can't be copied to a path.
+// Why what is at the source, below a root that was before, can't be copied to a path.
 fn fault_below_top(
     nodes: &[Node],
     heights: &[u8],
@@ -246,7 +246,7 @@ fn fault_below_top(
     }
 }
 
-// Why what stands at a path of a revision can't be copied to a path.
+// Why what is at a path of a revision can't be copied to a path.
 fn fault_of_copy(
     nodes: &[Node],
     past: &Past<'_>,
@@ -269,7 +269,7 @@ fn fault_of_copy(
     fault_below_top(nodes, past.heights, &PathBelow { root, names }, to)
 }
 
-/// Why a change can't be made on a draft, if it can't. There is a height for each node that stood before the draft.
+/// Why a change can't be made on a draft, if it can't. There is a height for each node that was before the draft.
 pub(crate) fn fault_of(
     nodes: &[Node],
     past: &Past<'_>,

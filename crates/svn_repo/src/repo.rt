@@ -17,7 +17,7 @@ use svn_types::{Kind, Props, RelPath, Rev, Text};
 
 /// A repository: revisions, each a tree of files and directories with properties (after the filesystem of `svn_fs.h`, which a
 /// repository of `svn_repos.h` holds). Revision 0 is an empty root, and each commit makes one more. Revisions share the nodes that
-/// didn't change: one node number is one node revision, wherever it stands. It is kept in memory. A contract sees it as its history.
+/// didn't change: one node number is one node revision, at whatever paths it is. It is kept in memory. A contract sees it as its history.
 #[derive(Debug, Drop)]
 pub struct Repo {
     pub(crate) stored: Stored,
@@ -78,12 +78,12 @@ impl Repo {
     }
 
     /// What holds of every repository, for the proofs of its callers; it does nothing. The root of each revision is a directory of
-    /// line 0. What stands has a line that was given, and one line has one kind. Files have no entries, directories no text; entries
+    /// line 0. Each node has a line that was given, and one line has one kind. Files have no entries, directories no text; entries
     /// and properties are in order of their names, which are lawful. Paths have at most 64 names, texts and values at most 1,048,576
     /// bytes.
     pub fn law(&self)
         ensures history { IsHistory self.now }
-        // what stands anywhere is a node, which the readers know
+        // what is at any path is a node that the readers know
         ensures nodes { (r : ℕ) (p : Path) (n : ℕ) → look self.now r p ≡ Some n → IsSome (node_at self.now n) }
     {
         let _lines = &self.lines;
@@ -96,7 +96,7 @@ impl Repo {
         Rev((self.stored.roots.len() - 1) as u64)
     }
 
-    /// The node at a path in a revision; None where there is no such revision, or nothing stands there. It costs the length of the path times the
+    /// The node at a path in a revision; None where there is no such revision, or nothing is there. It costs the length of the path times the
     /// logarithm of the entries, and takes no memory.
     pub fn lookup(&self, rev: Rev, path: &RelPath) -> Option<NodeId>
         ensures { result ≡ look self.now rev path.now }
@@ -109,7 +109,7 @@ impl Repo {
         )
     }
 
-    /// The line of a node (its node-ID), from 0, which is that of the roots: two nodes are related exactly where they have one line. None where there
+    /// The line of a node (its node-ID), from 0, which is that of the roots: two nodes are related exactly if they have one line. None if there
     /// is no such node.
     pub fn line(&self, id: NodeId) -> Option<u64>
         ensures { result ≡ option_map (λ row. row.line) (node_at self.now id) }
@@ -137,7 +137,7 @@ impl Repo {
     /// The text of a file; None at a directory, and where there is no such node.
     pub fn text(&self, id: NodeId) -> Option<&[u8]>
         ensures value { option_copied result ≡ option_and_then text_in (node_at self.now id) }
-        // what is no file has no text
+        // only a file has a text
         ensures no_text { IfNone result (text_of self.now id ≡ []) }
         ensures text { IfSome result (λ text. text.now ≡ text_of self.now id) }
     {
@@ -148,7 +148,7 @@ impl Repo {
     /// The text of a file as it is stored, whose clones share its bytes; None at a directory, and where there is no such node.
     pub fn shared_text(&self, id: NodeId) -> Option<&Text>
         ensures value { option_copied result ≡ option_and_then text_in (node_at self.now id) }
-        // what is no file has no text
+        // only a file has a text
         ensures no_text { IfNone result (text_of self.now id ≡ []) }
         ensures text { IfSome result (λ text. text.now ≡ text_of self.now id) }
     {
@@ -170,7 +170,7 @@ impl Repo {
     /// The entries of a directory; None at a file, and where there is no such node.
     pub fn entries(&self, id: NodeId) -> Option<&Entries>
         ensures value { option_copied result ≡ option_and_then entries_in (node_at self.now id) }
-        // what is no directory has nothing beneath it
+        // only a directory has something below it
         ensures leaf { IfNone result (entries_of self.now id ≡ []) }
         ensures listing { IfSome result (λ entries. entries.now ≡ entries_of self.now id) }
     {
@@ -181,7 +181,7 @@ impl Repo {
         }
     }
 
-    /// Makes the changes in order, as one more revision, which is answered. The first change that can't be made decides
+    /// Makes the changes in order, as one more revision, which is returned. The first change that can't be made decides
     /// the fault, and then nothing has changed; Memory comes only where the first change can be made. No changes make a revision with
     /// the same root node.
     ///
@@ -190,7 +190,7 @@ impl Repo {
     pub fn commit(&mut self, changes: &[Change]) -> Result<Rev, CommitFault>
         ensures ok { IfOk result (λ r. (r ≡ length self.old.roots) × IsCommit self.old self.new changes.now) }
         ensures fault { IfErr result (λ e. (e ≡ CommitFault.Memory) ⊎ (commit_fault self.old changes.now ≡ Some e)) }
-        // want of memory comes last: where the first change can't be made, its fault is answered
+        // Memory comes last: where the first change can't be made, its fault is returned
         ensures memory { IfErr result (λ e. e ≡ CommitFault.Memory → commit_fault self.old (take 1 changes.now) ≡ None) }
         ensures never_full { IfErr result (λ e. e ≢ CommitFault.Full) }
         ensures unchanged { OnErr result (self.new ≡ self.old) }

@@ -30,7 +30,7 @@ pub(crate) struct Stored {
     pub(crate) heights: Vec<u8>,
 }
 
-/// The revisions that a commit is made over: the root of each, and the height of each node that stood before the commit.
+/// The revisions that a commit is made over: the root of each, and the height of each node that was before the commit.
 #[derive(Clone, Copy, Debug)]
 pub(crate) struct Past<'a> {
     pub(crate) roots: &'a [NodeId],
@@ -171,7 +171,7 @@ fn put_entry(
     }
 }
 
-// Makes a name of a directory lead to a child, or nowhere, and answers where it led.
+// Makes a name of a directory lead to a child, or nowhere, and returns where it led.
 pub(crate) fn put_child(
     nodes: &mut Vec<Node>,
     at: NodeId,
@@ -191,7 +191,7 @@ pub(crate) fn put_child(
     }
 }
 
-// Makes a name of a directory lead to another node, if it leads to an old one, and answers where it led.
+// Makes a name of a directory lead to another node, if it leads to an old one, and returns where it led.
 fn redirect_child(
     nodes: &mut Vec<Node>,
     base: usize,
@@ -215,7 +215,7 @@ fn redirect_child(
     }
 }
 
-// Makes the child of a directory afresh, where it isn't yet. The name leads to the copy before it is made, so that it is looked up once.
+// Copies the child of a directory into the draft, unless it is the draft's own. The name leads to the copy before it is made: one look-up.
 fn thaw_child(
     nodes: &mut Vec<Node>,
     base: usize,
@@ -239,7 +239,7 @@ fn thaw_child(
     Ok(copy)
 }
 
-// Makes afresh every node from the root, which is so already, to a path, and answers the last one.
+// Copies every node from the root, which is the draft's own, to a path into the draft, and returns the last one.
 fn thaw(
     nodes: &mut Vec<Node>,
     base: usize,
@@ -259,7 +259,7 @@ fn thaw(
     Ok(at)
 }
 
-// Makes the root afresh, where it isn't yet.
+// Copies the root into the draft, unless it is the draft's own.
 fn thaw_root(nodes: &mut Vec<Node>, draft: Draft) -> Result<NodeId, AllocError>
     requires { IsDraft draft.base nodes.old.items draft.root }
     ensures ok { IfOk result (λ n. IsThawed draft.base nodes.old.items nodes.new.items draft.root n [] n) }
@@ -271,8 +271,8 @@ fn thaw_root(nodes: &mut Vec<Node>, draft: Draft) -> Result<NodeId, AllocError>
     copy_node(nodes, draft.root)
 }
 
-// Makes afresh every node from the root to a path, and answers the new root and the last of these nodes. Where that one is known, and is so
-// already, all above it are.
+// Copies every node from the root to a path into the draft, and returns the new root and the last of these nodes. If that one is known, and is
+// the draft's own, so are all above it.
 pub(crate) fn thaw_path(
     nodes: &mut Vec<Node>,
     draft: Draft,
@@ -306,7 +306,7 @@ pub(crate) fn split_path(names: &[Name]) -> (&Name, &[Name])
     (last, above)
 }
 
-// Puts a new node behind the others, and makes a name of a directory lead to it.
+// Puts a new node after the others, and makes a name of a directory lead to it.
 fn push_child(nodes: &mut Vec<Node>, at: NodeId, name: &Name, node: Node) -> Result<(), AllocError>
     requires { IsListing nodes.old.items at }
     ensures ok { OnOk result (PutsChild (nodes.old.items ++ node ∷ []) nodes.new.items at name.now (Some (length nodes.old.items))) }
@@ -318,7 +318,7 @@ fn push_child(nodes: &mut Vec<Node>, at: NodeId, name: &Name, node: Node) -> Res
     Ok(())
 }
 
-/// Puts a new node at a path of a draft, and answers the new root.
+/// Puts a new node at a path of a draft, and returns the new root.
 pub(crate) fn put_made(
     nodes: &mut Vec<Node>,
     draft: Draft,
@@ -341,7 +341,7 @@ pub(crate) fn put_made(
     Ok(top)
 }
 
-/// Puts an old node at a path of a draft, or takes away what is there, and answers the new root.
+/// Puts an old node at a path of a draft, or takes away what is there, and returns the new root.
 pub(crate) fn put_old(
     nodes: &mut Vec<Node>,
     draft: Draft,
@@ -361,7 +361,7 @@ pub(crate) fn put_old(
     Ok(top)
 }
 
-// What stands at a node, if there is one.
+// What is at a node, if there is one.
 pub(crate) fn kind_at(nodes: &[Node], at: Option<NodeId>) -> Option<Kind>
     requires { (n : ℕ) → at ≡ Some n → n < length nodes.now }
     ensures { (base : ℕ) → result ≡ option_map (λ p. p.kind) (option_and_then (place_at (rows nodes.now) base) at) }
@@ -395,7 +395,7 @@ fn set_value(nodes: &mut Vec<Node>, at: NodeId, setting: &PropSetting<'_>) -> Re
     put_value(&mut node.props, setting)
 }
 
-/// Sets or removes a property of the node at a path of a draft, and answers the new root.
+/// Sets or removes a property of the node at a path of a draft, and returns the new root.
 pub(crate) fn put_prop(
     nodes: &mut Vec<Node>,
     draft: Draft,

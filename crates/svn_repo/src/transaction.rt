@@ -36,7 +36,7 @@ impl Model for Transaction {
     ghost invariant = { λ t. IsOpen t.draft.base t.stored.roots.items t.stored.nodes.items t.lines t.draft.root t.draft.lines t.stored.heights.items };
 }
 
-// Gives up the changes made on a draft over so many nodes, and begins another.
+// Gives up the changes made on a draft over that many nodes, and begins another.
 fn give_up(stored: &mut Stored, base: usize, lines: u64) -> Draft
     requires { 1 ≤ length stored.old.roots.items }
     ensures nodes { stored.new.nodes.items ≡ take base stored.old.nodes.items }
@@ -72,7 +72,7 @@ impl Transaction {
         ensures made { OnOk result (change_fault self.old.history (pending_of self.old) change.now ≡ None) }
         ensures ok { OnOk result (IsChanged self.old change.now self.new) }
         ensures fault { IfErr result (λ e. (e ≡ CommitFault.Memory) ⊎ (change_fault self.old.history (pending_of self.old) change.now ≡ Some e)) }
-        // out of memory comes last: where the change can't be made, its fault is returned
+        // Memory comes last: where the change can't be made, its fault is returned
         ensures memory { IfErr result (λ e. e ≡ CommitFault.Memory → change_fault self.old.history (pending_of self.old) change.now ≡ None) }
         ensures never_full { IfErr result (λ e. e ≢ CommitFault.Full) }
         ensures unchanged { IfErr result (λ e. e ≢ CommitFault.Memory → self.new ≡ self.old) }
@@ -120,7 +120,7 @@ impl Transaction {
     /// The text of the file at a path, as it is stored: its clones share its bytes. None at a directory, and where nothing is.
     pub fn text(&self, path: &RelPath) -> Option<&Text>
         ensures value { option_copied result ≡ option_and_then file_text ((pending_of self.now).tree path.now) }
-        // where no file is, there is no text
+        // only a file has a text
         ensures no_text { IfNone result (text_or_empty ((pending_of self.now).tree path.now) ≡ []) }
         ensures text { IfSome result (λ text. text.now ≡ text_or_empty ((pending_of self.now).tree path.now)) }
     {
@@ -170,7 +170,7 @@ impl Transaction {
         }
     }
 
-    /// Gives the changes so far up, and begins again on the last revision. It takes no memory.
+    /// Gives up the changes so far, and begins again on the last revision. It takes no memory.
     pub fn abort(&mut self)
         ensures { IsBegun self.old.history self.new }
     {

@@ -1,4 +1,4 @@
--- The order in which directories end, and names beneath a path in both orders.
+-- The order in which directories end, and names below a path in both orders.
 use Rattle.std.proofs.Common.{◌≡◌, ◌<◌, ◌≤◌, Bool, true, false, ◌&&◌, not, List, [], ◌∷◌, cond, length, refl, sym, ◌∙◌, ap, arith}
 use Rattle.std.proofs.Common.{true≢false}
 use Rattle.std.proofs.lemmas.Bool.{and_parts}
@@ -17,7 +17,7 @@ use Rattle.svn_report.specs.ReportOrder.{end_cmp, end_total}
 use Rattle.svn_types.proofs.NameLemmas.{Name, name_cmp-same, level_names}
 use Rattle.svn_types.proofs.PathsInOrder.{paths_total, path_tie, before_apart}
 
--- ---- a path strictly beneath another has more names
+-- ---- a path strictly below another has more names
 
 pub longer_within : (p q : Path) → length p < length q → is_within p q ≡ is_below p q
 longer_within p q h = by (is_within p q) (apart p q h)
@@ -103,7 +103,7 @@ end_tied (m ∷ p) (n ∷ q) = both_tied (name_cmp m n) (end_cmp p q) ∙ (λ i.
     both_tied Equal u = refl
     both_tied Greater u = refl
 
--- ---- beneath two names of a path, both orders go by the names
+-- ---- below two names of a path, both orders go by the names
 
 -- in an order that goes by the first names first
 by_names : (order : Path → Path → Ordering)
@@ -135,7 +135,7 @@ pub names_end_in_order : (p : Path) (m k : Name) (x y : Path) → is_within (chi
     → name_cmp m k ≡ Less → end_cmp x y ≡ Less
 names_end_in_order = by_names end_cmp (λ a b x y. refl)
 
--- ---- what stands beneath a name
+-- ---- what is below a name
 
 pub within_named : (p : Path) (n : Name) (x : Path) → n ∷ [] ≡ next_name p x → is_within (child p n) x ≡ true
 within_named [] n [] h = cc
@@ -152,9 +152,9 @@ within_named (c ∷ p) n (a ∷ x) h = by (bytes_eq c a) h (within_named p n x)
     by true h ih = ih h
     by false h ih = cc
 
--- ---- what ends behind a name beneath a path
+-- ---- what ends after a name below a path
 
--- the name that leads to it comes later, and where none does, what stands beneath the path ends before it
+-- the name that leads to it comes later, and where none does, what is below the path ends before it
 pub later_named : (p : Path) (n m : Name) (x : Path) → end_cmp (child p n) x ≡ Less → m ∷ [] ≡ next_name p x → name_cmp n m ≡ Less
 later_named [] n m [] l h = cc
 later_named [] n m (a ∷ x) l h = ap (name_cmp n) (ap (λ (l : List Name). first l) h) ∙ by (name_cmp n a) x l

@@ -1,4 +1,4 @@
--- Entries in path order: what stands next to a path, and behind a name beneath one.
+-- Entries in path order: what is next to a path, and after a name below one.
 use Rattle.std.proofs.Common.{◌≡◌, ℕ, zero, suc, ◌<◌, ◌≤◌, Bool, true, false, ◌&&◌, not, cond, [], ◌∷◌, length, take, refl, sym, ◌∙◌, ap}
 use Rattle.std.proofs.Common.{subst, arith, inl, inr, true≢false, get_or}
 use Rattle.std.specs.Prelude.{◌+◌, ◌-◌, ◌++◌, ◌||◌, Option, Some, None, ◌⊎◌, is_some, bytes_eq, slice_get, option_map}
@@ -25,7 +25,7 @@ use Rattle.svn_types.proofs.NameLemmas.{Name, level_names}
 use Rattle.svn_types.proofs.PathLemmas.{same_path}
 use Rattle.svn_types.proofs.PathsInOrder.{paths_total, path_tie, not_before_itself, not_both, within_between}
 
--- where a path stands that has an entry
+-- where a path is that has an entry
 pub place_of : (es : Entries) (q : Path) → has_entry es q ≡ true
     → (j : ℕ) × (e : Path × ReportEntry) × (slice_get es j ≡ Some e) × (e.0 ≡ q)
 place_of [] q h = absurd (true≢false (sym h))
@@ -53,7 +53,7 @@ parted es pred ordered before i j d le lt h = by (cases_lt i j)
         (ordered i j (get_or es i d) (get_or es j d) l (slice_get-get_or es i d (omega (arith, l, lt))) (slice_get-get_or es j d lt)) h
     by (inr l) = let same : i ≡ j = omega (arith, le, l) in ap (λ k. pred (get_or es k d).0) same ∙ h
 
--- ---- what a test tells of the entries at its point
+-- ---- what a test says of the entries at its point
 
 module _ (es : Entries) (pred : Path → Bool) (i : ℕ) (ordered : InPathOrder es) (lawful : AreLawfulEntries es)
     (point : IsPartitionPoint (λ e. pred e.0 ≡ true) (λ e. pred e.0 ≡ false) es i) where
@@ -67,7 +67,7 @@ module _ (es : Entries) (pred : Path → Bool) (i : ℕ) (ordered : InPathOrder 
   there : (j : ℕ) (e : Path × ReportEntry) → slice_get es j ≡ Some e → has_entry es e.0 ≡ true
   there j e h = ap is_some (lawful.each_once j e h)
 
-  -- an entry at a path that fails stands at the point or behind it, and one at a path that passes before it
+  -- an entry at a path that fails is at the point or after it, and one at a path that passes before it
   from_point : (q : Path) (j : ℕ) (e : Path × ReportEntry) → slice_get es j ≡ Some e → e.0 ≡ q → pred q ≡ false → i ≤ j
   from_point q j e g same f = by (cases_lt j i)
     where
@@ -82,7 +82,7 @@ module _ (es : Entries) (pred : Path → Bool) (i : ℕ) (ordered : InPathOrder 
       by (inl l) = l
       by (inr l) = absurd (true≢false (sym t ∙ sym (ap pred same) ∙ behind j e l g))
 
-  -- of the entries that fail the first stands at the point
+  -- of the entries that fail the first is at the point
   pub first_failing : (x : Path × ReportEntry) → slice_get es i ≡ Some x → (q : Path) → pred q ≡ false → has_entry es q ≡ true
       → path_cmp q x.0 ≡ Less → ⊥
   first_failing x h q f has l = by (cases_lt i r.0)
@@ -109,7 +109,7 @@ module _ (es : Entries) (pred : Path → Bool) (i : ℕ) (ordered : InPathOrder 
           absurd (no_entry es i h (omega (arith, from, within)))
       by false has = refl
 
-  -- of those that pass the last stands directly before it
+  -- of those that pass the last is directly before it
   pub last_passing : (k : ℕ) (x : Path × ReportEntry) → i ≡ suc k → slice_get es k ≡ Some x → (q : Path) → pred q ≡ true
       → has_entry es q ≡ true → path_cmp x.0 q ≡ Less → ⊥
   last_passing k x e h q t has l = by (cases_lt r.0 k)
@@ -180,7 +180,7 @@ next_at es p i found ordered lawful point e = subst (IsNextEntry es p) (sym e) (
         let at = fails_at es pred i ordered lawful point x h in
         (not_le_after p x.0 at.0, at.1, λ q l has. first_failing es pred i ordered lawful point x h q (after_not_le p q l) has)
 
--- nothing comes behind the last one
+-- nothing comes after the last one
 none_past : (es : Entries) (x : Path × ReportEntry) (q : Path) → InPathOrder es → slice_get es (length es - 1) ≡ Some x
     → has_entry es q ≡ true → path_cmp x.0 q ≡ Less → ⊥
 none_past es x q ordered h has l = by (cases_lt r.0 (length es - 1))
@@ -236,7 +236,7 @@ pub previous_none_at : (es : Entries) (p : Path) (i : ℕ) → InPathOrder es �
     → IsPartitionPoint (λ e. is_lt (path_cmp e.0 p) ≡ true) (λ e. is_lt (path_cmp e.0 p) ≡ false) es i → i ≡ zero → IsPreviousEntry es p None
 previous_none_at es p i ordered lawful point e = λ q l. none_passing es (λ q. is_lt (path_cmp q p)) i ordered lawful point e q (ap is_lt l)
 
--- ---- behind a name beneath a path
+-- ---- after a name below a path
 
 pub behind_parts : (p : Path) (n : Name) (q : Path) → is_behind_name p n q ≡ true
     → (path_cmp (child p n) q ≡ Less) × (is_within (child p n) q ≡ false)
@@ -252,7 +252,7 @@ behind_from : (p : Path) (n : Name) (q : Path) → path_cmp (child p n) q ≡ Le
     → is_behind_name p n q ≡ true
 behind_from p n q l w = (λ i. is_lt (l i) && not (w i))
 
--- what comes behind such a path comes behind the name too
+-- what comes after such a path comes after the name too
 behind_more : (p : Path) (n : Name) (x y : Path) → path_cmp x y ≡ Less → is_behind_name p n x ≡ true → is_behind_name p n y ≡ true
 behind_more p n x y l h =
     behind_from p n y (paths_total.trans (child p n) x y parts.0 l) (apart (is_within (child p n) y) refl)
@@ -405,7 +405,7 @@ none_last es p last = by (has_entry es p) refl
         absurd (not_before_itself p (ap (λ (z : Path). path_cmp z p) (sym r.3) ∙ last r.0 r.1 r.2))
     by false h = refl
 
--- it does where it comes behind the last one
+-- it does where it comes after the last one
 pub comes_last : (es : Entries) (p : Path) (x : Path × ReportEntry) → InPathOrder es → slice_get es (length es - 1) ≡ Some x
     → is_lt (path_cmp x.0 p) ≡ true → ComesLast es p
 comes_last es p x ordered h l j e g = by (cases_lt j (length es - 1))

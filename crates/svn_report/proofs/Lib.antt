@@ -1,12 +1,12 @@
--- entries found by their path and by what stands next to it; one more entry
+-- entries found by their path and by what is next to it; one more entry
 pub mod Listings
--- entries in path order, and what stands next to a path there
+-- entries in path order, and what is next to a path there
 pub mod InOrder
 -- the order in which directories end
 pub mod EndOrder
--- the next name beneath a path at which a report has entries
+-- the next name below a path at which a report has entries
 pub mod NextNames
--- the reported names beneath a path, one after the other
+-- the reported names below a path, one after the other
 pub mod ReportedNames
 -- what follows the revision in an entry's line
 mod Endings

@@ -1,4 +1,4 @@
--- Entries found by their path, and by what stands next to a path.
+-- Entries found by their path, and by what is next to a path.
 use Rattle.std.proofs.Common.{◌≡◌, ℕ, Bool, true, false, ◌&&◌, ◌||◌, not, cond, List, [], ◌∷◌, ◌++◌, length, take, refl, sym, ◌∙◌}
 use Rattle.std.proofs.Common.{ap, subst, inl, inr, arith, true≢false}
 use Rattle.std.specs.Prelude.{◌+◌, ◌<◌, ◌≤◌, Option, Some, None, ◌⊎◌, is_some, nat_lt, slice_get, MatchOption}
@@ -109,7 +109,7 @@ none_after paths p last greatest later = λ q l. by q (contains path_cmp paths q
     beyond q l Equal e h = ap (λ (z : Path). path_cmp z q) (path_tie last p e) ∙ l
     beyond q l Greater e h = absurd (true≢false (sym h))
 
--- a path found in an index stands there among the paths of the entries
+-- a path found in an index is there among the paths of the entries
 
 pub next_kept : (order : Path → Path → Ordering) (paths : BTreeSet Path) (es : Entries) (p : Path) (found : Option Path)
     → IsKept paths es → IsNextBy order (contains path_cmp paths) p found → IsNextBy order (has_entry es) p found
@@ -126,7 +126,7 @@ pub lawful_kept : (index : Option (BTreeSet Path)) (es : Entries) → IsIndexed 
 lawful_kept None es kept = kept.1
 lawful_kept (Some paths) es kept = kept.lawful
 
--- ---- what stands beneath a path
+-- ---- what is below a path
 
 pub next_below : (es : Entries) (p n : Path) → IsNextEntry es p (Some n) → is_within p n ≡ has_entry_below es p
 next_below es p n next = by (is_within p n) refl (has_entry_below es p) refl

@@ -1,4 +1,4 @@
--- The next name beneath a path at which a report has entries.
+-- The next name below a path at which a report has entries.
 use Rattle.std.proofs.Common.{◌≡◌, ℕ, ◌<◌, ◌≤◌, Bool, true, false, ◌&&◌, not, List, [], ◌∷◌, cond, length, refl, sym}
 use Rattle.std.proofs.Common.{◌∙◌, ap, true≢false, get_or, Bor}
 use Rattle.std.specs.Prelude.{Option, Some, None, Ok, bytes_eq, slice_get, IfSome, MatchOption}
@@ -42,7 +42,7 @@ not_named (m ∷ p) (n ∷ q) w = by (bytes_eq m n) w (not_named p q)
     by true w ih = ih w
     by false w ih = refl
 
--- the name that was looked up is the one that stands there
+-- the name that was looked up is the one that is there
 pub named_at : (q : Path) (i : ℕ) (r : Option (Bor (List ℕ))) → IfSome r (λ x. x.now ≡ get_or q i x.now)
     → MatchOption r (length q ≤ i) (λ x. (i < length q) × HoldsAt (λ y. x.now ≡ y) q i) → option_copied r ≡ slice_get q i
 named_at q i None g h = sym (slice_get_past q i h)
@@ -54,7 +54,7 @@ pub joined : (fault : Option PathFault) (p q : Path) → AnswersPath fault p (Ok
 joined None p q h = h
 joined (Some fault) p q h = absurd h
 
--- ---- the first path behind a bound tells the next name
+-- ---- the first path after a bound has the next name
 
 -- nothing within a name, where each path there is ruled out
 nothing_at : (es : Entries) (p : Path) (n : List ℕ)
@@ -65,7 +65,7 @@ nothing_at es p n out = by (has_entry_within es (child p n)) refl
     by true h = let s = somewhere (is_within (child p n)) es h in absurd (out s.0 s.1 s.2)
     by false h = refl
 
--- a path with an entry stands within the name that leads to it
+-- a path with an entry is within the name that leads to it
 there : (es : Entries) (p x : Path) (m : List ℕ) → has_entry es x ≡ true → m ∷ [] ≡ next_name p x → has_entry_within es (child p m) ≡ true
 there es p x m h e = at_some (is_within (child p m)) es x (within_named p m x e) h
 
@@ -77,7 +77,7 @@ least es p k h out = absurd (true≢false (sym h ∙ nothing_at es p k out))
 child_after : (p q : Path) (n : List ℕ) → is_within (child p n) q ≡ true → path_cmp p q ≡ Less
 child_after p q n w = let above = below_from_child p q n w in below_after p q above.0 above.1
 
--- a path within another and behind it has a next name
+-- a path within another and after it has a next name
 unnamed : (r y : Path) → is_within r y ≡ true → [] ≡ next_name r y → path_cmp r y ≡ Less → ⊥
 unnamed [] [] w h l = cc
 unnamed [] (a ∷ y) w h l = cc
@@ -124,7 +124,7 @@ no_later_name es p n next = λ k after. nothing_at es p k
 
 -- ---- by the order of the paths
 
--- what stands within a later name comes behind the name
+-- what is within a later name comes after the name
 named_later : (p : Path) (n k : Name) (q : Path) → name_cmp n k ≡ Less → is_within (child p k) q ≡ true → is_behind_name p n q ≡ true
 named_later p n k q after w =
     (λ i. is_lt (names_in_order p n k (child p n) q (is_within-same (child p n)) w after i)

@@ -1,5 +1,5 @@
--- The reported names directly beneath a path, as a list: that asking for the next name again and again enumerates them.
---     next_listed      the answer is the first of the names that come after, and those that are left come after it
+-- The reported names directly below a path, as a list: that asking for the next name again and again enumerates them.
+--     next_listed      the result is the first of the names that come after, and those that are left come after it
 --     put_reported      names put into a set one by one, each once or each as often as it is reported
 use Rattle.std.proofs.Common.{◌≡◌, Bool, true, false, ◌&&◌, ◌||◌, List, [], ◌∷◌, cond, fold, refl, sym, ◌∙◌, ap, true≢false}
 use Rattle.std.proofs.Math.Bool.{or-true}
@@ -111,7 +111,7 @@ pub put_reported : (keys : List Name) (p : Path) (es : Entries)
     → fold (insert_key name_cmp) keys (reported_names p es) ≡ fold (insert_key name_cmp) keys (names_in p es)
 put_reported keys p es = fold-fold (names_in p es) [] keys
 
--- ---- a name is reported where an entry stands at it or below it
+-- ---- a name is reported where an entry is at it or below it
 
 named_within : (p q : Path) (m : Name) → has_name (next_name p q) m ≡ is_within (child p m) q
 named_within [] [] m = refl
@@ -137,7 +137,7 @@ has_name-names_in p (e ∷ es) m =
 pub has_name-reported : (p : Path) (es : Entries) (m : Name) → has_name (reported_names p es) m ≡ has_entry_within es (child p m)
 has_name-reported p es m = has_name-fold (names_in p es) [] m ∙ has_name-names_in p es m
 
--- ---- they stand in their order
+-- ---- they are in their order
 
 -- the name comes before all of them
 abbrev pub IsBefore : Name → List Name → Type 0

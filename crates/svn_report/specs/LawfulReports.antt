@@ -1,5 +1,5 @@
 -- What holds of every report that a reporter holds.
---     IsReport r      the root is set first, each path has one entry, none before one above it, nothing beneath a delete, no link too deep
+--     IsReport r      the root is set first, each path has one entry, none before one above it, nothing below a delete, no link too deep
 use Rattle.std.specs.Prelude.{◌≡◌, ℕ, ◌+◌, ◌<◌, ◌≤◌, Bool, true, [], ◌∷◌, length, slice_get, Some, None}
 use Rattle.svn_types.specs.Limits.{path_limit}
 use Rattle.svn_types.specs.Names.{Path}

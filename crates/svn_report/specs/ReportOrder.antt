@@ -1,4 +1,4 @@
--- How a report finds what stands above, beneath or behind a path: next to it, among its entries where these are in path order, and else in an
+-- How a report finds what is above, below or after a path: next to it, among its entries where these are in path order, and else in an
 -- index that has the paths in two orders.
 use Rattle.std.specs.Prelude.{◌≡◌, ℕ, ◌<◌, List, Bool, true, false, ◌&&◌, not, Option, Some, None, is_some, slice_get, MatchOption}
 use Rattle.std.specs.declared.cmp.Ordering.{Ordering}
@@ -13,11 +13,11 @@ use Rattle.svn_report.specs.declared.entry.ReportEntry.{ReportEntry}
 use Rattle.svn_report.specs.Reports.{Entries, entry_at}
 use Rattle.svn_report.specs.LawfulReports.{AreLawfulEntries}
 
--- each path comes before those of the entries behind it
+-- each path comes before those of the entries after it
 abbrev pub InPathOrder : Entries → Type 0
 InPathOrder es = (i j : ℕ) (e f : Path × ReportEntry) → i < j → slice_get es i ≡ Some e → slice_get es j ≡ Some f → path_cmp e.0 f.0 ≡ Less
 
--- the path comes behind those of all entries
+-- the path comes after those of all entries
 abbrev pub ComesLast : Entries → Path → Type 0
 ComesLast es p = (j : ℕ) (e : Path × ReportEntry) → slice_get es j ≡ Some e → path_cmp e.0 p ≡ Less
 
@@ -31,7 +31,7 @@ abbrev pub IsIndexed : Option (BTreeSet Path) → Entries → Type 0
 IsIndexed None es = InPathOrder es × AreLawfulEntries es
 IsIndexed (Some paths) es = IsKept paths es
 
--- the order in which directories end: name by name, and a path directly behind what is beneath it
+-- the order in which directories end: name by name, and a path directly after what is below it
 abbrev pub end_cmp : Path → Path → Ordering
 end_cmp = flip_args (slice_cmp (flip_args name_cmp))
 
@@ -71,14 +71,14 @@ IsNextEntry es = IsNextBy path_cmp (has_entry es)
 abbrev pub IsPreviousEntry : Entries → Path → Option Path → Type 0
 IsPreviousEntry es = IsPreviousOf (has_entry es)
 
--- a path comes behind the name n beneath p, and behind all that stands beneath that name
+-- a path comes after the name n below p, and after everything below that name
 abbrev pub is_behind_name : Path → List ℕ → Path → Bool
 is_behind_name p n q = is_lt (path_cmp (child p n) q) && not (is_within (child p n) q)
 
 abbrev pub is_ahead_of_name : Path → List ℕ → Path → Bool
 is_ahead_of_name p n q = not (is_behind_name p n q)
 
--- the first path with an entry behind such a name
+-- the first path with an entry after such a name
 abbrev pub IsFirstBehind : Entries → Path → List ℕ → Option Path → Type 0
 IsFirstBehind es p n found =
     MatchOption found ((q : Path) → is_behind_name p n q ≡ true → has_entry es q ≡ false)

@@ -1,6 +1,6 @@
 -- What a client reports that it has: entries at paths, in the order of the reporter's calls, each path once.
 --     entry_at entries p      the entry at a path
---     has_entry_below entries p      an entry stands strictly beneath a path
+--     has_entry_below entries p      an entry is strictly below a path
 --     reporter_fault entries p e      why a call is refused after those entries
 use Rattle.std.specs.Prelude.{◌≡◌, ◌+◌, Bool, true, false, ◌&&◌, not, List, [], ◌∷◌, ◌++◌, length, nat_lt, Option, Some, None}
 use Rattle.std.specs.Prelude.{is_some, if◌then◌else◌, Result, Ok, Err}
@@ -63,7 +63,7 @@ reporter_fault es p e =
     else if is_link_too_deep p e then Some TooDeep
     else None
 
--- the answer to a call with this fault, or with none; where there is none, memory may still be refused
+-- the result of a call with this fault, or with none; where there is none, Memory is still allowed
 abbrev pub Answers : Option ReporterFault → Result (Unit {0}) ReporterFault → Type 0
 Answers None (Ok done) = Unit {0}
 Answers None (Err e) = e ≡ Memory

@@ -13,7 +13,7 @@ pub enum ReportEntry {
     },
     /// It is another path of the repository, at a revision: it is switched.
     LinkPath {
-        /// The path in the repository, of which the entry's path may have at most 64 names more.
+        /// The path in the repository. The entry's path may have at most 64 names more than it.
         repos_path: RelPath,
         /// The revision that it has.
         rev: Rev,

@@ -20,7 +20,7 @@ fn path_at(entries: &IndexMap<RelPath, ReportEntry>, i: usize) -> Option<&RelPat
     }
 }
 
-/// The first path behind a path. Reports are mostly made in path order, so most calls ask behind the last path: that takes no search.
+/// The first path after a path. Reports are mostly made in path order, so most calls ask after the last path: that takes no search.
 pub(crate) fn next_in_order<'a>(
     entries: &'a IndexMap<RelPath, ReportEntry>,
     path: &RelPath,
@@ -66,7 +66,7 @@ pub(crate) fn previous_in_order<'a>(
     }
 }
 
-// Whether a path comes behind a name beneath another path, and behind all that stands beneath that name.
+// Whether a path comes after a name below another path, and after everything below that name.
 #[tactic(auto, using(crate::proofs::InOrder::outside_behind))]
 fn is_behind_name(other: &RelPath, path: &RelPath, name: &Name) -> bool
     ensures { result ≡ is_behind_name path.now name.now other.now }
@@ -81,7 +81,7 @@ fn is_behind_name(other: &RelPath, path: &RelPath, name: &Name) -> bool
     }
 }
 
-/// The first path behind a name beneath a path, and behind all that stands beneath that name.
+/// The first path after a name below a path, and after everything below that name.
 pub(crate) fn first_behind<'a>(
     entries: &'a IndexMap<RelPath, ReportEntry>,
     path: &RelPath,
@@ -99,7 +99,7 @@ pub(crate) fn first_behind<'a>(
     path_at(entries, i)
 }
 
-/// Whether a path comes behind the paths of all entries.
+/// Whether a path comes after the paths of all entries.
 #[tactic(auto, using(crate::proofs::InOrder::last_of_none))]
 pub(crate) fn comes_last(entries: &IndexMap<RelPath, ReportEntry>, path: &RelPath) -> bool
     requires ordered { InPathOrder entries.now.entries }

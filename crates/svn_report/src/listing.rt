@@ -1,4 +1,4 @@
-//! Entries at paths, found by their place, by their path, and by what stands above or beneath a path.
+//! Entries at paths, found by their place, by their path, and by what is above or below a path.
 ghost use Rattle.std.specs.Prelude.{◌≡◌, ◌++◌, ◌∷◌, [], ℕ, length, map, slice_get, ◌<◌, IsTrue, ◌↔◌, OnOk, OnErr, IfOk, IfSome, MatchOption, IsPermutation, is_some, Some, None};
 ghost use Rattle.std.specs.List.{IsDistinct, list_any};
 ghost use Rattle.std.specs.List.Sorted.{IsStrictlySortedBy};
@@ -42,7 +42,7 @@ impl Model for Listing {
     ghost invariant = { λ l. IsIndexed l.index l.entries.entries };
 }
 
-// The name that leads from the first path down to the second, where that stands below it.
+// The name that leads from the first path down to the second, where that is below it.
 #[tactic(auto, using(crate::proofs::NextNames::next_named, crate::proofs::NextNames::not_named))]
 fn name_below<'n>(above: &RelPath, below: &'n RelPath) -> Option<&'n Name>
     ensures name { option_to_list (option_copied result) ≡ next_name above.now below.now }
@@ -55,7 +55,7 @@ fn name_below<'n>(above: &RelPath, below: &'n RelPath) -> Option<&'n Name>
     }
 }
 
-// Makes the index, where there is none and the next path doesn't come behind those of all entries.
+// Makes the index, where there is none and the next path doesn't come after those of all entries.
 fn leave_order(
     alloc: Global,
     entries: &IndexMap<RelPath, ReportEntry>,
@@ -73,7 +73,7 @@ fn leave_order(
     Ok(())
 }
 
-// Entries in the order of their paths, of which no two are the same. It takes no memory.
+// Entries in the order of their paths, which are all different. It takes no memory.
 fn sorted<'a>(
     mut entries: Vec<(&'a RelPath, &'a ReportEntry)>,
 ) -> Vec<(&'a RelPath, &'a ReportEntry)>
@@ -132,7 +132,7 @@ impl Listing {
         self.entries.iter()
     }
 
-    /// The same in the order of their paths. AllocError where memory for the list is refused.
+    /// The same in the order of their paths. AllocError if the list can't be allocated.
     pub fn in_path_order(&self, alloc: Global) -> Result<Vec<(&RelPath, &ReportEntry)>, AllocError>
         ensures same { IfOk result (λ v. IsPermutation self.now (map deref_pair v.items)) }
         ensures ordered { IfOk result (λ v. IsStrictlySortedBy path_cmp (keys_of (map deref_pair v.items))) }
@@ -152,7 +152,7 @@ impl Listing {
         self.entries.get(path)
     }
 
-    // The first path behind a path. What stands beneath it comes first.
+    // The first path after a path. What is below it comes first.
     fn next(&self, path: &RelPath) -> Option<&RelPath>
         ensures { IsNextEntry self.now path.now (option_copied result) }
     {
@@ -172,7 +172,7 @@ impl Listing {
         }
     }
 
-    /// Whether an entry stands strictly beneath a path.
+    /// Whether an entry is strictly below a path.
     pub fn has_entry_below(&self, path: &RelPath) -> bool
         ensures { result ≡ has_entry_below self.now path.now }
     {
@@ -182,7 +182,7 @@ impl Listing {
         }
     }
 
-    // The first name beneath the path at or below which an entry stands.
+    // The first name below the path at or below which there is an entry.
     fn first_name_below(&self, path: &RelPath) -> Option<&Name>
         ensures name { IsNextName path.now self.now None (option_copied result) }
         ensures bounded { IfSome result (λ _. length path.now < depth_limit) }
@@ -193,7 +193,7 @@ impl Listing {
         }
     }
 
-    // The first path behind a name beneath a path, where the entries are in path order.
+    // The first path after a name below a path, where the entries are in path order.
     fn first_behind(&self, path: &RelPath, last: &Name) -> Option<&RelPath>
         requires { InPathOrder self.now }
         ensures { IsFirstBehind self.now path.now last.now (option_copied result) }
@@ -225,7 +225,7 @@ impl Listing {
         let child = match path.join(self.alloc, last) {
             Ok(child) => child,
             Err(PathFault::Memory) => return Err(AllocError),
-            // Beneath a path of 128 names nothing can stand, so there is no first name, and none after another.
+            // Below a path of 128 names nothing can be, so there is no first name, and none after another.
             Err(_) => return Ok(self.first_name_below(path)),
         };
         match index.next_ending(child) {
@@ -244,8 +244,8 @@ impl Listing {
         }
     }
 
-    /// The first name directly beneath a path at or below which an entry stands, or the first of those behind a name.
-    /// AllocError where a growth is refused, which only the second can ask for.
+    /// The first name directly below a path at or below which there is an entry, or the first of those after a name.
+    /// AllocError if an allocation fails; only the second allocates.
     pub fn next_name_below(
         &self,
         path: &RelPath,
@@ -275,7 +275,7 @@ impl Listing {
         matches!(self.entry_at(path), Some(ReportEntry::DeletePath))
     }
 
-    // Whether the entries are in path order, and the path comes behind theirs.
+    // Whether the entries are in path order, and the path comes after theirs.
     fn comes_last(&self, path: &RelPath) -> bool
         ensures { IsTrue result → ComesLast self.now path.now }
     {
@@ -315,7 +315,7 @@ impl Listing {
         }
     }
 
-    /// Adds an entry that can be the next. AllocError where a growth is refused, and then nothing has changed.
+    /// Adds an entry that can be the next. AllocError if an allocation fails, and then nothing has changed.
     pub fn push(&mut self, path: &RelPath, entry: ReportEntry) -> Result<(), AllocError>
         requires { reporter_fault self.old path.now entry ≡ None }
         ensures ok { OnOk result (self.new ≡ self.old ++ (path.now, entry) ∷ []) }

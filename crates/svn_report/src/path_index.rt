@@ -1,4 +1,4 @@
-//! Paths in two orders, found by what stands above, beneath or behind a path.
+//! Paths in two orders, found by what is above, below or after a path.
 ghost use Rattle.std.specs.Prelude.{◌≡◌, ◌||◌, ◌&&◌, not, false, Some, IfOk, OnOk, OnErr};
 ghost use Rattle.std.specs.Ordering.{eq_by_cmp};
 ghost use Rattle.std.specs.Cmp.{partial_equiv_from_equiv, partial_order_from_total, eq_by_cmp_equiv};
@@ -17,7 +17,7 @@ use std::marker::Model;
 use std::ops::Bound;
 use svn_types::RelPath;
 
-// Whether a path stands strictly beneath another one. Most have no more names than that, which is quicker to see.
+// Whether a path is strictly below another one. Most have no more names than that, which is the quicker test.
 #[tactic(auto, using(crate::proofs::EndOrder::longer_within, crate::proofs::EndOrder::shorter_below))]
 fn is_beneath(path: &RelPath, above: &RelPath) -> bool
     ensures { result ≡ is_below above.now path.now }
@@ -25,7 +25,7 @@ fn is_beneath(path: &RelPath, above: &RelPath) -> bool
     above.components().len() < path.components().len() && path.is_within(above)
 }
 
-// The order in which directories end: that of paths, but that a path stands behind what is beneath it.
+// The order in which directories end: that of paths, but that a path is after what is below it.
 #[tactic(auto, using(crate::proofs::EndOrder::ends_after, crate::proofs::EndOrder::ends_before, crate::proofs::EndOrder::ends_before_above, crate::proofs::EndOrder::ends_after_apart, crate::proofs::EndOrder::ends_together))]
 fn compare_ends<'x>(first: &'x RelPath, second: &'x RelPath) -> Ordering
     ensures { result ≡ end_cmp first.now second.now }
@@ -100,7 +100,7 @@ impl Ord for PathEnd {
     }
 }
 
-// What stands next to a path behind the last one takes no search.
+// For a path after the last one, its neighbours need no search.
 fn next_path<'a>(paths: &'a BTreeSet<RelPath>, path: &RelPath) -> Option<&'a RelPath>
     ensures { IsNext paths.now path.now (option_copied result) }
 {
@@ -184,7 +184,7 @@ impl PathIndex {
         }
     }
 
-    /// The paths of entries. AllocError where a growth is refused.
+    /// The paths of entries. AllocError if an allocation fails.
     #[tactic(auto, using(crate::proofs::InOrder::taken_all))]
     pub fn of(
         alloc: Global,
@@ -203,7 +203,7 @@ impl PathIndex {
         Ok(index)
     }
 
-    /// The first path behind a path. What stands beneath it comes first.
+    /// The first path after a path. What is below it comes first.
     pub fn next(&self, path: &RelPath) -> Option<&RelPath>
         ensures { IsNext self.now path.now (option_copied result) }
     {
@@ -217,14 +217,14 @@ impl PathIndex {
         previous_path(&self.paths, path)
     }
 
-    /// The first path that ends behind a path. What stands beneath that ends before it.
+    /// The first path that ends after a path. What is below that ends before it.
     pub fn next_ending(&self, path: RelPath) -> Option<&RelPath>
         ensures { IsNextBy end_cmp (contains path_cmp self.now) path (option_copied result) }
     {
         next_end(&self.ends, &PathEnd { path }).map(|end| end.path())
     }
 
-    /// Adds a path. AllocError where a growth is refused, and then nothing has changed.
+    /// Adds a path. AllocError if an allocation fails, and then nothing has changed.
     pub fn insert(&mut self, path: &RelPath) -> Result<(), AllocError>
         requires { contains path_cmp self.old path.now ≡ false }
         ensures added { OnOk result ((q : Path) → contains path_cmp self.new q ≡ (path_eq path.now q || contains path_cmp self.old q)) }

@@ -37,7 +37,7 @@ impl Model for Report {
 
 impl Report {
     /// What holds of every report, for the proofs of its callers; it does nothing. The root is set first; each path has one entry; none comes before
-    /// one above it; nothing stands beneath a delete; no link has over 64 names more than its repository path.
+    /// one above it; nothing is below a delete; no link has over 64 names more than its repository path.
     pub fn law(&self)
         ensures { IsReport self.now }
     {
@@ -81,7 +81,7 @@ impl Report {
         }
     }
 
-    /// The entries and their paths, in the order of the paths. AllocError where memory for the list is refused. It costs what the report does
+    /// The entries and their paths, in the order of the paths. AllocError if the list can't be allocated. It costs what the report does
     /// where its entries came in that order, as a crawl's do, and else what it takes to sort them.
     pub fn in_path_order(&self, alloc: Global) -> Result<Vec<(&RelPath, &ReportEntry)>, AllocError>
         ensures same { IfOk result (λ v. IsPermutation self.now.entries (map deref_pair v.items)) }
@@ -97,16 +97,16 @@ impl Report {
         self.listing.entry_at(path)
     }
 
-    /// Whether an entry stands strictly beneath a path. The cost grows with the logarithm of the report.
+    /// Whether an entry is strictly below a path. The cost grows with the logarithm of the report.
     pub fn has_entry_below(&self, path: &RelPath) -> bool
         ensures { result ≡ has_entry_below self.now.entries path.now }
     {
         self.listing.has_entry_below(path)
     }
 
-    /// The first name directly beneath a path, in the order of names, at or below which an entry stands; with `after` the first of those that
-    /// come after it. Asked again and again after its own answer it gives each such name once. The cost grows with the logarithm of the report.
-    /// With `after` it takes memory for a path where the entries didn't come in path order, and answers AllocError where that is refused; else it
+    /// The first name directly below a path, in the order of names, at or below which there is an entry; with `after` the first of those that
+    /// come after it. Called again and again with its own result it returns each such name once. The cost grows with the logarithm of the report.
+    /// With `after` it takes memory for a path where the entries didn't come in path order, and returns AllocError if the allocation fails; else it
     /// takes none.
     pub fn next_name_below(
         &self,
@@ -114,7 +114,7 @@ impl Report {
         after: Option<&Name>,
     ) -> Result<Option<&Name>, AllocError>
         ensures first { IfOk result (λ found. IsNextName path.now self.now.entries (option_copied after.entry) (option_copied found)) }
-        // asked again and again it enumerates the reported names
+        // called again and again it enumerates the reported names
         ensures in_turn { let names = reported_names path.now self.now.entries in
             IfOk result (λ found. names_after (option_copied after.entry) names ≡ names_from (option_copied found) names) }
     {
@@ -135,7 +135,7 @@ impl<'a> IntoIterator for &'a Report {
 }
 
 /// Takes a report, call by call (`svn_ra_reporter3_t` of `svn_ra.h`). The first call sets the root; the others come in any order in which no
-/// entry comes after one beneath it, or beneath a deleted one. A contract sees it as the report so far.
+/// entry comes after one below it, or below a deleted one. A contract sees it as the report so far.
 ///
 /// Each call is refused with the first of these faults that it has: NotRootFirst, Repeated, UnderDeleted, ParentLater, TooDeep, Memory.
 /// A refusal leaves the reporter as it was.

@@ -33,7 +33,7 @@ impl<'a> Iterator for ReportIter<'a> {
         self.rest.next()
     }
 
-    // How many there are is not looked at.
+    // Their number is not used.
     fn size_hint(&self) -> (usize, Option<usize>) {
         (0, None)
     }

@@ -18,13 +18,13 @@ pub enum ReporterFault {
     /// An entry above the path is a `delete_path`.
     #[error("a directory above the path is deleted")]
     UnderDeleted,
-    /// An entry stands beneath the path.
+    /// An entry is below the path.
     #[error("an entry beneath the path came before")]
     ParentLater,
     /// The path of a link has over 64 names more than its path in the repository (so that it may have 128).
     #[error("the path of a link has over 64 names more than its path in the repository")]
     TooDeep,
-    /// A growth was refused.
+    /// An allocation failed.
     #[error("out of memory")]
     Memory,
 }

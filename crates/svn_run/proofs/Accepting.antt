@@ -1,4 +1,4 @@
--- The calls of a drive, each of which the copy accepts after those before it.
+-- The calls of a drive: the copy accepts each after those before it.
 use Rattle.std.proofs.Common.{ℕ, zero, suc, List, [], ◌∷◌, ◌++◌, take, append-nil, append_assoc, sym, subst}
 use Rattle.std.specs.Prelude.{Ok}
 use Rattle.md5.specs.Md5.{md5}
@@ -45,7 +45,7 @@ accepted_before mode earlier w [] c h = tt
 accepted_before mode earlier w (d ∷ calls) c h =
     (h.0, accepted_before mode (earlier ++ d ∷ []) (effect mode earlier d w) calls c h.1)
 
--- what is accepted next is carried out
+-- what is accepted next is applied
 pub accepted_next : (mode : Mode) (w0 : WorkingCopy) (calls : List Call) (edit : Pending) (nodes : Nodes) (c : Call) (new : Pending) (left : Nodes)
     → Carries edit nodes c (Ok tt) new left → CarriedOut mode w0 edit nodes calls → IsAccepted md5 mode calls (after mode w0 calls) c
     → CarriedOut mode w0 new left (calls ++ c ∷ [])

@@ -20,7 +20,7 @@ use Rattle.svn_run.specs.UpdateTheorem.{Nodes}
 use Rattle.svn_run.specs.Takes.{unaborted, Skips, Skipped, Accepted, Refused, Offered, IsCounted}
 use Rattle.svn_run.proofs.Accepting.{accepted_before, accepted_last, accepted_next}
 
--- one call more is carried out, unless it is an `AbortEdit`
+-- one call more is applied, unless it is an `AbortEdit`
 unaborted-one : (c : Call) (b : Bool) → is_abort c ≡ b → unaborted (c ∷ []) ≡ (if not b then c ∷ [] else [])
 unaborted-one c b is = ap (λ x. if not x then c ∷ [] else []) is
 
@@ -35,12 +35,12 @@ unaborted-abort calls c abort = filter-append (λ x. not (is_abort x)) calls (c 
 abbrev no_number : Option ℕ
 no_number = None
 
--- where no number was told, all of the calls were carried out
+-- where no number was reported, all of the calls were applied
 abbrev pub GoesOn : Mode → WorkingCopy → Pending → Nodes → List Call → Option ℕ → Type 0
 GoesOn mode w0 edit nodes calls None = CarriedOut mode w0 edit nodes calls
 GoesOn mode w0 edit nodes calls (Some n) = Unit {0}
 
--- these calls were carried out, up to the first that was refused
+-- these calls were applied, up to the first that was refused
 pub record Holding (mode : Mode) (w0 : WorkingCopy) (edit : Pending) (nodes : Nodes) (calls : List Call) (number : Option ℕ)
     (accepted : ℕ) : Type 0 where
   pub counted : IsCounted number accepted (length calls)

@@ -59,7 +59,7 @@ module _ {E : Type 0} (answers : E → Call → Result (Unit {0}) EditFault → 
     (counts : (e : E) (c : Call) (r : Result (Unit {0}) EditFault) (f : E) → answers e c r f
     → CountsCall (edit e) (nodes e) (made e) (accepted e) c r (edit f) (nodes f) (made f) (accepted f))
     (more : calls_are_applied_in_turn) (mode : Mode) (w0 : WorkingCopy) where
-  -- so many calls were made and accepted
+  -- that many calls were made and accepted
   pub record Standing (n : ℕ) (calls : List Call) (e : E) : Type 0 where
     pub carried : CarriedOut mode w0 (edit e) (nodes e) calls
     pub made_is : made e ≡ n
@@ -68,7 +68,7 @@ module _ {E : Type 0} (answers : E → Call → Result (Unit {0}) EditFault → 
   abbrev Same : E → E → Type 0
   Same e f = Stays (edit e) (nodes e) (made e) (accepted e) (edit f) (nodes f) (made f) (accepted f)
 
-  -- a call was carried out
+  -- a call was applied
   abbrev Carried : E → Call → E → Type 0
   Carried e c f = (is_abort c ≡ false) × Carries (edit e) (nodes e) c (Ok tt) (edit f) (nodes f) × (made f ≡ made e + 1)
       × (accepted f ≡ accepted e + 1)
@@ -122,7 +122,7 @@ module _ {E : Type 0} (answers : E → Call → Result (Unit {0}) EditFault → 
 
   module _ (drive : List Call) (all : AllInner drive) (accept : AllAccepted md5 mode w0 drive) (limit : Option ℕ) (e : E)
       (begun : Standing 0 [] e) where
-    -- the copy is what the first k calls leave, which were counted; so many were made
+    -- the copy is what the first k calls leave, which were counted; that many were made
     record Left (k n : ℕ) (f : E) : Type 0 where
       copy : (p : Path) → get_in (nodes f) p ≡ after mode w0 (take k drive) p
       made_is : made f ≡ n
@@ -147,7 +147,7 @@ module _ {E : Type 0} (answers : E → Call → Result (Unit {0}) EditFault → 
     left : (k : ℕ) (m : E) → Standing k (take k drive) m → Left k k m
     left k m s = record { copy = s.carried.copy; made_is = s.made_is; accepted_is = s.accepted_is }
 
-    -- the outcome that is answered at a stop which isn't the cancel number
+    -- the outcome that is returned at a stop which isn't the cancel number
     for_memory : (k n : ℕ) (f : E) (fault : DriveFault) → k < length drive → k ≤ n → n ≤ k + 1 → IfSome limit (λ x. n ≤ x) → Left k n f
         → CameInTurn drive mode limit w0 (nodes f) (turn_outcome (Err fault) (made f) (accepted f))
     for_memory k n f fault part le most within l =

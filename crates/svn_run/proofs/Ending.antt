@@ -67,7 +67,7 @@ module _ (drive : List Call) (all : AllInner drive) (mode : Mode) (limit : Optio
     not_closed made late why lt c = subst (λ b. Came (picked b made late why) calls)
         (sym (ne_eqb accepted (length calls) (λ e. omega arith))) c
 
-    -- the number told is that of the call after the accepted ones, and within those given
+    -- the number reported is that of the call after the accepted ones, and within those given
     told : (n : ℕ) → number ≡ Some n → (n ≡ accepted + 1) × (accepted < length (unaborted calls))
     told n q = subst (λ o. IsCounted o accepted (length (unaborted calls))) q counted
 
@@ -116,7 +116,7 @@ module _ (drive : List Call) (all : AllInner drive) (mode : Mode) (limit : Optio
         late_fits None same le = tt
         late_fits (Some n) same le = let t = told n (same n refl) in let e = t.0 in let lt = t.1 in (e, omega arith)
 
-    -- where no number was told all were accepted, and so the run closed
+    -- where no number was reported all were accepted, and so the run closed
     whole : (n : ℕ) → IsWhole drive limit calls n → Came (picked (nat_eq accepted (length calls)) (length calls) None cause.Memory) calls
     whole n s =
         let inner : unaborted calls ≡ drive = ap unaborted s.calls_are ∙ unaborted_all drive all in
@@ -162,7 +162,7 @@ module _ (drive : List Call) (all : AllInner drive) (mode : Mode) (limit : Optio
               calls = s.calls_are ∙ made_whole drive (length calls) long;
             }
 
-    -- the number that stopped the driver was told
+    -- the number that stopped the driver was reported
     stops_told : (seen : Option ℕ) (fault : DriveFault) → StopsOn drive limit calls seen fault → IsNoneOrSame seen number → (n : ℕ)
         → late_of (Err fault) ≡ Some n → number ≡ Some n
     stops_told seen (fault.Editor (edit.Late m)) stop same n q = let saw : seen ≡ Some m = stop in
@@ -217,7 +217,7 @@ module _ (drive : List Call) (all : AllInner drive) (mode : Mode) (limit : Optio
   sent_accepted (Ok (GivenUp k)) seen sent = stopped_accepted k sent.1
   sent_accepted (Err e) seen sent = stopped_accepted sent.0.0 sent.0.1
 
--- the calls that were sent are those that were taken, and what the carrier made of them is told
+-- the calls that were sent are those that were taken, and what the carrier made of them is reported
 pub finished : (drive : List Call) (all : AllInner drive) (mode : Mode) (limit : Option ℕ) (w0 : WorkingCopy)
     → AllAccepted md5 mode w0 drive
     → (left : Nodes) (o : LinkEnd) (w : NoticeEnd) (i : LinkEnd) (n : NoticeEnd) (d : Driven) (u : Taken) (outcome : Outcome) (passed : Passed)

@@ -1,4 +1,4 @@
--- Where a driver stopped: so many calls of its list were accepted, and the next was refused or not made.
+-- Where a driver stopped: that many calls of its list were accepted, and the next was refused or not made.
 use Rattle.std.proofs.Common.{◌≡◌, ℕ, zero, suc, ◌<◌, List, [], ◌∷◌, length, take, refl, sym, subst, inl, inr, ⊎_elim, arith}
 use Rattle.std.specs.Prelude.{◌≢◌, ◌⊎◌, Option, Some, None, Result, Ok, Err, slice_get}
 use Rattle.svn_editor.specs.declared.call.Call.{Call}

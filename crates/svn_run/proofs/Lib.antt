@@ -1,6 +1,6 @@
 -- What one more call makes of what was taken.
 pub mod Applied
--- The calls of a drive, each of which the copy accepts after those before it.
+-- The calls of a drive: the copy accepts each after those before it.
 pub mod Accepting
 -- Why no run leads to a target: the fault by the node of the copy's root is the one by its report.
 pub mod Beginning
@@ -12,7 +12,7 @@ pub mod Counting
 pub mod DriveCalls
 -- What a run on two threads came to: from what both sides hand back.
 pub mod Ending
--- Where a driver stopped: so many calls of its list were accepted, and the next was refused or not made.
+-- Where a driver stopped: that many calls of its list were accepted, and the next was refused or not made.
 pub mod Halting
 -- What is known of the copy that a run left.
 pub mod Knowing

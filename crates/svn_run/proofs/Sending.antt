@@ -126,7 +126,7 @@ module _ (drive : List Call) (limit : Option ℕ) (some : 0 < length drive) (clo
       r)
       t.sent
 
-  -- ---- the driver's answers
+  -- ---- the driver's results
 
   sent_own : (s : Stop) (k : ℕ) (m f : SenderEnds) → StopsBefore limit k s → Over k m f
       → IsSent drive limit f.out.calls f.watch.number (end_of s k)

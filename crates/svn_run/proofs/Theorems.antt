@@ -37,7 +37,7 @@ module _ (laws : RunLaws) (a : Asked) (true_copy : IsTrueCopy a.history a.copy) 
     no_fault : fault_in_turn a ≡ None
     no_fault = same_fault laws a true_copy ∙ none
 
-    -- memory was wanting
+    -- memory ran out
     pub without_memory : (left : Nodes) (e : RunFault) → left ≡ a.copy → e ≡ Memory → TurnTheorem a left (Err e)
     without_memory left e same is = record {
       refused = subst (λ o. IsRefusal o IsWantOfMemory e) (sym no_fault) is;
@@ -93,7 +93,7 @@ module _ (laws : RunLaws) (a : Asked) (true_copy : IsTrueCopy a.history a.copy) 
       no_fault_in_threads =
           ap (λ o. option_or o capacity_fault) (same_fault laws a true_copy ∙ none) ∙ ap (λ b. if b then None else Some Capacity) right
 
-      -- memory or a thread was wanting
+      -- memory ran out, or no thread could be made
       pub wanting : (left : Nodes) (e : RunFault) → left ≡ a.copy → IsWantInThreads e → ThreadsTheorem a capacity left (Err e)
       wanting left e same want = record {
         refused = subst (λ o. IsRefusal o IsWantInThreads e) (sym no_fault_in_threads) want;

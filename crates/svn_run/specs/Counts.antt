@@ -1,5 +1,5 @@
 -- A carrier that counts its calls.
---     CountsCall ..      the edit, the nodes and the two counts before, the call, its answer, and all of them after
+--     CountsCall ..      the edit, the nodes and the two counts before, the call, its result, and all of them after
 use Rattle.std.specs.Prelude.{◌≡◌, ℕ, ◌+◌, ◌⊎◌, true, false, Result, Ok, Err}
 use Rattle.svn_editor.specs.declared.call.Call.{Call}
 use Rattle.svn_editor.specs.Calls.{is_abort}
@@ -12,7 +12,7 @@ use Rattle.svn_run.specs.UpdateTheorem.{Nodes}
 abbrev pub Stays : Pending → Nodes → ℕ → ℕ → Pending → Nodes → ℕ → ℕ → Type 0
 Stays edit nodes made accepted new left made' accepted' = (new ≡ edit) × (left ≡ nodes) × (made' ≡ made) × (accepted' ≡ accepted)
 
--- an `AbortEdit` is neither carried out nor counted
+-- an `AbortEdit` is neither applied nor counted
 abbrev pub CountsCall : Pending → Nodes → ℕ → ℕ → Call → Result (Unit {0}) EditFault → Pending → Nodes → ℕ → ℕ → Type 0
 CountsCall edit nodes made accepted call (Ok done) new left made' accepted' =
     ((is_abort call ≡ true) × Stays edit nodes made accepted new left made' accepted')

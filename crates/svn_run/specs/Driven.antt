@@ -1,6 +1,6 @@
 -- What the driver's thread sent.
 --     IsSent drive limit calls number end      where a last call was sent: the calls are the drive, or its first ones and `AbortEdit`
---     IsDriven drive limit o w d      the ends are those that went in, and so much was sent
+--     IsDriven drive limit o w d      the ends are those that went in, and that much was sent
 use Rattle.std.specs.Prelude.{◌≡◌, ℕ, ◌<◌, true, List, [], ◌∷◌, ◌++◌, length, take, Option, Some, Result, Ok, Err}
 use Rattle.svn_editor.specs.declared.call.Call.{Call}
 use Rattle.svn_editor.specs.declared.call.Call.TheVariants.{AbortEdit}

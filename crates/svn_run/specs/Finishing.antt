@@ -1,6 +1,6 @@
--- What a run on two threads tells.
+-- What a run on two threads returns.
 --     threads_outcome end sent accepted refused      the outcome, by how the driver ended and what was counted
---     IsFinished d u outcome passed      what the two threads handed back was put together
+--     IsFinished d u outcome passed      what the two threads returned was put together
 use Rattle.std.specs.Prelude.{◌≡◌, ℕ, ◌-◌, Bool, false, length, nat_eq, Option, Some, None, is_some, Result, Ok, Err, if◌then◌else◌}
 use Rattle.svn_editor.specs.declared.fault.EditFault.TheVariants.{Late}
 use Rattle.svn_link.specs.Ends.{Passed}

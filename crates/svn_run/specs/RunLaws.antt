@@ -1,4 +1,4 @@
--- The laws that a run stands on: of its report, of its drive, and of what the drive's calls do to the copy.
+-- The laws that a run rests on: of its report, of its drive, and of what the drive's calls do to the copy.
 use Rattle.svn_drive_law.specs.Laws.{the_calls_are_a_drive}
 use Rattle.svn_edit_law.specs.Laws.{calls_are_applied_in_turn}
 use Rattle.svn_law.specs.Laws.{crawl_says_what_stands, drive_composes, prefixes_stay_true, stopped_run_resumes}
@@ -8,7 +8,7 @@ pub record RunLaws : Type 0 where
   pub reports : crawl_says_what_stands
   -- the driver's calls are a drive
   pub drives : the_calls_are_a_drive
-  -- of which none is refused, and whose end is the result
+  -- none of which is refused, and whose end is the result
   pub composes : drive_composes
   -- each stop leaves a true copy
   pub stays_true : prefixes_stay_true

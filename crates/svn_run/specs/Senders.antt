@@ -1,5 +1,5 @@
 -- The driver's ends of the link and of the notice, as an editor.
---     Answered l call answer m      the ends before, the call, its answer, and the ends after
+--     Answered l call answer m      the ends before, the call, its result, and the ends after
 use Rattle.std.specs.Prelude.{◌≡◌, ℕ, Bool, ◌&&◌, not, nat_lt, Err, [], ◌∷◌, ◌++◌, length, true, false, Some, Result, MatchResult, ◌^◌, ◌-◌}
 use Rattle.svn_editor.specs.Calls.{is_abort}
 use Rattle.svn_editor.specs.declared.call.Call.{Call}

@@ -18,15 +18,15 @@ use Rattle.svn_model.specs.Effects.{after, AllAccepted}
 use Rattle.svn_run.specs.declared.taking.Taken.{Taken}
 use Rattle.svn_run.specs.UpdateTheorem.{Nodes}
 
--- the calls that are carried out: an `AbortEdit` isn't
+-- the calls that are applied: an `AbortEdit` isn't
 abbrev pub unaborted : List Call → List Call
 unaborted calls = filter (λ c. not (is_abort c)) calls
 
--- the call isn't carried out: it is an `AbortEdit`, or an earlier one was refused
+-- the call isn't applied: it is an `AbortEdit`, or an earlier one was refused
 abbrev pub Skips : Call → Option ℕ → Type 0
 Skips c number = (is_abort c ≡ true) ⊎ (is_some number ≡ true)
 
--- the number told and the count of accepted calls, with the edit and the copy, before and after a call was taken
+-- the number reported and the count of accepted calls, with the edit and the copy, before and after a call was taken
 pub record Skipped (c : Call) (number : Option ℕ) (accepted : ℕ) (edit : Pending) (nodes : Nodes) (number' : Option ℕ) (accepted' : ℕ)
     (edit' : Pending) (nodes' : Nodes) : Type 0 where
   pub why : Skips c number
@@ -62,7 +62,7 @@ pub record IsStep (t : Taken) (edit : Pending) (nodes : Nodes) (u : Taken) (edit
   pub notice : u.teller.notice ≡ t.teller.notice
   pub offered : Offered call t.teller.number t.accepted edit nodes u.teller.number u.accepted edit' nodes'
 
--- so many of the calls were accepted: all where no number was told, else those before the call of that number
+-- that many of the calls were accepted: all where no number was reported, else those before the call of that number
 abbrev pub IsCounted : Option ℕ → ℕ → ℕ → Type 0
 IsCounted None accepted all = accepted ≡ all
 IsCounted (Some n) accepted all = (n ≡ accepted + 1) × (accepted < all)

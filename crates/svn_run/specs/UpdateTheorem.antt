@@ -72,7 +72,7 @@ is_capacity n = nat_le 1 n && nat_le n 4096
 abbrev pub fault_in_threads : Asked → ℕ → Option RunFault
 fault_in_threads a capacity = option_or (fault_in_turn a) (if is_capacity capacity then None else Some Capacity)
 
--- the fault, if there is one; else what is wanting
+-- the fault, if there is one; else what ran out
 abbrev pub IsRefusal : Option RunFault → (RunFault → Type 0) → RunFault → Type 0
 IsRefusal (Some fault) IsWant e = e ≡ fault
 IsRefusal None IsWant e = IsWant e
@@ -114,7 +114,7 @@ abbrev pub IfCancelled : Outcome → (ℕ → ℕ → Type 0) → Type 0
 IfCancelled (Closed calls) P = Unit {0}
 IfCancelled (Aborted made accepted late cause) P = OnCause cause (P made accepted)
 
--- the first so many calls of the drive, then `AbortEdit` unless the last of them was made
+-- the first n calls of the drive, then `AbortEdit` unless the last of them was made
 abbrev pub calls_made : List Call → ℕ → List Call
 calls_made drive made = take made drive ++ (if nat_eq made (length drive) then [] else AbortEdit ∷ [])
 
@@ -135,7 +135,7 @@ pub record Ran (a : Asked) (left : Nodes) (o : Outcome) : Type 0 where
   pub closed : IfClosed o (λ calls. (calls ≡ length drive) × ((p : Path) → get_in left p ≡ result (request a) p))
   -- otherwise the last call wasn't accepted
   pub aborted : IfAborted o (λ accepted. accepted < length drive)
-  -- a number of calls that was handed in is never passed
+  -- a given limit on calls is never passed
   pub limit : IfSome a.cancel_after (λ n. made_in o ≤ n)
   -- the run is cancelled at that number alone, before the end of the drive, all calls until then being accepted
   pub cancelled : IfCancelled o (λ made accepted. (a.cancel_after ≡ Some made) × (accepted ≡ made) × (made < length drive))
@@ -149,7 +149,7 @@ pub record Ran (a : Asked) (left : Nodes) (o : Outcome) : Type 0 where
       → Composes (request_of a.history left target mode md5) (get_in left) calls
 
 pub record TurnTheorem (a : Asked) (left : Nodes) (answer : Result Outcome RunFault) : Type 0 where
-  -- a refusal comes before any call, for its reason and no other but want of memory
+  -- a refusal comes before any call, for its reason and no other but Memory
   pub refused : IfErr answer (IsRefusal (fault_in_turn a) IsWantOfMemory)
   pub unchanged : OnErr answer (left ≡ a.copy)
   pub begun : OnOk answer (fault_in_turn a ≡ None)
@@ -157,10 +157,10 @@ pub record TurnTheorem (a : Asked) (left : Nodes) (answer : Result Outcome RunFa
   -- the driver stops at the first call that is refused
   pub one_more : IfOk answer (λ o. made_in o ≤ accepted_in o + 1)
   pub never_late : IfOk answer (λ o. late_in o ≡ None)
-  -- whatever the answer
+  -- whatever the result
   pub sound : IsSound a left
 
--- what the two threads passed: the calls that were made, once each, in order, and nothing behind the last
+-- what the two threads passed: the calls that were made, once each, in order, and nothing after the last
 pub record RanInThreads (a : Asked) (left : Nodes) (o : Outcome) (passed : Passed) : Type 0 where
   pub ran : Ran a left o
   pub sent : passed.sent ≡ calls_made ran.drive (made_in o)

@@ -9,7 +9,7 @@ use svn_editor::{Call, EditFault};
 use svn_types::RelPath;
 use svn_wc::LooseCopy;
 
-/// An edit that asks for the order of no call and for no refusal, since a run's calls have none, with the nodes that it changes.
+/// An edit that tests neither order nor refusals, since a run's calls are in order and none is refused, with the nodes that it changes.
 #[derive(Drop)]
 pub(crate) struct Carrier {
     pub(crate) alloc: Global,
@@ -25,7 +25,7 @@ fn shared(path: &RelPath) -> Option<RelPath> {
     }
 }
 
-// The path of what a call is about, before it is carried out.
+// The path of what a call is about, before it is applied.
 fn path_of(alloc: Global, pending: &Pending, call: &Call) -> Option<RelPath> {
     if let Call::OpenRoot { .. } = call {
         return Some(RelPath::root(alloc));
@@ -37,7 +37,7 @@ fn path_of(alloc: Global, pending: &Pending, call: &Call) -> Option<RelPath> {
 }
 
 impl Carrier {
-    /// Carries a call out, and tells the listener where it was accepted.
+    /// Applies a call, and reports it to the listener if it was accepted.
     #[inline(always)]
     pub(crate) fn carry<L: Listener>(
         &mut self,

@@ -1,4 +1,4 @@
-//! A carrier that counts its calls, and tells a listener of them.
+//! A carrier that counts its calls, and reports them to a listener.
 use crate::carrier::Carrier;
 use crate::listener::Listener;
 use svn_editor::{Call, EditFault, Editor, OrderFault};
@@ -18,7 +18,7 @@ impl<'l, L: Listener> Editor for Counted<'l, L> {
     ghost answers = { λ before call answer after.
         CountsCall before.carrier.pending before.carrier.copy.nodes.entries before.made before.accepted call answer after.carrier.pending after.carrier.copy.nodes.entries after.made after.accepted };
 
-    // Inlined, as what makes the call and what takes it: it is then handed on without a copy.
+    // Inlined, as what makes the call and what takes it: it is then passed on without a copy.
     #[inline(always)]
     fn call(&mut self, call: Call) -> Result<(), EditFault> {
         // what is open then goes with the edit

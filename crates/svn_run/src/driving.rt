@@ -17,7 +17,7 @@ use svn_model::{DriveEnd, DriveFault};
 use svn_repo::Repo;
 use svn_report::Report;
 
-/// What the driver's thread hands back.
+/// What the driver's thread returns.
 #[derive(Drop)]
 pub(crate) struct Driven {
     pub(crate) outbox: Outbox,

@@ -1,4 +1,4 @@
-//! What a run on two threads tells once both are done.
+//! What a run on two threads returns once both are done.
 ghost use Rattle.std.specs.Prelude.{◌≡◌, length, true};
 ghost use Rattle.svn_link.specs.Calls.{is_over};
 ghost use Rattle.svn_run.specs.Finishing.{late_of, made_of, cause_of, threads_outcome, IsFinished};

@@ -1,4 +1,4 @@
-//! What is told of the calls as they pass.
+//! What is reported of the calls as they pass.
 use std::marker::Sync;
 
 /// Hears of each call as it passes from the driver's thread to the caller's, for a display of progress or a test. Calls are counted from 1, the last

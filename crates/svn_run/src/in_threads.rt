@@ -31,7 +31,7 @@ use svn_report::Report;
 use svn_types::{RelPath, Rev};
 use svn_wc::WorkingCopy;
 
-// How many calls may wait where nobody says.
+// How many calls may wait by default.
 const DEFAULT_CAPACITY: usize = 64;
 
 /// How a run on two threads is made.
@@ -59,14 +59,14 @@ impl Default for Options {
 }
 
 impl Options {
-    /// With room for so many calls between the two threads.
+    /// With room for that many calls between the two threads.
     pub fn capacity(self, capacity: usize) -> Options
         ensures { result ≡ record { capacity = capacity; cancel_after = self.cancel_after; late_texts = self.late_texts } }
     {
         Options { capacity, ..self }
     }
 
-    /// Given up after so many calls, if the drive has more.
+    /// Given up after that many calls, if the drive has more.
     pub fn cancel_after(self, calls: u64) -> Options
         ensures { result ≡ record { capacity = self.capacity; cancel_after = Some calls; late_texts = self.late_texts } }
     {
@@ -99,12 +99,12 @@ impl Options {
 
 /// Updates a working copy to a revision of the repository, with the driver in a thread of its own.
 ///
-/// The copy has to be true of the repository ([`WorkingCopy::check_true`] is the test). NoSuchRevision, NoRoot and
+/// The copy must be true of the repository ([`WorkingCopy::check_true`] is the test). NoSuchRevision, NoRoot and
 /// OtherRoot say, in this order, why no run leads to the target, then Capacity that the capacity isn't 1 to 4,096; then
-/// come Memory, where a growth was refused before the first call, and NoThread, where no thread could be made. The copy
+/// come Memory, where an allocation failed before the first call, and NoThread, where no thread could be made. The copy
 /// is then as it was. It may wait for the other thread.
 ///
-/// Otherwise it answers how the run ended, and what passed between the threads: how many calls were sent and taken, the last
+/// Otherwise it returns how the run ended, and what passed between the threads: how many calls were sent and taken, the last
 /// and `AbortEdit` included.
 pub fn update<R: Threads + Wait + Sync, G: Gate>(
     rt: &R,
@@ -167,7 +167,7 @@ pub fn switch_to<R: Threads + Wait + Sync, G: Gate>(
     )
 }
 
-/// Does what is asked for, with the driver in a thread of its own and so many calls between the two: as [`update`] and [`switch_to`]. The listener
+/// Does what is asked for, with the driver in a thread of its own and that many calls between the two: as [`update`] and [`switch_to`]. The listener
 /// hears of each call that the copy accepted.
 pub fn run<R: Threads + Wait + Sync, G: Gate, L: Listener>(
     rt: &R,
@@ -256,7 +256,7 @@ fn run_tested<R: Threads + Wait + Sync, G: Gate, L: Listener>(
     answer
 }
 
-// The same, once all is made that a run needs: the calls change the nodes by themselves, and a copy is made of what they leave. The only fault is
+// The same, once all is made that a run needs: the calls change the nodes outside a copy, and a copy is made of what they leave. The only fault is
 // NoThread.
 fn run_copy<R: Threads + Wait + Sync, G: Gate, L: Listener>(
     rt: &R,

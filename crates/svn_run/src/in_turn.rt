@@ -35,10 +35,10 @@ use svn_wc::WorkingCopy;
 
 /// Updates a working copy to a revision of the repository, on one thread.
 ///
-/// The copy has to be true of the repository ([`WorkingCopy::check_true`] is the test). With `cancel_after` the run is
+/// The copy must be true of the repository ([`WorkingCopy::check_true`] is the test). With `cancel_after` the run is
 /// given up after that many calls, if the drive has more. With `late_texts` the texts of files come after all
 /// directories are closed. NoSuchRevision, NoRoot and OtherRoot say, in this order, why no run leads to the target;
-/// then Memory where a growth was refused before the first call. The copy is then as it was.
+/// then Memory where an allocation failed before the first call. The copy is then as it was.
 pub fn update_in_turn(
     alloc: Global,
     repo: &Repo,
@@ -158,7 +158,7 @@ fn run_tested<L: Listener>(
     Ok(outcome)
 }
 
-// The same, once the report is made: the calls change the nodes by themselves, and a copy is made of what they leave.
+// The same, once the report is made: the calls change the nodes outside a copy, and a copy is made of what they leave.
 fn drive_copy<L: Listener>(
     alloc: Global,
     listener: &mut L,
@@ -220,7 +220,7 @@ fn drive_counted<L: Listener>(
     drive_tested(alloc, repo, report, request, counted)
 }
 
-// What a run tells of how its driver ended.
+// What a run returns, by how its driver ended.
 fn outcome_of(end: &Result<DriveEnd, DriveFault>, made: u64, accepted: u64) -> Outcome
     ensures outcome { result ≡ turn_outcome end.now made accepted }
     ensures never_late { late_in result ≡ None }

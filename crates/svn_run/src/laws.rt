@@ -1,4 +1,4 @@
-//! What a run stands on: its laws, and its copy.
+//! What a run rests on: its laws, and its copy.
 ghost use Rattle.svn_law.specs.Laws.{IsTrueCopy};
 ghost use Rattle.svn_model.specs.Nodes.{get_in, IsTrueOf};
 ghost use Rattle.svn_run.specs.RunLaws.{RunLaws};

@@ -1,7 +1,7 @@
-//! Runs of an update: a driver and a working copy, until the copy stands at the target or the run is given up.
+//! Runs of an update: a driver and a working copy, until the copy is at the target or the run is given up.
 //!
 //! [`update`] and [`switch_to`] drive in a thread of their own, [`update_in_turn`] and [`switch_to_in_turn`] on the caller's. A run that begins
-//! answers its [`Outcome`], with a [`Cause`] where it was aborted; one that can't begin a [`RunFault`]. [`Options`] say how a run on two
+//! returns its [`Outcome`], with a [`Cause`] if it was aborted; one that can't begin a [`RunFault`]. [`Options`] say how a run on two
 //! threads is made, and a [`Gate`] hears of each call as it passes; [`NoGate`] does nothing.
 //!
 //! ```
@@ -10,14 +10,21 @@
 //! println!(rt; "{outcome:?}, {} calls taken", passed.taken)?;
 //! ```
 //!
-//! A run asks for a copy that is true of the repository; `WorkingCopy::check_true` is the test.
+//! A run requires a copy that is true of the repository; `WorkingCopy::check_true` is the test.
+//!
+//! Files: `in_turn` and `in_threads` have the runs. A run first tests whether the target can be reached (`goal`), then crawls, then drives. The calls
+//! go to a `carrier`: the `Pending` of `svn_edit`, which tests neither the order of the calls nor what the copy would refuse (by the laws of
+//! `svn_law` there is nothing to find), and the nodes, which are not in the copy until the run ends. A copy with only a root takes its place
+//! meanwhile (`spare`), and `known` has what is known of the nodes afterwards. The carrier reports each call to the `listener`. On one thread the
+//! driver's editor is the carrier with two counts (`counted`). On two, `two_threads` opens a scope and starts the driver (`driving`), whose editor
+//! (`sender`) checks the notice, calls the `gate` and sends; the caller's side (`taking`) takes each call, calls the gate and applies it. After a
+//! refusal it reports the number once, and only takes the rest. `finish` joins link and notice and makes the `outcome`. `laws` calls the laws.
+//!
+//! To change what the runs promise, begin with `specs/UpdateTheorem.antt`.
 //!
 //! Promises: the contract of each is the update theorem, `TurnTheorem` and `ThreadsTheorem` of `specs/UpdateTheorem.antt`: for every repository,
 //! true copy, target, cancel number, place of texts, capacity, gate and schedule. On one thread runs return; on two they may wait, and
 //! nothing is claimed of when the other thread goes on.
-//!
-//! Inside, the calls go to an edit that tests neither their order nor what the copy would refuse, since by the laws of `svn_law` there is nothing to
-//! find; until the run ends the nodes are not in the copy (`carrier.rt`).
 #![tactic(auto)]
 
 mod carrier;

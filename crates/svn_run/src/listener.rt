@@ -3,9 +3,9 @@ use svn_editor::Call;
 use svn_types::RelPath;
 
 /// Hears of each call that the copy accepted, in their order, once each, in the thread of the caller: to show progress, or to keep a log. What it does
-/// changes nothing of the run, which waits for it. `AbortEdit` isn't told.
+/// changes nothing of the run, which waits for it. `AbortEdit` isn't reported.
 pub trait Listener {
-    /// Whether it wants to hear of the next call. Where it doesn't, no path is looked for.
+    /// Whether it wants to hear of the next call. If it doesn't, no path is looked up.
     fn is_listening(&self) -> bool {
         true
     }

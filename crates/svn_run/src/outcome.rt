@@ -15,7 +15,7 @@ use thiserror::Error;
 pub enum Cause {
     /// As many calls were made as `cancel_after` allows, and the drive has more.
     Cancelled,
-    /// A growth was refused, to the driver or to the copy.
+    /// An allocation failed, in the driver or in the copy.
     Memory,
 }
 
@@ -56,7 +56,7 @@ pub enum Outcome {
         made: u64,
         /// How many of them the working copy accepted.
         accepted: u64,
-        /// The number of the refused call that stopped the driver, counted from 1, where it was told in time; None where both run in turn.
+        /// The number of the refused call that stopped the driver, counted from 1, where it was reported in time; None where both run in turn.
         late: Option<u64>,
         /// Why.
         cause: Cause,
@@ -81,22 +81,22 @@ impl fmt::Display for Outcome {
 }
 
 /// Why a run did not begin. No call was made, and the copy is as it was. Of the first four the
-/// first that holds is answered; the others come where none of these holds.
+/// first that holds is returned; the others come where none of these holds.
 #[derive(Clone, Copy, Debug, PartialEq, Eq, Error)]
 pub enum RunFault {
     /// The repository has no revision of the target's number.
     #[error("there is no such revision")]
     NoSuchRevision,
-    /// In the target revision nothing stands where the copy's root would be: at its repository path, or where a switch leads.
+    /// In the target revision nothing is where the copy's root would be: at its repository path, or where a switch leads.
     #[error("the copy's root isn't in the target")]
     NoRoot,
-    /// In the target revision a node of another line stands where the copy's root would be.
+    /// In the target revision a node of another line is where the copy's root would be.
     #[error("the root in the target is another node")]
     OtherRoot,
-    /// The capacity isn't 1 to 4,096. On one thread it isn't asked for.
+    /// The capacity isn't 1 to 4,096. On one thread it isn't used.
     #[error("the capacity isn't 1 to 4096")]
     Capacity,
-    /// A growth was refused before the first call.
+    /// An allocation failed before the first call.
     #[error("out of memory")]
     Memory,
     /// The driver's thread couldn't be started.
@@ -134,7 +134,7 @@ impl RunFault {
     }
 }
 
-/// A fault of the target is the run's; any other is one of memory, since a run's drive has none besides.
+/// A fault of the target is the run's; any other is one of memory, since a run's drive has no other.
 impl From<DriveFault> for RunFault {
     ghost from_gives = { λ fault e. e ≡ run_fault_of fault };
 

@@ -79,7 +79,7 @@ impl<'a, R: Wait, G: Gate> Editor for Sender<'a, R, G> {
     }
 }
 
-// The number of the refused call that this one comes after, as far as was told. An `AbortEdit` may come after it.
+// The number of the refused call that this one comes after, as far as was reported. An `AbortEdit` may come after it.
 fn refused_call<R: Wait>(rt: &R, watcher: &mut Watcher, call: &Call) -> Option<u64>
     ensures seen { IfSome result (λ n. watcher.new.number ≡ Some n) }
     ensures again { IfSome watcher.old.number (λ n. watcher.new.number ≡ Some n) }

@@ -49,7 +49,7 @@ pub(crate) fn take_all<R: Wait, G: Gate, L: Listener>(
     taken
 }
 
-// Takes a call, and carries it out where none was refused. Of an `AbortEdit` nothing is left to be done: what is open goes with the edit.
+// Takes a call, and applies it where none was refused. Of an `AbortEdit` nothing is left to be done: what is open goes with the edit.
 fn take_one<R: Wait, G: Gate, L: Listener>(
     rt: &R,
     gate: &G,

@@ -40,7 +40,7 @@ pub(crate) struct Both {
     pub(crate) carrier: Carrier,
 }
 
-/// Drives in a thread of its own, and carries the calls out in this one. Where no thread can be made it returns the carrier, as it was.
+/// Drives in a thread of its own, and applies the calls in this one. Where no thread can be made it returns the carrier, as it was.
 pub(crate) fn run_both<R: Threads + Wait + Sync, G: Gate, L: Listener>(
     rt: &R,
     gate: &G,
@@ -107,7 +107,7 @@ pub(crate) fn run_both<R: Threads + Wait + Sync, G: Gate, L: Listener>(
             )
         },
     );
-    // The scope returns the reference that it was lent: of what a closure leaves behind a captured one, a proof knows nothing.
+    // The scope returns the reference that it borrowed: a proof knows nothing of what a closure leaves in a captured one.
     let _listener = heard;
     both
 }

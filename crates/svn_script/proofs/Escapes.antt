@@ -12,7 +12,7 @@ use Rattle.hex.specs.Hex.{hex_digit_value, digit_or_error, decode_pairs, ◌>>=�
 use Rattle.svn_lists.proofs.Options.{cond_none}
 use Rattle.svn_script.specs.Reading.{unescaped, onto, bytes_of, hex_byte}
 
--- ---- bytes that stand for themselves
+-- ---- bytes without escapes
 
 -- a byte but for the percent sign does
 unescaped_plain : (b : ℕ) (bs : List ℕ) → nat_eq b 37 ≡ false → unescaped (b ∷ bs) ≡ onto (Some b) (unescaped bs)

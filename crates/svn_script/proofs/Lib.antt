@@ -1,4 +1,4 @@
--- the words behind the name of a command
+-- the words after the name of a command
 pub mod OperandLemmas
 -- the end of a line
 pub mod Splits

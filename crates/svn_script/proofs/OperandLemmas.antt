@@ -1,4 +1,4 @@
--- The words behind the name of a command, one word and the others.
+-- The words after the name of a command, one word and the others.
 use Rattle.std.proofs.Common.{◌≡◌, ℕ, List, [], ◌∷◌, option_map, refl}
 use Rattle.svn_script.specs.Operands.{only_word, two_words, three_words}
 

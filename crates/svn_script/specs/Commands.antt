@@ -70,7 +70,7 @@ abbrev pub update_of : List (List ℕ) → Option Command
 update_of [] = None
 update_of (rev ∷ words) = option_and_then (λ r. option_map (λ e. Update r e.0 e.1) (ending_of words)) (number_of rev)
 
--- a repository path, a revision in which the copy's root is to have it, and how the run may end
+-- a repository path, a revision in which the copy's root must have it, and how the run may end
 abbrev pub switch_to_of : List (List ℕ) → Option Command
 switch_to_of [] = None
 switch_to_of (to ∷ []) = None
@@ -85,7 +85,7 @@ abbrev pub when_no_word : Command → List (List ℕ) → Option Command
 when_no_word c [] = Some c
 when_no_word c (w ∷ ws) = None
 
--- what a command is with the words behind its name
+-- what a command is with the words after its name
 abbrev pub with_words : Verb → List (List ℕ) → Option Command
 with_words MkdirVerb words = option_map (λ path. Change (MakeDir path)) (only_path words)
 with_words PutVerb words = option_and_then put_of (two_words words)

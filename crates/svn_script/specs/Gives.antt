@@ -1,4 +1,4 @@
--- What the readers of a line answer.
+-- What the readers of a line return.
 --     Gives view result read      the result is what the definition gives, unless memory ran out
 use Rattle.std.specs.Prelude.{◌≡◌, Option, Some, None, Result, Ok, Err}
 use Rattle.svn_script.specs.declared.words.LineFault.{LineFault}

@@ -1,5 +1,5 @@
--- The words behind the name of a command, by their number and form.
---     only_word, two_words, three_words      the words, where there are just so many
+-- The words after the name of a command, by their number and form.
+--     only_word, two_words, three_words      the words, where there are exactly that many
 --     only_path, path_or_root      a path, where there is just one word, or none
 --     late_of words      whether the last word `late` is there, and no other
 --     ending_of words      a cancel number and the last word `late`, where they are there
@@ -36,7 +36,7 @@ path_or_root words = if no_words words then Some [] else only_path words
 abbrev pub is_late : List ℕ → Bool
 is_late word = bytes_eq word (codes "late")
 
--- the word `late`, and none behind it
+-- the word `late`, and none after it
 abbrev pub late_of : List (List ℕ) → Option Bool
 late_of [] = Some false
 late_of (w ∷ ws) = if is_late w && no_words ws then Some true else None

@@ -1,7 +1,7 @@
--- A script as bytes: its lines, their words, and what a word stands for.
+-- A script as bytes: its lines, their words, and what a word means.
 --     lines_of script      its lines
---     words_of line      the words of a line, those that stand between spaces
---     number_of word, bytes_of word, path_of word, prop_name_of word      what a word stands for, or nothing where it has not this form
+--     words_of line      the words of a line, those that are between spaces
+--     number_of word, bytes_of word, path_of word, prop_name_of word      what a word means, or nothing where it hasn't this form
 use Rattle.std.specs.Prelude.{ℕ, ◌+◌, ◌-◌, ◌*◌, ◌^◌, Bool, ◌&&◌, not, List, [], ◌∷◌, length, nat_lt, nat_le, nat_eq, bytes_eq, filter}
 use Rattle.std.specs.Prelude.{Option, Some, None, option_map, option_and_then, is_some, if◌then◌else◌}
 use Rattle.std.specs.List.{slice_split, list_all}
@@ -63,7 +63,7 @@ number_of word =
 abbrev pub hex_byte : ℕ → ℕ → Option ℕ
 hex_byte high low = option_and_then (λ h. option_map (λ l. h * 16 + l) (hex_digit_value low)) (hex_digit_value high)
 
--- a byte that stands for itself
+-- a byte that means itself
 abbrev pub own_byte : ℕ → Option ℕ
 own_byte b = if nat_eq b 37 then None else Some b
 
@@ -73,7 +73,7 @@ onto None bytes = None
 onto (Some b) None = None
 onto (Some b) (Some bs) = Some (b ∷ bs)
 
--- a percent sign and two hexadecimal digits stand for a byte, and every other byte for itself
+-- a percent sign and two hexadecimal digits mean a byte, and every other byte means itself
 abbrev pub unescaped : List ℕ → Option (List ℕ)
 unescaped [] = Some []
 unescaped (b ∷ []) = onto (own_byte b) (Some [])

@@ -1,4 +1,4 @@
-//! The commands that add a change to the next commit, each read from what is behind its name.
+//! The commands that add a change to the next commit, each read from what is after its name.
 ghost use Rattle.std.specs.Prelude.{◌≡◌, option_and_then, option_map};
 ghost use Rattle.svn_repo.specs.declared.change.Change.TheVariants.{MakeDir, Remove};
 ghost use Rattle.svn_script.specs.Reading.{words_of};

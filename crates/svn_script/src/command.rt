@@ -26,7 +26,7 @@ pub enum Command {
     Change(Change),
     /// `commit`: a commit of the changes before it.
     Commit,
-    /// `checkout REV` or `checkout REV PATH`: a working copy of the revision's tree, or of what is beneath the path in it.
+    /// `checkout REV` or `checkout REV PATH`: a working copy of the revision's tree, or of what is below the path in it.
     Checkout {
         /// The revision.
         rev: Rev,
@@ -67,18 +67,18 @@ pub enum Command {
     Update {
         /// The target.
         rev: Rev,
-        /// After how many calls the run is to stop, if it is to.
+        /// After how many calls the run must stop, if there is a limit.
         cancel_after: Option<u64>,
         /// Whether texts come after all directories are closed
         late: bool,
     },
     /// `switch-to REPOSPATH REV` or `switch-to REPOSPATH REV N`, either with a last word `late`: switches the whole working copy.
     SwitchTo {
-        /// The repository path that the copy's root is to have.
+        /// The repository path that the copy's root must have.
         repos_path: RelPath,
         /// The target.
         rev: Rev,
-        /// After how many calls the run is to stop, if it is to.
+        /// After how many calls the run must stop, if there is a limit.
         cancel_after: Option<u64>,
         /// Whether texts come after all directories are closed
         late: bool,
@@ -87,7 +87,7 @@ pub enum Command {
     Show,
 }
 
-// A command that has no words behind its name. It is made inline, where the command is known, and needs no copy of it.
+// A command that has no words after its name. Inlined, so that it isn't copied.
 #[inline(always)]
 fn alone(command: Command, line: &[u8]) -> Result<Command, LineFault>
     ensures { Gives (λ c. c) result (when_no_word command (words_of line.now)) }
@@ -99,7 +99,7 @@ fn alone(command: Command, line: &[u8]) -> Result<Command, LineFault>
     }
 }
 
-// Reads what is behind the name of a command.
+// Reads what is after the name of a command.
 fn read_rest(alloc: Global, verb: Verb, line: &[u8]) -> Result<Command, LineFault>
     ensures { Gives (λ c. c) result (with_words verb (words_of line.now)) }
 {
@@ -134,7 +134,7 @@ fn is_comment(line: &[u8]) -> bool
 }
 
 /// Reads one line of a script, which has no line feed. Bad where the line is no command with just its words, each of its form; Memory where
-/// a growth was refused.
+/// an allocation failed.
 pub fn read_command(alloc: Global, line: &[u8]) -> Result<Command, LineFault>
     ensures { Gives (λ c. c) result (command_of line.now) }
 {

@@ -24,10 +24,10 @@ Status 2: a line of the script, the dump, or one of these words is at fault.
 
 Example: printf 'put f a\\ncommit\\ncheckout 1\\nshow\\n' | svnup";
 
-/// How the `update` and `switch-to` of a script are to be run. By default in two threads, with at most 64 calls waiting.
+/// How the `update` and `switch-to` of a script must be run. By default in two threads, with at most 64 calls waiting.
 #[derive(Clone, Copy, Debug, PartialEq, Eq)]
 pub struct Settings {
-    /// How many calls may wait between driver and working copy, 1 to 4,096. Where both run in turn it says nothing.
+    /// How many calls may wait between driver and working copy, 1 to 4,096. Unused if both run in turn.
     pub capacity: usize,
     /// Whether driver and working copy run in turn, on one thread.
     pub in_turn: bool,
@@ -68,7 +68,7 @@ pub enum WordsFault {
     /// The words aren't those of a call, or ask for help. The text says why, or is the help; it ends with a line feed.
     #[error("{0}")]
     BadWords(String),
-    /// A growth was refused.
+    /// An allocation failed.
     #[error("out of memory")]
     Memory,
 }

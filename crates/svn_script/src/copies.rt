@@ -1,4 +1,4 @@
-//! The commands on the working copy, each read from what is behind its name.
+//! The commands on the working copy, each read from what is after its name.
 ghost use Rattle.std.specs.Prelude.{◌≡◌, option_and_then, option_map};
 ghost use Rattle.svn_script.specs.Reading.{words_of};
 ghost use Rattle.svn_script.specs.Gives.{Gives};

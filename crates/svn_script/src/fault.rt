@@ -4,7 +4,7 @@ ghost use Rattle.svn_script.specs.FaultNumbers.{script_fault_number, script_stat
 
 use thiserror::Error;
 
-/// Why a script was given up. `svnup` prints it to standard error, behind its own name.
+/// Why a script was given up. `svnup` prints it to standard error, after its own name.
 #[derive(Clone, Copy, Debug, PartialEq, Eq, Error)]
 pub enum ScriptFault {
     /// The line of this number, counted from 1, is no command. What the lines before it wrote stays written.
@@ -19,7 +19,7 @@ pub enum ScriptFault {
     /// The output couldn't be written or flushed. What was written of it is unknown.
     #[error("write fault")]
     Write,
-    /// A growth was refused while the script or a line of it was read, or its first state made. Where one is refused to a command, that command
+    /// An allocation failed while the script or a line of it was read, or its first state made. If one fails in a command, that command
     /// prints its refusal instead.
     #[error("out of memory")]
     Memory,

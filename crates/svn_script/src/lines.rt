@@ -11,8 +11,8 @@ use svn_types::{MAX_SCRIPT, split_once};
 /// The most bytes that are read at a time.
 const BLOCK: usize = 8192;
 
-/// Reads a script to its end, or until it is too long: after 16,777,217 bytes it reads no more, and answers TooLong. Read where the reader
-/// fails; Memory where a growth is refused.
+/// Reads a script to its end, or until it is too long: after 16,777,217 bytes it reads no more, and returns TooLong. Read where the reader
+/// fails; Memory if an allocation fails.
 pub fn read_script<R: Read>(alloc: Global, reader: &mut R) -> Result<Vec<u8>, ScriptFault>
     ensures bounded { IfOk result (λ v. length v.items ≤ MAX_SCRIPT) }
     ensures bytes { IfOk result (λ v. IfSome (R.remaining reader.old) (λ bytes. v.items ≡ bytes)) }
@@ -48,7 +48,7 @@ pub fn without_return(line: &[u8]) -> &[u8]
     }
 }
 
-/// The first word of a line, and what is behind it. Words stand between spaces.
+/// The first word of a line, and what is after it. Words are between spaces.
 pub(crate) fn next_word(line: &[u8]) -> Option<(&[u8], &[u8])>
     ensures { MatchOption result (words_of line.now ≡ []) (λ r. words_of line.now ≡ r.0.now ∷ words_of r.1.now) }
 {

@@ -1,4 +1,4 @@
-//! The words behind the name of a command.
+//! The words after the name of a command.
 ghost use Rattle.std.specs.Prelude.{◌≡◌, MatchOption, Some, None};
 ghost use Rattle.svn_script.specs.Reading.{words_of, number_of};
 ghost use Rattle.svn_script.specs.Gives.{Gives};

@@ -52,7 +52,7 @@ fn read_other_verb(name: &[u8]) -> Option<Verb>
     }
 }
 
-/// The command of this name, which is taken as it stands: no escapes, and case counts.
+/// The command of this name, compared literally: no escapes, and case counts.
 pub(crate) fn read_verb(name: &[u8]) -> Option<Verb>
     ensures { result ≡ verb_of name.now }
 {

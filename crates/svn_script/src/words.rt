@@ -1,4 +1,4 @@
-//! What the words of a script stand for.
+//! What the words of a script mean.
 ghost use Rattle.std.specs.Prelude.{◌≡◌, ◌+◌, ◌-◌, ◌*◌, ◌≤◌, ◌∷◌, ◌++◌, [], length, bytes_eq, Some, None, MatchOption, IfSome, OnOk};
 ghost use Rattle.std.specs.List.{list_all};
 ghost use Rattle.svn_types.specs.Names.{path_of_text};
@@ -15,7 +15,7 @@ use svn_types::{PathFault, PropName, RelPath, Text, split_once};
 pub enum LineFault {
     /// It is no command with just its words, each of its form.
     Bad,
-    /// A growth was refused.
+    /// An allocation failed.
     Memory,
 }
 
@@ -27,7 +27,7 @@ impl From<AllocError> for LineFault {
     }
 }
 
-/// Up to so many bytes of a text are copied without memory.
+/// Up to that many bytes of a text are copied without memory.
 const FEW: usize = 30;
 
 /// The most digits of a number.
@@ -78,7 +78,7 @@ pub(crate) fn read_number(word: &[u8]) -> Option<u64>
     }
 }
 
-// The byte that two hexadecimal digits of either case stand for.
+// The byte of two hexadecimal digits of either case.
 fn read_hex(high: u8, low: u8) -> Option<u8>
     ensures { result ≡ hex_byte high low }
 {
@@ -88,7 +88,7 @@ fn read_hex(high: u8, low: u8) -> Option<u8>
     }
 }
 
-// The byte of an escape whose percent sign was read, and what is behind it.
+// The byte of an escape whose percent sign was read, and what is after it.
 fn read_escape(behind: &[u8]) -> Option<(u8, &[u8])>
     ensures byte { MatchOption result (unescaped (37 ∷ behind.now) ≡ None) (λ r. unescaped (37 ∷ behind.now) ≡ onto (Some r.0) (unescaped r.1.now)) }
     ensures shorter { IfSome result (λ r. length r.1.now ≤ length behind.now) }
@@ -102,7 +102,7 @@ fn read_escape(behind: &[u8]) -> Option<(u8, &[u8])>
     }
 }
 
-// A run of bytes that stand for themselves, and the byte of the escape behind it.
+// A run of bytes without escapes, and the byte of the escape after it.
 fn push_run(bytes: &mut Vec<u8>, run: &[u8], byte: u8) -> Result<(), AllocError>
     ensures { OnOk result (bytes.new.items ≡ bytes.old.items ++ (run.now ++ byte ∷ [])) }
 {
@@ -128,14 +128,14 @@ fn unescape(alloc: Global, word: &[u8]) -> Result<Vec<u8>, LineFault>
     Ok(bytes)
 }
 
-// Whether a word is two quotation marks, which stand for no bytes.
+// Whether a word is two quotation marks, which mean no bytes.
 fn is_quoted_nothing(word: &[u8]) -> bool
     ensures { result ≡ bytes_eq word.now (34 ∷ 34 ∷ []) }
 {
     matches!(word, [b'"', b'"'])
 }
 
-// The bytes of a word without escapes, which stand in the word itself.
+// The bytes of a word without escapes, which are in the word itself.
 fn plain_bytes(word: &[u8]) -> Option<&[u8]>
     ensures { MatchOption result (bytes_of word.now ≡ unescaped word.now) (λ bytes. bytes_of word.now ≡ Some bytes.now) }
 {
@@ -148,7 +148,7 @@ fn plain_bytes(word: &[u8]) -> Option<&[u8]>
     }
 }
 
-/// Reads the bytes that a word stands for.
+/// Reads the bytes that a word means.
 pub(crate) fn read_bytes(alloc: Global, word: &[u8]) -> Result<Text, LineFault>
     ensures { Gives (λ t. t) result (bytes_of word.now) }
 {

@@ -78,7 +78,7 @@ module _ {V : Type 0} where
       by_value k None less rest = rest
       by_value k (Some v) less rest = put_first q k v w (held ss) less
 
-  -- behind a slot that is below
+  -- after a slot that is below
   put_behind : (q : ℕ) (w : V) (k : ℕ) (o : Option V) (ss ts : List (Slot V)) → k < q → held ts ≡ insert_entry nat_cmp (held ss) q w
       → held (slot k o ∷ ts) ≡ insert_entry nat_cmp (held (slot k o ∷ ss)) q w
   put_behind q w k None ss ts less rest = rest

@@ -163,7 +163,7 @@ module _ {V : Type 0} where
     | inr same ↦ let is : i ≡ j = omega arith in let ends = ap (λ (k : ℕ). (get_or ss k d).serial) is in omega arith
   ]
 
-  -- what holds of a slot at a place, whatever stands for a place that is not there
+  -- what holds of a slot at a place, whatever value is taken for a place that is not there
   with_first : {q : ℕ} (ss : List (Slot V)) (k : ℕ) → k < length ss → ((d : Slot V) → (get_or ss k d).serial < q)
       → get_or (serials_of ss) k 0 < q
   with_first [] k within h = absurd (omega arith)

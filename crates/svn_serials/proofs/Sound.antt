@@ -22,7 +22,7 @@ module _ {V : Type 0} where
   pub sound_nil : IsSound {V = V} [] 0
   sound_nil = record { order = sorted_nil nat_cmp; ends = λ some. absurd (omega arith); counted = refl }
 
-  -- a value is written through what was lent
+  -- a value is written through the reference
   pub sound_write : (ss : List (Slot V)) (n q i : ℕ) (w : V) → IsSound ss n → IsFilledAt ss q i → IsSound (set ss i (slot q (Some w))) n
   sound_write ss n q i w sound at =
       let v = some_value (get_or (values_in ss) i None) at.value in

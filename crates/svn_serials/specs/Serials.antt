@@ -9,6 +9,6 @@ module _ {V : Type 0} where
   abbrev pub get : List (ℕ × V) → ℕ → Option V
   get es serial = lookup (nat_eq serial) es
 
-  -- each serial is below those behind it
+  -- each serial is below those after it
   abbrev pub IsRising : List (ℕ × V) → Type 0
   IsRising es = IsStrictlySortedBy nat_cmp (keys_of es)

@@ -20,7 +20,7 @@ module _ {V : Type 0} where
   abbrev pub values_in : List (Slot V) → List (Option V)
   values_in slots = map (λ s. s.value) slots
 
-  -- each serial is below those behind it
+  -- each serial is below those after it
   abbrev pub IsInOrder : List (Slot V) → Type 0
   IsInOrder slots = IsStrictlySortedBy nat_cmp (serials_of slots)
 

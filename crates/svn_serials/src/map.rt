@@ -89,7 +89,7 @@ impl<V, A: Allocator> SerialMap<V, A> {
         }
     }
 
-    /// Puts a value in, and gives the one that the serial had. The only error is that there is no memory, which only a serial without a value
+    /// Puts a value in, and returns the one that the serial had. The only error is that there is no memory, which only a serial without a value
     /// can need.
     #[inline(always)]
     pub fn insert(&mut self, serial: u64, value: V) -> Result<Option<V>, AllocError>
@@ -105,7 +105,7 @@ impl<V, A: Allocator> SerialMap<V, A> {
         Ok(was)
     }
 
-    /// Removes the value of a serial, and gives it; None where it has none.
+    /// Removes the value of a serial, and returns it; None if it has none.
     #[inline(always)]
     pub fn remove(&mut self, serial: u64) -> Option<V>
     where

@@ -1,4 +1,4 @@
-// Slots in the order of their serials, and where a serial stands among them.
+// Slots in the order of their serials, and where a serial is among them.
 ghost use Rattle.std.specs.Prelude.{◌≡◌, ◌≢◌, ◌++◌, ◌∷◌, ℕ, ◌-◌, ◌<◌, ◌≤◌, [], true, false, length, slice_index, IfOk, OnOk, OnErr, MatchOption};
 ghost use Rattle.std.specs.BTreeMap.{insert_entry};
 ghost use Rattle.std.specs.Ordering.{nat_cmp};
@@ -67,7 +67,7 @@ fn find_before_last<V>(slots: &[Slot<V>], serial: u64, last: u64, near: usize) -
     }
 }
 
-// Whether a serial stands at a place.
+// Whether a serial is at a place.
 #[inline(always)]
 fn stands_at<V>(slots: &[Slot<V>], place: usize, serial: u64) -> bool
     ensures hit { result ≡ true → (place < length slots.now) × (slice_index (serials_of slots.now) place ≡ serial) }
@@ -76,7 +76,7 @@ fn stands_at<V>(slots: &[Slot<V>], place: usize, serial: u64) -> bool
     place < slots.len() && slots[place].serial == serial
 }
 
-// Where a serial stands that is not the last. If none from it on was left out, it is as far from the end as it is below the last.
+// Where a serial is that is not the last. If none from it on was left out, it is as far from the end as it is below the last.
 fn place_before_last<V>(slots: &[Slot<V>], serial: u64, last: u64, near: usize) -> Option<usize>
     requires { IsInOrder slots.now }
     ensures { MatchOption result
@@ -93,8 +93,8 @@ fn place_before_last<V>(slots: &[Slot<V>], serial: u64, last: u64, near: usize) 
     place_with_gaps(slots, serial, near)
 }
 
-// Where a serial stands among slots of which some were left out: at a place that it may be near, or the next, or first of all, as a root
-// does whose newer serials come and go, or else it is searched. Not inlined, since most look-ups end before it.
+// Where a serial is if some slots were left out: at the place where it is likely to be, or the next, or the first, as a root
+// is whose newer serials come and go; else by a binary search. Not inlined, since most look-ups end before it.
 #[inline(never)]
 fn place_with_gaps<V>(slots: &[Slot<V>], serial: u64, near: usize) -> Option<usize>
     requires { IsInOrder slots.now }
@@ -141,11 +141,11 @@ fn is_above_all<V>(slots: &[Slot<V>], serial: u64) -> bool
     }
 }
 
-// How many times as many slots there is room for where there was none for one more. What is there is then copied a third of a time for
-// each slot, with twice as many once; what isn't used of the room costs addresses alone.
+// The factor by which the room for slots grows. Each slot is then copied a third of a time
+// on average, with a factor of two once; unused room costs only addresses.
 const GROWTH: usize = 4;
 
-// Makes room for more slots, if there is that much memory. Not inlined, since there mostly is some.
+// Makes room for more slots, if there is that much memory. Not inlined, since there is mostly room left.
 #[cold]
 #[inline(never)]
 fn make_room<V, A: Allocator>(slots: &mut Vec<Slot<V>, A>)
@@ -171,7 +171,7 @@ fn append<V: Drop, A: Allocator>(
     Ok(())
 }
 
-// Puts a value in, and gives the one that the serial had. Inlined, since it mostly goes to the end.
+// Puts a value in, and returns the one that the serial had. Inlined, since it mostly goes to the end.
 #[inline(always)]
 pub(crate) fn put<V: Drop, A: Allocator>(
     slots: &mut Vec<Slot<V>, A>,

@@ -1,4 +1,4 @@
-//! A copy beside its model, and the changes of a copy by itself.
+//! A copy with its model, and the changes of a copy alone.
 
 use crate::stop::{Result, Stop, holds};
 use crate::{compare, real};
@@ -59,7 +59,7 @@ fn is_nowhere(alloc: Global, what: &str, place: Option<PlainPath>) -> Result<()>
 }
 
 impl Checked {
-    /// A copy that was just made, beside its model.
+    /// A copy that was just made, with its model.
     pub(crate) fn new(
         alloc: Global,
         history: &History,
@@ -75,7 +75,7 @@ impl Checked {
         })
     }
 
-    /// The library's answer.
+    /// The library's result.
     pub(crate) fn place(
         &mut self,
         alloc: Global,
@@ -99,7 +99,7 @@ impl Checked {
         put_at(&mut self.tree, history, path, repos, rev)
     }
 
-    /// The library's answer.
+    /// The library's result.
     pub(crate) fn forget(&mut self, alloc: Global, path: PlainPath) -> Result<Result<(), WcFault>> {
         let path = real::path(alloc, path)?;
         Ok(self.copy.forget(&path))

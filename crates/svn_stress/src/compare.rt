@@ -1,4 +1,4 @@
-//! What the library has beside what the model has.
+//! What the library has, compared with what the model has.
 
 use crate::real;
 use crate::stop::Result;
@@ -182,7 +182,7 @@ pub(crate) fn report_difference(report: &svn_report::Report, model: &Report) -> 
 /// Which node of the repository each number of the model is.
 pub(crate) type Ids = BTreeMap<u64, NodeId>;
 
-// Whether a number of the model is this node and no other, as far as is known.
+// Whether a number of the model is this node and no other, by what is known.
 fn is_same_node(ids: &mut Ids, number: u64, id: NodeId) -> Result<bool> {
     for (known, other) in ids.iter() {
         if (*known == number) != (*other == id) {

@@ -1,4 +1,4 @@
-//! How often what was done.
+//! How often each thing was done.
 
 use std::fmt;
 

@@ -23,7 +23,7 @@ impl Dice {
         self.generator.next_u64() % bound.max(1)
     }
 
-    /// True once in so many times.
+    /// True once in that many times.
     pub(crate) fn once_in(&mut self, times: u64) -> bool {
         self.below(times) == 0
     }

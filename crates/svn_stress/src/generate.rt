@@ -33,7 +33,7 @@ pub(crate) struct Chooser {
     names: [u8; NAMES_EACH],
 }
 
-// How many nodes stand at a path and beneath, and how many names the deepest of them has more.
+// How many nodes are at a path and below, and how many names the deepest of them has more.
 fn extent(tree: &Tree, source: PlainPath) -> (usize, usize) {
     let (mut count, mut deepest) = (0usize, 0usize);
     for place in tree.keys() {

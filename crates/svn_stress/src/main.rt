@@ -2,6 +2,10 @@
 //!
 //! The first argument is the seed, the second how many updates and switches are made. The same arguments make the same run on
 //! every machine. Where something differs it prints what, and the history as a script for `svnup`, made short, and ends with status 1.
+//!
+//! Files: `dice` and `generate` choose the next `step`; `world` and `runs` make it on both sides; `real` has the library's values for the model's, `checked` a copy beside its
+//! model, `compare` compares them; `stop` is why a history goes no further (a difference or a fault), `counts` what was done, and `shorten` makes a
+//! history that shows a difference short.
 #![tactic(auto)]
 
 mod checked;
@@ -57,7 +61,7 @@ fn take_all<R: Threads + Wait + Sync>(
     Ok(())
 }
 
-// Makes a history, and answers what was done. Its steps are kept.
+// Makes a history, and returns what was done. Its steps are kept.
 fn make_story<R: Threads + Wait + Sync>(
     rt: &R,
     alloc: Global,
@@ -114,7 +118,7 @@ fn tell_counts<R: Print>(rt: &R, histories: u64, counts: &Counts) -> Result<()> 
     Ok(())
 }
 
-// Makes a history, and answers what was done. Where it shows a difference, that is told, and is an error.
+// Makes a history, and returns what was done. Where it shows a difference, that is reported, and is an error.
 fn count_story<R: Threads + Wait + Sync + Print>(
     rt: &R,
     alloc: Global,
@@ -131,7 +135,7 @@ fn count_story<R: Threads + Wait + Sync + Print>(
     }
 }
 
-// Histories until so many updates and switches were made.
+// Histories until that many updates and switches were made.
 fn stress<R: Threads + Wait + Sync + Print>(
     rt: &R,
     alloc: Global,

@@ -22,7 +22,7 @@ use svn_update::{
     switch_to_in_turn, update, update_in_turn,
 };
 
-// What a run is to do: the calls between the first and the last, after how many calls it is stopped, the copy that it leaves,
+// What a run must do: the calls between the first and the last, after how many calls it is stopped, the copy that it leaves,
 // and the one that it leaves if it isn't stopped.
 #[derive(Drop)]
 struct Plan {
@@ -62,7 +62,7 @@ fn run_fault(fault: TargetFault) -> RunFault {
 }
 
 impl Run {
-    // What the model has to say of each path, or why the run can't begin.
+    // What the model says of each path, or why the run can't begin.
     fn facts(
         &self,
         alloc: Global,
@@ -90,7 +90,7 @@ impl Run {
         }
     }
 
-    // The copy after so many calls, the first of which changes nothing; all of them where there is no number.
+    // The copy after that many calls, the first of which changes nothing; all of them where there is no number.
     fn left_by(&self, tree: &BaseTree, acts: &[Act], stop: Option<u64>) -> Result<BaseTree, Fault> {
         let edition = Edition {
             target: self.rev,
@@ -211,7 +211,7 @@ fn compare_acts(alloc: Global, calls: &[Call], acts: &[Act]) -> Result<()> {
     Ok(())
 }
 
-// The calls of the driver beside those of the model, line by line.
+// The calls of the driver compared with those of the model, line by line.
 fn compare_drive(alloc: Global, calls: &[Call], acts: &[Act], rev: u64) -> Result<()> {
     compare_count(alloc, calls, acts)?;
     compare_first(alloc, calls, rev)?;

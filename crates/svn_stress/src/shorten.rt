@@ -25,7 +25,7 @@ pub(crate) fn replay<R: Threads + Wait + Sync>(
     take_all(rt, &mut world, steps)
 }
 
-// The steps without those from one place on, so many.
+// The steps without that many from one place on.
 fn without(alloc: Global, steps: &[Step], from: usize, count: usize) -> Result<Vec<Step>> {
     let mut left = Vec::new(alloc);
     for (at, step) in steps.iter().enumerate() {
@@ -41,7 +41,7 @@ fn differs<R: Threads + Wait + Sync>(rt: &R, alloc: Global, steps: &[Step]) -> b
     matches!(&replay(rt, alloc, steps), Err(Stop::Differs(_)))
 }
 
-// Drops each run of so many steps that isn't needed, the last first.
+// Drops each run of that many steps that isn't needed, the last first.
 fn dropped<R: Threads + Wait + Sync>(
     rt: &R,
     alloc: Global,

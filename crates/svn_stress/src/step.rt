@@ -113,7 +113,7 @@ fn write_switch<W: fmt::Write>(
     write!(f, "switch {path} {repos} {rev}")
 }
 
-/// A step as a line of a script; before a run stands a comment that says how it is run.
+/// A step as a line of a script; a comment before a run says how it is run.
 impl fmt::Display for Step {
     fn fmt<W: fmt::Write>(&self, f: &mut fmt::Formatter<W>) -> fmt::Result {
         match *self {

@@ -1,4 +1,4 @@
-//! A repository and a copy beside their model, and what the steps do to both.
+//! A repository and a copy with their model, and what the steps do to both.
 
 use crate::checked::{self, Checked, Placing};
 use crate::compare::{self, Ids};
@@ -13,7 +13,7 @@ use std::thread::Threads;
 use svn_plain::{Draft, Edit, History, PlainPath, checkout_fault, forgetting_fault};
 use svn_update::{Change, CommitFault, Repo, Rev, WcFault, WorkingCopy};
 
-/// A repository and perhaps a copy, each beside its model.
+/// A repository and perhaps a copy, each with its model.
 #[derive(Drop)]
 pub(crate) struct World {
     pub(crate) alloc: Global,
@@ -117,7 +117,7 @@ impl World {
         Ok(())
     }
 
-    // The library's answer. Where the model expects a copy, it is kept.
+    // The library's result. Where the model expects a copy, it is kept.
     fn make_copy(
         &mut self,
         rev: u64,

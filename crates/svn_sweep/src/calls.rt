@@ -1,4 +1,4 @@
-//! A row by the library's calls, one for each line. A refused call leaves things as they were; one that wanted memory is made again, and
+//! A row by the library's calls, one for each line. A refused call leaves things as they were; one that ran out of memory is made again, and
 //! after a run that was given up the copy is true and the same run, made again, ends at its target.
 use crate::copies::{build, drive_copy, report};
 use crate::printed::has;

@@ -1,4 +1,4 @@
-//! The calls of an edit, given to the order check and to an applier. Each call has a number for its answer: 0 where it is accepted.
+//! The calls of an edit, given to the order check and to an applier. Each call has a number for its result: 0 where it is accepted.
 use crate::printed::has;
 use crate::trouble::{Trouble, holds};
 use std::alloc::Global;
@@ -33,7 +33,7 @@ fn digest_of(sum: Sum) -> Option<Digest> {
     }
 }
 
-// A call for what stands at a path: the tokens of its parent and of itself, and for what is opened its revision between them. What is
+// A call for what is at a path: the tokens of its parent and of itself, and for what is opened its revision between them. What is
 // deleted has a revision, and a parent.
 #[derive(Clone, Copy)]
 enum Entry {
@@ -147,7 +147,7 @@ fn call_of(alloc: Global, step: Step) -> Result<Call, Trouble> {
     }
 }
 
-// Behind the target revision and the root.
+// After the target revision and the root.
 static ORDERS: [&[(Step, u32)]; 8] = [
     &[
         (Step::At("a", Entry::AddDir(0, 1)), 0),
@@ -231,7 +231,7 @@ fn check_order(alloc: Global, calls: &[(Step, u32)]) -> Result<(), Trouble> {
     check_all(alloc, &mut check, calls)
 }
 
-/// Calls in and out of order. The edit is begun anew where memory is refused.
+/// Calls in and out of order. The edit is begun anew if an allocation fails.
 pub(crate) fn orders(alloc: Global) -> Result<(), Trouble> {
     for calls in &ORDERS {
         check_order(alloc, calls)?;
@@ -461,7 +461,7 @@ fn apply_edit(alloc: Global, repo: &Repo, edit: &Edit) -> Result<(), Trouble> {
     has(alloc, &copy, edit.shown, "an edit leaves something else")
 }
 
-/// Edits that an applier takes or refuses. The edit is begun anew, on a copy as it was, where memory is refused.
+/// Edits that an applier takes or refuses. The edit is begun anew, on a copy as it was, if an allocation fails.
 pub(crate) fn edits(alloc: Global) -> Result<(), Trouble> {
     let repo = changed_file(alloc)?;
     for edit in &EDITS {

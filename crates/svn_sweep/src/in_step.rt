@@ -1,4 +1,4 @@
-//! An update whose driver is never more than two calls ahead of the copy, so that it is told of a refused call before it has made all.
+//! An update whose driver is never more than two calls ahead of the copy, so that it hears of a refused call before it has made all.
 use crate::copies::is_true;
 use crate::edits::text_of;
 use crate::trouble::Trouble;
@@ -60,7 +60,7 @@ fn put_all(alloc: Global, repo: &mut Repo, text: &str) -> Result<(), Trouble> {
     Ok(())
 }
 
-// The copy has to be true.
+// The copy must be true.
 fn run<R: Threads + Wait + Sync, G: Gate>(
     rt: &R,
     alloc: Global,
@@ -85,7 +85,7 @@ fn closes(outcome: Outcome) -> Result<(), Trouble> {
     }
 }
 
-/// The update of forty files, and one more behind it, which closes however that ended. The answer is how the first did.
+/// The update of forty files, and one more after it, which closes however that ended. The result is how the first did.
 pub(crate) fn in_step<R: Threads + Wait + Sync>(rt: &R, alloc: Global) -> Result<Outcome, Trouble> {
     let mut repo = Repo::new(alloc)?;
     put_all(alloc, &mut repo, "a")?;

@@ -1,9 +1,9 @@
-//! Runs rows, each a use of the library with the answers that it has to have, and says of each in each way whether it stands.
+//! Runs rows, each a use of the library with the results that it must have, and says of each in each way whether it holds.
 //!
 //! Without words it runs all of them. `svn_sweep list` says the words of each; `svn_sweep ROW WAY` runs one. Memory may be refused in any of
-//! these: each answer is then the row's, or names the want of memory and leaves what is promised, and the row, begun anew, stands.
-//! `sweep/run.py` runs each row with each of its allocations refused. The status is 0 where all stand, 1 where one doesn't, and 3 where memory
-//! is wanting again.
+//! these: each result is then the row's, or says out of memory and leaves what is promised, and the row, begun anew, holds.
+//! `sweep/run.py` runs each row with each of its allocations refused. The status is 0 if all hold, 1 if one doesn't, and 3 if memory
+//! ran out once more.
 #![tactic(auto)]
 
 mod calls;
@@ -97,7 +97,7 @@ fn run_part<R: Wait>(rt: &R, alloc: Global, part: &str) -> Result<(), Trouble> {
     }
 }
 
-// The row of a name; a name that no row has is that of a part. One part tells how its run ended.
+// The row of a name; a name that no row has is that of a part. One part says how its run ended.
 fn run_named<R: Threads + Wait + Sync>(
     rt: &R,
     alloc: Global,
@@ -117,7 +117,7 @@ fn run_named<R: Threads + Wait + Sync>(
     Ok(None)
 }
 
-// Memory is refused once, or not at all; where it is refused again, more than that is wanting.
+// Memory is refused once, or not at all; if it is refused again, memory is really short.
 fn run_again<R: Threads + Wait + Sync>(
     rt: &R,
     alloc: Global,
@@ -194,13 +194,13 @@ fn all_parts<R: Threads + Wait + Sync + Print>(
     Ok(status)
 }
 
-// Runs all rows in all ways, or lists them. The answer is the greatest status.
+// Runs all rows in all ways, or lists them. The result is the greatest status.
 fn all<R: Threads + Wait + Sync + Print>(rt: &R, alloc: Global, lists: bool) -> io::Result<u8> {
     let status = all_rows(rt, alloc, lists)?;
     Ok(status.max(all_parts(rt, alloc, lists)?))
 }
 
-// The words behind the program's name.
+// The words after the program's name.
 type Words = (Option<String>, Option<String>);
 
 fn words<R: Env + AllocGlobal>(rt: &R) -> io::Result<Words> {

@@ -31,7 +31,7 @@ static TEXTS: [(Kind, &str, Result<usize, PathFault>); 11] = [
     (Kind::PropName, "1a", Err(PathFault::BadCharacter)),
 ];
 
-// An answer that isn't a want of memory has to be the row's.
+// A result other than out of memory must be the row's.
 fn answers(
     found: Result<usize, PathFault>,
     wanted: Result<usize, PathFault>,
@@ -93,7 +93,7 @@ fn texts(alloc: Global) -> Result<(), Trouble> {
     Ok(())
 }
 
-// Names of 255 and of 256 bytes, and paths of 128 and of 129 names: a part so many times, and one more letter.
+// Names of 255 and of 256 bytes, and paths of 128 and of 129 names: a part repeated, and one more letter.
 static LONG_PATHS: [(&str, usize, Result<usize, PathFault>); 4] = [
     ("a", 254, Ok(1)),
     ("a", 255, Err(PathFault::NameTooLong)),
@@ -155,7 +155,7 @@ pub(crate) fn names(alloc: Global) -> Result<(), Trouble> {
     long_join(alloc)
 }
 
-// Words, and the capacity and whether runs are in turn; where there is none, a text tells why.
+// Words, and the capacity and whether runs are in turn; where there is none, a text says why.
 static WORDS: [(&[&str], Option<(usize, bool)>); 9] = [
     (&["svnup"], Some((64, false))),
     (&["svnup", "--capacity", "1", "--in-turn"], Some((1, true))),

@@ -3,7 +3,7 @@ use crate::trouble::{Trouble, holds};
 use std::alloc::Global;
 use svn_pool::{PoolFault, PoolId, PoolTree};
 
-// A call, and what it answers: a serial, a place or nothing.
+// A call, and what it returns: a serial, a place or nothing.
 #[derive(Clone, Copy)]
 enum Step {
     Create(u64),
@@ -14,7 +14,7 @@ enum Step {
 
 type Answer = Result<u64, PoolFault>;
 
-// Behind each call live pools, blocks in use and spare blocks.
+// After each call live pools, blocks in use and spare blocks.
 type Row = (Step, Answer, (u64, u64, u64));
 
 static BRANCH: [Row; 11] = [
@@ -114,7 +114,7 @@ fn take_all(alloc: Global, rows: &[Row]) -> Result<(), Trouble> {
     Ok(())
 }
 
-// No serial is left behind the last.
+// No serial is left after the last.
 fn last_serial(alloc: Global) -> Result<(), Trouble> {
     let mut tree = PoolTree::new_from(alloc, u64::MAX)?;
     match tree.create(PoolId(u64::MAX)) {

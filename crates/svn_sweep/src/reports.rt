@@ -20,7 +20,7 @@ enum Said {
 // A call of a reporter.
 type Entry = (&'static str, Said);
 
-// What a reporter answers.
+// What a reporter returns.
 type Answer = Result<(), ReporterFault>;
 
 fn link(
@@ -84,11 +84,11 @@ static CALLS: [(Entry, Option<ReporterFault>); 11] = [
     (("d/e", Said::Set(1)), None),
     (("d", Said::Set(1)), Some(ReporterFault::ParentLater)),
     (("x", Said::Link("a", 1)), None),
-    // the first that comes behind a later path
+    // the first that comes after a later path
     (("c", Said::Set(1)), None),
 ];
 
-// `z` and so many names beneath it.
+// `z` and that many names below it.
 fn deep(alloc: Global, count: usize) -> Result<RelPath, Trouble> {
     let mut text = "z/".repeat(alloc, count)?;
     text.push('z')?;
@@ -107,7 +107,7 @@ fn link_deep(alloc: Global, reporter: &mut Reporter, count: usize) -> Result<Ans
     link(alloc, reporter, &path, "a", 1)
 }
 
-// A path of a link has at most 64 names beneath its first.
+// A path of a link has at most 64 names below its first.
 fn link_deepest(alloc: Global, reporter: &mut Reporter) -> Result<(), Trouble> {
     let answer = link_deep(alloc, reporter, 65)?;
     holds(
@@ -240,7 +240,7 @@ fn copy_of(alloc: Global, nodes: &[Node]) -> Result<Result<WorkingCopy, WcFault>
     Ok(WorkingCopy::from_nodes(alloc, list))
 }
 
-// Lists of nodes of which no copy is made.
+// Lists of nodes that make no copy.
 static LISTS: [(&[Node], WcFault); 4] = [
     (&[], WcFault::BadRoot),
     (&[("", 1, None), ("", 1, None)], WcFault::Twice),

@@ -393,7 +393,7 @@ static LONG: Row = Row {
     ],
 };
 
-/// All rows. Each is a table by itself, and this is the only function that names them: it is proved with all that stands in a table that it
+/// All rows. Each is a table by itself, and this is the only function that names them: it is proved with all that is in a table that it
 /// names, and one table of all of them costs it many times what these do.
 pub(crate) fn rows() -> [&'static Row; 16] {
     [

@@ -13,14 +13,14 @@ use svn_script::Command;
 use svn_types::{RelPath, Rev};
 use svn_wc::WorkingCopy;
 
-/// On one thread, or on two with at most so many calls between them.
+/// On one thread, or on two with at most that many calls between them.
 #[derive(Clone, Copy)]
 pub(crate) enum Form {
     InTurn,
     InThreads(usize),
 }
 
-/// What is asked of a run: the path that the root is to have, where it is a switch of the whole copy, and the target.
+/// What is asked of a run: the path that the root must have, where it is a switch of the whole copy, and the target.
 #[derive(Clone, Copy)]
 pub(crate) struct Wanted<'a> {
     form: Form,
@@ -79,7 +79,7 @@ fn run_in_turn(
     })
 }
 
-// Whether so many calls may have gone from thread to thread. `AbortEdit` isn't among those that a run counts; where a call is refused behind
+// Whether that many calls may have gone from thread to thread. `AbortEdit` isn't among those that a run counts; where a call is refused after
 // which the driver made all others, there is none.
 fn may_pass(outcome: Outcome, sent: u64) -> bool {
     match outcome {
@@ -126,7 +126,7 @@ fn run_in_threads<R: Threads + Wait + Sync>(
     }
 }
 
-// The copy has to be true.
+// The copy must be true.
 fn run<R: Threads + Wait + Sync>(
     rt: &R,
     alloc: Global,
@@ -157,7 +157,7 @@ fn run_or_leave<R: Threads + Wait + Sync>(
     answer
 }
 
-// One that wanted memory before it began is made again.
+// One that ran out of memory before it began is made again.
 fn run_anew<R: Threads + Wait + Sync>(
     rt: &R,
     alloc: Global,
@@ -227,7 +227,7 @@ pub(crate) fn run_to_end<R: Threads + Wait + Sync>(
         return ends(alloc, outcome, printed);
     }
     resume(rt, alloc, repo, copy, wanted)?;
-    // where the run is to be stopped early, the lines behind it speak of what it leaves
+    // where the run must be stopped early, the lines after it speak of what it leaves
     match wanted.cancel_after {
         Some(_) => Err(Trouble::Memory),
         None => Ok(()),

@@ -1,4 +1,4 @@
-//! A row as a script: what it prints is the row's, up to the first line that names a want of memory.
+//! A row as a script: what it prints is the row's, up to the first line that says out of memory.
 use crate::rows::Row;
 use crate::trouble::Trouble;
 use std::alloc::Global;
@@ -8,7 +8,7 @@ use std::thread::Threads;
 use svn_script::{ScriptFault, Settings};
 use svn_update::run_script;
 
-// More than any row prints, so that a writer needs no growth.
+// More than any row prints, so that a writer need not grow.
 const ROOM: usize = 65_536;
 
 /// Runs in turn, on one thread.
@@ -27,7 +27,7 @@ pub(crate) fn script_of(alloc: Global, row: &Row) -> Result<String, Trouble> {
     Ok(script)
 }
 
-// Whether a line of output is the answer to a want of memory.
+// Whether a line of output says out of memory.
 fn names_memory(output: &str) -> bool {
     let Some((line, _)) = output.split_once('\n') else {
         return false;
@@ -46,7 +46,7 @@ fn first_other(output: &str, ended: Result<(), ScriptFault>) -> Trouble {
     }
 }
 
-// What is behind all that a row prints, or else from the first line on that differs.
+// What is after all that a row prints, or else from the first line on that differs.
 fn behind<'a>(row: &Row, output: &'a str) -> Result<&'a str, &'a str> {
     let mut rest = output;
     for (_, printed) in row.lines {
@@ -58,7 +58,7 @@ fn behind<'a>(row: &Row, output: &'a str) -> Result<&'a str, &'a str> {
     Ok(rest)
 }
 
-// Whether a script ended as the row does. Behind a line that names a want of memory the others may differ.
+// Whether a script ended as the row does. After a line that says out of memory the others may differ.
 fn judge(row: &Row, ended: Result<(), ScriptFault>, output: &str) -> Result<(), Trouble> {
     if ended != Ok(()) && ended != Err(ScriptFault::Memory) {
         return Err(Trouble::Other("a script ends by another fault"));
@@ -69,7 +69,7 @@ fn judge(row: &Row, ended: Result<(), ScriptFault>, output: &str) -> Result<(), 
     }
 }
 
-/// Runs a script, which writes behind what is there.
+/// Runs a script, which writes after what is there.
 pub(crate) fn run_text<R: Threads + Wait + Sync>(
     rt: &R,
     alloc: Global,

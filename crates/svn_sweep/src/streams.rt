@@ -130,7 +130,7 @@ pub(crate) fn readers<R: Threads + Wait + Sync>(
 // More calls than a row's output has bytes.
 const LAST_CALL: usize = 10_000;
 
-// Whether a script ended before the call at which its writer was to fail.
+// Whether a script ended before the call at which its writer should fail.
 fn is_written(
     writer: &ShortWriter,
     ended: Result<(), ScriptFault>,
@@ -182,7 +182,7 @@ pub(crate) fn writers<R: Threads + Wait + Sync>(
     Err(Trouble::Other("a script ends at no call of its writer"))
 }
 
-// The lines before one that is cut off, what they print, and the number of the one behind them.
+// The lines before one that is cut off, what they print, and the number of the one after them.
 #[derive(Drop)]
 struct Before {
     script: String,

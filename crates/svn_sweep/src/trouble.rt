@@ -1,4 +1,4 @@
-//! Why a row doesn't stand.
+//! Why a row doesn't hold.
 use std::alloc::{AllocError, AllocFailed};
 use std::fmt;
 use svn_drive::DriveFault;
@@ -12,7 +12,7 @@ use svn_run::{Outcome, RunFault};
 use svn_script::LineFault;
 use svn_types::PathFault;
 
-/// The fault that a command is refused with, other than want of memory.
+/// The fault that a command is refused with, other than Memory.
 #[derive(Clone, Copy, PartialEq)]
 pub(crate) enum Refusal {
     Commit(CommitFault),
@@ -34,18 +34,18 @@ impl fmt::Display for Refusal {
     }
 }
 
-/// Why a row doesn't stand.
+/// Why a row doesn't hold.
 #[derive(Clone, Copy, PartialEq)]
 pub(crate) enum Trouble {
-    /// A growth was refused, and the answer says so: the row can be begun anew.
+    /// An allocation failed, and the result says so: the row can be begun anew.
     Memory,
     /// A command was refused, which a row may want.
     Refused(Refusal),
-    /// An answer that is neither the row's nor a want of memory, or a state that isn't as promised.
+    /// A result that is neither the row's nor out of memory, or a state that isn't as promised.
     Other(&'static str),
 }
 
-/// How a row ends: it stands, and perhaps tells how a run of it ended, or it doesn't.
+/// How a row ends: it holds, and perhaps says how a run of it ended, or it doesn't.
 #[derive(Clone, Copy)]
 pub(crate) struct End(pub(crate) Result<Option<Outcome>, Trouble>);
 
@@ -82,12 +82,12 @@ pub(crate) fn holds(is_so: bool, other: &'static str) -> Result<(), Trouble> {
     }
 }
 
-/// A text is the wanted one, or says what is otherwise.
+/// A text is the expected one, or says what differs.
 pub(crate) fn same(found: &str, wanted: &str, other: &'static str) -> Result<(), Trouble> {
     holds(found == wanted, other)
 }
 
-// What an answer means that isn't the row's.
+// What a result means that isn't the row's.
 fn of_refusal(is_memory: bool, other: &'static str) -> Trouble {
     if is_memory {
         Trouble::Memory

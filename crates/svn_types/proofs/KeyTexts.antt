@@ -1,4 +1,4 @@
--- A key is a text: its names are, and so is the byte 1 behind each.
+-- A key is a text: its names are, and so is the byte 1 after each.
 use Rattle.std.proofs.Common.{◌≡◌, List, ℕ, zero, suc, ◌+◌, [], ◌∷◌, ◌++◌, length, drop, get_or, IsUtf8, refl, subst, arith}
 use Rattle.std.proofs.Math.Seq.{get_or-append_seam, drop-append-add}
 use Rattle.std.proofs.lemmas.List.{length-append}
@@ -14,13 +14,13 @@ separator = (1 ∷ [], (refl, refl))
 pub text_with_name : (above last : List ℕ) → IsUtf8 above → IsUtf8 last → ∥ IsUtf8 ((above ++ last) ++ 1 ∷ []) ∥₁
 text_with_name above last ha hl = ∣ IsUtf8-append (above ++ last) (1 ∷ []) (IsUtf8-append above last ha hl) separator ∣₁
 
--- three texts, one behind the other
+-- three texts, one after the other
 pub text_of_three : (above below end : List ℕ) → IsUtf8 above → IsUtf8 below → IsUtf8 end → ∥ IsUtf8 ((above ++ below) ++ end) ∥₁
 text_of_three above below end ha hb he = ∣ IsUtf8-append (above ++ below) end (IsUtf8-append above below ha hb) he ∣₁
 
 -- ---- a key without its first names
 
--- a text may be cut behind the byte 1
+-- a text may be cut after the byte 1
 past_name : (n s : List ℕ) → IsUtf8 (n ++ 1 ∷ s) → IsUtf8 s
 past_name n s h =
     let seam : get_or (n ++ 1 ∷ s) (length n) 0 ≡ 1 = get_or-append_seam n 1 s 0 in

@@ -6,7 +6,7 @@ pub mod NameLemmas
 pub mod PropNames
 -- names put one by one into a set
 pub mod NameSets
--- two lists of properties, of which the first name of either is taken
+-- two lists of properties, merged: the first name of either is taken
 pub mod Merges
 -- paths: their parts, and paths above and below one another
 pub mod PathLemmas
@@ -16,7 +16,7 @@ pub mod PathsInOrder
 pub mod PathKeys
 -- heads of keys, which decide most comparisons
 pub mod PathHeads
--- bytes in place, of which two words tell the order
+-- bytes in place, whose order two words decide
 pub mod ShortWords
 -- heads that hold whole keys
 pub mod WholeHeads

@@ -25,11 +25,11 @@ use Rattle.svn_types.proofs.NameLemmas.{Name, name_cmp-same, reversed, lt_apart,
 abbrev Pairs : Type 0
 Pairs = List (Name × List ℕ)
 
--- all names are behind the one
+-- all names are after the one
 abbrev AllBehind : Name → List Name → Type 0
 AllBehind n ks = AllByRecursion (λ k. name_cmp n k ≡ Less) ks
 
--- ---- names put into a list whose first name they are behind
+-- ---- names put into a list whose first name they are after
 
 put_behind : (n : Name) (ks : List Name) (k : Name) → name_cmp n k ≡ Less → insert_key name_cmp (n ∷ ks) k ≡ n ∷ insert_key name_cmp ks k
 put_behind n ks k h =
@@ -62,7 +62,7 @@ fold_behind : (n : Name) (ks xs : List Name) → AllBehind n ks → AllBehind n 
 fold_behind n ks [] h l = h
 fold_behind n ks (x ∷ xs) h l = fold_behind n (insert_key name_cmp ks x) xs (put_all_behind n ks x h l.0) l.1
 
--- ---- one list, of which the name is taken where it is the first
+-- ---- one list: the name is taken if it is the first
 
 each_behind : (n k : Name) (ks : List Name) → name_cmp n k ≡ Less → AllBehind k ks → AllBehind n ks
 each_behind n k [] l h = tt

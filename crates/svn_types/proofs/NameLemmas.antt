@@ -137,7 +137,7 @@ has_name-fold (x ∷ xs) ms m =
     swap false true c = refl
     swap false false c = refl
 
--- ---- names of which none has a fault
+-- ---- names without a fault
 
 pub first_without_fault : (n : List ℕ) (p : Path) → names_fault (n ∷ p) ≡ None → name_fault n ≡ None
 first_without_fault n p h = (option_or_none (name_fault n) (names_fault p) h).0

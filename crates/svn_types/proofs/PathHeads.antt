@@ -22,7 +22,7 @@ unfolding leading
 leading_nil zero = refl
 leading_nil (suc n) = omega (arith, leading_nil n)
 
--- behind its last byte nothing is left of a list
+-- after its last byte nothing is left of a list
 pub no_second_word : (s : List ℕ) → length s ≤ 8 → leading 6 (drop 8 s) ≡ 0
 no_second_word s short = ap (leading 6) (drop_of_length-le s short) ∙ leading_nil 6
 

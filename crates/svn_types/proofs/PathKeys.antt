@@ -30,7 +30,7 @@ below_plain b rest h = grind (arith, h)
 above_plain : (b : ℕ) (rest : Bool) → (is_plain b && rest) ≡ true → nat_cmp b 1 ≡ Greater
 above_plain b rest h = grind (arith, h)
 
--- two names and what stands behind them
+-- two names and what is after them
 names_order : (m n s t : List ℕ) → list_all is_plain m ≡ true → list_all is_plain n ≡ true
     → slice_cmp nat_cmp (m ++ 1 ∷ s) (n ++ 1 ∷ t) ≡ ordering_then (slice_cmp nat_cmp m n) (slice_cmp nat_cmp s t)
 names_order [] [] s t hm hn = refl
@@ -124,7 +124,7 @@ not_more key above below last hk not e =
 not_one : (b : ℕ) (rest : Bool) → (is_plain b && rest) ≡ true → 1 ≢ b
 not_one b rest h e = grind (arith, h, e)
 
--- where a name ends is seen by the byte behind it
+-- where a name ends is seen by the byte after it
 names_end : (m n s t : List ℕ) → list_all is_plain m ≡ true → list_all is_plain n ≡ true → m ++ 1 ∷ s ≡ n ++ 1 ∷ t → (m ≡ n) × (s ≡ t)
 names_end [] [] s t hm hn e = (refl, cc)
 names_end [] (b ∷ n) s t hm hn e = absurd (not_one b _ hn cc)
@@ -153,7 +153,7 @@ within_key p q w =
     let split = split_within p q w in
     (path_key split.0, ap path_key split.1 ∙ path_key-append p split.0)
 
--- what stands behind the key above in the key below says whether the path is within
+-- what is after the key above in the key below says whether the path is within
 pub within_by_keys : (p q : Path) → is_plain_path p ≡ true → is_plain_path q ≡ true → (r : Option (Bor (List ℕ)))
     → MatchOption r ((rest : List ℕ) → path_key q ≡ path_key p ++ rest → ⊥) (λ x. path_key q ≡ path_key p ++ x.now) → is_some r ≡ is_within p q
 within_by_keys p q hp hq (Some x) h = sym (key_within p q hp hq x.now h)
@@ -168,7 +168,7 @@ plain_append p q hp hq = list_all-append is_plain_name p q ∙ (λ i. hp i && hq
 
 -- ---- a path without its first names
 
--- the key without so many bytes as those names have
+-- the key without that many bytes as those names have
 pub key_cut : (k : ℕ) (p : Path) → drop (length (path_key (take k p))) (path_key p) ≡ path_key (drop k p)
 key_cut k p =
     ap (drop (length (path_key (take k p)))) (ap path_key (sym (take-append-drop k p)) ∙ path_key-append (take k p) (drop k p))
@@ -178,7 +178,7 @@ pub plain_cut : (k : ℕ) (p : Path) → is_plain_path p ≡ true → is_plain_p
 plain_cut k p h =
     (and_parts _ _ (sym (list_all-append is_plain_name (take k p) (drop k p)) ∙ ap is_plain_path (take-append-drop k p) ∙ h)).1
 
--- the bytes of a key up to a place, and of some names behind it
+-- the bytes of a key up to a place, and of some names after it
 pub key_further : (j k : ℕ) (p : Path)
     → length (path_key (take j p)) + length (path_key (take k (drop j p))) ≡ length (path_key (take (j + k) p))
 key_further j k p =

@@ -100,7 +100,7 @@ within_between (m ∷ p) (k ∷ x) (n ∷ q) before after w = by (name_cmp m k) 
         ∙ ih h (λ l. after (ap (λ o. ordering_then o (path_cmp q x)) (as_m Equal e) ∙ l)) parts.1
     by Greater e h ih = cc
 
--- what stands between a path and one of its children is below an earlier child
+-- what is between a path and one of its children is below an earlier child
 pub between_child : (q k : Path) (name : Name) → path_cmp q k ≡ Less → path_cmp k (child q name) ≡ Less
     → (x : Name) × (r : Path) × (k ≡ q ++ x ∷ r) × (name_cmp x name ≡ Less)
 between_child [] [] name after before = absurd (true≢false (sym (ap is_lt after)))

@@ -1,4 +1,4 @@
--- Bytes with zeros behind them: words of eight of them tell their order.
+-- Bytes with zeros after them: words of eight of them decide their order.
 use Rattle.std.proofs.Common.{◌≡◌, ◌≢◌, ℕ, zero, suc, ◌+◌, ◌-◌, ◌*◌, ◌^◌, ◌/◌, ◌<◌, ◌≤◌, refl, ap, sym, subst, ◌∙◌, arith}
 use Rattle.std.proofs.Common.{List, [], ◌∷◌, length, take, drop, get_or}
 use Rattle.std.specs.declared.cmp.Ordering.{Ordering}
@@ -14,7 +14,7 @@ use Rattle.svn_lists.proofs.Parts.{drop_next, first_left}
 use Rattle.svn_types.specs.LeadingBytes.{IsByteList, IsZeroFrom, leading}
 use Rattle.svn_types.proofs.PathHeads.{heads_order, leading_bounded}
 
--- the digit at a place, and those behind it
+-- the digit at a place, and those after it
 leading_at : (n j next : ℕ) (s : List ℕ) → next ≡ suc j → leading (suc n) (drop j s) ≡ get_or s j 0 * 256 ^ n + leading n (drop next s)
 unfolding leading
 leading_at n j next s behind =
@@ -99,7 +99,7 @@ same_start k n s t small_s small_t same =
     (leading_bounded n (drop k t) (dropped k t small_t))
     (sym (leading_split k n s) ∙ same ∙ leading_split k n t)
 
--- lists of so many bytes at most that have the same ones are ordered as their lengths are
+-- lists of at most that many bytes that have the same ones are ordered as their lengths are
 
 lengths_order : (n : ℕ) (s t : List ℕ) → length s ≤ n → length t ≤ n → IsByteList s → IsByteList t → leading n s ≡ leading n t
     → slice_cmp nat_cmp s t ≡ nat_cmp (length s) (length t)
@@ -117,7 +117,7 @@ lengths_order (suc n) (b ∷ s) (c ∷ t) short_s short_t small_s small_t same =
     ∙ lengths_order n s t (omega arith) (omega arith) rest_s rest_t (last_digit_same b c (256 ^ n) (leading n s) (leading n t) first same)
     ∙ nat_cmp-suc (length s) (length t)
 
--- what stands in a room: its first bytes, with zeros behind them
+-- what is in a room: its first bytes, with zeros after them
 pub shown_at : (n : ℕ) (room : List ℕ) → IsZeroFrom n room → n ≤ length room → (i : ℕ) → get_or room i 0 ≡ get_or (take n room) i 0
 shown_at n room zeros fits i = by (nat_cmp i n) refl
   where
@@ -129,7 +129,7 @@ shown_at n room zeros fits i = by (nat_cmp i n) refl
     by Equal e = past (omega (arith, equal_from_nat_cmp i n (sym e)))
     by Greater e = past (omega (arith, greater_from_nat_cmp i n (sym e)))
 
--- bytes with zeros behind them, in rooms of one size
+-- bytes with zeros after them, in rooms of one size
 pub record InRoom (size len : ℕ) (room : List ℕ) : Type 0 where
   pub fits : len ≤ size
   pub whole : length room ≡ size
@@ -151,14 +151,14 @@ word_shown size n k room r =
     ∙ shown_at n room r.zeros (omega (arith, r.fits, r.whole)) (k + i)
     ∙ sym (get_or-drop k (take n room) i 0))
 
--- two first words that are unlike tell the order
+-- two different first words decide the order
 pub first_words : (size m n : ℕ) (one two : List ℕ) → InRoom size m one → InRoom size n two
     → (o : Ordering) → o ≡ nat_cmp (leading 8 one) (leading 8 two) → o ≢ Equal → o ≡ slice_cmp nat_cmp (take m one) (take n two)
 first_words size m n one two r s o is unlike =
     sym (heads_order 8 (take m one) (take n two) (shown_bytes size m one r) (shown_bytes size n two s) o
     (is ∙ (λ i. nat_cmp (word_shown size m 0 one r i) (word_shown size n 0 two s i))) unlike)
 
--- what stands in two rooms with the same first words begins with the same bytes
+-- what is in two rooms with the same first words begins with the same bytes
 same_fronts : (size k m n : ℕ) (one two : List ℕ) → k ≤ 8 → InRoom size m one → InRoom size n two → leading 8 one ≡ leading 8 two
     → leading k (take m one) ≡ leading k (take n two)
 same_fronts size k m n one two within r s same =
@@ -168,7 +168,7 @@ same_fronts size k m n one two within r s same =
     same_start k (8 - k) (take m one) (take n two) (shown_bytes size m one r) (shown_bytes size n two s)
     (subst (λ l. leading l (take m one) ≡ leading l (take n two)) all starts)
 
--- behind the same first words two last ones tell the order
+-- after equal first words the last two decide the order
 pub last_words : (size m n : ℕ) (one two : List ℕ) → 8 ≤ size → size ≤ 16 → InRoom size m one → InRoom size n two
     → leading 8 one ≡ leading 8 two
     → (o : Ordering) → o ≡ nat_cmp (leading 8 (drop (size - 8) one)) (leading 8 (drop (size - 8) two)) → o ≢ Equal
@@ -183,7 +183,7 @@ last_words size m n one two least most r s same o is unlike =
     sym (heads_order (k + 8) (take m one) (take n two) (shown_bytes size m one r) (shown_bytes size n two s) o
     (is ∙ (λ i. nat_cmp (word_shown size m k one r i) (word_shown size n k two s i)) ∙ whole) unlike)
 
--- and behind the same words the lengths
+-- and after the same words the lengths
 pub last_lengths : (size m n : ℕ) (one two : List ℕ) → 8 ≤ size → size ≤ 16 → InRoom size m one → InRoom size n two
     → leading 8 one ≡ leading 8 two
     → leading 8 (drop (size - 8) one) ≡ leading 8 (drop (size - 8) two) → nat_cmp m n ≡ slice_cmp nat_cmp (take m one) (take n two)

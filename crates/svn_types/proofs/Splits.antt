@@ -14,7 +14,7 @@ use Rattle.svn_types.specs.NameSplits.{IsNameSplit}
 not_less_itself : (n : ℕ) → nat_lt n n ≡ false
 not_less_itself n = grind (arith, nat_tests)
 
--- the first place of a byte, as a search tells it
+-- the first place of a byte, as a search finds it
 pub first_place : (b : ℕ) (xs : List ℕ) (r : Option ℕ) → IsFirstByte (is_byte b) xs r → r ≡ position (λ x. nat_eq x b) xs
 first_place b xs None h =
     sym (position_is (λ x. nat_eq x b) xs (length xs) (omega arith) (λ k. h k (omega arith)) (λ l. absurd (omega (arith, l)))

@@ -38,7 +38,7 @@ key_bytes (n ∷ p) h =
     list_all-append (nat_le 1) n (1 ∷ path_key p)
     ∙ (λ i. some_bytes n plain.1 i && key_bytes p parts.1 i)
 
--- ---- lists without a zero, of which the heads are whole
+-- ---- lists without a zero that lie whole in their heads
 
 not_zero : (b : ℕ) (rest : Bool) → (nat_le 1 b && rest) ≡ true → b ≡ 0 → ⊥
 not_zero b rest h e = grind (arith, h, e)

@@ -42,7 +42,7 @@ names_in (form.More a) = arc_value a
 names_in (form.Many a) = arc_value a
 names_in (form.Long a) = arc_value a
 
--- a block of that size has room for so many names and a key of so many bytes
+-- a block of that size has room for that many names and a key of that many bytes
 abbrev pub HasRoom : Size → ℕ → ℕ → Type 0
 HasRoom size.Few count len = (count ≤ 4) × (len ≤ 62)
 HasRoom size.Several count len = (count ≤ 6) × (len ≤ 78)

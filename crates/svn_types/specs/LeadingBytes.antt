@@ -1,7 +1,7 @@
--- Bytes, the first of them as one number, and zeros behind them.
+-- Bytes, the first of them as one number, and zeros after them.
 use Rattle.std.specs.Prelude.{◌≡◌, ℕ, zero, suc, ◌+◌, ◌*◌, ◌^◌, ◌<◌, ◌≤◌, List, get_or, drop}
 
--- the first so many bytes as the digits of one number to the base 256, zeros behind a shorter list
+-- the first n bytes as the digits of one number to the base 256, zeros after a shorter list
 unfoldable pub leading : ℕ → List ℕ → ℕ
 leading zero s = 0
 leading (suc n) s = get_or s 0 0 * 256 ^ n + leading n (drop 1 s)

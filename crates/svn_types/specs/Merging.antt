@@ -1,5 +1,5 @@
--- Two lists of pairs in order of their names, of which the first name of either is taken.
---     TakesAt name es value rest      the name had the value and is taken, or all names are behind it
+-- Two lists of pairs in order of their names, merged: the first name of either is taken.
+--     TakesAt name es value rest      the name had the value and is taken, or all names are after it
 --     TakesFirst first l l'      the first name of either was taken, with its value in each
 use denote.Ref.{Bor}
 use Rattle.std.specs.Prelude.{◌≡◌, ℕ, true, List, [], ◌∷◌, ◌||◌, is_some, Option, Some, None}
@@ -12,7 +12,7 @@ use Rattle.svn_types.specs.declared.props_left.PropsLeft.{PropsLeft}
 abbrev pub InEither : Type 0
 InEither = Bor (List ℕ) × Option (Bor (List ℕ)) × Option (Bor (List ℕ))
 
--- the first of the pairs is behind the name
+-- the first of the pairs is after the name
 abbrev pub IsBehind : {V : Type 0} → List ℕ → List (List ℕ × V) → Type 0
 IsBehind name [] = Unit {0}
 IsBehind name (e ∷ es) = name_cmp name e.0 ≡ Less

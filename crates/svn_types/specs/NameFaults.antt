@@ -1,4 +1,4 @@
--- Which texts are refused as names and paths, and why. The first fault in this order is answered, and want of memory comes last.
+-- Which texts are refused as names and paths, and why. The first fault in this order is returned, and Memory comes last.
 --     AnswersPath fault value result      the result is that fault, or the value where there is none
 use Rattle.std.specs.Prelude.{◌≡◌, ℕ, List, [], ◌∷◌, length, nat_lt, nat_eq, Option, Some, None, Result, Ok, Err, if◌then◌else◌, codes}
 use Rattle.std.specs.List.{list_all}

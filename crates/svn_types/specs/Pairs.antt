@@ -5,7 +5,7 @@ use Rattle.std.specs.Map.{keys_of, lookup, remove_entry}
 use Rattle.std.specs.BTreeMap.{is_at, insert_entry}
 use Rattle.svn_types.specs.Names.{name_cmp}
 
--- the names stand in strict order
+-- the names are in strict order
 abbrev pub InNameOrder : {V : Type 0} → List (List ℕ × V) → Type 0
 InNameOrder es = IsStrictlySortedBy name_cmp (keys_of es)
 

@@ -1,4 +1,4 @@
--- The key of a path: its names in one text, the byte 1 behind each. As no name has a byte below 32, the order of keys is that of paths.
+-- The key of a path: its names in one text, the byte 1 after each. As no name has a byte below 32, the order of keys is that of paths.
 use Rattle.std.specs.Prelude.{ℕ, Bool, ◌&&◌, List, [], ◌∷◌, ◌++◌, length, nat_le}
 use Rattle.std.specs.List.{list_all}
 use Rattle.svn_types.specs.Names.{Path, is_plain}

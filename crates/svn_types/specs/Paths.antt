@@ -1,5 +1,5 @@
 -- Paths above and below one another.
---     path_eq p q, is_within p q, is_below p q      the same path; q is p or stands below it; q stands strictly below p
+--     path_eq p q, is_within p q, is_below p q      the same path; q is p or is below it; q is strictly below p
 --     child p name, parent p, last_name p      a path one name longer, and one name shorter; its last name, as a path
 --     parent_path p      the path one name shorter, none for the root
 use Rattle.std.specs.Prelude.{ℕ, Bool, true, false, ◌&&◌, not, List, [], ◌∷◌, ◌++◌, bytes_eq, Option, Some, None, if◌then◌else◌}
@@ -9,13 +9,13 @@ use Rattle.svn_types.specs.Names.{Path}
 abbrev pub path_eq : Path → Path → Bool
 path_eq = pointwise bytes_eq
 
--- the second path is the first, or stands below it
+-- the second path is the first, or is below it
 abbrev pub is_within : Path → Path → Bool
 is_within [] q = true
 is_within (m ∷ p) [] = false
 is_within (m ∷ p) (n ∷ q) = bytes_eq m n && is_within p q
 
--- the second path stands strictly below the first
+-- the second path is strictly below the first
 abbrev pub is_below : Path → Path → Bool
 is_below p q = is_within p q && not (path_eq p q)
 

@@ -23,7 +23,7 @@ fn copied(value: Option<&Text>) -> Result<Option<Text>, AllocError>
 
 impl Props {
     /// The changes that lead from these properties to the new ones: one for each name whose value differs, in byte order of the names.
-    /// AllocError where a growth is refused.
+    /// AllocError if an allocation fails.
     pub fn changes_to(&self, alloc: Global, new: &Props) -> Result<Vec<PropChange>, AllocError>
         ensures { IfOk result (λ v. v.items ≡ changes_between self.now new.now) }
     {

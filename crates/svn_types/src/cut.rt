@@ -23,7 +23,7 @@ pub(crate) struct Cut {
 /// Nothing is left out.
 pub(crate) const UNCUT: Cut = Cut { names: 0, bytes: 0 };
 
-/// How many bytes the key of some names has, which are as many as a path may have.
+/// How many bytes the key of some names has, if a path may have that many names.
 pub(crate) fn key_len(names: &[Name]) -> usize
     requires { length names.now ≤ depth_limit }
     ensures len { result ≡ length (path_key names.now) }

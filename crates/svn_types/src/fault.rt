@@ -9,7 +9,7 @@ use thiserror::Error;
 /// Why a text is no name, no path or no name of a property.
 #[derive(Clone, Copy, Debug, PartialEq, Eq, Error)]
 pub enum PathFault {
-    /// A name without a byte, as between two slashes, at the end behind a slash, or for a property.
+    /// A name without a byte, as between two slashes, at the end after a slash, or for a property.
     #[error("a name is empty")]
     EmptyComponent,
     /// The name `.` or `..` of a node.
@@ -25,7 +25,7 @@ pub enum PathFault {
     /// A path of over 128 names.
     #[error("a path has over 128 names")]
     TooManyComponents,
-    /// A growth was refused.
+    /// An allocation failed.
     #[error("out of memory")]
     Memory,
 }

@@ -10,7 +10,7 @@ use crate::rel_path::{RelPath, behind};
 use std::alloc::{AllocError, Global};
 
 impl RelPath {
-    /// The path without its last name, which is that of the directory where it stands; none for the root. AllocError where a growth is refused.
+    /// The path without its last name, which is the path of the directory that it is in; none for the root. AllocError if an allocation fails.
     pub fn parent(&self, alloc: Global) -> Result<Option<RelPath>, AllocError>
         ensures { IfOk result (λ above. above ≡ parent_path self.now) }
     {
@@ -28,14 +28,14 @@ impl RelPath {
         self.components().last()
     }
 
-    /// Whether it is that path or stands below it. It takes no memory.
+    /// Whether it is that path or is below it. It takes no memory.
     pub fn is_within(&self, above: &RelPath) -> bool
         ensures { result ≡ is_within above.now self.now }
     {
         behind(self.key(), above.key()).is_some()
     }
 
-    /// The path with the names of another one behind its own: TooManyComponents where they are over 128 together, else Memory alone.
+    /// The path with the names of another one after its own: TooManyComponents where they are over 128 together, else Memory alone.
     pub fn join_path(&self, alloc: Global, below: &RelPath) -> Result<RelPath, PathFault>
         ensures { AnswersPath (count_fault (length self.now + length below.now)) (self.now ++ below.now) result }
     {

@@ -4,7 +4,7 @@
 pub const MAX_NAME_LEN: usize = 255;
 
 /// The most names in a path, which may be that of a working copy: twice those of a repository's path, since a directory that was switched to
-/// may stand 64 names deep and hold a tree 64 names high. Beyond it is `PathFault::TooManyComponents`.
+/// may be 64 names deep and hold a tree 64 names high. Beyond it is `PathFault::TooManyComponents`.
 pub const MAX_COMPONENTS: usize = 128;
 
 /// The most names in a path of a repository; beyond it each layer has a fault `TooDeep`.

@@ -75,7 +75,7 @@ pub(crate) fn fault_of_name(bytes: &[u8]) -> Option<PathFault>
 }
 
 impl Name {
-    /// Reads the name of a node. The first fault in this order is answered: EmptyComponent, Dots, NameTooLong, BadCharacter; Memory comes last.
+    /// Reads the name of a node. The first fault in this order is returned: EmptyComponent, Dots, NameTooLong, BadCharacter; Memory comes last.
     pub fn parse(alloc: Global, text: &str) -> Result<Name, PathFault>
         ensures { AnswersPath (name_fault text.now) text.now result }
     {
@@ -101,7 +101,7 @@ impl Name {
         }
     }
 
-    /// Makes another name this one, where that lies.
+    /// Overwrites another name with this one, in place.
     pub(crate) fn write_to(&self, place: &mut Name) -> Result<(), AllocError>
         ensures written { OnOk result (place.new ≡ self.now) }
         ensures unchanged { OnErr result (place.new ≡ place.old) }

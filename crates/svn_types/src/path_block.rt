@@ -11,7 +11,7 @@ use std::marker::Model;
 /// Up to `N` names, and beside them their key of at most `K` bytes. Both are below 256. A contract sees it as the list of the names.
 #[derive(Drop)]
 pub(crate) struct PathBlock<const N: usize, const K: usize> {
-    // The count and the key come first: what compares, clones or drops a path touches the first bytes of its block alone.
+    // The count and the key come first: comparing, cloning or dropping a path touches only the first bytes of its block.
     count: u8,
     key: ShortKey<K>,
     // Blanks come after the names.
@@ -29,7 +29,7 @@ impl<const N: usize, const K: usize> Model for PathBlock<N, K> {
     ghost invariant = { λ p. (p.count ≤ N) × (length p.names ≡ N) × (is_plain_path (take p.count p.names) ≡ true) × (p.key ≡ path_key (take p.count p.names)) };
 }
 
-// Writes names over those from `start` on, each where it stays: what is handed on is copied in pieces, for which a processor waits.
+// Writes names over those from `start` on, each in its final place: names passed by value are copied in pieces, which stalls the processor.
 fn write_at<const N: usize>(
     room: &mut [Name; N],
     start: usize,
@@ -46,7 +46,7 @@ fn write_at<const N: usize>(
 }
 
 impl<const N: usize, const K: usize> PathBlock<N, K> {
-    /// These names and those behind them, which have this key. Inlined, so that the block is made where it stays.
+    /// These names and those after them, which have this key. Inlined, so that the block is made in place.
     #[inline(always)]
     pub(crate) fn of(
         names: &[Name],

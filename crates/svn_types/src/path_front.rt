@@ -1,4 +1,4 @@
-//! What lies in a path itself, beside its block.
+//! The part of a path that is in the value itself, not in its block.
 ghost use Rattle.std.specs.Prelude.{◌≡◌, ◌<◌, ◌%◌, IsTrue};
 ghost use Rattle.svn_types.specs.Forms.{head_in, cut_in, IsSmallCut};
 ghost use Rattle.svn_types.specs.PathHeads.{second_limit};
@@ -11,7 +11,7 @@ const BYTE: u64 = 256;
 
 const BELOW_HEAD: u64 = 65536;
 
-/// The head of a path and its cut, in two numbers: what moves a path moves no field more than it would without a cut.
+/// The head of a path and its cut, in two numbers: a cut adds no field to a path.
 #[derive(Clone, Copy)]
 pub(crate) struct PathFront {
     /// The first number of the head.

@@ -9,17 +9,17 @@ use crate::short_bytes::ShortBytes;
 // How many bytes of a key make one number.
 const WORD: usize = 8;
 
-// Two bytes of the second word have no place in a head: it is divided by what the byte before them counts.
+// Two bytes of the second word have no place in a head: it is shifted right by them.
 const AFTER_HEAD: u64 = 65536;
 
-/// The first 14 bytes of a key, the first byte the highest: eight and six. Zeros stand behind a shorter key.
+/// The first 14 bytes of a key, the first byte the highest: eight and six. Zeros are after a shorter key.
 #[derive(Clone, Copy)]
 pub(crate) struct Head {
     pub(crate) first: u64,
     pub(crate) second: u64,
 }
 
-// The first 8 bytes as one number, zeros behind fewer.
+// The first 8 bytes as one number, zeros after fewer.
 fn word_of(bytes: &[u8]) -> u64
     ensures { result ≡ leading 8 bytes.now }
 {

@@ -8,7 +8,7 @@ use std::alloc::{AllocError, Global};
 use std::marker::Model;
 use std::str;
 
-// The longest key that lies in the value itself. With it a path of many names is a block of 88 bytes and that of its names.
+// The longest key that lies in the value itself. With it a path of many names has a block of 88 bytes and one for its names.
 const MAX_SHORT: usize = 54;
 
 #[derive(Drop)]
@@ -17,7 +17,7 @@ enum KeyForm {
     Long(Vec<u8>),
 }
 
-/// The key of a path: its names in one run of bytes, the byte 1 behind each. As no name has a byte below 32, the order of the keys is that of
+/// The key of a path: its names in one run of bytes, the byte 1 after each. As no name has a byte below 32, the order of the keys is that of
 /// the paths. It is a text, since texts are compared many bytes at a time. A contract sees it as its bytes.
 #[derive(Drop)]
 pub(crate) struct PathKey {
@@ -66,7 +66,7 @@ impl PathKey {
         })
     }
 
-    /// The key that is these texts, one behind the other.
+    /// The key that is these texts, one after the other.
     pub(crate) fn joined(
         alloc: Global,
         above: &str,

@@ -148,7 +148,7 @@ impl PathParts {
         }
     }
 
-    /// These names, which are as many as a path may have.
+    /// These names, if a path may have that many.
     pub(crate) fn of(alloc: Global, names: &[Name]) -> Result<PathParts, AllocError>
         requires { length names.now ≤ depth_limit }
         ensures { IfOk result (λ p. p ≡ names.now) }
@@ -186,7 +186,7 @@ impl PathParts {
         PathParts::of_pieces(alloc, &pieces)
     }
 
-    /// The names of these pieces, of which each has one or more.
+    /// The names of these pieces, each of one or more names.
     pub(crate) fn of_pieces(alloc: Global, pieces: &Pieces<'_>) -> Result<PathParts, AllocError>
         ensures { IfOk result (λ p. p ≡ pieces.now.names.now ++ pieces.now.more.now) }
     {
@@ -200,7 +200,7 @@ impl PathParts {
         }
     }
 
-    /// The names behind a cut.
+    /// The names after a cut.
     pub(crate) fn names_behind(&self, cut: Cut) -> &[Name]
         requires { IsCut cut self.now }
         ensures { result.now ≡ path_in cut self.now }

@@ -37,7 +37,7 @@ pub(crate) enum Size {
 }
 
 impl Size {
-    /// The smallest that has room for so many names and a key of so many bytes.
+    /// The smallest that has room for that many names and a key of that many bytes.
     pub(crate) fn of(count: usize, len: usize) -> Size
         ensures { HasRoom result count len }
     {

@@ -4,7 +4,7 @@ ghost use Rattle.svn_types.specs.PathKeys.{path_key, is_plain_path};
 
 use crate::name::Name;
 
-/// Two lists of names, one behind the other, and three texts that are their key.
+/// Two lists of names, one after the other, and three texts that are their key.
 #[derive(Clone, Copy)]
 pub(crate) struct Pieces<'a> {
     pub(crate) names: &'a [Name],

@@ -81,7 +81,7 @@ fn fault_of_prop_name(bytes: &[u8]) -> Option<PathFault>
 }
 
 impl PropName {
-    /// Reads the name of a property. The first fault in this order is answered: EmptyComponent, NameTooLong, BadCharacter; Memory comes last.
+    /// Reads the name of a property. The first fault in this order is returned: EmptyComponent, NameTooLong, BadCharacter; Memory comes last.
     pub fn parse(alloc: Global, text: &str) -> Result<PropName, PathFault>
         ensures { AnswersPath (prop_name_fault text.now) text.now result }
     {

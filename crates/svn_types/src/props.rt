@@ -86,7 +86,7 @@ impl Props {
         self.map.get(name)
     }
 
-    /// Sets a property; the value before goes. AllocError where a growth is refused, and then nothing has changed.
+    /// Sets a property; the value before goes. AllocError if an allocation fails, and then nothing has changed.
     pub fn insert(&mut self, name: PropName, value: Text) -> Result<(), AllocError>
         ensures ok { OnOk result (self.new ≡ insert_entry name_cmp self.old name value) }
         ensures err { OnErr result (self.new ≡ self.old) }

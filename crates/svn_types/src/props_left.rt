@@ -10,7 +10,7 @@ use std::cmp::Ordering;
 use std::collections::btree_map::Iter;
 use std::marker::Model;
 
-/// The properties of one list that are left, of which the first is at hand.
+/// The properties of a list that are left; the first is ready to be read.
 #[derive(Drop)]
 pub(crate) struct ListLeft<'a> {
     first: Option<(&'a PropName, &'a Text)>,

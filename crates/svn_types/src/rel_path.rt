@@ -30,10 +30,10 @@ use std::fmt;
 use std::hash::{Hash, Hasher};
 use std::marker::Model;
 
-/// A path below some root (a relpath of `svn_dirent_uri.h`): at most 128 names, of which the root has none. Paths are ordered name by name, names by their bytes, a prefix first,
-/// so a directory stands directly before what is beneath it. A contract sees a path as the list of its names. A clone shares them.
+/// A path below some root (a relpath of `svn_dirent_uri.h`): at most 128 names; the root has none. Paths are ordered name by name, names by their bytes, a prefix first,
+/// so a directory is directly before what is below it. A contract sees a path as the list of its names. A clone shares them.
 pub struct RelPath {
-    // The first bytes of its key, by which most comparisons are decided without a look into another block, and what it leaves out of its block.
+    // The first bytes of its key, which decide most comparisons without reading another block, and what it leaves out of its block.
     front: PathFront,
     parts: PathParts,
 }
@@ -58,7 +58,7 @@ fn split_name(text: &str) -> Option<(&str, &str)>
     text.split_once('/')
 }
 
-// How many names a text spells, or the fault of the first faulty one. It goes over bytes, which is shorter where names are.
+// How many names a text spells, or the fault of the first faulty one. It goes over bytes, which is quicker for short names.
 fn count_names(text: &[u8]) -> Result<usize, PathFault>
     ensures { MatchResult result (λ n. (names_fault (slice_split is_slash text.now) ≡ None) × (n ≡ length (slice_split is_slash text.now))) (λ e. names_fault (slice_split is_slash text.now) ≡ Some e) }
 {
@@ -139,7 +139,7 @@ fn parts_of(alloc: Global, text: &str, count: usize) -> Result<PathParts, AllocE
     }
 }
 
-// What stands behind a text's front, if that is this.
+// What is after a text's front, if that is this.
 pub(crate) fn behind<'a>(text: &'a str, front: &str) -> Option<&'a str>
     ensures { MatchOption result ((rest : List ℕ) → text.now ≡ front.now ++ rest → ⊥) (λ rest. text.now ≡ front.now ++ rest.now) }
 {
@@ -161,7 +161,7 @@ fn is_one_more(key: &str, above: &str, last: &str) -> bool
 }
 
 impl RelPath {
-    // The names of a block behind a cut.
+    // The names of a block after a cut.
     fn behind(parts: PathParts, cut: Cut) -> RelPath
         requires cut { IsCut cut parts }
         requires small { IsSmallCut cut }
@@ -199,7 +199,7 @@ impl RelPath {
         }
     }
 
-    /// Reads names with slashes between them. The empty text is the root. The fault of the first faulty name is answered, else
+    /// Reads names with slashes between them. The empty text is the root. The fault of the first faulty name is returned, else
     /// TooManyComponents over 128 names; Memory comes last.
     pub fn parse(alloc: Global, text: &str) -> Result<RelPath, PathFault>
         ensures { let p = path_of_text text.now in AnswersPath (path_fault p) p result }
@@ -225,7 +225,7 @@ impl RelPath {
         Ok(RelPath::of_parts(PathParts::of(alloc, names)?))
     }
 
-    // The path with the names of another one after its own, which are few enough. Where either is the root it is the other, and takes no memory.
+    // The path with the names of another one after its own, which are few enough. If one is the root the result is the other, and takes no memory.
     pub(crate) fn joined(&self, alloc: Global, below: &RelPath) -> Result<RelPath, AllocError>
         requires { length self.now + length below.now ≤ depth_limit }
         ensures { IfOk result (λ p. p ≡ self.now ++ below.now) }
@@ -246,8 +246,8 @@ impl RelPath {
         Ok(RelPath::of_parts(PathParts::of_pieces(alloc, &pieces)?))
     }
 
-    /// The path without its first names, of which so many go; the root where it has no more. Where it leaves out little (at most 4 names and
-    /// 64 bytes in all of what it shares) it lies in the memory of this one, and else in memory of its own. AllocError where an allocation failed.
+    /// The path without that many of its first names; the root if it has no more. Where it leaves out little (at most 4 names and
+    /// 64 bytes in all of what it shares) it lies in the memory of this one, and else in memory of its own. AllocError if an allocation fails.
     pub fn tail(&self, alloc: Global, count: usize) -> Result<RelPath, AllocError>
         ensures { IfOk result (λ p. p ≡ drop count self.now) }
     {
@@ -281,7 +281,7 @@ impl RelPath {
         self.parts.names_behind(self.front.cut())
     }
 
-    /// Its key: its names in one text, the byte 1 behind each. Paths are compared by their keys. It takes no memory.
+    /// Its key: its names in one text, the byte 1 after each. Paths are compared by their keys. It takes no memory.
     pub fn key(&self) -> &str
         ensures key { result.now ≡ path_key self.now }
         ensures plain { is_plain_path self.now ≡ true }

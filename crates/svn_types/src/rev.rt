@@ -6,7 +6,7 @@ use std::fmt;
 use std::marker::Model;
 
 /// The number of a revision (`svn_revnum_t` of `svn_types.h`, without its invalid number): 0 is the empty one that every repository begins with.
-/// Which revisions there are, a repository knows. A contract sees it as the number.
+/// A repository knows which revisions there are. A contract sees it as the number.
 #[derive(Clone, Copy, Debug, PartialEq, Eq, PartialOrd, Ord, Hash)]
 pub struct Rev(pub u64);
 

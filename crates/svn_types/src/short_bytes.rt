@@ -8,7 +8,7 @@ use crate::leading_bytes::word_at;
 use std::cmp::Ordering;
 use std::marker::Model;
 
-/// At most `N` bytes, which take no memory of their own. `N` is below 256. Zeros lie behind them. A contract sees them as their list.
+/// At most `N` bytes, which take no memory of their own. `N` is below 256. Zeros lie after them. A contract sees them as their list.
 #[derive(Drop)]
 pub(crate) struct ShortBytes<const N: usize> {
     len: u8,
@@ -78,7 +78,7 @@ impl<const N: usize> ShortBytes<N> {
         &self.room[..self.len as usize]
     }
 
-    /// The first eight bytes as one number, zeros behind fewer.
+    /// The first eight bytes as one number, zeros after fewer.
     pub(crate) fn first_word(&self) -> u64
         requires { 8 ≤ N }
         ensures { result ≡ leading 8 self.now }
@@ -86,7 +86,7 @@ impl<const N: usize> ShortBytes<N> {
         word_at(&self.room, 0)
     }
 
-    /// How they stand to others in the order of bytes. The first eight bytes are compared as one number, and the last eight that there is room
+    /// How they compare with others in the order of bytes. The first eight bytes are compared as one number, and the last eight that there is room
     /// for: where all are equal, the shorter ones are a prefix.
     pub(crate) fn order(&self, other: &ShortBytes<N>) -> Ordering
         requires { (8 ≤ N) × (N ≤ 16) }

@@ -50,7 +50,7 @@ impl<const K: usize> ShortKey<K> {
         ShortKey { bytes }
     }
 
-    /// The key that is these texts, one behind the other, which have at most `K` bytes.
+    /// The key that is these texts, one after the other, which have at most `K` bytes.
     pub(crate) fn joined(above: &str, below: &str, end: &str) -> ShortKey<K>
         requires small { K < 256 }
         requires fits { length above.now + length below.now + length end.now ≤ K }

@@ -62,7 +62,7 @@ impl SmallText {
         }
     }
 
-    /// How it stands to another in the order of bytes.
+    /// How it compares with another in the order of bytes.
     pub(crate) fn order(&self, other: &SmallText) -> Ordering
         ensures { result ≡ slice_cmp nat_cmp self.now other.now }
     {
@@ -79,7 +79,7 @@ impl SmallText {
         self.order(other).is_eq()
     }
 
-    /// Makes another text this one, where that lies.
+    /// Overwrites another text with this one, in place.
     pub(crate) fn write_to(&self, place: &mut SmallText) -> Result<(), AllocError>
         ensures written { OnOk result (place.new ≡ self.now) }
         ensures unchanged { OnErr result (place.new ≡ place.old) }

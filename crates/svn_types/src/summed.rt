@@ -1,4 +1,4 @@
-//! Bytes that may have their checksum beside them.
+//! Bytes with room for their checksum.
 ghost use Rattle.std.specs.Prelude.{◌≡◌, ◌≤◌, length, IfSome};
 ghost use Rattle.md5.specs.Md5.{md5};
 
@@ -65,7 +65,7 @@ impl ShortSummed {
     }
 }
 
-/// Bytes in a vector, with their MD5 checksum if somebody asked for it to be kept. A contract sees the bytes.
+/// Bytes in a vector, with their MD5 checksum if it is to be kept. A contract sees the bytes.
 #[derive(Drop)]
 pub(crate) struct LongBytes {
     bytes: Vec<u8>,

@@ -16,7 +16,7 @@ use std::sync::Arc;
 const MAX_SHORT: usize = 30;
 
 // A short text lies in the value itself, and takes no memory. A long one stays in the vector that it came in; a clone of it is a copy, and all
-// clones of that copy share its bytes. A checksum has room beside a very short text, and in what clones share.
+// clones of that copy share its bytes. A checksum fits beside a very short text, and in the part that clones share.
 #[derive(Drop)]
 enum TextForm {
     Short(ShortBytes<30>),
@@ -56,7 +56,7 @@ impl Text {
         }
     }
 
-    /// The text that has these bytes too. AllocError where a growth is refused; up to 30 bytes take no memory.
+    /// The text that has these bytes too. AllocError if an allocation fails; up to 30 bytes take no memory.
     pub fn from_slice(alloc: Global, bytes: &[u8]) -> Result<Text, AllocError>
         ensures { IfOk result (λ t. t ≡ bytes.now) }
     {
@@ -90,7 +90,7 @@ impl Text {
     }
 
     /// The text that has these bytes too, if `checksum` is their MD5 checksum (RFC 1321), which it keeps then; None if they have another.
-    /// AllocError where a growth is refused; up to 30 bytes take no memory, and a wrong checksum is told without any.
+    /// AllocError if an allocation fails; up to 30 bytes take no memory, and a wrong checksum is found without any.
     pub fn verified(
         alloc: Global,
         bytes: &[u8],
@@ -107,8 +107,8 @@ impl Text {
         Ok(Some(text))
     }
 
-    /// A clone that keeps the checksum, so that whoever asks it or a clone of it has no more to compute. A text that shares its bytes without one
-    /// is cloned as it is, and one of 15 to 30 bytes has no room. AllocError where a growth is refused; up to 30 bytes take no memory.
+    /// A clone that keeps the checksum, so that it and its clones need not compute it again. A text that shares its bytes without one
+    /// is cloned as it is, and one of 15 to 30 bytes has no room. AllocError if an allocation fails; up to 30 bytes take no memory.
     pub fn clone_with_checksum(&self, alloc: Global) -> Result<Text, AllocError>
         ensures { IfOk result (λ t. t ≡ self.now) }
     {
@@ -148,7 +148,7 @@ impl Text {
         }
     }
 
-    /// Its bytes in a vector of their own. AllocError where a growth is refused.
+    /// Its bytes in a vector of their own. AllocError if an allocation fails.
     pub fn to_vec(&self, alloc: Global) -> Result<Vec<u8>, AllocError>
         ensures { IfOk result (λ v. v.items ≡ self.now) }
     {

@@ -28,11 +28,11 @@ use Rattle.svn_update.specs.Commands.{OnCopy, AnswersBuilder, AnswersDrive, Answ
 use Rattle.svn_update.specs.Runs.{ScriptRun}
 use Rattle.svn_update.specs.ScriptStates.{ScriptState}
 
--- what is answered for the copy that there is
+-- what is returned for the present copy
 pub on_copy : (P : Nodes → Type 0) (old new : Option Nodes) (a : Answer) (w : Nodes) → old ≡ Some w → P w → OnCopy P old new a
 on_copy P old new a w there h = subst (λ (o : Option Nodes). OnCopy P o new a) (sym there) h
 
--- what is answered for a copy that was to be changed
+-- what is returned for a copy that a command would change
 pub on_changed : (before h : History) (copy : Option Nodes) (w left : Nodes) (r : Result (Unit {0}) WcFault) (a : Answer)
     (Answers : History → Nodes → Answer → Type 0)
     → before ≡ h → copy ≡ Some w → a ≡ answer_built r → Answers before w (answer_built r) → OnCopy (λ w. Answers h w a) copy (Some left) a
@@ -40,7 +40,7 @@ on_changed before h copy w left r a Answers same there is did =
     on_copy (λ w. Answers h w a) copy (Some left) a w there
     (subst (Answers h w) (sym is) (subst (λ (h : History). Answers h w (answer_built r)) same did))
 
--- how a run of a true copy is answered
+-- what a run of a true copy returns
 abbrev pub answer_run : Result Outcome RunFault → Answer
 answer_run (Ok outcome) = Ended outcome
 answer_run (Err fault) = Refused (RunRefused fault)
@@ -52,7 +52,7 @@ run_answers s a left (Ok outcome) answer is truth in_order ran =
 run_answers s a left (Err fault) answer is truth in_order ran =
     subst (AnswersRun s a (Some left)) (sym is) (ap (λ (w : Nodes). Some w) ran.unchanged, truth, ran.refused)
 
--- what a run of the copy that there is answers
+-- what a run of the present copy returns
 pub on_run : (s : Settings) (inside state : ScriptState) (target : ℕ) (mode : Mode) (late : Bool) (cancel : Option ℕ) (w : Nodes)
     (left : Option Nodes) (a : Answer) → inside ≡ state → inside.copy ≡ Some w
     → AnswersRun s (asked_of inside.repo w target mode late cancel) left a
@@ -62,7 +62,7 @@ on_run s inside state target mode late cancel w left a is there did =
     (λ (t : ScriptState). OnCopy (λ w. AnswersRun s (asked_of t.repo w target mode late cancel) left a) t.copy left a)
     is (on_copy (λ w. AnswersRun s (asked_of inside.repo w target mode late cancel) left a) inside.copy left a w there did)
 
--- a copy that was to be changed is made as its definition says, or is as it was
+-- a copy that a command would change is made as its definition says, or is as it was
 pub built : (fault : Option WcFault) (IsFault : WcFault → Type 0) (made : WorkingCopy) (old new : Nodes) (r : Result (Unit {0}) WcFault)
     → OnOk r ((p : Path) → get_in new p ≡ made p) → OnOk r (fault ≡ None) → IfErr r IsFault → OnErr r (new ≡ old) → InPathOrder new
     → AnswersBuilder fault IsFault made (Some old) (Some new) (answer_built r)

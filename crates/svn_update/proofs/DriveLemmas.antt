@@ -32,7 +32,7 @@ pub all_recorded : (calls e f : List Call) → Leads records calls e f → f ≡
 all_recorded [] e f h = sym h ∙ sym (append-nil e)
 all_recorded (c ∷ calls) e f h = all_recorded calls h.0 f h.2 ∙ ap (λ (l : List Call). l ++ calls) h.1 ∙ append_assoc e (c ∷ []) calls
 
--- how a stop is answered, of so many calls
+-- what is returned for a stop after that many calls
 abbrev pub IsStopAnswer : Request → Bool → List Call → Result DriveEnd DriveFault → Type 0
 IsStopAnswer d late calls (Ok end) = ⊥
 IsStopAnswer d late calls (Err e) = IsDriveWant d late e
@@ -53,7 +53,7 @@ stops d late all zero calls e m made s is some h = stop_here d late all calls e 
 stops d late all (suc k) [] e m made s is some h = absurd h
 stops d late all (suc k) (c ∷ calls) e m made s is some h = stops d late all k calls h.0 m made s is some h.2
 
--- what a drive into it answers
+-- what a drive into it returns
 abbrev pub AnswersRecorded : Request → Bool → List Call → Result DriveEnd DriveFault → Type 0
 AnswersRecorded d late f (Ok end) = IsRecorded d late (Driven f)
 AnswersRecorded d late f (Err e) = IsRecorded d late (Refused (DriveRefused e))

@@ -1,5 +1,5 @@
 -- What the commands of a script print.
---     answer_text copy a      the lines of an answer, copy being the working copy after the command
+--     answer_text copy a      the lines of a result, copy being the working copy after the command
 use Rattle.std.specs.Prelude.{ℕ, List, [], ◌∷◌, ◌++◌, Option, Some, None, codes}
 use Rattle.std.specs.List.{flat_map}
 use Rattle.std.specs.Fmt.{decimal}

@@ -1,5 +1,5 @@
--- What each command of a script does and answers.
---     Does s c old new a      the command takes the old state to the new one, with the answer a, the script being run by the settings s
+-- What each command of a script does and returns.
+--     Does s c old new a      the command takes the old state to the new one, with the result a, the script being run by the settings s
 use Rattle.std.specs.Prelude.{◌≡◌, ℕ, Bool, List, [], ◌++◌, ◌∷◌, length, Option, Some, None, Result, Ok, Err, ◌⊎◌, ◌+◌, ◌<◌}
 use Rattle.md5.specs.Md5.{md5}
 use Rattle.svn_types.specs.Names.{Path}
@@ -54,12 +54,12 @@ AnswersCommit h changes h' _ = ⊥
 
 -- ---- copies that are made and changed without a drive
 
--- the copy is this one, and its nodes stand in path order, in which `show` prints them
+-- the copy is this one, and its nodes are in path order, in which `show` prints them
 abbrev pub IsBuilt : WorkingCopy → Option Nodes → Type 0
 IsBuilt made None = ⊥
 IsBuilt made (Some nodes) = InPathOrder nodes × ((p : Path) → get_in nodes p ≡ made p)
 
--- the copy is made where there is no fault; else the fault is the first, or want of memory where a copy can want it
+-- the copy is made where there is no fault; else the fault is the first, or Memory where a copy can run out of it
 abbrev pub AnswersBuilder : Option WcFault → (WcFault → Type 0) → WorkingCopy → Option Nodes → Option Nodes → Answer → Type 0
 AnswersBuilder fault IsFault made old new Done = (fault ≡ None) × IsBuilt made new
 AnswersBuilder fault IsFault made old new (Refused (CopyRefused e)) = (new ≡ old) × IsFault e
@@ -78,13 +78,13 @@ AnswersSwitch h w p q r =
     let fault = switch_fault h (get_in w) p q r in
     AnswersBuilder fault (Refuses fault) (placed h (get_in w) p q r) (Some w)
 
--- nothing is wanted to forget
+-- forgetting needs no memory
 abbrev pub AnswersForget : Nodes → Path → Option Nodes → Answer → Type 0
 AnswersForget w p =
     let fault = forget_fault (get_in w) p in
     AnswersBuilder fault (λ e. fault ≡ Some e) (forgotten (get_in w) p) (Some w)
 
--- what is said of a copy that was to be changed
+-- what is printed of a copy that a command would change
 abbrev pub answer_built : Result (Unit {0}) WcFault → Answer
 answer_built (Ok x) = Done
 answer_built (Err fault) = Refused (CopyRefused fault)
@@ -96,14 +96,14 @@ AnswersReport w (Reported r) = r ≡ crawl w
 AnswersReport w (Refused (CopyRefused e)) = e ≡ CopyMemory
 AnswersReport w _ = ⊥
 
--- what is wanting to make and record a drive: memory, or numbers for its calls
+-- what may run out in making and recording a drive: memory, or numbers for its calls
 abbrev pub IsDriveWant : Request → Bool → DriveFault → Type 0
 IsDriveWant d late DriveMemory = Unit {0}
 IsDriveWant d late (EditorRefused fault) = fault ≡ EditMemory
 IsDriveWant d late DriveFull = (calls : List Call) × IsDrive d late calls × (call_limit + 1 < length calls)
 IsDriveWant d late _ = ⊥
 
--- the answer of a drive: its calls, or why it wasn't made
+-- the result of a drive: its calls, or why it wasn't made
 abbrev pub IsRecorded : Request → Bool → Answer → Type 0
 IsRecorded d late (Refused (DriveRefused e)) = (target_fault d ≡ Some e) ⊎ IsDriveWant d late e
 IsRecorded d late (Driven calls) = (target_fault d ≡ None) × IsDrive d late calls

@@ -1,7 +1,7 @@
 -- A run that a command of a script makes, on one thread or two.
 --     run_fault s a      why it doesn't begin
---     IsRunWant in_turn e      what may be wanting for it
---     ScriptRun s a left answer      what the run leaves and answers
+--     IsRunWant in_turn e      what may run out for it
+--     ScriptRun s a left answer      what the run leaves and returns
 use Rattle.std.specs.Prelude.{◌≡◌, ℕ, Bool, true, false, Option, None, Result, Ok, Err, IfOk, IfErr, OnOk, OnErr, if◌then◌else◌}
 use Rattle.svn_link.specs.Ends.{Passed}
 use Rattle.svn_run.specs.declared.outcome.Outcome.{Outcome}
@@ -18,14 +18,14 @@ abbrev pub IsRunWant : Bool → RunFault → Type 0
 IsRunWant true e = IsWantOfMemory e
 IsRunWant false e = IsWantInThreads e
 
--- what a run leaves and answers, of whatever is said of why it doesn't begin
+-- what a run leaves and returns, whatever is said of why it doesn't begin
 pub record RunBy (fault : Option RunFault) (IsWant : RunFault → Type 0) (a : Asked) (left : Nodes)
     (answer : Result Outcome RunFault) : Type 0 where
   pub refused : IfErr answer (IsRefusal fault IsWant)
   pub unchanged : OnErr answer (left ≡ a.copy)
   pub begun : OnOk answer (fault ≡ None)
   pub ran : IfOk answer (Ran a left)
-  -- whatever the answer
+  -- whatever the result
   pub sound : IsSound a left
 
 -- what the two threads passed is left out

@@ -17,7 +17,7 @@ use svn_run::{Outcome, RunFault};
 use svn_types::Rev;
 use svn_wc::WorkingCopy;
 
-// How long a call's line may be to be put together before it is written, and how long a text or a value in it.
+// The longest line of a call that is built before it is written, and the longest text or value in it.
 const MAX_LINE: usize = 512;
 
 const MAX_TEXT: usize = 128;
@@ -27,11 +27,11 @@ const MAX_TEXT: usize = 128;
 pub(crate) enum Refusal {
     /// There is no working copy yet.
     NoCopy,
-    /// A growth of the list of changes was refused.
+    /// The list of changes couldn't grow: an allocation failed.
     Memory,
     /// `commit` was refused.
     Commit(CommitFault),
-    /// `checkout`, `place`, `switch` or `forget` was refused, or memory for the report of the copy.
+    /// `checkout`, `place`, `switch` or `forget` was refused, or an allocation for the report of the copy failed.
     Copy(WcFault),
     /// `drive` was refused.
     Drive(DriveFault),
@@ -39,7 +39,7 @@ pub(crate) enum Refusal {
     Run(RunFault),
 }
 
-/// What a command has to say.
+/// The result of a command.
 #[derive(Drop)]
 pub(crate) enum Answer {
     /// Nothing is printed.
@@ -60,7 +60,7 @@ pub(crate) enum Answer {
     Refused(Refusal),
 }
 
-/// Prints what a command has to say, each line ended by a line feed.
+/// Prints the result of a command, each line ended by a line feed.
 #[derive(Clone, Copy)]
 pub(crate) struct AnswerLines<'a> {
     pub(crate) answer: &'a Answer,
@@ -83,7 +83,7 @@ fn may_be_short(call: &Call) -> bool {
     }
 }
 
-// Puts a call's line together, if there is room for it.
+// Builds a call's line, if there is room for it.
 fn put_call(call: &Call, text: &mut ArrayString<512>) -> fmt::Result
     ensures { OnOk result (text.new.bytes ≡ call_text call.now) }
 {
@@ -94,7 +94,7 @@ fn put_call(call: &Call, text: &mut ArrayString<512>) -> fmt::Result
     }
 }
 
-// A call, and a line feed. A short line is put together first, since one write costs less than many.
+// A call, and a line feed. A short line is built first, since one write costs less than many.
 fn write_call<W: fmt::Write>(
     call: &Call,
     text: &mut ArrayString<512>,

@@ -25,7 +25,7 @@ use svn_script::Settings;
 use svn_types::{RelPath, Rev};
 use svn_wc::WorkingCopy;
 
-// What is said of a copy that was to be changed.
+// What is printed of a copy that a command would change.
 fn built(answer: Result<(), WcFault>) -> Answer
     ensures { result ≡ answer_built answer }
 {
@@ -43,7 +43,7 @@ impl State {
     {
         match WorkingCopy::checkout_at(self.alloc, &self.repo, path, rev) {
             Ok(copy) => {
-                // its nodes stand in path order
+                // its nodes are in path order
                 copy.law();
                 self.copy = Some(copy);
                 Answer::Done

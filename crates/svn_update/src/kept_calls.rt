@@ -8,11 +8,11 @@ use std::marker::Model;
 use std::mem;
 use svn_editor::{Call, EditFault, Editor};
 
-// How many calls stand in a list.
+// How many calls are in a list.
 const MAX_LIST: usize = 1024;
 
 /// An editor that keeps the calls in order, as a recorder does, but in lists of bounded length, so that no call is copied again and again as more
-/// of them come. A contract sees the list of all. It refuses a call for want of memory alone, and is then as it was.
+/// of them come. A contract sees the list of all. It refuses a call only when out of memory, and is then as it was.
 #[derive(Drop)]
 pub(crate) struct KeptCalls {
     alloc: Global,
@@ -42,14 +42,14 @@ impl KeptCalls {
         }
     }
 
-    /// The lists that are full, and the one behind them.
+    /// The lists that are full, and the one after them.
     pub(crate) fn lists(&self) -> (&[Vec<Call>], &[Call])
         ensures { self.now ≡ flat_map (λ l. l.items) result.0.now ++ result.1.now }
     {
         (self.full.as_slice(), self.last.as_slice())
     }
 
-    // Begins a list. AllocError where a growth is refused; the calls are the same in each case.
+    // Begins a list. AllocError if an allocation fails; the calls are the same in each case.
     fn begin_list(&mut self) -> Result<(), AllocError>
         ensures { self.new ≡ self.old }
     {

@@ -28,7 +28,7 @@ struct Host<'a, T> {
     settings: Settings,
 }
 
-// Prints what a command had to say.
+// Prints the result of a command.
 fn say<W: Write>(state: &State, answer: &Answer, writer: &mut W) -> Result<(), ScriptFault>
     ensures said { OnOk result (Appends (W.contents writer.old) (W.contents writer.new) (answer_text state.now.copy answer.now)) }
     ensures refused { IfErr result (λ e. e ≡ ScriptFault.Write) }
@@ -39,7 +39,7 @@ fn say<W: Write>(state: &State, answer: &Answer, writer: &mut W) -> Result<(), S
     }
 }
 
-// Does a command, and prints what it has to say.
+// Does a command, and prints its result.
 fn run_command<T: Threads + Wait + Sync, W: Write>(
     host: &Host<'_, T>,
     state: &mut State,
@@ -53,7 +53,7 @@ fn run_command<T: Threads + Wait + Sync, W: Write>(
     say(state, &answer, writer)
 }
 
-// Does one line, and prints what it has to say. Most lines of a long script are changes, which say nothing.
+// Does one line, and prints its result. Most lines of a long script are changes, which print nothing.
 fn run_line<T: Threads + Wait + Sync, W: Write>(
     host: &Host<'_, T>,
     state: &mut State,
@@ -160,7 +160,7 @@ pub fn run_script<T: Threads + Wait + Sync, R: Read, W: Write>(
     run_on(&host, repo, &script, writer)
 }
 
-/// Runs a script on a repository that is there, in the place of a new one. All else is as with `run_script`.
+/// Runs a script on a given repository instead of a new one. All else is as with `run_script`.
 pub fn run_script_on<T: Threads + Wait + Sync, R: Read, W: Write>(
     rt: &T,
     alloc: Global,

@@ -52,7 +52,7 @@ impl State {
         }
     }
 
-    /// One more change for the next commit. AllocError where a growth is refused: the state is as it was.
+    /// One more change for the next commit. AllocError if an allocation fails: the state is as it was.
     pub(crate) fn push_change(&mut self, change: Change) -> Result<(), AllocError>
         ensures pushed { OnOk result (self.new ≡ record self.old { pending = self.old.pending ++ change ∷ [] }) }
         ensures refused { OnErr result (self.new ≡ self.old) }
@@ -75,7 +75,7 @@ impl State {
     fn commit(&mut self, settings: Settings) -> Answer
         ensures { Does settings Command.Commit self.old self.new result }
     {
-        // what the copy came from stands in the grown repository too
+        // what the copy came from is in the grown repository too
         self.repo.law();
         commits_keep_copies_true();
         let committed = self.repo.commit(&self.pending);
@@ -139,7 +139,7 @@ impl State {
         }
     }
 
-    /// Prints what a command had to say.
+    /// Prints the result of a command.
     pub(crate) fn print<W: Write>(&self, answer: &Answer, writer: &mut W) -> io::Result<()>
         ensures { OnOk result (Appends (W.contents writer.old) (W.contents writer.new) (answer_text self.now.copy answer.now)) }
     {

@@ -81,7 +81,7 @@ prefixes-last q = by (path_cases q)
 
 -- ---- a crawl, node by node
 
--- what stands at a path, as what is below is compared with it
+-- what is at a path, as what is below is compared with it
 abbrev pub above_at : Bool → List (Path × BaseNode) → Path → Option (BaseNode × Bool)
 above_at known nodes p = option_map (λ n. (n, mark known p n)) (get_in nodes p)
 
@@ -107,7 +107,7 @@ pub dir_some : (o : Option BaseNode) → is_dir o ≡ true → is_some o ≡ tru
 dir_some None d = absurd (true≢false (sym d))
 dir_some (Some n) d = refl
 
--- the node of what stands at a path
+-- the node of what is at a path
 node_of : (known : Bool) (o : Option BaseNode) (p : Path) → option_map (λ (a : BaseNode × Bool). a.0) (option_map (λ n. (n, mark known p n)) o) ≡ o
 node_of known None p = refl
 node_of known (Some n) p = refl
@@ -123,7 +123,7 @@ crawled_last known nodes ancestors r c =
     let es : r.entries ≡ filter_map (reported_at nodes) nodes = c.entries ∙ ap (filter_map (reported_at nodes)) all in
     λ i. record { root = c.root i; entries = es i }
 
--- what stands at a path of the list is the node there
+-- what is at a path of the list is the node there
 pub next_stands : (nodes done : List (Path × BaseNode)) (e : Path × BaseNode) (left : List (Path × BaseNode)) → nodes ≡ done ++ e ∷ left
     → InPathOrder nodes → get_in nodes e.0 ≡ Some e.1
 next_stands nodes done e left parts order =
@@ -148,7 +148,7 @@ module _ (known : Bool) (nodes : List (Path × BaseNode)) (order : InPathOrder n
   some_of None h = absurd (h refl)
   some_of (Some x) h = refl
 
-  -- what stands at the next path is the next node
+  -- what is at the next path is the next node
   stands : get_in nodes e.0 ≡ Some e.1
   stands = next_stands nodes c.done e left c.parts order
 
@@ -242,7 +242,7 @@ module _ (known : Bool) (nodes : List (Path × BaseNode)) (order : InPathOrder n
       → o ≡ slice_get (take (length e.0) ancestors) (length (take (length e.0) ancestors) - 1) → IsBelow e.0 o
   next_below w o same = by (path_cases e.0)
     where
-      -- what stands there is a directory, and is marked as one of its own path where it has that
+      -- what is there is a directory, and is marked as one of its own path where it has that
       at_node : (q : Path) (n : Option BaseNode) → is_root e.0 ≡ false → is_dir n ≡ true → parent e.0 ≡ q
           → IsBelow e.0 (option_map (λ n. (n, mark known q n)) n)
       at_node q None root dir front = absurd (true≢false (sym dir))
@@ -290,7 +290,7 @@ module _ (known : Bool) (nodes : List (Path × BaseNode)) (order : InPathOrder n
           (ap (option_map (λ a. a.0)) (same ∙ last_is_above w q name is) ∙ node_of known (get_in nodes q) q
           ∙ ap (get_in nodes) (sym (ap parent is ∙ parent-child q name)))
 
-  -- a directory is behind the ancestors then, and what is none is not
+  -- a directory is after the ancestors then, and what isn't one is not
   line_of_directory : IsWorkingCopy (get_in nodes)
       → AreAncestors known nodes (c.done ++ e ∷ []) (take (length e.0) ancestors ++ (e.1, mark known e.0 e.1) ∷ [])
   line_of_directory w = last_at c.done e e.0 refl (λ q within dir. within) (by (path_cases e.0))
@@ -349,7 +349,7 @@ module _ (known : Bool) (nodes : List (Path × BaseNode)) (order : InPathOrder n
       more None = sym (append-nil r.entries)
       more (Some x) = refl
 
--- the next node was reported below the last of the ancestors, cut to its depth; a directory is then put behind that
+-- the next node was reported below the last of the ancestors, cut to its depth; a directory is then appended to that
 pub crawled_on : (known : Bool) (nodes : List (Path × BaseNode)) → InPathOrder nodes → IsWorkingCopy (get_in nodes)
     → (known ≡ true → IsUnswitched (get_in nodes)) → (ancestors : List (BaseNode × Bool))
     (r : ReportView) (e : Path × BaseNode) (all left : List (Path × BaseNode)) → all ≡ e ∷ left → IsCrawled known nodes ancestors r all
@@ -379,7 +379,7 @@ crawled_on known nodes order w unswitched ancestors r e all left step crawled r2
         subst (AreAncestors known nodes (c.done ++ e ∷ [])) (sym (is ∙ ap (λ b. cond b (kept ++ (e.1, mark known e.0 e.1) ∷ []) kept) d))
         (line_of_leaf known nodes order ancestors r e left c w d)
 
--- ---- answers
+-- ---- results
 
 -- what a present node has as its repository path
 pub path_is : (n : BaseNode) (p : Path) → Some p ≡ present_path n → p ≡ node_path (Some n)

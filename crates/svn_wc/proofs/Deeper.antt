@@ -1,4 +1,4 @@
--- The nodes behind a path and those below it, in path order: the next one is below it too exactly where it has more names.
+-- The nodes after a path and those below it, in path order: the next one is below it too exactly where it has more names.
 use Rattle.std.proofs.Common.{◌≡◌, ℕ, ◌-◌, ◌<◌, ◌≤◌, Bool, true, false, cond, List, [], ◌∷◌, ◌++◌, length, refl, sym, ap, subst}
 use Rattle.std.proofs.Common.{◌∙◌, Option, Some, None, true≢false, arith, append_assoc, length-append}
 use Rattle.std.specs.Prelude.{slice_get}
@@ -88,7 +88,7 @@ module _ (nodes : List (Path × BaseNode)) (order : InPathOrder nodes) (before :
         before_behind (e ∷ taken) (c ∷ left) (order_behind before (e ∷ taken ++ c ∷ left) in_order) e.0 c.0
         (ap is_some (at_first e taken)) (ap is_some (at_first c left))
 
-    -- what stands above the next node, with as many names as the path, is the path
+    -- what is above the next node, with as many names as the path, is the path
     module _ (q : Path) (above : is_within q c.0 ≡ true) (earlier : path_cmp q c.0 ≡ Less) (as_long : length q ≡ length e.0) where
       from_before : is_some (get_in before q) ≡ true → is_within e.0 c.0 ≡ true
       from_before some =
@@ -117,7 +117,7 @@ module _ (nodes : List (Path × BaseNode)) (order : InPathOrder nodes) (before :
           absurd (first_or_after ⊥ c left (order_behind front (c ∷ left) cut) q some
           (λ same. not_before_itself q (ap (path_cmp q) same ∙ earlier)) (λ after. not_both q c.0 earlier after))
 
-    -- with more names than the path, it is below it, since a directory stands above it there
+    -- with more names than the path, it is below it, since a directory is above it there
     pub deeper_is_within : IsWorkingCopy (get_in nodes) → depth < length c.0 → is_within e.0 c.0 ≡ true
     deeper_is_within shape deeper =
         let up = cut_at depth c.0 deeper in

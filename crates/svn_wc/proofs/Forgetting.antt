@@ -23,7 +23,7 @@ absent_forgotten w at p present = by (path_eq at p) (is_within at p) (w at) pres
     by false true o h = refl
     by false false o h = refl
 
--- a test that tells the root apart
+-- a test for the root
 pub not_root : (p : Path) (b : Bool) → (p ≡ [] → b ≡ true) → b ≡ false → is_root p ≡ false
 not_root [] b root other = absurd (true≢false (sym (root refl) ∙ other))
 not_root (n ∷ p) b root other = refl

@@ -123,7 +123,7 @@ module _ (nodes : List (Path × BaseNode)) (order : InPathOrder nodes) (shape : 
     unreported : reported_at nodes e ≡ None
     unreported = ap (option_map (λ (entry : ReportEntry). (e.0, entry))) silent
 
-  -- nor of those behind a node of which the root is one
+  -- nor of those after a node that include the root
   rest_silent : (done left : List (Path × BaseNode)) → nodes ≡ done ++ left → is_some (get_in done []) ≡ true
       → filter_map (reported_at nodes) left ≡ []
   rest_silent done [] parts root = refl

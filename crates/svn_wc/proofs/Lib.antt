@@ -2,13 +2,13 @@
 pub mod OwnPaths
 -- The nodes on the way down to a path.
 pub mod Ancestors
--- The entries of a directory, gone through beside the nodes below it.
+-- The entries of a directory, gone through together with the nodes below it.
 pub mod Merging
--- The next node behind those below a path: it is below too exactly where it has more names.
+-- The next node after those below a path: it is below too exactly where it has more names.
 pub mod Deeper
 -- A copy is compared with the repository, the nodes below a path one after the other.
 pub mod Truly
--- A path is forgotten: its node is no longer present, and what stands below it goes.
+-- A path is forgotten: its node is no longer present, and what is below it goes.
 pub mod Forgetting
 -- Trees of the repository, and what a copy makes of them.
 pub mod Placing
@@ -16,11 +16,11 @@ pub mod Placing
 pub mod EachOnce
 -- An edit completes each directory that it opens.
 pub mod Completing
--- A call of an applier keeps the copy in its shape, whatever the call and its answer.
+-- A call of an applier keeps the copy in its shape, whatever the call and its result.
 pub mod ShapeKept
--- A list sorted by its paths: what stands twice, and what a search finds.
+-- A list sorted by its paths: what is there twice, and what a search finds.
 pub mod SortedNodes
--- Copies of which no path is switched stay so.
+-- Copies without a switched path stay so.
 pub mod Unswitched
 -- What is known of a copy after a call of an applier: that no path is switched, and that it is level.
 pub mod UnswitchedCalls

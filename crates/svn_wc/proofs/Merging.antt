@@ -1,4 +1,4 @@
--- The entries of a directory, gone through beside the nodes below it.
+-- The entries of a directory, gone through together with the nodes below it.
 --     EntriesBeside p all entries left      these entries are left of all; those passed come before the nodes that are left
 use Rattle.std.proofs.Common.{◌≡◌, ℕ, Bool, true, false, cond, List, [], ◌∷◌, ◌++◌, refl, sym, ap, subst, ◌∙◌, append_assoc, true≢false}
 use Rattle.std.proofs.Common.{Option, Some, None}
@@ -50,7 +50,7 @@ behind_in_order : {V : Type 0} (xs ys : List (Name × V)) → InNameOrder (xs ++
 behind_in_order [] ys order = order
 behind_in_order (x ∷ xs) ys order = behind_in_order xs ys (sorted_tail name_cmp x.0 (keys_of (xs ++ ys)) order)
 
--- what two lists have under a name, one behind the other
+-- what two lists have under a name, one after the other
 value_of-append : {V : Type 0} (xs ys : List (Name × V)) (n : Name) → value_of (xs ++ ys) n ≡ option_or (value_of xs n) (value_of ys n)
 value_of-append [] ys n = refl
 value_of-append {V} (x ∷ xs) ys n =
@@ -146,7 +146,7 @@ passed_at name old e new s equal =
           ∙ ap (λ b. cond b (Some e.1) (value_of new name)) (ap (bytes_eq e.0) (sym same) ∙ bytes_eq-same e.0));
     }
 
--- ---- beside the nodes below a path
+-- ---- together with the nodes below a path
 
 pub record EntriesBeside (p : Path) (all entries : List (Name × ℕ)) (left : List (Path × BaseNode)) : Type 0 where
   pub passed : List (Name × ℕ)
@@ -173,7 +173,7 @@ entry_beside p all entries entries2 c left name found s is passes order =
         absurd (not_before_itself c.0 (ap (λ (q : Path). path_cmp q c.0) is
         ∙ s.behind name (ap is_some e) c.0 (ap is_some (at_first c left))))
 
--- what is left of the nodes is behind those that were taken
+-- what is left of the nodes is after those that were taken
 still_left : (c : Path × BaseNode) (sub left2 : List (Path × BaseNode)) (q : Path) → is_some (get_in left2 q) ≡ true
     → is_some (get_in (c ∷ sub ++ left2) q) ≡ true
 still_left c sub left2 q some =

@@ -48,7 +48,7 @@ tree_gathered h at q rev n w puts found p = by (is_within at p) refl
 pub tree_outside : (h : History) (at q : Path) (rev : ℕ) (p : Path) → is_within at p ≡ false → tree_at h at q rev p ≡ None
 tree_outside h at q rev p out = ap (λ b. cond b (checkout h q rev (drop (length at) p)) None) out
 
--- the tree in the place of what stood there
+-- the tree in the place of what was there
 pub tree_placed : (h : History) (w w' part : WorkingCopy) (at q : Path) (rev : ℕ) → ((p : Path) → part p ≡ tree_at h at q rev p)
     → ((p : Path) → w' p ≡ cond (is_within at p) (part p) (w p)) → (p : Path) → w' p ≡ placed h w at q rev p
 tree_placed h w w' part at q rev tree put p = put p ∙ by (is_within at p) refl
@@ -87,7 +87,7 @@ file_placed h laws w shape at q rev n found file other p = by (is_within at p) r
     leaf : entries_of h n ≡ []
     leaf = laws.files_are_leaves rev q n found (kind (kind_of h n) file)
 
-    -- at the path stands the file
+    -- at the path is the file
     here : checkout h q rev [] ≡ Some (base_node h rev q n)
     here =
         ap (λ (s : Path). option_map (base_node h rev s) (look h rev s)) (append-nil q)
@@ -119,7 +119,7 @@ may_place h w at rev f =
     let three = cond_none (not (is_dir (w (parent at)))) _ _ two.1 in
     (one.0, not-false (is_dir (w (parent at))) three.0)
 
--- ---- answers
+-- ---- results
 
 pub refuses_fault : (o : Option WcFault) (e : WcFault) → o ≡ Some e → Refuses o e
 refuses_fault o e is = subst (λ (u : Option WcFault). Refuses u e) (sym is) refl

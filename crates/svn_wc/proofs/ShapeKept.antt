@@ -1,4 +1,4 @@
--- A call of an applier keeps the copy in its shape, whatever the call and its answer.
+-- A call of an applier keeps the copy in its shape, whatever the call and its result.
 use Rattle.std.proofs.Common.{◌≡◌, ◌≢◌, ℕ, Bool, true, refl, List, [], ◌∷◌, ◌++◌, sym, ap, subst, ◌∙◌}
 use Rattle.std.specs.Prelude.{Result, Ok, Err, OnOk, OnErr, IfErr}
 use Rattle.std.specs.BTreeMap.{BTreeMap}

@@ -1,4 +1,4 @@
--- Lists of nodes that are sorted by their paths: whether a path stands twice, what a search finds, and that no fault depends on the order.
+-- Lists of nodes that are sorted by their paths: whether a path is there twice, what a search finds, and that no fault depends on the order.
 use Rattle.std.proofs.Common.{◌≡◌, ℕ, zero, suc, ◌+◌, ◌<◌, ◌≤◌, ◌⊎◌, inl, inr, Bool, true, false, ◌||◌, cond, not, List, [], ◌∷◌}
 use Rattle.std.proofs.Common.{length, take, get_or, refl, sym, ◌∙◌, ap, subst, true≢false, arith}
 use Rattle.std.specs.Prelude.{Option, Some, None}
@@ -29,7 +29,7 @@ abbrev RisesFrom : Path → List (Path × BaseNode) → Type 0
 RisesFrom p [] = Unit {0}
 RisesFrom p (e ∷ es) = path_cmp e.0 p ≡ Less → ⊥
 
--- no node comes before the one that it stands behind
+-- no node comes before the one that it is after
 abbrev pub IsRising : List (Path × BaseNode) → Type 0
 IsRising [] = Unit {0}
 IsRising (e ∷ es) = RisesFrom e.0 es × IsRising es
@@ -61,7 +61,7 @@ apart_after p e (f ∷ fs) up before =
     by true h = subst (λ (q : Path). path_cmp p q ≡ Less) (same_path e.0 f.0 h) before
     by false h = paths_total.trans p e.0 f.0 before (earlier e.0 f.0 h up.0)
 
--- if a path stands again, it does so next
+-- if a path is there again, it comes next
 pub only_next : (e : Path × BaseNode) (es : List (Path × BaseNode)) → IsRising (e ∷ es)
     → list_any (is_of e.0) (take 1 es) ≡ list_any (is_of e.0) es
 only_next e [] up = refl

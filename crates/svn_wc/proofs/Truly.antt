@@ -384,7 +384,7 @@ module _ (h : History) (nodes : List (Path × BaseNode)) (order : InPathOrder no
       first = λ i. cond (test (missing_counted (get_in nodes) e.0 e.1 names missing all_counted) i) (Some e.0) (s.first i);
     }
 
--- a node beside which nothing stands
+-- a node with nothing on the other side
 pub walks_alone : (h : History) (nodes : List (Path × BaseNode)) (e : Path × BaseNode) (old : List (Path × BaseNode)) (b : Bool)
     → b ≡ is_untrue h (get_in nodes) e.0 e.1 → (found : Option Path) → found ≡ cond b (Some e.0) None → HasWalked h nodes e old found old
 walks_alone h nodes e old b test found is =
@@ -392,7 +392,7 @@ walks_alone h nodes e old b test found is =
 
 -- ---- what the repository has
 
--- a test that tells the same properties, after those of a node were read
+-- a test for the same properties, after those of a node were read
 pub tests_props : (h : History) (n : ℕ) (r : Bool) (props others : Properties) → Some others ≡ option_map (λ row. row.props) (node_at h n)
     → (r ≡ true → props ≡ others) → (props ≡ others → r ≡ true) → r ≡ props_eq props (props_of h n)
 tests_props h n r props others read f g =
@@ -405,7 +405,7 @@ tests_props h n r props others read f g =
     by None e = absurd (true≢false (ap is_some e))
     by (Some row) e = cc
 
--- the entry of the directory above is what stands one name further
+-- the entry of the directory above is what is one name further
 pub step_found : (h : History) (above : BaseNode) (rev : ℕ) (p : Path) (name : List ℕ) (o : Option ℕ) → IsStep above rev p name
     → o ≡ looked h above → entry_in h o name ≡ look h rev p
 step_found h (FileNode r q text props) rev p name o step found = absurd step
@@ -413,7 +413,7 @@ step_found h (DirNode r q complete props) rev p name o step found =
     entry_is_below h o name ∙ ap (λ u. entry_below h u name) found ∙ sym (look-child h r q name) ∙ (λ i. look h (step.0 i) (sym step.1 i))
 step_found h NotPresent rev p name o step found = absurd step
 
--- the same of a node that stands there
+-- the same of a node that is there
 pub found_beside : (h : History) (above : BaseNode × Bool) (node : BaseNode) (rev : ℕ) (p at q : Path) (name : Option (Bor (List ℕ)))
     (id entry : Option ℕ) → is_some name ≡ true → looked h node ≡ look h rev p
     → ((at : Path) (x : List ℕ) → KnowsOwnPath at above → q ≡ child at x → IsStep above.0 rev p x)
@@ -455,7 +455,7 @@ no_child p q (x ∷ names) none = by (path_eq (child p x) q) refl (no_child p q 
     by true t h = absurd (none x (sym (same_path (child p x) q t)))
     by false t h = h
 
--- ---- what is beside the nodes below a directory
+-- ---- what the repository has beside the nodes below a directory
 
 pub names_of_entries : (h : History) (o : Option ℕ) → names_at h o ≡ keys_of (entries_at h o)
 names_of_entries h None = refl
@@ -468,7 +468,7 @@ names_count h o = ap length (names_of_entries h o) ∙ each (entries_at h o)
     each [] = refl
     each (e ∷ es) = let k = each es in omega arith
 
--- no entry is missing where none is wanted
+-- no entry is missing where none is needed
 pub none_missing : (h : History) (node : BaseNode) (o : Option ℕ) → HasNoEntries node (entries_at h o) → (w : WorkingCopy) (p : Path)
     → CountsMissing w p node (names_at h o) 0
 none_missing h (FileNode r q text props) o none w p = tt
@@ -514,7 +514,7 @@ sorted-nil : IsStrictlySortedBy name_cmp []
 unfolding IsStrictlySortedBy
 sorted-nil = tt
 
--- the names of what stands in a node's place are in order
+-- the names of what is in a node's place are in order
 pub names_sorted : (h : History) → IsHistory h → (node : BaseNode) (o : Option ℕ) → o ≡ looked h node
     → IsStrictlySortedBy name_cmp (names_at h o)
 names_sorted h history node None found = sorted-nil

@@ -1,4 +1,4 @@
--- Copies of which no path is switched stay so.
+-- Copies without a switched path stay so.
 use Rattle.std.proofs.Common.{◌≡◌, ◌≢◌, ℕ, Bool, true, false, cond, List, [], ◌∷◌, ◌++◌, refl, sym, ap, ◌∙◌, inl, inr, ◌⊎◌, Option, Some}
 use Rattle.std.proofs.Common.{None}
 use Rattle.std.proofs.Common.{append_assoc, true≢false, length, drop}
@@ -112,7 +112,7 @@ module _ (w : WorkingCopy) (target : ℕ) (earlier : List Step) (a : Action) (un
     abbrev new : WorkingCopy
     new = step_effect Update target earlier (record { path = m ∷ r; action = a }) w
 
-    -- the directory above stands, and is not what the step is about
+    -- the directory above is there, and is not what the step is about
     module _ (e : is_present (stepped Update target earlier w (m ∷ r) a) ≡ true) (p : Path) (name : List ℕ) (is : m ∷ r ≡ child p name) where
       here : new (m ∷ r) ≡ stepped Update target earlier w (m ∷ r) a
       here =

@@ -1,4 +1,4 @@
--- The calls of an update, of a copy of which no path is switched: each leaves such a copy, as long as it leaves the shape of one.
+-- The calls of an update of a copy without a switched path: each leaves such a copy, as long as it leaves the shape of one.
 use Rattle.std.proofs.Common.{ℕ, zero, suc, List, [], ◌∷◌, ◌++◌}
 use Rattle.std.specs.Prelude.{take}
 use Rattle.svn_editor.specs.declared.call.Call.{Call}

@@ -1,5 +1,5 @@
 -- How copies are made and changed without an edit.
---     Refuses fault e      the answer of a call that isn't done: its fault, or else want of memory
+--     Refuses fault e      the result of a call that isn't done: its fault, or else Memory
 --     tree_at h at q r      the tree at q in revision r, put at a path, and nothing else
 use Rattle.std.specs.Prelude.{◌≡◌, ℕ, Option, Some, None}
 use Rattle.svn_types.specs.Names.{Path}

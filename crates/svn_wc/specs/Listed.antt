@@ -1,6 +1,6 @@
 -- Lists of nodes that are looked through for faults.
---     IsSorted nodes      the nodes stand in the order of their paths, of which some may be the same
---     IsSearchable nodes      no path stands twice, either
+--     IsSorted nodes      the nodes are in the order of their paths, some of which may be the same
+--     IsSearchable nodes      nor is a path there twice
 use Rattle.std.specs.Prelude.{◌≡◌, false, List}
 use Rattle.std.specs.List.Sorted.{IsSortedByKey}
 use Rattle.svn_types.specs.Names.{Path, path_cmp}

@@ -1,8 +1,8 @@
 -- What an applier makes of a call.
---     TakesCall edit nodes call answer edit' nodes'      the edit and the copy before, the call, its answer, and both after
+--     TakesCall edit nodes call answer edit' nodes'      the edit and the copy before, the call, its result, and both after
 --     IncompleteAreOpen w calls      each incomplete directory of the copy was opened by the calls, and not closed
 --     IsInShape was_level edit nodes      as long as the edit goes on, the copy has the shape that its calls leave, and if it was level before them,
---                                         the directories that they opened alone are incomplete
+--                                         only the directories that they opened are incomplete
 use Rattle.std.specs.Prelude.{◌≡◌, ◌≢◌, ℕ, Bool, true, false, Some, List, [], ◌∷◌, ◌++◌, Result, OnOk, OnErr, IfErr}
 use Rattle.md5.specs.Md5.{md5}
 use Rattle.svn_types.specs.declared.kind.Kind.TheVariants.{Directory}
@@ -27,7 +27,7 @@ pub record TakesCall (old : Edit) (w : List (Path × BaseNode)) (call : Call) (a
     (new : Edit) (w' : List (Path × BaseNode)) : Type 0 where
   pub answers : (mode : Mode) (w0 : WorkingCopy) (calls : List Call) → StandsAfter mode w0 old w calls
       → AnswersCall (refusal md5 mode calls call w) answer
-  -- want of memory is answered to no call that is out of order
+  -- Memory is returned for no call that is out of order
   pub in_order : (mode : Mode) (w0 : WorkingCopy) (calls : List Call) → StandsAfter mode w0 old w calls → WantsInOrder calls call answer
   pub accepted : OnOk answer ((mode : Mode) (w0 : WorkingCopy) (calls : List Call) → StandsAfter mode w0 old w calls
       → StandsAfter mode w0 new w' (calls ++ call ∷ []))
@@ -39,9 +39,9 @@ pub record TakesCall (old : Edit) (w : List (Path × BaseNode)) (call : Call) (a
   pub ended : HasEnded old → StaysEnded old answer new × (w' ≡ w)
   -- after a refusal too the pools are those of what is open
   pub pools : PoolsAfter old w call answer new
-  -- want of memory isn't answered to the last call of an update
+  -- Memory isn't returned for the last call of an update
   pub last : is_last call ≡ true → old.pending.mode ≡ Update → IfErr answer (λ e. e ≢ Memory)
-  -- nor to giving up
+  -- nor for `AbortEdit`
   pub abort : is_abort call ≡ true → IfErr answer (λ e. e ≢ Memory)
 
 -- the calls opened a directory at the path, and did not close it
@@ -56,7 +56,7 @@ pub record IsOpenAt (calls : List Call) (p : Path) : Type 0 where
 abbrev pub IncompleteAreOpen : WorkingCopy → List Call → Type 0
 IncompleteAreOpen w calls = (p : Path) → is_incomplete (w p) ≡ true → IsOpenAt calls p
 
--- the edit stands after some calls, and these left the copy in its shape
+-- the edit is after some calls, and these left the copy in its shape
 pub record GoesOn (was_level : Bool) (edit : Edit) (nodes : List (Path × BaseNode)) : Type 0 where
   pub mode : Mode
   pub start : WorkingCopy

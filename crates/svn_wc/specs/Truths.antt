@@ -30,7 +30,7 @@ abbrev pub HasNoEntries : BaseNode → List (List ℕ × ℕ) → Type 0
 HasNoEntries (DirNode r q complete props) entries = entries ≡ []
 HasNoEntries _ entries = Unit {0}
 
--- so many of a directory's names have no node
+-- that many of a directory's names have no node
 abbrev pub CountsMissing : WorkingCopy → Path → BaseNode → List (List ℕ) → ℕ → Type 0
 CountsMissing w p (DirNode r q complete props) names missing = nat_lt 0 missing ≡ lacks_entry w p names
 CountsMissing w p _ names missing = Unit {0}
@@ -39,12 +39,12 @@ CountsMissing w p _ names missing = Unit {0}
 abbrev pub entry_in : History → Option ℕ → List ℕ → Option ℕ
 entry_in h found name = option_and_then (λ n. value_of (entries_of h n) name) found
 
--- the path is the directory's with the name behind it, in its revision
+-- the path is the directory's with the name after it, in its revision
 abbrev pub IsStep : BaseNode → ℕ → Path → List ℕ → Type 0
 IsStep (DirNode r q complete props) rev p name = (r ≡ rev) × (p ≡ child q name)
 IsStep _ rev p name = ⊥
 
--- the second path is the first with the name behind it; with no name, it isn't the first with one name more
+-- the second path is the first with the name after it; with no name, it isn't the first with one name more
 abbrev pub IsNameBelow : Path → Path → Option (List ℕ) → Type 0
 IsNameBelow p q None = (name : List ℕ) → q ≡ child p name → ⊥
 IsNameBelow p q (Some name) = q ≡ child p name
@@ -60,7 +60,7 @@ pub record PassesTo (name : List ℕ) (old : List (List ℕ × ℕ)) (found : Op
   pub up_to : AreUpTo name passed
   pub value : InNameOrder old → found ≡ value_of old name
 
--- no node of the list stands at the path or below, if they are in path order and behind the path
+-- no node of the list is at the path or below, if they are in path order and after the path
 abbrev pub IsPast : Path → List (Path × BaseNode) → Type 0
 IsPast p [] = Unit {0}
 IsPast p (e ∷ es) = is_within p e.0 ≡ false
@@ -84,11 +84,11 @@ IsLastName depth q (Some name) = (length q ≡ depth + 1) × (q ≡ child (paren
 abbrev pub IsRest : List (Path × BaseNode) → List (Path × BaseNode) → Type 0
 IsRest old new = (taken : List (Path × BaseNode)) × (old ≡ taken ++ new)
 
--- all of them stand strictly below the path
+-- all of them are strictly below the path
 abbrev pub all_below : Path → List (Path × BaseNode) → Bool
 all_below p nodes = list_all (λ e. is_below p e.0) nodes
 
--- the nodes taken stand below the path, and the first untrue node of these and the path's own is found
+-- the nodes taken are below the path, and the first untrue node of these and the path's own is found
 pub record HasWalked (h : History) (nodes : List (Path × BaseNode)) (e : Path × BaseNode) (old : List (Path × BaseNode))
     (found : Option Path) (new : List (Path × BaseNode)) : Type 0 where
   pub taken : List (Path × BaseNode)

@@ -1,4 +1,4 @@
--- Copies of which no path is switched, and copies of which all nodes are complete and of one revision.
+-- Copies without a switched path, and copies all of whose nodes are complete and of one revision.
 --     IsUnswitched w      each present node's repository path is that of the root joined with its path
 --     is_level rev node      the node is present and complete, and has that revision
 --     IsLevel w      all nodes are so for one revision

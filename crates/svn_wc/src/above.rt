@@ -12,7 +12,7 @@ use svn_types::RelPath;
 #[derive(Drop)]
 pub(crate) struct Above<'a> {
     node: &'a BaseNode,
-    // As in most copies: the two paths of an unswitched node below are then one and the same, which a single comparison tells.
+    // As in most copies: the two paths of an unswitched node below are then one and the same, which a single comparison shows.
     has_own_path: bool,
 }
 
@@ -46,7 +46,7 @@ impl<'a> Above<'a> {
         }
     }
 
-    /// The node at a path, of a copy of which it may be known that no path is switched: then nothing is compared, and it isn't marked.
+    /// The node at a path. It may be known that no path of the copy is switched: then nothing is compared, and it isn't marked.
     pub(crate) fn marked(path: &RelPath, node: &'a BaseNode, unswitched: bool) -> Above<'a>
         ensures { result ≡ (node.entry.now, mark unswitched path.now node.entry.now) }
     {
@@ -66,7 +66,7 @@ impl<'a> Above<'a> {
         self.node
     }
 
-    /// Whether the node at a path one name below is not switched: whether its repository path is the directory's with that name behind it.
+    /// Whether the node at a path one name below is not switched: whether its repository path is the directory's with that name after it.
     pub(crate) fn is_unswitched(&self, path: &RelPath, repos_path: &RelPath) -> bool
         ensures { IsBelow path.now (Some self.now) → result ≡ path_eq repos_path.now (node_path (Some self.now.0) ++ last_name path.now) }
     {

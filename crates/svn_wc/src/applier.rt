@@ -25,7 +25,7 @@ use svn_editor::{Call, EditFault, Editor, Mode, Token};
 use svn_types::RelPath;
 
 /// Applies the calls of an edit to a copy (the receiver of `svn_delta.h`): of an update or a switch of the whole copy, texts in place or late. As
-/// long as the edit goes on, it stands after some calls, which left the copy in its shape. The copy is borrowed until the applier is gone; an
+/// long as the edit goes on, it is after some calls, which left the copy in its shape. The copy is borrowed until the applier is gone; an
 /// edit that is neither closed nor given up then leaves what its calls left.
 #[derive(Drop)]
 pub struct Applier<'a> {

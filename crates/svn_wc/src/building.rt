@@ -85,7 +85,7 @@ fn find_root(repo: &Repo, root: &RelPath, rev: Rev) -> Result<NodeId, WcFault>
     Ok(id)
 }
 
-// What stands in a revision one name below a path: the last name of another.
+// What is in a revision one name below a path: the last name of another.
 fn find_named(repo: &Repo, rev: Rev, above: &RelPath, path: &RelPath) -> Option<NodeId>
     ensures { result ≡ look repo.now rev (above.now ++ last_name path.now) }
 {
@@ -96,7 +96,7 @@ fn find_named(repo: &Repo, rev: Rev, above: &RelPath, path: &RelPath) -> Option<
     }
 }
 
-// A path with the last name of another behind it.
+// A path with the last name of another after it.
 fn joined(alloc: Global, above: &RelPath, path: &RelPath) -> Result<RelPath, AllocError>
     ensures { IfOk result (λ p. p ≡ above.now ++ last_name path.now) }
 {
@@ -106,7 +106,7 @@ fn joined(alloc: Global, above: &RelPath, path: &RelPath) -> Result<RelPath, All
     }
 }
 
-// Puts a file of the repository in the place of what stands at a path of a copy, where that is no directory, and tells whether that was
+// Puts a file of the repository in the place of what is at a path of a copy, where that is no directory, and returns whether that was
 // done. It looks the path up twice, and asks for no more memory than the node itself.
 fn put_file(
     from: &Origin<'_>,
@@ -128,7 +128,7 @@ fn put_file(
     replace_alone(nodes, path, node)
 }
 
-// Puts the tree at a path of the repository in the place of what stands at a path of a copy and below.
+// Puts the tree at a path of the repository in the place of what is at a path of a copy and below.
 fn put_tree(
     from: &Origin<'_>,
     path: &RelPath,
@@ -169,7 +169,7 @@ fn put(
 
 impl WorkingCopy {
     /// The tree at a path of a revision: each node complete, its repository path the root's joined with its path. NoSuchRevision, Missing where
-    /// nothing stands there, BadRoot for a file; else Memory alone.
+    /// nothing is there, BadRoot for a file; else Memory alone.
     pub fn checkout_at(
         alloc: Global,
         repo: &Repo,
@@ -201,7 +201,7 @@ impl WorkingCopy {
         })
     }
 
-    // What stands at the path above, looked for from a path back: what lies between them stands below it.
+    // What is at the path above, looked for from a path back: what lies between them is below it.
     fn find_above(&self, path: &RelPath) -> Option<&BaseNode>
         ensures { option_copied result ≡ get_in self.now (parent path.now) }
     {
@@ -216,7 +216,7 @@ impl WorkingCopy {
         None
     }
 
-    // What stands at the path above. The look-up needs that path: where its memory is refused, it is looked for without, so that the answer is
+    // What is at the path above. The look-up needs that path: if that can't be allocated, it is looked for without, so that the result is
     // the same.
     fn node_above(&self, path: &RelPath) -> Option<&BaseNode>
         ensures { option_copied result ≡ get_in self.now (parent path.now) }
@@ -227,7 +227,7 @@ impl WorkingCopy {
         }
     }
 
-    // What is placed at a path, behind its repository path: that of the node above, with the name behind it.
+    // What is placed at a path, after its repository path: that of the node above, with the name after it.
     fn find_placed(
         &self,
         repo: &Repo,
@@ -284,10 +284,10 @@ impl WorkingCopy {
         }
     }
 
-    /// Puts the tree of a revision at the parent's repository path joined with the name in the place of what stands at a path, and beneath;
-    /// nothing needs to stand there. IsRoot, NoSuchRevision, NoParent where the parent isn't a present directory, Missing where the repository has
+    /// Puts the tree of a revision at the parent's repository path joined with the name in the place of what is at a path, and below;
+    /// nothing needs to be there. IsRoot, NoSuchRevision, NoParent where the parent isn't a present directory, Missing where the repository has
     /// nothing there; else Memory alone. A refusal leaves the copy as it was. It costs what goes and what comes; where memory for the path above
-    /// is refused, also what stands between the two.
+    /// is refused, also what is between the two.
     pub fn place(&mut self, repo: &Repo, path: &RelPath, rev: Rev) -> Result<(), WcFault>
         ensures nodes { OnOk result ((p : Path) → get_in self.new p ≡ placed repo.now (get_in self.old) path.now (joined_path (get_in self.old) path.now) rev p) }
         ensures made { OnOk result (place_fault repo.now (get_in self.old) path.now rev ≡ None) }
@@ -312,7 +312,7 @@ impl WorkingCopy {
         Ok(())
     }
 
-    /// Puts the tree at another repository path in the place of what stands at a path, and beneath. As `place`, but TooDeep, after NoParent, where
+    /// Puts the tree at another repository path in the place of what is at a path, and below. As `place`, but TooDeep, after NoParent, where
     /// the repository path has over 64 names, or the path over 64 more.
     pub fn switch(
         &mut self,

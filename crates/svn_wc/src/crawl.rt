@@ -16,7 +16,7 @@ use svn_nodes::Nodes;
 use svn_report::{Report, Reporter, ReporterFault};
 use svn_types::{RelPath, Rev, impossible};
 
-// The answer of a reporter: a crawl has no fault but Memory.
+// The result of a reporter: a crawl has no fault but Memory.
 fn or_memory(answer: Result<(), ReporterFault>) -> Result<(), WcFault>
     ensures ok { OnOk result (IsOk answer) }
     ensures fault { IfErr result (λ e. e ≡ WcFault.Memory) }

@@ -16,7 +16,7 @@ use svn_nodes::nodes::is_present;
 use svn_nodes::removal::remove_below;
 use svn_types::RelPath;
 
-// What stands at a path is no longer present.
+// What is at a path is no longer present.
 fn make_absent(nodes: &mut Nodes, at: &RelPath)
     ensures { (p : Path) → get_in nodes.new.entries p ≡ (if path_eq at.now p then option_map (λ node. BaseNode.NotPresent) (get_in nodes.old.entries at.now) else get_in nodes.old.entries p) }
 {
@@ -26,7 +26,7 @@ fn make_absent(nodes: &mut Nodes, at: &RelPath)
 }
 
 impl WorkingCopy {
-    /// Puts "not present" in the place of a present node, and removes what is beneath it. IsRoot for the root, Missing where no node is
+    /// Puts "not present" in the place of a present node, and removes what is below it. IsRoot for the root, Missing where no node is
     /// present; then the copy stays as it was. It takes no memory, and costs what goes.
     pub fn forget(&mut self, path: &RelPath) -> Result<(), WcFault>
         ensures nodes { OnOk result ((p : Path) → get_in self.new p ≡ forgotten (get_in self.old) path.now p) }

@@ -19,7 +19,7 @@ fn write_nodes<W: fmt::Write>(copy: &WorkingCopy, f: &mut fmt::Formatter<W>) -> 
 }
 
 /// A copy is printed as its nodes, in path order, each as a line with its line feed: `PATH file REV REPOSPATH TEXT`,
-/// `PATH dir REV REPOSPATH`, followed by ` incomplete` where it is that, or `PATH not-present`; behind a node's line come those of its
+/// `PATH dir REV REPOSPATH`, followed by ` incomplete` where it is that, or `PATH not-present`; after a node's line come those of its
 /// properties in order of their names, `PATH prop NAME VALUE`. Paths, texts and values are words, as in a printed call.
 impl fmt::Display for WorkingCopy {
     ghost output = { λ w. Some (copy_text w) };

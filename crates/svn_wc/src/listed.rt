@@ -1,5 +1,5 @@
-//! Copies made of lists of nodes, which are sorted by their paths for it. What is wrong with a list is found without memory, so that want of
-//! it never hides a fault.
+//! Copies made of lists of nodes, which are sorted by their paths for it. What is wrong with a list is found without memory, so that Memory
+//! never hides a fault.
 ghost use Rattle.std.specs.Prelude.{◌≡◌, IfOk, IfErr, OnOk, Some, None, take};
 ghost use Rattle.std.specs.List.{list_any};
 ghost use Rattle.svn_types.specs.Names.{Path};
@@ -51,7 +51,7 @@ fn begins_with(nodes: &[(RelPath, BaseNode)], path: &RelPath) -> bool
     }
 }
 
-// Whether two of the nodes have the same path: then two do that stand side by side.
+// Whether two of the nodes have the same path: then two neighbours do.
 fn has_twice(nodes: &[(RelPath, BaseNode)]) -> bool
     requires { IsSorted nodes.now }
     ensures { result ≡ has_twice nodes.now }

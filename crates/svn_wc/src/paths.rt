@@ -1,4 +1,4 @@
-//! Paths beside one another.
+//! How paths compare.
 ghost use Rattle.std.specs.Prelude.{◌≡◌};
 ghost use Rattle.svn_types.specs.Names.{path_cmp};
 ghost use Rattle.svn_types.specs.Paths.{parent};
@@ -17,7 +17,7 @@ pub(crate) fn last_name_allowed(path: &RelPath)
     }
 }
 
-/// How a path stands to the one above another; above the root is the root. It takes no memory.
+/// How a path compares with the one above another; above the root is the root. It takes no memory.
 pub(crate) fn compare_above(other: &RelPath, path: &RelPath) -> Ordering
     ensures { result ≡ path_cmp other.now (parent path.now) }
 {

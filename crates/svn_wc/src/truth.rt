@@ -22,7 +22,7 @@ use svn_nodes::ahead::Ahead;
 use svn_repo::{Entries, NodeId, Repo};
 use svn_types::{Kind, Name, Props, RelPath, Rev, Text};
 
-// Whether properties are the same ones. Most nodes have none, which is told without going through two maps.
+// Whether properties are the same ones. Most nodes have none, which is seen without going through two maps.
 fn are_same(props: &Props, others: &Props) -> bool
     ensures { IsTrue result ↔ (props.now ≡ others.now) }
 {
@@ -70,7 +70,7 @@ fn is_untrue_file(repo: &Repo, id: &Option<NodeId>, text: &Text, props: &Props) 
     }
 }
 
-// The same of a directory, which lacks so many of its entries.
+// The same of a directory, of whose entries that many are missing.
 fn is_untrue_directory(
     repo: &Repo,
     id: &Option<NodeId>,
@@ -88,11 +88,11 @@ fn is_untrue_directory(
     }
 }
 
-// Whether a node is another than the repository has in its place, where a directory lacks so many of its entries.
+// Whether a node differs from what the repository has in its place, where that many entries of a directory are missing.
 fn is_untrue(repo: &Repo, node: &BaseNode, id: &Option<NodeId>, missing: usize) -> bool
     ensures { (w : CopyMap) (p : Path) → CountsMissing w p node.now (names_at repo.now id.now) missing → id.now ≡ looked repo.now node.now → result ≡ is_untrue repo.now w p node.now }
 {
-    // what stands in a revision is a node
+    // what is in a revision is a node
     repo.law();
     match node {
         BaseNode::File { text, props, .. } => is_untrue_file(repo, id, text, props),
@@ -155,7 +155,7 @@ fn look_up(repo: &Repo, node: &BaseNode) -> Option<NodeId>
     }
 }
 
-// Whether a node one name below a directory has the directory's revision, and its repository path with that name behind it.
+// Whether a node one name below a directory has the directory's revision, and its repository path with that name after it.
 fn is_step(above: &Above<'_>, path: &RelPath, location: &Location<'_>) -> bool
     ensures { (at : Path) (name : List ℕ) → KnowsOwnPath at above.now → path.now ≡ child at name → IsTrue result → IsStep above.now.0 location.now.rev location.now.repos_path.now name }
 {
@@ -193,7 +193,7 @@ fn find_below(
     repo.lookup(location.rev, location.repos_path)
 }
 
-// The next node, if it has more names than that: it is taken. Its name is told if there is one more.
+// The next node, if it has more names than that: it is taken. Its name is returned if there is one more.
 fn next_deeper<'a>(depth: usize, left: &mut Ahead<'a, RelPath, BaseNode>) -> Option<NodeBelow<'a>>
     ensures taken { TakesDeeper depth left.old (option_map (λ b. (b.path.now, b.node.now)) result) left.new }
     ensures name { IfSome result (λ b. IsLastName depth b.path.now (option_copied b.name)) }
@@ -239,7 +239,7 @@ fn take_entry(entries: &mut Iter<'_, NodeId>, name: Option<&Name>) -> Option<Nod
     }
 }
 
-// How many entries are missing, where so many were before one was found or not.
+// How many entries are missing, where that many were before one was found or not.
 fn missing_without(entry: &Option<NodeId>, missing: usize) -> usize
     ensures { result ≡ missing - (if is_some entry.now then 1 else 0) }
 {
@@ -250,8 +250,8 @@ fn missing_without(entry: &Option<NodeId>, missing: usize) -> usize
     }
 }
 
-// The first untrue path among a node's, beside which stands what the repository has in its place, and those below, which are taken. Beside the
-// nodes below a directory its entries are gone through. In path order these are the next that have more names, since each stands below a directory.
+// The first untrue path among a node's, compared with what the repository has in its place, and those below, which are taken. Beside the
+// nodes below a directory its entries are gone through. In path order these are the next that have more names, since each is below a directory.
 fn first_untrue_within<'a>(
     repo: &Repo,
     path: &'a RelPath,
@@ -286,9 +286,9 @@ fn first_untrue_within<'a>(
 }
 
 impl WorkingCopy {
-    /// Whether each present node is what the repository has in its place: else the first path, in path order, whose node isn't. A file is to
-    /// have its text and properties, a complete directory its properties, and an entry, present or not, for each of its names: one that
-    /// lacks is told at the directory's path. It takes no memory.
+    /// Whether each present node is what the repository has in its place: else the first path, in path order, whose node isn't. A file must
+    /// have its text and properties, a complete directory its properties, and a node, present or not, for each of its entries: a missing
+    /// one is reported at the directory's path. It takes no memory.
     pub fn check_true(&self, repo: &Repo) -> Result<(), &RelPath>
         ensures first { MatchResult result (λ _. first_untrue repo.now self.now ≡ None) (λ p. first_untrue repo.now self.now ≡ Some p.now) }
         ensures is_true { OnOk result (IsTrueOf repo.now (get_in self.now)) }

@@ -68,7 +68,7 @@ impl WorkingCopy {
         WorkingCopy::checkout_at(alloc, repo, &root, rev)
     }
 
-    /// It does nothing. Its contract says what holds of every copy: the nodes stand in path order, and have the shape of a working copy.
+    /// It does nothing. Its contract says what holds of every copy: the nodes are in path order, and have the shape of a working copy.
     pub fn law(&self)
         ensures order { InPathOrder self.now }
         ensures shape { IsWorkingCopy (get_in self.now) }

@@ -89,7 +89,7 @@ impl Job {
         Ok(())
     }
 
-    // One in so many of the files with long names.
+    // One in that many of the files with long names.
     fn change_flat(&mut self, step: u64) -> Result<(), AllocError> {
         for number in 0..self.size.of(FLAT_FILES) {
             if step == 1 || self.dice.once_in(step) {
@@ -138,7 +138,7 @@ impl Job {
         Ok(())
     }
 
-    // A revision in which one in so many changes.
+    // A revision in which one in that many changes.
     fn change(&mut self, step: u64) -> Result<(), AllocError> {
         self.change_deep()?;
         self.change_flat(step)?;

@@ -47,7 +47,7 @@ fn repository(alloc: Global, size: Size) -> Result<Repo> {
     Ok(repo)
 }
 
-// Checks out what stands at a path of a revision.
+// Checks out what is at a path of a revision.
 fn check_out(
     alloc: Global,
     digest: &mut Digest,

@@ -21,17 +21,17 @@ impl Dice {
         self.generator.next_u64() % bound.max(1)
     }
 
-    /// A number from the least up to as many behind it.
+    /// A number from the least up to as many after it.
     pub(crate) fn from(&mut self, least: u64, more: u64) -> u64 {
         self.below(more).saturating_add(least)
     }
 
-    /// True once in so many times.
+    /// True once in that many times.
     pub(crate) fn once_in(&mut self, times: u64) -> bool {
         self.below(times) == 0
     }
 
-    /// A place in a list of so many; 0 where it is empty.
+    /// A place in a list of that many; 0 where it is empty.
     pub(crate) fn place(&mut self, count: usize) -> usize {
         self.below(count as u64) as usize
     }

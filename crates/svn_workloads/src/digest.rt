@@ -27,7 +27,7 @@ fn word_at(bytes: &[u8], from: usize) -> u64
     ])
 }
 
-/// How many bytes were told, and a digest of them: FNV-1a, which takes eight bytes at a time.
+/// How many bytes were added, and a digest of them: FNV-1a, which takes eight bytes at a time.
 #[derive(Clone, Copy)]
 pub(crate) struct Digest {
     count: u64,

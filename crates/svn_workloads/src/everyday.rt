@@ -1,4 +1,4 @@
-//! The everyday update: a copy of a large tree follows its history on one thread. Most revisions change a few files that stand close together, some
+//! The everyday update: a copy of a large tree follows its history on one thread. Most revisions change a few files that are close together, some
 //! many, and many are of a branch, and change nothing in the copy.
 
 use crate::dice::Dice;
@@ -14,7 +14,7 @@ const UPDATES: u64 = 110;
 
 const LEAST_TEXT: u64 = 12;
 
-// Of each so many files of a change, one is deleted or comes back, and of so many one gets a property.
+// Of each that many files of a change, one is deleted or comes back, and of that many one gets a property.
 const DELETED: u64 = 15;
 
 const PROPERTY: u64 = 20;
@@ -65,7 +65,7 @@ impl Job {
         Ok(())
     }
 
-    // Files that stand close together are changed, up to so many.
+    // Files that are close together are changed, up to that many.
     fn change_cluster(&mut self, most: u64) -> Result<(), AllocError> {
         let start = self.dice.place(self.tree.files.len());
         let count = self.dice.from(1, most);
@@ -75,7 +75,7 @@ impl Job {
         Ok(())
     }
 
-    // Some files of the branch are changed, none of which was deleted there.
+    // Some files of the branch that weren't deleted there are changed.
     fn change_branch(&mut self) -> Result<(), AllocError> {
         for _ in 0..self.dice.from(1, 20) {
             let path = self.tree.any_file(&mut self.dice);

@@ -26,7 +26,7 @@ pub(crate) fn put(alloc: Global, root: &str, path: &str, text: &str) -> Result<C
     })
 }
 
-/// What makes all directories and files of a tree, below a directory of the root, with texts of which a tenth is shorter than the least.
+/// What makes all directories and files of a tree, below a directory of the root, with texts, a tenth of them shorter than the least.
 pub(crate) fn all_of(
     alloc: Global,
     dice: &mut Dice,
@@ -46,7 +46,7 @@ pub(crate) fn all_of(
     Ok(changes)
 }
 
-/// New texts for some of a tree's files, of which so many of a hundred are chosen.
+/// New texts for some of a tree's files: that many in a hundred are chosen.
 pub(crate) fn some_of(
     alloc: Global,
     dice: &mut Dice,
@@ -91,7 +91,7 @@ fn tell_node(digest: &mut Digest, node: &BaseNode) {
     }
 }
 
-/// Tells all nodes of a copy.
+/// Adds all nodes of a copy.
 pub(crate) fn tell_copy(digest: &mut Digest, copy: &WorkingCopy) {
     for (path, node) in copy.nodes() {
         digest.tell(path.key().as_bytes());

@@ -2,7 +2,7 @@
 //!
 //! The first argument names the job: `checkout`, `everyday`, `large`, `mixed`, `branch`, `awkward` or `all`. The second is the seed from which
 //! its input is made, a number below 2^32. With a third, each input is that many times smaller. A line is printed for each job: its name, how many
-//! bytes its results have, and a digest of them. No time is printed. With `script` behind the three, the script is printed that the job runs, if it
+//! bytes its results have, and a digest of them. No time is printed. With `script` after the three, the script is printed that the job runs, if it
 //! runs one.
 #![tactic(auto)]
 

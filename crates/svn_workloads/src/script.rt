@@ -51,7 +51,7 @@ impl Script {
         Ok(())
     }
 
-    /// All directories and files of a tree, below a directory of the root that is made for them; with texts of which a tenth is shorter
+    /// All directories and files of a tree, below a directory of the root that is made for them; with texts, a tenth of them shorter
     /// than the least, and a property at every twelfth file.
     pub(crate) fn tree(
         &mut self,
@@ -71,7 +71,7 @@ impl Script {
         self.commit()
     }
 
-    /// Runs it with its updates on one thread, and tells what it printed.
+    /// Runs it with its updates on one thread, and returns what it printed.
     pub(crate) fn run<R: Threads + Wait + Sync>(&self, rt: &R, alloc: Global) -> Result<Digest> {
         let mut reader = self.text.as_str().as_bytes();
         let mut output = Vec::new(alloc);

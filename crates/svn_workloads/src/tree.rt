@@ -12,13 +12,13 @@ pub(crate) struct Size {
 }
 
 impl Size {
-    /// How many there are of what is so many where it is timed.
+    /// How many there are, by the number where it is timed.
     pub(crate) fn of(self, count: u64) -> u64 {
         (count / self.share.max(1)).max(2)
     }
 }
 
-/// Paths below the root of a tree, of directories and files, and which of the files stand now.
+/// Paths below the root of a tree, of directories and files, and which of the files are there now.
 #[derive(Drop)]
 pub(crate) struct Tree {
     pub(crate) directories: Vec<String>,
@@ -30,7 +30,7 @@ pub(crate) struct Tree {
 // The most directories above a directory.
 const DEEPEST: u64 = 8;
 
-// How many of the newest directories the next one mostly stands in.
+// How many of the newest directories the next one mostly is in.
 const RECENT: usize = 20;
 
 // How many files a directory has: half of them few, one in two hundred very many.
@@ -52,7 +52,7 @@ pub(crate) fn below(alloc: Global, above: &str, name: &str) -> Result<String, Al
 }
 
 impl Tree {
-    /// A tree of so many files.
+    /// A tree of that many files.
     pub(crate) fn new(alloc: Global, dice: &mut Dice, files: u64) -> Result<Tree, AllocError> {
         let mut tree = Tree {
             directories: vec![in alloc; String::new(alloc)]?,
@@ -72,7 +72,7 @@ impl Tree {
         Ok(tree)
     }
 
-    // Where the next directory stands: mostly in one of the newest.
+    // Where the next directory is: mostly in one of the newest.
     fn next_above(&self, dice: &mut Dice) -> usize {
         let count = self.directories.len();
         let recent = RECENT.min(count);
@@ -100,7 +100,7 @@ impl Tree {
         Ok(())
     }
 
-    // So many files in the newest directory.
+    // That many files in the newest directory.
     fn add_files(&mut self, alloc: Global, dice: &mut Dice, count: u64) -> Result<(), AllocError> {
         let stem = words::stem(alloc, dice)?;
         for number in 0..count {
@@ -141,7 +141,7 @@ impl Tree {
         self.directory(dice.place(self.directories.len().saturating_sub(1)))
     }
 
-    /// Notes whether a file stands, and tells whether it stood.
+    /// Notes whether a file is there, and returns whether it was.
     pub(crate) fn mark(&mut self, place: usize, now: bool) -> bool {
         match self.stands.get_mut(place) {
             Some(stands) => {

@@ -119,7 +119,7 @@ pub(crate) fn file_name(
     format!(in alloc; "{stem}{last}{number}{suffix}")
 }
 
-// Of so many bytes is what texts are cut from.
+// Of that many bytes is what texts are cut from.
 const TEXT_BYTES: u64 = 1 << 18;
 
 /// Texts that are cut from one run of random letters.
@@ -137,7 +137,7 @@ impl Texts {
         Ok(Texts { letters })
     }
 
-    /// So many letters from a random place on, or as many as there are.
+    /// That many letters from a random place on, or as many as there are.
     pub(crate) fn cut(&self, dice: &mut Dice, len: u64) -> &str {
         let len = (len.min(TEXT_BYTES) as usize).min(self.letters.len());
         let start = dice.place(self.letters.len() - len);
@@ -147,7 +147,7 @@ impl Texts {
         }
     }
 
-    /// A text of a length of which a tenth is below the least, half below seven times that, and a tenth over fifty times that.
+    /// A text whose length is below the least in a tenth of cases, below seven times that in half of them, and over fifty times that in a tenth.
     pub(crate) fn draw(&self, dice: &mut Dice, least: u64) -> &str {
         let times = match dice.below(10) {
             0 => 1,

@@ -79,7 +79,7 @@ fn answer_script<T: Input + Print + Eprint + AllocGlobal + Threads + Wait + Sync
     }
 }
 
-// Where standard error can't be written either, the status alone tells.
+// Where standard error can't be written either, the status alone says so.
 fn refuse_script<T: Eprint>(rt: &T, fault: ScriptFault) -> ExitCode {
     let _ = eprintln!(rt; "svnup: {fault}");
     ExitCode::from(fault.status())

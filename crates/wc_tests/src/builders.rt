@@ -43,7 +43,7 @@ fn places_and_switches(rt: HostRuntime) -> Result<(), Fail> {
     const DIRECTORIES: &[Case<'static>] = &[
         ("switch a b 1; show", NODES),
         ("switch a b 1; report; check", "set . 1; link a b 1; true; "),
-        // a switch beneath a switch, and a file where nothing stood
+        // a switch below a switch, and a file where nothing was
         (
             "switch a . 1; switch a/a b 1; switch a/b/c a/x 1; report; check",
             "set . 1; link a . 1; link a/a b 1; link a/b/c a/x 1; true; ",
@@ -108,7 +108,7 @@ fn checks_out_a_branch(rt: HostRuntime) -> Result<(), Fail> {
     same(&rt, rt.alloc(), TWO_BRANCHES, CASES)
 }
 
-// A file is changed behind the checkout, and the copy updated by its parts: its report, and the drive of that to its applier.
+// A file is changed after the checkout, and the copy updated by its parts: its report, and the drive of that to its applier.
 #[test]
 fn updates_a_changed_file(rt: HostRuntime) -> Result<(), Fail> {
     const CASES: &[Case<'static>] = &[(

@@ -1,4 +1,4 @@
-// Calls that are known to be in order and not to be refused: a `Pending` carries them out by itself, without a test of either.
+// Calls that are known to be in order and not to be refused: a `Pending` applies them without testing either.
 use crate::calls::call;
 use crate::nodes::nodes;
 use crate::printed::write_nodes;

@@ -3,7 +3,7 @@ use crate::histories::{ONE_FILE, REPLACED, TWO_DIRECTORIES};
 use crate::steps::{HistoryCase, all};
 use std::test::Fail;
 
-// A link to a directory beside it.
+// A link to a sibling directory.
 pub(crate) const FOLLOWED: HistoryCase<'static> = (
     TWO_DIRECTORIES,
     "drive 2; set . 1; link a b 1",

@@ -9,7 +9,7 @@ use std::test::Fail;
 
 static DRIVES: [HistoryCase<'static>; 4] = [CHANGED_FILE, LATE_TEXTS, FOLLOWED, LINKED];
 
-// By a call: whoever names the table itself is proved with all that stands in it, at each of its steps.
+// By a call: a function that names the table itself is proved with all its contents, at each step.
 fn drives() -> &'static [HistoryCase<'static>] {
     &DRIVES
 }

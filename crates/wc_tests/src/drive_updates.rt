@@ -92,7 +92,7 @@ static PLAIN: [HistoryCase<'static>; 9] = [
          close_edit; \
          Ok(Closed { calls: 9 }); ",
     ),
-    // a directory where a file stood
+    // a directory where a file was
     (
         FILE_THEN_DIRECTORY,
         "drive 2; set . 1",

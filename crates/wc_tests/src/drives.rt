@@ -42,10 +42,10 @@ impl Editor for Refuser {
     }
 }
 
-// A drive's answer.
+// A drive's result.
 pub(crate) type Ended = Result<DriveEnd, DriveFault>;
 
-// The report of these entries, which the repository has to be able to serve.
+// The report of these entries, which the repository must be able to serve.
 fn served(alloc: Global, repo: &Repo, entries: &str) -> Result<Report, Fail> {
     let report = report(alloc, entries)?;
     check_report(alloc, repo, &report)?;

@@ -10,7 +10,7 @@ pub(crate) const MIXED: &str =
 
 pub(crate) const EMPTY_FILE: &str = "put f; commit";
 
-// A directory where a file stood.
+// A directory where a file was.
 pub(crate) const FILE_THEN_DIRECTORY: &str =
     "put f a; commit; remove f; mkdir f; commit; put f/x a; commit";
 

@@ -154,7 +154,7 @@ fn shows_its_nodes(rt: HostRuntime) -> Result<(), Fail> {
 
 // ---- below a long path of the repository
 
-// `d/d/d`, with so many names.
+// `d/d/d`, with that many names.
 fn chain(alloc: Global, names: usize) -> Result<String, Fail> {
     let mut path = String::new(alloc);
     for depth in 0..names {

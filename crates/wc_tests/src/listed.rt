@@ -43,7 +43,7 @@ fn tells_the_first_untrue_path(rt: HostRuntime) -> Result<(), Fail> {
             "nodes; . dir 1 .; f file 1 f a; g file 1 f a; stop; check",
             "true; ",
         ),
-        // the root lacks `f`, and is told before what stands below it
+        // the root lacks `f`, and is reported before what is below it
         (
             "nodes; . dir 1 .; g file 1 g a; stop; check",
             "untrue at .; ",

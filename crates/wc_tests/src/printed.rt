@@ -1,4 +1,4 @@
-// What a copy has and reports, as a script prints it: with `; ` behind each line.
+// What a copy has and reports, as a script prints it: with `; ` after each line.
 use std::alloc::{AllocError, Global};
 use std::test::Fail;
 use svn_editor::PathWord;

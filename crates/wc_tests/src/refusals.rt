@@ -1,4 +1,4 @@
-// Edits of which a call is refused, and with it each call after it but `abort_edit`.
+// Edits in which a call is refused, and each call after it but `abort_edit`.
 use crate::builders::ONE_FILE;
 use crate::steps::writes;
 use std::alloc::Global;
@@ -13,7 +13,7 @@ const CHANGED: &str = ". dir 2 . incomplete; f file 2 f abc; ";
 
 const CLOSED: &str = ". dir 2 .; f file 2 f abc; ";
 
-// The calls of an edit, the answers, and what the copy has then.
+// The calls of an edit, the results, and what the copy has then.
 type Row = (&'static str, &'static str, &'static str);
 
 fn answer(rt: &impl Abort, alloc: Global, begun: &str, row: Row) -> Result<(), Fail> {

@@ -22,7 +22,7 @@ fn tell_link(
     Ok(reporter.link_path(at, repos_path, revision(entry, 3), start_empty)?)
 }
 
-// What is said of the root was told before.
+// What is said of the root was reported before.
 fn tell(alloc: Global, reporter: &mut Reporter, entry: &str) -> Result<(), Fail> {
     let at = path(alloc, entry, 1)?;
     match word(entry, 0) {

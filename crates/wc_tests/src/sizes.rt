@@ -5,7 +5,7 @@ use std::alloc::{AllocError, Global};
 use std::process::Abort;
 use std::test::Fail;
 
-// `d/d/d`, with so many names.
+// `d/d/d`, with that many names.
 fn chain(alloc: Global, names: usize) -> Result<String, AllocError> {
     let mut path = String::new(alloc);
     for depth in 0..names {

@@ -1,7 +1,7 @@
 // Scripts of tests: steps with `; ` between two. A step is a change of the repository or its commit, or a call of a working copy. From `edit` or
 // `nodes` to `stop` are the calls of an edit, or the nodes of a new copy; from `drive`, `drive_switch` or `serve` to `stop` the entries of a
 // report, to which an editor is driven, or which is checked. `update` drives the copy by what it reports. `cancel` and `refuse` stop the drives
-// behind them. `show`, `report`, `check`, `count`, an update, a drive, a check of a report and the end of an edit write, and so does a refusal: its
+// after them. `show`, `report`, `check`, `count`, an update, a drive, a check of a report and the end of an edit write, and so does a refusal: its
 // number.
 use crate::calls::call;
 use crate::changes::change;
@@ -172,7 +172,7 @@ impl State {
     }
 }
 
-// What an applier answers to the calls of an edit: how many it accepts, and the numbers of the faults of the others.
+// What an applier returns for the calls of an edit: how many it accepts, and the numbers of the faults of the others.
 #[derive(Drop)]
 struct Answers {
     accepted: u64,
@@ -212,7 +212,7 @@ fn answers_to(alloc: Global, applier: &mut Applier<'_>, calls: &str) -> Result<A
     Ok(answers)
 }
 
-// The answers, and the pools that are live then.
+// The results, and the pools that are live then.
 fn write_answers(
     alloc: Global,
     out: &mut String,
@@ -235,7 +235,7 @@ fn has_lines(step: &str) -> bool {
     )
 }
 
-// The steps up to `stop`, and those behind it.
+// The steps up to `stop`, and those after it.
 fn block(steps: &str) -> (&str, &str) {
     if let Some(rest) = steps.strip_prefix("stop; ") {
         return ("", rest);
@@ -281,10 +281,10 @@ fn written(alloc: Global, begun: &str, script: &str) -> Result<String, Fail> {
 // A script, and what it writes.
 pub(crate) type Case<'a> = (&'a str, &'a str);
 
-// A beginning, a script behind it, and what both write.
+// A beginning, a script after it, and what both write.
 pub(crate) type HistoryCase<'a> = (&'a str, &'a str, &'a str);
 
-// Behind this beginning, a script writes what stands beside it.
+// After this beginning, a script writes what its row says.
 pub(crate) fn writes(
     rt: &impl Abort,
     alloc: Global,
@@ -297,7 +297,7 @@ pub(crate) fn writes(
     Ok(())
 }
 
-// Behind the same beginning, each script writes what stands beside it.
+// After the same beginning, each script writes what its row says.
 pub(crate) fn same(
     rt: &impl Abort,
     alloc: Global,
@@ -310,7 +310,7 @@ pub(crate) fn same(
     Ok(())
 }
 
-// Each script, behind its own beginning.
+// Each script, after its own beginning.
 pub(crate) fn all(rt: &impl Abort, alloc: Global, cases: &[HistoryCase<'_>]) -> Result<(), Fail> {
     for (begun, script, wanted) in cases {
         writes(rt, alloc, begun, (script, wanted))?;

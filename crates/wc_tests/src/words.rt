@@ -42,7 +42,7 @@ pub(crate) fn path(alloc: Global, step: &str, place: usize) -> Result<RelPath, F
     Ok(RelPath::parse(alloc, if text == "." { "" } else { text })?)
 }
 
-// So many bytes `x`.
+// That many bytes `x`.
 fn long_text(alloc: Global, times: &str) -> Result<Text, AllocError> {
     let long = "x".repeat(alloc, times.parse::<usize>().unwrap_or(0))?;
     Ok(Text::new(long.into_bytes()))

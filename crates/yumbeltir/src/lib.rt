@@ -11,7 +11,7 @@
 //! ```
 //!
 //! The copy reports its nodes, the driver compares the report with the target revision and makes the calls of an edit, and the applier
-//! carries each of them out.
+//! applies each of them.
 //!
 //! | To do this | use that |
 //! |---|---|

@@ -30,7 +30,7 @@ f file 2 f abc
 ",
 );
 
-// By calls: whoever names the texts themselves is proved with them at each of its steps.
+// By calls: a function that names the texts themselves is proved with them at each step.
 pub(crate) fn stored_script() -> &'static str {
     STORED.0
 }
@@ -117,7 +117,7 @@ close_directory #0
 close_edit
 ",
         ),
-        // those of a file come with it, and are told before its text
+        // those of a file come with it, and are reported before its text
         (
             "\
 put f a
@@ -304,7 +304,7 @@ delete f
 closed 7
 ",
         ),
-        // a directory that was opened and not closed keeps its properties, and is told of as empty
+        // a directory that was opened and not closed keeps its properties, and is reported as empty
         (
             "\
 mkdir d
@@ -385,7 +385,7 @@ close_edit
 f file 1 f a
 ",
         ),
-        // a stopped update is told of, and gone on with
+        // a stopped update is reported, and continued
         (
             "update 2 3\nshow\nreport\ndrive 2\nupdate 2\nshow\n",
             "\

@@ -61,7 +61,7 @@ i file 1 i %00%01%09~%7F%C2%80
 j file 1 j abcd%25%20eA
 ",
         ),
-        // so are paths. They come name by name, names by their bytes, so that a directory stands directly before what is beneath it
+        // so are paths. They come name by name, names by their bytes, so that a directory is directly before what is below it
         (
             "\
 mkdir %61
@@ -126,7 +126,7 @@ f prop svn:eol-style \"\"
     ],
 };
 
-// The last line may lack its line feed.
+// The last line may have no line feed.
 pub(crate) static LAST_LINES: Table = Table {
     before: NOTHING,
     after: NOTHING,

@@ -294,7 +294,7 @@ f file 2 f abc
     ],
 };
 
-// A directory `t`, in revision 2 its copy `b`, of which revision 3 changes a file, and a directory `e` of another line.
+// A directory `t`, in revision 2 its copy `b`, in which revision 3 changes a file, and a directory `e` of another line.
 pub(crate) const BRANCHED: Part = (
     "\
 mkdir t

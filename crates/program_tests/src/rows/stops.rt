@@ -2,7 +2,7 @@
 use crate::rows::links::BRANCHED;
 use crate::tables::{Part, TWO_REVISIONS};
 
-// A run behind some lines, how many calls it has, and what `show` prints at its end.
+// A run after some lines, how many calls it has, and what `show` prints at its end.
 pub(crate) struct Stop {
     pub(crate) before: Part,
     pub(crate) run: &'static str,
@@ -150,7 +150,7 @@ static STOPS: [Stop; 15] = [
     },
 ];
 
-// By a call: whoever names the table itself is proved with all that stands in it, at each of its steps.
+// By a call: a function that names the table itself is proved with all its contents, at each step.
 pub(crate) fn stops() -> &'static [Stop] {
     &STOPS
 }

@@ -54,7 +54,7 @@ closed 6
 f file 2 f a
 ",
         ),
-        // what stands beside a change stays untouched
+        // what is beside a change stays untouched
         // target, open, open d, add d/s, close, close, close, end: nothing below e is touched
         (
             "\
@@ -241,7 +241,7 @@ closed 6
 ",
         ),
         // what doesn't differ doesn't travel
-        // a new text, with the old properties; then twice a file made afresh that differs in nothing
+        // a new text, with the old properties; then twice a file made anew that differs in nothing
         (
             "\
 put f a
@@ -346,8 +346,8 @@ d/e/x file 3 d/e/x a
 d/x file 3 d/x a
 ",
         ),
-        // a file that came back as it was is not told of, unless the copy has none
-        // the file of revision 1 is that of revision 3, so nothing is told of it; it comes anew where the copy has none
+        // a file that came back as it was is not reported, unless the copy has none
+        // the file of revision 1 is that of revision 3, so nothing is reported for it; it comes anew where the copy has none
         (
             "\
 put f a
@@ -377,7 +377,7 @@ closed 7
 f file 3 f a
 ",
         ),
-        // a copy of another line replaces what stood there
+        // a copy of another line replaces what was there
         // target, open, then for d and f each delete, add, text, close; close, end
         (
             "\

@@ -22,7 +22,7 @@ fn add(tree: &mut Tree, parent: u64, text: &[u8]) -> Result<PoolId, PoolFault> {
     Ok(pool)
 }
 
-// Pools with so many children each.
+// Pools with that many children each.
 fn grow(tree: &mut Tree, children: u64, text: &[u8], number: u64) -> Result<(), PoolFault> {
     for made in 0..number {
         add(tree, made / children.max(1), text)?;

@@ -17,7 +17,7 @@ fn filled(alloc: Global, text: &[u8], number: u64) -> Result<Strings, AllocError
     Ok(strings)
 }
 
-// A pool with so many strings.
+// A pool with that many strings.
 fn add(alloc: Global, pools: &mut Pools, text: &[u8], number: u64) -> Result<(), AllocError> {
     pools.push(Some(filled(alloc, text, number)?))?;
     Ok(())

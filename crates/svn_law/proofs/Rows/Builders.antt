@@ -26,7 +26,7 @@ older_file : listed mixed_paths mixed ≡ ([], whole 3 []) ∷ (at d, whole 3 (a
     ∷ (at y, plain 3 (at y) a) ∷ []
 older_file = refl
 
--- a directory switched to another: what stood below it is gone
+-- a directory switched to another: what was below it is gone
 switched_directory : listed two_paths a_at_b
     ≡ ([], whole 1 []) ∷ (at a, whole 1 (at b)) ∷ (at2 a y, plain 1 (at2 b y) a) ∷ (at b, whole 1 (at b)) ∷ (at2 b y, plain 1 (at2 b y) a)
     ∷ []
@@ -59,7 +59,7 @@ new_path = refl
 in_trunk : listed paths d_at_e ≡ ([], whole 1 (at t)) ∷ (at d, whole 1 (at e)) ∷ (at f, plain 1 (at2 t f) a) ∷ []
 in_trunk = refl
 
--- a file made not present, a directory with all beneath, and both put back
+-- a file made not present, a directory with everything below, and both put back
 file_forgotten : listed one_paths without_x ≡ ([], whole 1 []) ∷ (at d, whole 1 (at d)) ∷ (at2 d x, NotPresent) ∷ []
 file_forgotten = refl
 

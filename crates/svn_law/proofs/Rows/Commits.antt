@@ -1,4 +1,4 @@
--- Commits: which changes are refused, and what stands in the new revision.
+-- Commits: which changes are refused, and what is in the new revision.
 use Rattle.std.specs.Prelude.{◌≡◌, ℕ, List, [], ◌∷◌, ◌++◌, map, Option, Some, None, refl}
 use Rattle.svn_types.specs.declared.kind.Kind.TheVariants.{File, Directory}
 use Rattle.svn_types.specs.Names.{Path}
@@ -12,7 +12,7 @@ use Rattle.svn_repo.specs.Changes.{commit_fault, after_changes, latest_pending}
 use Rattle.svn_law.proofs.Rows.Setting.{a, b, d, f, g, s, x, abc, at, at2, deep, dir, file, history_of}
 use Rattle.svn_law.proofs.Rows.Plain.{k}
 
--- what stands at these paths after the changes
+-- what is at these paths after the changes
 abbrev standing : History → List Path → List Change → List (Option Place)
 standing h paths changes = map (after_changes h (latest_pending h) changes).tree paths
 
@@ -27,7 +27,7 @@ made_file line text = Some (record { number = None; line = line; kind = File; te
 abbrev inner : History
 inner = history_of (0 ∷ 1 ∷ []) (dir 0 [] ∷ dir 0 ((d, 2) ∷ []) ∷ dir 1 ((x, 3) ∷ []) ∷ file 2 a ∷ [])
 
--- ---- what stands
+-- ---- what is there
 
 first_file : standing new_history ([] ∷ at f ∷ at g ∷ []) (PutFile (at f) a ∷ []) ≡ made_dir 0 ∷ made_file 1 a ∷ None ∷ []
 first_file = refl
@@ -116,7 +116,7 @@ copied_from_nothing = refl
 copied_over : fault (CopyFrom 1 (at f) (at f) ∷ []) ≡ Some Exists
 copied_over = refl
 
--- a path has at most 64 names: seen in a directory that holds itself, so that each path of its name stands
+-- a path has at most 64 names: seen in a directory that holds itself, so that each path of its name is there
 abbrev bottomless : History
 bottomless = history_of (0 ∷ []) (dir 0 ((d, 0) ∷ []) ∷ [])
 

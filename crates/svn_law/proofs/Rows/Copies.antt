@@ -96,7 +96,7 @@ no_such_revision t = none t.1
     none : None ≡ Some t.0 → ⊥
     none q = cc
 
--- the first path that isn't true; a missing entry is told at the directory
+-- the first path that isn't true; a missing entry is reported at the directory
 true_copy : first_untrue k (([], whole 1 []) ∷ (at f, plain 1 (at f) a) ∷ []) ≡ None
 true_copy = refl
 

@@ -59,7 +59,7 @@ at n = n ∷ []
 abbrev pub at2 : Name → Name → Path
 at2 m n = m ∷ n ∷ []
 
--- a path of so many names
+-- a path of that many names
 abbrev pub deep : ℕ → Path
 deep zero = []
 deep (suc n) = d ∷ deep n
@@ -97,7 +97,7 @@ drive late mode h paths w target = drive_within 5 late (ask mode h (crawl (liste
 abbrev pub stopped : Mode → WorkingCopy → ℕ → List Call → WorkingCopy
 stopped mode w n calls = after mode w (take n calls)
 
--- the refusals of the calls, where something stands at these paths at most
+-- the refusals of the calls, where something is at these paths at most
 abbrev pub refused : Mode → List Path → WorkingCopy → List Call → List (Call × EditFault)
 refused mode paths w calls = refusals sum mode paths w calls
 

@@ -8,7 +8,7 @@ use Rattle.std.proofs.Math.Bool.{and-true}
 use Rattle.svn_editor.specs.Words.{is_shown, path_byte}
 use Rattle.svn_editor.proofs.line_words.put_names.Goals as goal
 
--- one byte more, which was read behind those that are changed
+-- one byte more, which was read after those that are changed
 shown_more : (t ys : List ℕ) (i : ℕ) (all one : Bool) → i < length t → ys ≡ map path_byte (take i t) ++ drop i t
     → all ≡ list_all is_shown (map path_byte (take i t)) → one ≡ is_shown (path_byte (get_or ys i 0))
     → (all && one) ≡ list_all is_shown (map path_byte (take (i + 1) t))

@@ -9,7 +9,7 @@ use Rattle.svn_nodes.proofs.gather.+gather.Given as goal
 abbrev pub decreases-gather : goal.decreases-gather
 decreases-gather l = 129 - length l.at.now
 
--- nothing stands yet where the entries that are left go
+-- nothing is yet where the entries that are left go
 abbrev pub invariant-loop-name : goal.invariant-loop-name
 invariant-loop-name l =
     IsSwept l.at l.name-iterator (λ name r found. found ≡ None)

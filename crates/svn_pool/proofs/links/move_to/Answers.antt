@@ -12,7 +12,7 @@ use Rattle.svn_pool.specs.declared.links.Anchor.TheVariants.{First, Next}
 use Rattle.svn_pool.proofs.Bare.{live-bare, pool_in, relinked-bare}
 use Rattle.svn_pool.proofs.links.move_to.Goals as goal
 
--- a pool that follows the sibling of a place stands there, where it is a child of the right pool
+-- a pool that follows the sibling of a place is there, where it is a child of the right pool
 seated : (x : Anchor) (parent : Option ℕ) → ((p : ℕ) → x ≡ First p → parent ≡ Some p) → place_by parent (sibling_before x) ≡ Some x
 seated (First p) parent h = ap (λ (o : Option ℕ). place_by o (sibling_before (First p))) (h p refl)
 seated (Next q) parent h = refl
@@ -24,7 +24,7 @@ moved_to m n s l w x found now pool before c is parent =
     λ p e. ap (λ (e : Entry). e.parent) pool ∙ sym (ap parent_of (live-bare m s ∙ ap pool_in found)) ∙ ap (parent_in m) is ∙ parent p e in
     ap (place_of n) (sym is) ∙ ap place_in now ∙ ap (place_by w.pool.parent) before ∙ seated x w.pool.parent mine
 
--- a pool whose links alone are others: what stands at a place stays, where first child and next sibling do
+-- a pool whose links alone are others: what is at a place stays, where first child and next sibling do
 standing_stays : (m n : LinkedMap) (s : ℕ) (l w : Linked Entry) → get m s ≡ Some l → Updates m n s (Some w) → w.first ≡ l.first
     → w.next ≡ l.next
     → (x : Anchor) → standing n x ≡ standing m x

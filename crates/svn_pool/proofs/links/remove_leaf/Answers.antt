@@ -16,13 +16,13 @@ use Rattle.svn_pool.proofs.Counts.{blocks_left, blocks_within, fixed_left}
 use Rattle.svn_pool.proofs.Kinship.{holder_beside, holder_stays, linked-again, linked-remove, linked-unplaced, next_beside}
 use Rattle.svn_pool.proofs.links.remove_leaf.Goals as goal
 
--- where the pool stood, as its links say, is where the walk finds it to stand, once its strings are given up
+-- where the pool was, as its links say, is where the walk finds it to be, once its strings are given up
 place_found : (told before : Option ℕ) (w e : Entry) (x : Option Anchor) → told ≡ w.parent → w ≡ record { parent = e.parent; strings = [] }
     → x ≡ place_by told before → place_by e.parent before ≡ x
 place_found told before w e x parent emptied is =
     ap (λ (o : Option ℕ). place_by o before) (sym (parent ∙ ap (λ (f : Entry). f.parent) emptied)) ∙ sym is
 
--- what holds of a pool that took a place, and of the one whose link the place is, holds of what is told
+-- what holds of a pool that took a place, and of the one whose link the place is, holds of what is returned
 told_of : (P Q : Beside → Type 0) (taken : Option Beside) (held : Beside) → IfSome taken Q → ((b : Beside) → Q b → P b) → P held
     → P (unwrap_or taken held)
 told_of P Q None held its some none = none

@@ -1,7 +1,7 @@
 use Rattle.std.proofs.Common.{◌≡◌, ℕ, ◌+◌, ◌≤◌, ◌++◌, length, take, get_or}
 use Rattle.svn_types.proofs.short_bytes.write_at.Given as goal
 
--- the bytes so far stand behind those before the start, and what is behind them is as it was
+-- the bytes so far are after those before the start, and what is after them is as it was
 abbrev pub invariant-byte : goal.invariant-byte
 invariant-byte g l =
     (take (l.start + l.i) l.room ≡ take l.start l.initial.room ++ take l.i l.source) × (length l.room ≡ length l.initial.room)

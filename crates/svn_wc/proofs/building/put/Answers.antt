@@ -6,7 +6,7 @@ use Rattle.svn_model.specs.Nodes.{get_in}
 use Rattle.svn_model.specs.Builders.{placed}
 use Rattle.svn_wc.proofs.building.put.Goals as goal
 
--- a file that could not be put by itself left the nodes as they were
+-- a file that could not be put alone left the nodes as they were
 pub returns-clause-nodes : goal.returns-clause-nodes
 returns-clause-nodes c =
     let not_done : IsFalse c.in_ok-put_file.field-0 = search rules in

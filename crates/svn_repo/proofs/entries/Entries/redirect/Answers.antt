@@ -7,7 +7,7 @@ use Rattle.svn_types.proofs.NameLemmas.{Name}
 use Rattle.svn_name_map.proofs.Changed.{put_back}
 use Rattle.svn_repo.proofs.entries.Entries.redirect.Goals as goal
 
--- what was set is found, and set to what stood there before
+-- what was set is found, and set to what was there before
 pub returns-clause-stays : goal.returns-clause-stays
 returns-clause-stays c = λ n is above.
     let name = c.args.name.now in

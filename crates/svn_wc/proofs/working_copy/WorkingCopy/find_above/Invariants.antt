@@ -3,7 +3,7 @@ use Rattle.svn_types.specs.Paths.{parent}
 use Rattle.svn_model.specs.Nodes.{get_in, InPathOrder}
 use Rattle.svn_wc.proofs.working_copy.WorkingCopy.find_above.Given as goal
 
--- what stands above the path is among the nodes that are left
+-- what is above the path is among the nodes that are left
 abbrev pub invariant-nodes : goal.invariant-nodes
 invariant-nodes l = InPathOrder l.left × (get_in l.left (parent l.path) ≡ get_in l.self (parent l.path))
 
