@@ -1,7 +1,7 @@
 """Large scripts for svnup, in stages.
 
 A workload is a function that yields (stage, base, times, lines): the stage's script is that of the stage `base` with these
-lines behind it, and what the lines cost is the difference between the two. `times` says how often the lines do what the stage is
+lines after it, and what the lines cost is the difference between the two. `times` says how often the lines do what the stage is
 named for.
 """
 import collections
@@ -12,7 +12,7 @@ BRANCHING, FILES = 8, 8
 
 
 def tree(files, top=""):
-    """A bushy tree of so many files: the lines that make it, and the paths of its files."""
+    """A bushy tree of that many files: the lines that make it, and the paths of its files."""
     lines, paths, open_directories = [], [], [top]
     for above in open_directories:
         for i in range(min(FILES, files - len(paths))):
@@ -87,7 +87,7 @@ def directories(count=20_000):
 
 
 def replaced(files=40_000):
-    """A directory of forty thousand files, half of which go and half of which come."""
+    """A directory of forty thousand files, half of them go and as many come."""
     yield "commit", None, 1, [*(f"put f{i:05} a" for i in range(0, 2 * files, 2)), "commit"]
     gone = (f"remove f{i:05}" for i in range(0, 2 * files, 4))
     come = (f"put f{i:05} b" for i in range(1, 2 * files, 4))
@@ -135,7 +135,7 @@ def come_and_go(files=50_000):
 
 
 def many_revisions(files=20_000, commits=2_000, places=5_000):
-    """Two thousand small commits, and a copy of which a quarter stands at any of them."""
+    """Two thousand small commits, and a copy with a quarter of its files at any of them."""
     chance = random.Random(2)
     lines, paths = tree(files)
     yield "commit", None, 1, [*lines, "commit"]
@@ -216,7 +216,7 @@ def real_tree(files, top, chance):
 
 
 def real_shape(files=78_579):
-    """A tree of the size and the shape of Linux 6.1, a copy of its trunk, of which half, and one in a hundred, are changed."""
+    """A tree of the size and the shape of Linux 6.1, a copy of its trunk, with changes of half of it, and of one in a hundred."""
     chance = random.Random(6)
     lines, paths = real_tree(files, "trunk/", chance)
     half, few = chance.sample(paths, len(paths) // 2), chance.sample(paths, len(paths) // 100)

@@ -1,6 +1,6 @@
 // Refuses one allocation of a program that this is loaded into before other libraries (LD_PRELOAD), or all from one on, and counts them.
 //
-// REFUSE=N refuses the N-th, counted from 1 over all threads from the program's start; REFUSE=N+ the N-th and all behind it. COUNT_IN=FILE
+// REFUSE=N refuses the N-th, counted from 1 over all threads from the program's start; REFUSE=N+ the N-th and all after it. COUNT_IN=FILE
 // names a file of eight bytes, in which the allocations are counted.
 #define _GNU_SOURCE
 #include <errno.h>

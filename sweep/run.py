@@ -5,15 +5,15 @@ usage: sweep/run.py PROGRAM [ROW..]
        sweep/run.py --svnup PROGRAM
 
 PROGRAM is the built program, crates/svn_sweep/out/svn_sweep (`rt run` in crates/svn_sweep builds it). For each row and way, for N = 1, 2, ..
-until a run asks for fewer, the N-th allocation is refused, and the row has to stand all the same; then all from the N-th on are refused,
-and the program has to end, with the answer that memory is wanting where the row isn't done. refuse.c refuses; the system's C compiler makes
+until a run asks for fewer, the N-th allocation is refused, and the row must hold all the same; then all from the N-th on are refused,
+and the program must end, and report that it is out of memory if the row isn't done. refuse.c refuses; the system's C compiler makes
 a library of it. A run has a minute.
 
 The row in-step says how its update ended, whose driver is never more than two calls ahead of the copy. Where the copy refuses a call for
-memory, the driver has to be told in time, unless it has made all its calls; both must come.
+memory, the driver must learn that in time, unless it has made all its calls; both must come.
 
 With --svnup it is the program crates/svnup/out/svnup, and what is swept are its words, the reading of a short script and its printing: it
-answers as with ample memory, or says that it is out of memory, with status 1, or the command that wanted memory is refused.
+prints what it does with ample memory, or that it is out of memory, with status 1, or the command that needed memory is refused.
 """
 import os, re, subprocess, sys, tempfile
 from collections import Counter
@@ -73,7 +73,7 @@ def end_of(wrote):
 
 
 def sweep(program, library, words):
-    """The row's words, how many allocations were refused, how many of these ended the program where all behind were refused too, and what
+    """The row's words, how many allocations were refused, how many of these ended the program where all after were refused too, and what
     is wrong."""
     name, wrong, ended, n, ends = " ".join(words), [], 0, 1, Counter()
     while True:
@@ -101,7 +101,7 @@ WANTING = [(1, "svnup: out of memory\n"), (0, "refused Memory\n")]
 
 
 def sweep_words(program, library, words):
-    """The same of svnup's words: every answer is that with ample memory, or names the want."""
+    """The same of svnup's words: every result is that with ample memory, or says out of memory."""
     given, wrong, ended, n = b"commit\n", [], 0, 1
     name = " ".join(["svnup", *words])
     ample = run(program, words, library, "0", given)[:2]
@@ -135,7 +135,7 @@ def main():
         library = os.environ.get("REFUSER") or built(folder)
         for name, count, ended, wrong in pool.map(lambda it: swept(program, library, it), rows):
             found, refused = found + len(wrong), refused + count
-            print(f"{name}: {count} allocations refused; {ended} of them end it where all behind are refused too; {len(wrong)} wrong")
+            print(f"{name}: {count} allocations refused; {ended} of them end it where all after are refused too; {len(wrong)} wrong")
             for line in wrong[:20]:
                 print(f"    {line}")
             sys.stdout.flush()

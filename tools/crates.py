@@ -14,7 +14,7 @@ def read_lines():
 
 
 def with_below(lines, names):
-    """These crates and those that they stand on, in the order of crates.txt."""
+    """These crates and those that they depend on, in the order of crates.txt."""
     found, left = set(), list(names)
     while left:
         name = left.pop()
