@@ -81,7 +81,7 @@ def sweep(program, library, words):
         front, _, behind = wrote.removesuffix("\n").partition(": ")
         end = end_of(behind) if words[0] == IN_STEP else wrote
         ends[end] += 1
-        if status != 0 or front != f"{name} stands" or not end:
+        if status != 0 or front != f"{name} passed" or not end:
             wrong.append(f"{name}, allocation {n}: status {status}, {wrote!r}")
         if count < n or len(wrong) > 100:
             if words[0] == IN_STEP:

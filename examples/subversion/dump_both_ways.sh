@@ -262,7 +262,7 @@ for script in "$top"/examples/*.script; do
     fi
 done
 printf 'put f a\ncommit\ncheckout 1\nput f/x a\ncommit\n' >bad.script
-says "a refused change" "svnaudit: bad.script: line 4: a file stands where a directory is needed" "$SVNAUDIT" write bad.script
+says "a refused change" "svnaudit: bad.script: line 4: a file is where a directory is needed" "$SVNAUDIT" write bad.script
 printf 'put f a\ncommit\n\nput f\n' >bad.script
 says "a bad line" "svnaudit: bad.script: line 4: bad line" "$SVNAUDIT" write bad.script
 echo "$compared compared, $wrong wrong"

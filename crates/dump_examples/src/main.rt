@@ -2,7 +2,7 @@
 //! history that is written as a dump and loaded again.
 //!
 //! `data` has each dump with its trees, of all revisions one after another, in the lines that a checkout of each is printed in: NAME.sha1 with texts as
-//! their SHA-1 checksums, and NAME.whole; and NAME.lines, with a number for each node by which it is told from others. `examples/subversion/dump_data.sh` has
+//! their SHA-1 checksums, and NAME.whole; and NAME.lines, with for each node a number that no other node has. `examples/subversion/dump_data.sh` has
 //! Subversion make them. A dump that can't be loaded so has the refusal.
 #![tactic(auto)]
 

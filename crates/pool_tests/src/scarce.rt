@@ -19,7 +19,7 @@ const STEP: usize = 32;
 // Memory that is kept from a tree until it is refused some.
 type Held<'a> = Option<Vec<u8, &'a LocalHeap>>;
 
-// A tree on a heap part of which is held.
+// A tree on a heap that is partly held.
 #[derive(Drop)]
 struct Scarce<'a> {
     tree: PoolTree<&'a LocalHeap>,

@@ -32,7 +32,7 @@ no_read taken (Some xs) (Some ys) h = λ all counted.
     let same : length ys ≡ length xs = ap length h in
     (omega (arith, same, counted.0), counted.1)
 
--- a reader of which nothing was taken before
+-- a reader that nothing was taken from before
 pub from_none : (taken now : ℕ) (given known left : Option (List ℕ)) → taken ≡ 0 → given ≡ known → Counts taken given now left → Counts 0 known now left
 from_none taken now given known left none same counts =
     subst (λ (k : Option (List ℕ)). Counts 0 k now left) same (subst (λ (t : ℕ). Counts t given now left) none counts)

@@ -27,7 +27,7 @@ is_line_feed b = nat_eq b 10
 abbrev pub is_space : ℕ → Bool
 is_space b = nat_eq b 32 || is_between 9 13 b
 
--- Lines up to the first empty one, of which nothing is kept; fresh says that a line begins. They have at most room bytes.
+-- Lines up to the first empty one; nothing of them is kept; fresh says that a line begins. They have at most room bytes.
 unfoldable pub headers_at : Bool → ℕ → List ℕ → Result (List ℕ × List ℕ) Reason
 headers_at fresh room [] = Err CutOff
 headers_at fresh room (b ∷ bs) =

@@ -1,6 +1,6 @@
 -- Reading from left to right, with the first fault that is met.
 --     Gives view result read      the result is what reading gives, unless memory ran out or the reader failed
---     Reads view old new result at      the same of the bytes that a reader has left, of which it took what was read
+--     Reads view old new result at      the same of the bytes that a reader has left; it took what was read
 use Rattle.std.specs.Prelude.{◌≡◌, ℕ, List, Option, Some, None, Result, Ok, Err}
 use Rattle.svn_dump.specs.declared.fault.Reason.{Reason}
 use Rattle.svn_dump.specs.declared.fault.DumpFault.{DumpFault}

@@ -1,5 +1,5 @@
 -- The two sections after a record's headers. What is read comes with the bytes after it.
---     kept texts text      a text, or what stands in for it
+--     kept texts text      a text, or its stand-in
 --     prop_section_at, text_section_at      the sections, where a record has them
 use Rattle.std.specs.Prelude.{ℕ, Bool, true, false, ◌&&◌, not, List, [], ◌++◌, nat_lt, bytes_eq, codes, Option, Some, None, unwrap_or, Result, Ok, Err, if◌then◌else◌}
 use Rattle.md5.specs.Md5.{md5, Holds as Md5Holds}
@@ -67,7 +67,7 @@ prop_section_at shape limit bytes = if_given shape.lengths.props (sized_props_at
 
 -- ---- texts
 
--- what stands in for the text with this SHA-1 checksum
+-- the stand-in for the text with this SHA-1 checksum
 abbrev pub stand_in : List ℕ → List ℕ
 stand_in sum = codes "$sha1$" ++ encode_lower sum
 
@@ -92,7 +92,7 @@ whole_text_at texts given len bytes = do
   whole ← checked given read.0
   Ok (kept texts whole, read.1)
 
--- a delta of its format alone leads to no bytes, of which svnadmin gives no checksum
+-- a delta of its format alone leads to no bytes; svnadmin gives no checksum of them
 abbrev pub empty_delta_at : ℕ → List ℕ → Read TextSection
 empty_delta_at len bytes =
     if nat_lt 4 len then Err NoSha1 else bytes_at len bytes >>= λ read. Ok (text.Whole (kept Sha1 []), read.1)

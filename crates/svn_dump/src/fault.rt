@@ -48,7 +48,7 @@ pub enum Reason {
     /// A `Node-action` that is none of `add`, `change`, `delete` and `replace`, or is missing.
     #[error("a node without one of the actions add, change, delete and replace")]
     NotAnAction,
-    /// A copy source of which only the revision or only the path is given.
+    /// A copy source with only its revision or only its path.
     #[error("half a copy source")]
     HalfSource,
     /// A `Content-length` that isn't the length of the sections.
@@ -66,7 +66,7 @@ pub enum Reason {
     /// A text section of so many bytes, where so many are the most.
     #[error("text of {0} bytes, the most is {1}")]
     TextTooLong(u64, u64),
-    /// A text delta whose text is to be replaced by its SHA-1 checksum, which isn't given.
+    /// A text delta without the SHA-1 checksum that replaces its text.
     #[error("a text delta without the SHA-1 checksum of its text")]
     NoSha1,
     /// The MD5 checksum of the text that a text delta is applied to isn't the one that is given for it.

@@ -94,7 +94,7 @@ fn is_line_feed(byte: u8) -> bool
     byte == b'\n'
 }
 
-// Reads the headers whose first byte was read: lines up to the first empty one, of which nothing is kept.
+// Reads the headers whose first byte was read: lines up to the first empty one; nothing of them is kept.
 fn read_headers<S: Input>(
     alloc: Global,
     source: &mut S,

@@ -2,7 +2,7 @@
 //! records: its format, the identity of the repository, and for each revision one record, then one for each node that it changes.
 //!
 //! [`Reader`] reads formats 2 and 3 off any `Read`. It holds one record at a time, of at most as many bytes as [`Limits`] says, and keeps texts as they
-//! are, or what stands in for them ([`Texts`]). [`push_format`], [`push_revision`] and [`push_node`] write. What a record does to a repository is a matter
+//! are, or their stand-ins ([`Texts`]). [`push_format`], [`push_revision`] and [`push_node`] write. What a record does to a repository is a matter
 //! of the crate `svn_history`.
 //!
 //! ```

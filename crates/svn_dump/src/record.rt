@@ -99,7 +99,7 @@ pub struct TextDelta {
 /// The text of a record.
 #[derive(Debug, Drop)]
 pub enum TextSection {
-    /// The text, or what stands in for it.
+    /// The text, or its stand-in.
     Whole(Text),
     /// How it differs from the one before.
     Delta(TextDelta),

@@ -138,7 +138,7 @@ fn read_whole_text<S: Input>(
 /// The bytes of a text delta that leads to no bytes: its format alone.
 const EMPTY_DELTA: u64 = 4;
 
-// Passes over a text delta of so many bytes whose text has no checksum, and gives what stands in for no bytes: svnadmin gives none of an empty text.
+// Passes over a text delta of so many bytes whose text has no checksum, and returns the stand-in for no bytes: svnadmin gives none of an empty text.
 fn read_empty_delta<S: Input>(
     alloc: Global,
     source: &mut S,
@@ -181,7 +181,7 @@ fn with_sums(delta: Text, shape: &Shape) -> TextDelta
     }
 }
 
-// Reads a text delta of so many bytes, or gives what stands in for the text that it leads to.
+// Reads a text delta of so many bytes, or returns the stand-in for the text that it leads to.
 fn read_text_delta<S: Input>(
     alloc: Global,
     source: &mut S,

@@ -106,7 +106,7 @@ pub(crate) fn check_sums(text: &SummedText, given: GivenSums) -> Result<(), Dump
     Ok(())
 }
 
-/// What stands in for the text with this checksum: `$sha1$` and the checksum in lower-case hexadecimal digits.
+/// The stand-in for the text with this checksum: `$sha1$` and the checksum in lower-case hexadecimal digits.
 pub fn stand_in(alloc: Global, sha1: &Sha1Sum) -> Result<Text, AllocError>
     ensures { IfOk result (λ text. text ≡ stand_in sha1.now) }
 {

@@ -82,7 +82,7 @@ pub record IsWritable (limits : Limits) (texts : Texts) (node : NodeRecord) : Ty
 
 -- ---- nodes
 
--- what is kept of a text: itself, or what stands in for it
+-- what is kept of a text: itself, or its stand-in
 abbrev pub kept_section : Texts → TextSection → TextSection
 kept_section Whole section = section
 kept_section Sha1 (text.Whole bytes) = text.Whole (stand_in (sha1 bytes))

@@ -116,7 +116,7 @@ module _ (old new : Pending) (nodes nodes2 : List (Path × BaseNode)) (c : Call)
     order = order;
   }
 
--- a call that is applied as one of which neither is known
+-- a call that is applied as one where neither is known
 pub taken_carries : (old new : Pending) (nodes nodes2 : List (Path × BaseNode)) (c : Call) (r : Answer) → InPathOrder nodes
     → (c ≡ AbortEdit → ⊥) → Takes old nodes c r new nodes2 → Carries old nodes c r new nodes2
 taken_carries old new nodes nodes2 c r order not_abort t =

@@ -1,5 +1,5 @@
 -- What an open or an add does, and what it returns.
---     GivesToken beneath p t act old nodes answer new nodes2      at a path, to an edit and the nodes of its copy
+--     GivesToken parent p t act old nodes answer new nodes2      at a path, to an edit and the nodes of its copy
 use Rattle.std.specs.Prelude.{ℕ, List, [], Result, OnOk}
 use Rattle.md5.specs.Md5.{md5}
 use Rattle.svn_types.specs.Names.{Path}
@@ -12,9 +12,9 @@ use Rattle.svn_edit.specs.declared.pending.Pending.{Pending}
 use Rattle.svn_edit.specs.Applying.{Applied, KeepsEdit, MakesBaton}
 
 -- the nodes are what the step alone makes of them, and the token has a baton, with its pool below that one; refused, the nodes stay
-pub record GivesToken (beneath : ℕ) (p : Path) (t : ℕ) (act : Action) (old : Pending) (nodes : List (Path × BaseNode))
+pub record GivesToken (parent : ℕ) (p : Path) (t : ℕ) (act : Action) (old : Pending) (nodes : List (Path × BaseNode))
     (answer : Result (Unit {0}) EditFault) (new : Pending) (nodes2 : List (Path × BaseNode)) : Type 0 where
-  pub opened : OnOk answer (MakesBaton beneath p t old new)
+  pub opened : OnOk answer (MakesBaton parent p t old new)
   pub keeps : KeepsEdit old new
   pub applied : Applied (step_fault md5 old.mode [] (get_in nodes) p act)
       (step_effect old.mode old.target [] (record { path = p; action = act }) (get_in nodes)) nodes answer nodes2

@@ -2,7 +2,7 @@
 //!
 //! [`Edit`] takes the calls of one edit and changes the nodes of a copy (`Nodes` of `svn_nodes`), which it is given with each call. The `Applier`
 //! of `svn_wc` holds an edit beside its copy, and is an `Editor`. [`Pending`] is the part of an edit below the check of the order of calls. A caller
-//! who knows that the calls are in order and that none is refused may use it alone: `carry` does what such a call says, and tests neither.
+//! if the calls are known to be in order and none is refused, it may be used alone: `carry` does what such a call says, and tests neither.
 //!
 //! ```
 //! let mut edit = Edit::new(alloc, Mode::Update)?;

@@ -104,7 +104,7 @@ AllTakenFrom checksum mode earlier w [] = Unit {0}
 AllTakenFrom checksum mode earlier w (c ∷ calls) =
     IsTaken checksum mode earlier w c × OpensNamed c × AllTakenFrom checksum mode (earlier ++ c ∷ []) (effect mode earlier c w) calls
 
--- a whole list of calls none of which is refused
+-- a whole list of calls, where none is refused
 abbrev pub calls_keep_the_shape : Type 0
 calls_keep_the_shape =
     (checksum : List ℕ → List ℕ) (mode : Mode) (w : WorkingCopy) (calls : List Call) → IsWorkingCopy w

@@ -44,7 +44,7 @@ pub fn a_call_keeps_the_shape()
     ensures { a_call_keeps_the_shape }
 {}
 
-/// Calls none of which is refused leave a copy that has the shape of one.
+/// Calls leave, if none is refused, a copy that has the shape of one.
 pub fn calls_keep_the_shape()
     ensures { calls_keep_the_shape }
 {}

@@ -40,7 +40,7 @@ flipped a b s = record {
   shared_too = s.shared;
 }
 
--- the one number stands where the other stands
+-- the one number is where the other is
 abbrev Both : History → History → ℕ → ℕ → Type 0
 Both a b m n = (r : ℕ) × (p : Path) × (look a r p ≡ Some m) × (look b r p ≡ Some n)
 

@@ -38,7 +38,7 @@ put_text path None = nothing
 put_text path (Some (text.Whole bytes)) = one (PutFile path bytes)
 put_text path (Some (text.Delta delta)) = λ d. text_after (text_or_empty (at d path)) delta >>= λ bytes. one (PutFile path bytes) d
 
--- a file without a text has no bytes, or what stands in for them
+-- a file without a text has no bytes, or their stand-in
 abbrev pub text_of_file : Texts → Option TextSection → TextSection
 text_of_file texts None = text.Whole (kept texts [])
 text_of_file texts (Some section) = section

@@ -21,7 +21,7 @@ use Rattle.svn_history.specs.Changes.{revision_changes}
 abbrev pub Revisions : Type 0
 Revisions = List (ℕ × List NodeRecord)
 
--- records one after another from the bytes on, of which these are the nodes, and the bytes after them
+-- records one after another from the bytes on, their nodes, and the bytes after them
 pub data ReadsNodes (limits : Limits) (texts : Texts) (bytes : List ℕ) : List NodeRecord → List ℕ → Type 0 where
   no_record : ReadsNodes limits texts bytes [] bytes
   one_node : {nodes : List NodeRecord} {rest : List ℕ} (mid : List ℕ) (node : NodeRecord) → ReadsNodes limits texts bytes nodes mid

@@ -96,7 +96,7 @@ abbrev pub next_fault : Option ℕ → ℕ → Option ℕ → Option LoadFault
 next_fault rev count None = None
 next_fault rev count (Some next) = begin_fault rev count next
 
--- a revision begins behind empty commits for the numbers that are left out
+-- a revision begins after empty commits for the numbers that are left out
 pub data Begins (rev next : Option ℕ) (h h' : History) : Type 0 where
   at_end : next ≡ None → h' ≡ h → Begins rev next h h'
   revision_0 : next ≡ Some 0 → rev ≡ None → h' ≡ h → Begins rev next h h'

@@ -30,7 +30,7 @@ pub record IsSame (a b : History) : Type 0 where
   pub shared : (r s : ℕ) (p q : Path) → look a r p ≡ look a s q → look b r p ≡ look b s q
   pub shared_too : (r s : ℕ) (p q : Path) → look b r p ≡ look b s q → look a r p ≡ look a s q
 
--- h is a history of which each node is there, as each repository's is
+-- each node of the history h is there, as in each repository's
 abbrev pub DumpsLoadAsOne : Type 0
 DumpsLoadAsOne = (limits : Limits) (texts : Texts) (bytes : List ℕ) (h a b : History) → NodesExist h
     → LoadsDump limits texts (Some bytes) h a → LoadsDump limits texts (Some bytes) h b → IsSame a b

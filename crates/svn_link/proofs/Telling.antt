@@ -14,7 +14,7 @@ some_number : (n : ℕ) → 0 < n → number_of n ≡ Some n
 some_number zero h = absurd (omega arith)
 some_number (suc n) h = refl
 
--- where nothing was told, nothing was seen
+-- where nothing was reported, nothing was seen
 nothing_seen : (seen told : Option ℕ) → IsNoneOrSame seen told → told ≡ None → (other : Option ℕ) → IsNoneOrSame seen other
 nothing_seen None told same none other = tt
 nothing_seen (Some n) told same none other = absurd (none_is n (sym same ∙ none))

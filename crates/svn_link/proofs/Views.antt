@@ -24,7 +24,7 @@ module _ {V : Type 0} where
   at_end (x ∷ xs) v w zero e = inl e
   at_end (x ∷ xs) v w (suc j) e = ⊎_elim (λ t. inl t) (λ t. inr (ap suc t.0, t.1)) (at_end xs v w j e)
 
-  -- a view that stands at another number was there before
+  -- a view at another number was there before
   pub was_there : (views : List V) (pass other : ℕ) (v w : V) → ¬ (other ≡ pass) → get_elem? (set views pass v) other ≡ some w
       → get_elem? views other ≡ some w
   was_there views pass other v w apart e =

@@ -1,6 +1,6 @@
 -- Lists of calls.
 --     is_over calls      the last of them is `CloseEdit` or `AbortEdit`
---     EndsAtLast calls      nothing stands behind a `CloseEdit` or an `AbortEdit`
+--     EndsAtLast calls      nothing is after a `CloseEdit` or an `AbortEdit`
 --     BeginsWith calls first      the list begins with those
 use Rattle.std.specs.Prelude.{◌≡◌, Bool, true, false, List, [], ◌∷◌, ◌++◌}
 use Rattle.svn_editor.specs.declared.call.Call.{Call}

@@ -1,15 +1,15 @@
--- The notice: nothing, or one number, told once. A word stands for it, which is 0 while nothing was told.
--- One pass may tell, and has what was told. A number that a pass has seen is the one in the word.
+-- The notice: nothing, or one number, reported once. It is in one word, which is 0 while nothing was reported.
+-- One pass may report, and has what was reported. A number that a pass has seen is the one in the word.
 use Rattle.std.specs.Prelude.{◌≡◌, ℕ, zero, suc, Bool, true, List, Option, Some, None, IfSome, slice_index}
 use mathlib.Core.Option.{some}
 use lib.ListN.{get_elem?}
 use Rattle.svn_link.specs.declared.word.News.{News}
 
--- whether a pass may tell, what it told, and what it saw
+-- whether a pass may report, what it reported, and what it saw
 abbrev pub news : Bool → Option ℕ → Option ℕ → News
 news tells told seen = record { tells = tells; told = told; seen = seen }
 
--- the number that a word stands for
+-- the number that a word means
 abbrev pub number_of : ℕ → Option ℕ
 number_of zero = None
 number_of (suc n) = Some (suc n)
@@ -22,7 +22,7 @@ number_in words = number_of (slice_index words 0)
 abbrev pub IsNoneOrSame : Option ℕ → Option ℕ → Type 0
 IsNoneOrSame seen told = IfSome seen (λ n. told ≡ Some n)
 
--- a pass that may tell is the teller's and has what was told, and what any pass has seen was told
+-- a pass that may report is the teller's and has what was reported; what any pass has seen was reported
 module _ (teller : ℕ) (told : Option ℕ) (pass : ℕ) (v : News) where
   pub record Knows : Type 0 where
     pub tells : v.tells ≡ true → (pass ≡ teller) × (v.told ≡ told)
@@ -33,14 +33,14 @@ pub record IsNoticed (words : List ℕ) (views : List News) : Type 0 where
   pub teller : ℕ
   pub each : (pass : ℕ) (v : News) → get_elem? views pass ≡ some v → Knows teller (number_in words) pass v
 
--- what the store tells: the number that is now in the cell was told
+-- what is known after the store: the number that is now in the cell was reported
 abbrev pub IsTold : News → List ℕ → List ℕ → News → Type 0
 IsTold v before after w = w ≡ news v.tells (number_in after) v.seen
 
--- what a load tells: the number in the cell is seen, and one that was seen before is seen again
+-- what is known after a load: the number in the cell is seen, and one that was seen before is seen again
 abbrev pub IsSeen : News → List ℕ → List ℕ → News → Type 0
 IsSeen v before after w = (w ≡ news v.tells v.told (number_in after)) × IsNoneOrSame v.seen (number_in after)
 
--- what a load tells the joined pass: the number in the cell is the one told, and what was seen is that one
+-- what the joined pass knows after a load: the number in the cell is the one reported, and what was seen is that one
 abbrev pub IsAgreed : News → List ℕ → List ℕ → News → Type 0
 IsAgreed v before after w = (v.told ≡ number_in after) × IsNoneOrSame v.seen v.told

@@ -9,9 +9,9 @@ use crate::word::{Agrees, Cell, Moved, Roles, number_in};
 use std::alloc::Global;
 use std::sync::{Arc, Wait};
 
-/// The two ends of a new notice, through which nothing was told.
+/// The two ends of a new notice; nothing was reported yet.
 ///
-/// It answers `Memory` alone, where a growth was refused. All memory that the notice ever takes is taken here.
+/// Its only fault is `Memory`, where an allocation failed. All memory that the notice ever takes is taken here.
 pub fn notice(alloc: Global) -> Result<(Teller, Watcher), LinkFault>
     ensures ends { IfOk result (λ e. (e.0.number ≡ None) × (e.1.number ≡ None) × (e.1.notice ≡ e.0.notice)) }
     ensures memory { IfErr result (λ f. f ≡ LinkFault.Memory) }
@@ -34,7 +34,7 @@ pub fn notice(alloc: Global) -> Result<(Teller, Watcher), LinkFault>
     Ok((teller, watcher))
 }
 
-/// Joins the two ends of one notice. It answers the number that was told, and each number that was seen is that one.
+/// Joins the two ends of one notice. It returns the number that was reported, and each number that was seen is that one.
 ///
 /// It may wait, and takes no memory.
 pub fn settle_notice<R: Wait>(rt: &R, teller: Teller, watcher: Watcher) -> Option<u64>

@@ -13,7 +13,7 @@ use svn_types::MAX_CAPACITY;
 
 /// The two ends of a new link, whose queue holds up to `capacity` calls.
 ///
-/// It answers `Capacity` where `capacity` is not from 1 to 4,096, and otherwise `Memory` where a growth was refused. All
+/// Its faults are `Capacity`, where `capacity` isn't from 1 to 4,096, and else `Memory`, where an allocation failed. All
 /// memory that the link ever takes is taken here.
 pub fn link(alloc: Global, capacity: usize) -> Result<(Outbox, Inbox), LinkFault>
     ensures capacity { ¬ IsCapacity capacity → result ≡ Err LinkFault.Capacity }

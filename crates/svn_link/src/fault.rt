@@ -11,7 +11,7 @@ pub enum LinkFault {
     /// The capacity is not from 1 to 4,096 calls.
     #[error("the capacity is not from 1 to 4096")]
     Capacity,
-    /// A growth was refused while the two ends were made; no later call takes memory.
+    /// An allocation failed while the two ends were made; no later call takes memory.
     #[error("out of memory")]
     Memory,
 }

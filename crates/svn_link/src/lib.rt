@@ -3,8 +3,8 @@
 //! [`link`] makes the two ends of a queue. The driver's thread sends through the [`Outbox`], the thread of the working
 //! copy takes from the [`Inbox`], and [`settle`] joins both ends again: what was taken is a prefix of what was sent, and
 //! all of it once the Inbox is over, whatever the two threads did in between. [`notice`] makes the two ends of a notice.
-//! The [`Teller`] tells the number of the first refused call, and the [`Watcher`] sees it, so that the driver may stop.
-//! A number that it sees is the number that was told.
+//! The [`Teller`] reports the number of the first refused call, and the [`Watcher`] sees it, so that the driver may stop.
+//! A number that it sees is the number that was reported.
 //!
 //! ```
 //! let (mut outbox, mut inbox) = link(alloc, 2)?;
@@ -25,7 +25,7 @@
 //! wait for ever, as its type says.
 //!
 //! Promises: each call of an end adds exactly its own step to what the end has seen (`sent`, `taken`, `told`, `seen`), and what
-//! ties the two ends together is told where they are joined (`prefix`, `whole` and `last` of [`settle`], `told` and `seen` of
+//! ties the two ends together is promised where they are joined (`prefix`, `whole` and `last` of [`settle`], `told` and `seen` of
 //! [`settle_notice`]). They hold for every schedule. That a waiting call comes back is not promised.
 #![tactic(auto)]
 

@@ -1,4 +1,4 @@
-//! The end of a notice that tells.
+//! The end of a notice that reports.
 ghost use Rattle.std.specs.Prelude.{◌≡◌, ◌<◌, ◌↔◌, None, Some, IsTrue, IsSome};
 
 use crate::word::{Cell, Pass, Tells};
@@ -6,9 +6,9 @@ use std::fmt;
 use std::marker::Model;
 use std::sync::{Arc, Wait};
 
-/// The end of a notice that tells a number. Contracts see its notice and the number that it told, if it did.
+/// The end of a notice that reports a number. Contracts see its notice and the number that it reported, if it did.
 ///
-/// It may go to another thread. Where it is dropped, a [`Watcher`](crate::Watcher) goes on seeing what was told.
+/// It may go to another thread. Where it is dropped, a [`Watcher`](crate::Watcher) goes on seeing what was reported.
 #[derive(Drop)]
 pub struct Teller {
     pub(crate) cell: Arc<Cell>,
@@ -29,9 +29,9 @@ impl Model for Teller {
 }
 
 impl Teller {
-    /// Tells that the call of this number, counted from 1, was refused.
+    /// Reports that the call of this number, counted from 1, was refused.
     ///
-    /// It may wait for the other thread, and takes no memory. A number is told once ([`told`](Teller::told) is the test).
+    /// It may wait for the other thread, and takes no memory. A number is reported once ([`told`](Teller::told) is the test).
     pub fn refused<R: Wait>(&mut self, rt: &R, n: u64)
         requires number { 0 < n }
         requires nothing { self.old.number ≡ None }
@@ -42,7 +42,7 @@ impl Teller {
         self.told = true;
     }
 
-    /// Whether it has told a number. It never waits.
+    /// Whether it has reported a number. It never waits.
     pub fn told(&self) -> bool
         ensures { IsTrue result ↔ IsSome self.now.number }
     {
@@ -50,7 +50,7 @@ impl Teller {
     }
 }
 
-/// It shows whether a number was told.
+/// It shows whether a number was reported.
 impl fmt::Debug for Teller {
     fn fmt<W: fmt::Write>(&self, f: &mut fmt::Formatter<W>) -> fmt::Result {
         f.debug_struct("Teller")

@@ -9,7 +9,7 @@ use std::sync::{Arc, Wait};
 
 /// The end of a notice that sees the number. Contracts see its notice and the number that it saw last, if it saw one.
 ///
-/// It may go to another thread. Where it is dropped, the [`Teller`](crate::Teller) tells as before.
+/// It may go to another thread. Where it is dropped, the [`Teller`](crate::Teller) reports as before.
 #[derive(Drop)]
 pub struct Watcher {
     pub(crate) cell: Arc<Cell>,
@@ -29,9 +29,9 @@ impl Model for Watcher {
 }
 
 impl Watcher {
-    /// The number that was told, or `None` where it sees none yet. Once seen, it is seen again.
+    /// The number that was reported, or `None` if it sees none yet. Once seen, it is seen again.
     ///
-    /// It may wait for the other thread, and takes no memory. How soon a number that was told is seen is not promised.
+    /// It may wait for the other thread, and takes no memory. How soon a number is seen after it was reported isn't promised.
     pub fn seen<R: Wait>(&mut self, rt: &R) -> Option<u64>
         ensures seen { result ≡ self.new.number }
         ensures again { IsNoneOrSame self.old.number result }

@@ -1,4 +1,4 @@
-//! The rule of the notice, and what each of its steps tells the thread that makes it. The word is 0 or the number told.
+//! The rule of the notice, and what a thread knows after each step that it makes. The word is 0 or the number reported.
 ghost use Rattle.std.specs.Prelude.{◌≡◌};
 ghost use Rattle.svn_link.specs.Notice.{number_of};
 
@@ -6,17 +6,17 @@ use atomic_table::{Join, Split};
 use crossbeam_utils::atomic::seq_cell::RuledSeqCell;
 use crossbeam_utils::rule::{Outcome, Protocol};
 
-/// What a pass may do, what it told and what it saw. It exists in proofs alone: no value of it is made.
+/// What a pass may do, what it reported and what it saw. It exists in proofs alone: no value of it is made.
 pub struct News {
-    /// Whether it may tell.
+    /// Whether it may report.
     pub tells: bool,
-    /// The number that it told, if it did.
+    /// The number that it reported, if it did.
     pub told: Option<u64>,
     /// The number that it saw last, if it saw one.
     pub seen: Option<u64>,
 }
 
-/// The number in the word is the one told, and a number that was seen is that one.
+/// The number in the word is the one reported, and a number that was seen is that one.
 pub struct ToldOnce;
 
 impl Protocol<[u64; 1], News> for ToldOnce {
@@ -28,7 +28,7 @@ impl Protocol<[u64; 1], News> for ToldOnce {
     ghost first = { news true None None };
 }
 
-/// The pass that may do both is split into one that tells and one that sees, and they are joined to one again.
+/// The pass that may do both is split into one that reports and one that sees, and they are joined to one again.
 pub struct Roles;
 
 impl Split<News> for Roles {
@@ -61,7 +61,7 @@ impl Split<News> for Moved {
     ghost right = { λ v. v };
 }
 
-/// The store: the number is told.
+/// The store: the number is reported.
 pub struct Tells;
 
 impl Outcome<[u64; 1], News> for Tells {
@@ -79,7 +79,7 @@ impl Outcome<[u64; 1], News> for Sees {
     ghost then = { IsSeen };
 }
 
-/// A load by the joined pass: the number in the word is the one told, and what was seen is that one.
+/// A load by the joined pass: the number in the word is the one reported, and what was seen is that one.
 pub struct Agrees;
 
 impl Outcome<[u64; 1], News> for Agrees {
@@ -91,10 +91,10 @@ impl Outcome<[u64; 1], News> for Agrees {
 /// The word that both threads share, under the rule.
 pub type Cell = RuledSeqCell<[u64; 1], News, ToldOnce, 1>;
 
-/// A value without bytes by which a thread may make steps, and in which proofs keep what it told and saw.
+/// A value without bytes by which a thread may make steps, and in which proofs keep what it reported and saw.
 pub type Pass = crossbeam_utils::atomic::seq_cell::Pass<[u64; 1], News>;
 
-// The number that a word stands for.
+// The number that a word means.
 pub(crate) fn number_in(word: u64) -> Option<u64>
     ensures { result ≡ number_of word }
 {

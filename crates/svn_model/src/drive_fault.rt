@@ -23,7 +23,7 @@ pub enum DriveFault {
     #[error("no number is left for another call")]
     Full,
     /// The root of the copy isn't in the target. No call was made.
-    #[error("nothing stands in the target where the root would be")]
+    #[error("the target has nothing where the root would be")]
     NoRoot,
     /// What is in the target where the root would be is of another line. No call was made.
     #[error("the root in the target is another node")]

@@ -19,13 +19,13 @@ pub enum ReportFault {
     #[error("entry {0} of the report names a node that isn't there")]
     NoNode(usize),
     /// The path above the entry isn't a directory in the repository, by what the report says of it.
-    #[error("entry {0} of the report stands below what is no directory")]
+    #[error("entry {0} of the report is below what isn't a directory")]
     ParentNotDir(usize),
     /// An allocation failed before the first of the other faults was found.
     #[error("out of memory")]
     Memory,
     /// The root of the report isn't a directory in the repository.
-    #[error("the root of the report is no directory")]
+    #[error("the root of the report isn't a directory")]
     RootNotDir,
 }
 

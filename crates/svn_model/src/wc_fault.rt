@@ -13,7 +13,7 @@ pub enum WcFault {
     #[error("there is no such revision")]
     NoSuchRevision,
     /// The repository has nothing to check out or to place there, or the copy has no present node to forget.
-    #[error("nothing stands there")]
+    #[error("there is nothing there")]
     Missing,
     /// The copy has no directory above the path.
     #[error("the parent isn't a directory of the working copy")]
@@ -30,7 +30,7 @@ pub enum WcFault {
     /// A list of nodes has a path twice.
     #[error("a path is given twice")]
     Twice,
-    /// A list of nodes has no root, or one that is no directory; or what would be checked out is a file.
+    /// A list of nodes has no root, or one that isn't a directory; or what would be checked out is a file.
     #[error("the root isn't a directory")]
     BadRoot,
 }

@@ -14,7 +14,7 @@ pub mod NodeRanges
 pub mod Replacing
 -- Nodes below a path are removed: handfuls of their paths are noted, and go.
 pub mod Removals
--- A part is appended to nodes none of which is below its path.
+-- A part is appended to nodes, where none is below its path.
 pub mod Appending
 -- Nodes compared with others: which of their paths the others don't have.
 pub mod Comparing

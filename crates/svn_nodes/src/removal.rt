@@ -60,7 +60,7 @@ fn sweep_below(nodes: &mut Nodes, path: &RelPath)
     nodes.retain(|other, _| stays(path, other));
 }
 
-/// Removes the nodes at these paths, each of which is looked up.
+/// Removes the nodes at these paths; each is looked up.
 pub(crate) fn remove_all(nodes: &mut Nodes, paths: &[RelPath])
     ensures { (p : Path) → get_in nodes.new.entries p ≡ (if list_any (λ q. path_eq q p) paths.now then None else get_in nodes.old.entries p) }
 {

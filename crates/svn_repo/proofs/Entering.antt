@@ -28,7 +28,7 @@ no_entries base n es e = rw e (record {
       λ h. All-nil (λ m. (m < base) ⊎ (n < m));
 })
 
--- entries all of which lead to old nodes
+-- entries that all lead to old nodes
 pub old_entries : (base n : ℕ) (es : List (List ℕ × ℕ)) → InNameOrder es → All IsName (keys_of es)
     → ((name : List ℕ) (m : ℕ) → value_of es name ≡ Some m → m < base) → IsDraftEntries base n es
 old_entries base n es order named old = record {

@@ -53,16 +53,16 @@ pub enum Change {
 #[derive(Clone, Copy, Debug, PartialEq, Eq, Error)]
 pub enum CommitFault {
     /// Something is where a directory would be made or a copy put.
-    #[error("something stands at the path")]
+    #[error("something is at the path already")]
     Exists,
     /// Nothing is at the path, at its source, or at a path above one of them.
-    #[error("nothing stands at the path")]
+    #[error("there is nothing at the path")]
     Missing,
     /// A file is above the path or its source.
-    #[error("a file stands where a directory is needed")]
+    #[error("a file is where a directory is needed")]
     NotDir,
     /// A directory is where a text would be put.
-    #[error("a directory stands where a file is needed")]
+    #[error("a directory is where a file is needed")]
     NotFile,
     /// The root would be made, put, removed or copied to.
     #[error("the root can't be changed so")]

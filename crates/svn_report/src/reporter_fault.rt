@@ -19,7 +19,7 @@ pub enum ReporterFault {
     #[error("a directory above the path is deleted")]
     UnderDeleted,
     /// An entry is below the path.
-    #[error("an entry beneath the path came before")]
+    #[error("an entry below the path came before")]
     ParentLater,
     /// The path of a link has over 64 names more than its path in the repository (so that it may have 128).
     #[error("the path of a link has over 64 names more than its path in the repository")]

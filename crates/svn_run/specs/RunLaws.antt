@@ -8,7 +8,7 @@ pub record RunLaws : Type 0 where
   pub reports : crawl_says_what_stands
   -- the driver's calls are a drive
   pub drives : the_calls_are_a_drive
-  -- none of which is refused, and whose end is the result
+  -- none of them is refused, and they end in the result
   pub composes : drive_composes
   -- each stop leaves a true copy
   pub stays_true : prefixes_stay_true

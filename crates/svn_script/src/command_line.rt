@@ -191,7 +191,7 @@ fn history_of<'a>(matches: &ArgMatches<'a>) -> Option<History<'a>> {
     Some(History { dump, whole_texts })
 }
 
-/// Reads words that say how the runs of a script are made, the first of which is the program's name: `svnup [--capacity N] [--in-turn]`, where N is
+/// Reads words that say how the runs of a script are made; the first is the program's name: `svnup [--capacity N] [--in-turn]`, where N is
 /// 1 to 4,096, by default 64. BadWords where they aren't of this form, or ask for help by `-h` or `--help`; Memory where an allocation failed.
 pub fn read_words<'a>(alloc: Global, words: &'a [&'a str]) -> Result<Settings, WordsFault>
     ensures least { IfOk result (λ s. 1 ≤ s.capacity) }
@@ -203,7 +203,7 @@ pub fn read_words<'a>(alloc: Global, words: &'a [&'a str]) -> Result<Settings, W
     }
 }
 
-/// Reads the words of a call of `svnup`, the first of which is the program's name: those of `read_words`, and `[--history DUMP] [--texts sha1|whole]`, by
+/// Reads the words of a call of `svnup`; the first is the program's name: those of `read_words`, and `[--history DUMP] [--texts sha1|whole]`, by
 /// default `sha1`. BadWords where they aren't of this form, or ask for help by `-h` or `--help`; Memory where an allocation failed.
 pub fn read_invocation<'a>(
     alloc: Global,

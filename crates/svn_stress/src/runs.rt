@@ -90,7 +90,7 @@ impl Run {
         }
     }
 
-    // The copy after that many calls, the first of which changes nothing; all of them where there is no number.
+    // The copy after that many calls (the first changes nothing); all of them where there is no number.
     fn left_by(&self, tree: &BaseTree, acts: &[Act], stop: Option<u64>) -> Result<BaseTree, Fault> {
         let edition = Edition {
             target: self.rev,

@@ -40,7 +40,7 @@ fn early_stop<R: Wait>(rt: &R, alloc: Global) -> Result<(), Trouble> {
     let behind = watcher.seen(rt);
     let told = settle_notice(rt, teller, watcher);
     let is_told = before.is_none() && behind == Some(5) && told == Some(5);
-    holds(is_told, "another number is told")
+    holds(is_told, "another number is reported")
 }
 
 // A capacity that is none is refused before memory is asked for.

@@ -53,11 +53,11 @@ pub(crate) struct End(pub(crate) Result<Option<Outcome>, Trouble>);
 impl fmt::Display for End {
     fn fmt<W: fmt::Write>(&self, f: &mut fmt::Formatter<W>) -> fmt::Result {
         match self.0 {
-            Ok(None) => f.write_str("stands"),
-            Ok(Some(outcome)) => write!(f, "stands: {outcome:?}"),
-            Err(Trouble::Memory) => f.write_str("wants memory again"),
-            Err(Trouble::Refused(refusal)) => write!(f, "DOESN'T STAND: {refusal}"),
-            Err(Trouble::Other(other)) => write!(f, "DOESN'T STAND: {other}"),
+            Ok(None) => f.write_str("passed"),
+            Ok(Some(outcome)) => write!(f, "passed: {outcome:?}"),
+            Err(Trouble::Memory) => f.write_str("out of memory"),
+            Err(Trouble::Refused(refusal)) => write!(f, "failed: {refusal}"),
+            Err(Trouble::Other(other)) => write!(f, "failed: {other}"),
         }
     }
 }

@@ -65,7 +65,7 @@ impl ShortSummed {
     }
 }
 
-/// Bytes in a vector, with their MD5 checksum if it is to be kept. A contract sees the bytes.
+/// Bytes in a vector, with their MD5 checksum if the caller asks for it. A contract sees the bytes.
 #[derive(Drop)]
 pub(crate) struct LongBytes {
     bytes: Vec<u8>,

@@ -1,5 +1,5 @@
 -- Lists of nodes that are looked through for faults.
---     IsSorted nodes      the nodes are in the order of their paths, some of which may be the same
+--     IsSorted nodes      the nodes are in the order of their paths, and some paths may be the same
 --     IsSearchable nodes      nor is a path there twice
 use Rattle.std.specs.Prelude.{◌≡◌, false, List}
 use Rattle.std.specs.List.Sorted.{IsSortedByKey}

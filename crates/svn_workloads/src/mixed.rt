@@ -1,5 +1,5 @@
 //! The mixed copy: a tenth of its files are at other revisions, and many directories are switched to a branch. It is reported, brought to one
-//! revision by updates, the first of which are stopped, and mixed again.
+//! revision by updates (the first ones stopped), and mixed again.
 
 use crate::dice::Dice;
 use crate::script::Script;

@@ -30,7 +30,7 @@ fn fault_of(error: &io::Error) -> ScriptFault {
     }
 }
 
-// The words of the command line, the first of which is the program's name.
+// The words of the command line; the first is the program's name.
 fn words(rt: &(impl Env + AllocGlobal)) -> Result<Vec<String>, ScriptFault> {
     let words = match env::args(rt) {
         Ok(words) => words,

@@ -56,9 +56,9 @@ const REPORT_LINES: &str = "\
 10: the report has no entries
 11: entry 3 of the report names a revision that isn't there
 12: entry 0 of the report names a node that isn't there
-13: entry 1 of the report stands below what is no directory
+13: entry 1 of the report is below what isn't a directory
 14: out of memory
-15: the root of the report is no directory
+15: the root of the report isn't a directory
 ";
 
 fn report_lines(alloc: Global) -> Result<String, AllocError> {
@@ -90,7 +90,7 @@ const DRIVE_LINES: &str = "\
 22: out of memory
 23: the editor refused a call: out of memory
 24: no number is left for another call
-25: nothing stands in the target where the root would be
+25: the target has nothing where the root would be
 26: the root in the target is another node
 ";
 

@@ -7,7 +7,7 @@ use Rattle.svn_dump.proofs.sums.read_text.Given as goal
 abbrev pub decreases-pieces : goal.decreases-pieces
 decreases-pieces g l = l.left
 
--- what the reader gave so far is summed, and kept if it is to be
+-- what the reader gave so far is summed, and kept if texts are kept
 abbrev pub invariant-pieces : goal.invariant-pieces
 invariant-pieces g l = (front : List ℕ) × Consumes (g.S.Input.remaining l.initial.source) (g.S.Input.remaining l.source) front
     × (length front + l.left ≡ l.len) × Sums l.running front × (l.bytes.items ≡ cond l.keeps front [])
