@@ -1,5 +1,3 @@
--- numbers
-pub mod NumberLemmas
 -- readers
 pub mod Streams
 pub mod Sequences

@@ -17,7 +17,7 @@ use Rattle.svn_dump.specs.declared.record.Action.{Action}
 use Rattle.svn_dump.specs.declared.record.Action.TheVariants.{Add, Change, Delete, Replace}
 use Rattle.svn_dump.specs.declared.record.CopySource.{CopySource}
 use Rattle.svn_dump.specs.Reading.{◌>>=◌}
-use Rattle.svn_dump.specs.Numbers.{number_of}
+use Rattle.svn_digits.specs.Numbers.{number_of}
 use Rattle.svn_dump.specs.Headers.{header_value}
 
 -- ---- numbers

@@ -1,5 +1,4 @@
 pub mod Reading
-pub mod Numbers
 pub mod Blocks
 pub mod Counts
 pub mod Headers

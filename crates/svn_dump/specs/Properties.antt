@@ -9,7 +9,7 @@ use Rattle.svn_types.specs.Props.{PropChange, with_changes}
 use Rattle.svn_dump.specs.declared.fault.Reason.{Reason}
 use Rattle.svn_dump.specs.declared.fault.Reason.TheVariants.{NotProperties, BadPropName}
 use Rattle.svn_dump.specs.Reading.{◌>>=◌}
-use Rattle.svn_dump.specs.Numbers.{number_of}
+use Rattle.svn_digits.specs.Numbers.{number_of}
 
 -- the number in a line of a letter, a space and digits
 abbrev pub length_of : ℕ → List ℕ → Option ℕ

@@ -4,7 +4,7 @@
 use Rattle.std.specs.Prelude.{ℕ, Bool, true, false, ◌&&◌, not, List, [], ◌++◌, nat_lt, bytes_eq, codes, Option, Some, None, unwrap_or, Result, Ok, Err, if◌then◌else◌}
 use Rattle.md5.specs.Md5.{md5, Holds as Md5Holds}
 use Rattle.sha1.specs.Sha1.{sha1, Holds as Sha1Holds}
-use Rattle.hex.specs.Hex.{encode_lower}
+use Rattle.svn_digits.specs.StandIns.{stand_in, stand_in_of}
 use Rattle.svn_dump.specs.declared.fault.Reason.{Reason}
 use Rattle.svn_dump.specs.declared.fault.Reason.TheVariants.{PropsTooLong, TextTooLong, WrongMd5, WrongSha1, NoSha1}
 use Rattle.svn_dump.specs.declared.record.PropSection.{PropSection}
@@ -67,13 +67,9 @@ prop_section_at shape limit bytes = if_given shape.lengths.props (sized_props_at
 
 -- ---- texts
 
--- the stand-in for the text with this SHA-1 checksum
-abbrev pub stand_in : List ℕ → List ℕ
-stand_in sum = codes "$sha1$" ++ encode_lower sum
-
 abbrev pub kept : Texts → List ℕ → List ℕ
 kept Whole bytes = bytes
-kept Sha1 bytes = stand_in (sha1 bytes)
+kept Sha1 bytes = stand_in bytes
 
 abbrev pub is_given_as : Option (List ℕ) → List ℕ → Bool
 is_given_as None sum = true
@@ -100,7 +96,7 @@ empty_delta_at len bytes =
 -- of a delta that isn't kept the checksum that is given stands for the text
 abbrev pub stand_in_at : Option (List ℕ) → ℕ → List ℕ → Read TextSection
 stand_in_at None len bytes = empty_delta_at len bytes
-stand_in_at (Some sum) len bytes = bytes_at len bytes >>= λ read. Ok (text.Whole (stand_in sum), read.1)
+stand_in_at (Some sum) len bytes = bytes_at len bytes >>= λ read. Ok (text.Whole (stand_in_of sum), read.1)
 
 -- a delta with all checksums that are given
 abbrev pub delta_with : Shape → List ℕ → TextSection

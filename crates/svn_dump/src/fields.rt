@@ -7,11 +7,11 @@ ghost use Rattle.svn_types.specs.NameFaults.{path_fault};
 
 use crate::fault::{DumpFault, Reason};
 use crate::headers::header;
-use crate::number::read_number;
 use crate::record::{Action, CopySource, Sha1Sum};
 use hex::FromHex;
 use std::alloc::Global;
 use std::str;
+use svn_digits::read_number;
 use svn_types::{Digest, Kind, PathFault, RelPath, Rev};
 
 /// The value of a header that is a number, if it is given.

@@ -25,7 +25,6 @@ mod fault;
 mod fields;
 mod headers;
 mod input;
-mod number;
 mod properties;
 mod reader;
 mod record;

@@ -5,8 +5,8 @@ ghost use Rattle.svn_types.specs.NameFaults.{prop_name_fault};
 ghost use Rattle.svn_dump.specs.Properties.{length_of, cut_line, run_at, named, set_at, change_at, is_end, changes_of, props_of};
 
 use crate::fault::{DumpFault, Reason};
-use crate::number::read_number;
 use std::alloc::Global;
+use svn_digits::read_number;
 use svn_types::{PathFault, PropChange, PropName, Props, Text, split_once};
 
 // The number in a line of a letter, a space and digits.

@@ -4,7 +4,8 @@ ghost use Rattle.md5.specs.Md5.{md5};
 ghost use Rattle.sha1.specs.Sha1.{sha1};
 ghost use Rattle.svn_dump.specs.Counts.{Counts};
 ghost use Rattle.svn_dump.specs.Reading.{Gives, Reads};
-ghost use Rattle.svn_dump.specs.Sections.{checked, stand_in, summed_at, Sums};
+ghost use Rattle.svn_digits.specs.StandIns.{stand_in_of};
+ghost use Rattle.svn_dump.specs.Sections.{checked, summed_at, Sums};
 
 use crate::fault::{DumpFault, Reason};
 use crate::input::{Input, PIECE, read_piece};
@@ -13,6 +14,7 @@ use crate::shape::GivenSums;
 use md5::{Digest as Hasher, Md5};
 use sha1::Sha1;
 use std::alloc::{AllocError, Global};
+use svn_digits::stand_in_of;
 use svn_types::{Digest, Text};
 
 // The checksums of what was read so far.
@@ -108,10 +110,7 @@ pub(crate) fn check_sums(text: &SummedText, given: GivenSums) -> Result<(), Dump
 
 /// The stand-in for the text with this checksum: `$sha1$` and the checksum in lower-case hexadecimal digits.
 pub fn stand_in(alloc: Global, sha1: &Sha1Sum) -> Result<Text, AllocError>
-    ensures { IfOk result (λ text. text ≡ stand_in sha1.now) }
+    ensures { IfOk result (λ text. text ≡ stand_in_of sha1.now) }
 {
-    let mut word = Vec::with_capacity(alloc, 46)?;
-    word.extend_from_slice(b"$sha1$")?;
-    word.extend_from_slice(hex::encode(alloc, &sha1.0[..])?.as_bytes())?;
-    Ok(Text::new(word))
+    stand_in_of(alloc, &sha1.0)
 }

@@ -4,7 +4,7 @@ use Rattle.std.specs.List.{list_all}
 use Rattle.std.proofs.lemmas.Bool.{ne_eqb, le-leb, lt-ltb}
 use Rattle.std.proofs.lemmas.Fmt.{decimal_by_steps, length-decimal-le}
 use Rattle.svn_lists.proofs.Somewhere.{list_all_push}
-use Rattle.svn_dump.specs.Numbers.{is_digit, decimal_from, number_of}
+use Rattle.svn_digits.specs.Numbers.{is_digit, decimal_from, number_of}
 use Rattle.svn_dump_law.proofs.Lacking.{lacks}
 
 -- digits that spell a number

@@ -8,7 +8,8 @@ use Rattle.svn_dump.specs.declared.record.TextSection.{TextSection}
 use Rattle.svn_dump.specs.declared.record.TextSection.TheVariants as text
 use Rattle.svn_dump.specs.declared.sections.Texts.{Texts}
 use Rattle.svn_dump.specs.declared.sections.Texts.TheVariants.{Whole, Sha1}
-use Rattle.svn_dump.specs.Sections.{stand_in, stand_in_at, checked, sized_text_at}
+use Rattle.svn_digits.specs.StandIns.{stand_in_of}
+use Rattle.svn_dump.specs.Sections.{stand_in_at, checked, sized_text_at}
 use Rattle.svn_dump.specs.Written.{text_bytes}
 use Rattle.svn_dump_law.specs.Laws.{CanKeep, kept_section}
 use Rattle.svn_dump_law.proofs.PropSections.{cut_whole}
@@ -57,6 +58,6 @@ sized_text_read Sha1 (text.Whole bytes) props len changes_props limit rest fits 
 sized_text_read Sha1 (text.Delta delta) props len changes_props limit rest fits = by delta.sha1 fits
   where
     by : (sum : Option (List ℕ)) → MatchOption sum (length delta.delta ≤ 4) (λ _. Unit {0})
-        → stand_in_at sum (length delta.delta) (delta.delta ++ rest) ≡ Ok (text.Whole (stand_in (unwrap_or sum (sha1 []))), rest)
+        → stand_in_at sum (length delta.delta) (delta.delta ++ rest) ≡ Ok (text.Whole (stand_in_of (unwrap_or sum (sha1 []))), rest)
     by None few = rw (le-ltb 4 (length delta.delta) few, cut_whole delta.delta rest) refl
     by (Some sum) few = rw (cut_whole delta.delta rest) refl

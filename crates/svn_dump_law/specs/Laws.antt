@@ -22,7 +22,7 @@ use Rattle.svn_dump.specs.declared.sections.Limits.{Limits}
 use Rattle.svn_dump.specs.declared.sections.Texts.{Texts}
 use Rattle.svn_dump.specs.declared.sections.Texts.TheVariants.{Whole, Sha1}
 use Rattle.svn_dump.specs.Records.{record_at, format_at}
-use Rattle.svn_dump.specs.Sections.{stand_in}
+use Rattle.svn_digits.specs.StandIns.{stand_in, stand_in_of}
 use Rattle.svn_dump.specs.Written.{text_bytes, prop_section, text_section, headers_of, written, revision_record, format_record}
 
 -- ---- which records the laws are about
@@ -85,8 +85,8 @@ pub record IsWritable (limits : Limits) (texts : Texts) (node : NodeRecord) : Ty
 -- what is kept of a text: itself, or its stand-in
 abbrev pub kept_section : Texts → TextSection → TextSection
 kept_section Whole section = section
-kept_section Sha1 (text.Whole bytes) = text.Whole (stand_in (sha1 bytes))
-kept_section Sha1 (text.Delta delta) = text.Whole (stand_in (unwrap_or delta.sha1 (sha1 [])))
+kept_section Sha1 (text.Whole bytes) = text.Whole (stand_in bytes)
+kept_section Sha1 (text.Delta delta) = text.Whole (stand_in_of (unwrap_or delta.sha1 (sha1 [])))
 
 abbrev pub kept_text : Texts → Option TextSection → Option TextSection
 kept_text Whole section = section

@@ -1,7 +1,8 @@
 //! Real histories: the revisions of a dump, loaded into a repository, and commits written as the revisions of one.
 //!
 //! A [`Loader`] reads a dump of `svn_dump` record by record, and makes the changes that a record stands for on a transaction of `svn_repo`, which it
-//! commits at the end of each revision. Revisions keep their numbers. [`push_commit`] makes a commit and writes it as a revision of a dump.
+//! commits at the end of each revision. Revisions keep their numbers. A [`Listener`] hears of each revision that `load_all_with` loads.
+//! [`push_commit`] makes a commit and writes it as a revision of a dump.
 //!
 //! ```
 //! let reader = Reader::new(alloc, File::open(rt, "repo.dump")?, limits, Texts::Whole)?;
@@ -15,7 +16,7 @@
 //! Promises: what a record changes is `record_changes` of `specs/Changes.antt`, with the first fault from left to right. A call of `next_revision` makes
 //! one commit of the records of one revision, with empty commits for the numbers that are left out (`one`); a refusal has its own cause, leaves the
 //! revisions before (`fault`), and stays (`refused`, `again`). A dump that is loaded to its end is the bytes' revisions, each a commit (`dump` of
-//! `load_all`, by `Loads` of `specs/Loading.antt`). What is written is one record for each change (`written`), a commit that is refused leaves no byte
+//! `load_all` and `load_all_with`, by `Loads` of `specs/Loading.antt`). What is written is one record for each change (`written`), a commit that is refused leaves no byte
 //! (`unwritten`), and what is written of a commit loads as the same commit ([`written_commits_load`]). From the bytes on: what was written of commits one
 //! after another is a dump, and loads as the same history, node by node and line by line ([`written_dumps_load`]); a dump loads as one history, but for
 //! the numbers of its nodes ([`dumps_load_as_one`]). Out of memory, and a reader that fails, may come anywhere. Of a reader whose bytes no contract knows,
@@ -25,6 +26,7 @@
 mod delta;
 mod fault;
 mod laws;
+mod listener;
 mod loader;
 mod records;
 mod refusal;
@@ -32,6 +34,7 @@ mod writing;
 
 pub use fault::LoadFault;
 pub use laws::{drafts_are_lawful, dumps_load_as_one, written_commits_load, written_dumps_load};
+pub use listener::{Listener, NoListener};
 pub use loader::{Loader, MAX_REVISION};
 pub use refusal::Refusal;
 pub use writing::{push_change, push_commit};

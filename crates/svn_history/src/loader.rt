@@ -10,6 +10,7 @@ ghost use Rattle.svn_dump.specs.Readers.{left_in};
 ghost use Rattle.svn_history.specs.Parts.{Begins, Ends, LoadsNodes, LoadsPart, LoadsOne, RefusesNodes, RefusesPart, RefusesOne, RefusesRecord, Takes, begin_fault, is_open, loading, may_begin, next_fault, node_changes};
 
 use crate::fault::LoadFault;
+use crate::listener::{Listener, NoListener};
 use crate::records::apply_record;
 use crate::refusal::Refusal;
 use std::alloc::Global;
@@ -320,15 +321,26 @@ impl<R: Read + Drop> Loader<R> {
         }
     }
 
-    /// Loads all that is left of a dump; to report progress, call [`Loader::next_revision`] instead. After a refusal it is with the loader as after
-    /// a refusal of that call.
+    /// Loads all that is left of a dump; to report progress, call [`Loader::load_all_with`] or [`Loader::next_revision`] instead. After a refusal it
+    /// is with the loader as after a refusal of `next_revision`.
     pub fn load_all(&mut self) -> Result<(), LoadFault>
+        // from the beginning, it is the whole dump that is loaded
+        ensures dump { OnOk result (self.old.rev ≡ None → draft_of self.old.transaction ≡ begun self.old.transaction.history → LoadsDump self.old.records.limits self.old.records.texts (left_in R.remaining self.old.records) self.old.transaction.history self.new.transaction.history) }
+        ensures refused { IfErr result (λ e. (e ≡ LoadFault.Dump DumpFault.Read) ⊎ (self.new.refused ≡ Some e)) }
+    {
+        self.load_all_with(&mut NoListener)
+    }
+
+    /// Loads all that is left of a dump, and reports to a listener after each revision. After a refusal it is with the loader as after a refusal of
+    /// [`Loader::next_revision`].
+    pub fn load_all_with<L: Listener>(&mut self, listener: &mut L) -> Result<(), LoadFault>
         // from the beginning, it is the whole dump that is loaded
         ensures dump { OnOk result (self.old.rev ≡ None → draft_of self.old.transaction ≡ begun self.old.transaction.history → LoadsDump self.old.records.limits self.old.records.texts (left_in R.remaining self.old.records) self.old.transaction.history self.new.transaction.history) }
         ensures refused { IfErr result (λ e. (e ≡ LoadFault.Dump DumpFault.Read) ⊎ (self.new.refused ≡ Some e)) }
     {
         'revisions: for _ in 0..u64::MAX {
             self.next_revision()?;
+            listener.loaded(self.latest(), self.records.begun());
             if self.rev.is_none() {
                 return Ok(());
             }

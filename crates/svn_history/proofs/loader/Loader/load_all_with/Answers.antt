@@ -2,7 +2,7 @@ use Rattle.std.proofs.Common.{◌≡◌, None, refl, ◌∙◌, rules}
 use Rattle.std.specs.Prelude.{IsSome}
 use Rattle.svn_history.specs.Parts.{loading, LoadsAll}
 use Rattle.svn_history.proofs.Whole.{at_first, all_more, all_done, loads_dump}
-use Rattle.svn_history.proofs.loader.Loader.load_all.Goals as goal
+use Rattle.svn_history.proofs.loader.Loader.load_all_with.Goals as goal
 
 pub revisions-init : goal.revisions-init
 revisions-init g c =

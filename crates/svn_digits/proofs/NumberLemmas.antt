@@ -3,7 +3,7 @@ use Rattle.std.proofs.Common.{◌≡◌, ℕ, ◌+◌, ◌-◌, ◌*◌, ◌^◌
 use Rattle.std.proofs.lemmas.Bool.Decides.{nat_tests}
 use Rattle.std.proofs.lemmas.Bool.{ltb-false}
 use Rattle.svn_lists.proofs.Options.{cond_none}
-use Rattle.svn_dump.specs.Numbers.{decimal_from, fitting}
+use Rattle.svn_digits.specs.Numbers.{decimal_from, fitting}
 
 -- more digits never make a number smaller
 decimal_from_grows : (n : ℕ) (bs : List ℕ) → n ≤ decimal_from n bs

@@ -1,7 +1,7 @@
 use Rattle.std.proofs.Common.{◌≡◌, None}
 use Rattle.svn_history.specs.Parts.{Loading, loading, LoadsAll}
 use Rattle.svn_history.proofs.Whole.{LoadsRest}
-use Rattle.svn_history.proofs.loader.Loader.load_all.Given as goal
+use Rattle.svn_history.proofs.loader.Loader.load_all_with.Given as goal
 
 abbrev pub invariant-revisions : goal.invariant-revisions
 invariant-revisions g l =

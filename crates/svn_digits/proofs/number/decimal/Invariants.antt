@@ -1,6 +1,6 @@
 use Rattle.std.proofs.Common.{◌≡◌, length, Some}
-use Rattle.svn_dump.specs.Numbers.{decimal_from, fitting}
-use Rattle.svn_dump.proofs.number.decimal.Given as goal
+use Rattle.svn_digits.specs.Numbers.{decimal_from, fitting}
+use Rattle.svn_digits.proofs.number.decimal.Given as goal
 
 abbrev pub decreases-digits : goal.decreases-digits
 decreases-digits l = length l.rest

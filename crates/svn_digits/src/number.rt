@@ -1,7 +1,7 @@
 //! Numbers in decimal digits.
 ghost use Rattle.std.specs.Prelude.{◌≡◌, ◌+◌, ◌-◌, ◌*◌, Some, IfSome};
 ghost use Rattle.std.specs.List.{list_all};
-ghost use Rattle.svn_dump.specs.Numbers.{is_digit, fitting, decimal_value, number_of};
+ghost use Rattle.svn_digits.specs.Numbers.{is_digit, fitting, decimal_value, number_of};
 
 /// The most digits of a number.
 const MAX_DIGITS: usize = 20;
@@ -40,7 +40,7 @@ fn decimal(digits: &[u8]) -> Option<u64>
 }
 
 /// Reads a number: 1 to 20 decimal digits, at most 18446744073709551615.
-pub(crate) fn read_number(word: &[u8]) -> Option<u64>
+pub fn read_number(word: &[u8]) -> Option<u64>
     ensures { result ≡ number_of word.now }
 {
     if !word.is_empty() && word.len() <= MAX_DIGITS && are_digits(word) {

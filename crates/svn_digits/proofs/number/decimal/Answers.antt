@@ -1,7 +1,7 @@
 use Rattle.std.proofs.Common.{sym, ap, ◌∙◌}
-use Rattle.svn_dump.specs.Numbers.{decimal_from, decimal_value}
-use Rattle.svn_dump.proofs.NumberLemmas.{no_digit_fits}
-use Rattle.svn_dump.proofs.number.decimal.Goals as goal
+use Rattle.svn_digits.specs.Numbers.{decimal_from, decimal_value}
+use Rattle.svn_digits.proofs.NumberLemmas.{no_digit_fits}
+use Rattle.svn_digits.proofs.number.decimal.Goals as goal
 
 pub returns-in-None : goal.returns-in-None
 returns-in-None c =

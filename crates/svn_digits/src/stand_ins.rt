@@ -1,0 +1,60 @@
+//! Stand-ins of texts: `$sha1$` and the text's SHA-1 checksum in lower-case hexadecimal digits.
+ghost use Rattle.std.specs.Prelude.{◌≡◌, bytes_eq, codes, IfOk};
+ghost use Rattle.std.specs.List.{list_all};
+ghost use Rattle.svn_digits.specs.StandIns.{stand_in_of, stand_in, is_stand_in, is_lower_digit};
+
+use sha1::Sha1;
+use std::alloc::{AllocError, Global};
+use svn_types::Text;
+
+/// The bytes of a stand-in.
+const LEN: usize = 46;
+
+/// How many of them come before the digits.
+const MARK: usize = 6;
+
+fn is_digit(byte: u8) -> bool
+    ensures { result ≡ is_lower_digit byte }
+{
+    48 <= byte && byte <= 57 || 97 <= byte && byte <= 102
+}
+
+fn are_digits(bytes: &[u8]) -> bool
+    ensures { result ≡ list_all is_lower_digit bytes.now }
+{
+    bytes.iter().all(|byte| is_digit(*byte))
+}
+
+fn has_mark(mark: &[u8]) -> bool
+    ensures { result ≡ bytes_eq mark.now (codes "$sha1$") }
+{
+    mark == b"$sha1$".as_slice()
+}
+
+/// Whether these bytes have the form of a stand-in.
+pub fn is_stand_in(bytes: &[u8]) -> bool
+    ensures { result ≡ is_stand_in bytes.now }
+{
+    if bytes.len() != LEN {
+        return false;
+    }
+    let (mark, digits) = bytes.split_at(MARK);
+    has_mark(mark) && are_digits(digits)
+}
+
+/// The stand-in of the text with this SHA-1 checksum: `$sha1$` and the checksum in lower-case hexadecimal digits.
+pub fn stand_in_of(alloc: Global, sum: &[u8; 20]) -> Result<Text, AllocError>
+    ensures { IfOk result (λ word. word ≡ stand_in_of sum.now) }
+{
+    let mut word = Vec::with_capacity(alloc, LEN)?;
+    word.extend_from_slice(b"$sha1$")?;
+    word.extend_from_slice(hex::encode(alloc, &sum[..])?.as_bytes())?;
+    Ok(Text::new(word))
+}
+
+/// The stand-in of a text.
+pub fn stand_in(alloc: Global, text: &[u8]) -> Result<Text, AllocError>
+    ensures { IfOk result (λ word. word ≡ stand_in text.now) }
+{
+    stand_in_of(alloc, &Sha1::digest(text))
+}
