@@ -1,5 +1,3 @@
--- numbers
-pub mod NumberLemmas
 -- properties
 pub mod PropertyLemmas
 -- paths
@@ -11,5 +9,7 @@ pub mod RecordTests
 pub mod ReadingLemmas
 pub mod ChainLemmas
 pub mod TreeLemmas
+-- rows of PRISTINE
+pub mod PristineLemmas
 -- rows of NODES
 pub mod NodeLemmas

@@ -4,4 +4,4 @@ use Rattle.svn_wcdb.specs.Bases.{node_after, record_after, LocalRowsChangeNothin
 
 pub local_row : LocalRowsChangeNothing
 unfolding record_after node_after
-local_row wc_id repos_id row columns found reads ours local = rw (reads, ours, local) refl
+local_row to row columns found reads ours local = rw (reads, ours, local) refl

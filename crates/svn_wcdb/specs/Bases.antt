@@ -10,31 +10,28 @@ use Rattle.svn_wcdb.specs.declared.fault.Reason.TheVariants.{NotOneRoot, NoRoot,
 use Rattle.svn_wcdb.specs.declared.fault.TableName.{TableName}
 use Rattle.svn_wcdb.specs.declared.fault.TableName.TheVariants as tables
 use Rattle.svn_wcdb.specs.declared.nodes.Found as nodes
+use Rattle.svn_wcdb.specs.declared.nodes.References as refs
 use Rattle.svn_wcdb.specs.declared.notes.Notes.{Notes}
-use Rattle.svn_wcdb.specs.declared.refusal.Refusal.{Refusal}
 use Rattle.svn_wcdb.specs.declared.table.TableRow.{TableRow}
 use Rattle.svn_wcdb.specs.Columns.{column, text_in}
 use Rattle.svn_wcdb.specs.Images.{image_of}
 use Rattle.svn_wcdb.specs.Nodes.{NodeRow, row_of, base_of}
 use Rattle.svn_wcdb.specs.Paths.{path_of}
-use Rattle.svn_wcdb.specs.Reading.{◌>>=◌, given, each, Fails}
+use Rattle.svn_wcdb.specs.Pristines.{Sizes, pristines_of}
+use Rattle.svn_wcdb.specs.Reading.{◌>>=◌, Place, at, given, each}
 use Rattle.svn_wcdb.specs.Schema.{table_of}
 use Rattle.svn_wcdb.specs.Tables.{table_rows}
 
--- where it comes from, its nodes in the order of their rows, and what was passed over
+-- where it comes from, the texts that its files may have, its nodes in the order of their rows, and what was passed over
 pub record Base : Type 0 where
   pub origin : Origin
+  pub pristines : Sizes
   pub nodes : List (Path × BaseNode)
   pub notes : Notes
 
--- the same of a refusal, which says where it is too
-abbrev pub Finds : {X Y : Type 0} → (X → Y) → Result X Refusal → Result Y Reason → Type 0
-Finds view (Ok x) read = read ≡ Ok (view x)
-Finds view (Err refusal) read = Fails refusal.fault read
-
 -- a tree as the code has it
 abbrev pub seen_base : BaseTree → Base
-seen_base tree = record { origin = tree.origin; nodes = tree.nodes.items; notes = tree.notes }
+seen_base tree = record { origin = tree.origin; pristines = tree.pristines; nodes = tree.nodes.items; notes = tree.notes }
 
 abbrev pub is_number : Option ℕ → ℕ → Bool
 is_number None n = false
@@ -43,6 +40,14 @@ is_number (Some m) n = nat_eq m n
 abbrev pub is_no_byte : Option (List ℕ) → Bool
 is_no_byte None = false
 is_no_byte (Some bytes) = nat_eq (length bytes) 0
+
+-- the path in a row of NODES, if it has a text there
+abbrev pub text_or_none : Result (Option (List ℕ)) Reason → Option (List ℕ)
+text_or_none (Ok text) = text
+text_or_none (Err reason) = None
+
+abbrev pub path_at : List ℕ → Option (List ℕ)
+path_at row = text_or_none (text_in 1 (column row 1))
 
 -- ---- the root
 
@@ -56,9 +61,11 @@ one_root (row ∷ []) = Ok row.rowid
 one_root (row ∷ other ∷ rows) = Err NotOneRoot
 
 -- the repository of the root
-abbrev pub repos_in : List TableRow → Result ℕ Reason
-repos_in [] = Err NoRoot
-repos_in (row ∷ rows) = row_of row.bytes >>= λ columns. if is_root columns then given NoRepository columns.repos_id else repos_in rows
+abbrev pub repos_in : List TableRow → Result ℕ Place
+repos_in [] = Err (record { reason = NoRoot; path = None })
+repos_in (row ∷ rows) =
+    at (path_at row.bytes) (row_of row.bytes) >>= λ columns.
+    if is_root columns then at (path_at row.bytes) (given NoRepository columns.repos_id) else repos_in rows
 
 -- ---- the repository
 
@@ -73,6 +80,16 @@ origin_in id [] = Err NoRepository
 origin_in id (row ∷ rows) = if nat_eq row.rowid id then origin_of row.bytes else origin_in id rows
 
 -- ---- the nodes
+
+-- what rows of NODES refer to: the root, its repository, and the texts
+pub record References : Type 0 where
+  pub wc_id : ℕ
+  pub repos_id : ℕ
+  pub pristines : Sizes
+
+-- as the code has it
+abbrev pub seen_references : refs.References → References
+seen_references to = record { wc_id = to.wc_id; repos_id = to.repos_id; pristines = to.pristines.now }
 
 -- the nodes so far, and what was passed over
 abbrev pub Found : Type 0
@@ -95,27 +112,31 @@ one_change found = (found.0, record (found.1) { changes = counted found.1.change
 abbrev pub one_external : Found → Found
 one_external found = (found.0, record (found.1) { externals = counted found.1.externals })
 
-abbrev pub one_node : NodeRow → Found → Result Found Reason
-one_node row found =
-    given (BadColumn 1) row.path >>= λ text. path_of text >>= λ path. base_of row >>= λ node. Ok (found.0 ++ (path, node) ∷ [], found.1)
+abbrev pub one_node : References → NodeRow → Found → Result Found Reason
+one_node to row found =
+    given (BadColumn 1) row.path >>= λ text. path_of text >>= λ path. base_of to.pristines row >>= λ node. Ok (found.0 ++ (path, node) ∷ [], found.1)
 
 -- a row of that working copy and repository
-unfoldable pub node_after : ℕ → ℕ → NodeRow → Found → Result Found Reason
-node_after wc_id repos_id row found =
-    if not (is_number row.wc_id wc_id) then Err NotOneRoot
+unfoldable pub node_after : References → NodeRow → Found → Result Found Reason
+node_after to row found =
+    if not (is_number row.wc_id to.wc_id) then Err NotOneRoot
     else if not (is_number row.op_depth 0) then Ok (one_change found)
     else if row.is_external then Ok (one_external found)
-    else if not (is_number row.repos_id repos_id) then Err OtherRepository
-    else one_node row found
+    else if not (is_number row.repos_id to.repos_id) then Err OtherRepository
+    else one_node to row found
 
-unfoldable pub record_after : ℕ → ℕ → TableRow → Found → Result Found Reason
-record_after wc_id repos_id row found = row_of row.bytes >>= λ columns. node_after wc_id repos_id columns found
+unfoldable pub record_after : References → TableRow → Found → Result Found Reason
+record_after to row found = row_of row.bytes >>= λ columns. node_after to columns found
+
+-- a fault in a row is at its path
+unfoldable pub placed_after : References → TableRow → Found → Result Found Place
+placed_after to row found = at (path_at row.bytes) (record_after to row found)
 
 -- a row of a local change adds no node
 abbrev pub LocalRowsChangeNothing : Type 0
 LocalRowsChangeNothing =
-    (wc_id repos_id : ℕ) (row : TableRow) (columns : NodeRow) (found : Found) → row_of row.bytes ≡ Ok columns → is_number columns.wc_id wc_id ≡ true
-    → is_number columns.op_depth 0 ≡ false → record_after wc_id repos_id row found ≡ Ok (one_change found)
+    (to : References) (row : TableRow) (columns : NodeRow) (found : Found) → row_of row.bytes ≡ Ok columns → is_number columns.wc_id to.wc_id ≡ true
+    → is_number columns.op_depth 0 ≡ false → record_after to row found ≡ Ok (one_change found)
 
 -- ---- the other tables
 
@@ -129,18 +150,21 @@ notes_of size bytes schema notes = do
   work ← count_of size bytes schema tables.WorkQueue
   Ok (record notes { actual = actual; locks = locks; work = work })
 
-unfoldable pub tree_of : ℕ → List ℕ → Result Base Reason
+-- a fault outside the rows of NODES is at no path
+unfoldable pub tree_of : ℕ → List ℕ → Result Base Place
 tree_of size bytes = do
-  schema ← table_rows size bytes 1
-  roots ← table_of size bytes schema tables.Wcroot
-  wc_id ← one_root roots
-  rows ← table_of size bytes schema tables.Nodes
+  schema ← at None (table_rows size bytes 1)
+  roots ← at None (table_of size bytes schema tables.Wcroot)
+  wc_id ← at None (one_root roots)
+  rows ← at None (table_of size bytes schema tables.Nodes)
   repos_id ← repos_in rows
-  repositories ← table_of size bytes schema tables.Repository
-  origin ← origin_in repos_id repositories
-  found ← each (record_after wc_id repos_id) rows none_yet
-  notes ← notes_of size bytes schema found.1
-  Ok (record { origin = origin; nodes = found.0; notes = notes })
+  repositories ← at None (table_of size bytes schema tables.Repository)
+  origin ← at None (origin_in repos_id repositories)
+  texts ← at None (table_of size bytes schema tables.Pristine)
+  pristines ← at None (pristines_of texts)
+  found ← each (placed_after (record { wc_id = wc_id; repos_id = repos_id; pristines = pristines })) rows none_yet
+  notes ← at None (notes_of size bytes schema found.1)
+  Ok (record { origin = origin; pristines = pristines; nodes = found.0; notes = notes })
 
-unfoldable pub base_tree_of : List ℕ → Result Base Reason
-base_tree_of bytes = image_of bytes >>= λ size. tree_of size bytes
+unfoldable pub base_tree_of : List ℕ → Result Base Place
+base_tree_of bytes = at None (image_of bytes) >>= λ size. tree_of size bytes

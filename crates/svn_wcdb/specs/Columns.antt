@@ -33,6 +33,10 @@ number_in c Null = Ok None
 number_in c (Int (pos n)) = Ok (Some n)
 number_in c _ = Err (BadColumn c)
 
+abbrev pub is_null : Value → Bool
+is_null Null = true
+is_null _ = false
+
 -- neither NULL nor 0
 abbrev pub is_set : Value → Bool
 is_set Null = false

@@ -1,9 +1,8 @@
 pub mod Reading
-pub mod Numbers
 pub mod Skels
 pub mod Properties
 pub mod Columns
-pub mod StandIns
+pub mod Pristines
 pub mod Paths
 pub mod Nodes
 pub mod Images

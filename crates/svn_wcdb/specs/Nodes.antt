@@ -1,21 +1,21 @@
 -- Rows of NODES, and the base node that each is.
 --     row_of record      the columns of a row
---     base_of row      the base node of a row of the base tree, or why it is none
+--     base_of pristines row      the base node of a row of the base tree, whose text is one of these, or why it is none
 use Rattle.std.specs.Prelude.{ℕ, Bool, true, false, List, Option, Some, None, Result, Ok, Err, bytes_eq, codes, if◌then◌else◌}
 use Rattle.std.specs.Option.{option_copied}
 use Rattle.svn_model.specs.declared.base_node.BaseNode.{BaseNode}
 use Rattle.svn_model.specs.declared.base_node.BaseNode.TheVariants as base
 use Rattle.svn_types.specs.Names.{Path}
 use Rattle.svn_wcdb.specs.declared.fault.Reason.{Reason}
-use Rattle.svn_wcdb.specs.declared.fault.Reason.TheVariants.{BadPresence, Excluded, ServerExcluded, BadKind, Depth, IncompleteFile, NoRevision, NoReposPath, NoChecksum}
+use Rattle.svn_wcdb.specs.declared.fault.Reason.TheVariants.{BadPresence, Excluded, ServerExcluded, BadKind, Depth, IncompleteFile, NoRevision, NoReposPath}
 use Rattle.svn_wcdb.specs.declared.node.Presence.{Presence}
 use Rattle.svn_wcdb.specs.declared.node.Presence.TheVariants.{Dir, File, NotPresent}
 use Rattle.svn_wcdb.specs.declared.row.Row.{Row}
 use Rattle.svn_wcdb.specs.Columns.{column, text_in, blob_in, number_in, is_set}
 use Rattle.svn_wcdb.specs.Paths.{path_of}
+use Rattle.svn_wcdb.specs.Pristines.{Sizes, text_among}
 use Rattle.svn_wcdb.specs.Properties.{props_of}
 use Rattle.svn_wcdb.specs.Reading.{◌>>=◌}
-use Rattle.svn_wcdb.specs.StandIns.{is_stand_in}
 
 -- the columns that a base node is made of
 pub record NodeRow : Type 0 where
@@ -66,7 +66,7 @@ seen row =
       is_external = row.is_external;
     }
 
--- a directory of which all is wanted
+-- whether all of a directory is wanted
 abbrev pub is_whole : Option (List ℕ) → Bool
 is_whole None = true
 is_whole (Some depth) = bytes_eq depth (codes "infinity")
@@ -110,25 +110,20 @@ abbrev pub repos_path_of : Option (List ℕ) → Result Path Reason
 repos_path_of None = Err NoReposPath
 repos_path_of (Some bytes) = path_of bytes
 
--- the checksum itself stands in for the text
-abbrev pub text_of : Option (List ℕ) → Result (List ℕ) Reason
-text_of None = Err NoChecksum
-text_of (Some checksum) = if is_stand_in checksum then Ok checksum else Err NoChecksum
-
 abbrev pub dir_of : NodeRow → Bool → Result BaseNode Reason
 dir_of row complete =
     revision_of row.revision >>= λ rev. repos_path_of row.repos_path >>= λ path.
     props_of row.properties >>= λ props. Ok (base.Dir rev path complete props)
 
-abbrev pub file_of : NodeRow → Result BaseNode Reason
-file_of row =
+abbrev pub file_of : Sizes → NodeRow → Result BaseNode Reason
+file_of pristines row =
     revision_of row.revision >>= λ rev. repos_path_of row.repos_path >>= λ path.
-    text_of row.checksum >>= λ text. props_of row.properties >>= λ props. Ok (base.File rev path text props)
+    text_among pristines row.checksum >>= λ text. props_of row.properties >>= λ props. Ok (base.File rev path text props)
 
-abbrev pub node_of : NodeRow → Presence → Result BaseNode Reason
-node_of row (Dir complete) = dir_of row complete
-node_of row File = file_of row
-node_of row NotPresent = Ok base.NotPresent
+abbrev pub node_of : Sizes → NodeRow → Presence → Result BaseNode Reason
+node_of pristines row (Dir complete) = dir_of row complete
+node_of pristines row File = file_of pristines row
+node_of pristines row NotPresent = Ok base.NotPresent
 
-abbrev pub base_of : NodeRow → Result BaseNode Reason
-base_of row = presence_of row >>= node_of row
+abbrev pub base_of : Sizes → NodeRow → Result BaseNode Reason
+base_of pristines row = presence_of row >>= node_of pristines row

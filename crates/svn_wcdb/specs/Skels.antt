@@ -7,7 +7,7 @@ use Rattle.std.specs.Prelude.{ℕ, ◌+◌, Bool, false, ◌||◌, ◌&&◌, not
 use Rattle.svn_types.specs.Names.{is_letter}
 use Rattle.svn_wcdb.specs.declared.skel.Run.{Run}
 use Rattle.svn_wcdb.specs.declared.skel.Run.TheVariants.{Spaces, Digits, Word}
-use Rattle.svn_wcdb.specs.Numbers.{is_digit, number_of}
+use Rattle.svn_digits.specs.Numbers.{is_digit, number_of}
 
 -- tab, line feed, form feed, carriage return or space
 abbrev pub is_space : ℕ → Bool

@@ -1,12 +1,14 @@
 //! The base tree of a working copy: where it comes from, and its nodes.
 ghost use Rattle.std.specs.Prelude.{◌≡◌};
-ghost use Rattle.svn_wcdb.specs.Bases.{Finds, seen_base, base_tree_of};
+ghost use Rattle.svn_wcdb.specs.Bases.{seen_base, base_tree_of};
+ghost use Rattle.svn_wcdb.specs.Reading.{Finds};
 
 use crate::fault::TableName;
 use crate::image::Image;
-use crate::nodes::read_nodes;
+use crate::nodes::{References, read_nodes};
 use crate::notes::{Notes, read_notes};
 use crate::origin::{one_root, origin_in, repos_in};
+use crate::pristines::{Pristines, read_pristines};
 use crate::refusal::Refusal;
 use crate::schema::rows_of;
 use crate::tree::read_table;
@@ -28,7 +30,9 @@ pub struct Origin {
 pub struct BaseTree {
     /// The repository.
     pub origin: Origin,
-    /// The nodes; of a file's text its stand-in.
+    /// The texts that its files may have, and others that are kept.
+    pub pristines: Pristines,
+    /// The nodes; of a file's text its stand-in, which is among the pristine texts.
     pub nodes: Vec<(RelPath, BaseNode)>,
     /// What was passed over.
     pub notes: Notes,
@@ -38,12 +42,14 @@ pub struct BaseTree {
 /// while it was read ([`Image::change_counter`](crate::Image::change_counter)), the caller has to look.
 ///
 /// What it returns is what the bytes stand for (`base_tree_of`), or the first fault in this order: of the header NotADatabase, PageSize, WriteAheadLog,
-/// Encoding, Format, CutOff; of the schema's table, and then of WCROOT, NODES and REPOSITORY, NoTable, Loop, BadPage, TooDeep, BadOverflow and BadRecord
-/// as the pages and rows come; NotOneRoot; NoRoot and NoRepository, and BadColumn in the rows up to the root's; then row by row of NODES, with its path,
-/// BadColumn of the first column from the left, NotOneRoot, OtherRepository, NotUtf8 and BadPath, BadPresence, Excluded, ServerExcluded, BadKind, Depth,
-/// IncompleteFile, NoRevision, NoReposPath, NoChecksum, BadProperties and BadPropName; then the tables that are counted. Memory where an allocation failed.
+/// Encoding, Format, CutOff; of the schema's table, and then of WCROOT, NODES, REPOSITORY and PRISTINE, NoTable, Loop, BadPage, TooDeep, BadOverflow and
+/// BadRecord as the pages and rows come; after WCROOT NotOneRoot; after NODES NoRoot and NoRepository, and BadColumn in the rows up to the root's, with
+/// the row's path; after REPOSITORY NoRepository and BadColumn; after PRISTINE, row by row, BadColumn, NoChecksum and Compressed; then row by row of
+/// NODES, with its path, BadColumn of the first column from the left, NotOneRoot, OtherRepository, NotUtf8 and BadPath, BadPresence, Excluded,
+/// ServerExcluded, BadKind, Depth, IncompleteFile, NoRevision, NoReposPath, NoChecksum, NoPristine, BadProperties and BadPropName; then the tables that
+/// are counted. Memory where an allocation failed.
 ///
-/// The rows of NODES are in memory while they are read: no more bytes than the file has, and some 40 for each.
+/// The rows of NODES and PRISTINE are in memory while they are read: no more bytes than the file has, and some 40 for each.
 #[tactic(auto, unfolding(crate::specs::Bases::base_tree_of, crate::specs::Bases::tree_of))]
 pub fn read_base_tree(alloc: Global, bytes: &[u8]) -> Result<BaseTree, Refusal>
     ensures { Finds seen_base result (base_tree_of bytes.now) }
@@ -53,13 +59,21 @@ pub fn read_base_tree(alloc: Global, bytes: &[u8]) -> Result<BaseTree, Refusal>
     let roots = rows_of(alloc, &image, &schema, TableName::Wcroot)?;
     let wc_id = one_root(&roots)?;
     let rows = rows_of(alloc, &image, &schema, TableName::Nodes)?;
-    let repos_id = repos_in(&rows)?;
+    let repos_id = repos_in(alloc, &rows)?;
     let repositories = rows_of(alloc, &image, &schema, TableName::Repository)?;
     let origin = origin_in(alloc, repos_id, &repositories)?;
-    let found = read_nodes(alloc, wc_id, repos_id, &rows)?;
+    let texts = rows_of(alloc, &image, &schema, TableName::Pristine)?;
+    let pristines = read_pristines(alloc, &texts)?;
+    let to = References {
+        wc_id,
+        repos_id,
+        pristines: &pristines,
+    };
+    let found = read_nodes(alloc, &to, &rows)?;
     let notes = read_notes(alloc, &image, &schema, found.notes)?;
     Ok(BaseTree {
         origin,
+        pristines,
         nodes: found.nodes,
         notes,
     })

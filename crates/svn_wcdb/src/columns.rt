@@ -3,7 +3,7 @@ ghost use Rattle.std.specs.Prelude.{◌≡◌};
 ghost use Rattle.std.specs.Option.{option_copied};
 ghost use Rattle.sqlite_value.specs.Value.{owned};
 ghost use Rattle.svn_wcdb.specs.Reading.{Answers};
-ghost use Rattle.svn_wcdb.specs.Columns.{column, text_in, blob_in, number_in, is_set};
+ghost use Rattle.svn_wcdb.specs.Columns.{column, text_in, blob_in, number_in, is_null, is_set};
 
 use crate::fault::Reason;
 use sqlite_record::fields::Fields;
@@ -60,6 +60,16 @@ pub(crate) fn number_at(bytes: &[u8], place: u32) -> Result<Option<u64>, Reason>
             }
         }
         ValueRef::Real(_) | ValueRef::Text(_) | ValueRef::Blob(_) => Err(Reason::BadColumn(place)),
+    }
+}
+
+/// Whether a column is NULL.
+pub(crate) fn is_null(bytes: &[u8], place: u32) -> bool
+    ensures { result ≡ is_null (column bytes.now place) }
+{
+    match value_at(bytes, place) {
+        ValueRef::Null => true,
+        ValueRef::Int(_) | ValueRef::Real(_) | ValueRef::Text(_) | ValueRef::Blob(_) => false,
     }
 }
 

@@ -119,6 +119,12 @@ pub enum Reason {
     /// A file whose checksum isn't `$sha1$` and 40 hexadecimal digits.
     #[error("no SHA-1 checksum")]
     NoChecksum,
+    /// A file whose text the database doesn't have.
+    #[error("the database has no pristine text of this checksum")]
+    NoPristine,
+    /// A pristine text that is compressed, which no client writes.
+    #[error("a compressed pristine text")]
+    Compressed,
     /// Properties that aren't a list of names and values.
     #[error("malformed properties")]
     BadProperties,

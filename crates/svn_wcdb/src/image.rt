@@ -41,7 +41,7 @@ fn written_size(written: usize) -> Option<usize>
     }
 }
 
-// The size of the file's pages, of which no byte is kept back.
+// The size of the file's pages. No byte of them is kept back.
 fn size_in(bytes: &[u8]) -> Option<usize>
     requires { 100 ≤ length bytes.now }
     ensures value { result ≡ size_in bytes.now }

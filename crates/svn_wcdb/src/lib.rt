@@ -8,16 +8,17 @@
 //! ```
 //!
 //! `from_nodes` (of `svn_wc`) refuses what no single row shows: a path that comes twice, a node without a directory above it. The text of a file is its
-//! stand-in, `$sha1$` and 40 digits, as in `svn_dump`; [`pristine_path`] says where the text itself is, [`is_pristine`] whether what was read there is it.
+//! stand-in (`svn_digits`), `$sha1$` and 40 digits; [`pristine_path`] says where the text itself is, [`is_pristine`] whether what was read there is it.
 //!
 //! | Files, lowest first | What they do | Definitions in `specs/` |
 //! |---|---|---|
 //! | `fault`, `refusal` | why a database is refused, and at which path | `Reading` |
-//! | `number`, `skel`, `properties` | numbers, lists of atoms (skels), properties | `Numbers`, `Skels`, `Properties` |
+//! | `skel`, `properties` | lists of atoms (skels), properties | `Skels`, `Properties` |
 //! | `image` | the header of the file, and page n | `Images` |
 //! | `table`, `payload`, `tree` | the rows of a table; a row's bytes, which may go on in overflow pages | `Pages`, `Records`, `Tables` |
 //! | `columns`, `schema` | the value in a column; the rows of a table by its name | `Columns`, `Schema` |
-//! | `row`, `paths`, `node`, `pristine` | a row of NODES as a base node; stand-ins | `Nodes`, `Paths`, `StandIns` |
+//! | `pristine`, `pristines` | where a pristine text is; the rows of PRISTINE | `Pristines` |
+//! | `row`, `place`, `paths`, `node` | a row of NODES as a base node, and the path at which it is refused | `Nodes`, `Paths` |
 //! | `notes`, `origin`, `nodes`, `base_tree` | what is passed over; the repository; the nodes; the whole | `Bases` |
 //! | `laws` | laws about these definitions | |
 //!
@@ -30,16 +31,19 @@
 //! | `normal` | `file` | any | a file |
 //! | `not-present` | any | any | not present |
 //!
-//! The first fault from left to right is the refusal: of the header; of the pages and rows of the schema, WCROOT, NODES and REPOSITORY; of the root; of
-//! the rows of NODES, in their order and with their paths; of the tables that are counted. [`read_base_tree`] has the list.
+//! A row of PRISTINE is a stand-in, NULL where a compression would be, and the text's size in bytes; a file's checksum must be one of theirs
+//! ([`Pristines`]).
+//!
+//! The first fault from left to right is the refusal: of the header; of the pages and rows of the schema, WCROOT, NODES, REPOSITORY and PRISTINE; of the
+//! root; of the rows of NODES, in their order and with their paths; of the tables that are counted. [`read_base_tree`] has the list.
 //!
 //! Hostile files: a table takes no more pages than the file has and 20 levels, so reading ends, and no loop of pages costs more than the file. In
 //! memory are the rows of the tables that are read, of each no more bytes than the file has and some 40 for each row; a flag for each byte of a page
 //! while it is looked at; and the nodes.
 //!
-//! Promises: a tree is returned only if it is what the bytes stand for, and else the refusal is the first fault (`read_base_tree`, by `base_tree_of`).
-//! Only a failed allocation may come anywhere. That the tests of pages and records are the kit's definitions of them: [`pages_are_well_formed`],
-//! [`records_are_whole`]. That the path of a refusal is that of the row has no contract.
+//! Promises: a tree is returned only if it is what the bytes stand for, and else the refusal is the first fault, with the path of its row
+//! (`read_base_tree`, by `base_tree_of`). Only a failed allocation may come anywhere. That the tests of pages and records are the kit's definitions of
+//! them: [`pages_are_well_formed`], [`records_are_whole`].
 #![tactic(auto)]
 
 mod base_tree;
@@ -50,11 +54,12 @@ mod laws;
 mod node;
 mod nodes;
 mod notes;
-mod number;
 mod origin;
 mod paths;
 mod payload;
+mod place;
 mod pristine;
+mod pristines;
 mod properties;
 mod refusal;
 mod row;
@@ -68,5 +73,7 @@ pub use fault::{Reason, TableName, WcdbFault};
 pub use image::Image;
 pub use laws::{local_rows_change_nothing, pages_are_well_formed, records_are_whole};
 pub use notes::Notes;
-pub use pristine::{is_pristine, is_stand_in, pristine_path, stand_in};
+pub use pristine::{is_pristine, pristine_path};
+pub use pristines::Pristines;
 pub use refusal::Refusal;
+pub use svn_digits::{is_stand_in, stand_in};

@@ -1,15 +1,17 @@
 //! Base nodes, each from its row.
-ghost use Rattle.std.specs.Prelude.{◌≡◌};
+ghost use Rattle.std.specs.Prelude.{◌≡◌, Some};
 ghost use Rattle.std.specs.Option.{option_copied};
 ghost use Rattle.svn_wcdb.specs.Reading.{Gives, Answers};
-ghost use Rattle.svn_wcdb.specs.Nodes.{seen, is_whole, present, absent, presence_of, revision_of, repos_path_of, text_of, dir_of, file_of, base_of};
+ghost use Rattle.svn_wcdb.specs.Nodes.{seen, is_whole, present, absent, presence_of, revision_of, repos_path_of, dir_of, file_of, base_of};
+ghost use Rattle.svn_wcdb.specs.Pristines.{text_among};
 
 use crate::fault::{Reason, WcdbFault};
 use crate::paths::read_path;
-use crate::pristine::is_stand_in;
+use crate::pristines::Pristines;
 use crate::properties::read_props;
 use crate::row::Row;
 use std::alloc::Global;
+use svn_digits::is_stand_in;
 use svn_model::BaseNode;
 use svn_types::{RelPath, Rev, Text};
 
@@ -106,20 +108,28 @@ fn repos_path_of(alloc: Global, path: Option<&[u8]>) -> Result<RelPath, WcdbFaul
     }
 }
 
-// What stands in for a file's text: its checksum as the column has it.
-fn text_of(alloc: Global, checksum: Option<&[u8]>) -> Result<Text, WcdbFault>
-    ensures { Gives (λ text. text) result (text_of (option_copied checksum.entry)) }
+// Whether a file may have that checksum: it is that of a pristine text.
+fn check_text(pristines: &Pristines, checksum: &[u8]) -> Result<(), Reason>
+    ensures { Answers (λ _. checksum.now) result (text_among pristines.now (Some checksum.now)) }
 {
-    match checksum {
-        Some(checksum) => {
-            if is_stand_in(checksum) {
-                Ok(Text::from_slice(alloc, checksum)?)
-            } else {
-                Err(WcdbFault::Refused(Reason::NoChecksum))
-            }
-        }
-        None => Err(WcdbFault::Refused(Reason::NoChecksum)),
+    if !is_stand_in(checksum) {
+        return Err(Reason::NoChecksum);
     }
+    match pristines.size(checksum) {
+        Some(_) => Ok(()),
+        None => Err(Reason::NoPristine),
+    }
+}
+
+// The stand-in of a file's text: its checksum as the column has it.
+fn text_of(alloc: Global, pristines: &Pristines, checksum: Option<&[u8]>) -> Result<Text, WcdbFault>
+    ensures { Gives (λ text. text) result (text_among pristines.now (option_copied checksum.entry)) }
+{
+    let Some(checksum) = checksum else {
+        return Err(WcdbFault::Refused(Reason::NoChecksum));
+    };
+    check_text(pristines, checksum)?;
+    Ok(Text::from_slice(alloc, checksum)?)
 }
 
 fn dir_of(alloc: Global, row: &Row, complete: bool) -> Result<BaseNode, WcdbFault>
@@ -136,12 +146,12 @@ fn dir_of(alloc: Global, row: &Row, complete: bool) -> Result<BaseNode, WcdbFaul
     })
 }
 
-fn file_of(alloc: Global, row: &Row) -> Result<BaseNode, WcdbFault>
-    ensures { Gives (λ node. node) result (file_of (seen row.now)) }
+fn file_of(alloc: Global, pristines: &Pristines, row: &Row) -> Result<BaseNode, WcdbFault>
+    ensures { Gives (λ node. node) result (file_of pristines.now (seen row.now)) }
 {
     let rev = revision_of(row.revision)?;
     let repos_path = repos_path_of(alloc, row.repos_path)?;
-    let text = text_of(alloc, row.checksum)?;
+    let text = text_of(alloc, pristines, row.checksum)?;
     let props = read_props(alloc, row.properties)?;
     Ok(BaseNode::File {
         rev,
@@ -151,13 +161,17 @@ fn file_of(alloc: Global, row: &Row) -> Result<BaseNode, WcdbFault>
     })
 }
 
-/// The base node of a row of the base tree. A file's text is what stands in for it.
-pub(crate) fn base_node(alloc: Global, row: &Row) -> Result<BaseNode, WcdbFault>
-    ensures { Gives (λ node. node) result (base_of (seen row.now)) }
+/// The base node of a row of the base tree. A file's text is its stand-in, which is one of the pristine texts.
+pub(crate) fn base_node(
+    alloc: Global,
+    pristines: &Pristines,
+    row: &Row,
+) -> Result<BaseNode, WcdbFault>
+    ensures { Gives (λ node. node) result (base_of pristines.now (seen row.now)) }
 {
     match presence_of(row) {
         Ok(Presence::Dir(complete)) => dir_of(alloc, row, complete),
-        Ok(Presence::File) => file_of(alloc, row),
+        Ok(Presence::File) => file_of(alloc, pristines, row),
         Ok(Presence::NotPresent) => Ok(BaseNode::NotPresent),
         Err(reason) => Err(WcdbFault::Refused(reason)),
     }

@@ -1,21 +1,33 @@
 //! The base nodes of a working copy, from the rows of NODES.
 ghost use Rattle.std.specs.Prelude.{◌≡◌};
-ghost use Rattle.svn_wcdb.specs.Bases.{Finds, seen_found, none_yet, one_node, node_after, record_after};
+ghost use Rattle.svn_wcdb.specs.Bases.{seen_references, seen_found, none_yet, one_node, node_after, record_after, placed_after};
 ghost use Rattle.svn_wcdb.specs.Nodes.{seen};
-ghost use Rattle.svn_wcdb.specs.Reading.{Gives, each};
+ghost use Rattle.svn_wcdb.specs.Reading.{Gives, Finds, each};
 
-use crate::columns::text_at;
 use crate::fault::{Reason, WcdbFault};
 use crate::node::base_node;
 use crate::notes::Notes;
 use crate::origin::is_number;
 use crate::paths::read_path;
+use crate::place::refusal_at;
+use crate::pristines::Pristines;
 use crate::refusal::Refusal;
 use crate::row::Row;
 use crate::table::TableRow;
 use std::alloc::Global;
 use svn_model::BaseNode;
-use svn_types::{RelPath, Text};
+use svn_types::RelPath;
+
+/// What rows of NODES refer to.
+#[derive(Clone, Copy, Debug)]
+pub(crate) struct References<'a> {
+    /// The root of the working copy.
+    pub(crate) wc_id: u64,
+    /// Its repository.
+    pub(crate) repos_id: u64,
+    /// The texts that its files may have.
+    pub(crate) pristines: &'a Pristines,
+}
 
 /// The nodes so far, and what was passed over.
 #[derive(Debug, Drop)]
@@ -25,30 +37,24 @@ pub(crate) struct Found {
 }
 
 // Appends the node of a row.
-fn push_node(alloc: Global, row: &Row, found: &mut Found) -> Result<(), WcdbFault>
-    ensures { Gives (λ _. seen_found found.new) result (one_node (seen row.now) (seen_found found.old)) }
+fn push_node(alloc: Global, to: &References, row: &Row, found: &mut Found) -> Result<(), WcdbFault>
+    ensures { Gives (λ _. seen_found found.new) result (one_node (seen_references to.now) (seen row.now) (seen_found found.old)) }
 {
     let Some(path) = row.path else {
         return Err(WcdbFault::Refused(Reason::BadColumn(1)));
     };
     let path = read_path(alloc, path)?;
-    let node = base_node(alloc, row)?;
+    let node = base_node(alloc, to.pristines, row)?;
     found.nodes.push((path, node))?;
     Ok(())
 }
 
 // Takes a row: its node, or what is passed over.
 #[tactic(auto, unfolding(crate::specs::Bases::node_after))]
-fn take_row(
-    alloc: Global,
-    wc_id: u64,
-    repos_id: u64,
-    row: &Row,
-    found: &mut Found,
-) -> Result<(), WcdbFault>
-    ensures { Gives (λ _. seen_found found.new) result (node_after wc_id repos_id (seen row.now) (seen_found found.old)) }
+fn take_row(alloc: Global, to: &References, row: &Row, found: &mut Found) -> Result<(), WcdbFault>
+    ensures { Gives (λ _. seen_found found.new) result (node_after (seen_references to.now) (seen row.now) (seen_found found.old)) }
 {
-    if !is_number(row.wc_id, wc_id) {
+    if !is_number(row.wc_id, to.wc_id) {
         return Err(WcdbFault::Refused(Reason::NotOneRoot));
     }
     if !is_number(row.op_depth, 0) {
@@ -59,45 +65,49 @@ fn take_row(
         found.notes.add_external();
         return Ok(());
     }
-    if !is_number(row.repos_id, repos_id) {
+    if !is_number(row.repos_id, to.repos_id) {
         return Err(WcdbFault::Refused(Reason::OtherRepository));
     }
-    push_node(alloc, row, found)
+    push_node(alloc, to, row, found)
 }
 
 #[tactic(auto, unfolding(crate::specs::Bases::record_after))]
 fn take_record(
     alloc: Global,
-    wc_id: u64,
-    repos_id: u64,
+    to: &References,
     table_row: &TableRow,
     found: &mut Found,
 ) -> Result<(), WcdbFault>
-    ensures { Gives (λ _. seen_found found.new) result (record_after wc_id repos_id table_row.now (seen_found found.old)) }
+    ensures { Gives (λ _. seen_found found.new) result (record_after (seen_references to.now) table_row.now (seen_found found.old)) }
 {
     let row = Row::read(table_row.bytes.as_slice())?;
-    take_row(alloc, wc_id, repos_id, &row, found)
+    take_row(alloc, to, &row, found)
 }
 
-// The refusal of a row, with its path.
-fn refusal_at(alloc: Global, row: &[u8], fault: WcdbFault) -> Refusal
-    ensures { result.fault ≡ fault }
+// The same with the path of the row, if it is refused.
+#[tactic(auto, unfolding(crate::specs::Bases::placed_after))]
+fn take_placed(
+    alloc: Global,
+    to: &References,
+    row: &TableRow,
+    found: &mut Found,
+) -> Result<(), Refusal>
+    ensures { Finds (λ _. seen_found found.new) result (placed_after (seen_references to.now) row.now (seen_found found.old)) }
 {
-    let path = match text_at(row, 1) {
-        Ok(Some(path)) => Text::from_slice(alloc, path).ok(),
-        Ok(None) | Err(_) => None,
-    };
-    Refusal { fault, path }
+    match take_record(alloc, to, row, found) {
+        Ok(()) => Ok(()),
+        Err(WcdbFault::Refused(reason)) => Err(refusal_at(alloc, row.bytes.as_slice(), reason)),
+        Err(WcdbFault::Memory) => Err(Refusal::from(WcdbFault::Memory)),
+    }
 }
 
-/// Reads the base nodes of that working copy root and repository.
+/// Reads the base nodes of that working copy root and repository. A refusal has the path of its row.
 pub(crate) fn read_nodes(
     alloc: Global,
-    wc_id: u64,
-    repos_id: u64,
+    to: &References,
     rows: &[TableRow],
 ) -> Result<Found, Refusal>
-    ensures { Finds seen_found result (each (record_after wc_id repos_id) rows.now none_yet) }
+    ensures { Finds seen_found result (each (placed_after (seen_references to.now)) rows.now none_yet) }
 {
     let mut found = Found {
         nodes: Vec::new(alloc),
@@ -105,9 +115,7 @@ pub(crate) fn read_nodes(
     };
     let mut rest = rows;
     'rows: while let Some((row, after)) = rest.split_first() {
-        if let Err(fault) = take_record(alloc, wc_id, repos_id, row, &mut found) {
-            return Err(refusal_at(alloc, row.bytes.as_slice(), fault));
-        }
+        take_placed(alloc, to, row, &mut found)?;
         rest = after;
     }
     Ok(found)

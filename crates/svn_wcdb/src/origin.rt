@@ -1,13 +1,15 @@
 //! The root of a working copy, and the repository that it comes from.
 ghost use Rattle.std.specs.Prelude.{◌≡◌};
-ghost use Rattle.svn_wcdb.specs.Bases.{is_number, is_root, one_root, repos_in, text_given, origin_of, origin_in};
+ghost use Rattle.svn_wcdb.specs.Bases.{path_at, is_number, is_root, one_root, repos_in, text_given, origin_of, origin_in};
 ghost use Rattle.svn_wcdb.specs.Nodes.{seen};
 ghost use Rattle.svn_wcdb.specs.declared.fault.Reason.TheVariants.{NoRepository};
-ghost use Rattle.svn_wcdb.specs.Reading.{Gives, Answers, given};
+ghost use Rattle.svn_wcdb.specs.Reading.{Gives, Answers, Finds, at, given};
 
 use crate::base_tree::Origin;
 use crate::columns::text_at;
 use crate::fault::{Reason, WcdbFault};
+use crate::place::{read_row, refusal_at};
+use crate::refusal::Refusal;
 use crate::row::Row;
 use crate::table::TableRow;
 use std::alloc::Global;
@@ -42,28 +44,30 @@ fn is_root(row: &Row) -> bool
     }
 }
 
-fn repository_of(row: &Row) -> Result<u64, Reason>
-    ensures { Answers (λ id. id) result (given NoRepository row.now.repos_id) }
+// The repository of the root, whose row has these bytes.
+fn repository_of(alloc: Global, bytes: &[u8], row: &Row) -> Result<u64, Refusal>
+    ensures { Finds (λ id. id) result (at (path_at bytes.now) (given NoRepository row.now.repos_id)) }
 {
     match row.repos_id {
         Some(id) => Ok(id),
-        None => Err(Reason::NoRepository),
+        None => Err(refusal_at(alloc, bytes, Reason::NoRepository)),
     }
 }
 
-/// The repository of the root.
-pub(crate) fn repos_in(rows: &[TableRow]) -> Result<u64, Reason>
-    ensures { Answers (λ id. id) result (repos_in rows.now) }
+/// The repository of the root. NoRoot; BadColumn and NoRepository, with the path of the row.
+pub(crate) fn repos_in(alloc: Global, rows: &[TableRow]) -> Result<u64, Refusal>
+    ensures { Finds (λ id. id) result (repos_in rows.now) }
 {
     let mut rest = rows;
     'rows: while let Some((first, after)) = rest.split_first() {
-        let row = Row::read(first.bytes.as_slice())?;
+        let bytes = first.bytes.as_slice();
+        let row = read_row(alloc, bytes)?;
         if is_root(&row) {
-            return repository_of(&row);
+            return repository_of(alloc, bytes, &row);
         }
         rest = after;
     }
-    Err(Reason::NoRoot)
+    Err(Refusal::from(Reason::NoRoot))
 }
 
 fn text_given(alloc: Global, row: &[u8], column: u32) -> Result<Text, WcdbFault>

@@ -3,7 +3,7 @@
 ghost use Rattle.std.specs.Prelude.{◌≡◌, ◌<◌, ◌≤◌, length, drop, None, Some, IfSome, MatchOption};
 ghost use Rattle.svn_wcdb.specs.Skels.{is_space, goes_on, run_len, after_run, sized, sized_at, begins_word, atom_at, item_at, is_end};
 
-use crate::number::read_number;
+use svn_digits::read_number;
 
 /// A run of bytes of one kind.
 #[derive(Clone, Copy, Debug, PartialEq, Eq)]

@@ -11,7 +11,7 @@ use std::rt::Files;
 use std::{env, fs, str};
 use svn_model::BaseNode;
 use svn_types::{Props, RelPath};
-use svn_wcdb::{BaseTree, Refusal, read_base_tree};
+use svn_wcdb::{BaseTree, Pristines, Refusal, read_base_tree};
 
 fn push_props(out: &mut String, path: &RelPath, props: &Props) -> Result<()> {
     let alloc = *out.allocator();
@@ -52,12 +52,27 @@ fn push_node(out: &mut String, path: &RelPath, node: &BaseNode) -> Result<()> {
     }
 }
 
+// How many bytes the pristine texts have together.
+fn size_of(pristines: &Pristines) -> u64 {
+    let mut sum = 0u64;
+    for (_, size) in pristines.iter() {
+        sum = sum.saturating_add(*size);
+    }
+    sum
+}
+
 // The lines of a base tree.
 fn tree_lines(alloc: Global, tree: &BaseTree) -> Result<String> {
     let mut out = String::new(alloc);
     for (path, node) in &tree.nodes {
         push_node(&mut out, path, node)?;
     }
+    let texts = &tree.pristines;
+    out.push_str(&format!(in alloc;
+        "{} pristine texts of {} bytes\n",
+        texts.len(),
+        size_of(texts)
+    )?)?;
     let notes = tree.notes;
     out.push_str(&format!(in alloc;
         "{} changes, {} externals, {} actual, {} locks, {} work\n",
