@@ -4,3 +4,9 @@ pub mod Reasons
 pub mod Audits
 -- What a copy of the nodes below a path has.
 pub mod Belows
+-- What one more call makes of the lines of an update, and of what is held of its tokens.
+pub mod Noting
+-- What the lines of an update say of its calls.
+pub mod LineLaws
+-- The lines of some updates, computed by the definition.
+pub mod LineRows

@@ -113,7 +113,7 @@ dir_some h w p complete props n one two = by (not (is_directory (kind_of h n))) 
     by false true = whole_some h w p props n one two
     by false false = refl
 
--- the properties of what stands in a node's place are in order
+-- the properties of the repository's node are in order
 abbrev pub AreOrdered : History → BaseNode → Type 0
 AreOrdered h node = (n : ℕ) → looked h node ≡ Some n → InNameOrder (props_of h n)
 

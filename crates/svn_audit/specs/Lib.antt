@@ -1,2 +1,4 @@
 pub mod Below
+pub mod Lines
+pub mod NotedLines
 pub mod Untrue

@@ -10,7 +10,9 @@
 //! prints `a: r3 has x at a, which the copy lacks` and `a/z: r3 has nothing at a/z`.
 //!
 //! Promises: [`untrue_paths`] returns exactly the untrue paths of a copy, in path order, each with the first reason that applies (`untrue`), and
-//! none exactly where the copy is true (`is_true`, `true_is_empty`).
+//! none exactly where the copy is true (`is_true`, `true_is_empty`). [`update_lines`] returns exactly the lines of the calls, each by the calls before
+//! it (`lines`; `specs/Lines.antt`); where no call deletes, adds or changes anything there is none (`no_change_no_line`), and each has the path of a
+//! call (`lines_have_paths_of_calls`).
 #![tactic(auto)]
 
 mod below;
@@ -19,6 +21,8 @@ mod reason;
 mod untrue;
 
 pub use below::copy_below;
-pub use lines::{NodeChange, UpdateLine, update_lines};
+pub use lines::{
+    NodeChange, UpdateLine, lines_have_paths_of_calls, no_change_no_line, update_lines,
+};
 pub use reason::{Reason, Untrue};
 pub use untrue::untrue_paths;

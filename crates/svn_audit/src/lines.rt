@@ -1,4 +1,9 @@
 //! The lines that an update prints.
+ghost use Rattle.std.specs.Prelude.{◌≡◌, ℕ, ◌++◌, ◌∷◌, [], List, IfOk, OnOk, nat_eq, slice_get};
+ghost use Rattle.std.specs.Option.{option_map};
+ghost use Rattle.svn_editor.specs.declared.call.Call.{Call};
+ghost use Rattle.svn_audit.specs.Lines.{line_of, changed_line, update_lines, no_change_no_line, lines_have_paths_of_calls};
+ghost use Rattle.svn_audit.specs.NotedLines.{line_of_node, new_node, with_text, with_props, IsNoted};
 
 use std::alloc::{AllocError, Global};
 use std::fmt;
@@ -19,7 +24,7 @@ pub enum NodeChange {
 }
 
 /// A line that `svn update` prints of a node: `A`, `D` or `U` in the first column, and `U` in the second where properties of a node change that was
-/// there before. It prints `A    lib/a`: the two columns, three spaces and the path, of which no name has a control character.
+/// there before. It prints `A    lib/a`: the two columns, three spaces and the path. No name in a path has a control character.
 #[derive(Clone, Debug, PartialEq, Eq, Drop)]
 pub struct UpdateLine {
     /// What happens to the node.
@@ -44,91 +49,156 @@ impl fmt::Display for UpdateLine {
     }
 }
 
+/// A node that a call opened or added.
+#[derive(Drop)]
+struct Opened {
+    /// The path at which it was opened; none if it was added: then its line came at the add.
+    path: Option<RelPath>,
+    /// Whether it was given a text since.
+    text: bool,
+    /// Whether its properties were changed since.
+    props: bool,
+}
+
 /// What is noted of the calls so far.
 #[derive(Drop)]
 struct Noted {
-    /// Of each node that was opened or added, by its token: tokens are 0, 1, 2 and so on.
-    nodes: Vec<UpdateLine>,
+    /// Each node that was opened or added, by its token: tokens are 0, 1, 2 and so on.
+    nodes: Vec<Opened>,
     lines: Vec<UpdateLine>,
 }
 
-fn line_of(node: NodeChange, path: &RelPath) -> Result<UpdateLine, AllocError> {
-    Ok(UpdateLine {
+fn begin(nodes: &mut Vec<Opened>, path: Option<RelPath>) -> Result<(), AllocError>
+    ensures { OnOk result (nodes.new.items ≡ nodes.old.items ++ new_node path ∷ []) }
+{
+    nodes.push(Opened {
+        path,
+        text: false,
+        props: false,
+    })?;
+    Ok(())
+}
+
+fn set_text(nodes: &mut Vec<Opened>, token: Token)
+    ensures { (t : ℕ) → slice_get nodes.new.items t ≡ option_map (with_text (nat_eq token t)) (slice_get nodes.old.items t) }
+{
+    let place = token.0 as usize;
+    if place < nodes.len() {
+        nodes[place].text = true;
+    }
+}
+
+fn set_props(nodes: &mut Vec<Opened>, token: Token)
+    ensures { (t : ℕ) → slice_get nodes.new.items t ≡ option_map (with_props (nat_eq token t)) (slice_get nodes.old.items t) }
+{
+    let place = token.0 as usize;
+    if place < nodes.len() {
+        nodes[place].props = true;
+    }
+}
+
+fn push_line(
+    lines: &mut Vec<UpdateLine>,
+    node: NodeChange,
+    path: &RelPath,
+) -> Result<(), AllocError>
+    ensures { OnOk result (lines.new.items ≡ lines.old.items ++ line_of node path.now ∷ []) }
+{
+    lines.push(UpdateLine {
         node,
         props: false,
         path: path.clone()?,
-    })
+    })?;
+    Ok(())
+}
+
+// The line of a node at its close: a changed one's.
+fn push_changed(lines: &mut Vec<UpdateLine>, opened: &Opened) -> Result<(), AllocError>
+    ensures { OnOk result (lines.new.items ≡ lines.old.items ++ changed_line opened.now.path opened.now.text opened.now.props) }
+{
+    let Some(path) = &opened.path else {
+        return Ok(());
+    };
+    if opened.text || opened.props {
+        let node = if opened.text {
+            NodeChange::Updated
+        } else {
+            NodeChange::Unchanged
+        };
+        lines.push(UpdateLine {
+            node,
+            props: opened.props,
+            path: path.clone()?,
+        })?;
+    }
+    Ok(())
 }
 
 impl Noted {
-    fn begin(&mut self, node: NodeChange, path: &RelPath) -> Result<(), AllocError> {
-        self.nodes.push(line_of(node, path)?)?;
-        Ok(())
+    fn close(&mut self, token: Token) -> Result<(), AllocError>
+        ensures nodes { self.new.nodes.items ≡ self.old.nodes.items }
+        ensures lines { OnOk result (self.new.lines.items ≡ self.old.lines.items ++ line_of_node (slice_get self.old.nodes.items token)) }
+    {
+        match self.nodes.get(token.0 as usize) {
+            Some(opened) => push_changed(&mut self.lines, opened),
+            None => Ok(()),
+        }
+    }
+
+    fn open(&mut self, path: &RelPath) -> Result<(), AllocError>
+        ensures nodes { OnOk result (self.new.nodes.items ≡ self.old.nodes.items ++ new_node (Some path.now) ∷ []) }
+        ensures lines { self.new.lines.items ≡ self.old.lines.items }
+    {
+        begin(&mut self.nodes, Some(path.clone()?))
     }
 
     // An added node has its line before those of what is below it.
-    fn add(&mut self, path: &RelPath) -> Result<(), AllocError> {
-        self.lines.push(line_of(NodeChange::Added, path)?)?;
-        self.begin(NodeChange::Added, path)
+    fn add(&mut self, path: &RelPath) -> Result<(), AllocError>
+        ensures nodes { OnOk result (self.new.nodes.items ≡ self.old.nodes.items ++ new_node None ∷ []) }
+        ensures lines { OnOk result (self.new.lines.items ≡ self.old.lines.items ++ line_of NodeChange.Added path.now ∷ []) }
+    {
+        push_line(&mut self.lines, NodeChange::Added, path)?;
+        begin(&mut self.nodes, None)
     }
 
-    fn delete(&mut self, path: &RelPath) -> Result<(), AllocError> {
-        self.lines.push(line_of(NodeChange::Deleted, path)?)?;
-        Ok(())
-    }
-
-    fn text(&mut self, token: Token) {
-        if let Some(node) = self.nodes.get_mut(token.0 as usize)
-            && node.node == NodeChange::Unchanged
-        {
-            node.node = NodeChange::Updated;
-        }
-    }
-
-    fn prop(&mut self, token: Token) {
-        if let Some(node) = self.nodes.get_mut(token.0 as usize)
-            && node.node != NodeChange::Added
-        {
-            node.props = true;
-        }
-    }
-
-    // A changed node has its line at its close.
-    fn close(&mut self, token: Token) -> Result<(), AllocError> {
-        let Some(node) = self.nodes.get(token.0 as usize) else {
-            return Ok(());
-        };
-        if node.props || node.node == NodeChange::Updated {
-            self.lines.push(node.clone()?)?;
-        }
-        Ok(())
-    }
-
-    fn note(&mut self, alloc: Global, call: &Call) -> Result<(), AllocError> {
+    fn note(&mut self, alloc: Global, call: &Call) -> Result<(), AllocError>
+        ensures { OnOk result ((calls : List Call) → IsNoted calls self.old → IsNoted (calls ++ call.now ∷ []) self.new) }
+    {
         match call {
-            Call::OpenRoot { .. } => self.begin(NodeChange::Unchanged, &RelPath::root(alloc)),
-            Call::OpenDirectory { path, .. } | Call::OpenFile { path, .. } => {
-                self.begin(NodeChange::Unchanged, path)
+            Call::OpenRoot { .. } => begin(&mut self.nodes, Some(RelPath::root(alloc))),
+            Call::OpenDirectory { path, .. } => self.open(path),
+            Call::OpenFile { path, .. } => self.open(path),
+            Call::AddDirectory { path, .. } => self.add(path),
+            Call::AddFile { path, .. } => self.add(path),
+            Call::DeleteEntry { path, .. } => {
+                push_line(&mut self.lines, NodeChange::Deleted, path)
             }
-            Call::AddDirectory { path, .. } | Call::AddFile { path, .. } => self.add(path),
-            Call::DeleteEntry { path, .. } => self.delete(path),
             Call::ApplyText { token, .. } => {
-                self.text(*token);
+                set_text(&mut self.nodes, *token);
                 Ok(())
             }
-            Call::ChangeDirProp { token, .. } | Call::ChangeFileProp { token, .. } => {
-                self.prop(*token);
+            Call::ChangeDirProp { token, .. } => {
+                set_props(&mut self.nodes, *token);
                 Ok(())
             }
-            Call::CloseDirectory { token } | Call::CloseFile { token, .. } => self.close(*token),
-            Call::SetTargetRevision { .. } | Call::CloseEdit | Call::AbortEdit => Ok(()),
+            Call::ChangeFileProp { token, .. } => {
+                set_props(&mut self.nodes, *token);
+                Ok(())
+            }
+            Call::CloseDirectory { token } => self.close(*token),
+            Call::CloseFile { token, .. } => self.close(*token),
+            Call::SetTargetRevision { .. } => Ok(()),
+            Call::CloseEdit => Ok(()),
+            Call::AbortEdit => Ok(()),
         }
     }
 }
 
 /// The lines that an update prints which makes these calls, in their order: an added node's at its add, a deleted one's at its delete, and that of a
 /// node that was there before at its close, if its text or its properties were changed. AllocError where an allocation failed.
-pub fn update_lines(alloc: Global, calls: &[Call]) -> Result<Vec<UpdateLine>, AllocError> {
+pub fn update_lines(alloc: Global, calls: &[Call]) -> Result<Vec<UpdateLine>, AllocError>
+    ensures lines { IfOk result (λ lines. lines.items ≡ update_lines calls.now) }
+{
     let mut noted = Noted {
         nodes: Vec::new(alloc),
         lines: Vec::new(alloc),
@@ -139,3 +209,13 @@ pub fn update_lines(alloc: Global, calls: &[Call]) -> Result<Vec<UpdateLine>, Al
     let Noted { nodes: _, lines } = noted;
     Ok(lines)
 }
+
+/// An update whose calls delete, add and change nothing prints no line.
+pub fn no_change_no_line()
+    ensures { no_change_no_line }
+{}
+
+/// Each line has the path of a call that opens, adds or deletes.
+pub fn lines_have_paths_of_calls()
+    ensures { lines_have_paths_of_calls }
+{}

@@ -4,8 +4,8 @@ use std::fmt;
 use svn_editor::{PathWord, Word};
 use svn_types::{Kind, Name, PropName, RelPath, Rev};
 
-/// Why a node of a copy isn't what the repository has at its repository path in its revision. Of a node of which more than one is so, it is the
-/// first in this order.
+/// Why a node of a copy isn't what the repository has at its repository path in its revision. Where more than one applies to a node, it is the first
+/// in this order.
 #[derive(Clone, Debug, PartialEq, Eq, Drop)]
 pub enum Reason {
     /// The repository has no such revision.
@@ -18,8 +18,8 @@ pub enum Reason {
     AnotherText,
     /// This property, the first in order of their names, is set there to another value, or is set on one side only.
     AnotherProperty(PropName),
-    /// The directory there has this entry, the first in order of their names, which the copy lacks: it has nothing under that name, and isn't told
-    /// that it is not present.
+    /// The directory there has this entry, the first in order of their names, which the copy lacks: it has nothing under that name, not even
+    /// a note that it is not present.
     Lacks(Name),
 }
 

@@ -76,7 +76,7 @@ fn location_of(alloc: Global, node: &BaseNode) -> Result<(Rev, RelPath), AllocEr
     }
 }
 
-// Its properties stand in order.
+// Its properties are in order.
 fn is_ordered(node: &BaseNode)
     ensures { InNameOrder (node_props (Some node.now)) }
 {
@@ -202,7 +202,7 @@ impl Audit<'_> {
     fn node_reason(&self, path: &RelPath, node: &BaseNode) -> Result<Option<Reason>, AllocError>
         ensures { IfOk result (λ reason. reason ≡ node_reason self.now.repo.now (get_in self.now.copy.now) path.now node.now) }
     {
-        // what stands in a revision is a node
+        // what a look-up finds is a node of the repository
         self.repo.law();
         match node {
             BaseNode::File {
@@ -243,9 +243,10 @@ impl Audit<'_> {
     }
 }
 
-/// All paths of a copy whose nodes aren't what the repository has in their places, in path order, each with the first reason that applies. A file is
-/// to have its text and properties, a complete directory its properties, and an entry, present or not, for each of its names: one that lacks is told
-/// at the directory's path. Of n nodes it costs the order of n log n, and memory for what is untrue. AllocError where an allocation failed.
+/// All paths of a copy whose nodes aren't what the repository has in their places, in path order, each with the first reason that applies. A file
+/// must have the text and the properties that the repository has, a complete directory the properties and, for each name there, an entry, present or
+/// not: a missing entry is reported at the directory's path. Of n nodes it costs the order of n log n, and memory for what is untrue. AllocError where an
+/// allocation failed.
 pub fn untrue_paths(
     alloc: Global,
     repo: &Repo,
