@@ -11,11 +11,11 @@ use svn_types::RelPath;
 use svn_wc::WorkingCopy;
 use svn_wcdb::read_base_tree;
 
-/// The history of a dump, its texts as their SHA-1 checksums.
-pub(crate) fn history_of<R: Files + AllocGlobal>(rt: &R, name: &str) -> Result<Repo> {
+/// The history of a dump.
+pub(crate) fn history_of<R: Files + AllocGlobal>(rt: &R, name: &str, texts: Texts) -> Result<Repo> {
     let alloc = rt.alloc();
     let file = fs::File::open(rt, name)?;
-    let records = Reader::new(alloc, file, Limits::default(), Texts::Sha1)?;
+    let records = Reader::new(alloc, file, Limits::default(), texts)?;
     let mut loader = Loader::new(alloc, records, Repo::new(alloc)?);
     loader.load_all()?;
     Ok(loader.into_repo())

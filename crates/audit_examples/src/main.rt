@@ -1,13 +1,17 @@
 //! Working copies that Subversion made, compared with dumps of their repositories: those that aren't true, which Subversion calls clean, and others, whose
-//! updates are compared with what Subversion made of them.
+//! updates are compared with what Subversion made of them; and the lines of updates whose calls are written by hand.
 //!
 //! `data` has for each copy NAME.dump, the history; NAME.db, its database; and NAME.untrue, what is untrue. Where there are NAME.lines and NAME.after.db,
 //! these are the lines that `svn update` printed, sorted, and the database after it. `examples/subversion/copy_data.sh` has Subversion make them.
 #![tactic(auto)]
 
+mod by_hand;
 mod copies;
+mod one_text;
 
+use crate::by_hand::{Row, calls_of, rows};
 use crate::copies::{copy_in, history_of};
+use crate::one_text::audit_with_texts;
 use anyhow::{Result, bail};
 use std::alloc::Global;
 use std::fmt::Display;
@@ -15,6 +19,7 @@ use std::fs;
 use std::rt::Files;
 use svn_audit::{untrue_paths, update_lines};
 use svn_drive::{Request, drive_request};
+use svn_dump::Texts;
 use svn_editor::Recorder;
 use svn_repo::Repo;
 use svn_wc::{Applier, WorkingCopy};
@@ -109,7 +114,7 @@ fn compare_update<R: Files + AllocGlobal + Print>(
 
 fn compare_copy<R: Files + AllocGlobal + Print>(rt: &R, name: &str) -> Result<()> {
     let alloc = rt.alloc();
-    let repo = history_of(rt, &format!(in alloc; "{name}.dump")?)?;
+    let repo = history_of(rt, &format!(in alloc; "{name}.dump")?, Texts::Sha1)?;
     let copy = copy_in(rt, &format!(in alloc; "{name}.db")?)?;
     let untrue = untrue_paths(alloc, &repo, &copy)?;
     if copy.check_true(&repo).is_ok() != untrue.is_empty() {
@@ -124,9 +129,26 @@ fn compare_copy<R: Files + AllocGlobal + Print>(rt: &R, name: &str) -> Result<()
     Ok(())
 }
 
+// The lines of calls that are written by hand.
+fn compare_row<R: AllocGlobal + Print>(rt: &R, row: &Row) -> Result<()> {
+    let alloc = rt.alloc();
+    let calls = calls_of(alloc, row)?;
+    let found = lines_of(alloc, &update_lines(alloc, &calls)?)?;
+    compare(
+        rt,
+        row.name,
+        "the lines",
+        found.as_bytes(),
+        row.lines.as_bytes(),
+    )
+}
+
 fn main(rt: HostRuntime) -> Result<()> {
     for name in &copy_names(&rt)? {
         compare_copy(&rt, name)?;
     }
-    Ok(())
+    for row in rows() {
+        compare_row(&rt, row)?;
+    }
+    audit_with_texts(&rt)
 }

@@ -1,1 +1,2 @@
+pub mod Pristine
 pub mod Audits

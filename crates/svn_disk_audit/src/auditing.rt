@@ -1,26 +1,30 @@
 //! The audit of a working copy.
-ghost use Rattle.std.specs.Prelude.{ℕ, List, Some, IfOk};
+ghost use Rattle.std.specs.Prelude.{◌≡◌, ℕ, List, Option, None, Some, IfOk};
 ghost use Rattle.svn_repo.specs.History.{new_history};
 ghost use Rattle.svn_dump.specs.declared.sections.Limits.{Limits};
-ghost use Rattle.svn_dump.specs.declared.sections.Texts.TheVariants.{Sha1};
 ghost use Rattle.svn_history.specs.Loading.{LoadsDump};
 ghost use Rattle.svn_disk_audit.specs.Audits.{IsAudit, IsVerdict};
 
+use crate::examiner::Examiner;
 use crate::fault::AuditFault;
+use crate::keeping::keep_texts;
 use std::alloc::Global;
 use svn_audit::{Untrue, copy_below, untrue_paths};
+use svn_dump::Texts;
 use svn_repo::Repo;
 use svn_types::RelPath;
 use svn_wc::WorkingCopy;
-use svn_wcdb::{BaseTree, read_base_tree};
+use svn_wcdb::read_base_tree;
 
-/// Is asked before a copy is made of what a database has: whether it is of the right repository, whether its texts are what their checksums say.
-pub trait Examiner {
-    /// Why it refuses.
-    type Fault: Drop;
-
-    /// Looks at the tree.
-    fn examine(&mut self, tree: &BaseTree) -> Result<(), Self::Fault>;
+/// What is asked of a working copy.
+#[derive(Clone, Copy)]
+pub struct Question<'a> {
+    /// The history that it is compared with.
+    pub repo: &'a Repo,
+    /// How the history keeps texts, and the copy then too.
+    pub texts: Texts,
+    /// The path of the copy that is audited, with all below.
+    pub below: &'a RelPath,
 }
 
 /// A working copy, and what isn't true of it.
@@ -32,25 +36,26 @@ pub struct Audited {
     pub untrue: Vec<Untrue>,
 }
 
-/// Audits the working copy that the bytes of a database stand for, or what of it is at a path and below, as a copy of its own. Refused as
-/// [`read_base_tree`] refuses the database, then as the examiner refuses what it has, then as [`copy_below`] refuses its nodes.
-#[tactic(auto, using(crate::proofs::Verdicts::is_audit, crate::proofs::Verdicts::is_verdict))]
+/// Audits the working copy that the bytes of a database stand for, or what of it is at a path and below, as a copy of its own. The pristine text of each
+/// file of the database is read: with [`Texts::Sha1`] each different one once, in pieces of 64 KiB, and with [`Texts::Whole`] each file's, which is kept.
+/// Refused as [`read_base_tree`] refuses the database, then as the examiner refuses what it has, then at the first file, in the order of the rows, whose
+/// pristine text isn't the one that its stand-in names, then as [`copy_below`] refuses the nodes.
 pub fn audit<E: Examiner>(
     alloc: Global,
-    repo: &Repo,
+    question: Question<'_>,
     database: &[u8],
-    below: &RelPath,
     examiner: &mut E,
 ) -> Result<Audited, AuditFault<E::Fault>>
-    ensures audit { IfOk result (λ a. IsAudit repo.now database.now below.now a.copy a.untrue.items) }
+    ensures audit { IfOk result (λ a. IsAudit question.entry.texts (E.text_at examiner.old) question.entry.repo.now database.now question.entry.below.now a.copy a.untrue.items) }
     // where the repository is the history of a dump, it is the verdict on these bytes
-    ensures whole { IfOk result (λ a. (limits : Limits) (dump : List ℕ) → LoadsDump limits Sha1 (Some dump) new_history repo.now → IsVerdict limits dump database.now below.now a.untrue.items) }
+    ensures whole { IfOk result (λ a. (limits : Limits) (dump : List ℕ) → LoadsDump limits question.entry.texts (Some dump) new_history question.entry.repo.now → IsVerdict question.entry.texts limits dump (E.text_at examiner.old) database.now question.entry.below.now a.untrue.items) }
 {
     let tree = read_base_tree(alloc, database)?;
     if let Err(fault) = examiner.examine(&tree) {
         return Err(AuditFault::Examiner(fault));
     }
-    let copy = copy_below(alloc, below, tree.nodes)?;
-    let untrue = untrue_paths(alloc, repo, &copy)?;
+    let nodes = keep_texts(alloc, question.texts, examiner, tree.nodes)?;
+    let copy = copy_below(alloc, question.below, nodes)?;
+    let untrue = untrue_paths(alloc, question.repo, &copy)?;
     Ok(Audited { copy, untrue })
 }

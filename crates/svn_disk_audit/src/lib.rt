@@ -2,21 +2,28 @@
 //!
 //! ```
 //! let mut loader = Loader::new(alloc, records, Repo::new(alloc)?);
-//! load_all(&mut loader, &mut listener)?;
+//! loader.load_all_with(&mut listener)?;
 //! let repo = loader.into_repo();
-//! let audited = audit(alloc, &repo, &database, &RelPath::root(alloc), &mut examiner)?;
+//! let below = RelPath::root(alloc);
+//! let question = Question { repo: &repo, texts: Texts::Sha1, below: &below };
+//! let audited = audit(alloc, question, &database, &mut examiner)?;
 //! assert!(rt; audited.untrue.is_empty());
 //! ```
 //!
-//! Promises: [`load_all`] loads the history of the dump's bytes (`dump`), and [`audit`] finds no untrue path exactly where the copy of the database's bytes is
-//! true of it (`audit`, `whole`). Texts are their SHA-1 checksums on both sides. It is for a program to read the files and to compare the pristine
-//! texts with their checksums; an [`Examiner`] is asked before the copy is made.
+//! Promises: `load_all_with` of `svn_history` loads the history of the dump's bytes (`dump`), and [`audit`] finds no untrue path exactly where the copy of
+//! the database's bytes is true of it (`audit`, `whole`). A file's text is its pristine text, which was read and has the SHA-1 checksum of the database;
+//! texts are kept whole or as stand-ins on both sides, and stand-ins are then those of the database ([`stand_ins_stay`]). It is for a program to find the
+//! files: an [`Examiner`] is asked before the copy is made, and opens the pristine texts.
 #![tactic(auto)]
 
 mod auditing;
+mod examiner;
 mod fault;
-mod loading;
+mod keeping;
+mod laws;
+mod pristine;
 
-pub use auditing::{Audited, Examiner, audit};
-pub use fault::AuditFault;
-pub use loading::{Listener, load_all};
+pub use auditing::{Audited, Question, audit};
+pub use examiner::Examiner;
+pub use fault::{AuditFault, PristineFault, PristineRefusal};
+pub use laws::stand_ins_stay;

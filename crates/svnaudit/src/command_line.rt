@@ -290,7 +290,7 @@ fn topic_of(name: &str) -> Option<Topic> {
     }
 }
 
-/// What the words of a call ask for, the first of which is the program's name.
+/// What the words of a call ask for. The first is the program's name.
 pub(crate) fn request_of<'a>(alloc: Global, words: &'a [&'a str]) -> Result<Request<'a>, Error> {
     let matches = command(alloc)?.try_get_matches_from(words)?;
     let Some((name, words)) = matches.subcommand() else {

@@ -42,7 +42,7 @@ impl DumpFront {
         Ok(DumpFront { bytes })
     }
 
-    /// Its bytes, which are to be read before what is left.
+    /// Its bytes, which must be read before what is left.
     pub(crate) fn bytes(&self) -> &[u8] {
         self.bytes.as_slice()
     }

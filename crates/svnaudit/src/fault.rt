@@ -3,6 +3,7 @@
 use std::alloc::{AllocError, AllocFailed};
 use std::{fmt, io};
 use svn_audit::Untrue;
+use svn_disk_audit::PristineRefusal;
 use svn_editor::PathWord;
 use svn_history::LoadFault;
 use svn_model::{DriveFault, WcFault};
@@ -43,8 +44,8 @@ pub(crate) enum Fault {
     Database(String),
     /// The nodes of the database are no working copy.
     Nodes(WcFault),
-    /// A pristine text is refused: which one, and why.
-    Pristine(String),
+    /// A pristine text is refused: its file, its stand-in, and why.
+    Pristine(PristineRefusal),
     /// The update can't be made.
     Drive(DriveFault),
     /// The copy isn't true of the history: an untrue path.
@@ -97,10 +98,8 @@ impl fmt::Display for Fault {
             Fault::NoFolder => f.write_str("no directory of the working copy"),
             Fault::Journal => f.write_str("the database has a journal: `svn cleanup` comes first"),
             Fault::Changed => f.write_str("the working copy changed while it was read"),
-            Fault::OtherRepository(text) | Fault::Database(text) | Fault::Pristine(text) => write!(
-                f,
-                "{text}"
-            ),
+            Fault::OtherRepository(text) | Fault::Database(text) => write!(f, "{text}"),
+            Fault::Pristine(refusal) => write!(f, "{refusal}"),
             Fault::Nodes(fault) => write!(f, "{fault}"),
             Fault::Drive(fault) => write!(f, "{fault}"),
             Fault::Untrue(untrue) => write!(f, "untrue: {untrue} (see --allow-untrue)"),

@@ -5,7 +5,6 @@ use crate::progress::Progress;
 use std::alloc::Global;
 use std::io::Read;
 use std::rt::Clock;
-use svn_disk_audit::load_all;
 use svn_dump::{DumpFault, Limits, Reader, Reason, Texts};
 use svn_history::{LoadFault, Loader, Refusal};
 use svn_repo::Repo;
@@ -46,7 +45,7 @@ fn at_front(alloc: Global, fault: DumpFault, texts: Texts) -> Fault {
     fault_of(alloc, &refusal, texts)
 }
 
-// A dump of which a later record is refused.
+// A dump with a later record that is refused.
 fn at_record<R: Read + Drop>(alloc: Global, loader: &Loader<R>) -> Fault {
     match loader.refusal() {
         Some(refusal) => fault_of(alloc, &refusal, loader.records().texts()),
@@ -67,7 +66,7 @@ fn load_up_to<T: Clock + Eprint, R: Read + Drop>(
         if loader.next_revision()?.is_none() {
             return Ok(());
         }
-        progress.tell(loader.latest(), loader.records().begun());
+        progress.report(loader.latest(), loader.records().begun());
     }
     Ok(())
 }
@@ -115,7 +114,7 @@ pub(crate) fn load_whole<T: Clock + Eprint, R: Read + Drop>(
     progress: &mut Progress<'_, T>,
 ) -> Result<Repo, Fault> {
     let mut loader = open(alloc, input, texts)?;
-    if load_all(&mut loader, progress).is_err() {
+    if loader.load_all_with(progress).is_err() {
         return Err(at_record(alloc, &loader));
     }
     progress.end(loader.latest(), loader.records().begun());

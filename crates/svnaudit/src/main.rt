@@ -44,7 +44,7 @@ fn status_of(verdict: Verdict) -> ExitCode {
     }
 }
 
-// The words of the command line, the first of which is the program's name.
+// The words of the command line; the first is the program's name.
 fn words(rt: &(impl Env + AllocGlobal)) -> Result<Vec<String>, Fault> {
     let words = match env::args(rt) {
         Ok(words) => words,

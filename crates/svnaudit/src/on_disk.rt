@@ -2,19 +2,18 @@
 
 use crate::fault::Fault;
 use crate::folder::Folder;
-use crate::pristine::{check_pristine, read_pristine};
+use crate::pristine::{PristineFile, open_pristine};
 use std::alloc::Global;
-use std::collections::BTreeSet;
 use std::rt::Files;
-use svn_audit::{Untrue, copy_below, untrue_paths};
-use svn_disk_audit::{AuditFault, Audited, Examiner, audit};
+use svn_audit::Untrue;
+use svn_disk_audit::{AuditFault, Audited, Examiner, Question, audit};
 use svn_dump::Texts;
 use svn_editor::Word;
-use svn_model::{BaseNode, WcFault};
+use svn_model::WcFault;
 use svn_repo::Repo;
-use svn_types::RelPath;
+use svn_types::{RelPath, Text};
 use svn_wc::WorkingCopy;
-use svn_wcdb::{BaseTree, Notes, Refusal, WcdbFault, read_base_tree};
+use svn_wcdb::{BaseTree, Notes, Refusal, WcdbFault};
 
 /// What working copies are compared with.
 #[derive(Clone, Copy)]
@@ -68,6 +67,7 @@ fn audit_fault(alloc: Global, fault: AuditFault<Fault>) -> Fault {
     match fault {
         AuditFault::Database(refusal) => refusal_of(alloc, &refusal),
         AuditFault::Examiner(fault) => fault,
+        AuditFault::Pristine(refusal) => Fault::Pristine(refusal),
         AuditFault::Copy(fault) => copy_fault(fault),
         AuditFault::Memory => Fault::Memory,
     }
@@ -80,7 +80,15 @@ fn other_repository(alloc: Global, uuid: &[u8], of_dump: &[u8]) -> Result<Fault,
     )?))
 }
 
-/// Compares the repository of a working copy with the dump's, and each pristine text with its checksum.
+fn compare_repository(alloc: Global, tree: &BaseTree, uuid: Option<&[u8]>) -> Result<(), Fault> {
+    let found = tree.origin.uuid.as_slice();
+    match uuid {
+        Some(uuid) if found != uuid => Err(other_repository(alloc, found, uuid)?),
+        _ => Ok(()),
+    }
+}
+
+/// Compares the repository of a working copy with the dump's, and opens its pristine texts.
 #[derive(Drop)]
 struct Examination<'a, T> {
     rt: &'a T,
@@ -90,104 +98,18 @@ struct Examination<'a, T> {
     notes: Option<Notes>,
 }
 
-impl<T: Files + AllocGlobal> Examination<'_, T> {
-    fn compare_repository(&self, tree: &BaseTree) -> Result<(), Fault> {
-        let found = tree.origin.uuid.as_slice();
-        match self.uuid {
-            Some(uuid) if found != uuid => { Err(other_repository(self.rt.alloc(), found, uuid)?) }
-            _ => Ok(()),
-        }
-    }
-
-    // A text that several files have is read once.
-    fn compare_texts(&self, nodes: &[(RelPath, BaseNode)]) -> Result<(), Fault> {
-        let mut compared = BTreeSet::new(self.rt.alloc());
-        for (_, node) in nodes {
-            if let BaseNode::File { text, .. } = node {
-                let stand_in = Vec::from_slice(self.rt.alloc(), text.as_slice())?;
-                if !compared.contains(&stand_in) {
-                    check_pristine(self.rt, self.folder, text)?;
-                    compared.insert(stand_in)?;
-                }
-            }
-        }
-        Ok(())
-    }
-}
-
 impl<T: Files + AllocGlobal> Examiner for Examination<'_, T> {
     type Fault = Fault;
 
+    type Text = PristineFile<T::File>;
+
     fn examine(&mut self, tree: &BaseTree) -> Result<(), Fault> {
         self.notes = Some(tree.notes);
-        self.compare_repository(tree)?;
-        self.compare_texts(tree.nodes.as_slice())
+        compare_repository(self.rt.alloc(), tree, self.uuid)
     }
-}
 
-// The nodes with their texts as the pristine store has them.
-fn with_texts<T: Files + AllocGlobal>(
-    rt: &T,
-    folder: &Folder,
-    nodes: Vec<(RelPath, BaseNode)>,
-) -> Result<Vec<(RelPath, BaseNode)>, Fault> {
-    let mut whole = Vec::new(rt.alloc());
-    for (path, node) in nodes {
-        let node = match node {
-            BaseNode::File {
-                rev,
-                repos_path,
-                text,
-                props,
-            } => BaseNode::File {
-                rev,
-                repos_path,
-                text: read_pristine(rt, folder, &text)?,
-                props,
-            },
-            node => node,
-        };
-        whole.push((path, node))?;
-    }
-    Ok(whole)
-}
-
-// Audits a copy with its texts as they are.
-fn audit_whole<T: Files + AllocGlobal>(
-    rt: &T,
-    repo: &Repo,
-    bytes: &[u8],
-    examination: &mut Examination<'_, T>,
-) -> Result<Audited, Fault> {
-    let alloc = rt.alloc();
-    let tree = match read_base_tree(alloc, bytes) {
-        Ok(tree) => tree,
-        Err(refusal) => return Err(refusal_of(alloc, &refusal)),
-    };
-    examination.examine(&tree)?;
-    let nodes = with_texts(rt, examination.folder, tree.nodes)?;
-    match copy_below(alloc, examination.folder.below(), nodes) {
-        Ok(copy) => {
-            let untrue = untrue_paths(alloc, repo, &copy)?;
-            Ok(Audited { copy, untrue })
-        }
-        Err(fault) => Err(copy_fault(fault)),
-    }
-}
-
-fn audit_bytes<T: Files + AllocGlobal>(
-    rt: &T,
-    history: History<'_>,
-    bytes: &[u8],
-    examination: &mut Examination<'_, T>,
-) -> Result<Audited, Fault> {
-    if history.texts == Texts::Whole {
-        return audit_whole(rt, history.repo, bytes, examination);
-    }
-    let below = examination.folder.below();
-    match audit(rt.alloc(), history.repo, bytes, below, examination) {
-        Ok(audited) => Ok(audited),
-        Err(fault) => Err(audit_fault(rt.alloc(), fault)),
+    fn pristine(&mut self, path: &RelPath, name: &Text) -> Result<PristineFile<T::File>, Fault> {
+        open_pristine(self.rt, self.folder, path, name)
     }
 }
 
@@ -207,7 +129,16 @@ pub(crate) fn audit_copy<T: Files + AllocGlobal>(
         uuid: history.uuid,
         notes: None,
     };
-    let Audited { copy, untrue } = audit_bytes(rt, history, bytes.as_slice(), &mut examination)?;
+    let question = Question {
+        repo: history.repo,
+        texts: history.texts,
+        below: folder.below(),
+    };
+    let audited = audit(rt.alloc(), question, bytes.as_slice(), &mut examination);
+    let Audited { copy, untrue } = match audited {
+        Ok(audited) => audited,
+        Err(fault) => return Err(audit_fault(rt.alloc(), fault)),
+    };
     let notes = examination.notes;
     folder.refuse_journal(rt)?;
     if folder.header(rt)? != before {

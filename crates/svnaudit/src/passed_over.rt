@@ -42,7 +42,7 @@ impl PassedOver {
     }
 }
 
-/// The sorts of which there are any, after one another.
+/// The sorts that there are any of, after one another.
 impl fmt::Display for PassedOver {
     fn fmt<W: fmt::Write>(&self, f: &mut fmt::Formatter<W>) -> fmt::Result {
         let mut between = "";

@@ -1,23 +1,30 @@
-//! Pristine texts: the texts of a working copy's files as they came from the repository.
+//! The files of pristine texts.
 
 use crate::fault::Fault;
 use crate::folder::Folder;
-use sha1::Sha1;
 use std::alloc::Global;
 use std::fs::File;
 use std::io;
 use std::io::{ErrorKind, Read};
 use std::path::PathBuf;
 use std::rt::Files;
-use svn_types::Text;
+use svn_disk_audit::{PristineFault, PristineRefusal};
+use svn_types::{RelPath, Text};
 use svn_wcdb::pristine_path;
 
-/// How many bytes are read at a time.
-const PIECE: usize = 1 << 16;
+/// The file of a pristine text. No contract knows its bytes, whatever a file of the system may promise.
+#[derive(Drop)]
+pub(crate) struct PristineFile<F>(F);
 
-/// The file of the text that a stand-in stands for.
-fn file_of(alloc: Global, folder: &Folder, stand_in: &Text) -> Result<Option<PathBuf>, Fault> {
-    let Some(name) = pristine_path(alloc, stand_in.as_slice())? else {
+impl<F: Read> Read for PristineFile<F> {
+    fn read(&mut self, buf: &mut [u8]) -> io::Result<usize> {
+        self.0.read(buf)
+    }
+}
+
+// The file of the text that a stand-in names.
+fn file_of(alloc: Global, folder: &Folder, name: &Text) -> Result<Option<PathBuf>, Fault> {
+    let Some(name) = pristine_path(alloc, name.as_slice())? else {
         return Ok(None);
     };
     let Ok(name) = str::from_utf8(&name) else {
@@ -27,86 +34,30 @@ fn file_of(alloc: Global, folder: &Folder, stand_in: &Text) -> Result<Option<Pat
     Ok(Some(folder.file(alloc, &name)?))
 }
 
-// What a file's bytes have: their number, and their SHA-1 checksum.
-#[derive(Drop)]
-struct Summed {
-    len: u64,
-    stand_in: Vec<u8>,
-}
-
-fn stand_in_of(alloc: Global, sum: Sha1) -> Result<Vec<u8>, Fault> {
-    let mut word = Vec::new(alloc);
-    word.extend_from_slice(b"$sha1$")?;
-    word.extend_from_slice(hex::encode(alloc, &sum.finalize()[..])?.as_bytes())?;
-    Ok(word)
-}
-
-fn sum_up<R: Read>(alloc: Global, input: &mut R) -> Result<Result<Summed, io::Error>, Fault> {
-    let mut piece = vec![in alloc; 0u8; PIECE]?;
-    let mut sum = Sha1::new();
-    let mut len = 0u64;
-    for _ in 0..u64::MAX {
-        match input.read(&mut piece) {
-            Ok(0) => break,
-            Ok(count) => {
-                sum.update(&piece[..count.min(piece.len())]);
-                len = len.saturating_add(count as u64);
-            }
-            Err(error) if error.kind() == ErrorKind::Interrupted => {}
-            Err(error) => return Ok(Err(error)),
-        }
-    }
-    Ok(Ok(Summed {
-        len,
-        stand_in: stand_in_of(alloc, sum)?,
-    }))
-}
-
-// Why a pristine text is refused.
-fn refused(alloc: Global, stand_in: &Text, why: &str) -> Result<Fault, Fault> {
-    let name = str::from_utf8(stand_in.as_slice()).unwrap_or("?");
-    Ok(Fault::Pristine(format!(in alloc; "pristine text {name}: {why}")?))
-}
-
-fn missing(alloc: Global, stand_in: &Text, error: &io::Error) -> Result<Fault, Fault> {
-    let name = str::from_utf8(stand_in.as_slice()).unwrap_or("?");
-    Ok(Fault::Pristine(format!(in alloc; "pristine text {name}: {error}")?))
-}
-
-/// Compares the text of a file with the checksum that names it.
-pub(crate) fn check_pristine<T: Files + AllocGlobal>(
+fn open_text<T: Files + AllocGlobal>(
     rt: &T,
     folder: &Folder,
-    stand_in: &Text,
-) -> Result<(), Fault> {
-    let alloc = rt.alloc();
-    let Some(path) = file_of(alloc, folder, stand_in)? else {
-        return Err(refused(alloc, stand_in, "no SHA-1 checksum")?);
-    };
-    let mut file = match File::open(rt, &path) {
-        Ok(file) => file,
-        Err(error) => return Err(missing(alloc, stand_in, &error)?),
-    };
-    match sum_up(alloc, &mut file)? {
-        Ok(summed) if summed.stand_in.as_slice() == stand_in.as_slice() => Ok(()),
-        Ok(summed) if summed.len == 0 => Err(refused(alloc, stand_in, "the file is empty")?),
-        Ok(_) => Err(refused(alloc, stand_in, "the file has another SHA-1 checksum")?),
-        Err(error) => Err(missing(alloc, stand_in, &error)?),
+    name: &Text,
+) -> Result<io::Result<T::File>, Fault> {
+    match file_of(rt.alloc(), folder, name)? {
+        Some(path) => Ok(File::open(rt, &path)),
+        None => Ok(Err(io::Error::new(ErrorKind::InvalidInput, "no SHA-1 checksum"))),
     }
 }
 
-/// Reads the text of a file, which was compared with its checksum.
-pub(crate) fn read_pristine<T: Files + AllocGlobal>(
+/// Opens the pristine text of a file, which a stand-in names.
+pub(crate) fn open_pristine<T: Files + AllocGlobal>(
     rt: &T,
     folder: &Folder,
-    stand_in: &Text,
-) -> Result<Text, Fault> {
-    let alloc = rt.alloc();
-    let Some(path) = file_of(alloc, folder, stand_in)? else {
-        return Err(refused(alloc, stand_in, "no SHA-1 checksum")?);
-    };
-    match std::fs::read(rt, &path) {
-        Ok(bytes) => Ok(Text::new(bytes)),
-        Err(error) => Err(missing(alloc, stand_in, &error)?),
+    path: &RelPath,
+    name: &Text,
+) -> Result<PristineFile<T::File>, Fault> {
+    match open_text(rt, folder, name)? {
+        Ok(file) => Ok(PristineFile(file)),
+        Err(error) => Err(Fault::Pristine(PristineRefusal {
+            path: path.clone()?,
+            stand_in: name.clone()?,
+            fault: PristineFault::Read(error),
+        })),
     }
 }

@@ -1,19 +1,19 @@
-//! How far the work is, told on standard error.
+//! How far the work is, printed on standard error.
 
 use std::rt::Clock;
 use std::time::Instant;
-use svn_disk_audit::Listener;
+use svn_history::Listener;
 use svn_types::Rev;
 
 /// The seconds between two lines.
 const PAUSE: u64 = 1;
 
-/// Tells once a second how many revisions and bytes are done, if that was asked for.
+/// Prints once a second how many revisions and bytes are done, if that was asked for.
 #[derive(Drop)]
 pub(crate) struct Progress<'a, T> {
     rt: &'a T,
     asked: bool,
-    // When the last line was told, or the work began; None where the clock can't be read.
+    // When the last line was printed, or the work began; None if the clock can't be read.
     last: Option<Instant>,
 }
 
@@ -40,7 +40,7 @@ impl<'a, T: Clock + Eprint> Progress<'a, T> {
     }
 
     /// So much is done, and the work goes on.
-    pub(crate) fn tell(&mut self, rev: Rev, bytes: u64) {
+    pub(crate) fn report(&mut self, rev: Rev, bytes: u64) {
         if self.asked && self.is_due() {
             self.line(rev, bytes);
         }
@@ -62,6 +62,6 @@ impl<'a, T: Clock + Eprint> Progress<'a, T> {
 
 impl<T: Clock + Eprint> Listener for Progress<'_, T> {
     fn loaded(&mut self, rev: Rev, bytes: u64) {
-        self.tell(rev, bytes);
+        self.report(rev, bytes);
     }
 }

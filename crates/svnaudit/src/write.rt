@@ -97,7 +97,7 @@ fn do_lines<T: Print + Eprint + Clock + AllocGlobal, R: Read + Drop>(
             return Ok(());
         }
         do_line(rt, rt.alloc(), lines.line(), lines.number(), writing)?;
-        progress.tell(writing.transaction.latest(), writing.written);
+        progress.report(writing.transaction.latest(), writing.written);
     }
     Ok(())
 }

@@ -3,15 +3,21 @@ use Rattle.svn_disk_audit.specs.Audits.{IsAudit}
 use Rattle.svn_disk_audit.proofs.Verdicts.{is_audit, is_verdict}
 use Rattle.svn_disk_audit.proofs.auditing.audit.Goals as goal
 
+pub returns-clause-audit : goal.returns-clause-audit
+returns-clause-audit g c =
+    is_audit c.args.question.texts (g.E.Examiner.text_at c.args.examiner.now) (g.E.Examiner.text_at c.examine.new.self) c.args.question.repo.now
+    c.args.database.now c.args.question.below.now c.in_ok-copy.copy c.in_ok-untrue.untrue.items (seen_base c.in_ok-tree.tree)
+    c.in_ok-nodes.nodes.items c.examine.ensures.same c.in_ok-tree.ensures c.in_ok-nodes.ensures c.in_ok-copy.ensures
+    c.in_ok-untrue.ensures.untrue c.in_ok-untrue.ensures.is_true c.in_ok-untrue.ensures.true_is_empty
+
 pub returns-clause-whole : goal.returns-clause-whole
 returns-clause-whole g c = λ limits dump loads.
-    let repo = c.args.repo.now in
-    let database = c.args.database.now in
-    let below = c.args.below.now in
+    let store = g.E.Examiner.text_at c.args.examiner.now in
+    let question = c.args.question in
     let copy = c.in_ok-copy.copy in
     let found = c.in_ok-untrue.untrue.items in
-    let truth = c.in_ok-untrue.ensures in
-    let audited : IsAudit repo database below copy found =
-    is_audit repo database below copy found (seen_base c.in_ok-tree.tree) c.in_ok-tree.ensures c.in_ok-copy.ensures truth.untrue truth.is_true
-    truth.true_is_empty in
-    is_verdict limits dump database below repo copy found loads audited
+    let audited : IsAudit question.texts store question.repo.now c.args.database.now question.below.now copy found =
+    is_audit question.texts store (g.E.Examiner.text_at c.examine.new.self) question.repo.now c.args.database.now question.below.now copy found
+    (seen_base c.in_ok-tree.tree) c.in_ok-nodes.nodes.items c.examine.ensures.same c.in_ok-tree.ensures c.in_ok-nodes.ensures c.in_ok-copy.ensures
+    c.in_ok-untrue.ensures.untrue c.in_ok-untrue.ensures.is_true c.in_ok-untrue.ensures.true_is_empty in
+    is_verdict question.texts limits dump store c.args.database.now question.below.now question.repo.now copy found loads audited

@@ -1,0 +1,149 @@
+//! The nodes of a base tree, each text read and kept whole or as its stand-in.
+ghost use Rattle.std.specs.Prelude.{◌≡◌, ℕ, List, All, IfOk, OnOk, IsTrue};
+ghost use Rattle.svn_dump.specs.declared.sections.Texts.TheVariants.{Sha1};
+ghost use Rattle.svn_dump.specs.Sections.{kept};
+ghost use Rattle.svn_disk_audit.specs.Pristine.{Store, HasText, IsPristine, IsKeptAs, AreKeptAs};
+
+use crate::examiner::Examiner;
+use crate::fault::{AuditFault, PristineRefusal};
+use crate::pristine::{TextFault, read_pristine};
+use std::alloc::{AllocError, Global};
+use std::collections::BTreeSet;
+use svn_dump::Texts;
+use svn_model::BaseNode;
+use svn_types::{RelPath, Text};
+
+// How texts are kept, and the stand-ins whose texts were read, if they are kept.
+#[derive(Drop)]
+struct Keeper {
+    alloc: Global,
+    texts: Texts,
+    names: BTreeSet<Vec<u8>>,
+}
+
+// Why a text isn't kept.
+fn audit_fault<F>(
+    path: &RelPath,
+    name: &Text,
+    fault: TextFault,
+) -> Result<AuditFault<F>, AllocError> {
+    match fault {
+        TextFault::Memory => Ok(AuditFault::Memory),
+        TextFault::Refused(fault) => Ok(AuditFault::Pristine(PristineRefusal {
+            path: path.clone()?,
+            stand_in: name.clone()?,
+            fault,
+        })),
+    }
+}
+
+impl Keeper {
+    fn new(alloc: Global, texts: Texts) -> Keeper
+        ensures texts { result.texts ≡ texts }
+        ensures names { (store : Store) → All (λ v. HasText store v.items) result.names.keys }
+    {
+        Keeper {
+            alloc,
+            texts,
+            names: BTreeSet::new(alloc),
+        }
+    }
+
+    // Whether the text was read before, and is kept as this stand-in.
+    fn has(&self, name: &Text) -> bool
+        ensures texts { IsTrue result → self.now.texts ≡ Sha1 }
+        ensures text { IsTrue result → (store : Store) → All (λ v. HasText store v.items) self.now.names.keys → HasText store name.now }
+    {
+        self.texts == Texts::Sha1 && self.names.contains(name.as_slice())
+    }
+
+    // The text of this name was read.
+    fn add(&mut self, name: &Text) -> Result<(), AllocError>
+        ensures texts { self.new.texts ≡ self.old.texts }
+        ensures names { OnOk result ((store : Store) → All (λ v. HasText store v.items) self.old.names.keys → HasText store name.now → All (λ v. HasText store v.items) self.new.names.keys) }
+    {
+        if self.texts == Texts::Sha1 {
+            self.names.insert(name.to_vec(self.alloc)?)?;
+        }
+        Ok(())
+    }
+
+    // What the pristine text of a file is kept as.
+    fn keep_text<E: Examiner>(
+        &mut self,
+        examiner: &mut E,
+        path: &RelPath,
+        name: Text,
+    ) -> Result<Text, AuditFault<E::Fault>>
+        requires { All (λ v. HasText (E.text_at examiner.old) v.items) self.old.names.keys }
+        ensures text { IfOk result (λ t. (text : List ℕ) × IsPristine (E.text_at examiner.old name) name text × (t ≡ kept self.old.texts text)) }
+        ensures names { OnOk result (All (λ v. HasText (E.text_at examiner.old) v.items) self.new.names.keys) }
+        ensures texts { self.new.texts ≡ self.old.texts }
+        ensures same { E.text_at examiner.new ≡ E.text_at examiner.old }
+    {
+        if self.has(&name) {
+            return Ok(name);
+        }
+        let mut reader = match examiner.pristine(path, &name) {
+            Ok(reader) => reader,
+            Err(fault) => return Err(AuditFault::Examiner(fault)),
+        };
+        match read_pristine(self.alloc, &mut reader, &name, self.texts) {
+            Ok(text) => {
+                self.add(&name)?;
+                Ok(text)
+            }
+            Err(fault) => Err(audit_fault(path, &name, fault)?),
+        }
+    }
+
+    // A node, its text as it is kept.
+    fn keep_node<E: Examiner>(
+        &mut self,
+        examiner: &mut E,
+        path: &RelPath,
+        node: BaseNode,
+    ) -> Result<BaseNode, AuditFault<E::Fault>>
+        requires { All (λ v. HasText (E.text_at examiner.old) v.items) self.old.names.keys }
+        ensures node { IfOk result (λ n. IsKeptAs self.old.texts (E.text_at examiner.old) node n) }
+        ensures names { OnOk result (All (λ v. HasText (E.text_at examiner.old) v.items) self.new.names.keys) }
+        ensures texts { self.new.texts ≡ self.old.texts }
+        ensures same { E.text_at examiner.new ≡ E.text_at examiner.old }
+    {
+        match node {
+            BaseNode::File {
+                rev,
+                repos_path,
+                text,
+                props,
+            } => {
+                let text = self.keep_text(examiner, path, text)?;
+                Ok(BaseNode::File {
+                    rev,
+                    repos_path,
+                    text,
+                    props,
+                })
+            }
+            node => Ok(node),
+        }
+    }
+}
+
+/// The nodes, each text read and kept as asked.
+pub(crate) fn keep_texts<E: Examiner>(
+    alloc: Global,
+    texts: Texts,
+    examiner: &mut E,
+    nodes: Vec<(RelPath, BaseNode)>,
+) -> Result<Vec<(RelPath, BaseNode)>, AuditFault<E::Fault>>
+    ensures { IfOk result (λ kept_nodes. AreKeptAs texts (E.text_at examiner.old) nodes.items kept_nodes.items) }
+{
+    let mut keeper = Keeper::new(alloc, texts);
+    let mut kept = Vec::new(alloc);
+    for (path, node) in nodes {
+        let node = keeper.keep_node(examiner, &path, node)?;
+        kept.push((path, node))?;
+    }
+    Ok(kept)
+}

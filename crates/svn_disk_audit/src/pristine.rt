@@ -1,0 +1,107 @@
+//! Pristine texts: the texts of a working copy's files as they came from the repository, each named by its stand-in.
+ghost use Rattle.std.specs.Prelude.{◌≡◌, ℕ, List, ◌++◌, [], IfOk, OnOk, if◌then◌else◌};
+ghost use Rattle.sha1.specs.Sha1.{sha1};
+ghost use Rattle.svn_dump.specs.Sections.{kept};
+ghost use Rattle.svn_disk_audit.specs.Pristine.{IsKnownAs, IsPristine};
+
+use crate::fault::PristineFault;
+use sha1::Sha1;
+use std::alloc::{AllocError, Global};
+use std::io;
+use std::io::{ErrorKind, Read};
+use svn_dump::{Sha1Sum, Texts, stand_in};
+use svn_types::Text;
+
+/// How many bytes are read at a time.
+const PIECE: usize = 1 << 16;
+
+/// Why a text isn't read.
+#[derive(Debug, Drop)]
+pub(crate) enum TextFault {
+    /// It is refused.
+    Refused(PristineFault),
+    /// An allocation failed.
+    Memory,
+}
+
+impl From<AllocError> for TextFault {
+    fn from(_error: AllocError) -> TextFault {
+        TextFault::Memory
+    }
+}
+
+// A text that was read: how many bytes, its checksum, and the bytes if they were to be kept.
+#[derive(Drop)]
+struct SummedText {
+    len: u64,
+    sha1: Sha1Sum,
+    bytes: Vec<u8>,
+}
+
+// Keeps a piece, if asked.
+fn keep(bytes: &mut Vec<u8>, piece: &[u8], keeps: bool) -> Result<(), AllocError>
+    ensures { OnOk result (bytes.new.items ≡ (if keeps then bytes.old.items ++ piece.now else bytes.old.items)) }
+{
+    if keeps {
+        bytes.extend_from_slice(piece)?;
+    }
+    Ok(())
+}
+
+// Reads a text to its end, piece by piece.
+fn read_summed<R: Read>(alloc: Global, input: &mut R, keeps: bool) -> Result<SummedText, TextFault>
+    ensures { IfOk result (λ t. (text : List ℕ) × IsKnownAs (R.remaining input.old) text × (t.sha1 ≡ sha1 text) × (t.bytes.items ≡ (if keeps then text else []))) }
+{
+    let mut piece = vec![in alloc; 0u8; PIECE]?;
+    let mut sum = Sha1::new();
+    let mut bytes = Vec::new(alloc);
+    let mut len = 0u64;
+    'pieces: for _ in 0..u64::MAX {
+        match input.read(&mut piece) {
+            Ok(0) => {
+                let sha1 = Sha1Sum(sum.finalize());
+                return Ok(SummedText { len, sha1, bytes });
+            }
+            Ok(count) => {
+                let read = &piece[..count];
+                sum.update(read);
+                keep(&mut bytes, read, keeps)?;
+                len = len.saturating_add(count as u64);
+            }
+            Err(error) if error.kind() == ErrorKind::Interrupted => {}
+            Err(error) => return Err(TextFault::Refused(PristineFault::Read(error))),
+        }
+    }
+    // no file has so many pieces
+    let error = io::Error::from(ErrorKind::TimedOut);
+    Err(TextFault::Refused(PristineFault::Read(error)))
+}
+
+// Why it isn't a text that has another name.
+fn other_text(text: &SummedText) -> PristineFault {
+    if text.len == 0 {
+        PristineFault::Empty
+    } else {
+        PristineFault::WrongSha1
+    }
+}
+
+/// Reads a pristine text, and returns what it is kept as, if it is the text that the stand-in names.
+pub(crate) fn read_pristine<R: Read>(
+    alloc: Global,
+    input: &mut R,
+    name: &Text,
+    texts: Texts,
+) -> Result<Text, TextFault>
+    ensures { IfOk result (λ t. (text : List ℕ) × IsPristine (R.remaining input.old) name.now text × (t ≡ kept texts text)) }
+{
+    let text = read_summed(alloc, input, texts == Texts::Whole)?;
+    let found = stand_in(alloc, &text.sha1)?;
+    if found != *name {
+        return Err(TextFault::Refused(other_text(&text)));
+    }
+    match texts {
+        Texts::Whole => Ok(Text::new(text.bytes)),
+        Texts::Sha1 => Ok(found),
+    }
+}
