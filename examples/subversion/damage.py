@@ -14,6 +14,8 @@ import subprocess
 import sys
 from concurrent.futures import ThreadPoolExecutor
 
+from meanwhile import meanwhile
+
 HERE = os.path.dirname(os.path.abspath(__file__))
 # How many copies one call is given, and how many seconds it has.
 BATCH, SECONDS = 100, 120
@@ -112,31 +114,41 @@ VALUES = ["null", "''", "0", "-1", "99999999999", "9223372036854775807", "1.5", 
           "'file'", "'symlink'", "'normal'", "'incomplete'", "'not-present'", "'excluded'", "'server-excluded'", "'base-deleted'", "'empty'", "'infinity'"]
 COLUMNS = ["wc_id", "local_relpath", "op_depth", "parent_relpath", "repos_id", "repos_path", "revision", "presence", "depth", "kind", "checksum", "properties",
            "file_external", "moved_here"]
+PRISTINE = ["checksum", "compression", "size", "refcount", "md5_checksum"]
 
 
 def rows(data):
     """What SQLite itself writes into rows: skels that lie, and each column with values of each type."""
     puts = [("properties", f"x'{skel.hex()}'", where) for skel in SKELS for where in ("d2", "d3/a file of some name 5")]
     puts += [(column, value, where) for column in COLUMNS for value in VALUES for where in ("", "d2", "d3/a file of some name 5")]
-    for column, value, where in puts:
+    asked = [(f"{where or 'the root'}: {column} is {value[:60]}", f"update nodes set {column} = {value} where local_relpath = '{where}'") for column, value, where in puts]
+    asked += [(f"a pristine text: {column} is {value}", f"update pristine set {column} = {value} where rowid = 1") for column in PRISTINE for value in VALUES]
+    asked += [("a pristine text is lost", "delete from pristine where rowid = 1"), ("no pristine text", "delete from pristine")]
+    for name, text in asked:
         write("row.db", data)
         base = sqlite3.connect("row.db")
         try:
             base.execute("pragma ignore_check_constraints = on")
-            base.execute(f"update nodes set {column} = {value} where local_relpath = ?", (where,))
+            base.execute(text)
             base.commit()
         except sqlite3.Error:
             continue
         finally:
             base.close()
-        yield Damage(f"{where or 'the root'}: {column} is {value[:60]}", read("row.db"))
+        yield Damage(name, read("row.db"))
+
+
+def first_file(sum_):
+    """The path, as a word, of the first row whose file has this checksum."""
+    found = sqlite3.connect(DATABASE).execute("select local_relpath from nodes where op_depth = 0 and checksum = ? order by rowid", (f"$sha1${sum_}",))
+    return "".join(chr(it) if 0x21 <= it <= 0x7e and it not in b'%"' else f"%{it:02X}" for it in found.fetchone()[0].encode())
 
 
 def texts(data):
     for folder, _, names in sorted(os.walk("copy/.svn/pristine")):
         for name in sorted(names):
             path, sum_ = os.path.relpath(f"{folder}/{name}", "copy/.svn/pristine"), name.removesuffix(".svn-base")
-            said = f"pristine text $sha1${sum_}: "
+            said = f"{first_file(sum_)}: pristine text $sha1${sum_}: "
             yield Damage(f"{name} is missing", data, pristine={path: None}, wanted=said + "No such file or directory (os error 2)")
             yield Damage(f"{name} is empty", data, pristine={path: b""}, wanted=said + "the file is empty")
             yield Damage(f"{name} is another", data, pristine={path: b"other\n"}, wanted=said + "the file has another SHA-1 checksum")
@@ -223,6 +235,52 @@ def group(program, name, every, damages):
     return len(taken), len(wrong)
 
 
+TOPICS = ("report", "update", "calls", "nodes")
+
+
+def said_by(program, *words):
+    """Its status, whether it printed a line, and what it wrote on standard error but for what is passed over."""
+    ran = subprocess.run([program, *words], capture_output=True, timeout=SECONDS)
+    refused = [it for it in ran.stderr.decode(errors="replace").splitlines() if ": passed over: " not in it]
+    return ran.returncode, bool(ran.stdout), refused
+
+
+def questions_about(program, folder, damage):
+    """What is wrong of the other commands: they refuse what `check` refuses, and an untrue copy unless it is allowed."""
+    damage.make(folder)
+    was, wrong = state(folder), []
+    try:
+        status, _, refused = said_by(program, "check", "dump", folder)
+        for topic in TOPICS:
+            found = said_by(program, topic, "dump", folder)
+            allowed = said_by(program, topic, "--allow-untrue", "dump", folder)
+            if status == 2:
+                good = found == allowed == (2, False, refused)
+            else:
+                # a drive may refuse an untrue copy, in one line
+                untrue = found[0] == 2 and not found[1] and len(found[2]) == 1 and found[2][0].endswith(" (see --allow-untrue)")
+                good = untrue and (allowed[0] == 0 and not allowed[2] or allowed[0] == 2 and len(allowed[2]) == 1) if status == 1 else found == allowed and found[0] == 0 and not found[2]
+            if not good:
+                wrong.append(f"{damage.name}: check ends with {status} {refused}, {topic} with {found}, with --allow-untrue {allowed}")
+    except subprocess.TimeoutExpired as late:
+        wrong.append(f"{damage.name}: NO END WITHIN {SECONDS} SECONDS: {late.cmd}")
+    if state(folder) != was:
+        wrong.append(f"{damage.name}: THE COPY WAS CHANGED")
+    shutil.rmtree(folder)
+    return wrong
+
+
+def questions(program, every, damages):
+    """The other commands, of each EVERY-th damage."""
+    taken = damages[::every]
+    with ThreadPoolExecutor(os.cpu_count()) as pool:
+        wrong = sum(pool.map(lambda it: questions_about(program, f"question{it[0]}", it[1]), enumerate(taken)), [])
+    print(f"report, update, calls, nodes: {len(taken)} copies; {len(wrong)} wrong")
+    for line in wrong[:10]:
+        print(f"    {line}")
+    return len(taken) * len(TOPICS), len(wrong)
+
+
 # the second is of the crate that reads the words
 OUT_OF_MEMORY = r"(svnaudit: (small: |words of the command line: )?|error: )out of memory\n"
 
@@ -258,6 +316,8 @@ def main(words):
     groups = [("texts", texts(data)), ("others", others(data)), ("chains", chains(data)), ("loops", loops(data)), ("rows", rows(data)), ("cuts", cuts(data)),
               ("changes", changes(data, count))]
     done = [group(program, name, every, damages) for name, damages in groups]
+    done.append(questions(program, every, [*texts(data), *others(data), *rows(data), *[*loops(data), *chains(data), *cuts(data)][::20]]))
+    done.append(meanwhile(program))
     done.append(allocations(program, every))
     made, wrong = (sum(it) for it in zip(*done))
     print(f"{made} compared, {wrong} wrong")

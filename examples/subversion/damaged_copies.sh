@@ -1,7 +1,7 @@
 #!/bin/bash
 # Damaged working copies: whatever the bytes of the database and of the pristine texts are, `svnaudit check` says of the copy that it is true or untrue, or
-# refuses it by one line; it ends within its time, and changes nothing. And each of its allocations refused: it prints what it prints otherwise, or
-# that it is out of memory.
+# refuses it by one line; it ends within its time, and changes nothing. So do its other commands. Where the copy changes while it is read, it is refused. And
+# each of its allocations refused: it prints what it prints otherwise, or that it is out of memory.
 #
 # It needs Debian's packages `subversion` and `sqlite3`, python3, for the allocations a C compiler, and `svnaudit` as `rt run` builds it:
 # crates/svnaudit/out/svnaudit, or the program that the variable SVNAUDIT names. EVERY=N takes each N-th damage alone (default 1), for a slow build;

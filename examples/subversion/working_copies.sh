@@ -162,13 +162,14 @@ refused 'another repository' "svnaudit: lost_row: the working copy is of reposit
 refused 'an untrue copy' "svnaudit: lost_row: untrue: b: r1 has y at b, which the copy lacks (see --allow-untrue)" "$SVNAUDIT" report lost_row.dump lost_row
 checkout odd trunk 4
 text=$(cd odd/.svn/pristine && find . -size +0 -name '*.svn-base' | LC_ALL=C sort | head -1); sum=$(basename "$text" .svn-base); text=odd/.svn/pristine/$text
+file=$(sqlite3 odd/.svn/wc.db "select local_relpath from nodes where op_depth = 0 and checksum = '\$sha1\$$sum' order by rowid limit 1")
 cp "$text" kept
 : >"$text" 2>/dev/null || { chmod u+w "$text"; : >"$text"; }
-refused 'an empty pristine text' "svnaudit: odd: pristine text \$sha1\$$sum: the file is empty" "$SVNAUDIT" check dump odd
+refused 'an empty pristine text' "svnaudit: odd: $file: pristine text \$sha1\$$sum: the file is empty" "$SVNAUDIT" check dump odd
 echo other >"$text"
-refused 'another pristine text' "svnaudit: odd: pristine text \$sha1\$$sum: the file has another SHA-1 checksum" "$SVNAUDIT" check dump odd
+refused 'another pristine text' "svnaudit: odd: $file: pristine text \$sha1\$$sum: the file has another SHA-1 checksum" "$SVNAUDIT" check dump odd
 rm -f "$text"
-refused 'no pristine text' "svnaudit: odd: pristine text \$sha1\$$sum: No such file or directory (os error 2)" "$SVNAUDIT" check dump odd
+refused 'no pristine text' "svnaudit: odd: $file: pristine text \$sha1\$$sum: No such file or directory (os error 2)" "$SVNAUDIT" check dump odd
 cp kept "$text"
 echo journal >odd/.svn/wc.db-journal
 refused 'a journal' 'svnaudit: odd: the database has a journal: `svn cleanup` comes first' "$SVNAUDIT" check dump odd
