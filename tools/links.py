@@ -9,12 +9,14 @@
 - Pages: lines of at most 160 characters, rows of tables of at most 500; README.md at most 100 lines, each page at most 4,500 words, all together
   at most 25,000; none of the wordings of NEVER and UNUSUAL, which have the usual one beside each. In comments of code those of NEVER, with
   --comments all.
-- Crates: each of crates.txt is on docs/DESIGN.md.
+- Crates: each of crates.txt is on docs/DESIGN.md. The tables of docs/DEFINITIONS.md are as `tools/definitions --page` writes them.
 - Examples: each is the same in examples/ and in crates/script_examples/data, whose program sees no other folder. The blocks of docs/TUTORIAL.md,
   one after the other, are examples/tutorial.script and its output.
 """
 import argparse
 import filecmp
+import importlib.machinery
+import importlib.util
 import os
 import re
 import sys
@@ -170,6 +172,15 @@ def look_at_map():
             yield "crates.txt", n, f"{name} isn't on docs/DESIGN.md"
 
 
+def look_at_definitions():
+    loader = importlib.machinery.SourceFileLoader("definitions", f"{TOP}/tools/definitions")
+    definitions = importlib.util.module_from_spec(importlib.util.spec_from_loader("definitions", loader))
+    loader.exec_module(definitions)
+    for n, (is_, made) in enumerate(zip(read("docs/DEFINITIONS.md").split("\n"), definitions.page().split("\n")), 1):
+        if is_ != made:
+            yield "docs/DEFINITIONS.md", n, "a definition's words changed: run tools/definitions --page"
+
+
 def main(with_comments):
     known = files()
     words = words_of_code(known)
@@ -177,7 +188,7 @@ def main(with_comments):
     code = sorted(it for it in known if it.endswith((".rt", ".antt")) and it.startswith("crates"))
     found = [it for page in pages + code if page.endswith((".md", ".rt")) for it in look_at_names(page, known, words)]
     found += [it for page in pages for it in [*look_at_wording(page, text_of(page), {**NEVER, **UNUSUAL, **MARK}), *look_at_length(page)]]
-    found += [*look_at_examples(), *look_at_map()]
+    found += [*look_at_examples(), *look_at_map(), *look_at_definitions()]
     wordings = {**NEVER, **UNUSUAL} if with_comments else NEVER
     found += [it for page in code for it in look_at_wording(page, comments(page), wordings)]
     count = sum(len(read(it).split()) for it in pages)
