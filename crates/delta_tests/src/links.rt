@@ -214,7 +214,7 @@ fn capacities_are_bounded(rt: HostRuntime) {
 }
 
 static FAULTS: [(LinkFault, &str); 2] = [
-    (LinkFault::Capacity, "1 the capacity is not from 1 to 4096"),
+    (LinkFault::Capacity, "1 the capacity isn't 1 to 4096"),
     (LinkFault::Memory, "2 out of memory"),
 ];
 

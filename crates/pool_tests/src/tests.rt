@@ -60,7 +60,7 @@ static FAULTS: [(PoolFault, &str); 5] = [
     (PoolFault::Gone, "1 the pool is gone"),
     (PoolFault::Memory, "2 out of memory"),
     (PoolFault::TooLong, "3 the string has over 1,048,576 bytes"),
-    (PoolFault::IsRoot, "4 the root pool cannot be destroyed"),
+    (PoolFault::IsRoot, "4 the root pool can't be destroyed"),
     (PoolFault::Full, "5 no serial, place or block is left"),
 ];
 

@@ -1,7 +1,7 @@
 -- The two sections after a record's headers. What is read comes with the bytes after it.
 --     kept texts text      a text, or its stand-in
 --     prop_section_at, text_section_at      the sections, where a record has them
-use Rattle.std.specs.Prelude.{ℕ, Bool, true, false, ◌&&◌, not, List, [], ◌++◌, nat_lt, bytes_eq, codes, Option, Some, None, unwrap_or, Result, Ok, Err, if◌then◌else◌}
+use Rattle.std.specs.Prelude.{ℕ, Bool, true, false, ◌&&◌, not, List, [], nat_lt, bytes_eq, Option, Some, None, unwrap_or, Result, Ok, Err, if◌then◌else◌}
 use Rattle.md5.specs.Md5.{md5, Holds as Md5Holds}
 use Rattle.sha1.specs.Sha1.{sha1, Holds as Sha1Holds}
 use Rattle.svn_digits.specs.StandIns.{stand_in, stand_in_of}

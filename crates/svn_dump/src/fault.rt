@@ -22,16 +22,16 @@ pub enum Reason {
     #[error("the headers of a record are too long")]
     HeadersTooLong,
     /// A line among the headers has no colon with a space after it.
-    #[error("a line of the headers is no header")]
+    #[error("a line of the headers isn't a header")]
     NotAHeader,
     /// A header is given twice.
     #[error("a header is given twice")]
     Twice,
-    /// A header that must be a number is none.
-    #[error("a header that must be a number is none")]
+    /// A header that must be a number isn't one.
+    #[error("a header that must be a number isn't one")]
     NotANumber,
     /// A header that must be a checksum isn't one in hexadecimal digits.
-    #[error("a header that must be a checksum is none")]
+    #[error("a header that must be a checksum isn't one")]
     NotAChecksum,
     /// A record that is no revision and no node.
     #[error("a record of no known kind")]
@@ -49,7 +49,7 @@ pub enum Reason {
     #[error("a node without one of the actions add, change, delete and replace")]
     NotAnAction,
     /// A copy source with only its revision or only its path.
-    #[error("half a copy source")]
+    #[error("a copy source with only its revision or only its path")]
     HalfSource,
     /// A `Content-length` that isn't the length of the sections.
     #[error("the content length isn't that of the sections")]

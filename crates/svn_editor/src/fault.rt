@@ -147,7 +147,7 @@ pub enum EditFault {
     #[error("a path in the repository would have over 64 names")]
     TooDeep,
     /// The text, or the value of a property, has over 1,048,576 bytes.
-    #[error("a text or a value has over 1048576 bytes")]
+    #[error("a text or a value has over 1,048,576 bytes")]
     TooLong,
     /// The receiver in another thread refused an earlier call, of this number, counted from 1: the sender must stop.
     #[error("call {0} was refused")]

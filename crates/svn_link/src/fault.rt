@@ -9,7 +9,7 @@ use thiserror::Error;
 #[derive(Clone, Copy, Debug, PartialEq, Eq, Error)]
 pub enum LinkFault {
     /// The capacity is not from 1 to 4,096 calls.
-    #[error("the capacity is not from 1 to 4096")]
+    #[error("the capacity isn't 1 to 4096")]
     Capacity,
     /// An allocation failed while the two ends were made; no later call takes memory.
     #[error("out of memory")]

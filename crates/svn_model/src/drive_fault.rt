@@ -20,7 +20,7 @@ pub enum DriveFault {
     #[error("the editor refused a call: {0}")]
     Editor(EditFault),
     /// More calls are needed than the 18,446,744,073,709,551,615 that can be counted. The last was `AbortEdit`.
-    #[error("no number is left for another call")]
+    #[error("too many calls to count")]
     Full,
     /// The root of the copy isn't in the target. No call was made.
     #[error("the target has nothing where the root would be")]

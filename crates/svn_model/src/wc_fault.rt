@@ -19,7 +19,7 @@ pub enum WcFault {
     #[error("the parent isn't a directory of the working copy")]
     NoParent,
     /// The path is the copy's root, which can't be replaced or forgotten.
-    #[error("the root can't be changed so")]
+    #[error("the root can't be replaced or forgotten")]
     IsRoot,
     /// A repository path has over 64 names, or a path over 64 more than its repository path.
     #[error("a path has too many names")]

@@ -65,7 +65,7 @@ pub enum CommitFault {
     #[error("a directory is where a file is needed")]
     NotFile,
     /// The root would be made, put, removed or copied to.
-    #[error("the root can't be changed so")]
+    #[error("the root can't be made, replaced or removed")]
     IsRoot,
     /// A node would be at a path of over 64 names.
     #[error("a path has over 64 names")]
@@ -74,10 +74,10 @@ pub enum CommitFault {
     #[error("there is no such revision")]
     NoSuchRevision,
     /// A text or a value has over 1,048,576 bytes.
-    #[error("a text has over 1048576 bytes")]
+    #[error("a text has over 1,048,576 bytes")]
     TooLong,
     /// No revision, line or node number is left. Memory always comes before it, so it is never returned.
-    #[error("no number is left")]
+    #[error("too many revisions or nodes")]
     Full,
     /// An allocation failed.
     #[error("out of memory")]

@@ -66,7 +66,7 @@ pub enum Reason {
     #[error("a row goes on in page {0}, which isn't its own")]
     BadOverflow(u32),
     /// A row isn't a record.
-    #[error("a row is no record")]
+    #[error("a row isn't a record")]
     BadRecord,
     /// A table isn't there.
     #[error("the database has no table {0}")]
@@ -75,7 +75,7 @@ pub enum Reason {
     #[error("column {0} has a value of another type")]
     BadColumn(u32),
     /// The database has none or more than one working copy root, or a node of another.
-    #[error("not one working copy root")]
+    #[error("more than one working copy root, or none")]
     NotOneRoot,
     /// The root has no row, or none of the base.
     #[error("no root")]

@@ -11,11 +11,11 @@ type Row = (&'static str, usize, &'static str);
 
 /// `svnadmin load` of Subversion 1.14.2 refuses these too, whatever most is asked for.
 static REFUSED: [Row; 29] = [
-    ("", 100, "no svndiff of version 0"),
-    ("5356", 100, "no svndiff of version 0"),
-    ("53565800", 100, "no svndiff of version 0"),
-    ("53564e01", 100, "no svndiff of version 0"),
-    ("53564e03", 100, "no svndiff of version 0"),
+    ("", 100, "not svndiff of version 0"),
+    ("5356", 100, "not svndiff of version 0"),
+    ("53565800", 100, "not svndiff of version 0"),
+    ("53564e01", 100, "not svndiff of version 0"),
+    ("53564e03", 100, "not svndiff of version 0"),
     (
         "53564e008180808080808080800000020102826162",
         100,

@@ -89,7 +89,7 @@ const DRIVE_LINES: &str = "\
 21: there is no such target revision
 22: out of memory
 23: the editor refused a call: out of memory
-24: no number is left for another call
+24: too many calls to count
 25: the target has nothing where the root would be
 26: the root in the target is another node
 ";
