@@ -3,9 +3,9 @@
 use crate::history::{load_all, loader_of, trees};
 use anyhow::Result;
 use std::alloc::Global;
-use svn_dump::{Texts, push_format, push_revision};
-use svn_history::push_commit;
-use svn_repo::{Change, Repo, Transaction};
+use svn_dump::Texts;
+use svn_history::{HistoryWriter, push_beginning, push_commit};
+use svn_repo::{Change, Repo};
 use svn_types::{PropName, RelPath, Rev, Text};
 
 // A change by its paths and a value.
@@ -83,23 +83,19 @@ fn change_of(alloc: Global, step: Step) -> Result<Option<Change>> {
     Ok(Some(change))
 }
 
-fn commit(
-    dump: &mut Vec<u8>,
-    transaction: &mut Transaction,
-    changes: &mut Vec<Change>,
-) -> Result<()> {
-    push_commit(dump, transaction, changes)?;
+fn commit(dump: &mut Vec<u8>, writer: &mut HistoryWriter, changes: &mut Vec<Change>) -> Result<()> {
+    push_commit(dump, writer, changes)?;
     changes.clear();
     Ok(())
 }
 
-fn make_all(dump: &mut Vec<u8>, transaction: &mut Transaction) -> Result<()> {
+fn make_all(dump: &mut Vec<u8>, writer: &mut HistoryWriter) -> Result<()> {
     let alloc = *dump.allocator();
     let mut changes = Vec::new(alloc);
     for step in &STEPS {
         match change_of(alloc, *step)? {
             Some(change) => changes.push(change)?,
-            None => commit(dump, transaction, &mut changes)?,
+            None => commit(dump, writer, &mut changes)?,
         }
     }
     Ok(())
@@ -108,11 +104,10 @@ fn make_all(dump: &mut Vec<u8>, transaction: &mut Transaction) -> Result<()> {
 /// Whether the history is the same when it is loaded.
 pub fn loads_again(alloc: Global) -> Result<bool> {
     let mut dump = Vec::new(alloc);
-    let mut transaction = Repo::new(alloc)?.begin();
-    push_format(&mut dump, 2)?;
-    push_revision(&mut dump, Rev(0))?;
-    make_all(&mut dump, &mut transaction)?;
-    let repo = transaction.into_repo();
+    let mut writer = HistoryWriter::new(alloc, Repo::new(alloc)?);
+    push_beginning(&mut dump)?;
+    make_all(&mut dump, &mut writer)?;
+    let repo = writer.into_repo();
     let mut again = loader_of(alloc, dump.as_slice(), Texts::Whole)?;
     load_all(&mut again)?;
     Ok(trees(alloc, &repo)? == trees(alloc, &again.into_repo())?)

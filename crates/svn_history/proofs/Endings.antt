@@ -1,7 +1,7 @@
 -- A revision that ends, and the next one that begins.
-use Rattle.std.proofs.Common.{◌≡◌, ℕ, zero, suc, ◌<◌, ◌≤◌, Bool, true, false, cond, List, length, Option, Some, None, refl, subst, sym, ap, ◌∙◌, inl, inr, arith}
+use Rattle.std.proofs.Common.{◌≡◌, ℕ, zero, suc, ◌<◌, ◌≤◌, Bool, true, false, cond, List, length, Option, Some, None, refl, subst, sym, ap, ◌∙◌, arith}
 use Rattle.std.proofs.Common.{true≢false}
-use Rattle.std.specs.Prelude.{◌⊎◌, MatchOption, nat_lt, nat_le, nat_eq, not, is_some}
+use Rattle.std.specs.Prelude.{MatchOption, nat_lt, nat_le, nat_eq, not, is_some}
 use Rattle.std.proofs.lemmas.Bool.Decides.{nat_tests}
 use Rattle.svn_repo.specs.History.{History}
 use Rattle.svn_repo.specs.Transactions.{OpenRevision, IsBegun}
@@ -11,9 +11,9 @@ use Rattle.svn_history.specs.declared.fault.LoadFault.{LoadFault}
 use Rattle.svn_history.specs.declared.fault.LoadFault.TheVariants as faults
 use Rattle.svn_history.specs.Steps.{draft_of, begun}
 use Rattle.svn_history.specs.Loading.{NodesAt, EmptyCommits}
-use Rattle.svn_history.specs.Parts.{Loading, IfKnown, LoadsNodes, Ends, revision_limit, may_begin, begin_fault, next_fault, Begins}
-use Rattle.svn_history.specs.Parts.{revision_0, revision, LoadsPart, NodesFault, PartFault, bad_nodes, bad_number, outside, out_of_memory}
-use Rattle.svn_history.specs.Parts.{unfinished, finished, RefusesNodes, RefusesPart}
+use Rattle.svn_history.specs.Parts.{Loading, IfKnown, LoadsNodes, Ends, revision_limit, may_begin, begin_fault, Begins}
+use Rattle.svn_history.specs.Parts.{revision_0, revision, LoadsPart, NodesFault, outside, out_of_memory, RefusesNodes}
+use Rattle.svn_history.specs.Parts.{EndsPart, RefusesNext, RefusesPart, bad_nodes, bad_next}
 use Rattle.svn_history.proofs.Stepping.{begun_is}
 
 pub begun_again : (h : History) (o : OpenRevision) → IsBegun h o → draft_of o ≡ begun o.history
@@ -90,48 +90,39 @@ part_by limits texts old mid new rev next ended filled nodes same same' ends beg
 
 pub nodes_refused : (limits : Limits) (texts : Texts) (old : Loading) (e : LoadFault) (h : History) → RefusesNodes limits texts old e
     → h ≡ old.draft.history → RefusesPart limits texts old e h
-nodes_refused limits texts old e h why same = record { fault = by old.left why; history = unfinished same }
-  where
-    by : (l : Option (List ℕ)) → MatchOption l (Unit {0}) (λ bytes. NodesFault limits texts old.rev old.draft bytes e)
-        → MatchOption l (Unit {0}) (λ bytes. PartFault limits texts old.rev old.draft bytes e)
-    by None w = tt
-    by (Some bytes) w = bad_nodes w
-
-out_of_memory_at : (limits : Limits) (texts : Texts) (old : Loading) (e : LoadFault) → e ≡ faults.Memory
-    → MatchOption old.left (Unit {0}) (λ bytes. PartFault limits texts old.rev old.draft bytes e)
-out_of_memory_at limits texts old e is = by old.left
-  where
-    by : (l : Option (List ℕ)) → MatchOption l (Unit {0}) (λ bytes. PartFault limits texts old.rev old.draft bytes e)
-    by None = tt
-    by (Some bytes) = bad_nodes (outside (out_of_memory is))
+nodes_refused limits texts old e h why same = bad_nodes why same
 
 pub end_refused : (limits : Limits) (texts : Texts) (old : Loading) (e : LoadFault) (h : History) → e ≡ faults.Memory
     → h ≡ old.draft.history → RefusesPart limits texts old e h
-end_refused limits texts old e h is same = record { fault = out_of_memory_at limits texts old e is; history = unfinished same }
+end_refused limits texts old e h is same = bad_nodes (by old.left) same
+  where
+    by : (l : Option (List ℕ)) → MatchOption l (Unit {0}) (λ bytes. NodesFault limits texts old.rev old.draft bytes e)
+    by None = tt
+    by (Some bytes) = outside (out_of_memory is)
 
-pub next_refused : (limits : Limits) (texts : Texts) (old mid : Loading) (rev next : Option ℕ) (ended h : History) (e : LoadFault)
-    → LoadsNodes limits texts old next mid → mid.rev ≡ old.rev → rev ≡ old.rev → Ends mid.rev mid.draft ended → EmptyCommits ended h
-    → (e ≡ faults.Memory) ⊎ (next_fault rev (length ended.roots) next ≡ Some e) → RefusesPart limits texts old e h
-next_refused limits texts old mid rev next ended h e nodes same same' ends commits why = record {
-  fault = by_fault why;
-  history = finished nodes.nodes mid.draft ended nodes.made here commits;
+ends_part : (limits : Limits) (texts : Texts) (old mid : Loading) (next : Option ℕ) (ended : History) → LoadsNodes limits texts old next mid
+    → Ends old.rev mid.draft ended → EndsPart limits texts old next ended
+ends_part limits texts old mid next ended nodes ends = record {
+  nodes = nodes.nodes;
+  bytes = by old.left mid.left nodes.bytes;
+  read = mid.draft;
+  made = nodes.made;
+  ended_is = ends;
 }
   where
-    here : Ends old.rev mid.draft ended
-    here = subst (λ (r : Option ℕ). Ends r mid.draft ended) same ends
-
     by : (left left' : Option (List ℕ)) → IfKnown left left' (λ bytes rest. NodesAt limits texts bytes nodes.nodes next rest)
-        → next_fault old.rev (length ended.roots) next ≡ Some e
-        → MatchOption left (Unit {0}) (λ bytes. PartFault limits texts old.rev old.draft bytes e)
-    by None left' known is = tt
-    by (Some bytes) None known is = absurd known
-    by (Some bytes) (Some rest) known is = bad_number nodes.nodes rest mid.draft ended next known nodes.made here is
+        → MatchOption left (Unit {0}) (λ bytes. (rest : List ℕ) × NodesAt limits texts bytes nodes.nodes next rest)
+    by None left' known = tt
+    by (Some bytes) None known = absurd known
+    by (Some bytes) (Some rest) known = (rest, known)
 
-    by_fault : (e ≡ faults.Memory) ⊎ (next_fault rev (length ended.roots) next ≡ Some e)
-        → MatchOption old.left (Unit {0}) (λ bytes. PartFault limits texts old.rev old.draft bytes e)
-    by_fault (inl is) = out_of_memory_at limits texts old e is
-    by_fault (inr is) = by old.left mid.left nodes.bytes
-        (subst (λ (r : Option ℕ). next_fault r (length ended.roots) next ≡ Some e) same' is)
+pub next_refused : (limits : Limits) (texts : Texts) (old mid : Loading) (rev next : Option ℕ) (ended h : History) (e : LoadFault)
+    → LoadsNodes limits texts old next mid → mid.rev ≡ old.rev → rev ≡ old.rev → Ends mid.rev mid.draft ended
+    → RefusesNext rev next ended e h → RefusesPart limits texts old e h
+next_refused limits texts old mid rev next ended h e nodes same same' ends why =
+    bad_next next ended
+    (ends_part limits texts old mid next ended nodes (subst (λ (r : Option ℕ). Ends r mid.draft ended) same ends))
+    (subst (λ (r : Option ℕ). RefusesNext r next ended e h) same' why)
 
 -- ---- the same limits, and texts kept the same
 

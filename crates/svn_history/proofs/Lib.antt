@@ -13,6 +13,8 @@ pub mod Endings
 pub mod Writings
 -- A dump that is loaded to its end.
 pub mod Whole
+-- What a listener hears.
+pub mod Hearing
 -- One property of a node set or removed.
 pub mod OneProp
 -- The properties of what is in a draft.

@@ -6,6 +6,7 @@ use Rattle.std.proofs.lemmas.Bool.Decides.{nat_tests}
 use Rattle.svn_repo.specs.declared.change.Change.{Change}
 use Rattle.svn_repo.specs.History.{History}
 use Rattle.svn_repo.specs.Changes.{changes_fault, IsCommit, IsRevision}
+use Rattle.svn_dump.specs.declared.fault.DumpFault.TheVariants as dump
 use Rattle.svn_dump.specs.declared.record.NodeRecord.{NodeRecord}
 use Rattle.svn_dump.specs.declared.sections.Limits.{Limits}
 use Rattle.svn_dump.specs.declared.sections.Texts.{Texts}
@@ -17,7 +18,8 @@ use Rattle.svn_history.specs.Changes.{record_changes, revision_changes}
 use Rattle.svn_history.specs.Loading.{NodesAt, FillsGap, Revisions, RevisionsAt, last_revision, one_more, IsDump, empty_dump, some_revisions, Loads, loads_nothing, revision_0, LoadsDump}
 use Rattle.svn_history.specs.Loading.{one_revision}
 use Rattle.svn_history.specs.Parts.{Loading, IfKnown, is_open, node_changes, nodes_changes, Ends, commits, stays, Begins, at_end, revision, LoadsPart, LoadsOn, last_part, one_part}
-use Rattle.svn_history.specs.Parts.{LoadsAll, no_part, some_parts, LoadsOne, goes_on, begins, ends}
+use Rattle.svn_history.specs.Parts.{LoadsAll, no_part, some_parts, LoadsOne, goes_on, begins, ends, LoadsRest}
+use Rattle.svn_history.specs.Parts.{NodesFault, outside, read_fault, bad_nodes, RefusesOne, at_once, RefusesAll, after_one}
 use Rattle.svn_history.specs.Parts.{revision_0 as begins_0}
 
 -- ---- a revision without nodes
@@ -231,10 +233,6 @@ loads_dump limits texts old new h none start (some_parts front_one p some rest) 
 
 -- ---- one revision after another
 
--- what is left of a dump is loaded from here
-abbrev pub LoadsRest : Limits → Texts → Loading → Loading → Type 0
-LoadsRest limits texts now new = MatchOption now.rev (LoadsAll limits texts now new) (λ rev. LoadsOn limits texts now new)
-
 rest_from_none : (limits : Limits) (texts : Texts) (now new : Loading) → now.rev ≡ None → LoadsAll limits texts now new
     → LoadsRest limits texts now new
 rest_from_none limits texts now new none h =
@@ -252,32 +250,52 @@ on_from_rest limits texts now new some h =
     let n = some_is now.rev some in
     subst (λ (r : Option ℕ). MatchOption r (LoadsAll limits texts now new) (λ rev. LoadsOn limits texts now new)) n.1 h
 
-pub at_first : (limits : Limits) (texts : Texts) (front_one new : Loading) → front_one.rev ≡ None → LoadsRest limits texts front_one new
+pub rest_at_first : (limits : Limits) (texts : Texts) (front_one new : Loading) → front_one.rev ≡ None → LoadsRest limits texts front_one new
     → LoadsAll limits texts front_one new
-at_first limits texts front_one new none h =
+rest_at_first limits texts front_one new none h =
     subst (λ (r : Option ℕ). MatchOption r (LoadsAll limits texts front_one new) (λ rev. LoadsOn limits texts front_one new)) none h
 
-module _ (limits limits' : Limits) (texts texts' : Texts) (front_one now new : Loading) (done : Option ℕ)
-    (so_far : (x : Loading) → LoadsRest limits texts now x → LoadsAll limits texts front_one x) (same : limits' ≡ limits) (same' : texts' ≡ texts)
-    (one : LoadsOne limits' texts' now new done) where
+module _ (limits limits' : Limits) (texts texts' : Texts) (first_one now new : Loading) (done : Option ℕ) (same : limits' ≡ limits)
+    (same' : texts' ≡ texts) (one : LoadsOne limits' texts' now new done) where
   one_here : LoadsOne limits texts now new done
   one_here = subst (λ (t : Texts). LoadsOne limits t now new done) same' (subst (λ (l : Limits). LoadsOne l texts' now new done) same one)
 
-  pub all_more : IsSome new.rev → (x : Loading) → LoadsRest limits texts new x → LoadsAll limits texts front_one x
-  all_more some x rest = so_far x (by one_here)
-    where
-      on : LoadsOn limits texts new x
-      on = on_from_rest limits texts new x some rest
+  module _ (so_far : (x : Loading) → LoadsRest limits texts now x → LoadsRest limits texts first_one x) where
+    pub rest_more : IsSome new.rev → (x : Loading) → LoadsRest limits texts new x → LoadsRest limits texts first_one x
+    rest_more some x rest = so_far x (by one_here)
+      where
+        on : LoadsOn limits texts new x
+        on = on_from_rest limits texts new x some rest
 
-      by : LoadsOne limits texts now new done → LoadsRest limits texts now x
-      by (goes_on was is p) = rest_from_some limits texts now x was (one_part new p some on)
-      by (begins one_more_ none p was is q) = rest_from_none limits texts now x none (some_parts one_more_ p was (one_part new q some on))
-      by (ends none p ended is) = (let n = some_is new.rev some in let no : None ≡ Some n.0 = sym ended ∙ n.1 in absurd (cc))
+        by : LoadsOne limits texts now new done → LoadsRest limits texts now x
+        by (goes_on was is p) = rest_from_some limits texts now x was (one_part new p some on)
+        by (begins one_more_ none p was is q) = rest_from_none limits texts now x none (some_parts one_more_ p was (one_part new q some on))
+        by (ends none p ended is) = (let n = some_is new.rev some in let no : None ≡ Some n.0 = sym ended ∙ n.1 in absurd (cc))
 
-  pub all_done : new.rev ≡ None → LoadsAll limits texts front_one new
-  all_done none' = so_far new (by one_here)
-    where
-      by : LoadsOne limits texts now new done → LoadsRest limits texts now new
-      by (goes_on was is p) = rest_from_some limits texts now new was (last_part p none')
-      by (begins one_more_ none p was is q) = rest_from_none limits texts now new none (some_parts one_more_ p was (last_part q none'))
-      by (ends none p ended is) = rest_from_none limits texts now new none (no_part p ended)
+    pub rest_done : new.rev ≡ None → LoadsRest limits texts first_one new
+    rest_done none' = so_far new (by one_here)
+      where
+        by : LoadsOne limits texts now new done → LoadsRest limits texts now new
+        by (goes_on was is p) = rest_from_some limits texts now new was (last_part p none')
+        by (begins one_more_ none p was is q) = rest_from_none limits texts now new none (some_parts one_more_ p was (last_part q none'))
+        by (ends none p ended is) = rest_from_none limits texts now new none (no_part p ended)
+
+  pub refused_more : ((e : LoadFault) (h : History) → RefusesAll limits texts now e h → RefusesAll limits texts first_one e h)
+      → IsSome new.rev → (e : LoadFault) (h : History) → RefusesAll limits texts new e h → RefusesAll limits texts first_one e h
+  refused_more so_far some e h why = so_far e h (after_one new done one_here some why)
+
+-- ---- what is refused
+
+pub refuses_one_as : (limits limits' : Limits) (texts texts' : Texts) (old : Loading) (e : LoadFault) (h : History) → limits' ≡ limits
+    → texts' ≡ texts → RefusesOne limits' texts' old e h → RefusesOne limits texts old e h
+refuses_one_as limits limits' texts texts' old e h same same' why =
+    subst (λ (t : Texts). RefusesOne limits t old e h) same' (subst (λ (l : Limits). RefusesOne l texts' old e h) same why)
+
+-- a reader may fail anywhere
+pub read_refused : (limits : Limits) (texts : Texts) (old : Loading) → RefusesOne limits texts old (faults.Dump dump.Read) old.draft.history
+read_refused limits texts old = at_once (bad_nodes (by old.left) refl)
+  where
+    by : (l : Option (List ℕ))
+        → MatchOption l (Unit {0}) (λ bytes. NodesFault limits texts old.rev old.draft bytes (faults.Dump dump.Read))
+    by None = tt
+    by (Some bytes) = outside (read_fault refl)

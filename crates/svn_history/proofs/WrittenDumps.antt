@@ -19,9 +19,9 @@ use Rattle.svn_dump.specs.Written.{written, revision_record, format_record}
 use Rattle.svn_dump_law.specs.Laws.{IsWritable, IsWritableRecord, IsReadAs, written_record, dumps_are_read_back}
 use Rattle.svn_history.specs.Steps.{Draft, begun, with_changes, IsMade}
 use Rattle.svn_history.specs.Changes.{revision_changes}
-use Rattle.svn_history.specs.Loading.{Revisions, ReadsNodes, no_record, one_node, RevisionsAt, last_revision, one_more, IsDump, empty_dump, some_revisions, no_commit as no_empty, Loads, loads_nothing, one_revision, LoadsDump}
+use Rattle.svn_history.specs.Loading.{Revisions, ReadsNodes, no_record, one_node, RevisionsAt, last_revision, one_more, IsDump, empty_dump, some_revisions, no_commit as no_empty, Loads, loads_nothing, revision_0 as loads_0, one_revision, LoadsDump}
 use Rattle.svn_history.specs.Writing.{records_of}
-use Rattle.svn_history.specs.WrittenDumps.{commit_bytes, AreWritable, Writes, no_commit, one_commit, WrittenDumpsLoad}
+use Rattle.svn_history.specs.WrittenDumps.{commit_bytes, AreWritable, Writes, no_commit, revision_0, one_commit, WrittenDumpsLoad}
 use Rattle.svn_history.proofs.DraftProps.{revision_lawful}
 use Rattle.svn_history.proofs.CommittedProps.{AreLawful, draft_lawful, commit_lawful}
 use Rattle.svn_history.proofs.Reloading.{written_commits_load}
@@ -58,12 +58,14 @@ bytes_more (q ∷ rs) r =
 
 data Commits (limits : Limits) : History → Revisions → History → Type 0 where
   end : {h : History} → Commits limits h [] h
+  first_0 : {h h' : History} {rs : Revisions} → Commits limits h rs h' → Commits limits h ((0, []) ∷ rs) h'
   first : {h h' : History} {rs : Revisions} (mid : History) (changes : List Change) → IsCommit h mid changes → AreWritable limits h changes
       → Commits limits mid rs h' → Commits limits h ((length h.roots, records_of (begun h) changes) ∷ rs) h'
 
 last : (limits : Limits) (h mid h' : History) (rs : Revisions) (changes : List Change) → Commits limits h rs mid → IsCommit mid h' changes
     → AreWritable limits mid changes → Commits limits h (rs ++ (length mid.roots, records_of (begun mid) changes) ∷ []) h'
 last limits h mid h' rs changes end commit writable = first h' changes commit writable end
+last limits h mid h' rs changes (first_0 {rs = more} commits) commit writable = first_0 (last limits h mid h' more changes commits commit writable)
 last limits h mid h' rs changes (first {rs = more} next some is fit commits) commit writable =
     first next some is fit (last limits next mid h' more changes commits commit writable)
 
@@ -74,6 +76,8 @@ record WrittenOf (limits : Limits) (h : History) (bytes : List ℕ) (h' : Histor
 
 written_of : (limits : Limits) (h h' : History) (bytes : List ℕ) → Writes limits h bytes h' → WrittenOf limits h bytes h'
 written_of limits h h' bytes no_commit = record { revisions = []; commits = end; bytes_are = refl }
+written_of limits h h' bytes revision_0 =
+    record { revisions = (0, []) ∷ []; commits = first_0 end; bytes_are = sym (append-nil (revision_record 0)) }
 written_of limits h h' bytes (one_commit {bytes = before} mid changes writes commit writable) =
     let so_far = written_of limits h mid before writes in
     let one : ℕ × List NodeRecord = (length mid.roots, records_of (begun mid) changes) in
@@ -92,6 +96,7 @@ grown h h' changes commit = (let is = commit.1 in is.revisions)
 
 not_fewer : (limits : Limits) (h h' : History) (rs : Revisions) → Commits limits h rs h' → length h.roots ≤ length h'.roots
 not_fewer limits h h' rs end = omega arith
+not_fewer limits h h' rs (first_0 {rs = more} commits) = not_fewer limits h h' more commits
 not_fewer limits h h' rs (first {rs = more} mid changes commit fit commits) =
     let one = grown h mid changes commit in let rest = not_fewer limits mid h' more commits in omega (arith, one, rest)
 
@@ -105,6 +110,8 @@ all_nodes limits (n ∷ nodes) rest h k =
 all_records : (limits : Limits) (h h' : History) (rs : Revisions) → Commits limits h rs h' → length h'.roots ≤ 2 ^ 64
     → All (IsWritableRecord limits Whole) (records rs)
 all_records limits h h' rs end small = All-nil (IsWritableRecord limits Whole)
+all_records limits h h' rs (first_0 {rs = more} commits) small =
+    All-cons (IsWritableRecord limits Whole) (Revision 0) (records more) (omega arith) (all_records limits h h' more commits small)
 all_records limits h h' rs (first {rs = more} mid changes commit fit commits) small =
     let one = grown h mid changes commit in
     let rest = not_fewer limits mid h' more commits in
@@ -160,6 +167,7 @@ same_commit h h' changes commit m = (
 loaded : (limits : Limits) (h h' : History) (rs : Revisions) → Commits limits h rs h' → AreLawful h → NodesExist h → 1 ≤ length h.roots
     → Loads Whole h rs h'
 loaded limits h h' rs end lawful exist some = loads_nothing
+loaded limits h h' rs (first_0 {rs = more} commits) lawful exist some = loads_0 (loaded limits h h' more commits lawful exist some)
 loaded limits h h' rs (first {rs = more} mid changes commit fit commits) lawful exist some =
     let is = same_commit h mid changes commit (written_commits_load (begun h) changes (draft_lawful h lawful) commit.0) in
     let one = grown h mid changes commit in

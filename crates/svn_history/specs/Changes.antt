@@ -76,7 +76,7 @@ touch path d = one (set_prop path (same_prop (props_or_none (at d path)))) d
 
 -- ---- nodes that are made
 
--- a text could also be put where a file is
+-- `PutFile` would replace the text of a file that is there, so an add over one is refused here
 abbrev pub new_file : Texts → NodeRecord → Step
 new_file texts node d =
     if is_some (at d node.path) then Err (faults.Commit Exists) else put_text node.path (Some (text_of_file texts node.text)) d
@@ -99,6 +99,14 @@ addition texts node = creation texts node >> put_props node.path node.props
 -- neither the text nor a property
 abbrev pub changes_nothing : NodeRecord → Option Place → Bool
 changes_nothing node place = not (is_some node.text) && nat_eq (length (prop_changes (props_or_none place) node.props)) 0
+
+-- changes of properties; where there are none, the node is touched
+abbrev pub set_or_touch : Path → List PropChange → Step
+set_or_touch path changes d = if nat_eq (length changes) 0 then touch path d else set_props path changes d
+
+-- what is left of an alteration without a text
+abbrev pub change_props : Path → Option PropSection → Step
+change_props path section d = set_or_touch path (prop_changes (props_or_none (at d path)) section) d
 
 -- a record that changes nothing touches the node
 abbrev pub alteration : NodeRecord → Step

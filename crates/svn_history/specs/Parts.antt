@@ -1,8 +1,9 @@
 -- What a loader does with the nodes up to the next revision, or to the end: they are a part of the dump.
 --     LoadsNodes limits texts old next new, RefusesNodes limits texts old e      the nodes' changes are made, or one of them is at fault
 --     LoadsPart limits texts old new      a part is loaded: the revision that began is committed with its nodes, and the next one begins
---     RefusesPart limits texts old e h'      why a part isn't loaded, and what is left of the history
+--     RefusesPart limits texts old e h'      why a part isn't loaded, and what the history is then
 --     LoadsOne limits texts old new done, RefusesOne limits texts old e h'      the same of one revision
+--     LoadsRest limits texts old new, RefusesAll limits texts old e h'      the same of all revisions that are left
 use Rattle.std.specs.Prelude.{◌≡◌, ℕ, ◌<◌, ◌≤◌, Bool, true, false, List, length, fold, Option, Some, None, Ok, Err, nat_lt, nat_eq, nat_le, is_some, not}
 use Rattle.std.specs.Prelude.{IsSome, MatchOption, if◌then◌else◌}
 use Rattle.svn_repo.specs.History.{History}
@@ -131,26 +132,29 @@ pub data NodesFault (limits : Limits) (texts : Texts) (rev : Option ℕ) (d : Dr
       → node_changes texts rev node read ≡ Err e → NodesFault limits texts rev d bytes e
   outside : IsOutside e → NodesFault limits texts rev d bytes e
 
--- the same, or the number of the next revision
-pub data PartFault (limits : Limits) (texts : Texts) (rev : Option ℕ) (d : Draft) (bytes : List ℕ) (e : LoadFault) : Type 0 where
-  bad_nodes : NodesFault limits texts rev d bytes e → PartFault limits texts rev d bytes e
-  bad_number : (nodes : List NodeRecord) (rest : List ℕ) (read : Draft) (ended : History) (next : Option ℕ)
-      → NodesAt limits texts bytes nodes next rest → IsMade (nodes_changes texts rev nodes) d read → Ends rev read ended
-      → next_fault rev (length ended.roots) next ≡ Some e → PartFault limits texts rev d bytes e
-
 -- what isn't known of the bytes isn't known of the fault
 abbrev pub RefusesNodes : Limits → Texts → Loading → LoadFault → Type 0
 RefusesNodes limits texts old e = MatchOption old.left (Unit {0}) (λ bytes. NodesFault limits texts old.rev old.draft bytes e)
 
--- the history as it was, or with the revision that began and empty ones after it
-pub data LeavesPart (texts : Texts) (rev : Option ℕ) (d : Draft) (h : History) : Type 0 where
-  unfinished : h ≡ d.history → LeavesPart texts rev d h
-  finished : (nodes : List NodeRecord) (read : Draft) (ended : History) → IsMade (nodes_changes texts rev nodes) d read → Ends rev read ended
-      → EmptyCommits ended h → LeavesPart texts rev d h
+-- the revision that began ends with the nodes up to the next one, whose number is given; they are those of the bytes, where these are known
+pub record EndsPart (limits : Limits) (texts : Texts) (old : Loading) (next : Option ℕ) (ended : History) : Type 0 where
+  pub nodes : List NodeRecord
+  pub bytes : MatchOption old.left (Unit {0}) (λ bytes. (rest : List ℕ) × NodesAt limits texts bytes nodes next rest)
+  pub read : Draft
+  pub made : IsMade (nodes_changes texts old.rev nodes) old.draft read
+  pub ended_is : Ends old.rev read ended
 
-pub record RefusesPart (limits : Limits) (texts : Texts) (old : Loading) (e : LoadFault) (h : History) : Type 0 where
-  pub fault : MatchOption old.left (Unit {0}) (λ bytes. PartFault limits texts old.rev old.draft bytes e)
-  pub history : LeavesPart texts old.rev old.draft h
+-- why the next revision can't begin: its number, and no commit is made; or out of memory, and some of the empty commits before it are made
+pub data RefusesNext (rev next : Option ℕ) (ended : History) (e : LoadFault) (h : History) : Type 0 where
+  bad_number : next_fault rev (length ended.roots) next ≡ Some e → h ≡ ended → RefusesNext rev next ended e h
+  in_gap : (number : ℕ) → next ≡ Some number → begin_fault rev (length ended.roots) number ≡ None → EmptyCommits ended h
+      → length h.roots < number → e ≡ faults.Memory → RefusesNext rev next ended e h
+
+-- a record of the revision that began is refused, and nothing of it is committed; or it is committed, and the next one is refused
+pub data RefusesPart (limits : Limits) (texts : Texts) (old : Loading) (e : LoadFault) (h : History) : Type 0 where
+  bad_nodes : RefusesNodes limits texts old e → h ≡ old.draft.history → RefusesPart limits texts old e h
+  bad_next : (next : Option ℕ) (ended : History) → EndsPart limits texts old next ended → RefusesNext old.rev next ended e h
+      → RefusesPart limits texts old e h
 
 -- ---- one revision
 
@@ -178,3 +182,13 @@ pub data LoadsAll (limits : Limits) (texts : Texts) (old new : Loading) : Type 0
   no_part : LoadsPart limits texts old new → new.rev ≡ None → LoadsAll limits texts old new
   some_parts : (first : Loading) → LoadsPart limits texts old first → IsSome first.rev → LoadsOn limits texts first new
       → LoadsAll limits texts old new
+
+-- what is left of a dump is loaded from here: first what is before the first revision, if none has begun
+abbrev pub LoadsRest : Limits → Texts → Loading → Loading → Type 0
+LoadsRest limits texts old new = MatchOption old.rev (LoadsAll limits texts old new) (λ _. LoadsOn limits texts old new)
+
+-- one revision after another is loaded, and one is refused
+pub data RefusesAll (limits : Limits) (texts : Texts) : Loading → LoadFault → History → Type 0 where
+  at_first : {old : Loading} {e : LoadFault} {h : History} → RefusesOne limits texts old e h → RefusesAll limits texts old e h
+  after_one : {old : Loading} {e : LoadFault} {h : History} (mid : Loading) (done : Option ℕ) → LoadsOne limits texts old mid done
+      → IsSome mid.rev → RefusesAll limits texts mid e h → RefusesAll limits texts old e h

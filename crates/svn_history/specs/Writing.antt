@@ -2,7 +2,9 @@
 --     record_of d change      the record of a change that is made of a draft
 --     records_of d changes      those of changes one after another
 --     all changes      these changes, as a step
-use Rattle.std.specs.Prelude.{ℕ, Bool, true, false, not, is_some, List, [], ◌∷◌, Option, Some, None, option_map, Ok, Err}
+--     HasMade changes w      the changes that a writer has made since the last revision
+use Rattle.std.specs.Prelude.{◌≡◌, ℕ, Bool, true, false, not, is_some, List, [], ◌∷◌, Option, Some, None, option_map, Ok, Err}
+use Rattle.std.specs.List.{All, flat_map}
 use Rattle.svn_types.specs.declared.kind.Kind.{Kind}
 use Rattle.svn_types.specs.declared.kind.Kind.TheVariants.{File, Directory}
 use Rattle.svn_types.specs.Names.{Path}
@@ -10,14 +12,18 @@ use Rattle.svn_repo.specs.declared.change.Change.{Change}
 use Rattle.svn_repo.specs.declared.change.Change.TheVariants.{MakeDir, PutFile, SetProp, Remove, CopyFrom}
 use Rattle.svn_repo.specs.declared.change.CommitFault.{CommitFault}
 use Rattle.svn_repo.specs.Trees.{Place, Tree}
-use Rattle.svn_repo.specs.Changes.{changes_fault}
+use Rattle.svn_repo.specs.History.{History}
+use Rattle.svn_repo.specs.Changes.{changes_fault, latest_pending}
+use Rattle.svn_repo.specs.Transactions.{OpenRevision}
 use Rattle.svn_dump.specs.declared.record.Action.{Action}
 use Rattle.svn_dump.specs.declared.record.Action.TheVariants as actions
 use Rattle.svn_dump.specs.declared.record.CopySource.{CopySource}
 use Rattle.svn_dump.specs.declared.record.NodeRecord.{NodeRecord}
 use Rattle.svn_dump.specs.declared.record.PropSection.TheVariants as props
 use Rattle.svn_dump.specs.declared.record.TextSection.TheVariants as text
-use Rattle.svn_history.specs.Steps.{Draft, with_changes, Changes, Step}
+use Rattle.svn_dump.specs.Written.{written}
+use Rattle.svn_dump_law.specs.Laws.{IsNodeRecord}
+use Rattle.svn_history.specs.Steps.{Draft, draft_of, begun, with_changes, Changes, Step}
 use Rattle.svn_history.specs.Results.{of_commit}
 use Rattle.svn_history.specs.Changes.{props_or_none}
 
@@ -85,3 +91,21 @@ all_unless changes (Some fault) = Err (of_commit fault)
 
 abbrev pub all : List Change → Step
 all changes d = all_unless changes (changes_fault d.history d.pending changes)
+
+-- ---- a history that is written while it is made
+
+-- the repository with its next revision being made, and the records of the changes since the last one
+pub record WriterState : Type 0 where
+  pub transaction : OpenRevision
+  pub bytes : List ℕ
+
+-- the changes lead from the last revision of h to the draft, and the bytes are their records, which are lawful
+pub record AreWritten (h : History) (changes : List Change) (draft : Draft) (bytes : List ℕ) : Type 0 where
+  pub no_fault : changes_fault h (latest_pending h) changes ≡ None
+  pub draft_is : draft ≡ with_changes (begun h) changes
+  pub bytes_are : bytes ≡ flat_map written (records_of (begun h) changes)
+  pub lawful : All IsNodeRecord (records_of (begun h) changes)
+
+-- these are the changes that the writer has made since the last revision
+abbrev pub HasMade : List Change → WriterState → Type 0
+HasMade changes w = AreWritten w.transaction.history changes (draft_of w.transaction) w.bytes

@@ -27,8 +27,10 @@ commit_bytes h changes = revision_record (length h.roots) ++ flat_map written (r
 abbrev pub AreWritable : Limits → History → List Change → Type 0
 AreWritable limits h changes = All (IsWritable limits Whole) (records_of (begun h) changes)
 
+-- revision 0, which has nothing, may be written before the commits
 pub data Writes (limits : Limits) : History → List ℕ → History → Type 0 where
   no_commit : {h : History} → Writes limits h [] h
+  revision_0 : {h : History} → Writes limits h (revision_record 0) h
   one_commit : {h h' : History} {bytes : List ℕ} (mid : History) (changes : List Change) → Writes limits h bytes mid → IsCommit mid h' changes
       → AreWritable limits mid changes → Writes limits h (bytes ++ commit_bytes mid changes) h'
 

@@ -11,8 +11,8 @@ pub fn drafts_are_lawful()
     ensures { DraftsAreLawful }
 {}
 
-/// What [`push_commit`](crate::push_commit) writes of a commit is loaded as the same commit: the records lead to the tree and the lines that the
-/// changes lead to.
+/// What a [`HistoryWriter`](crate::HistoryWriter) writes of a commit is loaded as the same commit: the records lead to the tree and the lines that
+/// the changes lead to.
 pub fn written_commits_load()
     ensures { WrittenCommitsLoad }
 {}
@@ -23,9 +23,10 @@ pub fn dumps_load_as_one()
     ensures { DumpsLoadAsOne }
 {}
 
-/// What the writer writes loads as the same history, node by node and line by line. Where [`push_commit`](crate::push_commit) made commits one after
-/// another, and their bytes are put after a dump's beginning, a reader with limits that the records are within reads a dump, and its revisions lead from
-/// the repository that the commits began on to the history that they led to. Whatever a loader makes of it is the same.
+/// What the writer writes loads as the same history, node by node and line by line. Where a [`HistoryWriter`](crate::HistoryWriter) made commits one
+/// after another, and their bytes are put after a dump's beginning, as [`push_beginning`](crate::push_beginning) writes it or without revision 0, a
+/// reader with limits that the records are within reads a dump, and its revisions lead from the repository that the commits began on to the history
+/// that they led to. Whatever a loader makes of it is the same.
 pub fn written_dumps_load()
     ensures { WrittenDumpsLoad }
 {

@@ -1,8 +1,8 @@
 //! Real histories: the revisions of a dump, loaded into a repository, and commits written as the revisions of one.
 //!
 //! A [`Loader`] reads a dump of `svn_dump` record by record, and makes the changes that a record stands for on a transaction of `svn_repo`, which it
-//! commits at the end of each revision. Revisions keep their numbers. A [`Listener`] hears of each revision that `load_all_with` loads.
-//! [`push_commit`] makes a commit and writes it as a revision of a dump.
+//! commits at the end of each revision. Revisions keep their numbers. A [`LoadListener`] hears of each revision that `load_all_with` loads.
+//! A [`HistoryWriter`] makes commits, change by change, and writes each as a revision of a dump.
 //!
 //! ```
 //! let reader = Reader::new(alloc, File::open(rt, "repo.dump")?, limits, Texts::Whole)?;
@@ -13,18 +13,22 @@
 //! let repo = loader.into_repo();
 //! ```
 //!
-//! Promises: what a record changes is `record_changes` of `specs/Changes.antt`, with the first fault from left to right. A call of `next_revision` makes
-//! one commit of the records of one revision, with empty commits for the numbers that are left out (`one`); a refusal has its own cause, leaves the
-//! revisions before (`fault`), and stays (`refused`, `again`). A dump that is loaded to its end is the bytes' revisions, each a commit (`dump` of
-//! `load_all` and `load_all_with`, by `Loads` of `specs/Loading.antt`). What is written is one record for each change (`written`), a commit that is refused leaves no byte
-//! (`unwritten`), and what is written of a commit loads as the same commit ([`written_commits_load`]). From the bytes on: what was written of commits one
-//! after another is a dump, and loads as the same history, node by node and line by line ([`written_dumps_load`]); a dump loads as one history, but for
-//! the numbers of its nodes ([`dumps_load_as_one`]). Out of memory, and a reader that fails, may come anywhere. Of a reader whose bytes no contract knows,
-//! it is proved what the records do that it gives, but not which bytes they are.
+//! Promises: what a record changes is `record_changes` of `specs/Changes.antt`, with the first fault from left to right. A call of `next_revision`
+//! makes one commit of the records of one revision, with empty commits for the numbers that are left out (`one`). Where a record is refused,
+//! nothing of its revision is committed; where only the number of the next revision is refused, it is committed, and nothing after it (`fault`, by
+//! `RefusesPart` of `specs/Parts.antt`). A refusal stays (`refused`, `again`). `load_all` and `load_all_with` do so revision by revision, up to the
+//! end or the first refusal (`rest`, `fault`), and a listener hears of each revision once (`heard`). A dump that is loaded to its end is the bytes'
+//! revisions, each a commit (`dump`, by `Loads` of `specs/Loading.antt`). What is written of a commit is one record for each of its changes, in
+//! order (`commit`, `written`), a commit that is refused leaves no byte (`unwritten`), and what is written of a commit loads as the same commit
+//! ([`written_commits_load`]). From the bytes on: what was written of commits one after another is a dump, and loads as the same history, node by
+//! node and line by line ([`written_dumps_load`]); a dump loads as one history, but for the numbers of its nodes ([`dumps_load_as_one`]). Out of
+//! memory, and a reader that fails, may come anywhere. Of a reader whose bytes no contract knows, it is proved what the records do that it gives,
+//! but not which bytes they are.
 #![tactic(auto)]
 
 mod delta;
 mod fault;
+mod history_writer;
 mod laws;
 mod listener;
 mod loader;
@@ -33,8 +37,8 @@ mod refusal;
 mod writing;
 
 pub use fault::LoadFault;
+pub use history_writer::{HistoryWriter, push_beginning, push_commit};
 pub use laws::{drafts_are_lawful, dumps_load_as_one, written_commits_load, written_dumps_load};
-pub use listener::{Listener, NoListener};
+pub use listener::{LoadListener, NoLoadListener};
 pub use loader::{Loader, MAX_REVISION};
 pub use refusal::Refusal;
-pub use writing::{push_change, push_commit};

@@ -1,5 +1,5 @@
 //! Histories, loaded revision by revision.
-ghost use Rattle.std.specs.Prelude.{◌≡◌, ◌+◌, ◌≤◌, ◌⊎◌, length, Some, None, Err, IfOk, IfErr, IfSome, OnOk, option_map, codes};
+ghost use Rattle.std.specs.Prelude.{◌≡◌, ◌+◌, ◌<◌, ◌≤◌, ◌⊎◌, length, Some, None, Err, IfOk, IfErr, IfSome, OnOk, OnErr, option_map, codes};
 ghost use Rattle.std.specs.Result.{result_err};
 ghost use Rattle.std.specs.Option.{option_copied};
 ghost use Rattle.svn_dump.specs.Headers.{header_value, if_once};
@@ -7,10 +7,11 @@ ghost use Rattle.svn_history.specs.Results.{Fails};
 ghost use Rattle.svn_history.specs.Steps.{IsMade, draft_of, begun};
 ghost use Rattle.svn_history.specs.Loading.{EmptyCommits, LoadsDump};
 ghost use Rattle.svn_dump.specs.Readers.{left_in};
-ghost use Rattle.svn_history.specs.Parts.{Begins, Ends, LoadsNodes, LoadsPart, LoadsOne, RefusesNodes, RefusesPart, RefusesOne, RefusesRecord, Takes, begin_fault, is_open, loading, may_begin, next_fault, node_changes};
+ghost use Rattle.svn_history.specs.Hearing.{HearsAll};
+ghost use Rattle.svn_history.specs.Parts.{Begins, Ends, LoadsNodes, LoadsPart, LoadsOne, LoadsRest, RefusesNodes, RefusesNext, RefusesPart, RefusesOne, RefusesAll, RefusesRecord, Takes, begin_fault, is_open, loading, may_begin, node_changes};
 
 use crate::fault::LoadFault;
-use crate::listener::{Listener, NoListener};
+use crate::listener::{LoadListener, NoLoadListener};
 use crate::records::apply_record;
 use crate::refusal::Refusal;
 use std::alloc::Global;
@@ -44,6 +45,7 @@ fn fill_gap(transaction: &mut Transaction, rev: Rev) -> Result<(), LoadFault>
     ensures size { OnOk result (length transaction.old.history.roots ≤ rev → length transaction.new.history.roots ≡ rev) }
     ensures first { rev ≡ 0 → transaction.new.history ≡ transaction.old.history }
     ensures fault { IfErr result (λ e. e ≡ LoadFault.Memory) }
+    ensures within { OnErr result (length transaction.new.history.roots < rev) }
 {
     'gap: for _ in transaction.latest().0.saturating_add(1)..rev.0 {
         transaction.commit()?;
@@ -220,14 +222,13 @@ impl<R: Read + Drop> Loader<R> {
     }
 
     // Begins the next revision, if there is one.
-    #[tactic(auto, using(crate::proofs::Endings::begins_number, crate::specs::Parts::at_end, crate::specs::Loading::no_commit))]
+    #[tactic(auto, using(crate::proofs::Endings::begins_number, crate::specs::Parts::at_end))]
     fn begin(&mut self, next: Option<Rev>) -> Result<(), LoadFault>
         requires begun { draft_of self.old.transaction ≡ begun self.old.transaction.history }
         ensures begins { OnOk result (Begins self.old.rev next self.old.transaction.history self.new.transaction.history) }
         ensures begun { draft_of self.new.transaction ≡ begun self.new.transaction.history }
         ensures rev { OnOk result (self.new.rev ≡ next) }
-        ensures commits { EmptyCommits self.old.transaction.history self.new.transaction.history }
-        ensures fault { IfErr result (λ e. (e ≡ LoadFault.Memory) ⊎ (next_fault self.old.rev (length self.old.transaction.history.roots) next ≡ Some e)) }
+        ensures fault { IfErr result (λ e. RefusesNext self.old.rev next self.old.transaction.history e self.new.transaction.history) }
         ensures records { self.new.records ≡ self.old.records }
     {
         let Some(rev) = next else {
@@ -296,8 +297,9 @@ impl<R: Read + Drop> Loader<R> {
         }
     }
 
-    /// Loads one revision, and returns its number; None at the end of the dump. After a refusal the repository has the revisions before, `rev`
-    /// and `records` tell what was refused, and each further call is refused for the same reason.
+    /// Loads one revision, and returns its number; None at the end of the dump. Where one of its records is refused, nothing of it is committed. Where
+    /// the number of the next revision is refused, this one is committed; so it is where memory runs out between the two, with some of the empty
+    /// commits there. [`Loader::refusal`] says what was refused, and where, and each further call is refused for the same reason.
     pub fn next_revision(&mut self) -> Result<Option<Rev>, LoadFault>
         ensures one { IfOk result (LoadsOne self.old.records.limits self.old.records.texts (loading R.remaining self.old) (loading R.remaining self.new)) }
         ensures fault { IfErr result (λ e. self.old.refused ≡ None → RefusesOne self.old.records.limits self.old.records.texts (loading R.remaining self.old) e self.new.transaction.history) }
@@ -324,20 +326,31 @@ impl<R: Read + Drop> Loader<R> {
     /// Loads all that is left of a dump; to report progress, call [`Loader::load_all_with`] or [`Loader::next_revision`] instead. After a refusal it
     /// is with the loader as after a refusal of `next_revision`.
     pub fn load_all(&mut self) -> Result<(), LoadFault>
+        ensures rest { OnOk result (LoadsRest self.old.records.limits self.old.records.texts (loading R.remaining self.old) (loading R.remaining self.new)) }
         // from the beginning, it is the whole dump that is loaded
         ensures dump { OnOk result (self.old.rev ≡ None → draft_of self.old.transaction ≡ begun self.old.transaction.history → LoadsDump self.old.records.limits self.old.records.texts (left_in R.remaining self.old.records) self.old.transaction.history self.new.transaction.history) }
+        ensures fault { IfErr result (λ e. self.old.refused ≡ None → RefusesAll self.old.records.limits self.old.records.texts (loading R.remaining self.old) e self.new.transaction.history) }
+        ensures again { IfSome self.old.refused (λ e. (result ≡ Err e) × (self.new ≡ self.old)) }
         ensures refused { IfErr result (λ e. (e ≡ LoadFault.Dump DumpFault.Read) ⊎ (self.new.refused ≡ Some e)) }
     {
-        self.load_all_with(&mut NoListener)
+        self.load_all_with(&mut NoLoadListener)
     }
 
     /// Loads all that is left of a dump, and reports to a listener after each revision. After a refusal it is with the loader as after a refusal of
     /// [`Loader::next_revision`].
-    pub fn load_all_with<L: Listener>(&mut self, listener: &mut L) -> Result<(), LoadFault>
+    pub fn load_all_with<L: LoadListener>(&mut self, listener: &mut L) -> Result<(), LoadFault>
+        ensures rest { OnOk result (LoadsRest self.old.records.limits self.old.records.texts (loading R.remaining self.old) (loading R.remaining self.new)) }
         // from the beginning, it is the whole dump that is loaded
         ensures dump { OnOk result (self.old.rev ≡ None → draft_of self.old.transaction ≡ begun self.old.transaction.history → LoadsDump self.old.records.limits self.old.records.texts (left_in R.remaining self.old.records) self.old.transaction.history self.new.transaction.history) }
+        ensures fault { IfErr result (λ e. self.old.refused ≡ None → RefusesAll self.old.records.limits self.old.records.texts (loading R.remaining self.old) e self.new.transaction.history) }
+        ensures again { IfSome self.old.refused (λ e. (result ≡ Err e) × (self.new ≡ self.old) × (listener.new ≡ listener.old)) }
+        // it hears of each revision once, in their order
+        ensures heard { self.old.refused ≡ None → HearsAll self.old.records.limits self.old.records.texts L.hears result (loading R.remaining self.old) listener.old (loading R.remaining self.new) listener.new }
         ensures refused { IfErr result (λ e. (e ≡ LoadFault.Dump DumpFault.Read) ⊎ (self.new.refused ≡ Some e)) }
     {
+        if let Some(fault) = self.refused {
+            return Err(fault);
+        }
         'revisions: for _ in 0..u64::MAX {
             self.next_revision()?;
             listener.loaded(self.latest(), self.records.begun());

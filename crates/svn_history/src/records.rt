@@ -6,7 +6,7 @@ ghost use Rattle.svn_repo.specs.declared.change.Change.TheVariants.{MakeDir, Set
 ghost use Rattle.svn_repo.specs.Transactions.{text_or_empty};
 ghost use Rattle.svn_history.specs.Results.{Fails};
 ghost use Rattle.svn_history.specs.Steps.{IsMade, draft_of, one};
-ghost use Rattle.svn_history.specs.Changes.{at, props_or_none, set_prop, set_props, same_prop, put_text, put_props, touch, new_file, creation, addition, alteration, removal, record_changes, changes_nothing};
+ghost use Rattle.svn_history.specs.Changes.{at, props_or_none, set_prop, set_props, same_prop, put_text, put_props, touch, new_file, creation, addition, alteration, removal, record_changes, set_or_touch, change_props};
 ghost use Rattle.svn_types.specs.Props.{changes_between};
 
 use crate::delta::apply_delta;
@@ -116,7 +116,7 @@ fn make_directory(transaction: &mut Transaction, path: &RelPath) -> Result<(), L
     make(transaction, &Change::MakeDir { path })
 }
 
-// Makes a file; without a text it has no bytes. A text could also be put where a file is, and so that is refused here.
+// Makes a file; without a text it has no bytes. `PutFile` would replace the text of a file that is there, so an add over one is refused here.
 fn make_file(
     alloc: Global,
     texts: Texts,
@@ -147,33 +147,51 @@ fn change(alloc: Global, transaction: &mut Transaction, node: &NodeRecord) -> Re
     if transaction.kind(&node.path).is_none() {
         return Err(LoadFault::Commit(CommitFault::Missing));
     }
-    if changes_nothing(alloc, transaction, node)? {
-        return touch(alloc, transaction, &node.path);
+    if node.text.is_none() {
+        return change_props(alloc, transaction, &node.path, &node.props);
     }
     put_text(alloc, transaction, &node.path, &node.text)?;
     put_props(alloc, transaction, &node.path, &node.props)
 }
 
-// Whether a record gives neither a text nor a property that differs.
-fn changes_nothing(
+// Changes the properties of the node at a path, and nothing else.
+fn change_props(
     alloc: Global,
-    transaction: &Transaction,
-    node: &NodeRecord,
-) -> Result<bool, LoadFault>
-    ensures value { IfOk result (λ b. b ≡ changes_nothing node.now (at (draft_of transaction.now) node.now.path)) }
-    ensures fault { IfErr result (λ e. e ≡ LoadFault.Memory) }
+    transaction: &mut Transaction,
+    path: &RelPath,
+    section: &Option<PropSection>,
+) -> Result<(), LoadFault>
+    ensures made { OnOk result (IsMade (change_props path.now section.now) (draft_of transaction.old) (draft_of transaction.new)) }
+    ensures fault { IfErr result (λ e. Fails e (change_props path.now section.now (draft_of transaction.old))) }
+    ensures history { transaction.new.history ≡ transaction.old.history }
 {
-    if node.text.is_some() {
-        return Ok(false);
-    }
-    match &node.props {
+    match section {
         Some(PropSection::Whole(new)) => {
-            let changes = whole_changes(alloc, transaction, &node.path, new)?;
-            Ok(changes.is_empty())
+            let changes = whole_changes(alloc, transaction, path, new)?;
+            set_or_touch(alloc, transaction, path, &changes)
         }
-        Some(PropSection::Delta(changes)) => Ok(changes.as_slice().is_empty()),
-        None => Ok(true),
+        Some(PropSection::Delta(changes)) => {
+            set_or_touch(alloc, transaction, path, changes.as_slice())
+        }
+        None => touch(alloc, transaction, path),
     }
+}
+
+// Makes changes of properties; where there are none, the node is touched.
+fn set_or_touch(
+    alloc: Global,
+    transaction: &mut Transaction,
+    path: &RelPath,
+    changes: &[PropChange],
+) -> Result<(), LoadFault>
+    ensures made { OnOk result (IsMade (set_or_touch path.now changes.now) (draft_of transaction.old) (draft_of transaction.new)) }
+    ensures fault { IfErr result (λ e. Fails e (set_or_touch path.now changes.now (draft_of transaction.old))) }
+    ensures history { transaction.new.history ≡ transaction.old.history }
+{
+    if changes.is_empty() {
+        return touch(alloc, transaction, path);
+    }
+    set_props(transaction, path, changes)
 }
 
 // Makes the node at a path one of this revision, which is the same but for that: a property is set to the value that it has, or, where there

@@ -1,21 +1,18 @@
-//! Commits, written as the records of a dump.
-ghost use Rattle.std.specs.Prelude.{◌≡◌, ℕ, ◌<◌, ◌^◌, ◌++◌, [], length, take, Some, None, IfOk, IfErr, OnOk, OnErr};
-ghost use Rattle.std.specs.List.{flat_map};
+//! Changes, made and written as the records of a dump.
+ghost use Rattle.std.specs.Prelude.{◌≡◌, ◌≢◌, ◌++◌, [], Some, None, IfOk, IfErr, OnOk};
 ghost use Rattle.svn_types.specs.declared.kind.Kind.TheVariants.{Directory};
-ghost use Rattle.svn_repo.specs.Changes.{IsCommit, IsRevision};
-ghost use Rattle.svn_repo.specs.Transactions.{pending_of};
 ghost use Rattle.svn_dump.specs.declared.record.Action.TheVariants.{Add, Change as Alter};
-ghost use Rattle.svn_dump.specs.Written.{written, revision_record};
+ghost use Rattle.svn_dump.specs.Written.{written};
+ghost use Rattle.svn_dump_law.specs.Laws.{IsNodeRecord};
 ghost use Rattle.svn_history.specs.Results.{Fails};
-ghost use Rattle.svn_history.specs.Steps.{IsMade, draft_of, begun, one};
+ghost use Rattle.svn_history.specs.Steps.{IsMade, draft_of, one};
 ghost use Rattle.svn_history.specs.Changes.{at, props_or_none};
-ghost use Rattle.svn_history.specs.Writing.{all, bare, copy_record, file_record, kind_or_none, makes_file, record_after, record_of, records_of, with_props};
+ghost use Rattle.svn_history.specs.Writing.{bare, copy_record, file_record, kind_or_none, makes_file, record_after, record_of, with_props};
 
 use crate::fault::LoadFault;
 use std::alloc::Global;
-use svn_dump::{
-    Action, CopySource, NodeRecord, PropSection, TextSection, push_node, push_revision,
-};
+use svn_dump::{Action, CopySource, NodeRecord, PropSection, TextSection, push_node};
+use svn_dump_law::node_is_lawful;
 use svn_repo::{Change, Transaction};
 use svn_types::{Kind, Props, RelPath, Rev, Text};
 
@@ -118,111 +115,43 @@ fn record_of(
     }
 }
 
-/// Makes a change, and writes its record at the end. A change that can't be made is refused, and then nothing is written. After any other error the
-/// record's first bytes may be there.
+// Makes a change, and returns its record.
 #[tactic(auto, using(crate::proofs::Stepping::made_one, crate::proofs::Stepping::one_fails, crate::proofs::Stepping::history_kept, crate::proofs::Faults::fails_memory))]
-pub fn push_change(
+fn record_change(
+    alloc: Global,
+    transaction: &mut Transaction,
+    change: &Change,
+) -> Result<NodeRecord, LoadFault>
+    ensures record { IfOk result (λ r. r ≡ record_of (draft_of transaction.old) change.now) }
+    ensures lawful { IfOk result IsNodeRecord }
+    ensures made { OnOk result (IsMade (one change.now) (draft_of transaction.old) (draft_of transaction.new)) }
+    ensures fault { IfErr result (λ e. Fails e (one change.now (draft_of transaction.old))) }
+    ensures unchanged { IfErr result (λ e. e ≢ LoadFault.Memory → transaction.new ≡ transaction.old) }
+    ensures history { transaction.new.history ≡ transaction.old.history }
+{
+    let is_new = makes_file(transaction, change);
+    transaction.change(change)?;
+    let record = record_of(alloc, transaction, change, is_new)?;
+    node_is_lawful(&record);
+    Ok(record)
+}
+
+// Makes a change, and writes its record at the end. A change that can't be made is refused, and then nothing is written. Out of memory, the record's
+// first bytes may be there.
+#[tactic(auto, using(crate::proofs::Faults::fails_memory))]
+pub(crate) fn push_change(
     out: &mut Vec<u8>,
     transaction: &mut Transaction,
     change: &Change,
 ) -> Result<(), LoadFault>
     ensures written { OnOk result (out.new.items ≡ out.old.items ++ written (record_of (draft_of transaction.old) change.now)) }
+    ensures lawful { OnOk result (IsNodeRecord (record_of (draft_of transaction.old) change.now)) }
     ensures made { OnOk result (IsMade (one change.now) (draft_of transaction.old) (draft_of transaction.new)) }
     ensures fault { IfErr result (λ e. Fails e (one change.now (draft_of transaction.old))) }
+    ensures unwritten { IfErr result (λ e. e ≢ LoadFault.Memory → out.new.items ≡ out.old.items) }
+    ensures unchanged { IfErr result (λ e. e ≢ LoadFault.Memory → transaction.new ≡ transaction.old) }
     ensures history { transaction.new.history ≡ transaction.old.history }
 {
-    let alloc = *out.allocator();
-    let is_new = makes_file(transaction, change);
-    transaction.change(change)?;
-    let record = record_of(alloc, transaction, change, is_new)?;
+    let record = record_change(*out.allocator(), transaction, change)?;
     Ok(push_node(out, &record)?)
-}
-
-// Makes the changes, and writes a record for each.
-#[tactic(auto, using(crate::proofs::Writings::all_made))]
-fn push_changes(
-    out: &mut Vec<u8>,
-    transaction: &mut Transaction,
-    changes: &[Change],
-) -> Result<(), LoadFault>
-    ensures written { OnOk result (out.new.items ≡ out.old.items ++ flat_map written (records_of (draft_of transaction.old) changes.now)) }
-    ensures made { OnOk result (IsMade (all changes.now) (draft_of transaction.old) (draft_of transaction.new)) }
-    ensures fault { IfErr result (λ e. Fails e (all changes.now (draft_of transaction.old))) }
-    ensures history { transaction.new.history ≡ transaction.old.history }
-{
-    for change in changes {
-        push_change(out, transaction, change)?;
-    }
-    Ok(())
-}
-
-// Makes the changes, and returns the revision with a record for each.
-fn written_revision(
-    alloc: Global,
-    transaction: &mut Transaction,
-    changes: &[Change],
-) -> Result<Vec<u8>, LoadFault>
-    ensures written { IfOk result (λ bytes. (rev : ℕ) → rev < 2 ^ 64 → rev ≡ length transaction.old.history.roots → bytes.items ≡ revision_record rev ++ flat_map written (records_of (draft_of transaction.old) changes.now)) }
-    ensures made { OnOk result (IsMade (all changes.now) (draft_of transaction.old) (draft_of transaction.new)) }
-    ensures fault { IfErr result (λ e. Fails e (all changes.now (draft_of transaction.old))) }
-    ensures history { transaction.new.history ≡ transaction.old.history }
-{
-    let mut bytes = Vec::new(alloc);
-    push_revision(&mut bytes, Rev(transaction.latest().0.saturating_add(1)))?;
-    push_changes(&mut bytes, transaction, changes)?;
-    Ok(bytes)
-}
-
-// Commits what was changed, and puts bytes at the end. After a refusal some of them may be there.
-#[tactic(auto, using(crate::proofs::Endings::begun_again))]
-fn commit_with(
-    out: &mut Vec<u8>,
-    transaction: &mut Transaction,
-    bytes: &[u8],
-) -> Result<Rev, LoadFault>
-    ensures written { OnOk result (out.new.items ≡ out.old.items ++ bytes.now) }
-    ensures rev { IfOk result (λ rev. rev ≡ length transaction.old.history.roots) }
-    ensures revision { OnOk result (IsRevision transaction.old.history transaction.new.history (pending_of transaction.old)) }
-    ensures begun { OnOk result (draft_of transaction.new ≡ begun transaction.new.history) }
-    ensures fault { IfErr result (λ e. e ≡ LoadFault.Memory) }
-    ensures kept { OnErr result (take (length out.old.items) out.new.items ≡ out.old.items) }
-    ensures history { OnErr result (transaction.new.history ≡ transaction.old.history) }
-{
-    out.extend_from_slice(bytes)?;
-    Ok(transaction.commit()?)
-}
-
-/// Makes the changes as one commit, and writes it at the end as a revision of a dump, with one record for each change, in order. What the transaction
-/// had changed before is given up. A commit that is refused leaves nothing: neither a revision nor a byte.
-#[tactic(auto, using(crate::proofs::Endings::begun_again, crate::proofs::Faults::fails_memory))]
-pub fn push_commit(
-    out: &mut Vec<u8>,
-    transaction: &mut Transaction,
-    changes: &[Change],
-) -> Result<Rev, LoadFault>
-    ensures written { IfOk result (λ rev. out.new.items ≡ out.old.items ++ (revision_record rev ++ flat_map written (records_of (begun transaction.old.history) changes.now))) }
-    ensures ok { IfOk result (λ rev. rev ≡ length transaction.old.history.roots) }
-    ensures commit { OnOk result (IsCommit transaction.old.history transaction.new.history changes.now) }
-    ensures begun { draft_of transaction.new ≡ begun transaction.new.history }
-    ensures fault { IfErr result (λ e. Fails e (all changes.now (begun transaction.old.history))) }
-    ensures unwritten { OnErr result (out.new.items ≡ out.old.items) }
-    ensures uncommitted { OnErr result (transaction.new.history ≡ transaction.old.history) }
-{
-    transaction.abort();
-    let bytes = match written_revision(*out.allocator(), transaction, changes) {
-        Ok(bytes) => bytes,
-        Err(fault) => {
-            transaction.abort();
-            return Err(fault);
-        }
-    };
-    let before = out.len();
-    match commit_with(out, transaction, &bytes) {
-        Ok(rev) => Ok(rev),
-        Err(fault) => {
-            out.truncate(before);
-            transaction.abort();
-            Err(fault)
-        }
-    }
 }

@@ -1,18 +1,93 @@
-use Rattle.std.proofs.Common.{◌≡◌, None, refl, ◌∙◌, rules}
+use Rattle.std.proofs.Common.{◌≡◌, None, refl, subst, sym, ◌∙◌, rules}
 use Rattle.std.specs.Prelude.{IsSome}
-use Rattle.svn_history.specs.Parts.{loading, LoadsAll}
-use Rattle.svn_history.proofs.Whole.{at_first, all_more, all_done, loads_dump}
+use Rattle.svn_lists.proofs.Results.{IfErr_returned}
+use Rattle.svn_dump.specs.declared.fault.DumpFault.TheVariants as dump
+use Rattle.svn_history.specs.declared.fault.LoadFault.{LoadFault}
+use Rattle.svn_history.specs.declared.fault.LoadFault.TheVariants as faults
+use Rattle.svn_history.specs.Hearing.{nothing_yet}
+use Rattle.svn_history.specs.Parts.{loading, LoadsAll, RefusesOne, RefusesAll, at_first}
+use Rattle.svn_history.proofs.Hearing.{heard_before, heard_more}
+use Rattle.svn_history.proofs.Whole.{rest_at_first, rest_more, rest_done, refused_more, refuses_one_as, read_refused, loads_dump}
 use Rattle.svn_history.proofs.loader.Loader.load_all_with.Goals as goal
 
 pub revisions-init : goal.revisions-init
 revisions-init g c =
-    let first = c.args.self.now in
-    let view = loading g.R.Read.remaining in
     record {
-      all = λ none new rest. at_first first.records.limits first.records.texts (view first) new none rest;
+      rest = λ new rest. rest;
+      refuses = λ e h why. why;
+      heard = nothing_yet;
       limits = refl;
       texts = refl;
+      loaded = search rules;
     }
+
+pub returns-in_err-next_revision-clause-fault : goal.returns-in_err-next_revision-clause-fault
+returns-in_err-next_revision-clause-fault g c =
+    let first = c.args.self.now in
+    let now = c.revisions.self in
+    let inv = c.revisions.invariant in
+    let view = loading g.R.Read.remaining in
+    let h = c.next_revision.new.self.transaction.history in
+    let e = c.in_err-next_revision.field-0.0 in
+    let Q : LoadFault → Type 0 =
+    λ e. first.refused ≡ None → RefusesAll first.records.limits first.records.texts (view first) e h in
+    let why : RefusesOne first.records.limits first.records.texts (view now) e h =
+    refuses_one_as first.records.limits now.records.limits first.records.texts now.records.texts (view now) e h inv.limits inv.texts
+    (c.in_err-next_revision.ensures.fault inv.loaded) in
+    IfErr_returned (λ x. x ≡ e) Q c.from_residual.result c.from_residual.ensures
+    (λ x is. subst Q (sym is) (λ _. inv.refuses e h (at_first why)))
+
+pub returns-in_err-next_revision-clause-heard : goal.returns-in_err-next_revision-clause-heard
+returns-in_err-next_revision-clause-heard g c = λ _.
+    let first = c.args.self.now in
+    let now = c.revisions.self in
+    let inv = c.revisions.invariant in
+    let view = loading g.R.Read.remaining in
+    let new = c.next_revision.new.self in
+    let e = c.in_err-next_revision.field-0.0 in
+    heard_before first.records.limits first.records.texts g.L.LoadListener.hears (view first) c.args.listener.now (view now) (view new)
+    c.revisions.listener e c.from_residual.result c.from_residual.ensures inv.heard
+    (refuses_one_as first.records.limits now.records.limits first.records.texts now.records.texts (view now) e new.transaction.history
+    inv.limits inv.texts (c.in_err-next_revision.ensures.fault inv.loaded))
+
+pub returns-clause-fault : goal.returns-clause-fault
+returns-clause-fault g c = λ _.
+    let first = c.args.self.now in
+    let now = c.revisions.self in
+    let inv = c.revisions.invariant in
+    let view = loading g.R.Read.remaining in
+    inv.refuses (faults.Dump dump.Read) now.transaction.history
+    (at_first (read_refused first.records.limits first.records.texts (view now)))
+
+pub returns-clause-heard : goal.returns-clause-heard
+returns-clause-heard g c = λ _.
+    let first = c.args.self.now in
+    let now = c.revisions.self in
+    let inv = c.revisions.invariant in
+    let view = loading g.R.Read.remaining in
+    (view now, inv.heard, read_refused first.records.limits first.records.texts (view now))
+
+pub returns-then-is_none-clause-rest : goal.returns-then-is_none-clause-rest
+returns-then-is_none-clause-rest g c =
+    let first = c.args.self.now in
+    let now = c.revisions.self in
+    let new = c.next_revision.new.self in
+    let inv = c.revisions.invariant in
+    let view = loading g.R.Read.remaining in
+    let ended : new.rev ≡ None = search rules in
+    rest_done first.records.limits now.records.limits first.records.texts now.records.texts (view first) (view now) (view new)
+    c.in_ok-next_revision.field-0 inv.limits inv.texts c.in_ok-next_revision.ensures.one inv.rest ended
+
+pub returns-then-is_none-clause-heard : goal.returns-then-is_none-clause-heard
+returns-then-is_none-clause-heard g c = λ _.
+    let first = c.args.self.now in
+    let now = c.revisions.self in
+    let new = c.next_revision.new.self in
+    let inv = c.revisions.invariant in
+    let view = loading g.R.Read.remaining in
+    heard_more first.records.limits first.records.texts g.L.LoadListener.hears (view first) c.args.listener.now now.records.limits
+    now.records.texts (view now) (view new) c.revisions.listener c.loaded.new.self c.in_ok-next_revision.field-0 c.latest.result
+    c.begun.result inv.limits inv.texts inv.heard c.in_ok-next_revision.ensures.one c.latest.ensures c.loaded.ensures
 
 pub returns-then-is_none-clause-dump : goal.returns-then-is_none-clause-dump
 returns-then-is_none-clause-dump g c = λ none start.
@@ -23,8 +98,9 @@ returns-then-is_none-clause-dump g c = λ none start.
     let view = loading g.R.Read.remaining in
     let ended : new.rev ≡ None = search rules in
     let all : LoadsAll first.records.limits first.records.texts (view first) (view new) =
-    all_done first.records.limits now.records.limits first.records.texts now.records.texts (view first) (view now) (view new)
-    c.in_ok-next_revision.field-0 (inv.all none) inv.limits inv.texts c.in_ok-next_revision.ensures.one ended in
+    rest_at_first first.records.limits first.records.texts (view first) (view new) none
+    (rest_done first.records.limits now.records.limits first.records.texts now.records.texts (view first) (view now) (view new)
+    c.in_ok-next_revision.field-0 inv.limits inv.texts c.in_ok-next_revision.ensures.one inv.rest ended) in
     loads_dump first.records.limits first.records.texts (view first) (view new) first.transaction.history none start all
 
 pub revisions-preserved : goal.revisions-preserved
@@ -36,8 +112,14 @@ revisions-preserved g c =
     let view = loading g.R.Read.remaining in
     let some : IsSome new.rev = search rules in
     record {
-      all = λ none x rest. all_more first.records.limits now.records.limits first.records.texts now.records.texts (view first) (view now)
-          (view new) c.in_ok-next_revision.field-0 (inv.all none) inv.limits inv.texts c.in_ok-next_revision.ensures.one some x rest;
+      rest = rest_more first.records.limits now.records.limits first.records.texts now.records.texts (view first) (view now) (view new)
+          c.in_ok-next_revision.field-0 inv.limits inv.texts c.in_ok-next_revision.ensures.one inv.rest some;
+      refuses = refused_more first.records.limits now.records.limits first.records.texts now.records.texts (view first) (view now) (view new)
+          c.in_ok-next_revision.field-0 inv.limits inv.texts c.in_ok-next_revision.ensures.one inv.refuses some;
+      heard = heard_more first.records.limits first.records.texts g.L.LoadListener.hears (view first) c.args.listener.now now.records.limits
+          now.records.texts (view now) (view new) c.revisions.listener c.loaded.new.self c.in_ok-next_revision.field-0 c.latest.result
+          c.begun.result inv.limits inv.texts inv.heard c.in_ok-next_revision.ensures.one c.latest.ensures c.loaded.ensures;
       limits = c.next_revision.ensures.limits ∙ inv.limits;
       texts = c.next_revision.ensures.texts ∙ inv.texts;
+      loaded = search rules;
     }

@@ -1,6 +1,8 @@
 use Rattle.std.proofs.Common.{◌≡◌, None}
-use Rattle.svn_history.specs.Parts.{Loading, loading, LoadsAll}
-use Rattle.svn_history.proofs.Whole.{LoadsRest}
+use Rattle.svn_repo.specs.History.{History}
+use Rattle.svn_history.specs.declared.fault.LoadFault.{LoadFault}
+use Rattle.svn_history.specs.Hearing.{Hears}
+use Rattle.svn_history.specs.Parts.{Loading, loading, LoadsRest, RefusesAll}
 use Rattle.svn_history.proofs.loader.Loader.load_all_with.Given as goal
 
 abbrev pub invariant-revisions : goal.invariant-revisions
@@ -10,7 +12,10 @@ invariant-revisions g l =
     let limits = first.records.limits in
     let texts = first.records.texts in
     record {
-      all : first.rev ≡ None → (new : Loading) → LoadsRest limits texts (view l.self) new → LoadsAll limits texts (view first) new;
+      rest : (new : Loading) → LoadsRest limits texts (view l.self) new → LoadsRest limits texts (view first) new;
+      refuses : (e : LoadFault) (h : History) → RefusesAll limits texts (view l.self) e h → RefusesAll limits texts (view first) e h;
+      heard : Hears limits texts g.L.LoadListener.hears (view first) l.fn.listener (view l.self) l.listener;
       limits : l.self.records.limits ≡ limits;
       texts : l.self.records.texts ≡ texts;
+      loaded : l.self.refused ≡ None;
     }

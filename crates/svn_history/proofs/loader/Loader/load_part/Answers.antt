@@ -31,4 +31,4 @@ returns-clause-fault g c =
     c.begin.ensures.fault
     (λ e why. next_refused old.records.limits old.records.texts (view old) (view mid) end.rev c.in_ok-next.next end.transaction.history
     new.transaction.history e c.in_ok-next.ensures.nodes c.load_nodes.ensures.rev (c.end.ensures.rev ∙ c.load_nodes.ensures.rev)
-    c.in_ok-end.ensures.ends c.begin.ensures.commits why)
+    c.in_ok-end.ensures.ends why)
