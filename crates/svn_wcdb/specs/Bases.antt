@@ -47,7 +47,7 @@ text_or_none (Ok text) = text
 text_or_none (Err reason) = None
 
 abbrev pub path_at : List ℕ → Option (List ℕ)
-path_at row = text_or_none (text_in 1 (column row 1))
+path_at row = text_or_none (text_in tables.Nodes 1 (column row 1))
 
 -- ---- the root
 
@@ -70,7 +70,7 @@ repos_in (row ∷ rows) =
 -- ---- the repository
 
 abbrev pub text_given : ℕ → List ℕ → Result (List ℕ) Reason
-text_given c row = text_in c (column row c) >>= given (BadColumn c)
+text_given c row = text_in tables.Repository c (column row c) >>= given (BadColumn tables.Repository c)
 
 unfoldable pub origin_of : List ℕ → Result Origin Reason
 origin_of row = text_given 2 row >>= λ uuid. text_given 1 row >>= λ url. Ok (record { uuid = uuid; url = url })
@@ -114,7 +114,7 @@ one_external found = (found.0, record (found.1) { externals = counted found.1.ex
 
 abbrev pub one_node : References → NodeRow → Found → Result Found Reason
 one_node to row found =
-    given (BadColumn 1) row.path >>= λ text. path_of text >>= λ path. base_of to.pristines row >>= λ node. Ok (found.0 ++ (path, node) ∷ [], found.1)
+    given (BadColumn tables.Nodes 1) row.path >>= λ text. path_of text >>= λ path. base_of to.pristines row >>= λ node. Ok (found.0 ++ (path, node) ∷ [], found.1)
 
 -- a row of that working copy and repository
 unfoldable pub node_after : References → NodeRow → Found → Result Found Reason

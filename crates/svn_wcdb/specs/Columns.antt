@@ -1,6 +1,6 @@
 -- The columns of a record.
 --     column bytes c      the value in column c of a record, counted from 0: NULL where it has fewer
---     text_in, blob_in, number_in c value      the value of column c, if it has that type
+--     text_in, blob_in, number_in table c value      the value of column c of a table, if it has that type
 use Rattle.std.specs.Prelude.{ℕ, zero, suc, pos, Bool, true, false, List, [], ◌∷◌, Option, Some, None, Result, Ok, Err}
 use Rattle.sqlite_value.specs.declared.value.Value.{Value}
 use Rattle.sqlite_value.specs.declared.value.Value.TheVariants.{Null, Int, Text, Blob}
@@ -8,6 +8,7 @@ use Rattle.sqlite_value.specs.Order.{Row}
 use Rattle.sqlite_record.specs.Record.{decode}
 use Rattle.svn_wcdb.specs.declared.fault.Reason.{Reason}
 use Rattle.svn_wcdb.specs.declared.fault.Reason.TheVariants.{BadColumn}
+use Rattle.svn_wcdb.specs.declared.fault.TableName.{TableName}
 
 abbrev pub column_in : Row → ℕ → Value
 column_in [] c = Null
@@ -17,21 +18,21 @@ column_in (value ∷ values) (suc c) = column_in values c
 abbrev pub column : List ℕ → ℕ → Value
 column bytes c = column_in (decode bytes) c
 
-abbrev pub text_in : ℕ → Value → Result (Option (List ℕ)) Reason
-text_in c Null = Ok None
-text_in c (Text text) = Ok (Some text)
-text_in c _ = Err (BadColumn c)
+abbrev pub text_in : TableName → ℕ → Value → Result (Option (List ℕ)) Reason
+text_in table c Null = Ok None
+text_in table c (Text text) = Ok (Some text)
+text_in table c _ = Err (BadColumn table c)
 
-abbrev pub blob_in : ℕ → Value → Result (Option (List ℕ)) Reason
-blob_in c Null = Ok None
-blob_in c (Blob bytes) = Ok (Some bytes)
-blob_in c _ = Err (BadColumn c)
+abbrev pub blob_in : TableName → ℕ → Value → Result (Option (List ℕ)) Reason
+blob_in table c Null = Ok None
+blob_in table c (Blob bytes) = Ok (Some bytes)
+blob_in table c _ = Err (BadColumn table c)
 
 -- a number from 0 on
-abbrev pub number_in : ℕ → Value → Result (Option ℕ) Reason
-number_in c Null = Ok None
-number_in c (Int (pos n)) = Ok (Some n)
-number_in c _ = Err (BadColumn c)
+abbrev pub number_in : TableName → ℕ → Value → Result (Option ℕ) Reason
+number_in table c Null = Ok None
+number_in table c (Int (pos n)) = Ok (Some n)
+number_in table c _ = Err (BadColumn table c)
 
 abbrev pub is_null : Value → Bool
 is_null Null = true

@@ -7,6 +7,7 @@ use Rattle.svn_model.specs.declared.base_node.BaseNode.{BaseNode}
 use Rattle.svn_model.specs.declared.base_node.BaseNode.TheVariants as base
 use Rattle.svn_types.specs.Names.{Path}
 use Rattle.svn_wcdb.specs.declared.fault.Reason.{Reason}
+use Rattle.svn_wcdb.specs.declared.fault.TableName.TheVariants as tables
 use Rattle.svn_wcdb.specs.declared.fault.Reason.TheVariants.{BadPresence, Excluded, ServerExcluded, BadKind, Depth, IncompleteFile, NoRevision, NoReposPath}
 use Rattle.svn_wcdb.specs.declared.node.Presence.{Presence}
 use Rattle.svn_wcdb.specs.declared.node.Presence.TheVariants.{Dir, File, NotPresent}
@@ -35,17 +36,17 @@ pub record NodeRow : Type 0 where
 -- by their places in the table (wc-metadata.sql)
 unfoldable pub row_of : List ℕ → Result NodeRow Reason
 row_of bytes = do
-  wc_id ← number_in 0 (column bytes 0)
-  path ← text_in 1 (column bytes 1)
-  op_depth ← number_in 2 (column bytes 2)
-  repos_id ← number_in 4 (column bytes 4)
-  repos_path ← text_in 5 (column bytes 5)
-  revision ← number_in 6 (column bytes 6)
-  presence ← text_in 7 (column bytes 7)
-  kind ← text_in 10 (column bytes 10)
-  properties ← blob_in 11 (column bytes 11)
-  depth ← text_in 12 (column bytes 12)
-  checksum ← text_in 13 (column bytes 13)
+  wc_id ← number_in tables.Nodes 0 (column bytes 0)
+  path ← text_in tables.Nodes 1 (column bytes 1)
+  op_depth ← number_in tables.Nodes 2 (column bytes 2)
+  repos_id ← number_in tables.Nodes 4 (column bytes 4)
+  repos_path ← text_in tables.Nodes 5 (column bytes 5)
+  revision ← number_in tables.Nodes 6 (column bytes 6)
+  presence ← text_in tables.Nodes 7 (column bytes 7)
+  kind ← text_in tables.Nodes 10 (column bytes 10)
+  properties ← blob_in tables.Nodes 11 (column bytes 11)
+  depth ← text_in tables.Nodes 12 (column bytes 12)
+  checksum ← text_in tables.Nodes 13 (column bytes 13)
   Ok (record { wc_id = wc_id; path = path; op_depth = op_depth; repos_id = repos_id; repos_path = repos_path; revision = revision; presence = presence; kind = kind; properties = properties; depth = depth; checksum = checksum; is_external = is_set (column bytes 21) })
 
 -- a row as the code has it

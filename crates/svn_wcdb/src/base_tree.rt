@@ -39,7 +39,7 @@ pub struct BaseTree {
 }
 
 /// Reads the base tree of a working copy from the bytes of its database, `.svn/wc.db`. Whether a journal is beside it, and whether the file changed
-/// while it was read ([`Image::change_counter`](crate::Image::change_counter)), the caller has to look.
+/// while it was read (each change raises the counter at byte 24 of the header), the caller has to look.
 ///
 /// What it returns is what the bytes stand for (`base_tree_of`), or the first fault in this order: of the header NotADatabase, PageSize, WriteAheadLog,
 /// Encoding, Format, CutOff; of the schema's table, and then of WCROOT, NODES, REPOSITORY and PRISTINE, NoTable, Loop, BadPage, TooDeep, BadOverflow and

@@ -5,7 +5,7 @@ ghost use Rattle.sqlite_value.specs.Value.{owned};
 ghost use Rattle.svn_wcdb.specs.Reading.{Answers};
 ghost use Rattle.svn_wcdb.specs.Columns.{column, text_in, blob_in, number_in, is_null, is_set};
 
-use crate::fault::Reason;
+use crate::fault::{Reason, TableName};
 use sqlite_record::fields::Fields;
 use sqlite_value::value::ValueRef;
 
@@ -25,41 +25,47 @@ pub(crate) fn value_at(bytes: &[u8], place: u32) -> ValueRef<'_>
 }
 
 /// A text, or NULL.
-pub(crate) fn text_at(bytes: &[u8], place: u32) -> Result<Option<&[u8]>, Reason>
-    ensures { Answers option_copied result (text_in place (column bytes.now place)) }
+pub(crate) fn text_at(table: TableName, bytes: &[u8], place: u32) -> Result<Option<&[u8]>, Reason>
+    ensures { Answers option_copied result (text_in table place (column bytes.now place)) }
 {
     match value_at(bytes, place) {
         ValueRef::Null => Ok(None),
         ValueRef::Text(text) => Ok(Some(text)),
-        ValueRef::Int(_) | ValueRef::Real(_) | ValueRef::Blob(_) => Err(Reason::BadColumn(place)),
+        ValueRef::Int(_) | ValueRef::Real(_) | ValueRef::Blob(_) => Err(Reason::BadColumn(
+            table, place,
+        )),
     }
 }
 
 /// A blob, or NULL.
-pub(crate) fn blob_at(bytes: &[u8], place: u32) -> Result<Option<&[u8]>, Reason>
-    ensures { Answers option_copied result (blob_in place (column bytes.now place)) }
+pub(crate) fn blob_at(table: TableName, bytes: &[u8], place: u32) -> Result<Option<&[u8]>, Reason>
+    ensures { Answers option_copied result (blob_in table place (column bytes.now place)) }
 {
     match value_at(bytes, place) {
         ValueRef::Null => Ok(None),
         ValueRef::Blob(blob) => Ok(Some(blob)),
-        ValueRef::Int(_) | ValueRef::Real(_) | ValueRef::Text(_) => Err(Reason::BadColumn(place)),
+        ValueRef::Int(_) | ValueRef::Real(_) | ValueRef::Text(_) => Err(Reason::BadColumn(
+            table, place,
+        )),
     }
 }
 
 /// A number from 0 on, or NULL.
-pub(crate) fn number_at(bytes: &[u8], place: u32) -> Result<Option<u64>, Reason>
-    ensures { Answers (λ n. n) result (number_in place (column bytes.now place)) }
+pub(crate) fn number_at(table: TableName, bytes: &[u8], place: u32) -> Result<Option<u64>, Reason>
+    ensures { Answers (λ n. n) result (number_in table place (column bytes.now place)) }
 {
     match value_at(bytes, place) {
         ValueRef::Null => Ok(None),
         ValueRef::Int(number) => {
             if number < 0 {
-                Err(Reason::BadColumn(place))
+                Err(Reason::BadColumn(table, place))
             } else {
                 Ok(Some(number as u64))
             }
         }
-        ValueRef::Real(_) | ValueRef::Text(_) | ValueRef::Blob(_) => Err(Reason::BadColumn(place)),
+        ValueRef::Real(_) | ValueRef::Text(_) | ValueRef::Blob(_) => Err(Reason::BadColumn(
+            table, place,
+        )),
     }
 }
 

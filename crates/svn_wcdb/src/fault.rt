@@ -71,9 +71,9 @@ pub enum Reason {
     /// A table isn't there.
     #[error("the database has no table {0}")]
     NoTable(TableName),
-    /// A column, counted from 0, has a value of another type.
-    #[error("column {0} has a value of another type")]
-    BadColumn(u32),
+    /// A column of a table, counted from 0, has a value of another type, a number below 0, or NULL where the library needs a value.
+    #[error("column {1} of {0} has no value of its type")]
+    BadColumn(TableName, u32),
     /// The database has none or more than one working copy root, or a node of another.
     #[error("more than one working copy root, or none")]
     NotOneRoot,
@@ -110,7 +110,7 @@ pub enum Reason {
     /// A path that the library doesn't take.
     #[error("bad path: {0}")]
     BadPath(PathFault),
-    /// A node without a revision, or with one below 0.
+    /// A node without a revision.
     #[error("no revision")]
     NoRevision,
     /// A node without a path in the repository.
@@ -131,9 +131,6 @@ pub enum Reason {
     /// The name of a property that the library doesn't take.
     #[error("bad property name: {0}")]
     BadPropName(PathFault),
-    /// A pristine text that isn't of its SHA-1 checksum.
-    #[error("the pristine text isn't of its SHA-1 checksum")]
-    WrongSha1,
 }
 
 /// Why the base nodes weren't read.

@@ -16,7 +16,7 @@ const FORMAT: u32 = 31;
 
 /// A database file's bytes. Their header was read, and no page yet.
 #[derive(Clone, Copy, Debug)]
-pub struct Image<'a> {
+pub(crate) struct Image<'a> {
     bytes: &'a [u8],
     /// How many bytes a page has.
     pub(crate) size: usize,
@@ -91,8 +91,8 @@ fn fault_of(size: usize, bytes: &[u8]) -> Result<(), Reason>
 }
 
 impl<'a> Image<'a> {
-    /// Reads the file's header. The first of these is answered: NotADatabase, PageSize, WriteAheadLog, Encoding, Format, CutOff.
-    pub fn new(bytes: &'a [u8]) -> Result<Image<'a>, Reason>
+    /// Reads the file's header. The first of these is returned: NotADatabase, PageSize, WriteAheadLog, Encoding, Format, CutOff.
+    pub(crate) fn new(bytes: &'a [u8]) -> Result<Image<'a>, Reason>
         ensures size { Answers (λ image. image.size) result (image_of bytes.now) }
         ensures same { IfOk result (λ image. image.bytes.now ≡ bytes.now) }
     {
@@ -109,19 +109,10 @@ impl<'a> Image<'a> {
     }
 
     /// How many pages the file has.
-    pub fn pages(&self) -> usize
+    pub(crate) fn pages(&self) -> usize
         ensures { result ≡ length self.now.bytes.now / self.now.size }
     {
         self.bytes.len() / self.size
-    }
-
-    /// The file's change counter, which every change of the file raises.
-    pub fn change_counter(&self) -> u32 {
-        if self.bytes.len() < HEADER {
-            0
-        } else {
-            get_u32(self.bytes, 24)
-        }
     }
 
     /// The bytes of a page, counted from 1.

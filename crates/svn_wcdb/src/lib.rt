@@ -1,6 +1,6 @@
 //! The base nodes of a working copy of Subversion 1.8 to 1.14 (format 31), from the bytes of its database `.svn/wc.db`, read only. No file is opened
 //! here: a program reads the files and passes their bytes. It also has to see that no journal is beside the database, and that the file didn't change
-//! while it was read ([`Image::change_counter`]).
+//! while it was read: each change raises the counter at byte 24 of its header.
 //!
 //! ```
 //! let tree = read_base_tree(alloc, &bytes)?;
@@ -8,7 +8,7 @@
 //! ```
 //!
 //! `from_nodes` (of `svn_wc`) refuses what no single row shows: a path that comes twice, a node without a directory above it. The text of a file is its
-//! stand-in (`svn_digits`), `$sha1$` and 40 digits; [`pristine_path`] says where the text itself is, [`is_pristine`] whether what was read there is it.
+//! stand-in (`svn_digits`), `$sha1$` and 40 digits; [`pristine_path`] says where the text itself is.
 //!
 //! | Files, lowest first | What they do | Definitions in `specs/` |
 //! |---|---|---|
@@ -70,10 +70,9 @@ mod tree;
 
 pub use base_tree::{BaseTree, Origin, read_base_tree};
 pub use fault::{Reason, TableName, WcdbFault};
-pub use image::Image;
 pub use laws::{local_rows_change_nothing, pages_are_well_formed, records_are_whole};
 pub use notes::Notes;
-pub use pristine::{is_pristine, pristine_path};
+pub use pristine::pristine_path;
 pub use pristines::Pristines;
 pub use refusal::Refusal;
 pub use svn_digits::{is_stand_in, stand_in};

@@ -4,7 +4,7 @@ ghost use Rattle.svn_wcdb.specs.Bases.{seen_references, seen_found, none_yet, on
 ghost use Rattle.svn_wcdb.specs.Nodes.{seen};
 ghost use Rattle.svn_wcdb.specs.Reading.{Gives, Finds, each};
 
-use crate::fault::{Reason, WcdbFault};
+use crate::fault::{Reason, TableName, WcdbFault};
 use crate::node::base_node;
 use crate::notes::Notes;
 use crate::origin::is_number;
@@ -41,7 +41,7 @@ fn push_node(alloc: Global, to: &References, row: &Row, found: &mut Found) -> Re
     ensures { Gives (λ _. seen_found found.new) result (one_node (seen_references to.now) (seen row.now) (seen_found found.old)) }
 {
     let Some(path) = row.path else {
-        return Err(WcdbFault::Refused(Reason::BadColumn(1)));
+        return Err(WcdbFault::Refused(Reason::BadColumn(TableName::Nodes, 1)));
     };
     let path = read_path(alloc, path)?;
     let node = base_node(alloc, to.pristines, row)?;

@@ -7,7 +7,7 @@ ghost use Rattle.svn_wcdb.specs.Reading.{Gives, Answers, Finds, at, given};
 
 use crate::base_tree::Origin;
 use crate::columns::text_at;
-use crate::fault::{Reason, WcdbFault};
+use crate::fault::{Reason, TableName, WcdbFault};
 use crate::place::{read_row, refusal_at};
 use crate::refusal::Refusal;
 use crate::row::Row;
@@ -73,9 +73,9 @@ pub(crate) fn repos_in(alloc: Global, rows: &[TableRow]) -> Result<u64, Refusal>
 fn text_given(alloc: Global, row: &[u8], column: u32) -> Result<Text, WcdbFault>
     ensures { Gives (λ text. text) result (text_given column row.now) }
 {
-    match text_at(row, column)? {
+    match text_at(TableName::Repository, row, column)? {
         Some(text) => Ok(Text::from_slice(alloc, text)?),
-        None => Err(WcdbFault::Refused(Reason::BadColumn(column))),
+        None => Err(WcdbFault::Refused(Reason::BadColumn(TableName::Repository, column))),
     }
 }
 

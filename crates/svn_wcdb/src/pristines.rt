@@ -5,7 +5,7 @@ ghost use Rattle.svn_wcdb.specs.Pristines.{stand_in_of, size_of, pristine_of, pr
 ghost use Rattle.svn_wcdb.specs.Reading.{Gives, Answers};
 
 use crate::columns::{is_null, number_at, text_at};
-use crate::fault::{Reason, WcdbFault};
+use crate::fault::{Reason, TableName, WcdbFault};
 use crate::table::TableRow;
 use std::alloc::Global;
 use std::collections::BTreeMap;
@@ -91,7 +91,7 @@ fn stand_in_of(row: &[u8]) -> Result<[u8; LEN], Reason>
     ensures value { Answers (λ word. word) result (stand_in_of row.now) }
     ensures long { IfOk result (λ word. length word ≡ 46) }
 {
-    let Some(text) = text_at(row, 0)? else {
+    let Some(text) = text_at(TableName::Pristine, row, 0)? else {
         return Err(Reason::NoChecksum);
     };
     if !is_stand_in(text) {
@@ -110,9 +110,9 @@ fn size_of(row: &[u8]) -> Result<u64, Reason>
     if !is_null(row, 1) {
         return Err(Reason::Compressed);
     }
-    match number_at(row, 2)? {
+    match number_at(TableName::Pristine, row, 2)? {
         Some(size) => Ok(size),
-        None => Err(Reason::BadColumn(2)),
+        None => Err(Reason::BadColumn(TableName::Pristine, 2)),
     }
 }
 

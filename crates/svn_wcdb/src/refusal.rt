@@ -4,6 +4,8 @@ ghost use Rattle.svn_wcdb.specs.declared.fault.WcdbFault.TheVariants.{Memory, Re
 
 use crate::fault::{Reason, WcdbFault};
 use std::alloc::AllocError;
+use std::fmt;
+use svn_editor::Word;
 use svn_types::Text;
 
 /// Why a base tree wasn't read.
@@ -41,6 +43,21 @@ impl From<AllocError> for Refusal {
         Refusal {
             fault: WcdbFault::Memory,
             path: None,
+        }
+    }
+}
+
+/// What is wrong, after the path as a word and a colon where there is one. The root is `.`.
+impl fmt::Display for Refusal {
+    fn fmt<W: fmt::Write>(&self, f: &mut fmt::Formatter<W>) -> fmt::Result {
+        let fault = self.fault;
+        match &self.path {
+            Some(path) if path.is_empty() => write!(f, ".: {fault}"),
+            Some(path) => {
+                let path = Word(path.as_slice());
+                write!(f, "{path}: {fault}")
+            }
+            None => write!(f, "{fault}"),
         }
     }
 }

@@ -3,7 +3,7 @@ ghost use Rattle.svn_wcdb.specs.Nodes.{seen, row_of};
 ghost use Rattle.svn_wcdb.specs.Reading.{Answers};
 
 use crate::columns::{blob_at, is_set, number_at, text_at};
-use crate::fault::Reason;
+use crate::fault::{Reason, TableName};
 
 /// A row of NODES. Columns that no base node depends on aren't here.
 #[derive(Clone, Copy, Debug)]
@@ -35,23 +35,23 @@ pub(crate) struct Row<'a> {
 }
 
 impl<'a> Row<'a> {
-    /// Reads a record of NODES. BadColumn, of the first one that has a value of another type.
+    /// Reads a record of NODES. BadColumn, of the first one that has no value of its type.
     #[tactic(auto, unfolding(crate::specs::Nodes::row_of))]
     pub(crate) fn read(bytes: &'a [u8]) -> Result<Row<'a>, Reason>
         ensures { Answers seen result (row_of bytes.now) }
     {
         Ok(Row {
-            wc_id: number_at(bytes, 0)?,
-            path: text_at(bytes, 1)?,
-            op_depth: number_at(bytes, 2)?,
-            repos_id: number_at(bytes, 4)?,
-            repos_path: text_at(bytes, 5)?,
-            revision: number_at(bytes, 6)?,
-            presence: text_at(bytes, 7)?,
-            kind: text_at(bytes, 10)?,
-            properties: blob_at(bytes, 11)?,
-            depth: text_at(bytes, 12)?,
-            checksum: text_at(bytes, 13)?,
+            wc_id: number_at(TableName::Nodes, bytes, 0)?,
+            path: text_at(TableName::Nodes, bytes, 1)?,
+            op_depth: number_at(TableName::Nodes, bytes, 2)?,
+            repos_id: number_at(TableName::Nodes, bytes, 4)?,
+            repos_path: text_at(TableName::Nodes, bytes, 5)?,
+            revision: number_at(TableName::Nodes, bytes, 6)?,
+            presence: text_at(TableName::Nodes, bytes, 7)?,
+            kind: text_at(TableName::Nodes, bytes, 10)?,
+            properties: blob_at(TableName::Nodes, bytes, 11)?,
+            depth: text_at(TableName::Nodes, bytes, 12)?,
+            checksum: text_at(TableName::Nodes, bytes, 13)?,
             is_external: is_set(bytes, 21),
         })
     }

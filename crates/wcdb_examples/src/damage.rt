@@ -1,6 +1,5 @@
 //! Damaged databases, and what they are refused for.
 
-use crate::refusal_line;
 use anyhow::Result;
 use std::alloc::Global;
 use std::str;
@@ -10,7 +9,7 @@ use svn_wcdb::read_base_tree;
 fn outcome(alloc: Global, bytes: &[u8]) -> Result<String> {
     match read_base_tree(alloc, bytes) {
         Ok(tree) => Ok(format!(in alloc; "{} nodes", tree.nodes.len())?),
-        Err(refusal) => refusal_line(alloc, &refusal),
+        Err(refusal) => Ok(format!(in alloc; "{refusal}")?),
     }
 }
 

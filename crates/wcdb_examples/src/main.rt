@@ -8,10 +8,10 @@ mod tally;
 use anyhow::Result;
 use std::alloc::Global;
 use std::rt::Files;
-use std::{env, fs, str};
+use std::{env, fs};
 use svn_model::BaseNode;
 use svn_types::{Props, RelPath};
-use svn_wcdb::{BaseTree, Pristines, Refusal, read_base_tree};
+use svn_wcdb::{BaseTree, Pristines, read_base_tree};
 
 fn push_props(out: &mut String, path: &RelPath, props: &Props) -> Result<()> {
     let alloc = *out.allocator();
@@ -81,21 +81,11 @@ fn tree_lines(alloc: Global, tree: &BaseTree) -> Result<String> {
     Ok(out)
 }
 
-// A refusal, with the path of the node that is at fault.
-fn refusal_line(alloc: Global, refusal: &Refusal) -> Result<String> {
-    if let Some(path) = &refusal.path {
-        if let Ok(path) = str::from_utf8(path.as_slice()) {
-            return Ok(format!(in alloc; "{path}: {}", refusal.fault)?);
-        }
-    }
-    Ok(format!(in alloc; "{}", refusal.fault)?)
-}
-
 fn print_database<R: Files + AllocGlobal + Print>(rt: &R, name: &str) -> Result<()> {
     let bytes = fs::read(rt, name)?;
     match read_base_tree(rt.alloc(), &bytes) {
         Ok(tree) => print!(rt; "{name}\n{}", tree_lines(rt.alloc(), &tree)?)?,
-        Err(refusal) => println!(rt; "{name} refused: {}", refusal_line(rt.alloc(), &refusal)?)?,
+        Err(refusal) => println!(rt; "{name} refused: {refusal}")?,
     }
     Ok(())
 }
