@@ -1,6 +1,6 @@
 -- What a copy of the nodes below a path has.
 use Rattle.std.proofs.Common.{◌≡◌, Bool, true, false, ◌&&◌, cond, List, [], ◌∷◌, ◌++◌, length, drop, refl, sym, ap, ◌∙◌}
-use Rattle.std.proofs.Common.{Option, Some, None, true≢false}
+use Rattle.std.proofs.Common.{Option, Some, None, true≢false, ◌⊎◌, inl, inr}
 use Rattle.std.specs.List.{cons_option}
 use Rattle.std.specs.BTreeMap.{is_at}
 use Rattle.svn_lists.proofs.Equality.{bytes_eq-same}
@@ -10,7 +10,9 @@ use Rattle.svn_types.proofs.PathLemmas.{same_path, split_within, within_append}
 use Rattle.svn_model.specs.declared.base_node.BaseNode.{BaseNode}
 use Rattle.svn_model.specs.Nodes.{get_in}
 use Rattle.svn_edit_law.proofs.Lookups.{at_path}
-use Rattle.svn_audit.specs.Below.{node_below, nodes_below}
+use Rattle.svn_model.specs.declared.wc_fault.WcFault.{WcFault}
+use Rattle.svn_wc.specs.Building.{Refuses}
+use Rattle.svn_audit.specs.Below.{node_below, nodes_below, IsFaultOrMemory}
 
 dropped : (a r : Path) → drop (length a) (a ++ r) ≡ r
 dropped [] r = refl
@@ -56,3 +58,15 @@ below-append a (x ∷ xs) ys = by (node_below a x) (below-append a xs ys)
         → cons_option o (nodes_below a (xs ++ ys)) ≡ cons_option o (nodes_below a xs) ++ nodes_below a ys
     by None e = e
     by (Some u) e = ap (λ us. u ∷ us) e
+
+-- all nodes are below the root
+pub all_below : (nodes : List (Path × BaseNode)) → nodes_below [] nodes ≡ nodes
+all_below [] = refl
+all_below (e ∷ es) = ap (λ (l : List (Path × BaseNode)). e ∷ l) (all_below es)
+
+pub root_below : (a : Path) (nodes : List (Path × BaseNode)) → a ≡ [] → nodes_below a nodes ≡ nodes
+root_below a nodes is = ap (λ (p : Path). nodes_below p nodes) is ∙ all_below nodes
+
+pub is_fault : (fault : Option WcFault) (e : WcFault) → Refuses fault e → IsFaultOrMemory fault e
+is_fault None e h = inl h
+is_fault (Some f) e h = inr (ap Some (sym h))

@@ -8,5 +8,5 @@ pub mod Belows
 pub mod Noting
 -- What the lines of an update say of its calls.
 pub mod LineLaws
--- The lines of some updates, computed by the definition.
+-- The lines of some updates, and how some are printed, computed by the definitions.
 pub mod LineRows

@@ -1,5 +1,5 @@
--- The lines of some updates, computed by the definition.
-use Rattle.std.specs.Prelude.{◌≡◌, ℕ, true, List, [], ◌∷◌, None, refl}
+-- The lines of some updates, and how some are printed, computed by the definitions.
+use Rattle.std.specs.Prelude.{◌≡◌, ℕ, true, List, [], ◌∷◌, None, codes, refl}
 use Rattle.svn_types.specs.Names.{Path}
 use Rattle.svn_editor.specs.declared.call.Call.TheVariants.{SetTargetRevision, OpenRoot, DeleteEntry, AddDirectory, OpenDirectory}
 use Rattle.svn_editor.specs.declared.call.Call.TheVariants.{ChangeDirProp, CloseDirectory, AddFile, OpenFile, ChangeFileProp, ApplyText}
@@ -8,6 +8,7 @@ use Rattle.svn_audit.specs.declared.lines.NodeChange.{NodeChange}
 use Rattle.svn_audit.specs.declared.lines.NodeChange.TheVariants.{Unchanged, Added, Deleted, Updated}
 use Rattle.svn_audit.specs.declared.lines.UpdateLine.{UpdateLine}
 use Rattle.svn_audit.specs.Lines.{line_of, update_lines}
+use Rattle.svn_audit.specs.Printing.{line_text}
 
 abbrev a : Path
 a = (97 ∷ []) ∷ []
@@ -46,3 +47,9 @@ late_text : update_lines
     ∷ CloseDirectory 0 ∷ ApplyText 2 None [] ∷ CloseFile 2 None ∷ CloseEdit ∷ [])
     ≡ with_props Unchanged [] ∷ line_of Updated a_f ∷ []
 late_text = refl
+
+printed : line_text (line_of Deleted a_f) ≡ codes "D    a/f"
+printed = refl
+
+printed_property : line_text (with_props Unchanged []) ≡ codes " U   ."
+printed_property = refl

@@ -1,4 +1,5 @@
 pub mod Below
 pub mod Lines
 pub mod NotedLines
+pub mod Printing
 pub mod Untrue

@@ -1,8 +1,9 @@
 //! The lines that an update prints.
-ghost use Rattle.std.specs.Prelude.{◌≡◌, ℕ, ◌++◌, ◌∷◌, [], List, IfOk, OnOk, nat_eq, slice_get};
+ghost use Rattle.std.specs.Prelude.{◌≡◌, ℕ, ◌++◌, ◌∷◌, [], List, IfOk, OnOk, Some, nat_eq, slice_get};
 ghost use Rattle.std.specs.Option.{option_map};
 ghost use Rattle.svn_editor.specs.declared.call.Call.{Call};
 ghost use Rattle.svn_audit.specs.Lines.{line_of, changed_line, update_lines, no_change_no_line, lines_have_paths_of_calls};
+ghost use Rattle.svn_audit.specs.Printing.{node_letter, props_letter, line_text};
 ghost use Rattle.svn_audit.specs.NotedLines.{line_of_node, new_node, with_text, with_props, IsNoted};
 
 use std::alloc::{AllocError, Global};
@@ -35,16 +36,32 @@ pub struct UpdateLine {
     pub path: RelPath,
 }
 
+impl NodeChange {
+    // What is printed in the first column.
+    fn letter(self) -> &'static str
+        ensures { result.now ≡ node_letter self }
+    {
+        match self {
+            NodeChange::Unchanged => " ",
+            NodeChange::Added => "A",
+            NodeChange::Deleted => "D",
+            NodeChange::Updated => "U",
+        }
+    }
+}
+
+// What is printed in the second column.
+fn props_letter(props: bool) -> &'static str
+    ensures { result.now ≡ props_letter props }
+{
+    if props { "U" } else { " " }
+}
+
 impl fmt::Display for UpdateLine {
+    ghost output = { λ l. Some (line_text l) };
+
     fn fmt<W: fmt::Write>(&self, f: &mut fmt::Formatter<W>) -> fmt::Result {
-        let node = match self.node {
-            NodeChange::Unchanged => ' ',
-            NodeChange::Added => 'A',
-            NodeChange::Deleted => 'D',
-            NodeChange::Updated => 'U',
-        };
-        let props = if self.props { 'U' } else { ' ' };
-        let path = &self.path;
+        let (node, props, path) = (self.node.letter(), props_letter(self.props), &self.path);
         write!(f, "{node}{props}   {path}")
     }
 }

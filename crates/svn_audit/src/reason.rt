@@ -36,7 +36,7 @@ pub struct Untrue {
     pub reason: Reason,
 }
 
-/// What is said of the node of a revision, and where that is.
+/// A reason, with the revision and the repository path that it is about.
 #[derive(Drop)]
 struct Said<'a> {
     rev: u64,

@@ -45,7 +45,7 @@ fn first_lacking(
 {
     let mut left = entries.iter();
     'entries: while let Some((name, _)) = left.first() {
-        // a path of the repository, and so one of a copy of it, has room for the name
+        // An entry is at most 64 names deep in the repository, and a path of a copy at most 64 names longer than its repository path.
         let Ok(below) = path.join(alloc, name) else {
             return Err(AllocError);
         };

@@ -1,6 +1,5 @@
 -- Texts that are read to their end, and kept.
-use Rattle.std.proofs.Common.{◌≡◌, ℕ, ◌<◌, Bool, true, false, cond, List, [], ◌∷◌, ◌++◌, length, take, drop, Option, Some, None, Result, Ok, Err, refl, sym, ap, subst, ◌∙◌, append-nil, arith}
-use Rattle.std.proofs.Math.Seq.{take-append_seam}
+use Rattle.std.proofs.Common.{◌≡◌, ℕ, ◌<◌, Bool, true, false, cond, List, [], ◌∷◌, ◌++◌, length, take, Option, Some, None, Result, Ok, Err, refl, sym, ap, subst, ◌∙◌, append-nil, arith}
 use Rattle.std.specs.Prelude.{All, bytes_eq}
 use Rattle.std.specs.List.{AllZip, list_any}
 use Rattle.std.specs.BTreeMap.{is_at}
@@ -46,12 +45,6 @@ pub read_all : {E : Type 0} (old mid new : Option (List ℕ)) (r : Result ℕ E)
 read_all old mid new r n front buf taken h is zero room =
     let read = read_of mid new r n buf h is in
     ended old mid new front taken (subst (λ m. Consumes mid new (take m buf)) zero read.0) (read.1 zero room)
-
--- a vector after a read into all of it
-pub whole_buffer : (len : ℕ) (buf items : List ℕ) → length buf ≡ len → take len (buf ++ drop (length buf) items) ≡ buf
-whole_buffer len buf items e =
-    let rest = drop (length buf) items in
-    subst (λ n. take n (buf ++ rest) ≡ buf) e (take-append_seam buf rest)
 
 -- one more piece was kept, if pieces are kept
 pub bytes_more : (keeps : Bool) (front piece old new : List ℕ) → old ≡ cond keeps front [] → new ≡ cond keeps (old ++ piece) old

@@ -2,6 +2,7 @@
 --     copy_at nodes below      the copy of the nodes, at a path and below
 --     IsAudit texts store h database below copy untrue      the copy is that of the database's bytes, its texts pristine, and these paths of it are untrue of h
 --     IsVerdict texts limits dump store database below untrue      no path is untrue exactly where that copy is true of the dump's history
+--     IsAuditFault texts store database below fault      why the copy isn't audited, whose base tree was read unless the database is refused
 use Rattle.std.specs.Prelude.{◌≡◌, ℕ, List, [], ◌++◌, Some, Ok}
 use Rattle.svn_types.specs.Names.{Path}
 use Rattle.svn_repo.specs.History.{History, new_history}
@@ -10,10 +11,16 @@ use Rattle.svn_model.specs.Nodes.{WorkingCopy, get_in, IsTrueOf}
 use Rattle.svn_dump.specs.declared.sections.Limits.{Limits}
 use Rattle.svn_dump.specs.declared.sections.Texts.{Texts}
 use Rattle.svn_history.specs.Loading.{LoadsDump}
+use Rattle.svn_model.specs.declared.wc_fault.WcFault.{WcFault}
+use Rattle.svn_model.specs.Refusals.{nodes_fault}
 use Rattle.svn_wcdb.specs.Bases.{Base, base_tree_of}
+use Rattle.svn_wcdb.specs.Reading.{FailsAt}
 use Rattle.svn_audit.specs.declared.reason.Untrue.{Untrue}
+use Rattle.svn_audit.specs.Below.{nodes_below, IsFaultOrMemory}
 use Rattle.svn_audit.specs.Untrue.{untrue_in}
-use Rattle.svn_disk_audit.specs.Pristine.{Store, AreKeptAs}
+use Rattle.svn_disk_audit.specs.declared.fault.AuditFault.{AuditFault}
+use Rattle.svn_disk_audit.specs.declared.fault.AuditFault.TheVariants.{Database, Examiner, Pristine, Copy, Memory}
+use Rattle.svn_disk_audit.specs.Pristine.{Store, AreKeptAs, IsRefusedFile}
 
 abbrev pub copy_at : List (Path × BaseNode) → Path → WorkingCopy
 copy_at nodes below p = get_in nodes (below ++ p)
@@ -44,3 +51,19 @@ pub record IsVerdict (texts : Texts) (limits : Limits) (dump : List ℕ) (store 
   pub pristine : AreKeptAs texts store base.nodes kept
   pub none_is_true : untrue ≡ [] → IsTrueOf history (copy_at kept below)
   pub true_has_none : IsTrueOf history (copy_at kept below) → untrue ≡ []
+
+-- this holds of the nodes of the database
+abbrev pub HasNodes : List ℕ → (List (Path × BaseNode) → Type 0) → Type 0
+HasNodes database holds = (base : Base) × (base_tree_of database ≡ Ok base) × holds base.nodes
+
+-- all texts were kept, and the nodes at the path and below are no copy
+abbrev pub AreNoCopy : Texts → Store → Path → WcFault → List (Path × BaseNode) → Type 0
+AreNoCopy texts store below fault nodes =
+    (kept : List (Path × BaseNode)) × AreKeptAs texts store nodes kept × IsFaultOrMemory (nodes_fault (nodes_below below kept)) fault
+
+abbrev pub IsAuditFault : {F : Type 0} → Texts → Store → List ℕ → Path → AuditFault F → Type 0
+IsAuditFault texts store database below (Database refusal) = FailsAt {Y = Base} refusal.fault refusal.path (base_tree_of database)
+IsAuditFault texts store database below (Examiner fault) = HasNodes database (λ nodes. Unit {0})
+IsAuditFault texts store database below (Pristine refusal) = HasNodes database (λ nodes. IsRefusedFile store nodes refusal)
+IsAuditFault texts store database below (Copy fault) = HasNodes database (AreNoCopy texts store below fault)
+IsAuditFault texts store database below Memory = Unit {0}

@@ -5,14 +5,23 @@
 --     IsKeptAs texts store node kept_node      a file's text became what its pristine text is kept as; all else of a node is the same
 --     AreKeptAs texts store nodes kept_nodes      so did all nodes of a list, at the same paths
 --     StandInsStay      where texts are kept as stand-ins, the nodes are the same
-use Rattle.std.specs.Prelude.{◌≡◌, ℕ, List, Option, IfSome}
-use Rattle.std.specs.List.{AllZip}
+--     IsTextFault known name fault      why a text isn't read: where it is said to be another, what is known is a text of another name
+--     IsKeepFault store nodes fault      why the nodes' texts aren't kept: a refusal is of a file of them
+use Rattle.std.specs.Prelude.{◌≡◌, ◌≢◌, ℕ, List, Option, IfSome}
+use Rattle.std.specs.List.{AllZip, Contains}
 use Rattle.svn_types.specs.Names.{Path}
 use Rattle.svn_model.specs.declared.base_node.BaseNode.{BaseNode}
 use Rattle.svn_model.specs.declared.base_node.BaseNode.TheVariants.{File as FileNode, Dir as DirNode, NotPresent}
 use Rattle.svn_dump.specs.declared.sections.Texts.{Texts}
 use Rattle.svn_dump.specs.declared.sections.Texts.TheVariants.{Sha1}
 use Rattle.svn_dump.specs.Sections.{kept}
+use Rattle.svn_disk_audit.specs.declared.fault.AuditFault.{AuditFault}
+use Rattle.svn_disk_audit.specs.declared.fault.AuditFault.TheVariants.{Database, Examiner, Pristine, Copy, Memory}
+use Rattle.svn_disk_audit.specs.declared.fault.PristineFault.{PristineFault}
+use Rattle.svn_disk_audit.specs.declared.fault.PristineFault.TheVariants.{WrongSha1, Empty, Read}
+use Rattle.svn_disk_audit.specs.declared.fault.PristineRefusal.{PristineRefusal}
+use Rattle.svn_disk_audit.specs.declared.pristine.TextFault.{TextFault}
+use Rattle.svn_disk_audit.specs.declared.pristine.TextFault.TheVariants as texts
 
 abbrev pub Store : Type 0
 Store = List ℕ → Option (List ℕ)
@@ -38,3 +47,58 @@ AreKeptAs texts store = AllZip (λ e f. (f.0 ≡ e.0) × IsKeptAs texts store e.
 
 abbrev pub StandInsStay : Type 0
 StandInsStay = (store : Store) (nodes kept_nodes : List (Path × BaseNode)) → AreKeptAs Sha1 store nodes kept_nodes → kept_nodes ≡ nodes
+
+-- ---- refusals
+
+-- a text that has another name
+abbrev pub IsOther : Option (List ℕ) → List ℕ → Type 0
+IsOther known name = (text : List ℕ) × IsKnownAs known text × (kept Sha1 text ≢ name)
+
+abbrev pub IsRefused : Option (List ℕ) → List ℕ → PristineFault → Type 0
+IsRefused known name WrongSha1 = IsOther known name
+IsRefused known name Empty = IsOther known name
+IsRefused known name (Read error) = Unit {0}
+
+-- it couldn't be read to its end, or an allocation failed
+abbrev pub IsReadFault : TextFault → Type 0
+IsReadFault (texts.Refused WrongSha1) = ⊥
+IsReadFault (texts.Refused Empty) = ⊥
+IsReadFault (texts.Refused (Read error)) = Unit {0}
+IsReadFault texts.Memory = Unit {0}
+
+abbrev pub IsTextFault : Option (List ℕ) → List ℕ → TextFault → Type 0
+IsTextFault known name (texts.Refused fault) = IsRefused known name fault
+IsTextFault known name texts.Memory = Unit {0}
+
+-- the text of a file at a path isn't kept
+abbrev pub IsFileFault : {F : Type 0} → Option (List ℕ) → Path → List ℕ → AuditFault F → Type 0
+IsFileFault known path name (Database refusal) = ⊥
+IsFileFault known path name (Examiner fault) = Unit {0}
+IsFileFault known path name (Pristine refusal) = (refusal.path ≡ path) × (refusal.stand_in ≡ name) × IsRefused known name refusal.fault
+IsFileFault known path name (Copy fault) = ⊥
+IsFileFault known path name Memory = Unit {0}
+
+-- only the text of a file may be refused
+abbrev pub IsNodeFault : {F : Type 0} → Store → Path → BaseNode → AuditFault F → Type 0
+IsNodeFault store path (FileNode r q name props) fault = IsFileFault (store name) path name fault
+IsNodeFault store path (DirNode r q complete props) fault = ⊥
+IsNodeFault store path NotPresent fault = ⊥
+
+abbrev pub IsFileOf : List ℕ → BaseNode → Type 0
+IsFileOf name (FileNode r q text props) = text ≡ name
+IsFileOf name (DirNode r q complete props) = ⊥
+IsFileOf name NotPresent = ⊥
+
+abbrev pub HasFile : List (Path × BaseNode) → Path → List ℕ → Type 0
+HasFile nodes path name = (node : BaseNode) × Contains nodes (path, node) × IsFileOf name node
+
+abbrev pub IsRefusedFile : Store → List (Path × BaseNode) → PristineRefusal → Type 0
+IsRefusedFile store nodes refusal =
+    HasFile nodes refusal.path refusal.stand_in × IsRefused (store refusal.stand_in) refusal.stand_in refusal.fault
+
+abbrev pub IsKeepFault : {F : Type 0} → Store → List (Path × BaseNode) → AuditFault F → Type 0
+IsKeepFault store nodes (Database refusal) = ⊥
+IsKeepFault store nodes (Examiner fault) = Unit {0}
+IsKeepFault store nodes (Pristine refusal) = IsRefusedFile store nodes refusal
+IsKeepFault store nodes (Copy fault) = ⊥
+IsKeepFault store nodes Memory = Unit {0}

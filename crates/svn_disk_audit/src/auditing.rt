@@ -1,9 +1,9 @@
 //! The audit of a working copy.
-ghost use Rattle.std.specs.Prelude.{◌≡◌, ℕ, List, Option, None, Some, IfOk};
+ghost use Rattle.std.specs.Prelude.{◌≡◌, ℕ, List, Option, None, Some, IfOk, IfErr};
 ghost use Rattle.svn_repo.specs.History.{new_history};
 ghost use Rattle.svn_dump.specs.declared.sections.Limits.{Limits};
 ghost use Rattle.svn_history.specs.Loading.{LoadsDump};
-ghost use Rattle.svn_disk_audit.specs.Audits.{IsAudit, IsVerdict};
+ghost use Rattle.svn_disk_audit.specs.Audits.{IsAudit, IsVerdict, IsAuditFault};
 
 use crate::examiner::Examiner;
 use crate::fault::AuditFault;
@@ -39,7 +39,7 @@ pub struct Audited {
 /// Audits the working copy that the bytes of a database stand for, or what of it is at a path and below, as a copy of its own. The pristine text of each
 /// file of the database is read: with [`Texts::Sha1`] each different one once, in pieces of 64 KiB, and with [`Texts::Whole`] each file's, which is kept.
 /// Refused as [`read_base_tree`] refuses the database, then as the examiner refuses what it has, then at the first file, in the order of the rows, whose
-/// pristine text isn't the one that its stand-in names, then as [`copy_below`] refuses the nodes.
+/// pristine text isn't the one that its stand-in names, then as [`copy_below`] refuses the nodes. Memory where an allocation failed.
 pub fn audit<E: Examiner>(
     alloc: Global,
     question: Question<'_>,
@@ -47,6 +47,7 @@ pub fn audit<E: Examiner>(
     examiner: &mut E,
 ) -> Result<Audited, AuditFault<E::Fault>>
     ensures audit { IfOk result (λ a. IsAudit question.entry.texts (E.text_at examiner.old) question.entry.repo.now database.now question.entry.below.now a.copy a.untrue.items) }
+    ensures fault { IfErr result (IsAuditFault question.entry.texts (E.text_at examiner.old) database.now question.entry.below.now) }
     // where the repository is the history of a dump, it is the verdict on these bytes
     ensures whole { IfOk result (λ a. (limits : Limits) (dump : List ℕ) → LoadsDump limits question.entry.texts (Some dump) new_history question.entry.repo.now → IsVerdict question.entry.texts limits dump (E.text_at examiner.old) database.now question.entry.below.now a.untrue.items) }
 {

@@ -1,11 +1,13 @@
 //! Why a working copy isn't audited.
+ghost use Rattle.std.specs.Prelude.{◌≡◌, ◌⊎◌};
+ghost use Rattle.svn_disk_audit.specs.declared.fault.AuditFault.TheVariants.{Database, Copy, Memory};
 
 use std::alloc::{AllocError, AllocFailed};
 use std::{fmt, io};
 use svn_editor::PathWord;
 use svn_model::WcFault;
 use svn_types::{RelPath, Text};
-use svn_wcdb::Refusal;
+use svn_wcdb::{Refusal, WcdbFault};
 
 /// Why a pristine text isn't the one that its stand-in names.
 #[derive(Clone, Copy, Debug)]
@@ -38,31 +40,45 @@ pub enum AuditFault<F> {
     Examiner(F),
     /// A pristine text is refused.
     Pristine(PristineRefusal),
-    /// Its nodes are no working copy.
+    /// Its nodes are no working copy, or the path that was asked for has no directory (BadRoot).
     Copy(WcFault),
     /// An allocation failed.
     Memory,
 }
 
 impl<F> From<Refusal> for AuditFault<F> {
+    ghost from_gives = { λ refusal e. (e ≡ Memory) ⊎ (e ≡ Database refusal) };
+
     fn from(refusal: Refusal) -> AuditFault<F> {
-        AuditFault::Database(refusal)
+        match refusal.fault {
+            WcdbFault::Memory => AuditFault::Memory,
+            WcdbFault::Refused(_) => AuditFault::Database(refusal),
+        }
     }
 }
 
 impl<F> From<WcFault> for AuditFault<F> {
+    ghost from_gives = { λ fault e. (e ≡ Memory) ⊎ (e ≡ Copy fault) };
+
     fn from(fault: WcFault) -> AuditFault<F> {
-        AuditFault::Copy(fault)
+        match fault {
+            WcFault::Memory => AuditFault::Memory,
+            fault => AuditFault::Copy(fault),
+        }
     }
 }
 
 impl<F> From<AllocError> for AuditFault<F> {
+    ghost from_gives = { λ _ e. e ≡ Memory };
+
     fn from(_error: AllocError) -> AuditFault<F> {
         AuditFault::Memory
     }
 }
 
 impl<F, T: Drop> From<AllocFailed<T>> for AuditFault<F> {
+    ghost from_gives = { λ _ e. e ≡ Memory };
+
     fn from(_error: AllocFailed<T>) -> AuditFault<F> {
         AuditFault::Memory
     }
@@ -84,5 +100,19 @@ impl fmt::Display for PristineRefusal {
         let name = str::from_utf8(self.stand_in.as_slice()).unwrap_or("?");
         let fault = self.fault;
         write!(f, "{path}: pristine text {name}: {fault}")
+    }
+}
+
+/// Why, after the path of the node or the file that is at fault, where one is.
+impl<F: fmt::Display> fmt::Display for AuditFault<F> {
+    fn fmt<W: fmt::Write>(&self, f: &mut fmt::Formatter<W>) -> fmt::Result {
+        match self {
+            AuditFault::Database(refusal) => write!(f, "{refusal}"),
+            AuditFault::Examiner(fault) => write!(f, "{fault}"),
+            AuditFault::Pristine(refusal) => write!(f, "{refusal}"),
+            AuditFault::Copy(WcFault::BadRoot) => f.write_str("no directory of the working copy"),
+            AuditFault::Copy(fault) => write!(f, "{fault}"),
+            AuditFault::Memory => f.write_str("out of memory"),
+        }
     }
 }

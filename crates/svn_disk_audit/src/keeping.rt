@@ -1,23 +1,23 @@
 //! The nodes of a base tree, each text read and kept whole or as its stand-in.
-ghost use Rattle.std.specs.Prelude.{◌≡◌, ℕ, List, All, IfOk, OnOk, IsTrue};
+ghost use Rattle.std.specs.Prelude.{◌≡◌, ℕ, List, Option, All, IfOk, IfErr, OnOk, IsTrue};
 ghost use Rattle.svn_dump.specs.declared.sections.Texts.TheVariants.{Sha1};
 ghost use Rattle.svn_dump.specs.Sections.{kept};
-ghost use Rattle.svn_disk_audit.specs.Pristine.{Store, HasText, IsPristine, IsKeptAs, AreKeptAs};
+ghost use Rattle.svn_disk_audit.specs.Pristine.{Store, HasText, IsPristine, IsKeptAs, AreKeptAs, IsTextFault, IsFileFault, IsNodeFault, IsKeepFault};
 
 use crate::examiner::Examiner;
 use crate::fault::{AuditFault, PristineRefusal};
-use crate::pristine::{TextFault, read_pristine};
+use crate::pristine::{TextFault, TextReader};
 use std::alloc::{AllocError, Global};
 use std::collections::BTreeSet;
 use svn_dump::Texts;
 use svn_model::BaseNode;
 use svn_types::{RelPath, Text};
 
-// How texts are kept, and the stand-ins whose texts were read, if they are kept.
+// What reads texts, and the stand-ins whose texts were read, if texts are kept as these.
 #[derive(Drop)]
 struct Keeper {
     alloc: Global,
-    texts: Texts,
+    reader: TextReader,
     names: BTreeSet<Vec<u8>>,
 }
 
@@ -26,7 +26,9 @@ fn audit_fault<F>(
     path: &RelPath,
     name: &Text,
     fault: TextFault,
-) -> Result<AuditFault<F>, AllocError> {
+) -> Result<AuditFault<F>, AllocError>
+    ensures { IfOk result (λ e. (known : Option (List ℕ)) → IsTextFault known name.now fault → IsFileFault known path.now name.now e) }
+{
     match fault {
         TextFault::Memory => Ok(AuditFault::Memory),
         TextFault::Refused(fault) => Ok(AuditFault::Pristine(PristineRefusal {
@@ -38,31 +40,31 @@ fn audit_fault<F>(
 }
 
 impl Keeper {
-    fn new(alloc: Global, texts: Texts) -> Keeper
-        ensures texts { result.texts ≡ texts }
-        ensures names { (store : Store) → All (λ v. HasText store v.items) result.names.keys }
+    fn new(alloc: Global, texts: Texts) -> Result<Keeper, AllocError>
+        ensures texts { IfOk result (λ keeper. keeper.reader.texts ≡ texts) }
+        ensures names { IfOk result (λ keeper. (store : Store) → All (λ v. HasText store v.items) keeper.names.keys) }
     {
-        Keeper {
+        Ok(Keeper {
             alloc,
-            texts,
+            reader: TextReader::new(alloc, texts)?,
             names: BTreeSet::new(alloc),
-        }
+        })
     }
 
     // Whether the text was read before, and is kept as this stand-in.
     fn has(&self, name: &Text) -> bool
-        ensures texts { IsTrue result → self.now.texts ≡ Sha1 }
+        ensures texts { IsTrue result → self.now.reader.texts ≡ Sha1 }
         ensures text { IsTrue result → (store : Store) → All (λ v. HasText store v.items) self.now.names.keys → HasText store name.now }
     {
-        self.texts == Texts::Sha1 && self.names.contains(name.as_slice())
+        self.reader.texts == Texts::Sha1 && self.names.contains(name.as_slice())
     }
 
     // The text of this name was read.
     fn add(&mut self, name: &Text) -> Result<(), AllocError>
-        ensures texts { self.new.texts ≡ self.old.texts }
+        ensures texts { self.new.reader.texts ≡ self.old.reader.texts }
         ensures names { OnOk result ((store : Store) → All (λ v. HasText store v.items) self.old.names.keys → HasText store name.now → All (λ v. HasText store v.items) self.new.names.keys) }
     {
-        if self.texts == Texts::Sha1 {
+        if self.reader.texts == Texts::Sha1 {
             self.names.insert(name.to_vec(self.alloc)?)?;
         }
         Ok(())
@@ -76,10 +78,11 @@ impl Keeper {
         name: Text,
     ) -> Result<Text, AuditFault<E::Fault>>
         requires { All (λ v. HasText (E.text_at examiner.old) v.items) self.old.names.keys }
-        ensures text { IfOk result (λ t. (text : List ℕ) × IsPristine (E.text_at examiner.old name) name text × (t ≡ kept self.old.texts text)) }
+        ensures text { IfOk result (λ t. (text : List ℕ) × IsPristine (E.text_at examiner.old name) name text × (t ≡ kept self.old.reader.texts text)) }
         ensures names { OnOk result (All (λ v. HasText (E.text_at examiner.old) v.items) self.new.names.keys) }
-        ensures texts { self.new.texts ≡ self.old.texts }
+        ensures texts { self.new.reader.texts ≡ self.old.reader.texts }
         ensures same { E.text_at examiner.new ≡ E.text_at examiner.old }
+        ensures fault { IfErr result (IsFileFault (E.text_at examiner.old name) path.now name) }
     {
         if self.has(&name) {
             return Ok(name);
@@ -88,7 +91,7 @@ impl Keeper {
             Ok(reader) => reader,
             Err(fault) => return Err(AuditFault::Examiner(fault)),
         };
-        match read_pristine(self.alloc, &mut reader, &name, self.texts) {
+        match self.reader.read(&mut reader, &name) {
             Ok(text) => {
                 self.add(&name)?;
                 Ok(text)
@@ -105,10 +108,11 @@ impl Keeper {
         node: BaseNode,
     ) -> Result<BaseNode, AuditFault<E::Fault>>
         requires { All (λ v. HasText (E.text_at examiner.old) v.items) self.old.names.keys }
-        ensures node { IfOk result (λ n. IsKeptAs self.old.texts (E.text_at examiner.old) node n) }
+        ensures node { IfOk result (λ n. IsKeptAs self.old.reader.texts (E.text_at examiner.old) node n) }
         ensures names { OnOk result (All (λ v. HasText (E.text_at examiner.old) v.items) self.new.names.keys) }
-        ensures texts { self.new.texts ≡ self.old.texts }
+        ensures texts { self.new.reader.texts ≡ self.old.reader.texts }
         ensures same { E.text_at examiner.new ≡ E.text_at examiner.old }
+        ensures fault { IfErr result (IsNodeFault (E.text_at examiner.old) path.now node) }
     {
         match node {
             BaseNode::File {
@@ -137,9 +141,10 @@ pub(crate) fn keep_texts<E: Examiner>(
     examiner: &mut E,
     nodes: Vec<(RelPath, BaseNode)>,
 ) -> Result<Vec<(RelPath, BaseNode)>, AuditFault<E::Fault>>
-    ensures { IfOk result (λ kept_nodes. AreKeptAs texts (E.text_at examiner.old) nodes.items kept_nodes.items) }
+    ensures kept { IfOk result (λ kept_nodes. AreKeptAs texts (E.text_at examiner.old) nodes.items kept_nodes.items) }
+    ensures fault { IfErr result (IsKeepFault (E.text_at examiner.old) nodes.items) }
 {
-    let mut keeper = Keeper::new(alloc, texts);
+    let mut keeper = Keeper::new(alloc, texts)?;
     let mut kept = Vec::new(alloc);
     for (path, node) in nodes {
         let node = keeper.keep_node(examiner, &path, node)?;

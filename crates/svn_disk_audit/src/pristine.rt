@@ -1,8 +1,9 @@
 //! Pristine texts: the texts of a working copy's files as they came from the repository, each named by its stand-in.
-ghost use Rattle.std.specs.Prelude.{◌≡◌, ℕ, List, ◌++◌, [], IfOk, OnOk, if◌then◌else◌};
+ghost use Rattle.std.specs.Prelude.{◌≡◌, ◌<◌, ℕ, List, ◌++◌, [], length, IfOk, IfErr, OnOk, if◌then◌else◌};
 ghost use Rattle.sha1.specs.Sha1.{sha1};
 ghost use Rattle.svn_dump.specs.Sections.{kept};
-ghost use Rattle.svn_disk_audit.specs.Pristine.{IsKnownAs, IsPristine};
+ghost use Rattle.svn_disk_audit.specs.Pristine.{IsKnownAs, IsPristine, IsReadFault, IsTextFault};
+ghost use Rattle.svn_disk_audit.specs.declared.pristine.TextFault.TheVariants.{Memory};
 
 use crate::fault::PristineFault;
 use sha1::Sha1;
@@ -25,6 +26,8 @@ pub(crate) enum TextFault {
 }
 
 impl From<AllocError> for TextFault {
+    ghost from_gives = { λ _ e. e ≡ Memory };
+
     fn from(_error: AllocError) -> TextFault {
         TextFault::Memory
     }
@@ -49,15 +52,21 @@ fn keep(bytes: &mut Vec<u8>, piece: &[u8], keeps: bool) -> Result<(), AllocError
 }
 
 // Reads a text to its end, piece by piece.
-fn read_summed<R: Read>(alloc: Global, input: &mut R, keeps: bool) -> Result<SummedText, TextFault>
-    ensures { IfOk result (λ t. (text : List ℕ) × IsKnownAs (R.remaining input.old) text × (t.sha1 ≡ sha1 text) × (t.bytes.items ≡ (if keeps then text else []))) }
+fn read_summed<R: Read>(
+    alloc: Global,
+    input: &mut R,
+    piece: &mut [u8],
+    keeps: bool,
+) -> Result<SummedText, TextFault>
+    requires { 0 < length piece.old }
+    ensures fault { IfErr result IsReadFault }
+    ensures text { IfOk result (λ t. (text : List ℕ) × IsKnownAs (R.remaining input.old) text × (t.sha1 ≡ sha1 text) × (t.bytes.items ≡ (if keeps then text else []))) }
 {
-    let mut piece = vec![in alloc; 0u8; PIECE]?;
     let mut sum = Sha1::new();
     let mut bytes = Vec::new(alloc);
     let mut len = 0u64;
     'pieces: for _ in 0..u64::MAX {
-        match input.read(&mut piece) {
+        match input.read(piece) {
             Ok(0) => {
                 let sha1 = Sha1Sum(sum.finalize());
                 return Ok(SummedText { len, sha1, bytes });
@@ -86,22 +95,47 @@ fn other_text(text: &SummedText) -> PristineFault {
     }
 }
 
-/// Reads a pristine text, and returns what it is kept as, if it is the text that the stand-in names.
-pub(crate) fn read_pristine<R: Read>(
+/// Reads pristine texts, each into the same buffer.
+#[derive(Drop)]
+pub(crate) struct TextReader {
     alloc: Global,
-    input: &mut R,
-    name: &Text,
-    texts: Texts,
-) -> Result<Text, TextFault>
-    ensures { IfOk result (λ t. (text : List ℕ) × IsPristine (R.remaining input.old) name.now text × (t ≡ kept texts text)) }
-{
-    let text = read_summed(alloc, input, texts == Texts::Whole)?;
-    let found = stand_in(alloc, &text.sha1)?;
-    if found != *name {
-        return Err(TextFault::Refused(other_text(&text)));
+    /// How texts are kept.
+    pub(crate) texts: Texts,
+    piece: Vec<u8>,
+    ghost room: { 0 < length piece.items },
+}
+
+impl TextReader {
+    pub(crate) fn new(alloc: Global, texts: Texts) -> Result<TextReader, AllocError>
+        ensures { IfOk result (λ reader. reader.texts ≡ texts) }
+    {
+        let piece = vec![in alloc; 0u8; PIECE]?;
+        Ok(TextReader {
+            alloc,
+            texts,
+            piece,
+        })
     }
-    match texts {
-        Texts::Whole => Ok(Text::new(text.bytes)),
-        Texts::Sha1 => Ok(found),
+
+    /// Reads a pristine text, and returns what it is kept as, if it is the text that the stand-in names.
+    pub(crate) fn read<R: Read>(&mut self, input: &mut R, name: &Text) -> Result<Text, TextFault>
+        ensures text { IfOk result (λ t. (text : List ℕ) × IsPristine (R.remaining input.old) name.now text × (t ≡ kept self.old.texts text)) }
+        ensures fault { IfErr result (IsTextFault (R.remaining input.old) name.now) }
+        ensures texts { self.new.texts ≡ self.old.texts }
+    {
+        let text = read_summed(
+            self.alloc,
+            input,
+            &mut self.piece,
+            self.texts == Texts::Whole,
+        )?;
+        let found = stand_in(self.alloc, &text.sha1)?;
+        if found != *name {
+            return Err(TextFault::Refused(other_text(&text)));
+        }
+        match self.texts {
+            Texts::Whole => Ok(Text::new(text.bytes)),
+            Texts::Sha1 => Ok(found),
+        }
     }
 }

@@ -14,8 +14,8 @@ loop-path-init g c =
       done = [];
       all = c.into_iter-path-iterator.ensures.into_iter_gives.0;
       kept = subst (λ (l : List (Path × BaseNode)). AreKeptAs c.args.texts store [] l) (sym c.new-kept.ensures.items) tt;
-      names = c.new-keeper.ensures.names store;
-      texts = c.new-keeper.ensures.texts;
+      names = c.in_ok-keeper.ensures.names store;
+      texts = c.in_ok-keeper.ensures.texts;
       same = refl;
     }
 
@@ -33,7 +33,7 @@ loop-path-preserved g c =
       done = inv.done ++ e ∷ [];
       all = append_assoc inv.done (e ∷ []) (into_iter_items c.next.new.self)
           ∙ ap (λ (l : List (Path × BaseNode)). inv.done ++ l) (sym c.in-Some.ensures.steps.0) ∙ inv.all;
-      kept = kept_more c.args.texts c.loop-path.keeper.texts store (g.E.Examiner.text_at c.loop-path.examiner) inv.done c.loop-path.kept.items
+      kept = kept_more c.args.texts c.loop-path.keeper.reader.texts store (g.E.Examiner.text_at c.loop-path.examiner) inv.done c.loop-path.kept.items
           c.push.new.self.items c.in-Some.path c.in-Some.node c.in_ok-node.node inv.texts inv.same c.in_ok-push.ensures.items inv.kept
           c.in_ok-node.ensures.node;
       names = subst (λ (s : Store). All (λ v. HasText s v.items) c.keep_node.new.self.names.keys) inv.same c.in_ok-node.ensures.names;
@@ -41,8 +41,8 @@ loop-path-preserved g c =
       same = c.keep_node.ensures.same ∙ inv.same;
     }
 
-pub returns : goal.returns
-returns g c =
+pub returns-clause-kept : goal.returns-clause-kept
+returns-clause-kept g c =
     let inv = c.loop-path.invariant in
     let none = nothing_left (into_iter_items c.loop-path.path-iterator)
     (sym c.loop-path.path-iterator.rest.ok.0 ∙ c.in-None.ensures.steps.0) in

@@ -12,6 +12,6 @@ invariant-loop-path g l = record {
   all : done ++ into_iter_items l.path-iterator ≡ l.fn.nodes.items;
   kept : AreKeptAs l.fn.texts (g.E.Examiner.text_at l.fn.examiner) done l.kept.items;
   names : All (λ v. HasText (g.E.Examiner.text_at l.fn.examiner) v.items) l.keeper.names.keys;
-  texts : l.keeper.texts ≡ l.fn.texts;
+  texts : l.keeper.reader.texts ≡ l.fn.texts;
   same : g.E.Examiner.text_at l.examiner ≡ g.E.Examiner.text_at l.fn.examiner;
 }

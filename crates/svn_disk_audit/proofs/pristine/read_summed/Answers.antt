@@ -1,7 +1,7 @@
-use Rattle.std.proofs.Common.{◌≡◌, ℕ, [], ◌++◌, List, take, sym, ap, subst, ◌∙◌, arith, cond, Bool, true, false}
+use Rattle.std.proofs.Common.{◌≡◌, ℕ, [], ◌++◌, List, take, refl, sym, ap, subst, ◌∙◌, arith, cond, Bool, true, false}
 use Rattle.std.proofs.KnownBytes.{Consumes-nil}
 use Rattle.sha1.specs.Sha1.{Holds}
-use Rattle.svn_disk_audit.proofs.KeptTexts.{read_more, read_none, read_all, whole_buffer, bytes_more}
+use Rattle.svn_disk_audit.proofs.KeptTexts.{read_more, read_none, read_all, bytes_more}
 use Rattle.svn_disk_audit.proofs.pristine.read_summed.Goals as goal
 use Rattle.svn_disk_audit.proofs.pristine.read_summed.Goals.{in-Ok+in_ok-keep-in-Ok, in-Err}
 
@@ -15,15 +15,14 @@ pieces-init g c = record {
   taken = Consumes-nil (g.R.Read.remaining c.args.input.now);
   summed = c.new-sum.ensures;
   bytes = none_kept c.args.keeps c.new-bytes.result.items c.new-bytes.ensures.items;
-  room = c.in_ok-piece.ensures.len;
 }
 
-pub returns-in-Ok-eq0 : goal.returns-in-Ok-eq0
-returns-in-Ok-eq0 g c =
+pub returns-in-Ok-eq0-clause-text : goal.returns-in-Ok-eq0-clause-text
+returns-in-Ok-eq0-clause-text g c =
     let inv = c.pieces.invariant in (
       inv.front,
       read_all (g.R.Read.remaining c.args.input.now) (g.R.Read.remaining c.pieces.input) (g.R.Read.remaining c.read.new.self) c.read.result
-          c.in-Ok-eq0.field-0 inv.front c.read.new.buf inv.taken c.read.ensures.bytes c.in-Ok-eq0.is c.in-Ok-eq0.field-0-test (omega (arith, inv.room)),
+          c.in-Ok-eq0.field-0 inv.front c.read.new.buf inv.taken c.read.ensures.bytes c.in-Ok-eq0.is c.in-Ok-eq0.field-0-test (omega (arith, c.requires, c.pieces.auto.piece, c.read.auto.buf)),
       c.finalize.ensures inv.front inv.summed,
       inv.bytes,
     )
@@ -36,21 +35,18 @@ pieces-preserved g c =
     let new = g.R.Read.remaining c.read.new.self in
     elim c.match-read.branch [
       | in-Ok+in_ok-keep-in-Ok w ↦
-          let more : List ℕ = take w.in-Ok.count w.deref.result.now in
+          let more : List ℕ = take w.in-Ok.count c.read.new.buf in
           record {
             front = inv.front ++ more;
-            taken = read_more old mid new c.read.result w.in-Ok.count inv.front c.read.new.buf more inv.taken c.read.ensures.bytes w.in-Ok.is
-                (ap (take w.in-Ok.count) (w.deref.ensures.value ∙ whole_buffer c.pieces.piece.len c.read.new.buf c.pieces.piece.items (omega (arith, inv.room))));
+            taken = read_more old mid new c.read.result w.in-Ok.count inv.front c.read.new.buf more inv.taken c.read.ensures.bytes w.in-Ok.is refl;
             summed = subst (λ s. Holds s (inv.front ++ more)) (sym w.sum-is) (w.update.ensures inv.front inv.summed);
             bytes = ap (λ v. v.items) w.bytes-is
                 ∙ bytes_more c.args.keeps inv.front more c.pieces.bytes.items w.keep.new.bytes.items inv.bytes w.in_ok-keep-in-Ok.ensures;
-            room = inv.room;
           }
       | in-Err w ↦ record {
         front = inv.front;
         taken = read_none old mid new c.read.result _ inv.front c.read.new.buf inv.taken c.read.ensures.bytes w.in-Err.is;
         summed = subst (λ s. Holds s inv.front) (sym w.sum-is) inv.summed;
         bytes = ap (λ v. v.items) w.bytes-is ∙ inv.bytes;
-        room = inv.room;
       }
     ]

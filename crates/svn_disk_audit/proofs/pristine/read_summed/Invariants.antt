@@ -1,4 +1,4 @@
-use Rattle.std.proofs.Common.{◌≡◌, List, ℕ, [], cond, vec_len}
+use Rattle.std.proofs.Common.{◌≡◌, List, ℕ, [], cond}
 use Rattle.std.specs.Io.KnownBytes.{Consumes}
 use Rattle.sha1.specs.Sha1.{Holds}
 use Rattle.svn_disk_audit.proofs.pristine.read_summed.Given as goal
@@ -10,5 +10,4 @@ invariant-pieces g l = record {
   taken : Consumes (g.R.Read.remaining l.initial.input) (g.R.Read.remaining l.input) front;
   summed : Holds l.sum front;
   bytes : l.bytes.items ≡ cond l.keeps front [];
-  room : vec_len l.piece ≡ 65536;
 }
