@@ -1,13 +1,13 @@
 //! What is printed of a working copy.
 
-use crate::command_line::Topic;
+use crate::command_line::{Question, Topic};
 use crate::fault::Fault;
 use crate::output::print_whole;
 use std::alloc::Global;
 use std::fmt;
 use svn_audit::{UpdateLine, update_lines};
 use svn_drive::{Request, drive_request};
-use svn_editor::{Call, Recorder};
+use svn_editor::{Call, EditFault, Recorder};
 use svn_model::{DriveEnd, DriveFault, WcFault};
 use svn_repo::Repo;
 use svn_report::Report;
@@ -37,7 +37,7 @@ fn crawled(alloc: Global, copy: &WorkingCopy) -> Result<Report, Fault> {
 
 fn drive_fault(fault: DriveFault) -> Fault {
     match fault {
-        DriveFault::Memory => Fault::Memory,
+        DriveFault::Memory | DriveFault::Editor(EditFault::Memory) => Fault::Memory,
         fault => Fault::Drive(fault),
     }
 }
@@ -82,11 +82,11 @@ pub(crate) fn print_answer<T: Print + AllocGlobal>(
     rt: &T,
     repo: &Repo,
     copy: &mut WorkingCopy,
-    topic: Topic,
-    rev: Rev,
+    question: &Question<'_>,
 ) -> Result<(), Fault> {
     let alloc = rt.alloc();
-    match topic {
+    let rev = question.rev.unwrap_or(repo.latest());
+    match question.topic {
         Topic::Check => Ok(()),
         Topic::Report => print_whole(rt, &crawled(alloc, copy)?),
         Topic::Update => {

@@ -1,4 +1,4 @@
-//! The words of the command line.
+//! The arguments of the command line.
 
 use crate::source::Source;
 use clap::{Arg, ArgAction, ArgMatches, Command, Error, value_parser};
@@ -14,7 +14,7 @@ docs/AUDIT.md describes what is printed and what is refused.
 
 Status 0: it was done; with check, each copy is true.
 Status 1: a copy is untrue.
-Status 2: a word, the dump, a copy, or a line of the script was refused.
+Status 2: an argument, the dump, a copy, or a line of the script was refused.
 
 Example: svnadmin dump repo | svnaudit check - copy";
 
@@ -31,7 +31,7 @@ pub(crate) struct Show<'a> {
     pub(crate) path: &'a str,
     /// How texts are kept.
     pub(crate) texts: Texts,
-    /// Whether to tell how far the dump was read.
+    /// Whether to print how far the dump was read.
     pub(crate) progress: bool,
 }
 
@@ -40,7 +40,7 @@ pub(crate) struct Show<'a> {
 pub(crate) struct Write<'a> {
     /// The script.
     pub(crate) script: Source<'a>,
-    /// Whether to tell how far the dump was written.
+    /// Whether to print how far the dump was written.
     pub(crate) progress: bool,
 }
 
@@ -74,7 +74,7 @@ pub(crate) struct Question<'a> {
     pub(crate) texts: Texts,
     /// Whether an untrue copy is taken all the same.
     pub(crate) allow_untrue: bool,
-    /// Whether to tell how far the dump was read.
+    /// Whether to print how far the dump was read.
     pub(crate) progress: bool,
 }
 
@@ -105,7 +105,7 @@ fn progress_option<'a>(alloc: Global) -> Arg<'a> {
     Arg::new(alloc, "progress")
         .long("progress")
         .action(ArgAction::SetTrue)
-        .help("Tell on standard error how many revisions and bytes are done")
+        .help("Print on standard error how many revisions and bytes are done")
 }
 
 fn texts_option<'a>(alloc: Global) -> Arg<'a> {
@@ -114,7 +114,7 @@ fn texts_option<'a>(alloc: Global) -> Arg<'a> {
         .value_name("HOW")
         .value_parser(WAYS)
         .default_value("sha1")
-        .help("Print each text whole, or as its SHA-1 checksum")
+        .help("Keep each text whole, or its SHA-1 checksum alone")
 }
 
 fn show_command<'a>(alloc: Global) -> Result<Command<'a>, AllocError> {

@@ -1,13 +1,17 @@
-//! The front of a dump, where its repository is named.
+//! The front of a dump, where its repository and its first revision are named.
 ghost use Rattle.std.specs.Prelude.{◌≤◌, IfOk};
 
 use crate::fault::Fault;
+use crate::source::Source;
 use std::alloc::Global;
 use std::io::{ErrorKind, Read};
+use svn_editor::Word;
 use svn_script::split_once;
 
-/// How many bytes are looked at. The UUID is the second header that Subversion writes.
+/// How many bytes are looked at. Subversion writes the format, the UUID and the number of the first revision into the first 110.
 const FRONT: usize = 512;
+
+const REVISION: &[u8] = b"Revision-number: ";
 
 /// The first bytes of a dump.
 #[derive(Drop)]
@@ -26,7 +30,7 @@ fn fill<R: Read>(input: &mut R, buffer: &mut [u8; FRONT]) -> Result<usize, Fault
             Ok(0) => break,
             Ok(count) => filled = filled.saturating_add(count).min(FRONT),
             Err(error) if error.kind() == ErrorKind::Interrupted => {}
-            Err(_) => return Err(Fault::Read),
+            Err(error) => return Err(Fault::Unread(error)),
         }
     }
     Ok(filled)
@@ -47,18 +51,39 @@ impl DumpFront {
         self.bytes.as_slice()
     }
 
-    /// The UUID of the repository, if the dump names it before the first revision.
-    pub(crate) fn uuid(&self) -> Option<&[u8]> {
+    // The value of a header, given its name with the colon and the space: of the first up to that of the first revision.
+    fn header(&self, name: &[u8]) -> Option<&[u8]> {
         let mut rest = self.bytes.as_slice();
         'lines: while let Some((line, after)) = split_once(rest, b'\n') {
-            if line.starts_with(b"Revision-number:") {
-                return None;
+            if let Some(value) = line.strip_prefix(name) {
+                return Some(value);
             }
-            if let Some(uuid) = line.strip_prefix(b"UUID: ") {
-                return Some(uuid);
+            if line.starts_with(REVISION) {
+                return None;
             }
             rest = after;
         }
         None
+    }
+
+    /// The UUID of the repository, if the dump names it before the first revision.
+    pub(crate) fn uuid(&self) -> Option<&[u8]> {
+        self.header(b"UUID: ")
+    }
+
+    /// The number of the first revision, if one or more are left out before it. (Revision 0 has nothing.)
+    pub(crate) fn late_beginning(&self) -> Option<&[u8]> {
+        self.header(REVISION).filter(|number| *number != b"0".as_slice()
+            && *number != b"1".as_slice())
+    }
+
+    /// Says on standard error if the dump begins late: revisions that are left out are empty here, so that a copy of one isn't true.
+    pub(crate) fn tell_beginning<T: Eprint>(&self, rt: &T, name: Source<'_>) {
+        if let Some(number) = self.late_beginning() {
+            let number = Word(number);
+            let _ = eprintln!(rt;
+                "svnaudit: {name}: the dump begins with r{number}: the revisions before it are empty here"
+            );
+        }
     }
 }

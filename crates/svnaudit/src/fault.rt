@@ -14,8 +14,8 @@ use svn_types::{PathFault, RelPath, Rev};
 pub(crate) enum Fault {
     /// The words of the command line can't be had.
     Words(io::Error),
-    /// The file can't be opened.
-    Unopened(io::Error),
+    /// The file can't be opened, or not even its first bytes can be read.
+    Unread(io::Error),
     /// The dump is refused: where, and why.
     Dump(String),
     /// The history has no such revision; the last one.
@@ -32,19 +32,17 @@ pub(crate) enum Fault {
     Refused(u64, LoadFault),
     /// The folder is in no working copy.
     NoCopy,
-    /// Nothing of the base is at the folder, or no directory.
-    NoFolder,
     /// The journal of the database isn't empty.
     Journal,
     /// The database was changed while it was read.
     Changed,
     /// The copy is of another repository than the dump: their UUIDs.
     OtherRepository(String),
-    /// The database is refused, at the path of a row where there is one.
-    Database(String),
-    /// The nodes of the database are no working copy.
+    /// The copy isn't audited: why, at the path that is at fault where there is one.
+    Copy(String),
+    /// The copy's report can't be made.
     Nodes(WcFault),
-    /// A pristine text is refused: its file, its stand-in, and why.
+    /// A pristine text can't be opened: its file, its stand-in, and why.
     Pristine(PristineRefusal),
     /// The update can't be made.
     Drive(DriveFault),
@@ -81,7 +79,7 @@ impl fmt::Display for Fault {
     fn fmt<W: fmt::Write>(&self, f: &mut fmt::Formatter<W>) -> fmt::Result {
         match self {
             Fault::Words(error) => write!(f, "words of the command line: {error}"),
-            Fault::Unopened(error) => write!(f, "{error}"),
+            Fault::Unread(error) => write!(f, "{error}"),
             Fault::Dump(text) => write!(f, "{text}"),
             Fault::NoRevision(rev, last) => {
                 write!(f, "there is no r{}: the last is r{}", rev.0, last.0)
@@ -95,10 +93,9 @@ impl fmt::Display for Fault {
             Fault::LongLine(line) => write!(f, "line {line}: line too long"),
             Fault::Refused(line, fault) => write!(f, "line {line}: {fault}"),
             Fault::NoCopy => f.write_str("no working copy"),
-            Fault::NoFolder => f.write_str("no directory of the working copy"),
             Fault::Journal => f.write_str("the database has a journal: `svn cleanup` comes first"),
             Fault::Changed => f.write_str("the working copy changed while it was read"),
-            Fault::OtherRepository(text) | Fault::Database(text) => write!(f, "{text}"),
+            Fault::OtherRepository(text) | Fault::Copy(text) => write!(f, "{text}"),
             Fault::Pristine(refusal) => write!(f, "{refusal}"),
             Fault::Nodes(fault) => write!(f, "{fault}"),
             Fault::Drive(fault) => write!(f, "{fault}"),

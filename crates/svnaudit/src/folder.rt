@@ -31,7 +31,7 @@ fn has_database<T: Files + AllocGlobal>(rt: &T, root: &PathBuf) -> Result<bool, 
     let database = database_of(rt.alloc(), root)?;
     match fs::exists(rt, &database) {
         Ok(exists) => Ok(exists),
-        Err(error) => Err(Fault::Unopened(error)),
+        Err(error) => Err(Fault::Unread(error)),
     }
 }
 
@@ -48,7 +48,7 @@ fn path_below(alloc: Global, below: &str) -> Result<RelPath, Fault> {
 fn find_above<T: Files + AllocGlobal>(rt: &T, word: &str) -> Result<Folder, Fault> {
     let here = match fs::canonicalize(rt, word) {
         Ok(here) => here,
-        Err(error) => return Err(Fault::Unopened(error)),
+        Err(error) => return Err(Fault::Unread(error)),
     };
     let alloc = rt.alloc();
     let mut root = PathBuf::from_str(alloc, here.as_str())?;
@@ -95,7 +95,7 @@ impl Folder {
         let database = database_of(rt.alloc(), &self.root)?;
         match fs::read(rt, &database) {
             Ok(bytes) => Ok(bytes),
-            Err(error) => Err(Fault::Unopened(error)),
+            Err(error) => Err(Fault::Unread(error)),
         }
     }
 
@@ -104,14 +104,14 @@ impl Folder {
         let database = database_of(rt.alloc(), &self.root)?;
         let mut file = match File::open(rt, &database) {
             Ok(file) => file,
-            Err(error) => return Err(Fault::Unopened(error)),
+            Err(error) => return Err(Fault::Unread(error)),
         };
         let mut header = [0u8; HEADER];
         match file.read_exact(&mut header) {
             Ok(()) => Ok(Header(header)),
             // the reader of the database says what is wrong with it
             Err(error) if error.kind() == ErrorKind::UnexpectedEof => Ok(Header([0u8; HEADER])),
-            Err(error) => Err(Fault::Unopened(error)),
+            Err(error) => Err(Fault::Unread(error)),
         }
     }
 
@@ -122,7 +122,7 @@ impl Folder {
             Ok(file) if file.len() > 0 => Err(Fault::Journal),
             Ok(_) => Ok(()),
             Err(error) if error.kind() == ErrorKind::NotFound => Ok(()),
-            Err(error) => Err(Fault::Unopened(error)),
+            Err(error) => Err(Fault::Unread(error)),
         }
     }
 }

@@ -1,5 +1,6 @@
 //! A history, loaded from a dump.
 
+use crate::command_line::Show;
 use crate::fault::Fault;
 use crate::progress::Progress;
 use std::alloc::Global;
@@ -9,13 +10,21 @@ use svn_dump::{DumpFault, Limits, Reader, Reason, Texts};
 use svn_history::{LoadFault, Loader, Refusal};
 use svn_repo::Repo;
 use svn_types::Rev;
+use svndiff::{SvndiffFault, WindowFault};
 
 // What to try where texts are kept in another way.
 fn advice(fault: LoadFault, texts: Texts) -> &'static str {
     match (fault, texts) {
-        (LoadFault::Dump(DumpFault::Refused(Reason::TextTooLong(_, _))), Texts::Whole) => {
-            " (try --texts sha1)"
-        }
+        (
+            LoadFault::Dump(DumpFault::Refused(Reason::TextTooLong(_, _)))
+            | LoadFault::Delta(
+                SvndiffFault::Window {
+                    fault: WindowFault::TooLong,
+                    ..
+                },
+            ),
+            Texts::Whole,
+        ) => " (try --texts sha1)",
         (LoadFault::Dump(DumpFault::Refused(Reason::NoSha1)), Texts::Sha1) => {
             " (try --texts whole)"
         }
@@ -90,20 +99,19 @@ fn open<R: Read + Drop>(alloc: Global, input: R, texts: Texts) -> Result<Loader<
     }
 }
 
-/// The history of a dump, at least up to a revision, which it has; what comes after that isn't read.
+/// The history of a dump, at least up to the revision to show, which it has; what comes after that isn't read.
 pub(crate) fn load<T: Clock + Eprint, R: Read + Drop>(
     alloc: Global,
     input: R,
-    texts: Texts,
-    rev: Rev,
+    show: &Show<'_>,
     progress: &mut Progress<'_, T>,
 ) -> Result<Repo, Fault> {
-    let mut loader = open(alloc, input, texts)?;
-    if load_up_to(&mut loader, rev, progress).is_err() {
+    let mut loader = open(alloc, input, show.texts)?;
+    if load_up_to(&mut loader, show.rev, progress).is_err() {
         return Err(at_record(alloc, &loader));
     }
     progress.end(loader.latest(), loader.records().begun());
-    loaded(loader, rev)
+    loaded(loader, show.rev)
 }
 
 /// The history of a whole dump.

@@ -9,11 +9,10 @@ use svn_audit::Untrue;
 use svn_disk_audit::{AuditFault, Audited, Examiner, Question, audit};
 use svn_dump::Texts;
 use svn_editor::Word;
-use svn_model::WcFault;
 use svn_repo::Repo;
 use svn_types::{RelPath, Text};
 use svn_wc::WorkingCopy;
-use svn_wcdb::{BaseTree, Notes, Refusal, WcdbFault};
+use svn_wcdb::{BaseTree, Notes};
 
 /// What working copies are compared with.
 #[derive(Clone, Copy)]
@@ -35,41 +34,14 @@ pub(crate) struct OnDisk {
     pub(crate) notes: Option<Notes>,
 }
 
-// Why a database is refused, at the path of a node where one is at fault.
-fn refusal_of(alloc: Global, refusal: &Refusal) -> Fault {
-    if refusal.fault == WcdbFault::Memory {
-        return Fault::Memory;
-    }
-    let fault = refusal.fault;
-    let text = match &refusal.path {
-        Some(path) if path.is_empty() => format!(in alloc; ".: {fault}"),
-        Some(path) => {
-            let path = Word(path.as_slice());
-            format!(in alloc; "{path}: {fault}")
-        }
-        None => format!(in alloc; "{fault}"),
-    };
-    match text {
-        Ok(text) => Fault::Database(text),
-        Err(_) => Fault::Memory,
-    }
-}
-
-fn copy_fault(fault: WcFault) -> Fault {
-    match fault {
-        WcFault::Memory => Fault::Memory,
-        WcFault::BadRoot => Fault::NoFolder,
-        fault => Fault::Nodes(fault),
-    }
-}
-
 fn audit_fault(alloc: Global, fault: AuditFault<Fault>) -> Fault {
     match fault {
-        AuditFault::Database(refusal) => refusal_of(alloc, &refusal),
         AuditFault::Examiner(fault) => fault,
-        AuditFault::Pristine(refusal) => Fault::Pristine(refusal),
-        AuditFault::Copy(fault) => copy_fault(fault),
         AuditFault::Memory => Fault::Memory,
+        fault => match format!(in alloc; "{fault}") {
+            Ok(text) => Fault::Copy(text),
+            Err(_) => Fault::Memory,
+        },
     }
 }
 

@@ -27,7 +27,7 @@ fn file_of(alloc: Global, folder: &Folder, name: &Text) -> Result<Option<PathBuf
     let Some(name) = pristine_path(alloc, name.as_slice())? else {
         return Ok(None);
     };
-    let Ok(name) = str::from_utf8(&name) else {
+    let Ok(name) = str::from_utf8(name.as_slice()) else {
         return Ok(None);
     };
     let name = format!(in alloc; ".svn/pristine/{name}")?;

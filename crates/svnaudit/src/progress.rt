@@ -2,7 +2,7 @@
 
 use std::rt::Clock;
 use std::time::Instant;
-use svn_history::Listener;
+use svn_history::LoadListener;
 use svn_types::Rev;
 
 /// The seconds between two lines.
@@ -60,7 +60,7 @@ impl<'a, T: Clock + Eprint> Progress<'a, T> {
     }
 }
 
-impl<T: Clock + Eprint> Listener for Progress<'_, T> {
+impl<T: Clock + Eprint> LoadListener for Progress<'_, T> {
     fn loaded(&mut self, rev: Rev, bytes: u64) {
         self.report(rev, bytes);
     }

@@ -128,8 +128,7 @@ fn answer_copy<T: Files + Print + Eprint + AllocGlobal>(
     if !question.allow_untrue {
         refuse_untrue(untrue)?;
     }
-    let rev = question.rev.unwrap_or(history.repo.latest());
-    print_answer(rt, history.repo, &mut copy, question.topic, rev)?;
+    print_answer(rt, history.repo, &mut copy, question)?;
     Ok(Verdict::True)
 }
 
@@ -160,6 +159,7 @@ fn ask_of<T: Files + Input + Print + Eprint + Clock + AllocGlobal, R: Read + Dro
 ) -> Result<Verdict, Fault> {
     let mut progress = Progress::begin(rt, question.progress);
     let front = DumpFront::read(rt.alloc(), &mut input)?;
+    front.tell_beginning(rt, question.dump);
     let dump = front.bytes().chain(input);
     let repo = load_whole(rt.alloc(), dump, question.texts, &mut progress)?;
     let history = History {
@@ -180,6 +180,6 @@ pub(crate) fn ask<T: Files + Input + Print + Eprint + Clock + AllocGlobal>(
     }
     match File::open(rt, question.dump.0) {
         Ok(file) => ask_of(rt, file, question),
-        Err(error) => Err(Fault::Unopened(error)),
+        Err(error) => Err(Fault::Unread(error)),
     }
 }

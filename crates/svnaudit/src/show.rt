@@ -1,6 +1,7 @@
 //! `show`: the tree at a path of a revision.
 
 use crate::command_line::Show;
+use crate::dump_front::DumpFront;
 use crate::fault::Fault;
 use crate::load::load;
 use crate::output::print_whole;
@@ -13,7 +14,7 @@ use std::rt::{Clock, Files};
 use svn_model::{BaseNode, WcFault};
 use svn_nodes::lines::{LineTexts, write_node};
 use svn_repo::{NodeId, Repo};
-use svn_types::{PathFault, RelPath, Rev, Text};
+use svn_types::{PathFault, RelPath, Rev};
 use svn_wc::WorkingCopy;
 
 // A file, as a copy would have it whose root is a file.
@@ -42,14 +43,14 @@ fn path_of(alloc: Global, word: &str) -> Result<RelPath, Fault> {
     }
 }
 
-fn file_node(
+// The file with this number, which is at the path in the revision; None if it is none.
+fn file_at(
     repo: &Repo,
     rev: Rev,
     path: &RelPath,
     id: NodeId,
-    text: &Text,
 ) -> Result<Option<BaseNode>, AllocError> {
-    let Some(props) = repo.props(id) else {
+    let (Some(text), Some(props)) = (repo.shared_text(id), repo.props(id)) else {
         return Ok(None);
     };
     Ok(Some(BaseNode::File {
@@ -58,23 +59,6 @@ fn file_node(
         text: text.clone()?,
         props: props.clone()?,
     }))
-}
-
-fn print_file<T: Print + AllocGlobal>(
-    rt: &T,
-    repo: &Repo,
-    rev: Rev,
-    path: RelPath,
-    id: NodeId,
-    text: &Text,
-) -> Result<(), Fault> {
-    match file_node(repo, rev, &path, id, text)? {
-        Some(node) => {
-            let path = RelPath::root(rt.alloc());
-            print_whole(rt, &FileLines { path, node })
-        }
-        None => Err(Fault::NoNode(rev, path)),
-    }
 }
 
 fn print_directory<T: Print + AllocGlobal>(
@@ -100,20 +84,25 @@ fn print_node<T: Print + AllocGlobal>(
     let Some(id) = repo.lookup(rev, &path) else {
         return Err(Fault::NoNode(rev, path));
     };
-    match repo.shared_text(id) {
-        Some(text) => print_file(rt, repo, rev, path, id, text),
+    match file_at(repo, rev, &path, id)? {
+        Some(node) => {
+            let path = RelPath::root(rt.alloc());
+            print_whole(rt, &FileLines { path, node })
+        }
         None => print_directory(rt, repo, rev, path),
     }
 }
 
 fn show_history<T: Print + Eprint + Clock + AllocGlobal, R: Read + Drop>(
     rt: &T,
-    input: R,
+    mut input: R,
     show: &Show<'_>,
 ) -> Result<(), Fault> {
     let path = path_of(rt.alloc(), show.path)?;
     let mut progress = Progress::begin(rt, show.progress);
-    let repo = load(rt.alloc(), input, show.texts, show.rev, &mut progress)?;
+    let front = DumpFront::read(rt.alloc(), &mut input)?;
+    front.tell_beginning(rt, show.dump);
+    let repo = load(rt.alloc(), front.bytes().chain(input), show, &mut progress)?;
     print_node(rt, &repo, show.rev, path)
 }
 
@@ -127,6 +116,6 @@ pub(crate) fn show_dump<T: Files + Input + Print + Eprint + Clock + AllocGlobal>
     }
     match File::open(rt, show.dump.0) {
         Ok(file) => show_history(rt, file, show),
-        Err(error) => Err(Fault::Unopened(error)),
+        Err(error) => Err(Fault::Unread(error)),
     }
 }

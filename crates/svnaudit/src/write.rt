@@ -5,64 +5,60 @@ use crate::fault::Fault;
 use crate::lines::Lines;
 use crate::output::write_bytes;
 use crate::progress::Progress;
-use std::alloc::{AllocError, Global};
+use std::alloc::Global;
 use std::fs::File;
 use std::io::Read;
 use std::rt::{Clock, Files};
-use svn_dump::{push_format, push_revision};
-use svn_history::{LoadFault, push_change};
-use svn_repo::{Change, CommitFault, Repo, Transaction};
+use svn_history::{HistoryWriter, LoadFault, push_beginning};
+use svn_repo::{Change, Repo};
 use svn_script::{Command, LineFault, read_command, without_return};
-use svn_types::Rev;
 
-/// A history, and what isn't written yet of the dump that it is written as: the revision that is being made.
+/// A history, and what isn't written yet of the dump that it is written as.
 #[derive(Drop)]
 struct Writing {
-    transaction: Transaction,
+    writer: HistoryWriter,
     unwritten: Vec<u8>,
     written: u64,
-}
-
-// The format of a dump, and its revision 0, which has nothing.
-fn push_front(out: &mut Vec<u8>) -> Result<(), AllocError> {
-    push_format(out, 2)?;
-    push_revision(out, Rev(0))
 }
 
 impl Writing {
     fn new(alloc: Global) -> Result<Writing, Fault> {
         let mut unwritten = Vec::new(alloc);
-        push_front(&mut unwritten)?;
-        match Repo::new(alloc) {
-            Ok(repo) => Ok(Writing {
-                transaction: repo.begin(),
-                unwritten,
-                written: 0,
-            }),
-            Err(_) => Err(Fault::Memory),
-        }
+        let (Ok(()), Ok(repo)) = (push_beginning(&mut unwritten), Repo::new(alloc)) else {
+            return Err(Fault::Memory);
+        };
+        Ok(Writing {
+            writer: HistoryWriter::new(alloc, repo),
+            unwritten,
+            written: 0,
+        })
     }
 
-    // Writes what is ready, and begins the next revision.
-    fn begin<T: Print>(&mut self, rt: &T) -> Result<(), Fault> {
+    // Writes what is ready.
+    fn write_ready<T: Print>(&mut self, rt: &T) -> Result<(), Fault> {
         write_bytes(rt, &self.unwritten)?;
         self.written = self.written.saturating_add(self.unwritten.len() as u64);
         self.unwritten.clear();
-        let rev = Rev(self.transaction.latest().0.saturating_add(1));
-        Ok(push_revision(&mut self.unwritten, rev)?)
+        Ok(())
     }
 
-    fn change(&mut self, change: &Change) -> Result<(), LoadFault> {
-        push_change(&mut self.unwritten, &mut self.transaction, change)
+    // Makes the change of the line of this number.
+    fn change(&mut self, number: u64, change: &Change) -> Result<(), Fault> {
+        match self.writer.change(change) {
+            Ok(()) => Ok(()),
+            Err(LoadFault::Memory) => Err(Fault::Memory),
+            Err(fault) => Err(Fault::Refused(number, fault)),
+        }
     }
-}
 
-// Commits the changes so far, and writes the revision.
-fn commit<T: Print>(rt: &T, writing: &mut Writing) -> Result<(), Fault> {
-    if writing.transaction.commit().is_err() {
-        return Err(Fault::Memory);
+    // Commits the changes so far, and writes the revision.
+    fn commit<T: Print>(&mut self, rt: &T) -> Result<(), Fault> {
+        // its only fault is Memory
+        if self.writer.commit(&mut self.unwritten).is_err() {
+            return Err(Fault::Memory);
+        }
+        self.write_ready(rt)
     }
-    writing.begin(rt)
 }
 
 // Does what a line says of the repository. Lines about a working copy do nothing to it, and so nothing here.
@@ -74,11 +70,8 @@ fn do_line<T: Print>(
     writing: &mut Writing,
 ) -> Result<(), Fault> {
     match read_command(alloc, without_return(line)) {
-        Ok(Command::Change(change)) => match writing.change(&change) {
-            Ok(()) => Ok(()),
-            Err(fault) => Err(Fault::Refused(number, fault)),
-        },
-        Ok(Command::Commit) => commit(rt, writing),
+        Ok(Command::Change(change)) => writing.change(number, &change),
+        Ok(Command::Commit) => writing.commit(rt),
         Ok(_) => Ok(()),
         Err(LineFault::Bad) => Err(Fault::BadLine(number)),
         Err(LineFault::Memory) => Err(Fault::Memory),
@@ -97,7 +90,7 @@ fn do_lines<T: Print + Eprint + Clock + AllocGlobal, R: Read + Drop>(
             return Ok(());
         }
         do_line(rt, rt.alloc(), lines.line(), lines.number(), writing)?;
-        progress.report(writing.transaction.latest(), writing.written);
+        progress.report(writing.writer.latest(), writing.written);
     }
     Ok(())
 }
@@ -110,9 +103,9 @@ fn write_history<T: Print + Eprint + Clock + AllocGlobal, R: Read + Drop>(
     let mut lines = Lines::new(rt.alloc(), input)?;
     let mut writing = Writing::new(rt.alloc())?;
     let mut progress = Progress::begin(rt, asked);
-    writing.begin(rt)?;
+    writing.write_ready(rt)?;
     do_lines(rt, &mut lines, &mut writing, &mut progress)?;
-    progress.end(writing.transaction.latest(), writing.written);
+    progress.end(writing.writer.latest(), writing.written);
     Ok(())
 }
 
@@ -127,6 +120,6 @@ pub(crate) fn write_script<T: Files + Input + Print + Eprint + Clock + AllocGlob
     }
     match File::open(rt, write.script.0) {
         Ok(file) => write_history(rt, file, write.progress),
-        Err(error) => Err(Fault::Unopened(error)),
+        Err(error) => Err(Fault::Unread(error)),
     }
 }
