@@ -1,23 +1,14 @@
 # What the scripts beside this one share. Each shows a situation in which Subversion 1.14 leaves another working copy than this
 # project does: first Subversion's copy, by the plain `svn` program, then this project's, by `svnup`.
 #
-# They need Debian's package `subversion`, and `svnup` as `rt run` builds it: crates/svnup/out/svnup, or the program that the
-# variable SVNUP names. They work in a folder of their own, which goes at the end, and are no part of the gate.
-set -u
-export LC_ALL=C.UTF-8
-export SVN_I_LOVE_CORRUPTED_WORKING_COPIES_SO_DISABLE_SLEEP_FOR_TIMESTAMPS=yes
-top=$(cd "$(dirname "${BASH_SOURCE[0]}")/../.." && pwd)
-SVNUP=${SVNUP:-$top/crates/svnup/out/svnup}
-command -v svnadmin >/dev/null || { echo "this needs the program svn, of Debian's package subversion" >&2; exit 2; }
-[ -x "$SVNUP" ] || { echo "there is no program $SVNUP: run 'rt run' in crates/svnup first, or name it in SVNUP" >&2; exit 2; }
-room=$(mktemp -d)
-trap 'rm -rf "$room"' EXIT
-cd "$room" || exit 2
+# They need Debian's package `subversion`, and `svnup` as `tools/prove svnup` builds it: crates/svnup/out/svnup, or the program that
+# the variable SVNUP names. They work in a folder of their own, which goes at the end, and are no part of the gate.
+. "$(dirname "${BASH_SOURCE[0]}")/room.sh"
+needs_built svnup
 svnadmin create repo
 url=file://$room/repo
 # the copy in which the history is made; the one that is looked at is `wc`
 svn -q checkout "$url" other
-echo "== Subversion $(svn --version -q)"
 
 # commits what was done in `other`
 commit() { svn -q commit -m change other && svn -q update other; }
@@ -39,4 +30,7 @@ compare() {
 }
 
 # the same in this project: the script from standard input
-project() { echo "== svnup"; "$SVNUP" | sed 's/^/    /'; }
+project() { echo "== svnup"; "$SVNUP" >shown; sed 's/^/    /' shown; }
+
+# what the last `show` must have printed: from standard input
+leaves() { cat >wanted; sed '1,/^closed /d' shown >got; same "svnup's copy" wanted got; }

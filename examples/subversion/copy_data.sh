@@ -4,15 +4,11 @@
 # database afterwards.
 #
 # It needs Debian's packages `subversion` and `sqlite3`. Made anew, the data has other dates and other UUIDs.
-set -eu
-export LC_ALL=C.UTF-8
-export SVN_I_LOVE_CORRUPTED_WORKING_COPIES_SO_DISABLE_SLEEP_FOR_TIMESTAMPS=yes
-here=$(cd "$(dirname "${BASH_SOURCE[0]}")" && pwd)
-data=$(cd "$here/../../crates/audit_examples/data" && pwd)
+set -eo pipefail
+. "$(dirname "${BASH_SOURCE[0]}")/room.sh"
 . "$here/false_copies.sh"
-room=$(mktemp -d)
-trap 'rm -rf "$room"' EXIT
-cd "$room"
+needs sqlite3
+data=$top/crates/audit_examples/data
 
 # database COPY FILE
 database() { sqlite3 "$1/.svn/wc.db" "pragma page_size = 512; vacuum into '$2'"; }

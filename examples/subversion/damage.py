@@ -281,31 +281,46 @@ def questions(program, every, damages):
     return len(taken) * len(TOPICS), len(wrong)
 
 
-# the second is of the crate that reads the words
-OUT_OF_MEMORY = r"(svnaudit: (small: |words of the command line: )?|error: )out of memory\n"
+# the last line; the second is of the crate that reads the words
+OUT_OF_MEMORY = re.compile(r"(svnaudit: (small: |words of the command line: )?|error: )out of memory\n\Z")
+SCRIPT = "mkdir d\nput d/f one\nprop d p v\ncommit\ncopy 1 d e\nput d/f two\nunprop d p\ncommit\nremove e\ncommit\n"
 
 
-def allocations(program, every):
-    """Each allocation of a check of the small copy refused, alone and with all after it."""
-    sys.path.insert(0, f"{HERE}/../../sweep")
-    import run as sweep
-    library, words = sweep.built(os.getcwd()), ["check", "dump", "small"]
+def is_refused(ample, said):
+    """Whether it printed the beginning of what it prints with ample memory, and then that it is out of memory."""
+    end = OUT_OF_MEMORY.search(said)
+    return end is not None and ample.startswith(said[:end.start()])
+
+
+def allocations_of(sweep, program, words, every):
+    """Each allocation of one command refused, alone and with all after it: how many there are, and what was wrong."""
+    library = sweep.built(os.getcwd())
     ample, wrote, count = sweep.run([program], words, library, "0")
-    if not count:
-        print("allocations: the program has its own allocator, so none can be refused (an address-checking build)")
-        return 0, 0
 
     def one(refuse):
         status, said, _ = sweep.run([program], words, library, refuse)
-        good = (status, said) == (ample, wrote) or status == 2 and re.fullmatch(OUT_OF_MEMORY, said)
-        return None if good else f"allocation {refuse}: status {status}, {said[:200]!r}"
+        good = (status, said) == (ample, wrote) or status == 2 and is_refused(wrote, said)
+        return None if good else f"{words[0]}, allocation {refuse}: status {status}, {said[:200]!r}"
     numbers = range(1, count + 1, every)
     with ThreadPoolExecutor(os.cpu_count()) as pool:
-        wrong = [it for it in pool.map(one, [f"{n}{end}" for n in numbers for end in ("", "+")]) if it]
-    print(f"allocations: {len(numbers)} of {count} refused, alone and with all after; {len(wrong)} wrong")
+        return len(numbers), [it for it in pool.map(one, [f"{n}{end}" for n in numbers for end in ("", "+")]) if it]
+
+
+def allocations(program, every):
+    """The allocations of commands on the small copy, and of a script that is written."""
+    sys.path.insert(0, f"{HERE}/../../sweep")
+    import run as sweep
+    with open("script", "w", encoding="utf-8") as file:
+        file.write(SCRIPT)
+    commands = [["check", "dump", "small"], ["update", "dump", "small"], ["nodes", "dump", "small"], ["write", "script"]]
+    found = [allocations_of(sweep, program, words, every) for words in commands]
+    count, wrong = sum(it[0] for it in found), sum((it[1] for it in found), [])
+    if not count:
+        print("allocations: the program has its own allocator, so none can be refused (an address-checking build)")
+    print(f"allocations: {count} refused, alone and with all after; {len(wrong)} wrong")
     for line in wrong[:10]:
         print(f"    {line}")
-    return 2 * len(numbers), len(wrong)
+    return 2 * count, len(wrong)
 
 
 def main(words):

@@ -3,23 +3,13 @@
 # refuses it by one line; it ends within its time, and changes nothing. So do its other commands. Where the copy changes while it is read, it is refused. And
 # each of its allocations refused: it prints what it prints otherwise, or that it is out of memory.
 #
-# It needs Debian's packages `subversion` and `sqlite3`, python3, for the allocations a C compiler, and `svnaudit` as `rt run` builds it:
-# crates/svnaudit/out/svnaudit, or the program that the variable SVNAUDIT names. EVERY=N takes each N-th damage alone (default 1), for a slow build;
-# CHANGES says how many bytes are changed (default 3000). It works in a folder of its own, which goes at the end, and is no part of the gate. The last
-# line counts what is wrong.
-set -u
-here=$(cd "$(dirname "${BASH_SOURCE[0]}")" && pwd)
-top=$(cd "$here/../.." && pwd)
-SVNAUDIT=${SVNAUDIT:-$top/crates/svnaudit/out/svnaudit}
-for it in svnadmin sqlite3; do
-    command -v $it >/dev/null || { echo "this needs the program $it, of Debian's packages subversion and sqlite3" >&2; exit 2; }
-done
-[ -x "$SVNAUDIT" ] || { echo "there is no program $SVNAUDIT: run 'rt run' in crates/svnaudit first, or name it in SVNAUDIT" >&2; exit 2; }
-export SVN_I_LOVE_CORRUPTED_WORKING_COPIES_SO_DISABLE_SLEEP_FOR_TIMESTAMPS=yes LC_ALL=C.UTF-8
-room=$(mktemp -d)
-trap 'rm -rf "$room"' EXIT
-cd "$room" || exit 2
-echo "== Subversion $(svn --version -q)"
+# It needs Debian's packages `subversion` and `sqlite3`, python3, for the allocations a C compiler, and `svnaudit` as `tools/prove svnaudit` builds
+# it: crates/svnaudit/out/svnaudit, or the program that the variable SVNAUDIT names. EVERY=N takes each N-th damage alone (default 1), for a slow
+# build; CHANGES says how many bytes are changed (default 3000). It works in a folder of its own, which goes at the end, and is no part of the gate.
+# The last line counts what is wrong.
+. "$(dirname "${BASH_SOURCE[0]}")/room.sh"
+needs sqlite3 python3
+needs_built svnaudit
 
 # a copy whose table of nodes has several pages, with a property that needs overflow pages, and one that is small
 svnadmin create repo

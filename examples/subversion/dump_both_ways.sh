@@ -2,34 +2,14 @@
 # Histories go both ways: one that Subversion made is dumped in each way that it has, and `svnaudit show` prints each of its revisions as Subversion lists
 # it; and one that a script makes is written by `svnaudit write`, loaded by `svnadmin load`, and Subversion lists each revision as `svnup` shows it.
 #
-# It needs Debian's package `subversion`, python3, for random histories `python3-subversion` too, and two programs as `rt run` builds them:
-# crates/svnaudit/out/svnaudit and crates/svnup/out/svnup, or those that the variables SVNAUDIT and SVNUP name. RANDOM_HISTORIES says how many
-# histories are made at random, by default 6. It works in a folder of its own, which goes at the end, and is no part of the gate. The last line counts
-# what differs.
-set -u
-here=$(cd "$(dirname "${BASH_SOURCE[0]}")" && pwd)
-top=$(cd "$here/../.." && pwd)
-SVNAUDIT=${SVNAUDIT:-$top/crates/svnaudit/out/svnaudit}
-SVNUP=${SVNUP:-$top/crates/svnup/out/svnup}
-command -v svnadmin >/dev/null || { echo "this needs the program svn, of Debian's package subversion" >&2; exit 2; }
-for it in "$SVNAUDIT" "$SVNUP"; do
-    [ -x "$it" ] || { echo "there is no program $it: run 'rt run' in its crate first, or name it in SVNAUDIT or SVNUP" >&2; exit 2; }
-done
+# It needs Debian's package `subversion`, python3, for random histories `python3-subversion` too, and two programs as `tools/prove svnaudit svnup`
+# builds them: crates/svnaudit/out/svnaudit and crates/svnup/out/svnup, or those that the variables SVNAUDIT and SVNUP name. RANDOM_HISTORIES says how
+# many histories are made at random, by default 6. It works in a folder of its own, which goes at the end, and is no part of the gate. The last line
+# counts what differs.
+. "$(dirname "${BASH_SOURCE[0]}")/room.sh"
 . "$here/dump_history.sh"
-room=$(mktemp -d)
-trap 'rm -rf "$room"' EXIT
-cd "$room" || exit 2
-compared=0 wrong=0
-echo "== Subversion $(svn --version -q)"
-
-# same WHAT WANTED GOT: whether two files are the same
-same() {
-    compared=$((compared + 1))
-    cmp -s "$2" "$3" && return
-    wrong=$((wrong + 1))
-    echo "$1 DIFFERS:"
-    diff "$2" "$3" | head -6 | sed 's/^/    /'
-}
+needs python3
+needs_built svnaudit svnup
 
 # says WHAT LINE COMMAND..: whether a command is refused by one line, with status 2
 says() {
@@ -253,17 +233,17 @@ compare_script twice twice
 for script in "$top"/examples/*.script; do
     name=$(basename "$script" .script)
     cp "$script" "$name.script"
-    if "$SVNAUDIT" write "$name.script" >"$name.dump" 2>said; then
-        svnadmin create "$name" && svnadmin load -q "$name" <"$name.dump"
-        compare_script "$name" "$name"
-    else
-        # (this one shows a commit that is refused)
-        echo "    $(cat said)"
-    fi
+    [ $name = properties_and_copies ] && continue
+    "$SVNAUDIT" write "$name.script" >"$name.dump" 2>got
+    : >wanted
+    same "$name, written" wanted got
+    svnadmin create "$name" && svnadmin load -q "$name" <"$name.dump"
+    compare_script "$name" "$name"
 done
+says "a script with a commit that is refused" "svnaudit: properties_and_copies.script: line 38: there is no such revision" \
+    "$SVNAUDIT" write properties_and_copies.script
 printf 'put f a\ncommit\ncheckout 1\nput f/x a\ncommit\n' >bad.script
 says "a refused change" "svnaudit: bad.script: line 4: a file is where a directory is needed" "$SVNAUDIT" write bad.script
 printf 'put f a\ncommit\n\nput f\n' >bad.script
 says "a bad line" "svnaudit: bad.script: line 4: bad line" "$SVNAUDIT" write bad.script
-echo "$compared compared, $wrong wrong"
-[ $wrong = 0 ]
+end

@@ -11,13 +11,10 @@
 # in gaps.dump changes where Subversion is 1.14 and nothing was wrong; remote.sha1, which says why that dump isn't loaded so, is written by hand.
 #
 # It needs Debian's package `subversion` and python3.
-set -eu
-export LC_ALL=C.UTF-8
-here=$(cd "$(dirname "${BASH_SOURCE[0]}")" && pwd)
-data=$(cd "$here/../../crates/dump_examples/data" && pwd)
-room=$(mktemp -d)
-trap 'rm -rf "$room"' EXIT
-cd "$room"
+set -eo pipefail
+. "$(dirname "${BASH_SOURCE[0]}")/room.sh"
+needs python3
+data=$top/crates/dump_examples/data
 
 # trees NAME REPOSITORY LAST WORDS..: what revisions 0 to LAST have
 trees() {

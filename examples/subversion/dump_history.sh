@@ -1,11 +1,9 @@
-# A history with all that a dump can say, made by the client: what dump_both_ways.sh and dump_data.sh share.
+# A history with all that a dump can say, made by the client: what dump_both_ways.sh and working_copies.sh share.
 #
 # make_history REPO   makes the repository, in a folder that isn't there yet; it works in the current folder
 #
 # It has copies with changes in them and of mixed revisions, moves, replaces with and without history, swaps, properties that change and go, empty and
 # binary values and files, names with all signs that the client takes, files that were touched, revisions without a change, and one without properties.
-export LC_ALL=C.UTF-8
-export SVN_I_LOVE_CORRUPTED_WORKING_COPIES_SO_DISABLE_SLEEP_FOR_TIMESTAMPS=yes
 
 # one more revision, which changes nothing
 empty_revision() {

@@ -28,3 +28,8 @@ place d/y 2
 update 4
 show
 SCRIPT
+leaves <<'LINES'
+. dir 4 .
+d file 4 d file
+LINES
+end

@@ -27,3 +27,11 @@ switch d/s b 1
 update 3
 show
 SCRIPT
+leaves <<'LINES'
+. dir 3 .
+b dir 3 b
+b/y file 3 b/y a
+d dir 3 d
+d/s dir 3 d/s
+LINES
+end

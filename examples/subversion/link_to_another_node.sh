@@ -25,3 +25,11 @@ switch a b 1
 update 3
 show
 SCRIPT
+leaves <<'LINES'
+. dir 3 .
+a dir 3 a
+a/x file 3 a/x a
+b dir 3 b
+b/z file 3 b/z new
+LINES
+end

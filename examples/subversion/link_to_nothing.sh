@@ -23,3 +23,9 @@ switch a b 1
 update 2
 show
 SCRIPT
+leaves <<'LINES'
+. dir 2 .
+a dir 2 a
+a/x file 2 a/x a
+LINES
+end

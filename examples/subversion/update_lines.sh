@@ -1,8 +1,7 @@
 #!/bin/bash
 # The lines of `svn update`, and those of the program own_editor, whose editor prints them: the same history, and the same update.
 . "$(dirname "${BASH_SOURCE[0]}")/beside.sh"
-OWN=${OWN:-$top/crates/own_editor/out/own_editor}
-[ -x "$OWN" ] || { echo "there is no program $OWN: run 'rt run' in crates/own_editor first, or name it in OWN" >&2; exit 2; }
+needs_built own_editor
 
 # what crates/own_editor/src/history.rt commits
 first() {
@@ -21,11 +20,7 @@ svn -q checkout -r 1 "$url" wc
 
 # Subversion took two commits for the second revision, since it replaces a file by a directory in no single one
 (cd wc && svn update && svn update) | sed 's/revision 3\./revision 2./' >lines
-"$OWN" >own
+"$OWN_EDITOR" >own
 sed 's/^/    /' lines
-if cmp -s lines own; then
-    echo "own_editor prints the same"
-else
-    echo "OWN_EDITOR PRINTS OTHERWISE:"
-    diff lines own | sed 's/^/    /'
-fi
+same "own_editor" lines own
+end

@@ -1,0 +1,88 @@
+#!/bin/bash
+# The commands on the pages that are about Subversion's own repositories and working copies, run as they are written: the outputs on the page are compared
+# with what is printed, and where there is none, each command must succeed.
+#
+# It needs Debian's packages `subversion` and `sqlite3`, python3, and `svnaudit` and `svnup` as `tools/prove svnaudit svnup` builds them:
+# crates/svnaudit/out/svnaudit and crates/svnup/out/svnup, or the programs that the variables SVNAUDIT and SVNUP name. It works in a folder of its own,
+# which goes at the end, and is no part of the gate. The last line counts what differs.
+. "$(dirname "${BASH_SOURCE[0]}")/room.sh"
+. "$here/dump_history.sh"
+. "$here/false_copies.sh"
+needs sqlite3 python3
+needs_built svnaudit svnup
+mkdir programs
+ln -s "$SVNAUDIT" programs/svnaudit
+ln -s "$SVNUP" programs/svnup
+PATH=$room/programs:$PATH
+
+# on_page PAGE HEADING: the indented lines below a heading
+on_page() { awk -v heading="$2" '/^#/ { on = $0 == heading } on && /^    / { print substr($0, 5) }' "$top/$1"; }
+
+# runs PAGE HEADING: each command succeeds
+runs() {
+    on_page "$1" "$2" >commands
+    : >wanted
+    : >got
+    bash -e commands >said 2>&1 </dev/null || cat said >got
+    [ -s commands ] || echo "there are no commands" >got
+    same "$1, $2" wanted got
+}
+
+give_status() { return "$1"; }
+
+# prints PAGE HEADING: after each line that begins with `$` comes what the command prints
+prints() {
+    local line status=0
+    on_page "$1" "$2" >wanted
+    grep '^\$ ' wanted >commands
+    while IFS= read -r line; do
+        printf '%s\n' "$line"
+        give_status $status
+        eval "${line#\$ }" 2>&1 </dev/null
+        status=$?
+    done <commands >got
+    same "$1, $2" wanted got
+}
+
+echo "== a script's commits in Subversion, and a repository of Subversion in a script"
+mkdir script
+cd script || exit 2
+cp "$top/examples/tutorial.script" my.script
+runs docs/TUTORIAL.md "## Beside Subversion"
+ln -s repo REPO
+ln -s wc WC
+runs README.md "## Check a working copy"
+cd "$room" || exit 2
+
+echo "== copies that are checked"
+restored restored
+ln -s restored.repo repo
+mv restored wc
+svn -q checkout "file://$room/restored.repo" other
+svn -q update -r 2 other/d
+prints docs/AUDIT.md "## check"
+rm repo
+
+echo "== an update, and trees"
+cp "$top/crates/dump_examples/data/features.dump" .
+svnadmin create repo
+svnadmin load -q --bypass-prop-validation repo <features.dump
+url=file://$room/repo
+svn -q checkout -r 2 "$url/trunk" w1
+svn -q update -r 3 w1/a.c
+svn switch -q --ignore-ancestry -r 2 "$url/branches/1.x/lib@2" w1/lib
+prints docs/AUDIT.md "## report, update, calls, nodes"
+prints docs/AUDIT.md "## show"
+rm -rf repo
+svnadmin create repo
+cp "$top/examples/first_update.script" x.script
+prints docs/AUDIT.md "## write"
+
+echo "== the library in another repository"
+mkdir checkout your_repository
+cp -r "$top/tools" "$top/crates.txt" checkout
+ln -s "$top/crates" checkout/crates
+cd checkout || exit 2
+runs docs/EMBEDDING.md "## Adding it to your repository"
+cd "$room" || exit 2
+end
