@@ -4,6 +4,7 @@ pub mod Inbox
 pub mod LinkFault
 pub mod Notice
 pub mod Outbox
+pub mod Queue
 pub mod Settled
 pub mod Teller
 pub mod Watcher

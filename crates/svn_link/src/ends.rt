@@ -5,8 +5,8 @@ ghost use Rattle.svn_link.specs.Ends.{IsCapacity};
 use crate::fault::LinkFault;
 use crate::inbox::Inbox;
 use crate::outbox::Outbox;
-use crate::queue::Counted;
-use rtrb::RingBuffer;
+use crate::queue::{Hand, InOrder, Roles};
+use crossbeam_channel::bounded_with;
 use std::alloc::Global;
 use svn_editor::Call;
 use svn_types::MAX_CAPACITY;
@@ -23,16 +23,19 @@ pub fn link(alloc: Global, capacity: usize) -> Result<(Outbox, Inbox), LinkFault
     if capacity < 1 || capacity > MAX_CAPACITY {
         return Err(LinkFault::Capacity);
     }
-    let (producer, consumer) = RingBuffer::<Call>::with_protocol::<Global, Counted>(
+    let (sender, receiver, mut sends) = bounded_with::<Call, Hand, InOrder, Global>(
         alloc, capacity,
     )?;
+    let takes = sender.another::<Roles>(&mut sends);
     let outbox = Outbox {
-        producer,
+        sender,
+        pass: sends,
         count: 0,
         over: false,
     };
     let inbox = Inbox {
-        consumer,
+        receiver,
+        pass: takes,
         count: 0,
         over: false,
     };

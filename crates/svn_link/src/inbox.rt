@@ -1,12 +1,14 @@
 //! The end of a link that takes.
-ghost use Rattle.std.specs.Prelude.{◌≡◌, ◌++◌, ◌∷◌, length, ◌≤◌, false, []};
-ghost use Rattle.rtrb.specs.Ring.{received, SameConsumer};
+ghost use Rattle.std.specs.Prelude.{◌≡◌, ◌++◌, ◌∷◌, length, ◌≤◌, true, false, [], MatchOption};
+ghost use Rattle.crossbeam_channel.specs.Claims.{view as hand_of, IsSeatAt};
+ghost use Rattle.crossbeam_channel.specs.Ends.{receives_on};
 ghost use Rattle.svn_link.specs.Calls.{is_over};
+ghost use Rattle.svn_link.specs.Queue.{hand, IsTake};
 
-use crate::queue::{Takes, wait_a_little};
-use std::fmt;
+use crate::queue::{LOOKS, Pass, Receiver, Takes};
 use std::marker::Model;
 use std::sync::Wait;
+use std::{fmt, thread};
 use svn_editor::Call;
 
 /// The end of a link that takes calls. Contracts see its link and the list of the calls that it took.
@@ -15,7 +17,8 @@ use svn_editor::Call;
 /// where it is dropped earlier, a `send` of the [`Outbox`](crate::Outbox) waits for ever.
 #[derive(Drop)]
 pub struct Inbox {
-    pub(crate) consumer: Takes,
+    pub(crate) receiver: Receiver,
+    pub(crate) pass: Pass,
     pub(crate) count: u64,
     pub(crate) over: bool,
 }
@@ -44,7 +47,7 @@ impl Inbox {
         ensures counted { length self.new.calls ≤ u64.MAX }
         ensures link { self.new.link ≡ self.old.link }
     {
-        let call = pop(rt, &mut self.consumer);
+        let call = pop(rt, &self.receiver, &mut self.pass);
         let over = call.is_last();
         self.count += 1;
         self.over = over;
@@ -76,19 +79,37 @@ impl fmt::Debug for Inbox {
     }
 }
 
-// Takes a call, once there is one.
-fn pop<R: Wait>(rt: &R, consumer: &mut Takes) -> Call
-    ensures ring { SameConsumer consumer.old consumer.new }
-    ensures taken { received consumer.new ≡ received consumer.old ++ result ∷ [] }
-    ensures counted { length (received consumer.new) ≤ u64.MAX }
+// Takes a call by the one pass that may, if there is one at one of a few looks.
+fn pop_soon<R: Wait>(rt: &R, receiver: &Receiver, pass: &mut Pass) -> Option<Call>
+    requires seat { IsSeatAt (receives_on receiver.now) pass.old }
+    requires takes { hand_of pass.old ≡ hand false true [] (hand_of pass.old).taken }
+    ensures seat { IsSeatAt (receives_on receiver.now) pass.new }
+    ensures taken { MatchOption result (hand_of pass.new ≡ hand_of pass.old) (λ call. IsTake (hand_of pass.old) call (hand_of pass.new)) }
 {
-    let mut looks = 0;
+    'look: for _ in 0..LOOKS {
+        if let Ok(call) = receiver.try_recv_as::<Takes, R>(rt, pass) {
+            return Some(call);
+        }
+        thread::yield_now();
+    }
+    None
+}
+
+// Takes a call by the one pass that may.
+fn pop<R: Wait>(rt: &R, receiver: &Receiver, pass: &mut Pass) -> Call
+    requires seat { IsSeatAt (receives_on receiver.now) pass.old }
+    requires takes { hand_of pass.old ≡ hand false true [] (hand_of pass.old).taken }
+    ensures seat { IsSeatAt (receives_on receiver.now) pass.new }
+    ensures taken { IsTake (hand_of pass.old) result (hand_of pass.new) }
+{
+    if let Some(call) = pop_soon(rt, receiver, pass) {
+        return call;
+    }
     for _ in rt.forever() {
-        if let Ok(call) = consumer.pop() {
+        if let Ok(call) = receiver.recv_as::<Takes, R>(rt, pass) {
             return call;
         }
-        wait_a_little(rt, looks);
-        looks = looks.saturating_add(1);
+        thread::yield_now();
     }
     unreachable!()
 }

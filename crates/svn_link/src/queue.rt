@@ -1,43 +1,100 @@
-//! The queue of a link, and how an end waits for the other.
+//! The rule of the queue, and what each of its steps tells the thread that makes it.
 
-use rtrb::{Consumer, Producer, Protocol};
-use std::alloc::Global;
-use std::sync::Wait;
-use std::thread;
-use std::thread::Parker;
-use std::time::Duration;
+use crossbeam_channel::protocol::{Join, Lesson, Outcome, Protocol, Split};
+use crossbeam_channel::{RuledReceiver, RuledSender};
+use std::collections::LinkedList;
 use svn_editor::Call;
 
-/// No more calls are sent than a link counts, so the end that takes can count them.
-pub struct Counted;
-
-impl Protocol<Call> for Counted {
-    ghost use Rattle.std.specs.Prelude.{◌<◌, ◌^◌, [], ◌∷◌, ◌++◌, length};
-
-    ghost allows = { λ before call. length (before ++ call ∷ []) < 2 ^ 64 };
+/// What a pass may do, and what it has sent and taken. It exists in proofs alone: no value of it is made.
+pub struct Hand {
+    /// Whether it may send.
+    pub sends: bool,
+    /// Whether it may take.
+    pub takes: bool,
+    /// What it has sent, the first call first.
+    pub sent: LinkedList<Call>,
+    /// What it has taken, the first call first.
+    pub taken: LinkedList<Call>,
 }
 
-/// The end of the queue that sends.
-pub type Sends = Producer<Call, Global, Counted>;
+/// What was taken, and then what the queue holds, is what was sent.
+pub struct InOrder;
 
-/// The end of the queue that takes.
-pub type Takes = Consumer<Call, Global, Counted>;
+impl Protocol<Call, Hand> for InOrder {
+    ghost use Rattle.std.specs.Prelude.{true, []};
+    ghost use Rattle.svn_link.specs.Queue.{hand, IsInOrder};
 
-// How often an end looks again, and lets other threads run in between, before it sleeps between two looks.
-const LOOKS: u32 = 256;
+    ghost holds = { IsInOrder };
 
-// How long it sleeps at first, in microseconds. Each sleep is longer by that, up to so many times that.
-const SLEEP: u64 = 50;
-
-const LONGEST: u32 = 100;
-
-/// Waits a little for the other end, where so many looks came before.
-pub(crate) fn wait_a_little<R: Wait>(rt: &R, looks: u32) {
-    let Some(sleeps) = looks.checked_sub(LOOKS) else {
-        thread::yield_now();
-        return;
-    };
-    // nobody wakes it, so it sleeps that long
-    let long = SLEEP * u64::from(sleeps.min(LONGEST - 1) + 1);
-    Parker::new().park_timeout(rt, Duration::from_micros(long));
+    ghost first = { hand true true [] [] };
 }
+
+/// The pass that may do both is split into one that sends and one that takes, and they are joined to one again.
+pub struct Roles;
+
+impl Split<Hand> for Roles {
+    ghost use Rattle.std.specs.Prelude.{true, false, []};
+    ghost use Rattle.svn_link.specs.Queue.{hand};
+
+    ghost left = { λ h. hand true false h.sent [] };
+
+    ghost right = { λ h. hand false true [] h.taken };
+}
+
+impl Join<Hand> for Roles {
+    ghost use Rattle.std.specs.Prelude.{true, false, []};
+    ghost use Rattle.svn_link.specs.Queue.{hand};
+
+    ghost both = { λ h k. hand true true h.sent k.taken };
+
+    ghost spent = { hand false false [] [] };
+}
+
+/// A send: the call is the last of those that were sent. A send that finds the queue full tells nothing.
+pub struct Sends;
+
+impl Outcome<Call, Hand> for Sends {
+    ghost use Rattle.std.specs.Prelude.{◌≡◌};
+    ghost use Rattle.svn_link.specs.Queue.{sent_more};
+
+    ghost then = { λ h c k. k ≡ sent_more h c };
+}
+
+impl Lesson<Call, Hand> for Sends {
+    ghost fact = { λ _ _. Unit {0} };
+}
+
+/// A take: the call is the last of those that were taken. A take that finds the queue empty tells nothing.
+pub struct Takes;
+
+impl Outcome<Call, Hand> for Takes {
+    ghost use Rattle.svn_link.specs.Queue.{IsTake};
+
+    ghost then = { IsTake };
+}
+
+impl Lesson<Call, Hand> for Takes {
+    ghost fact = { λ _ _. Unit {0} };
+}
+
+/// What the joined pass learns of the queue: what was taken, and then what the queue holds, is what was sent.
+pub struct Remains;
+
+impl Lesson<Call, Hand> for Remains {
+    ghost use Rattle.std.specs.Prelude.{◌≡◌, ◌++◌};
+
+    ghost fact = { λ h items. h.sent ≡ h.taken ++ items };
+}
+
+/// The end of the channel that sends by the rule.
+pub type Sender = RuledSender<Call, Hand, InOrder>;
+
+/// The end of the channel that takes by the rule.
+pub type Receiver = RuledReceiver<Call, Hand, InOrder>;
+
+/// A value without bytes by which a thread may make steps, and in which proofs keep what it did.
+pub type Pass = crossbeam_channel::Pass<Call, Hand>;
+
+/// How often an end looks again, and lets other threads run in between, before it sleeps until it is told: that costs both threads a call of the
+/// system.
+pub(crate) const LOOKS: u32 = 64;

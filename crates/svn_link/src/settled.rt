@@ -4,9 +4,9 @@ ghost use Rattle.svn_link.specs.Calls.{is_over, BeginsWith, EndsAtLast};
 
 use crate::inbox::Inbox;
 use crate::outbox::Outbox;
+use crate::queue::{Pass, Remains, Roles};
 use std::fmt;
 use std::marker::Model;
-use std::snapshot::Snapshot;
 
 /// A link whose two ends were joined. Contracts see the list of the calls that were sent and of those that were taken.
 ///
@@ -17,8 +17,7 @@ pub struct Settled {
     pub sent: u64,
     /// How many calls were taken.
     pub taken: u64,
-    outbox: Snapshot<Outbox>,
-    inbox: Snapshot<Inbox>,
+    pass: Pass,
 }
 
 impl Model for Settled {
@@ -45,18 +44,21 @@ pub fn settle(outbox: Outbox, inbox: Inbox) -> Settled
     ensures whole { is_over inbox.calls ≡ true → result.taken ≡ result.sent }
     ensures last { EndsAtLast result.sent }
 {
-    let (sent, taken) = (outbox.sent(), inbox.taken());
-    let sends = Snapshot::of(&outbox);
-    let takes = Snapshot::of(&inbox);
-    let Outbox { mut producer, .. } = outbox;
-    let Inbox { mut consumer, .. } = inbox;
-    consumer.slots_beside(&mut producer);
-    Settled {
-        sent,
-        taken,
-        outbox: sends,
-        inbox: takes,
-    }
+    let Outbox {
+        sender,
+        mut pass,
+        count: sent,
+        over: _,
+    } = outbox;
+    let Inbox {
+        receiver: _,
+        pass: takes,
+        count: taken,
+        over: _,
+    } = inbox;
+    sender.absorb::<Roles>(&mut pass, takes);
+    sender.learn_as::<Remains>(&mut pass);
+    Settled { sent, taken, pass }
 }
 
 /// It shows how many calls were sent and taken.

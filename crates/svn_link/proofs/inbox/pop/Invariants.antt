@@ -1,6 +1,7 @@
 use Rattle.std.proofs.Common.{◌≡◌}
-use Rattle.rtrb.specs.Ring.{received, SameConsumer}
+use Rattle.crossbeam_channel.specs.Claims.{view as hand_of, IsSeatAt}
+use Rattle.crossbeam_channel.specs.Ends.{receives_on}
 use Rattle.svn_link.proofs.inbox.pop.Given as goal
 
 abbrev pub invariant-loop : goal.invariant-loop
-invariant-loop g l = SameConsumer l.initial.consumer l.consumer × (received l.consumer ≡ received l.initial.consumer)
+invariant-loop g l = IsSeatAt (receives_on l.receiver) l.pass × (hand_of l.pass ≡ hand_of l.initial.pass)

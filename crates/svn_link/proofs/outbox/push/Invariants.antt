@@ -1,6 +1,7 @@
 use Rattle.std.proofs.Common.{◌≡◌}
-use Rattle.rtrb.specs.Ring.{sent, SameProducer}
+use Rattle.crossbeam_channel.specs.Claims.{view as hand_of, IsSeatAt}
+use Rattle.crossbeam_channel.specs.Ends.{sends_on}
 use Rattle.svn_link.proofs.outbox.push.Given as goal
 
 abbrev pub invariant-loop : goal.invariant-loop
-invariant-loop g l = SameProducer l.initial.producer l.producer × (sent l.producer ≡ sent l.initial.producer) × (l.call ≡ l.initial.call)
+invariant-loop g l = IsSeatAt (sends_on l.sender) l.pass × (hand_of l.pass ≡ hand_of l.initial.pass) × (l.call ≡ l.initial.call)
