@@ -1,10 +1,10 @@
 #!/usr/bin/env python3
-"""Runs each row of svn_sweep with each of its allocations refused, and says what was seen.
+"""Runs each row of test_sweep with each of its allocations refused, and says what was seen.
 
 usage: sweep/run.py PROGRAM [ROW..]
        sweep/run.py --svnup PROGRAM
 
-PROGRAM is the built program, crates/svn_sweep/out/svn_sweep (`rt run` in crates/svn_sweep builds it). For each row and way, for N = 1, 2, ..
+PROGRAM is the built program, crates/test_sweep/out/test_sweep (`rt run` in crates/test_sweep builds it). For each row and way, for N = 1, 2, ..
 until a run asks for fewer, the N-th allocation is refused, and the row must hold all the same; then all from the N-th on are refused,
 and the program must end, and report that it is out of memory if the row isn't done. refuse.c refuses; the system's C compiler makes
 a library of it. A run has a minute.

@@ -1,9 +1,9 @@
 #!/bin/bash
-# The lines of `svn update`, and those of the program own_editor, whose editor prints them: the same history, and the same update.
+# The lines of `svn update`, and those of the program example_own_editor, whose editor prints them: the same history, and the same update.
 . "$(dirname "${BASH_SOURCE[0]}")/beside.sh"
-needs_built own_editor
+needs_built example_own_editor
 
-# what crates/own_editor/src/history.rt commits
+# what crates/example_own_editor/src/history.rt commits
 first() {
     printf 'read me' >README && printf 'a file' >e && mkdir lib
     for file in a b c; do printf '%s' "$file" >"lib/$file"; done
@@ -22,5 +22,5 @@ svn -q checkout -r 1 "$url" wc
 (cd wc && svn update && svn update) | sed 's/revision 3\./revision 2./' >lines
 "$OWN_EDITOR" >own
 sed 's/^/    /' lines
-same "own_editor" lines own
+same "example_own_editor" lines own
 end

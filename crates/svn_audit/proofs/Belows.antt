@@ -9,7 +9,7 @@ use Rattle.svn_types.specs.Paths.{path_eq, is_within}
 use Rattle.svn_types.proofs.PathLemmas.{same_path, split_within, within_append}
 use Rattle.svn_model.specs.declared.base_node.BaseNode.{BaseNode}
 use Rattle.svn_model.specs.Nodes.{get_in}
-use Rattle.svn_edit_law.proofs.Lookups.{at_path}
+use Rattle.law_copy.proofs.Lookups.{at_path}
 use Rattle.svn_model.specs.declared.wc_fault.WcFault.{WcFault}
 use Rattle.svn_wc.specs.Building.{Refuses}
 use Rattle.svn_audit.specs.Below.{node_below, nodes_below, IsFaultOrMemory}

@@ -19,8 +19,8 @@ use Rattle.svn_model.specs.declared.base_node.BaseNode.{BaseNode}
 use Rattle.svn_model.specs.declared.base_node.BaseNode.TheVariants.{File as FileNode, Dir as DirNode, NotPresent}
 use Rattle.svn_model.specs.Nodes.{WorkingCopy, node_props, present_props}
 use Rattle.svn_model.specs.Truth.{Properties, props_eq, is_untrue_file, is_untrue_dir, is_untrue, lacks_entry}
-use Rattle.svn_edit_law.proofs.TruthTests.{prop_decides}
-use Rattle.svn_law.proofs.PropChanges.{with_changes-between}
+use Rattle.law_copy.proofs.TruthTests.{prop_decides}
+use Rattle.law_update.proofs.PropChanges.{with_changes-between}
 use Rattle.svn_wc.specs.Truths.{looked}
 use Rattle.svn_audit.specs.declared.reason.Reason.{Reason}
 use Rattle.svn_audit.specs.declared.reason.Reason.TheVariants.{AnotherKind, AnotherText, AnotherProperty, Lacks}

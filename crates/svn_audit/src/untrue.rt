@@ -8,8 +8,8 @@ ghost use Rattle.svn_model.specs.Nodes.{get_in, node_revision, node_path, node_p
 ghost use Rattle.svn_audit.specs.Untrue.{first_changed, first_lacking, file_reason, whole_reason, dir_reason, missing_reason, node_reason, untrue_at, untrue_in};
 
 use crate::reason::{Reason, Untrue};
+use law_copy::truth_is_tested;
 use std::alloc::{AllocError, Global};
-use svn_edit_law::truth_is_tested;
 use svn_model::BaseNode;
 use svn_nodes::ahead::Ahead;
 use svn_repo::{Entries, NodeId, Repo};

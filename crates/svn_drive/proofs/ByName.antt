@@ -23,7 +23,7 @@ use Rattle.svn_types.specs.Pairs.{value_of}
 use Rattle.svn_types.proofs.NameLemmas.{Name, has_name, value_of-first, no_name_no_value}
 use Rattle.svn_report.specs.declared.entry.ReportEntry.{ReportEntry}
 use Rattle.svn_report.specs.Reports.{Entries}
-use Rattle.svn_drive_law.proofs.Ways.{not_before, Ordered, ordered-fold, ordered_apart}
+use Rattle.law_drive.proofs.Ways.{not_before, Ordered, ordered-fold, ordered_apart}
 use Rattle.svn_drive.specs.Firsts.{InOrder, first_key}
 use Rattle.svn_drive.specs.Parts.{AreDeeper, Named, by_name, entries_under, name_at, with_entry}
 

@@ -22,7 +22,7 @@ use Rattle.svn_editor.specs.declared.call.Call.{Call}
 use Rattle.svn_editor.specs.declared.fault.EditFault.{EditFault}
 use Rattle.svn_model.specs.declared.stop.Stop.{Stop}
 use Rattle.svn_model.specs.TreeCalls.{call_at, calls_at}
-use Rattle.svn_drive_law.proofs.TreePaths.{three_parts}
+use Rattle.law_drive.proofs.TreePaths.{three_parts}
 use Rattle.svn_drive.proofs.RunLemmas.{run_then, run_stops}
 use Rattle.svn_drive.proofs.VisitRuns.{Run, run_as}
 

@@ -27,8 +27,8 @@ use Rattle.svn_drive.specs.Waiting.{visit_late}
 use Rattle.svn_drive.specs.Walking.{IsQuiet, IsLeft, IsIdle, entry_of, has_same_entry}
 use Rattle.svn_types.proofs.PathLemmas.{is_within-same, same_path}
 use Rattle.svn_model.proofs.Children.{path_ind, is_root-child, entry_below, look-child, follow-here, parent_is_kept-child}
-use Rattle.svn_drive_law.proofs.Reporting.{is_child, own-is, source-open}
-use Rattle.svn_drive_law.proofs.Classes.{is_kept-child, target_path-child}
+use Rattle.law_drive.proofs.Reporting.{is_child, own-is, source-open}
+use Rattle.law_drive.proofs.Classes.{is_kept-child, target_path-child}
 use Rattle.svn_drive.proofs.Visits.{visit_calls-height, visit_size-height, visit-not_entered, size-not_entered}
 use Rattle.svn_drive.proofs.Waits.{late-height, late-not_entered}
 

@@ -31,7 +31,7 @@ use Rattle.svn_report.proofs.ReportedNames.{has_name-reported}
 use Rattle.svn_model.specs.Follow.{Request, source_node, target_node}
 use Rattle.svn_model.specs.Tree.{next_name, names_in, names_at, names_below}
 use Rattle.svn_model.proofs.Children.{entry_below}
-use Rattle.svn_drive_law.proofs.Ways.{not_before, Ordered, ordered-fold, ordered_apart, ordered_below}
+use Rattle.law_drive.proofs.Ways.{not_before, Ordered, ordered-fold, ordered_apart, ordered_below}
 use Rattle.svn_drive.specs.declared.child_names.Below.{Below}
 use Rattle.svn_drive.specs.declared.child_names.NamesLeft.{NamesLeft}
 use Rattle.svn_drive.specs.declared.place.Place.{Place}

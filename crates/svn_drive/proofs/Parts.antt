@@ -28,7 +28,7 @@ use Rattle.svn_report.specs.declared.entry.ReportEntry.{ReportEntry}
 use Rattle.svn_report.specs.Reports.{Entries, entry_at}
 use Rattle.svn_report.specs.ReportNames.{has_entry_within}
 use Rattle.svn_report.specs.LawfulReports.{AreLawfulEntries}
-use Rattle.svn_drive_law.proofs.Ways.{Ordered}
+use Rattle.law_drive.proofs.Ways.{Ordered}
 use Rattle.svn_drive.specs.Firsts.{first_key}
 use Rattle.svn_drive.specs.Parts.{IsPart, AreDeeper, Named, by_name, entries_under, name_at, none_or, own_entry, with_entry, without_own}
 use Rattle.svn_drive.proofs.ByName.{all_after, first_is, has_at, has_under, under_is}

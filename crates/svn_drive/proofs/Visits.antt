@@ -16,7 +16,7 @@ use Rattle.svn_model.specs.Tree.{last_at, first_actions, last_actions}
 use Rattle.svn_model.specs.TreeCalls.{calls_at, sizes, size_below, own_size, tree_size, in_turn, calls_below, tree_calls, height_at}
 use Rattle.svn_model.specs.TreeCalls.{visit_size, visit_calls}
 use Rattle.svn_drive.specs.Walking.{IsEntered, entered_calls, entered_size}
-use Rattle.svn_drive_law.proofs.Tokens.{calls_at-append}
+use Rattle.law_drive.proofs.Tokens.{calls_at-append}
 
 -- ---- name by name
 

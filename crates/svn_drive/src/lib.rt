@@ -20,7 +20,7 @@
 //! `child_names` through the entries of both sides and the reported names together, so that each name comes once; `children` keeps those at
 //! which something must be done.
 //!
-//! To change which calls a drive makes, begin with the definition (`svn_model/specs/Steps.antt`, `TreeCalls.antt`) and the laws of `svn_drive_law`; then
+//! To change which calls a drive makes, begin with the definition (`svn_model/specs/Steps.antt`, `TreeCalls.antt`) and the laws of `law_drive`; then
 //! `visit`.
 //!
 //! Promises: `check_report` returns the first fault in the order of the definition (`answer`). For every report and every editor the calls

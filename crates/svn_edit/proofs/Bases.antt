@@ -22,8 +22,8 @@ use Rattle.svn_order.proofs.HoldingTokens.{given_now, given_still}
 use Rattle.svn_model.specs.declared.base_node.BaseNode.{BaseNode}
 use Rattle.svn_model.specs.Nodes.{get_in, node_text}
 use Rattle.svn_model.specs.Effects.{effect}
-use Rattle.svn_edit_law.proofs.OnePath.{pathed}
-use Rattle.svn_edit_law.proofs.FilesStand.{file_kept}
+use Rattle.law_copy.proofs.OnePath.{pathed}
+use Rattle.law_copy.proofs.FilesStand.{file_kept}
 use Rattle.std.specs.Map.{remove_entry}
 use Rattle.svn_serials.specs.Serials.{IsRising, get}
 use Rattle.svn_serials.proofs.Pairs.{Updates, updates_removed}

@@ -29,9 +29,9 @@ use Rattle.svn_model.specs.declared.base_node.BaseNode.TheVariants.{NotPresent}
 use Rattle.svn_model.specs.Nodes.{WorkingCopy, InPathOrder, get_in, is_present, node_text}
 use Rattle.svn_model.specs.Effects.{is_too_long, is_wrong_sum, joined_path, effect, step_fault, edit_fault, refusal}
 use Rattle.svn_model.specs.Answering.{IsAnswer, AnswersCall}
-use Rattle.svn_edit_law.proofs.Appending.{next_target}
-use Rattle.svn_edit_law.proofs.OnePath.{noted}
-use Rattle.svn_edit_law.proofs.StepEffects.{effect_alone, effect_none}
+use Rattle.law_copy.proofs.Appending.{next_target}
+use Rattle.law_copy.proofs.OnePath.{noted}
+use Rattle.law_copy.proofs.StepEffects.{effect_alone, effect_none}
 use Rattle.svn_edit.specs.declared.baton.Baton.{Baton}
 use Rattle.svn_edit.specs.declared.baton.Note.TheVariants.{Text as NewText}
 use Rattle.svn_edit.specs.declared.pending.Pending.{Pending}

@@ -32,8 +32,8 @@ use Rattle.svn_edit.specs.declared.pending.Pending.{Pending}
 use Rattle.svn_serials.specs.Serials.{get}
 use Rattle.svn_serials.proofs.Pairs.{Updates}
 use Rattle.svn_edit.specs.declared.baton.Note.{Note}
-use Rattle.svn_edit_law.proofs.Appending.{next_target}
-use Rattle.svn_edit_law.proofs.OnePath.{noted, pathed}
+use Rattle.law_copy.proofs.Appending.{next_target}
+use Rattle.law_copy.proofs.OnePath.{noted, pathed}
 use Rattle.svn_model.specs.Nodes.{WorkingCopy, get_in}
 use Rattle.svn_model.specs.Effects.{change_in, changes_at, closed_directory, is_too_long, step_fault, step_effect, effect, edit_fault}
 use Rattle.svn_model.specs.Said.{says, said_at}
@@ -41,7 +41,7 @@ use Rattle.svn_edit.specs.Noted.{note_of, strings_of}
 use Rattle.svn_edit.specs.Applying.{Applied, BatonSaid, BatonNoted, KeepsEdit, batons_of, is_open, IsBaton, BatonGone, IsLeaf, Says, Holds}
 use Rattle.svn_edit.specs.Applying.{IsNext, BatonMap}
 use Rattle.svn_model.specs.Answering.{AnswersCall}
-use Rattle.svn_edit_law.proofs.StepEffects.{effect_alone, effect_none}
+use Rattle.law_copy.proofs.StepEffects.{effect_alone, effect_none}
 use Rattle.svn_edit.proofs.HeldBatons.{held_leaf, held_gone, held_noted}
 use Rattle.svn_edit.proofs.Holding.{holds_by, applied_some}
 

@@ -22,8 +22,8 @@ use Rattle.svn_model.specs.Nodes.{WorkingCopy, get_in}
 use Rattle.svn_model.specs.Effects.{change_in, text_in, texts_at, closed_file, moved_path, joined_path, effect, edit_fault}
 use Rattle.svn_model.specs.Said.{says, said_at}
 use Rattle.svn_model.specs.Answering.{AnswersCall}
-use Rattle.svn_edit_law.proofs.OnePath.{pathed}
-use Rattle.svn_edit_law.proofs.StepEffects.{effect_alone}
+use Rattle.law_copy.proofs.OnePath.{pathed}
+use Rattle.law_copy.proofs.StepEffects.{effect_alone}
 use Rattle.svn_edit.specs.declared.baton.Baton.{Baton}
 use Rattle.svn_edit.specs.declared.pending.Pending.{Pending}
 use Rattle.svn_nodes.specs.NodeTests.{sum_fault, FileIsClosed}

@@ -23,7 +23,7 @@ use Rattle.svn_editor.proofs.Accepted.{IsAccepted}
 use Rattle.svn_order.proofs.Sound.{IsSound, given_closes, numbered_next, known}
 use Rattle.svn_edit.specs.declared.baton.Baton.{Baton}
 use Rattle.svn_edit.specs.declared.baton.Note.{Note}
-use Rattle.svn_edit_law.specs.Laws.{IsPathed}
+use Rattle.law_copy.specs.Laws.{IsPathed}
 use Rattle.svn_model.specs.Said.{says, said_at}
 use Rattle.svn_model.specs.Effects.{text_in}
 use Rattle.svn_nodes.specs.NodeTests.{first_of}
@@ -37,7 +37,7 @@ use Rattle.svn_order.proofs.OpenDirectories.{new_unclosed}
 use Rattle.svn_order.proofs.HoldingTokens.{given_now, given_still}
 use Rattle.svn_edit.proofs.Saying.{text_more, noted_says}
 use Rattle.svn_edit.proofs.OpenCounts.{open_same, open_more, open_fewer}
-use Rattle.svn_edit_law.proofs.OnePath.{noted, said-quiet, said-own, said-other, parent_named, opened_first}
+use Rattle.law_copy.proofs.OnePath.{noted, said-quiet, said-own, said-other, parent_named, opened_first}
 
 -- ---- tokens
 

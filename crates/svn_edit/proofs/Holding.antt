@@ -29,9 +29,9 @@ use Rattle.svn_edit.specs.Applying.{Applied, KeepsEdit, MakesBaton, batons_of, p
 use Rattle.svn_edit.specs.Applying.{HoldsBatons}
 use Rattle.svn_edit.specs.Carrying.{CarriedOut}
 use Rattle.svn_model.specs.Answering.{IsAnswer, AnswersCall}
-use Rattle.svn_edit_law.proofs.Appending.{after-more, next_target, target-more}
-use Rattle.svn_edit_law.proofs.OnePath.{noted, pathed}
-use Rattle.svn_edit_law.proofs.StepEffects.{effect_alone}
+use Rattle.law_copy.proofs.Appending.{after-more, next_target, target-more}
+use Rattle.law_copy.proofs.OnePath.{noted, pathed}
+use Rattle.law_copy.proofs.StepEffects.{effect_alone}
 use Rattle.svn_edit.proofs.HeldBatons.{held_still, held_made}
 
 -- a call without effect and fault, whose only refusal is for memory

@@ -13,7 +13,7 @@ use Rattle.svn_types.specs.Props.{with_changes}
 use Rattle.svn_types.specs.declared.kind.Kind.TheVariants.{File, Directory}
 use Rattle.svn_editor.specs.declared.call.Call.{Call}
 use Rattle.svn_editor.specs.declared.call.Call.TheVariants.{ChangeDirProp, ChangeFileProp, ApplyText}
-use Rattle.svn_edit_law.proofs.OnePath.{noted}
+use Rattle.law_copy.proofs.OnePath.{noted}
 use Rattle.svn_editor.specs.Steps.{Action, Change, Text}
 use Rattle.svn_edit.specs.declared.baton.Note.{Note}
 use Rattle.svn_edit.specs.declared.baton.NotedText.{NotedText}

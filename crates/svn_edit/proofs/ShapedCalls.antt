@@ -9,12 +9,12 @@ use Rattle.svn_editor.specs.declared.mode.Mode.{Mode}
 use Rattle.svn_model.specs.declared.base_node.BaseNode.{BaseNode}
 use Rattle.svn_edit.specs.declared.edit.Edit.{Edit}
 use Rattle.svn_model.specs.Nodes.{WorkingCopy, get_in}
-use Rattle.svn_edit_law.specs.Laws.{OpensNamed, IsShapedAfter}
+use Rattle.law_copy.specs.Laws.{OpensNamed, IsShapedAfter}
 use Rattle.svn_model.specs.Effects.{effect, refusal}
 use Rattle.svn_edit.specs.Applying.{StandsAfter}
 use Rattle.svn_model.specs.Answering.{AnswersCall}
-use Rattle.svn_edit_law.proofs.Appending.{after-more}
-use Rattle.svn_edit_law.proofs.Shape.{shape_stays}
+use Rattle.law_copy.proofs.Appending.{after-more}
+use Rattle.law_copy.proofs.Shape.{shape_stays}
 
 pub shaped_call : (result : Result (Unit {0}) EditFault) (edit edit2 : Edit) (nodes nodes2 : List (Path × BaseNode)) (c : Call)
     → OpensNamed c

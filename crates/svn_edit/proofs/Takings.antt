@@ -17,8 +17,8 @@ use Rattle.svn_pool.specs.Ancestry.{IsCleared}
 use Rattle.svn_model.specs.declared.base_node.BaseNode.{BaseNode}
 use Rattle.svn_model.specs.Nodes.{get_in}
 use Rattle.svn_model.specs.Effects.{step_fault, step_effect, settled, settle_fault, effect, edit_fault}
-use Rattle.svn_edit_law.proofs.Appending.{next_target, target-more}
-use Rattle.svn_edit_law.proofs.OnePath.{noted}
+use Rattle.law_copy.proofs.Appending.{next_target, target-more}
+use Rattle.law_copy.proofs.OnePath.{noted}
 use Rattle.svn_edit.specs.declared.baton.Baton.{Baton}
 use Rattle.svn_edit.specs.declared.pending.Pending.{Pending}
 use Rattle.svn_edit.specs.Noted.{note_of, strings_of}

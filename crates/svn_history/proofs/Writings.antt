@@ -11,7 +11,7 @@ use Rattle.svn_repo.specs.Changes.{Pending, change_fault, changes_fault, after_c
 use Rattle.svn_repo.specs.Transactions.{OpenRevision, pending_of, IsBegun}
 use Rattle.svn_dump.specs.declared.record.NodeRecord.{NodeRecord}
 use Rattle.svn_dump.specs.Written.{written}
-use Rattle.svn_dump_law.specs.Laws.{IsNodeRecord}
+use Rattle.law_dump.specs.Laws.{IsNodeRecord}
 use Rattle.svn_history.specs.declared.fault.LoadFault.{LoadFault}
 use Rattle.svn_history.specs.Results.{Fails}
 use Rattle.svn_history.specs.Steps.{Draft, draft_of, begun, with_changes, unless, one, IsMade}

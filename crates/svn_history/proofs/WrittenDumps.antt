@@ -16,7 +16,7 @@ use Rattle.svn_dump.specs.declared.sections.Texts.{Texts}
 use Rattle.svn_dump.specs.declared.sections.Texts.TheVariants.{Whole}
 use Rattle.svn_dump.specs.Records.{format_at}
 use Rattle.svn_dump.specs.Written.{written, revision_record, format_record}
-use Rattle.svn_dump_law.specs.Laws.{IsWritable, IsWritableRecord, IsReadAs, written_record, dumps_are_read_back}
+use Rattle.law_dump.specs.Laws.{IsWritable, IsWritableRecord, IsReadAs, written_record, dumps_are_read_back}
 use Rattle.svn_history.specs.Steps.{Draft, begun, with_changes, IsMade}
 use Rattle.svn_history.specs.Changes.{revision_changes}
 use Rattle.svn_history.specs.Loading.{Revisions, ReadsNodes, no_record, one_node, RevisionsAt, last_revision, one_more, IsDump, empty_dump, some_revisions, no_commit as no_empty, Loads, loads_nothing, revision_0 as loads_0, one_revision, LoadsDump}

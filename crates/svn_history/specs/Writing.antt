@@ -22,7 +22,7 @@ use Rattle.svn_dump.specs.declared.record.NodeRecord.{NodeRecord}
 use Rattle.svn_dump.specs.declared.record.PropSection.TheVariants as props
 use Rattle.svn_dump.specs.declared.record.TextSection.TheVariants as text
 use Rattle.svn_dump.specs.Written.{written}
-use Rattle.svn_dump_law.specs.Laws.{IsNodeRecord}
+use Rattle.law_dump.specs.Laws.{IsNodeRecord}
 use Rattle.svn_history.specs.Steps.{Draft, draft_of, begun, with_changes, Changes, Step}
 use Rattle.svn_history.specs.Results.{of_commit}
 use Rattle.svn_history.specs.Changes.{props_or_none}

@@ -13,7 +13,7 @@ use Rattle.svn_dump.specs.declared.sections.Limits.{Limits}
 use Rattle.svn_dump.specs.declared.sections.Texts.TheVariants.{Whole}
 use Rattle.svn_dump.specs.Records.{format_at}
 use Rattle.svn_dump.specs.Written.{written, revision_record, format_record}
-use Rattle.svn_dump_law.specs.Laws.{IsWritable, header_room}
+use Rattle.law_dump.specs.Laws.{IsWritable, header_room}
 use Rattle.svn_history.specs.Steps.{begun}
 use Rattle.svn_history.specs.Loading.{LoadsDump}
 use Rattle.svn_history.specs.SameHistories.{IsSame}

@@ -5,7 +5,7 @@ ghost use Rattle.svn_repo.specs.declared.change.Change.{Change};
 ghost use Rattle.svn_repo.specs.Changes.{IsCommit, IsRevision};
 ghost use Rattle.svn_repo.specs.Transactions.{pending_of};
 ghost use Rattle.svn_dump.specs.Written.{written, revision_record, format_record};
-ghost use Rattle.svn_dump_law.specs.Laws.{IsNodeRecord};
+ghost use Rattle.law_dump.specs.Laws.{IsNodeRecord};
 ghost use Rattle.svn_history.specs.Results.{Fails};
 ghost use Rattle.svn_history.specs.Steps.{draft_of, begun, one};
 ghost use Rattle.svn_history.specs.Writing.{AreWritten, HasMade, all, records_of};

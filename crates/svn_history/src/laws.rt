@@ -3,7 +3,7 @@ ghost use Rattle.svn_history.specs.Laws.{DraftsAreLawful, WrittenCommitsLoad};
 ghost use Rattle.svn_history.specs.SameHistories.{DumpsLoadAsOne};
 ghost use Rattle.svn_history.specs.WrittenDumps.{WrittenDumpsLoad};
 
-use svn_dump_law::dumps_are_read_back;
+use law_dump::dumps_are_read_back;
 
 /// Whatever changes a transaction has made so far, the properties in its draft are in the order of their names and within the limit of a commit, since
 /// they are so in the repository that it began with ([`Repo::law`](svn_repo::Repo::law)).

@@ -3,16 +3,16 @@ ghost use Rattle.std.specs.Prelude.{◌≡◌, ◌≢◌, ◌++◌, [], Some, No
 ghost use Rattle.svn_types.specs.declared.kind.Kind.TheVariants.{Directory};
 ghost use Rattle.svn_dump.specs.declared.record.Action.TheVariants.{Add, Change as Alter};
 ghost use Rattle.svn_dump.specs.Written.{written};
-ghost use Rattle.svn_dump_law.specs.Laws.{IsNodeRecord};
+ghost use Rattle.law_dump.specs.Laws.{IsNodeRecord};
 ghost use Rattle.svn_history.specs.Results.{Fails};
 ghost use Rattle.svn_history.specs.Steps.{IsMade, draft_of, one};
 ghost use Rattle.svn_history.specs.Changes.{at, props_or_none};
 ghost use Rattle.svn_history.specs.Writing.{bare, copy_record, file_record, kind_or_none, makes_file, record_after, record_of, with_props};
 
 use crate::fault::LoadFault;
+use law_dump::node_is_lawful;
 use std::alloc::Global;
 use svn_dump::{Action, CopySource, NodeRecord, PropSection, TextSection, push_node};
-use svn_dump_law::node_is_lawful;
 use svn_repo::{Change, Transaction};
 use svn_types::{Kind, Props, RelPath, Rev, Text};
 

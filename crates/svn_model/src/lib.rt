@@ -11,10 +11,10 @@
 //! }
 //! ```
 //!
-//! To change a definition: change it here, see which rows and lemmas of `svn_drive_law`, `svn_edit_law` and `svn_law` fail, and read `docs/PROOF.md`.
+//! To change a definition: change it here, see which rows and lemmas of `law_drive`, `law_copy` and `law_update` fail, and read `docs/PROOF.md`.
 //!
-//! Promises: the numbers of the faults are as defined (`specs/FaultNumbers.antt`). That the definitions fit one another is what `svn_drive_law`,
-//! `svn_edit_law` and `svn_law` prove.
+//! Promises: the numbers of the faults are as defined (`specs/FaultNumbers.antt`). That the definitions fit one another is what `law_drive`,
+//! `law_copy` and `law_update` prove.
 #![tactic(auto)]
 
 mod base_node;

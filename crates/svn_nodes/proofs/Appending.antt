@@ -12,7 +12,7 @@ use Rattle.svn_types.proofs.PathLemmas.{same_path, is_within-same}
 use Rattle.svn_types.proofs.PathsInOrder.{paths_total}
 use Rattle.svn_model.specs.declared.base_node.BaseNode.{BaseNode}
 use Rattle.svn_model.specs.Nodes.{WorkingCopy, get_in, InPathOrder}
-use Rattle.svn_edit_law.proofs.Lookups.{get_in-append}
+use Rattle.law_copy.proofs.Lookups.{get_in-append}
 use Rattle.svn_nodes.proofs.NodeRanges.{order_before}
 use Rattle.svn_nodes.proofs.Replacing.{same_nodes}
 

@@ -12,7 +12,7 @@ use Rattle.svn_types.proofs.PathsInOrder.{path_tie, path_cmp-same, not_before_it
 use Rattle.svn_types.proofs.PathLemmas.{same_path}
 use Rattle.svn_model.specs.declared.base_node.BaseNode.{BaseNode}
 use Rattle.svn_model.specs.Nodes.{get_in, InPathOrder}
-use Rattle.svn_edit_law.proofs.NodeLists.{get_in-first, found_first, absent_after, rest_in_order}
+use Rattle.law_copy.proofs.NodeLists.{get_in-first, found_first, absent_after, rest_in_order}
 use Rattle.svn_nodes.proofs.NodeOrder.{first_or_after, order_behind}
 use Rattle.svn_nodes.proofs.Ranges.{from_path, Taken, taken_none, taken_more, IsPast, paths_are}
 use Rattle.svn_nodes.proofs.NodeRanges.{within_from}

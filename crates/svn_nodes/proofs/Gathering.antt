@@ -18,7 +18,7 @@ use Rattle.svn_types.specs.Names.{path_cmp}
 use Rattle.svn_types.proofs.PathLemmas.{apart_paths, path_eq-same, path_eq-longer}
 use Rattle.svn_nodes.specs.Gathered.{gathered}
 use Rattle.svn_nodes.specs.Tails.{IsTail}
-use Rattle.svn_edit_law.proofs.Lookups.{at_path}
+use Rattle.law_copy.proofs.Lookups.{at_path}
 use Rattle.svn_nodes.proofs.Trees.{standing-here, standing-below}
 use Rattle.svn_nodes.proofs.Sweeps.{swept_on, among_left, value_of-first}
 

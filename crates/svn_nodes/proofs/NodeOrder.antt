@@ -1,4 +1,4 @@
--- Nodes in path order: which come before which; and a lemma of svn_edit_law under the name by which proofs about nodes call it.
+-- Nodes in path order: which come before which; and a lemma of law_copy under the name by which proofs about nodes call it.
 use Rattle.std.proofs.Common.{◌≡◌, Bool, true, false, cond, List, [], ◌∷◌, ◌++◌, refl, sym, ap, ◌∙◌, Some, true≢false}
 use Rattle.std.specs.Option.{is_some}
 use Rattle.std.specs.declared.cmp.Ordering.TheVariants.{Less}
@@ -11,8 +11,8 @@ use Rattle.svn_types.specs.Names.{Path, path_cmp}
 use Rattle.svn_model.specs.declared.base_node.BaseNode.{BaseNode}
 use Rattle.svn_model.specs.Nodes.{get_in, InPathOrder}
 use Rattle.svn_types.proofs.PathLemmas.{same_path}
-use Rattle.svn_edit_law.proofs.Lookups.{at_path, get_in-append}
-pub use Rattle.svn_edit_law.proofs.NodeLists.{found_first as at_first}
+use Rattle.law_copy.proofs.Lookups.{at_path, get_in-append}
+pub use Rattle.law_copy.proofs.NodeLists.{found_first as at_first}
 
 pub order_behind : (xs ys : List (Path × BaseNode)) → InPathOrder (xs ++ ys) → InPathOrder ys
 order_behind [] ys order = order

@@ -16,8 +16,8 @@ use Rattle.svn_types.proofs.PathsInOrder.{not_before_itself, not_both, before_ap
 use Rattle.svn_types.proofs.PathLemmas.{same_path}
 use Rattle.svn_model.specs.declared.base_node.BaseNode.{BaseNode}
 use Rattle.svn_model.specs.Nodes.{get_in, InPathOrder}
-use Rattle.svn_edit_law.proofs.Lookups.{at_path, get_in-append}
-use Rattle.svn_edit_law.proofs.NodeLists.{found_first, get_in-first}
+use Rattle.law_copy.proofs.Lookups.{at_path, get_in-append}
+use Rattle.law_copy.proofs.NodeLists.{found_first, get_in-first}
 use Rattle.svn_nodes.proofs.NodeOrder.{before_behind}
 use Rattle.svn_nodes.proofs.Ranges.{order_run}
 

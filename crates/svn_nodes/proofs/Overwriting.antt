@@ -10,8 +10,8 @@ use Rattle.svn_types.proofs.PathLemmas.{same_path, path_eq-symm}
 use Rattle.svn_types.proofs.PathsInOrder.{not_before_itself, not_both}
 use Rattle.svn_model.specs.declared.base_node.BaseNode.{BaseNode}
 use Rattle.svn_model.specs.Nodes.{get_in, InPathOrder}
-use Rattle.svn_edit_law.proofs.CrawlReports.{present_after}
-use Rattle.svn_edit_law.proofs.NodeLists.{get_in-first, found_first, first_before, rest_in_order}
+use Rattle.law_copy.proofs.CrawlReports.{present_after}
+use Rattle.law_copy.proofs.NodeLists.{get_in-first, found_first, first_before, rest_in_order}
 use Rattle.svn_nodes.specs.Overwriting.{next_at, behind_at}
 
 abbrev Nodes : Type 0

@@ -23,7 +23,7 @@ use Rattle.svn_types.proofs.PathsInOrder.{paths_total, not_before_itself, within
 use Rattle.svn_model.specs.declared.base_node.BaseNode.{BaseNode}
 use Rattle.svn_model.specs.Nodes.{get_in, InPathOrder}
 use Rattle.svn_types.proofs.PathLemmas.{same_path, path_eq-symm, is_within-same}
-use Rattle.svn_edit_law.proofs.Lookups.{at_path, get_in-append}
+use Rattle.law_copy.proofs.Lookups.{at_path, get_in-append}
 use Rattle.svn_nodes.proofs.NodeOrder.{first_or_after, order_behind}
 
 abbrev pub from_path : Path → List (Path × BaseNode) → List (Path × BaseNode)

@@ -15,8 +15,8 @@ use Rattle.svn_model.specs.declared.base_node.BaseNode.{BaseNode}
 use Rattle.svn_types.proofs.PathsInOrder.{not_before_itself, not_both}
 use Rattle.svn_types.proofs.PathLemmas.{same_path, path_eq-symm}
 use Rattle.svn_model.specs.Nodes.{get_in, InPathOrder}
-use Rattle.svn_edit_law.proofs.Lookups.{at_path, get_in-append}
-use Rattle.svn_edit_law.proofs.NodeLists.{absent_after}
+use Rattle.law_copy.proofs.Lookups.{at_path, get_in-append}
+use Rattle.law_copy.proofs.NodeLists.{absent_after}
 use Rattle.svn_nodes.proofs.NodeOrder.{at_first, first_or_after, before_behind}
 
 -- a path is one of these

@@ -9,8 +9,8 @@ use Rattle.svn_types.specs.Names.{Path, path_cmp}
 use Rattle.svn_types.proofs.PathLemmas.{same_path}
 use Rattle.svn_model.specs.declared.base_node.BaseNode.{BaseNode}
 use Rattle.svn_model.specs.Nodes.{get_in, InPathOrder}
-use Rattle.svn_edit_law.proofs.Lookups.{at_path}
-use Rattle.svn_edit_law.proofs.NodeLists.{absent_after}
+use Rattle.law_copy.proofs.Lookups.{at_path}
+use Rattle.law_copy.proofs.NodeLists.{absent_after}
 
 module _ (keep : Path → Bool) where
   -- what a walk leaves of a node

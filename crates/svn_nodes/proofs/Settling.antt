@@ -16,8 +16,8 @@ use Rattle.svn_model.specs.Nodes.{at_revision}
 use Rattle.svn_model.specs.Effects.{settled}
 use Rattle.svn_nodes.specs.NodeTests.{moved_paths, settled_next, paths_left}
 use Rattle.svn_types.proofs.PathLemmas.{same_path}
-use Rattle.svn_edit_law.proofs.Lookups.{at_path}
-use Rattle.svn_edit_law.proofs.NodeLists.{absent_after}
+use Rattle.law_copy.proofs.Lookups.{at_path}
+use Rattle.law_copy.proofs.NodeLists.{absent_after}
 
 -- what is kept of a node is what the last call leaves of it, and the nodes after it are then held
 pub record Settles {F : Type 0} (mode : Mode) (target : ℕ) (held : F → List (Path × BaseNode) → Type 0) (e : Path × BaseNode)

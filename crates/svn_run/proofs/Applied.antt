@@ -13,7 +13,7 @@ use Rattle.svn_editor.specs.Calls.{is_abort}
 use Rattle.svn_editor.specs.declared.mode.Mode.{Mode}
 use Rattle.svn_edit.specs.declared.pending.Pending.{Pending}
 use Rattle.svn_edit.specs.Carrying.{CarriedOut, Carries}
-use Rattle.svn_edit_law.specs.Laws.{calls_are_applied_in_turn}
+use Rattle.law_copy.specs.Laws.{calls_are_applied_in_turn}
 use Rattle.svn_model.specs.Nodes.{WorkingCopy, get_in}
 use Rattle.svn_model.specs.Effects.{after, IsAccepted, AllAccepted}
 use Rattle.svn_run.specs.UpdateTheorem.{Nodes}

@@ -8,8 +8,8 @@ use Rattle.svn_model.specs.Crawl.{crawl}
 use Rattle.svn_model.specs.Follow.{root_path}
 use Rattle.svn_model.specs.Sources.{reported, source, is_hidden, governing_revision}
 use Rattle.svn_model.specs.Nodes.{get_in, node_path, node_revision}
-use Rattle.svn_edit_law.proofs.OneNode.{dir_present}
-use Rattle.svn_law.specs.Laws.{IsTrueCopy}
+use Rattle.law_copy.proofs.OneNode.{dir_present}
+use Rattle.law_update.specs.Laws.{IsTrueCopy}
 use Rattle.svn_drive.specs.Targets.{fault_between}
 use Rattle.svn_run.specs.Beginning.{fault_at}
 use Rattle.svn_run.specs.RunLaws.{RunLaws}

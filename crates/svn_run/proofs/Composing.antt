@@ -13,7 +13,7 @@ use Rattle.svn_model.specs.Nodes.{get_in, InPathOrder, IsTrueOf, IsWorkingCopy}
 use Rattle.svn_model.specs.TreeCalls.{drive_calls}
 use Rattle.svn_model.specs.Result.{result}
 use Rattle.svn_repo.specs.History.{History}
-use Rattle.svn_law.specs.Laws.{IsTrueCopy, IsRequestOf, Composes, request_of}
+use Rattle.law_update.specs.Laws.{IsTrueCopy, IsRequestOf, Composes, request_of}
 use Rattle.svn_run.specs.declared.outcome.Outcome.{Outcome}
 use Rattle.svn_run.specs.declared.outcome.Outcome.TheVariants.{Closed, Aborted}
 use Rattle.svn_run.specs.RunLaws.{RunLaws}

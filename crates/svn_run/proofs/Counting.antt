@@ -14,7 +14,7 @@ use Rattle.svn_editor.specs.Editing.{Leads}
 use Rattle.svn_editor.specs.declared.mode.Mode.{Mode}
 use Rattle.svn_edit.specs.declared.pending.Pending.{Pending}
 use Rattle.svn_edit.specs.Carrying.{CarriedOut, Carries}
-use Rattle.svn_edit_law.specs.Laws.{calls_are_applied_in_turn}
+use Rattle.law_copy.specs.Laws.{calls_are_applied_in_turn}
 use Rattle.svn_model.specs.declared.stop.Stop.{Stop}
 use Rattle.svn_model.specs.declared.stop.Stop.TheVariants as stop
 use Rattle.svn_model.specs.declared.drive_end.DriveEnd.{DriveEnd}

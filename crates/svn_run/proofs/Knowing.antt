@@ -12,8 +12,8 @@ use Rattle.svn_model.specs.Effects.{after}
 use Rattle.svn_model.specs.Follow.{Request, target_path, target_node}
 use Rattle.svn_model.specs.Nodes.{WorkingCopy, get_in, base_node, IsWorkingCopy}
 use Rattle.svn_model.specs.Result.{result}
-use Rattle.svn_drive_law.proofs.Classes.{switched_to}
-use Rattle.svn_law.specs.Laws.{IsTrueCopy}
+use Rattle.law_drive.proofs.Classes.{switched_to}
+use Rattle.law_update.specs.Laws.{IsTrueCopy}
 use Rattle.svn_wc.specs.declared.known.Known.{Known}
 use Rattle.svn_wc.specs.Unswitched.{IsUnswitched, IsLevel}
 use Rattle.svn_wc.proofs.Level.{made_level}

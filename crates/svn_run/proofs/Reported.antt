@@ -14,7 +14,7 @@ use Rattle.svn_model.specs.Follow.{Request}
 use Rattle.svn_model.specs.Nodes.{WorkingCopy, get_in}
 use Rattle.svn_model.specs.TreeCalls.{drive_calls}
 use Rattle.svn_report.specs.Reports.{ReportView}
-use Rattle.svn_law.specs.Laws.{IsTrueCopy}
+use Rattle.law_update.specs.Laws.{IsTrueCopy}
 use Rattle.svn_link.specs.Ends.{LinkEnd, NoticeEnd, Passed}
 use Rattle.svn_run.specs.declared.outcome.Outcome.{Outcome}
 use Rattle.svn_run.specs.Beginning.{fault_at}

@@ -4,7 +4,7 @@ use Rattle.std.specs.Prelude.{if◌then◌else◌, Option, Some, None, Result, O
 use Rattle.std.specs.Option.{option_or}
 use Rattle.svn_link.specs.Ends.{Passed}
 use Rattle.svn_model.specs.Nodes.{get_in, InPathOrder}
-use Rattle.svn_law.specs.Laws.{IsTrueCopy}
+use Rattle.law_update.specs.Laws.{IsTrueCopy}
 use Rattle.svn_run.specs.declared.outcome.Outcome.{Outcome}
 use Rattle.svn_run.specs.declared.outcome.RunFault.{RunFault}
 use Rattle.svn_run.specs.declared.outcome.RunFault.TheVariants.{Memory, Capacity, NoThread}

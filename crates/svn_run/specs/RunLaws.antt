@@ -1,7 +1,7 @@
 -- The laws that a run rests on: of its report, of its drive, and of what the drive's calls do to the copy.
-use Rattle.svn_drive_law.specs.Laws.{the_calls_are_a_drive}
-use Rattle.svn_edit_law.specs.Laws.{calls_are_applied_in_turn}
-use Rattle.svn_law.specs.Laws.{crawl_says_what_stands, drive_composes, prefixes_stay_true, stopped_run_resumes}
+use Rattle.law_drive.specs.Laws.{the_calls_are_a_drive}
+use Rattle.law_copy.specs.Laws.{calls_are_applied_in_turn}
+use Rattle.law_update.specs.Laws.{crawl_says_what_stands, drive_composes, prefixes_stay_true, stopped_run_resumes}
 
 pub record RunLaws : Type 0 where
   -- what a true copy reports can be served, and says what the copy has

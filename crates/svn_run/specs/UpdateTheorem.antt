@@ -23,7 +23,7 @@ use Rattle.svn_model.specs.Drive.{IsDrive}
 use Rattle.svn_model.specs.Nodes.{get_in, IsTrueOf, IsWorkingCopy}
 use Rattle.svn_model.specs.Effects.{after}
 use Rattle.svn_model.specs.Result.{result}
-use Rattle.svn_law.specs.Laws.{request_of, reported_again, Composes, Resumes}
+use Rattle.law_update.specs.Laws.{request_of, reported_again, Composes, Resumes}
 use Rattle.svn_run.specs.declared.outcome.Cause.{Cause}
 use Rattle.svn_run.specs.declared.outcome.Cause.TheVariants.{Cancelled}
 use Rattle.svn_run.specs.declared.outcome.Outcome.{Outcome}

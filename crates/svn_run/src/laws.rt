@@ -1,11 +1,11 @@
 //! What a run rests on: its laws, and its copy.
-ghost use Rattle.svn_law.specs.Laws.{IsTrueCopy};
+ghost use Rattle.law_update.specs.Laws.{IsTrueCopy};
 ghost use Rattle.svn_model.specs.Nodes.{get_in, IsTrueOf};
 ghost use Rattle.svn_run.specs.RunLaws.{RunLaws};
 
-use svn_drive_law::the_calls_are_a_drive;
-use svn_edit_law::calls_are_applied_in_turn;
-use svn_law::{crawl_says_what_stands, drive_composes, prefixes_stay_true, stopped_run_resumes};
+use law_copy::calls_are_applied_in_turn;
+use law_drive::the_calls_are_a_drive;
+use law_update::{crawl_says_what_stands, drive_composes, prefixes_stay_true, stopped_run_resumes};
 use svn_repo::Repo;
 use svn_wc::WorkingCopy;
 

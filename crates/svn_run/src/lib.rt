@@ -14,7 +14,7 @@
 //!
 //! Files: `in_turn` and `in_threads` have the runs. A run first tests whether the target can be reached (`goal`), then crawls, then drives. The calls
 //! go to a `carrier`: the `Pending` of `svn_edit`, which tests neither the order of the calls nor what the copy would refuse (by the laws of
-//! `svn_law` there is nothing to find), and the nodes, which are not in the copy until the run ends. A copy with only a root takes its place
+//! `law_update` there is nothing to find), and the nodes, which are not in the copy until the run ends. A copy with only a root takes its place
 //! meanwhile (`spare`), and `known` has what is known of the nodes afterwards. The carrier reports each call to the `listener`. On one thread the
 //! driver's editor is the carrier with two counts (`counted`). On two, `two_threads` opens a scope and starts the driver (`driving`), whose editor
 //! (`sender`) checks the notice, calls the `gate` and sends; the caller's side (`taking`) takes each call, calls the gate and applies it. After a

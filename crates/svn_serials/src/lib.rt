@@ -16,7 +16,7 @@
 //!
 //! Promises: a map is seen as the list of its pairs in rising order, and each call says what becomes of that list and no more (`value`, `put`,
 //! `removed`, `writes_back`); an insert that runs out of memory changes nothing (`refused`). `proofs/Pairs.antt` has what a caller may need of such
-//! a list. The tests are in `pool_tests` (`serials.rt`).
+//! a list. The tests are in `test_pool` (`serials.rt`).
 #![tactic(auto)]
 
 mod map;

@@ -19,8 +19,8 @@ use Rattle.svn_model.specs.Crawl.{crawl}
 use Rattle.svn_model.specs.Drive.{IsDrive}
 use Rattle.svn_model.specs.TreeCalls.{drive_calls}
 use Rattle.svn_drive.specs.Walking.{asked}
-use Rattle.svn_drive_law.specs.Laws.{the_calls_are_a_drive}
-use Rattle.svn_law.specs.Laws.{IsTrueCopy, crawl_says_what_stands}
+use Rattle.law_drive.specs.Laws.{the_calls_are_a_drive}
+use Rattle.law_update.specs.Laws.{IsTrueCopy, crawl_says_what_stands}
 use Rattle.svn_update.specs.declared.answer.Answer.{Answer}
 use Rattle.svn_update.specs.declared.answer.Answer.TheVariants.{Driven, Ended, Refused}
 use Rattle.svn_update.specs.declared.answer.Refusal.TheVariants.{Drive as DriveRefused, Run as RunRefused}

@@ -5,7 +5,7 @@ use Rattle.svn_repo.specs.History.{History}
 use Rattle.svn_repo.specs.Laws.{NodesExist}
 use Rattle.svn_repo.specs.declared.change.Change.{Change}
 use Rattle.svn_model.specs.Nodes.{get_in, IsTrueOf}
-use Rattle.svn_edit_law.specs.CopyLaws.{commits_keep_copies_true}
+use Rattle.law_copy.specs.CopyLaws.{commits_keep_copies_true}
 use Rattle.svn_run.specs.UpdateTheorem.{Nodes}
 use Rattle.svn_update.specs.ScriptStates.{CopyIsTrue}
 

@@ -24,7 +24,7 @@ use Rattle.svn_model.specs.Follow.{Request}
 use Rattle.svn_model.specs.Nodes.{WorkingCopy, get_in, InPathOrder, IsTrueOf}
 use Rattle.svn_model.specs.Refusals.{checkout_fault, place_fault, switch_fault, forget_fault}
 use Rattle.svn_wc.specs.Building.{Refuses}
-use Rattle.svn_law.specs.Laws.{request_of}
+use Rattle.law_update.specs.Laws.{request_of}
 use Rattle.svn_run.specs.declared.outcome.Outcome.{Outcome}
 use Rattle.svn_run.specs.UpdateTheorem.{Asked, Nodes, asked, IsRefusal, Ran}
 use Rattle.svn_script.specs.declared.command_line.Settings.{Settings}

@@ -7,13 +7,13 @@ ghost use Rattle.svn_update.specs.Commands.{AddsChange, Does};
 
 use crate::answer::{Answer, AnswerLines, Refusal};
 use crate::runs::asked_for;
+use law_copy::commits_keep_copies_true;
 use std::alloc::{AllocError, Global};
 use std::io;
 use std::io::Write;
 use std::marker::Model;
 use std::sync::Wait;
 use std::thread::Threads;
-use svn_edit_law::commits_keep_copies_true;
 use svn_editor::Mode;
 use svn_repo::{Change, CommitFault, Repo};
 use svn_script::{Command, Settings};

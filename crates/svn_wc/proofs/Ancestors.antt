@@ -26,7 +26,7 @@ use Rattle.svn_wc.specs.Crawling.{with_reported, last_of, IsUnswitchedBelow, Rep
 use Rattle.svn_wc.specs.Unswitched.{IsUnswitched}
 use Rattle.svn_wc.proofs.OwnPaths.{marked_path}
 use Rattle.svn_wc.proofs.Unswitched.{unswitched_below}
-use Rattle.svn_edit_law.proofs.Lookups.{at_path, get_in-append}
+use Rattle.law_copy.proofs.Lookups.{at_path, get_in-append}
 use Rattle.svn_nodes.proofs.NodeOrder.{at_first, first_or_after, before_behind, order_behind}
 use Rattle.svn_types.proofs.PathsInOrder.{not_before_itself, not_both, below_after, within_between}
 use Rattle.svn_types.proofs.PathLemmas.{is_root-child, parent-child, path_cases, split_within, within_append, within_child}

@@ -39,7 +39,7 @@ use Rattle.svn_model.specs.Nodes.{WorkingCopy, get_in, is_incomplete}
 use Rattle.svn_model.specs.Effects.{changes_at, texts_at, moved_path, joined_path, effect, stepped, below_after, closed_directory}
 use Rattle.svn_model.specs.Effects.{closed_file}
 use Rattle.svn_model.specs.Effects.{step_effect, settled, edit_fault, refusal}
-use Rattle.svn_edit_law.proofs.StepEffects.{effect_alone, effect_none, effect_delete}
+use Rattle.law_copy.proofs.StepEffects.{effect_alone, effect_none, effect_delete}
 use Rattle.svn_wc.specs.Taking.{IsOpenAt, IncompleteAreOpen}
 use Rattle.svn_wc.specs.Unswitched.{is_level, IsLevel}
 

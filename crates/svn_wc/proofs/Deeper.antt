@@ -16,8 +16,8 @@ use Rattle.svn_types.proofs.PathsInOrder.{not_before_itself, not_both, below_aft
 use Rattle.svn_types.proofs.PathLemmas.{below_parts, split_within, is_within-chain, same_path, parent-child, split_at_last}
 use Rattle.svn_model.specs.declared.base_node.BaseNode.{BaseNode}
 use Rattle.svn_model.specs.Nodes.{get_in, InPathOrder, IsWorkingCopy, is_dir}
-use Rattle.svn_edit_law.proofs.CrawlReports.{directory_above}
-use Rattle.svn_edit_law.proofs.Lookups.{at_path, get_in-append}
+use Rattle.law_copy.proofs.CrawlReports.{directory_above}
+use Rattle.law_copy.proofs.Lookups.{at_path, get_in-append}
 use Rattle.svn_nodes.proofs.NodeOrder.{at_first, first_or_after, before_behind, order_behind}
 use Rattle.svn_wc.specs.Truths.{all_below, IsPast, IsNoDeeper, IsNameBelow, IsLastName}
 use Rattle.svn_wc.proofs.Ancestors.{dir_some}

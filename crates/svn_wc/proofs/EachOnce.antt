@@ -12,8 +12,8 @@ use Rattle.svn_types.proofs.PathLemmas.{same_path, path_eq-symm}
 use Rattle.svn_model.specs.declared.base_node.BaseNode.{BaseNode}
 use Rattle.svn_model.specs.Nodes.{WorkingCopy, get_in}
 use Rattle.svn_model.specs.Refusals.{is_of, has_twice}
-use Rattle.svn_edit_law.proofs.Lookups.{at_path}
-use Rattle.svn_edit_law.proofs.NodeLists.{get_in-first}
+use Rattle.law_copy.proofs.Lookups.{at_path}
+use Rattle.law_copy.proofs.NodeLists.{get_in-first}
 use Rattle.svn_nodes.specs.Gathered.{gathered}
 
 absent : (q : Path) (xs : List (Path × BaseNode)) → list_any (is_of q) xs ≡ false → get_in xs q ≡ None

@@ -21,7 +21,7 @@ use Rattle.svn_model.specs.declared.base_node.BaseNode.TheVariants.{File as File
 use Rattle.svn_model.specs.Nodes.{get_in, InPathOrder, IsWorkingCopy, is_present, is_not_present, is_incomplete, is_dir, node_path}
 use Rattle.svn_model.specs.Nodes.{node_revision}
 use Rattle.svn_model.specs.Crawl.{is_switched, entry_for, crawl}
-use Rattle.svn_edit_law.proofs.Crawls.{crawled, entry_at-crawl}
+use Rattle.law_copy.proofs.Crawls.{crawled, entry_at-crawl}
 use Rattle.svn_wc.specs.Crawling.{is_link, is_complete_set, is_root_alone}
 use Rattle.svn_wc.specs.Unswitched.{is_level, IsUnswitched, IsLevel}
 use Rattle.svn_wc.proofs.LevelCrawl.{AtLevel, at_level}

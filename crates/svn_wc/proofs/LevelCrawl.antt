@@ -19,9 +19,9 @@ use Rattle.svn_model.specs.declared.base_node.BaseNode.TheVariants.{File as File
 use Rattle.svn_model.specs.Nodes.{get_in, InPathOrder, IsWorkingCopy, is_present, is_not_present, is_incomplete, is_dir, node_path}
 use Rattle.svn_model.specs.Nodes.{node_revision}
 use Rattle.svn_model.specs.Crawl.{is_switched, entry_for, reported_at, crawl}
-use Rattle.svn_edit_law.proofs.CrawlReports.{root_first}
-use Rattle.svn_edit_law.proofs.NodeLists.{get_in-first}
-use Rattle.svn_edit_law.proofs.Lookups.{get_in-append}
+use Rattle.law_copy.proofs.CrawlReports.{root_first}
+use Rattle.law_copy.proofs.NodeLists.{get_in-first}
+use Rattle.law_copy.proofs.Lookups.{get_in-append}
 use Rattle.svn_nodes.proofs.NodeOrder.{at_first, before_behind}
 use Rattle.svn_wc.specs.Unswitched.{is_level, IsUnswitched, IsLevel}
 use Rattle.svn_wc.proofs.Ancestors.{next_stands}

@@ -26,7 +26,7 @@ use Rattle.svn_types.proofs.PathsInOrder.{paths_total, not_before_itself}
 use Rattle.svn_model.specs.declared.base_node.BaseNode.{BaseNode}
 use Rattle.svn_model.specs.Nodes.{get_in, InPathOrder}
 use Rattle.svn_nodes.proofs.NodeOrder.{at_first, before_behind}
-use Rattle.svn_edit_law.proofs.Lookups.{get_in-append}
+use Rattle.law_copy.proofs.Lookups.{get_in-append}
 use Rattle.svn_wc.specs.Truths.{AreUpTo, PassesTo, entries_at, entry_in}
 
 -- ---- names in their order

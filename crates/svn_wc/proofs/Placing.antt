@@ -26,7 +26,7 @@ use Rattle.svn_model.proofs.Children.{entry_below, look-child}
 use Rattle.svn_nodes.specs.Standing.{standing, Puts}
 use Rattle.svn_wc.specs.Building.{Refuses, tree_at}
 use Rattle.svn_wc.specs.Truths.{entry_in}
-use Rattle.svn_edit_law.proofs.CrawlReports.{directory_above}
+use Rattle.law_copy.proofs.CrawlReports.{directory_above}
 use Rattle.svn_types.proofs.PathLemmas.{split_within, apart_paths, below_from, path_eq-longer, path_eq-same, within_append}
 
 -- what was gathered is the tree

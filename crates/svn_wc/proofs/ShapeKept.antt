@@ -16,15 +16,15 @@ use Rattle.svn_model.specs.declared.base_node.BaseNode.{BaseNode}
 use Rattle.svn_model.specs.Nodes.{WorkingCopy, get_in, IsWorkingCopy}
 use Rattle.svn_model.specs.Effects.{effect, refusal}
 use Rattle.svn_model.specs.Answering.{AnswersCall, WantsInOrder}
-use Rattle.svn_edit_law.specs.Laws.{OpensNamed}
-use Rattle.svn_edit_law.proofs.Shape.{shaped_first}
+use Rattle.law_copy.specs.Laws.{OpensNamed}
+use Rattle.law_copy.proofs.Shape.{shaped_first}
 use Rattle.svn_edit.specs.declared.edit.Edit.{Edit}
 use Rattle.svn_edit.specs.declared.edit.Stage.{Stage}
 use Rattle.svn_edit.specs.declared.edit.Stage.TheVariants.{Going, Refused, Ended}
 use Rattle.svn_edit.specs.Leaving.{PoolsAfter}
 use Rattle.svn_edit.specs.Applying.{StandsAfter, HasEnded, IsRefused, StaysRefused, StaysEnded, LeavesRefused}
 use Rattle.svn_edit.proofs.ShapedCalls.{shaped_call}
-use Rattle.svn_edit_law.proofs.Appending.{after-more}
+use Rattle.law_copy.proofs.Appending.{after-more}
 use Rattle.svn_wc.specs.Taking.{TakesCall, GoesOn, IsInShape, IncompleteAreOpen}
 use Rattle.svn_wc.specs.Unswitched.{IsLevel}
 use Rattle.svn_wc.proofs.Completing.{open_more, level_open}

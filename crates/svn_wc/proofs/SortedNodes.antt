@@ -20,7 +20,7 @@ use Rattle.svn_model.specs.declared.wc_fault.WcFault.{WcFault}
 use Rattle.svn_model.specs.declared.wc_fault.WcFault.TheVariants.{Twice, BadRoot, NoParent, TooDeep}
 use Rattle.svn_model.specs.Nodes.{get_in, is_dir}
 use Rattle.svn_model.specs.Refusals.{is_of, has_twice, is_orphan, is_node_too_deep, nodes_fault}
-use Rattle.svn_edit_law.proofs.NodeLists.{get_in-first}
+use Rattle.law_copy.proofs.NodeLists.{get_in-first}
 use Rattle.svn_wc.specs.Listed.{IsSorted}
 
 -- ---- one after the other

@@ -35,8 +35,8 @@ use Rattle.svn_wc.specs.Truths.{looked, entries_at, entry_in, HasNoEntries, Coun
 use Rattle.svn_wc.specs.Truths.{all_below, IsPast, HasWalked}
 use Rattle.svn_wc.proofs.Placing.{entry_is_below}
 use Rattle.svn_wc.proofs.Merging.{EntriesBeside, entry_beside, beside_other, beside_on, entry_in_all, none_before_itself}
-use Rattle.svn_edit_law.proofs.Lookups.{at_path, get_in-append}
-use Rattle.svn_edit_law.proofs.TruthTests.{prop_decides}
+use Rattle.law_copy.proofs.Lookups.{at_path, get_in-append}
+use Rattle.law_copy.proofs.TruthTests.{prop_decides}
 use Rattle.svn_nodes.proofs.NodeOrder.{at_first, first_or_after, before_behind, order_behind}
 use Rattle.svn_types.proofs.PathLemmas.{below_from, below_parts, split_within, within_append}
 use Rattle.svn_types.proofs.PathLemmas.{path_eq-longer, same_path, path_eq-symm, path_eq-same}

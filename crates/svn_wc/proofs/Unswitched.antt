@@ -13,7 +13,7 @@ use Rattle.svn_types.specs.declared.kind.Kind.TheVariants.{File, Directory}
 use Rattle.svn_types.proofs.PathLemmas.{same_path, path_eq-same, path_cases, path_eq-symm, parent-child, last_name-child, within_shorter}
 use Rattle.svn_types.proofs.PathLemmas.{path_eq-child}
 use Rattle.svn_types.proofs.PathLemmas.{path_eq_from, parent_and_last, split_within, within_append, below_from, path_eq-longer}
-use Rattle.svn_edit_law.proofs.CrawlReports.{directory_above}
+use Rattle.law_copy.proofs.CrawlReports.{directory_above}
 use Rattle.svn_editor.specs.declared.call.Call.{Call}
 use Rattle.svn_editor.specs.declared.call.Call.TheVariants.{CloseEdit}
 use Rattle.svn_editor.specs.declared.mode.Mode.TheVariants.{Update, SwitchTo}

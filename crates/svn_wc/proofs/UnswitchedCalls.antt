@@ -18,7 +18,7 @@ use Rattle.svn_edit.specs.declared.edit.Edit.{Edit}
 use Rattle.svn_edit.specs.declared.edit.Stage.{Stage}
 use Rattle.svn_edit.specs.declared.edit.Stage.TheVariants.{Going, Refused, Ended}
 use Rattle.svn_edit.specs.Applying.{StandsAfter, StaysRefused}
-use Rattle.svn_edit_law.proofs.Appending.{after-more}
+use Rattle.law_copy.proofs.Appending.{after-more}
 use Rattle.svn_wc.specs.Taking.{TakesCall, GoesOn, IsInShape}
 use Rattle.svn_wc.specs.Unswitched.{IsUnswitched, IsLevel}
 use Rattle.svn_wc.proofs.Completing.{level_after}

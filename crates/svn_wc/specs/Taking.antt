@@ -17,7 +17,7 @@ use Rattle.svn_model.specs.declared.base_node.BaseNode.{BaseNode}
 use Rattle.svn_model.specs.Nodes.{WorkingCopy, get_in, is_incomplete}
 use Rattle.svn_model.specs.Effects.{refusal}
 use Rattle.svn_model.specs.Answering.{AnswersCall, WantsInOrder}
-use Rattle.svn_edit_law.specs.Laws.{IsShapedAfter}
+use Rattle.law_copy.specs.Laws.{IsShapedAfter}
 use Rattle.svn_edit.specs.declared.edit.Edit.{Edit}
 use Rattle.svn_edit.specs.declared.edit.Stage.TheVariants.{Going}
 use Rattle.svn_edit.specs.Leaving.{PoolsAfter}

@@ -10,7 +10,7 @@ ghost use Rattle.svn_editor.specs.declared.mode.Mode.{Mode};
 ghost use Rattle.svn_editor.specs.declared.mode.Mode.TheVariants.{Update, SwitchTo};
 ghost use Rattle.svn_model.specs.Nodes.{WorkingCopy as CopyMap, get_in};
 ghost use Rattle.svn_model.specs.Effects.{refusal};
-ghost use Rattle.svn_edit_law.specs.Laws.{OpensNamed, IsShapedAfter};
+ghost use Rattle.law_copy.specs.Laws.{OpensNamed, IsShapedAfter};
 ghost use Rattle.svn_edit.specs.Leaving.{IsLeft, PoolsAfter};
 ghost use Rattle.svn_edit.specs.Applying.{open_count, live_count, OneIsLeft, StandsAfter, path_open, HasEnded, IsRefused, StaysRefused, StaysEnded, LeavesRefused};
 ghost use Rattle.svn_model.specs.Answering.{AnswersCall, WantsInOrder};

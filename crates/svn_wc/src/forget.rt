@@ -9,7 +9,7 @@ ghost use Rattle.svn_model.specs.Builders.{forgotten};
 ghost use Rattle.svn_model.specs.Refusals.{forget_fault};
 
 use crate::working_copy::WorkingCopy;
-use svn_edit_law::forgetting_keeps_a_copy;
+use law_copy::forgetting_keeps_a_copy;
 use svn_model::{BaseNode, WcFault};
 use svn_nodes::Nodes;
 use svn_nodes::nodes::is_present;

@@ -28,7 +28,7 @@
 //! and of one revision: known after a checkout, kept by an edit that closes, and learned from a report of a complete root alone; with both facts
 //! a crawl looks at the root only. A refused call keeps both.
 //!
-//! To change how a copy is made or changed, begin with `svn_model/specs/Builders.antt` and the laws of copies in `svn_edit_law`.
+//! To change how a copy is made or changed, begin with `svn_model/specs/Builders.antt` and the laws of copies in `law_copy`.
 //!
 //! Promises: builders and changes give exactly the copy of the definition, refuse by the first fault of its order, leave a refused copy as it
 //! was, and keep a true copy true (`nodes`, `made`, `fault`, `unchanged`, `truth` of each). Every copy has the shape of one at any

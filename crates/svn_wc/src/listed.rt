@@ -6,7 +6,7 @@ ghost use Rattle.svn_types.specs.Names.{Path};
 ghost use Rattle.svn_types.specs.Paths.{parent};
 ghost use Rattle.svn_model.specs.Nodes.{get_in, is_dir};
 ghost use Rattle.svn_model.specs.Refusals.{is_of, has_twice, is_orphan, is_node_too_deep, nodes_fault};
-ghost use Rattle.svn_edit_law.specs.CopyLaws.{AllEndNamed};
+ghost use Rattle.law_copy.specs.CopyLaws.{AllEndNamed};
 ghost use Rattle.svn_wc.specs.Building.{Refuses};
 ghost use Rattle.svn_wc.specs.Listed.{IsSorted, IsSearchable};
 
@@ -14,8 +14,8 @@ use crate::building::is_too_deep;
 use crate::known::Known;
 use crate::paths::{compare_above, last_name_allowed};
 use crate::working_copy::WorkingCopy;
+use law_copy::nodes_make_a_copy;
 use std::alloc::Global;
-use svn_edit_law::nodes_make_a_copy;
 use svn_model::{BaseNode, WcFault};
 use svn_nodes::gather::map_of;
 use svn_types::RelPath;

@@ -2,7 +2,7 @@
 ghost use Rattle.std.specs.Prelude.{◌≡◌};
 ghost use Rattle.svn_types.specs.Names.{path_cmp};
 ghost use Rattle.svn_types.specs.Paths.{parent};
-ghost use Rattle.svn_edit_law.specs.Laws.{EndsNamed};
+ghost use Rattle.law_copy.specs.Laws.{EndsNamed};
 
 use std::cmp::Ordering;
 use svn_types::RelPath;

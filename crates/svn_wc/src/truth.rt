@@ -14,8 +14,8 @@ ghost use Rattle.svn_wc.specs.Aboves.{KnowsOwnPath};
 
 use crate::above::Above;
 use crate::working_copy::WorkingCopy;
+use law_copy::truth_is_tested;
 use std::cmp::Ordering;
-use svn_edit_law::truth_is_tested;
 use svn_model::BaseNode;
 use svn_name_map::Iter;
 use svn_nodes::ahead::Ahead;

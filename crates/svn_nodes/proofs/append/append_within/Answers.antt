@@ -2,7 +2,7 @@ use Rattle.std.proofs.Common.{List, None, ap, ◌∙◌, cond}
 use Rattle.svn_types.specs.Names.{Path}
 use Rattle.svn_model.specs.declared.base_node.BaseNode.{BaseNode}
 use Rattle.svn_model.specs.Nodes.{get_in}
-use Rattle.svn_edit_law.proofs.Lookups.{get_in-updated}
+use Rattle.law_copy.proofs.Lookups.{get_in-updated}
 use Rattle.svn_nodes.proofs.Appending.{rest_below, all_there, back_again}
 use Rattle.svn_nodes.proofs.append.append_within.Goals as goal
 

@@ -4,7 +4,7 @@ use Rattle.svn_types.specs.Names.{Path}
 use Rattle.svn_types.specs.Paths.{path_eq}
 use Rattle.svn_model.specs.declared.base_node.BaseNode.{BaseNode}
 use Rattle.svn_model.specs.Nodes.{get_in}
-use Rattle.svn_edit_law.proofs.Lookups.{get_in-updated}
+use Rattle.law_copy.proofs.Lookups.{get_in-updated}
 use Rattle.svn_nodes.proofs.append.set.Goals as goal
 
 pub returns-in-Some-clause-set : goal.returns-in-Some-clause-set

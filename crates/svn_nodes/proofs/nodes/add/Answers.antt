@@ -3,7 +3,7 @@ use Rattle.std.specs.BTreeMap.Entry.{map_with_value}
 use Rattle.svn_types.specs.Names.{Path}
 use Rattle.svn_model.specs.declared.base_node.BaseNode.{BaseNode}
 use Rattle.svn_model.specs.Nodes.{get_in}
-use Rattle.svn_edit_law.proofs.Lookups.{get_in-updated}
+use Rattle.law_copy.proofs.Lookups.{get_in-updated}
 use Rattle.svn_nodes.proofs.nodes.add.Goals as goal
 
 pub returns-clause-added : goal.returns-clause-added

@@ -2,7 +2,7 @@ use Rattle.std.proofs.Common.{◌≡◌, ◌++◌, ◌∷◌, [], ◌-◌, lengt
 use Rattle.std.specs.Prelude.{IfOk, slice_get}
 use Rattle.svn_types.specs.Names.{Path}
 use Rattle.svn_types.specs.Paths.{last_name}
-use Rattle.svn_edit_law.proofs.PathParts.{last_is}
+use Rattle.law_copy.proofs.PathParts.{last_is}
 use Rattle.svn_nodes.proofs.paths.with_last_name.Goals as goal
 
 pub returns-then-is_child_of : goal.returns-then-is_child_of

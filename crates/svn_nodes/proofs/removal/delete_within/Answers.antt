@@ -2,7 +2,7 @@ use Rattle.std.proofs.Common.{cond, ap, ◌∙◌, None}
 use Rattle.svn_lists.proofs.Options.{removed_twice}
 use Rattle.svn_types.specs.Paths.{path_eq, is_below}
 use Rattle.svn_model.specs.Nodes.{get_in}
-use Rattle.svn_edit_law.proofs.Lookups.{get_in-updated}
+use Rattle.law_copy.proofs.Lookups.{get_in-updated}
 use Rattle.svn_nodes.proofs.Ranges.{below_or_same}
 use Rattle.svn_nodes.proofs.removal.delete_within.Goals as goal
 

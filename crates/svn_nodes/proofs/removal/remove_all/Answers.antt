@@ -6,7 +6,7 @@ use Rattle.svn_lists.proofs.Somewhere.{any_push}
 use Rattle.svn_types.specs.Names.{Path}
 use Rattle.svn_types.specs.Paths.{path_eq}
 use Rattle.svn_model.specs.Nodes.{get_in}
-use Rattle.svn_edit_law.proofs.Lookups.{get_in-updated}
+use Rattle.law_copy.proofs.Lookups.{get_in-updated}
 use Rattle.svn_nodes.proofs.removal.remove_all.Goals as goal
 
 pub loop-path-preserved : goal.loop-path-preserved

@@ -1,7 +1,7 @@
 use Rattle.std.proofs.Common.{sym, subst, ◌∙◌}
 use Rattle.svn_types.specs.Names.{Path}
 use Rattle.svn_model.specs.declared.base_node.BaseNode.{BaseNode}
-use Rattle.svn_edit_law.proofs.NodeLists.{rest_in_order}
+use Rattle.law_copy.proofs.NodeLists.{rest_in_order}
 use Rattle.svn_nodes.specs.Ahead.{behind_first}
 use Rattle.svn_nodes.proofs.Comparing.{HasPassed, passed_step, passed_on, left_behind, none_left, none_yet, one_here, behind_here}
 use Rattle.svn_nodes.proofs.replace.pass_to.Goals as goal

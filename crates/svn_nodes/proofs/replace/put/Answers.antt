@@ -1,5 +1,5 @@
 use Rattle.std.proofs.Common.{Some}
-use Rattle.svn_edit_law.proofs.Lookups.{get_in-updated}
+use Rattle.law_copy.proofs.Lookups.{get_in-updated}
 use Rattle.svn_nodes.proofs.replace.put.Goals as goal
 
 pub returns-in-Ok : goal.returns-in-Ok

@@ -4,7 +4,7 @@ use Rattle.svn_types.specs.Names.{Path}
 use Rattle.svn_types.specs.Paths.{last_name}
 use Rattle.svn_repo.specs.History.{look}
 use Rattle.svn_wc.specs.Truths.{entry_in}
-use Rattle.svn_edit_law.proofs.PathParts.{last_is}
+use Rattle.law_copy.proofs.PathParts.{last_is}
 use Rattle.svn_wc.proofs.Placing.{look_named}
 use Rattle.svn_wc.proofs.building.find_named.Goals as goal
 

@@ -3,7 +3,7 @@ use Rattle.std.specs.Prelude.{slice_get}
 use Rattle.svn_lists.proofs.Results.{IfOk_then}
 use Rattle.svn_types.specs.Names.{Path}
 use Rattle.svn_types.specs.Paths.{last_name}
-use Rattle.svn_edit_law.proofs.PathParts.{last_is}
+use Rattle.law_copy.proofs.PathParts.{last_is}
 use Rattle.svn_wc.proofs.building.joined.Goals as goal
 
 pub returns-in-Some : goal.returns-in-Some

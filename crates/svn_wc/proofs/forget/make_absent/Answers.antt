@@ -4,8 +4,8 @@ use Rattle.svn_types.specs.Paths.{path_eq}
 use Rattle.svn_model.specs.declared.base_node.BaseNode.{BaseNode}
 use Rattle.svn_model.specs.declared.base_node.BaseNode.TheVariants.{NotPresent}
 use Rattle.svn_model.specs.Nodes.{get_in}
-use Rattle.svn_edit_law.proofs.Lookups.{get_in-updated}
-use Rattle.svn_edit_law.proofs.PathParts.{none_changed}
+use Rattle.law_copy.proofs.Lookups.{get_in-updated}
+use Rattle.law_copy.proofs.PathParts.{none_changed}
 use Rattle.svn_wc.proofs.forget.make_absent.Goals as goal
 
 pub returns-in-Some : goal.returns-in-Some

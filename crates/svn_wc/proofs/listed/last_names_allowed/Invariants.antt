@@ -1,5 +1,5 @@
 use Rattle.std.proofs.Common.{length}
-use Rattle.svn_edit_law.specs.CopyLaws.{AllEndNamed}
+use Rattle.law_copy.specs.CopyLaws.{AllEndNamed}
 use Rattle.svn_wc.proofs.listed.last_names_allowed.Given as goal
 
 abbrev pub decreases-nodes : goal.decreases-nodes

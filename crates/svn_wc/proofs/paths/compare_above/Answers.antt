@@ -1,7 +1,7 @@
 use Rattle.std.proofs.Common.{◌≡◌, sym, ap, ◌∙◌}
 use Rattle.svn_types.specs.Names.{path_cmp}
 use Rattle.svn_types.specs.Paths.{parent}
-use Rattle.svn_edit_law.proofs.PathParts.{front_is}
+use Rattle.law_copy.proofs.PathParts.{front_is}
 use Rattle.svn_wc.proofs.paths.compare_above.Goals as goal
 
 pub returns-in-Some : goal.returns-in-Some

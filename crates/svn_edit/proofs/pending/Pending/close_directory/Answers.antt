@@ -11,8 +11,8 @@ use Rattle.svn_model.specs.Nodes.{get_in}
 use Rattle.svn_model.specs.Effects.{change_in, closed_directory}
 use Rattle.svn_edit.specs.declared.baton.Baton.{Baton}
 use Rattle.svn_edit.specs.Applying.{Says}
-use Rattle.svn_edit_law.proofs.Lookups.{get_in-updated}
-use Rattle.svn_edit_law.proofs.PathParts.{none_changed}
+use Rattle.law_copy.proofs.Lookups.{get_in-updated}
+use Rattle.law_copy.proofs.PathParts.{none_changed}
 use Rattle.svn_edit.proofs.pending.Pending.close_directory.Goals as goal
 use Rattle.svn_edit.proofs.pending.Pending.close_directory.Goals.{in-Some-get_mut+in_ok-complete, in_default-get_mut}
 

@@ -6,7 +6,7 @@ use Rattle.svn_model.specs.declared.base_node.BaseNode.{BaseNode}
 use Rattle.svn_model.specs.Nodes.{get_in}
 use Rattle.svn_model.specs.Effects.{moved_path, joined_path}
 use Rattle.svn_edit.specs.Closing.{ClosesFile}
-use Rattle.svn_edit_law.proofs.Lookups.{get_in-updated}
+use Rattle.law_copy.proofs.Lookups.{get_in-updated}
 use Rattle.svn_edit.proofs.FileCloses.{node_closes, nothing_closes}
 use Rattle.svn_edit.proofs.pending.Pending.close_file_of.Goals as goal
 

@@ -5,7 +5,7 @@ use Rattle.svn_lists.proofs.Results.{OnOk_then}
 use Rattle.svn_types.specs.Names.{Path}
 use Rattle.svn_model.specs.Nodes.{get_in}
 use Rattle.svn_model.specs.Effects.{joined_path}
-use Rattle.svn_edit_law.proofs.Lookups.{get_in-updated}
+use Rattle.law_copy.proofs.Lookups.{get_in-updated}
 use Rattle.svn_edit.proofs.FileCloses.{node_closes, nothing_closes}
 use Rattle.svn_edit.proofs.pending.Pending.close_joined.Goals as goal
 

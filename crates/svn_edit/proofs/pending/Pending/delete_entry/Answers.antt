@@ -1,7 +1,7 @@
 use Rattle.std.proofs.Common.{◌≡◌, None, [], ◌∙◌, rules}
 use Rattle.svn_model.specs.Nodes.{get_in}
 use Rattle.svn_nodes.specs.NodeTests.{delete_fault_of}
-use Rattle.svn_edit_law.proofs.StepEffects.{effect_delete}
+use Rattle.law_copy.proofs.StepEffects.{effect_delete}
 use Rattle.svn_edit.proofs.pending.Pending.delete_entry.Goals as goal
 
 pub returns : goal.returns

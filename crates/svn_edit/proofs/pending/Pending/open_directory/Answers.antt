@@ -14,8 +14,8 @@ use Rattle.svn_model.specs.Effects.{moved_path, opened_directory}
 use Rattle.svn_model.specs.Answering.{IsAnswer}
 use Rattle.svn_nodes.specs.NodeTests.{open_fault_of, deep_fault}
 use Rattle.svn_edit.specs.Applying.{MakesBaton}
-use Rattle.svn_edit_law.proofs.Lookups.{get_in-updated}
-use Rattle.svn_edit_law.proofs.StepEffects.{effect_alone}
+use Rattle.law_copy.proofs.Lookups.{get_in-updated}
+use Rattle.law_copy.proofs.StepEffects.{effect_alone}
 use Rattle.svn_nodes.proofs.OpenFaults.{open_fault_is}
 use Rattle.svn_edit.proofs.Holding.{edit_kept}
 use Rattle.svn_edit.proofs.LeftPools.{keeps_same, gives_refused}

@@ -13,7 +13,7 @@ use Rattle.svn_model.specs.Effects.{step_fault, moved_path}
 use Rattle.svn_model.specs.Answering.{IsAnswer}
 use Rattle.svn_nodes.specs.NodeTests.{open_fault_of, deep_fault, IsSumOf}
 use Rattle.svn_edit.specs.Applying.{MakesBaton}
-use Rattle.svn_edit_law.proofs.StepEffects.{effect_none}
+use Rattle.law_copy.proofs.StepEffects.{effect_none}
 use Rattle.svn_nodes.proofs.OpenFaults.{open_fault_is}
 use Rattle.svn_edit.proofs.Holding.{applied_none, edit_kept}
 use Rattle.svn_edit.proofs.LeftPools.{keeps_same, own_answer, gives_refused}

@@ -5,7 +5,7 @@ use Rattle.svn_editor.specs.declared.mode.Mode.TheVariants.{Update}
 use Rattle.svn_report.specs.Reports.{ReportView}
 use Rattle.svn_drive.specs.Walking.{asked}
 use Rattle.svn_model.specs.Nodes.{get_in, IsTrueOf}
-use Rattle.svn_law.specs.Laws.{IsTrueCopy, request_of}
+use Rattle.law_update.specs.Laws.{IsTrueCopy, request_of}
 use Rattle.svn_update.specs.Commands.{IsRecorded}
 use Rattle.svn_update.specs.ScriptStates.{ScriptState}
 use Rattle.svn_update.proofs.CopyLemmas.{drives, driven, on_copy}

@@ -3,7 +3,7 @@ use Rattle.svn_lists.proofs.Options.{cond_none}
 use Rattle.svn_model.specs.declared.wc_fault.WcFault.TheVariants.{Twice}
 use Rattle.svn_model.specs.Nodes.{IsWorkingCopy}
 use Rattle.svn_model.specs.Refusals.{has_twice, nodes_fault}
-use Rattle.svn_edit_law.specs.CopyLaws.{AllEndNamed}
+use Rattle.law_copy.specs.CopyLaws.{AllEndNamed}
 use Rattle.svn_wc.proofs.EachOnce.{gathered_once}
 use Rattle.svn_wc.proofs.working_copy.WorkingCopy.from_nodes.Goals as goal
 

@@ -1,0 +1,5 @@
+use Rattle.law_copy.proofs.OnePath.{pathed}
+use Rattle.law_copy.proofs.tokens_have_paths.Goals as goal
+
+pub returns : goal.returns
+returns c = pathed

@@ -1,0 +1,39 @@
+//! The laws of dumps: what is written of a record is read as that record, and what is written of a whole dump as its records. They are stated over
+//! the definitions of `svn_dump` alone, in `specs/Laws.antt`. Each law is the contract of a function that does nothing: who calls the function has
+//! the law.
+//!
+//! ```
+//! node_is_lawful(&node);
+//! whole_nodes_are_read_back();
+//! // from here on the proof knows that a reader whose limits the node is within reads what `push_node` wrote as the node
+//! ```
+//!
+//! Their premise is `IsWritable`: the record is lawful, as each is that the types hold ([`node_is_lawful`]), and its lengths are within the reader's
+//! limits. With the contracts of `push_node` and `Reader::next_record` a reader returns the records that were written, in their order.
+#![tactic(auto)]
+
+mod lawful;
+
+ghost use Rattle.law_dump.specs.Laws.{dumps_are_read_back, nodes_are_read_back, revisions_are_read_back, whole_nodes_are_read_back};
+
+pub use lawful::node_is_lawful;
+
+/// A node's record that was written is read as that record, its text as it is kept.
+pub fn nodes_are_read_back()
+    ensures { nodes_are_read_back }
+{}
+
+/// With whole texts it is read as the node itself.
+pub fn whole_nodes_are_read_back()
+    ensures { whole_nodes_are_read_back }
+{}
+
+/// The beginning of a revision that was written is read as that revision.
+pub fn revisions_are_read_back()
+    ensures { revisions_are_read_back }
+{}
+
+/// A dump that was written is read as the records that were written, in their order, and then its end.
+pub fn dumps_are_read_back()
+    ensures { dumps_are_read_back }
+{}

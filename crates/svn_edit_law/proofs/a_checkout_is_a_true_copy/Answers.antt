@@ -1,5 +1,0 @@
-use Rattle.svn_edit_law.proofs.Builds.{checks_out}
-use Rattle.svn_edit_law.proofs.a_checkout_is_a_true_copy.Goals as goal
-
-pub returns : goal.returns
-returns c = checks_out

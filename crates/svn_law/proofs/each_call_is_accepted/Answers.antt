@@ -1,5 +1,0 @@
-use Rattle.svn_law.proofs.Composition.{each_is_accepted}
-use Rattle.svn_law.proofs.each_call_is_accepted.Goals as goal
-
-pub returns : goal.returns
-returns c = each_is_accepted
