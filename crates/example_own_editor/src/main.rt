@@ -22,7 +22,11 @@ fn update<R: Print>(
     let applier = Applier::new(alloc, copy)?;
     let mut editor = UpdateLines::new(rt, alloc, applier);
     let request = Request::update(target);
-    match drive_request(alloc, repo, &report, &request, &mut editor)? {
+    let end = drive_request(alloc, repo, &report, &request, &mut editor);
+    if let Some(error) = editor.unprinted.take() {
+        return Err(error.into());
+    }
+    match end? {
         DriveEnd::Closed { .. } if editor.has_changed => println!(rt;
             "Updated to revision {target}."
         )?,

@@ -2,6 +2,7 @@
 ghost use Rattle.std.specs.Prelude.{⊤};
 
 use std::alloc::{AllocError, Global};
+use std::io;
 use yumbeltir::{Applier, Call, EditFault, Editor, RelPath};
 
 // The two columns before the path in a line: what happened to the node, and whether the properties of an existing node changed.
@@ -24,6 +25,8 @@ pub(crate) struct UpdateLines<'a, R: Print> {
     at_close: Vec<Option<Columns>>,
     /// Whether a line was printed.
     pub(crate) has_changed: bool,
+    /// Why a line couldn't be printed, if one couldn't: then the update ends before the next call.
+    pub(crate) unprinted: Option<io::Error>,
 }
 
 impl<'a, R: Print> UpdateLines<'a, R> {
@@ -33,6 +36,7 @@ impl<'a, R: Print> UpdateLines<'a, R> {
             applier,
             at_close: Vec::new(alloc),
             has_changed: false,
+            unprinted: None,
         }
     }
 
@@ -87,12 +91,15 @@ impl<'a, R: Print> Editor for UpdateLines<'a, R> {
     ghost answers = { λ before call answer after. ⊤ };
 
     fn call(&mut self, call: Call) -> Result<(), EditFault> {
+        // the applier has taken the call of that line, so it is the next one that is refused; it still gets the AbortEdit that follows
+        if self.unprinted.is_some() && !matches!(call, Call::AbortEdit) {
+            return Err(EditFault::Stopped);
+        }
         let line = self.line_of(&call)?;
         self.applier.call(call)?;
         if let Some((Columns(node, props), path)) = &line {
-            // a line that can't be written doesn't stop the update
-            let _answer = println!(self.rt; "{node}{props}   {path}");
             self.has_changed = true;
+            self.unprinted = println!(self.rt; "{node}{props}   {path}").err();
         }
         Ok(())
     }

@@ -7,7 +7,7 @@ use Rattle.svn_editor.specs.declared.fault.OrderFault.TheVariants.{Ended, Dead, 
 use Rattle.svn_editor.specs.declared.fault.OrderFault.TheVariants as order
 use Rattle.svn_editor.specs.declared.fault.EditFault.{EditFault}
 use Rattle.svn_editor.specs.declared.fault.EditFault.TheVariants.{Order, NoEntry, WrongKind, WrongRevision, BaseChecksum, TextChecksum}
-use Rattle.svn_editor.specs.declared.fault.EditFault.TheVariants.{EntryExists, TooLong, Late}
+use Rattle.svn_editor.specs.declared.fault.EditFault.TheVariants.{EntryExists, TooLong, Late, Stopped}
 use Rattle.svn_editor.specs.declared.fault.EditFault.TheVariants as edit
 
 abbrev pub order_fault_number : OrderFault → ℕ
@@ -60,6 +60,7 @@ edit_fault_number EntryExists = 47
 edit_fault_number edit.TooDeep = 48
 edit_fault_number TooLong = 49
 edit_fault_number (Late n) = 50
+edit_fault_number Stopped = 51
 
 -- that of the order's fault, where it is one
 abbrev pub edit_fault_name : EditFault → List ℕ
@@ -74,3 +75,4 @@ edit_fault_name EntryExists = codes "EntryExists"
 edit_fault_name edit.TooDeep = codes "TooDeep"
 edit_fault_name TooLong = codes "TooLong"
 edit_fault_name (Late n) = codes "Late"
+edit_fault_name Stopped = codes "Stopped"

@@ -152,10 +152,13 @@ pub enum EditFault {
     /// The receiver in another thread refused an earlier call, of this number, counted from 1: the sender must stop.
     #[error("call {0} was refused")]
     Late(u64),
+    /// An editor of one's own ends the drive for a reason that it keeps itself, as a file that can't be written. No editor of this library has it.
+    #[error("the editor stopped")]
+    Stopped,
 }
 
 impl EditFault {
-    /// The fault's number: from 41, NoEntry, to 50, Late, in the order of the variants; a call that is out of order has the number of the order's
+    /// The fault's number: from 41, NoEntry, to 51, Stopped, in the order of the variants; a call that is out of order has the number of the order's
     /// fault.
     pub fn number(self) -> u32
         ensures { result ≡ edit_fault_number self }
@@ -172,6 +175,7 @@ impl EditFault {
             EditFault::TooDeep => 48,
             EditFault::TooLong => 49,
             EditFault::Late(_) => 50,
+            EditFault::Stopped => 51,
         }
     }
 
@@ -191,6 +195,7 @@ impl EditFault {
             EditFault::TooDeep => "TooDeep",
             EditFault::TooLong => "TooLong",
             EditFault::Late(_) => "Late",
+            EditFault::Stopped => "Stopped",
         }
     }
 }
