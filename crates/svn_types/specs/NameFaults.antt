@@ -1,11 +1,15 @@
 -- Which texts are refused as names and paths, and why. The first fault in this order is returned, and Memory comes last.
 --     AnswersPath fault value result      the result is that fault, or the value where there is none
-use Rattle.std.specs.Prelude.{◌≡◌, ℕ, List, [], ◌∷◌, length, nat_lt, nat_eq, Option, Some, None, Result, Ok, Err, if◌then◌else◌, codes}
+--     AnswersBytes bytes result      the result is that of the path which the bytes spell, or NotUtf8 where they are no text
+use Rattle.std.specs.Prelude.{◌≡◌, ℕ, true, false, List, [], ◌∷◌, length, nat_lt, nat_eq, Option, Some, None, Result, Ok, Err, if◌then◌else◌, codes}
 use Rattle.std.specs.List.{list_all}
 use Rattle.std.specs.Option.{option_or}
+use Rattle.std.specs.Str.{is_utf8}
 use Rattle.svn_types.specs.declared.fault.PathFault.{PathFault}
 use Rattle.svn_types.specs.declared.fault.PathFault.TheVariants.{EmptyComponent, Dots, BadCharacter, NameTooLong, TooManyComponents, Memory}
-use Rattle.svn_types.specs.Names.{Path, name_limit, depth_limit, is_plain, is_dots, is_prop_text}
+use Rattle.svn_types.specs.declared.fault.PathBytesFault.{PathBytesFault}
+use Rattle.svn_types.specs.declared.fault.PathBytesFault.TheVariants as bytes_fault
+use Rattle.svn_types.specs.Names.{Path, name_limit, depth_limit, is_plain, is_dots, is_prop_text, path_of_text}
 
 abbrev pub name_fault : List ℕ → Option PathFault
 name_fault n =
@@ -38,6 +42,16 @@ AnswersPath None value (Ok v) = v ≡ value
 AnswersPath None value (Err e) = e ≡ Memory
 AnswersPath (Some fault) value (Ok v) = ⊥
 AnswersPath (Some fault) value (Err e) = e ≡ fault
+
+-- the same of the path that a text spells
+abbrev pub AnswersText : List ℕ → Result Path PathFault → Type 0
+AnswersText text result = AnswersPath (path_fault (path_of_text text)) (path_of_text text) result
+
+-- no name is read of bytes that are no text
+abbrev pub AnswersBytes : List ℕ → Result Path PathBytesFault → Type 0
+AnswersBytes bytes (Ok p) = (is_utf8 bytes ≡ true) × AnswersText bytes (Ok p)
+AnswersBytes bytes (Err bytes_fault.NotUtf8) = is_utf8 bytes ≡ false
+AnswersBytes bytes (Err (bytes_fault.Path fault)) = (is_utf8 bytes ≡ true) × AnswersText bytes (Err fault)
 
 abbrev pub path_fault_number : PathFault → ℕ
 path_fault_number EmptyComponent = 1

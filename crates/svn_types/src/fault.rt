@@ -1,6 +1,7 @@
 //! Why a text is no name or no path.
 ghost use Rattle.std.specs.Prelude.{◌≡◌};
 ghost use Rattle.svn_types.specs.declared.fault.PathFault.TheVariants.{Memory};
+ghost use Rattle.svn_types.specs.declared.fault.PathBytesFault.TheVariants.{Path};
 ghost use Rattle.svn_types.specs.NameFaults.{path_fault_number, path_fault_name};
 
 use std::alloc::AllocError;
@@ -65,5 +66,32 @@ impl From<AllocError> for PathFault {
 
     fn from(_error: AllocError) -> PathFault {
         PathFault::Memory
+    }
+}
+
+/// Why bytes are no path.
+#[derive(Clone, Copy, Debug, PartialEq, Eq, Error)]
+pub enum PathBytesFault {
+    /// They aren't UTF-8.
+    #[error("not UTF-8")]
+    NotUtf8,
+    /// The text that they are is no path, or an allocation failed.
+    #[error("{0}")]
+    Path(PathFault),
+}
+
+impl From<PathFault> for PathBytesFault {
+    ghost from_gives = { λ fault e. e ≡ Path fault };
+
+    fn from(fault: PathFault) -> PathBytesFault {
+        PathBytesFault::Path(fault)
+    }
+}
+
+impl From<AllocError> for PathBytesFault {
+    ghost from_gives = { λ _ e. e ≡ Path Memory };
+
+    fn from(_error: AllocError) -> PathBytesFault {
+        PathBytesFault::Path(PathFault::Memory)
     }
 }

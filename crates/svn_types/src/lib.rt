@@ -2,8 +2,8 @@
 //! than one crate keeps.
 //!
 //! [`RelPath`] is a list of [`Name`]s below some root, [`Props`] are [`Text`]s under [`PropName`]s, [`Rev`] is the number of a revision,
-//! and [`Kind`] is file or directory. If a text is no name or no path, [`PathFault`] says why. [`impossible`] marks a branch that no call
-//! reaches.
+//! and [`Kind`] is file or directory. [`Digest`] and [`Sha1Sum`] are checksums. If a text is no name or no path, [`PathFault`] says why, and
+//! [`PathBytesFault`] of bytes. [`impossible`] marks a branch that no call reaches.
 //!
 //! ```
 //! let directory = RelPath::parse(alloc, "trunk/lib")?;
@@ -33,9 +33,9 @@
 //! To change the layout, begin with `path_form` and `specs/Forms.antt` (what each form holds), `PathKeys.antt` (keys), `PathHeads.antt` (heads).
 //!
 //! Promises: `parse` and `join` return the value, or exactly the first fault in the order of the definition, with Memory last
-//! (`AnswersPath`, with `name_fault`, `prop_name_fault`, `path_fault` and `count_fault` of `specs/NameFaults.antt`). Orders and equalities are
-//! those of the lists that contracts see (the `cmp` and `eq` of each type). `Props` are a map in name order, and `changes_to` gives
-//! `changes_between` of `specs/Props.antt`. A `Text` is verified by its checksum exactly if that is the MD5 of its bytes.
+//! (`AnswersPath`, with `name_fault`, `prop_name_fault`, `path_fault` and `count_fault` of `specs/NameFaults.antt`; `AnswersBytes` of bytes).
+//! Orders and equalities are those of the lists that contracts see (the `cmp` and `eq` of each type). `Props` are a map in name order, and
+//! `changes_to` gives `changes_between` of `specs/Props.antt`. A `Text` is verified by its checksum exactly if that is the MD5 of its bytes.
 #![tactic(auto)]
 
 mod bytes;
@@ -72,8 +72,8 @@ mod unreached;
 
 pub use bytes::split_once;
 pub use changes::PropChange;
-pub use digest::Digest;
-pub use fault::PathFault;
+pub use digest::{Digest, Sha1Sum};
+pub use fault::{PathBytesFault, PathFault};
 pub use kind::Kind;
 pub use limits::{MAX_CAPACITY, MAX_COMPONENTS, MAX_DEPTH, MAX_NAME_LEN, MAX_SCRIPT, MAX_SIZE};
 pub use name::Name;

@@ -13,11 +13,11 @@ ghost use Rattle.svn_types.specs.PathHash.{same_path_hash};
 ghost use Rattle.svn_types.specs.PathHeads.{IsHeadOf};
 ghost use Rattle.svn_types.specs.PathKeys.{path_key, is_plain_path};
 ghost use Rattle.svn_types.specs.PathTexts.{shown_path};
-ghost use Rattle.svn_types.specs.NameFaults.{path_fault, names_fault, count_fault, AnswersPath};
+ghost use Rattle.svn_types.specs.NameFaults.{path_fault, names_fault, count_fault, AnswersPath, AnswersBytes};
 
 use crate::bytes::split_once;
 use crate::cut::{Cut, UNCUT};
-use crate::fault::PathFault;
+use crate::fault::{PathBytesFault, PathFault};
 use crate::limits::MAX_COMPONENTS;
 use crate::name::{Name, fault_of_name};
 use crate::path_front::{PathFront, ROOT_FRONT};
@@ -26,9 +26,9 @@ use crate::path_parts::PathParts;
 use crate::pieces::Pieces;
 use std::alloc::{AllocError, Global};
 use std::cmp::Ordering;
-use std::fmt;
 use std::hash::{Hash, Hasher};
 use std::marker::Model;
+use std::{fmt, str};
 
 /// A path below some root (a relpath of `svn_dirent_uri.h`): at most 128 names; the root has none. Paths are ordered name by name, names by their bytes, a prefix first,
 /// so a directory is directly before what is below it. A contract sees a path as the list of its names. A clone shares them.
@@ -215,6 +215,16 @@ impl RelPath {
             return Err(PathFault::TooManyComponents);
         }
         Ok(RelPath::of_parts(parts_of(alloc, text, count)?))
+    }
+
+    /// The same of bytes. NotUtf8 if they are no text, whatever names they spell; else the fault that [`parse`](RelPath::parse) finds.
+    pub fn from_bytes(alloc: Global, bytes: &[u8]) -> Result<RelPath, PathBytesFault>
+        ensures { AnswersBytes bytes.now result }
+    {
+        match str::from_utf8(bytes) {
+            Ok(text) => Ok(RelPath::parse(alloc, text)?),
+            Err(_) => Err(PathBytesFault::NotUtf8),
+        }
     }
 
     // The path of these names.

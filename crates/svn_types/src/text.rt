@@ -1,5 +1,5 @@
 //! Texts of files and values of properties.
-ghost use Rattle.std.specs.Prelude.{◌≡◌, ◌↔◌, IsTrue, [], length, nat_eq, bytes_eq, Some, None, IfSome, IfOk, IfErr, if◌then◌else◌};
+ghost use Rattle.std.specs.Prelude.{◌≡◌, ◌≤◌, ◌↔◌, IsTrue, [], length, nat_eq, bytes_eq, Some, None, IfSome, IfOk, IfErr, if◌then◌else◌};
 ghost use Rattle.std.specs.Cmp.Lexicographic.{pointwise, nat_list_eq_equiv};
 ghost use Rattle.std.specs.Cmp.{partial_equiv_from_equiv};
 ghost use Rattle.md5.specs.Md5.{md5};
@@ -8,6 +8,7 @@ use crate::digest::Digest;
 use crate::short_bytes::ShortBytes;
 use crate::summed::{LongBytes, ShortSummed};
 use std::alloc::{AllocError, Global};
+use std::convert::AsSlice;
 use std::fmt;
 use std::marker::Model;
 use std::sync::Arc;
@@ -70,23 +71,61 @@ impl Text {
         })
     }
 
-    // The text that has these bytes too, and keeps their checksum; from 15 to 30 bytes leave no room for it.
+    /// The text of a string, as [`from_slice`](Text::from_slice) of its bytes.
+    pub fn from_str(alloc: Global, text: &str) -> Result<Text, AllocError>
+        ensures { IfOk result (λ t. t ≡ text.now) }
+    {
+        Text::from_slice(alloc, text.as_bytes())
+    }
+
+    /// The text of these bytes, whose MD5 checksum (RFC 1321) this is, and which it keeps: so it isn't computed again, and a clone copies no
+    /// byte. No byte is copied here either beyond 30; from 15 to 30 bytes leave no room for the checksum. AllocError if an allocation fails;
+    /// up to 30 bytes take no memory. A checksum that isn't known to be that of the bytes is for [`verified`](Text::verified).
+    pub fn summed(bytes: Vec<u8>, checksum: Digest) -> Result<Text, AllocError>
+        requires { checksum ≡ md5 bytes.items }
+        ensures { IfOk result (λ t. t ≡ bytes.items) }
+    {
+        if bytes.len() <= MAX_SHORT {
+            return Ok(Text::short_summed(&bytes, checksum));
+        }
+        Text::long_summed(bytes, checksum)
+    }
+
+    // The same of few bytes, which it keeps in itself.
+    fn short_summed(bytes: &[u8], checksum: Digest) -> Text
+        requires fits { length bytes.now ≤ 30 }
+        requires sum { checksum ≡ md5 bytes.now }
+        ensures { result ≡ bytes.now }
+    {
+        let form = if bytes.len() <= ShortSummed::MAX {
+            TextForm::ShortSummed(ShortSummed::of(bytes, checksum))
+        } else {
+            TextForm::Short(ShortBytes::of(bytes))
+        };
+        Text { form }
+    }
+
+    // The same where clones share the bytes.
+    fn long_summed(bytes: Vec<u8>, checksum: Digest) -> Result<Text, AllocError>
+        requires { checksum ≡ md5 bytes.items }
+        ensures { IfOk result (λ t. t ≡ bytes.items) }
+    {
+        let alloc = *bytes.allocator();
+        let bytes = LongBytes::summed(bytes, checksum);
+        Ok(Text {
+            form: TextForm::Shared(Arc::new(alloc, bytes)?),
+        })
+    }
+
+    // The text that has these bytes too, and keeps their checksum where there is room.
     fn with_checksum(alloc: Global, bytes: &[u8], checksum: Digest) -> Result<Text, AllocError>
         requires { checksum ≡ md5 bytes.now }
         ensures { IfOk result (λ t. t ≡ bytes.now) }
     {
-        if bytes.len() <= ShortSummed::MAX {
-            return Ok(Text {
-                form: TextForm::ShortSummed(ShortSummed::of(bytes, checksum)),
-            });
-        }
         if bytes.len() <= MAX_SHORT {
-            return Text::from_slice(alloc, bytes);
+            return Ok(Text::short_summed(bytes, checksum));
         }
-        let bytes = LongBytes::summed(Vec::from_slice(alloc, bytes)?, checksum);
-        Ok(Text {
-            form: TextForm::Shared(Arc::new(alloc, bytes)?),
-        })
+        Text::long_summed(Vec::from_slice(alloc, bytes)?, checksum)
     }
 
     /// The text that has these bytes too, if `checksum` is their MD5 checksum (RFC 1321), which it keeps then; None if they have another.
@@ -210,6 +249,15 @@ impl Clone for Text {
             TextForm::Shared(bytes) => TextForm::Shared(bytes.clone()?),
         };
         Ok(Text { form })
+    }
+}
+
+/// Its bytes, lent to what takes any bytes.
+impl AsSlice<u8> for Text {
+    ghost items = { λ t. t };
+
+    fn as_slice(&self) -> &[u8] {
+        Text::as_slice(self)
     }
 }
 
