@@ -3,6 +3,10 @@
 use crossbeam_channel::protocol::{Join, Lesson, Outcome, Protocol, Split};
 use crossbeam_channel::{RuledReceiver, RuledSender};
 use std::collections::LinkedList;
+use std::sync::Wait;
+use std::thread;
+use std::thread::Parker;
+use std::time::Duration;
 use svn_editor::Call;
 
 /// What a pass may do, and what it has sent and taken. It exists in proofs alone: no value of it is made.
@@ -95,6 +99,21 @@ pub type Receiver = RuledReceiver<Call, Hand, InOrder>;
 /// A value without bytes by which a thread may make steps, and in which proofs keep what it did.
 pub type Pass = crossbeam_channel::Pass<Call, Hand>;
 
-/// How often an end looks again, and lets other threads run in between, before it sleeps until it is told: that costs both threads a call of the
-/// system.
-pub(crate) const LOOKS: u32 = 64;
+// How often an end looks again, and lets other threads run in between, before it sleeps between two looks.
+const LOOKS: u32 = 256;
+
+// How long it sleeps at first, in microseconds. Each sleep is longer by that, up to so many times that.
+const SLEEP: u64 = 50;
+
+const LONGEST: u32 = 100;
+
+/// Waits a little for the other end, where so many looks came before.
+pub(crate) fn wait_a_little<R: Wait>(rt: &R, looks: u32) {
+    let Some(sleeps) = looks.checked_sub(LOOKS) else {
+        thread::yield_now();
+        return;
+    };
+    // nobody wakes it, so it sleeps that long
+    let long = SLEEP * u64::from(sleeps.min(LONGEST - 1) + 1);
+    Parker::new().park_timeout(rt, Duration::from_micros(long));
+}
