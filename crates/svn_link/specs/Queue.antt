@@ -1,34 +1,42 @@
--- The queue of a link: the calls that were sent, those that it holds, and those that were taken.
--- A send puts a call at the back of what it holds, a take removes the one at the front.
--- What was taken, and then what it holds, is what was sent.
--- One pass may send, and has the list of what was sent. One may take, and has the list of what was taken.
+-- The queue of a link: the calls that were sent, those that were taken, and those that it holds in between.
+-- A pass is what a thread needs for a step, and it knows which calls were sent by it and which were taken. Seven kinds of step are made:
+--   making: the queue is empty; its one pass may send and take, and has sent and taken nothing
+--   splitting: that pass becomes two: one may send and has what was sent, the other may take and has what was taken
+--   send: a call goes behind those that the queue holds, and is the last of what was sent
+--   full: a send finds no room: nothing changes
+--   take: the call at the front of the queue goes, and is the last of what was taken
+--   empty: a take finds no call: nothing changes
+--   joining: the two passes become one again, which has both lists; by the rule it learns what the queue still holds
+-- After each of them, whichever thread made it, what was sent is what was taken, and then what the queue holds.
 use Rattle.std.specs.Prelude.{◌≡◌, ℕ, ◌<◌, ◌^◌, Bool, true, List, [], ◌∷◌, ◌++◌, length}
 use mathlib.Core.Option.{some}
 use lib.ListN.{get_elem?}
 use Rattle.svn_editor.specs.declared.call.Call.{Call}
 use Rattle.svn_link.specs.declared.queue.Hand.{Hand}
 
--- whether a pass may send and take, and what was sent and taken by it
+-- a pass by what it may do, send or take, and by what was sent and taken by it
 abbrev pub hand : Bool → Bool → List Call → List Call → Hand
 hand sends takes sent taken = record { sends = sends; takes = takes; sent = sent; taken = taken }
 
+-- the pass after a send
 abbrev pub sent_more : Hand → Call → Hand
 sent_more h c = hand h.sends h.takes (h.sent ++ c ∷ []) h.taken
 
+-- the pass after a take
 abbrev pub taken_more : Hand → Call → Hand
 taken_more h c = hand h.sends h.takes h.sent (h.taken ++ c ∷ [])
 
--- what a take tells: the call was taken, and no more were taken than can be counted
+-- what a take tells: the call was taken, and fewer than 2^64 were
 abbrev pub IsTake : Hand → Call → Hand → Type 0
 IsTake h c k = (k ≡ taken_more h c) × (length k.taken < 2 ^ 64)
 
--- a pass that may send is the sender's and has what was sent, and one that may take is the taker's and has what was taken
+-- a pass that may send is the sender's and has what was sent; one that may take is the taker's and has what was taken
 module _ (sender taker : ℕ) (sent taken : List Call) (pass : ℕ) (h : Hand) where
   pub record Fits : Type 0 where
     pub sends : h.sends ≡ true → (pass ≡ sender) × (h.sent ≡ sent)
     pub takes : h.takes ≡ true → (pass ≡ taker) × (h.taken ≡ taken)
 
--- the rule, of what the queue holds and of what each pass knows
+-- the rule: what was sent is what was taken and then what the queue holds; fewer than 2^64 were sent; each pass fits
 pub record IsInOrder (items : List Call) (hands : List Hand) : Type 0 where
   pub sender : ℕ
   pub taker : ℕ

@@ -39,9 +39,9 @@ impl Outbox {
     /// Sends a call: it is now the last of those that wait to be taken.
     ///
     /// It may wait: while the queue holds as many calls as its capacity, it tries again until the call is sent. It
-    /// takes no memory and has no refusal. Once the [`Inbox`](crate::Inbox) was dropped it waits for ever. No call may
-    /// follow a last call ([`over`](Outbox::over) is the test), and `u64::MAX` calls are the most that a link counts
-    /// ([`sent`](Outbox::sent) is the test).
+    /// takes no memory and has no refusal. Once the [`Inbox`](crate::Inbox) was dropped, and after more than 2^61 calls, it
+    /// waits for ever. No call may follow a last call ([`over`](Outbox::over) is the test), and `u64::MAX` calls are the
+    /// most that a link counts ([`sent`](Outbox::sent) is the test).
     pub fn send<R: Wait>(&mut self, rt: &R, call: Call)
         requires open { is_over self.old.calls ≡ false }
         requires room { length self.old.calls < u64.MAX }

@@ -1,12 +1,16 @@
-//! The rule of the queue, and what each of its steps tells the thread that makes it.
+//! The rule of the queue, what each of its steps tells the thread that makes it, and how an end waits for the other.
+//!
+//! After every step of either thread, what was sent is what was taken and then what the queue holds ([`InOrder`]). Steps are of seven kinds:
+//! making the queue, splitting its pass in two and joining the two ([`Roles`]), a send ([`Sends`]) or one that finds the queue full, a take
+//! ([`Takes`]) or one that finds it empty. The joined pass learns what the queue still holds ([`Remains`]).
 
 use crossbeam_channel::protocol::{Join, Lesson, Outcome, Protocol, Split};
 use crossbeam_channel::{RuledReceiver, RuledSender};
 use std::collections::LinkedList;
 use std::sync::Wait;
-use std::thread;
 use std::thread::Parker;
 use std::time::Duration;
+use std::{hint, thread};
 use svn_editor::Call;
 
 /// What a pass may do, and what it has sent and taken. It exists in proofs alone: no value of it is made.
@@ -21,7 +25,7 @@ pub struct Hand {
     pub taken: LinkedList<Call>,
 }
 
-/// What was taken, and then what the queue holds, is what was sent.
+/// The rule: what was sent is what was taken, and then what the queue holds. It holds when the queue is made, with one pass that may do both.
 pub struct InOrder;
 
 impl Protocol<Call, Hand> for InOrder {
@@ -54,7 +58,7 @@ impl Join<Hand> for Roles {
     ghost spent = { hand false false [] [] };
 }
 
-/// A send: the call is the last of those that were sent. A send that finds the queue full tells nothing.
+/// A send: the call is the last of those that were sent. One that finds the queue full changes nothing and tells nothing.
 pub struct Sends;
 
 impl Outcome<Call, Hand> for Sends {
@@ -68,7 +72,7 @@ impl Lesson<Call, Hand> for Sends {
     ghost fact = { λ _ _. Unit {0} };
 }
 
-/// A take: the call is the last of those that were taken. A take that finds the queue empty tells nothing.
+/// A take: the call is the last of those that were taken. One that finds the queue empty changes nothing and tells nothing.
 pub struct Takes;
 
 impl Outcome<Call, Hand> for Takes {
@@ -99,21 +103,38 @@ pub type Receiver = RuledReceiver<Call, Hand, InOrder>;
 /// A value without bytes by which a thread may make steps, and in which proofs keep what it did.
 pub type Pass = crossbeam_channel::Pass<Call, Hand>;
 
-// How often an end looks again, and lets other threads run in between, before it sleeps between two looks.
-const LOOKS: u32 = 256;
+// How often an end looks again after a pause of the processor. The other end has most often acted by then.
+const SPINS: u32 = 100;
+
+// How long such a pause is. At each look the processors pass what both ends write to and fro, so a pause leaves the other end time.
+const PAUSE: u32 = 16;
+
+// How often it looks then, and lets other threads run in between, before it sleeps between two looks.
+const YIELDS: u32 = 256;
 
 // How long it sleeps at first, in microseconds. Each sleep is longer by that, up to so many times that.
 const SLEEP: u64 = 50;
 
 const LONGEST: u32 = 100;
 
+// Keeps the processor busy for a moment.
+fn pause() {
+    for _ in 0..PAUSE {
+        hint::spin_loop();
+    }
+}
+
 /// Waits a little for the other end, where so many looks came before.
 pub(crate) fn wait_a_little<R: Wait>(rt: &R, looks: u32) {
-    let Some(sleeps) = looks.checked_sub(LOOKS) else {
+    if looks < SPINS {
+        pause();
+        return;
+    }
+    let Some(sleeps) = looks.checked_sub(SPINS + YIELDS) else {
         thread::yield_now();
         return;
     };
-    // nobody wakes it, so it sleeps that long
+    // nobody wakes it, so that no step of the other end costs a call of the system
     let long = SLEEP * u64::from(sleeps.min(LONGEST - 1) + 1);
     Parker::new().park_timeout(rt, Duration::from_micros(long));
 }
