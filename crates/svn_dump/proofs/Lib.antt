@@ -4,6 +4,7 @@ pub mod Sequences
 pub mod Counting
 -- the headers of a record
 pub mod BlockLemmas
+pub mod HeaderLemmas
 -- property sections
 pub mod PropertyLemmas
 -- so many bytes

@@ -2,6 +2,8 @@ pub mod Reading
 pub mod Blocks
 pub mod Counts
 pub mod Headers
+pub mod HeaderNames
+pub mod GivenHeaders
 pub mod Fields
 pub mod Properties
 pub mod Shapes

@@ -1,12 +1,14 @@
 //! Headers whose values have a type.
 ghost use Rattle.std.specs.Prelude.{◌≡◌};
 ghost use Rattle.svn_dump.specs.Reading.{Gives};
+ghost use Rattle.svn_dump.specs.HeaderNames.{name_of};
 ghost use Rattle.svn_dump.specs.Fields.{number_value, sum_value, true_value, without_slash, path_or_fault, path_of_bytes, path_of, path_value, kind_value, named_action, action_value, source_value};
 ghost use Rattle.svn_types.specs.Names.{path_of_text};
 ghost use Rattle.svn_types.specs.NameFaults.{path_fault};
 
 use crate::fault::{DumpFault, Reason};
-use crate::headers::header;
+use crate::header_name::HeaderName;
+use crate::headers::Headers;
 use crate::record::{Action, CopySource, Sha1Sum};
 use hex::FromHex;
 use std::alloc::Global;
@@ -15,10 +17,10 @@ use svn_digits::read_number;
 use svn_types::{Digest, Kind, PathFault, RelPath, Rev};
 
 /// The value of a header that is a number, if it is given.
-pub(crate) fn number_in(block: &[u8], name: &[u8]) -> Result<Option<u64>, DumpFault>
-    ensures { Gives (λ n. n) result (number_value block.now name.now) }
+pub(crate) fn number_in(headers: &Headers<'_>, name: HeaderName) -> Result<Option<u64>, DumpFault>
+    ensures { Gives (λ n. n) result (number_value headers.now (name_of name)) }
 {
-    let Some(value) = header(block, name)? else {
+    let Some(value) = headers.value(name)? else {
         return Ok(None);
     };
     match read_number(value) {
@@ -28,10 +30,10 @@ pub(crate) fn number_in(block: &[u8], name: &[u8]) -> Result<Option<u64>, DumpFa
 }
 
 /// The value of a header that is an MD5 checksum, if it is given.
-pub(crate) fn md5_in(block: &[u8], name: &[u8]) -> Result<Option<Digest>, DumpFault>
-    ensures { Gives (λ sum. sum) result (sum_value 16 block.now name.now) }
+pub(crate) fn md5_in(headers: &Headers<'_>, name: HeaderName) -> Result<Option<Digest>, DumpFault>
+    ensures { Gives (λ sum. sum) result (sum_value 16 headers.now (name_of name)) }
 {
-    let Some(value) = header(block, name)? else {
+    let Some(value) = headers.value(name)? else {
         return Ok(None);
     };
     match <[u8; 16]>::from_hex(value) {
@@ -41,10 +43,10 @@ pub(crate) fn md5_in(block: &[u8], name: &[u8]) -> Result<Option<Digest>, DumpFa
 }
 
 /// The value of a header that is a SHA-1 checksum, if it is given.
-pub(crate) fn sha1_in(block: &[u8], name: &[u8]) -> Result<Option<Sha1Sum>, DumpFault>
-    ensures { Gives (λ sum. sum) result (sum_value 20 block.now name.now) }
+pub(crate) fn sha1_in(headers: &Headers<'_>, name: HeaderName) -> Result<Option<Sha1Sum>, DumpFault>
+    ensures { Gives (λ sum. sum) result (sum_value 20 headers.now (name_of name)) }
 {
-    let Some(value) = header(block, name)? else {
+    let Some(value) = headers.value(name)? else {
         return Ok(None);
     };
     match <[u8; 20]>::from_hex(value) {
@@ -54,10 +56,10 @@ pub(crate) fn sha1_in(block: &[u8], name: &[u8]) -> Result<Option<Sha1Sum>, Dump
 }
 
 /// Whether a header is given as `true`.
-pub(crate) fn is_true(block: &[u8], name: &[u8]) -> Result<bool, DumpFault>
-    ensures { Gives (λ b. b) result (true_value block.now name.now) }
+pub(crate) fn is_true(headers: &Headers<'_>, name: HeaderName) -> Result<bool, DumpFault>
+    ensures { Gives (λ b. b) result (true_value headers.now (name_of name)) }
 {
-    let value = header(block, name)?;
+    let value = headers.value(name)?;
     Ok(matches!(value, Some(b"true")))
 }
 
@@ -99,20 +101,20 @@ pub(crate) fn read_path(alloc: Global, value: &[u8]) -> Result<RelPath, DumpFaul
 }
 
 /// A node's path; without one it is the root's.
-pub(crate) fn path_in(alloc: Global, block: &[u8]) -> Result<RelPath, DumpFault>
-    ensures { Gives (λ path. path) result (path_value block.now) }
+pub(crate) fn path_in(alloc: Global, headers: &Headers<'_>) -> Result<RelPath, DumpFault>
+    ensures { Gives (λ path. path) result (path_value headers.now) }
 {
-    match header(block, b"Node-path")? {
+    match headers.value(HeaderName::NodePath)? {
         Some(value) => read_path(alloc, value),
         None => read_path(alloc, b""),
     }
 }
 
 /// A node's kind, if it is given.
-pub(crate) fn kind_in(block: &[u8]) -> Result<Option<Kind>, DumpFault>
-    ensures { Gives (λ kind. kind) result (kind_value block.now) }
+pub(crate) fn kind_in(headers: &Headers<'_>) -> Result<Option<Kind>, DumpFault>
+    ensures { Gives (λ kind. kind) result (kind_value headers.now) }
 {
-    match header(block, b"Node-kind")? {
+    match headers.value(HeaderName::NodeKind)? {
         None => Ok(None),
         Some(b"file") => Ok(Some(Kind::File)),
         Some(b"dir") => Ok(Some(Kind::Directory)),
@@ -138,10 +140,10 @@ fn action_of(word: &[u8]) -> Option<Action>
 }
 
 /// What is done to a node.
-pub(crate) fn action_in(block: &[u8]) -> Result<Action, DumpFault>
-    ensures { Gives (λ action. action) result (action_value block.now) }
+pub(crate) fn action_in(headers: &Headers<'_>) -> Result<Action, DumpFault>
+    ensures { Gives (λ action. action) result (action_value headers.now) }
 {
-    let Some(word) = header(block, b"Node-action")? else {
+    let Some(word) = headers.value(HeaderName::NodeAction)? else {
         return Err(DumpFault::Refused(Reason::NotAnAction));
     };
     match action_of(word) {
@@ -151,11 +153,14 @@ pub(crate) fn action_in(block: &[u8]) -> Result<Action, DumpFault>
 }
 
 /// The source of a copy, if it is given.
-pub(crate) fn source_in(alloc: Global, block: &[u8]) -> Result<Option<CopySource>, DumpFault>
-    ensures { Gives (λ source. source) result (source_value block.now) }
+pub(crate) fn source_in(
+    alloc: Global,
+    headers: &Headers<'_>,
+) -> Result<Option<CopySource>, DumpFault>
+    ensures { Gives (λ source. source) result (source_value headers.now) }
 {
-    let rev = number_in(block, b"Node-copyfrom-rev")?;
-    let path = header(block, b"Node-copyfrom-path")?;
+    let rev = number_in(headers, HeaderName::CopyRev)?;
+    let path = headers.value(HeaderName::CopyPath)?;
     match (rev, path) {
         (None, None) => Ok(None),
         (Some(rev), Some(path)) => {

@@ -1,11 +1,36 @@
-//! The headers of a record: lines of a name, a colon, a space and a value.
-ghost use Rattle.std.specs.Prelude.{◌≡◌, ℕ, List, ◌∷◌, [], None, Some, MatchOption, IfErr, option_map};
-ghost use Rattle.svn_dump.specs.Headers.{valued, header_of, value_in, values_of, header_value, is_header, are_headers};
+//! The headers of a record, read in one pass: lines of a name, a colon, a space and a value.
+ghost use Rattle.std.specs.Prelude.{◌≡◌, ℕ, List, None, Some, MatchOption, IfErr, option_map, length};
+ghost use Rattle.svn_dump.specs.declared.header_name.HeaderName.{HeaderName};
+ghost use Rattle.svn_dump.specs.Headers.{valued, header_of, value_in, header_value, is_header, are_headers};
+ghost use Rattle.svn_dump.specs.HeaderNames.{name_of};
+ghost use Rattle.svn_dump.specs.GivenHeaders.{given_at, more_given};
 ghost use Rattle.svn_dump.specs.Reading.{Gives};
 ghost use Rattle.std.specs.Option.{option_copied};
 
 use crate::fault::{DumpFault, Reason};
+use crate::given::Given;
+use crate::header_name::{COUNT, HeaderName};
+use std::marker::Model;
 use svn_types::split_once;
+
+/// The headers of a record. A contract sees them as their bytes.
+#[derive(Drop)]
+pub(crate) struct Headers<'a> {
+    block: &'a [u8],
+    given: [Given<'a>; 18],
+    well_formed: bool,
+}
+
+impl<'a> Model for Headers<'a> {
+    ghost use Rattle.std.specs.Prelude.{ℕ, List};
+    ghost use Rattle.svn_dump.specs.GivenHeaders.{IsRead};
+
+    ghost Value = { List ℕ };
+
+    ghost view = { λ h. h.block.now };
+
+    ghost invariant = { λ h. IsRead h.block.now h.given h.well_formed };
+}
 
 // The value of a header, before which is a space.
 fn read_value(after: &[u8]) -> Option<&[u8]>
@@ -30,63 +55,58 @@ fn read_header(line: &[u8]) -> Option<(&[u8], &[u8])>
     }
 }
 
-// The value of a line, if it has this name.
-fn value_in<'a>(line: &'a [u8], name: &[u8]) -> Option<&'a [u8]>
-    ensures { MatchOption result (value_in name.now line.now ≡ None) (λ value. value_in name.now line.now ≡ Some value.now) }
+// Takes the header of a line. Whether it is one, or the line is empty.
+fn take_line<'a>(given: &mut [Given<'a>; 18], line: &'a [u8]) -> bool
+    ensures header { result ≡ is_header line.now }
+    ensures given { (name : HeaderName) → given_at given.new name ≡ more_given (given_at given.old name) (value_in (name_of name) line.now) }
 {
-    match read_header(line) {
-        Some((own, value)) => { if own == name { Some(value) } else { None } }
-        None => None,
+    let Some((name, value)) = read_header(line) else {
+        return line.is_empty();
+    };
+    if let Some(name) = HeaderName::spelled(name) {
+        let place = name.index();
+        given[place] = given[place].once_more(value);
     }
+    true
 }
 
-fn is_header(line: &[u8]) -> bool
-    ensures { result ≡ is_header line.now }
-{
-    line.is_empty() || read_header(line).is_some()
-}
-
-/// Whether each line is a header or empty. What is after the last line feed counts as a line.
-pub(crate) fn are_headers(block: &[u8]) -> bool
-    ensures { result ≡ are_headers block.now }
-{
-    let mut rest = block;
-    'lines: while let Some((line, after)) = split_once(rest, b'\n') {
-        if !is_header(line) {
-            return false;
+impl<'a> Headers<'a> {
+    /// The headers of these bytes. What is after the last line feed counts as a line.
+    pub(crate) fn of(block: &'a [u8]) -> Headers<'a>
+        ensures { result ≡ block.now }
+    {
+        let mut given = [Given::Absent; COUNT];
+        let mut well_formed = true;
+        let mut rest = block;
+        'lines: while let Some((line, after)) = split_once(rest, b'\n') {
+            let is_header = take_line(&mut given, line);
+            well_formed = well_formed && is_header;
+            rest = after;
         }
-        rest = after;
-    }
-    is_header(rest)
-}
-
-// The first value of a header, and the lines after its own.
-fn next_value<'a>(block: &'a [u8], name: &[u8]) -> Option<(&'a [u8], &'a [u8])>
-    ensures { MatchOption result (values_of name.now block.now ≡ []) (λ r. values_of name.now block.now ≡ r.0.now ∷ values_of name.now r.1.now) }
-{
-    let mut rest = block;
-    'lines: while let Some((line, after)) = split_once(rest, b'\n') {
-        if let Some(value) = value_in(line, name) {
-            return Some((value, after));
+        let is_header = take_line(&mut given, rest);
+        Headers {
+            block,
+            given,
+            well_formed: well_formed && is_header,
         }
-        rest = after;
     }
-    match value_in(rest, name) {
-        Some(value) => Some((value, b"")),
-        None => None,
-    }
-}
 
-/// The value of a header, if it is given; Twice where it is given more than once.
-pub(crate) fn header<'a>(block: &'a [u8], name: &[u8]) -> Result<Option<&'a [u8]>, DumpFault>
-    ensures value { Gives (λ value. option_copied value) result (header_value block.now name.now) }
-    ensures twice { IfErr result (λ e. e ≡ DumpFault.Refused Reason.Twice) }
-{
-    match next_value(block, name) {
-        None => Ok(None),
-        Some((value, after)) => match next_value(after, name) {
-            None => Ok(Some(value)),
-            Some(_) => Err(DumpFault::Refused(Reason::Twice)),
-        },
+    /// Whether each line is a header or empty.
+    pub(crate) fn are_headers(&self) -> bool
+        ensures { result ≡ are_headers self.now }
+    {
+        self.well_formed
+    }
+
+    /// The value of a header, if it is given; Twice where it is given more than once.
+    pub(crate) fn value(&self, name: HeaderName) -> Result<Option<&'a [u8]>, DumpFault>
+        ensures value { Gives (λ value. option_copied value) result (header_value self.now (name_of name)) }
+        ensures twice { IfErr result (λ e. e ≡ DumpFault.Refused Reason.Twice) }
+    {
+        match self.given[name.index()] {
+            Given::Absent => Ok(None),
+            Given::Once(value) => Ok(Some(value)),
+            Given::Twice => Err(DumpFault::Refused(Reason::Twice)),
+        }
     }
 }

@@ -23,6 +23,8 @@
 
 mod fault;
 mod fields;
+mod given;
+mod header_name;
 mod headers;
 mod input;
 mod properties;

@@ -3,6 +3,7 @@ ghost use Rattle.std.specs.Prelude.{◌≡◌, ◌≢◌, ◌↔◌, [], false, 
 ghost use Rattle.std.specs.Option.{option_copied};
 ghost use Rattle.svn_dump.specs.Blocks.{block_at};
 ghost use Rattle.svn_dump.specs.Headers.{header_value, if_once};
+ghost use Rattle.svn_dump.specs.HeaderNames.{name_of};
 ghost use Rattle.svn_dump.specs.Reading.{Gives, Reads};
 ghost use Rattle.svn_dump.specs.Records.{is_given, other_subject, subject_of, node_of, format_value, node_at, passed_at, headed_at, record_at};
 ghost use Rattle.svn_dump.specs.Counts.{Counts};
@@ -10,8 +11,9 @@ ghost use Rattle.svn_dump.specs.Readers.{left_in, Opens, headers_len, Shows, Unl
 
 use crate::fault::{DumpFault, Reason};
 use crate::fields::{action_in, kind_in, number_in, path_in, source_in};
-use crate::headers::{are_headers, header};
-use crate::input::{Source, read_block};
+use crate::header_name::HeaderName;
+use crate::headers::Headers;
+use crate::input::{Input, Source, read_block};
 use crate::record::{NodeRecord, Record};
 use crate::sections::{Limits, Texts, read_prop_section, read_text_section, skip_sections};
 use crate::shape::{lengths_in, shape_in};
@@ -39,10 +41,10 @@ enum Subject {
 }
 
 // The format of a dump, from the headers of its first record.
-fn read_format(block: &[u8]) -> Result<u64, DumpFault>
-    ensures { Gives (λ n. n) result (format_value block.now) }
+fn read_format(headers: &Headers<'_>) -> Result<u64, DumpFault>
+    ensures { Gives (λ n. n) result (format_value headers.now) }
 {
-    let Some(format) = number_in(block, b"SVN-fs-dump-format-version")? else {
+    let Some(format) = number_in(headers, HeaderName::Format)? else {
         return Err(DumpFault::Refused(Reason::NotADump));
     };
     if 2 <= format && format <= 3 {
@@ -52,32 +54,32 @@ fn read_format(block: &[u8]) -> Result<u64, DumpFault>
     }
 }
 
-fn is_given(block: &[u8], name: &[u8]) -> Result<bool, DumpFault>
-    ensures { Gives (λ b. b) result (is_given block.now name.now) }
+fn is_given(headers: &Headers<'_>, name: HeaderName) -> Result<bool, DumpFault>
+    ensures { Gives (λ b. b) result (is_given headers.now (name_of name)) }
 {
-    Ok(header(block, name)?.is_some())
+    Ok(headers.value(name)?.is_some())
 }
 
 #[tactic(auto, unfolding(crate::specs::Records::subject_of))]
-fn subject_of(block: &[u8]) -> Result<Subject, DumpFault>
-    ensures { Gives (λ subject. subject) result (subject_of block.now) }
+fn subject_of(headers: &Headers<'_>) -> Result<Subject, DumpFault>
+    ensures { Gives (λ subject. subject) result (subject_of headers.now) }
 {
-    if !are_headers(block) {
+    if !headers.are_headers() {
         return Err(DumpFault::Refused(Reason::NotAHeader));
     }
-    match number_in(block, b"Revision-number")? {
+    match number_in(headers, HeaderName::Revision)? {
         Some(number) => Ok(Subject::Revision(Rev(number))),
-        None => other_subject(block),
+        None => other_subject(headers),
     }
 }
 
 // What a record is about that isn't a revision.
-fn other_subject(block: &[u8]) -> Result<Subject, DumpFault>
-    ensures { Gives (λ subject. subject) result (other_subject block.now) }
+fn other_subject(headers: &Headers<'_>) -> Result<Subject, DumpFault>
+    ensures { Gives (λ subject. subject) result (other_subject headers.now) }
 {
-    let is_node = is_given(block, b"Node-path")?;
-    let has_uuid = is_given(block, b"UUID")?;
-    let has_format = is_given(block, b"SVN-fs-dump-format-version")?;
+    let is_node = is_given(headers, HeaderName::NodePath)?;
+    let has_uuid = is_given(headers, HeaderName::Uuid)?;
+    let has_format = is_given(headers, HeaderName::Format)?;
     if is_node {
         Ok(Subject::Node)
     } else if has_uuid || has_format {
@@ -89,13 +91,13 @@ fn other_subject(block: &[u8]) -> Result<Subject, DumpFault>
 
 // A node's record without its sections.
 #[tactic(auto, unfolding(crate::specs::Records::node_of))]
-fn read_node(alloc: Global, block: &[u8]) -> Result<NodeRecord, DumpFault>
-    ensures { Gives (λ node. node) result (node_of block.now) }
+fn node_in(alloc: Global, headers: &Headers<'_>) -> Result<NodeRecord, DumpFault>
+    ensures { Gives (λ node. node) result (node_of headers.now) }
 {
-    let path = path_in(alloc, block)?;
-    let kind = kind_in(block)?;
-    let action = action_in(block)?;
-    let source = source_in(alloc, block)?;
+    let path = path_in(alloc, headers)?;
+    let kind = kind_in(headers)?;
+    let action = action_in(headers)?;
+    let source = source_in(alloc, headers)?;
     Ok(NodeRecord {
         path,
         kind,
@@ -104,6 +106,55 @@ fn read_node(alloc: Global, block: &[u8]) -> Result<NodeRecord, DumpFault>
         props: None,
         text: None,
     })
+}
+
+// Reads the node that the headers begin.
+#[tactic(auto, unfolding(crate::specs::Records::node_at))]
+fn read_node<S: Input>(
+    alloc: Global,
+    source: &mut S,
+    headers: &Headers<'_>,
+    limits: Limits,
+    texts: Texts,
+) -> Result<Record, DumpFault>
+    ensures bytes { Reads (λ r. r) (S.remaining source.old) (S.remaining source.new) result (node_at limits texts headers.now) }
+    ensures counted { Counts (S.taken source.old) (S.remaining source.old) (S.taken source.new) (S.remaining source.new) }
+{
+    let mut node = node_in(alloc, headers)?;
+    let shape = shape_in(headers)?;
+    node.props = read_prop_section(alloc, source, &shape, limits.props)?;
+    node.text = read_text_section(alloc, source, &shape, texts, limits.text)?;
+    Ok(Record::Node(node))
+}
+
+// Passes over what belongs to the headers.
+fn pass<S: Input>(source: &mut S, headers: &Headers<'_>, what: Record) -> Result<Record, DumpFault>
+    ensures bytes { Reads (λ r. r) (S.remaining source.old) (S.remaining source.new) result (passed_at what headers.now) }
+    ensures counted { Counts (S.taken source.old) (S.remaining source.old) (S.taken source.new) (S.remaining source.new) }
+{
+    let lengths = lengths_in(headers)?;
+    match skip_sections(source, lengths) {
+        Ok(()) => Ok(what),
+        Err(fault) => Err(fault),
+    }
+}
+
+// Reads the record that the headers begin.
+fn read_headed<S: Input>(
+    alloc: Global,
+    source: &mut S,
+    headers: &Headers<'_>,
+    limits: Limits,
+    texts: Texts,
+) -> Result<Record, DumpFault>
+    ensures bytes { Reads (λ r. r) (S.remaining source.old) (S.remaining source.new) result (headed_at limits texts headers.now) }
+    ensures counted { Counts (S.taken source.old) (S.remaining source.old) (S.taken source.new) (S.remaining source.new) }
+{
+    match subject_of(headers)? {
+        Subject::Node => read_node(alloc, source, headers, limits, texts),
+        Subject::Revision(rev) => pass(source, headers, Record::Revision { rev }),
+        Subject::Other => pass(source, headers, Record::Other),
+    }
 }
 
 // How many bytes a record's headers have, with the empty line that ends them; none at the end of all.
@@ -135,7 +186,7 @@ impl<R: Read + Drop> Reader<R> {
         let mut source = Source::new(alloc, input)?;
         let block = read_block(alloc, &mut source, limits.headers)?;
         let begun = source.taken().saturating_sub(headers_len(&block));
-        let _format = read_format(&block)?;
+        let _format = read_format(&Headers::of(&block))?;
         Ok(Reader {
             source,
             alloc,
@@ -165,7 +216,7 @@ impl<R: Read + Drop> Reader<R> {
     pub fn path(&self) -> Option<&[u8]>
         ensures { option_copied result ≡ if_once (header_value self.now.block.items (codes "Node-path")) }
     {
-        match header(&self.block, b"Node-path") {
+        match Headers::of(&self.block).value(HeaderName::NodePath) {
             Ok(path) => path,
             Err(_) => None,
         }
@@ -187,40 +238,6 @@ impl<R: Read + Drop> Reader<R> {
         Ok(!self.block.is_empty())
     }
 
-    // Reads the node that the headers begin.
-    #[tactic(auto, unfolding(crate::specs::Records::node_at))]
-    fn read_node(&mut self) -> Result<Record, DumpFault>
-        ensures bytes { Reads (λ r. r) (left_in R.remaining self.old) (left_in R.remaining self.new) result (node_at self.old.limits self.old.texts self.old.block.items) }
-        ensures counted { Counts self.old.source.taken (left_in R.remaining self.old) self.new.source.taken (left_in R.remaining self.new) }
-        ensures block { self.new.block ≡ self.old.block }
-        ensures begun { self.new.begun ≡ self.old.begun }
-        ensures limits { self.new.limits ≡ self.old.limits }
-        ensures texts { self.new.texts ≡ self.old.texts }
-    {
-        let mut node = read_node(self.alloc, &self.block)?;
-        let shape = shape_in(&self.block)?;
-        let Limits { props, text, .. } = self.limits;
-        node.props = read_prop_section(self.alloc, &mut self.source, &shape, props)?;
-        node.text = read_text_section(self.alloc, &mut self.source, &shape, self.texts, text)?;
-        Ok(Record::Node(node))
-    }
-
-    // Passes over what belongs to the headers.
-    fn pass(&mut self, what: Record) -> Result<Record, DumpFault>
-        ensures bytes { Reads (λ r. r) (left_in R.remaining self.old) (left_in R.remaining self.new) result (passed_at what self.old.block.items) }
-        ensures counted { Counts self.old.source.taken (left_in R.remaining self.old) self.new.source.taken (left_in R.remaining self.new) }
-        ensures block { self.new.block ≡ self.old.block }
-        ensures begun { self.new.begun ≡ self.old.begun }
-        ensures limits { self.new.limits ≡ self.old.limits }
-        ensures texts { self.new.texts ≡ self.old.texts }
-    {
-        let lengths = lengths_in(&self.block)?;
-        match skip_sections(&mut self.source, lengths) {
-            Ok(()) => Ok(what),
-            Err(fault) => Err(fault),
-        }
-    }
-
     // Reads the record that the headers begin.
     fn read_record(&mut self) -> Result<Record, DumpFault>
         ensures bytes { Reads (λ r. r) (left_in R.remaining self.old) (left_in R.remaining self.new) result (headed_at self.old.limits self.old.texts self.old.block.items) }
@@ -230,11 +247,14 @@ impl<R: Read + Drop> Reader<R> {
         ensures limits { self.new.limits ≡ self.old.limits }
         ensures texts { self.new.texts ≡ self.old.texts }
     {
-        match subject_of(&self.block)? {
-            Subject::Node => self.read_node(),
-            Subject::Revision(rev) => self.pass(Record::Revision { rev }),
-            Subject::Other => self.pass(Record::Other),
-        }
+        let headers = Headers::of(&self.block);
+        read_headed(
+            self.alloc,
+            &mut self.source,
+            &headers,
+            self.limits,
+            self.texts,
+        )
     }
 
     /// The next record; None at the end. It is the one that `record_at` gives for the bytes that are left, and just its bytes are taken; a refusal is

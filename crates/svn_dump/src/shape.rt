@@ -5,6 +5,8 @@ ghost use Rattle.svn_dump.specs.Shapes.{lengths_of, sums_of, base_sums_of, shape
 
 use crate::fault::{DumpFault, Reason};
 use crate::fields::{is_true, md5_in, number_in, sha1_in};
+use crate::header_name::HeaderName;
+use crate::headers::Headers;
 use crate::record::Sha1Sum;
 use svn_types::Digest;
 
@@ -43,47 +45,47 @@ fn agree(props: Option<u64>, text: Option<u64>, both: u64) -> bool
 }
 
 /// The lengths that a record gives, if they agree.
-pub(crate) fn lengths_in(block: &[u8]) -> Result<Lengths, DumpFault>
-    ensures { Gives (λ lengths. lengths) result (lengths_of block.now) }
+pub(crate) fn lengths_in(headers: &Headers<'_>) -> Result<Lengths, DumpFault>
+    ensures { Gives (λ lengths. lengths) result (lengths_of headers.now) }
 {
-    let props = number_in(block, b"Prop-content-length")?;
-    let text = number_in(block, b"Text-content-length")?;
-    match number_in(block, b"Content-length")? {
+    let props = number_in(headers, HeaderName::PropLength)?;
+    let text = number_in(headers, HeaderName::TextLength)?;
+    match number_in(headers, HeaderName::ContentLength)? {
         Some(both) if !agree(props, text, both) => Err(DumpFault::Refused(Reason::Lengths)),
         _ => Ok(Lengths { props, text }),
     }
 }
 
 /// The checksums that a record gives for its text. Before Subversion 1.6 the MD5 checksum had another name.
-pub(crate) fn sums_in(block: &[u8]) -> Result<GivenSums, DumpFault>
-    ensures { Gives (λ sums. sums) result (sums_of block.now) }
+pub(crate) fn sums_in(headers: &Headers<'_>) -> Result<GivenSums, DumpFault>
+    ensures { Gives (λ sums. sums) result (sums_of headers.now) }
 {
-    let new = md5_in(block, b"Text-content-md5")?;
-    let old = md5_in(block, b"Text-content-checksum")?;
-    let sha1 = sha1_in(block, b"Text-content-sha1")?;
+    let new = md5_in(headers, HeaderName::TextMd5)?;
+    let old = md5_in(headers, HeaderName::Checksum)?;
+    let sha1 = sha1_in(headers, HeaderName::TextSha1)?;
     let md5 = if new.is_some() { new } else { old };
     Ok(GivenSums { md5, sha1 })
 }
 
 /// The checksums that a record gives for the text that its text delta is applied to.
-pub(crate) fn base_sums_in(block: &[u8]) -> Result<GivenSums, DumpFault>
-    ensures { Gives (λ sums. sums) result (base_sums_of block.now) }
+pub(crate) fn base_sums_in(headers: &Headers<'_>) -> Result<GivenSums, DumpFault>
+    ensures { Gives (λ sums. sums) result (base_sums_of headers.now) }
 {
-    let md5 = md5_in(block, b"Text-delta-base-md5")?;
-    let sha1 = sha1_in(block, b"Text-delta-base-sha1")?;
+    let md5 = md5_in(headers, HeaderName::BaseMd5)?;
+    let sha1 = sha1_in(headers, HeaderName::BaseSha1)?;
     Ok(GivenSums { md5, sha1 })
 }
 
 /// What a node's headers say of its sections.
 #[tactic(auto, unfolding(crate::specs::Shapes::shape_of))]
-pub(crate) fn shape_in(block: &[u8]) -> Result<Shape, DumpFault>
-    ensures { Gives (λ shape. shape) result (shape_of block.now) }
+pub(crate) fn shape_in(headers: &Headers<'_>) -> Result<Shape, DumpFault>
+    ensures { Gives (λ shape. shape) result (shape_of headers.now) }
 {
-    let lengths = lengths_in(block)?;
-    let sums = sums_in(block)?;
-    let base_sums = base_sums_in(block)?;
-    let changes_props = is_true(block, b"Prop-delta")?;
-    let changes_text = is_true(block, b"Text-delta")?;
+    let lengths = lengths_in(headers)?;
+    let sums = sums_in(headers)?;
+    let base_sums = base_sums_in(headers)?;
+    let changes_props = is_true(headers, HeaderName::PropDelta)?;
+    let changes_text = is_true(headers, HeaderName::TextDelta)?;
     Ok(Shape {
         lengths,
         sums,
