@@ -2,19 +2,16 @@
 ghost use Rattle.std.specs.Prelude.{◌≡◌};
 ghost use Rattle.svn_dump.specs.Reading.{Gives};
 ghost use Rattle.svn_dump.specs.HeaderNames.{name_of};
-ghost use Rattle.svn_dump.specs.Fields.{number_value, sum_value, true_value, without_slash, path_or_fault, path_of_bytes, path_of, path_value, kind_value, named_action, action_value, source_value};
-ghost use Rattle.svn_types.specs.Names.{path_of_text};
-ghost use Rattle.svn_types.specs.NameFaults.{path_fault};
+ghost use Rattle.svn_dump.specs.Fields.{number_value, sum_value, true_value, without_slash, path_of_bytes, path_of, path_value, kind_value, named_action, action_value, source_value};
 
 use crate::fault::{DumpFault, Reason};
 use crate::header_name::HeaderName;
 use crate::headers::Headers;
-use crate::record::{Action, CopySource, Sha1Sum};
+use crate::record::{Action, CopySource};
 use hex::FromHex;
 use std::alloc::Global;
-use std::str;
 use svn_digits::read_number;
-use svn_types::{Digest, Kind, PathFault, RelPath, Rev};
+use svn_types::{Digest, Kind, PathBytesFault, PathFault, RelPath, Rev, Sha1Sum};
 
 /// The value of a header that is a number, if it is given.
 pub(crate) fn number_in(headers: &Headers<'_>, name: HeaderName) -> Result<Option<u64>, DumpFault>
@@ -73,23 +70,16 @@ fn without_slash(text: &[u8]) -> &[u8]
     }
 }
 
-fn parse_path(alloc: Global, text: &str) -> Result<RelPath, DumpFault>
-    ensures { let p = path_of_text text.now in Gives (λ path. path) result (path_or_fault (path_fault p) p) }
-{
-    match RelPath::parse(alloc, text) {
-        Ok(path) => Ok(path),
-        Err(PathFault::Memory) => Err(DumpFault::Memory),
-        Err(fault) => Err(DumpFault::Refused(Reason::BadPath(fault))),
-    }
-}
-
 // The path that bytes spell.
+#[tactic(auto, using(crate::proofs::FieldLemmas::path_of_text_bytes, crate::proofs::FieldLemmas::path_of_other_bytes))]
 fn parse_bytes(alloc: Global, bytes: &[u8]) -> Result<RelPath, DumpFault>
     ensures { Gives (λ path. path) result (path_of_bytes bytes.now) }
 {
-    match str::from_utf8(bytes) {
-        Ok(text) => parse_path(alloc, text),
-        Err(_) => Err(DumpFault::Refused(Reason::NotUtf8)),
+    match RelPath::from_bytes(alloc, bytes) {
+        Ok(path) => Ok(path),
+        Err(PathBytesFault::NotUtf8) => Err(DumpFault::Refused(Reason::NotUtf8)),
+        Err(PathBytesFault::Path(PathFault::Memory)) => Err(DumpFault::Memory),
+        Err(PathBytesFault::Path(fault)) => Err(DumpFault::Refused(Reason::BadPath(fault))),
     }
 }
 

@@ -38,9 +38,9 @@ mod writer;
 pub use fault::{DumpFault, Reason};
 pub use reader::Reader;
 pub use record::{
-    Action, CopySource, NodeRecord, PropChanges, PropSection, Record, Sha1Sum, TextDelta,
-    TextSection,
+    Action, CopySource, NodeRecord, PropChanges, PropSection, Record, TextDelta, TextSection,
 };
 pub use sections::{Limits, Texts, kept_text};
 pub use sums::stand_in;
+pub use svn_types::Sha1Sum;
 pub use writer::{push_format, push_node, push_revision};

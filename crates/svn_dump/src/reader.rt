@@ -247,14 +247,16 @@ impl<R: Read + Drop> Reader<R> {
         ensures limits { self.new.limits ≡ self.old.limits }
         ensures texts { self.new.texts ≡ self.old.texts }
     {
-        let headers = Headers::of(&self.block);
-        read_headed(
-            self.alloc,
-            &mut self.source,
-            &headers,
-            self.limits,
-            self.texts,
-        )
+        let Reader {
+            source,
+            alloc,
+            limits,
+            texts,
+            block,
+            ..
+        } = self;
+        let headers = Headers::of(block);
+        read_headed(*alloc, source, &headers, *limits, *texts)
     }
 
     /// The next record; None at the end. It is the one that `record_at` gives for the bytes that are left, and just its bytes are taken; a refusal is

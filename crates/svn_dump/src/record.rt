@@ -3,21 +3,7 @@
 ghost use Rattle.std.specs.Prelude.{◌≡◌};
 
 use std::marker::Model;
-use svn_types::{Digest, Kind, PropChange, Props, RelPath, Rev, Text};
-
-/// A SHA-1 checksum (FIPS 180-4), its 20 bytes in the order in which they are printed. A contract sees it as its bytes.
-#[derive(Clone, Copy, Debug, PartialEq, Eq)]
-pub struct Sha1Sum(pub [u8; 20]);
-
-impl Model for Sha1Sum {
-    ghost use Rattle.std.specs.Prelude.{ℕ, List};
-
-    ghost Value = { List ℕ };
-
-    ghost view = { λ d. d.0 };
-
-    ghost inverse = { λ bytes. record { 0 = bytes } };
-}
+use svn_types::{Digest, Kind, PropChange, Props, RelPath, Rev, Sha1Sum, Text};
 
 /// What is done to a node (`svn_node_action` of `svn_repos.h`).
 #[derive(Clone, Copy, Debug, PartialEq, Eq)]

@@ -7,12 +7,11 @@ ghost use Rattle.svn_dump.specs.Sections.{after_sections, empty_delta_at, keeps,
 use crate::fault::{DumpFault, Reason};
 use crate::input::{Input, PIECE, read_bytes, read_piece};
 use crate::properties::{read_changes, read_props};
-use crate::record::{PropChanges, PropSection, Sha1Sum, TextDelta, TextSection};
+use crate::record::{PropChanges, PropSection, TextDelta, TextSection};
 use crate::shape::{GivenSums, Lengths, Shape};
 use crate::sums::{check_sums, read_text, stand_in};
-use sha1::Sha1;
 use std::alloc::{AllocError, Global};
-use svn_types::{MAX_SIZE, Text};
+use svn_types::{MAX_SIZE, Sha1Sum, Text};
 
 /// How texts are kept.
 #[derive(Clone, Copy, Debug, PartialEq, Eq)]
@@ -130,7 +129,7 @@ fn read_whole_text<S: Input>(
     let text = read_text(alloc, source, len, texts == Texts::Whole)?;
     check_sums(&text, given)?;
     match texts {
-        Texts::Whole => Ok(Text::new(text.bytes)),
+        Texts::Whole => Ok(Text::summed(text.bytes, text.md5)?),
         Texts::Sha1 => Ok(stand_in(alloc, &text.sha1)?),
     }
 }
@@ -161,10 +160,7 @@ pub fn kept_text(alloc: Global, texts: Texts, bytes: &[u8]) -> Result<Text, Allo
 {
     match texts {
         Texts::Whole => Text::from_slice(alloc, bytes),
-        Texts::Sha1 => {
-            let sum = Sha1::digest(bytes);
-            stand_in(alloc, &Sha1Sum(sum))
-        }
+        Texts::Sha1 => stand_in(alloc, &Sha1Sum::of(bytes)),
     }
 }
 

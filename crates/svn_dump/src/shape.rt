@@ -7,8 +7,7 @@ use crate::fault::{DumpFault, Reason};
 use crate::fields::{is_true, md5_in, number_in, sha1_in};
 use crate::header_name::HeaderName;
 use crate::headers::Headers;
-use crate::record::Sha1Sum;
-use svn_types::Digest;
+use svn_types::{Digest, Sha1Sum};
 
 /// How long the sections of a record are, where it has them.
 #[derive(Clone, Copy)]

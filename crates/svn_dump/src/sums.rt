@@ -1,5 +1,5 @@
 //! Texts, read with their checksums.
-ghost use Rattle.std.specs.Prelude.{◌≡◌, ℕ, List, ◌++◌, [], IfOk, IfErr, OnOk, if◌then◌else◌};
+ghost use Rattle.std.specs.Prelude.{◌≡◌, ℕ, true, List, ◌++◌, [], IfOk, IfErr, OnOk, if◌then◌else◌};
 ghost use Rattle.md5.specs.Md5.{md5};
 ghost use Rattle.sha1.specs.Sha1.{sha1};
 ghost use Rattle.svn_dump.specs.Counts.{Counts};
@@ -9,13 +9,12 @@ ghost use Rattle.svn_dump.specs.Sections.{checked, summed_at, Sums};
 
 use crate::fault::{DumpFault, Reason};
 use crate::input::{Input, PIECE, read_piece};
-use crate::record::Sha1Sum;
 use crate::shape::GivenSums;
 use md5::{Digest as Hasher, Md5};
 use sha1::Sha1;
 use std::alloc::{AllocError, Global};
 use svn_digits::stand_in_of;
-use svn_types::{Digest, Text};
+use svn_types::{Digest, Sha1Sum, Text};
 
 // The checksums of what was read so far.
 #[derive(Drop)]
@@ -78,6 +77,7 @@ pub(crate) fn read_text<S: Input>(
     keeps: bool,
 ) -> Result<SummedText, DumpFault>
     ensures bytes { Reads (λ t. (t.bytes.items, t.md5, t.sha1)) (S.remaining source.old) (S.remaining source.new) result (summed_at keeps len) }
+    ensures summed { keeps ≡ true → IfOk result (λ t. t.md5 ≡ md5 t.bytes.items) }
     ensures counted { Counts (S.taken source.old) (S.remaining source.old) (S.taken source.new) (S.remaining source.new) }
 {
     let mut running = Running::new();

@@ -6,11 +6,10 @@ ghost use Rattle.sha1.specs.Sha1.{sha1};
 ghost use Rattle.svn_types.specs.PathTexts.{path_text};
 ghost use Rattle.svn_dump.specs.Written.{line, number_line, run, entry, entries, prop_bytes, prop_section, text_section, kind_line, action_word, source_lines, subject_lines, prop_lines, sum_line, sum_lines, base_sum_lines, delta_lines, text_lines, length_line, length_lines, headers, written, revision_record, format_record};
 
-use crate::record::{Action, CopySource, NodeRecord, PropSection, Sha1Sum, TextDelta, TextSection};
+use crate::record::{Action, CopySource, NodeRecord, PropSection, TextDelta, TextSection};
 use itoa::Buffer;
-use sha1::Sha1;
 use std::alloc::{AllocError, Global};
-use svn_types::{Digest, Kind, Name, PropChange, PropName, Props, RelPath, Rev, Text};
+use svn_types::{Digest, Kind, Name, PropChange, PropName, Props, RelPath, Rev, Sha1Sum, Text};
 
 fn push_line(out: &mut Vec<u8>, name: &[u8], value: &[u8]) -> Result<(), AllocError>
     ensures { OnOk result (out.new.items ≡ out.old.items ++ line name.now value.now) }
@@ -254,8 +253,8 @@ fn push_base_sums(
 fn push_whole_sums(out: &mut Vec<u8>, text: &Text) -> Result<(), AllocError>
     ensures { OnOk result (out.new.items ≡ out.old.items ++ sum_lines (Some (md5 text.now)) (Some (sha1 text.now))) }
 {
-    let sum = Sha1::digest(text.as_slice());
-    push_sums(out, Some(text.checksum()), Some(Sha1Sum(sum)))
+    let sum = Sha1Sum::of(text.as_slice());
+    push_sums(out, Some(text.checksum()), Some(sum))
 }
 
 fn push_delta_lines(out: &mut Vec<u8>, text: &TextDelta) -> Result<(), AllocError>
