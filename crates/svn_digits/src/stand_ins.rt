@@ -7,8 +7,8 @@ use sha1::Sha1;
 use std::alloc::{AllocError, Global};
 use svn_types::Text;
 
-/// The bytes of a stand-in.
-const LEN: usize = 46;
+/// How many bytes a stand-in has.
+pub const STAND_IN_LEN: usize = 46;
 
 /// How many of them come before the digits.
 const MARK: usize = 6;
@@ -35,7 +35,7 @@ fn has_mark(mark: &[u8]) -> bool
 pub fn is_stand_in(bytes: &[u8]) -> bool
     ensures { result ≡ is_stand_in bytes.now }
 {
-    if bytes.len() != LEN {
+    if bytes.len() != STAND_IN_LEN {
         return false;
     }
     let (mark, digits) = bytes.split_at(MARK);
@@ -46,7 +46,7 @@ pub fn is_stand_in(bytes: &[u8]) -> bool
 pub fn stand_in_of(alloc: Global, sum: &[u8; 20]) -> Result<Text, AllocError>
     ensures { IfOk result (λ word. word ≡ stand_in_of sum.now) }
 {
-    let mut word = Vec::with_capacity(alloc, LEN)?;
+    let mut word = Vec::with_capacity(alloc, STAND_IN_LEN)?;
     word.extend_from_slice(b"$sha1$")?;
     word.extend_from_slice(hex::encode(alloc, &sum[..])?.as_bytes())?;
     Ok(Text::new(word))

@@ -2,6 +2,8 @@
 pub mod PropertyLemmas
 -- paths
 pub mod PathTexts
+-- columns
+pub mod ColumnLemmas
 -- tests of pages and records
 pub mod PageTests
 pub mod RecordTests

@@ -1,10 +1,14 @@
 -- The columns of a record.
 --     column bytes c      the value in column c of a record, counted from 0: NULL where it has fewer
+--     AreColumns n values bytes      these are the first n columns of a record
 --     text_in, blob_in, number_in table c value      the value of column c of a table, if it has that type
-use Rattle.std.specs.Prelude.{ℕ, zero, suc, pos, Bool, true, false, List, [], ◌∷◌, Option, Some, None, Result, Ok, Err}
+use Rattle.std.specs.Prelude.{◌≡◌, ◌<◌, get_or, ℕ, zero, suc, pos, Bool, true, false, List, [], ◌∷◌, Option, Some, None, Result, Ok, Err}
 use Rattle.sqlite_value.specs.declared.value.Value.{Value}
 use Rattle.sqlite_value.specs.declared.value.Value.TheVariants.{Null, Int, Text, Blob}
 use Rattle.sqlite_value.specs.Order.{Row}
+use Rattle.sqlite_value.specs.declared.value.ValueRef.{ValueRef}
+use Rattle.sqlite_value.specs.declared.value.ValueRef.TheVariants as lent
+use Rattle.sqlite_value.specs.Value.{owned}
 use Rattle.sqlite_record.specs.Record.{decode}
 use Rattle.svn_wcdb.specs.declared.fault.Reason.{Reason}
 use Rattle.svn_wcdb.specs.declared.fault.Reason.TheVariants.{BadColumn}
@@ -17,6 +21,9 @@ column_in (value ∷ values) (suc c) = column_in values c
 
 abbrev pub column : List ℕ → ℕ → Value
 column bytes c = column_in (decode bytes) c
+
+abbrev pub AreColumns : ℕ → List ValueRef → List ℕ → Type 0
+AreColumns n values bytes = (c : ℕ) → c < n → owned (get_or values c lent.Null) ≡ column bytes c
 
 abbrev pub text_in : TableName → ℕ → Value → Result (Option (List ℕ)) Reason
 text_in table c Null = Ok None

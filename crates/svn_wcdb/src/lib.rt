@@ -16,7 +16,7 @@
 //! | `skel`, `properties` | lists of atoms (skels), properties | `Skels`, `Properties` |
 //! | `image` | the header of the file, and page n | `Images` |
 //! | `table`, `payload`, `tree` | the rows of a table; a row's bytes, which may go on in overflow pages | `Pages`, `Records`, `Tables` |
-//! | `columns`, `schema` | the value in a column; the rows of a table by its name | `Columns`, `Schema` |
+//! | `columns`, `schema` | the first columns of a row, from one pass over its record; the rows of a table by its name | `Columns`, `Schema` |
 //! | `pristine`, `pristines` | where a pristine text is; the rows of PRISTINE | `Pristines` |
 //! | `row`, `place`, `paths`, `node` | a row of NODES as a base node, and the path at which it is refused | `Nodes`, `Paths` |
 //! | `notes`, `origin`, `nodes`, `base_tree` | what is passed over; the repository; the nodes; the whole | `Bases` |

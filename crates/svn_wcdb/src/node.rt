@@ -109,7 +109,7 @@ fn repos_path_of(alloc: Global, path: Option<&[u8]>) -> Result<RelPath, WcdbFaul
 }
 
 // Whether a file may have that checksum: it is that of a pristine text.
-fn check_text(pristines: &Pristines, checksum: &[u8]) -> Result<(), Reason>
+fn check_checksum(pristines: &Pristines, checksum: &[u8]) -> Result<(), Reason>
     ensures { Answers (λ _. checksum.now) result (text_among pristines.now (Some checksum.now)) }
 {
     if !is_stand_in(checksum) {
@@ -128,7 +128,7 @@ fn text_of(alloc: Global, pristines: &Pristines, checksum: Option<&[u8]>) -> Res
     let Some(checksum) = checksum else {
         return Err(WcdbFault::Refused(Reason::NoChecksum));
     };
-    check_text(pristines, checksum)?;
+    check_checksum(pristines, checksum)?;
     Ok(Text::from_slice(alloc, checksum)?)
 }
 

@@ -1,12 +1,12 @@
 //! The root of a working copy, and the repository that it comes from.
-ghost use Rattle.std.specs.Prelude.{◌≡◌};
+ghost use Rattle.std.specs.Prelude.{◌≡◌, ◌<◌};
 ghost use Rattle.svn_wcdb.specs.Bases.{path_at, is_number, is_root, one_root, repos_in, text_given, origin_of, origin_in};
 ghost use Rattle.svn_wcdb.specs.Nodes.{seen};
 ghost use Rattle.svn_wcdb.specs.declared.fault.Reason.TheVariants.{NoRepository};
 ghost use Rattle.svn_wcdb.specs.Reading.{Gives, Answers, Finds, at, given};
 
 use crate::base_tree::Origin;
-use crate::columns::text_at;
+use crate::columns::Columns;
 use crate::fault::{Reason, TableName, WcdbFault};
 use crate::place::{read_row, refusal_at};
 use crate::refusal::Refusal;
@@ -70,10 +70,11 @@ pub(crate) fn repos_in(alloc: Global, rows: &[TableRow]) -> Result<u64, Refusal>
     Err(Refusal::from(Reason::NoRoot))
 }
 
-fn text_given(alloc: Global, row: &[u8], column: u32) -> Result<Text, WcdbFault>
+fn text_given(alloc: Global, row: &Columns, column: u32) -> Result<Text, WcdbFault>
+    requires { column < 22 }
     ensures { Gives (λ text. text) result (text_given column row.now) }
 {
-    match text_at(TableName::Repository, row, column)? {
+    match row.text(TableName::Repository, column)? {
         Some(text) => Ok(Text::from_slice(alloc, text)?),
         None => Err(WcdbFault::Refused(Reason::BadColumn(TableName::Repository, column))),
     }
@@ -83,8 +84,9 @@ fn text_given(alloc: Global, row: &[u8], column: u32) -> Result<Text, WcdbFault>
 fn origin_of(alloc: Global, row: &[u8]) -> Result<Origin, WcdbFault>
     ensures { Gives (λ origin. origin) result (origin_of row.now) }
 {
-    let uuid = text_given(alloc, row, 2)?;
-    let url = text_given(alloc, row, 1)?;
+    let columns = Columns::read(row);
+    let uuid = text_given(alloc, &columns, 2)?;
+    let url = text_given(alloc, &columns, 1)?;
     Ok(Origin { uuid, url })
 }
 

@@ -4,7 +4,7 @@ ghost use Rattle.svn_wcdb.specs.Bases.{path_at};
 ghost use Rattle.svn_wcdb.specs.Nodes.{seen, row_of};
 ghost use Rattle.svn_wcdb.specs.Reading.{Place, IsAt, Finds, at};
 
-use crate::columns::text_at;
+use crate::columns::Columns;
 use crate::fault::{Reason, TableName, WcdbFault};
 use crate::refusal::Refusal;
 use crate::row::Row;
@@ -15,7 +15,7 @@ use svn_types::Text;
 fn path_at(alloc: Global, row: &[u8]) -> Result<Option<Text>, AllocError>
     ensures { IfOk result (λ path. path ≡ path_at row.now) }
 {
-    match text_at(TableName::Nodes, row, 1) {
+    match Columns::read(row).text(TableName::Nodes, 1) {
         Ok(Some(path)) => Ok(Some(Text::from_slice(alloc, path)?)),
         Ok(None) | Err(_) => Ok(None),
     }

@@ -4,22 +4,19 @@ ghost use Rattle.svn_types.specs.Pairs.{InNameOrder, value_of};
 ghost use Rattle.svn_wcdb.specs.Pristines.{stand_in_of, size_of, pristine_of, pristine_after, pristines_of};
 ghost use Rattle.svn_wcdb.specs.Reading.{Gives, Answers};
 
-use crate::columns::{is_null, number_at, text_at};
+use crate::columns::Columns;
 use crate::fault::{Reason, TableName, WcdbFault};
 use crate::table::TableRow;
 use std::alloc::Global;
 use std::collections::BTreeMap;
 use std::collections::btree_map::Iter;
 use std::marker::Model;
-use svn_digits::is_stand_in;
-
-/// The bytes of a stand-in.
-const LEN: usize = 46;
+use svn_digits::{STAND_IN_LEN, is_stand_in};
 
 /// The size in bytes of each pristine text, by its stand-in (`$sha1$` and 40 digits). A contract sees it as the pairs in byte order of the stand-ins.
 #[derive(Debug, Drop)]
 pub struct Pristines {
-    sizes: BTreeMap<[u8; LEN], u64>,
+    sizes: BTreeMap<[u8; STAND_IN_LEN], u64>,
 }
 
 impl Model for Pristines {
@@ -61,14 +58,14 @@ impl Pristines {
     pub fn size(&self, stand_in: &[u8]) -> Option<u64>
         ensures { result ≡ value_of self.now stand_in.now }
     {
-        match <[u8; LEN]>::try_from(stand_in) {
+        match <[u8; STAND_IN_LEN]>::try_from(stand_in) {
             Ok(word) => self.sizes.get(&word).copied(),
             Err(_) => None,
         }
     }
 
     /// The stand-ins and sizes, in byte order of the stand-ins. It takes no memory.
-    pub fn iter(&self) -> Iter<'_, [u8; LEN], u64>
+    pub fn iter(&self) -> Iter<'_, [u8; STAND_IN_LEN], u64>
         ensures rest { result ≡ self.now }
         ensures ordered { InNameOrder self.now }
     {
@@ -87,30 +84,30 @@ impl Pristines {
 }
 
 // The stand-in of a row's text.
-fn stand_in_of(row: &[u8]) -> Result<[u8; LEN], Reason>
+fn stand_in_of(row: &Columns) -> Result<[u8; STAND_IN_LEN], Reason>
     ensures value { Answers (λ word. word) result (stand_in_of row.now) }
     ensures long { IfOk result (λ word. length word ≡ 46) }
 {
-    let Some(text) = text_at(TableName::Pristine, row, 0)? else {
+    let Some(text) = row.text(TableName::Pristine, 0)? else {
         return Err(Reason::NoChecksum);
     };
     if !is_stand_in(text) {
         return Err(Reason::NoChecksum);
     }
-    match <[u8; LEN]>::try_from(text) {
+    match <[u8; STAND_IN_LEN]>::try_from(text) {
         Ok(word) => Ok(word),
         Err(_) => Err(Reason::NoChecksum),
     }
 }
 
 // The size of a row's text, which isn't compressed.
-fn size_of(row: &[u8]) -> Result<u64, Reason>
+fn size_of(row: &Columns) -> Result<u64, Reason>
     ensures { Answers (λ size. size) result (size_of row.now) }
 {
-    if !is_null(row, 1) {
+    if !row.is_null(1) {
         return Err(Reason::Compressed);
     }
-    match number_at(TableName::Pristine, row, 2)? {
+    match row.number(TableName::Pristine, 2)? {
         Some(size) => Ok(size),
         None => Err(Reason::BadColumn(TableName::Pristine, 2)),
     }
@@ -118,12 +115,13 @@ fn size_of(row: &[u8]) -> Result<u64, Reason>
 
 // The stand-in of a row's text, and its size.
 #[tactic(auto, unfolding(crate::specs::Pristines::pristine_of))]
-fn read_pristine(row: &[u8]) -> Result<([u8; LEN], u64), Reason>
+fn read_pristine(row: &[u8]) -> Result<([u8; STAND_IN_LEN], u64), Reason>
     ensures value { Answers (λ text. text) result (pristine_of row.now) }
     ensures long { IfOk result (λ text. length text.0 ≡ 46) }
 {
-    let word = stand_in_of(row)?;
-    let size = size_of(row)?;
+    let columns = Columns::read(row);
+    let word = stand_in_of(&columns)?;
+    let size = size_of(&columns)?;
     Ok((word, size))
 }
 

@@ -2,7 +2,7 @@
 ghost use Rattle.svn_wcdb.specs.Nodes.{seen, row_of};
 ghost use Rattle.svn_wcdb.specs.Reading.{Answers};
 
-use crate::columns::{blob_at, is_set, number_at, text_at};
+use crate::columns::Columns;
 use crate::fault::{Reason, TableName};
 
 /// A row of NODES. Columns that no base node depends on aren't here.
@@ -40,19 +40,20 @@ impl<'a> Row<'a> {
     pub(crate) fn read(bytes: &'a [u8]) -> Result<Row<'a>, Reason>
         ensures { Answers seen result (row_of bytes.now) }
     {
+        let columns = Columns::read(bytes);
         Ok(Row {
-            wc_id: number_at(TableName::Nodes, bytes, 0)?,
-            path: text_at(TableName::Nodes, bytes, 1)?,
-            op_depth: number_at(TableName::Nodes, bytes, 2)?,
-            repos_id: number_at(TableName::Nodes, bytes, 4)?,
-            repos_path: text_at(TableName::Nodes, bytes, 5)?,
-            revision: number_at(TableName::Nodes, bytes, 6)?,
-            presence: text_at(TableName::Nodes, bytes, 7)?,
-            kind: text_at(TableName::Nodes, bytes, 10)?,
-            properties: blob_at(TableName::Nodes, bytes, 11)?,
-            depth: text_at(TableName::Nodes, bytes, 12)?,
-            checksum: text_at(TableName::Nodes, bytes, 13)?,
-            is_external: is_set(bytes, 21),
+            wc_id: columns.number(TableName::Nodes, 0)?,
+            path: columns.text(TableName::Nodes, 1)?,
+            op_depth: columns.number(TableName::Nodes, 2)?,
+            repos_id: columns.number(TableName::Nodes, 4)?,
+            repos_path: columns.text(TableName::Nodes, 5)?,
+            revision: columns.number(TableName::Nodes, 6)?,
+            presence: columns.text(TableName::Nodes, 7)?,
+            kind: columns.text(TableName::Nodes, 10)?,
+            properties: columns.blob(TableName::Nodes, 11)?,
+            depth: columns.text(TableName::Nodes, 12)?,
+            checksum: columns.text(TableName::Nodes, 13)?,
+            is_external: columns.is_set(21),
         })
     }
 }

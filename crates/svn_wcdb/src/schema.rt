@@ -1,10 +1,10 @@
 //! Where the tables of a database are, as its schema says, the table at page 1.
 ghost use Rattle.std.specs.Prelude.{◌≡◌};
-ghost use Rattle.svn_wcdb.specs.Columns.{column};
+ghost use Rattle.sqlite_value.specs.Value.{owned};
 ghost use Rattle.svn_wcdb.specs.Reading.{Gives};
 ghost use Rattle.svn_wcdb.specs.Schema.{name_of, is_text, page_number, root_in, root_of, table_of};
 
-use crate::columns::value_at;
+use crate::columns::Columns;
 use crate::fault::{Reason, TableName, WcdbFault};
 use crate::image::Image;
 use crate::table::TableRow;
@@ -26,19 +26,19 @@ fn name_of(table: TableName) -> &'static [u8]
     }
 }
 
-fn is_text(row: &[u8], place: u32, text: &[u8]) -> bool
-    ensures { result ≡ is_text (column row.now place) text.now }
+fn is_text(value: ValueRef<'_>, text: &[u8]) -> bool
+    ensures { result ≡ is_text (owned value.entry) text.now }
 {
-    match value_at(row, place) {
+    match value {
         ValueRef::Text(found) => found == text,
         ValueRef::Null | ValueRef::Int(_) | ValueRef::Real(_) | ValueRef::Blob(_) => false,
     }
 }
 
-fn page_number(row: &[u8], place: u32) -> Option<u32>
-    ensures { result ≡ page_number (column row.now place) }
+fn page_number(value: ValueRef<'_>) -> Option<u32>
+    ensures { result ≡ page_number (owned value.entry) }
 {
-    match value_at(row, place) {
+    match value {
         ValueRef::Int(page) => u32::try_from(page).ok(),
         ValueRef::Null | ValueRef::Real(_) | ValueRef::Text(_) | ValueRef::Blob(_) => None,
     }
@@ -49,8 +49,9 @@ fn page_number(row: &[u8], place: u32) -> Option<u32>
 fn root_in(name: &[u8], row: &[u8]) -> Option<u32>
     ensures { result ≡ root_in name.now row.now }
 {
-    if is_text(row, 0, b"table") && is_text(row, 1, name) {
-        page_number(row, 3)
+    let columns = Columns::read(row);
+    if is_text(columns.value(0), b"table") && is_text(columns.value(1), name) {
+        page_number(columns.value(3))
     } else {
         None
     }

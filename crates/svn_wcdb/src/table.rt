@@ -3,7 +3,7 @@
 use std::alloc::Global;
 use svn_types::Text;
 
-/// A row of a table: its number, as SQLite's 64 bits, and its record.
+/// A row of a table: its number, as SQLite's 64 bits, and its record. A `Text` holds any bytes, so a record's too.
 #[derive(Debug, Drop)]
 pub(crate) struct TableRow {
     pub(crate) rowid: u64,
