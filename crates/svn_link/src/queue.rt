@@ -8,9 +8,9 @@ use crossbeam_channel::protocol::{Join, Lesson, Outcome, Protocol, Split};
 use crossbeam_channel::{RuledReceiver, RuledSender};
 use std::collections::LinkedList;
 use std::sync::Wait;
+use std::thread;
 use std::thread::Parker;
 use std::time::Duration;
-use std::{hint, thread};
 use svn_editor::Call;
 
 /// What a pass may do, and what it has sent and taken. It exists in proofs alone: no value of it is made.
@@ -103,38 +103,22 @@ pub type Receiver = RuledReceiver<Call, Hand, InOrder>;
 /// A value without bytes by which a thread may make steps, and in which proofs keep what it did.
 pub type Pass = crossbeam_channel::Pass<Call, Hand>;
 
-// How often an end looks again after a pause of the processor. The other end has most often acted by then.
-const SPINS: u32 = 100;
-
-// How long such a pause is. At each look the processors pass what both ends write to and fro, so a pause leaves the other end time.
-const PAUSE: u32 = 16;
-
-// How often it looks then, and lets other threads run in between, before it sleeps between two looks.
-const YIELDS: u32 = 256;
+// How often an end looks again, and lets other threads run in between, before it sleeps between two looks. While the other end works it is there
+// after fewer. Pauses of the processor in their place slow a link down at capacity 64, where both ends pause in turn.
+const LOOKS: u32 = 256;
 
 // How long it sleeps at first, in microseconds. Each sleep is longer by that, up to so many times that.
 const SLEEP: u64 = 50;
 
 const LONGEST: u32 = 100;
 
-// Keeps the processor busy for a moment.
-fn pause() {
-    for _ in 0..PAUSE {
-        hint::spin_loop();
-    }
-}
-
 /// Waits a little for the other end, where so many looks came before.
 pub(crate) fn wait_a_little<R: Wait>(rt: &R, looks: u32) {
-    if looks < SPINS {
-        pause();
-        return;
-    }
-    let Some(sleeps) = looks.checked_sub(SPINS + YIELDS) else {
+    let Some(sleeps) = looks.checked_sub(LOOKS) else {
         thread::yield_now();
         return;
     };
-    // nobody wakes it, so that no step of the other end costs a call of the system
+    // nobody wakes it, so no step of the other end costs a call of the system
     let long = SLEEP * u64::from(sleeps.min(LONGEST - 1) + 1);
     Parker::new().park_timeout(rt, Duration::from_micros(long));
 }
