@@ -151,6 +151,44 @@ fn bytes_are_names_of_properties_or_not(rt: HostRuntime) {
     }
 }
 
+// Bytes that need be no UTF-8, with the path that they spell or why they spell none.
+static PATH_BYTES: [(&[u8], &str); 8] = [
+    (b"", "."),
+    (b"a/b.c", "a/b.c"),
+    (b"p\xc3\xa9", "p\u{e9}"),
+    (b"a//b", "a name is empty"),
+    (b"a/..", "a name is `.` or `..`"),
+    (b"p\xff", "not UTF-8"),
+    (b"a\xc3/b", "not UTF-8"),
+    // before any fault of a name
+    (b"//\xff", "not UTF-8"),
+];
+
+fn path_bytes_rows() -> &'static [(&'static [u8], &'static str)] {
+    &PATH_BYTES
+}
+
+fn path_word(alloc: Global, bytes: &[u8]) -> Result<String, Fail> {
+    match RelPath::from_bytes(alloc, bytes) {
+        Ok(path) => Ok(format!(in alloc; "{path}")?),
+        Err(fault) => Ok(format!(in alloc; "{fault}")?),
+    }
+}
+
+fn is_path_word(rt: &impl Abort, alloc: Global, bytes: &[u8], word: &str) -> Result<(), Fail> {
+    let found = path_word(alloc, bytes)?;
+    assert_eq!(rt; found.as_str(), word);
+    Ok(())
+}
+
+#[test]
+fn bytes_are_paths_or_not(rt: HostRuntime) -> Result<(), Fail> {
+    for (bytes, word) in path_bytes_rows() {
+        is_path_word(&rt, rt.alloc(), bytes, word)?;
+    }
+    Ok(())
+}
+
 // A text repeated, and another one after it.
 static LONG: &[(Part, &str, usize, &str, u32)] = &[
     // the number of components comes last

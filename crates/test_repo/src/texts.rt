@@ -1,8 +1,9 @@
 //! Texts and their checksums. A checksum is kept for up to 14 bytes and for over 30, and is computed again for 15 to 30.
 use std::alloc::Global;
+use std::convert::AsSlice;
 use std::process::Abort;
 use std::test::Fail;
-use svn_types::{Digest, Text};
+use svn_types::{Digest, Sha1Sum, Text};
 
 // A text and the sixteen bytes of its checksum.
 type Row = (&'static str, [u8; 16]);
@@ -83,13 +84,17 @@ fn is_text(text: &Text, bytes: &str, checksum: &Digest) -> Result<bool, Fail> {
 #[derive(Clone, Copy)]
 enum Form {
     Plain,
+    OfString,
+    Summed,
     Kept,
     KeptOfClone,
     KeptAgain,
 }
 
-static FORMS: [(Form, &str); 4] = [
+static FORMS: [(Form, &str); 6] = [
     (Form::Plain, "plain"),
+    (Form::OfString, "of a string"),
+    (Form::Summed, "with its checksum"),
     (Form::Kept, "kept"),
     (Form::KeptOfClone, "of a clone"),
     (Form::KeptAgain, "again"),
@@ -97,6 +102,12 @@ static FORMS: [(Form, &str); 4] = [
 
 fn forms() -> &'static [(Form, &'static str)] {
     &FORMS
+}
+
+fn summed(alloc: Global, bytes: &str) -> Result<Text, Fail> {
+    let bytes = Vec::from_slice(alloc, bytes.as_bytes())?;
+    let checksum = Digest::of(&bytes);
+    Ok(Text::summed(bytes, checksum)?)
 }
 
 fn kept(alloc: Global, text: &Text) -> Result<Text, Fail> {
@@ -115,6 +126,8 @@ fn made(alloc: Global, bytes: &str, form: Form) -> Result<Text, Fail> {
     let plain = text(alloc, bytes)?;
     match form {
         Form::Plain => Ok(plain),
+        Form::OfString => Ok(Text::from_str(alloc, bytes)?),
+        Form::Summed => summed(alloc, bytes),
         Form::Kept => kept(alloc, &plain),
         Form::KeptOfClone => kept_of_clone(alloc, &plain),
         Form::KeptAgain => kept_again(alloc, &plain),
@@ -158,8 +171,9 @@ fn kept_in(alloc: Global, bytes: &str, form: Form) -> Result<Option<Digest>, Fai
 fn keeps(rt: &impl Abort, alloc: Global, row: &Row) -> Result<(), Fail> {
     let plain = kept_in(alloc, row.0, Form::Plain)?;
     let kept = kept_in(alloc, row.0, Form::Kept)?;
+    let summed = kept_in(alloc, row.0, Form::Summed)?;
     assert!(rt;
-        plain.is_none() && kept == kept_of(row.0, &checksum(row)),
+        plain.is_none() && kept == kept_of(row.0, &checksum(row)) && summed == kept,
         "{}",
         row.0
     );
@@ -196,6 +210,45 @@ fn bytes_are_verified_by_their_checksum(rt: HostRuntime) -> Result<(), Fail> {
         let is_refused = is_refused(rt.alloc(), row.0, &other)?;
         assert!(rt; is_refused, "{}", row.0);
         other = own;
+    }
+    Ok(())
+}
+
+// The examples of FIPS 180-4, and its checksum of no bytes.
+static SHA1_ROWS: [(&str, &str); 3] = [
+    ("", "da39a3ee5e6b4b0d3255bfef95601890afd80709"),
+    ("abc", "a9993e364706816aba3e25717850c26c9cd0d89d"),
+    (
+        "abcdbcdecdefdefgefghfghighijhijkijkljklmklmnlmnomnopnopq",
+        "84983e441c3bd26ebaae4aa1f95129e5e54670f1",
+    ),
+];
+
+fn sha1_rows() -> &'static [(&'static str, &'static str)] {
+    &SHA1_ROWS
+}
+
+// The SHA-1 checksum of a text, made of what the text lends.
+fn sha1_word(alloc: Global, bytes: &str) -> Result<String, Fail> {
+    let text = Text::from_str(alloc, bytes)?;
+    let sum = Sha1Sum::of(lent(&text));
+    Ok(format!(in alloc; "{sum}")?)
+}
+
+fn lent<T: AsSlice<u8>>(text: &T) -> &[u8] {
+    text.as_slice()
+}
+
+fn is_sha1_word(rt: &impl Abort, alloc: Global, row: &(&str, &str)) -> Result<(), Fail> {
+    let found = sha1_word(alloc, row.0)?;
+    assert_eq!(rt; found.as_str(), row.1);
+    Ok(())
+}
+
+#[test]
+fn sha1_checksums_are_printed(rt: HostRuntime) -> Result<(), Fail> {
+    for row in sha1_rows() {
+        is_sha1_word(&rt, rt.alloc(), row)?;
     }
     Ok(())
 }
