@@ -4,5 +4,5 @@ pub mod OperandLemmas
 pub mod Splits
 -- words with escapes
 pub mod Escapes
--- numbers, paths and names of properties
+-- paths in words
 pub mod WordLemmas

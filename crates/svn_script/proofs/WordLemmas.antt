@@ -1,43 +1,31 @@
--- What the definitions of words give, case by case.
-use Rattle.std.proofs.Common.{◌≡◌, ℕ, ◌+◌, ◌-◌, ◌*◌, ◌^◌, ◌≤◌, false, List, [], ◌∷◌, refl, ap, sym, ◌∙◌, arith}
-use Rattle.std.proofs.Common.{None, nat_lt, bytes_eq}
-use Rattle.std.proofs.lemmas.Bool.{false_from_ne_true, ltb-false}
-use Rattle.std.proofs.lemmas.Bool.Decides.{nat_tests}
-use Rattle.std.proofs.lemmas.Str.{is_utf8-from_IsUtf8, IsUtf8-from_is_utf8}
-use Rattle.std.specs.Str.{IsUtf8, is_utf8}
-use Rattle.svn_lists.proofs.Options.{cond_none}
-use Rattle.svn_types.specs.Names.{path_of_text}
-use Rattle.svn_script.specs.Reading.{decimal_from, fitting, path_of_bytes, path_of_names}
+-- Paths in words, case by case.
+use Rattle.std.proofs.Common.{◌≡◌, ℕ, true, false, List, [], ◌∷◌, Option, Some, None, Ok, Err, bytes_eq, cond, refl, ap, sym, ◌∙◌}
+use Rattle.std.specs.Prelude.{is_some, if◌then◌else◌}
+use Rattle.std.specs.Str.{is_utf8}
+use Rattle.svn_types.specs.declared.fault.PathFault.{PathFault}
+use Rattle.svn_types.specs.declared.fault.PathFault.TheVariants.{Memory}
+use Rattle.svn_types.specs.declared.fault.PathBytesFault.{PathBytesFault}
+use Rattle.svn_types.specs.declared.fault.PathBytesFault.TheVariants as bytes_fault
+use Rattle.svn_types.specs.Names.{Path, path_of_text}
+use Rattle.svn_types.specs.NameFaults.{path_fault, AnswersPath, AnswersBytes}
+use Rattle.svn_script.specs.Reading.{path_of_bytes, path_of_names}
 
--- more digits never make a number smaller
-pub decimal_from_grows : (n : ℕ) (bs : List ℕ) → n ≤ decimal_from n bs
-decimal_from_grows n [] = omega arith
-decimal_from_grows n (b ∷ bs) =
-    let more = decimal_from_grows (n * 10 + (b - 48)) bs in
-    omega (arith, more)
+accepted : (fault : Option PathFault) (p path : Path) → AnswersPath fault p (Ok path) → (if is_some fault then None else Some p) ≡ Some path
+accepted None p path h = ap (λ (q : Path). Some q) (sym h)
+accepted (Some f) p path h = absurd h
 
--- a number that doesn't fit stays so with more digits
-pub too_large : (n : ℕ) (bs : List ℕ) → 2 ^ 64 ≤ n → fitting (decimal_from n bs) ≡ None
-too_large n bs h =
-    let more = decimal_from_grows n bs in
-    let large : 2 ^ 64 ≤ decimal_from n bs = omega (arith, more) in
-    unfitting (decimal_from n bs) large
-  where
-    unfitting : (m : ℕ) → 2 ^ 64 ≤ m → fitting m ≡ None
-    unfitting m large = grind (arith, nat_tests)
+refused : (fault : Option PathFault) (p : Path) (e : PathFault) → AnswersPath {T = Path} fault p (Err e) → (e ≡ Memory → ⊥)
+    → (if is_some fault then None else Some p) ≡ None
+refused None p e h other = absurd (other h)
+refused (Some f) p e h other = refl
 
-pub path_of_bytes_text : (bytes : List ℕ) → bytes_eq bytes (46 ∷ []) ≡ false → IsUtf8 bytes
-    → path_of_bytes bytes ≡ path_of_names (path_of_text bytes)
-path_of_bytes_text bytes e text = rw (e, is_utf8-from_IsUtf8 bytes text) refl
+-- the path that bytes spell is what they mean, if they aren't a point
+pub reads_path : (bytes : List ℕ) (path : Path) → bytes_eq bytes (46 ∷ []) ≡ false → AnswersBytes bytes (Ok path) → path_of_bytes bytes ≡ Some path
+reads_path bytes path e h = rw (e, h.0) (accepted (path_fault (path_of_text bytes)) (path_of_text bytes) path h.1)
 
-pub path_of_bytes_other : (bytes : List ℕ) → bytes_eq bytes (46 ∷ []) ≡ false → ¬ (IsUtf8 bytes) → path_of_bytes bytes ≡ None
-path_of_bytes_other bytes e none = rw (e, false_from_ne_true (is_utf8 bytes) (λ t. none (IsUtf8-from_is_utf8 bytes t))) refl
-
-not_fitting : (n : ℕ) → None ≡ fitting n → 2 ^ 64 ≤ n
-not_fitting n h = ltb-false n (2 ^ 64) (cond_none (nat_lt n (2 ^ 64)) n None (sym h)).0
-
--- where one more digit is too many, the whole number is too large
-pub no_digit_fits : (v b : ℕ) (after : List ℕ) (all : ℕ) → None ≡ fitting (v * 10 + (b - 48)) → decimal_from v (b ∷ after) ≡ all
-    → None ≡ fitting all
-no_digit_fits v b after all h e =
-    sym (too_large (v * 10 + (b - 48)) after (not_fitting (v * 10 + (b - 48)) h)) ∙ ap fitting e
+-- bytes that spell no path mean nothing, if they aren't a point
+pub refuses_path : (bytes : List ℕ) (fault : PathBytesFault) → bytes_eq bytes (46 ∷ []) ≡ false → AnswersBytes bytes (Err fault)
+    → (fault ≡ bytes_fault.Path Memory → ⊥) → path_of_bytes bytes ≡ None
+refuses_path bytes bytes_fault.NotUtf8 e h other = rw (e, h) refl
+refuses_path bytes (bytes_fault.Path fault) e h other =
+    rw (e, h.0) (refused (path_fault (path_of_text bytes)) (path_of_text bytes) fault h.1 (λ same. other (ap bytes_fault.Path same)))

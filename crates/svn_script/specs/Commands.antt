@@ -12,7 +12,8 @@ use Rattle.svn_script.specs.declared.verb.Verb.TheVariants.{Show as ShowVerb}
 use Rattle.svn_script.specs.declared.command.Command.{Command}
 use Rattle.svn_script.specs.declared.command.Command.TheVariants.{Nothing, Change, Commit, Checkout, Place, Switch, Forget}
 use Rattle.svn_script.specs.declared.command.Command.TheVariants.{Report, Drive, Update, SwitchTo, Show}
-use Rattle.svn_script.specs.Reading.{words_of, number_of, bytes_of, path_of, prop_name_of}
+use Rattle.svn_digits.specs.Numbers.{number_of}
+use Rattle.svn_script.specs.Reading.{words_of, bytes_of, path_of, prop_name_of}
 use Rattle.svn_script.specs.Operands.{only_path, two_words, three_words, path_or_root, late_of, ending_of}
 use Rattle.svn_script.specs.Verbs.{verb_of}
 

@@ -6,7 +6,8 @@
 use Rattle.std.specs.Prelude.{ℕ, Bool, true, false, ◌&&◌, List, [], ◌∷◌, bytes_eq, codes}
 use Rattle.std.specs.Prelude.{Option, Some, None, option_map, option_and_then, if◌then◌else◌}
 use Rattle.svn_types.specs.Names.{Path}
-use Rattle.svn_script.specs.Reading.{number_of, path_of}
+use Rattle.svn_digits.specs.Numbers.{number_of}
+use Rattle.svn_script.specs.Reading.{path_of}
 
 abbrev pub no_words : List (List ℕ) → Bool
 no_words [] = true

@@ -1,14 +1,15 @@
 -- A script as bytes: its lines, their words, and what a word means.
 --     lines_of script      its lines
 --     words_of line      the words of a line, those that are between spaces
---     number_of word, bytes_of word, path_of word, prop_name_of word      what a word means, or nothing where it hasn't this form
-use Rattle.std.specs.Prelude.{ℕ, ◌+◌, ◌-◌, ◌*◌, ◌^◌, Bool, ◌&&◌, not, List, [], ◌∷◌, length, nat_lt, nat_le, nat_eq, bytes_eq, filter}
+--     bytes_of word, path_of word, prop_name_of word      what a word means, or nothing where it hasn't this form; numbers are those of svn_digits
+use Rattle.std.specs.Prelude.{ℕ, ◌+◌, ◌*◌, List, [], ◌∷◌, nat_eq, bytes_eq, filter}
 use Rattle.std.specs.Prelude.{Option, Some, None, option_map, option_and_then, is_some, if◌then◌else◌}
-use Rattle.std.specs.List.{slice_split, list_all}
+use Rattle.std.specs.List.{slice_split}
 use Rattle.std.specs.Str.{is_utf8}
 use Rattle.hex.specs.Hex.{hex_digit_value}
-use Rattle.svn_types.specs.Names.{Path, is_between, path_of_text}
+use Rattle.svn_types.specs.Names.{Path, path_of_text}
 use Rattle.svn_types.specs.NameFaults.{path_fault, prop_name_fault}
+use Rattle.svn_digits.specs.Numbers.{has_bytes}
 
 -- ---- lines
 
@@ -29,33 +30,8 @@ lines_of script = without_returns (slice_split (λ b. nat_eq b 10) script)
 
 -- ---- words
 
-abbrev pub has_bytes : List ℕ → Bool
-has_bytes bs = not (nat_eq (length bs) 0)
-
 abbrev pub words_of : List ℕ → List (List ℕ)
 words_of line = filter has_bytes (slice_split (λ b. nat_eq b 32) line)
-
--- ---- numbers
-
-abbrev pub is_digit : ℕ → Bool
-is_digit = is_between 48 57
-
--- the number that has the digits of n, and then these
-abbrev pub decimal_from : ℕ → List ℕ → ℕ
-decimal_from n [] = n
-decimal_from n (b ∷ bs) = decimal_from (n * 10 + (b - 48)) bs
-
-abbrev pub decimal_value : List ℕ → ℕ
-decimal_value digits = decimal_from 0 digits
-
-abbrev pub fitting : ℕ → Option ℕ
-fitting n = if nat_lt n (2 ^ 64) then Some n else None
-
--- 1 to 20 decimal digits, at most 18446744073709551615
-abbrev pub number_of : List ℕ → Option ℕ
-number_of word =
-    if has_bytes word && nat_le (length word) 20 && list_all is_digit word then fitting (decimal_value word)
-    else None
 
 -- ---- bytes
 

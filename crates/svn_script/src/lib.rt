@@ -14,8 +14,8 @@
 //! }
 //! ```
 //!
-//! Files: `lines` reads the bytes, at most one too many, and cuts lines and words (`specs/Reading.antt`); `words` reads numbers, bytes, paths and names of
-//! properties; `operands` takes the words after a command's name; `verb`, `changes`, `copies` and `command` read a line as a command
+//! Files: `lines` reads the bytes, at most one too many, and cuts lines and words (`specs/Reading.antt`); `words` reads bytes, paths and names of properties;
+//! `operands` takes the words after a command's name; `verb`, `changes`, `copies` and `command` read a line as a command
 //! (`specs/Commands.antt`); `command_line` reads the words of the command line; `fault` is why a script ends early.
 //!
 //! To add a command: a variant of `Command` and of `Verb`, a line of their definitions and of `Does` in `svn_update`; if it prints something new, also a

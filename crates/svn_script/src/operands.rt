@@ -1,12 +1,14 @@
 //! The words after the name of a command.
 ghost use Rattle.std.specs.Prelude.{◌≡◌, MatchOption, Some, None};
-ghost use Rattle.svn_script.specs.Reading.{words_of, number_of};
+ghost use Rattle.svn_digits.specs.Numbers.{number_of};
+ghost use Rattle.svn_script.specs.Reading.{words_of};
 ghost use Rattle.svn_script.specs.Gives.{Gives};
 ghost use Rattle.svn_script.specs.Operands.{no_words, only_word, two_words, three_words, only_path, path_or_root, is_late, late_of, ending_of};
 
 use crate::lines::next_word;
-use crate::words::{LineFault, read_number, read_path};
+use crate::words::{LineFault, read_path};
 use std::alloc::Global;
+use svn_digits::read_number;
 use svn_types::{RelPath, Rev};
 
 /// Whether a line has no word.

@@ -1,14 +1,12 @@
 //! What the words of a script mean.
-ghost use Rattle.std.specs.Prelude.{◌≡◌, ◌+◌, ◌-◌, ◌*◌, ◌≤◌, ◌∷◌, ◌++◌, [], length, bytes_eq, Some, None, MatchOption, IfSome, OnOk};
-ghost use Rattle.std.specs.List.{list_all};
-ghost use Rattle.svn_types.specs.Names.{path_of_text};
+ghost use Rattle.std.specs.Prelude.{◌≡◌, ◌≤◌, ◌∷◌, ◌++◌, [], length, bytes_eq, Some, None, MatchOption, IfSome, OnOk};
 ghost use Rattle.svn_script.specs.declared.words.LineFault.TheVariants.{Memory};
-ghost use Rattle.svn_script.specs.Reading.{is_digit, fitting, decimal_value, number_of, hex_byte, onto, unescaped, bytes_of, path_of, path_of_bytes, path_of_names, prop_name_of, prop_name_of_bytes};
+ghost use Rattle.svn_script.specs.Reading.{hex_byte, onto, unescaped, bytes_of, path_of, path_of_bytes, prop_name_of, prop_name_of_bytes};
 ghost use Rattle.svn_script.specs.Gives.{Gives};
 
 use hex::FromHex;
 use std::alloc::{AllocError, Global};
-use svn_types::{PathFault, PropName, RelPath, Text, split_once};
+use svn_types::{PathBytesFault, PathFault, PropName, RelPath, Text, split_once};
 
 /// Why a line was not read.
 #[derive(Clone, Copy, Debug, PartialEq, Eq)]
@@ -29,54 +27,6 @@ impl From<AllocError> for LineFault {
 
 /// Up to that many bytes of a text are copied without memory.
 const FEW: usize = 30;
-
-/// The most digits of a number.
-const MAX_DIGITS: usize = 20;
-
-// Whether all bytes are decimal digits.
-fn are_digits(word: &[u8]) -> bool
-    ensures { result ≡ list_all is_digit word.now }
-{
-    word.iter().all(|byte| byte.is_ascii_digit())
-}
-
-// The number that has one more digit, if it is at most 18446744073709551615.
-fn with_digit(value: u64, byte: u8) -> Option<u64>
-    ensures value { result ≡ fitting (value * 10 + (byte - 48)) }
-    ensures fits { IfSome result (λ n. fitting n ≡ Some n) }
-{
-    match value.checked_mul(10) {
-        Some(tens) => tens.checked_add(u64::from(byte.saturating_sub(b'0'))),
-        None => None,
-    }
-}
-
-// The number with these decimal digits, if it is at most 18446744073709551615.
-fn decimal(digits: &[u8]) -> Option<u64>
-    ensures { result ≡ fitting (decimal_value digits.now) }
-{
-    let mut value = 0u64;
-    let mut rest = digits;
-    'digits: while let Some((byte, after)) = rest.split_first() {
-        match with_digit(value, *byte) {
-            Some(more) => value = more,
-            None => return None,
-        }
-        rest = after;
-    }
-    Some(value)
-}
-
-/// Reads a number: 1 to 20 decimal digits, at most 18446744073709551615.
-pub(crate) fn read_number(word: &[u8]) -> Option<u64>
-    ensures { result ≡ number_of word.now }
-{
-    if !word.is_empty() && word.len() <= MAX_DIGITS && are_digits(word) {
-        decimal(word)
-    } else {
-        None
-    }
-}
 
 // The byte of two hexadecimal digits of either case.
 fn read_hex(high: u8, low: u8) -> Option<u8>
@@ -170,17 +120,6 @@ pub(crate) fn read_text(alloc: Global, word: &[u8]) -> Result<Text, LineFault>
     }
 }
 
-// The path whose names a text spells.
-fn parse_path(alloc: Global, text: &str) -> Result<RelPath, LineFault>
-    ensures { Gives (λ p. p) result (path_of_names (path_of_text text.now)) }
-{
-    match RelPath::parse(alloc, text) {
-        Ok(path) => Ok(path),
-        Err(PathFault::Memory) => Err(LineFault::Memory),
-        Err(_) => Err(LineFault::Bad),
-    }
-}
-
 // Whether bytes are one point.
 fn is_point(bytes: &[u8]) -> bool
     ensures { result ≡ bytes_eq bytes.now (46 ∷ []) }
@@ -189,14 +128,16 @@ fn is_point(bytes: &[u8]) -> bool
 }
 
 // The path that bytes spell: the root is `.` or no bytes.
+#[tactic(auto, using(crate::proofs::WordLemmas::reads_path, crate::proofs::WordLemmas::refuses_path))]
 fn parse_bytes(alloc: Global, bytes: &[u8]) -> Result<RelPath, LineFault>
     ensures { Gives (λ p. p) result (path_of_bytes bytes.now) }
 {
     if is_point(bytes) {
         return Ok(RelPath::root(alloc));
     }
-    match str::from_utf8(bytes) {
-        Ok(text) => parse_path(alloc, text),
+    match RelPath::from_bytes(alloc, bytes) {
+        Ok(path) => Ok(path),
+        Err(PathBytesFault::Path(PathFault::Memory)) => Err(LineFault::Memory),
         Err(_) => Err(LineFault::Bad),
     }
 }
