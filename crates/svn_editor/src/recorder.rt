@@ -40,6 +40,14 @@ impl Recorder {
     {
         self.calls.as_slice()
     }
+
+    /// The same, given up by the recorder. It takes no memory.
+    pub fn into_calls(self) -> Vec<Call>
+        ensures { result.items ≡ self }
+    {
+        let Recorder { calls } = self;
+        calls
+    }
 }
 
 impl Editor for Recorder {
