@@ -177,6 +177,7 @@ module _ (drive : List Call) (all : AllInner drive) (mode : Mode) (limit : Optio
     stops_told seen (fault.Editor edit.EntryExists) stop same n q = absurd cc
     stops_told seen (fault.Editor edit.TooDeep) stop same n q = absurd cc
     stops_told seen (fault.Editor edit.TooLong) stop same n q = absurd cc
+    stops_told seen (fault.Editor edit.Stopped) stop same n q = absurd cc
     stops_told seen fault.NoSuchTarget stop same n q = absurd cc
     stops_told seen fault.Memory stop same n q = absurd cc
     stops_told seen fault.Full stop same n q = absurd cc

@@ -149,6 +149,7 @@ module _ (drive : List Call) (limit : Option ℕ) (some : 0 < length drive) (clo
   seen x m f fault.EntryExists why again = tt
   seen x m f fault.TooDeep why again = tt
   seen x m f fault.TooLong why again = tt
+  seen x m f fault.Stopped why again = tt
 
   at_refused : (k : ℕ) (x m : SenderEnds) (c : Call) (e : EditFault) → At (take k drive) x → Answered x c (Err e) m → At (take k drive) m
   at_refused k x m c e was a = record { link = a.link ∙ was.link; notice = a.notice ∙ was.notice; calls_are = a.sent.0 ∙ was.calls_are }
