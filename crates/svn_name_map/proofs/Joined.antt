@@ -1,13 +1,13 @@
 -- The pairs of runs, one run after the other, around one of the runs; and the run for a name.
 use Rattle.std.proofs.Common.{◌≡◌, ℕ, zero, suc, ◌<◌, ◌≤◌, true, false, List, [], ◌∷◌, ◌++◌, length, take, drop, set, get_or, refl, sym, ap}
 use Rattle.std.proofs.Common.{subst, ◌∙◌, arith}
-use Rattle.std.proofs.Common.{◌+◌, Some, None, append_assoc, append-nil}
+use Rattle.std.proofs.Common.{◌+◌, Some, None, append_assoc}
 use Rattle.std.specs.Prelude.{slice_get}
 use Rattle.std.specs.List.{insert, remove, zip}
 use Rattle.std.specs.Map.{keys_of, values_of, remove_entry}
 use Rattle.std.specs.BTreeMap.{is_at, insert_entry}
 use Rattle.std.specs.Ordering.{is_gt}
-use Rattle.std.proofs.lemmas.List.{take-append-drop, take_all, get_or_read}
+use Rattle.std.proofs.lemmas.List.{take-append-drop, get_or_read}
 use Rattle.std.proofs.lemmas.List.Concat.{flat_map-append}
 use Rattle.svn_lists.proofs.Entries.{first_key}
 use Rattle.svn_types.specs.Names.{name_cmp}
@@ -100,54 +100,49 @@ module _ {V : Type 0} where
   -- ---- a name in its run
 
   module _ (runs : List (List (Name × V))) (name : Name) (m : ℕ) (for_name : IsRunFor runs name m) where
-    pub value_in_run : m < length runs → value_of (joined runs) name ≡ value_of (get_or runs m []) name
-    value_in_run within =
-        ap (λ (es : List (Name × V)). value_of es name) (around runs m within)
-        ∙ value_between name (joined (take m runs)) (get_or runs m []) (joined (drop (suc m) runs)) for_name.0 for_name.1
+    pub value_in_run : value_of (joined runs) name ≡ value_of (get_or runs m []) name
+    value_in_run =
+        ap (λ (es : List (Name × V)). value_of es name) (around runs m for_name.0)
+        ∙ value_between name (joined (take m runs)) (get_or runs m []) (joined (drop (suc m) runs)) for_name.1 for_name.2
 
-    pub put_in_run : (v : V) → m < length runs
-        → joined (set runs m (insert_entry name_cmp (get_or runs m []) name v)) ≡ insert_entry name_cmp (joined runs) name v
-    put_in_run v within =
-        around_set runs m (insert_entry name_cmp (get_or runs m []) name v) within
-        ∙ sym (put_between name v (joined (take m runs)) (get_or runs m []) (joined (drop (suc m) runs)) for_name.0 for_name.1)
-        ∙ sym (ap (λ (es : List (Name × V)). insert_entry name_cmp es name v) (around runs m within))
+    pub put_in_run : (v : V) → joined (set runs m (insert_entry name_cmp (get_or runs m []) name v)) ≡ insert_entry name_cmp (joined runs) name v
+    put_in_run v =
+        around_set runs m (insert_entry name_cmp (get_or runs m []) name v) for_name.0
+        ∙ sym (put_between name v (joined (take m runs)) (get_or runs m []) (joined (drop (suc m) runs)) for_name.1 for_name.2)
+        ∙ sym (ap (λ (es : List (Name × V)). insert_entry name_cmp es name v) (around runs m for_name.0))
 
     -- the run in two parts
-    pub put_in_two : (v : V) (a b : List (Name × V)) → m < length runs → a ++ b ≡ insert_entry name_cmp (get_or runs m []) name v
+    pub put_in_two : (v : V) (a b : List (Name × V)) → a ++ b ≡ insert_entry name_cmp (get_or runs m []) name v
         → joined (take m runs) ++ (a ++ (b ++ joined (drop (suc m) runs))) ≡ insert_entry name_cmp (joined runs) name v
-    put_in_two v a b within is =
+    put_in_two v a b is =
         ap (λ l. joined (take m runs) ++ l) (sym (append_assoc a b (joined (drop (suc m) runs))) ∙ ap (λ l. l ++ joined (drop (suc m) runs)) is)
-        ∙ sym (put_between name v (joined (take m runs)) (get_or runs m []) (joined (drop (suc m) runs)) for_name.0 for_name.1)
-        ∙ sym (ap (λ (es : List (Name × V)). insert_entry name_cmp es name v) (around runs m within))
+        ∙ sym (put_between name v (joined (take m runs)) (get_or runs m []) (joined (drop (suc m) runs)) for_name.1 for_name.2)
+        ∙ sym (ap (λ (es : List (Name × V)). insert_entry name_cmp es name v) (around runs m for_name.0))
 
-    pub gone_from_run : m < length runs → remove_entry (is_at (name_cmp name)) (joined runs)
+    pub gone_from_run : remove_entry (is_at (name_cmp name)) (joined runs)
         ≡ joined (take m runs) ++ (remove_entry (is_at (name_cmp name)) (get_or runs m []) ++ joined (drop (suc m) runs))
-    gone_from_run within =
-        ap (λ (es : List (Name × V)). remove_entry (is_at (name_cmp name)) es) (around runs m within)
-        ∙ gone_between name (joined (take m runs)) (get_or runs m []) (joined (drop (suc m) runs)) for_name.0 for_name.1
-
-    -- no run is for it
-    pub below_all_runs : length runs ≤ m → IsBelow name (joined runs)
-    below_all_runs past = subst (λ (l : List (List (Name × V))). IsBelow name (joined l)) (take_all m runs past) for_name.0
+    gone_from_run =
+        ap (λ (es : List (Name × V)). remove_entry (is_at (name_cmp name)) es) (around runs m for_name.0)
+        ∙ gone_between name (joined (take m runs)) (get_or runs m []) (joined (drop (suc m) runs)) for_name.1 for_name.2
 
   -- ---- a name in the run that was read
 
   module _ (runs : List (List (Name × V))) (name : Name) (m : ℕ) (for_name : IsRunFor runs name m) (order : InNameOrder (joined runs))
-      (within : m < length runs) (r : List (Name × V)) (read : r ≡ get_or runs m r) where
+      (r : List (Name × V)) (read : r ≡ get_or runs m r) where
     at_run : r ≡ get_or runs m []
-    at_run = get_or_read runs m r within read []
+    at_run = get_or_read runs m r for_name.0 read []
 
     r_in_order : InNameOrder r
-    r_in_order = subst (λ (es : List (Name × V)). InNameOrder es) (sym at_run) (run_in_order runs m within order)
+    r_in_order = subst (λ (es : List (Name × V)). InNameOrder es) (sym at_run) (run_in_order runs m for_name.0 order)
 
     pub value_read : (v : V) (i : ℕ) → IsFoundAt r name i → slice_get (values_of r) i ≡ Some v → Some v ≡ value_of (joined runs) name
     value_read v i found value =
-        sym (value_in_run runs name m for_name within ∙ ap (λ (es : List (Name × V)). value_of es name) (sym at_run)
+        sym (value_in_run runs name m for_name ∙ ap (λ (es : List (Name × V)). value_of es name) (sym at_run)
         ∙ value_found name v r i r_in_order found.1 value)
 
     pub none_read : (i : ℕ) → IsPlaceFor r name i → None ≡ value_of (joined runs) name
     none_read i place =
-        sym (value_in_run runs name m for_name within ∙ ap (λ (es : List (Name × V)). value_of es name) (sym at_run)
+        sym (value_in_run runs name m for_name ∙ ap (λ (es : List (Name × V)). value_of es name) (sym at_run)
         ∙ none_at name r i place)
 
     pub set_read : (v : V) (i : ℕ) → IsFoundAt r name i
@@ -155,7 +150,7 @@ module _ {V : Type 0} where
     set_read v i found =
         ap (λ (es : List (Name × V)). joined (set runs m es))
         (put_found name v r i r_in_order found.1 ∙ ap (λ (es : List (Name × V)). insert_entry name_cmp es name v) at_run)
-        ∙ put_in_run runs name m for_name v within
+        ∙ put_in_run runs name m for_name v
 
     pub gone_read : (i : ℕ) → IsFoundAt r name i
         → joined (take m runs) ++ (remove (get_or runs m []) i ++ joined (drop (suc m) runs)) ≡ remove_entry (is_at (name_cmp name)) (joined runs)
@@ -163,19 +158,16 @@ module _ {V : Type 0} where
         ap (λ (l : List (Name × V)). joined (take m runs) ++ (l ++ joined (drop (suc m) runs)))
         (ap (λ (es : List (Name × V)). remove es i) (sym at_run) ∙ gone_found name r i r_in_order found.1
         ∙ ap (λ (es : List (Name × V)). remove_entry (is_at (name_cmp name)) es) at_run)
-        ∙ sym (gone_from_run runs name m for_name within)
+        ∙ sym (gone_from_run runs name m for_name)
 
     pub same_read : (i : ℕ) → IsPlaceFor r name i → joined runs ≡ remove_entry (is_at (name_cmp name)) (joined runs)
     same_read i place =
-        around runs m within
+        around runs m for_name.0
         ∙ ap (λ (l : List (Name × V)). joined (take m runs) ++ (l ++ joined (drop (suc m) runs)))
         (sym at_run ∙ sym (gone_at_none name r i place) ∙ ap (λ (es : List (Name × V)). remove_entry (is_at (name_cmp name)) es) at_run)
-        ∙ sym (gone_from_run runs name m for_name within)
+        ∙ sym (gone_from_run runs name m for_name)
 
   -- ---- a run more
-
-  pub joined_end : (runs : List (List (Name × V))) (r : List (Name × V)) → joined (runs ++ r ∷ []) ≡ joined runs ++ r
-  joined_end runs r = joined-append runs (r ∷ []) ∙ ap (λ l. joined runs ++ l) (append-nil r)
 
   pub joined_next : (runs : List (List (Name × V))) (m : ℕ) (b : List (Name × V)) → m < length runs
       → joined (insert runs (m + 1) b) ≡ joined (take m runs) ++ (get_or runs m [] ++ (b ++ joined (drop (suc m) runs)))
@@ -200,9 +192,3 @@ module _ {V : Type 0} where
     where
       step : (n : ℕ) → suc n + 1 ≡ suc (n + 1)
       step n = omega arith
-
-  -- after the first of few runs there is nothing
-  pub above_few : (name : Name) (runs : List (List (Name × V))) → length runs ≤ 1 → IsAbove name (joined (drop 1 runs))
-  above_few name [] few = tt
-  above_few name (r ∷ []) few = tt
-  above_few name (r ∷ s ∷ runs) few = absurd (omega (arith, few))

@@ -37,24 +37,6 @@ module _ {V : Type 0} where
   none_above name (e ∷ es) above =
       ap (λ o. cond (is_eq o) (Some e.1) (value_of es name)) above.0 ∙ none_above name es above.1
 
-  pub none_below : (name : Name) (es : List (Name × V)) → IsBelow name es → value_of es name ≡ None
-  none_below name [] below = refl
-  none_below name (e ∷ es) below =
-      ap (λ o. cond (is_eq o) (Some e.1) (value_of es name)) (behind e.0 name below.0) ∙ none_below name es below.1
-
-  -- after all of a list, a pair is put in at its end
-  pub put_last : (name : Name) (v : V) (es : List (Name × V)) → IsBelow name es → insert_entry name_cmp es name v ≡ es ++ (name, v) ∷ []
-  put_last name v [] below = refl
-  put_last name v (e ∷ es) below =
-      ap (λ o. match_ordering o ((name, v) ∷ e ∷ es) ((e.0, v) ∷ es) (e ∷ insert_entry name_cmp es name v)) (behind e.0 name below.0)
-      ∙ ap (λ l. e ∷ l) (put_last name v es below.1)
-
-  pub gone_from_below : (name : Name) (es : List (Name × V)) → IsBelow name es → remove_entry (is_at (name_cmp name)) es ≡ es
-  gone_from_below name [] below = refl
-  gone_from_below name (e ∷ es) below =
-      ap (λ o. cond (is_eq o) es (e ∷ remove_entry (is_at (name_cmp name)) es)) (behind e.0 name below.0)
-      ∙ ap (λ l. e ∷ l) (gone_from_below name es below.1)
-
   pub value_behind : (name : Name) (xs ys : List (Name × V)) → IsBelow name xs → value_of (xs ++ ys) name ≡ value_of ys name
   value_behind name [] ys below = refl
   value_behind name (x ∷ xs) ys below =

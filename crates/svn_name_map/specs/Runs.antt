@@ -29,6 +29,6 @@ module _ {V : Type 0} where
   abbrev pub IsPlaceFor : List (List ℕ × V) → List ℕ → ℕ → Type 0
   IsPlaceFor es name i = (i ≤ length es) × IsBelow name (take i es) × IsAbove name (drop i es)
 
-  -- the name is in no other run
+  -- the name is in no other run than this one
   abbrev pub IsRunFor : List (List (List ℕ × V)) → List ℕ → ℕ → Type 0
-  IsRunFor runs name i = IsBelow name (joined (take i runs)) × IsAbove name (joined (drop (suc i) runs))
+  IsRunFor runs name i = (i < length runs) × IsBelow name (joined (take i runs)) × IsAbove name (joined (drop (suc i) runs))

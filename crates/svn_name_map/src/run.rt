@@ -82,7 +82,7 @@ impl<V> Run<V> {
     }
 
     /// Whether its first name is after a name.
-    pub(crate) fn begins_behind(&self, name: &Name) -> bool
+    pub(crate) fn begins_after(&self, name: &Name) -> bool
         ensures value { (q : List ℕ) → slice_get (keys_of self.now) 0 ≡ Some q → result ≡ is_gt (name_cmp q name.now) }
         ensures ordered { InNameOrder self.now }
         ensures some { 0 < length self.now }
@@ -169,11 +169,11 @@ fn with_name(
     requires { place ≤ length names.now }
     ensures { IfOk result (λ v. v.items ≡ insert names.now place name) }
 {
-    let (before, behind) = names.split_at(place);
+    let (before, after) = names.split_at(place);
     let mut all = Vec::with_capacity(alloc, names.len() + 1)?;
     all.extend_with_clones(before)?;
     all.push(name)?;
-    all.extend_with_clones(behind)?;
+    all.extend_with_clones(after)?;
     Ok(all)
 }
 
@@ -191,13 +191,13 @@ impl<V: Copy> Run<V> {
         ensures { IfOk result (λ h. h.0 ++ h.1 ≡ insert self.now place (name, value)) }
     {
         let half = self.len() / 2;
-        let (mut before, mut behind) = self.halves(alloc, half)?;
+        let (mut before, mut after) = self.halves(alloc, half)?;
         if place <= half {
             before.insert(place, name, value)?;
         } else {
-            behind.insert(place - half, name, value)?;
+            after.insert(place - half, name, value)?;
         }
-        Ok((before, behind))
+        Ok((before, after))
     }
 
     // A copy of the pairs before a place, and one of those from it on.
@@ -205,13 +205,13 @@ impl<V: Copy> Run<V> {
         requires some { 0 < place }
         requires less { place < length self.now }
         ensures before { IfOk result (λ h. h.0 ≡ take place self.now) }
-        ensures behind { IfOk result (λ h. h.1 ≡ drop place self.now) }
+        ensures after { IfOk result (λ h. h.1 ≡ drop place self.now) }
     {
         let (names, more_names) = self.names().split_at(place);
         let (values, more_values) = self.values().split_at(place);
         let before = Run::copied(alloc, names, values)?;
-        let behind = Run::copied(alloc, more_names, more_values)?;
-        Ok((before, behind))
+        let after = Run::copied(alloc, more_names, more_values)?;
+        Ok((before, after))
     }
 
     // A run with copies of these names and values.

@@ -1,5 +1,5 @@
 //! The runs of a map, each after the one before.
-ghost use Rattle.std.specs.Prelude.{◌≡◌, ◌<◌, ℕ, suc, take, drop, ◌++◌, length, slice_get, slice_index_or, [], Some, None, IfOk, OnOk, OnErr};
+ghost use Rattle.std.specs.Prelude.{◌≡◌, ◌<◌, ℕ, suc, take, drop, ◌++◌, length, slice_get, slice_index_or, [], Some, None, IfOk, MatchOption, OnOk, OnErr};
 ghost use Rattle.std.specs.List.{remove};
 ghost use Rattle.std.specs.Option.{option_copied};
 ghost use Rattle.std.specs.Map.{remove_entry, values_of};
@@ -13,19 +13,19 @@ use std::alloc::AllocError;
 use svn_types::Name;
 
 // The run that has a name, if any has, and into which it is put: the last that doesn't begin after it, or else the first.
-// Where there is no run, 0. Most maps have one.
-fn run_for<V>(runs: &[Run<V>], name: &Name) -> usize
+// None if there is no run. Most maps have one.
+fn run_for<V>(runs: &[Run<V>], name: &Name) -> Option<usize>
     requires { InNameOrder (joined runs.now) }
-    ensures { IsRunFor runs.now name.now result }
+    ensures { MatchOption result (runs.now ≡ []) (IsRunFor runs.now name.now) }
 {
-    if runs.len() < 2 {
-        return 0;
+    if runs.is_empty() {
+        return None;
     }
     let last = runs.len() - 1;
-    if !runs[last].begins_behind(name) {
-        return last;
+    if last == 0 || !runs[last].begins_after(name) {
+        return Some(last);
     }
-    run_before(runs, name)
+    Some(run_before(runs, name))
 }
 
 // The same where the last run is too far: a binary search.
@@ -38,7 +38,7 @@ fn run_before<V>(runs: &[Run<V>], name: &Name) -> usize
     let mut high = runs.len();
     'halves: while high > low + 1 {
         let middle = low + (high - low) / 2;
-        if runs[middle].begins_behind(name) {
+        if runs[middle].begins_after(name) {
             high = middle;
         } else {
             low = middle;
@@ -52,10 +52,7 @@ pub(crate) fn value_under<'a, V>(runs: &'a [Run<V>], name: &Name) -> Option<&'a 
     requires { InNameOrder (joined runs.now) }
     ensures { option_copied result ≡ value_of (joined runs.now) name.now }
 {
-    let at = run_for(runs, name);
-    if at >= runs.len() {
-        return None;
-    }
+    let at = run_for(runs, name)?;
     match runs[at].find(name) {
         Ok(place) => Some(&runs[at].values()[place]),
         Err(_) => None,
@@ -69,10 +66,7 @@ pub(crate) fn set_value<V: Copy>(runs: &mut Vec<Run<V>>, name: &Name, value: V) 
     ensures set { (v : V) → result ≡ Some v → joined runs.new.items ≡ insert_entry name_cmp (joined runs.old.items) name.now value }
     ensures unchanged { result ≡ None → runs.new ≡ runs.old }
 {
-    let at = run_for(runs.as_slice(), name);
-    if at >= runs.len() {
-        return None;
-    }
+    let at = run_for(runs.as_slice(), name)?;
     match runs[at].find(name) {
         Ok(place) => Some(runs[at].set(place, value)),
         Err(_) => None,
@@ -87,7 +81,6 @@ fn put<V: Copy>(
     name: Name,
     value: V,
 ) -> Result<(), AllocError>
-    requires within { at < length runs.old.items }
     requires run { IsRunFor runs.old.items name at }
     requires place { IsPlaceFor (slice_index_or runs.old.items at []) name place }
     ensures put { OnOk result (joined runs.new.items ≡ insert_entry name_cmp (joined runs.old.items) name value) }
@@ -97,20 +90,19 @@ fn put<V: Copy>(
     if len < MAX_RUN {
         runs[at].insert(place, name, value)
     } else if place == len {
-        put_behind(runs, at, name, value)
+        put_after(runs, at, name, value)
     } else {
         put_within(runs, at, place, name, value)
     }
 }
 
 // Puts a pair in after a run that is full, which stays full.
-fn put_behind<V: Copy>(
+fn put_after<V: Copy>(
     runs: &mut Vec<Run<V>>,
     at: usize,
     name: Name,
     value: V,
 ) -> Result<(), AllocError>
-    requires within { at < length runs.old.items }
     requires run { IsRunFor runs.old.items name at }
     requires place { let es = slice_index_or runs.old.items at [] in IsPlaceFor es name (length es) }
     ensures put { OnOk result (joined runs.new.items ≡ insert_entry name_cmp (joined runs.old.items) name value) }
@@ -129,15 +121,14 @@ fn put_within<V: Copy>(
     name: Name,
     value: V,
 ) -> Result<(), AllocError>
-    requires within { at < length runs.old.items }
     requires run { IsRunFor runs.old.items name at }
     requires place { IsPlaceFor (slice_index_or runs.old.items at []) name place }
     requires more { 1 < length (slice_index_or runs.old.items at []) }
     ensures put { OnOk result (joined runs.new.items ≡ insert_entry name_cmp (joined runs.old.items) name value) }
     ensures unchanged { OnErr result (joined runs.new.items ≡ joined runs.old.items) }
 {
-    let (before, behind) = runs[at].with(*runs.allocator(), place, name, value)?;
-    runs.insert(at + 1, behind)?;
+    let (before, after) = runs[at].with(*runs.allocator(), place, name, value)?;
+    runs.insert(at + 1, after)?;
     runs[at] = before;
     Ok(())
 }
@@ -153,12 +144,11 @@ pub(crate) fn insert_pair<V: Copy>(
     ensures put { OnOk result (joined runs.new.items ≡ insert_entry name_cmp (joined runs.old.items) name value) }
     ensures unchanged { OnErr result (joined runs.new.items ≡ joined runs.old.items) }
 {
-    let at = run_for(runs.as_slice(), &name);
-    if at >= runs.len() {
-        let last = Run::of(*runs.allocator(), name, value)?;
-        runs.push(last)?;
+    let Some(at) = run_for(runs.as_slice(), &name) else {
+        let first = Run::of(*runs.allocator(), name, value)?;
+        runs.push(first)?;
         return Ok(None);
-    }
+    };
     match runs[at].find(&name) {
         Ok(place) => Ok(Some(runs[at].set(place, value))),
         Err(place) => {
@@ -194,10 +184,9 @@ pub(crate) fn remove_pair<V: Copy>(
     ensures removed { OnOk result (joined runs.new.items ≡ remove_entry (is_at (name_cmp name.now)) (joined runs.old.items)) }
     ensures unchanged { OnErr result (joined runs.new.items ≡ joined runs.old.items) }
 {
-    let at = run_for(runs.as_slice(), name);
-    if at >= runs.len() {
+    let Some(at) = run_for(runs.as_slice(), name) else {
         return Ok(None);
-    }
+    };
     match runs[at].find(name) {
         Ok(place) => Ok(Some(take_out(runs, at, place)?)),
         Err(_) => Ok(None),

@@ -12,8 +12,8 @@ overflow_add-low g c = let inv = c.halves.invariant in let fits = c.halves.auto.
 pub bounds-runs-middle : goal.bounds-runs-middle
 bounds-runs-middle g c = let inv = c.halves.invariant in let test = c.halves-test.true in omega (arith, inv.0, inv.1, test)
 
-pub halves-preserved-then-begins_behind : goal.halves-preserved-then-begins_behind
-halves-preserved-then-begins_behind g c =
+pub halves-preserved-then-begins_after : goal.halves-preserved-then-begins_after
+halves-preserved-then-begins_after g c =
     let inv = c.halves.invariant in
     let m = c.halves.low + (c.halves.high - c.halves.low) / 2 in
     let test = c.halves-test.true in
@@ -21,8 +21,8 @@ halves-preserved-then-begins_behind g c =
       omega (arith, inv.0, test),
       omega (arith, within),
       inv.2,
-      run_behind c.args.runs.now c.args.name.now m c.index-runs-middle.result c.index-runs-middle.is c.requires.order within c.begins_behind.ensures.some
-          (λ q first. sym c.if-begins_behind.true ∙ c.begins_behind.ensures.value q first),
+      run_behind c.args.runs.now c.args.name.now m c.index-runs-middle.result c.index-runs-middle.is c.requires.order within c.begins_after.ensures.some
+          (λ q first. sym c.if-begins_after.true ∙ c.begins_after.ensures.value q first),
     )
 
 pub halves-preserved : goal.halves-preserved
@@ -33,8 +33,8 @@ halves-preserved g c =
     let within : m < length c.args.runs.now = omega (arith, inv.0, inv.1, test) in (
       omega (arith, inv.0, test),
       inv.1,
-      run_not_behind c.args.runs.now c.args.name.now m c.index-runs-middle.result c.index-runs-middle.is c.requires.order within c.begins_behind.ensures.some
-          (λ q first. sym c.if-begins_behind.false ∙ c.begins_behind.ensures.value q first),
+      run_not_behind c.args.runs.now c.args.name.now m c.index-runs-middle.result c.index-runs-middle.is c.requires.order within c.begins_after.ensures.some
+          (λ q first. sym c.if-begins_after.false ∙ c.begins_after.ensures.value q first),
       inv.3,
     )
 
@@ -43,4 +43,4 @@ returns g c =
     let inv = c.halves.invariant in
     let test = c.halves-test.false in
     let next : c.halves.high ≡ suc c.halves.low = omega (arith, inv.0, test) in
-    (inv.2, subst (λ n. IsAbove c.args.name.now (joined (drop n c.args.runs.now))) next inv.3)
+    (omega (arith, inv.0, inv.1), inv.2, subst (λ n. IsAbove c.args.name.now (joined (drop n c.args.runs.now))) next inv.3)

@@ -1,18 +1,20 @@
-use Rattle.std.proofs.Common.{◌≡◌, ◌<◌, ◌-◌, suc, drop, length, subst, arith}
-use Rattle.svn_name_map.specs.Runs.{joined, IsAbove}
-use Rattle.svn_name_map.proofs.Joined.{above_few, above_none, run_not_behind}
+use Rattle.std.proofs.Common.{◌≡◌, ◌<◌, ◌-◌, suc, take, drop, length, subst, sym, arith, rules}
+use Rattle.svn_name_map.specs.Runs.{joined, IsAbove, IsBelow}
+use Rattle.svn_name_map.proofs.Joined.{above_none, run_not_behind}
+use Rattle.svn_name_map.proofs.runs.run_for.Goals.{then-last-eq0-via-then-last-eq0, then-last-eq0-via-else-last-eq0+then-not-begins_after}
 use Rattle.svn_name_map.proofs.runs.run_for.Goals as goal
 
-pub returns-then-not-begins_behind : goal.returns-then-not-begins_behind
-returns-then-not-begins_behind g c =
+pub returns-then-last-eq0 : goal.returns-then-last-eq0
+returns-then-last-eq0 g c =
     let runs = c.args.runs.now in
-    let many = c.if-runs-lt2.false in
-    let within : length runs - 1 < length runs = omega (arith, many) in
-    let next : length runs ≡ suc (length runs - 1) = omega (arith, many) in (
-      run_not_behind runs c.args.name.now (length runs - 1) c.index-runs-last.result c.index-runs-last.is c.requires within
-          c.begins_behind.ensures.some c.if-not-begins_behind.ensures.value,
-      subst (λ n. IsAbove c.args.name.now (joined (drop n runs))) next (above_none c.args.name.now runs),
-    )
-
-pub returns-then-runs-lt2 : goal.returns-then-runs-lt2
-returns-then-runs-lt2 g c = let few = c.if-runs-lt2.true in (tt, above_few c.args.name.now c.args.runs.now (omega (arith, few)))
+    let name = c.args.name.now in
+    let some : 0 < length runs = first_of (search rules, grind arith) in
+    let within : length runs - 1 < length runs = omega (arith, some) in
+    let next : length runs ≡ suc (length runs - 1) = omega (arith, some) in
+    let below : IsBelow name (joined (take (length runs - 1) runs)) = elim c.then-last-eq0.branch [
+      | then-last-eq0-via-then-last-eq0 w ↦ subst (λ n. IsBelow name (joined (take n runs))) (sym w.if-last-eq0.true) tt
+      | then-last-eq0-via-else-last-eq0+then-not-begins_after w ↦
+          run_not_behind runs name (length runs - 1) w.index-runs-last.result w.index-runs-last.is c.requires within
+          w.begins_after.ensures.some w.if-not-begins_after.ensures.value
+    ] in
+    (within, below, subst (λ n. IsAbove name (joined (drop n runs))) next (above_none name runs))

@@ -23,8 +23,8 @@ returns-clause-before g c =
     ∙ taken_pairs c.args.self.now c.args.place c.split_at.result.0.now c.split_at-2.result.0.now
     (c.split_at.ensures.front ∙ ap (take c.args.place) c.names.ensures.names) (c.split_at-2.ensures.front ∙ ap (take c.args.place) c.values.ensures)
 
-pub returns-clause-behind : goal.returns-clause-behind
-returns-clause-behind g c =
-    c.in_ok-behind.ensures
+pub returns-clause-after : goal.returns-clause-after
+returns-clause-after g c =
+    c.in_ok-after.ensures
     ∙ dropped_pairs c.args.self.now c.args.place c.split_at.result.1.now c.split_at-2.result.1.now
     (c.split_at.ensures.back ∙ ap (drop c.args.place) c.names.ensures.names) (c.split_at-2.ensures.back ∙ ap (drop c.args.place) c.values.ensures)

@@ -15,7 +15,7 @@ insert-requires g c =
 pub insert-requires-else-place-half : goal.insert-requires-else-place-half
 insert-requires-else-place-half g c =
     let half = c.len-half.result / 2 in
-    place_behind c.args.self.now c.args.name c.args.place half c.requires.place c.in_ok-before.behind c.in_ok-before.ensures.behind
+    place_behind c.args.self.now c.args.name c.args.place half c.requires.place c.in_ok-before.after c.in_ok-before.ensures.after
     (omega (arith, c.if-place-half.false))
 
 pub returns : goal.returns
@@ -26,13 +26,13 @@ returns g c =
     let within : half ≤ length es = omega (arith, c.len-half.ensures.length) in
     elim c.if-place-half.branch [
       | then-place-half+in_ok-insert w ↦
-          let parts : c.if-place-half.before ++ c.if-place-half.behind ≡ insert c.in_ok-before.before c.args.place e ++ c.in_ok-before.behind =
+          let parts : c.if-place-half.before ++ c.if-place-half.after ≡ insert c.in_ok-before.before c.args.place e ++ c.in_ok-before.after =
           cc w.in_ok-insert.ensures.ok in
-          parts ∙ (λ i. insert (c.in_ok-before.ensures.before i) c.args.place e ++ c.in_ok-before.ensures.behind i)
+          parts ∙ (λ i. insert (c.in_ok-before.ensures.before i) c.args.place e ++ c.in_ok-before.ensures.after i)
           ∙ insert_before es e c.args.place half w.if-place-half.true within
       | else-place-half+in_ok-insert-2 w ↦
-          let parts : c.if-place-half.before ++ c.if-place-half.behind ≡ c.in_ok-before.before ++ insert c.in_ok-before.behind (c.args.place - half) e =
+          let parts : c.if-place-half.before ++ c.if-place-half.after ≡ c.in_ok-before.before ++ insert c.in_ok-before.after (c.args.place - half) e =
           cc w.in_ok-insert-2.ensures.ok in
-          parts ∙ (λ i. c.in_ok-before.ensures.before i ++ insert (c.in_ok-before.ensures.behind i) (c.args.place - half) e)
+          parts ∙ (λ i. c.in_ok-before.ensures.before i ++ insert (c.in_ok-before.ensures.after i) (c.args.place - half) e)
           ∙ insert_behind es e c.args.place half (omega (arith, w.if-place-half.false)) within
     ]
