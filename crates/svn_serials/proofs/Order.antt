@@ -16,7 +16,7 @@ use Rattle.std.specs.Ordering.{nat_cmp}
 use Rattle.std.specs.declared.cmp.Ordering.TheVariants.{Less}
 use Rattle.svn_lists.proofs.Sorted.{AllAbove, sorted_cons, sorted_front, sorted_insert_number, sorted_nil}
 use Rattle.svn_serials.specs.Serials.{IsRising}
-use Rattle.svn_serials.specs.Slots.{EndsFilled, IsInOrder, held, serials_of, values_in}
+use Rattle.svn_serials.specs.Slots.{EndsFilled, IsGap, IsInOrder, IsNowhere, held, serials_of, values_in}
 use Rattle.svn_serials.specs.declared.slots.Slot.{Slot}
 
 -- ---- slots
@@ -132,26 +132,30 @@ module _ {V : Type 0} where
   above_all ss order q (Some s) last less k within = let le = last_is_greatest ss order k within in let at = last.1 in omega arith
 
   -- a search ends at the place p without a hit
-  module _ (q : ℕ) (ss : List (Slot V)) (p : ℕ) (order : IsInOrder ss) (below : (k : ℕ) → k < p → get_or (serials_of ss) k 0 < q)
-      (from : (k : ℕ) → p ≤ k → k < length ss → q ≤ get_or (serials_of ss) k 0)
-      (other : p < length ss → get_or (serials_of ss) p 0 ≡ q → ⊥) where
-    pub nowhere : (k : ℕ) → k < length ss → get_or (serials_of ss) k 0 ≡ q → ⊥
-    nowhere k within is = elim (cases_lt k p) [
-      | inl before ↦ let less = below k before in omega arith
-      | inr after ↦ elim (cases_eq k p) [
-        | inl same ↦ other (omega arith) (ap (λ (i : ℕ). get_or (serials_of ss) i 0) (sym same) ∙ is)
-        | inr apart ↦
-            let first = from p (omega arith) (omega arith) in
-            let less = serial_below ss order p k (omega arith) within in
-            omega arith
-      ]
-    ]
+  pub gap_found : (ss : List (Slot V)) (q p : ℕ) → IsInOrder ss → p ≤ length ss → ((k : ℕ) → k < p → get_or (serials_of ss) k 0 < q)
+      → ((k : ℕ) → p ≤ k → k < length ss → q ≤ get_or (serials_of ss) k 0) → (p < length ss → get_or (serials_of ss) p 0 ≢ q)
+      → IsGap ss q p
+  gap_found ss q p order bound below from other = (
+    bound,
+    below,
+    λ k after within. elim (cases_eq k p) [
+      | inl same ↦
+          let least = from k after within in
+          let is = ap (λ (i : ℕ). get_or (serials_of ss) i 0) same in
+          let apart : get_or (serials_of ss) p 0 ≢ q = other (omega arith) in
+          omega arith
+      | inr apart ↦
+          let first = from p (omega arith) (omega arith) in
+          let less = serial_below ss order p k (omega arith) within in
+          omega arith
+    ],
+  )
 
-    pub strictly_above : (k : ℕ) → p ≤ k → k < length ss → q < get_or (serials_of ss) k 0
-    strictly_above k after within =
-        let least = from k after within in
-        let apart : get_or (serials_of ss) k 0 ≢ q = nowhere k within in
-        omega arith
+  pub gap_nowhere : (ss : List (Slot V)) (q p : ℕ) → IsGap ss q p → IsNowhere ss q
+  gap_nowhere ss q p gap k within is = elim (cases_lt k p) [
+    | inl before ↦ let less = gap.1 k before in omega arith
+    | inr after ↦ let more = gap.2 k after within in omega arith
+  ]
 
   pub rises : (ss : List (Slot V)) → IsInOrder ss → IsNonDecreasingBy (λ s. s.serial) ss
   rises ss order i j d le within = elim (cases_lt i j) [

@@ -1,9 +1,9 @@
 // Slots in the order of their serials, and where a serial is among them.
-ghost use Rattle.std.specs.Prelude.{◌≡◌, ◌≢◌, ◌++◌, ◌∷◌, ℕ, ◌-◌, ◌<◌, ◌≤◌, [], true, false, length, slice_index, IfOk, OnOk, OnErr, MatchOption};
+ghost use Rattle.std.specs.Prelude.{◌≡◌, ◌≢◌, ◌++◌, ◌∷◌, ℕ, ◌-◌, ◌<◌, ◌≤◌, [], true, false, length, slice_index, IfOk, OnOk, OnErr, MatchOption, MatchResult};
 ghost use Rattle.std.specs.BTreeMap.{insert_entry};
 ghost use Rattle.std.specs.Ordering.{nat_cmp};
 ghost use Rattle.svn_serials.specs.Serials.{get};
-ghost use Rattle.svn_serials.specs.Slots.{EndsFilled, IsFilledAt, IsInOrder, held, serials_of};
+ghost use Rattle.svn_serials.specs.Slots.{EndsFilled, IsAt, IsFilledAt, IsGap, IsInOrder, IsNowhere, held, serials_of};
 
 use std::alloc::{AllocError, Allocator};
 use std::mem::replace;
@@ -16,7 +16,7 @@ pub(crate) struct Slot<V> {
 }
 
 // The first place whose serial is not below this one.
-pub(crate) fn place_for<V>(slots: &[Slot<V>], serial: u64) -> usize
+fn place_for<V>(slots: &[Slot<V>], serial: u64) -> usize
     requires { IsInOrder slots.now }
     ensures within { result ≤ length slots.now }
     ensures below { (k : ℕ) → k < result → slice_index (serials_of slots.now) k < serial }
@@ -69,8 +69,8 @@ fn find_before_last<V>(slots: &[Slot<V>], serial: u64, last: u64, near: usize) -
 
 // Whether a serial is at a place.
 #[inline(always)]
-fn stands_at<V>(slots: &[Slot<V>], place: usize, serial: u64) -> bool
-    ensures hit { result ≡ true → (place < length slots.now) × (slice_index (serials_of slots.now) place ≡ serial) }
+fn is_at<V>(slots: &[Slot<V>], place: usize, serial: u64) -> bool
+    ensures hit { result ≡ true → IsAt slots.now serial place }
     ensures miss { result ≡ false → place < length slots.now → slice_index (serials_of slots.now) place ≢ serial }
 {
     place < slots.len() && slots[place].serial == serial
@@ -79,14 +79,12 @@ fn stands_at<V>(slots: &[Slot<V>], place: usize, serial: u64) -> bool
 // Where a serial is that is not the last. If none from it on was left out, it is as far from the end as it is below the last.
 fn place_before_last<V>(slots: &[Slot<V>], serial: u64, last: u64, near: usize) -> Option<usize>
     requires { IsInOrder slots.now }
-    ensures { MatchOption result
-        ((k : ℕ) → k < length slots.now → slice_index (serials_of slots.now) k ≢ serial)
-        (λ place. (place < length slots.now) × (slice_index (serials_of slots.now) place ≡ serial)) }
+    ensures { MatchOption result (IsNowhere slots.now serial) (IsAt slots.now serial) }
 {
     let back = last.saturating_sub(serial);
     if back < slots.len() as u64 {
         let place = slots.len() - 1 - back as usize;
-        if stands_at(slots, place, serial) {
+        if is_at(slots, place, serial) {
             return Some(place);
         }
     }
@@ -98,34 +96,34 @@ fn place_before_last<V>(slots: &[Slot<V>], serial: u64, last: u64, near: usize) 
 #[inline(never)]
 fn place_with_gaps<V>(slots: &[Slot<V>], serial: u64, near: usize) -> Option<usize>
     requires { IsInOrder slots.now }
-    ensures { MatchOption result
-        ((k : ℕ) → k < length slots.now → slice_index (serials_of slots.now) k ≢ serial)
-        (λ place. (place < length slots.now) × (slice_index (serials_of slots.now) place ≡ serial)) }
+    ensures { MatchOption result (IsNowhere slots.now serial) (IsAt slots.now serial) }
 {
-    if stands_at(slots, near, serial) {
+    if is_at(slots, near, serial) {
         return Some(near);
     }
     let next = near.saturating_add(1);
-    if stands_at(slots, next, serial) {
+    if is_at(slots, next, serial) {
         return Some(next);
     }
-    if stands_at(slots, 0, serial) {
+    if is_at(slots, 0, serial) {
         return Some(0);
     }
-    place_by_halves(slots, serial)
+    match search(slots, serial) {
+        Ok(place) => Some(place),
+        Err(_) => None,
+    }
 }
 
-fn place_by_halves<V>(slots: &[Slot<V>], serial: u64) -> Option<usize>
+// Where a serial is, else where it would be: a binary search.
+fn search<V>(slots: &[Slot<V>], serial: u64) -> Result<usize, usize>
     requires { IsInOrder slots.now }
-    ensures { MatchOption result
-        ((k : ℕ) → k < length slots.now → slice_index (serials_of slots.now) k ≢ serial)
-        (λ place. (place < length slots.now) × (slice_index (serials_of slots.now) place ≡ serial)) }
+    ensures { MatchResult result (IsAt slots.now serial) (IsGap slots.now serial) }
 {
     let place = place_for(slots, serial);
-    if stands_at(slots, place, serial) {
-        Some(place)
+    if is_at(slots, place, serial) {
+        Ok(place)
     } else {
-        None
+        Err(place)
     }
 }
 
@@ -215,13 +213,16 @@ fn put_before_end<V: Drop, A: Allocator>(
         serial,
         value: Some(value),
     };
-    let place = place_for(slots.as_slice(), serial);
-    if place < slots.len() && slots[place].serial == serial {
-        let Slot { serial: _, value } = replace(&mut slots[place], slot);
-        return Ok(value);
+    match search(slots.as_slice(), serial) {
+        Ok(place) => {
+            let Slot { serial: _, value } = replace(&mut slots[place], slot);
+            Ok(value)
+        }
+        Err(place) => {
+            slots.insert(place, slot)?;
+            Ok(None)
+        }
     }
-    slots.insert(place, slot)?;
-    Ok(None)
 }
 
 // Removes the empty slots at the end, and all others where more than half are empty. Inlined, since it mostly removes the last alone.
