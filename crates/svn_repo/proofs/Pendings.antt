@@ -1,7 +1,8 @@
 -- A change that is made by one graft.
-use Rattle.std.proofs.Common.{◌≡◌, ℕ, ◌≤◌, ◌+◌, Bool, false, cond, arith, Option, true, List, [], ◌∷◌, length, refl, None, Some, sym, ap}
+use Rattle.std.proofs.Common.{◌≡◌, ℕ, ◌≤◌, ◌+◌, Bool, false, cond, arith, Option, true, List, [], ◌∷◌, length, refl, None, Some, sym, ap, subst}
 use Rattle.std.proofs.Common.{◌∙◌}
 use Rattle.svn_lists.proofs.Options.{option_or_none}
+use Rattle.svn_repo.specs.declared.store.Draft.{Draft}
 use Rattle.svn_repo.specs.declared.store.Node.{Node}
 use Rattle.svn_repo.specs.declared.change.Change.{Change}
 use Rattle.svn_types.specs.Names.{Path}
@@ -41,14 +42,14 @@ made_by_graft base old new from root lines next p part change roots g not_root b
 abbrev pub CanPut : Tree → Path → Type 0
 CanPut t p = (root_fault p ≡ None) × (above_fault t p ≡ None)
 
-pub can_make_dir : (h : History) (s : Pending) (p : Path) → change_fault h s (MakeDir p) ≡ None → CanPut s.tree p
+can_make_dir : (h : History) (s : Pending) (p : Path) → change_fault h s (MakeDir p) ≡ None → CanPut s.tree p
 can_make_dir h s p e =
     let a = option_or_none (root_fault p)
     (option_or (above_fault s.tree p) (option_or (fault_if (is_some (s.tree p)) Exists) (depth_fault p))) e
     in
     (a.0, (option_or_none (above_fault s.tree p) (option_or (fault_if (is_some (s.tree p)) Exists) (depth_fault p)) a.1).0)
 
-pub can_put_file : (h : History) (s : Pending) (p : Path) (text : List ℕ) → change_fault h s (PutFile p text) ≡ None → CanPut s.tree p
+can_put_file : (h : History) (s : Pending) (p : Path) (text : List ℕ) → change_fault h s (PutFile p text) ≡ None → CanPut s.tree p
 can_put_file h s p text e =
     let a = option_or_none (root_fault p) (option_or (size_fault text)
     (option_or (above_fault s.tree p) (option_or (fault_if (is_directory_place (s.tree p)) NotFile) (depth_fault p)))) e in
@@ -56,7 +57,7 @@ can_put_file h s p text e =
     (option_or (fault_if (is_directory_place (s.tree p)) NotFile) (depth_fault p))) a.1 in
     (a.0, (option_or_none (above_fault s.tree p) (option_or (fault_if (is_directory_place (s.tree p)) NotFile) (depth_fault p)) b.1).0)
 
-pub can_remove : (h : History) (s : Pending) (p : Path) → change_fault h s (Remove p) ≡ None → CanPut s.tree p
+can_remove : (h : History) (s : Pending) (p : Path) → change_fault h s (Remove p) ≡ None → CanPut s.tree p
 can_remove h s p e =
     let a = option_or_none (root_fault p) (option_or (above_fault s.tree p) (missing_fault (s.tree p))) e in
     (a.0, (option_or_none (above_fault s.tree p) (missing_fault (s.tree p)) a.1).0)
@@ -74,7 +75,7 @@ some_by None h = cc
 some_by (Some p) h = refl
 
 -- the way of a change of a property that has no fault
-pub can_set_prop : (h : History) (s : Pending) (p : Path) (name : List ℕ) (value : Option (List ℕ))
+can_set_prop : (h : History) (s : Pending) (p : Path) (name : List ℕ) (value : Option (List ℕ))
     → change_fault h s (SetProp p name value) ≡ None → IsWay s.tree p
 can_set_prop h s p name value e =
     let a = option_or_none (value_fault value) (option_or (above_fault s.tree p) (missing_fault (s.tree p))) e in
@@ -136,3 +137,27 @@ can_copy h s rev source path e =
       above = d.0;
       depth = f.1;
     }
+
+-- ---- what a change on a draft has that is not refused
+
+abbrev pub CanMake : History → Tree → Change → Type 0
+CanMake h t (MakeDir p) = CanPut t p
+CanMake h t (PutFile p text) = CanPut t p
+CanMake h t (SetProp p name value) = IsWay t p
+CanMake h t (Remove p) = CanPut t p
+CanMake h t (CopyFrom rev source p) = CanCopy h t rev source p
+
+can_do : (h : History) (s : Pending) (change : Change) → change_fault h s change ≡ None → CanMake h s.tree change
+can_do h s (MakeDir p) e = can_make_dir h s p e
+can_do h s (PutFile p text) e = can_put_file h s p text e
+can_do h s (SetProp p name value) e = can_set_prop h s p name value e
+can_do h s (Remove p) e = can_remove h s p e
+can_do h s (CopyFrom rev source p) e = can_copy h s rev source p e
+
+pub can_make : (draft : Draft) (roots : List ℕ) (nodes : List Node) {change made : Change}
+    → ((l : ℕ) → change_fault (past_in draft.base roots nodes l) (pending_in draft.base nodes draft.root draft.lines) change ≡ None)
+    → change ≡ made → CanMake (past_in draft.base roots nodes 0) (tree_in draft.base nodes draft.root) made
+can_make draft roots nodes no_fault is =
+    let h = past_in draft.base roots nodes 0 in
+    let s = pending_in draft.base nodes draft.root draft.lines in
+    can_do h s _ (subst (λ (change : Change). change_fault h s change ≡ None) is (no_fault 0))

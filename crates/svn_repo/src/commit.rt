@@ -86,7 +86,7 @@ fn put_text(
     requires listing { IsListing nodes.old.items at }
     requires closed { IsClosedIn nodes.old.items }
     ensures ok { OnOk result (PutsText lines text.now nodes.old.items nodes.new.items at name.now) }
-    ensures stood { IfOk result (λ stood. stood ≡ is_some (child_in (rows nodes.old.items at) name.now)) }
+    ensures existed { IfOk result (λ existed. existed ≡ is_some (child_in (rows nodes.old.items at) name.now)) }
     ensures kept { (base : ℕ) → base ≤ at → base ≤ length nodes.old.items → KeepsOld base nodes.old.items nodes.new.items }
 {
     let index = nodes.len();
@@ -109,23 +109,23 @@ fn put_file(
     requires not_root { root_fault names.now ≡ None }
     requires above { above_fault (tree_in draft.base nodes.old.items draft.root) names.now ≡ None }
     ensures ok { IfOk result (λ r. let t = tree_in draft.base nodes.old.items draft.root in IsGrafted draft.base nodes.old.items nodes.new.items draft.root r.0 names.now (leaf (with_text draft.lines (t names.now) text.now))) }
-    ensures stood { IfOk result (λ r. r.1 ≡ is_some (tree_in draft.base nodes.old.items draft.root names.now)) }
+    ensures existed { IfOk result (λ r. r.1 ≡ is_some (tree_in draft.base nodes.old.items draft.root names.now)) }
     ensures kept { KeepsOld draft.base nodes.old.items nodes.new.items }
     ensures grown { OnOk result (length nodes.old.items < length nodes.new.items) }
 {
     let lines = draft.lines;
     let (last, above) = split_path(names);
     let (root, at) = thaw_path(nodes, draft, above, near)?;
-    let stood = put_text(nodes, at, last, lines, text)?;
-    Ok((root, stood))
+    let existed = put_text(nodes, at, last, lines, text)?;
+    Ok((root, existed))
 }
 
 // The next line after a text is put where something or nothing was.
-fn next_line(lines: u64, stood: bool) -> u64
+fn next_line(lines: u64, existed: bool) -> u64
     requires { lines + 1 < 2 ^ 64 }
-    ensures { result ≡ (if stood then lines else lines + 1) }
+    ensures { result ≡ (if existed then lines else lines + 1) }
 {
-    if stood { lines } else { lines + 1 }
+    if existed { lines } else { lines + 1 }
 }
 
 // The node that a copy takes.
@@ -162,8 +162,8 @@ pub(crate) fn make(
             Ok(Draft { base, root, lines })
         }
         Change::PutFile { path, text } => {
-            let (root, stood) = put_file(nodes, draft, path.components(), near, text)?;
-            let lines = next_line(lines, stood);
+            let (root, existed) = put_file(nodes, draft, path.components(), near, text)?;
+            let lines = next_line(lines, existed);
             Ok(Draft { base, root, lines })
         }
         Change::SetProp { path, name, value } => {

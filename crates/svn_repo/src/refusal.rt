@@ -50,7 +50,7 @@ fn find(nodes: &[Node], root: NodeId, names: &[Name]) -> Result<Option<NodeId>, 
     Ok(at)
 }
 
-// The same where the directory above may be known.
+// As `find`, but from `near`, the node of the directory above, if that was looked up before.
 fn find_from(
     nodes: &[Node],
     root: NodeId,
@@ -77,7 +77,7 @@ fn find_node(nodes: &[Node], root: NodeId, names: &[Name]) -> Result<NodeId, Com
     requires root_in { root < length nodes.now }
     requires closed { IsClosedIn nodes.now }
     ensures found { IfOk result (λ node. walk (rows nodes.now) root names.now ≡ Some node) }
-    ensures stands { OnOk result ((base : ℕ) → walk_fault (tree_in base nodes.now root) names.now ≡ None) }
+    ensures no_fault { OnOk result ((base : ℕ) → walk_fault (tree_in base nodes.now root) names.now ≡ None) }
     ensures fault { IfErr result (λ fault. (base : ℕ) → walk_fault (tree_in base nodes.now root) names.now ≡ Some fault) }
 {
     match find(nodes, root, names) {

@@ -1,40 +1,27 @@
 use Rattle.std.proofs.Common.{◌≡◌, ℕ, Some, None, subst, ap, sym, ◌∙◌, arith, ◌<◌, ◌≤◌, length, ◌+◌}
 use Rattle.std.specs.Option.{is_some}
-use Rattle.svn_repo.specs.declared.change.Change.{Change}
 use Rattle.svn_types.specs.Names.{Path}
-use Rattle.svn_repo.specs.Trees.{Tree, leaf, graft, nothing, with_prop, IsWay}
+use Rattle.svn_repo.specs.Trees.{Tree, leaf, graft, nothing, with_prop}
 use Rattle.svn_repo.specs.Drafts.{tree_in, past_in, old_part, IsGrafted}
-use Rattle.svn_repo.specs.Changes.{Pending, change_fault, after_change, pending_in, new_directory, with_text, lines_after}
-use Rattle.svn_repo.proofs.Pendings.{CanCopy, can_copy, CanPut, can_make_dir, can_put_file, can_remove, can_set_prop, made_by_prop}
-use Rattle.svn_repo.proofs.Pendings.{made_by_graft, next_is, next_below}
+use Rattle.svn_repo.specs.Changes.{Pending, after_change, pending_in, new_directory, with_text, lines_after}
+use Rattle.svn_repo.proofs.Pendings.{can_make, made_by_graft, made_by_prop, next_is, next_below}
 use Rattle.svn_repo.proofs.OldRevisions.{source_found, looked_in, copied_part}
 use Rattle.svn_repo.proofs.commit.make.Goals as goal
 
 pub put_directory-requires-clause-not_root : goal.put_directory-requires-clause-not_root
 put_directory-requires-clause-not_root c =
-    let s = pending_in c.args.draft.base c.args.nodes.now.items c.args.draft.root c.args.draft.lines in
-    let can : CanPut s.tree c.in-MakeDir.path = can_make_dir
-    (past_in c.args.draft.base c.args.roots.now c.args.nodes.now.items 0) s c.in-MakeDir.path
-    (subst (λ (x : Change). change_fault (past_in c.args.draft.base c.args.roots.now c.args.nodes.now.items 0) s x ≡ None)
-    c.in-MakeDir.is (c.requires.no_fault 0)) in
+    let can = can_make c.args.draft c.args.roots.now c.args.nodes.now.items c.requires.no_fault c.in-MakeDir.is in
     rw c.components.ensures.names can.0
 
 pub put_directory-requires-clause-above : goal.put_directory-requires-clause-above
 put_directory-requires-clause-above c =
-    let s = pending_in c.args.draft.base c.args.nodes.now.items c.args.draft.root c.args.draft.lines in
-    let can : CanPut s.tree c.in-MakeDir.path = can_make_dir
-    (past_in c.args.draft.base c.args.roots.now c.args.nodes.now.items 0) s c.in-MakeDir.path
-    (subst (λ (x : Change). change_fault (past_in c.args.draft.base c.args.roots.now c.args.nodes.now.items 0) s x ≡ None)
-    c.in-MakeDir.is (c.requires.no_fault 0)) in
+    let can = can_make c.args.draft c.args.roots.now c.args.nodes.now.items c.requires.no_fault c.in-MakeDir.is in
     rw c.components.ensures.names can.1
 
 pub returns-in_ok-root-in-MakeDir-clause-ok : goal.returns-in_ok-root-in-MakeDir-clause-ok
 returns-in_ok-root-in-MakeDir-clause-ok c =
     let s = pending_in c.args.draft.base c.args.nodes.now.items c.args.draft.root c.args.draft.lines in
-    let can : CanPut s.tree c.in-MakeDir.path = can_make_dir
-    (past_in c.args.draft.base c.args.roots.now c.args.nodes.now.items 0) s c.in-MakeDir.path
-    (subst (λ (x : Change). change_fault (past_in c.args.draft.base c.args.roots.now c.args.nodes.now.items 0) s x ≡ None)
-    c.in-MakeDir.is (c.requires.no_fault 0)) in
+    let can = can_make c.args.draft c.args.roots.now c.args.nodes.now.items c.requires.no_fault c.in-MakeDir.is in
     let g = subst (λ (p : Path). IsGrafted c.args.draft.base c.args.nodes.now.items c.put_directory.new.nodes.items c.args.draft.root
     c.in_ok-root-in-MakeDir.root p (leaf (new_directory c.args.draft.lines))) c.components.ensures.names
     c.in_ok-root-in-MakeDir.ensures.ok in
@@ -46,29 +33,18 @@ returns-in_ok-root-in-MakeDir-clause-ok c =
 
 pub put_file-requires-clause-not_root : goal.put_file-requires-clause-not_root
 put_file-requires-clause-not_root c =
-    let s = pending_in c.args.draft.base c.args.nodes.now.items c.args.draft.root c.args.draft.lines in
-    let can : CanPut s.tree c.in-PutFile.path = can_put_file
-    (past_in c.args.draft.base c.args.roots.now c.args.nodes.now.items 0) s c.in-PutFile.path c.in-PutFile.text
-    (subst (λ (x : Change). change_fault (past_in c.args.draft.base c.args.roots.now c.args.nodes.now.items 0) s x ≡ None)
-    c.in-PutFile.is (c.requires.no_fault 0)) in
+    let can = can_make c.args.draft c.args.roots.now c.args.nodes.now.items c.requires.no_fault c.in-PutFile.is in
     rw c.components-in-PutFile.ensures.names can.0
 
 pub put_file-requires-clause-above : goal.put_file-requires-clause-above
 put_file-requires-clause-above c =
-    let s = pending_in c.args.draft.base c.args.nodes.now.items c.args.draft.root c.args.draft.lines in
-    let can : CanPut s.tree c.in-PutFile.path = can_put_file
-    (past_in c.args.draft.base c.args.roots.now c.args.nodes.now.items 0) s c.in-PutFile.path c.in-PutFile.text
-    (subst (λ (x : Change). change_fault (past_in c.args.draft.base c.args.roots.now c.args.nodes.now.items 0) s x ≡ None)
-    c.in-PutFile.is (c.requires.no_fault 0)) in
+    let can = can_make c.args.draft c.args.roots.now c.args.nodes.now.items c.requires.no_fault c.in-PutFile.is in
     rw c.components-in-PutFile.ensures.names can.1
 
 pub returns-in_ok-root-in-PutFile-clause-ok : goal.returns-in_ok-root-in-PutFile-clause-ok
 returns-in_ok-root-in-PutFile-clause-ok c =
     let s = pending_in c.args.draft.base c.args.nodes.now.items c.args.draft.root c.args.draft.lines in
-    let can : CanPut s.tree c.in-PutFile.path = can_put_file
-    (past_in c.args.draft.base c.args.roots.now c.args.nodes.now.items 0) s c.in-PutFile.path c.in-PutFile.text
-    (subst (λ (x : Change). change_fault (past_in c.args.draft.base c.args.roots.now c.args.nodes.now.items 0) s x ≡ None)
-    c.in-PutFile.is (c.requires.no_fault 0)) in
+    let can = can_make c.args.draft c.args.roots.now c.args.nodes.now.items c.requires.no_fault c.in-PutFile.is in
     let base = c.args.draft.base in
     let old = c.args.nodes.now.items in
     let path = c.in-PutFile.path in
@@ -77,14 +53,14 @@ returns-in_ok-root-in-PutFile-clause-ok c =
     subst (λ (p : Path). IsGrafted base old c.put_file.new.nodes.items c.args.draft.root c.in_ok-root-in-PutFile.root p
     (leaf (with_text c.args.draft.lines (tree_in base old c.args.draft.root p) c.in-PutFile.text))) c.components-in-PutFile.ensures.names
     c.in_ok-root-in-PutFile.ensures.ok in
-    let stood : c.in_ok-root-in-PutFile.stood ≡ is_some (s.tree path) =
-    c.in_ok-root-in-PutFile.ensures.stood ∙ ap (λ (p : Path). is_some (s.tree p)) c.components-in-PutFile.ensures.names in
+    let existed : c.in_ok-root-in-PutFile.existed ≡ is_some (s.tree path) =
+    c.in_ok-root-in-PutFile.ensures.existed ∙ ap (λ (p : Path). is_some (s.tree p)) c.components-in-PutFile.ensures.names in
     let next : c.next_line-lines.result ≡ lines_after c.args.draft.lines (s.tree path) = c.next_line-lines.ensures
-    ∙ next_is c.args.draft.lines (s.tree path) c.in_ok-root-in-PutFile.stood stood in
+    ∙ next_is c.args.draft.lines (s.tree path) c.in_ok-root-in-PutFile.existed existed in
     let bounded : c.next_line-lines.result ≤ length c.put_file.new.nodes.items =
     rw c.next_line-lines.ensures (omega (
       arith,
-      next_below c.in_ok-root-in-PutFile.stood c.args.draft.lines,
+      next_below c.in_ok-root-in-PutFile.existed c.args.draft.lines,
       c.requires.bounded,
       c.in_ok-root-in-PutFile.ensures.grown,
     )) in
@@ -96,29 +72,18 @@ returns-in_ok-root-in-PutFile-clause-ok c =
 
 pub put_old-requires-clause-not_root : goal.put_old-requires-clause-not_root
 put_old-requires-clause-not_root c =
-    let s = pending_in c.args.draft.base c.args.nodes.now.items c.args.draft.root c.args.draft.lines in
-    let can : CanPut s.tree c.in-Remove.path = can_remove
-    (past_in c.args.draft.base c.args.roots.now c.args.nodes.now.items 0) s c.in-Remove.path
-    (subst (λ (x : Change). change_fault (past_in c.args.draft.base c.args.roots.now c.args.nodes.now.items 0) s x ≡ None)
-    c.in-Remove.is (c.requires.no_fault 0)) in
+    let can = can_make c.args.draft c.args.roots.now c.args.nodes.now.items c.requires.no_fault c.in-Remove.is in
     rw c.components-in-Remove.ensures.names can.0
 
 pub put_old-requires-clause-above : goal.put_old-requires-clause-above
 put_old-requires-clause-above c =
-    let s = pending_in c.args.draft.base c.args.nodes.now.items c.args.draft.root c.args.draft.lines in
-    let can : CanPut s.tree c.in-Remove.path = can_remove
-    (past_in c.args.draft.base c.args.roots.now c.args.nodes.now.items 0) s c.in-Remove.path
-    (subst (λ (x : Change). change_fault (past_in c.args.draft.base c.args.roots.now c.args.nodes.now.items 0) s x ≡ None)
-    c.in-Remove.is (c.requires.no_fault 0)) in
+    let can = can_make c.args.draft c.args.roots.now c.args.nodes.now.items c.requires.no_fault c.in-Remove.is in
     rw c.components-in-Remove.ensures.names can.1
 
 pub returns-in_ok-root-in-Remove-clause-ok : goal.returns-in_ok-root-in-Remove-clause-ok
 returns-in_ok-root-in-Remove-clause-ok c =
     let s = pending_in c.args.draft.base c.args.nodes.now.items c.args.draft.root c.args.draft.lines in
-    let can : CanPut s.tree c.in-Remove.path = can_remove
-    (past_in c.args.draft.base c.args.roots.now c.args.nodes.now.items 0) s c.in-Remove.path
-    (subst (λ (x : Change). change_fault (past_in c.args.draft.base c.args.roots.now c.args.nodes.now.items 0) s x ≡ None)
-    c.in-Remove.is (c.requires.no_fault 0)) in
+    let can = can_make c.args.draft c.args.roots.now c.args.nodes.now.items c.requires.no_fault c.in-Remove.is in
     let g = subst (λ (p : Path). IsGrafted c.args.draft.base c.args.nodes.now.items c.put_old.new.nodes.items c.args.draft.root
     c.in_ok-root-in-Remove.root p nothing) c.components-in-Remove.ensures.names c.in_ok-root-in-Remove.ensures.ok in
     made_by_graft c.args.draft.base c.args.nodes.now.items c.put_old.new.nodes.items c.args.draft.root c.in_ok-root-in-Remove.root
@@ -128,12 +93,8 @@ returns-in_ok-root-in-Remove-clause-ok c =
 
 pub put_prop-requires-clause-way : goal.put_prop-requires-clause-way
 put_prop-requires-clause-way c =
-    let s = pending_in c.args.draft.base c.args.nodes.now.items c.args.draft.root c.args.draft.lines in
-    let way : IsWay s.tree c.in-SetProp.path = can_set_prop
-    (past_in c.args.draft.base c.args.roots.now c.args.nodes.now.items 0) s c.in-SetProp.path c.in-SetProp.name c.in-SetProp.value
-    (subst (λ (x : Change). change_fault (past_in c.args.draft.base c.args.roots.now c.args.nodes.now.items 0) s x ≡ None)
-    c.in-SetProp.is (c.requires.no_fault 0)) in
-    rw c.components-in-SetProp.ensures.names way
+    rw c.components-in-SetProp.ensures.names
+    (can_make c.args.draft c.args.roots.now c.args.nodes.now.items c.requires.no_fault c.in-SetProp.is)
 
 pub returns-in_ok-root-in-SetProp-clause-ok : goal.returns-in_ok-root-in-SetProp-clause-ok
 returns-in_ok-root-in-SetProp-clause-ok c =
@@ -148,31 +109,19 @@ returns-in_ok-root-in-SetProp-clause-ok c =
 
 pub source_of-node-requires : goal.source_of-node-requires
 source_of-node-requires c =
-    let s = pending_in c.args.draft.base c.args.nodes.now.items c.args.draft.root c.args.draft.lines in
-    let h = past_in c.args.draft.base c.args.roots.now c.args.nodes.now.items 0 in
-    let can : CanCopy h s.tree c.in-CopyFrom.rev c.in-CopyFrom.source c.in-CopyFrom.path =
-    can_copy h s c.in-CopyFrom.rev c.in-CopyFrom.source c.in-CopyFrom.path
-    (subst (λ (x : Change). change_fault h s x ≡ None) c.in-CopyFrom.is (c.requires.no_fault 0)) in
+    let can = can_make c.args.draft c.args.roots.now c.args.nodes.now.items c.requires.no_fault c.in-CopyFrom.is in
     rw (c.deref.ensures.value, c.components-in-CopyFrom.ensures.names)
     (source_found c.args.draft.base c.args.roots.now c.args.nodes.now.items c.requires.draft.base_in c.requires.roots_in
     c.requires.draft.old_closed 0 c.in-CopyFrom.rev c.in-CopyFrom.source can.present)
 
 pub put_old-requires-in-CopyFrom-clause-not_root : goal.put_old-requires-in-CopyFrom-clause-not_root
 put_old-requires-in-CopyFrom-clause-not_root c =
-    let s = pending_in c.args.draft.base c.args.nodes.now.items c.args.draft.root c.args.draft.lines in
-    let h = past_in c.args.draft.base c.args.roots.now c.args.nodes.now.items 0 in
-    let can : CanCopy h s.tree c.in-CopyFrom.rev c.in-CopyFrom.source c.in-CopyFrom.path =
-    can_copy h s c.in-CopyFrom.rev c.in-CopyFrom.source c.in-CopyFrom.path
-    (subst (λ (x : Change). change_fault h s x ≡ None) c.in-CopyFrom.is (c.requires.no_fault 0)) in
+    let can = can_make c.args.draft c.args.roots.now c.args.nodes.now.items c.requires.no_fault c.in-CopyFrom.is in
     rw c.components-in-CopyFrom-2.ensures.names can.not_root
 
 pub put_old-requires-in-CopyFrom-clause-above : goal.put_old-requires-in-CopyFrom-clause-above
 put_old-requires-in-CopyFrom-clause-above c =
-    let s = pending_in c.args.draft.base c.args.nodes.now.items c.args.draft.root c.args.draft.lines in
-    let h = past_in c.args.draft.base c.args.roots.now c.args.nodes.now.items 0 in
-    let can : CanCopy h s.tree c.in-CopyFrom.rev c.in-CopyFrom.source c.in-CopyFrom.path =
-    can_copy h s c.in-CopyFrom.rev c.in-CopyFrom.source c.in-CopyFrom.path
-    (subst (λ (x : Change). change_fault h s x ≡ None) c.in-CopyFrom.is (c.requires.no_fault 0)) in
+    let can = can_make c.args.draft c.args.roots.now c.args.nodes.now.items c.requires.no_fault c.in-CopyFrom.is in
     rw c.components-in-CopyFrom-2.ensures.names can.above
 
 pub put_old-requires-in-CopyFrom-clause-old : goal.put_old-requires-in-CopyFrom-clause-old
@@ -186,10 +135,7 @@ put_old-requires-in-CopyFrom-clause-old c =
 pub returns-in_ok-root-in-CopyFrom-clause-ok : goal.returns-in_ok-root-in-CopyFrom-clause-ok
 returns-in_ok-root-in-CopyFrom-clause-ok c =
     let s = pending_in c.args.draft.base c.args.nodes.now.items c.args.draft.root c.args.draft.lines in
-    let h = past_in c.args.draft.base c.args.roots.now c.args.nodes.now.items 0 in
-    let can : CanCopy h s.tree c.in-CopyFrom.rev c.in-CopyFrom.source c.in-CopyFrom.path =
-    can_copy h s c.in-CopyFrom.rev c.in-CopyFrom.source c.in-CopyFrom.path
-    (subst (λ (x : Change). change_fault h s x ≡ None) c.in-CopyFrom.is (c.requires.no_fault 0)) in
+    let can = can_make c.args.draft c.args.roots.now c.args.nodes.now.items c.requires.no_fault c.in-CopyFrom.is in
     let base = c.args.draft.base in
     let old = c.args.nodes.now.items in
     let node = c.source_of-node.result in

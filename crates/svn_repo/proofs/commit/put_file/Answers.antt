@@ -39,7 +39,7 @@ returns-clause-ok c =
     let above = c.split_path.result.1.now in
     let last = c.split_path.result.0.now in
     let thawed = c.in_ok-root.ensures.ok.1 in
-    let puts = c.in_ok-stood.ensures.ok in
+    let puts = c.in_ok-existed.ensures.ok in
     let grafted = made_grafted base old mid new from top c.in_ok-root.at above last puts.node thawed puts.childless puts.put
     c.in_ok-root.ensures.ok.0 in
     let place = puts.place base ∙ ap (λ (o : Option Place). with_text c.args.draft.lines o c.args.text.now)
@@ -48,20 +48,20 @@ returns-clause-ok c =
     (sym c.split_path.ensures)
     (subst (λ (p : Place). IsGrafted base old new from top (above ++ last ∷ []) (leaf p)) place grafted)
 
-pub returns-clause-stood : goal.returns-clause-stood
-returns-clause-stood c =
+pub returns-clause-existed : goal.returns-clause-existed
+returns-clause-existed c =
     let base = c.args.draft.base in
     let mid = c.thaw_path.new.nodes.items in
     let thawed = c.in_ok-root.ensures.ok.1 in
     let at = c.in_ok-root.at in
     let last = c.split_path.result.0.now in
-    c.in_ok-stood.ensures.stood
+    c.in_ok-existed.ensures.existed
     ∙ by_walk base mid (child_in (rows mid at) last) (λ n e. thawed.draft.closed at n last e)
     ∙ ap is_some (found_above base c.args.nodes.now.items mid c.args.draft.root c.in_ok-root.root at c.split_path.result.1.now last thawed)
     ∙ ap (λ (p : Path). is_some (tree_in base c.args.nodes.now.items c.args.draft.root p)) (sym c.split_path.ensures)
 
-pub returns-in_err-stood-clause-kept : goal.returns-in_err-stood-clause-kept
-returns-in_err-stood-clause-kept c =
+pub returns-in_err-existed-clause-kept : goal.returns-in_err-existed-clause-kept
+returns-in_err-existed-clause-kept c =
     kept_through c.args.draft.base c.args.nodes.now.items c.thaw_path.new.nodes.items c.put_text.new.nodes.items c.thaw_path.ensures.kept
     (c.put_text.ensures.kept c.args.draft.base c.in_ok-root.ensures.ok.1.fresh c.in_ok-root.ensures.ok.1.draft.base_in)
 

@@ -23,7 +23,7 @@ returns-in-Ok-Some c = λ base.
     let top = c.args.source.now.root in
     let from = c.args.source.now.names.now in
     let deep = copy_depth_fault (rows (take (length c.args.heights.now) nodes)) (walk (rows nodes) top from) names in
-    sym (option_or_next (walk_fault (tree_in base nodes top) from) _ (c.in-Ok.ensures.stands base)
+    sym (option_or_next (walk_fault (tree_in base nodes top) from) _ (c.in-Ok.ensures.no_fault base)
     ∙ taken_path t names deep (c.in-Ok-Some.ensures.above base)
     (stands_at base nodes c.args.to.now.root _ names c.requires.root_in c.requires.closed
     (sym c.in-Ok-Some.ensures.found ∙ c.in-Ok-Some.field-0-is)))
@@ -41,6 +41,6 @@ returns-in-Ok-None c = λ base.
     copy_depth_by_height heights nodes c.in-Ok.node names c.fault_of_height.result c.requires.past c.requires.not_root inside
     c.fault_of_height.ensures
     ∙ ap (λ o. copy_depth_fault old o names) (sym c.in-Ok.ensures.found)
-    ∙ sym (option_or_next (walk_fault (tree_in base nodes top) from) _ (c.in-Ok.ensures.stands base)
+    ∙ sym (option_or_next (walk_fault (tree_in base nodes top) from) _ (c.in-Ok.ensures.no_fault base)
     ∙ free_path t names (copy_depth_fault old (walk (rows nodes) top from) names) (c.in-Ok-None.ensures.above base)
     (ap (option_and_then (place_at (rows nodes) base)) (sym c.in-Ok-None.ensures.found ∙ c.in-Ok-None.field-0-is)))

@@ -6,8 +6,8 @@ use Rattle.svn_repo.specs.Changes.{above_fault, missing_fault}
 use Rattle.svn_repo.proofs.Standing.{stands_at}
 use Rattle.svn_repo.proofs.refusal.find_node.Goals as goal
 
-pub returns-in-Ok-Some-clause-stands : goal.returns-in-Ok-Some-clause-stands
-returns-in-Ok-Some-clause-stands c = λ base.
+pub returns-in-Ok-Some-clause-no_fault : goal.returns-in-Ok-Some-clause-no_fault
+returns-in-Ok-Some-clause-no_fault c = λ base.
     let names = c.args.names.now in
     let t = tree_in base c.args.nodes.now c.args.root in
     option_or_next (above_fault t names) (missing_fault (t names)) (c.in-Ok-Some.ensures.above base)
