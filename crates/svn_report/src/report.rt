@@ -27,7 +27,6 @@ pub struct Report {
 }
 
 impl Model for Report {
-    ghost use Rattle.svn_types.specs.Names.{path_cmp};
     ghost use Rattle.svn_report.specs.Reports.{ReportView};
 
     ghost Value = { ReportView };
@@ -141,17 +140,15 @@ impl<'a> IntoIterator for &'a Report {
 /// A refusal leaves the reporter as it was.
 #[derive(Debug, Drop)]
 pub struct Reporter {
-    root: RelPath,
-    listing: Listing,
+    report: Report,
 }
 
 impl Model for Reporter {
-    ghost use Rattle.svn_types.specs.Names.{path_cmp};
     ghost use Rattle.svn_report.specs.Reports.{ReportView};
 
     ghost Value = { ReportView };
 
-    ghost view = { λ r. record { root = r.root; entries = r.listing } };
+    ghost view = { λ r. r.report };
 }
 
 impl Reporter {
@@ -168,9 +165,9 @@ impl Reporter {
         ensures root { result.root ≡ root }
         ensures entries { result.entries ≡ [] }
     {
+        let listing = Listing::new(alloc);
         Reporter {
-            root,
-            listing: Listing::new(alloc),
+            report: Report { root, listing },
         }
     }
 
@@ -179,10 +176,11 @@ impl Reporter {
         ensures added { OnOk result (self.new ≡ with_entry self.old path.now entry) }
         ensures unchanged { OnErr result (self.new ≡ self.old) }
     {
-        if let Some(fault) = self.listing.fault_of(path, &entry) {
+        let listing = &mut self.report.listing;
+        if let Some(fault) = listing.fault_of(path, &entry) {
             return Err(fault);
         }
-        self.listing.push(path, entry)?;
+        listing.push(path, entry)?;
         Ok(())
     }
 
@@ -237,10 +235,7 @@ impl Reporter {
     pub fn finish_report(self) -> Report
         ensures { result ≡ self }
     {
-        Report {
-            root: self.root,
-            listing: self.listing,
-        }
+        self.report
     }
 
     /// Gives the report up, as dropping the reporter does. Takes no memory.
