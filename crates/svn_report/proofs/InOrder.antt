@@ -19,7 +19,7 @@ use Rattle.svn_types.specs.Paths.{path_eq, is_within, child}
 use Rattle.svn_report.specs.declared.entry.ReportEntry.{ReportEntry}
 use Rattle.svn_report.specs.Reports.{Entries, entry_at}
 use Rattle.svn_report.specs.LawfulReports.{AreLawfulEntries}
-use Rattle.svn_report.specs.ReportOrder.{InPathOrder, IsNextEntry, IsPreviousEntry, IsFirstBehind, ComesLast, has_entry, is_behind_name}
+use Rattle.svn_report.specs.ReportOrder.{InPathOrder, IsNextEntry, IsPreviousEntry, IsFirstAfter, ComesLast, has_entry, is_after_name}
 use Rattle.svn_report.specs.ReportOrder.{is_ahead_of_name}
 use Rattle.svn_types.proofs.NameLemmas.{Name, level_names}
 use Rattle.svn_types.proofs.PathLemmas.{same_path}
@@ -238,7 +238,7 @@ previous_none_at es p i ordered lawful point e = λ q l. none_passing es (λ q. 
 
 -- ---- after a name below a path
 
-pub behind_parts : (p : Path) (n : Name) (q : Path) → is_behind_name p n q ≡ true
+pub behind_parts : (p : Path) (n : Name) (q : Path) → is_after_name p n q ≡ true
     → (path_cmp (child p n) q ≡ Less) × (is_within (child p n) q ≡ false)
 behind_parts p n q h =
     let parts = and_parts (is_lt (path_cmp (child p n) q)) (not (is_within (child p n) q)) h in
@@ -249,11 +249,11 @@ behind_parts p n q h =
     apart false h = refl
 
 behind_from : (p : Path) (n : Name) (q : Path) → path_cmp (child p n) q ≡ Less → is_within (child p n) q ≡ false
-    → is_behind_name p n q ≡ true
+    → is_after_name p n q ≡ true
 behind_from p n q l w = (λ i. is_lt (l i) && not (w i))
 
 -- what comes after such a path comes after the name too
-behind_more : (p : Path) (n : Name) (x y : Path) → path_cmp x y ≡ Less → is_behind_name p n x ≡ true → is_behind_name p n y ≡ true
+behind_more : (p : Path) (n : Name) (x y : Path) → path_cmp x y ≡ Less → is_after_name p n x ≡ true → is_after_name p n y ≡ true
 behind_more p n x y l h =
     behind_from p n y (paths_total.trans (child p n) x y parts.0 l) (apart (is_within (child p n) y) refl)
   where
@@ -266,35 +266,35 @@ behind_more p n x y l h =
 
 pub ahead_parts : (p : Path) (n : Name) (x y : Path) → path_cmp x y ≡ Less → is_ahead_of_name p n y ≡ true
     → is_ahead_of_name p n x ≡ true
-ahead_parts p n x y l h = by (is_behind_name p n x) refl
+ahead_parts p n x y l h = by (is_after_name p n x) refl
   where
-    by : (b : Bool) → is_behind_name p n x ≡ b → not b ≡ true
+    by : (b : Bool) → is_after_name p n x ≡ b → not b ≡ true
     by true k = absurd (true≢false (sym h ∙ ap not (behind_more p n x y l k)))
     by false k = refl
 
 pub behind_at : (es : Entries) (p : Path) (n : Name) (i : ℕ) (found : Option Path) → InPathOrder es → AreLawfulEntries es
     → IsPartitionPoint (λ e. is_ahead_of_name p n e.0 ≡ true) (λ e. is_ahead_of_name p n e.0 ≡ false) es i
-    → found ≡ option_map (λ e. e.0) (slice_get es i) → IsFirstBehind es p n found
-behind_at es p n i found ordered lawful point e = subst (IsFirstBehind es p n) (sym e) (by (slice_get es i) refl)
+    → found ≡ option_map (λ e. e.0) (slice_get es i) → IsFirstAfter es p n found
+behind_at es p n i found ordered lawful point e = subst (IsFirstAfter es p n) (sym e) (by (slice_get es i) refl)
   where
-    by : (o : Option (Path × ReportEntry)) → slice_get es i ≡ o → IsFirstBehind es p n (option_map (λ e. e.0) o)
+    by : (o : Option (Path × ReportEntry)) → slice_get es i ≡ o → IsFirstAfter es p n (option_map (λ e. e.0) o)
     by None h = λ q b. none_failing es (is_ahead_of_name p n) i ordered lawful point h q (ap not b)
     by (Some x) h =
         let at = fails_at es (is_ahead_of_name p n) i ordered lawful point x h in (
-          not-false (is_behind_name p n x.0) at.0,
+          not-false (is_after_name p n x.0) at.0,
           at.1,
           λ q b has l. first_failing es (is_ahead_of_name p n) i ordered lawful point x h q (ap not b) has l,
         )
 
 -- as it is looked for: outside the path by the order of the paths, and within it by the next name
 
-pub outside_behind : (p : Path) (n : Name) (q : Path) → is_within p q ≡ false → is_lt (path_cmp p q) ≡ is_behind_name p n q
+pub outside_behind : (p : Path) (n : Name) (q : Path) → is_within p q ≡ false → is_lt (path_cmp p q) ≡ is_after_name p n q
 outside_behind [] n q w = absurd (true≢false w)
 outside_behind (c ∷ p) n [] w = refl
 outside_behind (c ∷ p) n (a ∷ q) w = by (name_cmp c a) refl (bytes_eq c a) (texts_ties c a) w (outside_behind p n q)
   where
     by : (o : Ordering) → name_cmp c a ≡ o → (b : Bool) → b ≡ is_eq o → (b && is_within p q) ≡ false
-        → (is_within p q ≡ false → is_lt (path_cmp p q) ≡ is_behind_name p n q)
+        → (is_within p q ≡ false → is_lt (path_cmp p q) ≡ is_after_name p n q)
         → is_lt (ordering_then o (path_cmp p q)) ≡ (is_lt (ordering_then o (path_cmp (child p n) q)) && not (b && is_within (child p n) q))
     by Less e true t w ih = absurd (true≢false t)
     by Less e false t w ih = refl
@@ -303,7 +303,7 @@ outside_behind (c ∷ p) n (a ∷ q) w = by (name_cmp c a) refl (bytes_eq c a) (
     by Greater e b t w ih = refl
 
 pub named_behind : (p : Path) (n m : Name) (q : Path) → is_within p q ≡ true → slice_get q (length p) ≡ Some m
-    → is_lt (name_cmp n m) ≡ is_behind_name p n q
+    → is_lt (name_cmp n m) ≡ is_after_name p n q
 named_behind [] n m [] w h = absurd (some-none m (sym h))
 named_behind [] n m (a ∷ q) w h =
     ap (λ (z : Name). is_lt (name_cmp n z)) (sym (same_Some a m h)) ∙ by (name_cmp n a) refl (bytes_eq n a) (texts_ties n a) q
@@ -324,7 +324,7 @@ named_behind (c ∷ p) n m (a ∷ q) w h =
     && not (sym parts.0 i && is_within (child p n) q))
 
 pub itself_behind : (p : Path) (n : Name) (q : Path) → is_within p q ≡ true → slice_get q (length p) ≡ None
-    → false ≡ is_behind_name p n q
+    → false ≡ is_after_name p n q
 itself_behind [] n [] w h = refl
 itself_behind [] n (a ∷ q) w h = absurd (some-none a h)
 itself_behind (c ∷ p) n [] w h = absurd (true≢false (sym w))

@@ -15,7 +15,7 @@ use Rattle.svn_types.specs.declared.fault.PathFault.{PathFault}
 use Rattle.svn_types.specs.Paths.{is_within, child}
 use Rattle.svn_report.specs.Reports.{Entries}
 use Rattle.svn_report.specs.ReportNames.{next_name, has_entry_within, IsNextName}
-use Rattle.svn_report.specs.ReportOrder.{IsNextBy, IsNextEntry, IsFirstBehind, end_cmp, has_entry, is_behind_name}
+use Rattle.svn_report.specs.ReportOrder.{IsNextBy, IsNextEntry, IsFirstAfter, end_cmp, has_entry, is_after_name}
 use Rattle.svn_types.proofs.NameLemmas.{Name, level_names, same_name, reversed, lt_apart}
 use Rattle.svn_types.proofs.PathLemmas.{is_within-same, below_from_child, children_apart}
 use Rattle.svn_types.proofs.PathsInOrder.{paths_total, not_both, below_after, within_between}
@@ -125,12 +125,12 @@ no_later_name es p n next = λ k after. nothing_at es p k
 -- ---- by the order of the paths
 
 -- what is within a later name comes after the name
-named_later : (p : Path) (n k : Name) (q : Path) → name_cmp n k ≡ Less → is_within (child p k) q ≡ true → is_behind_name p n q ≡ true
+named_later : (p : Path) (n k : Name) (q : Path) → name_cmp n k ≡ Less → is_within (child p k) q ≡ true → is_after_name p n q ≡ true
 named_later p n k q after w =
     (λ i. is_lt (names_in_order p n k (child p n) q (is_within-same (child p n)) w after i)
     && not (children_apart p k n q (lt_apart n k (ap is_lt after)) w i))
 
-pub name_behind : (es : Entries) (p x : Path) (n : List ℕ) (o : Option (List ℕ)) → IsFirstBehind es p n (Some x)
+pub name_behind : (es : Entries) (p x : Path) (n : List ℕ) (o : Option (List ℕ)) → IsFirstAfter es p n (Some x)
     → option_to_list o ≡ next_name p x → IsNextName p es (Some n) o
 name_behind es p x n o first named = by o named
   where
@@ -162,6 +162,6 @@ name_behind es p x n o first named = by o named
             absurd (not_both (child p n) x parts.0
             (names_in_order p m n x (child p n) inside (is_within-same (child p n)) (reversed n m Greater e)))
 
-pub no_name_behind : (es : Entries) (p : Path) (n : List ℕ) → IsFirstBehind es p n None → IsNextName p es (Some n) None
+pub no_name_behind : (es : Entries) (p : Path) (n : List ℕ) → IsFirstAfter es p n None → IsNextName p es (Some n) None
 no_name_behind es p n first = λ k after. nothing_at es p k
     (λ q w has. absurd (true≢false (sym has ∙ first q (named_later p n k q after w))))

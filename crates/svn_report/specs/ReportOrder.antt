@@ -72,15 +72,15 @@ abbrev pub IsPreviousEntry : Entries → Path → Option Path → Type 0
 IsPreviousEntry es = IsPreviousOf (has_entry es)
 
 -- a path comes after the name n below p, and after everything below that name
-abbrev pub is_behind_name : Path → List ℕ → Path → Bool
-is_behind_name p n q = is_lt (path_cmp (child p n) q) && not (is_within (child p n) q)
+abbrev pub is_after_name : Path → List ℕ → Path → Bool
+is_after_name p n q = is_lt (path_cmp (child p n) q) && not (is_within (child p n) q)
 
 abbrev pub is_ahead_of_name : Path → List ℕ → Path → Bool
-is_ahead_of_name p n q = not (is_behind_name p n q)
+is_ahead_of_name p n q = not (is_after_name p n q)
 
 -- the first path with an entry after such a name
-abbrev pub IsFirstBehind : Entries → Path → List ℕ → Option Path → Type 0
-IsFirstBehind es p n found =
-    MatchOption found ((q : Path) → is_behind_name p n q ≡ true → has_entry es q ≡ false)
-    (λ x. (is_behind_name p n x ≡ true) × (has_entry es x ≡ true)
-    × ((q : Path) → is_behind_name p n q ≡ true → has_entry es q ≡ true → path_cmp q x ≡ Less → ⊥))
+abbrev pub IsFirstAfter : Entries → Path → List ℕ → Option Path → Type 0
+IsFirstAfter es p n found =
+    MatchOption found ((q : Path) → is_after_name p n q ≡ true → has_entry es q ≡ false)
+    (λ x. (is_after_name p n x ≡ true) × (has_entry es x ≡ true)
+    × ((q : Path) → is_after_name p n q ≡ true → has_entry es q ≡ true → path_cmp q x ≡ Less → ⊥))

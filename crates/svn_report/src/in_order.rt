@@ -4,7 +4,7 @@ ghost use Rattle.std.specs.Option.{option_copied, option_map};
 ghost use Rattle.std.specs.Ordering.{is_le, is_lt};
 ghost use Rattle.svn_types.specs.Names.{path_cmp};
 ghost use Rattle.svn_report.specs.LawfulReports.{AreLawfulEntries};
-ghost use Rattle.svn_report.specs.ReportOrder.{InPathOrder, ComesLast, IsNextEntry, IsPreviousEntry, IsFirstBehind, is_behind_name, is_ahead_of_name};
+ghost use Rattle.svn_report.specs.ReportOrder.{InPathOrder, ComesLast, IsNextEntry, IsPreviousEntry, IsFirstAfter, is_after_name, is_ahead_of_name};
 
 use crate::entry::ReportEntry;
 use indexmap::IndexMap;
@@ -68,8 +68,8 @@ pub(crate) fn previous_in_order<'a>(
 
 // Whether a path comes after a name below another path, and after everything below that name.
 #[tactic(auto, using(crate::proofs::InOrder::outside_behind))]
-fn is_behind_name(other: &RelPath, path: &RelPath, name: &Name) -> bool
-    ensures { result ≡ is_behind_name path.now name.now other.now }
+fn is_after_name(other: &RelPath, path: &RelPath, name: &Name) -> bool
+    ensures { result ≡ is_after_name path.now name.now other.now }
 {
     if other.is_within(path) {
         match other.components().get(path.components().len()) {
@@ -82,19 +82,19 @@ fn is_behind_name(other: &RelPath, path: &RelPath, name: &Name) -> bool
 }
 
 /// The first path after a name below a path, and after everything below that name.
-pub(crate) fn first_behind<'a>(
+pub(crate) fn first_after<'a>(
     entries: &'a IndexMap<RelPath, ReportEntry>,
     path: &RelPath,
     name: &Name,
 ) -> Option<&'a RelPath>
     requires ordered { InPathOrder entries.now.entries }
     requires lawful { AreLawfulEntries entries.now.entries }
-    ensures { IsFirstBehind entries.now.entries path.now name.now (option_copied result) }
+    ensures { IsFirstAfter entries.now.entries path.now name.now (option_copied result) }
 {
     let i = entries.partition_point(
         |other: &RelPath, _entry: &ReportEntry| -> bool
             ensures { result ≡ is_ahead_of_name path.entry.now name.entry.now other.now }
-        { !is_behind_name(other, path, name) },
+        { !is_after_name(other, path, name) },
     );
     path_at(entries, i)
 }

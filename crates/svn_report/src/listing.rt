@@ -10,10 +10,10 @@ ghost use Rattle.svn_types.specs.Paths.{path_eq};
 ghost use Rattle.svn_report.specs.Reports.{entry_at, has_entry_below, is_deleted_above, is_deleted_at, is_link_too_deep, reporter_fault};
 ghost use Rattle.svn_report.specs.LawfulReports.{AreLawfulEntries};
 ghost use Rattle.svn_report.specs.ReportNames.{next_name, IsNextName};
-ghost use Rattle.svn_report.specs.ReportOrder.{ComesLast, InPathOrder, IsFirstBehind, IsIndexed, IsKept, IsNextEntry, IsPreviousEntry};
+ghost use Rattle.svn_report.specs.ReportOrder.{ComesLast, InPathOrder, IsFirstAfter, IsIndexed, IsKept, IsNextEntry, IsPreviousEntry};
 
 use crate::entry::ReportEntry;
-use crate::in_order::{comes_last, first_behind, next_in_order, previous_in_order};
+use crate::in_order::{comes_last, first_after, next_in_order, previous_in_order};
 use crate::path_index::PathIndex;
 use crate::reporter_fault::ReporterFault;
 use indexmap::IndexMap;
@@ -194,11 +194,11 @@ impl Listing {
     }
 
     // The first path after a name below a path, where the entries are in path order.
-    fn first_behind(&self, path: &RelPath, last: &Name) -> Option<&RelPath>
+    fn first_after(&self, path: &RelPath, last: &Name) -> Option<&RelPath>
         requires { InPathOrder self.now }
-        ensures { IsFirstBehind self.now path.now last.now (option_copied result) }
+        ensures { IsFirstAfter self.now path.now last.now (option_copied result) }
     {
-        first_behind(&self.entries, path, last)
+        first_after(&self.entries, path, last)
     }
 
     // The first such name that comes after a name, where the entries are in path order.
@@ -206,7 +206,7 @@ impl Listing {
         requires { InPathOrder self.now }
         ensures { IsNextName path.now self.now (Some last.now) (option_copied result) }
     {
-        match self.first_behind(path, last) {
+        match self.first_after(path, last) {
             Some(next) => name_below(path, next),
             None => None,
         }

@@ -19,7 +19,7 @@ use svn_types::RelPath;
 
 // Whether a path is strictly below another one. Most have no more names than that, which is the quicker test.
 #[tactic(auto, using(crate::proofs::EndOrder::longer_within, crate::proofs::EndOrder::shorter_below))]
-fn is_beneath(path: &RelPath, above: &RelPath) -> bool
+fn is_below(path: &RelPath, above: &RelPath) -> bool
     ensures { result ≡ is_below above.now path.now }
 {
     above.components().len() < path.components().len() && path.is_within(above)
@@ -31,8 +31,8 @@ fn compare_ends<'x>(first: &'x RelPath, second: &'x RelPath) -> Ordering
     ensures { result ≡ end_cmp first.now second.now }
 {
     match first.cmp(second) {
-        Ordering::Less if is_beneath(second, first) => Ordering::Greater,
-        Ordering::Greater if is_beneath(first, second) => Ordering::Less,
+        Ordering::Less if is_below(second, first) => Ordering::Greater,
+        Ordering::Greater if is_below(first, second) => Ordering::Less,
         order => order,
     }
 }

@@ -2,7 +2,7 @@ use Rattle.std.proofs.Common.{rules, of_calls}
 use Rattle.std.proofs.lemmas.Fn.{always_returns_same}
 use Rattle.svn_report.specs.ReportOrder.{is_ahead_of_name}
 use Rattle.svn_report.proofs.InOrder.{parted, ahead_parts, behind_at}
-use Rattle.svn_report.proofs.in_order.first_behind.Goals as goal
+use Rattle.svn_report.proofs.in_order.first_after.Goals as goal
 
 pub returns : goal.returns
 returns c =

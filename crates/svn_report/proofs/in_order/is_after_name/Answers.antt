@@ -4,7 +4,7 @@ use Rattle.std.specs.Option.{option_copied}
 use Rattle.svn_types.specs.Names.{Path}
 use Rattle.svn_report.proofs.NextNames.{named_at}
 use Rattle.svn_report.proofs.InOrder.{named_behind, itself_behind}
-use Rattle.svn_report.proofs.in_order.is_behind_name.Goals as goal
+use Rattle.svn_report.proofs.in_order.is_after_name.Goals as goal
 
 pub returns-in-Some : goal.returns-in-Some
 returns-in-Some c =
