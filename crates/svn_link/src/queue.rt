@@ -103,8 +103,8 @@ pub type Receiver = RuledReceiver<Call, Hand, InOrder>;
 /// A value without bytes by which a thread may make steps, and in which proofs keep what it did.
 pub type Pass = crossbeam_channel::Pass<Call, Hand>;
 
-// How often an end looks again, and lets other threads run in between, before it sleeps between two looks. While the other end works it is there
-// after fewer. Pauses of the processor in their place slow a link down at capacity 64, where both ends pause in turn.
+// How often an end looks again, and lets other threads run in between, before it sleeps between two looks. With pauses of the processor first a
+// link by itself was slower at capacity 64.
 const LOOKS: u32 = 256;
 
 // How long it sleeps at first, in microseconds. Each sleep is longer by that, up to so many times that.
