@@ -58,6 +58,17 @@ pub(crate) struct SummedText {
     pub(crate) sha1: Sha1Sum,
 }
 
+// Room for a text of so many bytes, if it is to be kept: what holds it then has no more.
+fn room_for(alloc: Global, len: u64, keeps: bool) -> Result<Vec<u8>, DumpFault>
+    ensures empty { IfOk result (λ bytes. bytes.items ≡ []) }
+    ensures fault { IfErr result (λ e. e ≡ DumpFault.Memory) }
+{
+    if keeps {
+        return Ok(Vec::with_capacity(alloc, len as usize)?);
+    }
+    Ok(Vec::new(alloc))
+}
+
 // Keeps a piece, if asked.
 fn keep(bytes: &mut Vec<u8>, piece: &[u8], keeps: bool) -> Result<(), DumpFault>
     ensures kept { OnOk result (bytes.new.items ≡ (if keeps then bytes.old.items ++ piece.now else bytes.old.items)) }
@@ -81,7 +92,7 @@ pub(crate) fn read_text<S: Input>(
     ensures counted { Counts (S.taken source.old) (S.remaining source.old) (S.taken source.new) (S.remaining source.new) }
 {
     let mut running = Running::new();
-    let mut bytes = Vec::new(alloc);
+    let mut bytes = room_for(alloc, len, keeps)?;
     let mut piece = [0u8; PIECE];
     let mut left = len;
     'pieces: while left > 0 {
