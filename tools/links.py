@@ -10,7 +10,7 @@
   at most 27,000; none of the wordings of NEVER and UNUSUAL, which have the usual one beside each. In comments of code those of NEVER, with
   --comments all.
 - Crates: each of crates.txt is on docs/DESIGN.md. The tables of docs/DEFINITIONS.md are as `tools/definitions --page` writes them.
-- Examples: each is the same in examples/ and in crates/test_scripts/data, whose program sees no other folder. The blocks of docs/TUTORIAL.md,
+- Examples: each is the same in examples/ and in crates/example_library/data, whose program sees no other folder. The blocks of docs/TUTORIAL.md,
   one after the other, are examples/tutorial.script and its output.
 """
 import argparse
@@ -152,11 +152,11 @@ def comments(page):
 
 
 def look_at_examples():
-    here, there = (os.path.join(TOP, it) for it in ("examples", "crates/test_scripts/data"))
+    here, there = (os.path.join(TOP, it) for it in ("examples", "crates/example_library/data"))
     names = {it for it in os.listdir(here) + os.listdir(there) if it.endswith((".script", ".output"))}
     same, _, _ = filecmp.cmpfiles(here, there, names, shallow=False)
     for it in names - {*same}:
-        yield f"examples/{it}", 1, "isn't the same as in crates/test_scripts/data"
+        yield f"examples/{it}", 1, "isn't the same as in crates/example_library/data"
     page = read("docs/TUTORIAL.md")
     for kind in ("script", "output"):
         blocks = re.findall(rf"(?ms)^```{kind}\n(.*?)^```", page)

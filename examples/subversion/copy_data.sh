@@ -1,5 +1,5 @@
 #!/bin/bash
-# Makes the data of crates/test_audit anew: for each copy NAME its database NAME.db, with pages of 512 bytes, which are the smallest; NAME.dump, the history of
+# Makes crates/test_real_data/data/copies anew: for each copy NAME its database NAME.db, with pages of 512 bytes, which are the smallest; NAME.dump, the history of
 # its repository; and NAME.untrue, what isn't true of it. Of a copy that is true NAME.lines has what `svn update` prints, sorted, and NAME.after.db is its
 # database afterwards.
 #
@@ -8,7 +8,7 @@ set -eo pipefail
 . "$(dirname "${BASH_SOURCE[0]}")/room.sh"
 . "$here/false_copies.sh"
 needs sqlite3
-data=$top/crates/test_audit/data
+data=$top/crates/test_real_data/data/copies
 
 # database COPY FILE
 database() { sqlite3 "$1/.svn/wc.db" "pragma page_size = 512; vacuum into '$2'"; }

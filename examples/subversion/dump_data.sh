@@ -1,5 +1,5 @@
 #!/bin/bash
-# Makes the data of crates/test_dumps anew from three dumps of Subversion that lie there: features.dump, with each kind of record; random.dump, by
+# Makes crates/test_real_data/data/dumps anew from three dumps of Subversion that lie there: features.dump, with each kind of record; random.dump, by
 # svn_fs driven at random; and restored.dump, of a repository that was restored from a backup. From these Subversion makes
 #
 #   deltas.dump   features, by `svnadmin dump --deltas`
@@ -14,7 +14,7 @@
 set -eo pipefail
 . "$(dirname "${BASH_SOURCE[0]}")/room.sh"
 needs python3
-data=$top/crates/test_dumps/data
+data=$top/crates/test_real_data/data/dumps
 
 # trees NAME REPOSITORY LAST WORDS..: what revisions 0 to LAST have
 trees() {

@@ -64,7 +64,7 @@ prints docs/AUDIT.md "## check"
 rm repo
 
 echo "== an update, and trees"
-cp "$top/crates/test_dumps/data/features.dump" .
+cp "$top/crates/test_real_data/data/dumps/features.dump" .
 svnadmin create repo
 svnadmin load -q --bypass-prop-validation repo <features.dump
 url=file://$room/repo

@@ -1,9 +1,9 @@
 #!/bin/bash
-# The lines of `svn update`, and those of the program example_own_editor, whose editor prints them: the same history, and the same update.
+# The lines of `svn update`, and those of the editor in crates/example_library, which prints them: the same history, and the same update.
 . "$(dirname "${BASH_SOURCE[0]}")/beside.sh"
-needs_built example_own_editor
+needs_built example_library
 
-# what crates/example_own_editor/src/history.rt commits
+# what crates/example_library/src/own_editor.rt commits
 first() {
     printf 'read me' >README && printf 'a file' >e && mkdir lib
     for file in a b c; do printf '%s' "$file" >"lib/$file"; done
@@ -20,7 +20,8 @@ svn -q checkout -r 1 "$url" wc
 
 # Subversion took two commits for the second revision, since it replaces a file by a directory in no single one
 (cd wc && svn update && svn update) | sed 's/revision 3\./revision 2./' >lines
-"$OWN_EDITOR" >own
+# (the program has lines of other examples before and after it)
+"$EXAMPLE_LIBRARY" | sed -n "/^Updating/,/^At revision/p" >own
 sed 's/^/    /' lines
-same "example_own_editor" lines own
+same "an editor of one's own" lines own
 end

@@ -61,8 +61,12 @@ pub(crate) fn answer_of<A: Allocator + Copy>(
         Call::Strings(pool) => strings(tree, pool),
         Call::Clear(pool) => done(tree.clear(PoolId(pool))),
         Call::Destroy(pool) => done(tree.destroy(PoolId(pool))),
-        Call::Counts => Answer::Counted(tree.live(), tree.blocks(), tree.spare()),
+        Call::Counts => counts(tree),
     })
+}
+
+pub(crate) fn counts<A: Allocator + Copy>(tree: &PoolTree<A>) -> Answer {
+    Answer::Counted(tree.live(), tree.blocks(), tree.spare())
 }
 
 fn done(answer: Result<(), PoolFault>) -> Answer {
@@ -86,7 +90,7 @@ fn push<A: Allocator + Copy>(tree: &mut PoolTree<A>, pool: u64, string: &[u8]) -
     }
 }
 
-fn get<A: Allocator + Copy>(tree: &PoolTree<A>, pool: u64, place: u32) -> Answer {
+pub(crate) fn get<A: Allocator + Copy>(tree: &PoolTree<A>, pool: u64, place: u32) -> Answer {
     match tree.get(PoolId(pool), place) {
         Some(string) => text(string),
         None => Answer::Nothing,
@@ -105,7 +109,7 @@ fn text(string: &[u8]) -> Answer {
     Answer::Text(*letter, string.len())
 }
 
-fn count<A: Allocator + Copy>(tree: &PoolTree<A>, pool: u64) -> Answer {
+pub(crate) fn count<A: Allocator + Copy>(tree: &PoolTree<A>, pool: u64) -> Answer {
     match tree.count(PoolId(pool)) {
         Some(number) => Answer::Number(number),
         None => Answer::Nothing,
@@ -127,6 +131,11 @@ fn strings<A: Allocator + Copy>(tree: &PoolTree<A>, pool: u64) -> Answer {
     Answer::Read(u32::MAX, bytes)
 }
 
+// A call must return what its row has.
+pub(crate) fn is_wanted<R: Abort>(rt: &R, at: usize, got: Answer, want: Answer) {
+    assert_eq!(rt; got, want, "call {at}");
+}
+
 // Makes the calls of a row and compares their results.
 pub(crate) fn run<R: Abort, A: Allocator + Copy>(
     rt: &R,
@@ -136,7 +145,7 @@ pub(crate) fn run<R: Abort, A: Allocator + Copy>(
 ) -> Result<(), AllocError> {
     for (at, (call, want)) in row.iter().enumerate() {
         let got = answer_of(alloc, tree, *call)?;
-        assert_eq!(rt; got, *want, "call {at}");
+        is_wanted(rt, at, got, *want);
     }
     Ok(())
 }

@@ -2,10 +2,10 @@
 use crate::call::{Answer, Call, run};
 use crate::rows::{BRANCH, HALVES, HALVES_AND_EMPTY, LENGTHS, LONG_AND_SHORT};
 use linked_list_allocator::LocalHeap;
-use std::alloc::Global;
+use std::alloc::{AllocError, Global};
 use std::process::Abort;
 use std::test::Fail;
-use svn_pool::{PoolFault, PoolTree};
+use svn_pool::PoolTree;
 
 const HEAP: usize = 65_536;
 
@@ -19,7 +19,18 @@ fn rows() -> [&'static [(Call, Answer)]; 5] {
     ]
 }
 
-// What a heap has left while a tree on it has done a row.
+// What a heap has left when a tree on it has done a row.
+fn left_by<'a, R: Abort>(
+    rt: &R,
+    alloc: Global,
+    (heap, tree): (&'a LocalHeap, &mut PoolTree<&'a LocalHeap>),
+    row: &[(Call, Answer)],
+) -> Result<usize, AllocError> {
+    run(rt, alloc, tree, row)?;
+    Ok(heap.free())
+}
+
+// The same of a new tree, while that is there.
 fn left<R: Abort>(
     rt: &R,
     alloc: Global,
@@ -27,8 +38,7 @@ fn left<R: Abort>(
     row: &[(Call, Answer)],
 ) -> Result<usize, Fail> {
     let mut tree = PoolTree::new(heap)?;
-    run(rt, alloc, &mut tree, row)?;
-    Ok(heap.free())
+    Ok(left_by(rt, alloc, (heap, &mut tree), row)?)
 }
 
 fn gives_back<R: Abort>(
@@ -53,30 +63,40 @@ fn dropped_trees_give_all_back(rt: HostRuntime) -> Result<(), Fail> {
     Ok(())
 }
 
-// What a heap has left before a string is put into a pool of a tree on it, while it is there, and when its pool is cleared.
-fn left_around<'a>(
+// A pool is made, a large string is put into it, and it is cleared.
+static LARGE: [[(Call, Answer); 1]; 3] = [
+    [(Call::Create(0), Answer::Serial(1))],
+    [(Call::Push(1, 7, 20_000), Answer::Place(0))],
+    [(Call::Clear(1), Answer::Done)],
+];
+
+// What a heap has left after each of these.
+fn left_around<'a, R: Abort>(
+    rt: &R,
+    alloc: Global,
     heap: &'a LocalHeap,
     tree: &mut PoolTree<&'a LocalHeap>,
-    string: &[u8],
-) -> Result<[usize; 3], PoolFault> {
-    let pool = tree.create(tree.root())?;
-    let before = heap.free();
-    tree.push(pool, string)?;
-    let between = heap.free();
-    tree.clear(pool)?;
-    Ok([before, between, heap.free()])
+) -> Result<[usize; 3], AllocError> {
+    let mut left = [0; 3];
+    for (left, row) in left.iter_mut().zip(&LARGE) {
+        *left = left_by(rt, alloc, (heap, tree), row)?;
+    }
+    Ok(left)
 }
 
-fn left_around_in_new(heap: &LocalHeap, string: &[u8]) -> Result<[usize; 3], PoolFault> {
+fn left_around_in_new<R: Abort>(
+    rt: &R,
+    alloc: Global,
+    heap: &LocalHeap,
+) -> Result<[usize; 3], Fail> {
     let mut tree = PoolTree::new(heap)?;
-    left_around(heap, &mut tree, string)
+    Ok(left_around(rt, alloc, heap, &mut tree)?)
 }
 
 #[test]
 fn a_large_string_goes_back_when_its_pool_is_cleared(rt: HostRuntime) -> Result<(), Fail> {
-    let large = Vec::from_elem(rt.alloc(), 7u8, 20_000)?;
     let heap = LocalHeap::new(rt.alloc(), HEAP)?;
-    let [before, between, after] = left_around_in_new(&heap, large.as_slice())?;
+    let [before, between, after] = left_around_in_new(&rt, rt.alloc(), &heap)?;
     assert!(rt; between.saturating_add(20_000) <= before);
     assert_eq!(rt; after, before);
     Ok(())

@@ -1,4 +1,5 @@
 // All trees of four pools below the root, emptied in all orders, beside the plain model.
+use crate::call::{Answer, count, counts, get};
 use crate::model::{POOLS, Plain, clear, destroy, is_live, planted};
 use std::alloc::Global;
 use std::test::Fail;
@@ -37,18 +38,12 @@ fn grown(alloc: Global, parents: [usize; POOLS]) -> Result<PoolTree<Global>, Poo
 
 // Whether the pool of a serial is as the model has it.
 fn pool_agrees(tree: &PoolTree<Global>, serial: u64, plain: Plain) -> bool {
-    let count = if plain.live {
-        Some(u32::from(plain.filled))
-    } else {
-        None
+    let (number, string) = match (plain.live, plain.filled) {
+        (true, true) => (Answer::Number(1), Answer::Text(b'x', 1)),
+        (true, false) => (Answer::Number(0), Answer::Nothing),
+        (false, _) => (Answer::Nothing, Answer::Nothing),
     };
-    if tree.count(PoolId(serial)) != count {
-        return false;
-    }
-    match tree.get(PoolId(serial), 0) {
-        Some(string) => plain.live && plain.filled && string == b"x".as_slice(),
-        None => !plain.live || !plain.filled,
-    }
+    count(tree, serial) == number && get(tree, serial, 0) == string
 }
 
 // Whether all pools are, and the counts: each block was taken for one pool's string.
@@ -62,11 +57,7 @@ fn agrees(tree: &PoolTree<Global>, model: &[Plain; POOLS]) -> bool {
         live = live.wrapping_add(u64::from(plain.live));
         blocks = blocks.wrapping_add(u64::from(plain.live && plain.filled));
     }
-    counts(tree) == (live, blocks, (POOLS as u64).wrapping_sub(blocks))
-}
-
-fn counts(tree: &PoolTree<Global>) -> (u64, u64, u64) {
-    (tree.live(), tree.blocks(), tree.spare())
+    counts(tree) == Answer::Counted(live, blocks, (POOLS as u64).wrapping_sub(blocks))
 }
 
 // Clears a pool in both, and returns whether the result is right.

@@ -1,5 +1,5 @@
 // Heaps that run out: a refused call changes nothing, and gives its result once there is memory.
-use crate::call::{Answer, Call, answer_of, run};
+use crate::call::{Answer, Call, answer_of, counts, is_wanted, run};
 use crate::rows::{BRANCH, EXHAUSTED, HALVES, HALVES_AND_EMPTY, LENGTHS, LONG_AND_SHORT};
 use linked_list_allocator::LocalHeap;
 use std::alloc::{AllocError, Global};
@@ -39,10 +39,6 @@ impl<'a> Scarce<'a> {
         Ok(Scarce { tree, held: None })
     }
 
-    fn counts(&self) -> (u64, u64, u64) {
-        (self.tree.live(), self.tree.blocks(), self.tree.spare())
-    }
-
     // Makes a call, and if it runs out of memory gives the held part back and makes it again.
     fn answer<R: Abort>(
         &mut self,
@@ -50,12 +46,12 @@ impl<'a> Scarce<'a> {
         alloc: Global,
         call: Call,
     ) -> Result<Answer, AllocError> {
-        let before = self.counts();
+        let before = counts(&self.tree);
         let first = answer_of(alloc, &mut self.tree, call)?;
         if first != Answer::Fault(PoolFault::Memory) {
             return Ok(first);
         }
-        assert_eq!(rt; self.counts(), before);
+        assert_eq!(rt; counts(&self.tree), before);
         self.held = None;
         answer_of(alloc, &mut self.tree, call)
     }
@@ -70,7 +66,7 @@ fn are_answered<R: Abort>(
 ) -> Result<(), AllocError> {
     for (at, (call, want)) in row.iter().enumerate() {
         let got = scarce.answer(rt, alloc, *call)?;
-        assert_eq!(rt; got, *want, "call {at}");
+        is_wanted(rt, at, got, *want);
     }
     Ok(())
 }
@@ -142,19 +138,29 @@ fn forest_goes_on_after_refusals(rt: HostRuntime) -> Result<(), Fail> {
     sweep(&rt, rt.alloc(), &row)
 }
 
-// Takes what is left of a heap, down to the last unit.
-fn take_rest<'a>(
-    alloc: Global,
+// Memory that is taken from a heap.
+type Pieces<'a> = Vec<Vec<u8, &'a LocalHeap>>;
+
+// Takes pieces of that size until there is no other.
+fn take_pieces<'a>(
     heap: &'a LocalHeap,
-) -> Result<Vec<Vec<u8, &'a LocalHeap>>, AllocError> {
+    size: usize,
+    pieces: &mut Pieces<'a>,
+) -> Result<(), AllocError> {
+    for _ in 0..HEAP {
+        let Ok(piece) = Vec::from_elem(heap, 0u8, size) else {
+            return Ok(());
+        };
+        pieces.push(piece)?;
+    }
+    Ok(())
+}
+
+// Takes what is left of a heap, down to the last unit.
+fn take_rest<'a>(alloc: Global, heap: &'a LocalHeap) -> Result<Pieces<'a>, AllocError> {
     let mut pieces = Vec::new(alloc);
     for size in [4096usize, 256, UNIT] {
-        for _ in 0..HEAP {
-            let Ok(piece) = Vec::from_elem(heap, 0u8, size) else {
-                break;
-            };
-            pieces.push(piece)?;
-        }
+        take_pieces(heap, size, &mut pieces)?;
     }
     Ok(pieces)
 }

@@ -4,6 +4,9 @@
 //! these: each result is then the row's, or says out of memory and leaves what is promised, and the row, begun anew, holds.
 //! `sweep/run.py` runs each row with each of its allocations refused. The status is 0 if all hold, 1 if one doesn't, and 3 if memory
 //! ran out once more.
+//!
+//! `test_sweep time PART COUNT` times a part of the library that no script shows alone, on standard error: `edits` (the order check and reports), `pools`,
+//! `link` or `all`, with so many calls, entries or pools, by default 100,000. Without words all parts are timed too, with few.
 #![tactic(auto)]
 
 mod calls;
@@ -19,6 +22,7 @@ mod rows;
 mod runs;
 mod scripts;
 mod streams;
+mod times;
 mod trouble;
 
 use crate::rows::{Row, rows};
@@ -29,6 +33,7 @@ use std::env::Env;
 use std::process::ExitCode;
 use std::sync::Wait;
 use std::thread::Threads;
+use std::time::Clock;
 use std::{env, io};
 use svn_run::Outcome;
 use svn_script::Settings;
@@ -200,14 +205,44 @@ fn all<R: Threads + Wait + Sync + Print>(rt: &R, alloc: Global, lists: bool) -> 
     Ok(status.max(all_parts(rt, alloc, lists)?))
 }
 
+// How many calls, entries or pools are timed after all rows.
+const FEW: &str = "2000";
+
+// Times a part, or says why it can't.
+fn time<R: Threads + Wait + Sync + Clock + Eprint>(
+    rt: &R,
+    alloc: Global,
+    part: &str,
+    count: Option<&str>,
+) -> io::Result<u8> {
+    match times::run(rt, alloc, part, count) {
+        Ok(()) => Ok(0),
+        Err(trouble) => {
+            let end = End(Err(trouble));
+            eprintln!(rt; "test_sweep: {end}")?;
+            Ok(end.status())
+        }
+    }
+}
+
+// All rows, and then all parts that are timed.
+fn rows_and_times<R: Threads + Wait + Sync + Clock + Print + Eprint>(
+    rt: &R,
+    alloc: Global,
+) -> io::Result<u8> {
+    let status = all(rt, alloc, false)?;
+    Ok(status.max(time(rt, alloc, "all", Some(FEW))?))
+}
+
 // The words after the program's name.
-type Words = (Option<String>, Option<String>);
+type Words = (Option<String>, Option<String>, Option<String>);
 
 fn words<R: Env + AllocGlobal>(rt: &R) -> io::Result<Words> {
     let mut words = env::args(rt)?;
     let _program = words.next();
     let first = words.next();
-    Ok((first, words.next()))
+    let second = words.next();
+    Ok((first, second, words.next()))
 }
 
 fn words_anew<R: Env + AllocGlobal>(rt: &R) -> io::Result<Words> {
@@ -217,21 +252,25 @@ fn words_anew<R: Env + AllocGlobal>(rt: &R) -> io::Result<Words> {
     }
 }
 
-fn run_by<R: Threads + Wait + Sync + Print>(
+fn run_by<R: Threads + Wait + Sync + Clock + Print + Eprint>(
     rt: &R,
     alloc: Global,
-    words: (Option<&str>, Option<&str>),
+    words: (Option<&str>, Option<&str>, Option<&str>),
 ) -> io::Result<u8> {
     match words {
-        (Some(name), Some(way)) => tell(rt, alloc, name, way),
-        (Some("list"), None) => all(rt, alloc, true),
-        _ => all(rt, alloc, false),
+        (Some("time"), Some(part), count) => time(rt, alloc, part, count),
+        (Some(name), Some(way), _) => tell(rt, alloc, name, way),
+        (Some("list"), None, _) => all(rt, alloc, true),
+        _ => rows_and_times(rt, alloc),
     }
 }
 
-fn run<R: Threads + Wait + Sync + Print + Env + AllocGlobal>(rt: &R) -> io::Result<u8> {
-    let (first, second) = words_anew(rt)?;
-    run_by(rt, rt.alloc(), (first.as_deref(), second.as_deref()))
+fn run<R: Threads + Wait + Sync + Clock + Print + Eprint + Env + AllocGlobal>(
+    rt: &R,
+) -> io::Result<u8> {
+    let (first, second, third) = words_anew(rt)?;
+    let words = (first.as_deref(), second.as_deref(), third.as_deref());
+    run_by(rt, rt.alloc(), words)
 }
 
 fn main(rt: HostRuntime) -> ExitCode {

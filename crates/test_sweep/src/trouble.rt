@@ -1,8 +1,8 @@
 //! Why a row doesn't hold.
 use std::alloc::{AllocError, AllocFailed};
-use std::fmt;
+use std::{fmt, io};
 use svn_drive::DriveFault;
-use svn_editor::EditFault;
+use svn_editor::{EditFault, OrderFault};
 use svn_link::LinkFault;
 use svn_model::{ReportFault, WcFault};
 use svn_pool::PoolFault;
@@ -147,6 +147,21 @@ impl From<ReportFault> for Trouble {
 impl From<EditFault> for Trouble {
     fn from(fault: EditFault) -> Trouble {
         of_refusal(fault == EditFault::Memory, "an editor refuses a call")
+    }
+}
+
+impl From<OrderFault> for Trouble {
+    fn from(fault: OrderFault) -> Trouble {
+        of_refusal(
+            fault == OrderFault::Memory,
+            "the order check refuses a call",
+        )
+    }
+}
+
+impl From<io::Error> for Trouble {
+    fn from(_error: io::Error) -> Trouble {
+        Trouble::Other("the system refuses a call")
     }
 }
 

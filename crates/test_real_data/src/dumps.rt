@@ -1,0 +1,132 @@
+//! Dumps of Subversion, loaded and compared with what Subversion itself has in each of their revisions; dumps that are refused; broken ones; and a
+//! history that is written as a dump and loaded again.
+//!
+//! `data/dumps` has each dump with its trees, of all revisions one after another, in the lines that a checkout of each is printed in: NAME.sha1 with texts as
+//! their SHA-1 checksums, and NAME.whole; and NAME.lines, with for each node a number that no other node has. `examples/subversion/dump_data.sh` has
+//! Subversion make them. A dump that can't be loaded so has the refusal.
+mod bases;
+mod broken;
+mod history;
+mod lengths;
+mod lines;
+mod many;
+mod readers;
+mod refusals;
+mod written;
+
+use crate::names::names_of;
+use crate::say::say;
+use anyhow::Result;
+use std::alloc::Global;
+use std::fs;
+use std::rt::Files;
+use svn_dump::Texts;
+
+// Whether what was found in a dump is what Subversion printed.
+fn compare<R: Files + AllocGlobal + Print>(
+    rt: &R,
+    name: &str,
+    ending: &str,
+    found: &str,
+) -> Result<()> {
+    let wanted = fs::read(rt, format!(in rt.alloc(); "dumps/{name}.{ending}")?)?;
+    if found.as_bytes() == wanted.as_slice() {
+        println!(rt; "{name} is as Subversion has it, {ending}")?;
+    } else {
+        println!(rt; "{name} DIFFERS, {ending}")?;
+    }
+    Ok(())
+}
+
+fn compare_dump<R: Files + AllocGlobal + Print>(rt: &R, name: &str) -> Result<()> {
+    let alloc = rt.alloc();
+    let dump = fs::read(rt, format!(in alloc; "dumps/{name}.dump")?)?;
+    compare(
+        rt,
+        name,
+        "sha1",
+        &history::outcome(alloc, &dump, Texts::Sha1)?,
+    )?;
+    compare(
+        rt,
+        name,
+        "whole",
+        &history::outcome(alloc, &dump, Texts::Whole)?,
+    )?;
+    compare(rt, name, "lines", &lines::lines(alloc, &dump)?)
+}
+
+fn compare_all<R: Files + AllocGlobal + Print + Clone + Drop>(rt: &R) -> Result<()> {
+    for name in &names_of(rt, "dumps", ".dump")? {
+        compare_dump(rt, name)?;
+    }
+    Ok(())
+}
+
+// What is counted of dumps: the cases that differ.
+#[derive(Clone, Copy)]
+enum Count {
+    Cut,
+    Changed,
+    Bases,
+    Failing,
+    Pieces,
+    Lengths,
+    Many,
+    Written,
+}
+
+const COUNTS: [(Count, &str); 8] = [
+    (Count::Cut, "a dump that is cut has the revisions before"),
+    (
+        Count::Changed,
+        "a dump with a changed byte has the revisions before",
+    ),
+    (Count::Bases, "the text before a delta is compared"),
+    (
+        Count::Failing,
+        "where reading fails the revisions before are there",
+    ),
+    (Count::Pieces, "a dump may come in pieces of any size"),
+    (Count::Lengths, "long headers and sections end as expected"),
+    (
+        Count::Many,
+        "ten million properties are refused or passed over",
+    ),
+    (Count::Written, "what was written loads as the same"),
+];
+
+fn count(alloc: Global, what: Count, dump: &[u8], deltas: &[u8]) -> Result<usize> {
+    match what {
+        Count::Cut => broken::cut_wrongly(alloc, dump),
+        Count::Changed => broken::changed_wrongly(alloc, dump),
+        Count::Bases => bases::passed_wrongly(alloc, deltas),
+        Count::Failing => readers::failed_wrongly(alloc, dump),
+        Count::Pieces => readers::pieces_wrongly(alloc, dump),
+        Count::Lengths => lengths::taken_wrongly(alloc),
+        Count::Many => many::taken_wrongly(alloc),
+        Count::Written => written::loaded_wrongly(alloc),
+    }
+}
+
+fn say_counts<R: AllocGlobal + Print>(rt: &R, dump: &[u8], deltas: &[u8]) -> Result<()> {
+    for (what, words) in COUNTS {
+        say(rt, words, count(rt.alloc(), what, dump, deltas)?)?;
+    }
+    Ok(())
+}
+
+fn say_refusals<R: AllocGlobal + Print>(rt: &R) -> Result<()> {
+    let others = refusals::other_refusals(rt.alloc())?;
+    print!(rt; "{others}")?;
+    say(rt, "each refusal is as expected", others.len())
+}
+
+/// Compares all of it.
+pub(crate) fn run<R: Files + AllocGlobal + Print + Clone + Drop>(rt: &R) -> Result<()> {
+    compare_all(rt)?;
+    say_refusals(rt)?;
+    let dump = fs::read(rt, "dumps/restored.dump")?;
+    let deltas = fs::read(rt, "dumps/deltas.dump")?;
+    say_counts(rt, &dump, &deltas)
+}
