@@ -46,10 +46,7 @@
 //! prints `closed 7`. This crate only re-exports names: the promises are those of the crates that define them, which `docs/PROVED.md` lists.
 #![tactic(auto)]
 
-pub use svn_drive::{
-    DriveOptions, Request, check_report, drive, drive_request, drive_switch, drive_tested,
-    fault_between,
-};
+pub use svn_drive::{DriveOptions, Request, check_report, drive, drive_request, drive_switch};
 pub use svn_editor::{
     Call, ChecksumWord, EditFault, Editor, Mode, OrderFault, PathWord, Recorder, Token, Word,
 };
@@ -66,7 +63,7 @@ pub use svn_run::{
     switch_to, switch_to_in_turn, update, update_in_turn,
 };
 pub use svn_types::{
-    Digest, Kind, MAX_CAPACITY, MAX_COMPONENTS, MAX_DEPTH, MAX_NAME_LEN, MAX_SIZE, Name, PathFault,
-    PropChange, PropName, Props, RelPath, Rev, Text,
+    Digest, Kind, MAX_CAPACITY, MAX_COMPONENTS, MAX_DEPTH, MAX_NAME_LEN, MAX_SIZE, Name,
+    PathBytesFault, PathFault, PropChange, PropName, Props, RelPath, Rev, Sha1Sum, Text,
 };
-pub use svn_wc::{Applier, Known, LooseCopy, WorkingCopy};
+pub use svn_wc::{Applier, WorkingCopy};
