@@ -1,7 +1,5 @@
 -- properties
 pub mod PropertyLemmas
--- paths
-pub mod PathTexts
 -- columns
 pub mod ColumnLemmas
 -- tests of pages and records
