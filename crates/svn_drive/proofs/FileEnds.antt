@@ -16,7 +16,7 @@ use Rattle.svn_model.specs.Sources.{governing_revision}
 use Rattle.svn_model.specs.Follow.{Request, follow}
 use Rattle.svn_model.specs.Steps.{has_text, is_text, is_gone, is_touched, gone_actions}
 use Rattle.svn_model.specs.Tree.{old_props, entry_actions, file_end, is_late, first_of, last_of, late_of, first_at, last_at, late_at}
-use Rattle.svn_drive.specs.Walking.{IsEntered, IsTold, request_of, old_text, text_action, close_action, has_text_of, text_end}
+use Rattle.svn_drive.specs.Walking.{IsEntered, IsTold, request_of, old_text, text_action, close_action, has_text_of, text_end, late_texts_of}
 use Rattle.std.specs.Prelude.{Result, Ok, Err}
 use Rattle.svn_editor.specs.declared.call.Call.{Call}
 use Rattle.svn_editor.specs.declared.fault.EditFault.{EditFault}
@@ -109,14 +109,14 @@ module _ (w : Walk) (p : Path) (n : ℕ) (file : Texted) (e : IsEntered (request
       by true = refl
       by false = refl
 
-  pub late_as : is_late d w.late p ≡ (w.late && has_text_of w.repo.now file)
-  late_as = ap (λ b. w.late && b) has_text_as
+  pub late_as : is_late d (late_texts_of w) p ≡ (late_texts_of w && has_text_of w.repo.now file)
+  late_as = ap (λ b. late_texts_of w && b) has_text_as
 
   module _ {E : Type 0} (answers : E → Call → Result (Unit {0}) EditFault → E → Type 0) (limit : Option ℕ) (parent tok : ℕ)
       (tk : file.token ≡ tok) where
     -- the calls that end the file, and those of its text and of its close
     abbrev pub ending : List Call
-    ending = calls_at p parent tok (cond (is_late d w.late p) [] (file_end d p n))
+    ending = calls_at p parent tok (cond (is_late d (late_texts_of w) p) [] (file_end d p n))
 
     abbrev pub texting : List Call
     texting = call_at [] 0 file.token (text_action w.repo.now file) ∷ []
@@ -130,7 +130,7 @@ module _ (w : Walk) (p : Path) (n : ℕ) (file : Texted) (e : IsEntered (request
         calls_at p parent t (cond (l && b) []
         (cond b (text_action w.repo.now file ∷ close_action w.repo.now file ∷ []) (close_action w.repo.now file ∷ [])))
 
-    ending_as : (l b : Bool) → w.late ≡ l → has_text_of w.repo.now file ≡ b → ending ≡ ending_by l b file.token
+    ending_as : (l b : Bool) → late_texts_of w ≡ l → has_text_of w.repo.now file ≡ b → ending ≡ ending_by l b file.token
     ending_as l b q r =
         (λ i. calls_at p parent (tk_back i) (cond (late_as i) [] (ends_as i)))
         ∙ (λ i. ending_by (q i) (r i) file.token)
@@ -146,21 +146,21 @@ module _ (w : Walk) (p : Path) (n : ℕ) (file : Texted) (e : IsEntered (request
         → Run answers limit closing r e f a b → Run answers limit ending r e f a b
     end_closed r e f a b q h =
         run_as answers limit closing ending r e f a b
-        (ending_as w.late false refl q
-        ∙ ap (λ x. calls_at p parent file.token (cond x [] (close_action w.repo.now file ∷ []))) (none_and w.late))
+        (ending_as (late_texts_of w) false refl q
+        ∙ ap (λ x. calls_at p parent file.token (cond x [] (close_action w.repo.now file ∷ []))) (none_and (late_texts_of w)))
         h
 
-    pub end_waits : (r : Result (Unit {0}) Stop) (e f : E) (a b : ℕ) → w.late ≡ true → has_text_of w.repo.now file ≡ true
+    pub end_waits : (r : Result (Unit {0}) Stop) (e f : E) (a b : ℕ) → late_texts_of w ≡ true → has_text_of w.repo.now file ≡ true
         → Run answers limit [] r e f a b → Run answers limit ending r e f a b
     end_waits r e f a b l q h = run_as answers limit [] ending r e f a b (ending_as true true l q) h
 
-    pub end_stopped : (s : Stop) (e f : E) (a b : ℕ) → w.late ≡ false → has_text_of w.repo.now file ≡ true
+    pub end_stopped : (s : Stop) (e f : E) (a b : ℕ) → late_texts_of w ≡ false → has_text_of w.repo.now file ≡ true
         → Run answers limit texting (Err s) e f a b → Run answers limit ending (Err s) e f a b
     end_stopped s e f a b l q h =
         run_as answers limit (texting ++ closing) ending (Err s) e f a b (ending_as false true l q)
         (run_stops answers limit texting closing s e f a b h)
 
-    pub end_both : (r : Result (Unit {0}) Stop) (e m f : E) (a b c : ℕ) → w.late ≡ false → has_text_of w.repo.now file ≡ true
+    pub end_both : (r : Result (Unit {0}) Stop) (e m f : E) (a b c : ℕ) → late_texts_of w ≡ false → has_text_of w.repo.now file ≡ true
         → Run answers limit texting (Ok tt) e m a b → Run answers limit closing r m f b c → Run answers limit ending r e f a c
     end_both r e m f a b c l q h k =
         run_as answers limit (texting ++ closing) ending r e f a c (ending_as false true l q)

@@ -59,7 +59,7 @@ module _ {E : Type 0} (answers : E → Call → Result (Unit {0}) EditFault → 
   pub run_nothing : (e : E) (made : ℕ) → Run [] (Ok tt) e e made made
   run_nothing e made = (refl, (omega arith, λ h. h))
 
-  halts_for_memory : (calls : List Call) (e : E) (made : ℕ) → HaltsHere answers limit calls e e made Memory
+  pub halts_for_memory : (calls : List Call) (e : E) (made : ℕ) → HaltsHere answers limit calls e e made Memory
   halts_for_memory [] e made = (refl, refl)
   halts_for_memory (c ∷ calls) e made = inl (refl, tt)
 

@@ -18,7 +18,7 @@ use Rattle.svn_model.specs.TreeCalls.{calls_at, tree_size, in_turn, calls_below,
 use Rattle.svn_model.specs.TreeCalls.{drive_calls}
 use Rattle.svn_drive.specs.Waiting.{waiting, visit_late, entered_late}
 use Rattle.svn_drive.specs.declared.walk.Walk.{Walk}
-use Rattle.svn_drive.specs.Walking.{IsEntered, IsTold, request_of, text_action, close_action, has_text_of}
+use Rattle.svn_drive.specs.Walking.{IsEntered, IsTold, request_of, text_action, close_action, has_text_of, late_texts_of}
 use Rattle.svn_drive.proofs.FileEnds.{ends_as, late_as}
 use Rattle.svn_drive.proofs.Visits.{own_height, below-open}
 
@@ -31,9 +31,9 @@ waiting-append h (x ∷ xs) ys = ap (λ l. waiting h (x ∷ []) ++ l) (waiting-a
 module _ (w : Walk) (p : Path) (n : ℕ) (file : Texted) (e : IsEntered (request_of w) p n File) (told : IsTold w p n file) (parent tok : ℕ)
     (tk : file.token ≡ tok) where
   abbrev pub file_late : List Call
-  file_late = calls_at p parent tok (cond (is_late (request_of w) w.late p) (file_end (request_of w) p n) [])
+  file_late = calls_at p parent tok (cond (is_late (request_of w) (late_texts_of w) p) (file_end (request_of w) p n) [])
 
-  by_answers : (l b : Bool) → w.late ≡ l → has_text_of w.repo.now file ≡ b
+  by_answers : (l b : Bool) → late_texts_of w ≡ l → has_text_of w.repo.now file ≡ b
       → file_late
       ≡ calls_at p parent file.token (cond (l && b)
       (cond b (text_action w.repo.now file ∷ close_action w.repo.now file ∷ []) (close_action w.repo.now file ∷ [])) [])
@@ -48,10 +48,10 @@ module _ (w : Walk) (p : Path) (n : ℕ) (file : Texted) (e : IsEntered (request
 
   pub file_closed : has_text_of w.repo.now file ≡ false → file_late ≡ []
   file_closed q =
-      by_answers w.late false refl q
-      ∙ ap (λ b. calls_at p parent file.token (cond b (close_action w.repo.now file ∷ []) [])) (none_and w.late)
+      by_answers (late_texts_of w) false refl q
+      ∙ ap (λ b. calls_at p parent file.token (cond b (close_action w.repo.now file ∷ []) [])) (none_and (late_texts_of w))
 
-  pub file_waits : w.late ≡ true → has_text_of w.repo.now file ≡ true → (xs : List Texted)
+  pub file_waits : late_texts_of w ≡ true → has_text_of w.repo.now file ≡ true → (xs : List Texted)
       → waiting w.repo.now (xs ++ file ∷ []) ≡ waiting w.repo.now xs ++ file_late
   file_waits l q xs = waiting-append w.repo.now xs (file ∷ []) ∙ ap (λ x. waiting w.repo.now xs ++ x) (sym (by_answers true true l q))
 

@@ -1,22 +1,33 @@
 -- What the calls of a whole drive lead to: its first call, the visit of the root, the texts that waited, and the last call.
-use Rattle.std.proofs.Common.{◌≡◌, ◌≢◌, ℕ, ◌+◌, Bool, false, List, [], ◌∷◌, ◌++◌, length, length-append, ap, sym, subst, ◌∙◌, arith}
-use Rattle.std.specs.Prelude.{Option, Result, Ok, Err, IfErr}
+use Rattle.std.proofs.Common.{◌≡◌, ◌≢◌, ℕ, ◌+◌, Bool, false, List, [], ◌∷◌, ◌++◌, length, length-append, ap, refl, sym, subst, ◌∙◌, inr, arith, ◌<◌}
+use Rattle.std.specs.Prelude.{Option, None, Result, Ok, Err, IfErr}
 use Rattle.svn_types.specs.Names.{Path}
 use Rattle.svn_repo.specs.History.{History}
 use Rattle.svn_editor.specs.declared.call.Call.{Call}
-use Rattle.svn_editor.specs.declared.call.Call.TheVariants.{SetTargetRevision, CloseEdit}
+use Rattle.svn_editor.specs.declared.call.Call.TheVariants.{SetTargetRevision, CloseEdit, AbortEdit}
 use Rattle.svn_editor.specs.declared.fault.EditFault.{EditFault}
 use Rattle.svn_model.specs.declared.stop.Stop.{Stop}
-use Rattle.svn_model.specs.declared.stop.Stop.TheVariants.{Full}
+use Rattle.svn_model.specs.declared.stop.Stop.TheVariants.{Full, Memory}
 use Rattle.svn_drive.specs.declared.visit.Texted.{Texted}
 use Rattle.svn_model.specs.Follow.{Request}
 use Rattle.svn_model.specs.TreeCalls.{visit_calls, drive_calls}
-use Rattle.svn_model.specs.Ends.{LeavesSome}
+use Rattle.svn_model.specs.Checks.{target_fault}
+use Rattle.svn_model.specs.Ends.{Drives, LeavesSome, end_of}
 use Rattle.svn_drive.specs.Counts.{with_last}
 use Rattle.svn_drive.specs.Waiting.{waiting, visit_late}
-use Rattle.svn_drive.proofs.RunLemmas.{run_then, run_stops, run_nothing, run_made, run_before, leaves_as, leaves_one}
+use Rattle.svn_drive.proofs.RunLemmas.{halts_for_memory, run_then, run_stops, run_nothing, run_made, run_before, leaves_as, leaves_one}
 use Rattle.svn_drive.proofs.VisitRuns.{Run, run_as}
 use Rattle.svn_drive.proofs.Waits.{drive_calls-open, late_none}
+
+-- a drive that is given up for memory before its first call
+pub never_begun : {E : Type 0} (answers : E → Call → Result (Unit {0}) EditFault → E → Type 0) (limit : Option ℕ) (d : Request) (late : Bool)
+    (e f : E) → target_fault d ≡ None → ((answer : Result (Unit {0}) EditFault) × answers e AbortEdit answer f)
+    → Drives answers limit (target_fault d) (drive_calls d late) (end_of Memory 0) e f
+never_begun answers limit d late e f none aborted =
+    let calls = drive_calls d late in
+    let long = ap (λ (l : List Call). length l) (drive_calls-open d late) in
+    let some : 0 < length calls = omega arith in
+    inr (inr (Memory, 0, e, none, halts_for_memory answers limit calls e 0, refl, aborted, some, λ n is. omega arith))
 
 -- what was postponed at the root
 pub lates_as : (d : Request) (late : Bool) (h : History) (before after : List Texted) (q : Path) (parent next : ℕ) → before ≡ [] → q ≡ []

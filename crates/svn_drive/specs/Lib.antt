@@ -1,4 +1,5 @@
 pub mod Counts
+pub mod Requests
 pub mod Walking
 pub mod Targets
 pub mod Waiting

@@ -1,5 +1,5 @@
 -- What a walk knows at a path.
---     request_of w      what the walk was asked for
+--     request_of w, late_texts_of w, limit_of w      what the walk was asked for
 --     IsAt d place      the place has what there is to know of its path
 --     IsKnown d place known      a node was looked up for a revision at the client's path of the place, or none was
 --     IsQuiet d p name      what is at the name below the path is what the path's nodes have, and nothing is reported there
@@ -11,7 +11,6 @@ use Rattle.md5.specs.Md5.{md5}
 use Rattle.svn_types.specs.Names.{Path, depth_limit}
 use Rattle.svn_editor.specs.declared.mode.Mode.{Mode}
 use Rattle.svn_editor.specs.declared.mode.Mode.TheVariants.{Update, SwitchTo}
-use Rattle.svn_editor.specs.Steps.{mode_at}
 use Rattle.svn_repo.specs.History.{History, node_at, child_in, look}
 use Rattle.svn_repo.specs.Readings.{is_directory_at}
 use Rattle.svn_types.specs.Paths.{child, is_below, is_root}
@@ -22,6 +21,7 @@ use Rattle.svn_report.specs.ReportNames.{has_entry_within}
 use Rattle.svn_report.specs.Reports.{ReportView, has_entry_below}
 use Rattle.svn_drive.specs.Checking.{seen_as}
 use Rattle.svn_drive.specs.Parts.{IsPart, entries_in}
+use Rattle.svn_drive.specs.Requests.{input_of}
 use Rattle.svn_drive.specs.declared.place.Known.{Known}
 use Rattle.svn_drive.specs.declared.place.Place.{Place}
 use Rattle.svn_drive.specs.declared.walk.Walk.{Walk}
@@ -37,11 +37,15 @@ use Rattle.svn_model.specs.Sources.{starts_empty}
 use Rattle.svn_model.specs.Follow.{Request, Followed, follow, target_path, source_node, target_node}
 use Rattle.svn_model.specs.Steps.{is_touched, is_gone, source_text}
 
-abbrev pub asked : History → ReportView → ℕ → Mode → Request
-asked h r target mode = record { history = h; report = r; target = target; mode = mode; checksum = md5 }
-
 abbrev pub request_of : Walk → Request
-request_of w = asked w.repo.now w.report.now w.target (mode_at (option_copied w.switch_to))
+request_of w = input_of w.repo.now w.report.now w.request.now
+
+-- whether its texts wait for the directories, and how many calls it may make
+abbrev pub late_texts_of : Walk → Bool
+late_texts_of w = w.request.now.options.late_texts
+
+abbrev pub limit_of : Walk → Option ℕ
+limit_of w = w.request.now.options.cancel_after
 
 abbrev pub followed_of : Request → Place → Followed
 followed_of d place = record {

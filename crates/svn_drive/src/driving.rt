@@ -1,5 +1,5 @@
 //! Drives: the calls that bring a client from what it reports to a revision.
-ghost use Rattle.std.specs.Prelude.{◌≡◌, ◌+◌, ◌++◌, [], length, Result, Err, None, IfSome, IfErr, OnOk};
+ghost use Rattle.std.specs.Prelude.{◌≡◌, ◌+◌, ◌++◌, [], length, false, Result, Err, None, IfSome, IfErr, OnOk};
 ghost use Rattle.svn_editor.specs.declared.call.Call.TheVariants.{AbortEdit};
 ghost use Rattle.svn_editor.specs.declared.fault.EditFault.{EditFault};
 ghost use Rattle.svn_model.specs.Checks.{target_fault};
@@ -8,12 +8,12 @@ ghost use Rattle.svn_model.specs.TreeCalls.{drive_calls, visit_calls, visit_size
 ghost use Rattle.svn_drive.specs.Checking.{AreOfDrive};
 ghost use Rattle.svn_drive.specs.Counts.{with_last};
 ghost use Rattle.svn_drive.specs.Waiting.{waiting, visit_late};
-ghost use Rattle.svn_drive.specs.Walking.{request_of, asked};
+ghost use Rattle.svn_drive.specs.Requests.{requested, input_of, drive_for};
+ghost use Rattle.svn_drive.specs.Walking.{request_of, late_texts_of, limit_of};
 ghost use Rattle.svn_drive.specs.Targets.{fault_between};
-ghost use Rattle.std.specs.Option.{option_copied};
 ghost use Rattle.svn_editor.specs.declared.mode.Mode.TheVariants.{Update, SwitchTo};
-ghost use Rattle.svn_editor.specs.Steps.{mode_at};
 
+use crate::check::Check;
 use crate::making::{Progress, make, make_last};
 use crate::nodes::are_related;
 use crate::report_part::ReportPart;
@@ -22,7 +22,7 @@ use crate::visit::Texted;
 use crate::walk::Walk;
 use law_drive::the_calls_are_a_drive;
 use std::alloc::Global;
-use svn_editor::{Call, Editor};
+use svn_editor::{Call, Editor, Mode};
 use svn_model::{DriveEnd, DriveFault, Stop};
 use svn_repo::{NodeId, Repo};
 use svn_report::Report;
@@ -56,7 +56,7 @@ impl<'a> Walk<'a> {
     {
         fault_between(
             self.repo,
-            self.target,
+            self.request.target,
             self.root_source(),
             self.root_target(),
         )
@@ -69,9 +69,9 @@ impl<'a> Walk<'a> {
         progress: &mut Progress,
         later: &mut Vec<Texted>,
     ) -> Result<(), Stop>
-        ensures runs { Runs E.answers self.now.limit (visit_calls (request_of self.now) self.now.late [] 0 progress.old.next) result editor.old editor.new progress.old.made progress.new.made }
+        ensures runs { Runs E.answers (limit_of self.now) (visit_calls (request_of self.now) (late_texts_of self.now) [] 0 progress.old.next) result editor.old editor.new progress.old.made progress.new.made }
         ensures tokens { OnOk result (progress.new.next ≡ progress.old.next + visit_size (request_of self.now) []) }
-        ensures waits { OnOk result (waiting self.now.repo.now later.new.items ≡ waiting self.now.repo.now later.old.items ++ visit_late (request_of self.now) self.now.late [] 0 progress.old.next) }
+        ensures waits { OnOk result (waiting self.now.repo.now later.new.items ≡ waiting self.now.repo.now later.old.items ++ visit_late (request_of self.now) (late_texts_of self.now) [] 0 progress.old.next) }
     {
         let entries = self.report.in_path_order(self.alloc)?;
         let root = self.root(ReportPart::of(&entries));
@@ -81,23 +81,25 @@ impl<'a> Walk<'a> {
     // All calls.
     fn run<E: Editor>(&self, editor: &mut E, progress: &mut Progress) -> Result<(), Stop>
         requires { progress.old.next ≡ 0 }
-        ensures runs { Runs E.answers self.now.limit (drive_calls (request_of self.now) self.now.late) result editor.old editor.new progress.old.made (with_last result progress.new.made) }
-        ensures before_last { IfErr result (λ stop. LeavesSome stop progress.new.made (progress.old.made + length (drive_calls (request_of self.now) self.now.late))) }
+        ensures runs { Runs E.answers (limit_of self.now) (drive_calls (request_of self.now) (late_texts_of self.now)) result editor.old editor.new progress.old.made (with_last result progress.new.made) }
+        ensures before_last { IfErr result (λ stop. LeavesSome stop progress.new.made (progress.old.made + length (drive_calls (request_of self.now) (late_texts_of self.now)))) }
     {
         let mut later = Vec::new(self.alloc);
-        let first = Call::SetTargetRevision { rev: self.target };
-        make(self.limit, editor, progress, first)?;
+        let first = Call::SetTargetRevision {
+            rev: self.request.target,
+        };
+        make(self.request.options.cancel_after, editor, progress, first)?;
         self.visit_root(editor, progress, &mut later)?;
-        if self.late {
+        if self.request.options.late_texts {
             self.give_late(&later, editor, progress)?;
         }
-        make_last(self.limit, editor, progress)
+        make_last(self.request.options.cancel_after, editor, progress)
     }
 
     // A drive whose target has no fault.
     fn drive_tested<E: Editor>(&self, editor: &mut E) -> Result<DriveEnd, DriveFault>
         requires { target_fault (request_of self.now) ≡ None }
-        ensures { Drives E.answers self.now.limit (target_fault (request_of self.now)) (drive_calls (request_of self.now) self.now.late) result editor.old editor.new }
+        ensures { Drives E.answers (limit_of self.now) (target_fault (request_of self.now)) (drive_calls (request_of self.now) (late_texts_of self.now)) result editor.old editor.new }
     {
         let mut progress = Progress::new();
         match self.run(editor, &mut progress) {
@@ -110,32 +112,12 @@ impl<'a> Walk<'a> {
 
     // A whole drive.
     fn drive<E: Editor>(&self, editor: &mut E) -> Result<DriveEnd, DriveFault>
-        ensures calls { Drives E.answers self.now.limit (target_fault (request_of self.now)) (drive_calls (request_of self.now) self.now.late) result editor.old editor.new }
+        ensures calls { Drives E.answers (limit_of self.now) (target_fault (request_of self.now)) (drive_calls (request_of self.now) (late_texts_of self.now)) result editor.old editor.new }
         ensures refused { IfSome (target_fault (request_of self.now)) (λ fault. (result ≡ Err fault) × (editor.new ≡ editor.old)) }
     {
         match self.target_fault() {
             Some(fault) => Err(fault),
             None => self.drive_tested(editor),
-        }
-    }
-
-    // What is asked for.
-    fn of(alloc: Global, repo: &'a Repo, report: &'a Report, request: &'a Request) -> Walk<'a>
-        ensures repo { result.repo.now ≡ repo.now }
-        ensures report { result.report.now ≡ report.now }
-        ensures target { result.target ≡ request.now.target }
-        ensures mode { mode_at (option_copied result.switch_to) ≡ request.now.mode }
-        ensures late { result.late ≡ request.now.options.late_texts }
-        ensures limit { result.limit ≡ request.now.options.cancel_after }
-    {
-        Walk {
-            alloc,
-            repo,
-            report,
-            target: request.target,
-            switch_to: request.mode.root(),
-            late: request.options.late_texts,
-            limit: request.options.cancel_after,
         }
     }
 }
@@ -154,6 +136,25 @@ fn give_up<E: Editor>(stop: Stop, made: u64, editor: &mut E) -> Result<DriveEnd,
     }
 }
 
+// Why no drive leads from a report to another path of the repository. It takes no memory.
+fn switch_fault(
+    alloc: Global,
+    repo: &Repo,
+    report: &Report,
+    to: &RelPath,
+    target: Rev,
+) -> Option<DriveFault>
+    ensures { result ≡ target_fault (input_of repo.now report.now (requested target (SwitchTo to.now) false None)) }
+{
+    let reading = Check {
+        alloc,
+        repo,
+        report,
+    };
+    let from = reading.source(&reading.seen_root());
+    fault_between(repo, target, from, repo.lookup(target, to))
+}
+
 /// Drives an editor from a report to a revision: an update. The report is one that the repository can serve (`check_report` is the test; of
 /// another the calls are those that the walk of `svn_model/specs/Tree.antt` gives, and need not lead anywhere).
 ///
@@ -163,59 +164,56 @@ fn give_up<E: Editor>(stop: Stop, made: u64, editor: &mut E) -> Result<DriveEnd,
 /// these the last call was `AbortEdit`, and its result counts for nothing. It waits where the editor does.
 ///
 /// Its cost is that of the report and of the entries of opened and added directories, times their depth.
-pub fn drive<'a, E: Editor>(
+pub fn drive<E: Editor>(
     alloc: Global,
-    repo: &'a Repo,
-    report: &'a Report,
+    repo: &Repo,
+    report: &Report,
     target: Rev,
     options: DriveOptions,
     editor: &mut E,
 ) -> Result<DriveEnd, DriveFault>
-    ensures calls { Drives E.answers options.cancel_after (target_fault (asked repo.now report.now target Update)) (drive_calls (asked repo.now report.now target Update) options.late_texts) result editor.old editor.new }
+    ensures calls { let w = requested target Update options.late_texts options.cancel_after in Drives E.answers options.cancel_after (target_fault (input_of repo.now report.now w)) (drive_for repo.now report.now w) result editor.old editor.new }
     // whatever memory there is, a target that can't be reached is reported by its fault, and no call is made
-    ensures refused { IfSome (target_fault (asked repo.now report.now target Update)) (λ fault. (result ≡ Err fault) × (editor.new ≡ editor.old)) }
-    ensures of_definition { AreOfDrive (asked repo.now report.now target Update) options.late_texts (drive_calls (asked repo.now report.now target Update) options.late_texts) }
+    ensures refused { let w = requested target Update options.late_texts options.cancel_after in IfSome (target_fault (input_of repo.now report.now w)) (λ fault. (result ≡ Err fault) × (editor.new ≡ editor.old)) }
+    ensures of_definition { let w = requested target Update options.late_texts options.cancel_after in AreOfDrive (input_of repo.now report.now w) options.late_texts (drive_for repo.now report.now w) }
 {
-    the_calls_are_a_drive();
-    let walk = Walk {
-        alloc,
-        repo,
-        report,
+    let request = Request {
         target,
-        switch_to: None,
-        late: options.late_texts,
-        limit: options.cancel_after,
+        mode: Mode::Update,
+        options,
     };
-    walk.drive(editor)
+    drive_request(alloc, repo, report, &request, editor)
 }
 
 /// Drives an editor from a report to another path of the repository, at a revision: a switch of the whole copy (`svn_ra_do_switch3` of
 /// `svn_ra.h`). NoRoot and OtherRoot are faults of what is at that path in the target; all else is
 /// as in [`drive`].
-pub fn drive_switch<'a, E: Editor>(
+pub fn drive_switch<E: Editor>(
     alloc: Global,
-    repo: &'a Repo,
-    report: &'a Report,
-    to: &'a RelPath,
+    repo: &Repo,
+    report: &Report,
+    to: &RelPath,
     target: Rev,
     options: DriveOptions,
     editor: &mut E,
 ) -> Result<DriveEnd, DriveFault>
-    ensures calls { Drives E.answers options.cancel_after (target_fault (asked repo.now report.now target (SwitchTo to.now))) (drive_calls (asked repo.now report.now target (SwitchTo to.now)) options.late_texts) result editor.old editor.new }
-    ensures refused { IfSome (target_fault (asked repo.now report.now target (SwitchTo to.now))) (λ fault. (result ≡ Err fault) × (editor.new ≡ editor.old)) }
-    ensures of_definition { AreOfDrive (asked repo.now report.now target (SwitchTo to.now)) options.late_texts (drive_calls (asked repo.now report.now target (SwitchTo to.now)) options.late_texts) }
+    ensures calls { let w = requested target (SwitchTo to.now) options.late_texts options.cancel_after in Drives E.answers options.cancel_after (target_fault (input_of repo.now report.now w)) (drive_for repo.now report.now w) result editor.old editor.new }
+    ensures refused { let w = requested target (SwitchTo to.now) options.late_texts options.cancel_after in IfSome (target_fault (input_of repo.now report.now w)) (λ fault. (result ≡ Err fault) × (editor.new ≡ editor.old)) }
+    ensures of_definition { let w = requested target (SwitchTo to.now) options.late_texts options.cancel_after in AreOfDrive (input_of repo.now report.now w) options.late_texts (drive_for repo.now report.now w) }
 {
     the_calls_are_a_drive();
-    let walk = Walk {
-        alloc,
-        repo,
-        report,
-        target,
-        switch_to: Some(to),
-        late: options.late_texts,
-        limit: options.cancel_after,
+    if let Some(fault) = switch_fault(alloc, repo, report, to, target) {
+        return Err(fault);
+    }
+    let Ok(root) = to.clone() else {
+        return give_up(Stop::Memory, 0, editor);
     };
-    walk.drive(editor)
+    let request = Request {
+        target,
+        mode: Mode::SwitchTo(root),
+        options,
+    };
+    drive_tested(alloc, repo, report, &request, editor)
 }
 
 /// Drives an editor from a report to what is asked for: an update or a switch, as [`drive`] and [`drive_switch`] do.
@@ -226,12 +224,18 @@ pub fn drive_request<E: Editor>(
     request: &Request,
     editor: &mut E,
 ) -> Result<DriveEnd, DriveFault>
-    ensures calls { let d = asked repo.now report.now request.now.target request.now.mode in Drives E.answers request.now.options.cancel_after (target_fault d) (drive_calls d request.now.options.late_texts) result editor.old editor.new }
-    ensures refused { IfSome (target_fault (asked repo.now report.now request.now.target request.now.mode)) (λ fault. (result ≡ Err fault) × (editor.new ≡ editor.old)) }
-    ensures of_definition { let d = asked repo.now report.now request.now.target request.now.mode in AreOfDrive d request.now.options.late_texts (drive_calls d request.now.options.late_texts) }
+    ensures calls { Drives E.answers request.now.options.cancel_after (target_fault (input_of repo.now report.now request.now)) (drive_for repo.now report.now request.now) result editor.old editor.new }
+    ensures refused { IfSome (target_fault (input_of repo.now report.now request.now)) (λ fault. (result ≡ Err fault) × (editor.new ≡ editor.old)) }
+    ensures of_definition { AreOfDrive (input_of repo.now report.now request.now) request.now.options.late_texts (drive_for repo.now report.now request.now) }
 {
     the_calls_are_a_drive();
-    Walk::of(alloc, repo, report, request).drive(editor)
+    let walk = Walk {
+        alloc,
+        repo,
+        report,
+        request,
+    };
+    walk.drive(editor)
 }
 
 /// The same where the target was tested, by [`fault_between`], and has no fault.
@@ -242,8 +246,14 @@ pub fn drive_tested<E: Editor>(
     request: &Request,
     editor: &mut E,
 ) -> Result<DriveEnd, DriveFault>
-    requires { target_fault (asked repo.now report.now request.now.target request.now.mode) ≡ None }
-    ensures { let d = asked repo.now report.now request.now.target request.now.mode in Drives E.answers request.now.options.cancel_after (target_fault d) (drive_calls d request.now.options.late_texts) result editor.old editor.new }
+    requires { target_fault (input_of repo.now report.now request.now) ≡ None }
+    ensures { Drives E.answers request.now.options.cancel_after (target_fault (input_of repo.now report.now request.now)) (drive_for repo.now report.now request.now) result editor.old editor.new }
 {
-    Walk::of(alloc, repo, report, request).drive_tested(editor)
+    let walk = Walk {
+        alloc,
+        repo,
+        report,
+        request,
+    };
+    walk.drive_tested(editor)
 }

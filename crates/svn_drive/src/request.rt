@@ -6,7 +6,7 @@ use svn_editor::Mode;
 use svn_types::{RelPath, Rev};
 
 /// How a drive is made. The default goes to its end, with texts in place.
-#[derive(Clone, Copy, Debug, Default)]
+#[derive(Clone, Copy, Debug, Default, PartialEq, Eq)]
 pub struct DriveOptions {
     /// After how many calls the drive is given up, if it has more: then it makes `AbortEdit`, which isn't counted. None: it goes to its end.
     pub cancel_after: Option<u64>,
@@ -15,7 +15,7 @@ pub struct DriveOptions {
 }
 
 /// What a drive or a run is asked for: where it leads, and how it is made.
-#[derive(Debug, Drop)]
+#[derive(Clone, Debug, PartialEq, Eq, Drop)]
 pub struct Request {
     /// The revision that it leads to.
     pub target: Rev,

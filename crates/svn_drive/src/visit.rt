@@ -12,7 +12,7 @@ ghost use Rattle.svn_model.specs.Steps.{gone_actions};
 ghost use Rattle.svn_model.specs.Tree.{names_below, is_entered, is_late, old_props, enter_action, entry_actions, file_end, last_of};
 ghost use Rattle.svn_model.specs.TreeCalls.{call_at, calls_at, in_turn, sizes, visit_calls, visit_size};
 ghost use Rattle.svn_drive.specs.Waiting.{waiting, visit_late, entered_late};
-ghost use Rattle.svn_drive.specs.Walking.{IsAt, IsEntered, IsTold, request_of, text_action, close_action, has_text_of, old_text, text_end, entered_calls, entered_size};
+ghost use Rattle.svn_drive.specs.Walking.{IsAt, IsEntered, IsTold, request_of, text_action, close_action, has_text_of, old_text, text_end, entered_calls, entered_size, late_texts_of, limit_of};
 
 use crate::entries::{revision_of, starts_empty};
 use crate::making::{Progress, make, make_opening};
@@ -173,12 +173,12 @@ impl<'a> Walk<'a> {
         editor: &mut E,
         progress: &mut Progress,
     ) -> Result<(), Stop>
-        ensures runs { Runs E.answers self.now.limit (calls_at [] 0 opened.now.token (map (Change opened.now.kind) changes.items)) result editor.old editor.new progress.old.made progress.new.made }
+        ensures runs { Runs E.answers (limit_of self.now) (calls_at [] 0 opened.now.token (map (Change opened.now.kind) changes.items)) result editor.old editor.new progress.old.made progress.new.made }
         ensures tokens { OnOk result (progress.new.next ≡ progress.old.next) }
     {
         for change in changes {
             let call = change_call(opened, change);
-            make(self.limit, editor, progress, call)?;
+            make(self.request.options.cancel_after, editor, progress, call)?;
         }
         Ok(())
     }
@@ -193,11 +193,11 @@ impl<'a> Walk<'a> {
         progress: &mut Progress,
     ) -> Result<(), Stop>
         requires at { IsAt (request_of self.now) place.now }
-        ensures runs { Runs E.answers self.now.limit (calls_at place.now.here.path place.now.parent opened.now.token (entry_actions (request_of self.now) place.now.here.path opened.now.node opened.now.kind)) result editor.old editor.new progress.old.made progress.new.made }
+        ensures runs { Runs E.answers (limit_of self.now) (calls_at place.now.here.path place.now.parent opened.now.token (entry_actions (request_of self.now) place.now.here.path opened.now.node opened.now.kind)) result editor.old editor.new progress.old.made progress.new.made }
         ensures tokens { OnOk result (progress.new.next ≡ progress.old.next + 1) }
     {
         let call = self.entry_call(place, opened)?;
-        make_opening(self.limit, editor, progress, call)?;
+        make_opening(self.request.options.cancel_after, editor, progress, call)?;
         let changes = self.changes(place, opened.node)?;
         self.change_props(opened, changes, editor, progress)
     }
@@ -211,7 +211,7 @@ impl<'a> Walk<'a> {
         progress: &mut Progress,
     ) -> Result<(), Stop>
         requires at { IsAt (request_of self.now) place.now }
-        ensures runs { Runs E.answers self.now.limit (calls_at place.now.here.path place.now.parent progress.old.next (gone_actions (request_of self.now) place.now.here.path)) result editor.old editor.new progress.old.made progress.new.made }
+        ensures runs { Runs E.answers (limit_of self.now) (calls_at place.now.here.path place.now.parent progress.old.next (gone_actions (request_of self.now) place.now.here.path)) result editor.old editor.new progress.old.made progress.new.made }
         ensures tokens { OnOk result (progress.new.next ≡ progress.old.next) }
     {
         if !Walk::is_gone(place) {
@@ -222,7 +222,7 @@ impl<'a> Walk<'a> {
             rev: revision_of(place.here.governing),
             parent: place.parent,
         };
-        make(self.limit, editor, progress, call)
+        make(self.request.options.cancel_after, editor, progress, call)
     }
 
     // Whether a file that is entered gets a text.
@@ -252,7 +252,7 @@ impl<'a> Walk<'a> {
         editor: &mut E,
         progress: &mut Progress,
     ) -> Result<(), Stop>
-        ensures runs { Runs E.answers self.now.limit (call_at [] 0 file.now.token (text_action self.now.repo.now file.now) ∷ []) result editor.old editor.new progress.old.made progress.new.made }
+        ensures runs { Runs E.answers (limit_of self.now) (call_at [] 0 file.now.token (text_action self.now.repo.now file.now) ∷ []) result editor.old editor.new progress.old.made progress.new.made }
         ensures tokens { OnOk result (progress.new.next ≡ progress.old.next) }
     {
         let call = Call::ApplyText {
@@ -260,7 +260,7 @@ impl<'a> Walk<'a> {
             base_md5: self.base_md5(file),
             text: shared_text(self.alloc, self.repo, file.node)?,
         };
-        make(self.limit, editor, progress, call)
+        make(self.request.options.cancel_after, editor, progress, call)
     }
 
     #[inline(always)]
@@ -270,14 +270,14 @@ impl<'a> Walk<'a> {
         editor: &mut E,
         progress: &mut Progress,
     ) -> Result<(), Stop>
-        ensures runs { Runs E.answers self.now.limit (call_at [] 0 file.now.token (close_action self.now.repo.now file.now) ∷ []) result editor.old editor.new progress.old.made progress.new.made }
+        ensures runs { Runs E.answers (limit_of self.now) (call_at [] 0 file.now.token (close_action self.now.repo.now file.now) ∷ []) result editor.old editor.new progress.old.made progress.new.made }
         ensures tokens { OnOk result (progress.new.next ≡ progress.old.next) }
     {
         let call = Call::CloseFile {
             token: file.token,
             text_md5: Some(checksum_of(self.repo, file.node)),
         };
-        make(self.limit, editor, progress, call)
+        make(self.request.options.cancel_after, editor, progress, call)
     }
 
     // What must be known of a file for its text.
@@ -310,15 +310,15 @@ impl<'a> Walk<'a> {
     ) -> Result<(), Stop>
         requires at { IsAt (request_of self.now) place.now }
         requires entered { IsEntered (request_of self.now) place.now.here.path opened.now.node File }
-        ensures runs { Runs E.answers self.now.limit (calls_at place.now.here.path place.now.parent opened.now.token (if is_late (request_of self.now) self.now.late place.now.here.path then [] else file_end (request_of self.now) place.now.here.path opened.now.node)) result editor.old editor.new progress.old.made progress.new.made }
+        ensures runs { Runs E.answers (limit_of self.now) (calls_at place.now.here.path place.now.parent opened.now.token (if is_late (request_of self.now) (late_texts_of self.now) place.now.here.path then [] else file_end (request_of self.now) place.now.here.path opened.now.node)) result editor.old editor.new progress.old.made progress.new.made }
         ensures tokens { OnOk result (progress.new.next ≡ progress.old.next) }
-        ensures waits { OnOk result (waiting self.now.repo.now later.new.items ≡ waiting self.now.repo.now later.old.items ++ calls_at place.now.here.path place.now.parent opened.now.token (if is_late (request_of self.now) self.now.late place.now.here.path then file_end (request_of self.now) place.now.here.path opened.now.node else [])) }
+        ensures waits { OnOk result (waiting self.now.repo.now later.new.items ≡ waiting self.now.repo.now later.old.items ++ calls_at place.now.here.path place.now.parent opened.now.token (if is_late (request_of self.now) (late_texts_of self.now) place.now.here.path then file_end (request_of self.now) place.now.here.path opened.now.node else [])) }
     {
         let file = self.texted(place, opened);
         if !self.has_text(&file) {
             return self.close_file(&file, editor, progress);
         }
-        if self.late {
+        if self.request.options.late_texts {
             postpone(later, file)?;
             return Ok(());
         }
@@ -338,9 +338,9 @@ impl<'a> Walk<'a> {
     ) -> Result<(), Stop>
         requires at { IsAt (request_of self.now) place.now }
         requires short { length place.now.here.path ≤ depth_limit }
-        ensures runs { Runs E.answers self.now.limit (in_turn (λ q next. visit_calls (request_of self.now) self.now.late q token next) (visit_size (request_of self.now)) place.now.here.path progress.old.next (names_below (request_of self.now) place.now.here.path)) result editor.old editor.new progress.old.made progress.new.made }
+        ensures runs { Runs E.answers (limit_of self.now) (in_turn (λ q next. visit_calls (request_of self.now) (late_texts_of self.now) q token next) (visit_size (request_of self.now)) place.now.here.path progress.old.next (names_below (request_of self.now) place.now.here.path)) result editor.old editor.new progress.old.made progress.new.made }
         ensures tokens { OnOk result (progress.new.next ≡ progress.old.next + sizes (visit_size (request_of self.now)) place.now.here.path (names_below (request_of self.now) place.now.here.path)) }
-        ensures waits { OnOk result (waiting self.now.repo.now later.new.items ≡ waiting self.now.repo.now later.old.items ++ in_turn (λ q next. visit_late (request_of self.now) self.now.late q token next) (visit_size (request_of self.now)) place.now.here.path progress.old.next (names_below (request_of self.now) place.now.here.path)) }
+        ensures waits { OnOk result (waiting self.now.repo.now later.new.items ≡ waiting self.now.repo.now later.old.items ++ in_turn (λ q next. visit_late (request_of self.now) (late_texts_of self.now) q token next) (visit_size (request_of self.now)) place.now.here.path progress.old.next (names_below (request_of self.now) place.now.here.path)) }
     {
         let children = self.children(place)?;
         let mut known = None;
@@ -365,9 +365,9 @@ impl<'a> Walk<'a> {
         requires short { length place.now.here.path ≤ depth_limit }
         requires entered { IsEntered (request_of self.now) place.now.here.path opened.now.node opened.now.kind }
         requires token { opened.now.token ≡ progress.old.next }
-        ensures runs { Runs E.answers self.now.limit (entered_calls (request_of self.now) self.now.late place.now.here.path place.now.parent progress.old.next opened.now.node opened.now.kind) result editor.old editor.new progress.old.made progress.new.made }
+        ensures runs { Runs E.answers (limit_of self.now) (entered_calls (request_of self.now) (late_texts_of self.now) place.now.here.path place.now.parent progress.old.next opened.now.node opened.now.kind) result editor.old editor.new progress.old.made progress.new.made }
         ensures tokens { OnOk result (progress.new.next ≡ progress.old.next + entered_size (request_of self.now) place.now.here.path opened.now.kind) }
-        ensures waits { OnOk result (waiting self.now.repo.now later.new.items ≡ waiting self.now.repo.now later.old.items ++ entered_late (request_of self.now) self.now.late place.now.here.path place.now.parent progress.old.next opened.now.node opened.now.kind) }
+        ensures waits { OnOk result (waiting self.now.repo.now later.new.items ≡ waiting self.now.repo.now later.old.items ++ entered_late (request_of self.now) (late_texts_of self.now) place.now.here.path place.now.parent progress.old.next opened.now.node opened.now.kind) }
     {
         self.enter(place, opened, editor, progress)?;
         match opened.kind {
@@ -377,7 +377,7 @@ impl<'a> Walk<'a> {
                 let call = Call::CloseDirectory {
                     token: opened.token,
                 };
-                make(self.limit, editor, progress, call)
+                make(self.request.options.cancel_after, editor, progress, call)
             }
         }
     }
@@ -393,9 +393,9 @@ impl<'a> Walk<'a> {
     ) -> Result<(), Stop>
         requires at { IsAt (request_of self.now) place.now }
         requires short { length place.now.here.path ≤ depth_limit }
-        ensures runs { Runs E.answers self.now.limit (visit_calls (request_of self.now) self.now.late place.now.here.path place.now.parent progress.old.next) result editor.old editor.new progress.old.made progress.new.made }
+        ensures runs { Runs E.answers (limit_of self.now) (visit_calls (request_of self.now) (late_texts_of self.now) place.now.here.path place.now.parent progress.old.next) result editor.old editor.new progress.old.made progress.new.made }
         ensures tokens { OnOk result (progress.new.next ≡ progress.old.next + visit_size (request_of self.now) place.now.here.path) }
-        ensures waits { OnOk result (waiting self.now.repo.now later.new.items ≡ waiting self.now.repo.now later.old.items ++ visit_late (request_of self.now) self.now.late place.now.here.path place.now.parent progress.old.next) }
+        ensures waits { OnOk result (waiting self.now.repo.now later.new.items ≡ waiting self.now.repo.now later.old.items ++ visit_late (request_of self.now) (late_texts_of self.now) place.now.here.path place.now.parent progress.old.next) }
     {
         self.delete_gone(place, editor, progress)?;
         if !self.is_entered(place) {
@@ -419,7 +419,7 @@ impl<'a> Walk<'a> {
         editor: &mut E,
         progress: &mut Progress,
     ) -> Result<(), Stop>
-        ensures runs { Runs E.answers self.now.limit (waiting self.now.repo.now later.now) result editor.old editor.new progress.old.made progress.new.made }
+        ensures runs { Runs E.answers (limit_of self.now) (waiting self.now.repo.now later.now) result editor.old editor.new progress.old.made progress.new.made }
     {
         for file in later {
             self.give_text(file, editor, progress)?;

@@ -12,7 +12,6 @@ ghost use Rattle.svn_drive.specs.Checking.{seen_as};
 ghost use Rattle.svn_drive.specs.NamesLeft.{IsBelow};
 ghost use Rattle.svn_drive.specs.Parts.{IsPart, entries_in};
 ghost use Rattle.svn_drive.specs.Walking.{IsAt, IsNearlyAt, IsKnown, is_changed_at, entry_of, linked_node, candidate_node, request_of};
-ghost use Rattle.svn_editor.specs.Steps.{mode_at};
 
 use crate::check::{Check, Seen, all_hold, child_path, lookup_below};
 use crate::child_names::Below;
@@ -20,23 +19,20 @@ use crate::entries::{is_hidden, starts_empty};
 use crate::nodes::{are_related, is_directory, node_under};
 use crate::place::{Known, Place};
 use crate::report_part::ReportPart;
+use crate::request::Request;
 use std::alloc::{AllocError, Global};
-use svn_editor::Token;
+use svn_editor::{Mode, Token};
 use svn_repo::{NodeId, Repo};
 use svn_report::{Report, ReportEntry};
 use svn_types::{RelPath, Rev};
 
-/// A drive: what it reads, the revision that it leads to, the new root of a switch, whether texts wait for the directories, and how many calls
-/// may be made.
+/// A drive: what it reads, and what is asked for.
 #[derive(Clone, Copy)]
 pub(crate) struct Walk<'a> {
     pub(crate) alloc: Global,
     pub(crate) repo: &'a Repo,
     pub(crate) report: &'a Report,
-    pub(crate) target: Rev,
-    pub(crate) switch_to: Option<&'a RelPath>,
-    pub(crate) late: bool,
-    pub(crate) limit: Option<u64>,
+    pub(crate) request: &'a Request,
 }
 
 // The node that a child has in the target: the one that keeps it, else the one below its parent's.
@@ -97,11 +93,11 @@ impl<'a> Walk<'a> {
 
     // The path of the root in the target.
     fn root_path(&self) -> &'a RelPath
-        ensures { result.now ≡ root_path (mode_at (option_copied self.now.switch_to)) self.now.report.now.root }
+        ensures { result.now ≡ root_path self.now.request.now.mode self.now.report.now.root }
     {
-        match self.switch_to {
-            Some(root) => root,
-            None => self.report.root(),
+        match &self.request.mode {
+            Mode::Update => self.report.root(),
+            Mode::SwitchTo(root) => root,
         }
     }
 
@@ -117,7 +113,7 @@ impl<'a> Walk<'a> {
     pub(crate) fn root_target(&self) -> Option<NodeId>
         ensures { result ≡ target_node (request_of self.now) [] }
     {
-        self.repo.lookup(self.target, self.root_path())
+        self.repo.lookup(self.request.target, self.root_path())
     }
 
     /// The root, by all entries of the report. It takes no memory.
@@ -218,7 +214,7 @@ impl<'a> Walk<'a> {
     {
         match own {
             Some(ReportEntry::LinkPath { repos_path, .. }) => {
-                self.repo.lookup(self.target, repos_path)
+                self.repo.lookup(self.request.target, repos_path)
             }
             _ => *beneath,
         }
@@ -227,11 +223,11 @@ impl<'a> Walk<'a> {
     // The node in the target that would keep a child of a kept place, by the one below its parent's: only an update follows links.
     #[inline(always)]
     fn candidate(&self, here: &Seen<'a>, beneath: &Option<NodeId>) -> Option<NodeId>
-        ensures { result ≡ candidate_node (request_of self.now) (mode_at (option_copied self.now.switch_to)) (option_copied here.now.own) beneath.now }
+        ensures { result ≡ candidate_node (request_of self.now) self.now.request.now.mode (option_copied here.now.own) beneath.now }
     {
-        match self.switch_to {
-            Some(_) => *beneath,
-            None => self.linked_node(here.own, beneath),
+        match &self.request.mode {
+            Mode::Update => self.linked_node(here.own, beneath),
+            Mode::SwitchTo(_) => *beneath,
         }
     }
 

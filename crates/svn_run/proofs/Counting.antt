@@ -29,6 +29,7 @@ use Rattle.svn_run.specs.Counts.{Stays, CountsCall}
 use Rattle.svn_run.specs.Coming.{CameInTurn, turn_outcome}
 use Rattle.svn_run.proofs.Accepting.{accepted_first, accepted_rest, accepted_next}
 use Rattle.svn_run.proofs.Halting.{never_early, one_left, RefusedAt, stopped}
+use Rattle.svn_run.proofs.Causes.{cause_fits}
 
 abbrev no_fault : Option DriveFault
 no_fault = None
@@ -149,7 +150,7 @@ module _ {E : Type 0} (answers : E → Call → Result (Unit {0}) EditFault → 
 
     -- the outcome that is returned at a stop which isn't the cancel number
     for_memory : (k n : ℕ) (f : E) (fault : DriveFault) → k < length drive → k ≤ n → n ≤ k + 1 → IfSome limit (λ x. n ≤ x) → Left k n f
-        → CameInTurn drive mode limit w0 (nodes f) (turn_outcome (Err fault) (made f) (accepted f))
+        → CameInTurn drive mode limit w0 (nodes f) (turn_outcome limit (Err fault) (made f) (accepted f))
     for_memory k n f fault part le most within l =
         let is_made = l.made_is in
         let is_accepted = l.accepted_is in
@@ -161,14 +162,15 @@ module _ {E : Type 0} (answers : E → Call → Result (Unit {0}) EditFault → 
             closed = tt;
             aborted = omega arith;
             within = subst (λ j. IfSome limit (λ x. j ≤ x)) (sym is_made) within;
-            cancelled = tt;
+            cancelled = cause_fits limit (made f) (accepted f) (length drive) (omega arith);
+            cause = refl;
             late = tt;
           };
           one_more = omega arith;
         }
 
     cancelled : (k : ℕ) (f : E) → k < length drive → IsWithin limit k → limit ≡ Some k → Left k k f
-        → CameInTurn drive mode limit w0 (nodes f) (turn_outcome (end_of stop.Cancelled k) (made f) (accepted f))
+        → CameInTurn drive mode limit w0 (nodes f) (turn_outcome limit (end_of stop.Cancelled k) (made f) (accepted f))
     cancelled k f lt within number l =
         let is_made = l.made_is in
         let is_accepted = l.accepted_is in
@@ -180,14 +182,15 @@ module _ {E : Type 0} (answers : E → Call → Result (Unit {0}) EditFault → 
             closed = tt;
             aborted = omega arith;
             within = subst (λ j. IfSome limit (λ x. j ≤ x)) (sym is_made) (some_within limit k within);
-            cancelled = (number ∙ ap (λ j. Some j) (sym is_made), omega arith, omega arith);
+            cancelled = cause_fits limit (made f) (accepted f) (length drive) (omega arith);
+            cause = refl;
             late = tt;
           };
           one_more = omega arith;
         }
 
     own_stop : (s : Stop) (k : ℕ) (f : E) → k < length drive → IsWithin limit k → StopsBefore limit k s → Left k k f
-        → CameInTurn drive mode limit w0 (nodes f) (turn_outcome (end_of s k) (made f) (accepted f))
+        → CameInTurn drive mode limit w0 (nodes f) (turn_outcome limit (end_of s k) (made f) (accepted f))
     own_stop stop.Cancelled k f lt within why l = cancelled k f lt within why l
     own_stop stop.Full k f lt within why l = for_memory k k f NoNumber lt (omega arith) (omega arith) (some_within limit k within) l
     own_stop stop.Memory k f lt within why l = for_memory k k f NoMemory lt (omega arith) (omega arith) (some_within limit k within) l
@@ -195,11 +198,11 @@ module _ {E : Type 0} (answers : E → Call → Result (Unit {0}) EditFault → 
 
     refused : (s : Stop) (k : ℕ) (x m f : E) (answer : Result (Unit {0}) EditFault) → k < length drive → IsWithin limit k
         → Standing k (take k drive) x → RefusedAt answers limit k drive x m k s → answers m AbortEdit answer f
-        → CameInTurn drive mode limit w0 (nodes f) (turn_outcome (end_of s k) (made f) (accepted f))
+        → CameInTurn drive mode limit w0 (nodes f) (turn_outcome limit (end_of s k) (made f) (accepted f))
     refused s k x m f answer lt within st r h =
         let was_made = st.made_is in
         let was_accepted = st.accepted_is in
-        subst (λ z. CameInTurn drive mode limit w0 (nodes f) (turn_outcome (end_of z k) (made f) (accepted f))) (sym r.stop)
+        subst (λ z. CameInTurn drive mode limit w0 (nodes f) (turn_outcome limit (end_of z k) (made f) (accepted f))) (sym r.stop)
         (⊎_elim
         (λ (t : Same x m).
         let l : Left k k m = record {
@@ -221,7 +224,7 @@ module _ {E : Type 0} (answers : E → Call → Result (Unit {0}) EditFault → 
         (counts x r.call (Err r.fault) m r.refused))
 
     whole : (n : ℕ) (f : E) → Leads answers drive e f → n ≡ length drive → IsWithin limit n
-        → CameInTurn drive mode limit w0 (nodes f) (turn_outcome (Ok (AllMade n)) (made f) (accepted f))
+        → CameInTurn drive mode limit w0 (nodes f) (turn_outcome limit (Ok (AllMade n)) (made f) (accepted f))
     whole n f h long within =
         let s = led drive [] 0 e f all accept h begun in
         record {
@@ -233,6 +236,7 @@ module _ {E : Type 0} (answers : E → Call → Result (Unit {0}) EditFault → 
             aborted = tt;
             within = some_within limit n within;
             cancelled = tt;
+            cause = tt;
             late = tt;
           };
           one_more = omega arith;
@@ -240,7 +244,7 @@ module _ {E : Type 0} (answers : E → Call → Result (Unit {0}) EditFault → 
 
     halted : (s : Stop) (k : ℕ) (m f : E) (answer : Result (Unit {0}) EditFault) → Halts answers limit k drive e m k s
         → answers m AbortEdit answer f → k < length drive → IsWithin limit k
-        → CameInTurn drive mode limit w0 (nodes f) (turn_outcome (end_of s k) (made f) (accepted f))
+        → CameInTurn drive mode limit w0 (nodes f) (turn_outcome limit (end_of s k) (made f) (accepted f))
     halted s k m f answer halts h lt within =
         let r = stopped answers limit k drive e m k s halts in
         let st = first_calls k r.0 (omega arith) r.1.0 in
@@ -259,15 +263,15 @@ module _ {E : Type 0} (answers : E → Call → Result (Unit {0}) EditFault → 
         × ((answer : Result (Unit {0}) EditFault) × answers m AbortEdit answer f) × LeavesSome s k (length drive) × IsWithin limit k
 
     pub came : (result : Result DriveEnd DriveFault) (f : E) → Drives answers limit None drive result e f
-        → CameInTurn drive mode limit w0 (nodes f) (turn_outcome result (made f) (accepted f))
+        → CameInTurn drive mode limit w0 (nodes f) (turn_outcome limit result (made f) (accepted f))
     came result f drove =
         ⊎_elim
         (λ (t : (e ≡ f) × IsEarly None result). absurd (never_early result t.1))
         (λ (u : Whole result f ⊎ Stops result f).
         ⊎_elim
-        (λ (t : Whole result f). subst (λ z. CameInTurn drive mode limit w0 (nodes f) (turn_outcome z (made f) (accepted f))) (sym t.4)
+        (λ (t : Whole result f). subst (λ z. CameInTurn drive mode limit w0 (nodes f) (turn_outcome limit z (made f) (accepted f))) (sym t.4)
         (whole t.0 f t.2 t.3 t.5))
-        (λ (t : Stops result f). subst (λ z. CameInTurn drive mode limit w0 (nodes f) (turn_outcome z (made f) (accepted f))) (sym t.5)
+        (λ (t : Stops result f). subst (λ z. CameInTurn drive mode limit w0 (nodes f) (turn_outcome limit z (made f) (accepted f))) (sym t.5)
         (halted t.0 t.1 t.2 f t.6.0 t.4 t.6.1 (one_left t.0 t.1 (length drive) t.7) t.8))
         u)
         drove

@@ -1,7 +1,7 @@
 -- What a run on two threads came to: from what both sides hand back.
 use Rattle.std.proofs.Common.{◌≡◌, ◌≢◌, ℕ, ◌+◌, ◌-◌, ◌<◌, ◌≤◌, Bool, true, false, List, [], ◌∷◌, ◌++◌, length, take, append-nil, refl}
 use Rattle.std.proofs.Common.{sym, ap, subst, ◌∙◌, arith, length-append}
-use Rattle.std.specs.Prelude.{not, nat_eq, Option, Some, None, IfSome, is_some, Result, Ok, Err, if◌then◌else◌}
+use Rattle.std.specs.Prelude.{not, nat_eq, Option, Some, None, IfSome, Result, Ok, Err, if◌then◌else◌}
 use Rattle.std.proofs.lemmas.Bool.{eq-eqb, eqb-true, eqb-false, ne_eqb}
 use Rattle.std.proofs.lemmas.List.{length-take-le}
 use Rattle.std.proofs.Math.Seq.{take-length}
@@ -23,11 +23,9 @@ use Rattle.svn_model.specs.Nodes.{WorkingCopy, get_in}
 use Rattle.svn_model.specs.Effects.{after, AllAccepted}
 use Rattle.svn_run.specs.declared.driving.Driven.{Driven}
 use Rattle.svn_run.specs.declared.taking.Taken.{Taken}
-use Rattle.svn_run.specs.declared.outcome.Cause.{Cause}
-use Rattle.svn_run.specs.declared.outcome.Cause.TheVariants as cause
 use Rattle.svn_run.specs.declared.outcome.Outcome.{Outcome}
 use Rattle.svn_run.specs.declared.outcome.Outcome.TheVariants.{Closed, Aborted}
-use Rattle.svn_run.specs.UpdateTheorem.{Nodes, made_in, OnCause, calls_made}
+use Rattle.svn_run.specs.UpdateTheorem.{Nodes, made_in, cause_at, calls_made}
 use Rattle.svn_run.specs.Coming.{CameTo}
 use Rattle.svn_run.specs.Driven.{IsStopped, IsWhole, StopsOn, SentAs, IsDriven}
 use Rattle.svn_run.specs.Finishing.{late_of, threads_outcome, IsFinished}
@@ -35,6 +33,7 @@ use Rattle.svn_run.specs.Takes.{unaborted, IsCounted, IsTaken}
 use Rattle.svn_run.proofs.Accepting.{accepted_first}
 use Rattle.svn_run.proofs.Counting.{AllInner, inner-take, some_within}
 use Rattle.svn_run.proofs.Applied.{unaborted-abort}
+use Rattle.svn_run.proofs.Causes.{cause_fits}
 
 unaborted_all : (calls : List Call) → AllInner calls → unaborted calls ≡ calls
 unaborted_all [] h = refl
@@ -58,13 +57,16 @@ module _ (drive : List Call) (all : AllInner drive) (mode : Mode) (limit : Optio
 
   module _ (calls : List Call) (number : Option ℕ) (accepted : ℕ) (counted : IsCounted number accepted (length (unaborted calls)))
       (copy : (p : Path) → get_in left p ≡ after mode w0 (take accepted (unaborted calls)) p) where
-    abbrev picked : Bool → ℕ → Option ℕ → Cause → Outcome
-    picked b made late why = if b then Closed accepted else Aborted made accepted late why
+    abbrev stopped_at : ℕ → Option ℕ → Outcome
+    stopped_at made late = Aborted made accepted late (cause_at limit made accepted)
+
+    abbrev picked : Bool → ℕ → Option ℕ → Outcome
+    picked b made late = if b then Closed accepted else stopped_at made late
 
     -- not all were accepted
-    not_closed : (made : ℕ) (late : Option ℕ) (why : Cause) → accepted < length calls → Came (Aborted made accepted late why) calls
-        → Came (picked (nat_eq accepted (length calls)) made late why) calls
-    not_closed made late why lt c = subst (λ b. Came (picked b made late why) calls)
+    not_closed : (made : ℕ) (late : Option ℕ) → accepted < length calls → Came (stopped_at made late) calls
+        → Came (picked (nat_eq accepted (length calls)) made late) calls
+    not_closed made late lt c = subst (λ b. Came (picked b made late) calls)
         (sym (ne_eqb accepted (length calls) (λ e. omega arith))) c
 
     -- the number reported is that of the call after the accepted ones, and within those given
@@ -78,9 +80,9 @@ module _ (drive : List Call) (all : AllInner drive) (mode : Mode) (limit : Optio
         by None h = omega arith
         by (Some n) h = let lt = h.1 in omega arith
 
-    stopped : (k : ℕ) → IsStopped drive limit calls k → (late : Option ℕ) → ((n : ℕ) → late ≡ Some n → number ≡ Some n) → (why : Cause)
-        → OnCause why ((limit ≡ Some k) × (accepted ≡ k)) → Came (picked (nat_eq accepted (length calls)) (length calls - 1) late why) calls
-    stopped k s late same why cancel =
+    stopped : (k : ℕ) → IsStopped drive limit calls k → (late : Option ℕ) → ((n : ℕ) → late ≡ Some n → number ≡ Some n)
+        → Came (picked (nat_eq accepted (length calls)) (length calls - 1) late) calls
+    stopped k s late same =
         let inner : unaborted calls ≡ take k drive = ap unaborted s.calls_are ∙ unaborted-abort (take k drive) AbortEdit refl
         ∙ unaborted_all (take k drive) (inner-take k drive all) in
         let part = s.part in
@@ -89,8 +91,8 @@ module _ (drive : List Call) (all : AllInner drive) (mode : Mode) (limit : Optio
         let long : length calls ≡ k + 1 = ap length s.calls_are ∙ omega (arith, length-append (take k drive) (AbortEdit ∷ []), short) in
         let made : k ≡ length calls - 1 = omega arith in
         let le = bound in
-        not_closed (length calls - 1) late why (omega arith)
-        (subst (λ j. Came (Aborted j accepted late why) calls) made
+        not_closed (length calls - 1) late (omega arith)
+        (subst (λ j. Came (stopped_at j late) calls) made
         (record {
           came = record {
             copy = λ p. copy p ∙ ap (λ l. after mode w0 l p) (ap (λ l. take accepted l) inner
@@ -100,24 +102,20 @@ module _ (drive : List Call) (all : AllInner drive) (mode : Mode) (limit : Optio
             closed = tt;
             aborted = omega arith;
             within = some_within limit k s.within;
-            cancelled = by_cause why cancel;
+            cancelled = cause_fits limit k accepted (length drive) (omega arith);
+            cause = refl;
             late = late_fits late same (omega arith);
           };
           calls = s.calls_are ∙ made_part drive k s.part;
         }))
       where
-        by_cause : (why : Cause) → OnCause why ((limit ≡ Some k) × (accepted ≡ k))
-            → OnCause why ((limit ≡ Some k) × (accepted ≡ k) × (k < length drive))
-        by_cause cause.Cancelled h = let part = s.part in (h.0, h.1, part)
-        by_cause cause.Memory h = tt
-
         late_fits : (late : Option ℕ) → ((n : ℕ) → late ≡ Some n → number ≡ Some n) → length (unaborted calls) ≤ k
             → IfSome late (λ n. (n ≡ accepted + 1) × (n ≤ k))
         late_fits None same le = tt
         late_fits (Some n) same le = let t = told n (same n refl) in let e = t.0 in let lt = t.1 in (e, omega arith)
 
     -- where no number was reported all were accepted, and so the run closed
-    whole : (n : ℕ) → IsWhole drive limit calls n → Came (picked (nat_eq accepted (length calls)) (length calls) None cause.Memory) calls
+    whole : (n : ℕ) → IsWhole drive limit calls n → Came (picked (nat_eq accepted (length calls)) (length calls) None) calls
     whole n s =
         let inner : unaborted calls ≡ drive = ap unaborted s.calls_are ∙ unaborted_all drive all in
         let given : length (unaborted calls) ≡ length drive = ap length inner in
@@ -128,7 +126,7 @@ module _ (drive : List Call) (all : AllInner drive) (mode : Mode) (limit : Optio
       where
         by : (b : Bool) → nat_eq accepted (length calls) ≡ b → unaborted calls ≡ drive → length (unaborted calls) ≡ length drive
             → length calls ≡ length drive → n ≡ length drive → accepted ≤ length (unaborted calls)
-            → Came (picked b (length calls) None cause.Memory) calls
+            → Came (picked b (length calls) None) calls
         by true q inner given long count le =
             let same : accepted ≡ length calls = eqb-true accepted (length calls) q in
             let all_of_it : accepted ≡ n = omega arith in
@@ -141,6 +139,7 @@ module _ (drive : List Call) (all : AllInner drive) (mode : Mode) (limit : Optio
                 aborted = tt;
                 within = subst (λ j. IfSome limit (λ x. j ≤ x)) (sym all_of_it) (some_within limit n s.within);
                 cancelled = tt;
+                cause = tt;
                 late = tt;
               };
               calls = s.calls_are ∙ made_whole drive accepted (omega arith);
@@ -156,7 +155,8 @@ module _ (drive : List Call) (all : AllInner drive) (mode : Mode) (limit : Optio
                 closed = tt;
                 aborted = omega arith;
                 within = subst (λ j. IfSome limit (λ x. j ≤ x)) (sym all_of_it) (some_within limit n s.within);
-                cancelled = tt;
+                cancelled = cause_fits limit (length calls) accepted (length drive) (omega arith);
+                cause = refl;
                 late = tt;
               };
               calls = s.calls_are ∙ made_whole drive (length calls) long;
@@ -185,22 +185,10 @@ module _ (drive : List Call) (all : AllInner drive) (mode : Mode) (limit : Optio
     stops_told seen fault.OtherRoot stop same n q = absurd cc
 
     pub comes : (end : Result DriveEnd DriveFault) (seen : Option ℕ) → SentAs drive limit calls seen end → IsNoneOrSame seen number
-        → Came (threads_outcome end (length calls) accepted (is_some number)) calls
+        → Came (threads_outcome limit end (length calls) accepted) calls
     comes (Ok (AllMade n)) seen sent same = whole n sent
-    comes (Ok (GivenUp k)) seen sent same = by number refl
-      where
-        by : (o : Option ℕ) → number ≡ o → Came (threads_outcome (Ok (GivenUp k)) (length calls) accepted (is_some o)) calls
-        by None q = stopped k sent.1 None (λ n e. absurd cc) cause.Cancelled (sent.0, all_accepted q)
-          where
-            all_accepted : number ≡ None → accepted ≡ k
-            all_accepted q =
-                let counts : accepted ≡ length (unaborted calls) = subst (λ o. IsCounted o accepted (length (unaborted calls))) q counted in
-                let inner : unaborted calls ≡ take k drive = ap unaborted sent.1.calls_are ∙ unaborted-abort (take k drive) AbortEdit refl
-                ∙ unaborted_all (take k drive) (inner-take k drive all) in
-                let part = sent.1.part in
-                counts ∙ ap length inner ∙ length-take-le k drive (omega arith)
-        by (Some m) q = stopped k sent.1 None (λ n e. absurd cc) cause.Memory tt
-    comes (Err e) seen sent same = stopped sent.0.0 sent.0.1 (late_of (Err e)) (stops_told seen e sent.1 same) cause.Memory tt
+    comes (Ok (GivenUp k)) seen sent same = stopped k sent.1 None (λ n e. absurd cc)
+    comes (Err e) seen sent same = stopped sent.0.0 sent.0.1 (late_of (Err e)) (stops_told seen e sent.1 same)
 
 module _ (drive : List Call) (all : AllInner drive) (mode : Mode) (limit : Option ℕ) (w0 : WorkingCopy)
     (accept : AllAccepted md5 mode w0 drive) (calls : List Call) where
@@ -222,7 +210,7 @@ module _ (drive : List Call) (all : AllInner drive) (mode : Mode) (limit : Optio
 pub finished : (drive : List Call) (all : AllInner drive) (mode : Mode) (limit : Option ℕ) (w0 : WorkingCopy)
     → AllAccepted md5 mode w0 drive
     → (left : Nodes) (o : LinkEnd) (w : NoticeEnd) (i : LinkEnd) (n : NoticeEnd) (d : Driven) (u : Taken) (outcome : Outcome) (passed : Passed)
-    → IsDriven drive limit o w d → IsTaken mode w0 i n u left → IsFinished d u outcome passed
+    → IsDriven drive limit o w d → IsTaken mode w0 i n u left → IsFinished limit d u outcome passed
     → CameTo drive mode limit w0 left outcome × (passed.sent ≡ calls_made drive (made_in outcome))
     × (passed.taken ≡ calls_made drive (made_in outcome))
 finished drive all mode limit w0 accept left o w i n d u outcome passed driven taken f =
@@ -234,8 +222,8 @@ finished drive all mode limit w0 accept left o w i n d u outcome passed driven t
     let copy : (p : Path) → get_in left p ≡ after mode w0 (take u.accepted (unaborted d.outbox.calls)) p = λ p. taken.copy accepted p
     ∙ ap (λ l. after mode w0 (take u.accepted (unaborted l)) p) same in
     let c = comes drive all mode limit w0 left d.outbox.calls u.teller.number u.accepted counted copy d.end d.watcher.number sent f.seen in
-    let is : outcome ≡ threads_outcome d.end (length d.outbox.calls) u.accepted (is_some u.teller.number) = f.outcome
-    ∙ ap (λ l. threads_outcome d.end (length l) u.accepted (is_some u.teller.number)) f.sent in
-    let made : calls_made drive (made_in (threads_outcome d.end (length d.outbox.calls) u.accepted (is_some u.teller.number)))
+    let is : outcome ≡ threads_outcome limit d.end (length d.outbox.calls) u.accepted = f.outcome
+    ∙ ap (λ l. threads_outcome limit d.end (length l) u.accepted) f.sent in
+    let made : calls_made drive (made_in (threads_outcome limit d.end (length d.outbox.calls) u.accepted))
     ≡ calls_made drive (made_in outcome) = ap (λ x. calls_made drive (made_in x)) (sym is) in
     (subst (λ x. CameTo drive mode limit w0 left x) (sym is) c.came, f.sent ∙ c.calls ∙ made, f.whole ∙ f.sent ∙ c.calls ∙ made)

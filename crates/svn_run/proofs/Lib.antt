@@ -4,6 +4,8 @@ pub mod Applied
 pub mod Accepting
 -- Why no run leads to a target: the fault by the node of the copy's root is the one by its report.
 pub mod Beginning
+-- Why a run stopped, by its limit and how many of its calls were made and accepted.
+pub mod Causes
 -- The theorem of a run, from the laws and what became of the drive's calls.
 pub mod Composing
 -- What a drive makes of a copy, through a carrier that counts.

@@ -1,7 +1,6 @@
 pub mod Beginning
 pub mod Coming
 pub mod Counts
-pub mod Courses
 pub mod Driven
 pub mod FaultNumbers
 pub mod Finishing

@@ -6,26 +6,26 @@
 use Rattle.std.specs.Prelude.{◌≡◌, ℕ, ◌+◌, ◌<◌, ◌≤◌, Bool, ◌&&◌, List, [], ◌∷◌, ◌++◌, length, take, nat_eq, nat_le, Option, Some, None}
 use Rattle.std.specs.Prelude.{option_map, IfSome, Result, IfOk, IfErr, OnOk, OnErr, ◌⊎◌, if◌then◌else◌}
 use Rattle.std.specs.Option.{option_or}
-use Rattle.md5.specs.Md5.{md5}
 use Rattle.svn_types.specs.Names.{Path}
 use Rattle.svn_repo.specs.History.{History}
 use Rattle.svn_editor.specs.declared.call.Call.{Call}
 use Rattle.svn_editor.specs.declared.call.Call.TheVariants.{AbortEdit}
-use Rattle.svn_editor.specs.declared.mode.Mode.{Mode}
 use Rattle.svn_link.specs.Ends.{Passed}
 use Rattle.svn_model.specs.declared.base_node.BaseNode.{BaseNode}
 use Rattle.svn_model.specs.declared.drive_fault.DriveFault.{DriveFault}
 use Rattle.svn_model.specs.declared.drive_fault.DriveFault.TheVariants.{NoSuchTarget, NoRoot as RootMissing, OtherRoot as RootOther}
 use Rattle.svn_model.specs.Checks.{target_fault}
 use Rattle.svn_model.specs.Crawl.{crawl}
-use Rattle.svn_model.specs.Follow.{Request}
+use Rattle.svn_model.specs.Follow.{Request as DriveInput}
 use Rattle.svn_model.specs.Drive.{IsDrive}
 use Rattle.svn_model.specs.Nodes.{get_in, IsTrueOf, IsWorkingCopy}
 use Rattle.svn_model.specs.Effects.{after}
 use Rattle.svn_model.specs.Result.{result}
-use Rattle.law_update.specs.Laws.{request_of, reported_again, Composes, Resumes}
+use Rattle.law_update.specs.Laws.{Composes, Resumes}
+use Rattle.svn_drive.specs.declared.request.Request.{Request}
+use Rattle.svn_drive.specs.Requests.{input_of}
 use Rattle.svn_run.specs.declared.outcome.Cause.{Cause}
-use Rattle.svn_run.specs.declared.outcome.Cause.TheVariants.{Cancelled}
+use Rattle.svn_run.specs.declared.outcome.Cause.TheVariants.{Cancelled, Memory as RanOut}
 use Rattle.svn_run.specs.declared.outcome.Outcome.{Outcome}
 use Rattle.svn_run.specs.declared.outcome.Outcome.TheVariants.{Closed, Aborted}
 use Rattle.svn_run.specs.declared.outcome.RunFault.{RunFault}
@@ -36,22 +36,19 @@ Nodes = List (Path × BaseNode)
 
 -- ---- what is asked for
 
--- a repository and a copy; the target revision, and whether the copy is updated or switched; where texts come; after how many calls to stop
+-- a repository and a copy, and the request: the target revision, whether the copy is updated or switched, where texts come, after how many
+-- calls to stop
 pub record Asked : Type 0 where
   pub history : History
   pub copy : Nodes
-  pub target : ℕ
-  pub mode : Mode
-  pub late_texts : Bool
-  pub cancel_after : Option ℕ
+  pub request : Request
 
-abbrev pub asked : History → Nodes → ℕ → Mode → Bool → Option ℕ → Asked
-asked h nodes target mode late cancel =
-    record { history = h; copy = nodes; target = target; mode = mode; late_texts = late; cancel_after = cancel }
+abbrev pub asked : History → Nodes → Request → Asked
+asked h nodes w = record { history = h; copy = nodes; request = w }
 
--- what the driver is asked for: the report is the copy's crawl
-abbrev pub request : Asked → Request
-request a = request_of a.history a.copy a.target a.mode md5
+-- what the drive is made from: the report is the copy's crawl
+abbrev pub input : Asked → DriveInput
+input a = input_of a.history (crawl a.copy) a.request
 
 -- ---- a run that makes no call
 
@@ -63,14 +60,17 @@ run_fault_of _ = Memory
 
 -- why no run leads to the target: no such revision; the copy's root isn't in it; another node is there
 abbrev pub fault_in_turn : Asked → Option RunFault
-fault_in_turn a = option_map run_fault_of (target_fault (request a))
+fault_in_turn a = option_map run_fault_of (target_fault (input a))
 
 abbrev pub is_capacity : ℕ → Bool
 is_capacity n = nat_le 1 n && nat_le n 4096
 
+abbrev pub capacity_fault : ℕ → Option RunFault
+capacity_fault n = if is_capacity n then None else Some Capacity
+
 -- the capacity is looked at after that
 abbrev pub fault_in_threads : Asked → ℕ → Option RunFault
-fault_in_threads a capacity = option_or (fault_in_turn a) (if is_capacity capacity then None else Some Capacity)
+fault_in_threads a capacity = option_or (fault_in_turn a) (capacity_fault capacity)
 
 -- the fault, if there is one; else what ran out
 abbrev pub IsRefusal : Option RunFault → (RunFault → Type 0) → RunFault → Type 0
@@ -114,6 +114,15 @@ abbrev pub IfCancelled : Outcome → (ℕ → ℕ → Type 0) → Type 0
 IfCancelled (Closed calls) P = Unit {0}
 IfCancelled (Aborted made accepted late cause) P = OnCause cause (P made accepted)
 
+abbrev pub IfStopped : Outcome → (ℕ → ℕ → Cause → Type 0) → Type 0
+IfStopped (Closed calls) P = Unit {0}
+IfStopped (Aborted made accepted late cause) P = P made accepted cause
+
+-- why a run stopped after that many calls, by its limit: cancelled at the limit, if the copy accepted all calls made; else memory ran out
+abbrev pub cause_at : Option ℕ → ℕ → ℕ → Cause
+cause_at None made accepted = RanOut
+cause_at (Some n) made accepted = if nat_eq n made && nat_eq accepted made then Cancelled else RanOut
+
 -- the first n calls of the drive, then `AbortEdit` unless the last of them was made
 abbrev pub calls_made : List Call → ℕ → List Call
 calls_made drive made = take made drive ++ (if nat_eq made (length drive) then [] else AbortEdit ∷ [])
@@ -126,27 +135,29 @@ pub record IsSound (a : Asked) (left : Nodes) : Type 0 where
 pub record Ran (a : Asked) (left : Nodes) (o : Outcome) : Type 0 where
   -- the one list of calls that brings the copy to its target
   pub drive : List Call
-  pub is_drive : IsDrive (request a) a.late_texts drive
+  pub is_drive : IsDrive (input a) a.request.options.late_texts drive
   -- the copy is what the accepted calls leave, which are the first of the drive
-  pub copy : (p : Path) → get_in left p ≡ after a.mode (get_in a.copy) (take (accepted_in o) drive) p
+  pub copy : (p : Path) → get_in left p ≡ after a.request.mode (get_in a.copy) (take (accepted_in o) drive) p
   pub accepted : accepted_in o ≤ made_in o
   pub made : made_in o ≤ length drive
   -- after an accepted `CloseEdit` all calls were made, and the copy is, path by path, the target revision looked up through the path map
-  pub closed : IfClosed o (λ calls. (calls ≡ length drive) × ((p : Path) → get_in left p ≡ result (request a) p))
+  pub closed : IfClosed o (λ calls. (calls ≡ length drive) × ((p : Path) → get_in left p ≡ result (input a) p))
   -- otherwise the last call wasn't accepted
   pub aborted : IfAborted o (λ accepted. accepted < length drive)
   -- a given limit on calls is never passed
-  pub limit : IfSome a.cancel_after (λ n. made_in o ≤ n)
+  pub limit : IfSome a.request.options.cancel_after (λ n. made_in o ≤ n)
   -- the run is cancelled at that number alone, before the end of the drive, all calls until then being accepted
-  pub cancelled : IfCancelled o (λ made accepted. (a.cancel_after ≡ Some made) × (accepted ≡ made) × (made < length drive))
+  pub cancelled : IfCancelled o (λ made accepted. (a.request.options.cancel_after ≡ Some made) × (accepted ≡ made) × (made < length drive))
+  -- and it is cancelled at that number wherever it stops there so; a run that stops otherwise ran out of memory
+  pub cause : IfStopped o (λ made accepted cause. cause ≡ cause_at a.request.options.cancel_after made accepted)
   -- a driver that stopped on the notice read the number of the call that was made and refused
   pub late : IfSome (late_in o) (λ n. (n ≡ accepted_in o + 1) × (n ≤ made_in o))
   -- the same run, made again, ends as this one would have
-  pub resumed : Resumes (request a) (reported_again (request a) (crawl left)) (get_in left)
-  -- and one to any target that is there ends with that target's result
-  pub later : (target : ℕ) (mode : Mode) (late : Bool) (calls : List Call) → target_fault (request_of a.history left target mode md5) ≡ None
-      → IsDrive (request_of a.history left target mode md5) late calls
-      → Composes (request_of a.history left target mode md5) (get_in left) calls
+  pub resumed : Resumes (input a) (input_of a.history (crawl left) a.request) (get_in left)
+  -- and a run of any request whose target is there ends with that target's result
+  pub later : (next : Request) (calls : List Call) → target_fault (input_of a.history (crawl left) next) ≡ None
+      → IsDrive (input_of a.history (crawl left) next) next.options.late_texts calls
+      → Composes (input_of a.history (crawl left) next) (get_in left) calls
 
 pub record TurnTheorem (a : Asked) (left : Nodes) (answer : Result Outcome RunFault) : Type 0 where
   -- a refusal comes before any call, for its reason and no other but Memory

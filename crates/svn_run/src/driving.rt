@@ -2,7 +2,7 @@
 ghost use Rattle.std.specs.Prelude.{◌≡◌, None, []};
 ghost use Rattle.svn_model.specs.Checks.{target_fault};
 ghost use Rattle.svn_model.specs.Drive.{IsDrive};
-ghost use Rattle.svn_run.specs.Courses.{request_for, drive_for};
+ghost use Rattle.svn_drive.specs.Requests.{input_of, drive_for};
 ghost use Rattle.svn_run.specs.Driven.{IsDriven};
 
 use crate::gate::Gate;
@@ -36,7 +36,7 @@ pub(crate) struct Drives {
 }
 
 impl Promise<Driven> for Drives {
-    ghost use Rattle.svn_run.specs.Courses.{drive_for};
+    ghost use Rattle.svn_drive.specs.Requests.{drive_for};
     ghost use Rattle.svn_run.specs.Driven.{IsDriven};
 
     ghost kept_by = { λ p d. IsDriven (drive_for p.repo.value p.report.value p.request.value) p.request.value.options.cancel_after p.outbox.value p.watcher.value d };
@@ -54,8 +54,8 @@ pub(crate) fn drive_through<R: Wait, G: Gate>(
     watcher: Watcher,
 ) -> Driven
     requires fresh { outbox.calls ≡ [] }
-    requires target { target_fault (request_for repo.now report.now request.now) ≡ None }
-    requires drive { IsDrive (request_for repo.now report.now request.now) request.now.options.late_texts (drive_for repo.now report.now request.now) }
+    requires target { target_fault (input_of repo.now report.now request.now) ≡ None }
+    requires drive { IsDrive (input_of repo.now report.now request.now) request.now.options.late_texts (drive_for repo.now report.now request.now) }
     ensures { IsDriven (drive_for repo.now report.now request.now) request.now.options.cancel_after outbox watcher result }
 {
     let mut sender = Sender::new(rt, gate, outbox, watcher);

@@ -1,23 +1,27 @@
 //! What a run on two threads returns once both are done.
 ghost use Rattle.std.specs.Prelude.{◌≡◌, length, true};
 ghost use Rattle.svn_link.specs.Calls.{is_over};
-ghost use Rattle.svn_run.specs.Finishing.{late_of, made_of, cause_of, threads_outcome, IsFinished};
+ghost use Rattle.svn_run.specs.Finishing.{late_of, made_of, threads_outcome, IsFinished};
 
 use crate::driving::Driven;
-use crate::outcome::{Cause, Outcome, memory_of};
+use crate::outcome::{Outcome, cause_at};
 use crate::taking::Taken;
 use std::sync::Wait;
 use svn_editor::EditFault;
 use svn_link::{Settled, settle, settle_notice};
 use svn_model::{DriveEnd, DriveFault};
-use svn_types::impossible;
 
-/// Joins the ends again, and says how the run ended.
-pub(crate) fn finish<R: Wait>(rt: &R, driven: Driven, taken: Taken) -> (Outcome, Settled)
+/// Joins the ends again, and says how the run with that limit on calls ended.
+pub(crate) fn finish<R: Wait>(
+    rt: &R,
+    limit: Option<u64>,
+    driven: Driven,
+    taken: Taken,
+) -> (Outcome, Settled)
     requires link { taken.inbox.link ≡ driven.outbox.link }
     requires notice { driven.watcher.notice ≡ taken.teller.notice }
     requires over { is_over taken.inbox.calls ≡ true }
-    ensures { IsFinished driven taken result.0 result.1 }
+    ensures { IsFinished limit driven taken result.0 result.1 }
 {
     let Driven {
         outbox,
@@ -30,8 +34,8 @@ pub(crate) fn finish<R: Wait>(rt: &R, driven: Driven, taken: Taken) -> (Outcome,
         accepted,
     } = taken;
     let settled = settle(outbox, inbox);
-    let refused = settle_notice(rt, teller, watcher);
-    let outcome = outcome_of(&end, sent_calls(&settled), accepted, refused.is_some());
+    let _refused = settle_notice(rt, teller, watcher);
+    let outcome = outcome_of(limit, &end, sent_calls(&settled), accepted);
     (outcome, settled)
 }
 
@@ -41,24 +45,24 @@ fn sent_calls(settled: &Settled) -> u64
     settled.sent
 }
 
-// The outcome, by how the driver ended, how many calls were sent and accepted, and whether one was refused.
+// The outcome, by the limit on calls, how the driver ended, and how many calls were sent and accepted.
 fn outcome_of(
+    limit: Option<u64>,
     end: &Result<DriveEnd, DriveFault>,
     sent: u64,
     accepted: u64,
-    refused: bool,
 ) -> Outcome
-    ensures { result ≡ threads_outcome end.now sent accepted refused }
+    ensures { result ≡ threads_outcome limit end.now sent accepted }
 {
     if accepted == sent {
-        Outcome::Closed { calls: accepted }
-    } else {
-        Outcome::Aborted {
-            made: made_by(end, sent),
-            accepted,
-            late: late_call(end),
-            cause: cause_by(end, refused),
-        }
+        return Outcome::Closed { calls: accepted };
+    }
+    let made = made_by(end, sent);
+    Outcome::Aborted {
+        made,
+        accepted,
+        late: late_call(end),
+        cause: cause_at(limit, made, accepted),
     }
 }
 
@@ -79,20 +83,5 @@ fn late_call(end: &Result<DriveEnd, DriveFault>) -> Option<u64>
     match end {
         Err(DriveFault::Editor(EditFault::Late(n))) => Some(*n),
         _ => None,
-    }
-}
-
-// Why not all calls were accepted, by how the driver ended, and whether one was refused: for memory, as each refusal in a run.
-fn cause_by(end: &Result<DriveEnd, DriveFault>, refused: bool) -> Cause
-    ensures { result ≡ cause_of end.now refused }
-{
-    if refused {
-        return Cause::Memory;
-    }
-    match end {
-        Ok(DriveEnd::Cancelled { .. }) => Cause::Cancelled,
-        // where none is refused, all calls are accepted
-        Ok(DriveEnd::Closed { .. }) => impossible(Cause::Memory),
-        Err(fault) => memory_of(*fault),
     }
 }

@@ -1,33 +1,27 @@
 //! Runs on two threads: the driver in one of its own, the working copy in the caller's.
-ghost use Rattle.std.specs.Prelude.{◌≡◌, None, Some, [], IfOk, IfErr, OnErr, true, false};
+ghost use Rattle.std.specs.Prelude.{◌≡◌, None, Some, [], IfOk, IfErr, true, false};
 ghost use Rattle.std.specs.Option.{option_copied};
+ghost use Rattle.svn_drive.specs.declared.request.Request.{Request as Requested};
+ghost use Rattle.svn_drive.specs.Requests.{requested};
 ghost use Rattle.svn_editor.specs.declared.mode.Mode.TheVariants.{Update, SwitchTo};
-ghost use Rattle.svn_editor.specs.Steps.{mode_at};
-ghost use Rattle.svn_edit.specs.Carrying.{CarriedOut};
-ghost use Rattle.svn_model.specs.Crawl.{crawl};
 ghost use Rattle.svn_model.specs.Nodes.{get_in, IsTrueOf};
-ghost use Rattle.svn_run.specs.Beginning.{fault_at};
-ghost use Rattle.svn_run.specs.UpdateTheorem.{asked, is_capacity, RanInThreads, ThreadsTheorem};
+ghost use Rattle.svn_run.specs.Beginning.{switched_to};
+ghost use Rattle.svn_run.specs.UpdateTheorem.{asked, is_capacity, capacity_fault, fault_in_threads, ThreadsTheorem};
 
-use crate::carrier::Carrier;
 use crate::finish::finish;
 use crate::gate::Gate;
-use crate::goal::{Goal, pending_of};
-use crate::known::known_after;
 use crate::laws::{laws, true_copy};
 use crate::listener::{Listener, NoListener};
 use crate::outcome::{Outcome, RunFault};
-use crate::spare::spare_copy;
 use crate::two_threads::{Both, Ends, run_both};
+use crate::whole::{Begun, begin, end, switch_mode, switched_to, target_fault};
 use std::alloc::Global;
-use std::mem;
 use std::sync::Wait;
 use std::thread::Threads;
 use svn_drive::{DriveOptions, Request};
-use svn_edit::Pending;
+use svn_editor::Mode;
 use svn_link::{LinkFault, MAX_CAPACITY, Settled, link, notice};
 use svn_repo::Repo;
-use svn_report::Report;
 use svn_types::{RelPath, Rev};
 use svn_wc::WorkingCopy;
 
@@ -116,22 +110,22 @@ pub fn update<R: Threads + Wait + Sync, G: Gate>(
     gate: &G,
 ) -> Result<(Outcome, Settled), RunFault>
     requires truth { IsTrueOf repo.now (get_in copy.old) }
-    ensures { ThreadsTheorem (asked repo.now copy.old target Update options.late_texts options.cancel_after) options.capacity copy.new result }
+    ensures { ThreadsTheorem (asked repo.now copy.old (requested target Update options.late_texts options.cancel_after)) options.capacity copy.new result }
 {
-    let goal = Goal {
+    let request = Request {
         target,
-        to: None,
+        mode: Mode::Update,
         options: options.of_drive(),
     };
-    run_at(
+    run(
         rt,
-        gate,
         alloc,
-        &mut NoListener,
         repo,
         copy,
-        &goal,
+        &request,
         options.capacity,
+        gate,
+        &mut NoListener,
     )
 }
 
@@ -148,22 +142,30 @@ pub fn switch_to<R: Threads + Wait + Sync, G: Gate>(
     gate: &G,
 ) -> Result<(Outcome, Settled), RunFault>
     requires truth { IsTrueOf repo.now (get_in copy.old) }
-    ensures { ThreadsTheorem (asked repo.now copy.old target (SwitchTo to.now) options.late_texts options.cancel_after) options.capacity copy.new result }
+    ensures { ThreadsTheorem (asked repo.now copy.old (requested target (SwitchTo to.now) options.late_texts options.cancel_after)) options.capacity copy.new result }
 {
-    let goal = Goal {
+    laws();
+    true_copy(repo, copy);
+    if let Some(fault) = refusal(alloc, repo, copy, target, Some(to), options.capacity) {
+        return Err(fault);
+    }
+    let Ok(mode) = switch_mode(to) else {
+        return Err(RunFault::Memory);
+    };
+    let request = Request {
         target,
-        to: Some(to),
+        mode,
         options: options.of_drive(),
     };
-    run_at(
+    run_tested(
         rt,
-        gate,
         alloc,
-        &mut NoListener,
         repo,
         copy,
-        &goal,
+        &request,
         options.capacity,
+        gate,
+        &mut NoListener,
     )
 }
 
@@ -180,119 +182,65 @@ pub fn run<R: Threads + Wait + Sync, G: Gate, L: Listener>(
     listener: &mut L,
 ) -> Result<(Outcome, Settled), RunFault>
     requires truth { IsTrueOf repo.now (get_in copy.old) }
-    ensures { ThreadsTheorem (asked repo.now copy.old request.now.target request.now.mode request.now.options.late_texts request.now.options.cancel_after) capacity copy.new result }
-{
-    let goal = Goal {
-        target: request.target,
-        to: request.mode.root(),
-        options: request.options,
-    };
-    run_at(rt, gate, alloc, listener, repo, copy, &goal, capacity)
-}
-
-// A whole run.
-fn run_at<R: Threads + Wait + Sync, G: Gate, L: Listener>(
-    rt: &R,
-    gate: &G,
-    alloc: Global,
-    listener: &mut L,
-    repo: &Repo,
-    copy: &mut WorkingCopy,
-    goal: &Goal<'_>,
-    capacity: usize,
-) -> Result<(Outcome, Settled), RunFault>
-    requires truth { IsTrueOf repo.now (get_in copy.old) }
-    ensures { ThreadsTheorem (asked repo.now copy.old goal.now.target (mode_at (option_copied goal.now.to)) goal.now.options.late_texts goal.now.options.cancel_after) capacity copy.new result }
+    ensures { ThreadsTheorem (asked repo.now copy.old request.now) capacity copy.new result }
 {
     laws();
     true_copy(repo, copy);
-    if let Some(fault) = goal.fault(alloc, repo, copy) {
+    let to = switched_to(&request.mode);
+    if let Some(fault) = refusal(alloc, repo, copy, request.target, to, capacity) {
         return Err(fault);
     }
-    if !is_capacity(capacity) {
-        return Err(RunFault::Capacity);
-    }
-    let Ok(request) = goal.request() else {
-        return Err(RunFault::Memory);
-    };
-    run_tested(rt, gate, alloc, listener, repo, copy, &request, capacity)
+    run_tested(rt, alloc, repo, copy, request, capacity, gate, listener)
 }
 
-// A run whose target is there, and whose capacity is one. Until it ends another copy is in the place of the caller's.
+// Why no run begins: for its target, then for its capacity.
+fn refusal(
+    alloc: Global,
+    repo: &Repo,
+    copy: &WorkingCopy,
+    target: Rev,
+    to: Option<&RelPath>,
+    capacity: usize,
+) -> Option<RunFault>
+    requires truth { IsTrueOf repo.now (get_in copy.now) }
+    ensures { (w : Requested) → w.target ≡ target → switched_to w.mode ≡ option_copied to.entry → result ≡ fault_in_threads (asked repo.now copy.now w) capacity }
+{
+    match target_fault(alloc, repo, copy, target, to) {
+        Some(fault) => Some(fault),
+        None => capacity_fault(capacity),
+    }
+}
+
+// A run whose target is there, and whose capacity is one.
 fn run_tested<R: Threads + Wait + Sync, G: Gate, L: Listener>(
     rt: &R,
-    gate: &G,
     alloc: Global,
-    listener: &mut L,
     repo: &Repo,
     copy: &mut WorkingCopy,
     request: &Request,
     capacity: usize,
+    gate: &G,
+    listener: &mut L,
 ) -> Result<(Outcome, Settled), RunFault>
     requires truth { IsTrueOf repo.now (get_in copy.old) }
-    requires target { fault_at repo.now request.now.target request.now.mode (get_in copy.old []) ≡ None }
-    requires capacity { is_capacity capacity ≡ true }
-    ensures { ThreadsTheorem (asked repo.now copy.old request.now.target request.now.mode request.now.options.late_texts request.now.options.cancel_after) capacity copy.new result }
+    requires begins { fault_in_threads (asked repo.now copy.old request.now) capacity ≡ None }
+    ensures { ThreadsTheorem (asked repo.now copy.old request.now) capacity copy.new result }
 {
     laws();
     true_copy(repo, copy);
-    let Ok(report) = copy.crawl_and_learn(alloc) else {
-        return Err(RunFault::Memory);
-    };
     let Ok(ends) = ends_of(alloc, capacity) else {
         return Err(RunFault::Memory);
     };
-    let Ok(pending) = pending_of(alloc, request) else {
+    let Ok(begun) = begin(alloc, copy, request) else {
         return Err(RunFault::Memory);
     };
-    let Ok(spare) = spare_copy(alloc) else {
-        return Err(RunFault::Memory);
-    };
-    let own = mem::replace(copy, spare);
-    let (left, answer) = run_copy(
-        rt, gate, alloc, listener, request, repo, &report, ends, pending, own,
-    );
-    *copy = left;
-    answer
-}
-
-// The same, once all is made that a run needs: the calls change the nodes outside a copy, and a copy is made of what they leave. The only fault is
-// NoThread.
-fn run_copy<R: Threads + Wait + Sync, G: Gate, L: Listener>(
-    rt: &R,
-    gate: &G,
-    alloc: Global,
-    listener: &mut L,
-    request: &Request,
-    repo: &Repo,
-    report: &Report,
-    ends: Ends,
-    pending: Pending,
-    copy: WorkingCopy,
-) -> (WorkingCopy, Result<(Outcome, Settled), RunFault>)
-    requires truth { IsTrueOf repo.now (get_in copy) }
-    requires target { fault_at repo.now request.now.target request.now.mode (get_in copy []) ≡ None }
-    requires report { report.now ≡ crawl copy }
-    requires begun { CarriedOut request.now.mode (get_in copy) pending copy [] }
-    requires sent { ends.outbox.calls ≡ [] }
-    requires taken { ends.inbox.calls ≡ [] }
-    requires told { ends.teller.number ≡ None }
-    requires link { ends.inbox.link ≡ ends.outbox.link }
-    requires notice { ends.watcher.notice ≡ ends.teller.notice }
-    ensures ran { IfOk result.1 (λ x. RanInThreads (asked repo.now copy request.now.target request.now.mode request.now.options.late_texts request.now.options.cancel_after) result.0 x.0 x.1) }
-    ensures fault { IfErr result.1 (λ e. e ≡ RunFault.NoThread) }
-    ensures unchanged { OnErr result.1 (result.0 ≡ copy) }
-{
-    laws();
-    true_copy(repo, &copy);
-    let (loose, known) = copy.loosen();
-    let carrier = Carrier {
-        alloc,
-        pending,
-        copy: loose,
-    };
+    let Begun {
+        report,
+        carrier,
+        known,
+    } = begun;
     match run_both(
-        rt, gate, alloc, listener, request, repo, report, ends, carrier,
+        rt, gate, alloc, listener, request, repo, &report, ends, carrier,
     ) {
         Ok(both) => {
             let Both {
@@ -300,22 +248,26 @@ fn run_copy<R: Threads + Wait + Sync, G: Gate, L: Listener>(
                 taken,
                 carrier,
             } = both;
-            let (outcome, settled) = finish(rt, driven, taken);
-            let left = carrier
-                .copy
-                .tie(known_after(known, &request.mode, &outcome));
-            left.law();
-            (left, Ok((outcome, settled)))
+            let (outcome, settled) = finish(rt, request.options.cancel_after, driven, taken);
+            *copy = end(carrier.copy, known, &request.mode, &outcome);
+            Ok((outcome, settled))
         }
-        Err(carrier) => (carrier.copy.tie(known), Err(RunFault::NoThread)),
+        Err(carrier) => {
+            *copy = carrier.copy.tie(known);
+            Err(RunFault::NoThread)
+        }
     }
 }
 
-// Whether a link can have that capacity.
-fn is_capacity(capacity: usize) -> bool
-    ensures { result ≡ is_capacity capacity }
+// Why no link can have that capacity.
+fn capacity_fault(capacity: usize) -> Option<RunFault>
+    ensures { result ≡ capacity_fault capacity }
 {
-    1 <= capacity && capacity <= MAX_CAPACITY
+    if 1 <= capacity && capacity <= MAX_CAPACITY {
+        None
+    } else {
+        Some(RunFault::Capacity)
+    }
 }
 
 // The ends of a new link and of a new notice.

@@ -1,32 +1,24 @@
 //! Runs on one thread: the driver gives each call to the copy as it makes it.
-ghost use Rattle.std.specs.Prelude.{◌≡◌, None, [], Ok};
-ghost use Rattle.std.specs.Option.{option_copied};
+ghost use Rattle.std.specs.Prelude.{◌≡◌, None, []};
 ghost use Rattle.svn_editor.specs.declared.mode.Mode.TheVariants.{Update, SwitchTo};
-ghost use Rattle.svn_editor.specs.Steps.{mode_at};
 ghost use Rattle.md5.specs.Md5.{md5};
+ghost use Rattle.svn_drive.specs.Requests.{requested, input_of, drive_for};
 ghost use Rattle.svn_edit.specs.Carrying.{CarriedOut};
 ghost use Rattle.svn_model.specs.Checks.{target_fault};
-ghost use Rattle.svn_model.specs.Crawl.{crawl};
 ghost use Rattle.svn_model.specs.Drive.{IsDrive};
 ghost use Rattle.svn_model.specs.Effects.{AllAccepted};
 ghost use Rattle.svn_model.specs.Nodes.{WorkingCopy as CopyMap, get_in, IsTrueOf};
-ghost use Rattle.svn_run.specs.Beginning.{fault_at};
 ghost use Rattle.svn_run.specs.Coming.{CameInTurn, turn_outcome};
-ghost use Rattle.svn_run.specs.Courses.{request_for, drive_for};
-ghost use Rattle.svn_run.specs.UpdateTheorem.{asked, late_in, TurnTheorem};
+ghost use Rattle.svn_run.specs.UpdateTheorem.{asked, fault_in_turn, late_in, TurnTheorem};
 
-use crate::carrier::Carrier;
 use crate::counted::Counted;
-use crate::goal::{Goal, pending_of};
-use crate::known::known_after;
 use crate::laws::{laws, true_copy};
 use crate::listener::{Listener, NoListener};
-use crate::outcome::{Cause, Outcome, RunFault, memory_of};
-use crate::spare::spare_copy;
+use crate::outcome::{Outcome, RunFault, cause_at};
+use crate::whole::{Begun, begin, end, switch_mode, switched_to, target_fault};
 use std::alloc::Global;
-use std::mem;
 use svn_drive::{DriveOptions, Request, drive_tested};
-use svn_edit::Pending;
+use svn_editor::Mode;
 use svn_model::{DriveEnd, DriveFault};
 use svn_repo::Repo;
 use svn_report::Report;
@@ -48,18 +40,17 @@ pub fn update_in_turn(
     late_texts: bool,
 ) -> Result<Outcome, RunFault>
     requires truth { IsTrueOf repo.now (get_in copy.old) }
-    ensures { TurnTheorem (asked repo.now copy.old target Update late_texts cancel_after) copy.new result }
+    ensures { TurnTheorem (asked repo.now copy.old (requested target Update late_texts cancel_after)) copy.new result }
 {
-    let options = DriveOptions {
-        cancel_after,
-        late_texts,
-    };
-    let goal = Goal {
+    let request = Request {
         target,
-        to: None,
-        options,
+        mode: Mode::Update,
+        options: DriveOptions {
+            cancel_after,
+            late_texts,
+        },
     };
-    run_at(alloc, &mut NoListener, repo, copy, &goal)
+    run_in_turn(alloc, repo, copy, &request, &mut NoListener)
 }
 
 /// Brings a whole working copy to another path of the repository, at a revision, on one thread: as
@@ -74,18 +65,25 @@ pub fn switch_to_in_turn(
     late_texts: bool,
 ) -> Result<Outcome, RunFault>
     requires truth { IsTrueOf repo.now (get_in copy.old) }
-    ensures { TurnTheorem (asked repo.now copy.old target (SwitchTo to.now) late_texts cancel_after) copy.new result }
+    ensures { TurnTheorem (asked repo.now copy.old (requested target (SwitchTo to.now) late_texts cancel_after)) copy.new result }
 {
-    let options = DriveOptions {
-        cancel_after,
-        late_texts,
+    laws();
+    true_copy(repo, copy);
+    if let Some(fault) = target_fault(alloc, repo, copy, target, Some(to)) {
+        return Err(fault);
+    }
+    let Ok(mode) = switch_mode(to) else {
+        return Err(RunFault::Memory);
     };
-    let goal = Goal {
+    let request = Request {
         target,
-        to: Some(to),
-        options,
+        mode,
+        options: DriveOptions {
+            cancel_after,
+            late_texts,
+        },
     };
-    run_at(alloc, &mut NoListener, repo, copy, &goal)
+    run_tested(alloc, repo, copy, &request, &mut NoListener)
 }
 
 /// Does what is asked for, on one thread: as [`update_in_turn`] and [`switch_to_in_turn`]. The listener hears of each call that the copy accepted.
@@ -97,109 +95,55 @@ pub fn run_in_turn<L: Listener>(
     listener: &mut L,
 ) -> Result<Outcome, RunFault>
     requires truth { IsTrueOf repo.now (get_in copy.old) }
-    ensures { TurnTheorem (asked repo.now copy.old request.now.target request.now.mode request.now.options.late_texts request.now.options.cancel_after) copy.new result }
-{
-    let goal = Goal {
-        target: request.target,
-        to: request.mode.root(),
-        options: request.options,
-    };
-    run_at(alloc, listener, repo, copy, &goal)
-}
-
-// A whole run.
-fn run_at<L: Listener>(
-    alloc: Global,
-    listener: &mut L,
-    repo: &Repo,
-    copy: &mut WorkingCopy,
-    goal: &Goal<'_>,
-) -> Result<Outcome, RunFault>
-    requires truth { IsTrueOf repo.now (get_in copy.old) }
-    ensures { TurnTheorem (asked repo.now copy.old goal.now.target (mode_at (option_copied goal.now.to)) goal.now.options.late_texts goal.now.options.cancel_after) copy.new result }
+    ensures { TurnTheorem (asked repo.now copy.old request.now) copy.new result }
 {
     laws();
     true_copy(repo, copy);
-    if let Some(fault) = goal.fault(alloc, repo, copy) {
+    let to = switched_to(&request.mode);
+    if let Some(fault) = target_fault(alloc, repo, copy, request.target, to) {
         return Err(fault);
     }
-    let Ok(request) = goal.request() else {
-        return Err(RunFault::Memory);
-    };
-    run_tested(alloc, listener, repo, copy, &request)
+    run_tested(alloc, repo, copy, request, listener)
 }
 
-// A run whose target is there. Until it ends another copy is in the place of the caller's.
+// A run whose target is there.
 fn run_tested<L: Listener>(
     alloc: Global,
-    listener: &mut L,
     repo: &Repo,
     copy: &mut WorkingCopy,
     request: &Request,
+    listener: &mut L,
 ) -> Result<Outcome, RunFault>
     requires truth { IsTrueOf repo.now (get_in copy.old) }
-    requires target { fault_at repo.now request.now.target request.now.mode (get_in copy.old []) ≡ None }
-    ensures { TurnTheorem (asked repo.now copy.old request.now.target request.now.mode request.now.options.late_texts request.now.options.cancel_after) copy.new result }
+    requires target { fault_in_turn (asked repo.now copy.old request.now) ≡ None }
+    ensures { TurnTheorem (asked repo.now copy.old request.now) copy.new result }
 {
     laws();
     true_copy(repo, copy);
-    let Ok(report) = copy.crawl_and_learn(alloc) else {
+    let Ok(begun) = begin(alloc, copy, request) else {
         return Err(RunFault::Memory);
     };
-    let Ok(pending) = pending_of(alloc, request) else {
-        return Err(RunFault::Memory);
-    };
-    let Ok(spare) = spare_copy(alloc) else {
-        return Err(RunFault::Memory);
-    };
-    let own = mem::replace(copy, spare);
-    let (left, outcome) = drive_copy(alloc, listener, request, repo, &report, pending, own);
-    *copy = left;
-    Ok(outcome)
-}
-
-// The same, once the report is made: the calls change the nodes outside a copy, and a copy is made of what they leave.
-fn drive_copy<L: Listener>(
-    alloc: Global,
-    listener: &mut L,
-    request: &Request,
-    repo: &Repo,
-    report: &Report,
-    pending: Pending,
-    copy: WorkingCopy,
-) -> (WorkingCopy, Outcome)
-    requires truth { IsTrueOf repo.now (get_in copy) }
-    requires target { fault_at repo.now request.now.target request.now.mode (get_in copy []) ≡ None }
-    requires report { report.now ≡ crawl copy }
-    requires begun { CarriedOut request.now.mode (get_in copy) pending copy [] }
-    ensures { TurnTheorem (asked repo.now copy request.now.target request.now.mode request.now.options.late_texts request.now.options.cancel_after) result.0 (Ok result.1) }
-{
-    laws();
-    true_copy(repo, &copy);
-    let (loose, known) = copy.loosen();
+    let Begun {
+        report,
+        carrier,
+        known,
+    } = begun;
     let mut counted = Counted {
-        carrier: Carrier {
-            alloc,
-            pending,
-            copy: loose,
-        },
+        carrier,
         listener,
         made: 0,
         accepted: 0,
     };
-    let end = drive_counted(alloc, request, repo, report, &mut counted);
+    let ended = drive_counted(alloc, request, repo, &report, &mut counted);
     let Counted {
         carrier,
         made,
         accepted,
         ..
     } = counted;
-    let outcome = outcome_of(&end, made, accepted);
-    let left = carrier
-        .copy
-        .tie(known_after(known, &request.mode, &outcome));
-    left.law();
-    (left, outcome)
+    let outcome = outcome_of(request.options.cancel_after, &ended, made, accepted);
+    *copy = end(carrier.copy, known, &request.mode, &outcome);
+    Ok(outcome)
 }
 
 // Drives the carrier, and counts its calls.
@@ -210,34 +154,33 @@ fn drive_counted<L: Listener>(
     report: &Report,
     counted: &mut Counted<'_, L>,
 ) -> Result<DriveEnd, DriveFault>
-    requires target { target_fault (request_for repo.now report.now request.now) ≡ None }
-    requires drive { IsDrive (request_for repo.now report.now request.now) request.now.options.late_texts (drive_for repo.now report.now request.now) }
+    requires target { target_fault (input_of repo.now report.now request.now) ≡ None }
+    requires drive { IsDrive (input_of repo.now report.now request.now) request.now.options.late_texts (drive_for repo.now report.now request.now) }
     requires made { counted.old.made ≡ 0 }
     requires accepted { counted.old.accepted ≡ 0 }
-    ensures { (w0 : CopyMap) → CarriedOut request.now.mode w0 counted.old.carrier.pending counted.old.carrier.copy.nodes.entries [] → AllAccepted md5 request.now.mode w0 (drive_for repo.now report.now request.now) → CameInTurn (drive_for repo.now report.now request.now) request.now.mode request.now.options.cancel_after w0 counted.new.carrier.copy.nodes.entries (turn_outcome result counted.new.made counted.new.accepted) }
+    ensures { (w0 : CopyMap) → CarriedOut request.now.mode w0 counted.old.carrier.pending counted.old.carrier.copy.nodes.entries [] → AllAccepted md5 request.now.mode w0 (drive_for repo.now report.now request.now) → CameInTurn (drive_for repo.now report.now request.now) request.now.mode request.now.options.cancel_after w0 counted.new.carrier.copy.nodes.entries (turn_outcome request.now.options.cancel_after result counted.new.made counted.new.accepted) }
 {
     laws();
     drive_tested(alloc, repo, report, request, counted)
 }
 
-// What a run returns, by how its driver ended.
-fn outcome_of(end: &Result<DriveEnd, DriveFault>, made: u64, accepted: u64) -> Outcome
-    ensures outcome { result ≡ turn_outcome end.now made accepted }
+// What a run returns, by its limit on calls, how its driver ended, and how many calls were made and accepted.
+fn outcome_of(
+    limit: Option<u64>,
+    end: &Result<DriveEnd, DriveFault>,
+    made: u64,
+    accepted: u64,
+) -> Outcome
+    ensures outcome { result ≡ turn_outcome limit end.now made accepted }
     ensures never_late { late_in result ≡ None }
 {
     match end {
         Ok(DriveEnd::Closed { calls }) => Outcome::Closed { calls: *calls },
-        Ok(DriveEnd::Cancelled { .. }) => Outcome::Aborted {
+        Ok(DriveEnd::Cancelled { .. }) | Err(_) => Outcome::Aborted {
             made,
             accepted,
             late: None,
-            cause: Cause::Cancelled,
-        },
-        Err(fault) => Outcome::Aborted {
-            made,
-            accepted,
-            late: None,
-            cause: memory_of(*fault),
+            cause: cause_at(limit, made, accepted),
         },
     }
 }

@@ -1,6 +1,7 @@
 //! Runs of an update: a driver and a working copy, until the copy is at the target or the run is given up.
 //!
-//! [`update`] and [`switch_to`] drive in a thread of their own, [`update_in_turn`] and [`switch_to_in_turn`] on the caller's. A run that begins
+//! [`run`] does what a `Request` asks for, with the driver in a thread of its own, [`run_in_turn`] on the caller's; [`update`], [`switch_to`],
+//! [`update_in_turn`] and [`switch_to_in_turn`] are the same with arguments instead of a request. A run that begins
 //! returns its [`Outcome`], with a [`Cause`] if it was aborted; one that can't begin a [`RunFault`]. [`Options`] say how a run on two
 //! threads is made, and a [`Gate`] hears of each call as it passes; [`NoGate`] does nothing.
 //!
@@ -12,10 +13,11 @@
 //!
 //! A run requires a copy that is true of the repository; `WorkingCopy::check_true` is the test.
 //!
-//! Files: `in_turn` and `in_threads` have the runs. A run first tests whether the target can be reached (`goal`), then crawls, then drives. The calls
-//! go to a `carrier`: the `Pending` of `svn_edit`, which tests neither the order of the calls nor what the copy would refuse (by the laws of
-//! `law_update` there is nothing to find), and the nodes, which are not in the copy until the run ends. A copy with only a root takes its place
-//! meanwhile (`spare`), and `known` has what is known of the nodes afterwards. The carrier reports each call to the `listener`. On one thread the
+//! Files: `in_turn` and `in_threads` have the runs. Each is a drive between the two halves of `whole`. `begin` crawls the copy and takes its nodes
+//! out of it, until the run ends; a copy with only a root takes its place meanwhile. `end` makes a copy of the nodes again, with what is known of
+//! them. Before that a run tests whether the target can be reached, by the revision and the path of a switch, so that this is known before memory
+//! is asked for. The calls go to a `carrier`: the `Pending` of `svn_edit`, which tests neither the order of the calls nor what the copy would
+//! refuse (by the laws of `law_update` there is nothing to find), and the nodes. The carrier reports each call to the `listener`. On one thread the
 //! driver's editor is the carrier with two counts (`counted`). On two, `two_threads` opens a scope and starts the driver (`driving`), whose editor
 //! (`sender`) checks the notice, calls the `gate` and sends; the caller's side (`taking`) takes each call, calls the gate and applies it. After a
 //! refusal it reports the number once, and only takes the rest. `finish` joins link and notice and makes the `outcome`. `laws` calls the laws.
@@ -32,17 +34,15 @@ mod counted;
 mod driving;
 mod finish;
 mod gate;
-mod goal;
 mod in_threads;
 mod in_turn;
-mod known;
 mod laws;
 mod listener;
 mod outcome;
 mod sender;
-mod spare;
 mod taking;
 mod two_threads;
+mod whole;
 
 pub use gate::{Gate, NoGate};
 pub use in_threads::{Options, run, switch_to, update};

@@ -1,8 +1,9 @@
 //! How an update ends.
 ghost use Rattle.std.specs.Prelude.{◌≡◌, Some};
 ghost use Rattle.svn_run.specs.FaultNumbers.{run_fault_number, run_fault_name};
+ghost use Rattle.svn_run.specs.Knowing.{is_closed};
 ghost use Rattle.svn_run.specs.Printing.{cause_name, outcome_text};
-ghost use Rattle.svn_run.specs.UpdateTheorem.{run_fault_of};
+ghost use Rattle.svn_run.specs.UpdateTheorem.{run_fault_of, cause_at};
 
 use std::fmt;
 use svn_editor::EditFault;
@@ -13,9 +14,9 @@ use thiserror::Error;
 /// Why a run was aborted.
 #[derive(Clone, Copy, Debug, PartialEq, Eq)]
 pub enum Cause {
-    /// As many calls were made as `cancel_after` allows, and the drive has more.
+    /// As many calls were made as `cancel_after` allows, the copy accepted all of them, and the drive has more.
     Cancelled,
-    /// An allocation failed, in the driver or in the copy.
+    /// An allocation failed, in the driver or in the copy, before that.
     Memory,
 }
 
@@ -31,14 +32,14 @@ impl fmt::Display for Cause {
     }
 }
 
-/// The cause that a fault of a drive is in a run, which tests the target before: memory.
-pub(crate) fn memory_of(fault: DriveFault) -> Cause
-    ensures { result ≡ Cause.Memory }
+/// Why a run stopped once that many calls were made and accepted, by its limit. Only the limit and memory stop a run, since its calls are in order
+/// and true of the copy. At the limit it is cancelled, even if the driver ran out of memory after the last call that it may make.
+pub(crate) fn cause_at(limit: Option<u64>, made: u64, accepted: u64) -> Cause
+    ensures { result ≡ cause_at limit made accepted }
 {
-    match fault {
-        DriveFault::Memory | DriveFault::Editor(EditFault::Memory) => Cause::Memory,
-        // the calls are in order and true of the copy, and memory ends before their numbers do
-        _ => impossible(Cause::Memory),
+    match limit {
+        Some(limit) if limit == made && accepted == made => Cause::Cancelled,
+        _ => Cause::Memory,
     }
 }
 
@@ -61,6 +62,15 @@ pub enum Outcome {
         /// Why.
         cause: Cause,
     },
+}
+
+impl Outcome {
+    /// Whether the last call, `CloseEdit`, was accepted: then the copy is at its target.
+    pub fn is_closed(self) -> bool
+        ensures { result ≡ is_closed self }
+    {
+        matches!(self, Outcome::Closed { .. })
+    }
 }
 
 /// `closed CALLS`, or `aborted MADE ACCEPTED CAUSE`.

@@ -4,7 +4,7 @@ ghost use Rattle.svn_edit.specs.Carrying.{CarriedOut};
 ghost use Rattle.svn_model.specs.Checks.{target_fault};
 ghost use Rattle.svn_model.specs.Drive.{IsDrive};
 ghost use Rattle.svn_model.specs.Nodes.{get_in};
-ghost use Rattle.svn_run.specs.Courses.{request_for, drive_for};
+ghost use Rattle.svn_drive.specs.Requests.{input_of, drive_for};
 ghost use Rattle.svn_run.specs.Driven.{IsDriven};
 ghost use Rattle.svn_run.specs.Takes.{IsTaken};
 
@@ -55,8 +55,8 @@ pub(crate) fn run_both<R: Threads + Wait + Sync, G: Gate, L: Listener>(
     requires sent { ends.outbox.calls ≡ [] }
     requires taken { ends.inbox.calls ≡ [] }
     requires told { ends.teller.number ≡ None }
-    requires target { target_fault (request_for repo.now report.now request.now) ≡ None }
-    requires drive { IsDrive (request_for repo.now report.now request.now) request.now.options.late_texts (drive_for repo.now report.now request.now) }
+    requires target { target_fault (input_of repo.now report.now request.now) ≡ None }
+    requires drive { IsDrive (input_of repo.now report.now request.now) request.now.options.late_texts (drive_for repo.now report.now request.now) }
     requires begun { CarriedOut request.now.mode (get_in carrier.copy.nodes.entries) carrier.pending carrier.copy.nodes.entries [] }
     ensures { MatchResult result
         (λ b. IsDriven (drive_for repo.now report.now request.now) request.now.options.cancel_after ends.outbox ends.watcher b.driven × IsTaken request.now.mode (get_in carrier.copy.nodes.entries) ends.inbox ends.teller b.taken b.carrier.copy.nodes.entries)
@@ -72,7 +72,7 @@ pub(crate) fn run_both<R: Threads + Wait + Sync, G: Gate, L: Listener>(
         thread::scope_env(),
         rt,
         move |scope| -> (&mut L, Result<Both, Carrier>)
-            requires { (outbox.calls ≡ []) × (inbox.calls ≡ []) × (teller.number ≡ None) × (target_fault (request_for repo.now report.now request.now) ≡ None) × IsDrive (request_for repo.now report.now request.now) request.now.options.late_texts (drive_for repo.now report.now request.now) × CarriedOut request.now.mode (get_in carrier.copy.nodes.entries) carrier.pending carrier.copy.nodes.entries [] }
+            requires { (outbox.calls ≡ []) × (inbox.calls ≡ []) × (teller.number ≡ None) × (target_fault (input_of repo.now report.now request.now) ≡ None) × IsDrive (input_of repo.now report.now request.now) request.now.options.late_texts (drive_for repo.now report.now request.now) × CarriedOut request.now.mode (get_in carrier.copy.nodes.entries) carrier.pending carrier.copy.nodes.entries [] }
             ensures { MatchResult result.1
                 (λ b. IsDriven (drive_for repo.entry.now report.entry.now request.entry.now) request.entry.now.options.cancel_after outbox watcher b.driven × IsTaken request.entry.now.mode (get_in carrier.copy.nodes.entries) inbox teller b.taken b.carrier.copy.nodes.entries)
                 (λ c. c.copy.nodes.entries ≡ carrier.copy.nodes.entries) }
@@ -87,7 +87,7 @@ pub(crate) fn run_both<R: Threads + Wait + Sync, G: Gate, L: Listener>(
             let driver = scope.spawn_with(
                 promise,
                 move || -> Driven
-                    requires { (outbox.calls ≡ []) × (target_fault (request_for repo.now report.now request.now) ≡ None) × IsDrive (request_for repo.now report.now request.now) request.now.options.late_texts (drive_for repo.now report.now request.now) }
+                    requires { (outbox.calls ≡ []) × (target_fault (input_of repo.now report.now request.now) ≡ None) × IsDrive (input_of repo.now report.now request.now) request.now.options.late_texts (drive_for repo.now report.now request.now) }
                     ensures { IsDriven (drive_for repo.entry.now report.entry.now request.entry.now) request.entry.now.options.cancel_after outbox watcher result }
                 { drive_through(rt, gate, alloc, request, repo, report, outbox, watcher) },
             );

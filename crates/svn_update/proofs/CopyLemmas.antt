@@ -4,12 +4,11 @@ use Rattle.std.specs.Prelude.{IfErr, OnOk, OnErr}
 use Rattle.svn_types.specs.Names.{Path}
 use Rattle.svn_repo.specs.History.{History}
 use Rattle.svn_model.specs.declared.wc_fault.WcFault.{WcFault}
-use Rattle.svn_model.specs.Follow.{Request}
+use Rattle.svn_model.specs.Follow.{Request as DriveInput}
 use Rattle.svn_model.specs.Nodes.{WorkingCopy, get_in, InPathOrder, IsTrueOf}
 use Rattle.svn_run.specs.declared.outcome.Outcome.{Outcome}
 use Rattle.svn_run.specs.declared.outcome.RunFault.{RunFault}
-use Rattle.svn_run.specs.UpdateTheorem.{Asked, Nodes, asked as asked_of}
-use Rattle.svn_editor.specs.declared.mode.Mode.{Mode}
+use Rattle.svn_run.specs.UpdateTheorem.{Asked, Nodes, asked}
 use Rattle.svn_editor.specs.declared.mode.Mode.TheVariants.{Update}
 use Rattle.svn_script.specs.declared.command_line.Settings.{Settings}
 use Rattle.svn_report.specs.Reports.{ReportView}
@@ -18,7 +17,8 @@ use Rattle.svn_model.specs.Checks.{IsCheckable, target_fault}
 use Rattle.svn_model.specs.Crawl.{crawl}
 use Rattle.svn_model.specs.Drive.{IsDrive}
 use Rattle.svn_model.specs.TreeCalls.{drive_calls}
-use Rattle.svn_drive.specs.Walking.{asked}
+use Rattle.svn_drive.specs.declared.request.Request.{Request}
+use Rattle.svn_drive.specs.Requests.{requested, input_of}
 use Rattle.law_drive.specs.Laws.{the_calls_are_a_drive}
 use Rattle.law_update.specs.Laws.{IsTrueCopy, crawl_says_what_stands}
 use Rattle.svn_update.specs.declared.answer.Answer.{Answer}
@@ -53,14 +53,12 @@ run_answers s a left (Err fault) answer is truth in_order ran =
     subst (AnswersRun s a (Some left)) (sym is) (ap (λ (w : Nodes). Some w) ran.unchanged, truth, ran.refused)
 
 -- what a run of the present copy returns
-pub on_run : (s : Settings) (inside state : ScriptState) (target : ℕ) (mode : Mode) (late : Bool) (cancel : Option ℕ) (w : Nodes)
-    (left : Option Nodes) (a : Answer) → inside ≡ state → inside.copy ≡ Some w
-    → AnswersRun s (asked_of inside.repo w target mode late cancel) left a
-    → OnCopy (λ w. AnswersRun s (asked_of state.repo w target mode late cancel) left a) state.copy left a
-on_run s inside state target mode late cancel w left a is there did =
-    subst
-    (λ (t : ScriptState). OnCopy (λ w. AnswersRun s (asked_of t.repo w target mode late cancel) left a) t.copy left a)
-    is (on_copy (λ w. AnswersRun s (asked_of inside.repo w target mode late cancel) left a) inside.copy left a w there did)
+pub on_run : (s : Settings) (inside state : ScriptState) (request : Request) (w : Nodes) (left : Option Nodes) (a : Answer)
+    → inside ≡ state → inside.copy ≡ Some w → AnswersRun s (asked inside.repo w request) left a
+    → OnCopy (λ w. AnswersRun s (asked state.repo w request) left a) state.copy left a
+on_run s inside state request w left a is there did =
+    subst (λ (t : ScriptState). OnCopy (λ w. AnswersRun s (asked t.repo w request) left a) t.copy left a) is
+    (on_copy (λ w. AnswersRun s (asked inside.repo w request) left a) inside.copy left a w there did)
 
 -- a copy that a command would change is made as its definition says, or is as it was
 pub built : (fault : Option WcFault) (IsFault : WcFault → Type 0) (made : WorkingCopy) (old new : Nodes) (r : Result (Unit {0}) WcFault)
@@ -70,7 +68,7 @@ built fault IsFault made old new (Ok x) nodes can f u in_order = (can, (in_order
 built fault IsFault made old new (Err e) nodes can f u in_order = (ap (λ (w : Nodes). Some w) u, f)
 
 -- the drive of a true copy
-pub drives : (h : History) (w : Nodes) (d : Request) (late : Bool) (a : Answer) → IsTrueOf h (get_in w) → IsRecorded d late a
+pub drives : (h : History) (w : Nodes) (d : DriveInput) (late : Bool) (a : Answer) → IsTrueOf h (get_in w) → IsRecorded d late a
     → AnswersDrive h w d late a
 drives h w d late (Refused (DriveRefused e)) is r = (is, r)
 drives h w d late (Driven calls) is r = (is, r.0, r.1)
@@ -79,8 +77,8 @@ drives h w d late _ is r = absurd r
 -- what a true copy reports is driven by the calls of a drive
 pub driven : (h : History) (w : Nodes) (r : ReportView) (target : ℕ) (late : Bool) → crawl_says_what_stands → the_calls_are_a_drive
     → IsTrueCopy h w → r ≡ crawl w
-    → (let d = asked h r target Update in target_fault d ≡ None → IsDrive d late (drive_calls d late))
+    → (let d = input_of h r (requested target Update late None) in target_fault d ≡ None → IsDrive d late (drive_calls d late))
 driven h w r target late says calls true_copy is there =
     let stands = says h w true_copy in
-    calls (asked h r target Update) late true_copy.history (subst IsReport (sym is) stands.report)
+    calls (input_of h r (requested target Update late None)) late true_copy.history (subst IsReport (sym is) stands.report)
     (subst (IsCheckable h) (sym is) stands.checkable) there

@@ -7,7 +7,7 @@ use Rattle.svn_repo.specs.History.{History}
 use Rattle.svn_report.specs.Reports.{ReportView}
 use Rattle.svn_editor.specs.declared.call.Call.{Call}
 use Rattle.svn_editor.specs.declared.mode.Mode.TheVariants.{Update}
-use Rattle.svn_drive.specs.Walking.{asked}
+use Rattle.svn_drive.specs.Requests.{requested, input_of}
 use Rattle.svn_editor.specs.declared.fault.EditFault.{EditFault}
 use Rattle.svn_editor.specs.declared.fault.EditFault.TheVariants.{Memory as EditMemory}
 use Rattle.svn_editor.specs.Editing.{Leads}
@@ -81,16 +81,16 @@ recorded d late calls f answer is (inr (inr h)) =
 -- one that had no call has the calls of the drive, or wants something
 pub drive_recorded : (before h : History) (r : ReportView) (target : ℕ) (late : Bool) (e f : List Call)
     (answer : Result DriveEnd DriveFault)
-    → before ≡ h → e ≡ [] → (let d = asked h r target Update in target_fault d ≡ None → IsDrive d late (drive_calls d late))
-    → (let d = asked before r target Update in Drives records None (target_fault d) (drive_calls d late) answer e f)
-    → AnswersRecorded (asked h r target Update) late f answer
+    → before ≡ h → e ≡ [] → (let d = input_of h r (requested target Update late None) in target_fault d ≡ None → IsDrive d late (drive_calls d late))
+    → (let d = input_of before r (requested target Update late None) in Drives records None (target_fault d) (drive_calls d late) answer e f)
+    → AnswersRecorded (input_of h r (requested target Update late None)) late f answer
 drive_recorded before h r target late e f answer same none is h' =
-    let d = asked h r target Update in
+    let d = input_of h r (requested target Update late None) in
     let from_nothing =
     subst
-    (λ (l : List Call). let d = asked before r target Update in
+    (λ (l : List Call). let d = input_of before r (requested target Update late None) in
     Drives records None (target_fault d) (drive_calls d late) answer l f)
     none h' in
     recorded d late (drive_calls d late) f answer is
-    (subst (λ (g : History). let d = asked g r target Update in Drives records None (target_fault d) (drive_calls d late) answer [] f) same
+    (subst (λ (g : History). let d = input_of g r (requested target Update late None) in Drives records None (target_fault d) (drive_calls d late) answer [] f) same
     from_nothing)

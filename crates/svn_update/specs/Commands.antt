@@ -1,7 +1,6 @@
 -- What each command of a script does and returns.
 --     Does s c old new a      the command takes the old state to the new one, with the result a, the script being run by the settings s
 use Rattle.std.specs.Prelude.{◌≡◌, ℕ, Bool, List, [], ◌++◌, ◌∷◌, length, Option, Some, None, Result, Ok, Err, ◌⊎◌, ◌+◌, ◌<◌}
-use Rattle.md5.specs.Md5.{md5}
 use Rattle.svn_types.specs.Names.{Path}
 use Rattle.svn_repo.specs.History.{History}
 use Rattle.svn_repo.specs.Changes.{IsCommit, commit_fault}
@@ -24,7 +23,7 @@ use Rattle.svn_model.specs.Follow.{Request}
 use Rattle.svn_model.specs.Nodes.{WorkingCopy, get_in, InPathOrder, IsTrueOf}
 use Rattle.svn_model.specs.Refusals.{checkout_fault, place_fault, switch_fault, forget_fault}
 use Rattle.svn_wc.specs.Building.{Refuses}
-use Rattle.law_update.specs.Laws.{request_of}
+use Rattle.svn_drive.specs.Requests.{requested, input_of}
 use Rattle.svn_run.specs.declared.outcome.Outcome.{Outcome}
 use Rattle.svn_run.specs.UpdateTheorem.{Asked, Nodes, asked, IsRefusal, Ran}
 use Rattle.svn_script.specs.declared.command_line.Settings.{Settings}
@@ -156,9 +155,9 @@ Does s (command.Switch path repos_path rev) old new a =
 Does s (command.Forget path) old new a = KeepsRepo old new × OnCopy (λ w. AnswersForget w path new.copy a) old.copy new.copy a
 Does s command.Report old new a = (new ≡ old) × OnCopy (λ w. AnswersReport w a) old.copy new.copy a
 Does s (command.Drive rev late) old new a =
-    (new ≡ old) × OnCopy (λ w. AnswersDrive old.repo w (request_of old.repo w rev UpdateMode md5) late a) old.copy new.copy a
+    (new ≡ old) × OnCopy (λ w. AnswersDrive old.repo w (input_of old.repo (crawl w) (requested rev UpdateMode late None)) late a) old.copy new.copy a
 Does s (command.Update rev cancel late) old new a =
-    KeepsRepo old new × OnCopy (λ w. AnswersRun s (asked old.repo w rev UpdateMode late cancel) new.copy a) old.copy new.copy a
+    KeepsRepo old new × OnCopy (λ w. AnswersRun s (asked old.repo w (requested rev UpdateMode late cancel)) new.copy a) old.copy new.copy a
 Does s (command.SwitchTo to rev cancel late) old new a =
-    KeepsRepo old new × OnCopy (λ w. AnswersRun s (asked old.repo w rev (SwitchMode to) late cancel) new.copy a) old.copy new.copy a
+    KeepsRepo old new × OnCopy (λ w. AnswersRun s (asked old.repo w (requested rev (SwitchMode to) late cancel)) new.copy a) old.copy new.copy a
 Does s command.Show old new a = (new ≡ old) × (a ≡ show_answer old.copy)

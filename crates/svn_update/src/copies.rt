@@ -1,14 +1,12 @@
 //! What the commands on the working copy do.
 ghost use Rattle.std.specs.Prelude.{◌≡◌, None};
-ghost use Rattle.md5.specs.Md5.{md5};
 ghost use Rattle.svn_editor.specs.declared.mode.Mode.TheVariants.{Update};
 ghost use Rattle.svn_model.specs.Checks.{target_fault};
 ghost use Rattle.svn_model.specs.Drive.{IsDrive};
-ghost use Rattle.svn_model.specs.TreeCalls.{drive_calls};
-ghost use Rattle.law_update.specs.Laws.{request_of};
+ghost use Rattle.svn_model.specs.Crawl.{crawl};
+ghost use Rattle.svn_drive.specs.Requests.{requested, input_of, drive_for};
 ghost use Rattle.svn_run.specs.UpdateTheorem.{asked};
 ghost use Rattle.svn_update.specs.Commands.{AnswersCheckout, AnswersPlace, AnswersSwitch, AnswersForget, AnswersReport, AnswersDrive, AnswersRun, KeepsRepo, OnCopy, answer_built, IsRecorded};
-ghost use Rattle.svn_drive.specs.Walking.{asked as driven_for};
 
 use crate::answer::{Answer, Refusal};
 use crate::kept_calls::KeptCalls;
@@ -103,7 +101,7 @@ impl State {
 
     /// Drives what the copy reports, and keeps the calls.
     pub(crate) fn drive(&self, rev: Rev, late: bool) -> Answer
-        ensures { OnCopy (λ w. AnswersDrive self.now.repo w (request_of self.now.repo w rev Update md5) late result) self.now.copy self.now.copy result }
+        ensures { OnCopy (λ w. AnswersDrive self.now.repo w (input_of self.now.repo (crawl w) (requested rev Update late None)) late result) self.now.copy self.now.copy result }
     {
         let Some(copy) = &self.copy else {
             return Answer::Refused(Refusal::NoCopy);
@@ -120,8 +118,8 @@ impl State {
 
     // Drives a report.
     fn drive_report(&self, report: &Report, rev: Rev, late: bool) -> Answer
-        requires drive { let d = driven_for self.now.repo report.now rev Update in target_fault d ≡ None → IsDrive d late (drive_calls d late) }
-        ensures { IsRecorded (driven_for self.now.repo report.now rev Update) late result }
+        requires drive { let w = requested rev Update late None in target_fault (input_of self.now.repo report.now w) ≡ None → IsDrive (input_of self.now.repo report.now w) late (drive_for self.now.repo report.now w) }
+        ensures { IsRecorded (input_of self.now.repo report.now (requested rev Update late None)) late result }
     {
         let mut kept = KeptCalls::new(self.alloc);
         let options = DriveOptions {
@@ -142,7 +140,7 @@ impl State {
         request: &Request,
     ) -> Answer
         ensures keeps { KeepsRepo self.old self.new }
-        ensures answer { OnCopy (λ w. AnswersRun settings (asked self.old.repo w request.now.target request.now.mode request.now.options.late_texts request.now.options.cancel_after) self.new.copy result) self.old.copy self.new.copy result }
+        ensures answer { OnCopy (λ w. AnswersRun settings (asked self.old.repo w request.now) self.new.copy result) self.old.copy self.new.copy result }
     {
         let Some(copy) = &mut self.copy else {
             return Answer::Refused(Refusal::NoCopy);

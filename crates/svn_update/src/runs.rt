@@ -56,7 +56,7 @@ fn run_in_threads<T: Threads + Wait + Sync>(
     capacity: usize,
 ) -> Result<Outcome, RunFault>
     requires truth { IsTrueOf repo.now (get_in copy.old) }
-    ensures { ThreadsRun (asked repo.now copy.old request.now.target request.now.mode request.now.options.late_texts request.now.options.cancel_after) capacity copy.new result }
+    ensures { ThreadsRun (asked repo.now copy.old request.now) capacity copy.new result }
 {
     outcome_alone(run(
         rt,
@@ -81,7 +81,7 @@ pub(crate) fn run_copy<T: Threads + Wait + Sync>(
     request: &Request,
 ) -> Result<Outcome, RunFault>
     requires truth { IsTrueOf repo.now (get_in copy.old) }
-    ensures { ScriptRun settings (asked repo.now copy.old request.now.target request.now.mode request.now.options.late_texts request.now.options.cancel_after) copy.new result }
+    ensures { ScriptRun settings (asked repo.now copy.old request.now) copy.new result }
 {
     if settings.in_turn {
         run_in_turn(alloc, repo, copy, request, &mut NoListener)

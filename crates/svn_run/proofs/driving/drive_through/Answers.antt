@@ -1,7 +1,7 @@
 use Rattle.std.proofs.Common.{◌∙◌, sym, ap, subst}
 use Rattle.svn_link.specs.Ends.{LinkEnd, NoticeEnd}
 use Rattle.svn_model.specs.Ends.{Drives}
-use Rattle.svn_run.specs.Courses.{request_for, drive_for}
+use Rattle.svn_drive.specs.Requests.{input_of, drive_for}
 use Rattle.svn_run.specs.Driven.{IsSent}
 use Rattle.svn_run.specs.Senders.{Answered}
 use Rattle.svn_run.proofs.DriveCalls.{drive_open, drive_closes, drive_some}
@@ -11,7 +11,7 @@ use Rattle.svn_run.proofs.driving.drive_through.Goals as goal
 pub returns : goal.returns
 returns g c =
     let asked = c.args.request.now in
-    let d = request_for c.args.repo.now c.args.report.now asked in
+    let d = input_of c.args.repo.now c.args.report.now asked in
     let late = asked.options.late_texts in
     let limit = asked.options.cancel_after in
     let drive = drive_for c.args.repo.now c.args.report.now asked in

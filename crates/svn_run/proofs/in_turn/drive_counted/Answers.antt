@@ -1,5 +1,5 @@
 use Rattle.std.proofs.Common.{subst}
-use Rattle.svn_drive.specs.Walking.{asked}
+use Rattle.svn_drive.specs.Requests.{input_of}
 use Rattle.svn_model.specs.Ends.{Drives}
 use Rattle.svn_model.specs.TreeCalls.{drive_calls}
 use Rattle.svn_run.specs.declared.counted.Counted.{Counted}
@@ -11,7 +11,7 @@ use Rattle.svn_run.proofs.in_turn.drive_counted.Goals as goal
 pub returns : goal.returns
 returns g c = λ w0 carried accept.
     let mode = c.args.request.now.mode in
-    let d = asked c.args.repo.now c.args.report.now c.args.request.now.target mode in
+    let d = input_of c.args.repo.now c.args.report.now c.args.request.now in
     let late = c.args.request.now.options.late_texts in
     let limit = c.args.request.now.options.cancel_after in
     let answers = (answers-value g.row.L g.L.Listener g.L.Listener-dict).it in

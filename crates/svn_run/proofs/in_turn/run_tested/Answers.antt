@@ -1,54 +1,46 @@
-use Rattle.std.proofs.Common.{◌≡◌, [], sym, ap, subst, refl, ◌∙◌}
-use Rattle.std.specs.Prelude.{None, Ok}
-use Rattle.svn_model.specs.Crawl.{crawl}
-use Rattle.svn_model.specs.Nodes.{get_in, IsTrueOf}
-use Rattle.svn_run.specs.Beginning.{fault_at}
-use Rattle.svn_run.specs.UpdateTheorem.{Nodes, asked, TurnTheorem}
-use Rattle.svn_run.proofs.Theorems.{without_memory}
+use Rattle.std.proofs.Common.{refl, sym, subst}
+use Rattle.svn_model.specs.Nodes.{get_in}
+use Rattle.svn_run.specs.Coming.{CameInTurn}
+use Rattle.svn_run.specs.UpdateTheorem.{Nodes, asked}
+use Rattle.svn_run.proofs.Beginning.{has_target}
+use Rattle.svn_run.proofs.Composing.{drive_for}
+use Rattle.svn_run.proofs.Knowing.{ends_with}
+use Rattle.svn_run.proofs.Reported.{target, is_drive, came}
+use Rattle.svn_run.proofs.Theorems.{without_memory, came_in_turn}
 use Rattle.svn_run.proofs.in_turn.run_tested.Goals as goal
 
 pub returns-in_default : goal.returns-in_default
 returns-in_default g c =
-    let r = c.args.request.now in
-    let a = asked c.args.repo.now c.args.copy.now r.target r.mode r.options.late_texts r.options.cancel_after in
-    without_memory c.laws.ensures a c.true_copy.ensures c.requires.target c.crawl_and_learn.new.self _ c.crawl_and_learn.ensures.same refl
+    let a = asked c.args.repo.now c.args.copy.now c.args.request.now in
+    without_memory c.laws.ensures a c.true_copy.ensures c.requires.target c.begin.new.copy _ c.in_default.ensures.unchanged refl
 
-pub returns-in_default-pending_of : goal.returns-in_default-pending_of
-returns-in_default-pending_of g c =
-    let r = c.args.request.now in
-    let a = asked c.args.repo.now c.args.copy.now r.target r.mode r.options.late_texts r.options.cancel_after in
-    without_memory c.laws.ensures a c.true_copy.ensures c.requires.target c.crawl_and_learn.new.self _ c.crawl_and_learn.ensures.same refl
+pub drive_counted-ended-requires-clause-target : goal.drive_counted-ended-requires-clause-target
+drive_counted-ended-requires-clause-target g c =
+    let a = asked c.args.repo.now c.args.copy.now c.args.request.now in
+    target c.laws.ensures a c.true_copy.ensures c.requires.target c.in-Ok.begun c.in-Ok.ensures.begun
 
-pub returns-in_default-spare_copy : goal.returns-in_default-spare_copy
-returns-in_default-spare_copy g c =
-    let r = c.args.request.now in
-    let a = asked c.args.repo.now c.args.copy.now r.target r.mode r.options.late_texts r.options.cancel_after in
-    without_memory c.laws.ensures a c.true_copy.ensures c.requires.target c.crawl_and_learn.new.self _ c.crawl_and_learn.ensures.same refl
+pub drive_counted-ended-requires-clause-drive : goal.drive_counted-ended-requires-clause-drive
+drive_counted-ended-requires-clause-drive g c =
+    let a = asked c.args.repo.now c.args.copy.now c.args.request.now in
+    is_drive c.laws.ensures a c.true_copy.ensures c.requires.target c.in-Ok.begun c.in-Ok.ensures.begun
 
-pub drive_copy-left-requires-clause-truth : goal.drive_copy-left-requires-clause-truth
-drive_copy-left-requires-clause-truth g c =
-    let same = c.replace-own.ensures.value ∙ c.crawl_and_learn.ensures.same in
-    subst (λ (w : Nodes). IsTrueOf c.args.repo.now (get_in w)) (sym same) c.requires.truth
-
-pub drive_copy-left-requires-clause-target : goal.drive_copy-left-requires-clause-target
-drive_copy-left-requires-clause-target g c =
-    let r = c.args.request.now in
-    let same = c.replace-own.ensures.value ∙ c.crawl_and_learn.ensures.same in
-    subst (λ (w : Nodes). fault_at c.args.repo.now r.target r.mode (get_in w []) ≡ None) (sym same) c.requires.target
-
-pub drive_copy-left-requires-clause-report : goal.drive_copy-left-requires-clause-report
-drive_copy-left-requires-clause-report g c =
-    let same = c.replace-own.ensures.value ∙ c.crawl_and_learn.ensures.same in
-    c.in-Ok.ensures.report ∙ ap (λ (w : Nodes). crawl w) (sym same)
-
-pub drive_copy-left-requires-clause-begun : goal.drive_copy-left-requires-clause-begun
-drive_copy-left-requires-clause-begun g c = c.in-Ok-pending_of.ensures c.replace-own.result
+pub end-requires : goal.end-requires
+end-requires g c =
+    let a = asked c.args.repo.now c.args.copy.now c.args.request.now in
+    let left = c.drive_counted-ended.new.counted.carrier.copy.nodes.entries in
+    let h = came c.laws.ensures a c.true_copy.ensures c.requires.target c.in-Ok.begun c.in-Ok.ensures.begun left c.outcome_of-outcome.result _
+    c.outcome_of-outcome.ensures.outcome c.drive_counted-ended.ensures in
+    ends_with c.laws.ensures a c.true_copy.ensures (has_target a c.requires.target) left c.outcome_of-outcome.result h.came
+    c.in-Ok.begun.known c.in-Ok.ensures.begun.unswitched
 
 pub returns : goal.returns
 returns g c =
-    let r = c.args.request.now in
-    let same = c.replace-own.ensures.value ∙ c.crawl_and_learn.ensures.same in
-    let left = c.drive_copy-left.result.0 in
-    let outcome = c.drive_copy-left.result.1 in
-    subst (λ (w : Nodes). TurnTheorem (asked c.args.repo.now w r.target r.mode r.options.late_texts r.options.cancel_after) left (Ok outcome)) same
-    c.drive_copy-left.ensures
+    let a = asked c.args.repo.now c.args.copy.now c.args.request.now in
+    let left = c.drive_counted-ended.new.counted.carrier.copy.nodes.entries in
+    let outcome = c.outcome_of-outcome.result in
+    let h = came c.laws.ensures a c.true_copy.ensures c.requires.target c.in-Ok.begun c.in-Ok.ensures.begun left outcome _
+    c.outcome_of-outcome.ensures.outcome c.drive_counted-ended.ensures in
+    came_in_turn c.laws.ensures a c.true_copy.ensures c.requires.target c.end.result outcome c.end.ensures.order
+    (subst (λ (w : Nodes). CameInTurn (drive_for a) a.request.mode a.request.options.cancel_after (get_in a.copy) w outcome)
+    (sym c.end.ensures.nodes) h)
+    c.outcome_of-outcome.ensures.never_late

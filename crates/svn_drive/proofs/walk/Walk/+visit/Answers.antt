@@ -11,7 +11,7 @@ use Rattle.svn_model.specs.TreeCalls.{in_turn, sizes, visit_calls, visit_size}
 use Rattle.svn_drive.specs.declared.child_names.Below.{Below}
 use Rattle.svn_drive.specs.Children.{IsChild, names_of}
 use Rattle.svn_drive.specs.Waiting.{waiting, visit_late, entered_late}
-use Rattle.svn_drive.specs.Walking.{IsEntered, request_of, entered_size}
+use Rattle.svn_drive.specs.Walking.{IsEntered, request_of, entered_size, late_texts_of, limit_of}
 use Rattle.svn_drive.proofs.Waits.{waits_on, late-not_entered, late-not_there, late-entered}
 use Rattle.svn_drive.proofs.Visits.{size-not_entered, size-not_there, size-entered}
 use Rattle.svn_drive.proofs.VisitRuns.{visit_stopped, visit_left, visit_absent, visit_whole, name_stopped, names_memory}
@@ -24,7 +24,7 @@ pub visit-returns-in_err-delete_gone-clause-runs : goal.visit-returns-in_err-del
 visit-returns-in_err-delete_gone-clause-runs g t c =
     let same : c.from_residual.result ≡ Err c.in_err-delete_gone.field-0.0 = search rules in
     rw same
-    (visit_stopped g.E.Editor.answers c.args.self.now.limit (request_of c.args.self.now) c.args.self.now.late c.args.place.now.here.path
+    (visit_stopped g.E.Editor.answers (limit_of c.args.self.now) (request_of c.args.self.now) (late_texts_of c.args.self.now) c.args.place.now.here.path
     c.args.place.now.parent c.args.progress.now.next c.requires.short
     c.args.editor.now c.args.progress.now.made c.in_err-delete_gone.field-0.0 c.delete_gone.new.editor c.delete_gone.new.progress.made
     c.in_err-delete_gone.ensures.runs)
@@ -32,7 +32,7 @@ visit-returns-in_err-delete_gone-clause-runs g t c =
 pub visit-returns-then-not-is_entered-clause-runs : goal.visit-returns-then-not-is_entered-clause-runs
 visit-returns-then-not-is_entered-clause-runs g t c =
     let no : is_entered (request_of c.args.self.now) c.args.place.now.here.path ≡ false = sym c.if-not-is_entered.ensures in
-    visit_left g.E.Editor.answers c.args.self.now.limit (request_of c.args.self.now) c.args.self.now.late c.args.place.now.here.path
+    visit_left g.E.Editor.answers (limit_of c.args.self.now) (request_of c.args.self.now) (late_texts_of c.args.self.now) c.args.place.now.here.path
     c.args.place.now.parent c.args.progress.now.next c.requires.short
     c.args.editor.now c.args.progress.now.made c.delete_gone.new.editor c.delete_gone.new.progress.made no c.in_ok-delete_gone.ensures.runs
 
@@ -45,7 +45,7 @@ visit-returns-then-not-is_entered-clause-tokens g t c =
 pub visit-returns-in_default-clause-runs : goal.visit-returns-in_default-clause-runs
 visit-returns-in_default-clause-runs g t c =
     let none : target_node (request_of c.args.self.now) c.args.place.now.here.path ≡ None = sym c.requires.at.target ∙ c.in_default.is in
-    visit_absent g.E.Editor.answers c.args.self.now.limit (request_of c.args.self.now) c.args.self.now.late c.args.place.now.here.path
+    visit_absent g.E.Editor.answers (limit_of c.args.self.now) (request_of c.args.self.now) (late_texts_of c.args.self.now) c.args.place.now.here.path
     c.args.place.now.parent c.args.progress.now.next c.requires.short
     c.args.editor.now c.args.progress.now.made c.delete_gone.new.editor c.delete_gone.new.progress.made none
     c.in_ok-delete_gone.ensures.runs
@@ -60,7 +60,7 @@ pub visit-returns-clause-runs : goal.visit-returns-clause-runs
 visit-returns-clause-runs g t c =
     let i : IsEntered (request_of c.args.self.now) c.args.place.now.here.path c.in-Some.node c.kind_of.result =
     record { entered = search rules; target = search rules; kind = search rules } in
-    visit_whole g.E.Editor.answers c.args.self.now.limit (request_of c.args.self.now) c.args.self.now.late c.args.place.now.here.path
+    visit_whole g.E.Editor.answers (limit_of c.args.self.now) (request_of c.args.self.now) (late_texts_of c.args.self.now) c.args.place.now.here.path
     c.args.place.now.parent c.args.progress.now.next c.requires.short
     c.args.editor.now c.args.progress.now.made c.in-Some.node c.kind_of.result i c.visit_entered.result c.delete_gone.new.editor
     c.visit_entered.new.editor
@@ -84,7 +84,7 @@ visit-returns-clause-tokens g t c =
 pub visit-returns-then-not-is_entered-clause-waits : goal.visit-returns-then-not-is_entered-clause-waits
 visit-returns-then-not-is_entered-clause-waits g t c =
     let none =
-    late-not_entered (request_of c.args.self.now) c.args.self.now.late c.args.place.now.here.path c.args.place.now.parent
+    late-not_entered (request_of c.args.self.now) (late_texts_of c.args.self.now) c.args.place.now.here.path c.args.place.now.parent
     c.args.progress.now.next c.requires.short (sym c.if-not-is_entered.ensures) in
     sym (ap (λ l. waiting c.args.self.now.repo.now c.args.later.now.items ++ l) none
     ∙ append-nil (waiting c.args.self.now.repo.now c.args.later.now.items))
@@ -92,7 +92,7 @@ visit-returns-then-not-is_entered-clause-waits g t c =
 pub visit-returns-in_default-clause-waits : goal.visit-returns-in_default-clause-waits
 visit-returns-in_default-clause-waits g t c =
     let none =
-    late-not_there (request_of c.args.self.now) c.args.self.now.late c.args.place.now.here.path c.args.place.now.parent
+    late-not_there (request_of c.args.self.now) (late_texts_of c.args.self.now) c.args.place.now.here.path c.args.place.now.parent
     c.args.progress.now.next c.requires.short (sym c.requires.at.target ∙ c.in_default.is) in
     sym (ap (λ l. waiting c.args.self.now.repo.now c.args.later.now.items ++ l) none
     ∙ append-nil (waiting c.args.self.now.repo.now c.args.later.now.items))
@@ -102,12 +102,12 @@ visit-returns-clause-waits g t c =
     let i : IsEntered (request_of c.args.self.now) c.args.place.now.here.path c.in-Some.node c.kind_of.result =
     record { entered = search rules; target = search rules; kind = search rules } in
     let all =
-    late-entered (request_of c.args.self.now) c.args.self.now.late c.args.place.now.here.path c.args.place.now.parent
+    late-entered (request_of c.args.self.now) (late_texts_of c.args.self.now) c.args.place.now.here.path c.args.place.now.parent
     c.args.progress.now.next c.in-Some.node c.kind_of.result c.requires.short i in
     let before : c.delete_gone.new.progress.next ≡ c.args.progress.now.next = c.in_ok-delete_gone.ensures.tokens in
     let same =
     ap
-    (λ n. entered_late (request_of c.args.self.now) c.args.self.now.late c.args.place.now.here.path c.args.place.now.parent n
+    (λ n. entered_late (request_of c.args.self.now) (late_texts_of c.args.self.now) c.args.place.now.here.path c.args.place.now.parent n
     c.in-Some.node c.kind_of.result)
     before
     ∙ sym all in
@@ -141,10 +141,10 @@ visit_below-loop-below-init g t c =
       refl,
       (omega arith, λ h. h),
       ap
-          (λ (l : List Below). in_turn (λ q n. visit_calls (request_of c.args.self.now) c.args.self.now.late q c.args.token n)
+          (λ (l : List Below). in_turn (λ q n. visit_calls (request_of c.args.self.now) (late_texts_of c.args.self.now) q c.args.token n)
           (visit_size (request_of c.args.self.now)) c.args.place.now.here.path c.args.progress.now.next (names_of l))
           all
-          ∙ sym (same.calls c.args.self.now.late c.args.token c.args.progress.now.next),
+          ∙ sym (same.calls (late_texts_of c.args.self.now) c.args.token c.args.progress.now.next),
       ap
           (λ (l : List Below). c.args.progress.now.next
           + sizes (visit_size (request_of c.args.self.now)) c.args.place.now.here.path (names_of l))
@@ -152,11 +152,11 @@ visit_below-loop-below-init g t c =
           ∙ ap (λ n. c.args.progress.now.next + n) (sym same.tokens),
       ap
           (λ (l : List Below). waiting c.args.self.now.repo.now c.args.later.now.items
-          ++ in_turn (λ q n. visit_late (request_of c.args.self.now) c.args.self.now.late q c.args.token n)
+          ++ in_turn (λ q n. visit_late (request_of c.args.self.now) (late_texts_of c.args.self.now) q c.args.token n)
           (visit_size (request_of c.args.self.now)) c.args.place.now.here.path c.args.progress.now.next (names_of l))
           all
           ∙ ap (λ l. waiting c.args.self.now.repo.now c.args.later.now.items ++ l)
-          (sym (same.waits c.args.self.now.late c.args.token c.args.progress.now.next)),
+          (sym (same.waits (late_texts_of c.args.self.now) c.args.token c.args.progress.now.next)),
       subst (AllByRecursion (IsChild (request_of c.args.self.now) c.args.place.now)) (sym all) c.in_ok-children.ensures.under,
       tt,
     )
@@ -166,8 +166,8 @@ visit_below-returns-in_err-child-clause-runs g t c =
     let same : c.from_residual-in_err-child.result ≡ Err Memory = search rules in
     let inv = c.loop-below.invariant in
     rw same
-    (names_memory g.E.Editor.answers c.args.self.now.limit
-    (λ q n. visit_calls (request_of c.args.self.now) c.args.self.now.late q c.args.token n) (visit_size (request_of c.args.self.now))
+    (names_memory g.E.Editor.answers (limit_of c.args.self.now)
+    (λ q n. visit_calls (request_of c.args.self.now) (late_texts_of c.args.self.now) q c.args.token n) (visit_size (request_of c.args.self.now))
     c.args.place.now.here.path
     c.args.progress.now.next (names_below (request_of c.args.self.now) c.args.place.now.here.path) c.args.editor.now
     c.args.progress.now.made
@@ -180,14 +180,14 @@ visit_below-returns-in_err-visit-clause-runs g t c =
     let items : c.loop-below.below-iterator.rest.items ≡ c.in-Some.below ∷ c.next.new.self.rest.items = search rules in
     let inv = rw items at c.loop-below.invariant in
     rw same
-    (name_stopped g.E.Editor.answers c.args.self.now.limit
-    (λ q n. visit_calls (request_of c.args.self.now) c.args.self.now.late q c.args.token n) (visit_size (request_of c.args.self.now))
+    (name_stopped g.E.Editor.answers (limit_of c.args.self.now)
+    (λ q n. visit_calls (request_of c.args.self.now) (late_texts_of c.args.self.now) q c.args.token n) (visit_size (request_of c.args.self.now))
     c.args.place.now.here.path
     c.args.progress.now.next (names_below (request_of c.args.self.now) c.args.place.now.here.path) c.args.editor.now
     c.args.progress.now.made
     c.loop-below.progress.next c.in-Some.below.name.now (names_of c.next.new.self.rest.items) c.loop-below.editor c.visit.new.editor
     c.loop-below.progress.made c.visit.new.progress.made c.in_err-visit.field-0.0 (inv.0, inv.1, inv.2, inv.3, inv.4)
-    (visit_at g.E.Editor.answers c.args.self.now.limit (request_of c.args.self.now) c.args.self.now.late c.in_ok-child.child.here.path
+    (visit_at g.E.Editor.answers (limit_of c.args.self.now) (request_of c.args.self.now) (late_texts_of c.args.self.now) c.in_ok-child.child.here.path
     (child c.args.place.now.here.path c.in-Some.below.name.now) c.in_ok-child.child.parent c.args.token
     c.loop-below.progress.next (Err c.in_err-visit.field-0.0) c.loop-below.editor c.visit.new.editor c.loop-below.progress.made
     c.visit.new.progress.made
@@ -202,14 +202,14 @@ visit_below-loop-below-preserved g t c =
     let tokens : c.visit.new.progress.next ≡ c.loop-below.progress.next + visit_size d q =
     c.in_ok-visit.ensures.tokens ∙ ap (λ r. c.loop-below.progress.next + visit_size d r) c.in_ok-child.ensures.path.0 in
     let r =
-    name_done g.E.Editor.answers c.args.self.now.limit
-    (λ q n. visit_calls (request_of c.args.self.now) c.args.self.now.late q c.args.token n) (visit_size (request_of c.args.self.now))
+    name_done g.E.Editor.answers (limit_of c.args.self.now)
+    (λ q n. visit_calls (request_of c.args.self.now) (late_texts_of c.args.self.now) q c.args.token n) (visit_size (request_of c.args.self.now))
     c.args.place.now.here.path
     c.args.progress.now.next (names_below (request_of c.args.self.now) c.args.place.now.here.path) c.args.editor.now
     c.args.progress.now.made
     c.loop-below.progress.next c.visit.new.progress.next c.in-Some.below.name.now (names_of c.next.new.self.rest.items) c.loop-below.editor
     c.visit.new.editor c.loop-below.progress.made c.visit.new.progress.made (inv.0, inv.1, inv.2, inv.3, inv.4)
-    (visit_at g.E.Editor.answers c.args.self.now.limit (request_of c.args.self.now) c.args.self.now.late c.in_ok-child.child.here.path
+    (visit_at g.E.Editor.answers (limit_of c.args.self.now) (request_of c.args.self.now) (late_texts_of c.args.self.now) c.in_ok-child.child.here.path
     (child c.args.place.now.here.path c.in-Some.below.name.now) c.in_ok-child.child.parent c.args.token
     c.loop-below.progress.next (Ok tt) c.loop-below.editor c.visit.new.editor c.loop-below.progress.made c.visit.new.progress.made
     c.in_ok-child.ensures.path.0 c.in_ok-child.ensures.parent c.in_ok-visit.ensures.runs)
@@ -219,18 +219,18 @@ visit_below-loop-below-preserved g t c =
       r.2,
       r.3,
       r.4,
-      waits_on (λ q n. visit_late (request_of c.args.self.now) c.args.self.now.late q c.args.token n)
+      waits_on (λ q n. visit_late (request_of c.args.self.now) (late_texts_of c.args.self.now) q c.args.token n)
           (visit_size (request_of c.args.self.now)) c.args.place.now.here.path
           c.loop-below.progress.next c.visit.new.progress.next c.in-Some.below.name.now (names_of c.next.new.self.rest.items)
           (waiting c.args.self.now.repo.now c.loop-below.later.items) (waiting c.args.self.now.repo.now c.visit.new.later.items) _ inv.5
           (c.in_ok-visit.ensures.waits
           ∙ ap
           (λ q. waiting c.args.self.now.repo.now c.loop-below.later.items
-          ++ visit_late (request_of c.args.self.now) c.args.self.now.late q c.in_ok-child.child.parent c.loop-below.progress.next)
+          ++ visit_late (request_of c.args.self.now) (late_texts_of c.args.self.now) q c.in_ok-child.child.parent c.loop-below.progress.next)
           c.in_ok-child.ensures.path.0
           ∙ ap
           (λ x. waiting c.args.self.now.repo.now c.loop-below.later.items
-          ++ visit_late (request_of c.args.self.now) c.args.self.now.late
+          ++ visit_late (request_of c.args.self.now) (late_texts_of c.args.self.now)
           (child c.args.place.now.here.path c.in-Some.below.name.now) x c.loop-below.progress.next)
           c.in_ok-child.ensures.parent)
           tokens,
@@ -252,7 +252,7 @@ pub visit_entered-returns-in_err-enter-clause-runs : goal.visit_entered-returns-
 visit_entered-returns-in_err-enter-clause-runs g t c =
     let same : c.from_residual.result ≡ Err c.in_err-enter.field-0.0 = search rules in
     rw same
-    (entered_stopped_as g.E.Editor.answers c.args.self.now.limit (request_of c.args.self.now) c.args.self.now.late
+    (entered_stopped_as g.E.Editor.answers (limit_of c.args.self.now) (request_of c.args.self.now) (late_texts_of c.args.self.now)
     c.args.place.now.here.path c.args.place.now.parent c.args.progress.now.next c.args.opened.now.node
     c.args.editor.now c.args.progress.now.made c.args.opened.now.token c.requires.token c.args.opened.now.kind c.in_err-enter.field-0.0
     c.enter.new.editor c.enter.new.progress.made c.in_err-enter.ensures.runs)
@@ -262,7 +262,7 @@ pub visit_entered-returns-in_err-visit_below-in-Directory-clause-runs :
 visit_entered-returns-in_err-visit_below-in-Directory-clause-runs g t c =
     let same : c.from_residual-in_err-visit_below-in-Directory.result ≡ Err c.in_err-visit_below-in-Directory.field-0.0 = search rules in
     rw same
-    (entered_below_as g.E.Editor.answers c.args.self.now.limit (request_of c.args.self.now) c.args.self.now.late c.args.place.now.here.path
+    (entered_below_as g.E.Editor.answers (limit_of c.args.self.now) (request_of c.args.self.now) (late_texts_of c.args.self.now) c.args.place.now.here.path
     c.args.place.now.parent c.args.progress.now.next c.args.opened.now.node
     c.args.editor.now c.args.progress.now.made c.args.opened.now.token c.requires.token c.args.opened.now.kind c.in-Directory.is
     c.in_err-visit_below-in-Directory.field-0.0
@@ -272,7 +272,7 @@ visit_entered-returns-in_err-visit_below-in-Directory-clause-runs g t c =
 
 pub visit_entered-returns-in-File-clause-runs : goal.visit_entered-returns-in-File-clause-runs
 visit_entered-returns-in-File-clause-runs g t c =
-    entered_file_as g.E.Editor.answers c.args.self.now.limit (request_of c.args.self.now) c.args.self.now.late c.args.place.now.here.path
+    entered_file_as g.E.Editor.answers (limit_of c.args.self.now) (request_of c.args.self.now) (late_texts_of c.args.self.now) c.args.place.now.here.path
     c.args.place.now.parent c.args.progress.now.next c.args.opened.now.node
     c.args.editor.now c.args.progress.now.made c.args.opened.now.token c.requires.token c.args.opened.now.kind c.in-File.is
     c.end_file.result
@@ -281,7 +281,7 @@ visit_entered-returns-in-File-clause-runs g t c =
 
 pub visit_entered-returns-in_ok-visit_below-in-Directory-clause-runs : goal.visit_entered-returns-in_ok-visit_below-in-Directory-clause-runs
 visit_entered-returns-in_ok-visit_below-in-Directory-clause-runs g t c =
-    entered_directory_as g.E.Editor.answers c.args.self.now.limit (request_of c.args.self.now) c.args.self.now.late
+    entered_directory_as g.E.Editor.answers (limit_of c.args.self.now) (request_of c.args.self.now) (late_texts_of c.args.self.now)
     c.args.place.now.here.path c.args.place.now.parent c.args.progress.now.next c.args.opened.now.node
     c.args.editor.now c.args.progress.now.made c.args.opened.now.token c.requires.token c.args.opened.now.kind c.in-Directory.is
     c.make.result

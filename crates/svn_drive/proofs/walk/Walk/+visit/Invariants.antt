@@ -7,7 +7,7 @@ use Rattle.svn_model.specs.Tree.{names_below}
 use Rattle.svn_model.specs.TreeCalls.{in_turn, sizes, visit_calls, visit_size}
 use Rattle.svn_drive.specs.Children.{IsChild, names_of}
 use Rattle.svn_drive.specs.Waiting.{waiting, visit_late}
-use Rattle.svn_drive.specs.Walking.{IsKnown, request_of}
+use Rattle.svn_drive.specs.Walking.{IsKnown, request_of, late_texts_of, limit_of}
 use Rattle.svn_drive.proofs.walk.Walk.+visit.Given as goal
 
 -- a path has at most 128 names, and a place comes before those below it
@@ -24,14 +24,14 @@ decreases-visit_below g l = 3 * (129 - length l.place.now.here.path)
 abbrev pub invariant-visit_below-loop-below : goal.invariant-visit_below-loop-below
 invariant-visit_below-loop-below g l =
     let d = request_of l.self in
-    let calls = in_turn (λ q n. visit_calls d l.self.late q l.token n) (visit_size d) l.place.here.path in
-    let lates = in_turn (λ q n. visit_late d l.self.late q l.token n) (visit_size d) l.place.here.path in
+    let calls = in_turn (λ q n. visit_calls d (late_texts_of l.self) q l.token n) (visit_size d) l.place.here.path in
+    let lates = in_turn (λ q n. visit_late d (late_texts_of l.self) q l.token n) (visit_size d) l.place.here.path in
     let size = sizes (visit_size d) l.place.here.path in
     let left = names_of l.below-iterator.rest.items in
     let all = names_below d l.place.here.path in
     (done : List Call)
     × Leads g.E.Editor.answers done l.initial.editor l.editor
-    × Makes l.self.limit l.initial.progress.made (length done) l.progress.made
+    × Makes (limit_of l.self) l.initial.progress.made (length done) l.progress.made
     × (done ++ calls l.progress.next left ≡ calls l.initial.progress.next all)
     × (l.progress.next + size left ≡ l.initial.progress.next + size all)
     × (waiting l.self.repo.now l.later.items ++ lates l.progress.next left

@@ -4,6 +4,7 @@ use Rattle.svn_lists.proofs.Parts.{empty_from_length}
 use Rattle.svn_editor.specs.Steps.{Change}
 use Rattle.svn_model.specs.TreeCalls.{call_at, calls_at}
 use Rattle.svn_drive.proofs.VisitRuns.{Run, run_as, call_stopped, call_done, calls_done}
+use Rattle.svn_drive.specs.Walking.{limit_of}
 use Rattle.svn_drive.proofs.walk.Walk.change_props.Goals as goal
 
 pub loop-change-init : goal.loop-change-init
@@ -16,16 +17,16 @@ returns-in_err-make-clause-runs g c =
     let i = rw step at c.loop-change.invariant in
     let all : c.into_iter-change-iterator.result.rest.items ≡ c.args.changes.items = search rules in
     rw same
-    (run_as g.E.Editor.answers c.args.self.now.limit _ _ (Err c.in_err-make.field-0.0) c.args.editor.now c.make.new.editor
+    (run_as g.E.Editor.answers (limit_of c.args.self.now) _ _ (Err c.in_err-make.field-0.0) c.args.editor.now c.make.new.editor
     c.args.progress.now.made c.make.new.progress.made
     (ap (λ l. calls_at [] 0 c.args.opened.now.token (map (Change c.args.opened.now.kind) l)) (sym all))
-    (call_stopped g.E.Editor.answers c.args.self.now.limit
+    (call_stopped g.E.Editor.answers (limit_of c.args.self.now)
     (calls_at [] 0 c.args.opened.now.token (map (Change c.args.opened.now.kind) c.into_iter-change-iterator.result.rest.items))
     c.args.editor.now c.args.progress.now.made
     (call_at [] 0 c.args.opened.now.token (Change c.args.opened.now.kind c.in-Some.change)) _ c.loop-change.editor c.make.new.editor
     c.loop-change.progress.made c.make.new.progress.made c.in_err-make.field-0.0 (i.0, i.1, i.2, i.3)
     (subst
-    (λ x. Run g.E.Editor.answers c.args.self.now.limit (x ∷ [])
+    (λ x. Run g.E.Editor.answers (limit_of c.args.self.now) (x ∷ [])
     (Err c.in_err-make.field-0.0) c.loop-change.editor c.make.new.editor c.loop-change.progress.made c.make.new.progress.made)
     c.change_call-call.ensures c.in_err-make.ensures.runs)))
 
@@ -34,14 +35,14 @@ loop-change-preserved g c =
     let step : c.loop-change.change-iterator.rest.items ≡ c.in-Some.change ∷ c.next.new.self.rest.items = search rules in
     let i = rw step at c.loop-change.invariant in
     let r =
-    call_done g.E.Editor.answers c.args.self.now.limit
+    call_done g.E.Editor.answers (limit_of c.args.self.now)
     (calls_at [] 0 c.args.opened.now.token (map (Change c.args.opened.now.kind) c.into_iter-change-iterator.result.rest.items))
     c.args.editor.now c.args.progress.now.made
     (call_at [] 0 c.args.opened.now.token (Change c.args.opened.now.kind c.in-Some.change))
     (calls_at [] 0 c.args.opened.now.token (map (Change c.args.opened.now.kind) c.next.new.self.rest.items))
     c.loop-change.editor c.make.new.editor c.loop-change.progress.made c.make.new.progress.made (i.0, i.1, i.2, i.3)
     (subst
-    (λ x. Run g.E.Editor.answers c.args.self.now.limit (x ∷ [])
+    (λ x. Run g.E.Editor.answers (limit_of c.args.self.now) (x ∷ [])
     (Ok tt) c.loop-change.editor c.make.new.editor c.loop-change.progress.made c.make.new.progress.made)
     c.change_call-call.ensures c.in_ok-make.ensures.runs) in
     (r.0, r.1, r.2, r.3, c.make.ensures.tokens ∙ i.4)
@@ -53,9 +54,9 @@ returns-clause-runs g c =
     c.loop-change.change-iterator.rest.ok.0 in
     let i = rw none at c.loop-change.invariant in
     let all : c.into_iter-change-iterator.result.rest.items ≡ c.args.changes.items = search rules in
-    run_as g.E.Editor.answers c.args.self.now.limit _ _ (Ok tt) c.args.editor.now c.loop-change.editor c.args.progress.now.made
+    run_as g.E.Editor.answers (limit_of c.args.self.now) _ _ (Ok tt) c.args.editor.now c.loop-change.editor c.args.progress.now.made
     c.loop-change.progress.made (ap (λ l. calls_at [] 0 c.args.opened.now.token (map (Change c.args.opened.now.kind) l)) (sym all))
-    (calls_done g.E.Editor.answers c.args.self.now.limit
+    (calls_done g.E.Editor.answers (limit_of c.args.self.now)
     (calls_at [] 0 c.args.opened.now.token (map (Change c.args.opened.now.kind) c.into_iter-change-iterator.result.rest.items))
     c.args.editor.now c.args.progress.now.made
     c.loop-change.editor c.loop-change.progress.made (i.0, i.1, i.2, i.3))

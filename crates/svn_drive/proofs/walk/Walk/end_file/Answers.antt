@@ -5,12 +5,13 @@ use Rattle.svn_drive.proofs.RunLemmas.{run_nothing, run_memory}
 use Rattle.svn_drive.proofs.FileEnds.{end_closed, end_waits, end_stopped, end_both}
 use Rattle.svn_drive.specs.Waiting.{waiting}
 use Rattle.svn_drive.proofs.Waits.{file_closed, file_waits}
+use Rattle.svn_drive.specs.Walking.{limit_of}
 use Rattle.svn_drive.proofs.walk.Walk.end_file.Goals as goal
 
 pub returns-then-not-has_text-clause-runs : goal.returns-then-not-has_text-clause-runs
 returns-then-not-has_text-clause-runs g c =
     end_closed c.args.self.now c.args.place.now.here.path c.args.opened.now.node c.texted-file.result c.requires.entered
-    c.texted-file.ensures.told g.E.Editor.answers c.args.self.now.limit
+    c.texted-file.ensures.told g.E.Editor.answers (limit_of c.args.self.now)
     c.args.place.now.parent c.args.opened.now.token c.texted-file.ensures.token c.close_file.result c.args.editor.now
     c.close_file.new.editor c.args.progress.now.made c.close_file.new.progress.made
     (sym c.if-not-has_text.ensures) c.close_file.ensures.runs
@@ -20,27 +21,27 @@ returns-in_err-postpone-clause-runs g c =
     let same : c.from_residual.result ≡ Err Memory = search rules in
     rw same
     (end_waits c.args.self.now c.args.place.now.here.path c.args.opened.now.node c.texted-file.result c.requires.entered
-    c.texted-file.ensures.told g.E.Editor.answers c.args.self.now.limit
+    c.texted-file.ensures.told g.E.Editor.answers (limit_of c.args.self.now)
     c.args.place.now.parent c.args.opened.now.token c.texted-file.ensures.token
     (Err Memory) c.args.editor.now c.args.editor.now c.args.progress.now.made c.args.progress.now.made
     c.if-self.true (sym c.if-not-has_text.ensures)
-    (run_memory g.E.Editor.answers c.args.self.now.limit _ c.args.editor.now c.args.progress.now.made))
+    (run_memory g.E.Editor.answers (limit_of c.args.self.now) _ c.args.editor.now c.args.progress.now.made))
 
 pub returns-then-self-clause-runs : goal.returns-then-self-clause-runs
 returns-then-self-clause-runs g c =
     end_waits c.args.self.now c.args.place.now.here.path c.args.opened.now.node c.texted-file.result c.requires.entered
-    c.texted-file.ensures.told g.E.Editor.answers c.args.self.now.limit
+    c.texted-file.ensures.told g.E.Editor.answers (limit_of c.args.self.now)
     c.args.place.now.parent c.args.opened.now.token c.texted-file.ensures.token
     (Ok tt) c.args.editor.now c.args.editor.now c.args.progress.now.made c.args.progress.now.made
     c.if-self.true (sym c.if-not-has_text.ensures)
-    (run_nothing g.E.Editor.answers c.args.self.now.limit c.args.editor.now c.args.progress.now.made)
+    (run_nothing g.E.Editor.answers (limit_of c.args.self.now) c.args.editor.now c.args.progress.now.made)
 
 pub returns-in_err-give_text-clause-runs : goal.returns-in_err-give_text-clause-runs
 returns-in_err-give_text-clause-runs g c =
     let same : c.from_residual-in_err-give_text.result ≡ Err c.in_err-give_text.field-0.0 = search rules in
     rw same
     (end_stopped c.args.self.now c.args.place.now.here.path c.args.opened.now.node c.texted-file.result c.requires.entered
-    c.texted-file.ensures.told g.E.Editor.answers c.args.self.now.limit
+    c.texted-file.ensures.told g.E.Editor.answers (limit_of c.args.self.now)
     c.args.place.now.parent c.args.opened.now.token c.texted-file.ensures.token c.in_err-give_text.field-0.0 c.args.editor.now
     c.give_text.new.editor c.args.progress.now.made c.give_text.new.progress.made
     c.if-self.false (sym c.if-not-has_text.ensures) c.in_err-give_text.ensures.runs)
@@ -48,7 +49,7 @@ returns-in_err-give_text-clause-runs g c =
 pub returns-clause-runs : goal.returns-clause-runs
 returns-clause-runs g c =
     end_both c.args.self.now c.args.place.now.here.path c.args.opened.now.node c.texted-file.result c.requires.entered
-    c.texted-file.ensures.told g.E.Editor.answers c.args.self.now.limit
+    c.texted-file.ensures.told g.E.Editor.answers (limit_of c.args.self.now)
     c.args.place.now.parent c.args.opened.now.token c.texted-file.ensures.token c.close_file-2.result c.args.editor.now
     c.give_text.new.editor c.close_file-2.new.editor
     c.args.progress.now.made c.give_text.new.progress.made c.close_file-2.new.progress.made

@@ -4,7 +4,7 @@ use Rattle.svn_types.specs.Props.{changes_between}
 use Rattle.svn_repo.specs.Readings.{props_of}
 use Rattle.svn_editor.specs.Steps.{Change}
 use Rattle.svn_model.specs.Tree.{enter_action, old_props}
-use Rattle.svn_drive.specs.Walking.{request_of}
+use Rattle.svn_drive.specs.Walking.{request_of, limit_of}
 use Rattle.svn_model.specs.declared.stop.Stop.TheVariants.{Memory}
 use Rattle.svn_drive.proofs.RunLemmas.{run_memory}
 use Rattle.svn_drive.proofs.VisitRuns.{entry_refused, entry_made}
@@ -14,7 +14,7 @@ pub returns-in_err-make_opening-clause-runs : goal.returns-in_err-make_opening-c
 returns-in_err-make_opening-clause-runs g c =
     let same : c.from_residual-in_err-make_opening.result ≡ Err c.in_err-make_opening.field-0.0 = search rules in
     rw same
-    (entry_refused g.E.Editor.answers c.args.self.now.limit c.args.place.now.here.path c.args.place.now.parent c.args.opened.now.token
+    (entry_refused g.E.Editor.answers (limit_of c.args.self.now) c.args.place.now.here.path c.args.place.now.parent c.args.opened.now.token
     (enter_action (request_of c.args.self.now) c.args.place.now.here.path c.args.opened.now.kind) c.in_ok-call.call c.in_ok-call.ensures
     c.args.editor.now c.args.progress.now.made
     (map (Change c.args.opened.now.kind) (changes_between (old_props (request_of c.args.self.now) c.args.place.now.here.path)
@@ -28,16 +28,16 @@ returns-in_err-changes-clause-runs g c =
     changes_between (old_props (request_of c.args.self.now) c.args.place.now.here.path)
     (props_of c.args.self.now.repo.now c.args.opened.now.node) in
     rw same
-    (entry_made g.E.Editor.answers c.args.self.now.limit c.args.place.now.here.path c.args.place.now.parent c.args.opened.now.token
+    (entry_made g.E.Editor.answers (limit_of c.args.self.now) c.args.place.now.here.path c.args.place.now.parent c.args.opened.now.token
     (enter_action (request_of c.args.self.now) c.args.place.now.here.path c.args.opened.now.kind) c.in_ok-call.call c.in_ok-call.ensures
     c.args.editor.now
     c.args.progress.now.made c.args.opened.now.kind all all refl (Err Memory) c.make_opening.new.editor c.make_opening.new.editor
     c.make_opening.new.progress.made c.make_opening.new.progress.made c.in_ok-make_opening.ensures.runs
-    (run_memory g.E.Editor.answers c.args.self.now.limit _ c.make_opening.new.editor c.make_opening.new.progress.made))
+    (run_memory g.E.Editor.answers (limit_of c.args.self.now) _ c.make_opening.new.editor c.make_opening.new.progress.made))
 
 pub returns-clause-runs : goal.returns-clause-runs
 returns-clause-runs g c =
-    entry_made g.E.Editor.answers c.args.self.now.limit c.args.place.now.here.path c.args.place.now.parent c.args.opened.now.token
+    entry_made g.E.Editor.answers (limit_of c.args.self.now) c.args.place.now.here.path c.args.place.now.parent c.args.opened.now.token
     (enter_action (request_of c.args.self.now) c.args.place.now.here.path c.args.opened.now.kind) c.in_ok-call.call c.in_ok-call.ensures
     c.args.editor.now c.args.progress.now.made
     c.args.opened.now.kind c.in_ok-changes.changes.items (changes_between

@@ -1,7 +1,7 @@
 use Rattle.std.proofs.Common.{rules, ◌≡◌, ◌∙◌, ◌+◌, ◌<◌, ◌∷◌, [], ap, sym, length, drop, Err}
 use Rattle.std.proofs.lemmas.List.{drop_more}
 use Rattle.svn_drive.specs.Waiting.{waiting}
-use Rattle.svn_drive.specs.Walking.{text_action, close_action}
+use Rattle.svn_drive.specs.Walking.{text_action, close_action, limit_of}
 use Rattle.svn_model.specs.TreeCalls.{call_at}
 use Rattle.svn_drive.proofs.VisitRuns.{call_stopped, call_done}
 use Rattle.svn_drive.proofs.walk.Walk.give_late.Goals as goal
@@ -16,7 +16,7 @@ returns-in_err-give_text g c =
     let i = rw step at c.loop-file.invariant in
     record {
       runs = rw same
-          (call_stopped g.E.Editor.answers c.args.self.now.limit
+          (call_stopped g.E.Editor.answers (limit_of c.args.self.now)
           (waiting c.args.self.now.repo.now c.args.later.now) c.args.editor.now c.args.progress.now.made
           (call_at [] 0 c.file-item.result.token (text_action c.args.self.now.repo.now c.file-item.result)) _ c.loop-file.editor
           c.give_text.new.editor c.loop-file.progress.made c.give_text.new.progress.made
@@ -32,14 +32,14 @@ returns-in_err-close_file g c =
     let same : c.from_residual-in_err-close_file.result ≡ Err c.in_err-close_file.field-0.0 = search rules in
     let i = rw step at c.loop-file.invariant in
     let r =
-    call_done g.E.Editor.answers c.args.self.now.limit (waiting c.args.self.now.repo.now c.args.later.now) c.args.editor.now
+    call_done g.E.Editor.answers (limit_of c.args.self.now) (waiting c.args.self.now.repo.now c.args.later.now) c.args.editor.now
     c.args.progress.now.made
     (call_at [] 0 c.file-item.result.token (text_action c.args.self.now.repo.now c.file-item.result)) _ c.loop-file.editor
     c.give_text.new.editor c.loop-file.progress.made c.give_text.new.progress.made
     (i.0, i.1, i.2, i.3) c.in_ok-give_text.ensures.runs in
     record {
       runs = rw same
-          (call_stopped g.E.Editor.answers c.args.self.now.limit
+          (call_stopped g.E.Editor.answers (limit_of c.args.self.now)
           (waiting c.args.self.now.repo.now c.args.later.now) c.args.editor.now c.args.progress.now.made
           (call_at [] 0 c.file-item.result.token (close_action c.args.self.now.repo.now c.file-item.result)) _ c.give_text.new.editor
           c.close_file.new.editor c.give_text.new.progress.made c.close_file.new.progress.made
@@ -54,12 +54,12 @@ loop-file-preserved g c =
     ∙ ap (λ x. x ∷ drop (c.loop-file.file-index + 1) c.args.later.now) (sym c.file-item.is) in
     let i = rw step at c.loop-file.invariant in
     let r =
-    call_done g.E.Editor.answers c.args.self.now.limit (waiting c.args.self.now.repo.now c.args.later.now) c.args.editor.now
+    call_done g.E.Editor.answers (limit_of c.args.self.now) (waiting c.args.self.now.repo.now c.args.later.now) c.args.editor.now
     c.args.progress.now.made
     (call_at [] 0 c.file-item.result.token (text_action c.args.self.now.repo.now c.file-item.result)) _ c.loop-file.editor
     c.give_text.new.editor c.loop-file.progress.made c.give_text.new.progress.made
     (i.0, i.1, i.2, i.3) c.in_ok-give_text.ensures.runs in
-    call_done g.E.Editor.answers c.args.self.now.limit (waiting c.args.self.now.repo.now c.args.later.now) c.args.editor.now
+    call_done g.E.Editor.answers (limit_of c.args.self.now) (waiting c.args.self.now.repo.now c.args.later.now) c.args.editor.now
     c.args.progress.now.made
     (call_at [] 0 c.file-item.result.token (close_action c.args.self.now.repo.now c.file-item.result))
     (waiting c.args.self.now.repo.now (drop (c.loop-file.file-index + 1) c.args.later.now))

@@ -2,7 +2,7 @@ use Rattle.std.proofs.Common.{rules, ◌≡◌, ◌∙◌, ◌∷◌, [], refl, 
 use Rattle.svn_editor.specs.declared.call.Call.TheVariants.{CloseEdit}
 use Rattle.svn_drive.specs.Counts.{with_last}
 use Rattle.svn_drive.specs.Waiting.{waiting, visit_late}
-use Rattle.svn_drive.specs.Walking.{request_of}
+use Rattle.svn_drive.specs.Walking.{request_of, late_texts_of, limit_of}
 use Rattle.svn_drive.proofs.VisitRuns.{Run}
 use Rattle.svn_drive.proofs.WholeRuns.{Whole, lates_as, run_refused, run_visit_stopped, run_late_stopped, run_late, run_in_place}
 use Rattle.svn_drive.proofs.walk.Walk.run.Goals as goal
@@ -12,8 +12,8 @@ pub returns-in_err-make : goal.returns-in_err-make
 returns-in_err-make g c =
     let same : c.from_residual.result ≡ Err c.in_err-make.field-0.0 = search rules in
     let whole =
-    run_refused g.E.Editor.answers c.args.self.now.limit
-    (request_of c.args.self.now) c.args.self.now.late c.args.editor.now c.args.progress.now.made
+    run_refused g.E.Editor.answers (limit_of c.args.self.now)
+    (request_of c.args.self.now) (late_texts_of c.args.self.now) c.args.editor.now c.args.progress.now.made
     c.in_err-make.field-0.0 c.make.new.editor c.make.new.progress.made c.in_err-make.ensures.runs in
     record { runs = rw same whole.0; before_last = rw same whole.1 }
 
@@ -21,8 +21,8 @@ pub returns-in_err-visit_root : goal.returns-in_err-visit_root
 returns-in_err-visit_root g c =
     let same : c.from_residual-in_err-visit_root.result ≡ Err c.in_err-visit_root.field-0.0 = search rules in
     let whole =
-    run_visit_stopped g.E.Editor.answers c.args.self.now.limit
-    (request_of c.args.self.now) c.args.self.now.late c.args.editor.now c.args.progress.now.made
+    run_visit_stopped g.E.Editor.answers (limit_of c.args.self.now)
+    (request_of c.args.self.now) (late_texts_of c.args.self.now) c.args.editor.now c.args.progress.now.made
     c.in_err-visit_root.field-0.0 [] 0 c.make.new.progress.next c.make.new.editor c.visit_root.new.editor
     c.make.new.progress.made c.visit_root.new.progress.made
     refl refl (c.make.ensures.tokens ∙ c.requires) c.in_ok-make.ensures.runs c.in_err-visit_root.ensures.runs in
@@ -32,14 +32,14 @@ pub returns-in_err-give_late : goal.returns-in_err-give_late
 returns-in_err-give_late g c =
     let same : c.from_residual-in_err-give_late.result ≡ Err c.in_err-give_late.field-0.0 = search rules in
     let first = c.make.ensures.tokens ∙ c.requires in
-    let lates : waiting c.args.self.now.repo.now c.deref.result.now ≡ visit_late (request_of c.args.self.now) c.args.self.now.late [] 0 0 =
+    let lates : waiting c.args.self.now.repo.now c.deref.result.now ≡ visit_late (request_of c.args.self.now) (late_texts_of c.args.self.now) [] 0 0 =
     ap (waiting c.args.self.now.repo.now) c.deref.ensures.value
-    ∙ lates_as (request_of c.args.self.now) c.args.self.now.late c.args.self.now.repo.now c.new-later.result.items c.visit_root.new.later.items
+    ∙ lates_as (request_of c.args.self.now) (late_texts_of c.args.self.now) c.args.self.now.repo.now c.new-later.result.items c.visit_root.new.later.items
     [] 0 c.make.new.progress.next
     c.new-later.ensures.items refl refl first c.in_ok-visit_root.ensures.waits in
     let whole =
-    run_late_stopped g.E.Editor.answers c.args.self.now.limit
-    (request_of c.args.self.now) c.args.self.now.late c.args.editor.now c.args.progress.now.made
+    run_late_stopped g.E.Editor.answers (limit_of c.args.self.now)
+    (request_of c.args.self.now) (late_texts_of c.args.self.now) c.args.editor.now c.args.progress.now.made
     [] 0 c.make.new.progress.next c.make.new.editor c.visit_root.new.editor c.make.new.progress.made
     c.visit_root.new.progress.made
     refl refl first c.in_ok-make.ensures.runs c.in_ok-visit_root.ensures.runs
@@ -51,12 +51,12 @@ pub returns : goal.returns
 returns g c =
     let first = c.make.ensures.tokens ∙ c.requires in
     let lates =
-    lates_as (request_of c.args.self.now) c.args.self.now.late c.args.self.now.repo.now c.new-later.result.items c.visit_root.new.later.items
+    lates_as (request_of c.args.self.now) (late_texts_of c.args.self.now) c.args.self.now.repo.now c.new-later.result.items c.visit_root.new.later.items
     [] 0 c.make.new.progress.next
     c.new-later.ensures.items refl refl first c.in_ok-visit_root.ensures.waits in
-    let limit = c.args.self.now.limit in
+    let limit = (limit_of c.args.self.now) in
     let d = request_of c.args.self.now in
-    let late = c.args.self.now.late in
+    let late = (late_texts_of c.args.self.now) in
     let made = c.args.progress.now.made in
     let end = c.if-self.progress.made in
     let whole : Whole g.E.Editor.answers limit d late c.args.editor.now made c.make_last.result c.make_last.new.editor end =

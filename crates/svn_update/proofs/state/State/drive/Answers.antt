@@ -1,11 +1,11 @@
-use Rattle.std.proofs.Common.{◌≡◌, ap, sym, subst, ◌∙◌}
-use Rattle.md5.specs.Md5.{md5}
+use Rattle.std.proofs.Common.{◌≡◌, None, ap, sym, subst, ◌∙◌}
 use Rattle.svn_repo.specs.History.{History}
 use Rattle.svn_editor.specs.declared.mode.Mode.TheVariants.{Update}
 use Rattle.svn_report.specs.Reports.{ReportView}
-use Rattle.svn_drive.specs.Walking.{asked}
+use Rattle.svn_drive.specs.Requests.{requested, input_of}
+use Rattle.svn_model.specs.Crawl.{crawl}
 use Rattle.svn_model.specs.Nodes.{get_in, IsTrueOf}
-use Rattle.law_update.specs.Laws.{IsTrueCopy, request_of}
+use Rattle.law_update.specs.Laws.{IsTrueCopy}
 use Rattle.svn_update.specs.Commands.{IsRecorded}
 use Rattle.svn_update.specs.ScriptStates.{ScriptState}
 use Rattle.svn_update.proofs.CopyLemmas.{drives, driven, on_copy}
@@ -32,11 +32,11 @@ pub returns-in-Ok : goal.returns-in-Ok
 returns-in-Ok c =
     let same_repo : c.self.inside.repo ≡ c.args.self.now.repo = ap (λ (s : ScriptState). s.repo) c.self.view_is in
     on_copy _ _ _ _ c.in-Some.copy (ap (λ (s : ScriptState). s.copy) (sym c.self.view_is) ∙ c.in-Some.is)
-    (drives c.args.self.now.repo c.in-Some.copy (request_of c.args.self.now.repo c.in-Some.copy c.args.rev Update md5) c.args.late
+    (drives c.args.self.now.repo c.in-Some.copy (input_of c.args.self.now.repo (crawl c.in-Some.copy) (requested c.args.rev Update c.args.late None)) c.args.late
     c.drive_report.result
     (subst (λ (h : History). IsTrueOf h (get_in c.in-Some.copy)) same_repo
     (found_true c.self.inside.repo c.self.inside.copy c.in-Some.copy c.self.invariant c.in-Some.is))
-    (subst (λ (r : ReportView). IsRecorded (asked c.args.self.now.repo r c.args.rev Update) c.args.late c.drive_report.result)
+    (subst (λ (r : ReportView). IsRecorded (input_of c.args.self.now.repo r (requested c.args.rev Update c.args.late None)) c.args.late c.drive_report.result)
     c.in-Ok.ensures.report c.drive_report.ensures))
 
 pub returns-in-Err : goal.returns-in-Err
