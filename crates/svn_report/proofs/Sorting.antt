@@ -1,7 +1,7 @@
 -- The entries of a report in the order of their paths, as they came or sorted.
 --     as_came      entries that came in path order are in strict order
 --     sorted_strictly, shown_strictly      so is what was sorted, where no two paths are the same
-use Rattle.std.proofs.Common.{◌≡◌, ℕ, zero, suc, ◌+◌, ◌<◌, false, List, [], ◌∷◌, length, refl, sym, ◌∙◌, ap, subst, arith, true≢false, get_or}
+use Rattle.std.proofs.Common.{◌≡◌, ℕ, zero, suc, ◌+◌, ◌<◌, List, [], ◌∷◌, length, refl, sym, ◌∙◌, ap, subst, arith, true≢false, get_or}
 use denote.Ref.{Bor}
 use Rattle.std.specs.Prelude.{map, slice_get, Some, IsPermutation}
 use Rattle.std.specs.List.{AllByRecursion, IsDistinct}

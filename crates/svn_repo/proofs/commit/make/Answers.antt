@@ -1,4 +1,4 @@
-use Rattle.std.proofs.Common.{◌≡◌, ℕ, Some, None, subst, ap, sym, ◌∙◌, arith, ◌<◌, ◌≤◌, length, ◌+◌}
+use Rattle.std.proofs.Common.{◌≡◌, ℕ, Some, subst, ap, sym, ◌∙◌, arith, ◌<◌, ◌≤◌, length, ◌+◌}
 use Rattle.std.specs.Option.{is_some}
 use Rattle.svn_types.specs.Names.{Path}
 use Rattle.svn_repo.specs.Trees.{Tree, leaf, graft, nothing, with_prop}
