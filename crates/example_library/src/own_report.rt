@@ -24,15 +24,42 @@ const SECOND: &[Row] = &[
 
 const THIRD: &[Row] = &[("branch/x", Step::Put("abc"))];
 
+// What a client has at a path that isn't as its parent says: another revision, which may have begun as an empty directory, nothing, or another
+// path of a revision.
+#[derive(Clone, Copy)]
+enum Entry {
+    Set(u64, bool),
+    Delete,
+    Link(&'static str, u64),
+}
+
 // A client that checked out revision 1, updated only `lib/new`, switched `lib/old` to a branch, deleted a file, and was stopped in `doc`.
+const ENTRIES: &[(&str, Entry)] = &[
+    ("", Entry::Set(1, false)),
+    ("README", Entry::Delete),
+    ("doc", Entry::Set(1, true)),
+    ("lib/new", Entry::Set(2, false)),
+    ("lib/old", Entry::Link("branch", 2)),
+];
+
+fn link(alloc: Global, reporter: &mut Reporter, path: &RelPath, to: &str, rev: Rev) -> Result<()> {
+    let to = RelPath::parse(alloc, to)?;
+    Ok(reporter.link_path(path, to, rev, false)?)
+}
+
+fn add(alloc: Global, reporter: &mut Reporter, path: &RelPath, entry: Entry) -> Result<()> {
+    match entry {
+        Entry::Set(rev, start_empty) => Ok(reporter.set_path(path, Rev(rev), start_empty)?),
+        Entry::Delete => Ok(reporter.delete_path(path)?),
+        Entry::Link(to, rev) => link(alloc, reporter, path, to, Rev(rev)),
+    }
+}
+
 fn report(alloc: Global) -> Result<Report> {
     let mut reporter = Reporter::new(alloc);
-    reporter.set_path(&RelPath::root(alloc), Rev(1), false)?;
-    reporter.delete_path(&RelPath::parse(alloc, "README")?)?;
-    reporter.set_path(&RelPath::parse(alloc, "doc")?, Rev(1), true)?;
-    reporter.set_path(&RelPath::parse(alloc, "lib/new")?, Rev(2), false)?;
-    let branch = RelPath::parse(alloc, "branch")?;
-    reporter.link_path(&RelPath::parse(alloc, "lib/old")?, branch, Rev(2), false)?;
+    for (path, entry) in ENTRIES {
+        add(alloc, &mut reporter, &RelPath::parse(alloc, path)?, *entry)?;
+    }
     Ok(reporter.finish_report())
 }
 
