@@ -1,5 +1,5 @@
 -- Texts that are read to their end, and kept.
-use Rattle.std.proofs.Common.{◌≡◌, ℕ, ◌<◌, Bool, true, false, cond, List, [], ◌∷◌, ◌++◌, length, take, Option, Some, None, Result, Ok, Err, refl, sym, ap, subst, ◌∙◌, append-nil, arith}
+use Rattle.std.proofs.Common.{◌≡◌, ◌≢◌, ℕ, ◌+◌, ◌<◌, Bool, true, false, cond, List, [], ◌∷◌, ◌++◌, length, take, Option, Some, None, Result, Ok, Err, refl, sym, ap, subst, ◌∙◌, append-nil, length-append, arith}
 use Rattle.std.specs.Prelude.{All, bytes_eq}
 use Rattle.std.specs.List.{AllZip, list_any}
 use Rattle.std.specs.BTreeMap.{is_at}
@@ -51,6 +51,12 @@ pub bytes_more : (keeps : Bool) (front piece old new : List ℕ) → old ≡ con
     → new ≡ cond keeps (front ++ piece) []
 bytes_more true front piece old new e f = f ∙ ap (λ (l : List ℕ). l ++ piece) e
 bytes_more false front piece old new e f = f ∙ e
+
+-- a text that has a piece with a byte isn't empty
+pub not_empty : (front piece : List ℕ) → length piece ≢ 0 → front ++ piece ≢ []
+not_empty front piece some none =
+    let all : length front + length piece ≡ 0 = sym (length-append front piece) ∙ ap (λ (l : List ℕ). length l) none in
+    some (omega (arith, all))
 
 -- ---- names
 

@@ -5,9 +5,10 @@
 --     IsKeptAs texts store node kept_node      a file's text became what its pristine text is kept as; all else of a node is the same
 --     AreKeptAs texts store nodes kept_nodes      so did all nodes of a list, at the same paths
 --     StandInsStay      where texts are kept as stand-ins, the nodes are the same
---     IsTextFault known name fault      why a text isn't read: where it is said to be another, what is known is a text of another name
+--     IsTextFault known name fault      why a text isn't read: where it is said to be another, what is known is a text of another name, with no byte
+--         exactly where it is said to be empty
 --     IsKeepFault store nodes fault      why the nodes' texts aren't kept: a refusal is of a file of them
-use Rattle.std.specs.Prelude.{◌≡◌, ◌≢◌, ℕ, List, Option, IfSome}
+use Rattle.std.specs.Prelude.{◌≡◌, ◌≢◌, ℕ, List, [], Option, IfSome}
 use Rattle.std.specs.List.{AllZip, Contains}
 use Rattle.svn_types.specs.Names.{Path}
 use Rattle.svn_model.specs.declared.base_node.BaseNode.{BaseNode}
@@ -50,13 +51,14 @@ StandInsStay = (store : Store) (nodes kept_nodes : List (Path × BaseNode)) → 
 
 -- ---- refusals
 
--- a text that has another name
-abbrev pub IsOther : Option (List ℕ) → List ℕ → Type 0
-IsOther known name = (text : List ℕ) × IsKnownAs known text × (kept Sha1 text ≢ name)
+-- a text that has another name, of which this holds
+abbrev pub IsOther : (List ℕ → Type 0) → Option (List ℕ) → List ℕ → Type 0
+IsOther Holds known name = (text : List ℕ) × IsKnownAs known text × (kept Sha1 text ≢ name) × Holds text
 
+-- it is said to be empty exactly where it has no byte
 abbrev pub IsRefused : Option (List ℕ) → List ℕ → PristineFault → Type 0
-IsRefused known name WrongSha1 = IsOther known name
-IsRefused known name Empty = IsOther known name
+IsRefused known name WrongSha1 = IsOther (λ text. text ≢ []) known name
+IsRefused known name Empty = IsOther (λ text. text ≡ []) known name
 IsRefused known name (Read error) = Unit {0}
 
 -- it couldn't be read to its end, or an allocation failed

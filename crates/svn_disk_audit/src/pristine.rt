@@ -1,8 +1,9 @@
 //! Pristine texts: the texts of a working copy's files as they came from the repository, each named by its stand-in.
-ghost use Rattle.std.specs.Prelude.{◌≡◌, ◌<◌, ℕ, List, ◌++◌, [], length, IfOk, IfErr, OnOk, if◌then◌else◌};
+ghost use Rattle.std.specs.Prelude.{◌≡◌, ◌↔◌, ◌<◌, ℕ, List, ◌++◌, [], length, IsTrue, IfOk, IfErr, OnOk, if◌then◌else◌};
 ghost use Rattle.sha1.specs.Sha1.{sha1};
 ghost use Rattle.svn_dump.specs.Sections.{kept};
 ghost use Rattle.svn_disk_audit.specs.Pristine.{IsKnownAs, IsPristine, IsReadFault, IsTextFault};
+ghost use Rattle.svn_disk_audit.specs.declared.fault.PristineFault.TheVariants.{WrongSha1, Empty};
 ghost use Rattle.svn_disk_audit.specs.declared.pristine.TextFault.TheVariants.{Memory};
 
 use crate::fault::PristineFault;
@@ -33,10 +34,10 @@ impl From<AllocError> for TextFault {
     }
 }
 
-// A text that was read: how many bytes, its checksum, and the bytes if they were to be kept.
+// A text that was read: whether it has no byte, its checksum, and the bytes if they were to be kept.
 #[derive(Drop)]
 struct SummedText {
-    len: u64,
+    is_empty: bool,
     sha1: Sha1Sum,
     bytes: Vec<u8>,
 }
@@ -60,22 +61,26 @@ fn read_summed<R: Read>(
 ) -> Result<SummedText, TextFault>
     requires { 0 < length piece.old }
     ensures fault { IfErr result IsReadFault }
-    ensures text { IfOk result (λ t. (text : List ℕ) × IsKnownAs (R.remaining input.old) text × (t.sha1 ≡ sha1 text) × (t.bytes.items ≡ (if keeps then text else []))) }
+    ensures text { IfOk result (λ t. (text : List ℕ) × IsKnownAs (R.remaining input.old) text × (t.sha1 ≡ sha1 text) × (t.bytes.items ≡ (if keeps then text else [])) × (IsTrue t.is_empty ↔ (text ≡ []))) }
 {
     let mut sum = Sha1::new();
     let mut bytes = Vec::new(alloc);
-    let mut len = 0u64;
+    let mut is_empty = true;
     'pieces: for _ in 0..u64::MAX {
         match input.read(piece) {
             Ok(0) => {
                 let sha1 = Sha1Sum(sum.finalize());
-                return Ok(SummedText { len, sha1, bytes });
+                return Ok(SummedText {
+                    is_empty,
+                    sha1,
+                    bytes,
+                });
             }
             Ok(count) => {
                 let read = &piece[..count];
                 sum.update(read);
                 keep(&mut bytes, read, keeps)?;
-                len = len.saturating_add(count as u64);
+                is_empty = false;
             }
             Err(error) if error.kind() == ErrorKind::Interrupted => {}
             Err(error) => return Err(TextFault::Refused(PristineFault::Read(error))),
@@ -86,9 +91,11 @@ fn read_summed<R: Read>(
     Err(TextFault::Refused(PristineFault::Read(error)))
 }
 
-// Why it isn't a text that has another name.
-fn other_text(text: &SummedText) -> PristineFault {
-    if text.len == 0 {
+// Why it isn't the text that was named: it has another name.
+fn other_text(text: &SummedText) -> PristineFault
+    ensures { result ≡ (if text.now.is_empty then Empty else WrongSha1) }
+{
+    if text.is_empty {
         PristineFault::Empty
     } else {
         PristineFault::WrongSha1

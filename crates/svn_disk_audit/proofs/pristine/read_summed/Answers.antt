@@ -1,7 +1,9 @@
 use Rattle.std.proofs.Common.{◌≡◌, ℕ, [], ◌++◌, List, take, refl, sym, ap, subst, ◌∙◌, arith, cond, Bool, true, false}
 use Rattle.std.proofs.KnownBytes.{Consumes-nil}
+use Rattle.std.proofs.lemmas.Bool.{false≢true}
+use Rattle.std.specs.Prelude.{◌↔◌, IsTrue}
 use Rattle.sha1.specs.Sha1.{Holds}
-use Rattle.svn_disk_audit.proofs.KeptTexts.{read_more, read_none, read_all, bytes_more}
+use Rattle.svn_disk_audit.proofs.KeptTexts.{read_more, read_none, read_all, bytes_more, not_empty}
 use Rattle.svn_disk_audit.proofs.pristine.read_summed.Goals as goal
 use Rattle.svn_disk_audit.proofs.pristine.read_summed.Goals.{in-Ok+in_ok-keep-in-Ok, in-Err}
 
@@ -15,6 +17,7 @@ pieces-init g c = record {
   taken = Consumes-nil (g.R.Read.remaining c.args.input.now);
   summed = c.new-sum.ensures;
   bytes = none_kept c.args.keeps c.new-bytes.result.items c.new-bytes.ensures.items;
+  empty = (λ _. refl, λ _. refl);
 }
 
 pub returns-in-Ok-eq0-clause-text : goal.returns-in-Ok-eq0-clause-text
@@ -25,6 +28,7 @@ returns-in-Ok-eq0-clause-text g c =
           c.in-Ok-eq0.field-0 inv.front c.read.new.buf inv.taken c.read.ensures.bytes c.in-Ok-eq0.is c.in-Ok-eq0.field-0-test (omega (arith, c.requires, c.pieces.auto.piece, c.read.auto.buf)),
       c.finalize.ensures inv.front inv.summed,
       inv.bytes,
+      inv.empty,
     )
 
 pub pieces-preserved : goal.pieces-preserved
@@ -42,11 +46,16 @@ pieces-preserved g c =
             summed = subst (λ s. Holds s (inv.front ++ more)) (sym w.sum-is) (w.update.ensures inv.front inv.summed);
             bytes = ap (λ v. v.items) w.bytes-is
                 ∙ bytes_more c.args.keeps inv.front more c.pieces.bytes.items w.keep.new.bytes.items inv.bytes w.in_ok-keep-in-Ok.ensures;
+            empty = (
+              λ said. absurd (false≢true (sym w.is_empty-is ∙ said)),
+              λ none. absurd (not_empty inv.front more (λ zero. w.in-Ok.count-test.1 (w.in-Ok.ensures.bound.1 ∙ zero)) none),
+            );
           }
       | in-Err w ↦ record {
         front = inv.front;
         taken = read_none old mid new c.read.result _ inv.front c.read.new.buf inv.taken c.read.ensures.bytes w.in-Err.is;
         summed = subst (λ s. Holds s inv.front) (sym w.sum-is) inv.summed;
         bytes = ap (λ v. v.items) w.bytes-is ∙ inv.bytes;
+        empty = subst (λ b. IsTrue b ↔ (inv.front ≡ [])) (sym w.is_empty-is) inv.empty;
       }
     ]

@@ -1,13 +1,15 @@
 use Rattle.std.proofs.Common.{◌≡◌, List, ℕ, [], cond}
+use Rattle.std.specs.Prelude.{◌↔◌, IsTrue}
 use Rattle.std.specs.Io.KnownBytes.{Consumes}
 use Rattle.sha1.specs.Sha1.{Holds}
 use Rattle.svn_disk_audit.proofs.pristine.read_summed.Given as goal
 
--- what the reader gave so far is summed, and kept if asked
+-- what the reader gave so far is summed, and kept if asked; whether that is nothing is noted
 abbrev pub invariant-pieces : goal.invariant-pieces
 invariant-pieces g l = record {
   front : List ℕ;
   taken : Consumes (g.R.Read.remaining l.initial.input) (g.R.Read.remaining l.input) front;
   summed : Holds l.sum front;
   bytes : l.bytes.items ≡ cond l.keeps front [];
+  empty : IsTrue l.is_empty ↔ (front ≡ []);
 }
