@@ -1,8 +1,8 @@
 //! Edits of a working copy's nodes: each editor call takes effect, or is refused and changes nothing (`svn_delta.h`, the receiver).
 //!
 //! [`Edit`] takes the calls of one edit and changes the nodes of a copy (`Nodes` of `svn_nodes`), which it is given with each call. The `Applier`
-//! of `svn_wc` holds an edit beside its copy, and is an `Editor`. [`Pending`] is the part of an edit below the check of the order of calls. A caller
-//! if the calls are known to be in order and none is refused, it may be used alone: `carry` does what such a call says, and tests neither.
+//! of `svn_wc` holds an edit beside its copy, and is an `Editor`. [`Pending`] is the part of an edit below the check of the order of calls. Where
+//! calls are known to be in order and none to be refused, it may be used alone: `carry` does what such a call says, and tests little.
 //!
 //! ```
 //! let mut edit = Edit::new(alloc, Mode::Update)?;

@@ -103,8 +103,9 @@ impl Pending {
         }
     }
 
-    /// Applies a call that is known to be in order and not to be refused, and tests neither. The only fault of such a call is Memory. Of any
-    /// other call nothing is promised but that a fault leaves the copy as it was. AbortEdit changes nothing, and has no fault.
+    /// Applies a call that is known to be in order and not to be refused. It tests no order, and of files only that nothing is where one is added
+    /// and the length of texts. The only fault of such a call is Memory. Of any other call nothing is promised but that a fault leaves the copy as
+    /// it was. AbortEdit changes nothing, and has no fault.
     pub fn carry(&mut self, copy: &mut Nodes, call: &Call) -> Result<(), EditFault>
         ensures { Carries self.old copy.old.entries call.now result self.new copy.new.entries }
     {

@@ -2,7 +2,7 @@
 -- A pass is what a thread needs for a step, and it knows which calls were sent by it and which were taken. Seven kinds of step are made:
 --   making: the queue is empty; its one pass may send and take, and has sent and taken nothing
 --   splitting: that pass becomes two: one may send and has what was sent, the other may take and has what was taken
---   send: a call goes behind those that the queue holds, and is the last of what was sent
+--   send: a call goes after those that the queue holds, and is the last of what was sent
 --   full: a send finds no room: nothing changes
 --   take: the call at the front of the queue goes, and is the last of what was taken
 --   empty: a take finds no call: nothing changes

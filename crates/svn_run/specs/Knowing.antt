@@ -1,7 +1,7 @@
 -- What is known of a copy after a run.
 --     is_closed outcome      whether the last call was accepted
 --     known_after was mode outcome      by what was known before, whether it was updated or switched, and how the run ended
---     IsEnding left known      the nodes are a copy's, of which that is known
+--     IsEnding left known      the nodes are those of a copy, and that is known of it
 use Rattle.std.specs.Prelude.{◌≡◌, Bool, true, false}
 use Rattle.svn_editor.specs.declared.mode.Mode.{Mode}
 use Rattle.svn_editor.specs.declared.mode.Mode.TheVariants.{Update, SwitchTo}

@@ -9,7 +9,8 @@ use svn_editor::{Call, EditFault};
 use svn_types::RelPath;
 use svn_wc::LooseCopy;
 
-/// An edit that tests neither order nor refusals, since a run's calls are in order and none is refused, with the nodes that it changes.
+/// An edit that tests no order, and of files little that would be refused, since a run's calls are in order and none is refused; with the nodes that
+/// it changes.
 #[derive(Drop)]
 pub(crate) struct Carrier {
     pub(crate) alloc: Global,
