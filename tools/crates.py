@@ -1,8 +1,12 @@
-"""The crates of this repository, by crates.txt: what tools/gate, tools/prove and tools/vendor share."""
+"""The crates of this repository, by crates.txt, and how they are proved: what tools/gate, tools/prove and tools/vendor share."""
 import os
+import re
 import shutil
+import subprocess
 
 TOP = os.path.dirname(os.path.dirname(os.path.abspath(__file__)))
+# What a check may take, in kB. None was seen to take more; rt counts on nearly twice as much, and would leave processors idle.
+MEMORY = 4_000_000
 
 
 def read_lines():
@@ -38,6 +42,37 @@ def copy_repository(to, lines, names):
         copy_crate(name, f"{to}/crates/{name}")
     # (rt takes the folder with a .git for the top of a repository)
     os.mkdir(f"{to}/.git")
+
+
+def processors():
+    """How many processors there are to use: those that this process may run on, or fewer by the quota of its control group."""
+    found = len(os.sched_getaffinity(0))
+    try:
+        with open("/sys/fs/cgroup/cpu.max", encoding="utf-8") as file:
+            quota, period = file.read().split()
+        return min(found, max(1, int(quota) // int(period)))
+    except (OSError, ValueError):
+        return found
+
+
+def lanes():
+    """How many checks run side by side: one a processor, as many as memory holds."""
+    with open("/proc/meminfo", encoding="utf-8") as file:
+        free = int(re.search(r"MemAvailable:\s+(\d+)", file.read())[1])
+    return max(1, min(processors(), free // MEMORY))
+
+
+def run_ci(top):
+    """Runs `rt ci` in a copy of the repository, passes on what it prints, and returns how many crates passed and failed."""
+    passed, failed = 0, 1
+    environment = {"RT_JOBS": str(lanes()), **os.environ}
+    with subprocess.Popen(["rt", "ci"], cwd=top, env=environment, stdout=subprocess.PIPE, stderr=subprocess.STDOUT, text=True, errors="replace") as run:
+        for line in run.stdout:
+            print(line, end="", flush=True)
+            found = re.fullmatch(r"(\d+) passed, (\d+) failed\n", line)
+            if found:
+                passed, failed = int(found[1]), int(found[2])
+    return passed, failed or int(run.returncode != 0)
 
 
 def take_programs(top, names):
