@@ -96,7 +96,7 @@ const COUNTS: [(Count, &str); 8] = [
     (Count::Written, "what was written loads as the same"),
 ];
 
-fn count(alloc: Global, what: Count, dump: &[u8], deltas: &[u8]) -> Result<usize> {
+fn wrong_in(alloc: Global, what: Count, dump: &[u8], deltas: &[u8]) -> Result<usize> {
     match what {
         Count::Cut => broken::cut_wrongly(alloc, dump),
         Count::Changed => broken::changed_wrongly(alloc, dump),
@@ -111,7 +111,7 @@ fn count(alloc: Global, what: Count, dump: &[u8], deltas: &[u8]) -> Result<usize
 
 fn say_counts<R: AllocGlobal + Print>(rt: &R, dump: &[u8], deltas: &[u8]) -> Result<()> {
     for (what, words) in COUNTS {
-        say(rt, words, count(rt.alloc(), what, dump, deltas)?)?;
+        say(rt, words, wrong_in(rt.alloc(), what, dump, deltas)?)?;
     }
     Ok(())
 }

@@ -1,5 +1,5 @@
 // Copies that are made and changed without an edit, and what they report.
-use crate::steps::{Group, same};
+use crate::steps::{Case, same};
 use std::test::Fail;
 
 // `f` with the text `a` in revision 1, and with `abc` in revision 2.
@@ -10,9 +10,9 @@ const TWO_DIRECTORIES: &str = "mkdir a; put a/x a; mkdir b; put b/y a; commit; c
 const TWO_BRANCHES: &str =
     "mkdir t; mkdir t/d; mkdir e; put t/f a; put t/d/x a; commit; copy 1 t b; commit; put b/f abc; commit; ";
 
-static REFUSES_AND_CHANGES_NOTHING: Group = (
-    ONE_FILE,
-    &[
+#[test]
+fn refuses_and_changes_nothing(rt: HostRuntime) -> Result<(), Fail> {
+    const CASES: &[Case<'static>] = &[
         ("checkout 3 .", "refused 1; "),
         ("checkout 1 g", "refused 2; "),
         ("checkout 1 f", "refused 8; "),
@@ -28,24 +28,19 @@ static REFUSES_AND_CHANGES_NOTHING: Group = (
         ("forget g", "refused 2; "),
         ("forget .", "refused 4; "),
         ("forget f; forget f", "refused 2; "),
-    ],
-);
+    ];
+    same(&rt, rt.alloc(), ONE_FILE, CASES)
+}
 
-const NODES: &str = ". dir 1 .; a dir 1 b; a/y file 1 b/y a; b dir 1 b; b/y file 1 b/y a; ";
-
-const PLACED: &str = ". dir 1 .; a dir 1 a; a/x file 1 a/x a; b dir 1 b; b/y file 1 b/y a; ";
-
-static PLACES_AND_SWITCHES_FILE: Group = (
-    ONE_FILE,
-    &[(
+#[test]
+fn places_and_switches(rt: HostRuntime) -> Result<(), Fail> {
+    const FILE: &[Case<'static>] = &[(
         "switch g f 2; show; report; check",
         ". dir 1 .; f file 1 f a; g file 2 f abc; set . 1; link g f 2; true; ",
-    )],
-);
-
-static PLACES_AND_SWITCHES_DIRECTORIES: Group = (
-    TWO_DIRECTORIES,
-    &[
+    )];
+    const NODES: &str = ". dir 1 .; a dir 1 b; a/y file 1 b/y a; b dir 1 b; b/y file 1 b/y a; ";
+    const PLACED: &str = ". dir 1 .; a dir 1 a; a/x file 1 a/x a; b dir 1 b; b/y file 1 b/y a; ";
+    const DIRECTORIES: &[Case<'static>] = &[
         ("switch a b 1; show", NODES),
         ("switch a b 1; report; check", "set . 1; link a b 1; true; "),
         // a switch below a switch, and a file where nothing was
@@ -58,20 +53,25 @@ static PLACES_AND_SWITCHES_DIRECTORIES: Group = (
         ("switch a b 1; forget a/y; place a/y 1; show", NODES),
         // a place over a switched subtree
         ("switch a . 1; switch a/a b 1; place a 1; show", PLACED),
-    ],
-);
+    ];
+    same(&rt, rt.alloc(), ONE_FILE, FILE)?;
+    same(&rt, rt.alloc(), TWO_DIRECTORIES, DIRECTORIES)
+}
 
-static PLACES_OLDER_NODES: Group = (
-    "mkdir d; put d/x a; commit; put d/x abc; commit; put y a; commit; checkout 3 .; ",
-    &[(
+#[test]
+fn places_older_nodes(rt: HostRuntime) -> Result<(), Fail> {
+    const BEGUN: &str =
+        "mkdir d; put d/x a; commit; put d/x abc; commit; put y a; commit; checkout 3 .; ";
+    const CASES: &[Case<'static>] = &[(
         "place d/x 1; show; report; check",
         ". dir 3 .; d dir 3 d; d/x file 1 d/x a; y file 3 y a; set . 3; set d/x 1; true; ",
-    )],
-);
+    )];
+    same(&rt, rt.alloc(), BEGUN, CASES)
+}
 
-static FORGETS_FILES_AND_DIRECTORIES: Group = (
-    TWO_DIRECTORIES,
-    &[
+#[test]
+fn forgets_files_and_directories(rt: HostRuntime) -> Result<(), Fail> {
+    const CASES: &[Case<'static>] = &[
         (
             "forget a/x; show; report; check",
             ". dir 1 .; a dir 1 a; a/x not-present; b dir 1 b; b/y file 1 b/y a; set . 1; delete a/x; true; ",
@@ -85,12 +85,13 @@ static FORGETS_FILES_AND_DIRECTORIES: Group = (
             "refused 3; set . 1; delete b; ",
         ),
         ("forget b; place b 1; report", "set . 1; "),
-    ],
-);
+    ];
+    same(&rt, rt.alloc(), TWO_DIRECTORIES, CASES)
+}
 
-static CHECKS_OUT_A_BRANCH: Group = (
-    TWO_BRANCHES,
-    &[
+#[test]
+fn checks_out_a_branch(rt: HostRuntime) -> Result<(), Fail> {
+    const CASES: &[Case<'static>] = &[
         (
             "checkout 1 t; show",
             ". dir 1 t; d dir 1 t/d; d/x file 1 t/d/x a; f file 1 t/f a; ",
@@ -103,35 +104,17 @@ static CHECKS_OUT_A_BRANCH: Group = (
             "checkout 1 t; switch d e 1; report; check",
             "root t; set . 1; link d e 1; true; ",
         ),
-    ],
-);
+    ];
+    same(&rt, rt.alloc(), TWO_BRANCHES, CASES)
+}
 
 // A file is changed after the checkout, and the copy updated by its parts: its report, and the drive of that to its applier.
-static UPDATES_A_CHANGED_FILE: Group = (
-    "put f a; commit; checkout 1 .; ",
-    &[(
+#[test]
+fn updates_a_changed_file(rt: HostRuntime) -> Result<(), Fail> {
+    const CASES: &[Case<'static>] = &[(
         "put f abc; commit; check; show; update 2; show; check; place f 1; show; forget f; show; check",
         "true; . dir 1 .; f file 1 f a; Ok(Closed { calls: 7 }); . dir 2 .; f file 2 f abc; true; \
          . dir 2 .; f file 1 f a; . dir 2 .; f not-present; true; ",
-    )],
-);
-
-fn groups() -> [&'static Group; 7] {
-    [
-        &REFUSES_AND_CHANGES_NOTHING,
-        &PLACES_AND_SWITCHES_FILE,
-        &PLACES_AND_SWITCHES_DIRECTORIES,
-        &PLACES_OLDER_NODES,
-        &FORGETS_FILES_AND_DIRECTORIES,
-        &CHECKS_OUT_A_BRANCH,
-        &UPDATES_A_CHANGED_FILE,
-    ]
-}
-
-#[test]
-fn copies_are_made_and_changed(rt: HostRuntime) -> Result<(), Fail> {
-    for (begun, cases) in groups() {
-        same(&rt, rt.alloc(), begun, cases)?;
-    }
-    Ok(())
+    )];
+    same(&rt, rt.alloc(), "put f a; commit; checkout 1 .; ", CASES)
 }

@@ -1,11 +1,11 @@
 // Copies made of lists of nodes, which need not be true.
 use crate::builders::ONE_FILE;
-use crate::steps::{Group, same};
+use crate::steps::{Case, same};
 use std::test::Fail;
 
-static REFUSES_LISTS: Group = (
-    ONE_FILE,
-    &[
+#[test]
+fn refuses_lists(rt: HostRuntime) -> Result<(), Fail> {
+    const CASES: &[Case<'static>] = &[
         ("nodes; stop; ", "refused 8; "),
         ("nodes; . dir 1 .; . dir 1 .; stop; ", "refused 7; "),
         ("nodes; . file 1 . a; stop; ", "refused 8; "),
@@ -19,12 +19,13 @@ static REFUSES_LISTS: Group = (
             "nodes; . dir 1 .; f file 1 d/d/d/d/d/d/d/d/d/d/d/d/d/d/d/d/d/d/d/d/d/d/d/d/d/d/d/d/d/d/d/d/d/d/d/d/d/d/d/d/d/d/d/d/d/d/d/d/d/d/d/d/d/d/d/d/d/d/d/d/d/d/d/d/f a; stop; show",
             "refused 5; . dir 1 .; f file 1 f a; ",
         ),
-    ],
-);
+    ];
+    same(&rt, rt.alloc(), ONE_FILE, CASES)
+}
 
-static TELLS_THE_FIRST_UNTRUE_PATH: Group = (
-    ONE_FILE,
-    &[
+#[test]
+fn tells_the_first_untrue_path(rt: HostRuntime) -> Result<(), Fail> {
+    const CASES: &[Case<'static>] = &[
         ("nodes; . dir 1 .; stop; check", "untrue at .; "),
         ("nodes; . dir 1 . incomplete; stop; check", "true; "),
         ("nodes; . dir 1 .; f not-present; stop; check", "true; "),
@@ -47,30 +48,16 @@ static TELLS_THE_FIRST_UNTRUE_PATH: Group = (
             "nodes; . dir 1 .; g file 1 g a; stop; check",
             "untrue at .; ",
         ),
-    ],
-);
-
-// The text of an untrue file is no base for the edit, and stays.
-static AN_UNTRUE_FILE_IS_NO_BASE: Group = (
-    ONE_FILE,
-    &[(
-        "nodes; . dir 1 .; f file 1 f abc; stop; check; edit; set_target_revision 2; open_root 1 #0; open_file f #0 1 #1; apply_text #1 A abc; close_file #1 B; abort_edit; stop; show",
-        "untrue at f; accepted 4 refused 44 13 pools 1; . dir 2 . incomplete; f file 1 f abc; ",
-    )],
-);
-
-fn groups() -> [&'static Group; 3] {
-    [
-        &REFUSES_LISTS,
-        &TELLS_THE_FIRST_UNTRUE_PATH,
-        &AN_UNTRUE_FILE_IS_NO_BASE,
-    ]
+    ];
+    same(&rt, rt.alloc(), ONE_FILE, CASES)
 }
 
+// The text of an untrue file is no base for the edit, and stays.
 #[test]
-fn lists_are_copies_or_not(rt: HostRuntime) -> Result<(), Fail> {
-    for (begun, cases) in groups() {
-        same(&rt, rt.alloc(), begun, cases)?;
-    }
-    Ok(())
+fn an_untrue_file_is_no_base(rt: HostRuntime) -> Result<(), Fail> {
+    const CASES: &[Case<'static>] = &[(
+        "nodes; . dir 1 .; f file 1 f abc; stop; check; edit; set_target_revision 2; open_root 1 #0; open_file f #0 1 #1; apply_text #1 A abc; close_file #1 B; abort_edit; stop; show",
+        "untrue at f; accepted 4 refused 44 13 pools 1; . dir 2 . incomplete; f file 1 f abc; ",
+    )];
+    same(&rt, rt.alloc(), ONE_FILE, CASES)
 }

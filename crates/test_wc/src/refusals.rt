@@ -16,9 +16,6 @@ const CLOSED: &str = ". dir 2 .; f file 2 f abc; ";
 // The calls of an edit, the results, and what the copy has then.
 type Row = (&'static str, &'static str, &'static str);
 
-// A beginning, and the rows after it.
-type Group = (&'static str, &'static [Row]);
-
 fn answer(rt: &impl Abort, alloc: Global, begun: &str, row: Row) -> Result<(), Fail> {
     let (calls, answers, nodes) = row;
     let script = format!(in alloc; "edit; {calls}; stop; show")?;
@@ -33,9 +30,9 @@ fn answers(rt: &impl Abort, alloc: Global, begun: &str, rows: &[Row]) -> Result<
     Ok(())
 }
 
-static REFUSES_AN_EDIT_WITHOUT_A_CALL: Group = (
-    ONE_FILE,
-    &[
+#[test]
+fn refuses_an_edit_without_a_call(rt: HostRuntime) -> Result<(), Fail> {
+    const ROWS: &[Row] = &[
         (
             "open_root 1 #0; open_file f #0 1 #1; apply_text #1 A abc; close_file #1 B; close_directory #0; close_edit",
             "accepted 0 refused 1 13 13 13 13 13 pools 1",
@@ -66,12 +63,13 @@ static REFUSES_AN_EDIT_WITHOUT_A_CALL: Group = (
             "accepted 5 refused 11 pools 2",
             CHANGED,
         ),
-    ],
-);
+    ];
+    answers(&rt, rt.alloc(), ONE_FILE, ROWS)
+}
 
-static REFUSES_A_CALL_GIVEN_TWICE: Group = (
-    ONE_FILE,
-    &[
+#[test]
+fn refuses_a_call_given_twice(rt: HostRuntime) -> Result<(), Fail> {
+    const ROWS: &[Row] = &[
         (
             "set_target_revision 2; set_target_revision 2; open_root 1 #0; open_file f #0 1 #1; apply_text #1 A abc; close_file #1 B; close_directory #0; close_edit",
             "accepted 1 refused 1 13 13 13 13 13 13 pools 1",
@@ -107,12 +105,13 @@ static REFUSES_A_CALL_GIVEN_TWICE: Group = (
             "accepted 7 refused 12 pools 1",
             CLOSED,
         ),
-    ],
-);
+    ];
+    answers(&rt, rt.alloc(), ONE_FILE, ROWS)
+}
 
-static REFUSES_WHAT_THE_COPY_HAS_NOT: Group = (
-    ONE_FILE,
-    &[
+#[test]
+fn refuses_what_the_copy_has_not(rt: HostRuntime) -> Result<(), Fail> {
+    const ROWS: &[Row] = &[
         (
             "set_target_revision 2; open_root 2 #0",
             "accepted 1 refused 43 pools 1",
@@ -159,12 +158,13 @@ static REFUSES_WHAT_THE_COPY_HAS_NOT: Group = (
             "accepted 4 refused 45 13 pools 1",
             ". dir 2 . incomplete; f file 1 f a; g not-present; ",
         ),
-    ],
-);
+    ];
+    answers(&rt, rt.alloc(), ONE_FILE, ROWS)
+}
 
-static REFUSES_WHAT_IS_TOO_LONG: Group = (
-    ONE_FILE,
-    &[
+#[test]
+fn refuses_what_is_too_long(rt: HostRuntime) -> Result<(), Fail> {
+    const ROWS: &[Row] = &[
         (
             "set_target_revision 2; open_root 1 #0; add_file g #0 #1; apply_text #1 - x*1048577",
             "accepted 3 refused 49 pools 3",
@@ -180,16 +180,15 @@ static REFUSES_WHAT_IS_TOO_LONG: Group = (
             "accepted 3 refused 49 pools 3",
             OPENED,
         ),
-    ],
-);
+    ];
+    answers(&rt, rt.alloc(), ONE_FILE, ROWS)
+}
 
-const EMPTY: &str = ". dir 1 . incomplete; f not-present; ";
-
-const BOTH: &str = ". dir 1 . incomplete; f not-present; g not-present; ";
-
-static REFUSES_TEXTS_OUT_OF_TURN: Group = (
-    "",
-    &[
+#[test]
+fn refuses_texts_out_of_turn(rt: HostRuntime) -> Result<(), Fail> {
+    const EMPTY: &str = ". dir 1 . incomplete; f not-present; ";
+    const BOTH: &str = ". dir 1 . incomplete; f not-present; g not-present; ";
+    const ROWS: &[Row] = &[
         (
             "set_target_revision 1; open_root 0 #0; add_file f #0 #1; apply_text #1 - a; close_directory #0",
             "accepted 4 refused 9 pools 3",
@@ -215,23 +214,6 @@ static REFUSES_TEXTS_OUT_OF_TURN: Group = (
             "accepted 10 pools 1",
             ". dir 1 .; f file 1 f abc; g file 1 g a; ",
         ),
-    ],
-);
-
-fn groups() -> [&'static Group; 5] {
-    [
-        &REFUSES_AN_EDIT_WITHOUT_A_CALL,
-        &REFUSES_A_CALL_GIVEN_TWICE,
-        &REFUSES_WHAT_THE_COPY_HAS_NOT,
-        &REFUSES_WHAT_IS_TOO_LONG,
-        &REFUSES_TEXTS_OUT_OF_TURN,
-    ]
-}
-
-#[test]
-fn calls_are_refused(rt: HostRuntime) -> Result<(), Fail> {
-    for (begun, cases) in groups() {
-        answers(&rt, rt.alloc(), begun, cases)?;
-    }
-    Ok(())
+    ];
+    answers(&rt, rt.alloc(), "", ROWS)
 }

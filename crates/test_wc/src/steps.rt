@@ -281,9 +281,6 @@ fn written(alloc: Global, begun: &str, script: &str) -> Result<String, Fail> {
 // A script, and what it writes.
 pub(crate) type Case<'a> = (&'a str, &'a str);
 
-// A beginning, and the cases after it.
-pub(crate) type Group = (&'static str, &'static [Case<'static>]);
-
 // A beginning, a script after it, and what both write.
 pub(crate) type HistoryCase<'a> = (&'a str, &'a str, &'a str);
 
