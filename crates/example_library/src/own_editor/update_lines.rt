@@ -18,9 +18,9 @@ const DELETED: Columns = Columns('D', ' ');
 /// An editor that passes each call to an applier, and prints a line for each node that is added (`A`), deleted (`D`) or changed (`U`, in the
 /// second column if its properties are).
 #[derive(Drop)]
-pub(crate) struct UpdateLines<'a, R: Print> {
-    rt: &'a R,
-    applier: Applier<'a>,
+pub(crate) struct UpdateLines<'r, 'c, R: Print> {
+    rt: &'r R,
+    applier: Applier<'c>,
     // for each node that was opened or added, by its token: the columns of the line at its close. Tokens are 0, 1, 2 and so on
     at_close: Vec<Option<Columns>>,
     /// Whether a line was printed.
@@ -29,8 +29,8 @@ pub(crate) struct UpdateLines<'a, R: Print> {
     pub(crate) unprinted: Option<io::Error>,
 }
 
-impl<'a, R: Print> UpdateLines<'a, R> {
-    pub(crate) fn new(rt: &'a R, alloc: Global, applier: Applier<'a>) -> UpdateLines<'a, R> {
+impl<'r, 'c, R: Print> UpdateLines<'r, 'c, R> {
+    pub(crate) fn new(rt: &'r R, alloc: Global, applier: Applier<'c>) -> UpdateLines<'r, 'c, R> {
         UpdateLines {
             rt,
             applier,
@@ -86,7 +86,7 @@ impl<'a, R: Print> UpdateLines<'a, R> {
     }
 }
 
-impl<'a, R: Print> Editor for UpdateLines<'a, R> {
+impl<'r, 'c, R: Print> Editor for UpdateLines<'r, 'c, R> {
     // this promises only that the call returns
     ghost answers = { λ before call answer after. ⊤ };
 
