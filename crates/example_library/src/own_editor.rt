@@ -36,17 +36,17 @@ const SECOND: &[Row] = &[
 ];
 
 // Updates the copy, and prints the outcome.
-fn update<R: Print>(
-    rt: &R,
+fn update<'r, 'c, R: Print>(
+    rt: &'r R,
     alloc: Global,
     repo: &Repo,
-    copy: &mut WorkingCopy,
+    copy: &'c mut WorkingCopy,
     target: Rev,
 ) -> Result<()> {
     println!(rt; "Updating '.':")?;
     let report = copy.crawl_and_learn(alloc)?;
-    let applier = Applier::new(alloc, copy)?;
-    let mut editor = UpdateLines::new(rt, alloc, applier);
+    let applier: Applier<'c> = Applier::new(alloc, copy)?;
+    let mut editor: UpdateLines<'r, 'c, R> = UpdateLines::new(rt, alloc, applier);
     let request = Request::update(target);
     let end = drive_request(alloc, repo, &report, &request, &mut editor);
     if let Some(error) = editor.unprinted.take() {

@@ -6,7 +6,7 @@ use Rattle.svn_editor.specs.declared.call.Call.{Call}
 use Rattle.svn_editor.specs.declared.call.Call.TheVariants.{SetTargetRevision, CloseEdit}
 use Rattle.svn_report.specs.LawfulReports.{IsReport}
 use Rattle.svn_model.specs.Checks.{IsCheckable, target_fault}
-use Rattle.svn_model.specs.Follow.{Request}
+use Rattle.svn_model.specs.Follow.{DriveInput}
 use Rattle.svn_model.specs.Drive.{IsDrive}
 use Rattle.svn_model.specs.Tree.{drive_steps}
 use Rattle.svn_model.specs.TreeCalls.{tree_calls, late_calls, height_at, visit_calls, drive_calls}
@@ -15,7 +15,7 @@ use Rattle.law_drive.proofs.TreeNumbers.{drive_numbered}
 
 -- ---- by a height
 
-module _ (d : Request) (history : IsHistory d.history) (report : IsReport d.report) (checkable : IsCheckable d.history d.report)
+module _ (d : DriveInput) (history : IsHistory d.history) (report : IsReport d.report) (checkable : IsCheckable d.history d.report)
     (target : target_fault d ≡ None) where
   -- all calls, with trees of that height
   abbrev whole : Bool → ℕ → List Call

@@ -25,7 +25,7 @@ use Rattle.svn_editor.specs.declared.mode.Mode.TheVariants.{Update, SwitchTo}
 use Rattle.svn_editor.specs.Steps.{Delete}
 use Rattle.svn_model.specs.Steps.{is_touched, is_new, is_gone, starts_empty_at, touched_actions, new_actions, entered_actions, path_actions}
 use Rattle.svn_editor.specs.Calls.{number_eq}
-use Rattle.svn_model.specs.Follow.{Request, Followed, candidate, root_path, follow, follow_child, is_kept, target_path, source_node}
+use Rattle.svn_model.specs.Follow.{DriveInput, Followed, candidate, root_path, follow, follow_child, is_kept, target_path, source_node}
 use Rattle.svn_model.specs.Follow.{target_node}
 use Rattle.svn_model.proofs.Children.{entry_below, look-child, follow-child, follow-here, parent_is_kept-child}
 use Rattle.law_drive.proofs.Reporting.{is_child, own_governs, own-is, open_above, source_below, shown_source, source-open}
@@ -58,7 +58,7 @@ none_at-child (e ∷ es) p name h =
 
 -- ---- kept paths
 
-module _ (d : Request) where
+module _ (d : DriveInput) where
   -- the candidate at which a child would be kept
   abbrev candidate_at : Path → Name → Path
   candidate_at p name = candidate d.mode (reported d.report (child p name)).repos_path (child (target_path d p) name)
@@ -93,7 +93,7 @@ module _ (d : Request) where
       (here-child p name)
 
 -- in a switch the new root and the path make the path in the target
-pub switched_to : (d : Request) (root : Path) → d.mode ≡ SwitchTo root → (p : Path) → target_path d p ≡ root ++ p
+pub switched_to : (d : DriveInput) (root : Path) → d.mode ≡ SwitchTo root → (p : Path) → target_path d p ≡ root ++ p
 switched_to d root m =
     path_ind (λ p. target_path d p ≡ root ++ p) (ap (λ x. root_path x d.report.root) m ∙ sym (append-nil root)) (λ p name ih.
     target_path-child d p name
@@ -107,7 +107,7 @@ switched_to d root m =
 
 -- a request that can be served: the target has the root, what is reported is in directories, and no path is much longer than its
 -- repository path
-pub record Served (d : Request) : Type 0 where
+pub record Served (d : DriveInput) : Type 0 where
   pub history : IsHistory d.history
   pub has_target : are_related d.history (source_node d []) (target_node d []) ≡ true
   pub parents : (p : Path) (name : Name) → is_some (source_node d (child p name)) ≡ true
@@ -123,7 +123,7 @@ both_nodes h None b r e = absurd (true≢false (sym r))
 both_nodes h (Some m) None r e = absurd (true≢false (sym r))
 both_nodes h (Some m) (Some n) r e = (n, ap Some (eqb-true m n e), refl)
 
-module _ (d : Request) (setting : Served d) where
+module _ (d : DriveInput) (setting : Served d) where
   abbrev h : History
   h = d.history
 

@@ -16,7 +16,7 @@ use Rattle.svn_repo.specs.Readings.{kind_of, text_of, props_of}
 use Rattle.svn_editor.specs.Calls.{kind_eq}
 use Rattle.svn_model.specs.Sources.{governing_revision}
 use Rattle.svn_editor.specs.Steps.{Action, Delete, Open, Add, Change, Text, Close}
-use Rattle.svn_model.specs.Follow.{Request, follow, is_kept, source_node, target_node}
+use Rattle.svn_model.specs.Follow.{DriveInput, follow, is_kept, source_node, target_node}
 use Rattle.svn_model.specs.Steps.{is_text, is_touched, is_new, is_gone, gone_actions, touched_actions, new_actions, entered_actions}
 use Rattle.svn_model.specs.Steps.{text_actions, path_actions, source_props, source_text}
 
@@ -143,10 +143,10 @@ pub record Body (k : Kind) (inner : List Action) : Type 0 where
   pub plain : AllOf is_plain inner
 
 -- the path has a node of that kind in the target
-abbrev pub TargetKind : Request → Path → Kind → Type 0
+abbrev pub TargetKind : DriveInput → Path → Kind → Type 0
 TargetKind d p k = (n : ℕ) × (target_node d p ≡ Some n) × (kind_of d.history n ≡ k)
 
-pub data Course (d : Request) (p : Path) : List Action → Type 0 where
+pub data Course (d : DriveInput) (p : Path) : List Action → Type 0 where
   nothing : Course d p []
   gone_only : (r : ℕ) → is_kept d p ≡ false → Course d p (Delete r ∷ [])
   touched : (k : Kind) (r : ℕ) {inner : List Action} → TargetKind d p k → is_kept d p ≡ true → Body k inner → Course d p (Open k r ∷ inner)
@@ -173,7 +173,7 @@ directory_close = record { of_kind = (refl, tt); in_turn = (tt, tt); closed = re
 text_and_close : (s : Option (List ℕ)) (t : List ℕ) (c : Option (List ℕ)) → Body File (Text s t ∷ Close File c ∷ [])
 text_and_close s t c = record { of_kind = (refl, (refl, tt)); in_turn = ((refl, tt), (tt, tt)); closed = refl; plain = (refl, (refl, tt)) }
 
-texts_first : (d : Request) (old new : List ℕ) (c : Option (List ℕ)) → Body File (text_actions d old new ++ (Close File c ∷ []))
+texts_first : (d : DriveInput) (old new : List ℕ) (c : Option (List ℕ)) → Body File (text_actions d old new ++ (Close File c ∷ []))
 texts_first d old new c = by (bytes_eq old new)
   where
     by : (b : Bool) → Body File (cond b [] (Text (Some (d.checksum old)) new ∷ []) ++ (Close File c ∷ []))
@@ -181,7 +181,7 @@ texts_first d old new c = by (bytes_eq old new)
     by false = text_and_close (Some (d.checksum old)) new c
 
 -- what is opened, and what is added
-touched_course : (d : Request) (p : Path) (n : ℕ) (k : Kind) → TargetKind d p k → is_kept d p ≡ true → Course d p (touched_actions d p n k)
+touched_course : (d : DriveInput) (p : Path) (n : ℕ) (k : Kind) → TargetKind d p k → is_kept d p ≡ true → Course d p (touched_actions d p n k)
 touched_course d p n Directory z e =
     touched Directory (governing_revision (follow d p).here) z e
     (changes_first Directory (changes_between (source_props d p (source_node d p)) (props_of d.history n))
@@ -201,7 +201,7 @@ touched_course d p n File z e =
     close : List Action
     close = Close File (Some (d.checksum (text_of d.history n))) ∷ []
 
-new_body : (d : Request) (n : ℕ) (k : Kind) → (inner : List Action) × (new_actions d n k ≡ Add k ∷ inner) × Body k inner
+new_body : (d : DriveInput) (n : ℕ) (k : Kind) → (inner : List Action) × (new_actions d n k ≡ Add k ∷ inner) × Body k inner
 new_body d n Directory =
     (_, refl, changes_first Directory (changes_between [] (props_of d.history n)) (Close Directory None ∷ []) directory_close)
 new_body d n File = (
@@ -213,7 +213,7 @@ new_body d n File = (
 )
 
 -- the actions of each path have a course
-pub course_of : (d : Request) (p : Path) → Course d p (path_actions d p)
+pub course_of : (d : DriveInput) (p : Path) → Course d p (path_actions d p)
 course_of d p = as_written (target_node d p) (by (is_gone d p) (target_node d p) (is_touched d p) (is_new d p) refl refl refl refl)
   where
     kept_touched : is_touched d p ≡ true → is_kept d p ≡ true
@@ -254,7 +254,7 @@ course_of d p = as_written (target_node d p) (by (is_gone d p) (target_node d p)
     as_written None s = s
     as_written (Some m) s = s
 
-module _ (d : Request) (p : Path) where
+module _ (d : DriveInput) (p : Path) where
   -- ---- where an action is in a course
 
   -- what was done at a path after its open or add of a node of that kind

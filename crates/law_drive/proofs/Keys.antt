@@ -11,7 +11,7 @@ use Rattle.svn_types.specs.Names.{Path}
 use Rattle.svn_types.specs.declared.kind.Kind.TheVariants.{File, Directory}
 use Rattle.svn_types.proofs.NameLemmas.{Name}
 use Rattle.svn_editor.specs.Steps.{Action, Delete, Open, Add, Change, Text, Close, Step}
-use Rattle.svn_model.specs.Follow.{Request}
+use Rattle.svn_model.specs.Follow.{DriveInput}
 use Rattle.svn_model.specs.Steps.{Mark, Named, End, mark_cmp, key, key_of, comes_after, has_text}
 
 -- ---- the order of keys
@@ -46,7 +46,7 @@ path_in-closed : (p : Path) → path_in (map Named p ++ (End ∷ [])) ≡ p
 path_in-closed [] = refl
 path_in-closed (n ∷ p) = ap (λ (q : Path). n ∷ q) (path_in-closed p)
 
-path_in-key : (d : Request) (late : Bool) (p : Path) (a : Action) → path_in (key d late p a) ≡ p
+path_in-key : (d : DriveInput) (late : Bool) (p : Path) (a : Action) → path_in (key d late p a) ≡ p
 path_in-key d late p (Delete r) = path_in-map p
 path_in-key d late p (Open k r) = path_in-map p
 path_in-key d late p (Add k) = path_in-map p
@@ -75,7 +75,7 @@ pub tied_keys : (j k : List Mark) → slice_cmp mark_cmp j k ≡ Equal → j ≡
 tied_keys = slice_cmp-IsAntisymmetric tied_marks
 
 -- two steps, neither after the other, are at one path
-pub same_place : (d : Request) (late : Bool) (s t : Step) → comes_after d late s t ≡ false → comes_after d late t s ≡ false
+pub same_place : (d : DriveInput) (late : Bool) (s t : Step) → comes_after d late s t ≡ false → comes_after d late t s ≡ false
     → s.path ≡ t.path
 same_place d late s t h k =
     let o = keys_total in

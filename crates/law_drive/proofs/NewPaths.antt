@@ -7,14 +7,14 @@ use Rattle.svn_types.specs.Names.{Path}
 use Rattle.svn_types.specs.Paths.{child}
 use Rattle.svn_types.proofs.NameLemmas.{Name}
 use Rattle.svn_repo.specs.Readings.{kind_of}
-use Rattle.svn_model.specs.Follow.{Request, is_kept, target_node}
+use Rattle.svn_model.specs.Follow.{DriveInput, is_kept, target_node}
 use Rattle.svn_model.specs.Steps.{is_touched, is_new}
 use Rattle.law_drive.specs.Laws.{new_paths_have_parents}
 use Rattle.law_drive.proofs.Classes.{Served, entered_below}
 use Rattle.law_drive.proofs.Courses.{is_entry_of, entered_entry}
 use Rattle.law_drive.proofs.ReportDrives.{served}
 
-new_below : (d : Request) → Served d → (p : Path) (name : Name) → is_new d (child p name) ≡ true → (is_touched d p || is_new d p) ≡ true
+new_below : (d : DriveInput) → Served d → (p : Path) (name : Name) → is_new d (child p name) ≡ true → (is_touched d p || is_new d p) ≡ true
 new_below d s p name m =
     by (target_node d (child p name)) refl (and_parts (not (is_kept d (child p name))) (is_some (target_node d (child p name))) m).1
   where

@@ -7,7 +7,7 @@ use Rattle.svn_types.specs.Names.{Path}
 use Rattle.svn_types.specs.Paths.{path_eq}
 use Rattle.svn_types.proofs.PathLemmas.{path_eq-same}
 use Rattle.svn_editor.specs.Steps.{Step}
-use Rattle.svn_model.specs.Follow.{Request}
+use Rattle.svn_model.specs.Follow.{DriveInput}
 use Rattle.svn_model.specs.Steps.{comes_after, InKeyOrder}
 use Rattle.svn_model.specs.Drive.{calls_of}
 use Rattle.law_drive.specs.Laws.{drive_is_determined}
@@ -34,7 +34,7 @@ own_head : (s : Step) (xs : List Step) → filter (is_at s.path) (s ∷ xs) ≡ 
 own_head s xs = ap (λ b. cond b (s ∷ filter (is_at s.path) xs) (filter (is_at s.path) xs)) (path_eq-same s.path)
 
 -- the heads are one step
-heads : (d : Request) (late : Bool) (s t : Step) (xs ys : List Step) → ((p : Path) → filter (is_at p) (s ∷ xs) ≡ filter (is_at p) (t ∷ ys))
+heads : (d : DriveInput) (late : Bool) (s t : Step) (xs ys : List Step) → ((p : Path) → filter (is_at p) (s ∷ xs) ≡ filter (is_at p) (t ∷ ys))
     → list_any (comes_after d late s) xs ≡ false → list_any (comes_after d late t) ys ≡ false → s ≡ t
 heads d late s t xs ys e h k = by (is_at t.path s) (is_at s.path t) refl refl (e t.path ∙ own_head t ys) (sym (e s.path) ∙ own_head s xs)
   where
@@ -50,7 +50,7 @@ heads d late s t xs ys e h k = by (is_at t.path s) (is_at s.path t) refl refl (e
         let same : is_at t.path s ≡ true = ap (λ r. path_eq r t.path) place ∙ path_eq-same t.path in
         cc
 
-one : (d : Request) (late : Bool) (xs ys : List Step) → ((p : Path) → filter (is_at p) xs ≡ filter (is_at p) ys) → InKeyOrder d late xs
+one : (d : DriveInput) (late : Bool) (xs ys : List Step) → ((p : Path) → filter (is_at p) xs ≡ filter (is_at p) ys) → InKeyOrder d late xs
     → InKeyOrder d late ys → xs ≡ ys
 one d late [] [] e h k = refl
 one d late [] (t ∷ ys) e h k = let f = e t.path ∙ own_head t ys in cc

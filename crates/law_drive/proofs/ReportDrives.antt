@@ -26,7 +26,7 @@ use Rattle.svn_model.specs.declared.drive_fault.DriveFault.TheVariants.{NoSuchTa
 use Rattle.svn_model.specs.Checks.{fault_of, first_fault_from, first_fault_in, IsCheckable, target_fault}
 use Rattle.svn_model.specs.Sources.{Reported, reported, starts_empty, is_set_or_link, linked_or, is_hidden, source, source_at}
 use Rattle.svn_model.specs.Sources.{governing_revision}
-use Rattle.svn_model.specs.Follow.{Request, source_node, target_node}
+use Rattle.svn_model.specs.Follow.{DriveInput, source_node, target_node}
 use Rattle.svn_model.specs.Steps.{IsDriveOf}
 use Rattle.svn_model.specs.Tree.{drive_steps}
 use Rattle.svn_model.proofs.Children.{entry_below, follow-here}
@@ -58,7 +58,7 @@ no_fault h r i (e ∷ es) p x f a = by (fault_of h r i e.0 e.1) refl f (path_eq 
 abbrev pub tested : Bool → Bool → Bool → Option DriveFault
 tested there none related = cond (not there) (Some NoSuchTarget) (cond none (Some NoRoot) (cond (not related) (Some OtherRoot) None))
 
-related_of : (d : Request) → target_fault d ≡ None → are_related d.history (source_node d []) (target_node d []) ≡ true
+related_of : (d : DriveInput) → target_fault d ≡ None → are_related d.history (source_node d []) (target_node d []) ≡ true
 related_of d h =
     by (nat_lt d.target (length d.history.roots)) (is_none (target_node d []))
     (are_related d.history (source_node d []) (target_node d [])) h
@@ -69,7 +69,7 @@ related_of d h =
         let second = cond_none none NoRoot (cond (not related) (Some OtherRoot) None) first.1 in
         not-false related (cond_none (not related) OtherRoot None second.1).0
 
-module _ (d : Request) (history : IsHistory d.history) (report : IsReport d.report) (checkable : IsCheckable d.history d.report) where
+module _ (d : DriveInput) (history : IsHistory d.history) (report : IsReport d.report) (checkable : IsCheckable d.history d.report) where
   abbrev h : History
   h = d.history
 

@@ -15,12 +15,12 @@ use Rattle.svn_report.specs.LawfulReports.{IsReport, IsRootFirst}
 use Rattle.svn_model.specs.declared.report_fault.ReportFault.TheVariants.{NoEntries, NoSuchRevision, NoNode, RootNotDir, ParentNotDir}
 use Rattle.svn_model.specs.Checks.{first_fault_in, IsCheckable, target_fault}
 use Rattle.svn_model.specs.Sources.{reported, revision_of, is_set_or_link, source_at, governing_revision}
-use Rattle.svn_model.specs.Follow.{Request, root_path, source_node, target_node}
+use Rattle.svn_model.specs.Follow.{DriveInput, root_path, source_node, target_node}
 use Rattle.law_drive.specs.Laws.{existing_targets_have_no_fault}
 use Rattle.law_drive.proofs.Reporting.{shown_source}
 use Rattle.law_drive.proofs.ReportDrives.{from_start, no_fault, tested}
 
-module _ (d : Request) (history : IsHistory d.history) (report : IsReport d.report)
+module _ (d : DriveInput) (history : IsHistory d.history) (report : IsReport d.report)
     (checkable : IsCheckable d.history d.report) where
   abbrev h : History
   h = d.history

@@ -18,7 +18,7 @@ use Rattle.svn_repo.specs.Readings.{kind_of, text_of, props_of, is_directory, is
 use Rattle.svn_editor.specs.declared.call.Call.{Call}
 use Rattle.svn_editor.specs.Steps.{Action, Delete, Open, Add, Change, Text, Close, Step, steps_at}
 use Rattle.svn_model.specs.Sources.{governing_revision}
-use Rattle.svn_model.specs.Follow.{Request, follow, source_node, target_node}
+use Rattle.svn_model.specs.Follow.{DriveInput, follow, source_node, target_node}
 use Rattle.svn_model.specs.Steps.{is_touched, is_gone, source_text, gone_actions, text_actions}
 use Rattle.svn_model.specs.Drive.{token_of, numbered}
 use Rattle.svn_model.specs.Tree.{names_below, is_entered, enters_directory, enter_action, old_props, file_end, is_late, first_of, last_of}
@@ -35,14 +35,14 @@ use Rattle.law_drive.proofs.Tokens.{shape_entered, shape_calls, shape_late, late
 
 -- ---- what is done at a path
 
-pub gone_of : (d : Request) (p : Path) → Gone (gone_actions d p)
+pub gone_of : (d : DriveInput) (p : Path) → Gone (gone_actions d p)
 gone_of d p = by (is_gone d p)
   where
     by : (b : Bool) → Gone (cond b (Delete (governing_revision (follow d p).here) ∷ []) [])
     by true = gone (governing_revision (follow d p).here)
     by false = none
 
-module _ (d : Request) (late : Bool) (p : Path) where
+module _ (d : DriveInput) (late : Bool) (p : Path) where
   enters : (k : Kind) → is_entry (enter_action d p k) ≡ true
   enters k = by (is_touched d p)
     where
@@ -226,7 +226,7 @@ own_under p (Change k c ∷ acts) = own_under p acts
 own_under p (Text s t ∷ acts) = own_under p acts
 own_under p (Close k c ∷ acts) = own_under p acts
 
-module _ (d : Request) (late : Bool) where
+module _ (d : DriveInput) (late : Bool) where
   abbrev tree : ℕ → Path → List Step
   tree = tree_steps d late
 

@@ -21,7 +21,7 @@ use Rattle.svn_types.proofs.NameLemmas.{Name}
 use Rattle.svn_repo.specs.Readings.{kind_of, text_of, props_of}
 use Rattle.svn_editor.specs.Steps.{Action, Delete, Open, Add, Change, Text, Close, Step, steps_at}
 use Rattle.svn_model.specs.Sources.{governing_revision}
-use Rattle.svn_model.specs.Follow.{Request, follow, source_node, target_node}
+use Rattle.svn_model.specs.Follow.{DriveInput, follow, source_node, target_node}
 use Rattle.svn_model.specs.Steps.{Mark, Named, End, mark_cmp, key, key_of, comes_after, has_text, is_text, is_touched, is_gone}
 use Rattle.svn_model.specs.Steps.{gone_actions, text_actions, source_text, InKeyOrder}
 use Rattle.svn_model.specs.Tree.{names_below, is_entered, enters_directory, entry_actions, old_props, file_end, is_late, first_of, last_of}
@@ -47,7 +47,7 @@ map-child : (p : Path) (name : Name) → map Named (child p name) ≡ map Named 
 map-child [] name = refl
 map-child (m ∷ p) name = ap (λ (l : List Mark). Named m ∷ l) (map-child p name)
 
-module _ (d : Request) (late : Bool) where
+module _ (d : DriveInput) (late : Bool) where
   -- ---- lists in order
 
   abbrev NoneBefore : List Step → Step → Type 0

@@ -17,7 +17,7 @@ use Rattle.svn_types.proofs.PathLemmas.{within_other}
 use Rattle.svn_repo.specs.Readings.{kind_of, text_of, props_of}
 use Rattle.svn_editor.specs.Steps.{Action, Open, Add, Change, Text, Close, Step, steps_at}
 use Rattle.svn_model.specs.Sources.{governing_revision}
-use Rattle.svn_model.specs.Follow.{Request, follow, source_node, target_node}
+use Rattle.svn_model.specs.Follow.{DriveInput, follow, source_node, target_node}
 use Rattle.svn_model.specs.Steps.{is_touched, is_new, source_props, source_text, gone_actions, text_actions, touched_actions, new_actions}
 use Rattle.svn_model.specs.Steps.{entered_actions, path_actions, path_steps}
 use Rattle.svn_model.specs.Tree.{names_below, enters_directory, is_late, first_of, last_of, late_of, first_at, last_at, late_at}
@@ -28,7 +28,7 @@ use Rattle.law_drive.proofs.Ways.{Ordered, ordered_below, ordered_apart, on_the_
 
 -- ---- the three parts of a path's actions
 
-module _ (d : Request) (late : Bool) (p : Path) where
+module _ (d : DriveInput) (late : Bool) (p : Path) where
   -- the parts of what is done at a path that is entered, or isn't
   abbrev entered_parts : ℕ → Kind → Bool → Type 0
   entered_parts n k b =
@@ -102,7 +102,7 @@ pub steps_at-append : (p : Path) (xs ys : List Action) → steps_at p (xs ++ ys)
 steps_at-append p [] ys = refl
 steps_at-append p (x ∷ xs) ys = ap (λ (l : List Step). record { path = p; action = x } ∷ l) (steps_at-append p xs ys)
 
-module _ (d : Request) (front back : Path → List Action) (x : Path) where
+module _ (d : DriveInput) (front back : Path → List Action) (x : Path) where
   abbrev here : ℕ → Path → List Step
   here n q = filter (is_at x) (steps_by d front back n q)
 
@@ -223,7 +223,7 @@ module _ (d : Request) (front back : Path → List Action) (x : Path) where
       elsewhere : (m : Name) → bytes_eq m name ≡ false → is_within (child q m) x ≡ false
       elsewhere m z = ap (is_within (child q m)) (sym e) ∙ within_other q r m name z
 
-module _ (d : Request) (setting : Served d) (late : Bool) (height : ℕ) (enough : 129 ≤ height) where
+module _ (d : DriveInput) (setting : Served d) (late : Bool) (height : ℕ) (enough : 129 ≤ height) where
   abbrev tree : Path → List Step
   tree x = filter (is_at x) (tree_steps d late height [])
 

@@ -25,7 +25,7 @@ use Rattle.svn_editor.specs.declared.mode.Mode.{Mode}
 use Rattle.svn_editor.specs.declared.mode.Mode.TheVariants.{Update, SwitchTo}
 use Rattle.svn_editor.specs.Steps.{Delete}
 use Rattle.svn_model.specs.Sources.{Reported, source, starts_empty, reported, governing_revision}
-use Rattle.svn_model.specs.Follow.{Request, candidate, follow, is_kept, target_path, source_node, target_node}
+use Rattle.svn_model.specs.Follow.{DriveInput, candidate, follow, is_kept, target_path, source_node, target_node}
 use Rattle.svn_model.specs.Steps.{entered_actions, path_actions}
 use Rattle.svn_model.specs.Tree.{entry_names, next_name, names_in, names_below, enters_directory}
 use Rattle.svn_model.proofs.Children.{entry_below, look-child, follow-here}
@@ -82,12 +82,12 @@ ordered_apart n (m ∷ ns) h =
     let parts = or_parts (not_before n m) (list_any (not_before n) ns) h in
     ap (λ b. b || has_name ns n) (bytes_eq-symm m n ∙ lt_apart n m (not-false (is_lt (name_cmp n m)) parts.0)) ∙ ordered_apart n ns parts.1
 
-pub ordered_below : (d : Request) (q : Path) → Ordered (names_below d q)
+pub ordered_below : (d : DriveInput) (q : Path) → Ordered (names_below d q)
 ordered_below d q = ordered-fold (entry_names d (source_node d q) ++ entry_names d (target_node d q) ++ names_in q d.report.entries) [] tt
 
 -- ---- names that are found
 
-pub named_below : (d : Request) (o : Option ℕ) (name : Name) (n : ℕ) → entry_below d.history o name ≡ Some n
+pub named_below : (d : DriveInput) (o : Option ℕ) (name : Name) (n : ℕ) → entry_below d.history o name ≡ Some n
     → has_name (entry_names d o) name ≡ true
 named_below d None name n h = absurd (none-some n h)
 named_below d (Some m) name n h = named_value (entries_of d.history m) name n h
@@ -111,7 +111,7 @@ named_in p name (e ∷ es) x h =
         ∙ ap (λ b. b || false) (bytes_eq-same name))
     by false q k ih = or_right (has_name (next_name p e.0) name) (has_name (names_in p es) name) (ih k)
 
-module _ (d : Request) (setting : Served d) where
+module _ (d : DriveInput) (setting : Served d) where
   abbrev says : Path → Reported
   says p = reported d.report p
 

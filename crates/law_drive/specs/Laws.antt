@@ -11,7 +11,7 @@ use Rattle.svn_repo.specs.Readings.{IsHistory}
 use Rattle.svn_editor.specs.declared.call.Call.{Call}
 use Rattle.svn_report.specs.LawfulReports.{IsReport}
 use Rattle.svn_model.specs.Checks.{IsCheckable, target_fault}
-use Rattle.svn_model.specs.Follow.{Request, root_path}
+use Rattle.svn_model.specs.Follow.{DriveInput, root_path}
 use Rattle.svn_model.specs.Steps.{IsDriveOf, is_touched, is_new}
 use Rattle.svn_model.specs.Drive.{IsDrive}
 use Rattle.svn_model.specs.Tree.{drive_steps}
@@ -19,27 +19,27 @@ use Rattle.svn_model.specs.TreeCalls.{drive_calls}
 
 abbrev pub the_tree_is_a_drive : Type 0
 the_tree_is_a_drive =
-    (d : Request) (late : Bool) (height : ℕ) → IsHistory d.history → IsReport d.report → IsCheckable d.history d.report
+    (d : DriveInput) (late : Bool) (height : ℕ) → IsHistory d.history → IsReport d.report → IsCheckable d.history d.report
     → target_fault d ≡ None → 129 ≤ height
     → IsDriveOf d late (drive_steps d late height)
 
 abbrev pub the_calls_are_a_drive : Type 0
 the_calls_are_a_drive =
-    (d : Request) (late : Bool) → IsHistory d.history → IsReport d.report → IsCheckable d.history d.report → target_fault d ≡ None
+    (d : DriveInput) (late : Bool) → IsHistory d.history → IsReport d.report → IsCheckable d.history d.report → target_fault d ≡ None
     → IsDrive d late (drive_calls d late)
 
 abbrev pub drive_is_determined : Type 0
-drive_is_determined = (d : Request) (late : Bool) (xs ys : List Call) → IsDrive d late xs → IsDrive d late ys → xs ≡ ys
+drive_is_determined = (d : DriveInput) (late : Bool) (xs ys : List Call) → IsDrive d late xs → IsDrive d late ys → xs ≡ ys
 
 -- so the definition of a new path needn't say it
 abbrev pub new_paths_have_parents : Type 0
 new_paths_have_parents =
-    (d : Request) → IsHistory d.history → IsReport d.report → IsCheckable d.history d.report → target_fault d ≡ None
+    (d : DriveInput) → IsHistory d.history → IsReport d.report → IsCheckable d.history d.report → target_fault d ≡ None
     → (p : Path) (name : List ℕ) → is_new d (child p name) ≡ true → (is_touched d p || is_new d p) ≡ true
 
 -- where the report is of the repository's root, and leads there, each target that is there has no fault
 abbrev pub existing_targets_have_no_fault : Type 0
 existing_targets_have_no_fault =
-    (d : Request) → IsHistory d.history → IsReport d.report → IsCheckable d.history d.report
+    (d : DriveInput) → IsHistory d.history → IsReport d.report → IsCheckable d.history d.report
     → d.report.root ≡ [] → root_path d.mode d.report.root ≡ [] → d.target < length d.history.roots
     → target_fault d ≡ None

@@ -19,7 +19,7 @@ use Rattle.svn_repo.specs.Readings.{is_directory, is_directory_at, kind_of, text
 use Rattle.svn_repo.specs.History.{History, look}
 use Rattle.svn_model.specs.Sources.{Reported, reported, source, governing_revision, starts_empty}
 use Rattle.svn_editor.specs.Steps.{Action, Delete, Open, Add, Change, Text, Close}
-use Rattle.svn_model.specs.Follow.{Request, follow, is_kept, target_path, source_node, target_node}
+use Rattle.svn_model.specs.Follow.{DriveInput, follow, is_kept, target_path, source_node, target_node}
 use Rattle.svn_model.specs.Steps.{is_touched, is_new, is_gone, starts_empty_at, source_props, source_text, text_actions, gone_actions}
 use Rattle.svn_model.specs.Steps.{touched_actions, new_actions, entered_actions, path_actions}
 use Rattle.svn_model.specs.declared.base_node.BaseNode.{BaseNode}
@@ -45,21 +45,21 @@ is_quiet (Text s t) = true
 is_quiet _ = false
 
 -- one of them does nothing until a close
-act_quiet : (d : Request) (p : Path) (before : List Action) (a : Action) (found : Option BaseNode) → is_quiet a ≡ true
+act_quiet : (d : DriveInput) (p : Path) (before : List Action) (a : Action) (found : Option BaseNode) → is_quiet a ≡ true
     → act d p before a found ≡ found
 act_quiet d p before (Change k c) found q = refl
 act_quiet d p before (Text s t) found q = refl
 act_quiet d p before a found q = absurd (true≢false (sym q))
 
 -- and neither do several
-pub acted_quiet : (d : Request) (p : Path) (before acts : List Action) (found : Option BaseNode) → AllOf is_quiet acts
+pub acted_quiet : (d : DriveInput) (p : Path) (before acts : List Action) (found : Option BaseNode) → AllOf is_quiet acts
     → acted d p before found acts ≡ found
 acted_quiet d p before [] found q = refl
 acted_quiet d p before (a ∷ acts) found q =
     acted_quiet d p (before ++ a ∷ []) acts (act d p before a found) q.1 ∙ act_quiet d p before a found q.0
 
 -- quiet actions and one more do what the one does
-pub acted_closed : (d : Request) (p : Path) (before acts : List Action) (found : Option BaseNode) (c : Action) → AllOf is_quiet acts
+pub acted_closed : (d : DriveInput) (p : Path) (before acts : List Action) (found : Option BaseNode) (c : Action) → AllOf is_quiet acts
     → acted d p before found (acts ++ c ∷ []) ≡ act d p (before ++ acts) c found
 acted_closed d p before acts found c q =
     acted-append d p before acts (c ∷ []) found ∙ ap (act d p (before ++ acts) c) (acted_quiet d p before acts found q)
@@ -68,7 +68,7 @@ acted_closed d p before acts found c q =
 pub quiet_changes : (k : Kind) (cs : List PropChange) → AllOf is_quiet (map (Change k) cs)
 quiet_changes k = all_changes is_quiet k (λ c. refl)
 
-pub quiet_texts : (d : Request) (k : Kind) (cs : List PropChange) (old new : List ℕ)
+pub quiet_texts : (d : DriveInput) (k : Kind) (cs : List PropChange) (old new : List ℕ)
     → AllOf is_quiet (map (Change k) cs ++ text_actions d old new)
 quiet_texts d k cs old new =
     all-append (λ a. is_quiet a ≡ true) (map (Change k) cs) (text_actions d old new) (quiet_changes k cs) (by (bytes_eq old new))
@@ -95,7 +95,7 @@ texts_in-changes k [] = refl
 texts_in-changes k (c ∷ cs) = texts_in-changes k cs
 
 -- a touched file's changes and its text
-pub changes_in-texts : (d : Request) (k : Kind) (cs : List PropChange) (old new : List ℕ)
+pub changes_in-texts : (d : DriveInput) (k : Kind) (cs : List PropChange) (old new : List ℕ)
     → changes_in (map (Change k) cs ++ text_actions d old new) ≡ cs
 changes_in-texts d k cs old new =
     filter_map-append change_in (map (Change k) cs) (text_actions d old new)
@@ -107,7 +107,7 @@ changes_in-texts d k cs old new =
     by false = refl
 
 -- a text is sent where it differs
-pub text_or-texts : (d : Request) (k : Kind) (cs : List PropChange) (old new : List ℕ)
+pub text_or-texts : (d : DriveInput) (k : Kind) (cs : List PropChange) (old new : List ℕ)
     → text_or (texts_in (map (Change k) cs ++ text_actions d old new)) old ≡ new
 text_or-texts d k cs old new =
     ap (λ ts. text_or ts old)
@@ -121,7 +121,7 @@ text_or-texts d k cs old new =
 
 -- ---- a kept path's node is its source's
 
-module _ (d : Request) (w : WorkingCopy) (setting : Setting d w) where
+module _ (d : DriveInput) (w : WorkingCopy) (setting : Setting d w) where
   abbrev h : History
   h = d.history
 

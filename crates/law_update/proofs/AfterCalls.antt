@@ -18,7 +18,7 @@ use Rattle.svn_editor.specs.Steps.{Action, Delete, Open, Add, Change, Text, Clos
 use Rattle.svn_editor.specs.declared.call.Call.{Call}
 use Rattle.svn_editor.specs.Calls.{Given, given_by, all_given, given, given_path, path_of}
 use Rattle.svn_editor.specs.declared.call.Call.TheVariants.{OpenRoot, OpenDirectory, CloseEdit, SetTargetRevision}
-use Rattle.svn_model.specs.Follow.{Request}
+use Rattle.svn_model.specs.Follow.{DriveInput}
 use Rattle.svn_model.specs.Drive.{token_of, call_of, opened_after, numbered}
 use Rattle.svn_model.specs.Nodes.{WorkingCopy}
 use Rattle.svn_model.specs.Effects.{step_effect, read_effect, effect, after_from, after}
@@ -158,16 +158,16 @@ effect-read mode earlier CloseEdit w x e = absurd (none-some x e)
 effect-read mode earlier c w x e = ap (λ o. read_effect mode (target_of earlier) (steps_of earlier) o w) e
 
 -- the earlier calls are those of the steps done, and have given the tokens of the opened paths
-pub record ReadAs (d : Request) (earlier : List Call) (opened : List Path) (done : List Step) : Type 0 where
+pub record ReadAs (d : DriveInput) (earlier : List Call) (opened : List Path) (done : List Step) : Type 0 where
   pub gives : GivesPaths earlier opened
   pub target : (more : List Call) → target_of (earlier ++ more) ≡ d.target
   pub steps : steps_of earlier ≡ done
 
 -- the first call is no step's
-pub read_begun : (d : Request) → ReadAs d (SetTargetRevision d.target ∷ []) [] []
+pub read_begun : (d : DriveInput) → ReadAs d (SetTargetRevision d.target ∷ []) [] []
 read_begun d = record { gives = refl; target = λ more. refl; steps = refl }
 
-module _ (d : Request) (earlier : List Call) (opened : List Path) (done : List Step) (x : Step) (steps : List Step)
+module _ (d : DriveInput) (earlier : List Call) (opened : List Path) (done : List Step) (x : Step) (steps : List Step)
     (r : ReadAs d earlier opened done) (ready : Ready opened (x ∷ steps)) where
   abbrev pub next_call : Call
   next_call = call_of opened x.path x.action
@@ -190,7 +190,7 @@ module _ (d : Request) (earlier : List Call) (opened : List Path) (done : List S
   }
 
 -- the copy after the calls of some steps is the copy after the steps
-pub after-numbered : (d : Request) (earlier : List Call) (opened : List Path) (done steps : List Step) (w : WorkingCopy)
+pub after-numbered : (d : DriveInput) (earlier : List Call) (opened : List Path) (done steps : List Step) (w : WorkingCopy)
     → ReadAs d earlier opened done → Ready opened steps
     → after_from d.mode earlier w (numbered opened steps) ≡ after_steps d done w steps
 after-numbered d earlier opened done [] w r ready = refl
@@ -238,7 +238,7 @@ opened_done opened (s ∷ done) p h =
 
 -- ---- a drive's calls
 
-module _ (d : Request) (w : WorkingCopy) (setting : Setting d w) (late : Bool) where
+module _ (d : DriveInput) (w : WorkingCopy) (setting : Setting d w) (late : Bool) where
   opened_before : (p : Path) (xs : List Action) (a : Action) → Place d p xs a → is_inner a ≡ true → list_any is_entry xs ≡ true
   opened_before p xs a (deleting r f e q) i = absurd (true≢false (sym i ∙ ap is_inner q))
   opened_before p xs a (adding k f e q) i = absurd (true≢false (sym i ∙ ap is_inner q))

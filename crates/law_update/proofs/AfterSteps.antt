@@ -21,7 +21,7 @@ use Rattle.svn_model.specs.Sources.{source, reported}
 use Rattle.svn_editor.specs.declared.mode.Mode.{Mode}
 use Rattle.svn_editor.specs.declared.mode.Mode.TheVariants.{Update, SwitchTo}
 use Rattle.svn_editor.specs.Steps.{Action, Delete, Open, Add, Change, Text, Close, Step}
-use Rattle.svn_model.specs.Follow.{Request, root_path, candidate, is_kept, target_path, source_node, target_node}
+use Rattle.svn_model.specs.Follow.{DriveInput, root_path, candidate, is_kept, target_path, source_node, target_node}
 use Rattle.svn_model.specs.Steps.{IsDriveOf, path_actions}
 use Rattle.svn_model.specs.declared.base_node.BaseNode.{BaseNode}
 use Rattle.svn_model.specs.declared.base_node.BaseNode.TheVariants.{File as FileNode, Dir as DirNode, NotPresent}
@@ -68,7 +68,7 @@ both_not (Some NotPresent) k = refl
 both_not (Some (FileNode v q t ps)) k = absurd (true≢false (sym k))
 both_not (Some (DirNode v q c ps)) k = absurd (true≢false (sym k))
 
-module _ (d : Request) (w : WorkingCopy) (setting : Setting d w) where
+module _ (d : DriveInput) (w : WorkingCopy) (setting : Setting d w) where
   related_some : (o t : Option ℕ) → are_related d.history o t ≡ true → is_some o ≡ true
   related_some None t e = absurd (true≢false (sym e))
   related_some (Some m) t e = refl
@@ -195,19 +195,19 @@ module _ (d : Request) (w : WorkingCopy) (setting : Setting d w) where
     fits = fits_action s.action refl
 
 -- the copy after some steps
-abbrev pub after_steps : Request → List Step → WorkingCopy → List Step → WorkingCopy
+abbrev pub after_steps : DriveInput → List Step → WorkingCopy → List Step → WorkingCopy
 after_steps d done w [] = w
 after_steps d done w (s ∷ rest) = after_steps d (done ++ s ∷ []) (step_effect d.mode d.target done s w) rest
 
 -- ---- the directory above
 
-opened_dir : (d : Request) (p : Path) (r : ℕ) (found : Option BaseNode) → is_dir found ≡ true
+opened_dir : (d : DriveInput) (p : Path) (r : ℕ) (found : Option BaseNode) → is_dir found ≡ true
     → (is_dir (act d p [] (Open Directory r) found) ≡ true) × PathIs (target_path d p) (act d p [] (Open Directory r) found)
 opened_dir d p r (Some (DirNode v q c ps)) k = (refl, λ z. refl)
 opened_dir d p r found k = absurd (true≢false (sym k))
 
 -- where the main actions of a path with an entry are done, it is begun
-pub begun_before : (d : Request) (p : Path) (l : List Action) → Course d p l → list_any is_entry l ≡ true → (xs ys : List Action)
+pub begun_before : (d : DriveInput) (p : Path) (l : List Action) → Course d p l → list_any is_entry l ≡ true → (xs ys : List Action)
     → xs ++ ys ≡ l → NoneMain ys
     → (k : Kind) × TargetKind d p k × Begun d p k xs
 begun_before d p l c any xs [] e n =
@@ -220,7 +220,7 @@ begun_before d p l c any xs (a ∷ ys) e n = by (place_of d p l c xs a ys e)
     by (adding k f x q) = absurd (true≢false (sym (ap is_main q) ∙ n.0))
     by (inside k z b q) = (k, z, b)
 
-module _ (d : Request) (w : WorkingCopy) (setting : Setting d w) where
+module _ (d : DriveInput) (w : WorkingCopy) (setting : Setting d w) where
   pub same_kind : (p : Path) (k : Kind) → TargetKind d p k → EnteredDirectory d setting.served p → k ≡ Directory
   same_kind p k z e = sym z.2 ∙ ap (kind_of d.history) (same_Some z.0 e.node (sym z.1 ∙ e.target)) ∙ e.directory
 

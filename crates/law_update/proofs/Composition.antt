@@ -14,7 +14,7 @@ use Rattle.svn_editor.specs.declared.call.Call.{Call}
 use Rattle.svn_editor.specs.declared.fault.EditFault.TheVariants.{Order, TooDeep}
 use Rattle.svn_editor.specs.declared.call.Call.TheVariants.{SetTargetRevision, CloseEdit}
 use Rattle.svn_editor.specs.Order.{order_fault, IsLawful, IsLawfulAfter}
-use Rattle.svn_model.specs.Follow.{Request, target_path, target_node}
+use Rattle.svn_model.specs.Follow.{DriveInput, target_path, target_node}
 use Rattle.svn_model.specs.Steps.{IsDriveOf}
 use Rattle.svn_model.specs.Drive.{call_of, opened_after, numbered, calls_of, IsDrive}
 use Rattle.svn_model.specs.declared.base_node.BaseNode.{BaseNode}
@@ -42,12 +42,12 @@ settled_present mode target p (Some (FileNode r q t ps)) k = refl
 settled_present mode target p (Some (DirNode r q c ps)) k = refl
 
 -- a call without a fault of either kind isn't refused
-no_faults : (d : Request) (earlier : List Call) (c : Call) (nodes : List (Path × BaseNode)) → order_fault earlier c ≡ None
+no_faults : (d : DriveInput) (earlier : List Call) (c : Call) (nodes : List (Path × BaseNode)) → order_fault earlier c ≡ None
     → edit_fault d.checksum d.mode earlier c nodes ≡ None → refusal d.checksum d.mode earlier c nodes ≡ None
 no_faults d earlier c nodes o e = ap (λ x. option_or (option_map Order x) (edit_fault d.checksum d.mode earlier c nodes)) o ∙ e
 
 -- the fault of a call that is about a path
-fault_read : (d : Request) (earlier : List Call) (c : Call) (x : Step) (nodes : List (Path × BaseNode)) → step_of earlier c ≡ Some x
+fault_read : (d : DriveInput) (earlier : List Call) (c : Call) (x : Step) (nodes : List (Path × BaseNode)) → step_of earlier c ≡ Some x
     → edit_fault d.checksum d.mode earlier c nodes ≡ read_fault d.checksum d.mode (steps_of earlier) (get_in nodes) (step_of earlier c)
 fault_read d earlier CloseEdit x nodes e = absurd (none e)
   where
@@ -77,7 +77,7 @@ none_deep m w (e ∷ es) a fit = ap (λ b. b || list_any (is_settled_deep m) es)
 settles : (m : Mode) (nodes : List (Path × BaseNode)) → InPathOrder nodes → PathsFit m (get_in nodes) → settle_fault m nodes ≡ None
 settles m nodes order fit = ap (λ b. cond b (Some TooDeep) None) (none_deep m (get_in nodes) nodes (all_in nodes order) fit)
 
-module _ (d : Request) (w : WorkingCopy) (setting : Setting d w) (late : Bool) where
+module _ (d : DriveInput) (w : WorkingCopy) (setting : Setting d w) (late : Bool) where
   -- where all steps are done the paths that the last call gives fit
   paths_fit_all : (steps : List Step) → IsDriveOf d late steps → (w' : WorkingCopy) → ((p : Path) → w' p ≡ state d w steps p)
       → PathsFit d.mode w'

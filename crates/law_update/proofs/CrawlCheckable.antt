@@ -20,7 +20,7 @@ use Rattle.svn_report.specs.Reports.{entry_at}
 use Rattle.svn_model.specs.Sources.{reported, revision_of, is_set_or_link, source_at}
 use Rattle.svn_model.specs.declared.report_fault.ReportFault.TheVariants.{NoSuchRevision, NoNode, RootNotDir, ParentNotDir}
 use Rattle.svn_model.specs.Checks.{fault_of, first_fault_from, first_fault_in, IsCheckable, target_fault}
-use Rattle.svn_model.specs.Follow.{Request, source_node, target_node, target_path}
+use Rattle.svn_model.specs.Follow.{DriveInput, source_node, target_node, target_path}
 use Rattle.svn_model.specs.declared.base_node.BaseNode.{BaseNode}
 use Rattle.svn_model.specs.declared.base_node.BaseNode.TheVariants.{File as FileNode, Dir as DirNode, NotPresent}
 use Rattle.svn_model.specs.Nodes.{get_in, is_present, is_dir, is_incomplete, node_revision, node_path, IsTrueNode}
@@ -191,7 +191,7 @@ crawl_asks h nodes target mode checksum t has = record {
 
 -- ---- targets
 
-pub no_target_fault : (d : Request) → are_related d.history (source_node d []) (target_node d []) ≡ true → target_fault d ≡ None
+pub no_target_fault : (d : DriveInput) → are_related d.history (source_node d []) (target_node d []) ≡ true → target_fault d ≡ None
 no_target_fault d h = by (source_node d []) (target_node d []) refl h
   where
     by : (s t : Option ℕ) → target_node d [] ≡ t → are_related d.history s t ≡ true

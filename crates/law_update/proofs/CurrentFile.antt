@@ -21,7 +21,7 @@ use Rattle.svn_editor.specs.declared.call.Call.TheVariants.{SetTargetRevision, O
 use Rattle.svn_editor.specs.Calls.{current_after, current_file, applies_text, has_its_text}
 use Rattle.svn_model.specs.Steps.{Named, End, mark_cmp, key_of, comes_after, has_text, is_text, IsDriveOf}
 use Rattle.svn_editor.specs.Calls.{number_eq}
-use Rattle.svn_model.specs.Follow.{Request}
+use Rattle.svn_model.specs.Follow.{DriveInput}
 use Rattle.svn_model.specs.Drive.{token_of}
 use Rattle.svn_model.specs.Nodes.{WorkingCopy}
 use Rattle.law_drive.proofs.Keys.{keys_total, same_place}
@@ -139,7 +139,7 @@ module _ (T : Path → ℕ) where
 -- ---- at a step of a drive
 
 -- the close of a file that has a text is where the text does
-text_key : (d : Request) (late : Bool) (x u : Step) → is_text x.action ≡ true → is_close_of File u.action ≡ true → u.path ≡ x.path
+text_key : (d : DriveInput) (late : Bool) (x u : Step) → is_text x.action ≡ true → is_close_of File u.action ≡ true → u.path ≡ x.path
     → has_text d x.path ≡ true → key_of d late u ≡ key_of d late x
 text_key d late x u h k e t =
     ap (λ a. key_of d late (record { path = u.path; action = a })) (close_is u.action k).1
@@ -159,7 +159,7 @@ text_key d late x u h k e t =
     text_is (Text s y) q = refl
     text_is a q = absurd (true≢false (sym q))
 
-module _ (d : Request) (w : WorkingCopy) (setting : Setting d w) (late : Bool) (done : List Step) (s : Step) (rest : List Step)
+module _ (d : DriveInput) (w : WorkingCopy) (setting : Setting d w) (late : Bool) (done : List Step) (s : Step) (rest : List Step)
     (drive : IsDriveOf d late (done ++ s ∷ rest)) where
   abbrev T : Path → ℕ
   T = token_of (entered (done ++ s ∷ rest))

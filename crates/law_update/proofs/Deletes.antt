@@ -12,7 +12,7 @@ use Rattle.svn_types.proofs.NameLemmas.{Name}
 use Rattle.svn_types.proofs.PathLemmas.{same_path, path_eq-same, path_ind, is_within-same, is_within-longer, below_child}
 use Rattle.svn_editor.specs.Steps.{Delete, Step}
 use Rattle.svn_model.specs.Sources.{source, governing_revision}
-use Rattle.svn_model.specs.Follow.{Request, follow, is_kept, source_node, target_node}
+use Rattle.svn_model.specs.Follow.{DriveInput, follow, is_kept, source_node, target_node}
 use Rattle.svn_model.specs.Steps.{IsDriveOf, is_gone, entered_actions, path_actions}
 use Rattle.svn_model.specs.Nodes.{WorkingCopy, is_present}
 use Rattle.svn_model.proofs.Children.{follow-here, parent_is_kept-child}
@@ -73,14 +73,14 @@ deleter p (s ∷ steps) h = by (is_delete s.action) (is_below s.path p) refl ref
     by false b e u k ih = later (ih k)
 
 -- a path that is gone has a delete
-pub gone_deletes : (d : Request) (q : Path) → is_gone d q ≡ true → list_any is_delete (path_actions d q) ≡ true
+pub gone_deletes : (d : DriveInput) (q : Path) → is_gone d q ≡ true → list_any is_delete (path_actions d q) ≡ true
 gone_deletes d q g =
     ap (λ b. list_any is_delete (cond b (Delete (governing_revision (follow d q).here) ∷ []) [] ++ entered_actions d q (target_node d q))) g
 
 -- ---- what is kept is never deleted
 
 -- what is above a kept path is kept
-pub kept_above : (d : Request) (q p : Path) → is_below q p ≡ true → is_kept d p ≡ true → is_kept d q ≡ true
+pub kept_above : (d : DriveInput) (q p : Path) → is_below q p ≡ true → is_kept d p ≡ true → is_kept d q ≡ true
 kept_above d q = path_ind (λ p. is_below q p ≡ true → is_kept d p ≡ true → is_kept d q ≡ true) (λ h k. root_case q h) more
   where
     root_case : (q : Path) → is_below q [] ≡ true → is_kept d q ≡ true
@@ -99,7 +99,7 @@ kept_above d q = path_ind (λ p. is_below q p ≡ true → is_kept d p ≡ true 
         by (inr b) = ih b up
 
 -- and what is above a child of one
-pub kept_above_child : (d : Request) (q p : Path) (name : Name) → is_below q (child p name) ≡ true → is_kept d p ≡ true → is_kept d q ≡ true
+pub kept_above_child : (d : DriveInput) (q p : Path) (name : Name) → is_below q (child p name) ≡ true → is_kept d p ≡ true → is_kept d q ≡ true
 kept_above_child d q p name h k = by (below_child q p name h)
   where
     by : (q ≡ p) ⊎ (is_below q p ≡ true) → is_kept d q ≡ true
@@ -107,7 +107,7 @@ kept_above_child d q p name h k = by (below_child q p name h)
     by (inr b) = kept_above d q p b k
 
 -- no step of a drive takes away what has only kept paths above
-pub none_deleted_above : (d : Request) (late : Bool) (done rest : List Step) → IsDriveOf d late (done ++ rest) → (p : Path)
+pub none_deleted_above : (d : DriveInput) (late : Bool) (done rest : List Step) → IsDriveOf d late (done ++ rest) → (p : Path)
     → ((q : Path) → is_below q p ≡ true → is_kept d q ≡ true) → is_deleted_above done p ≡ false
 none_deleted_above d late done rest drive p kept =
     false_from_ne_true (is_deleted_above done p)
@@ -119,14 +119,14 @@ none_deleted_above d late done rest drive p kept =
     true≢false (sym deletes ∙ course_kept d x.path (path_actions d x.path) (course_of d x.path) (kept x.path x.above)))
 
 -- so a kept path keeps what it had until its own actions
-pub kept_base : (d : Request) (w : WorkingCopy) (late : Bool) (done rest : List Step) → IsDriveOf d late (done ++ rest) → (p : Path)
+pub kept_base : (d : DriveInput) (w : WorkingCopy) (late : Bool) (done rest : List Step) → IsDriveOf d late (done ++ rest) → (p : Path)
     → is_kept d p ≡ true → base w done p ≡ w p
 kept_base d w late done rest drive p k =
     ap (λ b. cond b None (w p)) (none_deleted_above d late done rest drive p (λ q b. kept_above d q p b k))
 
 -- ---- what isn't kept is
 
-module _ (d : Request) (w : WorkingCopy) (setting : Setting d w) where
+module _ (d : DriveInput) (w : WorkingCopy) (setting : Setting d w) where
   abbrev GoneAbove : Path → Type 0
   GoneAbove p = is_present (w p) ≡ true → is_kept d p ≡ false → (q : Path) × (is_within q p ≡ true) × (is_gone d q ≡ true)
 

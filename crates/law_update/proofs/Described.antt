@@ -9,7 +9,7 @@ use Rattle.svn_types.specs.declared.kind.Kind.TheVariants.{File, Directory}
 use Rattle.svn_repo.specs.History.{History, look}
 use Rattle.svn_repo.specs.Readings.{kind_of}
 use Rattle.svn_model.specs.Sources.{Reported, reported, source, governing_revision}
-use Rattle.svn_model.specs.Follow.{Request, is_kept, source_node, target_node}
+use Rattle.svn_model.specs.Follow.{DriveInput, is_kept, source_node, target_node}
 use Rattle.svn_model.specs.declared.base_node.BaseNode.{BaseNode}
 use Rattle.svn_model.specs.declared.base_node.BaseNode.TheVariants.{File as FileNode, Dir as DirNode, NotPresent}
 use Rattle.svn_model.specs.Nodes.{WorkingCopy, IsWorkingCopy, is_present, is_dir, node_revision, node_path, IsTrueNode, IsTrueOf}
@@ -21,13 +21,13 @@ use Rattle.law_drive.proofs.Classes.{Served, kept_directory}
 use Rattle.law_drive.proofs.ReportDrives.{served}
 
 -- a request that can be served, and the copy that its report describes
-pub record Setting (d : Request) (w : WorkingCopy) : Type 0 where
+pub record Setting (d : DriveInput) (w : WorkingCopy) : Type 0 where
   pub served : Served d
   pub shape : IsWorkingCopy w
   pub true_of : IsTrueOf d.history w
   pub describes : Describes d.history d.report w
 
-pub setting_of : (d : Request) (w : WorkingCopy) → IsRequestOf d w → Setting d w
+pub setting_of : (d : DriveInput) (w : WorkingCopy) → IsRequestOf d w → Setting d w
 setting_of d w asked = record {
   served = served d asked.history asked.report asked.checkable asked.has_target;
   shape = asked.shape;
@@ -35,7 +35,7 @@ setting_of d w asked = record {
   describes = asked.describes;
 }
 
-module _ (d : Request) (w : WorkingCopy) (setting : Setting d w) where
+module _ (d : DriveInput) (w : WorkingCopy) (setting : Setting d w) where
   abbrev h : History
   h = d.history
 

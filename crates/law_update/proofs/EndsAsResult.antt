@@ -21,7 +21,7 @@ use Rattle.svn_editor.specs.Steps.{Step}
 use Rattle.svn_editor.specs.declared.call.Call.{Call}
 use Rattle.svn_editor.specs.declared.call.Call.TheVariants.{SetTargetRevision, CloseEdit}
 use Rattle.svn_model.specs.Steps.{IsDriveOf, is_touched, is_new, is_gone, starts_empty_at, source_props, source_text, path_actions}
-use Rattle.svn_model.specs.Follow.{Request, is_kept, target_path, source_node, target_node}
+use Rattle.svn_model.specs.Follow.{DriveInput, is_kept, target_path, source_node, target_node}
 use Rattle.svn_model.specs.Drive.{numbered, IsDrive}
 use Rattle.svn_model.specs.declared.base_node.BaseNode.{BaseNode}
 use Rattle.svn_model.specs.declared.base_node.BaseNode.TheVariants.{File as FileNode, Dir as DirNode, NotPresent}
@@ -49,7 +49,7 @@ absent_settled mode target p (Some NotPresent) k = refl
 absent_settled mode target p (Some (FileNode r q t ps)) k = absurd (true≢false k)
 absent_settled mode target p (Some (DirNode r q c ps)) k = absurd (true≢false k)
 
-module _ (d : Request) (w : WorkingCopy) (setting : Setting d w) where
+module _ (d : DriveInput) (w : WorkingCopy) (setting : Setting d w) where
   abbrev h : History
   h = d.history
 

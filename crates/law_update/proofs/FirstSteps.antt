@@ -17,7 +17,7 @@ use Rattle.svn_types.specs.Paths.{path_eq, is_within, is_below}
 use Rattle.svn_types.specs.declared.kind.Kind.TheVariants.{File, Directory}
 use Rattle.svn_types.proofs.PathLemmas.{same_path}
 use Rattle.svn_editor.specs.Steps.{Action, Delete, Open, Add, Change, Text, Close, Step}
-use Rattle.svn_model.specs.Follow.{Request}
+use Rattle.svn_model.specs.Follow.{DriveInput}
 use Rattle.svn_model.specs.Steps.{Mark, Named, End, mark_cmp, key, key_of, comes_after, has_text, InKeyOrder}
 use Rattle.law_drive.proofs.Courses.{is_delete, is_entry}
 use Rattle.law_update.proofs.States.{is_at, actions_at}
@@ -39,7 +39,7 @@ late_key : (p : Path) (k : List Mark) → is_gt (slice_cmp mark_cmp (End ∷ k) 
 late_key [] k = refl
 late_key (m ∷ p) k = refl
 
-pub key_above : (d : Request) (late : Bool) (p q : Path) (a : Action) → is_below p q ≡ true
+pub key_above : (d : DriveInput) (late : Bool) (p q : Path) (a : Action) → is_below p q ≡ true
     → is_gt (slice_cmp mark_cmp (key d late q a) (map Named p)) ≡ true
 key_above d late p q a b = by_action a
   where
@@ -67,7 +67,7 @@ key_above d late p q a b = by_action a
 
 -- ---- what is before and after the next step
 
-pub before_next : (d : Request) (late : Bool) (done : List Step) (s : Step) (rest : List Step) → InKeyOrder d late (done ++ s ∷ rest)
+pub before_next : (d : DriveInput) (late : Bool) (done : List Step) (s : Step) (rest : List Step) → InKeyOrder d late (done ++ s ∷ rest)
     → AllByRecursion (λ t. comes_after d late t s ≡ false) done
 before_next d late [] s rest h = tt
 before_next d late (t ∷ done) s rest h = (
@@ -75,13 +75,13 @@ before_next d late (t ∷ done) s rest h = (
   before_next d late done s rest h.1,
 )
 
-pub after_next : (d : Request) (late : Bool) (done : List Step) (s : Step) (rest : List Step) → InKeyOrder d late (done ++ s ∷ rest)
+pub after_next : (d : DriveInput) (late : Bool) (done : List Step) (s : Step) (rest : List Step) → InKeyOrder d late (done ++ s ∷ rest)
     → AllByRecursion (λ u. comes_after d late s u ≡ false) rest
 after_next d late [] s rest h = each_fails (comes_after d late s) rest h.0
 after_next d late (t ∷ done) s rest h = after_next d late done s rest h.1
 
 -- no step below the path of a step whose key is its path has been taken
-pub none_below_next : (d : Request) (late : Bool) (done : List Step) (s : Step) (q : Path)
+pub none_below_next : (d : DriveInput) (late : Bool) (done : List Step) (s : Step) (q : Path)
     → AllByRecursion (λ t. comes_after d late t s ≡ false) done
     → key_of d late s ≡ map Named s.path → is_below s.path q ≡ true → filter (is_at q) done ≡ []
 none_below_next d late [] s q h k b = refl
@@ -103,7 +103,7 @@ is_main (Close k c) = false
 is_main (Text s t) = false
 is_main _ = true
 
-pub main_key : (d : Request) (late : Bool) (p : Path) (a : Action) → is_main a ≡ true → key d late p a ≡ map Named p
+pub main_key : (d : DriveInput) (late : Bool) (p : Path) (a : Action) → is_main a ≡ true → key d late p a ≡ map Named p
 main_key d late p (Delete r) h = refl
 main_key d late p (Open k r) h = refl
 main_key d late p (Add k) h = refl
@@ -115,7 +115,7 @@ abbrev pub NoneMain : List Action → Type 0
 NoneMain acts = AllByRecursion (λ a. is_main a ≡ false) acts
 
 -- of the steps above the next one's path those with the path as key have all been taken
-pub none_main_left : (d : Request) (late : Bool) (s : Step) (rest : List Step) (p : Path) → is_below p s.path ≡ true
+pub none_main_left : (d : DriveInput) (late : Bool) (s : Step) (rest : List Step) (p : Path) → is_below p s.path ≡ true
     → AllByRecursion (λ u. comes_after d late s u ≡ false) rest → NoneMain (actions_at p rest)
 none_main_left d late s [] p b h = tt
 none_main_left d late s (u ∷ rest) p b h = by (is_at p u) refl (none_main_left d late s rest p b h.1)

@@ -6,7 +6,7 @@ use Rattle.svn_types.specs.Names.{Path}
 use Rattle.svn_types.specs.declared.kind.Kind.{Kind}
 use Rattle.svn_types.specs.declared.kind.Kind.TheVariants.{File, Directory}
 use Rattle.svn_editor.specs.Steps.{Action, Delete, Open, Add, Change, Text, Close}
-use Rattle.svn_model.specs.Follow.{Request, is_kept, target_path}
+use Rattle.svn_model.specs.Follow.{DriveInput, is_kept, target_path}
 use Rattle.svn_model.specs.declared.base_node.BaseNode.{BaseNode}
 use Rattle.svn_model.specs.declared.base_node.BaseNode.TheVariants.{File as FileNode, Dir as DirNode, NotPresent}
 use Rattle.svn_model.specs.Nodes.{is_present, is_dir, node_path}
@@ -22,7 +22,7 @@ abbrev pub PathIs : Path → Option BaseNode → Type 0
 PathIs q found = is_present found ≡ true → node_path found ≡ q
 
 -- each action leaves it at the path's place, or puts it there
-act_path : (d : Request) (p : Path) (before : List Action) (a : Action) (found : Option BaseNode) → PathIs (target_path d p) found
+act_path : (d : DriveInput) (p : Path) (before : List Action) (a : Action) (found : Option BaseNode) → PathIs (target_path d p) found
     → PathIs (target_path d p) (act d p before a found)
 act_path d p before (Delete r) found h = λ k. absurd (true≢false (sym k))
 act_path d p before (Open Directory r) (Some (DirNode v q c ps)) h = λ k. refl
@@ -36,13 +36,13 @@ act_path d p before (Close File s) (Some NotPresent) h = λ k. refl
 act_path d p before (Close File s) (Some (FileNode v q t ps)) h = λ k. refl
 act_path d p before (Close n s) found h = h
 
-pub acted_path : (d : Request) (p : Path) (before acts : List Action) (found : Option BaseNode) → PathIs (target_path d p) found
+pub acted_path : (d : DriveInput) (p : Path) (before acts : List Action) (found : Option BaseNode) → PathIs (target_path d p) found
     → PathIs (target_path d p) (acted d p before found acts)
 acted_path d p before [] found h = h
 acted_path d p before (a ∷ acts) found h = acted_path d p (before ++ a ∷ []) acts (act d p before a found) (act_path d p before a found h)
 
 -- after an add a present node is at the target's path, whatever was there
-pub added_path : (d : Request) (p : Path) (before inner : List Action) (k : Kind) (found : Option BaseNode)
+pub added_path : (d : DriveInput) (p : Path) (before inner : List Action) (k : Kind) (found : Option BaseNode)
     → PathIs (target_path d p) (acted d p [] found (before ++ Add k ∷ inner))
 added_path d p before inner k found =
     subst (PathIs (target_path d p)) (sym (acted-append d p [] before (Add k ∷ inner) found))
@@ -73,14 +73,14 @@ inner_leaves k = all_map (λ a. inner_of k a ≡ true) (λ a. leaves a ≡ true)
     each a e = refl
 
 -- the actions of a kept path are such
-pub kept_leaves : (d : Request) (p : Path) (l : List Action) → Course d p l → is_kept d p ≡ true → AllOf leaves l
+pub kept_leaves : (d : DriveInput) (p : Path) (l : List Action) → Course d p l → is_kept d p ≡ true → AllOf leaves l
 kept_leaves d p l nothing k = tt
 kept_leaves d p l (gone_only r f) k = absurd (true≢false (sym k ∙ f))
 kept_leaves d p l (touched n r {inner} z f b) k = (refl, inner_leaves n inner b.of_kind)
 kept_leaves d p l (added n z f b) k = absurd (true≢false (sym k ∙ f))
 kept_leaves d p l (replaced r n z f b) k = absurd (true≢false (sym k ∙ f))
 
-module _ (d : Request) (p : Path) where
+module _ (d : DriveInput) (p : Path) where
   -- what each of them keeps all of them keep
   all_keep : (P : Option BaseNode → Type 0)
       → ((before : List Action) (a : Action) (found : Option BaseNode) → leaves a ≡ true → P found → P (act d p before a found))

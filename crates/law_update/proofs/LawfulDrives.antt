@@ -19,7 +19,7 @@ use Rattle.svn_editor.specs.declared.call.Call.TheVariants.{SetTargetRevision}
 use Rattle.svn_editor.specs.declared.call.Call.TheVariants.{CloseEdit}
 use Rattle.svn_editor.specs.Order.{order_fault, IsLawfulAfter, IsLawful}
 use Rattle.svn_model.specs.Steps.{IsDriveOf}
-use Rattle.svn_model.specs.Follow.{Request}
+use Rattle.svn_model.specs.Follow.{DriveInput}
 use Rattle.svn_model.specs.Drive.{token_of, IsDrive}
 use Rattle.svn_model.specs.Nodes.{WorkingCopy}
 use Rattle.law_update.proofs.Described.{Setting}
@@ -36,7 +36,7 @@ use Rattle.law_update.proofs.OrderTests.{passes, shows_closed}
 use Rattle.law_drive.proofs.Tokens.{entered}
 use Rattle.law_update.proofs.NoOrderFault.{no_fault}
 
-module _ (d : Request) (w : WorkingCopy) (setting : Setting d w) (late : Bool) (all : List Step) (drive : IsDriveOf d late all) where
+module _ (d : DriveInput) (w : WorkingCopy) (setting : Setting d w) (late : Bool) (all : List Step) (drive : IsDriveOf d late all) where
   abbrev number : Path → ℕ
   number = token_of (entered all)
 
@@ -110,7 +110,7 @@ module _ (d : Request) (w : WorkingCopy) (setting : Setting d w) (late : Bool) (
   )
 
 -- the calls of a drive are lawful
-pub drive_is_lawful : (d : Request) (w : WorkingCopy) → Setting d w → (late : Bool) (calls : List Call) → IsDrive d late calls
+pub drive_is_lawful : (d : DriveInput) (w : WorkingCopy) → Setting d w → (late : Bool) (calls : List Call) → IsDrive d late calls
     → IsLawful calls
 drive_is_lawful d w setting late calls k =
     subst IsLawful

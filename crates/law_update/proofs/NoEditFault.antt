@@ -22,7 +22,7 @@ use Rattle.svn_editor.specs.Steps.{Action, Delete, Open, Add, Change, Text, Clos
 use Rattle.svn_editor.specs.declared.fault.EditFault.{EditFault}
 use Rattle.svn_editor.specs.declared.fault.EditFault.TheVariants.{NoEntry, WrongKind, WrongRevision, BaseChecksum, TextChecksum}
 use Rattle.svn_editor.specs.declared.fault.EditFault.TheVariants.{EntryExists, TooDeep, TooLong}
-use Rattle.svn_model.specs.Follow.{Request, follow, is_kept, target_path, source_node, target_node}
+use Rattle.svn_model.specs.Follow.{DriveInput, follow, is_kept, target_path, source_node, target_node}
 use Rattle.svn_model.specs.Steps.{IsDriveOf, is_touched, is_new, is_gone, source_props, source_text, text_actions, gone_actions}
 use Rattle.svn_model.specs.Steps.{touched_actions, new_actions, entered_actions, path_actions}
 use Rattle.svn_model.specs.declared.base_node.BaseNode.{BaseNode}
@@ -41,7 +41,7 @@ use Rattle.law_update.proofs.EndsAsResult.{nothing_left, deleted_next}
 
 -- ---- the refusal of an action, by its path's own actions alone
 
-abbrev pub own_fault : Request → Path → List Action → Option BaseNode → Action → Option EditFault
+abbrev pub own_fault : DriveInput → Path → List Action → Option BaseNode → Action → Option EditFault
 own_fault d p before found (Delete revision) =
     cond (not (is_present found)) (Some NoEntry)
     (cond (not (nat_eq (node_revision found) revision)) (Some WrongRevision) None)
@@ -62,12 +62,12 @@ own_fault d p before found (Close File sum) =
 own_fault d p before found (Close Directory sum) = None
 
 -- none of the actions is refused
-abbrev pub AllFit : Request → Path → List Action → Option BaseNode → List Action → Type 0
+abbrev pub AllFit : DriveInput → Path → List Action → Option BaseNode → List Action → Type 0
 AllFit d p before found [] = Unit {0}
 AllFit d p before found (a ∷ acts) = (own_fault d p before found a ≡ None) × AllFit d p (before ++ a ∷ []) (act d p before a found) acts
 
 -- the actions of two lists fit where those of the second do after the first
-fit-append : (d : Request) (p : Path) (before xs ys : List Action) (found : Option BaseNode) → AllFit d p before found xs
+fit-append : (d : DriveInput) (p : Path) (before xs ys : List Action) (found : Option BaseNode) → AllFit d p before found xs
     → AllFit d p (before ++ xs) (acted d p before found xs) ys → AllFit d p before found (xs ++ ys)
 fit-append d p before [] ys found h k = subst (λ b. AllFit d p b found ys) (append-nil before) k
 fit-append d p before (x ∷ xs) ys found h k = (
@@ -77,13 +77,13 @@ fit-append d p before (x ∷ xs) ys found h k = (
 )
 
 -- after quiet actions the node is the same
-fit-quiet : (d : Request) (p : Path) (before xs ys : List Action) (found : Option BaseNode) → AllOf is_quiet xs → AllFit d p before found xs
+fit-quiet : (d : DriveInput) (p : Path) (before xs ys : List Action) (found : Option BaseNode) → AllOf is_quiet xs → AllFit d p before found xs
     → AllFit d p (before ++ xs) found ys → AllFit d p before found (xs ++ ys)
 fit-quiet d p before xs ys found q h k =
     fit-append d p before xs ys found h (subst (λ o. AllFit d p (before ++ xs) o ys) (sym (acted_quiet d p before xs found q)) k)
 
 -- the refusal of one of the actions
-pub fit_at : (d : Request) (p : Path) (before xs : List Action) (a : Action) (ys : List Action) (found : Option BaseNode)
+pub fit_at : (d : DriveInput) (p : Path) (before xs : List Action) (a : Action) (ys : List Action) (found : Option BaseNode)
     → AllFit d p before found (xs ++ a ∷ ys)
     → own_fault d p (before ++ xs) (acted d p before found xs) a ≡ None
 fit_at d p before [] a ys found h = ap (λ b. own_fault d p b found a) (append-nil before) ∙ h.0
@@ -118,7 +118,7 @@ small_changes old new (n ∷ names) h = by (is_same_value (value_of old n) (valu
     by false ih = (value_small new n h, ih)
 
 -- small changes aren't refused
-fit_changes : (d : Request) (p : Path) (before : List Action) (found : Option BaseNode) (k : Kind) (cs : List PropChange) → AllSmall cs
+fit_changes : (d : DriveInput) (p : Path) (before : List Action) (found : Option BaseNode) (k : Kind) (cs : List PropChange) → AllSmall cs
     → AllFit d p before found (map (Change k) cs)
 fit_changes d p before found k [] h = tt
 fit_changes d p before found k (c ∷ cs) h =
@@ -128,10 +128,10 @@ fit_changes d p before found k (c ∷ cs) h =
 right_sum : (a b : List ℕ) → a ≡ b → is_wrong_sum (Some a) b ≡ false
 right_sum a b e = ap (λ x. not (bytes_eq a x)) (sym e) ∙ ap not (bytes_eq-same a)
 
-same_sum : (d : Request) (a b : List ℕ) → a ≡ b → is_wrong_sum (Some (d.checksum a)) (d.checksum b) ≡ false
+same_sum : (d : DriveInput) (a b : List ℕ) → a ≡ b → is_wrong_sum (Some (d.checksum a)) (d.checksum b) ≡ false
 same_sum d a b e = right_sum (d.checksum a) (d.checksum b) (ap d.checksum e)
 
-module _ (d : Request) (w : WorkingCopy) (setting : Setting d w) where
+module _ (d : DriveInput) (w : WorkingCopy) (setting : Setting d w) where
   abbrev h : History
   h = d.history
 

@@ -26,7 +26,7 @@ use Rattle.svn_editor.specs.declared.call.Call.TheVariants.{CloseFile}
 use Rattle.svn_editor.specs.Order.{order_fault}
 use Rattle.svn_model.specs.Steps.{Mark, Named, End, mark_cmp, key_of, has_text, is_text, IsDriveOf}
 use Rattle.svn_editor.specs.Calls.{number_eq}
-use Rattle.svn_model.specs.Follow.{Request}
+use Rattle.svn_model.specs.Follow.{DriveInput}
 use Rattle.svn_model.specs.Drive.{token_of}
 use Rattle.svn_model.specs.Nodes.{WorkingCopy}
 use Rattle.law_update.proofs.Described.{Setting}
@@ -49,7 +49,7 @@ use Rattle.law_drive.proofs.Tokens.{entered}
 
 -- ---- at a step of a drive
 
-module _ (d : Request) (w : WorkingCopy) (setting : Setting d w) (late : Bool) (done : List Step) (s : Step) (rest : List Step)
+module _ (d : DriveInput) (w : WorkingCopy) (setting : Setting d w) (late : Bool) (done : List Step) (s : Step) (rest : List Step)
     (drive : IsDriveOf d late (done ++ s ∷ rest)) where
   abbrev T : Path → ℕ
   T = token_of (entered (done ++ s ∷ rest))

@@ -19,7 +19,7 @@ use Rattle.svn_types.proofs.NameLemmas.{Name}
 use Rattle.svn_types.proofs.PathLemmas.{path_eq-same, path_eq-symm, within_child}
 use Rattle.svn_editor.specs.Steps.{Action, Close, Step}
 use Rattle.svn_model.specs.Steps.{Mark, Named, End, mark_cmp, key_of, comes_after, IsDriveOf}
-use Rattle.svn_model.specs.Follow.{Request}
+use Rattle.svn_model.specs.Follow.{DriveInput}
 use Rattle.law_drive.proofs.Keys.{keys_total, tied_keys, path_in, path_in-map}
 use Rattle.law_update.proofs.FirstSteps.{key_above, apart_keys, main_key, is_main, entry_is_main}
 use Rattle.law_drive.proofs.Courses.{is_entry, is_entry_of, entry_of_is_entry, is_close, is_close_of, precedes, fits_kind}
@@ -73,7 +73,7 @@ smaller_path p q h k = by (slice_cmp mark_cmp (map Named p) (map Named q)) refl 
         absurd (true≢false (sym (ap (λ x. path_eq x q) same ∙ path_eq-same q) ∙ k))
 
 -- a directory's close has the end of its path for its key
-pub close_key : (d : Request) (late : Bool) (u : Step) (r : Path) → u.path ≡ r → is_close_of Directory u.action ≡ true
+pub close_key : (d : DriveInput) (late : Bool) (u : Step) (r : Path) → u.path ≡ r → is_close_of Directory u.action ≡ true
     → key_of d late u ≡ map Named r ++ (End ∷ [])
 close_key d late u r q = each u.action refl
   where
@@ -81,7 +81,7 @@ close_key d late u r q = each u.action refl
     each (Close Directory v) e c = ap (λ a. key_of d late (record { path = u.path; action = a })) e ∙ ap (λ p. map Named p ++ (End ∷ [])) q
     each a e c = absurd (true≢false (sym c))
 
-module _ (d : Request) (late : Bool) (done : List Step) (s : Step) (rest : List Step) (drive : IsDriveOf d late (done ++ s ∷ rest)) where
+module _ (d : DriveInput) (late : Bool) (done : List Step) (s : Step) (rest : List Step) (drive : IsDriveOf d late (done ++ s ∷ rest)) where
   -- a directory whose end comes before the step has been closed
   pub closed_before : (r : Path) → list_any (has (is_entry_of Directory) r) (done ++ s ∷ rest) ≡ true
       → slice_cmp mark_cmp (map Named r ++ (End ∷ [])) (key_of d late s) ≡ Less

@@ -25,7 +25,7 @@ use Rattle.svn_editor.specs.Order.{is_target_late, is_token_unknown, is_token_cl
 use Rattle.svn_editor.specs.Order.{is_file_unfinished, is_too_early, is_not_innermost, is_open_below, is_prop_late, is_delete_late}
 use Rattle.svn_editor.specs.Order.{is_entry_again, is_text_again, is_root_unclosed, fault_in_order, order_fault}
 use Rattle.svn_model.specs.Steps.{Named, mark_cmp, key_of, comes_after, InKeyOrder}
-use Rattle.svn_model.specs.Follow.{Request}
+use Rattle.svn_model.specs.Follow.{DriveInput}
 use Rattle.law_update.proofs.FirstSteps.{main_key, is_main, key_above}
 use Rattle.law_drive.proofs.Courses.{is_close_of, precedes}
 use Rattle.law_update.proofs.StepOrder.{has, has_parts}
@@ -109,7 +109,7 @@ module _ (T : Path → ℕ) where
           by a e q = absurd (true≢false (sym q))
 
   -- where steps are in order, no directory's property is changed after a directory below it was entered
-  pub none_changed_late : (d : Request) (late : Bool) (q : Path) → Tells T q → (xs : List Step) → InKeyOrder d late xs
+  pub none_changed_late : (d : DriveInput) (late : Bool) (q : Path) → Tells T q → (xs : List Step) → InKeyOrder d late xs
       → AllByRecursion (λ x. is_root x.path ≡ true → is_root_action x.action ≡ true) xs
       → changed_late (map (call_at T) xs) (T q) ≡ false
   none_changed_late d late q tells [] o r = refl
@@ -144,7 +144,7 @@ module _ (T : Path → ℕ) where
                   ∙ key_above d late q y.path y.action (ap (is_below q) sub.1 ∙ is_below-child q sub.0))
 
 -- the first steps are in order
-pub front_in_order : (d : Request) (late : Bool) (xs ys : List Step) → InKeyOrder d late (xs ++ ys) → InKeyOrder d late xs
+pub front_in_order : (d : DriveInput) (late : Bool) (xs ys : List Step) → InKeyOrder d late (xs ++ ys) → InKeyOrder d late xs
 front_in_order d late [] ys o = tt
 front_in_order d late (x ∷ xs) ys o = (
   left (list_any (comes_after d late x) xs) (list_any (comes_after d late x) ys)

@@ -15,7 +15,7 @@ use Rattle.svn_types.proofs.PathLemmas.{same_path}
 use Rattle.svn_repo.specs.Readings.{kind_of}
 use Rattle.svn_model.specs.Sources.{governing_revision}
 use Rattle.svn_editor.specs.Steps.{Action, Delete, Open, Add, Change, Text, Close, Step}
-use Rattle.svn_model.specs.Follow.{Request, follow, is_kept, target_path, target_node}
+use Rattle.svn_model.specs.Follow.{DriveInput, follow, is_kept, target_path, target_node}
 use Rattle.svn_model.specs.Steps.{Named, End, mark_cmp, comes_after, IsDriveOf, is_touched, is_new, is_gone, touched_actions, new_actions}
 use Rattle.svn_model.specs.Steps.{entered_actions, path_actions}
 use Rattle.svn_model.specs.declared.base_node.BaseNode.{BaseNode}
@@ -44,7 +44,7 @@ quiet_inner k (Close l x ∷ acts) h c = absurd (true≢false c)
 quiet_inner k (a ∷ acts) h c = absurd (true≢false (sym h.0))
 
 -- deletes leave nothing
-all_deleted : (d : Request) (p : Path) (before : List Action) (a : Action) (acts : List Action) (found : Option BaseNode)
+all_deleted : (d : DriveInput) (p : Path) (before : List Action) (a : Action) (acts : List Action) (found : Option BaseNode)
     → AllOf is_delete (a ∷ acts) → acted d p before found (a ∷ acts) ≡ None
 all_deleted d p before (Delete r) [] found h = refl
 all_deleted d p before (Delete r) (b ∷ acts) found h = all_deleted d p (before ++ Delete r ∷ []) b acts None h.1
@@ -52,7 +52,7 @@ all_deleted d p before a acts found h = absurd (true≢false (sym h.0))
 
 -- ---- the close of a directory comes after the main steps of its children
 
-none_main_after : (d : Request) (late : Bool) (s : Step) (rest : List Step) (p : Path) (name : Name) → s.path ≡ p
+none_main_after : (d : DriveInput) (late : Bool) (s : Step) (rest : List Step) (p : Path) (name : Name) → s.path ≡ p
     → is_close_of Directory s.action ≡ true
     → AllByRecursion (λ u. comes_after d late s u ≡ false) rest → NoneMain (actions_at (child p name) rest)
 none_main_after d late s [] p name at c h = tt
@@ -74,7 +74,7 @@ none_main_after d late s (u ∷ rest) p name at c h = by (is_at (child p name) u
 
 -- ---- what is there
 
-module _ (d : Request) (w : WorkingCopy) (setting : Setting d w) (late : Bool) (steps rest : List Step)
+module _ (d : DriveInput) (w : WorkingCopy) (setting : Setting d w) (late : Bool) (steps rest : List Step)
     (drive : IsDriveOf d late (steps ++ rest)) where
   -- what is at a path after the first steps
   pub data Stands (p : Path) : Option BaseNode → Type 0 where

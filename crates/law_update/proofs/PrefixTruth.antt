@@ -17,7 +17,7 @@ use Rattle.svn_repo.specs.History.{History, look}
 use Rattle.svn_model.specs.Sources.{reported}
 use Rattle.svn_editor.specs.Steps.{Action, Step}
 use Rattle.svn_model.specs.Steps.{IsDriveOf, is_touched, is_new, path_actions}
-use Rattle.svn_model.specs.Follow.{Request, candidate, is_kept, target_path, source_node, target_node}
+use Rattle.svn_model.specs.Follow.{DriveInput, candidate, is_kept, target_path, source_node, target_node}
 use Rattle.svn_model.specs.declared.base_node.BaseNode.{BaseNode}
 use Rattle.svn_model.specs.declared.base_node.BaseNode.TheVariants.{File as FileNode, Dir as DirNode, NotPresent}
 use Rattle.svn_model.specs.Nodes.{WorkingCopy, IsWorkingCopy, is_present, is_dir, node_path, IsTrueNode, IsTrueOf, base_node_by, base_node}
@@ -53,7 +53,7 @@ kind_of_dir : (k : Kind) → (k ≡ File → ⊥) → k ≡ Directory
 kind_of_dir File h = absurd (h refl)
 kind_of_dir Directory h = refl
 
-module _ (d : Request) (w : WorkingCopy) (setting : Setting d w) where
+module _ (d : DriveInput) (w : WorkingCopy) (setting : Setting d w) where
   abbrev h : History
   h = d.history
 
@@ -363,11 +363,11 @@ first_calls opened (s ∷ steps) last (suc n) = more (first_calls (opened_after 
     more (all_calls c) = all_calls (ap (λ (l : List Call). call_of opened s.path s.action ∷ l) c)
 
 -- what the copy is after the first calls of a drive: as after the first steps, or the result
-pub data Reached (d : Request) (w : WorkingCopy) (late : Bool) (v : WorkingCopy) : Type 0 where
+pub data Reached (d : DriveInput) (w : WorkingCopy) (late : Bool) (v : WorkingCopy) : Type 0 where
   under_way : (xs ys : List Step) → IsDriveOf d late (xs ++ ys) → v ≡ state d w xs → Reached d w late v
   at_end : v ≡ result d → Reached d w late v
 
-module _ (d : Request) (w : WorkingCopy) (setting : Setting d w) (late : Bool) where
+module _ (d : DriveInput) (w : WorkingCopy) (setting : Setting d w) (late : Bool) where
   pub reached : (calls : List Call) → IsDrive d late calls → (n : ℕ) → Reached d w late (after d.mode w (take n calls))
   reached calls drive n = subst (λ l. Reached d w late (after d.mode w (take n l))) (sym drive.numbered_calls) (by n)
     where

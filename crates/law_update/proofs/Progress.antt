@@ -17,7 +17,7 @@ use Rattle.svn_types.proofs.NameLemmas.{Name}
 use Rattle.svn_types.proofs.PathLemmas.{same_path, is_below-child, is_within-longer, below_child, within_shorter}
 use Rattle.svn_model.specs.Sources.{governing_revision}
 use Rattle.svn_editor.specs.Steps.{Action, Delete, Open, Add, Step}
-use Rattle.svn_model.specs.Follow.{Request, follow, is_kept, target_path, target_node}
+use Rattle.svn_model.specs.Follow.{DriveInput, follow, is_kept, target_path, target_node}
 use Rattle.svn_model.specs.Steps.{InKeyOrder, IsDriveOf, comes_after, is_gone, entered_actions, path_actions}
 use Rattle.svn_model.specs.Nodes.{WorkingCopy, is_present, is_dir}
 use Rattle.svn_model.specs.Effects.{added_node}
@@ -32,13 +32,13 @@ use Rattle.law_update.proofs.AfterSteps.{has_entry, kept_present, begun_before, 
 -- ---- tests on lists of steps
 
 -- a step among the first ones whose action passes a test, which no step that is left is before
-pub record Taken (d : Request) (late : Bool) (f : Action → Bool) (q : Path) (rest : List Step) : Type 0 where
+pub record Taken (d : DriveInput) (late : Bool) (f : Action → Bool) (q : Path) (rest : List Step) : Type 0 where
   pub taken : Step
   pub at_path : taken.path ≡ q
   pub passes : f taken.action ≡ true
   pub not_before : AllByRecursion (λ u. comes_after d late taken u ≡ false) rest
 
-pub taken_at : (d : Request) (late : Bool) (f : Action → Bool) (q : Path) (steps rest : List Step) → InKeyOrder d late (steps ++ rest)
+pub taken_at : (d : DriveInput) (late : Bool) (f : Action → Bool) (q : Path) (steps rest : List Step) → InKeyOrder d late (steps ++ rest)
     → list_any f (actions_at q steps) ≡ true → Taken d late f q rest
 taken_at d late f q [] rest o h = absurd (true≢false (sym h))
 taken_at d late f q (s ∷ steps) rest o h = by (is_at q s) (f s.action) refl refl h (taken_at d late f q steps rest o.1)
@@ -88,7 +88,7 @@ deleted_from p name steps h k =
 
 -- ---- the first steps of a drive
 
-module _ (d : Request) (w : WorkingCopy) (setting : Setting d w) (late : Bool) (steps rest : List Step)
+module _ (d : DriveInput) (w : WorkingCopy) (setting : Setting d w) (late : Bool) (steps rest : List Step)
     (drive : IsDriveOf d late (steps ++ rest)) where
   cut : (p : Path) → actions_at p steps ++ actions_at p rest ≡ path_actions d p
   cut = path_cut d late steps rest drive

@@ -24,7 +24,7 @@ use Rattle.svn_editor.specs.Steps.{Step}
 use Rattle.svn_editor.specs.declared.call.Call.{Call}
 use Rattle.svn_report.specs.LawfulReports.{IsReport}
 use Rattle.svn_model.specs.Checks.{IsCheckable}
-use Rattle.svn_model.specs.Follow.{Request, root_path, candidate, is_kept, target_path, source_node, target_node}
+use Rattle.svn_model.specs.Follow.{DriveInput, root_path, candidate, is_kept, target_path, source_node, target_node}
 use Rattle.svn_model.specs.Steps.{IsDriveOf}
 use Rattle.svn_model.specs.Drive.{IsDrive}
 use Rattle.svn_model.specs.declared.base_node.BaseNode.{BaseNode}
@@ -63,14 +63,14 @@ related_some h (Some m) t e = refl
 -- ---- another report, of a copy whose nodes are old ones or the target's
 
 -- what may be at a path of the copy that is left, for the path to lead to the same place
-pub data Leads (d : Request) (w : WorkingCopy) (r : ReportView) (p : Path) (found : Option BaseNode) : Type 0 where
+pub data Leads (d : DriveInput) (w : WorkingCopy) (r : ReportView) (p : Path) (found : Option BaseNode) : Type 0 where
   not_there : is_present found ≡ false → is_kept d p ≡ false → Leads d w r p found
   as_before : w p ≡ found → is_present found ≡ true → (is_kept (reported_again d r) p ≡ true → is_kept d p ≡ true) → Leads d w r p found
   at_target : (n : ℕ) → target_node d p ≡ Some n → is_present found ≡ true → node_revision found ≡ d.target
       → node_path found ≡ target_path d p → Leads d w r p found
 
 -- what is kept stays related to its target
-still_related : (d : Request) (w : WorkingCopy) → Setting d w → (r : ReportView) (p : Path) (found : Option BaseNode) → is_kept d p ≡ true
+still_related : (d : DriveInput) (w : WorkingCopy) → Setting d w → (r : ReportView) (p : Path) (found : Option BaseNode) → is_kept d p ≡ true
     → Leads d w r p found
     → are_related d.history (look d.history (node_revision found) (node_path found)) (target_node d p) ≡ true
 still_related d w setting r p found k (not_there e f) = absurd (true≢false (sym k ∙ f))
@@ -82,12 +82,12 @@ still_related d w setting r p found k (at_target n t present e f) =
     (λ i. are_related d.history (look d.history (e i) (f i)) (target_node d p)) ∙ (λ i. are_related d.history (t i) (t i))
     ∙ nat_eq-same (line_of d.history n)
 
-module _ (d : Request) (w : WorkingCopy) (setting : Setting d w) (update : d.mode ≡ Update) (r : ReportView) (v : WorkingCopy)
+module _ (d : DriveInput) (w : WorkingCopy) (setting : Setting d w) (update : d.mode ≡ Update) (r : ReportView) (v : WorkingCopy)
     (describes : Describes d.history r v) where
   abbrev h : History
   h = d.history
 
-  abbrev again : Request
+  abbrev again : DriveInput
   again = reported_again d r
 
   pub record Resumed (p : Path) : Type 0 where
@@ -166,7 +166,7 @@ module _ (d : Request) (w : WorkingCopy) (setting : Setting d w) (update : d.mod
 
 -- ---- the copies that a drive leaves
 
-base_leads : (d : Request) (w : WorkingCopy) (r : ReportView) (p : Path) (n : ℕ) → target_node d p ≡ Some n
+base_leads : (d : DriveInput) (w : WorkingCopy) (r : ReportView) (p : Path) (n : ℕ) → target_node d p ≡ Some n
     → Leads d w r p (Some (base_node d.history d.target (target_path d p) n))
 base_leads d w r p n t = by (kind_of d.history n)
   where
@@ -174,7 +174,7 @@ base_leads d w r p n t = by (kind_of d.history n)
     by File = at_target n t refl refl refl
     by Directory = at_target n t refl refl refl
 
-module _ (d : Request) (w : WorkingCopy) (setting : Setting d w) (r : ReportView) where
+module _ (d : DriveInput) (w : WorkingCopy) (setting : Setting d w) (r : ReportView) where
   -- the whole of it leaves the target's nodes
   result_leads : (p : Path) → Leads d w r p (result d p)
   result_leads p = by (target_node d p) refl
@@ -193,7 +193,7 @@ module _ (d : Request) (w : WorkingCopy) (setting : Setting d w) (r : ReportView
     abbrev now : WorkingCopy
     now = state d w steps
 
-    abbrev resumed : Request
+    abbrev resumed : DriveInput
     resumed = reported_again d r
 
     old_now : (p : Path) → is_deleted_above steps p ≡ false → actions_at p steps ≡ [] → now p ≡ w p
@@ -286,7 +286,7 @@ module _ (d : Request) (w : WorkingCopy) (setting : Setting d w) (r : ReportView
       prefix_leads p = leads_by p (old_kept p)
 
 -- the copy that is left leads each path to the same place
-pub same_target_path : (d : Request) (w : WorkingCopy) → Setting d w → (late : Bool) (r : ReportView) (v : WorkingCopy) → Reached d w late v
+pub same_target_path : (d : DriveInput) (w : WorkingCopy) → Setting d w → (late : Bool) (r : ReportView) (v : WorkingCopy) → Reached d w late v
     → Describes d.history r v → (p : Path) → target_path (reported_again d r) p ≡ target_path d p
 same_target_path d w setting late r v where_now describes = by d.mode refl
   where
@@ -302,7 +302,7 @@ same_target_path d w setting late r v where_now describes = by d.mode refl
     by (SwitchTo root) m p = switched_to (reported_again d r) root m p ∙ sym (switched_to d root m p)
 
 -- and its root is the target's
-pub same_root : (d : Request) (w : WorkingCopy) → Setting d w → (late : Bool) (r : ReportView) (v : WorkingCopy) → Reached d w late v
+pub same_root : (d : DriveInput) (w : WorkingCopy) → Setting d w → (late : Bool) (r : ReportView) (v : WorkingCopy) → Reached d w late v
     → Describes d.history r v → are_related d.history (source_node (reported_again d r) []) (target_node (reported_again d r) []) ≡ true
 same_root d w setting late r v where_now describes =
     ap (λ o. are_related d.history o (target_node (reported_again d r) []))
@@ -320,7 +320,7 @@ same_root d w setting late r v where_now describes =
 
 -- ---- the laws
 
-module _ (d : Request) (w left : WorkingCopy) (late : Bool) (calls : List Call) (n : ℕ) (r : ReportView) (asked : IsRequestOf d w)
+module _ (d : DriveInput) (w left : WorkingCopy) (late : Bool) (calls : List Call) (n : ℕ) (r : ReportView) (asked : IsRequestOf d w)
     (drive : IsDrive d late calls)
     (same : (p : Path) → left p ≡ after d.mode w (take n calls) p) (report : IsReport r) (checkable : IsCheckable d.history r)
     (describes : Describes d.history r left) where

@@ -13,7 +13,7 @@ use Rattle.svn_types.specs.Props.{PropChange}
 use Rattle.svn_types.specs.declared.kind.Kind.TheVariants.{File, Directory}
 use Rattle.svn_types.proofs.PathLemmas.{same_path, path_eq-same}
 use Rattle.svn_editor.specs.Steps.{Action, Delete, Open, Add, Change, Text, Close, Step, steps_at}
-use Rattle.svn_model.specs.Follow.{Request, target_path}
+use Rattle.svn_model.specs.Follow.{DriveInput, target_path}
 use Rattle.svn_model.specs.Steps.{IsDriveOf, path_actions}
 use Rattle.svn_model.specs.declared.base_node.BaseNode.{BaseNode}
 use Rattle.svn_model.specs.Nodes.{WorkingCopy}
@@ -35,7 +35,7 @@ changes_in = filter_map change_in
 abbrev pub texts_in : List Action → List (List ℕ)
 texts_in = filter_map text_in
 
-abbrev pub act : Request → Path → List Action → Action → Option BaseNode → Option BaseNode
+abbrev pub act : DriveInput → Path → List Action → Action → Option BaseNode → Option BaseNode
 act d p before (Delete r) found = None
 act d p before (Open Directory r) found = opened_directory d.target (λ q. target_path d p) found
 act d p before (Add k) found = Some (added_node k d.target (target_path d p))
@@ -44,7 +44,7 @@ act d p before (Close File c) found =
     closed_file d.target (λ q. target_path d p) (target_path d p) (changes_in before) (texts_in before) found
 act d p before _ found = found
 
-abbrev pub acted : Request → Path → List Action → Option BaseNode → List Action → Option BaseNode
+abbrev pub acted : DriveInput → Path → List Action → Option BaseNode → List Action → Option BaseNode
 acted d p before found [] = found
 acted d p before found (a ∷ acts) = acted d p (before ++ a ∷ []) (act d p before a found) acts
 
@@ -55,10 +55,10 @@ is_deleted_above steps p = list_any (λ s. is_delete s.action && is_below s.path
 abbrev pub base : WorkingCopy → List Step → Path → Option BaseNode
 base w steps p = cond (is_deleted_above steps p) None (w p)
 
-abbrev pub state : Request → WorkingCopy → List Step → Path → Option BaseNode
+abbrev pub state : DriveInput → WorkingCopy → List Step → Path → Option BaseNode
 state d w steps p = acted d p [] (base w steps p) (actions_at p steps)
 
-pub acted-append : (d : Request) (p : Path) (before xs ys : List Action) (found : Option BaseNode)
+pub acted-append : (d : DriveInput) (p : Path) (before xs ys : List Action) (found : Option BaseNode)
     → acted d p before found (xs ++ ys) ≡ acted d p (before ++ xs) (acted d p before found xs) ys
 acted-append d p before [] ys found = ap (λ b. acted d p b found ys) (sym (append-nil before))
 acted-append d p before (x ∷ xs) ys found =
@@ -76,7 +76,7 @@ actions-steps_at : (p : Path) (acts : List Action) → map (λ (s : Step). s.act
 actions-steps_at p [] = refl
 actions-steps_at p (a ∷ acts) = ap (λ (l : List Action). a ∷ l) (actions-steps_at p acts)
 
-pub actions_at-drive : (d : Request) (late : Bool) (steps : List Step) → IsDriveOf d late steps → (p : Path)
+pub actions_at-drive : (d : DriveInput) (late : Bool) (steps : List Step) → IsDriveOf d late steps → (p : Path)
     → actions_at p steps ≡ path_actions d p
 actions_at-drive d late steps k p = ap (map (λ (s : Step). s.action)) (k.at_each_path p) ∙ actions-steps_at p (path_actions d p)
 
@@ -100,12 +100,12 @@ pub texts_at-actions : (p : Path) (steps : List Step) → texts_at p steps ≡ t
 texts_at-actions p = said_at (texts_at p) text_in p refl (λ s steps. refl)
 
 -- the actions of a path, cut after the first steps of a drive
-pub path_cut : (d : Request) (late : Bool) (steps rest : List Step) → IsDriveOf d late (steps ++ rest) → (p : Path)
+pub path_cut : (d : DriveInput) (late : Bool) (steps rest : List Step) → IsDriveOf d late (steps ++ rest) → (p : Path)
     → actions_at p steps ++ actions_at p rest ≡ path_actions d p
 path_cut d late steps rest drive p = sym (actions_at-append p steps rest) ∙ actions_at-drive d late (steps ++ rest) drive p
 
 -- and those of the path of a step, cut at the step
-pub step_cut : (d : Request) (late : Bool) (done : List Step) (s : Step) (rest : List Step) → IsDriveOf d late (done ++ s ∷ rest)
+pub step_cut : (d : DriveInput) (late : Bool) (done : List Step) (s : Step) (rest : List Step) → IsDriveOf d late (done ++ s ∷ rest)
     → actions_at s.path done ++ s.action ∷ actions_at s.path rest ≡ path_actions d s.path
 step_cut d late done s rest drive =
     ap (λ b. actions_at s.path done ++ map (λ (t : Step). t.action) (cond b (s ∷ filter (is_at s.path) rest) (filter (is_at s.path) rest)))
@@ -115,13 +115,13 @@ step_cut d late done s rest drive =
 -- ---- one more step
 
 -- what the step does at its own path is what the path's own actions say
-abbrev pub FitsAt : Request → WorkingCopy → List Step → Step → Type 0
+abbrev pub FitsAt : DriveInput → WorkingCopy → List Step → Step → Type 0
 FitsAt d w' done s = stepped d.mode d.target done w' s.path s.action ≡ act d s.path (actions_at s.path done) s.action (w' s.path)
 
 own_path_not_below : (p : Path) → is_below p p ≡ false
 own_path_not_below p = ap (λ b. is_within p p && not b) (path_eq-same p) ∙ and-false (is_within p p)
 
-pub state-more : (d : Request) (w w' : WorkingCopy) (done : List Step) (s : Step)
+pub state-more : (d : DriveInput) (w w' : WorkingCopy) (done : List Step) (s : Step)
     → ((p : Path) → w' p ≡ state d w done p)
     → FitsAt d w' done s
     → ((p : Path) → is_below s.path p ≡ true → is_delete s.action ≡ true → actions_at p done ≡ [])

@@ -16,7 +16,7 @@ use Rattle.svn_types.proofs.NameLemmas.{Name}
 use Rattle.svn_types.proofs.PathLemmas.{same_path, path_eq-same}
 use Rattle.svn_repo.specs.Readings.{are_related, kind_of}
 use Rattle.svn_editor.specs.Steps.{Action, Step}
-use Rattle.svn_model.specs.Follow.{Request, source_node, target_node}
+use Rattle.svn_model.specs.Follow.{DriveInput, source_node, target_node}
 use Rattle.svn_model.specs.Steps.{IsDriveOf, is_text, path_actions, comes_after}
 use Rattle.svn_model.specs.Nodes.{WorkingCopy, is_dir}
 use Rattle.law_drive.proofs.Classes.{none_related, EnteredDirectory, kept_directory}
@@ -90,7 +90,7 @@ members (x ∷ xs) = (
 -- ---- before and after a step of a drive
 
 -- how a step compares with a later one
-abbrev pub Before : Request → Bool → Step → Step → Type 0
+abbrev pub Before : DriveInput → Bool → Step → Step → Type 0
 Before d late t s = (comes_after d late t s ≡ false) × (t.path ≡ s.path → precedes t.action s.action ≡ true)
 
 -- in a list in turn, each action has its turn after those before it
@@ -111,7 +111,7 @@ at_steps f p (t ∷ steps) h = by (is_at p t) refl h (at_steps f p steps)
     by true e h ih = (λ q. h.0, ih h.1)
     by false e h ih = (λ q. absurd (true≢false (sym (ap (λ x. path_eq x p) q ∙ path_eq-same p) ∙ e)), ih h)
 
-module _ (d : Request) (late : Bool) (done : List Step) (s : Step) (rest : List Step) (drive : IsDriveOf d late (done ++ s ∷ rest)) where
+module _ (d : DriveInput) (late : Bool) (done : List Step) (s : Step) (rest : List Step) (drive : IsDriveOf d late (done ++ s ∷ rest)) where
   -- which have had their turn, and which have not
   turns : AllOf (λ x. precedes x s.action) (actions_at s.path done) × AllOf (precedes s.action) (actions_at s.path rest)
   turns =
@@ -158,7 +158,7 @@ module _ (d : Request) (late : Bool) (done : List Step) (s : Step) (rest : List 
 
 -- ---- which steps a drive has
 
-module _ (d : Request) (late : Bool) (all : List Step) (drive : IsDriveOf d late all) where
+module _ (d : DriveInput) (late : Bool) (all : List Step) (drive : IsDriveOf d late all) where
   -- a test on the steps of a path, as one on its actions
   pub any_path_actions : (f : Action → Bool) (p : Path) → list_any (has f p) all ≡ list_any f (path_actions d p)
   any_path_actions f p = sym (any-actions f p all) ∙ ap (list_any f) (actions_at-drive d late all drive p)
@@ -184,7 +184,7 @@ module _ (d : Request) (late : Bool) (all : List Step) (drive : IsDriveOf d late
 
 -- ---- the directory above
 
-module _ (d : Request) (w : WorkingCopy) (setting : Setting d w) where
+module _ (d : DriveInput) (w : WorkingCopy) (setting : Setting d w) where
   -- the root is a directory that is opened
   pub root_entered : EnteredDirectory d setting.served []
   root_entered =

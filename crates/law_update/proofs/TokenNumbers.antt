@@ -19,7 +19,7 @@ use Rattle.svn_editor.specs.Steps.{Action, Delete, Open, Add, Change, Text, Clos
 use Rattle.svn_editor.specs.declared.call.Call.{Call}
 use Rattle.svn_editor.specs.declared.call.Call.TheVariants.{OpenRoot, DeleteEntry, AddDirectory, OpenDirectory, ChangeDirProp}
 use Rattle.svn_editor.specs.declared.call.Call.TheVariants.{CloseDirectory, AddFile, OpenFile, ChangeFileProp, ApplyText, CloseFile}
-use Rattle.svn_model.specs.Follow.{Request}
+use Rattle.svn_model.specs.Follow.{DriveInput}
 use Rattle.svn_model.specs.Steps.{IsDriveOf, path_actions}
 use Rattle.svn_model.specs.Drive.{token_of, call_of, opened_after, numbered}
 use Rattle.svn_model.specs.Nodes.{WorkingCopy}
@@ -128,7 +128,7 @@ any_entry k p =
     ap (λ b. b && is_entry s.action) parts.0 ∙ entry_of_is_entry k s.action parts.1)
 
 -- before an open or an add at a path there is none
-pub none_twice : (d : Request) (late : Bool) (t s : Step) → is_entry s.action ≡ true → Before d late t s → has is_entry s.path t ≡ false
+pub none_twice : (d : DriveInput) (late : Bool) (t s : Step) → is_entry s.action ≡ true → Before d late t s → has is_entry s.path t ≡ false
 none_twice d late t s h b = has_not is_entry s.path t (λ e. each t.action s.action h (b.1 e))
   where
     each : (x a : Action) → is_entry a ≡ true → precedes x a ≡ true → is_entry x ≡ false
@@ -146,7 +146,7 @@ none_twice d late t s h b = has_not is_entry s.path t (λ e. each t.action s.act
     each (Add k) (Close l c) e q = absurd (true≢false (sym e))
     each (Open k r) a e q = absurd (true≢false (sym e))
 
-module _ (d : Request) (w : WorkingCopy) (setting : Setting d w) (late : Bool) where
+module _ (d : DriveInput) (w : WorkingCopy) (setting : Setting d w) (late : Bool) where
   -- no other is at the root
   root_course : (l : List Action) → Course d [] l → AllOf is_root_action l
   root_course l nothing = tt

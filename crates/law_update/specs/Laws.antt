@@ -8,7 +8,7 @@ use Rattle.svn_report.specs.LawfulReports.{IsReport}
 use Rattle.svn_editor.specs.declared.call.Call.{Call}
 use Rattle.svn_editor.specs.declared.mode.Mode.{Mode}
 use Rattle.svn_model.specs.Checks.{IsCheckable, target_fault}
-use Rattle.svn_model.specs.Follow.{Request, target_path}
+use Rattle.svn_model.specs.Follow.{DriveInput, target_path}
 use Rattle.svn_model.specs.Drive.{IsDrive}
 use Rattle.svn_model.specs.declared.base_node.BaseNode.{BaseNode}
 use Rattle.svn_model.specs.Nodes.{WorkingCopy, IsWorkingCopy, get_in, InPathOrder, IsTrueOf}
@@ -27,11 +27,11 @@ pub record IsTrueCopy (h : History) (nodes : List (Path × BaseNode)) : Type 0 w
   pub true_of : IsTrueOf h (get_in nodes)
 
 -- the target revision is there, and in it the root of the copy, of its own line
-abbrev pub HasTarget : Request → Type 0
+abbrev pub HasTarget : DriveInput → Type 0
 HasTarget d = target_fault d ≡ None
 
 -- a request whose report describes a true copy and can be served, as its target can
-pub record IsRequestOf (d : Request) (w : WorkingCopy) : Type 0 where
+pub record IsRequestOf (d : DriveInput) (w : WorkingCopy) : Type 0 where
   pub history : IsHistory d.history
   pub shape : IsWorkingCopy w
   pub true_of : IsTrueOf d.history w
@@ -41,11 +41,11 @@ pub record IsRequestOf (d : Request) (w : WorkingCopy) : Type 0 where
   pub has_target : HasTarget d
 
 -- what a copy asks for by its crawl, when it is driven to a target
-abbrev pub request_of : History → List (Path × BaseNode) → ℕ → Mode → (List ℕ → List ℕ) → Request
+abbrev pub request_of : History → List (Path × BaseNode) → ℕ → Mode → (List ℕ → List ℕ) → DriveInput
 request_of h nodes target mode checksum = record { history = h; report = crawl nodes; target = target; mode = mode; checksum = checksum }
 
 -- the request, with another report
-abbrev pub reported_again : Request → ReportView → Request
+abbrev pub reported_again : DriveInput → ReportView → DriveInput
 reported_again d r = record { history = d.history; report = r; target = d.target; mode = d.mode; checksum = d.checksum }
 
 -- ---- the crawl
@@ -62,18 +62,18 @@ crawl_says_what_stands = (h : History) (nodes : List (Path × BaseNode)) → IsT
 -- ---- the drive
 
 -- no call of the drive is refused, and after all of them the copy is the result
-pub record Composes (d : Request) (w : WorkingCopy) (calls : List Call) : Type 0 where
+pub record Composes (d : DriveInput) (w : WorkingCopy) (calls : List Call) : Type 0 where
   pub accepted : AllAccepted d.checksum d.mode w calls
   pub ends : (p : Path) → after d.mode w calls p ≡ result d p
 
 abbrev pub drive_composes : Type 0
 drive_composes =
-    (d : Request) (w : WorkingCopy) (late : Bool) (calls : List Call) → IsRequestOf d w → IsDrive d late calls → Composes d w calls
+    (d : DriveInput) (w : WorkingCopy) (late : Bool) (calls : List Call) → IsRequestOf d w → IsDrive d late calls → Composes d w calls
 
 -- each call of the drive is accepted after those before it, whatever list in path order has the copy's nodes
 abbrev pub each_call_is_accepted : Type 0
 each_call_is_accepted =
-    (d : Request) (w : WorkingCopy) (late : Bool) (calls : List Call) (k : ℕ) (call : Call) (nodes : List (Path × BaseNode))
+    (d : DriveInput) (w : WorkingCopy) (late : Bool) (calls : List Call) (k : ℕ) (call : Call) (nodes : List (Path × BaseNode))
     → IsRequestOf d w
     → IsDrive d late calls
     → slice_get calls k ≡ Some call
@@ -84,14 +84,14 @@ each_call_is_accepted =
 -- every prefix of the drive leaves a working copy that is true
 abbrev pub prefixes_stay_true : Type 0
 prefixes_stay_true =
-    (d : Request) (w : WorkingCopy) (late : Bool) (calls : List Call) (n : ℕ)
+    (d : DriveInput) (w : WorkingCopy) (late : Bool) (calls : List Call) (n : ℕ)
     → IsRequestOf d w
     → IsDrive d late calls
     → IsWorkingCopy (after d.mode w (take n calls)) × IsTrueOf d.history (after d.mode w (take n calls))
 
 -- A second request, of the copy that a stopped drive left, leads where the first did: each path to its place in the target, and so to
 -- the same result, with which each drive of it ends.
-pub record Resumes (first second : Request) (left : WorkingCopy) : Type 0 where
+pub record Resumes (first second : DriveInput) (left : WorkingCopy) : Type 0 where
   pub asked : IsRequestOf second left
   pub same_paths : (p : Path) → target_path second p ≡ target_path first p
   pub same_result : (p : Path) → result second p ≡ result first p
@@ -100,7 +100,7 @@ pub record Resumes (first second : Request) (left : WorkingCopy) : Type 0 where
 -- wherever the drive stops, each report that describes the copy that it leaves leads to the same target with the same result
 abbrev pub stopped_drive_resumes : Type 0
 stopped_drive_resumes =
-    (d : Request) (w left : WorkingCopy) (late : Bool) (calls : List Call) (n : ℕ) (r : ReportView)
+    (d : DriveInput) (w left : WorkingCopy) (late : Bool) (calls : List Call) (n : ℕ) (r : ReportView)
     → IsRequestOf d w
     → IsDrive d late calls
     → ((p : Path) → left p ≡ after d.mode w (take n calls) p)
@@ -112,7 +112,7 @@ stopped_drive_resumes =
 -- so does what that copy itself reports
 abbrev pub stopped_run_resumes : Type 0
 stopped_run_resumes =
-    (d : Request) (w : WorkingCopy) (late : Bool) (calls : List Call) (n : ℕ) (nodes : List (Path × BaseNode))
+    (d : DriveInput) (w : WorkingCopy) (late : Bool) (calls : List Call) (n : ℕ) (nodes : List (Path × BaseNode))
     → IsRequestOf d w
     → IsDrive d late calls
     → InPathOrder nodes

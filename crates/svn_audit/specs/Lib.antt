@@ -2,4 +2,5 @@ pub mod Below
 pub mod Lines
 pub mod NotedLines
 pub mod Printing
+pub mod Reasons
 pub mod Untrue

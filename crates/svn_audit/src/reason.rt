@@ -1,4 +1,6 @@
 //! Untrue paths, and why they are.
+ghost use Rattle.std.specs.Prelude.{◌≡◌, Some};
+ghost use Rattle.svn_audit.specs.Reasons.{in_place, is_no_revision, rest_of, untrue_text};
 
 use std::fmt;
 use svn_editor::{PathWord, Word};
@@ -36,31 +38,44 @@ pub struct Untrue {
     pub reason: Reason,
 }
 
-/// A reason, with the revision and the repository path that it is about.
-#[derive(Drop)]
-struct Said<'a> {
-    rev: u64,
-    repos_path: PathWord<'a>,
-    reason: &'a Reason,
+impl Reason {
+    fn is_no_revision(&self) -> bool
+        ensures { result ≡ is_no_revision self.now }
+    {
+        matches!(self, Reason::NoRevision)
+    }
+
+    // What is said after the place.
+    fn rest(&self) -> &'static str
+        ensures { result.now ≡ rest_of self.now }
+    {
+        match self {
+            Reason::Lacks(_) => ", which the copy lacks",
+            _ => "",
+        }
+    }
 }
 
-impl fmt::Display for Said<'_> {
+// What the repository has in the place of a node.
+#[derive(Clone, Copy)]
+struct InPlace<'a>(&'a Reason);
+
+impl fmt::Display for InPlace<'_> {
+    ghost output = { λ there. Some (in_place there.0.now) };
+
     fn fmt<W: fmt::Write>(&self, f: &mut fmt::Formatter<W>) -> fmt::Result {
-        let rev = self.rev;
-        let place = &self.repos_path;
-        match self.reason {
-            Reason::NoRevision => write!(f, "the history has no r{rev}"),
-            Reason::Nothing => write!(f, "r{rev} has nothing at {place}"),
-            Reason::AnotherKind(Kind::File) => write!(f, "r{rev} has a file at {place}"),
-            Reason::AnotherKind(Kind::Directory) => write!(f, "r{rev} has a directory at {place}"),
-            Reason::AnotherText => write!(f, "r{rev} has another text at {place}"),
+        match self.0 {
+            Reason::NoRevision | Reason::Nothing => f.write_str("nothing"),
+            Reason::AnotherKind(Kind::File) => f.write_str("a file"),
+            Reason::AnotherKind(Kind::Directory) => f.write_str("a directory"),
+            Reason::AnotherText => f.write_str("another text"),
             Reason::AnotherProperty(name) => {
                 let name = Word(name.as_str().as_bytes());
-                write!(f, "r{rev} has another {name} at {place}")
+                write!(f, "another {name}")
             }
             Reason::Lacks(name) => {
                 let name = Word(name.as_str().as_bytes());
-                write!(f, "r{rev} has {name} at {place}, which the copy lacks")
+                write!(f, "{name}")
             }
         }
     }
@@ -68,13 +83,16 @@ impl fmt::Display for Said<'_> {
 
 /// It prints `a: r3 has x at a, which the copy lacks`: the path, and why. Paths and names are words of a script.
 impl fmt::Display for Untrue {
+    ghost output = { λ u. Some (untrue_text u) };
+
     fn fmt<W: fmt::Write>(&self, f: &mut fmt::Formatter<W>) -> fmt::Result {
         let path = PathWord(&self.path);
-        let said = Said {
-            rev: self.rev.0,
-            repos_path: PathWord(&self.repos_path),
-            reason: &self.reason,
-        };
-        write!(f, "{path}: {said}")
+        let rev = self.rev;
+        if self.reason.is_no_revision() {
+            return write!(f, "{path}: the history has no r{rev}");
+        }
+        let (there, place) = (InPlace(&self.reason), PathWord(&self.repos_path));
+        let rest = self.reason.rest();
+        write!(f, "{path}: r{rev} has {there} at {place}{rest}")
     }
 }

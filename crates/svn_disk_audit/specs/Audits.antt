@@ -2,6 +2,7 @@
 --     copy_at nodes below      the copy of the nodes, at a path and below
 --     IsAudit texts store h database below copy untrue      the copy is that of the database's bytes, its texts pristine, and these paths of it are untrue of h
 --     IsVerdict texts limits dump store database below untrue      no path is untrue exactly where that copy is true of the dump's history
+--     IsAccepted accepts database      this holds of what the bytes of the database stand for
 --     IsAuditFault texts store database below fault      why the copy isn't audited, whose base tree was read unless the database is refused
 use Rattle.std.specs.Prelude.{◌≡◌, ℕ, List, [], ◌++◌, Some, Ok}
 use Rattle.svn_types.specs.Names.{Path}
@@ -51,6 +52,9 @@ pub record IsVerdict (texts : Texts) (limits : Limits) (dump : List ℕ) (store 
   pub pristine : AreKeptAs texts store base.nodes kept
   pub none_is_true : untrue ≡ [] → IsTrueOf history (copy_at kept below)
   pub true_has_none : IsTrueOf history (copy_at kept below) → untrue ≡ []
+
+abbrev pub IsAccepted : (Base → Type 0) → List ℕ → Type 0
+IsAccepted accepts database = (base : Base) × (base_tree_of database ≡ Ok base) × accepts base
 
 -- this holds of the nodes of the database
 abbrev pub HasNodes : List ℕ → (List (Path × BaseNode) → Type 0) → Type 0

@@ -1,2 +1,3 @@
 pub mod Pristine
 pub mod Audits
+pub mod Repositories

@@ -8,7 +8,7 @@
 --     IsTextFault known name fault      why a text isn't read: where it is said to be another, what is known is a text of another name, with no byte
 --         exactly where it is said to be empty
 --     IsKeepFault store nodes fault      why the nodes' texts aren't kept: a refusal is of a file of them
-use Rattle.std.specs.Prelude.{◌≡◌, ◌≢◌, ℕ, List, [], Option, IfSome}
+use Rattle.std.specs.Prelude.{◌≡◌, ◌≢◌, ◌⊎◌, ℕ, ◌-◌, ◌≤◌, ◌^◌, true, List, [], Option, IfSome}
 use Rattle.std.specs.List.{AllZip, Contains}
 use Rattle.svn_types.specs.Names.{Path}
 use Rattle.svn_model.specs.declared.base_node.BaseNode.{BaseNode}
@@ -22,6 +22,7 @@ use Rattle.svn_disk_audit.specs.declared.fault.PristineFault.{PristineFault}
 use Rattle.svn_disk_audit.specs.declared.fault.PristineFault.TheVariants.{WrongSha1, Empty, Read}
 use Rattle.svn_disk_audit.specs.declared.fault.PristineRefusal.{PristineRefusal}
 use Rattle.svn_disk_audit.specs.declared.pristine.TextFault.{TextFault}
+use Rattle.svn_disk_audit.specs.declared.pristine.Tries.{Tries}
 use Rattle.svn_disk_audit.specs.declared.pristine.TextFault.TheVariants as texts
 
 abbrev pub Store : Type 0
@@ -67,6 +68,10 @@ IsReadFault (texts.Refused WrongSha1) = ⊥
 IsReadFault (texts.Refused Empty) = ⊥
 IsReadFault (texts.Refused (Read error)) = Unit {0}
 IsReadFault texts.Memory = Unit {0}
+
+-- a read failed that wasn't interrupted, or there were as many as a count can say
+abbrev pub HaveFailed : Tries → Type 0
+HaveFailed tries = (tries.failed ≡ true) ⊎ (2 ^ 64 - 1 ≤ tries.count)
 
 abbrev pub IsTextFault : Option (List ℕ) → List ℕ → TextFault → Type 0
 IsTextFault known name (texts.Refused fault) = IsRefused known name fault

@@ -1,9 +1,9 @@
 //! The audit of a working copy.
-ghost use Rattle.std.specs.Prelude.{◌≡◌, ℕ, List, Option, None, Some, IfOk, IfErr};
+ghost use Rattle.std.specs.Prelude.{◌≡◌, ℕ, List, Option, None, Some, IfOk, IfErr, OnOk};
 ghost use Rattle.svn_repo.specs.History.{new_history};
 ghost use Rattle.svn_dump.specs.declared.sections.Limits.{Limits};
 ghost use Rattle.svn_history.specs.Loading.{LoadsDump};
-ghost use Rattle.svn_disk_audit.specs.Audits.{IsAudit, IsVerdict, IsAuditFault};
+ghost use Rattle.svn_disk_audit.specs.Audits.{IsAudit, IsVerdict, IsAccepted, IsAuditFault};
 
 use crate::examiner::Examiner;
 use crate::fault::AuditFault;
@@ -47,6 +47,8 @@ pub fn audit<E: Examiner>(
     examiner: &mut E,
 ) -> Result<Audited, AuditFault<E::Fault>>
     ensures audit { IfOk result (λ a. IsAudit question.entry.texts (E.text_at examiner.old) question.entry.repo.now database.now question.entry.below.now a.copy a.untrue.items) }
+    // the examiner took what the bytes of the database stand for
+    ensures accepted { OnOk result (IsAccepted (E.accepts examiner.old) database.now) }
     ensures fault { IfErr result (IsAuditFault question.entry.texts (E.text_at examiner.old) database.now question.entry.below.now) }
     // where the repository is the history of a dump, it is the verdict on these bytes
     ensures whole { IfOk result (λ a. (limits : Limits) (dump : List ℕ) → LoadsDump limits question.entry.texts (Some dump) new_history question.entry.repo.now → IsVerdict question.entry.texts limits dump (E.text_at examiner.old) database.now question.entry.below.now a.untrue.items) }

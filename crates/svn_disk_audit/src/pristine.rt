@@ -1,8 +1,8 @@
 //! Pristine texts: the texts of a working copy's files as they came from the repository, each named by its stand-in.
-ghost use Rattle.std.specs.Prelude.{◌≡◌, ◌↔◌, ◌<◌, ℕ, List, ◌++◌, [], length, IsTrue, IfOk, IfErr, OnOk, if◌then◌else◌};
+ghost use Rattle.std.specs.Prelude.{◌≡◌, ◌≢◌, ◌↔◌, ◌<◌, ℕ, List, ◌++◌, [], length, IsTrue, IfOk, IfErr, OnOk, if◌then◌else◌};
 ghost use Rattle.sha1.specs.Sha1.{sha1};
 ghost use Rattle.svn_dump.specs.Sections.{kept};
-ghost use Rattle.svn_disk_audit.specs.Pristine.{IsKnownAs, IsPristine, IsReadFault, IsTextFault};
+ghost use Rattle.svn_disk_audit.specs.Pristine.{IsKnownAs, IsPristine, IsReadFault, IsTextFault, HaveFailed};
 ghost use Rattle.svn_disk_audit.specs.declared.fault.PristineFault.TheVariants.{WrongSha1, Empty};
 ghost use Rattle.svn_disk_audit.specs.declared.pristine.TextFault.TheVariants.{Memory};
 
@@ -11,7 +11,7 @@ use sha1::Sha1;
 use std::alloc::{AllocError, Global};
 use std::io;
 use std::io::{ErrorKind, Read};
-use svn_dump::{Sha1Sum, Texts, stand_in};
+use svn_dump::{Sha1Sum, Texts, keep, stand_in};
 use svn_types::Text;
 
 /// How many bytes are read at a time.
@@ -34,6 +34,13 @@ impl From<AllocError> for TextFault {
     }
 }
 
+// How often a text was read, and whether a read of it failed that wasn't interrupted: why it can't be read to its end.
+#[derive(Drop)]
+struct Tries {
+    count: u64,
+    failed: bool,
+}
+
 // A text that was read: whether it has no byte, its checksum, and the bytes if they were to be kept.
 #[derive(Drop)]
 struct SummedText {
@@ -42,31 +49,24 @@ struct SummedText {
     bytes: Vec<u8>,
 }
 
-// Keeps a piece, if asked.
-fn keep(bytes: &mut Vec<u8>, piece: &[u8], keeps: bool) -> Result<(), AllocError>
-    ensures { OnOk result (bytes.new.items ≡ (if keeps then bytes.old.items ++ piece.now else bytes.old.items)) }
-{
-    if keeps {
-        bytes.extend_from_slice(piece)?;
-    }
-    Ok(())
-}
-
 // Reads a text to its end, piece by piece.
 fn read_summed<R: Read>(
     alloc: Global,
     input: &mut R,
     piece: &mut [u8],
     keeps: bool,
+    tries: &mut Tries,
 ) -> Result<SummedText, TextFault>
     requires { 0 < length piece.old }
     ensures fault { IfErr result IsReadFault }
+    ensures tried { IfErr result (λ e. e ≢ TextFault.Memory → HaveFailed tries.new) }
     ensures text { IfOk result (λ t. (text : List ℕ) × IsKnownAs (R.remaining input.old) text × (t.sha1 ≡ sha1 text) × (t.bytes.items ≡ (if keeps then text else [])) × (IsTrue t.is_empty ↔ (text ≡ []))) }
 {
     let mut sum = Sha1::new();
     let mut bytes = Vec::new(alloc);
     let mut is_empty = true;
-    'pieces: for _ in 0..u64::MAX {
+    'pieces: while tries.count < u64::MAX {
+        tries.count += 1;
         match input.read(piece) {
             Ok(0) => {
                 let sha1 = Sha1Sum(sum.finalize());
@@ -83,7 +83,10 @@ fn read_summed<R: Read>(
                 is_empty = false;
             }
             Err(error) if error.kind() == ErrorKind::Interrupted => {}
-            Err(error) => return Err(TextFault::Refused(PristineFault::Read(error))),
+            Err(error) => {
+                tries.failed = true;
+                return Err(TextFault::Refused(PristineFault::Read(error)));
+            }
         }
     }
     // no file has so many pieces
@@ -130,11 +133,16 @@ impl TextReader {
         ensures fault { IfErr result (IsTextFault (R.remaining input.old) name.now) }
         ensures texts { self.new.texts ≡ self.old.texts }
     {
+        let mut tries = Tries {
+            count: 0,
+            failed: false,
+        };
         let text = read_summed(
             self.alloc,
             input,
             &mut self.piece,
             self.texts == Texts::Whole,
+            &mut tries,
         )?;
         let found = stand_in(self.alloc, &text.sha1)?;
         if found != *name {

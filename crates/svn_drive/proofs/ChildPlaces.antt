@@ -14,7 +14,7 @@ use Rattle.svn_report.specs.Reports.{ReportView, entry_at}
 use Rattle.svn_editor.specs.declared.mode.Mode.{Mode}
 use Rattle.svn_editor.specs.declared.mode.Mode.TheVariants.{Update, SwitchTo}
 use Rattle.svn_model.specs.Sources.{Reported, source, reported_child, reported_root, linked_or, is_set_or_link, starts_empty, revision_of}
-use Rattle.svn_model.specs.Follow.{Request, Followed, candidate, follow, follow_root, follow_child, target_path, source_node}
+use Rattle.svn_model.specs.Follow.{DriveInput, Followed, candidate, follow, follow_root, follow_child, target_path, source_node}
 use Rattle.svn_model.specs.Follow.{target_node}
 use Rattle.svn_drive.specs.declared.check.Seen.{Seen}
 use Rattle.svn_drive.specs.declared.place.Place.{Place}
@@ -25,7 +25,7 @@ use Rattle.svn_drive.proofs.Idle.{entry-below, own_place}
 
 -- ---- the root
 
-module _ (d : Request) (here : Seen) (says : seen_as here ≡ reported_root d.report) where
+module _ (d : DriveInput) (here : Seen) (says : seen_as here ≡ reported_root d.report) where
   whole : follow d here.path ≡ follow_root d
   whole = ap (λ (s : Reported). follow d s.path) says
 
@@ -101,7 +101,7 @@ set_source h r above here name rev start_empty o says own node =
 -- ---- a child
 
 -- what is read of a child, node by node
-pub record Parts (d : Request) (above : Place) (name : Name) : Type 0 where
+pub record Parts (d : DriveInput) (above : Place) (name : Name) : Type 0 where
   pub here : Seen
   pub src : Option ℕ
   pub beneath : Option ℕ
@@ -115,7 +115,7 @@ pub record Parts (d : Request) (above : Place) (name : Name) : Type 0 where
   pub is_kept-is : is_kept ≡ (above.is_kept && are_related d.history src there)
   pub target-is : target ≡ cond is_kept there beneath
 
-module _ (d : Request) (above : Place) (name : Name) (at : IsAt d above) (x : Parts d above name) where
+module _ (d : DriveInput) (above : Place) (name : Name) (at : IsAt d above) (x : Parts d above name) where
   abbrev p : Path
   p = above.here.path
 

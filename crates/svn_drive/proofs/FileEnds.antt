@@ -13,7 +13,7 @@ use Rattle.svn_editor.specs.Steps.{Action, Delete, Open, Add, Change, Text, Clos
 use Rattle.svn_drive.specs.declared.visit.Texted.{Texted}
 use Rattle.svn_drive.specs.declared.walk.Walk.{Walk}
 use Rattle.svn_model.specs.Sources.{governing_revision}
-use Rattle.svn_model.specs.Follow.{Request, follow}
+use Rattle.svn_model.specs.Follow.{DriveInput, follow}
 use Rattle.svn_model.specs.Steps.{has_text, is_text, is_gone, is_touched, gone_actions}
 use Rattle.svn_model.specs.Tree.{old_props, entry_actions, file_end, is_late, first_of, last_of, late_of, first_at, last_at, late_at}
 use Rattle.svn_drive.specs.Walking.{IsEntered, IsTold, request_of, old_text, text_action, close_action, has_text_of, text_end, late_texts_of}
@@ -30,7 +30,7 @@ no_text_in_changes : (k : Kind) (cs : List PropChange) → list_any is_text (map
 no_text_in_changes k [] = refl
 no_text_in_changes k (c ∷ cs) = no_text_in_changes k cs
 
-no_text_in_entry : (d : Request) (p : Path) (n : ℕ) (k : Kind) → list_any is_text (entry_actions d p n k) ≡ false
+no_text_in_entry : (d : DriveInput) (p : Path) (n : ℕ) (k : Kind) → list_any is_text (entry_actions d p n k) ≡ false
 no_text_in_entry d p n k = by (is_touched d p) ∙ no_text_in_changes k (changes_between (old_props d p) (props_of d.history n))
   where
     by : (t : Bool)
@@ -40,7 +40,7 @@ no_text_in_entry d p n k = by (is_touched d p) ∙ no_text_in_changes k (changes
     by true = refl
     by false = refl
 
-no_text_in_gone : (d : Request) (p : Path) → list_any is_text (gone_actions d p) ≡ false
+no_text_in_gone : (d : DriveInput) (p : Path) → list_any is_text (gone_actions d p) ≡ false
 no_text_in_gone d p = by (is_gone d p)
   where
     by : (g : Bool) → list_any is_text (cond g (Delete (governing_revision (follow d p).here) ∷ []) []) ≡ false
@@ -48,7 +48,7 @@ no_text_in_gone d p = by (is_gone d p)
     by false = refl
 
 -- a file that is entered has a text where its end has one
-pub text_at_end : (d : Request) (p : Path) (n : ℕ) → IsEntered d p n File → has_text d p ≡ list_any is_text (file_end d p n)
+pub text_at_end : (d : DriveInput) (p : Path) (n : ℕ) → IsEntered d p n File → has_text d p ≡ list_any is_text (file_end d p n)
 text_at_end d p n e =
     sym (ap (list_any is_text) (three_parts d false p))
     ∙ ap (λ o. list_any is_text ((gone_actions d p ++ first_at d false p o) ++ (last_at d p o ++ late_at d false p o))) e.target
@@ -69,7 +69,7 @@ text_at_end d p n e =
     or_none false = refl
 
 module _ (w : Walk) (p : Path) (n : ℕ) (file : Texted) (e : IsEntered (request_of w) p n File) (told : IsTold w p n file) where
-  abbrev d : Request
+  abbrev d : DriveInput
   d = request_of w
 
   -- a file's end, by what is reported

@@ -20,7 +20,7 @@ use Rattle.svn_editor.specs.declared.mode.Mode.{Mode}
 use Rattle.svn_editor.specs.declared.mode.Mode.TheVariants.{Update, SwitchTo}
 use Rattle.svn_editor.specs.Steps.{Delete}
 use Rattle.svn_model.specs.Sources.{Reported, reported, starts_empty, linked_or, source, governing_revision}
-use Rattle.svn_model.specs.Follow.{Request, candidate, root_path, follow, is_kept, target_path, source_node, target_node}
+use Rattle.svn_model.specs.Follow.{DriveInput, candidate, root_path, follow, is_kept, target_path, source_node, target_node}
 use Rattle.svn_model.specs.Steps.{is_touched, is_new, starts_empty_at}
 use Rattle.svn_model.specs.TreeCalls.{calls_at, height_at, visit_size, visit_calls}
 use Rattle.svn_drive.specs.Waiting.{visit_late}
@@ -52,7 +52,7 @@ none_lower (e ∷ es) c h =
 
 -- ---- where a kept path leads
 
-module _ (d : Request) where
+module _ (d : DriveInput) where
   pub own_place : d.mode ≡ Update → (p : Path) → is_kept d p ≡ true → target_path d p ≡ (reported d.report p).repos_path
   own_place e =
       path_ind (λ p. is_kept d p ≡ true → target_path d p ≡ (reported d.report p).repos_path) (λ k. ap (λ m. root_path m d.report.root) e)
@@ -73,7 +73,7 @@ module _ (d : Request) where
 
 -- ---- a child with one node on both sides
 
-module _ (d : Request) (p : Path) (name : Name) (quiet : IsQuiet d p name) (m : ℕ) where
+module _ (d : DriveInput) (p : Path) (name : Name) (quiet : IsQuiet d p name) (m : ℕ) where
   abbrev h : History
   h = d.history
 
@@ -143,7 +143,7 @@ same_numbers None y e = absurd (true≢false (sym e))
 same_numbers (Some m) None e = absurd (true≢false (sym e))
 same_numbers (Some m) (Some n) e = (n, ap Some (eqb-true m n e), refl)
 
-pub idle_child : (d : Request) (p : Path) (name : Name) (old new : Option ℕ) → IsQuiet d p name → old ≡ source_node d p
+pub idle_child : (d : DriveInput) (p : Path) (name : Name) (old new : Option ℕ) → IsQuiet d p name → old ≡ source_node d p
     → new ≡ target_node d p → has_same_entry d.history old new name ≡ true → IsLeft d (child p name)
 idle_child d p name old new quiet q r e =
     let s = same_numbers (entry_of d.history old name) (entry_of d.history new name) e in
@@ -154,7 +154,7 @@ idle_child d p name old new quiet q r e =
 
 -- ---- a child of what isn't kept, which the target doesn't have
 
-pub idle_new : (d : Request) (p : Path) (name : Name) (new : Option ℕ) → is_kept d p ≡ false → new ≡ target_node d p
+pub idle_new : (d : DriveInput) (p : Path) (name : Name) (new : Option ℕ) → is_kept d p ≡ false → new ≡ target_node d p
     → entry_of d.history new name ≡ None → IsLeft d (child p name)
 idle_new d p name new out r none =
     let kept : is_kept d (child p name) ≡ false =
@@ -192,7 +192,7 @@ idle_new d p name new out r none =
 
 -- ---- nothing is called there
 
-module _ (d : Request) (late : Bool) (c : Path) (parent own : ℕ) (idle : IsIdle d c) where
+module _ (d : DriveInput) (late : Bool) (c : Path) (parent own : ℕ) (idle : IsIdle d c) where
   pub idle_calls : visit_calls d late c parent own ≡ []
   idle_calls = by (height_at c) refl idle
     where

@@ -28,7 +28,7 @@ use Rattle.svn_repo.specs.History.{History}
 use Rattle.svn_report.specs.Reports.{Entries}
 use Rattle.svn_report.specs.ReportNames.{next_name as next_reported, names_in as reported_in, has_entry_within}
 use Rattle.svn_report.proofs.ReportedNames.{has_name-reported}
-use Rattle.svn_model.specs.Follow.{Request, source_node, target_node}
+use Rattle.svn_model.specs.Follow.{DriveInput, source_node, target_node}
 use Rattle.svn_model.specs.Tree.{next_name, names_in, names_at, names_below}
 use Rattle.svn_model.proofs.Children.{entry_below}
 use Rattle.law_drive.proofs.Ways.{not_before, Ordered, ordered-fold, ordered_apart, ordered_below}
@@ -255,7 +255,7 @@ join false true true false x y z h = refl
 join false true false false x y z h = refl
 join false false true false x y z h = refl
 
-module _ (d : Request) (place : Place) (l : NamesLeft) (n : Name) (below : Below) (l' : NamesLeft) (left : AreLeft d place l)
+module _ (d : DriveInput) (place : Place) (l : NamesLeft) (n : Name) (below : Below) (l' : NamesLeft) (left : AreLeft d place l)
     (t : TakesChild l n below l') where
   abbrev in_source : Option ℕ
   in_source = source_of below
@@ -411,7 +411,7 @@ value_at : (h : History) (o : Option ℕ) (m : Name) → entry_below h o m ≡ v
 value_at h None m = refl
 value_at h (Some n) m = refl
 
-module _ (d : Request) (place : Place) (at : IsAt d place) (l : NamesLeft) (src : l.source ≡ entries_at d.history place.source)
+module _ (d : DriveInput) (place : Place) (at : IsAt d place) (l : NamesLeft) (src : l.source ≡ entries_at d.history place.source)
     (tgt : l.target ≡ entries_at d.history place.target)
     (rep : l.reported ≡ by_name (length place.here.path) (entries_in place.below)) where
   abbrev p : Path

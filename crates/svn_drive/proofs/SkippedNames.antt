@@ -4,7 +4,7 @@ use Rattle.svn_types.specs.Names.{Path}
 use Rattle.svn_types.specs.Paths.{child}
 use Rattle.svn_types.proofs.NameLemmas.{Name}
 use Rattle.svn_editor.specs.declared.call.Call.{Call}
-use Rattle.svn_model.specs.Follow.{Request}
+use Rattle.svn_model.specs.Follow.{DriveInput}
 use Rattle.svn_model.specs.TreeCalls.{in_turn, sizes, visit_calls, visit_size}
 use Rattle.svn_drive.specs.declared.child_names.Below.{Below}
 use Rattle.svn_drive.specs.Children.{SameWalk, names_of}
@@ -30,7 +30,7 @@ module _ (f : Path → ℕ → List Call) (size : Path → ℕ) (p : Path) (n : 
       same
   skip_size (m ∷ done) rest = ap (λ x. size (child p m) + x) (skip_size done rest)
 
-module _ (d : Request) (p : Path) where
+module _ (d : DriveInput) (p : Path) where
   pub walk_same : (ns ms : List Name) → ns ≡ ms → SameWalk d p ns ms
   walk_same ns ms e =
       record {

@@ -14,7 +14,7 @@ use Rattle.svn_editor.specs.Editing.{Leads}
 use Rattle.svn_model.specs.declared.stop.Stop.{Stop}
 use Rattle.svn_model.specs.declared.stop.Stop.TheVariants.{Memory}
 use Rattle.svn_model.specs.Ends.{Makes, Runs}
-use Rattle.svn_model.specs.Follow.{Request, target_node}
+use Rattle.svn_model.specs.Follow.{DriveInput, target_node}
 use Rattle.svn_model.specs.Steps.{gone_actions}
 use Rattle.std.specs.Prelude.{map}
 use Rattle.svn_types.specs.Props.{PropChange}
@@ -32,7 +32,7 @@ module _ {E : Type 0} (answers : E → Call → Result (Unit {0}) EditFault → 
   pub run_as : (xs ys : List Call) (r : Result (Unit {0}) Stop) (e f : E) (a b : ℕ) → ys ≡ xs → Run xs r e f a b → Run ys r e f a b
   run_as xs ys r e f a b q h = subst (λ l. Run l r e f a b) (sym q) h
 
-  module _ (d : Request) (late : Bool) (p : Path) (parent own : ℕ) (short : length p ≤ 128) (e : E) (a : ℕ) where
+  module _ (d : DriveInput) (late : Bool) (p : Path) (parent own : ℕ) (short : length p ≤ 128) (e : E) (a : ℕ) where
     abbrev delete : List Call
     delete = calls_at p parent own (gone_actions d p)
 
@@ -60,7 +60,7 @@ module _ {E : Type 0} (answers : E → Call → Result (Unit {0}) EditFault → 
 
   -- ---- what is entered
 
-  module _ (d : Request) (late : Bool) (p : Path) (parent own n : ℕ) (e : E) (a : ℕ) where
+  module _ (d : DriveInput) (late : Bool) (p : Path) (parent own n : ℕ) (e : E) (a : ℕ) where
     abbrev entry : Kind → List Call
     entry k = calls_at p parent own (entry_actions d p n k)
 
@@ -142,12 +142,12 @@ module _ {E : Type 0} (answers : E → Call → Result (Unit {0}) EditFault → 
 
   -- ---- as the parts of the walk say it
 
-  pub visit_at : (d : Request) (late : Bool) (q q' : Path) (parent parent' next : ℕ) (r : Result (Unit {0}) Stop) (e f : E) (a b : ℕ)
+  pub visit_at : (d : DriveInput) (late : Bool) (q q' : Path) (parent parent' next : ℕ) (r : Result (Unit {0}) Stop) (e f : E) (a b : ℕ)
       → q ≡ q' → parent ≡ parent' → Run (visit_calls d late q parent next) r e f a b → Run (visit_calls d late q' parent' next) r e f a b
   visit_at d late q q' parent parent' next r e f a b s t h =
       subst (λ x. Run (visit_calls d late x parent' next) r e f a b) s (subst (λ x. Run (visit_calls d late q x next) r e f a b) t h)
 
-  module _ (d : Request) (late : Bool) (p : Path) (parent own n : ℕ) (e : E) (a tok : ℕ) (w : tok ≡ own) (k : Kind) where
+  module _ (d : DriveInput) (late : Bool) (p : Path) (parent own n : ℕ) (e : E) (a tok : ℕ) (w : tok ≡ own) (k : Kind) where
     abbrev pub entry_as : List Call
     entry_as = calls_at p parent tok (entry_actions d p n k)
 

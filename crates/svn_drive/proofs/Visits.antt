@@ -9,7 +9,7 @@ use Rattle.svn_types.specs.declared.kind.Kind.{Kind}
 use Rattle.svn_types.specs.declared.kind.Kind.TheVariants.{File, Directory}
 use Rattle.svn_repo.specs.Readings.{is_directory, is_directory_at, kind_of}
 use Rattle.svn_editor.specs.declared.call.Call.{Call}
-use Rattle.svn_model.specs.Follow.{Request, target_node}
+use Rattle.svn_model.specs.Follow.{DriveInput, target_node}
 use Rattle.svn_model.specs.Steps.{gone_actions}
 use Rattle.svn_model.specs.Tree.{names_below, is_entered, is_late, enters_directory, entry_actions, file_end, first_of, last_of, first_at}
 use Rattle.svn_model.specs.Tree.{last_at, first_actions, last_actions}
@@ -32,7 +32,7 @@ in_turn-same f g s t p h k (m ∷ ns) next =
     ∙ ap (λ n. g (child p m) next ++ in_turn f s p (next + n) ns) (k m)
     ∙ ap (λ l. g (child p m) next ++ l) (in_turn-same f g s t p h k ns (next + t (child p m)))
 
-module _ (d : Request) where
+module _ (d : DriveInput) where
   -- ---- a visit, opened
 
   pub visit_size-height : (p : Path) (h : ℕ) → height_at p ≡ h → visit_size d p ≡ tree_size d h p

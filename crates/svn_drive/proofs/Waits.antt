@@ -12,7 +12,7 @@ use Rattle.svn_repo.specs.Readings.{is_directory, is_directory_at, kind_of}
 use Rattle.svn_editor.specs.declared.call.Call.{Call}
 use Rattle.svn_editor.specs.declared.call.Call.TheVariants.{SetTargetRevision, CloseEdit}
 use Rattle.svn_drive.specs.declared.visit.Texted.{Texted}
-use Rattle.svn_model.specs.Follow.{Request, target_node}
+use Rattle.svn_model.specs.Follow.{DriveInput, target_node}
 use Rattle.svn_model.specs.Tree.{names_below, is_entered, is_late, enters_directory, file_end, late_of, late_at, late_actions}
 use Rattle.svn_model.specs.TreeCalls.{calls_at, tree_size, in_turn, calls_below, late_calls, height_at, visit_size, visit_calls}
 use Rattle.svn_model.specs.TreeCalls.{drive_calls}
@@ -70,7 +70,7 @@ waits_on f size p next next' name rest was now all h k q =
 
 -- ---- nothing waits where texts are in place
 
-none_late : (d : Request) (p : Path) → late_actions d false p ≡ []
+none_late : (d : DriveInput) (p : Path) → late_actions d false p ≡ []
 none_late d p = by_target (target_node d p)
   where
     there : (n : ℕ) (b : Bool) (k : Kind) → cond b (late_of d false p n k) [] ≡ []
@@ -88,7 +88,7 @@ none_in_turn calls size p h [] next = refl
 none_in_turn calls size p h (m ∷ ns) next =
     ap (λ l. l ++ in_turn calls size p (next + size (child p m)) ns) (h m next) ∙ none_in_turn calls size p h ns (next + size (child p m))
 
-pub no_late_calls : (d : Request) (n : ℕ) (p : Path) (up own : ℕ) → late_calls d false n p up own ≡ []
+pub no_late_calls : (d : DriveInput) (n : ℕ) (p : Path) (up own : ℕ) → late_calls d false n p up own ≡ []
 no_late_calls d zero p up own = refl
 no_late_calls d (suc n) p up own =
     ap (λ l. calls_at p up own l ++ (cond (enters_directory d p) below [] ++ [])) (none_late d p)
@@ -103,7 +103,7 @@ no_late_calls d (suc n) p up own =
 
 -- ---- at a path
 
-module _ (d : Request) (late : Bool) where
+module _ (d : DriveInput) (late : Bool) where
   pub late-height : (p : Path) (parent own h : ℕ) → height_at p ≡ h → visit_late d late p parent own ≡ late_calls d late h p parent own
   unfolding visit_late
   late-height p parent own h e = ap (λ n. late_calls d late n p parent own) e
@@ -178,7 +178,7 @@ module _ (d : Request) (late : Bool) where
       ap (λ (l : List Call). SetTargetRevision d.target ∷ (visit_calls d late [] 0 0 ++ (l ++ (CloseEdit ∷ [])))) (from-height 129 refl)
 
 -- nothing waits where texts are in place
-pub late_none : (d : Request) (late : Bool) (p : Path) (parent own : ℕ) → late ≡ false → visit_late d late p parent own ≡ []
+pub late_none : (d : DriveInput) (late : Bool) (p : Path) (parent own : ℕ) → late ≡ false → visit_late d late p parent own ≡ []
 late_none d late p parent own e =
     ap (λ b. visit_late d b p parent own) e ∙ late-height d false p parent own (height_at p) refl
     ∙ no_late_calls d (height_at p) p parent own

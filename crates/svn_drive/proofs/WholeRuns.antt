@@ -9,7 +9,7 @@ use Rattle.svn_editor.specs.declared.fault.EditFault.{EditFault}
 use Rattle.svn_model.specs.declared.stop.Stop.{Stop}
 use Rattle.svn_model.specs.declared.stop.Stop.TheVariants.{Full, Memory}
 use Rattle.svn_drive.specs.declared.visit.Texted.{Texted}
-use Rattle.svn_model.specs.Follow.{Request}
+use Rattle.svn_model.specs.Follow.{DriveInput}
 use Rattle.svn_model.specs.TreeCalls.{visit_calls, drive_calls}
 use Rattle.svn_model.specs.Checks.{target_fault}
 use Rattle.svn_model.specs.Ends.{Drives, LeavesSome, end_of}
@@ -20,7 +20,7 @@ use Rattle.svn_drive.proofs.VisitRuns.{Run, run_as}
 use Rattle.svn_drive.proofs.Waits.{drive_calls-open, late_none}
 
 -- a drive that is given up for memory before its first call
-pub never_begun : {E : Type 0} (answers : E → Call → Result (Unit {0}) EditFault → E → Type 0) (limit : Option ℕ) (d : Request) (late : Bool)
+pub never_begun : {E : Type 0} (answers : E → Call → Result (Unit {0}) EditFault → E → Type 0) (limit : Option ℕ) (d : DriveInput) (late : Bool)
     (e f : E) → target_fault d ≡ None → ((answer : Result (Unit {0}) EditFault) × answers e AbortEdit answer f)
     → Drives answers limit (target_fault d) (drive_calls d late) (end_of Memory 0) e f
 never_begun answers limit d late e f none aborted =
@@ -30,7 +30,7 @@ never_begun answers limit d late e f none aborted =
     inr (inr (Memory, 0, e, none, halts_for_memory answers limit calls e 0, refl, aborted, some, λ n is. omega arith))
 
 -- what was postponed at the root
-pub lates_as : (d : Request) (late : Bool) (h : History) (before after : List Texted) (q : Path) (parent next : ℕ) → before ≡ [] → q ≡ []
+pub lates_as : (d : DriveInput) (late : Bool) (h : History) (before after : List Texted) (q : Path) (parent next : ℕ) → before ≡ [] → q ≡ []
     → parent ≡ 0 → next ≡ 0 → waiting h after ≡ waiting h before ++ visit_late d late q parent next
     → waiting h after ≡ visit_late d late [] 0 0
 lates_as d late h before after q parent next b p u n k = k ∙ (λ i. waiting h (b i) ++ visit_late d late (p i) (u i) (n i))
@@ -40,7 +40,7 @@ on_err : {P Q : Stop → Type 0} (r : Result (Unit {0}) Stop) → ((s : Stop) �
 on_err (Ok x) f h = h
 on_err (Err s) f h = f s h
 
-module _ {E : Type 0} (answers : E → Call → Result (Unit {0}) EditFault → E → Type 0) (limit : Option ℕ) (d : Request) (late : Bool) (e : E)
+module _ {E : Type 0} (answers : E → Call → Result (Unit {0}) EditFault → E → Type 0) (limit : Option ℕ) (d : DriveInput) (late : Bool) (e : E)
     (a : ℕ) where
   abbrev first : List Call
   first = SetTargetRevision d.target ∷ []

@@ -18,7 +18,7 @@ use Rattle.svn_model.specs.declared.report_fault.ReportFault.{ReportFault}
 use Rattle.svn_model.specs.declared.report_fault.ReportFault.TheVariants.{Memory, NoSuchRevision, NoNode, ParentNotDir, RootNotDir}
 use Rattle.svn_model.specs.Sources.{Reported, revision_of, is_set_or_link}
 use Rattle.svn_model.specs.Checks.{IsCheckable, fault_of, target_fault}
-use Rattle.svn_model.specs.Follow.{Request}
+use Rattle.svn_model.specs.Follow.{DriveInput}
 use Rattle.svn_model.specs.Drive.{IsDrive}
 use Rattle.svn_drive.specs.declared.check.Seen.{Seen}
 
@@ -30,7 +30,7 @@ abbrev pub AnswersCheck : Option ReportFault → Result (Unit {0}) ReportFault �
 AnswersCheck fault (Ok done) = fault ≡ None
 AnswersCheck fault (Err e) = IsCheckAnswer fault e
 
-abbrev pub AreOfDrive : Request → Bool → List Call → Type 0
+abbrev pub AreOfDrive : DriveInput → Bool → List Call → Type 0
 AreOfDrive d late calls =
     IsHistory d.history → IsReport d.report → IsCheckable d.history d.report → target_fault d ≡ None → IsDrive d late calls
 

@@ -13,7 +13,7 @@ use Rattle.svn_types.specs.Names.{name_cmp}
 use Rattle.svn_types.specs.Paths.{child, is_within}
 use Rattle.svn_types.specs.Pairs.{value_of}
 use Rattle.svn_report.specs.Reports.{Entries}
-use Rattle.svn_model.specs.Follow.{Request}
+use Rattle.svn_model.specs.Follow.{DriveInput}
 use Rattle.svn_drive.specs.declared.child_names.Below.{Below}
 use Rattle.svn_drive.specs.declared.child_names.NamesLeft.{NamesLeft}
 use Rattle.svn_drive.specs.declared.place.Place.{Place}
@@ -47,7 +47,7 @@ names_left l = fold (insert_key name_cmp) [] (keys_of l.source ++ keys_of l.targ
 
 -- ---- what is under a name
 
-pub record IsBelow (d : Request) (place : Place) (below : Below) : Type 0 where
+pub record IsBelow (d : DriveInput) (place : Place) (below : Below) : Type 0 where
   pub source : source_of below ≡ entry_of d.history place.source below.name.now
   pub target : target_of below ≡ entry_of d.history place.target below.name.now
   pub reported : IsPart d.report.entries (is_within (child place.here.path below.name.now)) (reported_of below)
@@ -58,12 +58,12 @@ abbrev pub has_name : List (List ℕ) → List ℕ → Bool
 has_name ns name = list_any (λ n. bytes_eq n name) ns
 
 -- what is left under the name is what is there
-pub record HasAll (d : Request) (place : Place) (l : NamesLeft) (name : List ℕ) : Type 0 where
+pub record HasAll (d : DriveInput) (place : Place) (l : NamesLeft) (name : List ℕ) : Type 0 where
   pub source : entry_of d.history place.source name ≡ value_of l.source name
   pub target : entry_of d.history place.target name ≡ value_of l.target name
   pub reported : IsPart d.report.entries (is_within (child place.here.path name)) (entries_under l.reported name)
 
-pub record AreLeft (d : Request) (place : Place) (l : NamesLeft) : Type 0 where
+pub record AreLeft (d : DriveInput) (place : Place) (l : NamesLeft) : Type 0 where
   pub source : InOrder (keys_of l.source)
   pub target : InOrder (keys_of l.target)
   pub reported : InOrder (keys_of l.reported)

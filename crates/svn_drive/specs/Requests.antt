@@ -8,7 +8,7 @@ use Rattle.svn_repo.specs.History.{History}
 use Rattle.svn_report.specs.Reports.{ReportView}
 use Rattle.svn_editor.specs.declared.call.Call.{Call}
 use Rattle.svn_editor.specs.declared.mode.Mode.{Mode}
-use Rattle.svn_model.specs.Follow.{Request as DriveInput}
+use Rattle.svn_model.specs.Follow.{DriveInput}
 use Rattle.svn_model.specs.TreeCalls.{drive_calls}
 use Rattle.svn_drive.specs.declared.request.Request.{Request}
 

@@ -7,9 +7,9 @@ ghost use Rattle.svn_model.specs.Ends.{Runs, LeavesSome, Drives, end_of};
 ghost use Rattle.svn_model.specs.TreeCalls.{drive_calls, visit_calls, visit_size};
 ghost use Rattle.svn_drive.specs.Checking.{AreOfDrive};
 ghost use Rattle.svn_drive.specs.Counts.{with_last};
-ghost use Rattle.svn_drive.specs.Waiting.{waiting, visit_late};
+ghost use Rattle.svn_drive.specs.Waiting.{Postpones, visit_late};
 ghost use Rattle.svn_drive.specs.Requests.{requested, input_of, drive_for};
-ghost use Rattle.svn_drive.specs.Walking.{request_of, late_texts_of, limit_of};
+ghost use Rattle.svn_drive.specs.Walking.{WalkRuns, request_of, late_texts_of, limit_of};
 ghost use Rattle.svn_drive.specs.Targets.{fault_between};
 ghost use Rattle.svn_editor.specs.declared.mode.Mode.TheVariants.{Update, SwitchTo};
 
@@ -69,9 +69,9 @@ impl<'a> Walk<'a> {
         progress: &mut Progress,
         later: &mut Vec<Texted>,
     ) -> Result<(), Stop>
-        ensures runs { Runs E.answers (limit_of self.now) (visit_calls (request_of self.now) (late_texts_of self.now) [] 0 progress.old.next) result editor.old editor.new progress.old.made progress.new.made }
+        ensures runs { WalkRuns E.answers self.now (visit_calls (request_of self.now) (late_texts_of self.now) [] 0 progress.old.next) result editor.old editor.new progress.old progress.new }
         ensures tokens { OnOk result (progress.new.next ≡ progress.old.next + visit_size (request_of self.now) []) }
-        ensures waits { OnOk result (waiting self.now.repo.now later.new.items ≡ waiting self.now.repo.now later.old.items ++ visit_late (request_of self.now) (late_texts_of self.now) [] 0 progress.old.next) }
+        ensures waits { Postpones self.now (visit_late (request_of self.now) (late_texts_of self.now) [] 0 progress.old.next) result later.old.items later.new.items }
     {
         let entries = self.report.in_path_order(self.alloc)?;
         let root = self.root(ReportPart::of(&entries));

@@ -1,8 +1,7 @@
-//! What is left of a directory and of a report, name by name, with the first ready to be read.
+//! What is left of a directory and of a report, name by name.
 ghost use Rattle.std.specs.Prelude.{◌≡◌, ◌∷◌, ℕ, List, [], drop, unwrap_or, option_map, MatchOption};
 ghost use Rattle.std.specs.Option.{option_copied};
 ghost use Rattle.std.specs.Map.{keys_of};
-ghost use Rattle.std.specs.Map.Iter.{TakesFirst};
 ghost use Rattle.svn_types.specs.Pairs.{InNameOrder};
 ghost use Rattle.svn_drive.specs.Firsts.{entries_at, shown_entry, first_key, InOrder, TakesValue};
 ghost use Rattle.svn_drive.specs.Parts.{AreDeeper, by_name, entries_in, none_or};
@@ -13,35 +12,18 @@ use svn_name_map::Iter;
 use svn_repo::{Entries, NodeId, Repo};
 use svn_types::Name;
 
-/// The entries of a directory that are left, with the first ready to be read.
+/// The entries of a directory that are left; where there is no directory, none are.
 #[derive(Drop)]
 pub(crate) struct EntriesLeft<'a> {
-    first: Option<(&'a Name, &'a NodeId)>,
-    // where there is no directory, nothing is left
     rest: Option<Iter<'a, NodeId>>,
 }
 
 impl<'a> Model for EntriesLeft<'a> {
-    ghost use Rattle.std.specs.Prelude.{◌≡◌, ℕ, List, [], IfNone, unwrap_or, option_map};
-    ghost use Rattle.std.specs.List.{cons_option};
-    ghost use Rattle.svn_drive.specs.Firsts.{shown_entry};
+    ghost use Rattle.std.specs.Prelude.{ℕ, List, [], unwrap_or};
 
     ghost Value = { List (List ℕ × ℕ) };
 
-    ghost view = { λ l. cons_option (option_map shown_entry l.first) (unwrap_or l.rest []) };
-
-    ghost invariant = { λ l. IfNone l.first (unwrap_or l.rest [] ≡ []) };
-}
-
-// Takes the next entry. Inlined, so that its result stays where it is read.
-#[inline(always)]
-fn next_entry<'a>(rest: &mut Option<Iter<'a, NodeId>>) -> Option<(&'a Name, &'a NodeId)>
-    ensures { TakesFirst shown_entry (unwrap_or rest.old []) result (unwrap_or rest.new []) }
-{
-    let Some(entries) = rest else {
-        return None;
-    };
-    entries.next()
+    ghost view = { λ l. unwrap_or l.rest [] };
 }
 
 /// The entries of a node, where it is a directory.
@@ -51,32 +33,25 @@ pub(crate) fn entries_at(repo: &Repo, node: Option<NodeId>) -> Option<&Entries>
     repo.entries(node?)
 }
 
-fn iter_of<'a>(entries: Option<&'a Entries>) -> Option<Iter<'a, NodeId>>
-    ensures all { unwrap_or result [] ≡ unwrap_or (option_map (λ m. m.now) entries.entry) [] }
-    ensures ordered { InNameOrder (unwrap_or result []) }
-{
-    match entries {
-        Some(map) => Some(map.iter()),
-        None => None,
-    }
-}
-
 impl<'a> EntriesLeft<'a> {
     /// All entries.
     pub(crate) fn of(entries: Option<&'a Entries>) -> EntriesLeft<'a>
         ensures all { result ≡ unwrap_or (option_map (λ m. m.now) entries.entry) [] }
         ensures ordered { InNameOrder result }
     {
-        let mut rest = iter_of(entries);
-        let first = next_entry(&mut rest);
-        EntriesLeft { first, rest }
+        match entries {
+            Some(map) => EntriesLeft {
+                rest: Some(map.iter()),
+            },
+            None => EntriesLeft { rest: None },
+        }
     }
 
     /// The first name.
     pub(crate) fn first_name(&self) -> Option<&'a Name>
         ensures { option_copied result ≡ first_key self.now }
     {
-        match self.first {
+        match self.first() {
             Some((name, _)) => Some(name),
             None => None,
         }
@@ -87,7 +62,10 @@ impl<'a> EntriesLeft<'a> {
     pub(crate) fn first(&self) -> Option<(&'a Name, &'a NodeId)>
         ensures { MatchOption result (self.now ≡ []) (λ e. self.now ≡ shown_entry e ∷ drop 1 self.now) }
     {
-        self.first
+        match &self.rest {
+            Some(entries) => entries.first(),
+            None => None,
+        }
     }
 
     /// Passes the first entry.
@@ -95,20 +73,22 @@ impl<'a> EntriesLeft<'a> {
     pub(crate) fn pass(&mut self)
         ensures { (e : List ℕ × ℕ) (es : List (List ℕ × ℕ)) → self.old ≡ e ∷ es → self.new ≡ es }
     {
-        self.first = next_entry(&mut self.rest);
+        if let Some(entries) = &mut self.rest {
+            entries.advance();
+        }
     }
 
     /// The node under the name, if it is the first, which is then taken.
     pub(crate) fn take(&mut self, name: &Name) -> Option<&'a NodeId>
         ensures { TakesValue name.now self.old (option_copied result) self.new }
     {
-        let Some((first, node)) = self.first else {
+        let Some((first, node)) = self.first() else {
             return None;
         };
         if first != name {
             return None;
         }
-        self.first = next_entry(&mut self.rest);
+        self.pass();
         Some(node)
     }
 }

@@ -96,22 +96,10 @@ pub(crate) fn make_opening<E: Editor>(
     ensures runs { Runs E.answers limit (call ∷ []) result editor.old editor.new progress.old.made progress.new.made }
     ensures tokens { OnOk result (progress.new.next ≡ progress.old.next + 1) }
 {
-    if limit == Some(progress.made) {
-        return Err(Stop::Cancelled);
-    }
-    if progress.made == MAX_CALLS {
-        return Err(Stop::Full);
-    }
-    match editor.call(call) {
-        Ok(()) => {
-            *progress = Progress {
-                made: progress.made + 1,
-                next: progress.next + 1,
-            };
-            Ok(())
-        }
-        Err(fault) => Err(Stop::Editor(fault)),
-    }
+    let token = progress.next;
+    make(limit, editor, progress, call)?;
+    progress.next = token + 1;
+    Ok(())
 }
 
 /// Makes the last call of a drive, if it may be made. For that one there is always a number.

@@ -7,12 +7,11 @@ ghost use Rattle.svn_types.specs.Props.{changes_between};
 ghost use Rattle.svn_types.specs.declared.kind.Kind.TheVariants.{File};
 ghost use Rattle.svn_editor.specs.Steps.{Action, Change};
 ghost use Rattle.svn_repo.specs.Readings.{text_of, kind_of, props_of};
-ghost use Rattle.svn_model.specs.Ends.{Runs};
 ghost use Rattle.svn_model.specs.Steps.{gone_actions};
 ghost use Rattle.svn_model.specs.Tree.{names_below, is_entered, is_late, old_props, enter_action, entry_actions, file_end, last_of};
 ghost use Rattle.svn_model.specs.TreeCalls.{call_at, calls_at, in_turn, sizes, visit_calls, visit_size};
-ghost use Rattle.svn_drive.specs.Waiting.{waiting, visit_late, entered_late};
-ghost use Rattle.svn_drive.specs.Walking.{IsAt, IsEntered, IsTold, request_of, text_action, close_action, has_text_of, old_text, text_end, entered_calls, entered_size, late_texts_of, limit_of};
+ghost use Rattle.svn_drive.specs.Waiting.{Postpones, waiting, visit_late, entered_late};
+ghost use Rattle.svn_drive.specs.Walking.{IsAt, IsEntered, IsTold, WalkRuns, request_of, text_action, close_action, has_text_of, old_text, text_end, entered_calls, entered_size, late_texts_of};
 
 use crate::entries::{revision_of, starts_empty};
 use crate::making::{Progress, make, make_opening};
@@ -173,7 +172,7 @@ impl<'a> Walk<'a> {
         editor: &mut E,
         progress: &mut Progress,
     ) -> Result<(), Stop>
-        ensures runs { Runs E.answers (limit_of self.now) (calls_at [] 0 opened.now.token (map (Change opened.now.kind) changes.items)) result editor.old editor.new progress.old.made progress.new.made }
+        ensures runs { WalkRuns E.answers self.now (calls_at [] 0 opened.now.token (map (Change opened.now.kind) changes.items)) result editor.old editor.new progress.old progress.new }
         ensures tokens { OnOk result (progress.new.next ≡ progress.old.next) }
     {
         for change in changes {
@@ -193,7 +192,7 @@ impl<'a> Walk<'a> {
         progress: &mut Progress,
     ) -> Result<(), Stop>
         requires at { IsAt (request_of self.now) place.now }
-        ensures runs { Runs E.answers (limit_of self.now) (calls_at place.now.here.path place.now.parent opened.now.token (entry_actions (request_of self.now) place.now.here.path opened.now.node opened.now.kind)) result editor.old editor.new progress.old.made progress.new.made }
+        ensures runs { WalkRuns E.answers self.now (calls_at place.now.here.path place.now.parent opened.now.token (entry_actions (request_of self.now) place.now.here.path opened.now.node opened.now.kind)) result editor.old editor.new progress.old progress.new }
         ensures tokens { OnOk result (progress.new.next ≡ progress.old.next + 1) }
     {
         let call = self.entry_call(place, opened)?;
@@ -211,7 +210,7 @@ impl<'a> Walk<'a> {
         progress: &mut Progress,
     ) -> Result<(), Stop>
         requires at { IsAt (request_of self.now) place.now }
-        ensures runs { Runs E.answers (limit_of self.now) (calls_at place.now.here.path place.now.parent progress.old.next (gone_actions (request_of self.now) place.now.here.path)) result editor.old editor.new progress.old.made progress.new.made }
+        ensures runs { WalkRuns E.answers self.now (calls_at place.now.here.path place.now.parent progress.old.next (gone_actions (request_of self.now) place.now.here.path)) result editor.old editor.new progress.old progress.new }
         ensures tokens { OnOk result (progress.new.next ≡ progress.old.next) }
     {
         if !Walk::is_gone(place) {
@@ -252,7 +251,7 @@ impl<'a> Walk<'a> {
         editor: &mut E,
         progress: &mut Progress,
     ) -> Result<(), Stop>
-        ensures runs { Runs E.answers (limit_of self.now) (call_at [] 0 file.now.token (text_action self.now.repo.now file.now) ∷ []) result editor.old editor.new progress.old.made progress.new.made }
+        ensures runs { WalkRuns E.answers self.now (call_at [] 0 file.now.token (text_action self.now.repo.now file.now) ∷ []) result editor.old editor.new progress.old progress.new }
         ensures tokens { OnOk result (progress.new.next ≡ progress.old.next) }
     {
         let call = Call::ApplyText {
@@ -270,7 +269,7 @@ impl<'a> Walk<'a> {
         editor: &mut E,
         progress: &mut Progress,
     ) -> Result<(), Stop>
-        ensures runs { Runs E.answers (limit_of self.now) (call_at [] 0 file.now.token (close_action self.now.repo.now file.now) ∷ []) result editor.old editor.new progress.old.made progress.new.made }
+        ensures runs { WalkRuns E.answers self.now (call_at [] 0 file.now.token (close_action self.now.repo.now file.now) ∷ []) result editor.old editor.new progress.old progress.new }
         ensures tokens { OnOk result (progress.new.next ≡ progress.old.next) }
     {
         let call = Call::CloseFile {
@@ -310,9 +309,9 @@ impl<'a> Walk<'a> {
     ) -> Result<(), Stop>
         requires at { IsAt (request_of self.now) place.now }
         requires entered { IsEntered (request_of self.now) place.now.here.path opened.now.node File }
-        ensures runs { Runs E.answers (limit_of self.now) (calls_at place.now.here.path place.now.parent opened.now.token (if is_late (request_of self.now) (late_texts_of self.now) place.now.here.path then [] else file_end (request_of self.now) place.now.here.path opened.now.node)) result editor.old editor.new progress.old.made progress.new.made }
+        ensures runs { WalkRuns E.answers self.now (calls_at place.now.here.path place.now.parent opened.now.token (if is_late (request_of self.now) (late_texts_of self.now) place.now.here.path then [] else file_end (request_of self.now) place.now.here.path opened.now.node)) result editor.old editor.new progress.old progress.new }
         ensures tokens { OnOk result (progress.new.next ≡ progress.old.next) }
-        ensures waits { OnOk result (waiting self.now.repo.now later.new.items ≡ waiting self.now.repo.now later.old.items ++ calls_at place.now.here.path place.now.parent opened.now.token (if is_late (request_of self.now) (late_texts_of self.now) place.now.here.path then file_end (request_of self.now) place.now.here.path opened.now.node else [])) }
+        ensures waits { Postpones self.now (calls_at place.now.here.path place.now.parent opened.now.token (if is_late (request_of self.now) (late_texts_of self.now) place.now.here.path then file_end (request_of self.now) place.now.here.path opened.now.node else [])) result later.old.items later.new.items }
     {
         let file = self.texted(place, opened);
         if !self.has_text(&file) {
@@ -338,9 +337,9 @@ impl<'a> Walk<'a> {
     ) -> Result<(), Stop>
         requires at { IsAt (request_of self.now) place.now }
         requires short { length place.now.here.path ≤ depth_limit }
-        ensures runs { Runs E.answers (limit_of self.now) (in_turn (λ q next. visit_calls (request_of self.now) (late_texts_of self.now) q token next) (visit_size (request_of self.now)) place.now.here.path progress.old.next (names_below (request_of self.now) place.now.here.path)) result editor.old editor.new progress.old.made progress.new.made }
+        ensures runs { WalkRuns E.answers self.now (in_turn (λ q next. visit_calls (request_of self.now) (late_texts_of self.now) q token next) (visit_size (request_of self.now)) place.now.here.path progress.old.next (names_below (request_of self.now) place.now.here.path)) result editor.old editor.new progress.old progress.new }
         ensures tokens { OnOk result (progress.new.next ≡ progress.old.next + sizes (visit_size (request_of self.now)) place.now.here.path (names_below (request_of self.now) place.now.here.path)) }
-        ensures waits { OnOk result (waiting self.now.repo.now later.new.items ≡ waiting self.now.repo.now later.old.items ++ in_turn (λ q next. visit_late (request_of self.now) (late_texts_of self.now) q token next) (visit_size (request_of self.now)) place.now.here.path progress.old.next (names_below (request_of self.now) place.now.here.path)) }
+        ensures waits { Postpones self.now (in_turn (λ q next. visit_late (request_of self.now) (late_texts_of self.now) q token next) (visit_size (request_of self.now)) place.now.here.path progress.old.next (names_below (request_of self.now) place.now.here.path)) result later.old.items later.new.items }
     {
         let children = self.children(place)?;
         let mut known = None;
@@ -365,9 +364,9 @@ impl<'a> Walk<'a> {
         requires short { length place.now.here.path ≤ depth_limit }
         requires entered { IsEntered (request_of self.now) place.now.here.path opened.now.node opened.now.kind }
         requires token { opened.now.token ≡ progress.old.next }
-        ensures runs { Runs E.answers (limit_of self.now) (entered_calls (request_of self.now) (late_texts_of self.now) place.now.here.path place.now.parent progress.old.next opened.now.node opened.now.kind) result editor.old editor.new progress.old.made progress.new.made }
+        ensures runs { WalkRuns E.answers self.now (entered_calls (request_of self.now) (late_texts_of self.now) place.now.here.path place.now.parent progress.old.next opened.now.node opened.now.kind) result editor.old editor.new progress.old progress.new }
         ensures tokens { OnOk result (progress.new.next ≡ progress.old.next + entered_size (request_of self.now) place.now.here.path opened.now.kind) }
-        ensures waits { OnOk result (waiting self.now.repo.now later.new.items ≡ waiting self.now.repo.now later.old.items ++ entered_late (request_of self.now) (late_texts_of self.now) place.now.here.path place.now.parent progress.old.next opened.now.node opened.now.kind) }
+        ensures waits { Postpones self.now (entered_late (request_of self.now) (late_texts_of self.now) place.now.here.path place.now.parent progress.old.next opened.now.node opened.now.kind) result later.old.items later.new.items }
     {
         self.enter(place, opened, editor, progress)?;
         match opened.kind {
@@ -393,9 +392,9 @@ impl<'a> Walk<'a> {
     ) -> Result<(), Stop>
         requires at { IsAt (request_of self.now) place.now }
         requires short { length place.now.here.path ≤ depth_limit }
-        ensures runs { Runs E.answers (limit_of self.now) (visit_calls (request_of self.now) (late_texts_of self.now) place.now.here.path place.now.parent progress.old.next) result editor.old editor.new progress.old.made progress.new.made }
+        ensures runs { WalkRuns E.answers self.now (visit_calls (request_of self.now) (late_texts_of self.now) place.now.here.path place.now.parent progress.old.next) result editor.old editor.new progress.old progress.new }
         ensures tokens { OnOk result (progress.new.next ≡ progress.old.next + visit_size (request_of self.now) place.now.here.path) }
-        ensures waits { OnOk result (waiting self.now.repo.now later.new.items ≡ waiting self.now.repo.now later.old.items ++ visit_late (request_of self.now) (late_texts_of self.now) place.now.here.path place.now.parent progress.old.next) }
+        ensures waits { Postpones self.now (visit_late (request_of self.now) (late_texts_of self.now) place.now.here.path place.now.parent progress.old.next) result later.old.items later.new.items }
     {
         self.delete_gone(place, editor, progress)?;
         if !self.is_entered(place) {
@@ -419,7 +418,7 @@ impl<'a> Walk<'a> {
         editor: &mut E,
         progress: &mut Progress,
     ) -> Result<(), Stop>
-        ensures runs { Runs E.answers (limit_of self.now) (waiting self.now.repo.now later.now) result editor.old editor.new progress.old.made progress.new.made }
+        ensures runs { WalkRuns E.answers self.now (waiting self.now.repo.now later.now) result editor.old editor.new progress.old progress.new }
     {
         for file in later {
             self.give_text(file, editor, progress)?;

@@ -8,7 +8,7 @@ use Rattle.svn_dump.specs.declared.fault.DumpFault.TheVariants as faults
 use Rattle.svn_dump.specs.declared.sections.Limits.{Limits}
 use Rattle.svn_dump.specs.Reading.{Reads}
 use Rattle.svn_dump.specs.Blocks.{headers_at, block_at, with_front, is_line_feed, is_space}
-use Rattle.svn_dump.specs.Counts.{OfAll, Counts}
+use Rattle.svn_dump.specs.Counts.{OfAll, Counts, Grows}
 use Rattle.svn_dump.specs.Readers.{UnlessBroken, headers_len, found_headers, after_headers, Shows}
 
 -- a read that gave some bytes
@@ -31,6 +31,10 @@ no_read taken (Some xs) None h = λ all counted. absurd h
 no_read taken (Some xs) (Some ys) h = λ all counted.
     let same : length ys ≡ length xs = ap length h in
     (omega (arith, same, counted.0), counted.1)
+
+-- more was taken, and then more again
+pub grows_on : (taken mid now : ℕ) → Grows taken 1 mid → Grows mid 1 now → Grows taken 1 now
+grows_on taken mid now g h = (omega (arith, g.0, h.0), omega (arith, g.1, h.0))
 
 -- a reader that nothing was taken from before
 pub from_none : (taken now : ℕ) (given known left : Option (List ℕ)) → taken ≡ 0 → given ≡ known → Counts taken given now left → Counts 0 known now left

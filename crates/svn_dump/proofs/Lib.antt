@@ -2,6 +2,7 @@
 pub mod Streams
 pub mod Sequences
 pub mod Counting
+pub mod Failing
 -- the headers of a record
 pub mod BlockLemmas
 pub mod HeaderLemmas

@@ -6,9 +6,9 @@ use Rattle.svn_types.specs.Props.{PropChange, with_changes}
 use Rattle.svn_dump.specs.declared.fault.Reason.{Reason}
 use Rattle.svn_dump.specs.declared.fault.DumpFault.{DumpFault}
 use Rattle.svn_dump.specs.declared.fault.DumpFault.TheVariants as faults
-use Rattle.svn_dump.specs.Reading.{◌>>=◌, Fails}
+use Rattle.svn_dump.specs.Reading.{◌>>=◌, Meets}
 use Rattle.svn_dump.specs.Properties.{change_at, changes_at, is_end}
-use Rattle.svn_dump.proofs.Sequences.{fails_first}
+use Rattle.svn_dump.proofs.Sequences.{meets_first}
 
 -- changes before those that are read
 abbrev pub with_first : List PropChange → Result (List PropChange) Reason → Result (List PropChange) Reason
@@ -93,36 +93,36 @@ abbrev same_fault : Result (PropChange × List ℕ) Reason → Result (List Prop
 same_fault (Ok change) = Ok []
 same_fault (Err reason) = Err reason
 
-fault_at_none : (removes : Bool) (rest : List ℕ) (e : DumpFault) → length rest ≤ 0 → Fails e (change_at removes rest)
-    → Fails e (changes_at removes zero rest)
+fault_at_none : (removes : Bool) (rest : List ℕ) (e : DumpFault) → length rest ≤ 0 → Meets e (change_at removes rest)
+    → Meets e (changes_at removes zero rest)
 unfolding changes_at
 fault_at_none removes rest e bounded h =
-    by_fault removes e (subst (λ (bs : List ℕ). Fails e (change_at removes bs)) (empty rest bounded) h)
+    by_fault removes e (subst (λ (bs : List ℕ). Meets e (change_at removes bs)) (empty rest bounded) h)
   where
-    by_fault : (removes : Bool) (e : DumpFault) → Fails e (change_at removes []) → Fails e (changes_at removes zero rest)
+    by_fault : (removes : Bool) (e : DumpFault) → Meets e (change_at removes []) → Meets e (changes_at removes zero rest)
     by_fault true (faults.Refused reason) h = ap same_fault h
     by_fault false (faults.Refused reason) h = ap same_fault h
-    by_fault removes faults.Read h = tt
+    by_fault removes faults.Read h = absurd h
     by_fault removes faults.Memory h = tt
 
-fails_after : (e : DumpFault) (front : List PropChange) (read : Result (List PropChange) Reason) → Fails e read → Fails e (with_first front read)
-fails_after e front (Err reason) h = h
-fails_after (faults.Refused reason) front (Ok more) h = cc
-fails_after faults.Read front (Ok more) h = tt
-fails_after faults.Memory front (Ok more) h = tt
+meets_after : (e : DumpFault) (front : List PropChange) (read : Result (List PropChange) Reason) → Meets e read → Meets e (with_first front read)
+meets_after e front (Err reason) h = h
+meets_after (faults.Refused reason) front (Ok more) h = cc
+meets_after faults.Read front (Ok more) h = absurd h
+meets_after faults.Memory front (Ok more) h = tt
 
 -- a change that can't be read
 pub bad_change : (removes : Bool) (front : List PropChange) (rest : List ℕ) (all : Result (List PropChange) Reason) (e : DumpFault)
-    → GoesOn removes front rest all → is_end rest ≡ false → Fails e (change_at removes rest) → Fails e all
+    → GoesOn removes front rest all → is_end rest ≡ false → Meets e (change_at removes rest) → Meets e all
 bad_change removes front rest all e g h read = by_most g.most g.bounded g.reads
   where
-    by_most : (most : ℕ) → length rest ≤ most → with_first front (changes_at removes most rest) ≡ all → Fails e all
+    by_most : (most : ℕ) → length rest ≤ most → with_first front (changes_at removes most rest) ≡ all → Meets e all
     by_most zero bounded reads =
-        subst (λ r. Fails e r) reads (fails_after e front (changes_at removes zero rest) (fault_at_none removes rest e bounded read))
+        subst (λ r. Meets e r) reads (meets_after e front (changes_at removes zero rest) (fault_at_none removes rest e bounded read))
     by_most (suc most) bounded reads =
-        let whole : Fails e (changes_at removes (suc most) rest) =
-        subst (λ r. Fails e r) (sym (fault_read removes most rest h)) (fails_first e (change_at removes rest) _ read) in
-        subst (λ r. Fails e r) reads (fails_after e front (changes_at removes (suc most) rest) whole)
+        let whole : Meets e (changes_at removes (suc most) rest) =
+        subst (λ r. Meets e r) (sym (fault_read removes most rest h)) (meets_first e (change_at removes rest) _ read) in
+        subst (λ r. Meets e r) reads (meets_after e front (changes_at removes (suc most) rest) whole)
 
 -- the properties after one more change
 pub one_more_set : (front : List PropChange) (c : PropChange) → with_changes [] (front ++ c ∷ []) ≡ with_value (with_changes [] front) c.0 c.1

@@ -3,13 +3,24 @@ use Rattle.std.proofs.Common.{◌≡◌, ℕ, List, Option, Some, None, Result, 
 use Rattle.svn_dump.specs.declared.fault.Reason.{Reason}
 use Rattle.svn_dump.specs.declared.fault.DumpFault.{DumpFault}
 use Rattle.svn_dump.specs.declared.fault.DumpFault.TheVariants as faults
-use Rattle.svn_dump.specs.Reading.{◌>>=◌, Fails, Gives, GivesFront, Reads}
+use Rattle.svn_dump.specs.Reading.{◌>>=◌, Meets, Fails, Gives, GivesFront, Reads}
 
 -- a fault stays the first, whatever would be read after it
 pub fails_first : {Y W : Type 0} (e : DumpFault) (read : Result Y Reason) (more : Y → Result W Reason) → Fails e read → Fails e (read >>= more)
 fails_first (faults.Refused reason) read more h = ap (λ r. r >>= more) h
 fails_first faults.Read read more h = tt
 fails_first faults.Memory read more h = tt
+
+-- so does one that bytes have
+pub meets_first : {Y W : Type 0} (e : DumpFault) (read : Result Y Reason) (more : Y → Result W Reason) → Meets e read → Meets e (read >>= more)
+meets_first (faults.Refused reason) read more h = ap (λ r. r >>= more) h
+meets_first faults.Read read more h = absurd h
+meets_first faults.Memory read more h = tt
+
+pub fails_meeting : {Y : Type 0} (e : DumpFault) (read : Result Y Reason) → Meets e read → Fails e read
+fails_meeting (faults.Refused reason) read h = h
+fails_meeting faults.Read read h = absurd h
+fails_meeting faults.Memory read h = tt
 
 -- the first step failed
 pub reads_fault : {X Y Z W : Type 0} (view : X → Y) (last : Z → W) (old new : Option (List ℕ)) (e : DumpFault)
@@ -36,7 +47,7 @@ reads_then view last (Some bytes) (Some rest) (Some left) x result at more h k =
 gives_front : {Z W : Type 0} (last : Z → W) (result : Result Z DumpFault) (rest : List ℕ) (read : Result W Reason) → Gives last result read
     → GivesFront last result rest (read >>= λ y. Ok (y, rest))
 gives_front last (Ok z) rest read h = ap (λ r. r >>= λ y. Ok (y, rest)) h
-gives_front last (Err e) rest read h = fails_first e read (λ y. Ok (y, rest)) h
+gives_front last (Err e) rest read h = fails_first e read (λ y. Ok (y, rest)) (fails_meeting e read h)
 
 -- what was read is looked at, and nothing more is read
 pub reads_as : {X Y Z W : Type 0} (view : X → Y) (last : Z → W) (old new : Option (List ℕ)) (x : X) (result : Result Z DumpFault)
@@ -73,10 +84,10 @@ known_first {Y = Y} view last old new x result read more h k =
 
 -- what is known before anything is read is at fault
 pub known_fault : {Y Z W : Type 0} (last : Z → W) (old new : Option (List ℕ)) (e : DumpFault) (read : Result Y Reason)
-    (more : Y → List ℕ → Result (W × List ℕ) Reason) → Fails e read → Reads last old new (Err e) (λ bs. read >>= λ y. more y bs)
+    (more : Y → List ℕ → Result (W × List ℕ) Reason) → Meets e read → Reads last old new (Err e) (λ bs. read >>= λ y. more y bs)
 known_fault last None new e read more h = tt
-known_fault last (Some bytes) None e read more h = fails_first e read (λ y. more y bytes) h
-known_fault last (Some bytes) (Some rest) e read more h = fails_first e read (λ y. more y bytes) h
+known_fault last (Some bytes) None e read more h = fails_first e read (λ y. more y bytes) (fails_meeting e read h)
+known_fault last (Some bytes) (Some rest) e read more h = fails_first e read (λ y. more y bytes) (fails_meeting e read h)
 
 -- the same value, seen in another way
 pub reads_seen : {X Z Y : Type 0} (view : X → Y) (other : Z → Y) (old new : Option (List ℕ)) (x : X) (z : Z)

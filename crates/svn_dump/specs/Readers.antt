@@ -1,8 +1,9 @@
 -- What a contract sees of a reader of dumps.
 --     left_in remaining reader      the bytes that it hasn't taken, where those of its input are known
+--     IsUnreadable reader      a read of it failed, or as many bytes were taken as a count can say
 --     Opens limits bytes left result      a reader that was made of these bytes, after the first record
 --     Shows limits taken bytes begun block      what a reader that has these bytes shows of the record that it reads next: where it begins, and its headers
-use Rattle.std.specs.Prelude.{◌≡◌, ℕ, ◌+◌, false, List, [], ◌∷◌, length, Option, Some, None, Result, Ok, Err, MatchOption}
+use Rattle.std.specs.Prelude.{◌≡◌, ◌⊎◌, ℕ, ◌+◌, ◌-◌, ◌≤◌, ◌^◌, true, false, List, [], ◌∷◌, length, Option, Some, None, Result, Ok, Err, MatchOption}
 use Rattle.std.specs.Io.Buffered.{reader_remaining}
 use Rattle.svn_dump.specs.declared.fault.Reason.{Reason}
 use Rattle.svn_dump.specs.declared.fault.DumpFault.{DumpFault}
@@ -16,6 +17,9 @@ use Rattle.svn_dump.specs.Records.{format_at}
 
 abbrev pub left_in : {R : Type 0} → (R → Option (List ℕ)) → Reader R → Option (List ℕ)
 left_in remaining reader = reader_remaining remaining reader.source.input
+
+abbrev pub IsUnreadable : {R : Type 0} → Reader R → Type 0
+IsUnreadable reader = (reader.source.failed ≡ true) ⊎ (2 ^ 64 - 1 ≤ reader.source.taken)
 
 abbrev pub Opens : {R : Type 0} → Limits → Option (List ℕ) → (Reader R → Option (List ℕ)) → Result (Reader R) DumpFault → Type 0
 Opens limits None left result = Unit {0}

@@ -1,10 +1,10 @@
 //! Bytes off a reader: one, a record's headers, or so many.
-ghost use Rattle.std.specs.Prelude.{ℕ, List, Option, false, ◌≡◌, ◌∷◌, [], ◌<◌, ◌≤◌, ◌^◌, ◌+◌, ◌-◌, length, take, IfOk, IfErr, min};
+ghost use Rattle.std.specs.Prelude.{ℕ, List, Option, Bool, true, false, ◌≡◌, ◌≢◌, ◌∷◌, [], ◌<◌, ◌≤◌, ◌+◌, length, take, IsSome, IfOk, IfErr, MatchResult};
 ghost use Rattle.std.specs.Io.{ReadsAtMost};
 ghost use Rattle.std.specs.Io.Buffered.{reader_remaining};
 ghost use Rattle.std.specs.Io.KnownBytes.{Consumes, Keeps, IsAtEnd, ReadConsumes};
-ghost use Rattle.svn_dump.specs.Reading.{Reads};
-ghost use Rattle.svn_dump.specs.Counts.{Counts};
+ghost use Rattle.svn_dump.specs.Reading.{Reads, FailsWith};
+ghost use Rattle.svn_dump.specs.Counts.{Counts, Grows};
 ghost use Rattle.svn_dump.specs.Blocks.{byte_at, headers_at, block_at, bytes_at, with_front, is_space, is_line_feed, PieceRead};
 
 use crate::fault::{DumpFault, Reason};
@@ -22,11 +22,17 @@ pub(crate) trait Input {
     // How many were taken so far.
     ghost taken: { Self → ℕ };
 
+    // Whether a read failed so far.
+    ghost failed: { Self → Bool };
+
     /// As `Read::read`.
     fn read(&mut self, buf: &mut [u8]) -> IoResult<usize>
         ensures bound { ReadsAtMost result buf.new }
         ensures bytes { ReadConsumes (remaining self.old) (remaining self.new) result buf.new }
-        ensures counted { Counts (taken self.old) (remaining self.old) (taken self.new) (remaining self.new) };
+        ensures counted { Counts (taken self.old) (remaining self.old) (taken self.new) (remaining self.new) }
+        ensures grows { taken self.old ≤ taken self.new }
+        ensures grown { IfOk result (λ n. Grows (taken self.old) n (taken self.new)) }
+        ensures failed { MatchResult result (λ _. failed self.new ≡ failed self.old) (λ _. failed self.new ≡ true) };
 }
 
 /// A reader with a buffer before it, which counts the bytes that were taken from it.
@@ -34,16 +40,23 @@ pub(crate) trait Input {
 pub(crate) struct Source<R> {
     input: BufReader<R>,
     taken: u64,
+    // Whether a read of the input failed.
+    failed: bool,
 }
 
 impl<R: Read + Drop> Source<R> {
     pub(crate) fn new(alloc: Global, input: R) -> Result<Source<R>, DumpFault>
         ensures bytes { IfOk result (λ s. reader_remaining R.remaining s.input ≡ R.remaining input) }
         ensures none_taken { IfOk result (λ s. s.taken ≡ 0) }
+        ensures unfailed { IfOk result (λ s. s.failed ≡ false) }
         ensures fault { IfErr result (λ e. e ≡ DumpFault.Memory) }
     {
         match BufReader::new(alloc, input) {
-            Ok(input) => Ok(Source { input, taken: 0 }),
+            Ok(input) => Ok(Source {
+                input,
+                taken: 0,
+                failed: false,
+            }),
             Err(_) => Err(DumpFault::Memory),
         }
     }
@@ -61,10 +74,19 @@ impl<R: Read> Input for Source<R> {
 
     ghost taken = { λ s. s.taken };
 
+    ghost failed = { λ s. s.failed };
+
     fn read(&mut self, buf: &mut [u8]) -> IoResult<usize> {
-        let count = self.input.read(buf)?;
-        self.taken = self.taken.saturating_add(count as u64);
-        Ok(count)
+        match self.input.read(buf) {
+            Ok(count) => {
+                self.taken = self.taken.saturating_add(count as u64);
+                Ok(count)
+            }
+            Err(error) => {
+                self.failed = true;
+                Err(error)
+            }
+        }
     }
 }
 
@@ -72,6 +94,9 @@ impl<R: Read> Input for Source<R> {
 fn read_byte<S: Input>(source: &mut S) -> Result<Option<u8>, DumpFault>
     ensures bytes { Reads (λ b. b) (S.remaining source.old) (S.remaining source.new) result byte_at }
     ensures counted { Counts (S.taken source.old) (S.remaining source.old) (S.taken source.new) (S.remaining source.new) }
+    ensures grows { S.taken source.old ≤ S.taken source.new }
+    ensures failed { FailsWith (S.failed source.old) (S.failed source.new) result }
+    ensures grown { IfOk result (λ byte. IsSome byte → Grows (S.taken source.old) 1 (S.taken source.new)) }
 {
     let mut byte = [0u8; 1];
     match source.read(&mut byte) {
@@ -103,6 +128,8 @@ fn read_headers<S: Input>(
 ) -> Result<Vec<u8>, DumpFault>
     ensures headers { Reads (λ v. v.items) (S.remaining source.old) (S.remaining source.new) result (λ bs. with_front (first ∷ []) (headers_at false room bs)) }
     ensures counted { Counts (S.taken source.old) (S.remaining source.old) (S.taken source.new) (S.remaining source.new) }
+    ensures grows { S.taken source.old ≤ S.taken source.new }
+    ensures failed { FailsWith (S.failed source.old) (S.failed source.new) result }
     ensures bounded { IfOk result (λ v. length v.items ≤ room + 1) }
 {
     let mut block = Vec::new(alloc);
@@ -136,7 +163,10 @@ pub(crate) fn read_block<S: Input>(
 ) -> Result<Vec<u8>, DumpFault>
     ensures headers { Reads (λ v. v.items) (S.remaining source.old) (S.remaining source.new) result (block_at false room) }
     ensures counted { Counts (S.taken source.old) (S.remaining source.old) (S.taken source.new) (S.remaining source.new) }
+    ensures grows { S.taken source.old ≤ S.taken source.new }
+    ensures failed { FailsWith (S.failed source.old) (S.failed source.new) result }
     ensures bounded { IfOk result (λ v. length v.items ≤ room) }
+    ensures grown { IfOk result (λ v. v.items ≢ [] → Grows (S.taken source.old) 1 (S.taken source.new)) }
 {
     let mut blank = false;
     let mut left = room;
@@ -167,6 +197,8 @@ pub(crate) fn read_piece<S: Input>(
     ensures count { IfOk result (λ n. (0 < n) × (n ≤ left) × (n ≤ length piece.new)) }
     ensures bytes { PieceRead (S.remaining source.old) (S.remaining source.new) result piece.new }
     ensures counted { Counts (S.taken source.old) (S.remaining source.old) (S.taken source.new) (S.remaining source.new) }
+    ensures grows { S.taken source.old ≤ S.taken source.new }
+    ensures failed { FailsWith (S.failed source.old) (S.failed source.new) result }
 {
     let room = if left < PIECE as u64 {
         left as usize
@@ -188,6 +220,8 @@ pub(crate) fn read_bytes<S: Input>(
 ) -> Result<Vec<u8>, DumpFault>
     ensures bytes { Reads (λ v. v.items) (S.remaining source.old) (S.remaining source.new) result (bytes_at count) }
     ensures counted { Counts (S.taken source.old) (S.remaining source.old) (S.taken source.new) (S.remaining source.new) }
+    ensures grows { S.taken source.old ≤ S.taken source.new }
+    ensures failed { FailsWith (S.failed source.old) (S.failed source.new) result }
 {
     let mut bytes = Vec::with_capacity(alloc, count)?;
     let mut piece = [0u8; PIECE];

@@ -16,7 +16,8 @@
 //! ```
 //!
 //! Promises: what `next_record` returns is the record that the format gives for the bytes that are left, just its bytes are taken, and a refusal is the
-//! first fault from left to right (`record_at` of `specs/Records.antt`, which knows no reader); only a failed read and an allocation that failed are free.
+//! first fault from left to right (`record_at` of `specs/Records.antt`, which knows no reader). A read fault is that of a reader that failed (`failed`);
+//! only an allocation that failed is free.
 //! `begun` and `path` are then where that record begins and the path that its headers give, also of a record that is refused (`Shows` of
 //! `specs/Readers.antt`). What is written is `written` of `specs/Written.antt`.
 #![tactic(auto)]
@@ -41,6 +42,6 @@ pub use record::{
     Action, CopySource, NodeRecord, PropChanges, PropSection, Record, TextDelta, TextSection,
 };
 pub use sections::{Limits, Texts, kept_text};
-pub use sums::stand_in;
+pub use sums::{keep, stand_in};
 pub use svn_types::Sha1Sum;
 pub use writer::{push_format, push_node, push_revision};

@@ -1,12 +1,12 @@
 //! Dumps, read record by record.
-ghost use Rattle.std.specs.Prelude.{◌≡◌, ◌≢◌, ◌↔◌, [], false, codes, IfOk, IsTrue};
+ghost use Rattle.std.specs.Prelude.{◌≡◌, ◌≤◌, ◌≢◌, ◌↔◌, [], false, codes, IfOk, IsSome, IsTrue};
 ghost use Rattle.std.specs.Option.{option_copied};
 ghost use Rattle.svn_dump.specs.Blocks.{block_at};
 ghost use Rattle.svn_dump.specs.Headers.{header_value, if_once};
 ghost use Rattle.svn_dump.specs.HeaderNames.{name_of};
-ghost use Rattle.svn_dump.specs.Reading.{Gives, Reads};
+ghost use Rattle.svn_dump.specs.Reading.{Gives, Reads, FailsWith};
 ghost use Rattle.svn_dump.specs.Records.{is_given, other_subject, subject_of, node_of, format_value, node_at, passed_at, headed_at, record_at};
-ghost use Rattle.svn_dump.specs.Counts.{Counts};
+ghost use Rattle.svn_dump.specs.Counts.{Counts, Grows};
 ghost use Rattle.svn_dump.specs.Readers.{left_in, Opens, headers_len, Shows, UnlessBroken};
 
 use crate::fault::{DumpFault, Reason};
@@ -119,6 +119,8 @@ fn read_node<S: Input>(
 ) -> Result<Record, DumpFault>
     ensures bytes { Reads (λ r. r) (S.remaining source.old) (S.remaining source.new) result (node_at limits texts headers.now) }
     ensures counted { Counts (S.taken source.old) (S.remaining source.old) (S.taken source.new) (S.remaining source.new) }
+    ensures grows { S.taken source.old ≤ S.taken source.new }
+    ensures failed { FailsWith (S.failed source.old) (S.failed source.new) result }
 {
     let mut node = node_in(alloc, headers)?;
     let shape = shape_in(headers)?;
@@ -131,6 +133,8 @@ fn read_node<S: Input>(
 fn pass<S: Input>(source: &mut S, headers: &Headers<'_>, what: Record) -> Result<Record, DumpFault>
     ensures bytes { Reads (λ r. r) (S.remaining source.old) (S.remaining source.new) result (passed_at what headers.now) }
     ensures counted { Counts (S.taken source.old) (S.remaining source.old) (S.taken source.new) (S.remaining source.new) }
+    ensures grows { S.taken source.old ≤ S.taken source.new }
+    ensures failed { FailsWith (S.failed source.old) (S.failed source.new) result }
 {
     let lengths = lengths_in(headers)?;
     match skip_sections(source, lengths) {
@@ -149,6 +153,8 @@ fn read_headed<S: Input>(
 ) -> Result<Record, DumpFault>
     ensures bytes { Reads (λ r. r) (S.remaining source.old) (S.remaining source.new) result (headed_at limits texts headers.now) }
     ensures counted { Counts (S.taken source.old) (S.remaining source.old) (S.taken source.new) (S.remaining source.new) }
+    ensures grows { S.taken source.old ≤ S.taken source.new }
+    ensures failed { FailsWith (S.failed source.old) (S.failed source.new) result }
 {
     match subject_of(headers)? {
         Subject::Node => read_node(alloc, source, headers, limits, texts),
@@ -182,6 +188,7 @@ impl<R: Read + Drop> Reader<R> {
         ensures texts { IfOk result (λ r. r.texts ≡ texts) }
         ensures counted { IfOk result (λ r. Counts 0 (R.remaining input) r.source.taken (left_in R.remaining r)) }
         ensures shown { IfOk result (λ r. Shows limits 0 (R.remaining input) r.begun r.block.items) }
+        ensures unfailed { IfOk result (λ r. r.source.failed ≡ false) }
     {
         let mut source = Source::new(alloc, input)?;
         let block = read_block(alloc, &mut source, limits.headers)?;
@@ -227,6 +234,8 @@ impl<R: Read + Drop> Reader<R> {
         ensures headers { Reads (λ _. self.new.block.items) (left_in R.remaining self.old) (left_in R.remaining self.new) result (block_at false self.old.limits.headers) }
         ensures found { IfOk result (λ found. IsTrue found ↔ (self.new.block.items ≢ [])) }
         ensures counted { Counts self.old.source.taken (left_in R.remaining self.old) self.new.source.taken (left_in R.remaining self.new) }
+        ensures grown { IfOk result (λ found. IsTrue found → Grows self.old.source.taken 1 self.new.source.taken) }
+        ensures failed { FailsWith self.old.source.failed self.new.source.failed result }
         ensures shown { UnlessBroken result (Shows self.old.limits self.old.source.taken (left_in R.remaining self.old) self.new.begun self.new.block.items) }
         ensures limits { self.new.limits ≡ self.old.limits }
         ensures texts { self.new.texts ≡ self.old.texts }
@@ -242,6 +251,8 @@ impl<R: Read + Drop> Reader<R> {
     fn read_record(&mut self) -> Result<Record, DumpFault>
         ensures bytes { Reads (λ r. r) (left_in R.remaining self.old) (left_in R.remaining self.new) result (headed_at self.old.limits self.old.texts self.old.block.items) }
         ensures counted { Counts self.old.source.taken (left_in R.remaining self.old) self.new.source.taken (left_in R.remaining self.new) }
+        ensures grows { self.old.source.taken ≤ self.new.source.taken }
+        ensures failed { FailsWith self.old.source.failed self.new.source.failed result }
         ensures block { self.new.block ≡ self.old.block }
         ensures begun { self.new.begun ≡ self.old.begun }
         ensures limits { self.new.limits ≡ self.old.limits }
@@ -265,6 +276,8 @@ impl<R: Read + Drop> Reader<R> {
     pub fn next_record(&mut self) -> Result<Option<Record>, DumpFault>
         ensures bytes { Reads (λ r. r) (left_in R.remaining self.old) (left_in R.remaining self.new) result (record_at self.old.limits self.old.texts) }
         ensures counted { Counts self.old.source.taken (left_in R.remaining self.old) self.new.source.taken (left_in R.remaining self.new) }
+        ensures grown { IfOk result (λ r. IsSome r → Grows self.old.source.taken 1 self.new.source.taken) }
+        ensures failed { FailsWith self.old.source.failed self.new.source.failed result }
         ensures shown { UnlessBroken result (Shows self.old.limits self.old.source.taken (left_in R.remaining self.old) self.new.begun self.new.block.items) }
         ensures limits { self.new.limits ≡ self.old.limits }
         ensures texts { self.new.texts ≡ self.old.texts }

@@ -1,7 +1,7 @@
 //! The two sections after a record's headers.
-ghost use Rattle.std.specs.Prelude.{◌≡◌, ◌&&◌, nat_lt, IfOk};
+ghost use Rattle.std.specs.Prelude.{◌≡◌, ◌≤◌, ◌&&◌, nat_lt, IfOk};
 ghost use Rattle.svn_dump.specs.Counts.{Counts};
-ghost use Rattle.svn_dump.specs.Reading.{Gives, Reads};
+ghost use Rattle.svn_dump.specs.Reading.{Gives, Reads, FailsWith};
 ghost use Rattle.svn_dump.specs.Sections.{after_sections, empty_delta_at, keeps, kept, prop_section_of, sized_props_at, prop_section_at, whole_text_at, delta_with, text_delta_at, text_at, text_section_at, skipped};
 
 use crate::fault::{DumpFault, Reason};
@@ -50,6 +50,8 @@ impl Default for Limits {
 fn skip_bytes<S: Input>(source: &mut S, len: u64) -> Result<(), DumpFault>
     ensures bytes { Reads (λ u. u) (S.remaining source.old) (S.remaining source.new) result (skipped len) }
     ensures counted { Counts (S.taken source.old) (S.remaining source.old) (S.taken source.new) (S.remaining source.new) }
+    ensures grows { S.taken source.old ≤ S.taken source.new }
+    ensures failed { FailsWith (S.failed source.old) (S.failed source.new) result }
 {
     let mut piece = [0u8; PIECE];
     let mut left = len;
@@ -64,6 +66,8 @@ fn skip_bytes<S: Input>(source: &mut S, len: u64) -> Result<(), DumpFault>
 pub(crate) fn skip_sections<S: Input>(source: &mut S, lengths: Lengths) -> Result<(), DumpFault>
     ensures bytes { Reads (λ u. u) (S.remaining source.old) (S.remaining source.new) result (after_sections lengths) }
     ensures counted { Counts (S.taken source.old) (S.remaining source.old) (S.taken source.new) (S.remaining source.new) }
+    ensures grows { S.taken source.old ≤ S.taken source.new }
+    ensures failed { FailsWith (S.failed source.old) (S.failed source.new) result }
 {
     skip_bytes(source, lengths.props.unwrap_or(0))?;
     skip_bytes(source, lengths.text.unwrap_or(0))
@@ -90,6 +94,8 @@ fn read_sized_props<S: Input>(
 ) -> Result<PropSection, DumpFault>
     ensures bytes { Reads (λ section. section) (S.remaining source.old) (S.remaining source.new) result (sized_props_at changes limit len) }
     ensures counted { Counts (S.taken source.old) (S.remaining source.old) (S.taken source.new) (S.remaining source.new) }
+    ensures grows { S.taken source.old ≤ S.taken source.new }
+    ensures failed { FailsWith (S.failed source.old) (S.failed source.new) result }
 {
     if len > limit as u64 {
         return Err(DumpFault::Refused(Reason::PropsTooLong(len, limit as u64)));
@@ -107,6 +113,8 @@ pub(crate) fn read_prop_section<S: Input>(
 ) -> Result<Option<PropSection>, DumpFault>
     ensures bytes { Reads (λ section. section) (S.remaining source.old) (S.remaining source.new) result (prop_section_at shape.now limit) }
     ensures counted { Counts (S.taken source.old) (S.remaining source.old) (S.taken source.new) (S.remaining source.new) }
+    ensures grows { S.taken source.old ≤ S.taken source.new }
+    ensures failed { FailsWith (S.failed source.old) (S.failed source.new) result }
 {
     let Some(len) = shape.lengths.props else {
         return Ok(None);
@@ -125,6 +133,8 @@ fn read_whole_text<S: Input>(
 ) -> Result<Text, DumpFault>
     ensures bytes { Reads (λ text. text) (S.remaining source.old) (S.remaining source.new) result (whole_text_at texts given len) }
     ensures counted { Counts (S.taken source.old) (S.remaining source.old) (S.taken source.new) (S.remaining source.new) }
+    ensures grows { S.taken source.old ≤ S.taken source.new }
+    ensures failed { FailsWith (S.failed source.old) (S.failed source.new) result }
 {
     let text = read_text(alloc, source, len, texts == Texts::Whole)?;
     check_sums(&text, given)?;
@@ -145,6 +155,8 @@ fn read_empty_delta<S: Input>(
 ) -> Result<TextSection, DumpFault>
     ensures bytes { Reads (λ section. section) (S.remaining source.old) (S.remaining source.new) result (empty_delta_at len) }
     ensures counted { Counts (S.taken source.old) (S.remaining source.old) (S.taken source.new) (S.remaining source.new) }
+    ensures grows { S.taken source.old ≤ S.taken source.new }
+    ensures failed { FailsWith (S.failed source.old) (S.failed source.new) result }
 {
     if len > EMPTY_DELTA {
         return Err(DumpFault::Refused(Reason::NoSha1));
@@ -187,6 +199,8 @@ fn read_text_delta<S: Input>(
 ) -> Result<TextSection, DumpFault>
     ensures bytes { Reads (λ section. section) (S.remaining source.old) (S.remaining source.new) result (text_delta_at shape.now texts len) }
     ensures counted { Counts (S.taken source.old) (S.remaining source.old) (S.taken source.new) (S.remaining source.new) }
+    ensures grows { S.taken source.old ≤ S.taken source.new }
+    ensures failed { FailsWith (S.failed source.old) (S.failed source.new) result }
 {
     match (texts, shape.sums.sha1) {
         (Texts::Whole, _) => {
@@ -211,6 +225,8 @@ fn read_sized_text<S: Input>(
 ) -> Result<TextSection, DumpFault>
     ensures bytes { Reads (λ section. section) (S.remaining source.old) (S.remaining source.new) result (text_at shape.now texts len) }
     ensures counted { Counts (S.taken source.old) (S.remaining source.old) (S.taken source.new) (S.remaining source.new) }
+    ensures grows { S.taken source.old ≤ S.taken source.new }
+    ensures failed { FailsWith (S.failed source.old) (S.failed source.new) result }
 {
     if shape.changes_text {
         return read_text_delta(alloc, source, len, shape, texts);
@@ -239,6 +255,8 @@ pub(crate) fn read_text_section<S: Input>(
 ) -> Result<Option<TextSection>, DumpFault>
     ensures bytes { Reads (λ section. section) (S.remaining source.old) (S.remaining source.new) result (text_section_at shape.now texts limit) }
     ensures counted { Counts (S.taken source.old) (S.remaining source.old) (S.taken source.new) (S.remaining source.new) }
+    ensures grows { S.taken source.old ≤ S.taken source.new }
+    ensures failed { FailsWith (S.failed source.old) (S.failed source.new) result }
 {
     let Some(len) = shape.lengths.text else {
         return Ok(None);

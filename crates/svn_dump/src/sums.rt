@@ -1,9 +1,9 @@
 //! Texts, read with their checksums.
-ghost use Rattle.std.specs.Prelude.{◌≡◌, ℕ, true, List, ◌++◌, [], IfOk, IfErr, OnOk, if◌then◌else◌};
+ghost use Rattle.std.specs.Prelude.{◌≡◌, ◌⊎◌, ◌≤◌, ℕ, true, List, ◌++◌, [], IfOk, IfErr, OnOk, if◌then◌else◌};
 ghost use Rattle.md5.specs.Md5.{md5};
 ghost use Rattle.sha1.specs.Sha1.{sha1};
 ghost use Rattle.svn_dump.specs.Counts.{Counts};
-ghost use Rattle.svn_dump.specs.Reading.{Gives, Reads};
+ghost use Rattle.svn_dump.specs.Reading.{Gives, Reads, FailsWith};
 ghost use Rattle.svn_digits.specs.StandIns.{stand_in_of};
 ghost use Rattle.svn_dump.specs.Sections.{checked, summed_at, Sums};
 
@@ -69,10 +69,9 @@ fn room_for(alloc: Global, len: u64, keeps: bool) -> Result<Vec<u8>, DumpFault>
     Ok(Vec::new(alloc))
 }
 
-// Keeps a piece, if asked.
-fn keep(bytes: &mut Vec<u8>, piece: &[u8], keeps: bool) -> Result<(), DumpFault>
+/// Keeps a piece of a text after those before it, if asked. AllocError where an allocation failed.
+pub fn keep(bytes: &mut Vec<u8>, piece: &[u8], keeps: bool) -> Result<(), AllocError>
     ensures kept { OnOk result (bytes.new.items ≡ (if keeps then bytes.old.items ++ piece.now else bytes.old.items)) }
-    ensures fault { IfErr result (λ e. e ≡ DumpFault.Memory) }
 {
     if keeps {
         bytes.extend_from_slice(piece)?;
@@ -90,6 +89,8 @@ pub(crate) fn read_text<S: Input>(
     ensures bytes { Reads (λ t. (t.bytes.items, t.md5, t.sha1)) (S.remaining source.old) (S.remaining source.new) result (summed_at keeps len) }
     ensures summed { keeps ≡ true → IfOk result (λ t. t.md5 ≡ md5 t.bytes.items) }
     ensures counted { Counts (S.taken source.old) (S.remaining source.old) (S.taken source.new) (S.remaining source.new) }
+    ensures grows { S.taken source.old ≤ S.taken source.new }
+    ensures failed { FailsWith (S.failed source.old) (S.failed source.new) result }
 {
     let mut running = Running::new();
     let mut bytes = room_for(alloc, len, keeps)?;
@@ -108,7 +109,8 @@ pub(crate) fn read_text<S: Input>(
 
 /// Compares the checksums of a text with those that are given.
 pub(crate) fn check_sums(text: &SummedText, given: GivenSums) -> Result<(), DumpFault>
-    ensures { (m : List ℕ) → text.now.md5 ≡ md5 m → text.now.sha1 ≡ sha1 m → Gives (λ _. m) result (checked given m) }
+    ensures checked { (m : List ℕ) → text.now.md5 ≡ md5 m → text.now.sha1 ≡ sha1 m → Gives (λ _. m) result (checked given m) }
+    ensures refused { IfErr result (λ e. (e ≡ DumpFault.Refused Reason.WrongMd5) ⊎ (e ≡ DumpFault.Refused Reason.WrongSha1)) }
 {
     if given.md5.is_some_and(|md5| md5 != text.md5) {
         return Err(DumpFault::Refused(Reason::WrongMd5));

@@ -45,9 +45,9 @@ not_abort _ h = refl
 
 -- ---- a call that is taken
 
-module _ (mode : Mode) (old new : Pending) (calls : List Call) (d : Call) (nodes nodes2 : List (Path × BaseNode)) (next : IsNext mode old calls d)
+module _ (mode : Mode) (old new : Pending) (calls : List Call) (d : Call) (nodes nodes2 : List (Path × BaseNode)) (next : IsNext old calls d)
     (going : is_last d ≡ false) (copy : (p : Path) → get_in nodes2 p ≡ effect mode calls d (get_in nodes) p)
-    (holds : Holds mode new (calls ++ d ∷ [])) (keeps : KeepsBases d (batons_of old) (batons_of new))
+    (holds : Holds new (calls ++ d ∷ [])) (keeps : KeepsBases d (batons_of old) (batons_of new))
     (opens : OpensBase d (batons_of new) nodes2) (noted : IsNoted calls (batons_of old) nodes) where
   taken : IsAccepted calls d
   taken = accepted calls d (not_abort d going) next.in_order
@@ -111,11 +111,11 @@ removed_others m n t rising removed u b there = by (cases_eq u t)
 
 abbrev Kept : Pending → Pending → Call → Result (Unit {0}) EditFault → Type 0
 Kept old new d r =
-    OnOk r ((mode : Mode) (calls : List Call) → IsNext mode old calls d → is_last d ≡ false → KeepsBases d (batons_of old) (batons_of new))
+    OnOk r ((calls : List Call) → IsNext old calls d → is_last d ≡ false → KeepsBases d (batons_of old) (batons_of new))
 
 pub made_bases : (old new : Pending) (c d : Call) (g : Given) (r : Result (Unit {0}) EditFault) (beneath : ℕ) → d ≡ c → given_by c ≡ Some g
     → OnOk r (MakesBaton beneath g.path g.token old new) → Kept old new d r
-made_bases old new c d g r beneath is gives made = OnOk_then r made (λ m mode calls next last u b there apart. (
+made_bases old new c d g r beneath is gives made = OnOk_then r made (λ m calls next last u b there apart. (
   b,
   sym (m.tokens u (λ same. apart g (ap given_by is ∙ gives) (sym same))) ∙ there,
   refl,
@@ -126,8 +126,8 @@ pub said_bases : (old new : Pending) (c d : Call) (m : ℕ) (k : Kind) (note : N
     → d ≡ c → is_abort c ≡ false → named_by c ≡ Some (m, k)
     → OnOk r ((b : Baton) → batons_of old m ≡ Some b → BatonNoted m b note strings old.pools (batons_of old) new.pools (batons_of new))
     → Kept old new d r
-said_bases old new c d m k note strings r is going named notes = OnOk_then r notes (λ n mode calls next last u b there apart.
-    let x = named_baton mode old calls c d m k is next going named in
+said_bases old new c d m k note strings r is going named notes = OnOk_then r notes (λ n calls next last u b there apart.
+    let x = named_baton old calls c d m k is next going named in
     let y = n x.0 x.1 in
     by x.0 x.1 y u b there (cases_eq u m))
   where
@@ -145,7 +145,7 @@ said_bases old new c d m k note strings r is going named notes = OnOk_then r not
 
 pub gone_bases : (old new : Pending) (d : Call) (r : Result (Unit {0}) EditFault)
     → OnOk r ((u : ℕ) (b : Baton) → batons_of new u ≡ Some b → batons_of old u ≡ Some b) → Kept old new d r
-gone_bases old new d r others = OnOk_then r others (λ h mode calls next last u b there apart. (b, h u b there, refl, refl))
+gone_bases old new d r others = OnOk_then r others (λ h calls next last u b there apart. (b, h u b there, refl, refl))
 
 pub still_bases : (old : Pending) (d : Call) → KeepsBases d (batons_of old) (batons_of old)
 still_bases old d u b there apart = (b, there, refl, refl)

@@ -36,7 +36,7 @@ use Rattle.svn_edit.specs.declared.baton.Baton.{Baton}
 use Rattle.svn_edit.specs.declared.baton.Note.TheVariants.{Text as NewText}
 use Rattle.svn_edit.specs.declared.pending.Pending.{Pending}
 use Rattle.svn_nodes.specs.NodeTests.{IsSumOf, deep_fault}
-use Rattle.svn_edit.specs.Applying.{Applied, KeepsEdit, LetsGo, MakesBaton, BatonNoted, IsNext, IsNoted, OpensBase, batons_of, pool_above}
+use Rattle.svn_edit.specs.Applying.{Applied, KeepsTarget, LetsGo, MakesBaton, BatonNoted, IsNext, IsNoted, OpensBase, batons_of, pool_above}
 use Rattle.svn_edit.specs.Carrying.{CarriedOut, Carries}
 use Rattle.svn_edit.specs.Closing.{ClosesFile}
 use Rattle.svn_edit.specs.Taking.{Takes, HoldsCall, KeepsCallBases}
@@ -67,28 +67,28 @@ err_of (Ok done) f = tt
 err_of (Err e) f = f e refl
 
 -- the nodes are what the effect of a call that is known makes of them, or memory ran out and they stay
-abbrev pub AppliesKnown : Pending → List (Path × BaseNode) → Call → Answer → List (Path × BaseNode) → Type 0
-AppliesKnown old nodes c r nodes2 =
-    (mode : Mode) (calls : List Call) → IsNext mode old calls c → IsNoted calls (batons_of old) nodes
+abbrev pub AppliesKnown : Mode → Pending → List (Path × BaseNode) → Call → Answer → List (Path × BaseNode) → Type 0
+AppliesKnown mode old nodes c r nodes2 =
+    (calls : List Call) → IsNext old calls c → IsNoted calls (batons_of old) nodes
     → edit_fault md5 mode calls c nodes ≡ None → Applied None (effect mode calls c (get_in nodes)) nodes r nodes2
 
-module _ (old new : Pending) (nodes nodes2 : List (Path × BaseNode)) (c : Call) (r : Answer) (order : InPathOrder nodes)
-    (applied : AppliesKnown old nodes c r nodes2) (refused : OnErr r (nodes2 ≡ nodes)) (holds : HoldsCall old c r new)
+module _ (mode : Mode) (old new : Pending) (nodes nodes2 : List (Path × BaseNode)) (c : Call) (r : Answer) (order : InPathOrder nodes)
+    (applied : AppliesKnown mode old nodes c r nodes2) (refused : OnErr r (nodes2 ≡ nodes)) (holds : HoldsCall old c r new)
     (bases : KeepsCallBases old c r new) (base : OnOk r (OpensBase c (batons_of new) nodes2)) where
   -- one call more
-  module _ (mode : Mode) (w0 : WorkingCopy) (calls : List Call) (s : CarriedOut mode w0 old nodes calls)
+  module _ (w0 : WorkingCopy) (calls : List Call) (s : CarriedOut mode w0 old nodes calls)
       (free : refusal md5 mode calls c nodes ≡ None) where
     in_order : order_fault calls c ≡ None
     in_order = (split (order_fault calls c) (edit_fault md5 mode calls c nodes) free).0
 
-    next : IsNext mode old calls c
+    next : IsNext old calls c
     next = next_is mode w0 old nodes calls c s in_order
 
     before : list_any is_last calls ≡ false
     before = not_ended calls c in_order
 
     effects : Applied None (effect mode calls c (get_in nodes)) nodes r nodes2
-    effects = applied mode calls next (s.noted before) (split (order_fault calls c) (edit_fault md5 mode calls c nodes) free).1
+    effects = applied calls next (s.noted before) (split (order_fault calls c) (edit_fault md5 mode calls c nodes) free).1
 
     -- the call isn't the last
     going : list_any is_last (calls ++ c ∷ []) ≡ false → is_last c ≡ false
@@ -101,28 +101,28 @@ module _ (old new : Pending) (nodes nodes2 : List (Path × BaseNode)) (c : Call)
         record {
           lawful = lawful_more calls c s.lawful in_order;
           copy = copy_more mode w0 calls c nodes nodes2 s.copy copied;
-          going = λ h. at_ok r ok holds mode calls next (going h);
-          noted = λ h. noted_more mode old new calls c nodes nodes2 next (going h) copied (at_ok r ok holds mode calls next (going h))
-              (at_ok r ok bases mode calls next (going h)) (at_ok r ok base) (s.noted before);
+          going = λ h. at_ok r ok holds calls next (going h);
+          noted = λ h. noted_more mode old new calls c nodes nodes2 next (going h) copied (at_ok r ok holds calls next (going h))
+              (at_ok r ok bases calls next (going h)) (at_ok r ok base) (s.noted before);
         }
 
-  pub carries : (is_abort c ≡ true → (r ≡ Ok tt) × (nodes2 ≡ nodes)) → Carries old nodes c r new nodes2
+  pub carries : (is_abort c ≡ true → (r ≡ Ok tt) × (nodes2 ≡ nodes)) → Carries mode old nodes c r new nodes2
   carries abort = record {
-    carried = ok_by r (λ ok mode w0 calls s free. one_more mode w0 calls s free ok);
-    memory = err_of r (λ e is mode w0 calls s free. memory_alone (effect mode calls c (get_in nodes)) nodes nodes2 r e is
-        (effects mode w0 calls s free));
+    carried = ok_by r (λ ok w0 calls s free. one_more w0 calls s free ok);
+    memory = err_of r (λ e is w0 calls s free. memory_alone (effect mode calls c (get_in nodes)) nodes nodes2 r e is
+        (effects w0 calls s free));
     refused = refused;
     abort = abort;
     order = order;
   }
 
 -- a call that is applied as one where neither is known
-pub taken_carries : (old new : Pending) (nodes nodes2 : List (Path × BaseNode)) (c : Call) (r : Answer) → InPathOrder nodes
-    → (c ≡ AbortEdit → ⊥) → Takes old nodes c r new nodes2 → Carries old nodes c r new nodes2
-taken_carries old new nodes nodes2 c r order not_abort t =
-    carries old new nodes nodes2 c r order
-    (λ mode calls next noted free. subst (λ (f : Option EditFault). Applied f (effect mode calls c (get_in nodes)) nodes r nodes2) free
-    (t.applied mode calls next noted))
+pub taken_carries : (mode : Mode) (old new : Pending) (nodes nodes2 : List (Path × BaseNode)) (c : Call) (r : Answer) → InPathOrder nodes
+    → (c ≡ AbortEdit → ⊥) → Takes mode old nodes c r new nodes2 → Carries mode old nodes c r new nodes2
+taken_carries mode old new nodes nodes2 c r order not_abort t =
+    carries mode old new nodes nodes2 c r order
+    (λ calls next noted free. subst (λ (f : Option EditFault). Applied f (effect mode calls c (get_in nodes)) nodes r nodes2) free
+    (t.applied calls next noted))
     t.refused t.holds t.bases t.base (λ h. absurd (true≢false (sym h ∙ other c not_abort)))
   where
     other : (d : Call) → (d ≡ AbortEdit → ⊥) → is_abort d ≡ false
@@ -130,21 +130,21 @@ taken_carries old new nodes nodes2 c r order not_abort t =
     other _ n = refl
 
 -- giving up
-pub abort_carries : (old : Pending) (nodes : List (Path × BaseNode)) → InPathOrder nodes → Carries old nodes AbortEdit (Ok tt) old nodes
-abort_carries old nodes order =
-    carries old old nodes nodes AbortEdit (Ok tt) order (λ mode calls next noted free. (refl, λ p. refl)) tt
-    (λ mode calls next last. absurd (true≢false last)) (λ mode calls next last. absurd (true≢false last))
+pub abort_carries : (mode : Mode) (old : Pending) (nodes : List (Path × BaseNode)) → InPathOrder nodes → Carries mode old nodes AbortEdit (Ok tt) old nodes
+abort_carries mode old nodes order =
+    carries mode old old nodes nodes AbortEdit (Ok tt) order (λ calls next noted free. (refl, λ p. refl)) tt
+    (λ calls next last. absurd (true≢false last)) (λ calls next last. absurd (true≢false last))
     (no_base AbortEdit AbortEdit (batons_of old) nodes refl refl) (λ h. (refl, refl))
 
 -- a file that gets a baton, with nothing noted of its text
-module _ (old new : Pending) (nodes nodes2 : List (Path × BaseNode)) (c : Call) (g : Given) (r : Answer) (order : InPathOrder nodes)
+module _ (mode : Mode) (old new : Pending) (nodes nodes2 : List (Path × BaseNode)) (c : Call) (g : Given) (r : Answer) (order : InPathOrder nodes)
     (gives : given_by c ≡ Some g) (still : (n : ℕ) → next_target n c ≡ n) (says : noted c ≡ None) (aborts : is_abort c ≡ false)
     (place : old.pools.root ≡ pool_above old.pools.root (batons_of old) (Some g))
     (opened : OnOk r (MakesBaton old.pools.root g.path g.token old new))
-    (base : OnOk r ((b : Baton) → batons_of new g.token ≡ Some b → b.base ≡ None)) (keeps : KeepsEdit old new) where
-  file_carries : AppliesKnown old nodes c r nodes2 → OnErr r (nodes2 ≡ nodes) → Carries old nodes c r new nodes2
+    (base : OnOk r ((b : Baton) → batons_of new g.token ≡ Some b → b.base ≡ None)) (keeps : KeepsTarget old new) where
+  file_carries : AppliesKnown mode old nodes c r nodes2 → OnErr r (nodes2 ≡ nodes) → Carries mode old nodes c r new nodes2
   file_carries applied refused =
-      carries old new nodes nodes2 c r order applied refused
+      carries mode old new nodes nodes2 c r order applied refused
       (given_holds old new c c g r refl still gives says aborts keeps old.pools.root place opened)
       (made_bases old new c c g r old.pools.root refl gives opened)
       (file_base c c g (batons_of new) nodes2 r refl gives
@@ -152,27 +152,27 @@ module _ (old new : Pending) (nodes nodes2 : List (Path × BaseNode)) (c : Call)
       (λ h. absurd (true≢false (sym h ∙ aborts)))
 
 -- a known file is opened
-pub opened_carries : (old new : Pending) (nodes : List (Path × BaseNode)) (p : Path) (parent base token : ℕ) (r : Answer)
+pub opened_carries : (mode : Mode) (old new : Pending) (nodes : List (Path × BaseNode)) (p : Path) (parent base token : ℕ) (r : Answer)
     → InPathOrder nodes → OnOk r (MakesBaton old.pools.root p token old new)
-    → OnOk r ((b : Baton) → batons_of new token ≡ Some b → b.base ≡ None) → KeepsEdit old new → IfErr r (λ e. e ≡ Memory)
-    → Carries old nodes (OpenFile p parent base token) r new nodes
-opened_carries old new nodes p parent base token r order opened none keeps fault =
-    file_carries old new nodes nodes (OpenFile p parent base token)
+    → OnOk r ((b : Baton) → batons_of new token ≡ Some b → b.base ≡ None) → KeepsTarget old new → IfErr r (λ e. e ≡ Memory)
+    → Carries mode old nodes (OpenFile p parent base token) r new nodes
+opened_carries mode old new nodes p parent base token r order opened none keeps fault =
+    file_carries mode old new nodes nodes (OpenFile p parent base token)
     (record { kind = File; path = p; parent = Some parent; token = token }) r order refl (λ n. refl) refl refl refl opened none keeps
-    (λ mode calls next noted free. applied_none None (effect mode calls (OpenFile p parent base token) (get_in nodes)) nodes r refl
+    (λ calls next noted free. applied_none None (effect mode calls (OpenFile p parent base token) (get_in nodes)) nodes r refl
     (effect_none mode (target_of calls) (steps_of calls) p (Open File base) (get_in nodes) (λ o. refl) refl) fault)
     (OnErr_from r refl)
 
 -- one is added
-pub added_carries : (old new : Pending) (nodes nodes2 : List (Path × BaseNode)) (p : Path) (parent token : ℕ) (r : Answer)
+pub added_carries : (mode : Mode) (old new : Pending) (nodes nodes2 : List (Path × BaseNode)) (p : Path) (parent token : ℕ) (r : Answer)
     → InPathOrder nodes → OnOk r (MakesBaton old.pools.root p token old new)
-    → OnOk r ((b : Baton) → batons_of new token ≡ Some b → b.base ≡ None) → KeepsEdit old new
+    → OnOk r ((b : Baton) → batons_of new token ≡ Some b → b.base ≡ None) → KeepsTarget old new
     → Applied (cond (is_present (get_in nodes p)) (Some EntryExists) None) (λ q. cond (path_eq p q) (Some NotPresent) (get_in nodes q)) nodes
-    r nodes2 → Carries old nodes (AddFile p parent token) r new nodes2
-added_carries old new nodes nodes2 p parent token r order opened none keeps h =
-    file_carries old new nodes nodes2 (AddFile p parent token)
+    r nodes2 → Carries mode old nodes (AddFile p parent token) r new nodes2
+added_carries mode old new nodes nodes2 p parent token r order opened none keeps h =
+    file_carries mode old new nodes nodes2 (AddFile p parent token)
     (record { kind = File; path = p; parent = Some parent; token = token }) r order refl (λ n. refl) refl refl refl opened none keeps
-    (λ mode calls next noted free. subst (λ (v : WorkingCopy). Applied None v nodes r nodes2)
+    (λ calls next noted free. subst (λ (v : WorkingCopy). Applied None v nodes r nodes2)
     (λ i q. sym (effect_alone mode (target_of calls) (steps_of calls) p (Add File) (get_in nodes) (λ o. refl) q) i)
     (subst (λ (f : Option EditFault). Applied f (λ q. cond (path_eq p q) (Some NotPresent) (get_in nodes q)) nodes r nodes2)
     (absent (is_present (get_in nodes p)) (deep_fault (joined_path (get_in nodes) p)) free) h))
@@ -184,25 +184,25 @@ added_carries old new nodes nodes2 p parent token r order opened none keeps h =
     absent false deep is = refl
 
 -- a text comes whose checksum is not looked at
-pub text_carries : (old new : Pending) (nodes : List (Path × BaseNode)) (t : ℕ) (sum : Option (List ℕ)) (text : List ℕ) (r : Answer)
-    → InPathOrder nodes → KeepsEdit old new
+pub text_carries : (mode : Mode) (old new : Pending) (nodes : List (Path × BaseNode)) (t : ℕ) (sum : Option (List ℕ)) (text : List ℕ) (r : Answer)
+    → InPathOrder nodes → KeepsTarget old new
     → ((b : Baton) → batons_of old t ≡ Some b → IsSumOf b.base nodes b.path
     → AnswersCall (step_fault md5 Update [] (get_in nodes) b.path (Text None text)) r)
     → OnOk r ((b : Baton) → batons_of old t ≡ Some b
     → BatonNoted t b NewText (text ∷ []) old.pools (batons_of old) new.pools (batons_of new))
-    → Carries old nodes (ApplyText t sum text) r new nodes
-text_carries old new nodes t sum text r order keeps answers notes =
-    carries old new nodes nodes (ApplyText t sum text) r order
-    (λ mode calls next noted free.
-    let bare : IsNext mode old calls (ApplyText t None text) =
+    → Carries mode old nodes (ApplyText t sum text) r new nodes
+text_carries mode old new nodes t sum text r order keeps answers notes =
+    carries mode old new nodes nodes (ApplyText t sum text) r order
+    (λ calls next noted free.
+    let bare : IsNext old calls (ApplyText t None text) =
     record { holds = next.holds; lawful = next.lawful; in_order = sym (text_order calls) ∙ next.in_order } in
-    let k = named_known mode old calls (ApplyText t sum text) (ApplyText t sum text) t File refl next refl refl in
+    let k = named_known old calls (ApplyText t sum text) (ApplyText t sum text) t File refl next refl refl in
     subst (λ (f : Option EditFault). Applied f (effect mode calls (ApplyText t sum text) (get_in nodes)) nodes r nodes)
     (short (is_too_long (Some text)) (is_wrong_sum sum (md5 (node_text (get_in nodes (path_of calls t))))) free)
     (text_applied md5 mode old calls t None text (ApplyText t None text) nodes r refl bare
     (λ b there. answers b there (noted t b k.given_as there k.is (file_of k.given_as.kind k.kind)))))
     (OnErr_from r refl)
-    (OnOk_then r notes (λ h mode calls next last. note_holds mode old new calls (ApplyText t sum text) (ApplyText t sum text) t File
+    (OnOk_then r notes (λ h calls next last. note_holds old new calls (ApplyText t sum text) (ApplyText t sum text) t File
     (Text sum text) refl next refl refl refl refl refl (λ u. refl) keeps h))
     (said_bases old new (ApplyText t sum text) (ApplyText t sum text) t File NewText (text ∷ []) r refl refl refl notes)
     (ok_by r (λ ok. no_base (ApplyText t sum text) (ApplyText t sum text) (batons_of new) nodes refl refl))
@@ -217,17 +217,17 @@ text_carries old new nodes t sum text r order keeps answers notes =
     text_order (c ∷ calls) = refl
 
 -- a file is closed, and no checksum is looked at
-pub closed_carries : (old new : Pending) (nodes nodes2 : List (Path × BaseNode)) (t : ℕ) (sum : Option (List ℕ)) (r : Answer)
-    → InPathOrder nodes → KeepsEdit old new → OnOk r (LetsGo t old new)
+pub closed_carries : (mode : Mode) (old new : Pending) (nodes nodes2 : List (Path × BaseNode)) (t : ℕ) (sum : Option (List ℕ)) (r : Answer)
+    → InPathOrder nodes → KeepsTarget old new → OnOk r (LetsGo t old new)
     → OnOk r ((u : ℕ) (b : Baton) → batons_of new u ≡ Some b → batons_of old u ≡ Some b)
-    → ((b : Baton) → batons_of old t ≡ Some b → ClosesFile old b None nodes r nodes2) → OnErr r (nodes2 ≡ nodes)
-    → Carries old nodes (CloseFile t sum) r new nodes2
-closed_carries old new nodes nodes2 t sum r order keeps gone others closes refused =
-    carries old new nodes nodes2 (CloseFile t sum) r order
-    (λ mode calls next noted free. file_applied mode old new calls t None (CloseFile t None) refl
-    (record { holds = next.holds; lawful = next.lawful; in_order = sym (close_order calls) ∙ next.in_order }) nodes nodes2 r closes)
+    → ((b : Baton) → batons_of old t ≡ Some b → ClosesFile mode old b None nodes r nodes2) → OnErr r (nodes2 ≡ nodes)
+    → Carries mode old nodes (CloseFile t sum) r new nodes2
+closed_carries mode old new nodes nodes2 t sum r order keeps gone others closes refused =
+    carries mode old new nodes nodes2 (CloseFile t sum) r order
+    (λ calls next noted free. file_applied old new calls t None (CloseFile t None) refl
+    (record { holds = next.holds; lawful = next.lawful; in_order = sym (close_order calls) ∙ next.in_order }) mode nodes nodes2 r closes)
     refused
-    (OnOk_then r gone (λ g mode calls next last. file_holds mode old new calls t sum (CloseFile t sum) refl next keeps g))
+    (OnOk_then r gone (λ g calls next last. file_holds old new calls t sum (CloseFile t sum) refl next keeps g))
     (gone_bases old new (CloseFile t sum) r others)
     (ok_by r (λ ok. no_base (CloseFile t sum) (CloseFile t sum) (batons_of new) nodes2 refl refl))
     (λ h. absurd (true≢false (sym h)))

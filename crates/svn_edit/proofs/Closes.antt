@@ -38,7 +38,7 @@ use Rattle.svn_model.specs.Nodes.{WorkingCopy, get_in}
 use Rattle.svn_model.specs.Effects.{change_in, changes_at, closed_directory, is_too_long, step_fault, step_effect, effect, edit_fault}
 use Rattle.svn_model.specs.Said.{says, said_at}
 use Rattle.svn_edit.specs.Noted.{note_of, strings_of}
-use Rattle.svn_edit.specs.Applying.{Applied, BatonSaid, BatonNoted, KeepsEdit, batons_of, is_open, IsBaton, BatonGone, IsLeaf, Says, Holds}
+use Rattle.svn_edit.specs.Applying.{Applied, BatonSaid, BatonNoted, KeepsTarget, batons_of, is_open, IsBaton, BatonGone, IsLeaf, Says, Holds}
 use Rattle.svn_edit.specs.Applying.{IsNext, BatonMap}
 use Rattle.svn_model.specs.Answering.{AnswersCall}
 use Rattle.law_copy.proofs.StepEffects.{effect_alone, effect_none}
@@ -68,7 +68,7 @@ changes_are p = among_said change_in p (changes_at p) refl (λ s steps. refl) qu
     quiet (Change k x) h = absurd (true≢false h)
     quiet _ h = refl
 
-module _ (mode : Mode) (edit : Pending) (calls : List Call) (c d : Call) (m : ℕ) (k : Kind) (is : d ≡ c) (next : IsNext mode edit calls d)
+module _ (edit : Pending) (calls : List Call) (c d : Call) (m : ℕ) (k : Kind) (is : d ≡ c) (next : IsNext edit calls d)
     (going : is_abort c ≡ false) (named : named_by c ≡ Some (m, k)) where
   pub next_accepted : IsAccepted calls c
   next_accepted = accepted calls c going (ap (order_fault calls) (sym is) ∙ next.in_order)
@@ -100,42 +100,42 @@ says_of pools at calls t b is = record {
 }
 
 -- a call that closes a token, below which no directory is open
-pub gone_holds : (mode : Mode) (old new : Pending) (calls : List Call) (c d : Call) (t : ℕ) (k : Kind) → d ≡ c → IsNext mode old calls d
+pub gone_holds : (old new : Pending) (calls : List Call) (c d : Call) (t : ℕ) (k : Kind) → d ≡ c → IsNext old calls d
     → is_abort c ≡ false → named_by c ≡ Some (t, k)
     → next_target (target_of calls) c ≡ target_of calls → given_by c ≡ None → noted c ≡ None → closes t c ≡ true
     → ((u : ℕ) → u ≢ t → closes u c ≡ false)
     → ((u : ℕ) (g : Given) → is_open calls u ≡ true → given calls u ≡ Some g → g.kind ≡ Directory → g.parent ≡ Some t → ⊥)
-    → KeepsEdit old new
+    → KeepsTarget old new
     → ((b : Baton) (e : Entry) → batons_of old t ≡ Some b → pool_at old.pools b.pool.0 ≡ Some e → IsLeaf old.pools b.pool.0
     → b.pool.0 ≢ old.pools.root → BatonGone t b old.pools (batons_of old) new.pools (batons_of new))
-    → Holds mode new (calls ++ d ∷ [])
-gone_holds mode old new calls c d t k is next going named still gives says shut others none_below keeps gone =
-    holds_by mode old new calls c d is next keeps still
+    → Holds new (calls ++ d ∷ [])
+gone_holds old new calls c d t k is next going named still gives says shut others none_below keeps gone =
+    holds_by old new calls c d is next keeps still
     (held_gone old.pools (batons_of old) calls c t baton.0 next.holds.batons none_below baton.1
     (sound calls next.lawful) gives says shut others new.pools (batons_of new)
     (gone baton.0 _ baton.1 baton.2.pool (held_leaf old.pools (batons_of old) calls c t baton.0 next.holds.batons none_below baton.1)
     apart))
   where
     baton : (b : Baton) × (batons_of old t ≡ Some b) × IsBaton old.pools (batons_of old) calls t b
-    baton = named_baton mode old calls c d t k is next going named
+    baton = named_baton old calls c d t k is next going named
 
     apart : baton.0.pool.0 ≢ old.pools.root
     apart e = none-some _ (sym (ap parent_of next.holds.batons.root) ∙ ap (λ s. parent_of (pool_at old.pools s)) (sym e)
         ∙ ap parent_of baton.2.pool)
 
-module _ (mode : Mode) (old new : Pending) (calls : List Call) (t : ℕ) (d : Call) (is : d ≡ CloseDirectory t)
-    (next : IsNext mode old calls d) where
+module _ (old new : Pending) (calls : List Call) (t : ℕ) (d : Call) (is : d ≡ CloseDirectory t)
+    (next : IsNext old calls d) where
   baton : (b : Baton) × (batons_of old t ≡ Some b) × IsBaton old.pools (batons_of old) calls t b
-  baton = named_baton mode old calls (CloseDirectory t) d t Directory is next refl refl
+  baton = named_baton old calls (CloseDirectory t) d t Directory is next refl refl
 
   -- what the close does to the copy
-  pub close_applied : (checksum : List ℕ → List ℕ) (nodes nodes2 : List (Path × BaseNode)) (r : Result (Unit {0}) EditFault)
+  pub close_applied : (checksum : List ℕ → List ℕ) (mode : Mode) (nodes nodes2 : List (Path × BaseNode)) (r : Result (Unit {0}) EditFault)
       → OnOk r ((b : Baton) (said : List Action) → batons_of old t ≡ Some b → Says b old.pools said
       → (p : Path) → get_in nodes2 p ≡ cond (path_eq b.path p) (closed_directory (filter_map change_in said) (get_in nodes b.path))
       (get_in nodes p))
       → IfErr r (λ e. (e ≡ Memory) × (nodes2 ≡ nodes)) → Applied (edit_fault checksum mode calls d nodes)
       (effect mode calls d (get_in nodes)) nodes r nodes2
-  close_applied checksum nodes nodes2 r closed bad =
+  close_applied checksum mode nodes nodes2 r closed bad =
       subst (λ (x : Call). Applied (edit_fault checksum mode calls x nodes) (effect mode calls x (get_in nodes)) nodes r nodes2) (sym is)
       (applied_some None (effect mode calls (CloseDirectory t) (get_in nodes)) nodes nodes2 r refl
       (ok_by r (λ ok. done (at_ok r ok closed))) bad)
@@ -157,7 +157,7 @@ module _ (mode : Mode) (old new : Pending) (calls : List Call) (t : ℕ) (d : Ca
   none_below : (u : ℕ) (g : Given) → is_open calls u ≡ true → given calls u ≡ Some g → g.kind ≡ Directory → g.parent ≡ Some t → ⊥
   none_below u g o e k p =
       true≢false (sym (any_passes_from_place (is_open_in t calls) (all_given calls) u g e below)
-      ∙ (next_accepted mode old calls (CloseDirectory t) d t Directory is next refl refl).none_below)
+      ∙ (next_accepted old calls (CloseDirectory t) d t Directory is next refl refl).none_below)
     where
       number : g.token ≡ u
       number = (sound calls next.lawful).numbered u g e
@@ -175,12 +175,12 @@ module _ (mode : Mode) (old new : Pending) (calls : List Call) (t : ℕ) (d : Ca
           ∙ (λ i. (eq-eqb t t refl i) && true)
 
   -- and its baton
-  pub close_holds : KeepsEdit old new
+  pub close_holds : KeepsTarget old new
       → ((b : Baton) (e : Entry) → batons_of old t ≡ Some b → pool_at old.pools b.pool.0 ≡ Some e → IsLeaf old.pools b.pool.0
       → b.pool.0 ≢ old.pools.root → BatonGone t b old.pools (batons_of old) new.pools (batons_of new))
-      → Holds mode new (calls ++ d ∷ [])
+      → Holds new (calls ++ d ∷ [])
   close_holds keeps gone =
-      gone_holds mode old new calls (CloseDirectory t) d t Directory is next refl refl refl refl refl (eq-eqb t t refl)
+      gone_holds old new calls (CloseDirectory t) d t Directory is next refl refl refl refl refl (eq-eqb t t refl)
       (λ a2 a3. ne_eqb t a2 (λ e. a3 (sym e))) none_below keeps gone
 
 -- ---- a call that is noted
@@ -203,16 +203,16 @@ pub applied_same : (fault : Option EditFault) (w : WorkingCopy) (nodes : List (P
 applied_same fault w nodes (Ok done) h same = (h, same)
 applied_same fault w nodes (Err e) h same = (h, refl)
 
-pub note_holds : (mode : Mode) (old new : Pending) (calls : List Call) (c d : Call) (m : ℕ) (k : Kind) (act : Action) → d ≡ c
-    → IsNext mode old calls d → is_abort c ≡ false → named_by c ≡ Some (m, k)
+pub note_holds : (old new : Pending) (calls : List Call) (c d : Call) (m : ℕ) (k : Kind) (act : Action) → d ≡ c
+    → IsNext old calls d → is_abort c ≡ false → named_by c ≡ Some (m, k)
     → next_target (target_of calls) c ≡ target_of calls → given_by c ≡ None → noted c ≡ Some (m, act)
-    → ((t : ℕ) → closes t c ≡ false) → KeepsEdit old new
+    → ((t : ℕ) → closes t c ≡ false) → KeepsTarget old new
     → ((b : Baton) → batons_of old m ≡ Some b → BatonNoted m b (note_of act) (strings_of act) old.pools (batons_of old) new.pools
     (batons_of new))
-    → Holds mode new (calls ++ d ∷ [])
-note_holds mode old new calls c d m k act is next going named still gives says shut keeps notes =
-    let b = named_baton mode old calls c d m k is next going named in
-    holds_by mode old new calls c d is next keeps still
+    → Holds new (calls ++ d ∷ [])
+note_holds old new calls c d m k act is next going named still gives says shut keeps notes =
+    let b = named_baton old calls c d m k is next going named in
+    holds_by old new calls c d is next keeps still
     (held_noted old.pools (batons_of old) calls c m act b.0 next.holds.batons
     (pathed calls next.lawful) gives says shut b.1 new.pools (batons_of new) (notes b.0 b.1))
 
@@ -233,11 +233,11 @@ change_applied checksum mode edit calls c d m k x nodes r is faults effects answ
 
 pub text_applied : (checksum : List ℕ → List ℕ) (mode : Mode) (edit : Pending) (calls : List Call) (t : ℕ) (sum : Option (List ℕ))
     (text : List ℕ) (d : Call) (nodes : List (Path × BaseNode)) (r : Result (Unit {0}) EditFault)
-    → d ≡ ApplyText t sum text → IsNext mode edit calls d
+    → d ≡ ApplyText t sum text → IsNext edit calls d
     → ((b : Baton) → batons_of edit t ≡ Some b → AnswersCall (step_fault checksum Update [] (get_in nodes) b.path (Text sum text)) r)
     → Applied (edit_fault checksum mode calls d nodes) (effect mode calls d (get_in nodes)) nodes r nodes
 text_applied checksum mode edit calls t sum text d nodes r is next answers =
-    let b = named_baton mode edit calls (ApplyText t sum text) d t File is next refl refl in
+    let b = named_baton edit calls (ApplyText t sum text) d t File is next refl refl in
     subst (λ (y : Call). Applied (edit_fault checksum mode calls y nodes) (effect mode calls y (get_in nodes)) nodes r nodes) (sym is)
     (applied_same _ (effect mode calls (ApplyText t sum text) (get_in nodes)) nodes r
     (subst (λ (p : Path). AnswersCall (step_fault checksum Update [] (get_in nodes) p (Text sum text)) r) b.2.path (answers b.0 b.1))

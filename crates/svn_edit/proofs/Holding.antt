@@ -25,7 +25,7 @@ use Rattle.svn_edit.specs.declared.pending.Pending.{Pending}
 use Rattle.svn_model.specs.Nodes.{WorkingCopy, get_in, is_present}
 use Rattle.svn_model.specs.Effects.{effect, after, edit_fault, refusal, added_node, joined_path, step_fault, step_effect}
 use Rattle.svn_nodes.specs.NodeTests.{deep_fault}
-use Rattle.svn_edit.specs.Applying.{Applied, KeepsEdit, MakesBaton, batons_of, pool_above, Holds, IsNext, StandsAfter}
+use Rattle.svn_edit.specs.Applying.{Applied, KeepsTarget, MakesBaton, batons_of, pool_above, Holds, IsNext, StandsAfter}
 use Rattle.svn_edit.specs.Applying.{HoldsBatons}
 use Rattle.svn_edit.specs.Carrying.{CarriedOut}
 use Rattle.svn_model.specs.Answering.{IsAnswer, AnswersCall}
@@ -71,40 +71,35 @@ applied_some fault w nodes nodes2 (Err e) none same h = (subst (IsAnswer fault) 
 
 -- ---- what is held
 
--- an edit that no call changed
-pub edit_kept : (edit : Pending) → KeepsEdit edit edit
-edit_kept edit = record { target = refl; mode = refl }
-
-module _ (mode : Mode) (old new : Pending) (calls : List Call) (c d : Call) (is : d ≡ c) (next : IsNext mode old calls d)
-    (keeps : KeepsEdit old new) (still : next_target (target_of calls) c ≡ target_of calls) where
+module _ (old new : Pending) (calls : List Call) (c d : Call) (is : d ≡ c) (next : IsNext old calls d)
+    (keeps : KeepsTarget old new) (still : next_target (target_of calls) c ≡ target_of calls) where
   pub in_order : order_fault calls c ≡ None
   in_order = ap (order_fault calls) (sym is) ∙ next.in_order
 
-  pub holds_by : HoldsBatons new.pools (batons_of new) (calls ++ c ∷ []) → Holds mode new (calls ++ d ∷ [])
+  pub holds_by : HoldsBatons new.pools (batons_of new) (calls ++ c ∷ []) → Holds new (calls ++ d ∷ [])
   holds_by h = record {
-    mode_is = keeps.mode ∙ next.holds.mode_is;
-    target = keeps.target ∙ next.holds.target ∙ sym (ap (λ (x : Call). target_of (calls ++ x ∷ [])) is
+    target = keeps ∙ next.holds.target ∙ sym (ap (λ (x : Call). target_of (calls ++ x ∷ [])) is
         ∙ target-more calls c next.lawful in_order ∙ still);
     batons = subst (λ (x : Call). HoldsBatons new.pools (batons_of new) (calls ++ x ∷ [])) (sym is) h;
   }
 
 -- a call that gives a token
 pub given_holds : (old new : Pending) (c d : Call) (g : Given) (r : Result (Unit {0}) EditFault) → d ≡ c → ((n : ℕ) → next_target n c ≡ n)
-    → given_by c ≡ Some g → noted c ≡ None → is_abort c ≡ false → KeepsEdit old new → (beneath : ℕ)
+    → given_by c ≡ Some g → noted c ≡ None → is_abort c ≡ false → KeepsTarget old new → (beneath : ℕ)
     → beneath ≡ pool_above old.pools.root (batons_of old) (Some g) → OnOk r (MakesBaton beneath g.path g.token old new)
-    → OnOk r ((mode : Mode) (calls : List Call) → IsNext mode old calls d → is_last d ≡ false → Holds mode new (calls ++ d ∷ []))
-given_holds old new c d g r is still gives says going keeps beneath place made = OnOk_then r made (λ baton mode calls next last.
-    holds_by mode old new calls c d is next keeps (still (target_of calls))
+    → OnOk r ((calls : List Call) → IsNext old calls d → is_last d ≡ false → Holds new (calls ++ d ∷ []))
+given_holds old new c d g r is still gives says going keeps beneath place made = OnOk_then r made (λ baton calls next last.
+    holds_by old new calls c d is next keeps (still (target_of calls))
     (held_made old.pools (batons_of old) calls c g next.holds.batons (sound calls next.lawful) (pathed calls next.lawful)
-    (accepted calls c going (in_order mode old new calls c d is next keeps (still (target_of calls)))) gives says new.pools (batons_of new)
+    (accepted calls c going (in_order old new calls c d is next keeps (still (target_of calls)))) gives says new.pools (batons_of new)
     (subst (λ n. MakesBaton n g.path g.token old new) place baton)))
 
 -- a call that changes no baton
-pub holds_still : (mode : Mode) (old : Pending) (calls : List Call) (c d : Call) → d ≡ c → IsNext mode old calls d
+pub holds_still : (old : Pending) (calls : List Call) (c d : Call) → d ≡ c → IsNext old calls d
     → next_target (target_of calls) c ≡ target_of calls → given_by c ≡ None → noted c ≡ None → ((t : ℕ) → closes t c ≡ false)
-    → Holds mode old (calls ++ d ∷ [])
-holds_still mode old calls c d is next still none says shut =
-    holds_by mode old old calls c d is next (edit_kept old) still
+    → Holds old (calls ++ d ∷ [])
+holds_still old calls c d is next still none says shut =
+    holds_by old old calls c d is next refl still
     (held_still old.pools (batons_of old) calls c next.holds.batons none says shut)
 
 -- ---- results
@@ -154,7 +149,7 @@ carried_of mode w0 edit nodes calls s = record {
 
 -- an edit that goes on holds what it should
 pub next_is : (mode : Mode) (w0 : WorkingCopy) (edit : Pending) (nodes : List (Path × BaseNode)) (calls : List Call) (c : Call)
-    → CarriedOut mode w0 edit nodes calls → order_fault calls c ≡ None → IsNext mode edit calls c
+    → CarriedOut mode w0 edit nodes calls → order_fault calls c ≡ None → IsNext edit calls c
 next_is mode w0 edit nodes calls c s h = record { holds = s.going (not_ended calls c h); lawful = s.lawful; in_order = h }
 
 -- ---- results
@@ -174,23 +169,19 @@ order_refused fault NoMemory rest h = tt
 order_refused None e rest h = cc
 order_refused (Some f) e rest h = ap (λ (x : OrderFault). Some (Order x)) (sym h)
 
--- ---- one step read with the mode and the target of the edit
+-- ---- one step read with the target of the edit
 
 pub applied_read : (checksum : List ℕ → List ℕ) (mode : Mode) (edit : Pending) (calls : List Call) (c d : Call)
-    (nodes nodes2 : List (Path × BaseNode)) (r : Result (Unit {0}) EditFault) → d ≡ c → IsNext mode edit calls d
-    → (F : Mode → Option EditFault) (W : Mode → ℕ → WorkingCopy) → edit_fault checksum mode calls c nodes ≡ F mode
-    → effect mode calls c (get_in nodes) ≡ W mode (target_of calls)
-    → Applied (F edit.mode) (W edit.mode edit.target) nodes r nodes2
+    (nodes nodes2 : List (Path × BaseNode)) (r : Result (Unit {0}) EditFault) → d ≡ c → IsNext edit calls d
+    → (fault : Option EditFault) (W : ℕ → WorkingCopy) → edit_fault checksum mode calls c nodes ≡ fault
+    → effect mode calls c (get_in nodes) ≡ W (target_of calls) → Applied fault (W edit.target) nodes r nodes2
     → Applied (edit_fault checksum mode calls d nodes) (effect mode calls d (get_in nodes)) nodes r nodes2
-applied_read checksum mode edit calls c d nodes nodes2 r is next F W faults effects h =
-    let mode_is = next.holds.mode_is in
-    let target = next.holds.target in
-    let fault : F edit.mode ≡ edit_fault checksum mode calls d nodes = ap F mode_is ∙ sym faults
-    ∙ ap (λ (x : Call). edit_fault checksum mode calls x nodes) (sym is) in
-    let after : W edit.mode edit.target ≡ effect mode calls d (get_in nodes) = (λ i. W (mode_is i) (target i)) ∙ sym effects
+applied_read checksum mode edit calls c d nodes nodes2 r is next fault W faults effects h =
+    let read : fault ≡ edit_fault checksum mode calls d nodes = sym faults ∙ ap (λ (x : Call). edit_fault checksum mode calls x nodes) (sym is) in
+    let after : W edit.target ≡ effect mode calls d (get_in nodes) = ap W next.holds.target ∙ sym effects
     ∙ ap (λ (x : Call). effect mode calls x (get_in nodes)) (sym is) in
-    subst (λ (x : Option EditFault). Applied x (effect mode calls d (get_in nodes)) nodes r nodes2) fault
-    (subst (λ (v : WorkingCopy). Applied (F edit.mode) v nodes r nodes2) after h)
+    subst (λ (x : Option EditFault). Applied x (effect mode calls d (get_in nodes)) nodes r nodes2) read
+    (subst (λ (v : WorkingCopy). Applied fault v nodes r nodes2) after h)
 
 -- what isn't Memory isn't returned as such
 pub not_memory : (e : OrderFault) → (e ≡ NoMemory → ⊥) → as_edit_fault e ≡ Memory → ⊥

@@ -33,7 +33,7 @@ use Rattle.svn_edit.specs.declared.pending.Pending.{Pending}
 use Rattle.svn_edit.specs.declared.opening.NewNode.{NewNode}
 use Rattle.svn_edit.specs.declared.edit.Stage.TheVariants.{Going, Refused, Ended}
 use Rattle.svn_edit.specs.Applying.{Batons, batons_of, pool_or, pool_above, pool_entry, IsLeaf, HoldsBatons, PoolGone}
-use Rattle.svn_edit.specs.Applying.{IsNext, IsRefused, StandsAfter, MakesBaton, LetsGo, KeepsEdit, MakesNode}
+use Rattle.svn_edit.specs.Applying.{IsNext, IsRefused, StandsAfter, MakesBaton, LetsGo, KeepsTarget, MakesNode}
 use Rattle.svn_edit.specs.Opening.{GivesToken}
 use Rattle.svn_edit.specs.Leaving.{call_strings, HasPool, HoldsPools, IsLeft, LeavesPools, PoolsAfter, SamePools, KeepsPools, BatonBegan}
 use Rattle.svn_edit.specs.Leaving.{NoteBegan}
@@ -339,9 +339,9 @@ began_of t u strings x d old new key lent began updates b there =
 
 -- ---- a token that wasn't given
 
-pub fresh_token : (mode : Mode) (edit : Pending) (calls : List Call) (c d : Call) (g : Given) → d ≡ c → IsNext mode edit calls d
+pub fresh_token : (edit : Pending) (calls : List Call) (c d : Call) (g : Given) → d ≡ c → IsNext edit calls d
     → given_by c ≡ Some g → is_abort c ≡ false → batons_of edit g.token ≡ None
-fresh_token mode edit calls c d g is next gives going = nothing (batons_of edit g.token) (next.holds.batons.opened g.token
+fresh_token edit calls c d g is next gives going = nothing (batons_of edit g.token) (next.holds.batons.opened g.token
     ∙ unopened calls g.token (omega (arith, token)))
   where
     token : g.token ≡ length (all_given calls)
@@ -357,12 +357,12 @@ pub own_answer : (e : EditFault) → IsAnswer (Some e) e
 own_answer Memory = tt
 own_answer _ = refl
 
-pub gives_refused : (beneath : ℕ) (p : Path) (t : ℕ) (act : Action) (old : Pending) (nodes : List (Path × BaseNode))
+pub gives_refused : (mode : Mode) (beneath : ℕ) (p : Path) (t : ℕ) (act : Action) (old : Pending) (nodes : List (Path × BaseNode))
     (r : Result (Unit {0}) EditFault) (e : EditFault) (new : Pending) (nodes2 : List (Path × BaseNode)) → r ≡ Err e
-    → IsAnswer (step_fault md5 old.mode [] (get_in nodes) p act) e → KeepsEdit old new → nodes2 ≡ nodes
-    → GivesToken beneath p t act old nodes r new nodes2
-gives_refused beneath p t act old nodes r e new nodes2 is h keeps same =
-    subst (λ (x : Result (Unit {0}) EditFault). GivesToken beneath p t act old nodes x new nodes2) (sym is)
+    → IsAnswer (step_fault md5 mode [] (get_in nodes) p act) e → KeepsTarget old new → nodes2 ≡ nodes
+    → GivesToken mode beneath p t act old nodes r new nodes2
+gives_refused mode beneath p t act old nodes r e new nodes2 is h keeps same =
+    subst (λ (x : Result (Unit {0}) EditFault). GivesToken mode beneath p t act old nodes x new nodes2) (sym is)
     (record { opened = tt; keeps = keeps; applied = (h, same) })
 
 -- what was made for an add has the path of that
@@ -374,11 +374,11 @@ made_opened p fault node (Err e) h = tt
 -- ---- a refused call
 
 abbrev LeavesAll : Pending → Pending → Call → Result (Unit {0}) EditFault → Type 0
-LeavesAll old new d r = OnErr r ((mode : Mode) (calls : List Call) → IsNext mode old calls d → HoldsPools new.pools (batons_of new) calls d)
+LeavesAll old new d r = OnErr r ((calls : List Call) → IsNext old calls d → HoldsPools new.pools (batons_of new) calls d)
 
 -- one that leaves the pools as they were
 pub kept_left : (old new : Pending) (d : Call) (r : Result (Unit {0}) EditFault) → OnErr r (KeepsPools old new) → LeavesAll old new d r
-kept_left old new d r same = OnErr_then r same (λ kept mode calls next. keeps_left old new calls d next.holds.batons kept)
+kept_left old new d r same = OnErr_then r same (λ kept calls next. keeps_left old new calls d next.holds.batons kept)
 
 -- one that leaves the whole edit
 pub unchanged_left : (old new : Pending) (d : Call) (r : Result (Unit {0}) EditFault) → OnErr r (new ≡ old) → LeavesAll old new d r
@@ -387,24 +387,24 @@ unchanged_left old new d r same = kept_left old new d r (OnErr_then r same (λ e
 -- one that gives a token, and leaves the pools where that had no baton
 pub given_left : (old new : Pending) (c d : Call) (g : Given) (r : Result (Unit {0}) EditFault) → d ≡ c → given_by c ≡ Some g
     → is_abort c ≡ false → (batons_of old g.token ≡ None → OnErr r (KeepsPools old new)) → LeavesAll old new d r
-given_left old new c d g r is gives going kept = err_by r (λ e bad mode calls next.
-    keeps_left old new calls d next.holds.batons (at_err r e bad (kept (fresh_token mode old calls c d g is next gives going))))
+given_left old new c d g r is gives going kept = err_by r (λ e bad calls next.
+    keeps_left old new calls d next.holds.batons (at_err r e bad (kept (fresh_token old calls c d g is next gives going))))
 
 -- one that says something
 pub said_left : (old new : Pending) (c d : Call) (m : ℕ) (k : Kind) (strings : List (List ℕ)) (r : Result (Unit {0}) EditFault) → d ≡ c
     → is_abort c ≡ false → named_by c ≡ Some (m, k) → call_strings c m ≡ cond (nat_eq m m) strings []
     → OnErr r ((b : Baton) → batons_of old m ≡ Some b → NoteBegan m b strings old new) → LeavesAll old new d r
-said_left old new c d m k strings r is going named brings said = OnErr_then r said (λ began mode calls next.
-    let b = named_baton mode old calls c d m k is next going named in
+said_left old new c d m k strings r is going named brings said = OnErr_then r said (λ began calls next.
+    let b = named_baton old calls c d m k is next going named in
     began_left old new calls d m b.0 strings next.holds.batons b.1
     (ap (λ (x : Call). call_strings x m) is ∙ brings ∙ ap (λ same. cond same strings []) (eq-eqb m m refl)) (began b.0 b.1))
 
 -- ---- a call's result and the pools
 
-pub ended_after : (edit : Edit) (nodes : List (Path × BaseNode)) (c : Call) (e : EditFault) → edit.stage ≡ Ended
-    → PoolsAfter edit nodes c (Err e) edit
-ended_after edit nodes c e is = record {
-  first = λ mode w0 calls s going. absurd (ended_going (sym is ∙ s.stage going));
+pub ended_after : (mode : Mode) (edit : Edit) (nodes : List (Path × BaseNode)) (c : Call) (e : EditFault) → edit.stage ≡ Ended
+    → PoolsAfter mode edit nodes c (Err e) edit
+ended_after mode edit nodes c e is = record {
+  first = λ w0 calls s going. absurd (ended_going (sym is ∙ s.stage going));
   later = λ calls d left. absurd (ended_refused (sym is ∙ left.0));
 }
   where
@@ -414,23 +414,23 @@ ended_after edit nodes c e is = record {
     ended_refused : Ended ≡ Refused → ⊥
     ended_refused h = cc
 
-pub refused_after : (old new : Edit) (nodes : List (Path × BaseNode)) (c : Call) (r : Result (Unit {0}) EditFault) → old.stage ≡ Refused
-    → ((calls : List Call) (d : Call) → IsLeft calls d old → LeavesPools c old new) → PoolsAfter old nodes c r new
-refused_after old new nodes c r is later = record {
-  first = err_by r (λ e bad mode w0 calls s going. absurd (refused_going (sym is ∙ s.stage going)));
+pub refused_after : (mode : Mode) (old new : Edit) (nodes : List (Path × BaseNode)) (c : Call) (r : Result (Unit {0}) EditFault) → old.stage ≡ Refused
+    → ((calls : List Call) (d : Call) → IsLeft calls d old → LeavesPools c old new) → PoolsAfter mode old nodes c r new
+refused_after mode old new nodes c r is later = record {
+  first = err_by r (λ e bad w0 calls s going. absurd (refused_going (sym is ∙ s.stage going)));
   later = later;
 }
   where
     refused_going : Refused ≡ Going → ⊥
     refused_going h = cc
 
-pub going_after : (old new : Edit) (nodes : List (Path × BaseNode)) (c : Call) (r : Result (Unit {0}) EditFault) → old.stage ≡ Going
+pub going_after : (mode : Mode) (old new : Edit) (nodes : List (Path × BaseNode)) (c : Call) (r : Result (Unit {0}) EditFault) → old.stage ≡ Going
     → OnErr r (IsRefused new)
-    → OnErr r ((mode : Mode) (w0 : WorkingCopy) (calls : List Call) → StandsAfter mode w0 old nodes calls → list_any is_last calls ≡ false
+    → OnErr r ((w0 : WorkingCopy) (calls : List Call) → StandsAfter mode w0 old nodes calls → list_any is_last calls ≡ false
     → HoldsPools new.pending.pools (batons_of new.pending) calls c)
-    → PoolsAfter old nodes c r new
-going_after old new nodes c r is dead left = record {
-  first = err_by r (λ e bad mode w0 calls s going. (at_err r e bad dead, at_err r e bad left mode w0 calls s going));
+    → PoolsAfter mode old nodes c r new
+going_after mode old new nodes c r is dead left = record {
+  first = err_by r (λ e bad w0 calls s going. (at_err r e bad dead, at_err r e bad left w0 calls s going));
   later = λ calls d was. absurd (going_refused (sym is ∙ was.0));
 }
   where

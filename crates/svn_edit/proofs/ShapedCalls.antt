@@ -16,19 +16,19 @@ use Rattle.svn_model.specs.Answering.{AnswersCall}
 use Rattle.law_copy.proofs.Appending.{after-more}
 use Rattle.law_copy.proofs.Shape.{shape_stays}
 
-pub shaped_call : (result : Result (Unit {0}) EditFault) (edit edit2 : Edit) (nodes nodes2 : List (Path × BaseNode)) (c : Call)
+pub shaped_call : (mode : Mode) (result : Result (Unit {0}) EditFault) (edit edit2 : Edit) (nodes nodes2 : List (Path × BaseNode)) (c : Call)
     → OpensNamed c
-    → OnOk result ((mode : Mode) (w0 : WorkingCopy) (calls : List Call) → StandsAfter mode w0 edit nodes calls
+    → OnOk result ((w0 : WorkingCopy) (calls : List Call) → StandsAfter mode w0 edit nodes calls
     → StandsAfter mode w0 edit2 nodes2 (calls ++ c ∷ []))
-    → ((mode : Mode) (w0 : WorkingCopy) (calls : List Call) → StandsAfter mode w0 edit nodes calls
+    → ((w0 : WorkingCopy) (calls : List Call) → StandsAfter mode w0 edit nodes calls
     → AnswersCall (refusal md5 mode calls c nodes) result)
-    → OnOk result ((mode : Mode) (w0 : WorkingCopy) (calls : List Call) → StandsAfter mode w0 edit nodes calls
+    → OnOk result ((w0 : WorkingCopy) (calls : List Call) → StandsAfter mode w0 edit nodes calls
     → IsShapedAfter mode (get_in nodes) calls → IsShapedAfter mode (get_in nodes2) (calls ++ c ∷ []))
-shaped_call (Ok done) edit edit2 nodes nodes2 c n f g = λ mode w0 calls s shape.
-    let new = f mode w0 calls s in
+shaped_call mode (Ok done) edit edit2 nodes nodes2 c n f g = λ w0 calls s shape.
+    let new = f w0 calls s in
     let before : get_in nodes ≡ _ = λ i p. s.copy p i in
     let after : get_in nodes2 ≡ _ = λ i p. new.copy p i in
-    let stays = shape_stays md5 mode nodes calls c s.order.lawful (g mode w0 calls s) n shape in
+    let stays = shape_stays md5 mode nodes calls c s.order.lawful (g w0 calls s) n shape in
     subst (λ (v : WorkingCopy). IsShapedAfter mode v (calls ++ c ∷ [])) (ap (effect mode calls c) before ∙ sym (after-more mode w0 calls c)
     ∙ sym after) stays
-shaped_call (Err e) edit edit2 nodes nodes2 c n f g = tt
+shaped_call mode (Err e) edit edit2 nodes nodes2 c n f g = tt

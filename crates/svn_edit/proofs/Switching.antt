@@ -12,7 +12,6 @@ use Rattle.svn_editor.specs.Calls.{is_last}
 use Rattle.svn_editor.specs.Order.{order_fault}
 use Rattle.svn_editor.specs.declared.mode.Mode.{Mode}
 use Rattle.svn_editor.specs.declared.mode.Mode.TheVariants.{Update, SwitchTo}
-use Rattle.svn_editor.specs.Steps.{target_of}
 use Rattle.svn_model.specs.declared.base_node.BaseNode.{BaseNode}
 use Rattle.svn_model.specs.Nodes.{WorkingCopy, get_in}
 use Rattle.svn_model.specs.Effects.{is_settled_deep, settled, settle_fault, effect, edit_fault}
@@ -33,19 +32,16 @@ pub update_ends : (nodes : List (Path × BaseNode)) → settle_fault Update node
 update_ends nodes = ap (λ b. cond b (Some TooDeep) None) (none_deep nodes)
 
 pub end_applied : (checksum : List ℕ → List ℕ) (mode : Mode) (edit : Pending) (calls : List Call) (d : Call)
-    (nodes nodes2 : List (Path × BaseNode)) (r : Result (Unit {0}) EditFault) → d ≡ CloseEdit → IsNext mode edit calls d
-    → Applied (settle_fault edit.mode nodes) (λ p. settled edit.mode edit.target p (get_in nodes p)) nodes r nodes2
+    (nodes nodes2 : List (Path × BaseNode)) (r : Result (Unit {0}) EditFault) → d ≡ CloseEdit → IsNext edit calls d
+    → Applied (settle_fault mode nodes) (λ p. settled mode edit.target p (get_in nodes p)) nodes r nodes2
     → Applied (edit_fault checksum mode calls d nodes) (effect mode calls d (get_in nodes)) nodes r nodes2
 end_applied checksum mode edit calls d nodes nodes2 r is next h =
     subst (λ (y : Call). Applied (edit_fault checksum mode calls y nodes) (effect mode calls y (get_in nodes)) nodes r nodes2) (sym is)
-    (subst (λ (m : Mode). Applied (settle_fault m nodes) (λ p. settled m (target_of calls) p (get_in nodes p)) nodes r nodes2)
-    next.holds.mode_is
-    (subst (λ n. Applied (settle_fault edit.mode nodes) (λ p. settled edit.mode n p (get_in nodes p)) nodes r nodes2)
-    next.holds.target h))
+    (subst (λ n. Applied (settle_fault mode nodes) (λ p. settled mode n p (get_in nodes p)) nodes r nodes2) next.holds.target h)
 
 -- nothing is open then
-pub end_left : (mode : Mode) (edit : Pending) (calls : List Call) (d : Call) → d ≡ CloseEdit → IsNext mode edit calls d → OneIsLeft edit
-end_left mode edit calls d is next = next.holds.batons.count ∙ ap (λ n. n + 1)
+pub end_left : (edit : Pending) (calls : List Call) (d : Call) → d ≡ CloseEdit → IsNext edit calls d → OneIsLeft edit
+end_left edit calls d is next = next.holds.batons.count ∙ ap (λ n. n + 1)
     (none_open calls (ap (order_fault calls) (sym is) ∙ next.in_order))
 
 -- how many pools are live

@@ -1,5 +1,5 @@
 -- An applier with its copy, after a list of calls.
---     StandsAfter mode w0 edit nodes calls      the edit began with the copy w0, and took these calls
+--     StandsAfter mode w0 edit nodes calls      the edit began with the copy w0, and took these calls, each in that mode
 use Rattle.std.specs.Prelude.{◌≡◌, ◌≢◌, ℕ, ◌+◌, ◌<◌, Bool, true, false, ◌&&◌, not, List, [], ◌∷◌, ◌++◌, length, map, Option, Some, None}
 use Rattle.std.specs.Prelude.{is_some, filter_map, Result, Ok, Err, get_or, count_by, if◌then◌else◌}
 use Rattle.std.specs.List.{list_any, flat_map}
@@ -201,9 +201,8 @@ pub record BatonGone (t : ℕ) (b : Baton) (pools : Pools) (at : Batons) (pools2
 -- ---- one call
 
 -- what isn't of the batons is as before
-pub record KeepsEdit (old new : Pending) : Type 0 where
-  pub target : new.target ≡ old.target
-  pub mode : new.mode ≡ old.mode
+abbrev pub KeepsTarget : Pending → Pending → Type 0
+KeepsTarget old new = new.target ≡ old.target
 
 abbrev pub batons_of : Pending → Batons
 batons_of edit = get edit.batons
@@ -242,8 +241,7 @@ OpensBase c at nodes =
 
 -- ---- the whole
 
-pub record Holds (mode : Mode) (edit : Pending) (calls : List Call) : Type 0 where
-  pub mode_is : edit.mode ≡ mode
+pub record Holds (edit : Pending) (calls : List Call) : Type 0 where
   pub target : edit.target ≡ target_of calls
   pub batons : HoldsBatons edit.pools (batons_of edit) calls
 
@@ -255,7 +253,7 @@ pub record StandsAfter (mode : Mode) (w0 : WorkingCopy) (edit : Edit) (nodes : L
   pub order : order.StandsAfter edit.order calls
   pub copy : (p : Path) → get_in nodes p ≡ after mode w0 calls p
   pub stage : list_any is_last calls ≡ false → edit.stage ≡ Going
-  pub going : list_any is_last calls ≡ false → Holds mode edit.pending calls
+  pub going : list_any is_last calls ≡ false → Holds edit.pending calls
   pub ended : list_any is_last calls ≡ true → edit.stage ≡ Ended
   pub left : list_any is_last calls ≡ true → OneIsLeft edit.pending
   pub noted : list_any is_last calls ≡ false → IsNoted calls (batons_of edit.pending) nodes
@@ -266,14 +264,14 @@ pub record TakenInOrder (mode : Mode) (w0 : WorkingCopy) (edit : Edit) (nodes : 
   pub order : order.StandsAfter edit.order (calls ++ c ∷ [])
   pub copy : (p : Path) → get_in nodes p ≡ after mode w0 (calls ++ c ∷ []) p
   pub stage : is_last c ≡ false → edit.stage ≡ Going
-  pub holds : is_last c ≡ false → Holds mode edit.pending (calls ++ c ∷ [])
+  pub holds : is_last c ≡ false → Holds edit.pending (calls ++ c ∷ [])
   pub left : is_last c ≡ true → OneIsLeft edit.pending
   pub noted : is_last c ≡ false → IsNoted (calls ++ c ∷ []) (batons_of edit.pending) nodes
   pub earlier : list_any is_last calls ≡ false
 
 -- the calls so far are in order, and so is the next
-pub record IsNext (mode : Mode) (edit : Pending) (calls : List Call) (c : Call) : Type 0 where
-  pub holds : Holds mode edit calls
+pub record IsNext (edit : Pending) (calls : List Call) (c : Call) : Type 0 where
+  pub holds : Holds edit calls
   pub lawful : IsLawful calls
   pub in_order : order_fault calls c ≡ None
 

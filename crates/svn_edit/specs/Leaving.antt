@@ -62,9 +62,9 @@ abbrev pub LeavesPools : Call → Edit → Edit → Type 0
 LeavesPools AbortEdit old new = OneIsLeft new.pending
 LeavesPools _ old new = new ≡ old
 
-pub record PoolsAfter (old : Edit) (nodes : List (Path × BaseNode)) (call : Call) (answer : Result (Unit {0}) EditFault) (new : Edit)
-    : Type 0 where
-  pub first : OnErr answer ((mode : Mode) (w0 : WorkingCopy) (calls : List Call) → StandsAfter mode w0 old nodes calls
+pub record PoolsAfter (mode : Mode) (old : Edit) (nodes : List (Path × BaseNode)) (call : Call) (answer : Result (Unit {0}) EditFault)
+    (new : Edit) : Type 0 where
+  pub first : OnErr answer ((w0 : WorkingCopy) (calls : List Call) → StandsAfter mode w0 old nodes calls
       → list_any is_last calls ≡ false → IsLeft calls call new)
   pub later : (calls : List Call) (c : Call) → IsLeft calls c old → LeavesPools call old new
 

@@ -1,5 +1,5 @@
 -- What a call that is in order makes of an edit and of the nodes of its copy, and what it returns.
---     Takes old nodes call answer new nodes2      it took an edit and nodes to these
+--     Takes mode old nodes call answer new nodes2      it took an edit and nodes to these
 use Rattle.std.specs.Prelude.{◌≡◌, ◌≢◌, true, false, List, [], ◌∷◌, ◌++◌, Result, OnOk, OnErr, IfErr}
 use Rattle.md5.specs.Md5.{md5}
 use Rattle.svn_types.specs.Names.{Path}
@@ -17,38 +17,38 @@ use Rattle.svn_edit.specs.Applying.{batons_of, Applied, IsNoted, KeepsBases, Ope
 use Rattle.svn_edit.specs.Leaving.{HoldsPools}
 
 -- the nodes are what the call's effect makes of them, or it is refused by the call's fault and they stay
-abbrev pub AppliesCall : Pending → List (Path × BaseNode) → Call → Result (Unit {0}) EditFault → List (Path × BaseNode) → Type 0
-AppliesCall old nodes c answer nodes2 =
-    (mode : Mode) (calls : List Call) → IsNext mode old calls c → IsNoted calls (batons_of old) nodes
+abbrev pub AppliesCall : Mode → Pending → List (Path × BaseNode) → Call → Result (Unit {0}) EditFault → List (Path × BaseNode) → Type 0
+AppliesCall mode old nodes c answer nodes2 =
+    (calls : List Call) → IsNext old calls c → IsNoted calls (batons_of old) nodes
     → Applied (edit_fault md5 mode calls c nodes) (effect mode calls c (get_in nodes)) nodes answer nodes2
 
 -- an edit that goes on holds what it should
 abbrev pub HoldsCall : Pending → Call → Result (Unit {0}) EditFault → Pending → Type 0
 HoldsCall old c answer new =
-    OnOk answer ((mode : Mode) (calls : List Call) → IsNext mode old calls c → is_last c ≡ false → Holds mode new (calls ++ c ∷ []))
+    OnOk answer ((calls : List Call) → IsNext old calls c → is_last c ≡ false → Holds new (calls ++ c ∷ []))
 
 -- and so does what is noted of the texts of its open files
 abbrev pub KeepsCallBases : Pending → Call → Result (Unit {0}) EditFault → Pending → Type 0
 KeepsCallBases old c answer new =
-    OnOk answer ((mode : Mode) (calls : List Call) → IsNext mode old calls c → is_last c ≡ false
+    OnOk answer ((calls : List Call) → IsNext old calls c → is_last c ≡ false
     → KeepsBases c (batons_of old) (batons_of new))
 
 -- a refused one has the pools of the accepted calls
 abbrev pub LeavesCallPools : Pending → Call → Result (Unit {0}) EditFault → Pending → Type 0
 LeavesCallPools old c answer new =
-    OnErr answer ((mode : Mode) (calls : List Call) → IsNext mode old calls c → HoldsPools new.pools (batons_of new) calls c)
+    OnErr answer ((calls : List Call) → IsNext old calls c → HoldsPools new.pools (batons_of new) calls c)
 
 -- one that ended has one pool
 abbrev pub LeavesOne : Pending → Call → Result (Unit {0}) EditFault → Pending → Type 0
 LeavesOne old c answer new =
-    is_last c ≡ true → OnOk answer ((mode : Mode) (calls : List Call) → IsNext mode old calls c → OneIsLeft new)
+    is_last c ≡ true → OnOk answer ((calls : List Call) → IsNext old calls c → OneIsLeft new)
 
-pub record Takes (old : Pending) (nodes : List (Path × BaseNode)) (c : Call) (answer : Result (Unit {0}) EditFault) (new : Pending)
-    (nodes2 : List (Path × BaseNode)) : Type 0 where
-  pub applied : AppliesCall old nodes c answer nodes2
+pub record Takes (mode : Mode) (old : Pending) (nodes : List (Path × BaseNode)) (c : Call) (answer : Result (Unit {0}) EditFault)
+    (new : Pending) (nodes2 : List (Path × BaseNode)) : Type 0 where
+  pub applied : AppliesCall mode old nodes c answer nodes2
   pub refused : OnErr answer (nodes2 ≡ nodes)
   pub holds : HoldsCall old c answer new
-  pub last : is_last c ≡ true → old.mode ≡ Update → IfErr answer (λ e. e ≢ Memory)
+  pub last : is_last c ≡ true → mode ≡ Update → IfErr answer (λ e. e ≢ Memory)
   pub abort : is_abort c ≡ true → IfErr answer (λ e. e ≢ Memory)
   pub left : LeavesOne old c answer new
   pub bases : KeepsCallBases old c answer new

@@ -11,7 +11,7 @@ ghost use Rattle.svn_model.specs.Effects.{change_in, text_in, closed_directory, 
 ghost use Rattle.svn_model.specs.Answering.{AnswersCall};
 ghost use Rattle.svn_edit.specs.declared.baton.Baton.{Baton};
 ghost use Rattle.svn_nodes.specs.NodeTests.{first_of, sum_fault, AnswersAs};
-ghost use Rattle.svn_edit.specs.Applying.{Applied, KeepsEdit, LetsGo, Says, batons_of};
+ghost use Rattle.svn_edit.specs.Applying.{Applied, KeepsTarget, LetsGo, Says, batons_of};
 ghost use Rattle.svn_edit.specs.Closing.{ClosesFile};
 
 use crate::baton::{Baton, drop_pool};
@@ -43,7 +43,7 @@ impl Pending {
     pub(crate) fn close_baton(&mut self, token: Token)
         ensures gone { LetsGo token self.old self.new }
         ensures others { (u : ℕ) (b : Baton) → batons_of self.new u ≡ Some b → batons_of self.old u ≡ Some b }
-        ensures keeps { KeepsEdit self.old self.new }
+        ensures keeps { KeepsTarget self.old self.new }
     {
         if let Some(baton) = self.batons.remove(token.0) {
             drop_pool(&mut self.pools, baton.pool);
@@ -76,7 +76,7 @@ impl Pending {
     ) -> Result<(), EditFault>
         ensures gone { OnOk result (LetsGo token self.old self.new) }
         ensures others { OnOk result ((u : ℕ) (b : Baton) → batons_of self.new u ≡ Some b → batons_of self.old u ≡ Some b) }
-        ensures keeps { KeepsEdit self.old self.new }
+        ensures keeps { KeepsTarget self.old self.new }
         ensures closed { OnOk result ((b : Baton) (said : List Action) → batons_of self.old token ≡ Some b → Says b self.old.pools said → (p : Path) → get_in copy.new.entries p ≡ (if path_eq b.path p then closed_directory (filter_map change_in said) (get_in copy.old.entries b.path) else get_in copy.old.entries p)) }
         ensures refused { IfErr result (λ e. (e ≡ EditFault.Memory) × (copy.new.entries ≡ copy.old.entries)) }
         ensures unchanged { OnErr result (self.new ≡ self.old) }
@@ -160,13 +160,14 @@ impl Pending {
     // What is a file is closed like an opened one.
     fn close_new(
         &self,
+        mode: &Mode,
         node: &mut BaseNode,
         baton: &Baton,
         text_md5: &Option<Digest>,
         joined: Result<RelPath, AllocError>,
     ) -> Result<(), EditFault>
         ensures answers { (said : List Action) → Says baton.now self.now.pools said → AnswersCall (sum_fault md5 text_md5.now (filter_map text_in said) (Some node.old)) result }
-        ensures closed { OnOk result ((said : List Action) (w : WorkingCopy) (p : Path) → Says baton.now self.now.pools said → p ≡ baton.now.path → IfOk joined (λ j. j ≡ joined_path w p) → Some node.new ≡ closed_file self.now.target (moved_path self.now.mode w p) (joined_path w p) (filter_map change_in said) (filter_map text_in said) (Some node.old)) }
+        ensures closed { OnOk result ((said : List Action) (w : WorkingCopy) (p : Path) → Says baton.now self.now.pools said → p ≡ baton.now.path → IfOk joined (λ j. j ≡ joined_path w p) → Some node.new ≡ closed_file self.now.target (moved_path mode.now w p) (joined_path w p) (filter_map change_in said) (filter_map text_in said) (Some node.old)) }
         ensures refused { OnErr result (node.new ≡ node.old) }
     {
         if matches!(node, BaseNode::NotPresent) {
@@ -175,7 +176,7 @@ impl Pending {
             *node = file;
             return Ok(());
         }
-        let moved = paths::moved_by(&self.mode, baton.path.as_rel_path(), joined);
+        let moved = paths::moved_by(mode, baton.path.as_rel_path(), joined);
         self.close_opened(node, baton, text_md5, moved)
     }
 
@@ -191,16 +192,17 @@ impl Pending {
     // after that of the text.
     fn close_joined(
         &self,
+        mode: &Mode,
         copy: &mut Nodes,
         baton: &Baton,
         text_md5: &Option<Digest>,
         joined: Result<RelPath, AllocError>,
     ) -> Result<(), EditFault>
         requires { IfOk joined (λ j. j ≡ joined_path (get_in copy.old.entries) baton.now.path) }
-        ensures { ClosesFile self.now baton.now text_md5.now copy.old.entries result copy.new.entries }
+        ensures { ClosesFile mode.now self.now baton.now text_md5.now copy.old.entries result copy.new.entries }
     {
         match copy.get_mut(baton.path.as_rel_path()) {
-            Some(node) => self.close_new(node, baton, text_md5, joined),
+            Some(node) => self.close_new(mode, node, baton, text_md5, joined),
             None => self.close_nothing(baton, text_md5),
         }
     }
@@ -209,18 +211,19 @@ impl Pending {
     // it is closed like an added one.
     fn close_file_of(
         &self,
+        mode: &Mode,
         copy: &mut Nodes,
         baton: &Baton,
         text_md5: &Option<Digest>,
     ) -> Result<(), EditFault>
-        ensures { ClosesFile self.now baton.now text_md5.now copy.old.entries result copy.new.entries }
+        ensures { ClosesFile mode.now self.now baton.now text_md5.now copy.old.entries result copy.new.entries }
     {
         let path = baton.path.as_rel_path();
         if let Some(above) = baton.path.above() {
             let joined = paths::joined_again(self.alloc, copy, above, path);
-            return self.close_joined(copy, baton, text_md5, joined);
+            return self.close_joined(mode, copy, baton, text_md5, joined);
         }
-        let moved = paths::moved_again(self.alloc, &self.mode, copy, path);
+        let moved = paths::moved_again(self.alloc, mode, copy, path);
         let Some(node) = copy.get_mut(path) else {
             return self.close_nothing(baton, text_md5);
         };
@@ -228,19 +231,20 @@ impl Pending {
             return self.close_opened(node, baton, text_md5, moved);
         }
         let joined = paths::joined_at(self.alloc, copy, path);
-        self.close_joined(copy, baton, text_md5, joined)
+        self.close_joined(mode, copy, baton, text_md5, joined)
     }
 
     pub(crate) fn close_file(
         &mut self,
+        mode: &Mode,
         copy: &mut Nodes,
         token: Token,
         text_md5: &Option<Digest>,
     ) -> Result<(), EditFault>
         ensures gone { OnOk result (LetsGo token self.old self.new) }
         ensures others { OnOk result ((u : ℕ) (b : Baton) → batons_of self.new u ≡ Some b → batons_of self.old u ≡ Some b) }
-        ensures keeps { KeepsEdit self.old self.new }
-        ensures closes { (b : Baton) → batons_of self.old token ≡ Some b → ClosesFile self.old b text_md5.now copy.old.entries result copy.new.entries }
+        ensures keeps { KeepsTarget self.old self.new }
+        ensures closes { (b : Baton) → batons_of self.old token ≡ Some b → ClosesFile mode.now self.old b text_md5.now copy.old.entries result copy.new.entries }
         ensures refused { OnErr result (copy.new.entries ≡ copy.old.entries) }
         ensures unchanged { OnErr result (self.new ≡ self.old) }
     {
@@ -248,18 +252,18 @@ impl Pending {
             // what a call in order closes is open
             return Err(impossible(EditFault::Memory));
         };
-        self.close_file_of(copy, baton, text_md5)?;
+        self.close_file_of(mode, copy, baton, text_md5)?;
         self.given = None;
         self.close_baton(token);
         Ok(())
     }
 
     // In an update it takes no memory.
-    pub(crate) fn close_edit(&self, copy: &mut Nodes) -> Result<(), EditFault>
-        ensures taken { self.now.mode ≡ Update → result ≡ Ok tt }
-        ensures applied { let mode = self.now.mode in Applied (settle_fault mode copy.old.entries) (λ p. settled mode self.now.target p (get_in copy.old.entries p)) copy.old.entries result copy.new.entries }
+    pub(crate) fn close_edit(&self, mode: &Mode, copy: &mut Nodes) -> Result<(), EditFault>
+        ensures taken { mode.now ≡ Update → result ≡ Ok tt }
+        ensures applied { Applied (settle_fault mode.now copy.old.entries) (λ p. settled mode.now self.now.target p (get_in copy.old.entries p)) copy.old.entries result copy.new.entries }
     {
-        match &self.mode {
+        match mode {
             Mode::Update => {
                 ending::settle_all(copy, self.target);
                 Ok(())

@@ -1,5 +1,5 @@
 //! An edit of a copy, call by call.
-ghost use Rattle.std.specs.Prelude.{◌≡◌, ◌≢◌, ◌+◌, ◌↔◌, IsTrue, [], ◌∷◌, ◌++◌, List, IfOk, IfErr, OnOk, OnErr, true, false};
+ghost use Rattle.std.specs.Prelude.{◌≡◌, ◌≢◌, ◌+◌, [], ◌∷◌, ◌++◌, List, IfOk, IfErr, OnOk, OnErr, true, false};
 ghost use Rattle.md5.specs.Md5.{md5};
 ghost use Rattle.svn_types.specs.Names.{Path};
 ghost use Rattle.svn_editor.specs.Calls.{is_last, is_abort};
@@ -42,24 +42,17 @@ pub struct Edit {
 }
 
 impl Edit {
-    /// An edit that no call was given to, of an update or of a switch of the whole copy. The only fault is Memory.
-    pub fn new(alloc: Global, mode: Mode) -> Result<Edit, EditFault>
-        ensures begun { IfOk result (λ e. (nodes : List (Path × BaseNode)) → StandsAfter mode (get_in nodes) e nodes []) }
+    /// An edit that no call was given to. The only fault is Memory.
+    pub fn new(alloc: Global) -> Result<Edit, EditFault>
+        ensures begun { IfOk result (λ e. (mode : Mode) (nodes : List (Path × BaseNode)) → StandsAfter mode (get_in nodes) e nodes []) }
         ensures memory { IfErr result (λ e. e ≡ EditFault.Memory) }
     {
-        let pending = Pending::new(alloc, mode)?;
+        let pending = Pending::new(alloc)?;
         Ok(Edit {
             stage: Stage::Going,
             order: OrderCheck::new(alloc),
             pending,
         })
-    }
-
-    /// Whether it is an edit of an update, and not of a switch of the whole copy. It takes no memory.
-    pub fn is_update(&self) -> bool
-        ensures { IsTrue result ↔ (self.now.pending.mode ≡ Update) }
-    {
-        matches!(self.pending.mode, Mode::Update)
     }
 
     /// The path of the file or directory that is open under a token. It takes no memory.
@@ -69,27 +62,28 @@ impl Edit {
         self.pending.open_path(token)
     }
 
-    /// Takes the next call, and changes the copy as it says. The order check's faults come first, then those of the copy: DeleteEntry
+    /// Takes the next call, and changes the copy as it says, in an update or in a switch of the whole copy: which, is the same at each call of
+    /// an edit. The order check's faults come first, then those of the copy: DeleteEntry
     /// NoEntry, WrongRevision; the adds EntryExists, TooDeep; the opens NoEntry, WrongKind, WrongRevision, TooDeep; property changes TooLong;
     /// ApplyText TooLong, BaseChecksum; CloseFile TextChecksum; CloseEdit of a switch TooDeep. Memory comes after the order check's faults,
     /// and perhaps before the copy's; at AbortEdit and at CloseEdit of an update it doesn't come. After a refusal the copy is as it was, the
     /// pools are those of what is open, and every call but AbortEdit is refused.
-    pub fn call(&mut self, copy: &mut Nodes, call: &Call) -> Result<(), EditFault>
-        ensures answers { (mode : Mode) (w0 : WorkingCopy) (calls : List Call) → StandsAfter mode w0 self.old copy.old.entries calls → AnswersCall (refusal md5 mode calls call.now copy.old.entries) result }
-        ensures in_order { (mode : Mode) (w0 : WorkingCopy) (calls : List Call) → StandsAfter mode w0 self.old copy.old.entries calls → WantsInOrder calls call.now result }
-        ensures accepted { OnOk result ((mode : Mode) (w0 : WorkingCopy) (calls : List Call) → StandsAfter mode w0 self.old copy.old.entries calls → StandsAfter mode w0 self.new copy.new.entries (calls ++ call.now ∷ [])) }
-        ensures refused { OnErr result ((mode : Mode) (w0 : WorkingCopy) (calls : List Call) → StandsAfter mode w0 self.old copy.old.entries calls → copy.new.entries ≡ copy.old.entries) }
+    pub fn call(&mut self, mode: &Mode, copy: &mut Nodes, call: &Call) -> Result<(), EditFault>
+        ensures answers { (w0 : WorkingCopy) (calls : List Call) → StandsAfter mode.now w0 self.old copy.old.entries calls → AnswersCall (refusal md5 mode.now calls call.now copy.old.entries) result }
+        ensures in_order { (w0 : WorkingCopy) (calls : List Call) → StandsAfter mode.now w0 self.old copy.old.entries calls → WantsInOrder calls call.now result }
+        ensures accepted { OnOk result ((w0 : WorkingCopy) (calls : List Call) → StandsAfter mode.now w0 self.old copy.old.entries calls → StandsAfter mode.now w0 self.new copy.new.entries (calls ++ call.now ∷ [])) }
+        ensures refused { OnErr result ((w0 : WorkingCopy) (calls : List Call) → StandsAfter mode.now w0 self.old copy.old.entries calls → copy.new.entries ≡ copy.old.entries) }
         ensures dead { LeavesRefused self.old.stage result self.new }
         ensures was_refused { IsRefused self.old → StaysRefused call.now result self.new × (copy.new ≡ copy.old) }
-        ensures last { is_last call.now ≡ true → self.old.pending.mode ≡ Update → IfErr result (λ e. e ≢ EditFault.Memory) }
+        ensures last { is_last call.now ≡ true → mode.now ≡ Update → IfErr result (λ e. e ≢ EditFault.Memory) }
         ensures abort { is_abort call.now ≡ true → IfErr result (λ e. e ≢ EditFault.Memory) }
         ensures ended { HasEnded self.old → StaysEnded self.old result self.new × (copy.new ≡ copy.old) }
-        ensures pools { PoolsAfter self.old copy.old.entries call.now result self.new }
+        ensures pools { PoolsAfter mode.now self.old copy.old.entries call.now result self.new }
     {
         match self.stage {
             Stage::Ended => Err(EditFault::Order(OrderFault::Ended)),
             Stage::Refused => self.give_up(call),
-            Stage::Going => self.take(copy, call),
+            Stage::Going => self.take(mode, copy, call),
         }
     }
 
@@ -118,17 +112,17 @@ impl Edit {
     }
 
     // Takes the next call while the edit goes on.
-    fn take(&mut self, copy: &mut Nodes, call: &Call) -> Result<(), EditFault>
-        ensures answers { (mode : Mode) (w0 : WorkingCopy) (calls : List Call) → StandsAfter mode w0 self.old copy.old.entries calls → AnswersCall (refusal md5 mode calls call.now copy.old.entries) result }
-        ensures in_order { (mode : Mode) (w0 : WorkingCopy) (calls : List Call) → StandsAfter mode w0 self.old copy.old.entries calls → WantsInOrder calls call.now result }
-        ensures accepted { OnOk result ((mode : Mode) (w0 : WorkingCopy) (calls : List Call) → StandsAfter mode w0 self.old copy.old.entries calls → StandsAfter mode w0 self.new copy.new.entries (calls ++ call.now ∷ [])) }
-        ensures refused { OnErr result ((mode : Mode) (w0 : WorkingCopy) (calls : List Call) → StandsAfter mode w0 self.old copy.old.entries calls → copy.new.entries ≡ copy.old.entries) }
-        ensures last { is_last call.now ≡ true → self.old.pending.mode ≡ Update → IfErr result (λ e. e ≢ EditFault.Memory) }
+    fn take(&mut self, mode: &Mode, copy: &mut Nodes, call: &Call) -> Result<(), EditFault>
+        ensures answers { (w0 : WorkingCopy) (calls : List Call) → StandsAfter mode.now w0 self.old copy.old.entries calls → AnswersCall (refusal md5 mode.now calls call.now copy.old.entries) result }
+        ensures in_order { (w0 : WorkingCopy) (calls : List Call) → StandsAfter mode.now w0 self.old copy.old.entries calls → WantsInOrder calls call.now result }
+        ensures accepted { OnOk result ((w0 : WorkingCopy) (calls : List Call) → StandsAfter mode.now w0 self.old copy.old.entries calls → StandsAfter mode.now w0 self.new copy.new.entries (calls ++ call.now ∷ [])) }
+        ensures refused { OnErr result ((w0 : WorkingCopy) (calls : List Call) → StandsAfter mode.now w0 self.old copy.old.entries calls → copy.new.entries ≡ copy.old.entries) }
+        ensures last { is_last call.now ≡ true → mode.now ≡ Update → IfErr result (λ e. e ≢ EditFault.Memory) }
         ensures abort { is_abort call.now ≡ true → IfErr result (λ e. e ≢ EditFault.Memory) }
         ensures dead { OnErr result (IsRefused self.new) }
-        ensures left { OnErr result ((mode : Mode) (w0 : WorkingCopy) (calls : List Call) → StandsAfter mode w0 self.old copy.old.entries calls → list_any is_last calls ≡ false → HoldsPools self.new.pending.pools (batons_of self.new.pending) calls call.now) }
+        ensures left { OnErr result ((w0 : WorkingCopy) (calls : List Call) → StandsAfter mode.now w0 self.old copy.old.entries calls → list_any is_last calls ≡ false → HoldsPools self.new.pending.pools (batons_of self.new.pending) calls call.now) }
     {
-        let answer = self.take_in_order(copy, call);
+        let answer = self.take_in_order(mode, copy, call);
         if answer.is_err() {
             self.stage = Stage::Refused;
         } else if call.is_last() {
@@ -137,16 +131,16 @@ impl Edit {
         answer
     }
 
-    fn take_in_order(&mut self, copy: &mut Nodes, call: &Call) -> Result<(), EditFault>
-        ensures answers { (mode : Mode) (w0 : WorkingCopy) (calls : List Call) → StandsAfter mode w0 self.old copy.old.entries calls → AnswersCall (refusal md5 mode calls call.now copy.old.entries) result }
-        ensures in_order { (mode : Mode) (w0 : WorkingCopy) (calls : List Call) → StandsAfter mode w0 self.old copy.old.entries calls → WantsInOrder calls call.now result }
-        ensures accepted { OnOk result ((mode : Mode) (w0 : WorkingCopy) (calls : List Call) → StandsAfter mode w0 self.old copy.old.entries calls → TakenInOrder mode w0 self.new copy.new.entries calls call.now) }
-        ensures last { is_last call.now ≡ true → self.old.pending.mode ≡ Update → IfErr result (λ e. e ≢ EditFault.Memory) }
+    fn take_in_order(&mut self, mode: &Mode, copy: &mut Nodes, call: &Call) -> Result<(), EditFault>
+        ensures answers { (w0 : WorkingCopy) (calls : List Call) → StandsAfter mode.now w0 self.old copy.old.entries calls → AnswersCall (refusal md5 mode.now calls call.now copy.old.entries) result }
+        ensures in_order { (w0 : WorkingCopy) (calls : List Call) → StandsAfter mode.now w0 self.old copy.old.entries calls → WantsInOrder calls call.now result }
+        ensures accepted { OnOk result ((w0 : WorkingCopy) (calls : List Call) → StandsAfter mode.now w0 self.old copy.old.entries calls → TakenInOrder mode.now w0 self.new copy.new.entries calls call.now) }
+        ensures last { is_last call.now ≡ true → mode.now ≡ Update → IfErr result (λ e. e ≢ EditFault.Memory) }
         ensures abort { is_abort call.now ≡ true → IfErr result (λ e. e ≢ EditFault.Memory) }
-        ensures refused { OnErr result ((mode : Mode) (w0 : WorkingCopy) (calls : List Call) → StandsAfter mode w0 self.old copy.old.entries calls → copy.new.entries ≡ copy.old.entries) }
-        ensures pools { OnErr result ((mode : Mode) (w0 : WorkingCopy) (calls : List Call) → StandsAfter mode w0 self.old copy.old.entries calls → list_any is_last calls ≡ false → HoldsPools self.new.pending.pools (batons_of self.new.pending) calls call.now) }
+        ensures refused { OnErr result ((w0 : WorkingCopy) (calls : List Call) → StandsAfter mode.now w0 self.old copy.old.entries calls → copy.new.entries ≡ copy.old.entries) }
+        ensures pools { OnErr result ((w0 : WorkingCopy) (calls : List Call) → StandsAfter mode.now w0 self.old copy.old.entries calls → list_any is_last calls ≡ false → HoldsPools self.new.pending.pools (batons_of self.new.pending) calls call.now) }
     {
         self.order.step(call)?;
-        self.pending.apply(copy, call)
+        self.pending.apply(mode, copy, call)
     }
 }

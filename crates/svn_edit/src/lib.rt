@@ -1,13 +1,14 @@
 //! Edits of a working copy's nodes: each editor call takes effect, or is refused and changes nothing (`svn_delta.h`, the receiver).
 //!
-//! [`Edit`] takes the calls of one edit and changes the nodes of a copy (`Nodes` of `svn_nodes`), which it is given with each call. The `Applier`
-//! of `svn_wc` holds an edit beside its copy, and is an `Editor`. [`Pending`] is the part of an edit below the check of the order of calls. Where
-//! calls are known to be in order and none to be refused, it may be used alone: `carry` does what such a call says, and tests little.
+//! [`Edit`] takes the calls of one edit and changes the nodes of a copy (`Nodes` of `svn_nodes`). With each call it is given these, and the mode:
+//! an update, or a switch of the whole copy. The `Applier` of `svn_wc` holds an edit beside its copy and its mode, and is an `Editor`. [`Pending`] is
+//! the part of an edit below the check of the order of calls. Where calls are known to be in order and none to be refused, it may be used alone:
+//! `carry` does what such a call says, and tests little.
 //!
 //! ```
-//! let mut edit = Edit::new(alloc, Mode::Update)?;
-//! edit.call(&mut nodes, &Call::SetTargetRevision { rev: Rev(2) })?;
-//! edit.call(&mut nodes, &Call::OpenRoot { base: Rev(1), token: Token(0) })?;
+//! let mut edit = Edit::new(alloc)?;
+//! edit.call(&Mode::Update, &mut nodes, &Call::SetTargetRevision { rev: Rev(2) })?;
+//! edit.call(&Mode::Update, &mut nodes, &Call::OpenRoot { base: Rev(1), token: Token(0) })?;
 //! assert_eq!(rt; edit.live_pools(), 2);
 //! ```
 //!

@@ -4,13 +4,14 @@ ghost use Rattle.std.specs.Option.{option_copied, option_or};
 ghost use Rattle.svn_types.specs.Names.{Path};
 ghost use Rattle.svn_types.specs.Paths.{parent as directory_of, path_eq};
 ghost use Rattle.svn_types.specs.declared.kind.Kind.TheVariants.{File, Directory};
+ghost use Rattle.svn_editor.specs.declared.mode.Mode.{Mode};
 ghost use Rattle.svn_editor.specs.Steps.{Open, Add};
 ghost use Rattle.svn_model.specs.Nodes.{get_in, is_present, node_path};
 ghost use Rattle.svn_model.specs.declared.base_node.BaseNode.TheVariants.{NotPresent};
 ghost use Rattle.svn_model.specs.Effects.{added_node, joined_path, moved_path};
 ghost use Rattle.svn_model.specs.Answering.{AnswersCall};
 ghost use Rattle.svn_nodes.specs.NodeTests.{open_fault_of, deep_fault, AnswersAs, IsSumOf};
-ghost use Rattle.svn_edit.specs.Applying.{pool_or, pool_of_parent, batons_of, Applied, KeepsEdit, MakesBaton, MakesNode, MovesBy};
+ghost use Rattle.svn_edit.specs.Applying.{pool_or, pool_of_parent, batons_of, Applied, KeepsTarget, MakesBaton, MakesNode, MovesBy};
 ghost use Rattle.svn_edit.specs.declared.baton.Baton.{Baton};
 ghost use Rattle.svn_edit.specs.Opening.{GivesToken};
 ghost use Rattle.svn_edit.specs.Leaving.{KeepsPools};
@@ -70,13 +71,14 @@ impl Pending {
     // it keeps its own: nothing.
     fn moved(
         &self,
+        mode: &Mode,
         copy: &Nodes,
         path: &RelPath,
         parent: Option<&Baton>,
     ) -> Result<Option<RelPath>, EditFault>
-        ensures { MovesBy (moved_path self.now.mode (get_in copy.now.entries) path.now) result }
+        ensures { MovesBy (moved_path mode.now (get_in copy.now.entries) path.now) result }
     {
-        let Mode::SwitchTo(root) = &self.mode else {
+        let Mode::SwitchTo(root) = mode else {
             return Ok(None);
         };
         if path.is_root() {
@@ -109,15 +111,16 @@ impl Pending {
     // TooDeep where the repository path that the node of a path gets when it is opened has over 64 names. It isn't made.
     fn test_moved(
         &self,
+        mode: &Mode,
         copy: &Nodes,
         path: &RelPath,
         parent: Token,
         node: Option<&BaseNode>,
     ) -> Result<(), EditFault>
         requires { option_copied node ≡ get_in copy.now.entries path.now }
-        ensures { let w = get_in copy.now.entries in AnswersCall (deep_fault (moved_path self.now.mode w path.now (node_path (w path.now)))) result }
+        ensures { let w = get_in copy.now.entries in AnswersCall (deep_fault (moved_path mode.now w path.now (node_path (w path.now)))) result }
     {
-        let Mode::SwitchTo(root) = &self.mode else {
+        let Mode::SwitchTo(root) = mode else {
             return paths::test_standing(self.alloc, node);
         };
         if path.is_root() {
@@ -138,7 +141,7 @@ impl Pending {
     ) -> Result<(), EditFault>
         ensures opened { OnOk result (MakesBaton beneath.0 path.now token self.old self.new) }
         ensures base { OnOk result ((b : Baton) → batons_of self.new token ≡ Some b → b.base ≡ base) }
-        ensures keeps { KeepsEdit self.old self.new }
+        ensures keeps { KeepsTarget self.old self.new }
         ensures unchanged { OnErr result (KeepsPools self.old self.new) }
         ensures fault { IfErr result (λ e. e ≡ EditFault.Memory) }
     {
@@ -148,31 +151,33 @@ impl Pending {
 
     pub(crate) fn open_root(
         &mut self,
+        mode: &Mode,
         copy: &mut Nodes,
         base: Rev,
         token: Token,
     ) -> Result<(), EditFault>
-        ensures gives { GivesToken self.old.pools.root [] token (Open Directory base) self.old copy.old.entries result self.new copy.new.entries }
+        ensures gives { GivesToken mode.now self.old.pools.root [] token (Open Directory base) self.old copy.old.entries result self.new copy.new.entries }
         ensures unchanged { OnErr result (KeepsPools self.old self.new) }
     {
         let root = RelPath::root(self.alloc);
-        self.open_directory(copy, &root, base, None, token)
+        self.open_directory(mode, copy, &root, base, None, token)
     }
 
     pub(crate) fn open_directory(
         &mut self,
+        mode: &Mode,
         copy: &mut Nodes,
         path: &RelPath,
         base: Rev,
         parent: Option<Token>,
         token: Token,
     ) -> Result<(), EditFault>
-        ensures gives { GivesToken (pool_of_parent self.old.pools.root (batons_of self.old) parent) path.now token (Open Directory base) self.old copy.old.entries result self.new copy.new.entries }
+        ensures gives { GivesToken mode.now (pool_of_parent self.old.pools.root (batons_of self.old) parent) path.now token (Open Directory base) self.old copy.old.entries result self.new copy.new.entries }
         ensures unchanged { OnErr result (KeepsPools self.old self.new) }
     {
         let parent = self.baton_of(parent);
         let beneath = self.pool_of(parent);
-        let moved = self.moved(copy, path, parent);
+        let moved = self.moved(mode, copy, path, parent);
         let Some(node) = copy.get_mut(path) else {
             return Err(EditFault::NoEntry);
         };
@@ -184,13 +189,14 @@ impl Pending {
 
     pub(crate) fn open_file(
         &mut self,
+        mode: &Mode,
         copy: &Nodes,
         path: &RelPath,
         base: Rev,
         parent: Token,
         token: Token,
     ) -> Result<(), EditFault>
-        ensures gives { GivesToken self.old.pools.root path.now token (Open File base) self.old copy.now.entries result self.new copy.now.entries }
+        ensures gives { GivesToken mode.now self.old.pools.root path.now token (Open File base) self.old copy.now.entries result self.new copy.now.entries }
         ensures unchanged { OnErr result (KeepsPools self.old self.new) }
         ensures base { OnOk result ((b : Baton) → batons_of self.new token ≡ Some b → IsSumOf b.base copy.now.entries path.now) }
     {
@@ -198,7 +204,7 @@ impl Pending {
         if let Some(fault) = nodes::open_file_fault(node, base) {
             return Err(fault);
         }
-        self.test_moved(copy, path, parent, node)?;
+        self.test_moved(mode, copy, path, parent, node)?;
         let root = self.pools.root();
         self.open_at(root, own, token, nodes::kept_sum(node))
     }
@@ -207,7 +213,7 @@ impl Pending {
     pub(crate) fn open_known_file(&mut self, path: &RelPath, token: Token) -> Result<(), EditFault>
         ensures opened { OnOk result (MakesBaton self.old.pools.root path.now token self.old self.new) }
         ensures base { OnOk result ((b : Baton) → batons_of self.new token ≡ Some b → b.base ≡ None) }
-        ensures keeps { KeepsEdit self.old self.new }
+        ensures keeps { KeepsTarget self.old self.new }
         ensures fault { IfErr result (λ e. e ≡ EditFault.Memory) }
     {
         let root = self.pools.root();
@@ -269,7 +275,7 @@ impl Pending {
     ) -> Result<(), EditFault>
         ensures opened { OnOk result (MakesBaton beneath.0 new.opened token self.old self.new) }
         ensures base { OnOk result ((b : Baton) → batons_of self.new token ≡ Some b → b.base ≡ None) }
-        ensures keeps { KeepsEdit self.old self.new }
+        ensures keeps { KeepsTarget self.old self.new }
         ensures unchanged { batons_of self.old token ≡ None → OnErr result (KeepsPools self.old self.new) }
         ensures answers { AnswersCall (if is_present (get_in copy.old.entries new.at) then Some EditFault.EntryExists else None) result }
         ensures copy { OnOk result ((p : Path) → get_in copy.new.entries p ≡ (if path_eq new.at p then Some new.node else get_in copy.old.entries p)) }
@@ -297,7 +303,7 @@ impl Pending {
     ) -> Result<(), EditFault>
         ensures opened { IfOk new (λ n. n.opened ≡ path.now) → OnOk result (MakesBaton beneath.0 path.now token self.old self.new) }
         ensures base { OnOk result ((b : Baton) → batons_of self.new token ≡ Some b → b.base ≡ None) }
-        ensures keeps { KeepsEdit self.old self.new }
+        ensures keeps { KeepsTarget self.old self.new }
         ensures unchanged { batons_of self.old token ≡ None → OnErr result (KeepsPools self.old self.new) }
         ensures applied { (fault : Option EditFault) (node : BaseNode) → MakesNode path.now fault node new → let w = get_in copy.old.entries in Applied (if is_present (w path.now) then Some EditFault.EntryExists else fault) (λ p. if path_eq path.now p then Some node else w p) copy.old.entries result copy.new.entries }
     {
@@ -318,7 +324,7 @@ impl Pending {
         parent: Token,
         token: Token,
     ) -> Result<(), EditFault>
-        ensures gives { GivesToken (pool_or self.old.pools.root (batons_of self.old parent)) path.now token (Add Directory) self.old copy.old.entries result self.new copy.new.entries }
+        ensures gives { (mode : Mode) → GivesToken mode (pool_or self.old.pools.root (batons_of self.old parent)) path.now token (Add Directory) self.old copy.old.entries result self.new copy.new.entries }
         ensures unchanged { batons_of self.old token ≡ None → OnErr result (KeepsPools self.old self.new) }
     {
         let parent = self.batons.get(parent.0);
@@ -334,7 +340,7 @@ impl Pending {
         parent: Token,
         token: Token,
     ) -> Result<(), EditFault>
-        ensures gives { GivesToken self.old.pools.root path.now token (Add File) self.old copy.old.entries result self.new copy.new.entries }
+        ensures gives { (mode : Mode) → GivesToken mode self.old.pools.root path.now token (Add File) self.old copy.old.entries result self.new copy.new.entries }
         ensures unchanged { batons_of self.old token ≡ None → OnErr result (KeepsPools self.old self.new) }
         ensures base { OnOk result ((b : Baton) → batons_of self.new token ≡ Some b → b.base ≡ None) }
     {
@@ -353,7 +359,7 @@ impl Pending {
     ) -> Result<(), EditFault>
         ensures opened { OnOk result (MakesBaton self.old.pools.root path.now token self.old self.new) }
         ensures base { OnOk result ((b : Baton) → batons_of self.new token ≡ Some b → b.base ≡ None) }
-        ensures keeps { KeepsEdit self.old self.new }
+        ensures keeps { KeepsTarget self.old self.new }
         ensures applied { let w = get_in copy.old.entries in Applied (if is_present (w path.now) then Some EditFault.EntryExists else None) (λ p. if path_eq path.now p then Some NotPresent else w p) copy.old.entries result copy.new.entries }
     {
         let root = self.pools.root();

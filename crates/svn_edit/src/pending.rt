@@ -14,7 +14,7 @@ ghost use Rattle.svn_edit.specs.declared.baton.Baton.{Baton};
 ghost use Rattle.svn_model.specs.declared.base_node.BaseNode.{BaseNode};
 ghost use Rattle.svn_model.specs.Nodes.{WorkingCopy, InPathOrder, get_in};
 ghost use Rattle.svn_model.specs.Effects.{is_too_long, step_effect, step_fault};
-ghost use Rattle.svn_edit.specs.Applying.{Applied, KeepsEdit, MakesBaton, BatonNoted, batons_of, path_open};
+ghost use Rattle.svn_edit.specs.Applying.{Applied, KeepsTarget, MakesBaton, BatonNoted, batons_of, path_open};
 ghost use Rattle.svn_edit.specs.Carrying.{CarriedOut, Carries};
 ghost use Rattle.svn_nodes.specs.NodeTests.{IsSumOf};
 ghost use Rattle.svn_edit.specs.Leaving.{KeepsPools, NoteBegan};
@@ -37,8 +37,6 @@ use svn_types::{MAX_SIZE, PropName, RelPath, Rev, Text, impossible};
 #[derive(Drop)]
 pub struct Pending {
     pub(crate) target: Rev,
-    /// Whether it is of an update, or of a switch of the whole copy.
-    pub(crate) mode: Mode,
     pub(crate) pools: PoolTree<Global>,
     // The token that a call in order names has a baton. But the calls so far, from which that follows, are in no field and in no
     // condition of a call, so where a baton is looked up the branch without one stays, and returns Memory.
@@ -75,9 +73,9 @@ fn see_order(copy: &Nodes)
 }
 
 impl Pending {
-    /// One that took no call, of an update or of a switch of the whole copy. The only fault is Memory.
-    pub fn new(alloc: Global, mode: Mode) -> Result<Pending, EditFault>
-        ensures begun { IfOk result (λ e. (nodes : List (Path × BaseNode)) → CarriedOut mode (get_in nodes) e nodes []) }
+    /// One that took no call. The only fault is Memory.
+    pub fn new(alloc: Global) -> Result<Pending, EditFault>
+        ensures begun { IfOk result (λ e. (mode : Mode) (nodes : List (Path × BaseNode)) → CarriedOut mode (get_in nodes) e nodes []) }
         ensures memory { IfErr result (λ e. e ≡ EditFault.Memory) }
     {
         let Ok(pools) = PoolTree::new(alloc) else {
@@ -85,7 +83,6 @@ impl Pending {
         };
         Ok(Pending {
             target: Rev(0),
-            mode,
             pools,
             batons: SerialMap::new(alloc),
             given: None,
@@ -103,11 +100,12 @@ impl Pending {
         }
     }
 
-    /// Applies a call that is known to be in order and not to be refused. It tests no order, and of files only that nothing is where one is added
+    /// Applies a call that is known to be in order and not to be refused, in an update or in a switch of the whole copy: which, is the same at
+    /// each call of an edit. It tests no order, and of files only that nothing is where one is added
     /// and the length of texts. The only fault of such a call is Memory. Of any other call nothing is promised but that a fault leaves the copy as
     /// it was. AbortEdit changes nothing, and has no fault.
-    pub fn carry(&mut self, copy: &mut Nodes, call: &Call) -> Result<(), EditFault>
-        ensures { Carries self.old copy.old.entries call.now result self.new copy.new.entries }
+    pub fn carry(&mut self, mode: &Mode, copy: &mut Nodes, call: &Call) -> Result<(), EditFault>
+        ensures { Carries mode.now self.old copy.old.entries call.now result self.new copy.new.entries }
     {
         see_order(copy);
         match call {
@@ -118,22 +116,27 @@ impl Pending {
             } => self.add_known_file(copy, path, *parent, *token),
             Call::OpenFile { path, token, .. } => self.open_known_file(path, *token),
             Call::ApplyText { token, text, .. } => self.apply_text(copy, *token, &None, text),
-            Call::CloseFile { token, .. } => self.close_file(copy, *token, &None),
+            Call::CloseFile { token, .. } => self.close_file(mode, copy, *token, &None),
             Call::AbortEdit => Ok(()),
-            _ => self.apply(copy, call),
+            _ => self.apply(mode, copy, call),
         }
     }
 
     // Applies a call that is in order.
-    pub(crate) fn apply(&mut self, copy: &mut Nodes, call: &Call) -> Result<(), EditFault>
-        ensures { Takes self.old copy.old.entries call.now result self.new copy.new.entries }
+    pub(crate) fn apply(
+        &mut self,
+        mode: &Mode,
+        copy: &mut Nodes,
+        call: &Call,
+    ) -> Result<(), EditFault>
+        ensures { Takes mode.now self.old copy.old.entries call.now result self.new copy.new.entries }
     {
         match call {
             Call::SetTargetRevision { rev } => {
                 self.target = *rev;
                 Ok(())
             }
-            Call::OpenRoot { base, token } => self.open_root(copy, *base, *token),
+            Call::OpenRoot { base, token } => self.open_root(mode, copy, *base, *token),
             Call::DeleteEntry { path, rev, .. } => self.delete_entry(copy, path, *rev),
             Call::AddDirectory {
                 path,
@@ -145,7 +148,7 @@ impl Pending {
                 parent,
                 base,
                 token,
-            } => self.open_directory(copy, path, *base, Some(*parent), *token),
+            } => self.open_directory(mode, copy, path, *base, Some(*parent), *token),
             Call::CloseDirectory { token } => self.close_directory(copy, *token),
             Call::AddFile {
                 path,
@@ -157,7 +160,7 @@ impl Pending {
                 parent,
                 base,
                 token,
-            } => self.open_file(copy, path, *base, *parent, *token),
+            } => self.open_file(mode, copy, path, *base, *parent, *token),
             Call::ChangeDirProp { token, name, value } => { self.change_prop(*token, name, value) }
             Call::ChangeFileProp { token, name, value } => { self.change_prop(*token, name, value) }
             Call::ApplyText {
@@ -165,8 +168,8 @@ impl Pending {
                 base_md5,
                 text,
             } => self.apply_text(copy, *token, base_md5, text),
-            Call::CloseFile { token, text_md5 } => self.close_file(copy, *token, text_md5),
-            Call::CloseEdit => self.close_edit(copy),
+            Call::CloseFile { token, text_md5 } => self.close_file(mode, copy, *token, text_md5),
+            Call::CloseEdit => self.close_edit(mode, copy),
             Call::AbortEdit => {
                 self.drop_batons();
                 Ok(())
@@ -176,7 +179,7 @@ impl Pending {
 
     // Closes all that is open, and nothing is done for it.
     pub(crate) fn drop_batons(&mut self)
-        ensures keeps { KeepsEdit self.old self.new }
+        ensures keeps { KeepsTarget self.old self.new }
         ensures cleared { IsCleared self.old.pools self.new.pools self.old.pools.root }
     {
         self.batons.clear();
@@ -197,7 +200,7 @@ impl Pending {
     ) -> Result<(), EditFault>
         ensures opened { OnOk result (MakesBaton beneath.0 path token self.old self.new) }
         ensures base { OnOk result ((b : Baton) → batons_of self.new token ≡ Some b → b.base ≡ base) }
-        ensures keeps { KeepsEdit self.old self.new }
+        ensures keeps { KeepsTarget self.old self.new }
         ensures unchanged { OnErr result (KeepsPools self.old self.new) }
         ensures fault { IfErr result (λ e. e ≡ EditFault.Memory) }
     {
@@ -214,7 +217,7 @@ impl Pending {
     }
 
     fn delete_entry(&self, copy: &mut Nodes, path: &RelPath, rev: Rev) -> Result<(), EditFault>
-        ensures { let a = Delete rev in let w = get_in copy.old.entries in Applied (step_fault md5 self.now.mode [] w path.now a) (step_effect self.now.mode self.now.target [] (record { path = path.now; action = a }) w) copy.old.entries result copy.new.entries }
+        ensures { (mode : Mode) → let a = Delete rev in let w = get_in copy.old.entries in Applied (step_fault md5 mode [] w path.now a) (step_effect mode self.now.target [] (record { path = path.now; action = a }) w) copy.old.entries result copy.new.entries }
     {
         if let Some(fault) = nodes::delete_fault(copy.get(path), rev) {
             return Err(fault);
@@ -229,7 +232,7 @@ impl Pending {
         name: &PropName,
         value: &Option<Text>,
     ) -> Result<(), EditFault>
-        ensures keeps { KeepsEdit self.old self.new }
+        ensures keeps { KeepsTarget self.old self.new }
         ensures began { OnErr result ((b : Baton) → batons_of self.old token ≡ Some b → NoteBegan token b (name.now ∷ strings_of_value value.now) self.old self.new) }
         ensures answers { AnswersCall (if is_too_long value.now then Some EditFault.TooLong else None) result }
         ensures noted { OnOk result ((b : Baton) → batons_of self.old token ≡ Some b → BatonNoted token b (note_of_value value.now) (name.now ∷ strings_of_value value.now) self.old.pools (batons_of self.old) self.new.pools (batons_of self.new)) }
@@ -251,7 +254,7 @@ impl Pending {
         base_md5: &Option<Digest>,
         text: &Text,
     ) -> Result<(), EditFault>
-        ensures keeps { KeepsEdit self.old self.new }
+        ensures keeps { KeepsTarget self.old self.new }
         ensures began { OnErr result ((b : Baton) → batons_of self.old token ≡ Some b → NoteBegan token b (text.now ∷ []) self.old self.new) }
         ensures answers { (b : Baton) → batons_of self.old token ≡ Some b → IsSumOf b.base copy.now.entries b.path → AnswersCall (step_fault md5 Update [] (get_in copy.now.entries) b.path (TextOf base_md5.now text.now)) result }
         ensures noted { OnOk result ((b : Baton) → batons_of self.old token ≡ Some b → BatonNoted token b NewText (text.now ∷ []) self.old.pools (batons_of self.old) self.new.pools (batons_of self.new)) }

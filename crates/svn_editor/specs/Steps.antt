@@ -12,14 +12,7 @@ use Rattle.svn_editor.specs.declared.call.Call.{Call}
 use Rattle.svn_editor.specs.declared.call.Call.TheVariants.{SetTargetRevision, OpenRoot, DeleteEntry, AddDirectory, OpenDirectory}
 use Rattle.svn_editor.specs.declared.call.Call.TheVariants.{ChangeDirProp, CloseDirectory, AddFile, OpenFile, ChangeFileProp, ApplyText}
 use Rattle.svn_editor.specs.declared.call.Call.TheVariants.{CloseFile}
-use Rattle.svn_editor.specs.declared.mode.Mode.{Mode}
-use Rattle.svn_editor.specs.declared.mode.Mode.TheVariants.{Update, SwitchTo}
 use Rattle.svn_editor.specs.Calls.{path_of}
-
--- a switch to a path, if there is one, else an update
-abbrev pub mode_at : Option Path → Mode
-mode_at None = Update
-mode_at (Some root) = SwitchTo root
 
 pub data Action : Type 0 where
   Delete : (rev : ℕ) → Action

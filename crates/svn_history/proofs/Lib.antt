@@ -5,6 +5,8 @@ pub mod Stepping
 pub mod Altering
 -- The nodes up to the next revision, one after another.
 pub mod Parts
+-- What is made of a record is never refused as a read fault.
+pub mod Causes
 -- Empty commits, one more.
 pub mod Gaps
 -- A revision that ends, and the next one that begins.

@@ -22,8 +22,8 @@
 //! order (`commit`, `written`), a commit that is refused leaves no byte (`unwritten`), and what is written of a commit loads as the same commit
 //! ([`written_commits_load`]). From the bytes on: what was written of commits one after another is a dump, and loads as the same history, node by
 //! node and line by line ([`written_dumps_load`]); a dump loads as one history, but for the numbers of its nodes ([`dumps_load_as_one`]). Out of
-//! memory, and a reader that fails, may come anywhere. Of a reader whose bytes no contract knows, it is proved what the records do that it gives,
-//! but not which bytes they are.
+//! memory may come anywhere, a read fault only from a reader that failed, or that gave 2^64 - 1 bytes (`read`). Of a reader whose bytes no contract
+//! knows, it is proved what the records do that it gives, but not which bytes they are.
 #![tactic(auto)]
 
 mod delta;

@@ -1,12 +1,13 @@
 //! Histories, loaded revision by revision.
-ghost use Rattle.std.specs.Prelude.{◌≡◌, ◌+◌, ◌<◌, ◌≤◌, ◌⊎◌, length, Some, None, Err, IfOk, IfErr, IfSome, OnOk, OnErr, option_map, codes};
+ghost use Rattle.std.specs.Prelude.{◌≡◌, ◌+◌, ◌<◌, ◌≤◌, length, Some, None, Err, IsSome, IfOk, IfErr, IfSome, OnOk, OnErr, option_map, codes};
 ghost use Rattle.std.specs.Result.{result_err};
 ghost use Rattle.std.specs.Option.{option_copied};
 ghost use Rattle.svn_dump.specs.Headers.{header_value, if_once};
 ghost use Rattle.svn_history.specs.Results.{Fails};
 ghost use Rattle.svn_history.specs.Steps.{IsMade, draft_of, begun};
 ghost use Rattle.svn_history.specs.Loading.{EmptyCommits, LoadsDump};
-ghost use Rattle.svn_dump.specs.Readers.{left_in};
+ghost use Rattle.svn_dump.specs.Counts.{Grows};
+ghost use Rattle.svn_dump.specs.Readers.{left_in, IsUnreadable};
 ghost use Rattle.svn_history.specs.Hearing.{HearsAll};
 ghost use Rattle.svn_history.specs.Parts.{Begins, Ends, LoadsNodes, LoadsPart, LoadsOne, LoadsRest, RefusesNodes, RefusesNext, RefusesPart, RefusesOne, RefusesAll, RefusesRecord, Takes, begin_fault, is_open, loading, may_begin, node_changes};
 
@@ -165,6 +166,8 @@ impl<R: Read + Drop> Loader<R> {
         ensures rev { self.new.rev ≡ self.old.rev }
         ensures limits { self.new.records.limits ≡ self.old.records.limits }
         ensures texts { self.new.records.texts ≡ self.old.records.texts }
+        ensures read { IfErr result (λ e. e ≡ LoadFault.Dump DumpFault.Read → IsUnreadable self.new.records) }
+        ensures grown { IfOk result (λ next. IsSome next → Grows self.old.records.source.taken 1 self.new.records.source.taken) }
     {
         'records: for _ in 0..u64::MAX {
             let Some(what) = self.records.next_record()? else {
@@ -248,6 +251,8 @@ impl<R: Read + Drop> Loader<R> {
         ensures fault { IfErr result (λ e. RefusesPart self.old.records.limits self.old.records.texts (loading R.remaining self.old) e self.new.transaction.history) }
         ensures limits { self.new.records.limits ≡ self.old.records.limits }
         ensures texts { self.new.records.texts ≡ self.old.records.texts }
+        ensures read { IfErr result (λ e. e ≡ LoadFault.Dump DumpFault.Read → IsUnreadable self.new.records) }
+        ensures grown { OnOk result (IsSome self.new.rev → Grows self.old.records.source.taken 1 self.new.records.source.taken) }
     {
         let next = self.load_nodes()?;
         self.end()?;
@@ -260,6 +265,8 @@ impl<R: Read + Drop> Loader<R> {
         ensures fault { IfErr result (λ e. RefusesPart self.old.records.limits self.old.records.texts (loading R.remaining self.old) e self.new.transaction.history) }
         ensures limits { self.new.records.limits ≡ self.old.records.limits }
         ensures texts { self.new.records.texts ≡ self.old.records.texts }
+        ensures read { IfErr result (λ e. e ≡ LoadFault.Dump DumpFault.Read → IsUnreadable self.new.records) }
+        ensures grown { OnOk result (IsSome self.new.rev → Grows self.old.records.source.taken 1 self.new.records.source.taken) }
     {
         let done = self.rev;
         self.load_part()?;
@@ -274,6 +281,8 @@ impl<R: Read + Drop> Loader<R> {
         ensures fault { IfErr result (λ e. RefusesOne self.old.records.limits self.old.records.texts (loading R.remaining self.old) e self.new.transaction.history) }
         ensures limits { self.new.records.limits ≡ self.old.records.limits }
         ensures texts { self.new.records.texts ≡ self.old.records.texts }
+        ensures read { IfErr result (λ e. e ≡ LoadFault.Dump DumpFault.Read → IsUnreadable self.new.records) }
+        ensures grown { OnOk result (IsSome self.new.rev → Grows self.old.records.source.taken 1 self.new.records.source.taken) }
     {
         self.load_part()?;
         if self.rev.is_none() {
@@ -289,6 +298,8 @@ impl<R: Read + Drop> Loader<R> {
         ensures fault { IfErr result (λ e. RefusesOne self.old.records.limits self.old.records.texts (loading R.remaining self.old) e self.new.transaction.history) }
         ensures limits { self.new.records.limits ≡ self.old.records.limits }
         ensures texts { self.new.records.texts ≡ self.old.records.texts }
+        ensures read { IfErr result (λ e. e ≡ LoadFault.Dump DumpFault.Read → IsUnreadable self.new.records) }
+        ensures grown { OnOk result (IsSome self.new.rev → Grows self.old.records.source.taken 1 self.new.records.source.taken) }
     {
         if self.rev.is_none() {
             self.load_first()
@@ -307,6 +318,8 @@ impl<R: Read + Drop> Loader<R> {
         ensures again { IfSome self.old.refused (λ e. (result ≡ Err e) × (self.new ≡ self.old)) }
         ensures limits { self.new.records.limits ≡ self.old.records.limits }
         ensures texts { self.new.records.texts ≡ self.old.records.texts }
+        ensures read { IfErr result (λ e. self.old.refused ≡ None → e ≡ LoadFault.Dump DumpFault.Read → IsUnreadable self.new.records) }
+        ensures grown { OnOk result (IsSome self.new.rev → Grows self.old.records.source.taken 1 self.new.records.source.taken) }
     {
         if let Some(fault) = self.refused {
             return Err(fault);
@@ -331,7 +344,8 @@ impl<R: Read + Drop> Loader<R> {
         ensures dump { OnOk result (self.old.rev ≡ None → draft_of self.old.transaction ≡ begun self.old.transaction.history → LoadsDump self.old.records.limits self.old.records.texts (left_in R.remaining self.old.records) self.old.transaction.history self.new.transaction.history) }
         ensures fault { IfErr result (λ e. self.old.refused ≡ None → RefusesAll self.old.records.limits self.old.records.texts (loading R.remaining self.old) e self.new.transaction.history) }
         ensures again { IfSome self.old.refused (λ e. (result ≡ Err e) × (self.new ≡ self.old)) }
-        ensures refused { IfErr result (λ e. (e ≡ LoadFault.Dump DumpFault.Read) ⊎ (self.new.refused ≡ Some e)) }
+        ensures refused { IfErr result (λ e. self.new.refused ≡ Some e) }
+        ensures read { IfErr result (λ e. self.old.refused ≡ None → e ≡ LoadFault.Dump DumpFault.Read → IsUnreadable self.new.records) }
     {
         self.load_all_with(&mut NoLoadListener)
     }
@@ -346,7 +360,8 @@ impl<R: Read + Drop> Loader<R> {
         ensures again { IfSome self.old.refused (λ e. (result ≡ Err e) × (self.new ≡ self.old) × (listener.new ≡ listener.old)) }
         // it hears of each revision once, in their order
         ensures heard { self.old.refused ≡ None → HearsAll self.old.records.limits self.old.records.texts L.hears result (loading R.remaining self.old) listener.old (loading R.remaining self.new) listener.new }
-        ensures refused { IfErr result (λ e. (e ≡ LoadFault.Dump DumpFault.Read) ⊎ (self.new.refused ≡ Some e)) }
+        ensures refused { IfErr result (λ e. self.new.refused ≡ Some e) }
+        ensures read { IfErr result (λ e. self.old.refused ≡ None → e ≡ LoadFault.Dump DumpFault.Read → IsUnreadable self.new.records) }
     {
         if let Some(fault) = self.refused {
             return Err(fault);
@@ -359,6 +374,7 @@ impl<R: Read + Drop> Loader<R> {
             }
         }
         // no dump has so many revisions
+        self.refused = Some(LoadFault::Dump(DumpFault::Read));
         Err(LoadFault::Dump(DumpFault::Read))
     }
 }

@@ -1,14 +1,14 @@
 //! The end of a link that takes.
-ghost use Rattle.std.specs.Prelude.{◌≡◌, ◌++◌, ◌∷◌, length, ◌≤◌, true, false, []};
+ghost use Rattle.std.specs.Prelude.{◌≡◌, ◌++◌, ◌∷◌, length, ◌≤◌, true, false, [], MatchOption};
 ghost use Rattle.crossbeam_channel.specs.Claims.{view as hand_of, IsSeatAt};
 ghost use Rattle.crossbeam_channel.specs.Ends.{receives_on};
 ghost use Rattle.svn_link.specs.Calls.{is_over};
 ghost use Rattle.svn_link.specs.Queue.{hand, IsTake};
 
-use crate::queue::{Pass, Receiver, Takes, wait_a_little};
-use std::fmt;
+use crate::queue::{LOOKS, Pass, Receiver, Takes};
 use std::marker::Model;
 use std::sync::Wait;
+use std::{fmt, thread};
 use svn_editor::Call;
 
 /// The end of a link that takes calls. Contracts see its link and the list of the calls that it took.
@@ -79,20 +79,37 @@ impl fmt::Debug for Inbox {
     }
 }
 
-// Takes a call by the one pass that may, once there is one.
+// Takes a call by the one pass that may, if there is one at one of a few looks.
+fn pop_soon<R: Wait>(rt: &R, receiver: &Receiver, pass: &mut Pass) -> Option<Call>
+    requires seat { IsSeatAt (receives_on receiver.now) pass.old }
+    requires takes { hand_of pass.old ≡ hand false true [] (hand_of pass.old).taken }
+    ensures seat { IsSeatAt (receives_on receiver.now) pass.new }
+    ensures taken { MatchOption result (hand_of pass.new ≡ hand_of pass.old) (λ call. IsTake (hand_of pass.old) call (hand_of pass.new)) }
+{
+    'look: for _ in 0..LOOKS {
+        if let Ok(call) = receiver.try_recv_as::<Takes, R>(rt, pass) {
+            return Some(call);
+        }
+        thread::yield_now();
+    }
+    None
+}
+
+// Takes a call by the one pass that may.
 fn pop<R: Wait>(rt: &R, receiver: &Receiver, pass: &mut Pass) -> Call
     requires seat { IsSeatAt (receives_on receiver.now) pass.old }
     requires takes { hand_of pass.old ≡ hand false true [] (hand_of pass.old).taken }
     ensures seat { IsSeatAt (receives_on receiver.now) pass.new }
     ensures taken { IsTake (hand_of pass.old) result (hand_of pass.new) }
 {
-    let mut looks = 0;
+    if let Some(call) = pop_soon(rt, receiver, pass) {
+        return call;
+    }
     for _ in rt.forever() {
-        if let Ok(call) = receiver.try_recv_as::<Takes, R>(rt, pass) {
+        if let Ok(call) = receiver.recv_as::<Takes, R>(rt, pass) {
             return call;
         }
-        wait_a_little(rt, looks);
-        looks = looks.saturating_add(1);
+        thread::yield_now();
     }
     unreachable!()
 }

@@ -1,14 +1,14 @@
 //! The end of a link that sends.
-ghost use Rattle.std.specs.Prelude.{◌≡◌, ◌<◌, ◌++◌, ◌∷◌, length, true, false, []};
+ghost use Rattle.std.specs.Prelude.{◌≡◌, ◌<◌, ◌++◌, ◌∷◌, length, true, false, [], MatchResult};
 ghost use Rattle.crossbeam_channel.specs.Claims.{view as hand_of, IsSeatAt};
 ghost use Rattle.crossbeam_channel.specs.Ends.{sends_on};
 ghost use Rattle.svn_link.specs.Calls.{is_over};
 ghost use Rattle.svn_link.specs.Queue.{hand, sent_more};
 
-use crate::queue::{Pass, Sender, Sends, wait_a_little};
-use std::fmt;
+use crate::queue::{LOOKS, Pass, Sender, Sends};
 use std::marker::Model;
 use std::sync::Wait;
+use std::{fmt, thread};
 use svn_editor::Call;
 
 /// The end of a link that sends calls. Contracts see its link and the list of the calls that it sent.
@@ -79,7 +79,25 @@ impl fmt::Debug for Outbox {
     }
 }
 
-// Sends a call by the one pass that may, once there is room for it.
+// Sends a call by the one pass that may, if there is room at one of a few looks.
+fn push_soon<R: Wait>(rt: &R, sender: &Sender, pass: &mut Pass, mut call: Call) -> Result<(), Call>
+    requires seat { IsSeatAt (sends_on sender.now) pass.old }
+    requires sends { hand_of pass.old ≡ hand true false (hand_of pass.old).sent [] }
+    requires room { length (hand_of pass.old).sent < u64.MAX }
+    ensures seat { IsSeatAt (sends_on sender.now) pass.new }
+    ensures sent { MatchResult result (λ _. hand_of pass.new ≡ sent_more (hand_of pass.old) call) (λ back. (back ≡ call) × (hand_of pass.new ≡ hand_of pass.old)) }
+{
+    'look: for _ in 0..LOOKS {
+        match sender.try_send_as::<Sends, R>(rt, pass, call) {
+            Ok(()) => return Ok(()),
+            Err(full) => call = full.into_inner(),
+        }
+        thread::yield_now();
+    }
+    Err(call)
+}
+
+// Sends a call by the one pass that may.
 fn push<R: Wait>(rt: &R, sender: &Sender, pass: &mut Pass, call: Call)
     requires seat { IsSeatAt (sends_on sender.now) pass.old }
     requires sends { hand_of pass.old ≡ hand true false (hand_of pass.old).sent [] }
@@ -87,15 +105,15 @@ fn push<R: Wait>(rt: &R, sender: &Sender, pass: &mut Pass, call: Call)
     ensures seat { IsSeatAt (sends_on sender.now) pass.new }
     ensures sent { hand_of pass.new ≡ sent_more (hand_of pass.old) call }
 {
-    let mut call = call;
-    let mut looks = 0;
+    let Err(mut call) = push_soon(rt, sender, pass, call) else {
+        return;
+    };
     for _ in rt.forever() {
-        match sender.try_send_as::<Sends, R>(rt, pass, call) {
+        match sender.send_as::<Sends, R>(rt, pass, call) {
             Ok(()) => return,
-            Err(full) => call = full.into_inner(),
+            Err(refused) => call = refused.into_inner(),
         }
-        wait_a_little(rt, looks);
-        looks = looks.saturating_add(1);
+        thread::yield_now();
     }
     unreachable!()
 }

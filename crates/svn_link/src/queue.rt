@@ -1,4 +1,4 @@
-//! The rule of the queue, what each of its steps tells the thread that makes it, and how an end waits for the other.
+//! The rule of the queue, what each of its steps tells the thread that makes it, and how long an end looks before it blocks.
 //!
 //! After every step of either thread, what was sent is what was taken and then what the queue holds ([`InOrder`]). Steps are of seven kinds:
 //! making the queue, splitting its pass in two and joining the two ([`Roles`]), a send ([`Sends`]) or one that finds the queue full, a take
@@ -7,10 +7,6 @@
 use crossbeam_channel::protocol::{Join, Lesson, Outcome, Protocol, Split};
 use crossbeam_channel::{RuledReceiver, RuledSender};
 use std::collections::LinkedList;
-use std::sync::Wait;
-use std::thread;
-use std::thread::Parker;
-use std::time::Duration;
 use svn_editor::Call;
 
 /// What a pass may do, and what it has sent and taken. It exists in proofs alone: no value of it is made.
@@ -103,22 +99,6 @@ pub type Receiver = RuledReceiver<Call, Hand, InOrder>;
 /// A value without bytes by which a thread may make steps, and in which proofs keep what it did.
 pub type Pass = crossbeam_channel::Pass<Call, Hand>;
 
-// How often an end looks again, and lets other threads run in between, before it sleeps between two looks. With pauses of the processor first a
-// link by itself was slower at capacity 64.
-const LOOKS: u32 = 256;
-
-// How long it sleeps at first, in microseconds. Each sleep is longer by that, up to so many times that.
-const SLEEP: u64 = 50;
-
-const LONGEST: u32 = 100;
-
-/// Waits a little for the other end, where so many looks came before.
-pub(crate) fn wait_a_little<R: Wait>(rt: &R, looks: u32) {
-    let Some(sleeps) = looks.checked_sub(LOOKS) else {
-        thread::yield_now();
-        return;
-    };
-    // nobody wakes it, so no step of the other end costs a call of the system
-    let long = SLEEP * u64::from(sleeps.min(LONGEST - 1) + 1);
-    Parker::new().park_timeout(rt, Duration::from_micros(long));
-}
+/// How often an end looks again, and lets other threads run in between, before it blocks and is woken. Where both threads run, the other end's next
+/// step comes within these looks, and neither of the two pays for calls of the system.
+pub(crate) const LOOKS: u32 = 256;

@@ -11,7 +11,7 @@ use Rattle.svn_repo.specs.Readings.{row_or_empty, entries_of}
 use Rattle.svn_repo.proofs.Walking.{look-append}
 use Rattle.svn_report.specs.Reports.{ReportView}
 use Rattle.svn_model.specs.Sources.{Reported, reported, reported_from, reported_root, reported_child}
-use Rattle.svn_model.specs.Follow.{Request, Followed, follow, follow_from, follow_root, follow_child}
+use Rattle.svn_model.specs.Follow.{DriveInput, Followed, follow, follow_from, follow_root, follow_child}
 
 -- the entry of a node, where there is a node
 abbrev pub entry_below : History → Option ℕ → Name → Option ℕ
@@ -41,12 +41,12 @@ reported_from-child r s (n ∷ p) name = reported_from-child r (reported_child r
 pub reported-child : (r : ReportView) (p : Path) (name : Name) → reported r (child p name) ≡ reported_child r (reported r p) name
 reported-child r p name = reported_from-child r (reported_root r) p name
 
-follow_from-child : (d : Request) (f : Followed) (p : Path) (name : Name)
+follow_from-child : (d : DriveInput) (f : Followed) (p : Path) (name : Name)
     → follow_from d f (child p name) ≡ follow_child d (follow_from d f p) name
 follow_from-child d f [] name = refl
 follow_from-child d f (n ∷ p) name = follow_from-child d (follow_child d f n) p name
 
-pub follow-child : (d : Request) (p : Path) (name : Name) → follow d (child p name) ≡ follow_child d (follow d p) name
+pub follow-child : (d : DriveInput) (p : Path) (name : Name) → follow d (child p name) ≡ follow_child d (follow d p) name
 follow-child d p name = follow_from-child d (follow_root d) p name
 
 pub reported-path : (r : ReportView) (p : Path) → (reported r p).path ≡ p
@@ -54,10 +54,10 @@ reported-path r =
     path_ind (λ p. (reported r p).path ≡ p) refl
     (λ p name h. ap (λ (s : Reported). s.path) (reported-child r p name) ∙ ap (λ q. child q name) h)
 
-pub follow-here : (d : Request) (p : Path) → (follow d p).here ≡ reported d.report p
+pub follow-here : (d : DriveInput) (p : Path) → (follow d p).here ≡ reported d.report p
 follow-here d = path_ind (λ p. (follow d p).here ≡ reported d.report p) refl
     (λ p name h. ap (λ (f : Followed). f.here) (follow-child d p name) ∙ ap (λ s. reported_child d.report s name) h
     ∙ sym (reported-child d.report p name))
 
-pub parent_is_kept-child : (d : Request) (p : Path) (name : Name) → (follow d (child p name)).parent_is_kept ≡ (follow d p).is_kept
+pub parent_is_kept-child : (d : DriveInput) (p : Path) (name : Name) → (follow d (child p name)).parent_is_kept ≡ (follow d p).is_kept
 parent_is_kept-child d p name = ap (λ (f : Followed). f.parent_is_kept) (follow-child d p name)

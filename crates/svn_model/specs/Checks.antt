@@ -15,7 +15,7 @@ use Rattle.svn_model.specs.declared.report_fault.ReportFault.TheVariants.{NoEntr
 use Rattle.svn_model.specs.declared.drive_fault.DriveFault.{DriveFault}
 use Rattle.svn_model.specs.declared.drive_fault.DriveFault.TheVariants.{NoSuchTarget, NoRoot, OtherRoot}
 use Rattle.svn_model.specs.Sources.{revision_of, is_set_or_link, source_at}
-use Rattle.svn_model.specs.Follow.{Request, source_node, target_node}
+use Rattle.svn_model.specs.Follow.{DriveInput, source_node, target_node}
 
 abbrev pub fault_of : History → ReportView → ℕ → Path → ReportEntry → Option ReportFault
 fault_of h r i p e =
@@ -43,7 +43,7 @@ IsCheckable h r = first_fault h r ≡ None
 -- ---- targets
 
 -- the target revision isn't there, the root of the copy isn't in it, or it is another node there
-abbrev pub target_fault : Request → Option DriveFault
+abbrev pub target_fault : DriveInput → Option DriveFault
 target_fault d =
     if not (nat_lt d.target (length d.history.roots)) then Some NoSuchTarget
     else if is_none (target_node d []) then Some NoRoot

@@ -10,7 +10,7 @@ use Rattle.svn_editor.specs.declared.call.Call.TheVariants.{SetTargetRevision, O
 use Rattle.svn_editor.specs.declared.call.Call.TheVariants.{ChangeDirProp, CloseDirectory, AddFile, OpenFile, ChangeFileProp, ApplyText}
 use Rattle.svn_editor.specs.declared.call.Call.TheVariants.{CloseFile, CloseEdit}
 use Rattle.svn_editor.specs.Steps.{Action, Delete, Open, Add, Change, Text, Close, Step}
-use Rattle.svn_model.specs.Follow.{Request}
+use Rattle.svn_model.specs.Follow.{DriveInput}
 use Rattle.svn_model.specs.Steps.{IsDriveOf}
 
 -- the token of a path, by its place among the paths opened so far
@@ -43,7 +43,7 @@ numbered opened (s ∷ steps) = call_of opened s.path s.action ∷ numbered (ope
 abbrev pub calls_of : ℕ → List Step → List Call
 calls_of target steps = SetTargetRevision target ∷ numbered [] steps ++ (CloseEdit ∷ [])
 
-pub record IsDrive (d : Request) (late : Bool) (calls : List Call) : Type 0 where
+pub record IsDrive (d : DriveInput) (late : Bool) (calls : List Call) : Type 0 where
   pub steps : List Step
   pub of_each_path : IsDriveOf d late steps
   pub numbered_calls : calls ≡ calls_of d.target steps

@@ -12,7 +12,7 @@ use Rattle.svn_editor.specs.declared.mode.Mode.TheVariants.{Update, SwitchTo}
 use Rattle.svn_model.specs.Sources.{Reported, reported_root, reported_child, source}
 
 -- what a drive is asked for, and how texts are summed
-pub record Request : Type 0 where
+pub record DriveInput : Type 0 where
   pub history : History
   pub report : ReportView
   pub target : ℕ
@@ -36,7 +36,7 @@ abbrev pub root_path : Mode → Path → Path
 root_path Update reported = reported
 root_path (SwitchTo root) reported = root
 
-abbrev pub follow_root : Request → Followed
+abbrev pub follow_root : DriveInput → Followed
 follow_root d = record {
   here = reported_root d.report;
   is_kept = true;
@@ -53,27 +53,27 @@ follow_to above here name path kept = record {
   target_path = if kept then path else child above.target_path name;
 }
 
-abbrev pub follow_child : Request → Followed → List ℕ → Followed
+abbrev pub follow_child : DriveInput → Followed → List ℕ → Followed
 follow_child d above name =
     let here = reported_child d.report above.here name in
     let path = candidate d.mode here.repos_path (child above.target_path name) in
     follow_to above here name path (above.is_kept && are_related d.history (source d.history here) (look d.history d.target path))
 
-abbrev pub follow_from : Request → Followed → Path → Followed
+abbrev pub follow_from : DriveInput → Followed → Path → Followed
 follow_from d f [] = f
 follow_from d f (name ∷ p) = follow_from d (follow_child d f name) p
 
-abbrev pub follow : Request → Path → Followed
+abbrev pub follow : DriveInput → Path → Followed
 follow d p = follow_from d (follow_root d) p
 
-abbrev pub target_path : Request → Path → Path
+abbrev pub target_path : DriveInput → Path → Path
 target_path d p = (follow d p).target_path
 
-abbrev pub is_kept : Request → Path → Bool
+abbrev pub is_kept : DriveInput → Path → Bool
 is_kept d p = (follow d p).is_kept
 
-abbrev pub source_node : Request → Path → Option ℕ
+abbrev pub source_node : DriveInput → Path → Option ℕ
 source_node d p = source d.history (follow d p).here
 
-abbrev pub target_node : Request → Path → Option ℕ
+abbrev pub target_node : DriveInput → Path → Option ℕ
 target_node d p = look d.history d.target (target_path d p)

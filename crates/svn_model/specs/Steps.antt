@@ -19,42 +19,42 @@ use Rattle.svn_editor.specs.Calls.{number_eq}
 use Rattle.svn_report.specs.Reports.{has_entry_below}
 use Rattle.svn_editor.specs.Steps.{Action, Delete, Open, Add, Change, Text, Close, Step, steps_at}
 use Rattle.svn_model.specs.Sources.{governing_revision, starts_empty}
-use Rattle.svn_model.specs.Follow.{Request, follow, source_node, target_node}
+use Rattle.svn_model.specs.Follow.{DriveInput, follow, source_node, target_node}
 
 -- ---- classes of paths
 
-abbrev pub starts_empty_at : Request → Path → Bool
+abbrev pub starts_empty_at : DriveInput → Path → Bool
 starts_empty_at d p = starts_empty (follow d p).here.own && is_directory_at d.history (source_node d p)
 
-abbrev pub is_touched : Request → Path → Bool
+abbrev pub is_touched : DriveInput → Path → Bool
 is_touched d p =
     (follow d p).is_kept
     && (is_root p || not (number_eq (source_node d p) (target_node d p)) || starts_empty_at d p || has_entry_below d.report.entries p)
 
 -- not kept, and in the result; the parent is then touched or new
-abbrev pub is_new : Request → Path → Bool
+abbrev pub is_new : DriveInput → Path → Bool
 is_new d p = not (follow d p).is_kept && is_some (target_node d p)
 
-abbrev pub is_gone : Request → Path → Bool
+abbrev pub is_gone : DriveInput → Path → Bool
 is_gone d p = is_some (source_node d p) && not (follow d p).is_kept && (follow d p).parent_is_kept
 
 -- ---- the steps of a path
 
-abbrev pub source_props : Request → Path → Option ℕ → List (List ℕ × List ℕ)
+abbrev pub source_props : DriveInput → Path → Option ℕ → List (List ℕ × List ℕ)
 source_props d p None = []
 source_props d p (Some n) = if starts_empty_at d p then [] else props_of d.history n
 
-abbrev pub source_text : Request → Option ℕ → List ℕ
+abbrev pub source_text : DriveInput → Option ℕ → List ℕ
 source_text d None = []
 source_text d (Some n) = text_of d.history n
 
-abbrev pub gone_actions : Request → Path → List Action
+abbrev pub gone_actions : DriveInput → Path → List Action
 gone_actions d p = if is_gone d p then Delete (governing_revision (follow d p).here) ∷ [] else []
 
-abbrev pub text_actions : Request → List ℕ → List ℕ → List Action
+abbrev pub text_actions : DriveInput → List ℕ → List ℕ → List Action
 text_actions d old new = if bytes_eq old new then [] else Text (Some (d.checksum old)) new ∷ []
 
-abbrev pub touched_actions : Request → Path → ℕ → Kind → List Action
+abbrev pub touched_actions : DriveInput → Path → ℕ → Kind → List Action
 touched_actions d p n Directory =
     Open Directory (governing_revision (follow d p).here)
     ∷ map (Change Directory) (changes_between (source_props d p (source_node d p)) (props_of d.history n))
@@ -65,7 +65,7 @@ touched_actions d p n File =
     ++ text_actions d (source_text d (source_node d p)) (text_of d.history n)
     ++ (Close File (Some (d.checksum (text_of d.history n))) ∷ [])
 
-abbrev pub new_actions : Request → ℕ → Kind → List Action
+abbrev pub new_actions : DriveInput → ℕ → Kind → List Action
 new_actions d n Directory =
     Add Directory ∷ map (Change Directory) (changes_between [] (props_of d.history n)) ++ (Close Directory None ∷ [])
 new_actions d n File =
@@ -73,17 +73,17 @@ new_actions d n File =
     ∷ map (Change File) (changes_between [] (props_of d.history n))
     ++ (Text None (text_of d.history n) ∷ Close File (Some (d.checksum (text_of d.history n))) ∷ [])
 
-abbrev pub entered_actions : Request → Path → Option ℕ → List Action
+abbrev pub entered_actions : DriveInput → Path → Option ℕ → List Action
 entered_actions d p None = []
 entered_actions d p (Some n) =
     if is_touched d p then touched_actions d p n (kind_of d.history n)
     else if is_new d p then new_actions d n (kind_of d.history n)
     else []
 
-abbrev pub path_actions : Request → Path → List Action
+abbrev pub path_actions : DriveInput → Path → List Action
 path_actions d p = gone_actions d p ++ entered_actions d p (target_node d p)
 
-abbrev pub path_steps : Request → Path → List Step
+abbrev pub path_steps : DriveInput → Path → List Step
 path_steps d p = steps_at p (path_actions d p)
 
 -- ---- the order of the steps
@@ -93,7 +93,7 @@ is_text (Text base text) = true
 is_text _ = false
 
 -- the path is a file that gets a text
-abbrev pub has_text : Request → Path → Bool
+abbrev pub has_text : DriveInput → Path → Bool
 has_text d p = list_any is_text (path_actions d p)
 
 -- a name, or the end of a directory, which comes after every name
@@ -108,23 +108,23 @@ mark_cmp End (Named n) = Greater
 mark_cmp End End = Equal
 
 -- A step's key is its path. A directory's close comes at the end of its path. A late text comes after the end of the root.
-abbrev pub key : Request → Bool → Path → Action → List Mark
+abbrev pub key : DriveInput → Bool → Path → Action → List Mark
 key d late p (Close Directory c) = map Named p ++ (End ∷ [])
 key d late p (Close File c) = if late && has_text d p then End ∷ map Named p else map Named p
 key d late p (Text base text) = if late then End ∷ map Named p else map Named p
 key d late p _ = map Named p
 
-abbrev pub key_of : Request → Bool → Step → List Mark
+abbrev pub key_of : DriveInput → Bool → Step → List Mark
 key_of d late s = key d late s.path s.action
 
 -- no step has a smaller key than one before it
-abbrev pub comes_after : Request → Bool → Step → Step → Bool
+abbrev pub comes_after : DriveInput → Bool → Step → Step → Bool
 comes_after d late s t = is_gt (slice_cmp mark_cmp (key_of d late s) (key_of d late t))
 
-abbrev pub InKeyOrder : Request → Bool → List Step → Type 0
+abbrev pub InKeyOrder : DriveInput → Bool → List Step → Type 0
 InKeyOrder d late [] = Unit {0}
 InKeyOrder d late (s ∷ steps) = (list_any (comes_after d late s) steps ≡ false) × InKeyOrder d late steps
 
-pub record IsDriveOf (d : Request) (late : Bool) (steps : List Step) : Type 0 where
+pub record IsDriveOf (d : DriveInput) (late : Bool) (steps : List Step) : Type 0 where
   pub at_each_path : (p : Path) → filter (λ s. path_eq s.path p) steps ≡ path_steps d p
   pub in_order : InKeyOrder d late steps

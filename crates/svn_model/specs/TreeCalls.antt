@@ -12,7 +12,7 @@ use Rattle.svn_editor.specs.declared.call.Call.TheVariants.{SetTargetRevision, O
 use Rattle.svn_editor.specs.declared.call.Call.TheVariants.{ChangeDirProp, CloseDirectory, AddFile, OpenFile, ChangeFileProp, ApplyText}
 use Rattle.svn_editor.specs.declared.call.Call.TheVariants.{CloseFile, CloseEdit}
 use Rattle.svn_editor.specs.Steps.{Action, Delete, Open, Add, Change, Text, Close}
-use Rattle.svn_model.specs.Follow.{Request, target_node}
+use Rattle.svn_model.specs.Follow.{DriveInput, target_node}
 use Rattle.svn_model.specs.Tree.{names_below, is_entered, enters_directory, first_actions, last_actions, late_actions, no_actions}
 
 abbrev pub call_at : Path → ℕ → ℕ → Action → Call
@@ -35,15 +35,15 @@ abbrev pub sizes : (Path → ℕ) → Path → List (List ℕ) → ℕ
 sizes size p [] = 0
 sizes size p (name ∷ names) = size (child p name) + sizes size p names
 
-abbrev pub size_below : Request → (Path → ℕ) → Path → ℕ
+abbrev pub size_below : DriveInput → (Path → ℕ) → Path → ℕ
 size_below d size p = if enters_directory d p then sizes size p (names_below d p) else 0
 
 -- the token of the path itself, where its node in the target is opened or added
-abbrev pub own_size : Request → Path → Option ℕ → ℕ
+abbrev pub own_size : DriveInput → Path → Option ℕ → ℕ
 own_size d p None = 0
 own_size d p (Some n) = if is_entered d p then 1 else 0
 
-abbrev pub tree_size : Request → ℕ → Path → ℕ
+abbrev pub tree_size : DriveInput → ℕ → Path → ℕ
 tree_size d zero p = 0
 tree_size d (suc height) p = own_size d p (target_node d p) + size_below d (tree_size d height) p
 
@@ -52,20 +52,20 @@ abbrev pub in_turn : (Path → ℕ → List Call) → (Path → ℕ) → Path �
 in_turn calls size p next [] = []
 in_turn calls size p next (name ∷ names) = calls (child p name) next ++ in_turn calls size p (next + size (child p name)) names
 
-abbrev pub calls_below : Request → (Path → ℕ → List Call) → (Path → ℕ) → Path → ℕ → List Call
+abbrev pub calls_below : DriveInput → (Path → ℕ → List Call) → (Path → ℕ) → Path → ℕ → List Call
 calls_below d calls size p next = if enters_directory d p then in_turn calls size p next (names_below d p) else []
 
-abbrev pub calls_by : Request → (Path → List Action) → (Path → List Action) → ℕ → Path → ℕ → ℕ → List Call
+abbrev pub calls_by : DriveInput → (Path → List Action) → (Path → List Action) → ℕ → Path → ℕ → ℕ → List Call
 calls_by d front back zero p parent own = []
 calls_by d front back (suc height) p parent own =
     calls_at p parent own (front p)
     ++ (calls_below d (λ q next. calls_by d front back height q own next) (tree_size d height) p (own + 1)
     ++ calls_at p parent own (back p))
 
-abbrev pub tree_calls : Request → Bool → ℕ → Path → ℕ → ℕ → List Call
+abbrev pub tree_calls : DriveInput → Bool → ℕ → Path → ℕ → ℕ → List Call
 tree_calls d late = calls_by d (first_actions d late) (last_actions d)
 
-abbrev pub late_calls : Request → Bool → ℕ → Path → ℕ → ℕ → List Call
+abbrev pub late_calls : DriveInput → Bool → ℕ → Path → ℕ → ℕ → List Call
 late_calls d late = calls_by d (late_actions d late) no_actions
 
 -- ---- by the length of the path
@@ -74,13 +74,13 @@ late_calls d late = calls_by d (late_actions d late) no_actions
 abbrev pub height_at : Path → ℕ
 height_at p = 129 - length p
 
-unfoldable pub visit_size : Request → Path → ℕ
+unfoldable pub visit_size : DriveInput → Path → ℕ
 visit_size d p = tree_size d (height_at p) p
 
-unfoldable pub visit_calls : Request → Bool → Path → ℕ → ℕ → List Call
+unfoldable pub visit_calls : DriveInput → Bool → Path → ℕ → ℕ → List Call
 visit_calls d late p parent own = tree_calls d late (height_at p) p parent own
 
 -- the calls of a whole drive
-unfoldable pub drive_calls : Request → Bool → List Call
+unfoldable pub drive_calls : DriveInput → Bool → List Call
 drive_calls d late =
     SetTargetRevision d.target ∷ (visit_calls d late [] 0 0 ++ (late_calls d late 129 [] 0 0 ++ (CloseEdit ∷ [])))

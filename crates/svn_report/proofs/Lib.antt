@@ -12,3 +12,5 @@ pub mod ReportedNames
 mod Endings
 -- the entries in path order, as they came or sorted
 mod Sorting
+-- clones of entries and of an index
+mod Clones

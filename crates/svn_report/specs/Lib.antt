@@ -4,3 +4,4 @@ pub mod Lines
 pub mod ReportOrder
 pub mod LawfulReports
 pub mod ReportNames
+pub mod SameReports

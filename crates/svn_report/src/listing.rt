@@ -1,5 +1,7 @@
 //! Entries at paths, found by their place, by their path, and by what is above or below a path.
 ghost use Rattle.std.specs.Prelude.{◌≡◌, ◌++◌, ◌∷◌, [], ℕ, length, map, slice_get, ◌<◌, IsTrue, ◌↔◌, OnOk, OnErr, IfOk, IfSome, MatchOption, IsPermutation, is_some, Some, None};
+ghost use Rattle.std.specs.Cmp.{partial_equiv_from_equiv};
+ghost use Rattle.std.specs.Cmp.Lexicographic.{lists_equiv, pointwise};
 ghost use Rattle.std.specs.List.{IsDistinct, list_any};
 ghost use Rattle.std.specs.List.Sorted.{IsStrictlySortedBy};
 ghost use Rattle.std.specs.Map.{keys_of};
@@ -11,6 +13,7 @@ ghost use Rattle.svn_report.specs.Reports.{entry_at, has_entry_below, is_deleted
 ghost use Rattle.svn_report.specs.LawfulReports.{AreLawfulEntries};
 ghost use Rattle.svn_report.specs.ReportNames.{next_name, IsNextName};
 ghost use Rattle.svn_report.specs.ReportOrder.{ComesLast, InPathOrder, IsFirstAfter, IsIndexed, IsKept, IsNextEntry, IsPreviousEntry};
+ghost use Rattle.svn_report.specs.SameReports.{same_entry, same_entry_equiv};
 
 use crate::entry::ReportEntry;
 use crate::in_order::{comes_last, first_after, next_in_order, previous_in_order};
@@ -334,6 +337,28 @@ impl Listing {
                 Err(AllocError)
             }
         }
+    }
+}
+
+impl Clone for Listing {
+    ghost is_clone = { λ listing copy. copy ≡ listing };
+
+    fn clone(&self) -> Result<Listing, AllocError> {
+        Ok(Listing {
+            alloc: self.alloc,
+            entries: self.entries.clone()?,
+            index: self.index.clone()?,
+        })
+    }
+}
+
+impl PartialEq for Listing {
+    ghost eq = { pointwise same_entry };
+
+    ghost laws = { partial_equiv_from_equiv (lists_equiv same_entry_equiv) };
+
+    fn eq(&self, other: &Listing) -> bool {
+        self.entries.as_slice() == other.entries.as_slice()
     }
 }
 

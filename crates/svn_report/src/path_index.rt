@@ -60,6 +60,16 @@ impl PathEnd {
     }
 }
 
+impl Clone for PathEnd {
+    ghost is_clone = { λ end copy. copy ≡ end };
+
+    fn clone(&self) -> Result<PathEnd, AllocError> {
+        Ok(PathEnd {
+            path: self.path.clone()?,
+        })
+    }
+}
+
 impl PartialEq for PathEnd {
     ghost eq = { eq_by_cmp end_cmp };
 
@@ -241,5 +251,16 @@ impl PathIndex {
                 Err(AllocError)
             }
         }
+    }
+}
+
+impl Clone for PathIndex {
+    ghost is_clone = { λ index copy. (q : Path) → contains path_cmp copy q ≡ contains path_cmp index q };
+
+    fn clone(&self) -> Result<PathIndex, AllocError> {
+        Ok(PathIndex {
+            paths: self.paths.clone()?,
+            ends: self.ends.clone()?,
+        })
     }
 }

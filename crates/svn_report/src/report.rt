@@ -1,5 +1,6 @@
 //! Reports of what a client has.
 ghost use Rattle.std.specs.Prelude.{◌≡◌, ◌++◌, ◌∷◌, [], ℕ, length, map, slice_get, IsTrue, ◌↔◌, OnOk, OnErr, IfOk, IsPermutation, Some, None};
+ghost use Rattle.std.specs.Cmp.{partial_equiv_from_equiv};
 ghost use Rattle.std.specs.List.Sorted.{IsStrictlySortedBy};
 ghost use Rattle.std.specs.Map.{keys_of};
 ghost use Rattle.std.specs.Map.Iter.{deref_pair};
@@ -8,6 +9,7 @@ ghost use Rattle.svn_types.specs.Names.{path_cmp};
 ghost use Rattle.svn_report.specs.Reports.{ReportView, entry_at, has_entry_below, reporter_fault, Answers, with_entry};
 ghost use Rattle.svn_report.specs.LawfulReports.{IsReport};
 ghost use Rattle.svn_report.specs.ReportNames.{IsNextName, reported_names, names_after, names_from};
+ghost use Rattle.svn_report.specs.SameReports.{same_report, same_report_equiv};
 ghost use Rattle.svn_report.specs.declared.entry.ReportEntry.TheVariants.{SetPath, LinkPath, DeletePath};
 
 use crate::entry::ReportEntry;
@@ -119,6 +121,33 @@ impl Report {
     {
         self.listing.next_name_below(path, after)
     }
+}
+
+/// The same root and entries. AllocError if an allocation fails.
+impl Clone for Report {
+    ghost is_clone = { λ report copy. copy ≡ report };
+
+    fn clone(&self) -> Result<Report, AllocError> {
+        Ok(Report {
+            root: self.root.clone()?,
+            listing: self.listing.clone()?,
+        })
+    }
+}
+
+/// Reports are equal if they have the same root and the same entries in the same order.
+impl PartialEq for Report {
+    ghost eq = { same_report };
+
+    ghost laws = { partial_equiv_from_equiv same_report_equiv };
+
+    fn eq(&self, other: &Report) -> bool {
+        self.root == other.root && self.listing == other.listing
+    }
+}
+
+impl Eq for Report {
+    ghost laws = { same_report_equiv };
 }
 
 impl<'a> IntoIterator for &'a Report {

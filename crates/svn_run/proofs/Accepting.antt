@@ -47,7 +47,7 @@ accepted_before mode earlier w (d ∷ calls) c h =
 
 -- what is accepted next is applied
 pub accepted_next : (mode : Mode) (w0 : WorkingCopy) (calls : List Call) (edit : Pending) (nodes : Nodes) (c : Call) (new : Pending) (left : Nodes)
-    → Carries edit nodes c (Ok tt) new left → CarriedOut mode w0 edit nodes calls → IsAccepted md5 mode calls (after mode w0 calls) c
+    → Carries mode edit nodes c (Ok tt) new left → CarriedOut mode w0 edit nodes calls → IsAccepted md5 mode calls (after mode w0 calls) c
     → CarriedOut mode w0 new left (calls ++ c ∷ [])
 accepted_next mode w0 calls edit nodes c new left carries carried accepted =
-    carries.carried mode w0 calls carried (accepted nodes carries.order carried.copy)
+    carries.carried w0 calls carried (accepted nodes carries.order carried.copy)

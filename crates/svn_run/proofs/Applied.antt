@@ -67,7 +67,7 @@ module _ (mode : Mode) (w0 : WorkingCopy) where
   -- ---- one call more
 
   accepts : (edit : Pending) (nodes : Nodes) (calls : List Call) (accepted : ℕ) (c : Call) (edit' : Pending) (nodes' : Nodes) (accepted' : ℕ)
-      → Holding mode w0 edit nodes calls None accepted → Carries edit nodes c (Ok tt) edit' nodes'
+      → Holding mode w0 edit nodes calls None accepted → Carries mode edit nodes c (Ok tt) edit' nodes'
       → IsAccepted md5 mode calls (after mode w0 calls) c → accepted' ≡ accepted + 1
       → Holding mode w0 edit' nodes' (calls ++ c ∷ []) None accepted'
   accepts edit nodes calls accepted c edit' nodes' accepted' h carries accept more =
@@ -82,7 +82,7 @@ module _ (mode : Mode) (w0 : WorkingCopy) where
       }
 
   refuses : (edit : Pending) (nodes : Nodes) (calls : List Call) (accepted : ℕ) (c : Call) (fault : EditFault) (edit' : Pending) (nodes' : Nodes)
-      → Holding mode w0 edit nodes calls None accepted → Carries edit nodes c (Err fault) edit' nodes'
+      → Holding mode w0 edit nodes calls None accepted → Carries mode edit nodes c (Err fault) edit' nodes'
       → Holding mode w0 edit' nodes' (calls ++ c ∷ []) (Some (accepted + 1)) accepted
   refuses edit nodes calls accepted c fault edit' nodes' h carries =
       let was = h.counted in
@@ -117,7 +117,7 @@ module _ (mode : Mode) (w0 : WorkingCopy) where
 
   pub holds_next : calls_are_applied_in_turn → (calls : List Call) (c : Call) (number : Option ℕ) (accepted : ℕ) (edit : Pending) (nodes : Nodes)
       (number' : Option ℕ) (accepted' : ℕ) (edit' : Pending) (nodes' : Nodes)
-      → Offered c number accepted edit nodes number' accepted' edit' nodes' → AllAccepted md5 mode w0 (unaborted (calls ++ c ∷ []))
+      → Offered mode c number accepted edit nodes number' accepted' edit' nodes' → AllAccepted md5 mode w0 (unaborted (calls ++ c ∷ []))
       → (AllAccepted md5 mode w0 (unaborted calls) → Holding mode w0 edit nodes (unaborted calls) number accepted)
       → Holding mode w0 edit' nodes' (unaborted (calls ++ c ∷ [])) number' accepted'
   holds_next more calls c number accepted edit nodes number' accepted' edit' nodes' offered accept before =
@@ -127,16 +127,16 @@ module _ (mode : Mode) (w0 : WorkingCopy) where
       subst (λ (y : Option ℕ × ℕ × Pending × Nodes). Holding mode w0 y.2 y.3 (unaborted (calls ++ c ∷ [])) y.0 y.1)
       (λ i. (sym t.same_number i, sym t.same_count i, sym t.same_edit i, sym t.same_nodes i))
       (skips edit nodes calls number accepted c t.why h))
-      (λ (u : Accepted c number accepted edit nodes number' accepted' edit' nodes'
-      ⊎ Refused c number accepted edit nodes number' accepted' edit' nodes').
+      (λ (u : Accepted mode c number accepted edit nodes number' accepted' edit' nodes'
+      ⊎ Refused mode c number accepted edit nodes number' accepted' edit' nodes').
       ⊎_elim
-      (λ (t : Accepted c number accepted edit nodes number' accepted' edit' nodes').
+      (λ (t : Accepted mode c number accepted edit nodes number' accepted' edit' nodes').
       subst (λ (y : List Call × Option ℕ). Holding mode w0 edit' nodes' y.0 y.1 accepted')
       (λ i. (sym (unaborted-inner calls c t.inner) i, sym t.none_told i))
       (accepts edit nodes (unaborted calls) accepted c edit' nodes' accepted'
       (subst (λ n. Holding mode w0 edit nodes (unaborted calls) n accepted) t.untold h) t.carried
       (accepted_last more mode w0 (unaborted calls) c (subst (AllAccepted md5 mode w0) (unaborted-inner calls c t.inner) accept)) t.one_more))
-      (λ (t : Refused c number accepted edit nodes number' accepted' edit' nodes').
+      (λ (t : Refused mode c number accepted edit nodes number' accepted' edit' nodes').
       subst (λ (y : List Call × Option ℕ × ℕ). Holding mode w0 edit' nodes' y.0 y.1 y.2)
       (λ i. (sym (unaborted-inner calls c t.inner) i, sym t.told i, sym t.same_count i))
       (refuses edit nodes (unaborted calls) accepted c t.fault edit' nodes'
@@ -145,16 +145,16 @@ module _ (mode : Mode) (w0 : WorkingCopy) where
       offered
 
 -- at most one more was accepted
-pub within_next : (c : Call) (number : Option ℕ) (accepted : ℕ) (edit : Pending) (nodes : Nodes) (number' : Option ℕ) (accepted' : ℕ)
+pub within_next : (mode : Mode) (c : Call) (number : Option ℕ) (accepted : ℕ) (edit : Pending) (nodes : Nodes) (number' : Option ℕ) (accepted' : ℕ)
     (edit' : Pending) (nodes' : Nodes)
-    → Offered c number accepted edit nodes number' accepted' edit' nodes' → accepted' ≤ accepted + 1
-within_next c number accepted edit nodes number' accepted' edit' nodes' offered =
+    → Offered mode c number accepted edit nodes number' accepted' edit' nodes' → accepted' ≤ accepted + 1
+within_next mode c number accepted edit nodes number' accepted' edit' nodes' offered =
     ⊎_elim
     (λ (t : Skipped c number accepted edit nodes number' accepted' edit' nodes'). let same = t.same_count in omega arith)
-    (λ (u : Accepted c number accepted edit nodes number' accepted' edit' nodes'
-    ⊎ Refused c number accepted edit nodes number' accepted' edit' nodes').
+    (λ (u : Accepted mode c number accepted edit nodes number' accepted' edit' nodes'
+    ⊎ Refused mode c number accepted edit nodes number' accepted' edit' nodes').
     ⊎_elim
-    (λ (t : Accepted c number accepted edit nodes number' accepted' edit' nodes'). let more = t.one_more in omega arith)
-    (λ (t : Refused c number accepted edit nodes number' accepted' edit' nodes'). let same = t.same_count in omega arith)
+    (λ (t : Accepted mode c number accepted edit nodes number' accepted' edit' nodes'). let more = t.one_more in omega arith)
+    (λ (t : Refused mode c number accepted edit nodes number' accepted' edit' nodes'). let same = t.same_count in omega arith)
     u)
     offered

@@ -55,14 +55,16 @@ some_below : (limit : Option ℕ) (made : ℕ) → IsWithin limit made → limit
 some_below None made h ne = tt
 some_below (Some n) made h ne = let le = h n refl in let other : n ≢ made = λ q. ne (ap (λ x. Some x) q) in omega arith
 
-module _ {E : Type 0} (answers : E → Call → Result (Unit {0}) EditFault → E → Type 0) (edit : E → Pending)
+module _ {E : Type 0} (answers : E → Call → Result (Unit {0}) EditFault → E → Type 0) (mode_of : E → Mode) (edit : E → Pending)
     (nodes : E → Nodes) (made accepted : E → ℕ)
     (counts : (e : E) (c : Call) (r : Result (Unit {0}) EditFault) (f : E) → answers e c r f
-    → CountsCall (edit e) (nodes e) (made e) (accepted e) c r (edit f) (nodes f) (made f) (accepted f))
+    → CountsCall (mode_of e) (edit e) (nodes e) (made e) (accepted e) c r (edit f) (nodes f) (made f) (accepted f)
+    × (mode_of f ≡ mode_of e))
     (more : calls_are_applied_in_turn) (mode : Mode) (w0 : WorkingCopy) where
   -- that many calls were made and accepted
   pub record Standing (n : ℕ) (calls : List Call) (e : E) : Type 0 where
     pub carried : CarriedOut mode w0 (edit e) (nodes e) calls
+    pub mode_is : mode_of e ≡ mode
     pub made_is : made e ≡ n
     pub accepted_is : accepted e ≡ n
 
@@ -71,26 +73,26 @@ module _ {E : Type 0} (answers : E → Call → Result (Unit {0}) EditFault → 
 
   -- a call was applied
   abbrev Carried : E → Call → E → Type 0
-  Carried e c f = (is_abort c ≡ false) × Carries (edit e) (nodes e) c (Ok tt) (edit f) (nodes f) × (made f ≡ made e + 1)
+  Carried e c f = (is_abort c ≡ false) × Carries (mode_of e) (edit e) (nodes e) c (Ok tt) (edit f) (nodes f) × (made f ≡ made e + 1)
       × (accepted f ≡ accepted e + 1)
 
   -- or it wasn't
   abbrev Failed : E → Call → EditFault → E → Type 0
-  Failed e c fault f = (is_abort c ≡ false) × Carries (edit e) (nodes e) c (Err fault) (edit f) (nodes f) × (made f ≡ made e + 1)
+  Failed e c fault f = (is_abort c ≡ false) × Carries (mode_of e) (edit e) (nodes e) c (Err fault) (edit f) (nodes f) × (made f ≡ made e + 1)
       × (accepted f ≡ accepted e)
 
   was_carried : (e : E) (c : Call) (f : E) → is_abort c ≡ false → answers e c (Ok tt) f → Carried e c f
   was_carried e c f inner h =
-      ⊎_elim (λ (t : (is_abort c ≡ true) × Same e f). both_ways c inner t.0) (λ (t : Carried e c f). t) (counts e c (Ok tt) f h)
+      ⊎_elim (λ (t : (is_abort c ≡ true) × Same e f). both_ways c inner t.0) (λ (t : Carried e c f). t) (counts e c (Ok tt) f h).0
 
   -- giving up leaves all as it is
   stays : (e f : E) (answer : Result (Unit {0}) EditFault) → answers e AbortEdit answer f → Same e f
   stays e f (Ok done) h =
       ⊎_elim (λ (t : (is_abort AbortEdit ≡ true) × Same e f). t.1) (λ (t : Carried e AbortEdit f). both_ways AbortEdit t.0 refl)
-      (counts e AbortEdit (Ok done) f h)
+      (counts e AbortEdit (Ok done) f h).0
   stays e f (Err fault) h =
       ⊎_elim (λ (t : Same e f). t) (λ (t : Failed e AbortEdit fault f). both_ways AbortEdit t.0 refl)
-      (counts e AbortEdit (Err fault) f h)
+      (counts e AbortEdit (Err fault) f h).0
 
   led : (xs cs : List Call) (n : ℕ) (e f : E) → AllInner xs → AllAcceptedFrom md5 mode cs (after mode w0 cs) xs → Leads answers xs e f
       → Standing n cs e → Standing (n + length xs) (cs ++ xs) f
@@ -98,6 +100,7 @@ module _ {E : Type 0} (answers : E → Call → Result (Unit {0}) EditFault → 
       let same : Standing n cs f = subst (λ x. Standing n cs x) h s in
       record {
         carried = subst (λ l. CarriedOut mode w0 (edit f) (nodes f) l) (sym (append-nil cs)) same.carried;
+        mode_is = same.mode_is;
         made_is = let q = same.made_is in omega arith;
         accepted_is = let q = same.accepted_is in omega arith;
       }
@@ -108,7 +111,9 @@ module _ {E : Type 0} (answers : E → Call → Result (Unit {0}) EditFault → 
       let now_made = c.2 in
       let now_accepted = c.3 in
       let next : Standing (n + 1) (cs ++ x ∷ []) h.0 = record {
-        carried = accepted_next mode w0 cs (edit e) (nodes e) x (edit h.0) (nodes h.0) c.1 s.carried accept.0;
+        carried = accepted_next mode w0 cs (edit e) (nodes e) x (edit h.0) (nodes h.0)
+            (subst (λ (m : Mode). Carries m (edit e) (nodes e) x (Ok tt) (edit h.0) (nodes h.0)) s.mode_is c.1) s.carried accept.0;
+        mode_is = (counts e x (Ok tt) h.0 h.1).1 ∙ s.mode_is;
         made_is = omega arith;
         accepted_is = omega arith;
       } in
@@ -117,6 +122,7 @@ module _ {E : Type 0} (answers : E → Call → Result (Unit {0}) EditFault → 
       let rest_accepted = rest.accepted_is in
       record {
         carried = subst (λ l. CarriedOut mode w0 (edit f) (nodes f) l) (append_assoc cs (x ∷ []) xs) rest.carried;
+        mode_is = rest.mode_is;
         made_is = omega arith;
         accepted_is = omega arith;
       }
@@ -221,7 +227,7 @@ module _ {E : Type 0} (answers : E → Call → Result (Unit {0}) EditFault → 
         } in
         for_memory k (k + 1) f (Refused r.fault) lt (omega arith) (omega arith) (some_below limit k within r.below)
         (given_up k (k + 1) m f answer l h))
-        (counts x r.call (Err r.fault) m r.refused))
+        (counts x r.call (Err r.fault) m r.refused).0)
 
     whole : (n : ℕ) (f : E) → Leads answers drive e f → n ≡ length drive → IsWithin limit n
         → CameInTurn drive mode limit w0 (nodes f) (turn_outcome limit (Ok (AllMade n)) (made f) (accepted f))

@@ -9,7 +9,7 @@ use Rattle.svn_editor.specs.declared.call.Call.TheVariants.{SetTargetRevision, O
 use Rattle.svn_editor.specs.Calls.{is_abort, is_last}
 use Rattle.svn_editor.specs.Steps.{Action, Delete, Open, Add, Change, Text, Close, Step}
 use Rattle.svn_link.specs.Calls.{is_over}
-use Rattle.svn_model.specs.Follow.{Request}
+use Rattle.svn_model.specs.Follow.{DriveInput}
 use Rattle.svn_model.specs.Drive.{token_of, call_of, opened_after, numbered, calls_of, IsDrive}
 use Rattle.svn_run.proofs.Counting.{AllInner}
 
@@ -40,7 +40,7 @@ inner-numbered : (opened : List Path) (steps : List Step) → AllInner (numbered
 inner-numbered opened [] = (refl, tt)
 inner-numbered opened (s ∷ steps) = ((inner opened s.path s.action).unaborted, inner-numbered (opened_after opened s.path s.action) steps)
 
-pub drive_inner : (d : Request) (late : Bool) (calls : List Call) → IsDrive d late calls → AllInner calls
+pub drive_inner : (d : DriveInput) (late : Bool) (calls : List Call) → IsDrive d late calls → AllInner calls
 drive_inner d late calls is = subst AllInner (sym is.numbered_calls) (refl, inner-numbered [] is.steps)
 
 is_over-cons : (c : Call) (calls : List Call) → is_last c ≡ false → is_over calls ≡ false → is_over (c ∷ calls) ≡ false
@@ -63,7 +63,7 @@ open-calls target steps (suc k) lt = is_over-cons (SetTargetRevision target) (ta
     (open-numbered [] steps k (omega arith))
 
 -- a part of a drive isn't over
-pub drive_open : (d : Request) (late : Bool) (calls : List Call) → IsDrive d late calls → (k : ℕ) → k < length calls
+pub drive_open : (d : DriveInput) (late : Bool) (calls : List Call) → IsDrive d late calls → (k : ℕ) → k < length calls
     → is_over (take k calls) ≡ false
 drive_open d late calls is k lt =
     subst (λ l. is_over (take k l) ≡ false) (sym is.numbered_calls)
@@ -75,8 +75,8 @@ over-close (c ∷ []) = refl
 over-close (c ∷ d ∷ calls) = over-close (d ∷ calls)
 
 -- a whole drive is over
-pub drive_closes : (d : Request) (late : Bool) (calls : List Call) → IsDrive d late calls → is_over calls ≡ true
+pub drive_closes : (d : DriveInput) (late : Bool) (calls : List Call) → IsDrive d late calls → is_over calls ≡ true
 drive_closes d late calls is = ap is_over is.numbered_calls ∙ over-close (SetTargetRevision d.target ∷ numbered [] is.steps)
 
-pub drive_some : (d : Request) (late : Bool) (calls : List Call) → IsDrive d late calls → 0 < length calls
+pub drive_some : (d : DriveInput) (late : Bool) (calls : List Call) → IsDrive d late calls → 0 < length calls
 drive_some d late calls is = let long = ap (λ (l : List Call). length l) is.numbered_calls in omega arith

@@ -9,7 +9,7 @@ use Rattle.svn_editor.specs.declared.mode.Mode.TheVariants.{Update, SwitchTo}
 use Rattle.svn_model.specs.Builders.{checkout}
 use Rattle.svn_model.specs.Checks.{target_fault}
 use Rattle.svn_model.specs.Effects.{after}
-use Rattle.svn_model.specs.Follow.{Request as DriveInput, target_path, target_node}
+use Rattle.svn_model.specs.Follow.{DriveInput, target_path, target_node}
 use Rattle.svn_model.specs.Nodes.{WorkingCopy, get_in, base_node, IsWorkingCopy}
 use Rattle.svn_model.specs.Result.{result}
 use Rattle.law_drive.proofs.Classes.{switched_to}

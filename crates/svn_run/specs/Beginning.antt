@@ -34,6 +34,7 @@ fault_at h target to root =
 
 pub record IsBegun (nodes : Nodes) (mode : Mode) (b : Begun) : Type 0 where
   pub report : b.report ≡ crawl nodes
+  pub same_mode : b.carrier.mode.now ≡ mode
   pub same_nodes : b.carrier.copy.nodes.entries ≡ nodes
   pub begun : CarriedOut mode (get_in nodes) b.carrier.pending nodes []
   pub unswitched : b.known.unswitched ≡ true → IsUnswitched (get_in nodes)

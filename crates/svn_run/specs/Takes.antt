@@ -1,5 +1,5 @@
 -- What the caller's thread took, and what its carrier made of it.
---     IsStep t edit nodes u edit' nodes'      one call was taken
+--     IsStep mode t edit nodes u edit' nodes'      one call was taken
 --     IsTaken mode w0 i n u left      all calls were taken, up to the last, and left that copy
 use Rattle.std.specs.Prelude.{◌≡◌, ◌⊎◌, ℕ, ◌+◌, ◌<◌, true, false, not, List, [], ◌∷◌, ◌++◌, length, take, filter, Option, Some, None}
 use Rattle.std.specs.Prelude.{is_some, Ok, Err}
@@ -35,32 +35,32 @@ pub record Skipped (c : Call) (number : Option ℕ) (accepted : ℕ) (edit : Pen
   pub same_edit : edit' ≡ edit
   pub same_nodes : nodes' ≡ nodes
 
-pub record Accepted (c : Call) (number : Option ℕ) (accepted : ℕ) (edit : Pending) (nodes : Nodes) (number' : Option ℕ) (accepted' : ℕ)
+pub record Accepted (mode : Mode) (c : Call) (number : Option ℕ) (accepted : ℕ) (edit : Pending) (nodes : Nodes) (number' : Option ℕ) (accepted' : ℕ)
     (edit' : Pending) (nodes' : Nodes) : Type 0 where
   pub inner : is_abort c ≡ false
   pub untold : number ≡ None
   pub none_told : number' ≡ None
   pub one_more : accepted' ≡ accepted + 1
-  pub carried : Carries edit nodes c (Ok tt) edit' nodes'
+  pub carried : Carries mode edit nodes c (Ok tt) edit' nodes'
 
-pub record Refused (c : Call) (number : Option ℕ) (accepted : ℕ) (edit : Pending) (nodes : Nodes) (number' : Option ℕ) (accepted' : ℕ)
+pub record Refused (mode : Mode) (c : Call) (number : Option ℕ) (accepted : ℕ) (edit : Pending) (nodes : Nodes) (number' : Option ℕ) (accepted' : ℕ)
     (edit' : Pending) (nodes' : Nodes) : Type 0 where
   pub inner : is_abort c ≡ false
   pub untold : number ≡ None
   pub told : number' ≡ Some (accepted + 1)
   pub same_count : accepted' ≡ accepted
   pub fault : EditFault
-  pub refused : Carries edit nodes c (Err fault) edit' nodes'
+  pub refused : Carries mode edit nodes c (Err fault) edit' nodes'
 
-abbrev pub Offered : Call → Option ℕ → ℕ → Pending → Nodes → Option ℕ → ℕ → Pending → Nodes → Type 0
-Offered c n a e w n' a' e' w' = Skipped c n a e w n' a' e' w' ⊎ (Accepted c n a e w n' a' e' w' ⊎ Refused c n a e w n' a' e' w')
+abbrev pub Offered : Mode → Call → Option ℕ → ℕ → Pending → Nodes → Option ℕ → ℕ → Pending → Nodes → Type 0
+Offered m c n a e w n' a' e' w' = Skipped c n a e w n' a' e' w' ⊎ (Accepted m c n a e w n' a' e' w' ⊎ Refused m c n a e w n' a' e' w')
 
-pub record IsStep (t : Taken) (edit : Pending) (nodes : Nodes) (u : Taken) (edit' : Pending) (nodes' : Nodes) : Type 0 where
+pub record IsStep (mode : Mode) (t : Taken) (edit : Pending) (nodes : Nodes) (u : Taken) (edit' : Pending) (nodes' : Nodes) : Type 0 where
   pub call : Call
   pub calls : u.inbox.calls ≡ t.inbox.calls ++ call ∷ []
   pub link : u.inbox.link ≡ t.inbox.link
   pub notice : u.teller.notice ≡ t.teller.notice
-  pub offered : Offered call t.teller.number t.accepted edit nodes u.teller.number u.accepted edit' nodes'
+  pub offered : Offered mode call t.teller.number t.accepted edit nodes u.teller.number u.accepted edit' nodes'
 
 -- that many of the calls were accepted: all where no number was reported, else those before the call of that number
 abbrev pub IsCounted : Option ℕ → ℕ → ℕ → Type 0

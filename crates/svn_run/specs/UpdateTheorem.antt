@@ -16,7 +16,7 @@ use Rattle.svn_model.specs.declared.drive_fault.DriveFault.{DriveFault}
 use Rattle.svn_model.specs.declared.drive_fault.DriveFault.TheVariants.{NoSuchTarget, NoRoot as RootMissing, OtherRoot as RootOther}
 use Rattle.svn_model.specs.Checks.{target_fault}
 use Rattle.svn_model.specs.Crawl.{crawl}
-use Rattle.svn_model.specs.Follow.{Request as DriveInput}
+use Rattle.svn_model.specs.Follow.{DriveInput}
 use Rattle.svn_model.specs.Drive.{IsDrive}
 use Rattle.svn_model.specs.Nodes.{get_in, IsTrueOf, IsWorkingCopy}
 use Rattle.svn_model.specs.Effects.{after}

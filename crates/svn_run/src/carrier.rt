@@ -1,19 +1,20 @@
-//! What takes the calls of a run: an edit, and the nodes of the copy by themselves.
+//! What takes the calls of a run: an edit, and the nodes of the copy by themselves, in the mode of the request.
 ghost use Rattle.std.specs.Prelude.{◌≡◌};
 ghost use Rattle.svn_edit.specs.Carrying.{Carries};
 
 use crate::listener::Listener;
 use std::alloc::Global;
 use svn_edit::Pending;
-use svn_editor::{Call, EditFault};
+use svn_editor::{Call, EditFault, Mode};
 use svn_types::RelPath;
 use svn_wc::LooseCopy;
 
 /// An edit that tests no order, and of files little that would be refused, since a run's calls are in order and none is refused; with the nodes that
 /// it changes.
 #[derive(Drop)]
-pub(crate) struct Carrier {
+pub(crate) struct Carrier<'r> {
     pub(crate) alloc: Global,
+    pub(crate) mode: &'r Mode,
     pub(crate) pending: Pending,
     pub(crate) copy: LooseCopy,
 }
@@ -37,7 +38,7 @@ fn path_of(alloc: Global, pending: &Pending, call: &Call) -> Option<RelPath> {
     }
 }
 
-impl Carrier {
+impl<'r> Carrier<'r> {
     /// Applies a call, and reports it to the listener if it was accepted.
     #[inline(always)]
     pub(crate) fn carry<L: Listener>(
@@ -45,13 +46,14 @@ impl Carrier {
         listener: &mut L,
         call: Call,
     ) -> Result<(), EditFault>
-        ensures { Carries self.old.pending self.old.copy.nodes.entries call result self.new.pending self.new.copy.nodes.entries }
+        ensures carries { Carries self.old.mode.now self.old.pending self.old.copy.nodes.entries call result self.new.pending self.new.copy.nodes.entries }
+        ensures same_mode { self.new.mode ≡ self.old.mode }
     {
         if !listener.is_listening() {
-            return self.pending.carry(&mut self.copy.nodes, &call);
+            return self.pending.carry(self.mode, &mut self.copy.nodes, &call);
         }
         let path = path_of(self.alloc, &self.pending, &call);
-        let answer = self.pending.carry(&mut self.copy.nodes, &call);
+        let answer = self.pending.carry(self.mode, &mut self.copy.nodes, &call);
         if answer.is_ok() {
             listener.accepted(&call, path.as_ref());
         }

@@ -5,18 +5,20 @@ use svn_editor::{Call, EditFault, Editor, OrderFault};
 
 /// A carrier with its listener, and how many calls were made and how many accepted, `AbortEdit` left out.
 #[derive(Drop)]
-pub(crate) struct Counted<'l, L: Listener> {
-    pub(crate) carrier: Carrier,
+pub(crate) struct Counted<'r, 'l, L: Listener> {
+    pub(crate) carrier: Carrier<'r>,
     pub(crate) listener: &'l mut L,
     pub(crate) made: u64,
     pub(crate) accepted: u64,
 }
 
-impl<'l, L: Listener> Editor for Counted<'l, L> {
+impl<'r, 'l, L: Listener> Editor for Counted<'r, 'l, L> {
+    ghost use Rattle.std.specs.Prelude.{◌≡◌};
     ghost use Rattle.svn_run.specs.Counts.{CountsCall};
 
     ghost answers = { λ before call answer after.
-        CountsCall before.carrier.pending before.carrier.copy.nodes.entries before.made before.accepted call answer after.carrier.pending after.carrier.copy.nodes.entries after.made after.accepted };
+        CountsCall before.carrier.mode.now before.carrier.pending before.carrier.copy.nodes.entries before.made before.accepted call answer after.carrier.pending after.carrier.copy.nodes.entries after.made after.accepted
+        × (after.carrier.mode ≡ before.carrier.mode) };
 
     // Inlined, as what makes the call and what takes it: it is then passed on without a copy.
     #[inline(always)]

@@ -152,13 +152,13 @@ fn drive_counted<L: Listener>(
     request: &Request,
     repo: &Repo,
     report: &Report,
-    counted: &mut Counted<'_, L>,
+    counted: &mut Counted<'_, '_, L>,
 ) -> Result<DriveEnd, DriveFault>
     requires target { target_fault (input_of repo.now report.now request.now) ≡ None }
     requires drive { IsDrive (input_of repo.now report.now request.now) request.now.options.late_texts (drive_for repo.now report.now request.now) }
     requires made { counted.old.made ≡ 0 }
     requires accepted { counted.old.accepted ≡ 0 }
-    ensures { (w0 : CopyMap) → CarriedOut request.now.mode w0 counted.old.carrier.pending counted.old.carrier.copy.nodes.entries [] → AllAccepted md5 request.now.mode w0 (drive_for repo.now report.now request.now) → CameInTurn (drive_for repo.now report.now request.now) request.now.mode request.now.options.cancel_after w0 counted.new.carrier.copy.nodes.entries (turn_outcome request.now.options.cancel_after result counted.new.made counted.new.accepted) }
+    ensures { (w0 : CopyMap) → CarriedOut counted.old.carrier.mode.now w0 counted.old.carrier.pending counted.old.carrier.copy.nodes.entries [] → AllAccepted md5 counted.old.carrier.mode.now w0 (drive_for repo.now report.now request.now) → CameInTurn (drive_for repo.now report.now request.now) counted.old.carrier.mode.now request.now.options.cancel_after w0 counted.new.carrier.copy.nodes.entries (turn_outcome request.now.options.cancel_after result counted.new.made counted.new.accepted) }
 {
     laws();
     drive_tested(alloc, repo, report, request, counted)

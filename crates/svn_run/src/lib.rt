@@ -15,12 +15,13 @@
 //!
 //! Files: `in_turn` and `in_threads` have the runs. Each is a drive between the two halves of `whole`. `begin` crawls the copy and takes its nodes
 //! out of it, until the run ends; a copy with only a root takes its place meanwhile. `end` makes a copy of the nodes again, with what is known of
-//! them. Before that a run tests whether the target can be reached, by the revision and the path of a switch, so that this is known before memory
-//! is asked for. The calls go to a `carrier`: the `Pending` of `svn_edit`, which tests no order of calls, and of files little that the copy
-//! would refuse (by the laws of `law_update` there is nothing to find), and the nodes. The carrier reports each call to the `listener`. On one thread the
-//! driver's editor is the carrier with two counts (`counted`). On two, `two_threads` opens a scope and starts the driver (`driving`), whose editor
-//! (`sender`) checks the notice, calls the `gate` and sends; the caller's side (`taking`) takes each call, calls the gate and applies it. After a
-//! refusal it reports the number once, and only takes the rest. `finish` joins link and notice and makes the `outcome`. `laws` calls the laws.
+//! them. Before that a run tests whether the target can be reached, by the revision and the path of a switch, so that this is known before memory is
+//! asked for. The calls go to a `carrier`: the `Pending` of `svn_edit`, which tests no order of calls, and of files little that the copy would refuse
+//! (by the laws of `law_update` there is nothing to find), the nodes, and the mode of the request. The carrier reports each call to the `listener`.
+//! On one thread the driver's editor is the carrier with two counts (`counted`). On two, `two_threads` opens a scope and starts the driver
+//! (`driving`), whose editor (`sender`) checks the notice, calls the `gate` and sends; the caller's side (`taking`) takes each call, calls the gate
+//! and applies it. After a refusal it reports the number once, and only takes the rest. `finish` joins link and notice and makes the `outcome`.
+//! `laws` calls the laws.
 //!
 //! To change what the runs promise, begin with `specs/UpdateTheorem.antt`.
 //!

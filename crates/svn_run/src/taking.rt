@@ -1,7 +1,6 @@
 //! The caller's side of a run.
 ghost use Rattle.std.specs.Prelude.{◌≡◌, ◌≤◌, [], None, length, false};
 ghost use Rattle.svn_edit.specs.Carrying.{CarriedOut};
-ghost use Rattle.svn_editor.specs.declared.mode.Mode.{Mode};
 ghost use Rattle.svn_link.specs.Calls.{is_over};
 ghost use Rattle.svn_model.specs.Nodes.{WorkingCopy as CopyMap};
 ghost use Rattle.svn_run.specs.Takes.{IsStep, IsTaken};
@@ -28,11 +27,11 @@ pub(crate) fn take_all<R: Wait, G: Gate, L: Listener>(
     listener: &mut L,
     inbox: Inbox,
     teller: Teller,
-    carrier: &mut Carrier,
+    carrier: &mut Carrier<'_>,
 ) -> Taken
     requires calls { inbox.calls ≡ [] }
     requires told { teller.number ≡ None }
-    ensures { (mode : Mode) (w0 : CopyMap) → CarriedOut mode w0 carrier.old.pending carrier.old.copy.nodes.entries [] → IsTaken mode w0 inbox teller result carrier.new.copy.nodes.entries }
+    ensures { (w0 : CopyMap) → CarriedOut carrier.old.mode.now w0 carrier.old.pending carrier.old.copy.nodes.entries [] → IsTaken carrier.old.mode.now w0 inbox teller result carrier.new.copy.nodes.entries }
 {
     laws();
     let mut taken = Taken {
@@ -55,11 +54,12 @@ fn take_one<R: Wait, G: Gate, L: Listener>(
     gate: &G,
     listener: &mut L,
     taken: &mut Taken,
-    carrier: &mut Carrier,
+    carrier: &mut Carrier<'_>,
 )
     requires more { is_over taken.old.inbox.calls ≡ false }
     requires counted { taken.old.accepted ≤ length taken.old.inbox.calls }
-    ensures { IsStep taken.old carrier.old.pending carrier.old.copy.nodes.entries taken.new carrier.new.pending carrier.new.copy.nodes.entries }
+    ensures same_mode { carrier.new.mode ≡ carrier.old.mode }
+    ensures step { IsStep carrier.old.mode.now taken.old carrier.old.pending carrier.old.copy.nodes.entries taken.new carrier.new.pending carrier.new.copy.nodes.entries }
 {
     let call = taken.inbox.take(rt);
     gate.after_take(taken.inbox.taken());

@@ -34,33 +34,33 @@ pub(crate) struct Ends {
 
 /// What both threads have after the last call.
 #[derive(Drop)]
-pub(crate) struct Both {
+pub(crate) struct Both<'r> {
     pub(crate) driven: Driven,
     pub(crate) taken: Taken,
-    pub(crate) carrier: Carrier,
+    pub(crate) carrier: Carrier<'r>,
 }
 
 /// Drives in a thread of its own, and applies the calls in this one. Where no thread can be made it returns the carrier, as it was.
-pub(crate) fn run_both<R: Threads + Wait + Sync, G: Gate, L: Listener>(
+pub(crate) fn run_both<'r, R: Threads + Wait + Sync, G: Gate, L: Listener>(
     rt: &R,
     gate: &G,
     alloc: Global,
     listener: &mut L,
-    request: &Request,
+    request: &'r Request,
     repo: &Repo,
     report: &Report,
     ends: Ends,
-    carrier: Carrier,
-) -> Result<Both, Carrier>
+    carrier: Carrier<'r>,
+) -> Result<Both<'r>, Carrier<'r>>
     requires sent { ends.outbox.calls ≡ [] }
     requires taken { ends.inbox.calls ≡ [] }
     requires told { ends.teller.number ≡ None }
     requires target { target_fault (input_of repo.now report.now request.now) ≡ None }
     requires drive { IsDrive (input_of repo.now report.now request.now) request.now.options.late_texts (drive_for repo.now report.now request.now) }
-    requires begun { CarriedOut request.now.mode (get_in carrier.copy.nodes.entries) carrier.pending carrier.copy.nodes.entries [] }
+    requires begun { CarriedOut carrier.mode.now (get_in carrier.copy.nodes.entries) carrier.pending carrier.copy.nodes.entries [] }
     ensures { MatchResult result
-        (λ b. IsDriven (drive_for repo.now report.now request.now) request.now.options.cancel_after ends.outbox ends.watcher b.driven × IsTaken request.now.mode (get_in carrier.copy.nodes.entries) ends.inbox ends.teller b.taken b.carrier.copy.nodes.entries)
-        (λ c. c.copy.nodes.entries ≡ carrier.copy.nodes.entries) }
+        (λ b. IsDriven (drive_for repo.now report.now request.now) request.now.options.cancel_after ends.outbox ends.watcher b.driven × IsTaken carrier.entry.mode.now (get_in carrier.entry.copy.nodes.entries) ends.inbox ends.teller b.taken b.carrier.copy.nodes.entries)
+        (λ c. c.copy.nodes.entries ≡ carrier.entry.copy.nodes.entries) }
 {
     let Ends {
         outbox,
@@ -72,10 +72,10 @@ pub(crate) fn run_both<R: Threads + Wait + Sync, G: Gate, L: Listener>(
         thread::scope_env(),
         rt,
         move |scope| -> (&mut L, Result<Both, Carrier>)
-            requires { (outbox.calls ≡ []) × (inbox.calls ≡ []) × (teller.number ≡ None) × (target_fault (input_of repo.now report.now request.now) ≡ None) × IsDrive (input_of repo.now report.now request.now) request.now.options.late_texts (drive_for repo.now report.now request.now) × CarriedOut request.now.mode (get_in carrier.copy.nodes.entries) carrier.pending carrier.copy.nodes.entries [] }
+            requires { (outbox.calls ≡ []) × (inbox.calls ≡ []) × (teller.number ≡ None) × (target_fault (input_of repo.now report.now request.now) ≡ None) × IsDrive (input_of repo.now report.now request.now) request.now.options.late_texts (drive_for repo.now report.now request.now) × CarriedOut carrier.mode.now (get_in carrier.copy.nodes.entries) carrier.pending carrier.copy.nodes.entries [] }
             ensures { MatchResult result.1
-                (λ b. IsDriven (drive_for repo.entry.now report.entry.now request.entry.now) request.entry.now.options.cancel_after outbox watcher b.driven × IsTaken request.entry.now.mode (get_in carrier.copy.nodes.entries) inbox teller b.taken b.carrier.copy.nodes.entries)
-                (λ c. c.copy.nodes.entries ≡ carrier.copy.nodes.entries) }
+                (λ b. IsDriven (drive_for repo.entry.now report.entry.now request.entry.now) request.entry.now.options.cancel_after outbox watcher b.driven × IsTaken carrier.entry.mode.now (get_in carrier.entry.copy.nodes.entries) inbox teller b.taken b.carrier.copy.nodes.entries)
+                (λ c. c.copy.nodes.entries ≡ carrier.entry.copy.nodes.entries) }
         {
             let promise = Drives {
                 request: Snapshot::of(request),

@@ -23,9 +23,9 @@ use svn_wc::{BaseNode, Known, LooseCopy, WorkingCopy};
 
 /// A run before its first call: what the copy reports, an edit with the copy's nodes, and what the copy knew of them.
 #[derive(Drop)]
-pub(crate) struct Begun {
+pub(crate) struct Begun<'r> {
     pub(crate) report: Report,
-    pub(crate) carrier: Carrier,
+    pub(crate) carrier: Carrier<'r>,
     pub(crate) known: Known,
 }
 
@@ -99,16 +99,6 @@ pub(crate) fn switch_mode(to: &RelPath) -> Result<Mode, RunFault>
     }
 }
 
-// A clone of a mode. The only fault is Memory.
-fn clone_of(mode: &Mode) -> Result<Mode, RunFault>
-    ensures { IfOk result (λ m. m ≡ mode.now) }
-{
-    match mode {
-        Mode::Update => Ok(Mode::Update),
-        Mode::SwitchTo(to) => switch_mode(to),
-    }
-}
-
 // A copy that has no node but its root. The only fault is Memory.
 fn spare_copy(alloc: Global) -> Result<WorkingCopy, RunFault>
     ensures { IfErr result (λ e. e ≡ RunFault.Memory) }
@@ -131,11 +121,11 @@ fn spare_copy(alloc: Global) -> Result<WorkingCopy, RunFault>
 
 /// Begins a run: the copy is crawled, and its nodes are taken out of it, for the calls to change. Until the run ends, a copy of a root alone is in
 /// its place. The only fault is Memory, after which the copy is as it was.
-pub(crate) fn begin(
+pub(crate) fn begin<'r>(
     alloc: Global,
     copy: &mut WorkingCopy,
-    request: &Request,
-) -> Result<Begun, RunFault>
+    request: &'r Request,
+) -> Result<Begun<'r>, RunFault>
     ensures begun { IfOk result (λ b. IsBegun copy.old request.now.mode b) }
     ensures memory { IfErr result (λ e. e ≡ RunFault.Memory) }
     ensures unchanged { OnErr result (copy.new ≡ copy.old) }
@@ -143,10 +133,7 @@ pub(crate) fn begin(
     let Ok(report) = copy.crawl_and_learn(alloc) else {
         return Err(RunFault::Memory);
     };
-    let Ok(mode) = clone_of(&request.mode) else {
-        return Err(RunFault::Memory);
-    };
-    let Ok(pending) = Pending::new(alloc, mode) else {
+    let Ok(pending) = Pending::new(alloc) else {
         return Err(RunFault::Memory);
     };
     let Ok(spare) = spare_copy(alloc) else {
@@ -155,6 +142,7 @@ pub(crate) fn begin(
     let (loose, known) = mem::replace(copy, spare).loosen();
     let carrier = Carrier {
         alloc,
+        mode: &request.mode,
         pending,
         copy: loose,
     };

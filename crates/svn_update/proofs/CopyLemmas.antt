@@ -4,7 +4,7 @@ use Rattle.std.specs.Prelude.{IfErr, OnOk, OnErr}
 use Rattle.svn_types.specs.Names.{Path}
 use Rattle.svn_repo.specs.History.{History}
 use Rattle.svn_model.specs.declared.wc_fault.WcFault.{WcFault}
-use Rattle.svn_model.specs.Follow.{Request as DriveInput}
+use Rattle.svn_model.specs.Follow.{DriveInput}
 use Rattle.svn_model.specs.Nodes.{WorkingCopy, get_in, InPathOrder, IsTrueOf}
 use Rattle.svn_run.specs.declared.outcome.Outcome.{Outcome}
 use Rattle.svn_run.specs.declared.outcome.RunFault.{RunFault}

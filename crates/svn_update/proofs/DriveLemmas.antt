@@ -18,7 +18,7 @@ use Rattle.svn_model.specs.declared.drive_fault.DriveFault.{DriveFault}
 use Rattle.svn_model.specs.Checks.{target_fault}
 use Rattle.svn_model.specs.Drive.{IsDrive}
 use Rattle.svn_model.specs.Ends.{Drives, LeavesSome, Halts, IsEarly, end_of}
-use Rattle.svn_model.specs.Follow.{Request}
+use Rattle.svn_model.specs.Follow.{DriveInput}
 use Rattle.svn_model.specs.TreeCalls.{drive_calls}
 use Rattle.svn_update.specs.declared.answer.Refusal.TheVariants.{Drive as DriveRefused}
 use Rattle.svn_update.specs.declared.answer.Answer.TheVariants.{Driven, Refused}
@@ -33,11 +33,11 @@ all_recorded [] e f h = sym h ∙ sym (append-nil e)
 all_recorded (c ∷ calls) e f h = all_recorded calls h.0 f h.2 ∙ ap (λ (l : List Call). l ++ calls) h.1 ∙ append_assoc e (c ∷ []) calls
 
 -- what is returned for a stop after that many calls
-abbrev pub IsStopAnswer : Request → Bool → List Call → Result DriveEnd DriveFault → Type 0
+abbrev pub IsStopAnswer : DriveInput → Bool → List Call → Result DriveEnd DriveFault → Type 0
 IsStopAnswer d late calls (Ok end) = ⊥
 IsStopAnswer d late calls (Err e) = IsDriveWant d late e
 
-stop_here : (d : Request) (late : Bool) (all rest e m : List Call) (made : ℕ) (s : Stop) → IsDrive d late all
+stop_here : (d : DriveInput) (late : Bool) (all rest e m : List Call) (made : ℕ) (s : Stop) → IsDrive d late all
     → LeavesSome s made (length all) → Halts records None zero rest e m made s → IsStopAnswer d late all (end_of s made)
 stop_here d late all [] e m made s is some h = subst (λ (t : Stop). IsStopAnswer d late all (end_of t made)) (sym h.1) tt
 stop_here d late all (c ∷ rest) e m made stop.Cancelled is some (inl h) = let no = h.1 in cc
@@ -47,28 +47,28 @@ stop_here d late all (c ∷ rest) e m made (stop.Editor fault) is some (inl h) =
 stop_here d late all (c ∷ rest) e m made s is some (inr h) =
     subst (λ (t : Stop). IsStopAnswer d late all (end_of t made)) (sym h.2) h.1.0
 
-stops : (d : Request) (late : Bool) (all : List Call) (k : ℕ) (calls e m : List Call) (made : ℕ) (s : Stop) → IsDrive d late all
+stops : (d : DriveInput) (late : Bool) (all : List Call) (k : ℕ) (calls e m : List Call) (made : ℕ) (s : Stop) → IsDrive d late all
     → LeavesSome s made (length all) → Halts records None k calls e m made s → IsStopAnswer d late all (end_of s made)
 stops d late all zero calls e m made s is some h = stop_here d late all calls e m made s is some h
 stops d late all (suc k) [] e m made s is some h = absurd h
 stops d late all (suc k) (c ∷ calls) e m made s is some h = stops d late all k calls h.0 m made s is some h.2
 
 -- what a drive into it returns
-abbrev pub AnswersRecorded : Request → Bool → List Call → Result DriveEnd DriveFault → Type 0
+abbrev pub AnswersRecorded : DriveInput → Bool → List Call → Result DriveEnd DriveFault → Type 0
 AnswersRecorded d late f (Ok end) = IsRecorded d late (Driven f)
 AnswersRecorded d late f (Err e) = IsRecorded d late (Refused (DriveRefused e))
 
-early : (d : Request) (late : Bool) (f : List Call) (answer : Result DriveEnd DriveFault) → IsEarly (target_fault d) answer
+early : (d : DriveInput) (late : Bool) (f : List Call) (answer : Result DriveEnd DriveFault) → IsEarly (target_fault d) answer
     → AnswersRecorded d late f answer
 early d late f (Ok end) h = absurd h
 early d late f (Err e) h = inl h
 
-stopped : (d : Request) (late : Bool) (f calls : List Call) (answer : Result DriveEnd DriveFault) → IsStopAnswer d late calls answer
+stopped : (d : DriveInput) (late : Bool) (f calls : List Call) (answer : Result DriveEnd DriveFault) → IsStopAnswer d late calls answer
     → AnswersRecorded d late f answer
 stopped d late f calls (Ok end) h = absurd h
 stopped d late f calls (Err e) h = inr h
 
-recorded : (d : Request) (late : Bool) (calls f : List Call) (answer : Result DriveEnd DriveFault)
+recorded : (d : DriveInput) (late : Bool) (calls f : List Call) (answer : Result DriveEnd DriveFault)
     → (target_fault d ≡ None → IsDrive d late calls) → Drives records None (target_fault d) calls answer [] f
     → AnswersRecorded d late f answer
 recorded d late calls f answer is (inl h) = early d late f answer h.1

@@ -19,7 +19,7 @@ use Rattle.svn_model.specs.Crawl.{crawl}
 use Rattle.svn_model.specs.Drive.{IsDrive}
 use Rattle.svn_model.specs.Effects.{joined_path}
 use Rattle.svn_model.specs.Ends.{call_limit}
-use Rattle.svn_model.specs.Follow.{Request}
+use Rattle.svn_model.specs.Follow.{DriveInput}
 use Rattle.svn_model.specs.Nodes.{WorkingCopy, get_in, InPathOrder, IsTrueOf}
 use Rattle.svn_model.specs.Refusals.{checkout_fault, place_fault, switch_fault, forget_fault}
 use Rattle.svn_wc.specs.Building.{Refuses}
@@ -96,20 +96,20 @@ AnswersReport w (Refused (CopyRefused e)) = e ≡ CopyMemory
 AnswersReport w _ = ⊥
 
 -- what may run out in making and recording a drive: memory, or numbers for its calls
-abbrev pub IsDriveWant : Request → Bool → DriveFault → Type 0
+abbrev pub IsDriveWant : DriveInput → Bool → DriveFault → Type 0
 IsDriveWant d late DriveMemory = Unit {0}
 IsDriveWant d late (EditorRefused fault) = fault ≡ EditMemory
 IsDriveWant d late DriveFull = (calls : List Call) × IsDrive d late calls × (call_limit + 1 < length calls)
 IsDriveWant d late _ = ⊥
 
 -- the result of a drive: its calls, or why it wasn't made
-abbrev pub IsRecorded : Request → Bool → Answer → Type 0
+abbrev pub IsRecorded : DriveInput → Bool → Answer → Type 0
 IsRecorded d late (Refused (DriveRefused e)) = (target_fault d ≡ Some e) ⊎ IsDriveWant d late e
 IsRecorded d late (Driven calls) = (target_fault d ≡ None) × IsDrive d late calls
 IsRecorded d late _ = ⊥
 
 -- the drive of what the copy reports, which is true of the repository
-abbrev pub AnswersDrive : History → Nodes → Request → Bool → Answer → Type 0
+abbrev pub AnswersDrive : History → Nodes → DriveInput → Bool → Answer → Type 0
 AnswersDrive h w d late (Refused (CopyRefused e)) = IsTrueOf h (get_in w) × (e ≡ CopyMemory)
 AnswersDrive h w d late (Refused (DriveRefused e)) = IsTrueOf h (get_in w) × ((target_fault d ≡ Some e) ⊎ IsDriveWant d late e)
 AnswersDrive h w d late (Driven calls) = IsTrueOf h (get_in w) × (target_fault d ≡ None) × IsDrive d late calls

@@ -50,10 +50,9 @@ IsWorkingCopy-prop w a b i = record {
 
 -- ---- no call yet
 
-pub begun_in_shape : (was_level : Bool) (edit : Edit) (nodes : List (Path × BaseNode)) → (was_level ≡ true → IsLevel (get_in nodes))
-    → (mode : Mode) → StandsAfter mode (get_in nodes) edit nodes [] → IsWorkingCopy (get_in nodes) → IsInShape was_level edit nodes
-begun_in_shape was_level edit nodes level mode begun shape going = record {
-  mode = mode;
+pub begun_in_shape : (mode : Mode) (was_level : Bool) (edit : Edit) (nodes : List (Path × BaseNode)) → (was_level ≡ true → IsLevel (get_in nodes))
+    → StandsAfter mode (get_in nodes) edit nodes [] → IsWorkingCopy (get_in nodes) → IsInShape mode was_level edit nodes
+begun_in_shape mode was_level edit nodes level begun shape going = record {
   start = get_in nodes;
   calls = [];
   stands = begun;
@@ -64,25 +63,25 @@ begun_in_shape was_level edit nodes level mode begun shape going = record {
 -- ---- one call
 
 -- what an edit's call says, of the nodes within a copy
-pub taken : (answer : Result (Unit {0}) EditFault) (old new : Edit) (m m' : BTreeMap Path BaseNode) (c : Call) → OpensNamed c
-    → ((mode : Mode) (w0 : WorkingCopy) (calls : List Call) → StandsAfter mode w0 old m.entries calls
+pub taken : (mode : Mode) (answer : Result (Unit {0}) EditFault) (old new : Edit) (m m' : BTreeMap Path BaseNode) (c : Call) → OpensNamed c
+    → ((w0 : WorkingCopy) (calls : List Call) → StandsAfter mode w0 old m.entries calls
     → AnswersCall (refusal md5 mode calls c m.entries) answer)
-    → ((mode : Mode) (w0 : WorkingCopy) (calls : List Call) → StandsAfter mode w0 old m.entries calls → WantsInOrder calls c answer)
-    → OnOk answer ((mode : Mode) (w0 : WorkingCopy) (calls : List Call) → StandsAfter mode w0 old m.entries calls
+    → ((w0 : WorkingCopy) (calls : List Call) → StandsAfter mode w0 old m.entries calls → WantsInOrder calls c answer)
+    → OnOk answer ((w0 : WorkingCopy) (calls : List Call) → StandsAfter mode w0 old m.entries calls
     → StandsAfter mode w0 new m'.entries (calls ++ c ∷ []))
-    → OnErr answer ((mode : Mode) (w0 : WorkingCopy) (calls : List Call) → StandsAfter mode w0 old m.entries calls → m'.entries ≡ m.entries)
+    → OnErr answer ((w0 : WorkingCopy) (calls : List Call) → StandsAfter mode w0 old m.entries calls → m'.entries ≡ m.entries)
     → LeavesRefused old.stage answer new
     → (IsRefused old → StaysRefused c answer new × (m' ≡ m))
     → (HasEnded old → StaysEnded old answer new × (m' ≡ m))
-    → PoolsAfter old m.entries c answer new
-    → (is_last c ≡ true → old.pending.mode ≡ Update → IfErr answer (λ e. e ≢ Memory))
+    → PoolsAfter mode old m.entries c answer new
+    → (is_last c ≡ true → mode ≡ Update → IfErr answer (λ e. e ≢ Memory))
     → (is_abort c ≡ true → IfErr answer (λ e. e ≢ Memory))
-    → TakesCall old m.entries c answer new m'.entries
-taken answer old new m m' c named answers in_order accepted refused dead was_refused ended pools last abort = record {
+    → TakesCall mode old m.entries c answer new m'.entries
+taken mode answer old new m m' c named answers in_order accepted refused dead was_refused ended pools last abort = record {
   answers = answers;
   in_order = in_order;
   accepted = accepted;
-  shape = shaped_call answer old new m.entries m'.entries c named accepted answers;
+  shape = shaped_call mode answer old new m.entries m'.entries c named accepted answers;
   refused = refused;
   dead = dead;
   was_refused = λ h. let r = was_refused h in (r.0, ap (λ (x : BTreeMap Path BaseNode). x.entries) r.1);
@@ -92,55 +91,54 @@ taken answer old new m m' c named answers in_order accepted refused dead was_ref
   abort = abort;
 }
 
-not_going : (was_level : Bool) (edit : Edit) (stage : Stage) → edit.stage ≡ stage → stage ≢ Going → (nodes : List (Path × BaseNode))
-    → IsInShape was_level edit nodes
-not_going was_level edit stage is other nodes going = absurd (other (sym is ∙ going))
+not_going : (mode : Mode) (was_level : Bool) (edit : Edit) (stage : Stage) → edit.stage ≡ stage → stage ≢ Going → (nodes : List (Path × BaseNode))
+    → IsInShape mode was_level edit nodes
+not_going mode was_level edit stage is other nodes going = absurd (other (sym is ∙ going))
 
-pub ended_otherwise : Ended ≢ Going
+ended_otherwise : Ended ≢ Going
 ended_otherwise e = cc
 
 refused_otherwise : Refused ≢ Going
 refused_otherwise e = cc
 
-refused_still : (was_level : Bool) (c : Call) (answer : Result (Unit {0}) EditFault) (new : Edit) → StaysRefused c answer new
-    → (nodes : List (Path × BaseNode)) → IsInShape was_level new nodes
-refused_still was_level AbortEdit answer new h nodes = not_going was_level new Ended h.1 ended_otherwise nodes
-refused_still was_level _ answer new h nodes = not_going was_level new Refused h.1 refused_otherwise nodes
+refused_still : (mode : Mode) (was_level : Bool) (c : Call) (answer : Result (Unit {0}) EditFault) (new : Edit) → StaysRefused c answer new
+    → (nodes : List (Path × BaseNode)) → IsInShape mode was_level new nodes
+refused_still mode was_level AbortEdit answer new h nodes = not_going mode was_level new Ended h.1 ended_otherwise nodes
+refused_still mode was_level _ answer new h nodes = not_going mode was_level new Refused h.1 refused_otherwise nodes
 
-module _ (was_level : Bool) (old new : Edit) (w w' : List (Path × BaseNode)) (c : Call) (named : OpensNamed c) where
+module _ (mode : Mode) (was_level : Bool) (old new : Edit) (w w' : List (Path × BaseNode)) (c : Call) (named : OpensNamed c) where
   -- the edit goes on
-  module _ (accepted : (mode : Mode) (w0 : WorkingCopy) (calls : List Call) → StandsAfter mode w0 old w calls
+  module _ (accepted : (w0 : WorkingCopy) (calls : List Call) → StandsAfter mode w0 old w calls
       → StandsAfter mode w0 new w' (calls ++ c ∷ []))
-      (answers : (mode : Mode) (w0 : WorkingCopy) (calls : List Call) → StandsAfter mode w0 old w calls
+      (answers : (w0 : WorkingCopy) (calls : List Call) → StandsAfter mode w0 old w calls
       → AnswersCall (refusal md5 mode calls c w) (Ok tt)) where
-    gone_on : GoesOn was_level old w → GoesOn was_level new w'
+    gone_on : GoesOn mode was_level old w → GoesOn mode was_level new w'
     gone_on g = record {
-      mode = g.mode;
       start = g.start;
       calls = g.calls ++ c ∷ [];
-      stands = accepted g.mode g.start g.calls g.stands;
-      shape = shaped_call (Ok tt) old new w w' c named accepted answers g.mode g.start g.calls g.stands g.shape;
+      stands = accepted g.start g.calls g.stands;
+      shape = shaped_call mode (Ok tt) old new w w' c named accepted answers g.start g.calls g.stands g.shape;
       opened = λ was.
-          let stands = accepted g.mode g.start g.calls g.stands in
+          let stands = accepted g.start g.calls g.stands in
           subst (λ (v : WorkingCopy). IncompleteAreOpen v (g.calls ++ c ∷ []))
-          (ap (effect g.mode g.calls c) (λ i p. g.stands.copy p i) ∙ sym (after-more g.mode g.start g.calls c) ∙ (λ i p. sym (stands.copy p) i))
-          (open_more md5 g.mode w g.calls c g.stands.order.lawful (answers g.mode g.start g.calls g.stands) (g.opened was));
+          (ap (effect mode g.calls c) (λ i p. g.stands.copy p i) ∙ sym (after-more mode g.start g.calls c) ∙ (λ i p. sym (stands.copy p) i))
+          (open_more md5 mode w g.calls c g.stands.order.lawful (answers g.start g.calls g.stands) (g.opened was));
     }
 
-  pub kept : (answer : Result (Unit {0}) EditFault) → TakesCall old w c answer new w' → IsInShape was_level old w
-      → IsWorkingCopy (get_in w) → IsInShape was_level new w' × IsWorkingCopy (get_in w')
+  pub kept : (answer : Result (Unit {0}) EditFault) → TakesCall mode old w c answer new w' → IsInShape mode was_level old w
+      → IsWorkingCopy (get_in w) → IsInShape mode was_level new w' × IsWorkingCopy (get_in w')
   kept answer takes shape before = by old.stage refl answer takes
     where
       same : w' ≡ w → IsWorkingCopy (get_in w')
       same e = subst (λ (nodes : List (Path × BaseNode)). IsWorkingCopy (get_in nodes)) (sym e) before
 
-      by : (stage : Stage) → old.stage ≡ stage → (answer : Result (Unit {0}) EditFault) → TakesCall old w c answer new w'
-          → IsInShape was_level new w' × IsWorkingCopy (get_in w')
+      by : (stage : Stage) → old.stage ≡ stage → (answer : Result (Unit {0}) EditFault) → TakesCall mode old w c answer new w'
+          → IsInShape mode was_level new w' × IsWorkingCopy (get_in w')
       by Going is (Ok done) t = let g = gone_on t.accepted t.answers (shape is) in (λ going. g, g.shape.shape)
       by Going is (Err e) t =
           let g = shape is in
           let dead : LeavesRefused Going (Err e) new = subst (λ (s : Stage). LeavesRefused s (Err e) new) is t.dead in
-          (not_going was_level new Refused dead refused_otherwise w', same (t.refused g.mode g.start g.calls g.stands))
-      by Refused is answer t = let r = t.was_refused is in (refused_still was_level c answer new r.0 w', same r.1)
+          (not_going mode was_level new Refused dead refused_otherwise w', same (t.refused g.start g.calls g.stands))
+      by Refused is answer t = let r = t.was_refused is in (refused_still mode was_level c answer new r.0 w', same r.1)
       by Ended is answer t =
-          let r = t.ended is in (not_going was_level new Ended (ap (λ (e : Edit). e.stage) r.0.1 ∙ is) ended_otherwise w', same r.1)
+          let r = t.ended is in (not_going mode was_level new Ended (ap (λ (e : Edit). e.stage) r.0.1 ∙ is) ended_otherwise w', same r.1)

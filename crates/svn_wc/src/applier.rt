@@ -1,12 +1,11 @@
 //! The editor that applies an edit to a working copy.
-ghost use Rattle.std.specs.Prelude.{◌≡◌, ◌≢◌, ◌+◌, true, [], ◌∷◌, ◌++◌, List, IfOk, IfErr, OnOk, OnErr, None, Some, Ok, false};
+ghost use Rattle.std.specs.Prelude.{◌≡◌, ◌≢◌, ◌+◌, ◌↔◌, IsTrue, true, [], ◌∷◌, ◌++◌, List, IfOk, IfErr, OnOk, OnErr, None, Some, Ok, false};
 ghost use Rattle.std.specs.List.{list_any};
 ghost use Rattle.std.specs.Option.{option_copied};
 ghost use Rattle.md5.specs.Md5.{md5};
 ghost use Rattle.svn_editor.specs.declared.call.Call.{Call};
 ghost use Rattle.svn_editor.specs.declared.fault.EditFault.TheVariants.{Memory};
 ghost use Rattle.svn_editor.specs.Calls.{is_last, is_abort};
-ghost use Rattle.svn_editor.specs.declared.mode.Mode.{Mode};
 ghost use Rattle.svn_editor.specs.declared.mode.Mode.TheVariants.{Update, SwitchTo};
 ghost use Rattle.svn_model.specs.Nodes.{WorkingCopy as CopyMap, get_in};
 ghost use Rattle.svn_model.specs.Effects.{refusal};
@@ -30,25 +29,28 @@ use svn_types::RelPath;
 #[derive(Drop)]
 pub struct Applier<'a> {
     copy: &'a mut WorkingCopy,
+    mode: Mode,
     edit: Edit,
     // Whether the copy was known to be level before the edit. It is so again after the last call, as each directory that was opened is closed then.
     was_level: bool,
-    ghost in_shape: { ∥ IsInShape was_level edit copy.now ∥₁ },
+    ghost in_shape: { ∥ IsInShape mode was_level edit copy.now ∥₁ },
 }
 
 impl<'a> Applier<'a> {
     /// An applier of an update, which no call was given to. The only fault is Memory.
     pub fn new(alloc: Global, copy: &'a mut WorkingCopy) -> Result<Applier<'a>, EditFault>
+        ensures mode { IfOk result (λ a. a.mode ≡ Update) }
         ensures begun { IfOk result (λ a. StandsAfter Update (get_in copy.old) a.edit a.copy.now []) }
         ensures shape { IfOk result (λ a. IsShapedAfter Update (get_in a.copy.now) []) }
         ensures same_copy { IfOk result (λ a. a.copy.ghost_name ≡ copy.entry.ghost_name) }
         ensures memory { IfErr result (λ e. e ≡ Memory) }
     {
         copy.law();
-        let edit = Edit::new(alloc, Mode::Update)?;
+        let edit = Edit::new(alloc)?;
         let was_level = copy.known.level;
         Ok(Applier {
             copy,
+            mode: Mode::Update,
             edit,
             was_level,
         })
@@ -61,6 +63,7 @@ impl<'a> Applier<'a> {
         copy: &'a mut WorkingCopy,
         to: &RelPath,
     ) -> Result<Applier<'a>, EditFault>
+        ensures mode { IfOk result (λ a. a.mode ≡ SwitchTo to.now) }
         ensures begun { IfOk result (λ a. StandsAfter (SwitchTo to.now) (get_in copy.old) a.edit a.copy.now []) }
         ensures shape { IfOk result (λ a. IsShapedAfter (SwitchTo to.now) (get_in a.copy.now) []) }
         ensures same_copy { IfOk result (λ a. a.copy.ghost_name ≡ copy.entry.ghost_name) }
@@ -70,10 +73,11 @@ impl<'a> Applier<'a> {
         let Ok(root) = to.clone() else {
             return Err(EditFault::Memory);
         };
-        let edit = Edit::new(alloc, Mode::SwitchTo(root))?;
+        let edit = Edit::new(alloc)?;
         let was_level = copy.known.level;
         Ok(Applier {
             copy,
+            mode: Mode::SwitchTo(root),
             edit,
             was_level,
         })
@@ -82,24 +86,25 @@ impl<'a> Applier<'a> {
     /// Takes the next call, as its [`Editor`] does, and leaves the call to the caller.
     #[inline(always)]
     pub fn apply(&mut self, call: &Call) -> Result<(), EditFault>
-        ensures answers { (mode : Mode) (w0 : CopyMap) (calls : List Call) → StandsAfter mode w0 self.old.edit self.old.copy.now calls → AnswersCall (refusal md5 mode calls call.now self.old.copy.now) result }
-        ensures in_order { (mode : Mode) (w0 : CopyMap) (calls : List Call) → StandsAfter mode w0 self.old.edit self.old.copy.now calls → WantsInOrder calls call.now result }
-        ensures accepted { OnOk result ((mode : Mode) (w0 : CopyMap) (calls : List Call) → StandsAfter mode w0 self.old.edit self.old.copy.now calls → StandsAfter mode w0 self.new.edit self.new.copy.now (calls ++ call.now ∷ [])) }
-        ensures shape { OnOk result ((mode : Mode) (w0 : CopyMap) (calls : List Call) → StandsAfter mode w0 self.old.edit self.old.copy.now calls → IsShapedAfter mode (get_in self.old.copy.now) calls → IsShapedAfter mode (get_in self.new.copy.now) (calls ++ call.now ∷ [])) }
-        ensures refused { OnErr result ((mode : Mode) (w0 : CopyMap) (calls : List Call) → StandsAfter mode w0 self.old.edit self.old.copy.now calls → self.new.copy.now ≡ self.old.copy.now) }
+        ensures answers { (w0 : CopyMap) (calls : List Call) → StandsAfter self.old.mode w0 self.old.edit self.old.copy.now calls → AnswersCall (refusal md5 self.old.mode calls call.now self.old.copy.now) result }
+        ensures in_order { (w0 : CopyMap) (calls : List Call) → StandsAfter self.old.mode w0 self.old.edit self.old.copy.now calls → WantsInOrder calls call.now result }
+        ensures accepted { OnOk result ((w0 : CopyMap) (calls : List Call) → StandsAfter self.old.mode w0 self.old.edit self.old.copy.now calls → StandsAfter self.old.mode w0 self.new.edit self.new.copy.now (calls ++ call.now ∷ [])) }
+        ensures shape { OnOk result ((w0 : CopyMap) (calls : List Call) → StandsAfter self.old.mode w0 self.old.edit self.old.copy.now calls → IsShapedAfter self.old.mode (get_in self.old.copy.now) calls → IsShapedAfter self.old.mode (get_in self.new.copy.now) (calls ++ call.now ∷ [])) }
+        ensures refused { OnErr result ((w0 : CopyMap) (calls : List Call) → StandsAfter self.old.mode w0 self.old.edit self.old.copy.now calls → self.new.copy.now ≡ self.old.copy.now) }
         ensures dead { LeavesRefused self.old.edit.stage result self.new.edit }
         ensures was_refused { IsRefused self.old.edit → StaysRefused call.now result self.new.edit × (self.new.copy.now ≡ self.old.copy.now) }
         ensures ended { HasEnded self.old.edit → StaysEnded self.old.edit result self.new.edit × (self.new.copy.now ≡ self.old.copy.now) }
-        ensures pools { PoolsAfter self.old.edit self.old.copy.now call.now result self.new.edit }
-        ensures last { is_last call.now ≡ true → self.old.edit.pending.mode ≡ Update → IfErr result (λ e. e ≢ Memory) }
+        ensures pools { PoolsAfter self.old.mode self.old.edit self.old.copy.now call.now result self.new.edit }
+        ensures last { is_last call.now ≡ true → self.old.mode ≡ Update → IfErr result (λ e. e ≢ Memory) }
         ensures abort { is_abort call.now ≡ true → IfErr result (λ e. e ≢ Memory) }
+        ensures same_mode { self.new.mode ≡ self.old.mode }
         ensures same_copy { self.new.copy.ghost_name ≡ self.old.copy.ghost_name }
     {
         opens_allowed(call);
-        let is_update = self.edit.is_update();
+        let is_update = is_update(&self.mode);
         let copy = &mut *self.copy;
         let was_unswitched = copy.known.unswitched;
-        let answer = self.edit.call(&mut copy.nodes, call);
+        let answer = self.edit.call(&self.mode, &mut copy.nodes, call);
         let has_ended = has_ended(call, &answer);
         copy.known = Known {
             unswitched: knows_unswitched(is_update, was_unswitched, has_ended),
@@ -110,7 +115,7 @@ impl<'a> Applier<'a> {
 
     /// The path of the file or directory that is open under a token. It takes no memory.
     pub fn open_path(&self, token: Token) -> Option<&RelPath>
-        ensures { (mode : Mode) (w0 : CopyMap) (calls : List Call) → StandsAfter mode w0 self.now.edit self.now.copy.now calls → list_any is_last calls ≡ false → option_copied result ≡ path_open calls token }
+        ensures { (w0 : CopyMap) (calls : List Call) → StandsAfter self.now.mode w0 self.now.edit self.now.copy.now calls → list_any is_last calls ≡ false → option_copied result ≡ path_open calls token }
     {
         self.edit.open_path(token)
     }
@@ -120,7 +125,7 @@ impl<'a> Applier<'a> {
     pub fn live_pools(&self) -> u64
         ensures left { (calls : List Call) (c : Call) → IsLeft calls c self.now.edit → result ≡ open_count calls + 1 }
         ensures alone { OneIsLeft self.now.edit.pending → result ≡ 1 }
-        ensures count { (mode : Mode) (w0 : CopyMap) (calls : List Call) → StandsAfter mode w0 self.now.edit self.now.copy.now calls → result ≡ live_count calls }
+        ensures count { (w0 : CopyMap) (calls : List Call) → StandsAfter self.now.mode w0 self.now.edit self.now.copy.now calls → result ≡ live_count calls }
     {
         self.edit.live_pools()
     }
@@ -131,7 +136,7 @@ impl<'a> Editor for Applier<'a> {
     ghost use Rattle.svn_wc.specs.Taking.{TakesCall};
 
     ghost answers = { λ before call answer after.
-        TakesCall before.edit before.copy.now call answer after.edit after.copy.now
+        TakesCall before.mode before.edit before.copy.now call answer after.edit after.copy.now × (after.mode ≡ before.mode)
         × (after.copy.ghost_name ≡ before.copy.ghost_name) };
 
     /// Takes the next call, and changes the copy as it says. The faults come in the order that `svn_edit::Edit::call` names. After a refusal
@@ -140,6 +145,13 @@ impl<'a> Editor for Applier<'a> {
     fn call(&mut self, call: Call) -> Result<(), EditFault> {
         self.apply(&call)
     }
+}
+
+// Whether an edit is of an update, and not of a switch of the whole copy.
+fn is_update(mode: &Mode) -> bool
+    ensures { IsTrue result ↔ (mode.now ≡ Update) }
+{
+    matches!(mode, Mode::Update)
 }
 
 // Whether a call was the last one, and accepted.

@@ -3,8 +3,8 @@
 
 use crate::dice::Dice;
 use crate::script::Script;
-use crate::tree::{Size, Tree};
-use crate::words::Texts;
+use crate::story::Story;
+use crate::tree::Size;
 use std::alloc::{AllocError, Global};
 use std::fmt::Write;
 
@@ -14,74 +14,55 @@ const ROUNDS: u64 = 6;
 
 const LEAST_TEXT: u64 = 12;
 
-/// What is written, and what it is made from.
-#[derive(Drop)]
-struct Job {
-    dice: Dice,
-    texts: Texts,
-    tree: Tree,
-    script: Script,
+// A branch of trunk.
+const BEGUN: &str = "mkdir branches\ncopy 1 trunk branches/release\n";
+
+// From 10 files on are changed.
+fn change(story: &mut Story, root: &str) -> Result<(), AllocError> {
+    let count = story.source.dice.from(10, 60);
+    story.change_files(root, count)
 }
 
-impl Job {
-    fn new(alloc: Global, size: Size) -> Result<Job, AllocError> {
-        let mut dice = Dice::new(size.seed, 3);
-        let texts = Texts::new(alloc, &mut dice)?;
-        let tree = Tree::new(alloc, &mut dice, size.of(FILES))?;
-        let mut script = Script::new(alloc);
-        script.tree(&mut dice, "trunk", &tree, &texts, LEAST_TEXT)?;
-        script
-            .text
-            .push_str("mkdir branches\ncopy 1 trunk branches/release\n")?;
-        script.commit()?;
-        script.text.push_str("checkout 2 trunk\n")?;
-        Ok(Job {
-            dice,
-            texts,
-            tree,
-            script,
-        })
-    }
+// A directory near the root is placed at another revision, switched, forgotten, and placed again.
+fn change_directory(script: &mut Script, path: &str) -> Result<(), AllocError> {
+    let revision = script.revision;
+    writeln!(
+        script.text,
+        "place {path} 1\nswitch {path} branches/release/{path} {revision}\nforget {path}\nplace {path} {revision}"
+    )
+}
 
-    // Some files are changed below a directory of the repository.
-    fn change(&mut self, root: &str) -> Result<(), AllocError> {
-        for _ in 0..self.dice.from(10, 60) {
-            let path = self.tree.any_file(&mut self.dice);
-            let text = self.texts.draw(&mut self.dice, LEAST_TEXT);
-            self.script.put(root, path, text)?;
-        }
-        self.script.commit()
-    }
+// There and back.
+fn switch(script: &mut Script) -> Result<(), AllocError> {
+    let revision = script.revision;
+    writeln!(
+        script.text,
+        "switch-to branches/release {revision}\nswitch-to trunk {revision}"
+    )
+}
 
-    // The directories near the root, each placed at another revision, switched, forgotten, and placed again.
-    fn change_directories(&mut self, number: u64) -> Result<(), AllocError> {
-        let revision = self.script.revision;
-        let path = self.tree.directory(number as usize);
-        writeln!(self.script.text, "place {path} 1")?;
-        writeln!(
-            self.script.text,
-            "switch {path} branches/release/{path} {revision}"
-        )?;
-        writeln!(self.script.text, "forget {path}")?;
-        writeln!(self.script.text, "place {path} {revision}")
-    }
+fn round(story: &mut Story, number: u64) -> Result<(), AllocError> {
+    change(story, "trunk")?;
+    change(story, "branches/release")?;
+    switch(&mut story.script)?;
+    let path = story.source.tree.directory(number as usize);
+    change_directory(&mut story.script, path)
+}
 
-    fn round(&mut self, number: u64) -> Result<(), AllocError> {
-        self.change("trunk")?;
-        self.change("branches/release")?;
-        let revision = self.script.revision;
-        writeln!(self.script.text, "switch-to branches/release {revision}")?;
-        writeln!(self.script.text, "switch-to trunk {revision}")?;
-        self.change_directories(number)
+fn rounds(story: &mut Story) -> Result<(), AllocError> {
+    story.script.push(BEGUN)?;
+    story.script.commit()?;
+    story.script.push("checkout 2 trunk\n")?;
+    for number in 0..ROUNDS {
+        round(story, number)?;
     }
+    story.script.push("show\n")
 }
 
 /// Its history and its switches; it shows the copy at the end.
 pub(crate) fn script(alloc: Global, size: Size) -> Result<Script, AllocError> {
-    let mut job = Job::new(alloc, size)?;
-    for number in 0..ROUNDS {
-        job.round(number)?;
-    }
-    job.script.text.push_str("show\n")?;
-    Ok(job.script)
+    let dice = Dice::new(size.seed, 3);
+    let mut story = Story::begin(alloc, dice, size.of(FILES), LEAST_TEXT)?;
+    rounds(&mut story)?;
+    Ok(story.script)
 }

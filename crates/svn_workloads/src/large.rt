@@ -3,9 +3,9 @@
 
 use crate::dice::Dice;
 use crate::digest::Digest;
-use crate::library::{all_of, put, some_of, tell_copy};
-use crate::tree::{Size, Tree};
-use crate::words::Texts;
+use crate::library::{commit_all, commit_some, put, tell_copy};
+use crate::source::Source;
+use crate::tree::Size;
 use anyhow::{Result, bail};
 use std::alloc::Global;
 use std::sync::Wait;
@@ -27,31 +27,51 @@ const CHANGES: u64 = 3;
 // The revisions to which the copy goes one after the other, from the first on: each pair of them once.
 static TARGETS: [u64; 20] = [2, 3, 4, 5, 1, 3, 5, 2, 4, 1, 4, 2, 5, 3, 1, 5, 4, 3, 2, 1];
 
-// A directory of many files.
-fn added(alloc: Global, dice: &mut Dice, texts: &Texts, count: u64) -> Result<Vec<Change>> {
-    let mut changes = Vec::new(alloc);
-    changes.push(Change::MakeDir {
+fn targets() -> &'static [u64] {
+    &TARGETS
+}
+
+fn directory(alloc: Global) -> Result<Change> {
+    Ok(Change::MakeDir {
         path: RelPath::parse(alloc, "trunk/newly-added")?,
-    })?;
+    })
+}
+
+fn file(alloc: Global, source: &mut Source, number: u64) -> Result<Change> {
+    let path = format!(in alloc; "newly-added/GeneratedSource{number:05}.java")?;
+    let text = source.texts.draw(&mut source.dice, LEAST_TEXT);
+    put(alloc, "trunk", path.as_str(), text)
+}
+
+// A directory of many files.
+fn add(alloc: Global, source: &mut Source, count: u64, changes: &mut Vec<Change>) -> Result<()> {
+    changes.push(directory(alloc)?)?;
     for number in 0..count {
-        let path = format!(in alloc; "newly-added/GeneratedSource{number:05}.java")?;
-        let text = texts.draw(dice, LEAST_TEXT);
-        changes.push(put(alloc, "trunk", path.as_str(), text)?)?;
+        changes.push(file(alloc, source, number)?)?;
     }
-    Ok(changes)
+    Ok(())
+}
+
+fn commit_added(alloc: Global, source: &mut Source, count: u64, repo: &mut Repo) -> Result<()> {
+    let mut changes = Vec::new(alloc);
+    add(alloc, source, count, &mut changes)?;
+    repo.commit(&changes)?;
+    Ok(())
+}
+
+fn fill(alloc: Global, source: &mut Source, added: u64, repo: &mut Repo) -> Result<()> {
+    commit_all(alloc, source, repo)?;
+    for _ in 0..CHANGES {
+        commit_some(alloc, source, CHANGED, repo)?;
+    }
+    commit_added(alloc, source, added, repo)
 }
 
 fn repository(alloc: Global, size: Size) -> Result<Repo> {
-    let mut dice = Dice::new(size.seed, 6);
-    let texts = Texts::new(alloc, &mut dice)?;
-    let tree = Tree::new(alloc, &mut dice, size.of(FILES))?;
+    let dice = Dice::new(size.seed, 6);
+    let mut source = Source::new(alloc, dice, size.of(FILES), LEAST_TEXT)?;
     let mut repo = Repo::new(alloc)?;
-    repo.commit(&all_of(alloc, &mut dice, &tree, &texts, LEAST_TEXT)?)?;
-    for _ in 0..CHANGES {
-        let changes = some_of(alloc, &mut dice, &tree, &texts, LEAST_TEXT, CHANGED)?;
-        repo.commit(&changes)?;
-    }
-    repo.commit(&added(alloc, &mut dice, &texts, size.of(ADDED))?)?;
+    fill(alloc, &mut source, size.of(ADDED), &mut repo)?;
     Ok(repo)
 }
 
@@ -76,17 +96,33 @@ fn go_to<R: Threads + Wait + Sync>(
     Ok(())
 }
 
+// Every second time with texts late.
+fn go_to_all<R: Threads + Wait + Sync>(
+    rt: &R,
+    alloc: Global,
+    repo: &Repo,
+    copy: &mut WorkingCopy,
+    digest: &mut Digest,
+) -> Result<()> {
+    let mut late_texts = false;
+    for rev in targets() {
+        go_to(rt, alloc, repo, copy, *rev, late_texts)?;
+        tell_copy(digest, copy);
+        late_texts = !late_texts;
+    }
+    Ok(())
+}
+
+fn first_copy(alloc: Global, repo: &Repo) -> Result<WorkingCopy> {
+    let trunk = RelPath::parse(alloc, "trunk")?;
+    Ok(WorkingCopy::checkout_at(alloc, repo, &trunk, Rev(1))?)
+}
+
 /// Makes the repository, and a copy that goes from revision to revision.
 pub(crate) fn run<R: Threads + Wait + Sync>(rt: &R, alloc: Global, size: Size) -> Result<Digest> {
     let repo = repository(alloc, size)?;
-    let trunk = RelPath::parse(alloc, "trunk")?;
-    let mut copy = WorkingCopy::checkout_at(alloc, &repo, &trunk, Rev(1))?;
+    let mut copy = first_copy(alloc, &repo)?;
     let mut digest = Digest::new();
-    let mut late_texts = false;
-    for rev in TARGETS {
-        go_to(rt, alloc, &repo, &mut copy, rev, late_texts)?;
-        tell_copy(&mut digest, &copy);
-        late_texts = !late_texts;
-    }
+    go_to_all(rt, alloc, &repo, &mut copy, &mut digest)?;
     Ok(digest)
 }

@@ -16,6 +16,8 @@ mod large;
 mod library;
 mod mixed;
 mod script;
+mod source;
+mod story;
 mod tree;
 mod words;
 
@@ -33,6 +35,10 @@ const ALL: [&str; 6] = [
     "checkout", "everyday", "large", "mixed", "branch", "awkward",
 ];
 
+fn no_job<T>() -> Result<T> {
+    bail!("the job is checkout, everyday, large, mixed, branch, awkward or all")
+}
+
 // The script of a job that runs one.
 fn script_of(alloc: Global, what: &str, size: Size) -> Result<Script> {
     match what {
@@ -40,7 +46,7 @@ fn script_of(alloc: Global, what: &str, size: Size) -> Result<Script> {
         "mixed" => Ok(mixed::script(alloc, size)?),
         "branch" => Ok(branch::script(alloc, size)?),
         "awkward" => Ok(awkward::script(alloc, size)?),
-        _ => bail!("the job is checkout, everyday, large, mixed, branch, awkward or all"),
+        _ => no_job(),
     }
 }
 
@@ -70,30 +76,53 @@ fn tell<R: Threads + Wait + Sync + Print>(
     Ok(())
 }
 
+fn tell_all<R: Threads + Wait + Sync + Print>(rt: &R, alloc: Global, size: Size) -> Result<()> {
+    for what in &ALL {
+        tell(rt, alloc, what, size)?;
+    }
+    Ok(())
+}
+
+fn word<R: Env + AllocGlobal>(rt: &R, place: usize) -> Result<Option<String>> {
+    Ok(env::args(rt)?.nth(place))
+}
+
 // The number at a place among the arguments, another where there is none.
-fn number<R: Env + Alloc>(rt: &R, place: usize, otherwise: u64) -> Result<u64> {
-    match env::args(rt)?.nth(place) {
+fn number<R: Env + AllocGlobal>(rt: &R, place: usize, otherwise: u64) -> Result<u64> {
+    match word(rt, place)? {
         Some(word) => Ok(word.as_str().parse::<u64>()?),
         None => Ok(otherwise),
     }
 }
 
+fn size<R: Env + AllocGlobal>(rt: &R) -> Result<Size> {
+    Ok(Size {
+        seed: number(rt, 2, 1)?,
+        share: number(rt, 3, 1)?,
+    })
+}
+
+fn run<R: Threads + Wait + Sync + Print>(
+    rt: &R,
+    alloc: Global,
+    what: &str,
+    size: Size,
+    shows: bool,
+) -> Result<()> {
+    if shows {
+        return show(rt, alloc, what, size);
+    }
+    match what {
+        "all" => tell_all(rt, alloc, size),
+        _ => tell(rt, alloc, what, size),
+    }
+}
+
 fn main(rt: HostRuntime) -> Result<()> {
-    let size = Size {
-        seed: number(&rt, 2, 1)?,
-        share: number(&rt, 3, 1)?,
-    };
-    let Some(what) = env::args(&rt)?.nth(1) else {
-        bail!("the job is checkout, everyday, large, mixed, branch, awkward or all");
-    };
-    if env::args(&rt)?.nth(4).is_some() {
-        return show(&rt, rt.alloc(), what.as_str(), size);
+    let size = size(&rt)?;
+    let shows = word(&rt, 4)?.is_some();
+    match word(&rt, 1)? {
+        Some(what) => run(&rt, rt.alloc(), what.as_str(), size, shows),
+        None => no_job(),
     }
-    if what.as_str() != "all" {
-        return tell(&rt, rt.alloc(), what.as_str(), size);
-    }
-    for what in ALL {
-        tell(&rt, rt.alloc(), what, size)?;
-    }
-    Ok(())
 }

@@ -3,8 +3,8 @@
 
 use crate::dice::Dice;
 use crate::script::Script;
-use crate::tree::{Size, Tree};
-use crate::words::Texts;
+use crate::story::Story;
+use crate::tree::Size;
 use std::alloc::{AllocError, Global};
 use std::fmt::Write;
 
@@ -16,114 +16,111 @@ const ROUNDS: u64 = 9;
 
 const LEAST_TEXT: u64 = 20;
 
-/// What is written, and what it is made from.
-#[derive(Drop)]
-struct Job {
-    dice: Dice,
-    texts: Texts,
-    tree: Tree,
-    script: Script,
-    size: Size,
+// Some files are changed, of trunk or of the branch.
+fn commit_next(story: &mut Story, size: Size) -> Result<(), AllocError> {
+    let root = if story.source.dice.once_in(3) {
+        "branches/next"
+    } else {
+        "trunk"
+    };
+    story.change_files(root, size.of(200))
 }
 
-impl Job {
-    fn new(alloc: Global, size: Size) -> Result<Job, AllocError> {
-        let mut dice = Dice::new(size.seed, 2);
-        let texts = Texts::new(alloc, &mut dice)?;
-        let tree = Tree::new(alloc, &mut dice, size.of(FILES))?;
-        let mut script = Script::new(alloc);
-        script.tree(&mut dice, "trunk", &tree, &texts, LEAST_TEXT)?;
-        script
-            .text
-            .push_str("mkdir branches\ncopy 1 trunk branches/next\n")?;
-        script.commit()?;
-        Ok(Job {
-            dice,
-            texts,
-            tree,
-            script,
-            size,
-        })
+fn commit_all(story: &mut Story, size: Size) -> Result<(), AllocError> {
+    story
+        .script
+        .push("mkdir branches\ncopy 1 trunk branches/next\n")?;
+    story.script.commit()?;
+    for _ in 0..REVISIONS {
+        commit_next(story, size)?;
     }
+    story.script.push("checkout 2 trunk\n")
+}
 
-    // Some files are changed, of trunk or of the branch.
-    fn commit_next(&mut self) -> Result<(), AllocError> {
-        let root = if self.dice.once_in(3) {
-            "branches/next"
-        } else {
-            "trunk"
-        };
-        for _ in 0..self.size.of(200) {
-            let path = self.tree.any_file(&mut self.dice);
-            let text = self.texts.draw(&mut self.dice, LEAST_TEXT);
-            self.script.put(root, path, text)?;
-        }
-        self.script.commit()
-    }
+// A revision that has the branch too.
+fn any_revision(dice: &mut Dice) -> u64 {
+    dice.from(2, REVISIONS)
+}
 
-    // A revision that has the branch too.
-    fn any_revision(&mut self) -> u64 {
-        self.dice.from(2, REVISIONS)
-    }
+fn place_file(story: &mut Story) -> Result<(), AllocError> {
+    let source = &mut story.source;
+    let revision = any_revision(&mut source.dice);
+    let path = source.tree.any_file(&mut source.dice);
+    writeln!(story.script.text, "place {path} {revision}")
+}
 
-    fn place_files(&mut self) -> Result<(), AllocError> {
-        for _ in 0..self.size.of(FILES / 10) {
-            let revision = self.any_revision();
-            let path = self.tree.any_file(&mut self.dice);
-            writeln!(self.script.text, "place {path} {revision}")?;
-        }
-        Ok(())
-    }
+fn switch_directory(story: &mut Story) -> Result<(), AllocError> {
+    let source = &mut story.source;
+    let revision = any_revision(&mut source.dice);
+    let path = source.tree.any_directory(&mut source.dice);
+    writeln!(
+        story.script.text,
+        "switch {path} branches/next/{path} {revision}"
+    )
+}
 
-    fn switch_directories(&mut self) -> Result<(), AllocError> {
-        for _ in 0..self.size.of(60) {
-            let revision = self.any_revision();
-            let path = self.tree.any_directory(&mut self.dice);
-            writeln!(
-                self.script.text,
-                "switch {path} branches/next/{path} {revision}"
-            )?;
-        }
-        Ok(())
-    }
+fn forget_file(story: &mut Story) -> Result<(), AllocError> {
+    let source = &mut story.source;
+    let path = source.tree.any_file(&mut source.dice);
+    writeln!(story.script.text, "forget {path}")
+}
 
-    fn forget_files(&mut self) -> Result<(), AllocError> {
-        for _ in 0..self.size.of(100) {
-            let path = self.tree.any_file(&mut self.dice);
-            writeln!(self.script.text, "forget {path}")?;
-        }
-        Ok(())
+fn place_files(story: &mut Story, size: Size) -> Result<(), AllocError> {
+    for _ in 0..size.of(FILES / 10) {
+        place_file(story)?;
     }
+    Ok(())
+}
 
-    // Updates to a revision, the first of them stopped.
-    fn update(&mut self, revision: u64) -> Result<(), AllocError> {
-        for _ in 0..3 {
-            let calls = self.dice.from(1, self.size.of(3_000));
-            writeln!(self.script.text, "update {revision} {calls}")?;
-        }
-        writeln!(self.script.text, "update {revision}")
+fn switch_directories(story: &mut Story, size: Size) -> Result<(), AllocError> {
+    for _ in 0..size.of(60) {
+        switch_directory(story)?;
     }
+    Ok(())
+}
 
-    fn round(&mut self, number: u64) -> Result<(), AllocError> {
-        self.place_files()?;
-        self.switch_directories()?;
-        self.forget_files()?;
-        self.script.text.push_str("report\n")?;
-        let step = REVISIONS / ROUNDS;
-        self.update(number.saturating_mul(step).saturating_add(3))
+fn forget_files(story: &mut Story, size: Size) -> Result<(), AllocError> {
+    for _ in 0..size.of(100) {
+        forget_file(story)?;
     }
+    Ok(())
+}
+
+// An update that is stopped.
+fn stopped_update(story: &mut Story, size: Size, revision: u64) -> Result<(), AllocError> {
+    let calls = story.source.dice.from(1, size.of(3_000));
+    writeln!(story.script.text, "update {revision} {calls}")
+}
+
+// Updates to a revision, the first of them stopped.
+fn update(story: &mut Story, size: Size, revision: u64) -> Result<(), AllocError> {
+    for _ in 0..3 {
+        stopped_update(story, size, revision)?;
+    }
+    writeln!(story.script.text, "update {revision}")
+}
+
+fn round(story: &mut Story, size: Size, number: u64) -> Result<(), AllocError> {
+    place_files(story, size)?;
+    switch_directories(story, size)?;
+    forget_files(story, size)?;
+    story.script.push("report\n")?;
+    let step = REVISIONS / ROUNDS;
+    update(story, size, number.saturating_mul(step).saturating_add(3))
+}
+
+fn rounds(story: &mut Story, size: Size) -> Result<(), AllocError> {
+    commit_all(story, size)?;
+    for number in 0..ROUNDS {
+        round(story, size, number)?;
+    }
+    story.script.push("show\n")
 }
 
 /// Its history and its updates; it shows the copy at the end.
 pub(crate) fn script(alloc: Global, size: Size) -> Result<Script, AllocError> {
-    let mut job = Job::new(alloc, size)?;
-    for _ in 0..REVISIONS {
-        job.commit_next()?;
-    }
-    job.script.text.push_str("checkout 2 trunk\n")?;
-    for number in 0..ROUNDS {
-        job.round(number)?;
-    }
-    job.script.text.push_str("show\n")?;
-    Ok(job.script)
+    let dice = Dice::new(size.seed, 2);
+    let mut story = Story::begin(alloc, dice, size.of(FILES), LEAST_TEXT)?;
+    rounds(&mut story, size)?;
+    Ok(story.script)
 }

@@ -1,9 +1,6 @@
 //! Scripts, put together line by line, and run.
 
-use crate::dice::Dice;
 use crate::digest::Digest;
-use crate::tree::Tree;
-use crate::words::Texts;
 use anyhow::{Result, bail};
 use std::alloc::{AllocError, Global};
 use std::fmt::Write;
@@ -32,52 +29,57 @@ impl Script {
         }
     }
 
+    /// Some whole lines.
+    pub(crate) fn push(&mut self, lines: &str) -> Result<(), AllocError> {
+        self.text.push_str(lines)
+    }
+
     /// A file gets a text.
     pub(crate) fn put(&mut self, root: &str, path: &str, text: &str) -> Result<(), AllocError> {
         writeln!(self.text, "put {root}/{path} {text}")
     }
 
-    /// The changes so far are a revision.
-    pub(crate) fn commit(&mut self) -> Result<(), AllocError> {
-        self.revision = self.revision.saturating_add(1);
-        self.text.push_str("commit\n")
-    }
-
-    fn directories(&mut self, root: &str, tree: &Tree) -> Result<(), AllocError> {
-        writeln!(self.text, "mkdir {root}")?;
-        for path in tree.directories.iter().skip(1) {
-            writeln!(self.text, "mkdir {root}/{path}")?;
+    /// A file of trunk is added.
+    pub(crate) fn add_file(
+        &mut self,
+        path: &str,
+        text: &str,
+        has_property: bool,
+    ) -> Result<(), AllocError> {
+        self.put("trunk", path, text)?;
+        if has_property {
+            return writeln!(self.text, "prop trunk/{path} svn:eol-style native");
         }
         Ok(())
     }
 
-    /// All directories and files of a tree, below a directory of the root that is made for them; with texts, a tenth of them shorter
-    /// than the least, and a property at every twelfth file.
-    pub(crate) fn tree(
-        &mut self,
-        dice: &mut Dice,
-        root: &str,
-        tree: &Tree,
-        texts: &Texts,
-        least: u64,
-    ) -> Result<(), AllocError> {
-        self.directories(root, tree)?;
-        for path in &tree.files {
-            self.put(root, path.as_str(), texts.draw(dice, least))?;
-            if dice.once_in(12) {
-                writeln!(self.text, "prop {root}/{path} svn:eol-style native")?;
-            }
+    /// A directory is made below another, or that itself where the path is empty.
+    pub(crate) fn make_directory(&mut self, root: &str, path: &str) -> Result<(), AllocError> {
+        if path.is_empty() {
+            return writeln!(self.text, "mkdir {root}");
         }
-        self.commit()
+        writeln!(self.text, "mkdir {root}/{path}")
     }
 
-    /// Runs it with its updates on one thread, and returns what it printed.
-    pub(crate) fn run<R: Threads + Wait + Sync>(&self, rt: &R, alloc: Global) -> Result<Digest> {
+    /// The changes so far are a revision.
+    pub(crate) fn commit(&mut self) -> Result<(), AllocError> {
+        self.revision = self.revision.saturating_add(1);
+        self.push("commit\n")
+    }
+
+    // Runs it with its updates on one thread, and returns what it printed.
+    fn output<R: Threads + Wait + Sync>(&self, rt: &R, alloc: Global) -> Result<Vec<u8>> {
         let mut reader = self.text.as_str().as_bytes();
         let mut output = Vec::new(alloc);
         if run_script(rt, alloc, &mut reader, &mut output, &IN_TURN).is_err() {
             bail!("the script ended before its time");
         }
+        Ok(output)
+    }
+
+    /// What it prints when it is run with its updates on one thread.
+    pub(crate) fn run<R: Threads + Wait + Sync>(&self, rt: &R, alloc: Global) -> Result<Digest> {
+        let output = self.output(rt, alloc)?;
         let mut digest = Digest::new();
         digest.tell(&output);
         Ok(digest)

@@ -61,42 +61,77 @@ impl Tree {
             stands: Vec::new(alloc),
         };
         for _ in 0..files {
-            if tree.files.len() as u64 >= files {
-                return Ok(tree);
+            let count = tree.files.len() as u64;
+            if count >= files {
+                break;
             }
-            tree.add_directory(alloc, dice)?;
-            let left = files.saturating_sub(tree.files.len() as u64);
-            let count = files_in_one(dice).min(left);
-            tree.add_files(alloc, dice, count)?;
+            tree.add_full_directory(alloc, dice, files - count)?;
         }
         Ok(tree)
     }
 
-    // Where the next directory is: mostly in one of the newest.
-    fn next_above(&self, dice: &mut Dice) -> usize {
+    // A directory, and up to that many files in it.
+    fn add_full_directory(
+        &mut self,
+        alloc: Global,
+        dice: &mut Dice,
+        most: u64,
+    ) -> Result<(), AllocError> {
+        self.add_directory(alloc, dice)?;
+        let count = files_in_one(dice).min(most);
+        self.add_files(alloc, dice, count)
+    }
+
+    // A directory, mostly one of the newest.
+    fn any_above(&self, dice: &mut Dice) -> usize {
         let count = self.directories.len();
+        if dice.once_in(6) {
+            return dice.place(count);
+        }
         let recent = RECENT.min(count);
-        let place = if dice.once_in(6) {
-            dice.place(count)
-        } else {
-            (count - recent).saturating_add(dice.place(recent))
-        };
+        (count - recent).saturating_add(dice.place(recent))
+    }
+
+    // Where the next directory is.
+    fn next_above(&self, dice: &mut Dice) -> usize {
+        let place = self.any_above(dice);
         match self.depths.get(place) {
             Some(depth) if *depth < DEEPEST => place,
-            _ => dice.place(8.min(count)),
+            _ => dice.place(self.directories.len().min(8)),
+        }
+    }
+
+    // A name below the directory at a place, if there is one.
+    fn path_below(&self, alloc: Global, place: usize, name: &str) -> Result<String, AllocError> {
+        match self.directories.get(place) {
+            Some(above) => below(alloc, above.as_str(), name),
+            None => String::from_str(alloc, name),
         }
     }
 
     fn add_directory(&mut self, alloc: Global, dice: &mut Dice) -> Result<(), AllocError> {
         let place = self.next_above(dice);
         let name = words::directory_name(alloc, dice, self.directories.len())?;
-        let depth = self.depths.get(place).copied().unwrap_or(0);
-        let path = match self.directories.get(place) {
-            Some(above) => below(alloc, above.as_str(), name.as_str())?,
-            None => name,
-        };
+        let path = self.path_below(alloc, place, name.as_str())?;
         self.directories.push(path)?;
+        let depth = self.depths.get(place).copied().unwrap_or(0);
         self.depths.push(depth.saturating_add(1))?;
+        Ok(())
+    }
+
+    // A file in the newest directory.
+    fn add_file(
+        &mut self,
+        alloc: Global,
+        dice: &mut Dice,
+        stem: &str,
+        number: u64,
+    ) -> Result<(), AllocError> {
+        let name = words::file_name(alloc, dice, stem, number)?;
+        let newest = self.directories.len().saturating_sub(1);
+        let path = self.path_below(alloc, newest, name.as_str())?;
+        self.files.push(path)?;
+        self.stands.push(true)?;
         Ok(())
     }
 
@@ -104,13 +139,7 @@ impl Tree {
     fn add_files(&mut self, alloc: Global, dice: &mut Dice, count: u64) -> Result<(), AllocError> {
         let stem = words::stem(alloc, dice)?;
         for number in 0..count {
-            let name = words::file_name(alloc, dice, stem.as_str(), number)?;
-            let path = match self.directories.last() {
-                Some(above) => below(alloc, above.as_str(), name.as_str())?,
-                None => name,
-            };
-            self.files.push(path)?;
-            self.stands.push(true)?;
+            self.add_file(alloc, dice, stem.as_str(), number)?;
         }
         Ok(())
     }
@@ -136,9 +165,14 @@ impl Tree {
         self.file(dice.place(self.files.len()))
     }
 
+    /// Any directory that isn't the root, counted from 0.
+    pub(crate) fn any_directory_place(&self, dice: &mut Dice) -> usize {
+        dice.place(self.directories.len().saturating_sub(1))
+    }
+
     /// The path of any directory that isn't the root.
     pub(crate) fn any_directory(&self, dice: &mut Dice) -> &str {
-        self.directory(dice.place(self.directories.len().saturating_sub(1)))
+        self.directory(self.any_directory_place(dice))
     }
 
     /// Notes whether a file is there, and returns whether it was.

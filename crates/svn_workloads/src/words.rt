@@ -4,8 +4,13 @@ use crate::dice::Dice;
 use std::alloc::{AllocError, Global};
 use std::str;
 
+const WORD_COUNT: usize = 48;
+
+// How many of the words are those of directories.
+const PLAIN_WORDS: usize = 24;
+
 // Of directories, and of what files' names are put together from.
-static WORDS: [&str; 48] = [
+static WORDS: [&str; WORD_COUNT] = [
     "api",
     "core",
     "util",
@@ -56,7 +61,9 @@ static WORDS: [&str; 48] = [
     "Serialization",
 ];
 
-static SUFFIXES: [&str; 8] = [
+const SUFFIX_COUNT: usize = 8;
+
+static SUFFIXES: [&str; SUFFIX_COUNT] = [
     ".java",
     ".java",
     ".java",
@@ -67,14 +74,27 @@ static SUFFIXES: [&str; 8] = [
     ".properties",
 ];
 
-// How many of the words are those of directories.
-const PLAIN_WORDS: usize = 24;
-
 fn word(place: usize) -> &'static str {
     match WORDS.get(place) {
         Some(word) => word,
         None => "other",
     }
+}
+
+fn suffix(place: usize) -> &'static str {
+    match SUFFIXES.get(place) {
+        Some(suffix) => suffix,
+        None => ".c",
+    }
+}
+
+// One of that many words, the first ones.
+fn any_word(dice: &mut Dice, count: usize) -> &'static str {
+    word(dice.place(count))
+}
+
+fn any_suffix(dice: &mut Dice) -> &'static str {
+    suffix(dice.place(SUFFIX_COUNT))
 }
 
 /// The name of a directory, with a number that no other has.
@@ -83,9 +103,9 @@ pub(crate) fn directory_name(
     dice: &mut Dice,
     number: usize,
 ) -> Result<String, AllocError> {
-    let first = word(dice.place(PLAIN_WORDS));
+    let first = any_word(dice, PLAIN_WORDS);
     if dice.once_in(3) {
-        let second = word(dice.place(PLAIN_WORDS));
+        let second = any_word(dice, PLAIN_WORDS);
         return format!(in alloc; "{first}-{second}{number}");
     }
     format!(in alloc; "{first}{number}")
@@ -93,11 +113,11 @@ pub(crate) fn directory_name(
 
 /// What the names of a directory's files begin with, as many of them do alike.
 pub(crate) fn stem(alloc: Global, dice: &mut Dice) -> Result<String, AllocError> {
-    let first = word(dice.place(WORDS.len()));
+    let first = any_word(dice, WORD_COUNT);
     if dice.once_in(3) {
-        return format!(in alloc; "{first}");
+        return String::from_str(alloc, first);
     }
-    let second = word(dice.place(WORDS.len()));
+    let second = any_word(dice, WORD_COUNT);
     format!(in alloc; "{first}{second}")
 }
 
@@ -108,14 +128,12 @@ pub(crate) fn file_name(
     stem: &str,
     number: u64,
 ) -> Result<String, AllocError> {
-    let suffix = match SUFFIXES.get(dice.place(SUFFIXES.len())) {
-        Some(suffix) => suffix,
-        None => ".c",
+    let suffix = any_suffix(dice);
+    let last = if dice.once_in(2) {
+        ""
+    } else {
+        any_word(dice, WORD_COUNT)
     };
-    if dice.once_in(2) {
-        return format!(in alloc; "{stem}{number}{suffix}");
-    }
-    let last = word(dice.place(WORDS.len()));
     format!(in alloc; "{stem}{last}{number}{suffix}")
 }
 

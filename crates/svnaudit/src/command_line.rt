@@ -1,8 +1,8 @@
 //! The arguments of the command line.
 
-use crate::source::Source;
 use clap::{Arg, ArgAction, ArgMatches, Command, Error, value_parser};
 use std::alloc::{AllocError, Global};
+use svn_answers::Source;
 use svn_dump::Texts;
 use svn_types::Rev;
 

@@ -2,9 +2,9 @@
 ghost use Rattle.std.specs.Prelude.{◌≤◌, IfOk};
 
 use crate::fault::Fault;
-use crate::source::Source;
 use std::alloc::Global;
 use std::io::{ErrorKind, Read};
+use svn_answers::Source;
 use svn_editor::Word;
 use svn_script::split_once;
 

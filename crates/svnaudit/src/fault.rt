@@ -1,9 +1,10 @@
 //! Why the program refuses.
 
-use std::alloc::{AllocError, AllocFailed};
+use std::alloc::{AllocError, AllocFailed, Global};
 use std::{fmt, io};
+use svn_answers::{CopyFault, ExaminerFault};
 use svn_audit::Untrue;
-use svn_disk_audit::PristineRefusal;
+use svn_disk_audit::{AuditFault, PristineRefusal, RepositoryFault};
 use svn_editor::PathWord;
 use svn_history::LoadFault;
 use svn_model::{DriveFault, WcFault};
@@ -36,8 +37,6 @@ pub(crate) enum Fault {
     Journal,
     /// The database was changed while it was read.
     Changed,
-    /// The copy is of another repository than the dump: their UUIDs.
-    OtherRepository(String),
     /// The copy isn't audited: why, at the path that is at fault where there is one.
     Copy(String),
     /// The copy's report can't be made.
@@ -95,7 +94,7 @@ impl fmt::Display for Fault {
             Fault::NoCopy => f.write_str("no working copy"),
             Fault::Journal => f.write_str("the database has a journal: `svn cleanup` comes first"),
             Fault::Changed => f.write_str("the working copy changed while it was read"),
-            Fault::OtherRepository(text) | Fault::Copy(text) => write!(f, "{text}"),
+            Fault::Copy(text) => write!(f, "{text}"),
             Fault::Pristine(refusal) => write!(f, "{refusal}"),
             Fault::Nodes(fault) => write!(f, "{fault}"),
             Fault::Drive(fault) => write!(f, "{fault}"),
@@ -104,5 +103,21 @@ impl fmt::Display for Fault {
             Fault::Write => f.write_str("write fault"),
             Fault::Memory => f.write_str("out of memory"),
         }
+    }
+}
+
+/// Why a copy isn't audited, as the program says it.
+pub(crate) fn copy_fault(alloc: Global, fault: CopyFault<Fault>) -> Fault {
+    match fault {
+        CopyFault::Refused(fault) => fault,
+        CopyFault::Audit(AuditFault::Examiner(ExaminerFault::Copy(fault))) => fault,
+        CopyFault::Audit(AuditFault::Memory) => Fault::Memory,
+        CopyFault::Audit(
+            AuditFault::Examiner(ExaminerFault::Repository(RepositoryFault::Memory)),
+        ) => { Fault::Memory }
+        fault => match format!(in alloc; "{fault}") {
+            Ok(text) => Fault::Copy(text),
+            Err(_) => Fault::Memory,
+        },
     }
 }

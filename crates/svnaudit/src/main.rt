@@ -12,37 +12,22 @@ mod lines;
 mod load;
 mod on_disk;
 mod output;
-mod passed_over;
 mod pristine;
 mod progress;
 mod questions;
 mod show;
-mod source;
 mod write;
 
 use crate::command_line::{Request, request_of};
 use crate::fault::Fault;
-use crate::questions::{Verdict, ask};
+use crate::questions::ask;
 use crate::show::show_dump;
 use crate::write::write_script;
 use std::env;
 use std::env::Env;
 use std::process::ExitCode;
 use std::rt::{Clock, Files};
-
-// The status where a copy is untrue.
-const UNTRUE: u8 = 1;
-
-// The status where anything is refused.
-const REFUSED: u8 = 2;
-
-fn status_of(verdict: Verdict) -> ExitCode {
-    match verdict {
-        Verdict::True => ExitCode::SUCCESS,
-        Verdict::Untrue => ExitCode::from(UNTRUE),
-        Verdict::Refused => ExitCode::from(REFUSED),
-    }
-}
+use svn_answers::Verdict;
 
 // The words of the command line; the first is the program's name.
 fn words(rt: &(impl Env + AllocGlobal)) -> Result<Vec<String>, Fault> {
@@ -67,7 +52,7 @@ fn answer<T: Files + Input + Print + Eprint + Clock + AllocGlobal>(
         Request::Ask(question) => ask(rt, question),
     };
     match done {
-        Ok(verdict) => status_of(verdict),
+        Ok(verdict) => ExitCode::from(verdict.status()),
         Err(fault) => refuse(rt, request, &fault),
     }
 }
@@ -80,7 +65,7 @@ fn refuse<T: Eprint>(rt: &T, request: &Request<'_>, fault: &Fault) -> ExitCode {
     } else {
         eprintln!(rt; "svnaudit: {fault}")
     };
-    ExitCode::from(REFUSED)
+    ExitCode::from(Verdict::Refused.status())
 }
 
 fn run<T: Files + Input + Print + Eprint + Clock + AllocGlobal>(
@@ -99,7 +84,7 @@ fn run<T: Files + Input + Print + Eprint + Clock + AllocGlobal>(
             // the text of words that are none of a call, or the help that was asked for
             let _ = error.print(rt);
             if error.use_stderr() {
-                ExitCode::from(REFUSED)
+                ExitCode::from(Verdict::Refused.status())
             } else {
                 ExitCode::SUCCESS
             }
@@ -110,7 +95,7 @@ fn run<T: Files + Input + Print + Eprint + Clock + AllocGlobal>(
 fn out_of_memory<T: Eprint>(rt: &T) -> ExitCode {
     let fault = Fault::Memory;
     let _ = eprintln!(rt; "svnaudit: {fault}");
-    ExitCode::from(REFUSED)
+    ExitCode::from(Verdict::Refused.status())
 }
 
 fn main(rt: HostRuntime) -> ExitCode {
@@ -118,7 +103,7 @@ fn main(rt: HostRuntime) -> ExitCode {
         Ok(words) => run(&rt, &words),
         Err(fault) => {
             let _ = eprintln!(rt; "svnaudit: {fault}");
-            ExitCode::from(REFUSED)
+            ExitCode::from(Verdict::Refused.status())
         }
     }
 }

@@ -1,124 +1,77 @@
 //! Working copies on disk, read and not changed.
 
 use crate::fault::Fault;
-use crate::folder::Folder;
+use crate::folder::{Folder, Header};
 use crate::pristine::{PristineFile, open_pristine};
-use std::alloc::Global;
 use std::rt::Files;
-use svn_audit::Untrue;
-use svn_disk_audit::{AuditFault, Audited, Examiner, Question, audit};
-use svn_dump::Texts;
-use svn_editor::Word;
-use svn_repo::Repo;
+use svn_answers::{Copies, Opened};
+use svn_disk_audit::Examiner;
 use svn_types::{RelPath, Text};
-use svn_wc::WorkingCopy;
-use svn_wcdb::{BaseTree, Notes};
+use svn_wcdb::BaseTree;
 
-/// What working copies are compared with.
+/// The working copies of folders.
 #[derive(Clone, Copy)]
-pub(crate) struct History<'a> {
-    pub(crate) repo: &'a Repo,
-    /// The UUID of the repository, if the dump has one.
-    pub(crate) uuid: Option<&'a [u8]>,
-    /// How texts are kept.
-    pub(crate) texts: Texts,
+pub(crate) struct Folders<'a, T> {
+    pub(crate) rt: &'a T,
 }
 
-/// What a working copy on disk has.
+/// A folder whose pristine texts are opened, and the front of its database as it was before that was read.
 #[derive(Drop)]
-pub(crate) struct OnDisk {
-    pub(crate) copy: WorkingCopy,
-    /// What isn't true of it.
-    pub(crate) untrue: Vec<Untrue>,
-    /// What was passed over.
-    pub(crate) notes: Option<Notes>,
-}
-
-fn audit_fault(alloc: Global, fault: AuditFault<Fault>) -> Fault {
-    match fault {
-        AuditFault::Examiner(fault) => fault,
-        AuditFault::Memory => Fault::Memory,
-        fault => match format!(in alloc; "{fault}") {
-            Ok(text) => Fault::Copy(text),
-            Err(_) => Fault::Memory,
-        },
-    }
-}
-
-fn other_repository(alloc: Global, uuid: &[u8], of_dump: &[u8]) -> Result<Fault, Fault> {
-    let (uuid, of_dump) = (Word(uuid), Word(of_dump));
-    Ok(Fault::OtherRepository(format!(in alloc;
-        "the working copy is of repository {uuid}, the dump is of {of_dump}"
-    )?))
-}
-
-fn compare_repository(alloc: Global, tree: &BaseTree, uuid: Option<&[u8]>) -> Result<(), Fault> {
-    let found = tree.origin.uuid.as_slice();
-    match uuid {
-        Some(uuid) if found != uuid => Err(other_repository(alloc, found, uuid)?),
-        _ => Ok(()),
-    }
-}
-
-/// Compares the repository of a working copy with the dump's, and opens its pristine texts.
-#[derive(Drop)]
-struct Examination<'a, T> {
+pub(crate) struct OpenFolder<'a, T> {
     rt: &'a T,
-    folder: &'a Folder,
-    uuid: Option<&'a [u8]>,
-    /// What the database passes over, once it was seen.
-    notes: Option<Notes>,
+    folder: Folder,
+    before: Header,
 }
 
-impl<T: Files + AllocGlobal> Examiner for Examination<'_, T> {
+impl<T: Files + AllocGlobal> Examiner for OpenFolder<'_, T> {
     type Fault = Fault;
 
     type Text = PristineFile<T::File>;
 
-    fn examine(&mut self, tree: &BaseTree) -> Result<(), Fault> {
-        self.notes = Some(tree.notes);
-        compare_repository(self.rt.alloc(), tree, self.uuid)
+    fn examine(&mut self, _tree: &BaseTree) -> Result<(), Fault> {
+        Ok(())
     }
 
     fn pristine(&mut self, path: &RelPath, name: &Text) -> Result<PristineFile<T::File>, Fault> {
-        open_pristine(self.rt, self.folder, path, name)
+        open_pristine(self.rt, &self.folder, path, name)
     }
 }
 
-/// Audits the working copy of a folder, or the part of one that is in the folder, as a copy of its own, as long as no client changes it meanwhile.
-pub(crate) fn audit_copy<T: Files + AllocGlobal>(
-    rt: &T,
-    word: &str,
-    history: History<'_>,
-) -> Result<OnDisk, Fault> {
-    let folder = Folder::find(rt, word)?;
-    let before = folder.header(rt)?;
-    folder.refuse_journal(rt)?;
-    let bytes = folder.read_database(rt)?;
-    let mut examination = Examination {
-        rt,
-        folder: &folder,
-        uuid: history.uuid,
-        notes: None,
-    };
-    let question = Question {
-        repo: history.repo,
-        texts: history.texts,
-        below: folder.below(),
-    };
-    let audited = audit(rt.alloc(), question, bytes.as_slice(), &mut examination);
-    let Audited { copy, untrue } = match audited {
-        Ok(audited) => audited,
-        Err(fault) => return Err(audit_fault(rt.alloc(), fault)),
-    };
-    let notes = examination.notes;
-    folder.refuse_journal(rt)?;
-    if folder.header(rt)? != before {
-        return Err(Fault::Changed);
+impl<'a, T: Files + AllocGlobal> Copies for Folders<'a, T> {
+    type Fault = Fault;
+
+    type Examiner = OpenFolder<'a, T>;
+
+    fn is_memory(&self, fault: &Fault) -> bool {
+        matches!(fault, Fault::Memory)
     }
-    Ok(OnDisk {
-        copy,
-        untrue,
-        notes,
-    })
+
+    fn open(&self, name: &str) -> Result<Opened<OpenFolder<'a, T>>, Fault> {
+        let folder = Folder::find(self.rt, name)?;
+        let before = folder.header(self.rt)?;
+        folder.refuse_journal(self.rt)?;
+        let database = folder.read_database(self.rt)?;
+        Ok(Opened {
+            database,
+            below: folder.below().clone()?,
+            examiner: OpenFolder {
+                rt: self.rt,
+                folder,
+                before,
+            },
+        })
+    }
+
+    fn look_again(
+        &self,
+        _name: &str,
+        _database: &[u8],
+        examiner: &OpenFolder<'a, T>,
+    ) -> Result<(), Fault> {
+        examiner.folder.refuse_journal(self.rt)?;
+        if examiner.folder.header(self.rt)? != examiner.before {
+            return Err(Fault::Changed);
+        }
+        Ok(())
+    }
 }

@@ -3,90 +3,17 @@
 use crate::answers::print_answer;
 use crate::command_line::{Question, Topic};
 use crate::dump_front::DumpFront;
-use crate::fault::Fault;
+use crate::fault::{Fault, copy_fault};
 use crate::load::load_whole;
-use crate::on_disk::{History, OnDisk, audit_copy};
-use crate::output::print_whole;
-use crate::passed_over::PassedOver;
+use crate::on_disk::Folders;
+use crate::output::{error_writer, output_writer};
 use crate::progress::Progress;
-use crate::source::Source;
-use std::fmt;
 use std::fs::File;
 use std::io::Read;
 use std::rt::{Clock, Files};
+use svn_answers::{AnswerFault, Asked, History, OnDisk, Source, Verdict, tell_notes};
 use svn_audit::Untrue;
-use svn_types::Rev;
-use svn_wc::WorkingCopy;
-use svn_wcdb::Notes;
-
-/// How a question was answered.
-#[derive(Clone, Copy, Debug, PartialEq, Eq, PartialOrd, Ord)]
-pub(crate) enum Verdict {
-    /// All was done, and no copy that was checked is untrue.
-    True,
-    /// A copy is untrue.
-    Untrue,
-    /// A copy was refused.
-    Refused,
-}
-
-// What `check` prints of a copy.
-#[derive(Clone, Copy)]
-struct Checked<'a> {
-    name: Source<'a>,
-    copy: &'a WorkingCopy,
-    untrue: &'a [Untrue],
-}
-
-// The first and the last revision of the nodes.
-fn revisions(copy: &WorkingCopy) -> (Rev, Rev) {
-    let mut first = None;
-    let mut last = Rev(0);
-    for (_, node) in copy {
-        if let Some(rev) = node.rev() {
-            first = Some(first.unwrap_or(rev).min(rev));
-            last = last.max(rev);
-        }
-    }
-    (first.unwrap_or(last), last)
-}
-
-impl fmt::Display for Checked<'_> {
-    fn fmt<W: fmt::Write>(&self, f: &mut fmt::Formatter<W>) -> fmt::Result {
-        let name = self.name;
-        if self.untrue.is_empty() {
-            let count = self.copy.nodes().len();
-            let (first, last) = revisions(self.copy);
-            return if first == last {
-                writeln!(f, "{name}: true: {count} nodes, r{last}")
-            } else {
-                writeln!(f, "{name}: true: {count} nodes, r{first} to r{last}")
-            };
-        }
-        for untrue in self.untrue {
-            writeln!(f, "{name}: untrue: {untrue}")?;
-        }
-        Ok(())
-    }
-}
-
-// What was passed over of a copy, if anything was.
-fn tell_notes<T: Eprint>(rt: &T, name: Source<'_>, notes: Option<Notes>) {
-    let Some(notes) = notes else {
-        return;
-    };
-    let passed_over = PassedOver(notes);
-    if !passed_over.is_empty() {
-        let _ = eprintln!(rt; "svnaudit: {name}: passed over: {passed_over}");
-    }
-}
-
-fn tell_refusal<T: Eprint>(rt: &T, name: Source<'_>, fault: &Fault) {
-    let _ = match fault {
-        Fault::Write | Fault::Memory => eprintln!(rt; "svnaudit: {fault}"),
-        fault => eprintln!(rt; "svnaudit: {name}: {fault}"),
-    };
-}
+use svn_disk_audit::Audited;
 
 // The first of the untrue paths, where there is one.
 fn refuse_untrue(untrue: Vec<Untrue>) -> Result<(), Fault> {
@@ -96,60 +23,65 @@ fn refuse_untrue(untrue: Vec<Untrue>) -> Result<(), Fault> {
     }
 }
 
-fn verdict_on(untrue: &[Untrue]) -> Verdict {
-    if untrue.is_empty() {
-        Verdict::True
-    } else {
-        Verdict::Untrue
+fn check_copies<T: Files + Print + Eprint + AllocGlobal>(
+    rt: &T,
+    asked: &Asked<'_, Folders<'_, T>>,
+    question: &Question<'_>,
+) -> Result<Verdict, Fault> {
+    let (mut output, mut notices) = (output_writer(rt)?, error_writer(rt)?);
+    match asked.check(&question.copies, &mut output, &mut notices) {
+        Ok(verdict) => Ok(verdict),
+        Err(AnswerFault::Write) => Err(Fault::Write),
     }
 }
 
+// Answers another question, of one copy.
 fn answer_copy<T: Files + Print + Eprint + AllocGlobal>(
     rt: &T,
-    history: History<'_>,
+    asked: &Asked<'_, Folders<'_, T>>,
     question: &Question<'_>,
-    name: Source<'_>,
-) -> Result<Verdict, Fault> {
-    let OnDisk {
-        mut copy,
-        untrue,
-        notes,
-    } = audit_copy(rt, name.0, history)?;
-    tell_notes(rt, name, notes);
-    if question.topic == Topic::Check {
-        let checked = Checked {
-            name,
-            copy: &copy,
-            untrue: untrue.as_slice(),
-        };
-        print_whole(rt, &checked)?;
-        return Ok(verdict_on(untrue.as_slice()));
-    }
+    name: &str,
+) -> Result<(), Fault> {
+    let OnDisk { audited, notes } = match asked.audit_copy(name) {
+        Ok(found) => found,
+        Err(fault) => return Err(copy_fault(rt.alloc(), fault)),
+    };
+    tell_notes(Source(name), notes, &mut error_writer(rt)?);
+    let Audited { mut copy, untrue } = audited;
     if !question.allow_untrue {
         refuse_untrue(untrue)?;
     }
-    print_answer(rt, history.repo, &mut copy, question)?;
-    Ok(Verdict::True)
+    print_answer(rt, asked.history.repo, &mut copy, question)
 }
 
-// Answers the question of each copy. One that is refused doesn't keep the others from it.
+fn tell_refusal<T: Eprint>(rt: &T, name: &str, fault: &Fault) {
+    let name = Source(name);
+    let _ = match fault {
+        Fault::Write | Fault::Memory => eprintln!(rt; "svnaudit: {fault}"),
+        fault => eprintln!(rt; "svnaudit: {name}: {fault}"),
+    };
+}
+
 fn answer_copies<T: Files + Print + Eprint + AllocGlobal>(
     rt: &T,
     history: History<'_>,
     question: &Question<'_>,
-) -> Verdict {
-    let mut verdict = Verdict::True;
+) -> Result<Verdict, Fault> {
+    let asked = Asked {
+        alloc: rt.alloc(),
+        history,
+        copies: &Folders { rt },
+    };
+    if question.topic == Topic::Check {
+        return check_copies(rt, &asked, question);
+    }
     for name in question.copies.iter() {
-        let name = Source(name);
-        match answer_copy(rt, history, question, name) {
-            Ok(answer) => verdict = verdict.max(answer),
-            Err(fault) => {
-                tell_refusal(rt, name, &fault);
-                verdict = Verdict::Refused;
-            }
+        if let Err(fault) = answer_copy(rt, &asked, question, name) {
+            tell_refusal(rt, name, &fault);
+            return Ok(Verdict::Refused);
         }
     }
-    verdict
+    Ok(Verdict::True)
 }
 
 fn ask_of<T: Files + Input + Print + Eprint + Clock + AllocGlobal, R: Read + Drop>(
@@ -167,7 +99,7 @@ fn ask_of<T: Files + Input + Print + Eprint + Clock + AllocGlobal, R: Read + Dro
         uuid: front.uuid(),
         texts: question.texts,
     };
-    Ok(answer_copies(rt, history, question))
+    answer_copies(rt, history, question)
 }
 
 /// Answers a question about working copies.

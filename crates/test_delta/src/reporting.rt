@@ -210,6 +210,49 @@ fn a_report_is_printed_with_its_root(rt: HostRuntime) -> Result<(), Fail> {
     prints(&rt, rt.alloc(), &report, lines)
 }
 
+fn is_cloned(rt: &impl Abort, alloc: Global, row: &Reported) -> Result<(), Fail> {
+    let (calls, lines) = row;
+    let report = report_of(rt, alloc, calls)?;
+    let copy = report.clone()?;
+    assert!(rt; copy == report);
+    prints(rt, alloc, &copy, lines)
+}
+
+#[test]
+fn a_clone_is_the_same_report(rt: HostRuntime) -> Result<(), Fail> {
+    for row in rows() {
+        is_cloned(&rt, rt.alloc(), row)?;
+    }
+    Ok(())
+}
+
+fn are_equal(
+    rt: &impl Abort,
+    alloc: Global,
+    one: &[Answered],
+    other: &[Answered],
+) -> Result<bool, Fail> {
+    let report = report_of(rt, alloc, one)?;
+    Ok(report == report_of(rt, alloc, other)?)
+}
+
+#[test]
+fn reports_differ_in_their_entries_and_order(rt: HostRuntime) -> Result<(), Fail> {
+    let alloc = rt.alloc();
+    assert!(rt; are_equal(&rt, alloc, &NESTED, &NESTED)?);
+    assert!(rt; !are_equal(&rt, alloc, &NESTED, &NESTED_IN_ORDER)?);
+    assert!(rt; !are_equal(&rt, alloc, &ROOT, &LINKED)?);
+    Ok(())
+}
+
+#[test]
+fn reports_differ_in_their_root(rt: HostRuntime) -> Result<(), Fail> {
+    let alloc = rt.alloc();
+    let elsewhere = report_of(&rt, alloc, &LINKED)?;
+    assert!(rt; linked(&rt, alloc)? != elsewhere);
+    Ok(())
+}
+
 // Links `z` and that many names `a` below it to a path of one name.
 fn link_deep(
     alloc: Global,

@@ -8,7 +8,7 @@ use Rattle.svn_report.specs.Reports.{ReportView}
 use Rattle.svn_editor.specs.declared.mode.Mode.{Mode}
 use Rattle.svn_editor.specs.declared.call.Call.{Call}
 use Rattle.svn_editor.specs.declared.fault.EditFault.{EditFault}
-use Rattle.svn_model.specs.Follow.{Request}
+use Rattle.svn_model.specs.Follow.{DriveInput}
 use Rattle.svn_model.specs.declared.base_node.BaseNode.{BaseNode}
 use Rattle.svn_model.specs.declared.base_node.BaseNode.TheVariants.{File as FileNode, Dir as DirNode}
 use Rattle.svn_model.specs.Nodes.{WorkingCopy, listed}
@@ -81,11 +81,11 @@ history_of roots nodes = record { roots = roots; nodes = nodes; lines = length n
 abbrev pub sum : List ℕ → List ℕ
 sum text = text
 
-abbrev pub ask : Mode → History → ReportView → ℕ → Request
+abbrev pub ask : Mode → History → ReportView → ℕ → DriveInput
 ask mode h r target = record { history = h; report = r; target = target; mode = mode; checksum = sum }
 
 -- the calls of a drive, where no path has more names than the number says
-abbrev pub drive_within : ℕ → Bool → Request → List Call
+abbrev pub drive_within : ℕ → Bool → DriveInput → List Call
 drive_within height late q =
     SetTargetRevision q.target ∷ (tree_calls q late height [] 0 0 ++ (late_calls q late height [] 0 0 ++ (CloseEdit ∷ [])))
 

@@ -1,11 +1,8 @@
-use Rattle.std.proofs.Common.{◌≡◌, ℕ, [], ◌++◌, List, take, refl, sym, ap, subst, ◌∙◌, arith, cond, Bool, true, false}
+use Rattle.std.proofs.Common.{◌≡◌, ℕ, [], ◌++◌, List, take, refl, ◌∙◌, arith, cond, Bool, true, false}
 use Rattle.std.proofs.KnownBytes.{Consumes-nil}
 use Rattle.std.proofs.lemmas.Bool.{false≢true}
-use Rattle.std.specs.Prelude.{◌↔◌, IsTrue}
-use Rattle.sha1.specs.Sha1.{Holds}
 use Rattle.svn_disk_audit.proofs.KeptTexts.{read_more, read_none, read_all, bytes_more, not_empty}
 use Rattle.svn_disk_audit.proofs.pristine.read_summed.Goals as goal
-use Rattle.svn_disk_audit.proofs.pristine.read_summed.Goals.{in-Ok+in_ok-keep-in-Ok, in-Err}
 
 none_kept : (keeps : Bool) (bytes : List ℕ) → bytes ≡ [] → bytes ≡ cond keeps [] []
 none_kept true bytes e = e
@@ -31,31 +28,30 @@ returns-in-Ok-eq0-clause-text g c =
       inv.empty,
     )
 
+pub pieces-preserved-in-Ok : goal.pieces-preserved-in-Ok
+pieces-preserved-in-Ok g c =
+    let inv = c.pieces.invariant in
+    let more : List ℕ = take c.in-Ok.count c.read.new.buf in
+    record {
+      front = inv.front ++ more;
+      taken = read_more (g.R.Read.remaining c.args.input.now) (g.R.Read.remaining c.pieces.input) (g.R.Read.remaining c.read.new.self) c.read.result
+          c.in-Ok.count inv.front c.read.new.buf more inv.taken c.read.ensures.bytes c.in-Ok.is refl;
+      summed = c.update.ensures inv.front inv.summed;
+      bytes = bytes_more c.args.keeps inv.front more c.pieces.bytes.items c.keep.new.bytes.items inv.bytes c.in_ok-keep-in-Ok.ensures.kept;
+      empty = (
+        λ said. absurd (false≢true said),
+        λ none. absurd (not_empty inv.front more (λ zero. c.in-Ok.count-test.1 (c.in-Ok.ensures.bound.1 ∙ zero)) none),
+      );
+    }
+
 pub pieces-preserved : goal.pieces-preserved
 pieces-preserved g c =
     let inv = c.pieces.invariant in
-    let old = g.R.Read.remaining c.args.input.now in
-    let mid = g.R.Read.remaining c.pieces.input in
-    let new = g.R.Read.remaining c.read.new.self in
-    elim c.match-read.branch [
-      | in-Ok+in_ok-keep-in-Ok w ↦
-          let more : List ℕ = take w.in-Ok.count c.read.new.buf in
-          record {
-            front = inv.front ++ more;
-            taken = read_more old mid new c.read.result w.in-Ok.count inv.front c.read.new.buf more inv.taken c.read.ensures.bytes w.in-Ok.is refl;
-            summed = subst (λ s. Holds s (inv.front ++ more)) (sym w.sum-is) (w.update.ensures inv.front inv.summed);
-            bytes = ap (λ v. v.items) w.bytes-is
-                ∙ bytes_more c.args.keeps inv.front more c.pieces.bytes.items w.keep.new.bytes.items inv.bytes w.in_ok-keep-in-Ok.ensures;
-            empty = (
-              λ said. absurd (false≢true (sym w.is_empty-is ∙ said)),
-              λ none. absurd (not_empty inv.front more (λ zero. w.in-Ok.count-test.1 (w.in-Ok.ensures.bound.1 ∙ zero)) none),
-            );
-          }
-      | in-Err w ↦ record {
-        front = inv.front;
-        taken = read_none old mid new c.read.result _ inv.front c.read.new.buf inv.taken c.read.ensures.bytes w.in-Err.is;
-        summed = subst (λ s. Holds s inv.front) (sym w.sum-is) inv.summed;
-        bytes = ap (λ v. v.items) w.bytes-is ∙ inv.bytes;
-        empty = subst (λ b. IsTrue b ↔ (inv.front ≡ [])) (sym w.is_empty-is) inv.empty;
-      }
-    ]
+    record {
+      front = inv.front;
+      taken = read_none (g.R.Read.remaining c.args.input.now) (g.R.Read.remaining c.pieces.input) (g.R.Read.remaining c.read.new.self) c.read.result
+          _ inv.front c.read.new.buf inv.taken c.read.ensures.bytes c.in-Err.is;
+      summed = inv.summed;
+      bytes = inv.bytes;
+      empty = inv.empty;
+    }

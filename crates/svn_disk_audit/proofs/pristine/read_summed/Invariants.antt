@@ -1,8 +1,11 @@
-use Rattle.std.proofs.Common.{◌≡◌, List, ℕ, [], cond}
+use Rattle.std.proofs.Common.{◌≡◌, ◌-◌, ◌^◌, List, ℕ, [], cond}
 use Rattle.std.specs.Prelude.{◌↔◌, IsTrue}
 use Rattle.std.specs.Io.KnownBytes.{Consumes}
 use Rattle.sha1.specs.Sha1.{Holds}
 use Rattle.svn_disk_audit.proofs.pristine.read_summed.Given as goal
+
+abbrev pub decreases-pieces : goal.decreases-pieces
+decreases-pieces g l = 2 ^ 64 - 1 - l.tries.count
 
 -- what the reader gave so far is summed, and kept if asked; whether that is nothing is noted
 abbrev pub invariant-pieces : goal.invariant-pieces

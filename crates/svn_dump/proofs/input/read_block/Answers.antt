@@ -45,4 +45,6 @@ bytes-preserved g c =
           c.is_line_feed-blank.ensures),
       omega (arith, c.bytes.invariant.1),
       λ all taken. c.read_byte.ensures.counted all (c.bytes.invariant.2 all taken),
+      omega (arith, c.read_byte.ensures.grows, c.bytes.invariant.3),
+      c.in-Ok-Some.ensures.failed ∙ c.bytes.invariant.4,
     )

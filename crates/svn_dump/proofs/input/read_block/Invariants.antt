@@ -1,4 +1,4 @@
-use Rattle.std.proofs.Common.{◌≤◌, false}
+use Rattle.std.proofs.Common.{◌≡◌, ◌≤◌, false}
 use Rattle.svn_dump.specs.Counts.{Counts}
 use Rattle.svn_dump.specs.Blocks.{block_at}
 use Rattle.svn_dump.proofs.Streams.{Continues}
@@ -13,3 +13,4 @@ invariant-bytes g l =
     Continues (g.S.Input.remaining l.initial.source) (g.S.Input.remaining l.source) (block_at false l.room) (block_at l.blank l.left)
     × (l.left ≤ l.room)
     × Counts (g.S.Input.taken l.initial.source) (g.S.Input.remaining l.initial.source) (g.S.Input.taken l.source) (g.S.Input.remaining l.source)
+    × (g.S.Input.taken l.initial.source ≤ g.S.Input.taken l.source) × (g.S.Input.failed l.source ≡ g.S.Input.failed l.initial.source)

@@ -1,4 +1,4 @@
-use Rattle.std.proofs.Common.{◌-◌, ◌≤◌, vec_len}
+use Rattle.std.proofs.Common.{◌≡◌, ◌-◌, ◌≤◌, vec_len}
 use Rattle.std.specs.Io.KnownBytes.{Consumes}
 use Rattle.svn_dump.specs.Counts.{Counts}
 use Rattle.svn_dump.proofs.input.read_bytes.Given as goal
@@ -11,3 +11,4 @@ abbrev pub invariant-pieces : goal.invariant-pieces
 invariant-pieces g l =
     Consumes (g.S.Input.remaining l.initial.source) (g.S.Input.remaining l.source) l.bytes.items × (vec_len l.bytes ≤ l.count)
     × Counts (g.S.Input.taken l.initial.source) (g.S.Input.remaining l.initial.source) (g.S.Input.taken l.source) (g.S.Input.remaining l.source)
+    × (g.S.Input.taken l.initial.source ≤ g.S.Input.taken l.source) × (g.S.Input.failed l.source ≡ g.S.Input.failed l.initial.source)

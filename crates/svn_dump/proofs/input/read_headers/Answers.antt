@@ -46,4 +46,6 @@ bytes-preserved g c =
           c.in-Ok-Some.byte bs more room c.in_ok-push-2.ensures.items c.is_line_feed-fresh.ensures),
       omega (arith, c.bytes.invariant.1, c.in_ok-push-2.ensures.len),
       λ all taken. c.read_byte.ensures.counted all (c.bytes.invariant.2 all taken),
+      omega (arith, c.read_byte.ensures.grows, c.bytes.invariant.3),
+      c.in-Ok-Some.ensures.failed ∙ c.bytes.invariant.4,
     )

@@ -1,4 +1,4 @@
-use Rattle.std.proofs.Common.{◌≡◌, ◌+◌, [], ◌∷◌, false, vec_len}
+use Rattle.std.proofs.Common.{◌≤◌, ◌≡◌, ◌+◌, [], ◌∷◌, false, vec_len}
 use Rattle.svn_dump.specs.Counts.{Counts}
 use Rattle.svn_dump.specs.Blocks.{headers_at, with_front}
 use Rattle.svn_dump.proofs.Streams.{Continues}
@@ -15,3 +15,4 @@ invariant-bytes g l =
     (λ bs. with_front l.block.items (headers_at l.fresh l.left bs))
     × (vec_len l.block + l.left ≡ l.room + 1)
     × Counts (g.S.Input.taken l.initial.source) (g.S.Input.remaining l.initial.source) (g.S.Input.taken l.source) (g.S.Input.remaining l.source)
+    × (g.S.Input.taken l.initial.source ≤ g.S.Input.taken l.source) × (g.S.Input.failed l.source ≡ g.S.Input.failed l.initial.source)

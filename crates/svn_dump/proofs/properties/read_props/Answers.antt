@@ -4,7 +4,7 @@ use Rattle.svn_types.specs.Pairs.{with_value}
 use Rattle.svn_types.specs.Props.{PropChange, with_changes}
 use Rattle.svn_dump.specs.Reading.{◌>>=◌}
 use Rattle.svn_dump.proofs.PropertyLemmas.{one_change, no_change, bad_change, one_more_set}
-use Rattle.svn_dump.proofs.Sequences.{fails_first}
+use Rattle.svn_dump.proofs.Sequences.{meets_first}
 use Rattle.svn_dump.proofs.properties.read_props.Goals as goal
 
 pub returns-in_err-name : goal.returns-in_err-name
@@ -12,7 +12,7 @@ returns-in_err-name c =
     let p = err_from_is_err_and c.from_residual.result c.from_residual.ensures.1 in
     let front = c.entries.invariant.0 in
     rw (p.1, p.2)
-    (fails_first _ _ _ (bad_change false front c.entries.rest.now _ _ c.entries.invariant.2 (sym c.is_end.ensures ∙ c.entries-test.true) c.in_err-name.ensures.parts))
+    (meets_first _ _ _ (bad_change false front c.entries.rest.now _ _ c.entries.invariant.2 (sym c.is_end.ensures ∙ c.entries-test.true) c.in_err-name.ensures.parts))
 
 pub entries-preserved : goal.entries-preserved
 entries-preserved c =

@@ -1,4 +1,4 @@
-use Rattle.std.proofs.Common.{◌++◌, length-append, length-take-le, take, arith}
+use Rattle.std.proofs.Common.{◌++◌, length-append, length-take-le, take, arith, ◌∙◌}
 use Rattle.svn_dump.proofs.Pieces.{more_taken}
 use Rattle.svn_dump.proofs.sections.skip_bytes.Goals as goal
 
@@ -14,4 +14,6 @@ pieces-preserved g c =
           c.pieces.invariant.1 c.in_ok-count.ensures.bytes,
       omega (arith, taken, joined, count.1, c.pieces.invariant.2),
       λ all h. c.read_piece.ensures.counted all (c.pieces.invariant.3 all h),
+      omega (arith, c.read_piece.ensures.grows, c.pieces.invariant.4),
+      c.in_ok-count.ensures.failed ∙ c.pieces.invariant.5,
     )

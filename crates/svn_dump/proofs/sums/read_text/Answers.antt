@@ -1,4 +1,4 @@
-use Rattle.std.proofs.Common.{◌++◌, length-append, length-take-le, take, arith}
+use Rattle.std.proofs.Common.{◌++◌, length-append, length-take-le, take, arith, ◌∙◌}
 use Rattle.svn_dump.proofs.Pieces.{kept_more, more_taken}
 use Rattle.svn_dump.proofs.sums.read_text.Goals as goal
 
@@ -17,4 +17,6 @@ pieces-preserved g c =
       kept_more c.args.keeps front more c.pieces.bytes.items c.keep.new.bytes.items c.pieces.invariant.4
           c.in_ok-keep.ensures.kept,
       λ all h. c.read_piece.ensures.counted all (c.pieces.invariant.5 all h),
+      omega (arith, c.read_piece.ensures.grows, c.pieces.invariant.6),
+      c.in_ok-count.ensures.failed ∙ c.pieces.invariant.7,
     )

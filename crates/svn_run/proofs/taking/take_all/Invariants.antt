@@ -1,6 +1,5 @@
 use Rattle.std.proofs.Common.{◌≡◌, ◌≤◌, length, []}
 use Rattle.md5.specs.Md5.{md5}
-use Rattle.svn_editor.specs.declared.mode.Mode.{Mode}
 use Rattle.svn_edit.specs.Carrying.{CarriedOut}
 use Rattle.svn_model.specs.Nodes.{WorkingCopy}
 use Rattle.svn_model.specs.Effects.{AllAccepted}
@@ -12,8 +11,10 @@ abbrev pub invariant-loop : goal.invariant-loop
 invariant-loop g l = record {
   link : l.taken.inbox.link ≡ l.initial.taken.inbox.link;
   notice : l.taken.teller.notice ≡ l.initial.taken.teller.notice;
+  same_mode : l.carrier.mode ≡ l.initial.carrier.mode;
   counted : l.taken.accepted ≤ length l.taken.inbox.calls;
-  holds : (mode : Mode) (w0 : WorkingCopy) → CarriedOut mode w0 l.initial.carrier.pending l.initial.carrier.copy.nodes.entries []
+  holds : let mode = l.initial.carrier.mode.now in (w0 : WorkingCopy)
+      → CarriedOut mode w0 l.initial.carrier.pending l.initial.carrier.copy.nodes.entries []
       → AllAccepted md5 mode w0 (unaborted l.taken.inbox.calls)
       → Holding mode w0 l.carrier.pending l.carrier.copy.nodes.entries (unaborted l.taken.inbox.calls) l.taken.teller.number l.taken.accepted;
 }

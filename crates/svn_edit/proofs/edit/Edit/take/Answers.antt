@@ -8,8 +8,8 @@ use Rattle.svn_edit.proofs.edit.Edit.take.Goals as goal
 
 pub returns-then-is_last-clause-accepted : goal.returns-then-is_last-clause-accepted
 returns-then-is_last-clause-accepted c = OnOk_then c.take_in_order-answer.result c.take_in_order-answer.ensures.accepted
-    (λ taken mode w0 calls s.
-    let t = taken mode w0 calls s in
+    (λ taken w0 calls s.
+    let t = taken w0 calls s in
     let last : is_last c.args.call.now ≡ true = sym c.is_last.ensures ∙ c.if-is_last.true in
     let ended : list_any is_last (calls ++ c.args.call.now ∷ []) ≡ true =
     any_push is_last calls c.args.call.now ∙ ap (λ b. list_any is_last calls || b) last ∙ or-true (list_any is_last calls) in
@@ -25,8 +25,8 @@ returns-then-is_last-clause-accepted c = OnOk_then c.take_in_order-answer.result
 
 pub returns-else-is_last-clause-accepted : goal.returns-else-is_last-clause-accepted
 returns-else-is_last-clause-accepted c = OnOk_then c.take_in_order-answer.result c.take_in_order-answer.ensures.accepted
-    (λ taken mode w0 calls s.
-    let t = taken mode w0 calls s in
+    (λ taken w0 calls s.
+    let t = taken w0 calls s in
     let going : is_last c.args.call.now ≡ false = sym c.is_last.ensures ∙ c.if-is_last.false in
     let still : list_any is_last (calls ++ c.args.call.now ∷ []) ≡ false = any_push is_last calls c.args.call.now
     ∙ (λ i. t.earlier i || going i) in

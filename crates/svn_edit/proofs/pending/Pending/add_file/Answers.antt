@@ -8,12 +8,12 @@ use Rattle.svn_edit.proofs.LeftPools.{made_opened}
 use Rattle.svn_edit.proofs.pending.Pending.add_file.Goals as goal
 
 pub returns-clause-gives : goal.returns-clause-gives
-returns-clause-gives c =
+returns-clause-gives c = λ mode.
     let old = c.args.self.now in
     record {
       opened = subst (λ n. OnOk c.add.result (MakesBaton n c.args.path.now c.args.token old c.add.new.self)) c.root-root.ensures.root
           (c.add.ensures.opened (made_opened _ _ _ _ c.new_file-new.ensures));
       keeps = c.add.ensures.keeps;
-      applied = applied_add md5 old.mode old.target File c.args.path.now c.args.copy.now.entries _ c.add.result
+      applied = applied_add md5 mode old.target File c.args.path.now c.args.copy.now.entries _ c.add.result
           (c.add.ensures.applied _ _ c.new_file-new.ensures);
     }

@@ -15,8 +15,8 @@ returns-in_err-close_file_of-clause-closes c = λ b there.
     let refused : c.from_residual.result ≡ Err c.in_err-close_file_of.field-0.0 = search rules in
     let same : c.in-Some.baton.now ≡ b = same_Some c.in-Some.baton.now b (c.in-Some.ensures.value
     ∙ ap (get old.batons) c.token.view_is ∙ there) in
-    subst (λ (r : Result (Unit {0}) EditFault). ClosesFile old b c.args.text_md5.now nodes r nodes2) (sym refused)
-    (subst (λ (x : Baton). ClosesFile old x c.args.text_md5.now nodes (Err c.in_err-close_file_of.field-0.0) nodes2) same
+    subst (λ (r : Result (Unit {0}) EditFault). ClosesFile c.args.mode.now old b c.args.text_md5.now nodes r nodes2) (sym refused)
+    (subst (λ (x : Baton). ClosesFile c.args.mode.now old x c.args.text_md5.now nodes (Err c.in_err-close_file_of.field-0.0) nodes2) same
     c.in_err-close_file_of.ensures)
 
 pub returns-clause-closes : goal.returns-clause-closes
@@ -24,5 +24,5 @@ returns-clause-closes c = λ b there.
     let old = c.args.self.now in
     let same : c.in-Some.baton.now ≡ b = same_Some c.in-Some.baton.now b (c.in-Some.ensures.value
     ∙ ap (get old.batons) c.token.view_is ∙ there) in
-    subst (λ (x : Baton). ClosesFile old x c.args.text_md5.now c.args.copy.now.entries (Ok tt) c.close_file_of.new.copy.entries) same
+    subst (λ (x : Baton). ClosesFile c.args.mode.now old x c.args.text_md5.now c.args.copy.now.entries (Ok tt) c.close_file_of.new.copy.entries) same
     c.in_ok-close_file_of.ensures

@@ -15,7 +15,7 @@ returns-in-Some c =
     let at = c.as_rel_path.result.now in
     let joined = subst (λ (p : Path). IfOk c.args.joined (λ j. j ≡ joined_path (get_in nodes) p)) (sym c.as_rel_path.ensures) c.requires in
     let written = c.get_mut.follows.holds c.close_new.new.node in
-    node_closes c.args.self.now c.args.baton.now c.args.text_md5.now at nodes _ c.in-Some.node.now c.close_new.new.node c.close_new.result
+    node_closes c.args.mode.now c.args.self.now c.args.baton.now c.args.text_md5.now at nodes _ c.in-Some.node.now c.close_new.new.node c.close_new.result
     c.as_rel_path.ensures c.in-Some.ensures.value c.close_new.ensures.answers
     (OnOk_then c.close_new.result c.close_new.ensures.closed
     (λ closed said s. closed said (get_in nodes) at s c.as_rel_path.ensures joined))
@@ -25,5 +25,5 @@ returns-in-Some c =
 
 pub returns-in-None : goal.returns-in-None
 returns-in-None c =
-    nothing_closes c.args.self.now c.args.baton.now c.args.text_md5.now c.as_rel_path.result.now c.args.copy.now.entries _
+    nothing_closes c.args.mode.now c.args.self.now c.args.baton.now c.args.text_md5.now c.as_rel_path.result.now c.args.copy.now.entries _
     c.close_nothing.result c.as_rel_path.ensures c.in-None.ensures.value (search rules) c.close_nothing.ensures

@@ -35,7 +35,7 @@ pub returns-then-matches-clause-closed : goal.returns-then-matches-clause-closed
 returns-then-matches-clause-closed c = λ said w p s at j.
     let target = c.args.self.now.target in
     let to = joined_path w p in
-    let moved = moved_path c.args.self.now.mode w p in
+    let moved = moved_path c.args.mode.now w p in
     let absent : c.args.node.now ≡ NotPresent = search rules in
     c.in_ok-close_opened.ensures.closed said (λ was. to) to s (c.moved_to.ensures to j)
     ∙ ap (λ (n : BaseNode). closed_file target (λ was. to) to (filter_map change_in said) (filter_map text_in said) (Some n))
@@ -44,7 +44,7 @@ returns-then-matches-clause-closed c = λ said w p s at j.
 
 pub returns-clause-closed : goal.returns-clause-closed
 returns-clause-closed c =
-    let mode = c.args.self.now.mode in
+    let mode = c.args.mode.now in
     OnOk_then c.close_opened-2.result c.close_opened-2.ensures.closed (λ closed said w p s same j.
     closed said (moved_path mode w p) (joined_path w p) s
     (subst (λ (x : Path). IfOk c.args.joined (λ q. q ≡ joined_path w x)

@@ -4,11 +4,10 @@ use Rattle.svn_edit.proofs.Beginning.{begun_batons}
 use Rattle.svn_edit.proofs.pending.Pending.new.Goals as goal
 
 pub returns-clause-begun : goal.returns-clause-begun
-returns-clause-begun c = λ nodes. record {
+returns-clause-begun c = λ mode nodes. record {
   lawful = tt;
   copy = λ p. refl;
   going = λ h. record {
-    mode_is = refl;
     target = refl;
     batons = begun_batons c.in-Ok.pools c.new-2.result c.in-Ok.ensures.made c.new-2.ensures;
   };

@@ -17,7 +17,6 @@ use Rattle.svn_edit.specs.Applying.{MakesBaton}
 use Rattle.law_copy.proofs.Lookups.{get_in-updated}
 use Rattle.law_copy.proofs.StepEffects.{effect_alone}
 use Rattle.svn_nodes.proofs.OpenFaults.{open_fault_is}
-use Rattle.svn_edit.proofs.Holding.{edit_kept}
 use Rattle.svn_edit.proofs.LeftPools.{keeps_same, gives_refused}
 use Rattle.svn_edit.proofs.pending.Pending.open_directory.Goals as goal
 
@@ -26,16 +25,16 @@ returns-in_err-moved-clause-gives c =
     let old = c.args.self.now in
     let nodes = c.args.copy.now.entries in
     let w = get_in nodes in
-    let mode = old.mode in
+    let mode = c.args.mode.now in
     let p = c.args.path.now in
     let e = c.in_err-moved.field-0.0 in
     let moved = moved_path mode w p in
     let same : c.from_residual.result ≡ Err e = search rules in
-    gives_refused _ p c.args.token (Open Directory c.args.base) old nodes c.from_residual.result e _ _ same
+    gives_refused mode _ p c.args.token (Open Directory c.args.base) old nodes c.from_residual.result e _ _ same
     (subst (λ (o : Option EditFault). IsAnswer o e) (open_fault_is md5 mode [] w p Directory c.args.base)
     (subst (λ (o : Option BaseNode). IsAnswer (option_or (open_fault_of Directory o c.args.base) (deep_fault (moved (node_path o)))) e)
     c.in-Some.ensures.value (c.in_err-moved.ensures.answers moved c.moved-moved.ensures)))
-    (edit_kept old)
+    refl
     ((c.get_mut.follows.holds c.in-Some.node.now).0 ∙ set_value_same _ _ _ (sym c.in-Some.ensures.value))
 
 pub returns-in_err-moved-clause-unchanged : goal.returns-in_err-moved-clause-unchanged
@@ -48,7 +47,7 @@ pub returns-in_err-open_at-clause-gives : goal.returns-in_err-open_at-clause-giv
 returns-in_err-open_at-clause-gives c =
     let e = c.in_err-open_at.field-0.0 in
     let same : c.from_residual-in_err-open_at.result ≡ Err e = search rules in
-    gives_refused _ c.args.path.now c.args.token (Open Directory c.args.base) c.args.self.now c.args.copy.now.entries
+    gives_refused c.args.mode.now _ c.args.path.now c.args.token (Open Directory c.args.base) c.args.self.now c.args.copy.now.entries
     c.from_residual-in_err-open_at.result e c.open_at.new.self _ same
     (subst (IsAnswer _) (sym c.in_err-open_at.ensures.fault) tt) c.in_err-open_at.ensures.keeps
     ((c.get_mut.follows.holds c.in-Some.node.now).0 ∙ set_value_same _ _ _ (sym c.in-Some.ensures.value))
@@ -58,13 +57,13 @@ returns-clause-gives c =
     let old = c.args.self.now in
     let nodes = c.args.copy.now.entries in
     let w = get_in nodes in
-    let mode = old.mode in
+    let mode = c.args.mode.now in
     let target = old.target in
     let p = c.args.path.now in
     let moved = moved_path mode w p in
     let opened : Some c.open_directory.new.node ≡ opened_directory target moved (w p) =
     c.open_directory.ensures moved (c.in_ok-moved.ensures.moved moved c.moved-moved.ensures)
-    ∙ (λ i. opened_directory (c.in_ok-open_at.ensures.keeps.target i) moved (c.in-Some.ensures.value i)) in
+    ∙ (λ i. opened_directory (c.in_ok-open_at.ensures.keeps i) moved (c.in-Some.ensures.value i)) in
     let written = c.get_mut.follows.holds c.open_directory.new.node in
     record {
       opened = subst (λ n. MakesBaton n p c.args.token old c.open_at.new.self) (c.pool_of-beneath.ensures ∙ c.baton_of-parent.ensures)

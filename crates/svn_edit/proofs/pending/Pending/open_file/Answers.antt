@@ -15,7 +15,7 @@ use Rattle.svn_nodes.specs.NodeTests.{open_fault_of, deep_fault, IsSumOf}
 use Rattle.svn_edit.specs.Applying.{MakesBaton}
 use Rattle.law_copy.proofs.StepEffects.{effect_none}
 use Rattle.svn_nodes.proofs.OpenFaults.{open_fault_is}
-use Rattle.svn_edit.proofs.Holding.{applied_none, edit_kept}
+use Rattle.svn_edit.proofs.Holding.{applied_none}
 use Rattle.svn_edit.proofs.LeftPools.{keeps_same, own_answer, gives_refused}
 use Rattle.svn_edit.proofs.pending.Pending.open_file.Goals as goal
 
@@ -23,20 +23,20 @@ pub returns-in-Some-clause-gives : goal.returns-in-Some-clause-gives
 returns-in-Some-clause-gives c =
     let old = c.args.self.now in
     let w = get_in c.args.copy.now.entries in
-    let mode = old.mode in
+    let mode = c.args.mode.now in
     let p = c.args.path.now in
     let e = c.in-Some.fault in
     let shut : open_fault_of File (w p) c.args.base ≡ Some e = search rules in
     let fault : step_fault md5 mode [] w p (Open File c.args.base) ≡ Some e =
     sym (open_fault_is md5 mode [] w p File c.args.base) ∙ ap (λ o. option_or o (deep_fault (moved_path mode w p (node_path (w p))))) shut in
-    gives_refused _ p c.args.token (Open File c.args.base) old c.args.copy.now.entries (Err e) e old c.args.copy.now.entries refl
-    (subst (λ (o : Option EditFault). IsAnswer o e) (sym fault) (own_answer e)) (edit_kept old) refl
+    gives_refused mode _ p c.args.token (Open File c.args.base) old c.args.copy.now.entries (Err e) e old c.args.copy.now.entries refl
+    (subst (λ (o : Option EditFault). IsAnswer o e) (sym fault) (own_answer e)) refl refl
 
 pub returns-in_err-test_moved-clause-gives : goal.returns-in_err-test_moved-clause-gives
 returns-in_err-test_moved-clause-gives c =
     let old = c.args.self.now in
     let w = get_in c.args.copy.now.entries in
-    let mode = old.mode in
+    let mode = c.args.mode.now in
     let p = c.args.path.now in
     let e = c.in_err-test_moved.field-0.0 in
     let same : c.from_residual.result ≡ Err e = search rules in
@@ -44,15 +44,15 @@ returns-in_err-test_moved-clause-gives c =
     let deep = deep_fault (moved_path mode w p (node_path (w p))) in
     let fault : step_fault md5 mode [] w p (Open File c.args.base) ≡ deep =
     sym (open_fault_is md5 mode [] w p File c.args.base) ∙ ap (λ o. option_or o deep) shut in
-    gives_refused _ p c.args.token (Open File c.args.base) old c.args.copy.now.entries c.from_residual.result e old
+    gives_refused mode _ p c.args.token (Open File c.args.base) old c.args.copy.now.entries c.from_residual.result e old
     c.args.copy.now.entries same (subst (λ (o : Option EditFault). IsAnswer o e) (sym fault) c.in_err-test_moved.ensures)
-    (edit_kept old) refl
+    refl refl
 
 pub returns-clause-gives : goal.returns-clause-gives
 returns-clause-gives c =
     let old = c.args.self.now in
     let w = get_in c.args.copy.now.entries in
-    let mode = old.mode in
+    let mode = c.args.mode.now in
     let p = c.args.path.now in
     let shut : open_fault_of File (w p) c.args.base ≡ None = search rules in
     let fault : step_fault md5 mode [] w p (Open File c.args.base) ≡ None =

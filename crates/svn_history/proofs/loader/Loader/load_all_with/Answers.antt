@@ -1,7 +1,8 @@
-use Rattle.std.proofs.Common.{◌≡◌, None, refl, subst, sym, ◌∙◌, rules}
+use Rattle.std.proofs.Common.{◌≡◌, None, refl, subst, sym, ◌∙◌, rules, arith}
 use Rattle.std.specs.Prelude.{IsSome}
 use Rattle.svn_lists.proofs.Results.{IfErr_returned}
 use Rattle.svn_dump.specs.declared.fault.DumpFault.TheVariants as dump
+use Rattle.svn_dump.specs.Readers.{IsUnreadable}
 use Rattle.svn_history.specs.declared.fault.LoadFault.{LoadFault}
 use Rattle.svn_history.specs.declared.fault.LoadFault.TheVariants as faults
 use Rattle.svn_history.specs.Hearing.{nothing_yet}
@@ -19,6 +20,7 @@ revisions-init g c =
       limits = refl;
       texts = refl;
       loaded = search rules;
+      counted = omega arith;
     }
 
 pub returns-in_err-next_revision-clause-fault : goal.returns-in_err-next_revision-clause-fault
@@ -111,6 +113,7 @@ revisions-preserved g c =
     let inv = c.revisions.invariant in
     let view = loading g.R.Read.remaining in
     let some : IsSome new.rev = search rules in
+    let grown = c.in_ok-next_revision.ensures.grown some in
     record {
       rest = rest_more first.records.limits now.records.limits first.records.texts now.records.texts (view first) (view now) (view new)
           c.in_ok-next_revision.field-0 inv.limits inv.texts c.in_ok-next_revision.ensures.one inv.rest some;
@@ -122,4 +125,13 @@ revisions-preserved g c =
       limits = c.next_revision.ensures.limits ∙ inv.limits;
       texts = c.next_revision.ensures.texts ∙ inv.texts;
       loaded = search rules;
+      counted = omega (arith, grown.1, inv.counted);
     }
+
+pub returns-in_err-next_revision-clause-read : goal.returns-in_err-next_revision-clause-read
+returns-in_err-next_revision-clause-read g c =
+    let records = c.next_revision.new.self.records in
+    let e = c.in_err-next_revision.field-0.0 in
+    IfErr_returned (λ x. x ≡ e) (λ x. c.args.self.now.refused ≡ None → x ≡ faults.Dump dump.Read → IsUnreadable records) c.from_residual.result
+    c.from_residual.ensures
+    (λ x is none read. c.in_err-next_revision.ensures.read c.revisions.invariant.loaded (sym is ∙ read))

@@ -1,4 +1,4 @@
-use Rattle.std.proofs.Common.{◌≡◌, None}
+use Rattle.std.proofs.Common.{◌≡◌, ◌≤◌, None}
 use Rattle.svn_repo.specs.History.{History}
 use Rattle.svn_history.specs.declared.fault.LoadFault.{LoadFault}
 use Rattle.svn_history.specs.Hearing.{Hears}
@@ -18,4 +18,5 @@ invariant-revisions g l =
       limits : l.self.records.limits ≡ limits;
       texts : l.self.records.texts ≡ texts;
       loaded : l.self.refused ≡ None;
+      counted : l.counter ≤ l.self.records.source.taken;
     }

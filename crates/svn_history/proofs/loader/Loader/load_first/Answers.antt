@@ -1,8 +1,9 @@
 use Rattle.std.proofs.Common.{◌≡◌, None, refl, subst, sym, rules}
 use Rattle.std.specs.Prelude.{IsSome}
-use Rattle.svn_lists.proofs.Results.{IfErr_returned, IfOk_then}
+use Rattle.svn_lists.proofs.Results.{IfErr_returned, IfOk_then, OnOk_then}
 use Rattle.svn_history.specs.declared.fault.LoadFault.{LoadFault}
 use Rattle.svn_history.specs.Parts.{loading, LoadsPart, LoadsOne, begins, ends, RefusesPart, RefusesOne, at_once, later}
+use Rattle.svn_dump.proofs.Counting.{grows_on}
 use Rattle.svn_history.proofs.Faults.{IfErr_then}
 use Rattle.svn_history.proofs.Endings.{part_as, refuses_as}
 use Rattle.svn_history.proofs.loader.Loader.load_first.Goals as goal
@@ -46,3 +47,11 @@ pub returns-then-is_none-clause-one : goal.returns-then-is_none-clause-one
 returns-then-is_none-clause-one g c =
     let none : c.load_part.new.self.rev ≡ None = search rules in
     ends c.requires c.in_ok-load_part.ensures.part none refl
+
+pub returns-clause-grown : goal.returns-clause-grown
+returns-clause-grown g c =
+    let mid = c.load_part.new.self in
+    let began : IsSome mid.rev = search rules in
+    OnOk_then c.load_next.result c.load_next.ensures.grown
+    (λ more some. grows_on c.args.self.now.records.source.taken mid.records.source.taken c.load_next.new.self.records.source.taken
+    (c.in_ok-load_part.ensures.grown began) (more some))

@@ -1,10 +1,14 @@
-use Rattle.std.proofs.Common.{◌≡◌, ℕ, Option, refl, subst, sym, ap, ◌∙◌}
+use Rattle.std.proofs.Common.{◌≡◌, ℕ, Option, refl, subst, sym, ap, ◌∙◌, inl, arith}
+use Rattle.std.specs.Prelude.{IsSome, is_some}
 use Rattle.svn_lists.proofs.Results.{IfErr_returned}
-use Rattle.svn_dump.specs.Readers.{left_in}
+use Rattle.svn_dump.specs.declared.fault.DumpFault.TheVariants as dump
+use Rattle.svn_dump.specs.Readers.{left_in, IsUnreadable}
 use Rattle.svn_history.specs.declared.fault.LoadFault.{LoadFault}
+use Rattle.svn_history.specs.declared.fault.LoadFault.TheVariants as faults
 use Rattle.svn_history.specs.Results.{of_dump}
 use Rattle.svn_history.specs.Steps.{draft_of}
-use Rattle.svn_history.specs.Parts.{loading, RefusesNodes, Takes}
+use Rattle.svn_history.specs.Parts.{loading, RefusesNodes, RefusesRecord, Takes}
+use Rattle.svn_history.proofs.Causes.{no_record_fault, dump_failed}
 use Rattle.svn_history.proofs.Parts.{at_start, end_read, fault_read, one_more, revision_read, record_refused}
 use Rattle.svn_history.proofs.loader.Loader.load_nodes.Goals as goal
 
@@ -18,6 +22,8 @@ records-init g c =
       texts = refl;
       rev = refl;
       history = refl;
+      counted = omega arith;
+      grows = omega arith;
     }
 
 pub returns-in_err-what-clause-fault : goal.returns-in_err-what-clause-fault
@@ -75,6 +81,31 @@ returns-in_default-clause-nodes g c =
     (left first.records) (left now.records) (left c.next_record.new.self) (draft_of first.transaction) (draft_of now.transaction)
     inv.nodes inv.limits inv.texts refl inv.rev c.in_ok-what.field-0 c.in_default.is c.in_ok-what.ensures.bytes
 
+pub returns-in_err-what-clause-read : goal.returns-in_err-what-clause-read
+returns-in_err-what-clause-read g c =
+    let read = c.next_record.new.self in
+    let fault = c.in_err-what.field-0.0 in
+    IfErr_returned (λ e. e ≡ of_dump fault) (λ e. e ≡ faults.Dump dump.Read → IsUnreadable read) c.from_residual.result c.from_residual.ensures
+    (λ e is same. inl (dump_failed fault c.records.self.records.source.failed read.source.failed c.in_err-what.ensures.failed (sym is ∙ same)))
+
+pub returns-in_err-rev-clause-read : goal.returns-in_err-rev-clause-read
+returns-in_err-rev-clause-read g c =
+    let now = c.records.self in
+    let texts = c.next_record.new.self.texts in
+    let d = draft_of now.transaction in
+    IfErr_returned (λ e. e ≡ c.in_err-rev.field-0.0) (λ e. e ≡ faults.Dump dump.Read → IsUnreadable c.take.new.self.records)
+    c.from_residual-in_err-rev.result c.from_residual-in_err-rev.ensures
+    (λ e is same. absurd (no_record_fault texts now.rev c.in-Some.what d
+    (subst (λ (x : LoadFault). RefusesRecord texts now.rev c.in-Some.what d x) (sym is ∙ same) c.in_err-rev.ensures.fault)))
+
+pub returns-in-Some-2-clause-grown : goal.returns-in-Some-2-clause-grown
+returns-in-Some-2-clause-grown g c = λ _.
+    let new = c.take.new.self in
+    let some : IsSome c.in_ok-what.field-0 = ap is_some c.in-Some.is in
+    let grown = c.in_ok-what.ensures.grown some in
+    let taken : new.records.source.taken ≡ c.next_record.new.self.source.taken = ap (λ r. r.source.taken) c.take.ensures.records in
+    (omega (arith, grown.0, taken, c.records.invariant.grows), omega (arith, grown.1, taken, c.records.invariant.grows))
+
 pub records-preserved : goal.records-preserved
 records-preserved g c =
     let first = c.args.self.now in
@@ -82,6 +113,9 @@ records-preserved g c =
     let inv = c.records.invariant in
     let left = left_in g.R.Read.remaining in
     let new = c.take.new.self in
+    let some : IsSome c.in_ok-what.field-0 = ap is_some c.in-Some.is in
+    let grown = c.in_ok-what.ensures.grown some in
+    let taken : new.records.source.taken ≡ c.next_record.new.self.source.taken = ap (λ r. r.source.taken) c.take.ensures.records in
     record {
       nodes = one_more first.records.limits now.records.limits first.records.texts now.records.texts c.next_record.new.self.texts
           first.rev now.rev (left first.records) (left now.records) (left c.next_record.new.self) (draft_of first.transaction)
@@ -94,4 +128,6 @@ records-preserved g c =
       texts = cc;
       rev = c.take.ensures.rev ∙ inv.rev;
       history = c.take.ensures.history ∙ inv.history;
+      counted = omega (arith, grown.1, taken, inv.counted);
+      grows = omega (arith, grown.0, taken, inv.grows);
     }

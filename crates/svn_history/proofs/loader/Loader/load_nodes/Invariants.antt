@@ -1,4 +1,4 @@
-use Rattle.std.proofs.Common.{◌≡◌}
+use Rattle.std.proofs.Common.{◌≡◌, ◌≤◌}
 use Rattle.svn_dump.specs.Readers.{left_in}
 use Rattle.svn_history.specs.Steps.{draft_of}
 use Rattle.svn_history.proofs.Parts.{NodesSoFar}
@@ -12,4 +12,6 @@ invariant-records g l = let first = l.fn.self in record {
   texts : l.self.records.texts ≡ first.records.texts;
   rev : l.self.rev ≡ first.rev;
   history : l.self.transaction.history ≡ first.transaction.history;
+  counted : l.counter ≤ l.self.records.source.taken;
+  grows : first.records.source.taken ≤ l.self.records.source.taken;
 }

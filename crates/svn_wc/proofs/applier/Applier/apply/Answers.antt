@@ -18,28 +18,28 @@ use Rattle.svn_wc.proofs.UnswitchedCalls.{IsUnswitched-prop, still_unswitched, l
 use Rattle.svn_wc.proofs.applier.Applier.apply.Goals as goal
 
 pub returns-clause-answers : goal.returns-clause-answers
-returns-clause-answers c = λ mode w0 calls s.
-    subst (λ (n : List (Path × BaseNode)). AnswersCall (refusal md5 mode calls c.args.call.now n) c.call-answer.result) c.copy.view_is
-    (c.call-answer.ensures.answers mode w0 calls (subst (λ (n : List (Path × BaseNode)). StandsAfter mode w0 c.args.self.now.edit n calls)
+returns-clause-answers c = λ w0 calls s.
+    subst (λ (n : List (Path × BaseNode)). AnswersCall (refusal md5 c.args.self.now.mode calls c.args.call.now n) c.call-answer.result) c.copy.view_is
+    (c.call-answer.ensures.answers w0 calls (subst (λ (n : List (Path × BaseNode)). StandsAfter c.args.self.now.mode w0 c.args.self.now.edit n calls)
     (sym c.copy.view_is) s))
 
 pub returns-clause-in_order : goal.returns-clause-in_order
-returns-clause-in_order c = λ mode w0 calls s.
-    c.call-answer.ensures.in_order mode w0 calls (subst (λ (n : List (Path × BaseNode)). StandsAfter mode w0 c.args.self.now.edit n calls)
+returns-clause-in_order c = λ w0 calls s.
+    c.call-answer.ensures.in_order w0 calls (subst (λ (n : List (Path × BaseNode)). StandsAfter c.args.self.now.mode w0 c.args.self.now.edit n calls)
     (sym c.copy.view_is) s)
 
 pub returns-clause-accepted : goal.returns-clause-accepted
-returns-clause-accepted c = OnOk_then c.call-answer.result c.call-answer.ensures.accepted (λ f mode w0 calls s.
-    f mode w0 calls (subst (λ (n : List (Path × BaseNode)). StandsAfter mode w0 c.args.self.now.edit n calls) (sym c.copy.view_is) s))
+returns-clause-accepted c = OnOk_then c.call-answer.result c.call-answer.ensures.accepted (λ f w0 calls s.
+    f w0 calls (subst (λ (n : List (Path × BaseNode)). StandsAfter c.args.self.now.mode w0 c.args.self.now.edit n calls) (sym c.copy.view_is) s))
 
 pub returns-clause-refused : goal.returns-clause-refused
-returns-clause-refused c = OnErr_then c.call-answer.result c.call-answer.ensures.refused (λ f mode w0 calls s.
-    f mode w0 calls (subst (λ (n : List (Path × BaseNode)). StandsAfter mode w0 c.args.self.now.edit n calls) (sym c.copy.view_is) s)
+returns-clause-refused c = OnErr_then c.call-answer.result c.call-answer.ensures.refused (λ f w0 calls s.
+    f w0 calls (subst (λ (n : List (Path × BaseNode)). StandsAfter c.args.self.now.mode w0 c.args.self.now.edit n calls) (sym c.copy.view_is) s)
     ∙ c.copy.view_is)
 
 pub returns-clause-shape : goal.returns-clause-shape
 returns-clause-shape c =
-    shaped_call c.call-answer.result c.args.self.now.edit _ _ _ c.args.call.now c.opens_allowed.ensures (returns-clause-accepted c)
+    shaped_call c.args.self.now.mode c.call-answer.result c.args.self.now.edit _ _ _ c.args.call.now c.opens_allowed.ensures (returns-clause-accepted c)
     (returns-clause-answers c)
 
 pub returns-clause-was_refused : goal.returns-clause-was_refused
@@ -54,24 +54,24 @@ returns-clause-ended c = λ h. let r = c.call-answer.ensures.ended h in (r.0, ap
 
 pub returns-clause-pools : goal.returns-clause-pools
 returns-clause-pools c =
-    subst (λ (n : List (Path × BaseNode)). PoolsAfter c.args.self.now.edit n c.args.call.now c.call-answer.result c.call-answer.new.self) c.copy.view_is
+    subst (λ (n : List (Path × BaseNode)). PoolsAfter c.args.self.now.mode c.args.self.now.edit n c.args.call.now c.call-answer.result c.call-answer.new.self) c.copy.view_is
     c.call-answer.ensures.pools
 
 pub invariant_of-copy : goal.invariant_of-copy
 invariant_of-copy c =
     let before =
-    subst (λ (n : List (Path × BaseNode)). ∥ IsInShape c.args.self.now.was_level c.args.self.now.edit n ∥₁) (sym c.copy.view_is) c.args.self.now.in_shape in
+    subst (λ (n : List (Path × BaseNode)). ∥ IsInShape c.args.self.now.mode c.args.self.now.was_level c.args.self.now.edit n ∥₁) (sym c.copy.view_is) c.args.self.now.in_shape in
     let new = c.call-answer.new.copy in
-    let takes = taken c.call-answer.result c.args.self.now.edit c.call-answer.new.self c.copy.inside.nodes new c.args.call.now
+    let takes = taken c.args.self.now.mode c.call-answer.result c.args.self.now.edit c.call-answer.new.self c.copy.inside.nodes new c.args.call.now
     c.opens_allowed.ensures c.call-answer.ensures.answers c.call-answer.ensures.in_order c.call-answer.ensures.accepted c.call-answer.ensures.refused
     c.call-answer.ensures.dead c.call-answer.ensures.was_refused c.call-answer.ensures.ended c.call-answer.ensures.pools
     c.call-answer.ensures.last c.call-answer.ensures.abort in
     let shape : IsWorkingCopy (get_in new.entries) = ∥∥₁_elim before (IsWorkingCopy-prop _) (λ shape.
-    (kept c.args.self.now.was_level c.args.self.now.edit c.call-answer.new.self _ _ c.args.call.now c.opens_allowed.ensures c.call-answer.result takes shape
+    (kept c.args.self.now.mode c.args.self.now.was_level c.args.self.now.edit c.call-answer.new.self _ _ c.args.call.now c.opens_allowed.ensures c.call-answer.result takes shape
     c.copy.invariant.0).1) in (
       shape,
       λ known. ∥∥₁_elim before (IsUnswitched-prop (get_in new.entries)) (λ in_shape.
-          still_unswitched c.args.self.now.was_level c.args.self.now.edit c.call-answer.new.self _ _ c.args.call.now c.call-answer.result takes in_shape
+          still_unswitched c.args.self.now.mode c.args.self.now.was_level c.args.self.now.edit c.call-answer.new.self _ _ c.args.call.now c.call-answer.result takes in_shape
           shape c.is_update-is_update.result c.is_update-is_update.ensures _ _ c.knows_unswitched.ensures.update
           (λ switch yes. c.has_ended-has_ended.ensures (sym (c.knows_unswitched.ensures.switch switch) ∙ yes)) known c.copy.invariant.1),
       λ known.
@@ -80,7 +80,7 @@ invariant_of-copy c =
           let level : IsLevelByRoot (get_in new.entries) =
           ∥∥₁_elim before (IsLevelByRoot-prop (get_in new.entries)) (λ in_shape.
           by_root (get_in new.entries) shape
-          (level_again c.args.self.now.was_level c.args.self.now.edit c.call-answer.new.self _ _ c.args.call.now c.call-answer.result takes in_shape
+          (level_again c.args.self.now.mode c.args.self.now.was_level c.args.self.now.edit c.call-answer.new.self _ _ c.args.call.now c.call-answer.result takes in_shape
           parts.0 ended.0 ended.1)) in
           (node_revision (get_in new.entries []), level),
     )
@@ -88,10 +88,10 @@ invariant_of-copy c =
 pub invariant_of-self : goal.invariant_of-self
 invariant_of-self c =
     let before =
-    subst (λ (n : List (Path × BaseNode)). ∥ IsInShape c.args.self.now.was_level c.args.self.now.edit n ∥₁) (sym c.copy.view_is) c.args.self.now.in_shape in
+    subst (λ (n : List (Path × BaseNode)). ∥ IsInShape c.args.self.now.mode c.args.self.now.was_level c.args.self.now.edit n ∥₁) (sym c.copy.view_is) c.args.self.now.in_shape in
     let after = ∥∥₁_map before (λ shape.
-    (kept c.args.self.now.was_level c.args.self.now.edit c.call-answer.new.self _ _ c.args.call.now c.opens_allowed.ensures c.call-answer.result
-    (taken c.call-answer.result c.args.self.now.edit c.call-answer.new.self c.copy.inside.nodes c.call-answer.new.copy c.args.call.now c.opens_allowed.ensures
+    (kept c.args.self.now.mode c.args.self.now.was_level c.args.self.now.edit c.call-answer.new.self _ _ c.args.call.now c.opens_allowed.ensures c.call-answer.result
+    (taken c.args.self.now.mode c.call-answer.result c.args.self.now.edit c.call-answer.new.self c.copy.inside.nodes c.call-answer.new.copy c.args.call.now c.opens_allowed.ensures
     c.call-answer.ensures.answers c.call-answer.ensures.in_order
     c.call-answer.ensures.accepted c.call-answer.ensures.refused c.call-answer.ensures.dead c.call-answer.ensures.was_refused c.call-answer.ensures.ended
     c.call-answer.ensures.pools c.call-answer.ensures.last c.call-answer.ensures.abort)

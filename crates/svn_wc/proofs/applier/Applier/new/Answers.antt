@@ -8,13 +8,13 @@ use Rattle.svn_wc.proofs.ShapeKept.{begun_in_shape}
 use Rattle.svn_wc.proofs.applier.Applier.new.Goals as goal
 
 pub returns-clause-begun : goal.returns-clause-begun
-returns-clause-begun c = c.in_ok-edit.ensures.begun c.args.copy.now
+returns-clause-begun c = c.in_ok-edit.ensures.begun Update c.args.copy.now
 
 pub invariant_of-result : goal.invariant_of-result
 invariant_of-result c =
-    let begun = c.in_ok-edit.ensures.begun c.args.copy.now in
+    let begun = c.in_ok-edit.ensures.begun Update c.args.copy.now in
     record {
-      in_shape = ∣ begun_in_shape _ c.in_ok-edit.edit c.args.copy.now (λ known.
-          subst (λ (l : List (Path × BaseNode)). IsLevel (get_in l)) c.copy.view_is (c.copy.invariant.2 known)) Update begun
+      in_shape = ∣ begun_in_shape Update _ c.in_ok-edit.edit c.args.copy.now (λ known.
+          subst (λ (l : List (Path × BaseNode)). IsLevel (get_in l)) c.copy.view_is (c.copy.invariant.2 known)) begun
           c.law.ensures.shape ∣₁;
     }

@@ -4,4 +4,4 @@ use Rattle.svn_run.proofs.two_threads.fn.run_both.scope.Goals as goal
 
 pub returns : goal.returns
 returns g c =
-    (search rules, c.take_all-taken.ensures c.captures.request.now.mode (get_in c.captures.carrier.copy.nodes.entries) c.requires.5)
+    (search rules, c.take_all-taken.ensures (get_in c.captures.carrier.copy.nodes.entries) c.requires.5)

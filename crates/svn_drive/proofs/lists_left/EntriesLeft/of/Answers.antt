@@ -1,5 +1,5 @@
 use Rattle.std.specs.List.Sorted.{IsStrictlySortedBy}
-use Rattle.svn_drive.proofs.lists_left.iter_of.Goals as goal
+use Rattle.svn_drive.proofs.lists_left.EntriesLeft.of.Goals as goal
 
 pub returns-in-None-clause-ordered : goal.returns-in-None-clause-ordered
 unfolding IsStrictlySortedBy

@@ -1,0 +1,2 @@
+-- Verdicts, and answers one after another.
+pub mod Answering

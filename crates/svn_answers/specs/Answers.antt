@@ -1,0 +1,98 @@
+-- What becomes of the copies that a check names.
+--     IsAudited opens stayed compared word audited      a word opened a copy that stayed as it was, of the same repository, and this is the verdict on it
+--     IsCopyFault opens stayed compared word fault      why the copy of a word isn't audited: where that is said of its bytes, it stayed as it was
+--     answer_text word answer, verdict_of answer      what is printed of a word's answer, and its verdict
+--     Checks opens stayed compared words verdict text      each word was answered, in their order: these are all lines, and the worst of the verdicts
+use Rattle.std.specs.Prelude.{◌≡◌, ℕ, List, [], ◌∷◌, map, Option, Some, Result, Ok, Err}
+use Rattle.std.specs.Option.{option_copied}
+use Rattle.std.specs.List.{flat_map, AllByRecursion}
+use Rattle.svn_types.specs.Names.{Path}
+use Rattle.svn_repo.specs.History.{History, new_history}
+use Rattle.svn_dump.specs.declared.sections.Limits.{Limits}
+use Rattle.svn_dump.specs.declared.sections.Texts.{Texts}
+use Rattle.svn_history.specs.Loading.{LoadsDump}
+use Rattle.svn_audit.specs.declared.reason.Untrue.{Untrue}
+use Rattle.svn_disk_audit.specs.declared.auditing.Audited.{Audited}
+use Rattle.svn_disk_audit.specs.declared.fault.AuditFault.{AuditFault}
+use Rattle.svn_disk_audit.specs.Pristine.{Store}
+use Rattle.svn_disk_audit.specs.Audits.{IsAudit, IsVerdict, IsAccepted, IsAuditFault}
+use Rattle.svn_disk_audit.specs.Repositories.{IsOfRepository}
+use Rattle.svn_answers.specs.declared.asked.History.{History as CodeHistory}
+use Rattle.svn_answers.specs.declared.fault.CopyFault.{CopyFault}
+use Rattle.svn_answers.specs.declared.fault.CopyFault.TheVariants.{Refused, Audit}
+use Rattle.svn_answers.specs.declared.verdict.Verdict.{Verdict}
+use Rattle.svn_answers.specs.declared.verdict.Verdict.TheVariants as verdicts
+use Rattle.svn_answers.specs.Lines.{checked_text}
+use Rattle.svn_answers.specs.Verdicts.{worst}
+
+-- what copies are compared with: a history, how it keeps texts, and the UUID of its repository, where that is known
+pub record Compared : Type 0 where
+  pub history : History
+  pub texts : Texts
+  pub uuid : Option (List ℕ)
+
+-- as the code has it
+abbrev pub compared : CodeHistory → Compared
+compared h = record { history = h.repo.now; texts = h.texts; uuid = option_copied h.uuid }
+
+-- by a word, a copy is opened: the bytes of its database, a path in it, and what is known of its pristine texts
+abbrev pub Opens : Type 1
+Opens = List ℕ → List ℕ → Path → Store → Type 0
+
+-- the database of a word's copy had these bytes as long as it was read
+abbrev pub Stayed : Type 1
+Stayed = List ℕ → List ℕ → Type 0
+
+pub record IsAudited (opens : Opens) (stayed : Stayed) (compared : Compared) (name : List ℕ) (audited : Audited) : Type 0 where
+  pub database : List ℕ
+  pub below : Path
+  pub store : Store
+  pub opened : opens name database below store
+  pub same : stayed name database
+  pub of_repository : IsAccepted (IsOfRepository compared.uuid) database
+  pub audit : IsAudit compared.texts store compared.history database below audited.copy audited.untrue.items
+  -- where the history is that of a dump, it is the verdict on these bytes
+  pub verdict : (limits : Limits) (dump : List ℕ) → LoadsDump limits compared.texts (Some dump) new_history compared.history
+      → IsVerdict compared.texts limits dump store database below audited.untrue.items
+
+pub record IsAuditRefusal {F : Type 0} (opens : Opens) (stayed : Stayed) (compared : Compared) (name : List ℕ) (fault : AuditFault F) : Type 0 where
+  pub database : List ℕ
+  pub below : Path
+  pub store : Store
+  pub opened : opens name database below store
+  pub same : stayed name database
+  pub why : IsAuditFault compared.texts store database below fault
+
+abbrev pub IsCopyFault : {F : Type 0} → Opens → Stayed → Compared → List ℕ → CopyFault F → Type 0
+IsCopyFault opens stayed compared name (Refused fault) = Unit {0}
+IsCopyFault opens stayed compared name (Audit fault) = IsAuditRefusal opens stayed compared name fault
+
+-- ---- answers
+
+abbrev pub Answer : Type 0 → Type 0
+Answer F = Result Audited (CopyFault F)
+
+abbrev pub IsAnswer : {F : Type 0} → Opens → Stayed → Compared → List ℕ → Answer F → Type 0
+IsAnswer opens stayed compared name (Ok audited) = IsAudited opens stayed compared name audited
+IsAnswer opens stayed compared name (Err fault) = IsCopyFault opens stayed compared name fault
+
+abbrev pub verdict_on : List Untrue → Verdict
+verdict_on [] = verdicts.True
+verdict_on (u ∷ us) = verdicts.Untrue
+
+abbrev pub verdict_of : {F : Type 0} → Answer F → Verdict
+verdict_of (Ok audited) = verdict_on audited.untrue.items
+verdict_of (Err fault) = verdicts.Refused
+
+-- a refused copy has no line
+abbrev pub answer_text : {F : Type 0} → List ℕ → Answer F → List ℕ
+answer_text name (Ok audited) = checked_text name audited.copy audited.untrue.items
+answer_text name (Err fault) = []
+
+pub record Checks (F : Type 0) (opens : Opens) (stayed : Stayed) (compared : Compared) (words : List (List ℕ)) (verdict : Verdict)
+    (text : List ℕ) : Type 0 where
+  pub answers : List (List ℕ × Answer F)
+  pub in_order : map (λ a. a.0) answers ≡ words
+  pub each : AllByRecursion (λ a. IsAnswer opens stayed compared a.0 a.1) answers
+  pub lines : text ≡ flat_map (λ a. answer_text a.0 a.1) answers
+  pub worst_of_all : verdict ≡ worst (map (λ a. verdict_of a.1) answers)
