@@ -5,7 +5,7 @@ use crate::history::{Row, Step, repository};
 use anyhow::Result;
 use std::alloc::Global;
 use update_lines::UpdateLines;
-use yumbeltir::{Applier, DriveEnd, Repo, Request, Rev, WorkingCopy, drive_request};
+use yumbeltir::{Applier, DriveEnd, Repo, Report, Request, Rev, WorkingCopy, drive_request};
 
 const FIRST: &[Row] = &[
     ("README", Step::Put("read me")),
@@ -35,31 +35,55 @@ const SECOND: &[Row] = &[
     ("", Step::Set("1")),
 ];
 
-// Updates the copy, and prints the outcome.
-fn update<'r, 'c, R: Print>(
-    rt: &'r R,
+// Drives the editor to its end, or to a line that couldn't be printed.
+fn drive_lines<R: Print>(
     alloc: Global,
     repo: &Repo,
-    copy: &'c mut WorkingCopy,
+    report: &Report,
     target: Rev,
-) -> Result<()> {
-    println!(rt; "Updating '.':")?;
-    let report = copy.crawl_and_learn(alloc)?;
-    let applier: Applier<'c> = Applier::new(alloc, copy)?;
-    let mut editor: UpdateLines<'r, 'c, R> = UpdateLines::new(rt, alloc, applier);
+    editor: &mut UpdateLines<'_, '_, R>,
+) -> Result<DriveEnd> {
     let request = Request::update(target);
-    let end = drive_request(alloc, repo, &report, &request, &mut editor);
-    if let Some(error) = editor.unprinted.take() {
-        return Err(error.into());
+    let end = drive_request(alloc, repo, report, &request, editor);
+    match editor.unprinted.take() {
+        Some(error) => Err(error.into()),
+        None => Ok(end?),
     }
+}
+
+// Drives the editor, and prints the outcome.
+fn finish<R: Print>(
+    rt: &R,
+    alloc: Global,
+    repo: &Repo,
+    report: &Report,
+    target: Rev,
+    applier: Applier<'_>,
+) -> Result<()> {
+    let mut editor = UpdateLines::new(rt, alloc, applier);
+    let end = drive_lines(alloc, repo, report, target, &mut editor);
+    let has_changed = editor.has_changed;
+    drop(editor);
     match end? {
-        DriveEnd::Closed { .. } if editor.has_changed => println!(rt;
-            "Updated to revision {target}."
-        )?,
+        DriveEnd::Closed { .. } if has_changed => println!(rt; "Updated to revision {target}.")?,
         DriveEnd::Closed { .. } => println!(rt; "At revision {target}.")?,
         DriveEnd::Cancelled { made } => println!(rt; "Stopped after {made} calls.")?,
     }
     Ok(())
+}
+
+// Updates the copy, and prints the outcome.
+fn update<R: Print>(
+    rt: &R,
+    alloc: Global,
+    repo: &Repo,
+    copy: &mut WorkingCopy,
+    target: Rev,
+) -> Result<()> {
+    println!(rt; "Updating '.':")?;
+    let report = copy.crawl_and_learn(alloc)?;
+    let applier = Applier::new(alloc, copy)?;
+    finish(rt, alloc, repo, &report, target, applier)
 }
 
 /// Updates a copy of revision 1, and once more.
