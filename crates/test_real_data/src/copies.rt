@@ -3,11 +3,13 @@
 //!
 //! `data/copies` has for each copy NAME.dump, the history; NAME.db, its database; and NAME.untrue, what is untrue. Where there are NAME.lines and NAME.after.db,
 //! these are the lines that `svn update` printed, sorted, and the database after it. `examples/subversion/copy_data.sh` has Subversion make them.
+mod answers;
 mod by_hand;
 mod files;
 mod one_text;
 
 use crate::names::names_of;
+use answers::check_copies;
 use anyhow::{Result, bail};
 use by_hand::{Row, calls_of, rows};
 use files::{copy_in, history_of};
@@ -137,5 +139,6 @@ pub(crate) fn run<R: Files + AllocGlobal + Print + Clone + Drop>(rt: &R) -> Resu
     for row in rows() {
         compare_row(rt, row)?;
     }
-    audit_with_texts(rt)
+    audit_with_texts(rt)?;
+    check_copies(rt)
 }

@@ -110,8 +110,8 @@ fn wrong_in(alloc: Global, what: Count, dump: &[u8], deltas: &[u8]) -> Result<us
 }
 
 fn say_counts<R: AllocGlobal + Print>(rt: &R, dump: &[u8], deltas: &[u8]) -> Result<()> {
-    for (what, words) in COUNTS {
-        say(rt, words, wrong_in(rt.alloc(), what, dump, deltas)?)?;
+    for (what, words) in &COUNTS {
+        say(rt, words, wrong_in(rt.alloc(), *what, dump, deltas)?)?;
     }
     Ok(())
 }

@@ -61,6 +61,9 @@ fn dropped<R: Threads + Wait + Sync>(
     Ok(kept)
 }
 
+// How many steps are left out at once.
+const DROPS: [usize; 6] = [8, 4, 2, 1, 1, 1];
+
 /// As few of the steps as still lead to a difference.
 pub(crate) fn shortened<R: Threads + Wait + Sync>(
     rt: &R,
@@ -68,8 +71,8 @@ pub(crate) fn shortened<R: Threads + Wait + Sync>(
     steps: Vec<Step>,
 ) -> Result<Vec<Step>> {
     let mut kept = steps;
-    for count in [8, 4, 2, 1, 1, 1] {
-        kept = dropped(rt, alloc, kept, count)?;
+    for count in &DROPS {
+        kept = dropped(rt, alloc, kept, *count)?;
     }
     Ok(kept)
 }

@@ -231,9 +231,14 @@ fn check_order(alloc: Global, calls: &[(Step, u32)]) -> Result<(), Trouble> {
     check_all(alloc, &mut check, calls)
 }
 
+// (A function is proved with all of a table that it names, so this one does no more.)
+fn order_rows() -> &'static [&'static [(Step, u32)]] {
+    &ORDERS
+}
+
 /// Calls in and out of order. The edit is begun anew if an allocation fails.
 pub(crate) fn orders(alloc: Global) -> Result<(), Trouble> {
-    for calls in &ORDERS {
+    for calls in order_rows() {
         check_order(alloc, calls)?;
     }
     Ok(())
@@ -446,7 +451,7 @@ fn apply_or_leave(
     calls: &[(Step, u32)],
 ) -> Result<(), Trouble> {
     let ended = apply(alloc, copy, calls);
-    if ended == Err(Trouble::Memory) {
+    if matches!(ended, Err(Trouble::Memory)) {
         holds(
             copy.check_true(repo).is_ok(),
             "a refused call leaves an untrue copy",
@@ -461,11 +466,19 @@ fn apply_edit(alloc: Global, repo: &Repo, edit: &Edit) -> Result<(), Trouble> {
     has(alloc, &copy, edit.shown, "an edit leaves something else")
 }
 
+fn edit_rows() -> &'static [Edit] {
+    &EDITS
+}
+
+fn apply_edits(alloc: Global, repo: &Repo) -> Result<(), Trouble> {
+    for edit in edit_rows() {
+        apply_edit(alloc, repo, edit)?;
+    }
+    Ok(())
+}
+
 /// Edits that an applier takes or refuses. The edit is begun anew, on a copy as it was, if an allocation fails.
 pub(crate) fn edits(alloc: Global) -> Result<(), Trouble> {
     let repo = changed_file(alloc)?;
-    for edit in &EDITS {
-        apply_edit(alloc, &repo, edit)?;
-    }
-    Ok(())
+    apply_edits(alloc, &repo)
 }

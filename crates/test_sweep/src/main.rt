@@ -109,7 +109,7 @@ fn run_named<R: Threads + Wait + Sync>(
     name: &str,
     way: &str,
 ) -> Result<Option<Outcome>, Trouble> {
-    for row in rows() {
+    for row in &rows() {
         if row.name == name {
             run_row(rt, alloc, row, way)?;
             return Ok(None);
@@ -169,7 +169,7 @@ fn all_ways<R: Threads + Wait + Sync + Print>(
     name: &str,
 ) -> io::Result<u8> {
     let mut status = 0u8;
-    for way in WAYS {
+    for way in &WAYS {
         status = status.max(one(rt, alloc, lists, name, way)?);
     }
     Ok(status)
@@ -181,7 +181,7 @@ fn all_rows<R: Threads + Wait + Sync + Print>(
     lists: bool,
 ) -> io::Result<u8> {
     let mut status = 0u8;
-    for row in rows() {
+    for row in &rows() {
         status = status.max(all_ways(rt, alloc, lists, row.name)?);
     }
     Ok(status)
@@ -193,7 +193,7 @@ fn all_parts<R: Threads + Wait + Sync + Print>(
     lists: bool,
 ) -> io::Result<u8> {
     let mut status = 0u8;
-    for part in PARTS {
+    for part in &PARTS {
         status = status.max(one(rt, alloc, lists, part, "alone")?);
     }
     Ok(status)

@@ -86,8 +86,12 @@ fn is_read(
     }
 }
 
+fn text_rows() -> &'static [(Kind, &'static str, Result<usize, PathFault>)] {
+    &TEXTS
+}
+
 fn texts(alloc: Global) -> Result<(), Trouble> {
-    for (kind, text, wanted) in &TEXTS {
+    for (kind, text, wanted) in text_rows() {
         is_read(alloc, *kind, text, *wanted)?;
     }
     Ok(())
@@ -118,8 +122,12 @@ fn is_long_read(
     answers(found, wanted, "a long path is read otherwise")
 }
 
+fn long_rows() -> &'static [(&'static str, usize, Result<usize, PathFault>)] {
+    &LONG_PATHS
+}
+
 fn long_paths(alloc: Global) -> Result<(), Trouble> {
-    for (part, count, wanted) in &LONG_PATHS {
+    for (part, count, wanted) in long_rows() {
         is_long_read(alloc, part, *count, *wanted)?;
     }
     Ok(())
@@ -156,7 +164,9 @@ pub(crate) fn names(alloc: Global) -> Result<(), Trouble> {
 }
 
 // Words, and the capacity and whether runs are in turn; where there is none, a text says why.
-static WORDS: [(&[&str], Option<(usize, bool)>); 9] = [
+type WordRow = (&'static [&'static str], Option<(usize, bool)>);
+
+static WORDS: [WordRow; 9] = [
     (&["svnup"], Some((64, false))),
     (&["svnup", "--capacity", "1", "--in-turn"], Some((1, true))),
     (&["svnup", "--capacity", "4096"], Some((4096, false))),
@@ -181,14 +191,23 @@ fn read(alloc: Global, words: &[&str]) -> Result<Option<(usize, bool)>, Trouble>
     }
 }
 
+fn word_rows() -> &'static [WordRow] {
+    &WORDS
+}
+
+fn are_read(alloc: Global, row: &WordRow) -> Result<(), Trouble> {
+    let (words, wanted) = *row;
+    let found = read(alloc, words)?;
+    holds(
+        found == wanted,
+        "words of a command line are read otherwise",
+    )
+}
+
 /// The words of the command line.
 pub(crate) fn words(alloc: Global) -> Result<(), Trouble> {
-    for (words, wanted) in &WORDS {
-        let found = read(alloc, words)?;
-        holds(
-            found == *wanted,
-            "words of a command line are read otherwise",
-        )?;
+    for row in word_rows() {
+        are_read(alloc, row)?;
     }
     Ok(())
 }

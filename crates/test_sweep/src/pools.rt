@@ -41,6 +41,14 @@ static LENGTHS: [Row; 7] = [
     (Step::Push(0, 4092), Ok(1), (1, 1, 1)),
 ];
 
+fn branch() -> &'static [Row] {
+    &BRANCH
+}
+
+fn lengths() -> &'static [Row] {
+    &LENGTHS
+}
+
 fn answer_of(tree: &mut PoolTree<Global>, step: Step, string: &[u8]) -> Answer {
     match step {
         Step::Create(parent) => match tree.create(PoolId(parent)) {
@@ -125,7 +133,7 @@ fn last_serial(alloc: Global) -> Result<(), Trouble> {
 
 /// Trees of pools.
 pub(crate) fn pools(alloc: Global) -> Result<(), Trouble> {
-    take_all(alloc, &BRANCH)?;
-    take_all(alloc, &LENGTHS)?;
+    take_all(alloc, branch())?;
+    take_all(alloc, lengths())?;
     last_serial(alloc)
 }

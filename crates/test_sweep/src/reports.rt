@@ -95,8 +95,12 @@ fn deep(alloc: Global, count: usize) -> Result<RelPath, Trouble> {
     Ok(RelPath::parse(alloc, text.as_str())?)
 }
 
+fn call_rows() -> &'static [(Entry, Option<ReporterFault>)] {
+    &CALLS
+}
+
 fn tell_all(alloc: Global, reporter: &mut Reporter) -> Result<(), Trouble> {
-    for (entry, wanted) in &CALLS {
+    for (entry, wanted) in call_rows() {
         told(alloc, reporter, *entry, *wanted)?;
     }
     Ok(())
@@ -192,13 +196,21 @@ fn is_checked(
     is_answered(check_anew(alloc, repo, &report), wanted)
 }
 
+fn report_rows() -> &'static [(&'static [Entry], Result<(), ReportFault>)] {
+    &REPORTS
+}
+
+fn are_checked(alloc: Global, repo: &Repo) -> Result<(), Trouble> {
+    for (entries, wanted) in report_rows() {
+        is_checked(alloc, repo, entries, *wanted)?;
+    }
+    Ok(())
+}
+
 /// Reports that a repository can serve, and reports that it can't.
 pub(crate) fn reports(alloc: Global) -> Result<(), Trouble> {
     let repo = changed_file(alloc)?;
-    for (entries, wanted) in &REPORTS {
-        is_checked(alloc, &repo, entries, *wanted)?;
-    }
-    Ok(())
+    are_checked(alloc, &repo)
 }
 
 // A directory, or a file with a text, at a revision.
@@ -271,8 +283,12 @@ fn is_refused(alloc: Global, list: &[Node], wanted: WcFault) -> Result<(), Troub
     }
 }
 
+fn list_rows() -> &'static [(&'static [Node], WcFault)] {
+    &LISTS
+}
+
 fn lists(alloc: Global) -> Result<(), Trouble> {
-    for (list, wanted) in &LISTS {
+    for (list, wanted) in list_rows() {
         is_refused(alloc, list, *wanted)?;
     }
     Ok(())
@@ -297,12 +313,20 @@ fn is_untrue_at(
     holds(is_so, "another path isn't true")
 }
 
-fn copies(alloc: Global) -> Result<(), Trouble> {
-    let repo = changed_file(alloc)?;
-    for (list, wanted) in &COPIES {
-        is_untrue_at(alloc, &repo, list, *wanted)?;
+fn copy_rows() -> &'static [(&'static [Node], Option<&'static str>)] {
+    &COPIES
+}
+
+fn are_untrue(alloc: Global, repo: &Repo) -> Result<(), Trouble> {
+    for (list, wanted) in copy_rows() {
+        is_untrue_at(alloc, repo, list, *wanted)?;
     }
     Ok(())
+}
+
+fn copies(alloc: Global) -> Result<(), Trouble> {
+    let repo = changed_file(alloc)?;
+    are_untrue(alloc, &repo)
 }
 
 /// Copies that are made of nodes, and what of them isn't true.

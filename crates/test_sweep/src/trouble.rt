@@ -13,7 +13,7 @@ use svn_script::LineFault;
 use svn_types::PathFault;
 
 /// The fault that a command is refused with, other than Memory.
-#[derive(Clone, Copy, PartialEq)]
+#[derive(Clone, Copy)]
 pub(crate) enum Refusal {
     Commit(CommitFault),
     Copy(WcFault),
@@ -35,7 +35,7 @@ impl fmt::Display for Refusal {
 }
 
 /// Why a row doesn't hold.
-#[derive(Clone, Copy, PartialEq)]
+#[derive(Clone, Copy)]
 pub(crate) enum Trouble {
     /// An allocation failed, and the result says so: the row can be begun anew.
     Memory,

@@ -8,10 +8,16 @@ use svn_history::LoadFault;
 use svn_types::Rev;
 
 // The headers of such a checksum, and why the dump is refused where its first digit is another.
-static BASES: [(&[u8], Reason); 2] = [
-    (b"Text-delta-base-md5: ", Reason::WrongBaseMd5),
-    (b"Text-delta-base-sha1: ", Reason::WrongBaseSha1),
+type Base = (&'static str, Reason);
+
+static BASES: [Base; 2] = [
+    ("Text-delta-base-md5: ", Reason::WrongBaseMd5),
+    ("Text-delta-base-sha1: ", Reason::WrongBaseSha1),
 ];
+
+fn bases() -> &'static [Base] {
+    &BASES
+}
 
 // The dump with another digit after a header, if it has it.
 fn with_digit(alloc: Global, dump: &[u8], header: &[u8]) -> Result<Option<Vec<u8>>> {
@@ -46,8 +52,8 @@ fn is_compared(alloc: Global, dump: &[u8], header: &[u8], reason: Reason) -> Res
 /// How many checksums of a delta's base aren't compared in a dump whose second revision has the first such delta.
 pub fn passed_wrongly(alloc: Global, dump: &[u8]) -> Result<usize> {
     let mut others = 0usize;
-    for (header, reason) in BASES {
-        if !is_compared(alloc, dump, header, reason)? {
+    for (header, reason) in bases() {
+        if !is_compared(alloc, dump, header.as_bytes(), *reason)? {
             others = others.saturating_add(1);
         }
     }

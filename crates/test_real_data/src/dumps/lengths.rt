@@ -7,9 +7,9 @@ use svn_dump::{DumpFault, Reason, Texts};
 use svn_history::LoadFault;
 use svn_types::Rev;
 
-const FRONT: &[u8] = b"SVN-fs-dump-format-version: 2\n\nRevision-number: 1\n\n";
+const FRONT: &str = "SVN-fs-dump-format-version: 2\n\nRevision-number: 1\n\n";
 
-const FILE: &[u8] = b"Node-path: a\nNode-kind: file\nNode-action: add\n";
+const FILE: &str = "Node-path: a\nNode-kind: file\nNode-action: add\n";
 
 // Why a dump isn't loaded, if it isn't.
 fn fault_of(alloc: Global, dump: &[u8], texts: Texts) -> Result<Option<LoadFault>> {
@@ -19,8 +19,8 @@ fn fault_of(alloc: Global, dump: &[u8], texts: Texts) -> Result<Option<LoadFault
 
 // A dump with a file, with these bytes after its first headers.
 fn dump_with(alloc: Global, rest: &[u8]) -> Result<Vec<u8>> {
-    let mut dump = FRONT.to_vec(alloc)?;
-    dump.extend_from_slice(FILE)?;
+    let mut dump = FRONT.as_bytes().to_vec(alloc)?;
+    dump.extend_from_slice(FILE.as_bytes())?;
     dump.extend_from_slice(rest)?;
     Ok(dump)
 }
@@ -65,7 +65,7 @@ fn is_length_refused(alloc: Global, len: u64) -> Result<bool> {
 
 // Whether a header of a megabyte is refused.
 fn is_header_refused(alloc: Global) -> Result<bool> {
-    let mut rest = b"Other: ".to_vec(alloc)?;
+    let mut rest = "Other: ".as_bytes().to_vec(alloc)?;
     rest.resize(1 << 20, b'x')?;
     let dump = dump_with(alloc, &rest)?;
     Ok(fault_of(alloc, &dump, Texts::Whole)? == refused(Reason::HeadersTooLong))
@@ -78,7 +78,7 @@ fn section(alloc: Global, count: u32) -> Result<Vec<u8>> {
         let entry = format!(in alloc; "K 6\np{number:05}\nV 1\nv\n")?;
         bytes.extend_from_slice(entry.as_bytes())?;
     }
-    bytes.extend_from_slice(b"PROPS-END\n")?;
+    bytes.extend_from_slice("PROPS-END\n".as_bytes())?;
     Ok(bytes)
 }
 
@@ -111,8 +111,8 @@ fn are_props_loaded(alloc: Global) -> Result<bool> {
 pub fn taken_wrongly(alloc: Global) -> Result<usize> {
     let mut others = usize::from(!is_header_refused(alloc)?);
     others = others.saturating_add(usize::from(!are_props_loaded(alloc)?));
-    for len in LENGTHS {
-        others = others.saturating_add(usize::from(!is_length_refused(alloc, len)?));
+    for len in &LENGTHS {
+        others = others.saturating_add(usize::from(!is_length_refused(alloc, *len)?));
     }
     Ok(others)
 }

@@ -66,19 +66,19 @@ impl Read for Entries {
     }
 }
 
-const FRONT: &[u8] = b"SVN-fs-dump-format-version: 2\n\n";
+const FRONT: &str = "SVN-fs-dump-format-version: 2\n\n";
 
 // The headers of a record with such a section.
-const SECTION_LENGTHS: &[u8] = b"Prop-content-length: 190000010\nContent-length: 190000010\n\n";
+const SECTION_LENGTHS: &str = "Prop-content-length: 190000010\nContent-length: 190000010\n\n";
 
-const END: &[u8] = b"PROPS-END\n\n";
+const END: &str = "PROPS-END\n\n";
 
 // Loads a dump whose last record begins so and has the properties, up to its end.
-fn load(alloc: Global, record: &[u8], entries: &mut Entries) -> Result<Result<Rev, LoadFault>> {
-    let mut front = FRONT.to_vec(alloc)?;
-    front.extend_from_slice(record)?;
-    front.extend_from_slice(SECTION_LENGTHS)?;
-    let input = front.as_slice().chain(entries).chain(END);
+fn load(alloc: Global, record: &str, entries: &mut Entries) -> Result<Result<Rev, LoadFault>> {
+    let mut front = FRONT.as_bytes().to_vec(alloc)?;
+    front.extend_from_slice(record.as_bytes())?;
+    front.extend_from_slice(SECTION_LENGTHS.as_bytes())?;
+    let input = front.as_slice().chain(entries).chain(END.as_bytes());
     let mut loader = loader_of(alloc, input, Texts::Whole)?;
     match load_all(&mut loader) {
         Ok(()) => Ok(Ok(loader.into_repo().latest())),
@@ -92,7 +92,7 @@ const FEW: u32 = 1000;
 // Whether a node with so many properties is refused by the limit, before they are read.
 fn is_node_refused(alloc: Global) -> Result<bool> {
     let mut entries = Entries::new();
-    let record = b"Revision-number: 1\n\nNode-path: a\nNode-kind: file\nNode-action: add\n";
+    let record = "Revision-number: 1\n\nNode-path: a\nNode-kind: file\nNode-action: add\n";
     let loaded = load(alloc, record, &mut entries)?;
     let limit = LIMITS.props as u64;
     let refusal = LoadFault::Dump(DumpFault::Refused(Reason::PropsTooLong(SECTION, limit)));
@@ -102,7 +102,7 @@ fn is_node_refused(alloc: Global) -> Result<bool> {
 // Whether a revision with so many properties of its own is loaded: they are passed over to the last one.
 fn is_revision_loaded(alloc: Global) -> Result<bool> {
     let mut entries = Entries::new();
-    let loaded = load(alloc, b"Revision-number: 1\n", &mut entries)?;
+    let loaded = load(alloc, "Revision-number: 1\n", &mut entries)?;
     Ok(loaded == Ok(Rev(1)) && entries.left == 0)
 }
 

@@ -16,8 +16,8 @@ const LIMITS: Limits = Limits {
 };
 
 // The front of each dump: a revision, and the beginning of the next one.
-const FRONT: &[u8] =
-    b"SVN-fs-dump-format-version: 2\n\nRevision-number: 1\n\nNode-path: d\nNode-kind: dir\nNode-action: add\n\n\nNode-path: f\nNode-kind: file\nNode-action: add\n\n\nRevision-number: 2\n\n";
+const FRONT: &str =
+    "SVN-fs-dump-format-version: 2\n\nRevision-number: 1\n\nNode-path: d\nNode-kind: dir\nNode-action: add\n\n\nNode-path: f\nNode-kind: file\nNode-action: add\n\n\nRevision-number: 2\n\n";
 
 // Where the record begins that is refused.
 const AT: u64 = 166;
@@ -28,204 +28,217 @@ const FIRST: &str = ". dir 1 .\nd dir 1 d\nf file 1 f \"\"\n";
 const FIRST_BY_SHA1: &str =
     ". dir 1 .\nd dir 1 d\nf file 1 f $sha1$da39a3ee5e6b4b0d3255bfef95601890afd80709\n";
 
-static BAD_RECORDS: [(&[u8], Reason); 33] = [
+type Record = (&'static str, Reason);
+
+static BAD_RECORDS: [Record; 32] = [
     (
-        b"Node-path: a\nNode-kind: file\nNode-action: add\nNode-kind: dir\n\n\n",
+        "Node-path: a\nNode-kind: file\nNode-action: add\nNode-kind: dir\n\n\n",
         Reason::Twice,
     ),
-    (b"Node-path: a\nNode-kind\n\n", Reason::NotAHeader),
-    (b"Revision-number: 3 \n\n", Reason::NotANumber),
+    ("Node-path: a\nNode-kind\n\n", Reason::NotAHeader),
+    ("Revision-number: 3 \n\n", Reason::NotANumber),
     (
-        b"Node-path: a\nNode-kind: file\nNode-action: add\nText-content-length: 1x\n\n",
+        "Node-path: a\nNode-kind: file\nNode-action: add\nText-content-length: 1x\n\n",
         Reason::NotANumber,
     ),
     (
-        b"Node-path: a\nNode-kind: file\nNode-action: add\nText-content-length: 18446744073709551616\n\n",
+        "Node-path: a\nNode-kind: file\nNode-action: add\nText-content-length: 18446744073709551616\n\n",
         Reason::NotANumber,
     ),
     (
-        b"Node-path: a\nNode-kind: file\nNode-action: add\nText-content-md5: f97c5d29941bfb1b2fdab0874906ab8\nText-content-length: 3\nContent-length: 3\n\none\n\n",
+        "Node-path: a\nNode-kind: file\nNode-action: add\nText-content-md5: f97c5d29941bfb1b2fdab0874906ab8\nText-content-length: 3\nContent-length: 3\n\none\n\n",
         Reason::NotAChecksum,
     ),
     (
-        b"Node-path: a\nNode-kind: file\nNode-action: add\nText-content-sha1: f97c5d29941bfb1b2fdab0874906ab82\nText-content-length: 3\nContent-length: 3\n\none\n\n",
+        "Node-path: a\nNode-kind: file\nNode-action: add\nText-content-sha1: f97c5d29941bfb1b2fdab0874906ab82\nText-content-length: 3\nContent-length: 3\n\none\n\n",
         Reason::NotAChecksum,
     ),
-    (b"Node-kind: file\n\n", Reason::UnknownRecord),
+    ("Node-kind: file\n\n", Reason::UnknownRecord),
     (
-        b"Node-path: a/../b\nNode-action: delete\n\n\n",
+        "Node-path: a/../b\nNode-action: delete\n\n\n",
         Reason::BadPath(PathFault::Dots),
     ),
     (
-        b"Node-path: a//b\nNode-action: delete\n\n\n",
+        "Node-path: a//b\nNode-action: delete\n\n\n",
         Reason::BadPath(PathFault::EmptyComponent),
     ),
     (
-        b"Node-path: a\x09b\nNode-action: delete\n\n\n",
+        "Node-path: a\x09b\nNode-action: delete\n\n\n",
         Reason::BadPath(PathFault::BadCharacter),
     ),
     (
-        b"Node-path: xxxxxxxxxxxxxxxxxxxxxxxxxxxxxxxxxxxxxxxxxxxxxxxxxxxxxxxxxxxxxxxxxxxxxxxxxxxxxxxxxxxxxxxxxxxxxxxxxxxxxxxxxxxxxxxxxxxxxxxxxxxxxxxxxxxxxxxxxxxxxxxxxxxxxxxxxxxxxxxxxxxxxxxxxxxxxxxxxxxxxxxxxxxxxxxxxxxxxxxxxxxxxxxxxxxxxxxxxxxxxxxxxxxxxxxxxxxxxxxxxxxxxxxxxxxxxxxx\nNode-action: delete\n\n\n",
+        "Node-path: xxxxxxxxxxxxxxxxxxxxxxxxxxxxxxxxxxxxxxxxxxxxxxxxxxxxxxxxxxxxxxxxxxxxxxxxxxxxxxxxxxxxxxxxxxxxxxxxxxxxxxxxxxxxxxxxxxxxxxxxxxxxxxxxxxxxxxxxxxxxxxxxxxxxxxxxxxxxxxxxxxxxxxxxxxxxxxxxxxxxxxxxxxxxxxxxxxxxxxxxxxxxxxxxxxxxxxxxxxxxxxxxxxxxxxxxxxxxxxxxxxxxxxxxxxxxxxxx\nNode-action: delete\n\n\n",
         Reason::BadPath(PathFault::NameTooLong),
     ),
     (
-        b"Node-path: x/x/x/x/x/x/x/x/x/x/x/x/x/x/x/x/x/x/x/x/x/x/x/x/x/x/x/x/x/x/x/x/x/x/x/x/x/x/x/x/x/x/x/x/x/x/x/x/x/x/x/x/x/x/x/x/x/x/x/x/x/x/x/x/x/x/x/x/x/x/x/x/x/x/x/x/x/x/x/x/x/x/x/x/x/x/x/x/x/x/x/x/x/x/x/x/x/x/x/x/x/x/x/x/x/x/x/x/x/x/x/x/x/x/x/x/x/x/x/x/x/x/x/x/x/x/x/x/x\nNode-action: delete\n\n\n",
+        "Node-path: x/x/x/x/x/x/x/x/x/x/x/x/x/x/x/x/x/x/x/x/x/x/x/x/x/x/x/x/x/x/x/x/x/x/x/x/x/x/x/x/x/x/x/x/x/x/x/x/x/x/x/x/x/x/x/x/x/x/x/x/x/x/x/x/x/x/x/x/x/x/x/x/x/x/x/x/x/x/x/x/x/x/x/x/x/x/x/x/x/x/x/x/x/x/x/x/x/x/x/x/x/x/x/x/x/x/x/x/x/x/x/x/x/x/x/x/x/x/x/x/x/x/x/x/x/x/x/x/x\nNode-action: delete\n\n\n",
         Reason::BadPath(PathFault::TooManyComponents),
     ),
     (
-        b"Node-path: a\xff\nNode-action: delete\n\n\n",
-        Reason::NotUtf8,
-    ),
-    (
-        b"Node-path: a\nNode-kind: link\nNode-action: add\n\n\n",
+        "Node-path: a\nNode-kind: link\nNode-action: add\n\n\n",
         Reason::NotAKind,
     ),
     (
-        b"Node-path: a\nNode-kind: file\nNode-action: move\n\n\n",
+        "Node-path: a\nNode-kind: file\nNode-action: move\n\n\n",
         Reason::NotAnAction,
     ),
-    (b"Node-path: a\nNode-kind: file\n\n\n", Reason::NotAnAction),
+    ("Node-path: a\nNode-kind: file\n\n\n", Reason::NotAnAction),
     (
-        b"Node-path: a\nNode-kind: file\nNode-action: add\nNode-copyfrom-rev: 1\n\n\n",
+        "Node-path: a\nNode-kind: file\nNode-action: add\nNode-copyfrom-rev: 1\n\n\n",
         Reason::HalfSource,
     ),
     (
-        b"Node-path: a\nNode-kind: file\nNode-action: add\nNode-copyfrom-path: f\n\n\n",
+        "Node-path: a\nNode-kind: file\nNode-action: add\nNode-copyfrom-path: f\n\n\n",
         Reason::HalfSource,
     ),
     (
-        b"Node-path: a\nNode-kind: file\nNode-action: add\nText-content-length: 3\nContent-length: 4\n\none\n\n",
+        "Node-path: a\nNode-kind: file\nNode-action: add\nText-content-length: 3\nContent-length: 4\n\none\n\n",
         Reason::Lengths,
     ),
     (
-        b"Node-path: a\nNode-kind: file\nNode-action: add\nProp-content-length: 18446744073709551615\nText-content-length: 1\nContent-length: 0\n\n\n",
+        "Node-path: a\nNode-kind: file\nNode-action: add\nProp-content-length: 18446744073709551615\nText-content-length: 1\nContent-length: 0\n\n\n",
         Reason::Lengths,
     ),
     (
-        b"Node-path: a\nNode-kind: file\nNode-action: add\nProp-content-length: 65\nContent-length: 65\n\nxxxxxxxxxxxxxxxxxxxxxxxxxxxxxxxxxxxxxxxxxxxxxxxxxxxxxxxxxxxxxxxxx\n\n",
+        "Node-path: a\nNode-kind: file\nNode-action: add\nProp-content-length: 65\nContent-length: 65\n\nxxxxxxxxxxxxxxxxxxxxxxxxxxxxxxxxxxxxxxxxxxxxxxxxxxxxxxxxxxxxxxxxx\n\n",
         Reason::PropsTooLong(65, 64),
     ),
     (
-        b"Node-path: a\nNode-kind: file\nNode-action: add\nProp-content-length: 11\nContent-length: 11\n\nPROPS-END\n\n\n\n",
+        "Node-path: a\nNode-kind: file\nNode-action: add\nProp-content-length: 11\nContent-length: 11\n\nPROPS-END\n\n\n\n",
         Reason::NotProperties,
     ),
     (
-        b"Node-path: a\nNode-kind: file\nNode-action: add\nProp-content-length: 22\nContent-length: 22\n\nK 1\np\nV 2\nv\nPROPS-END\n\n\n",
+        "Node-path: a\nNode-kind: file\nNode-action: add\nProp-content-length: 22\nContent-length: 22\n\nK 1\np\nV 2\nv\nPROPS-END\n\n\n",
         Reason::NotProperties,
     ),
     (
-        b"Node-path: a\nNode-kind: file\nNode-action: add\nProp-content-length: 16\nContent-length: 16\n\nK 1\np\nPROPS-END\n\n\n",
+        "Node-path: a\nNode-kind: file\nNode-action: add\nProp-content-length: 16\nContent-length: 16\n\nK 1\np\nPROPS-END\n\n\n",
         Reason::NotProperties,
     ),
     (
-        b"Node-path: a\nNode-kind: file\nNode-action: add\nProp-content-length: 21\nContent-length: 21\n\nK 1\n \nV 0\n\nPROPS-END\n\n\n",
+        "Node-path: a\nNode-kind: file\nNode-action: add\nProp-content-length: 21\nContent-length: 21\n\nK 1\n \nV 0\n\nPROPS-END\n\n\n",
         Reason::BadPropName(PathFault::BadCharacter),
     ),
     (
-        b"Node-path: a\nNode-kind: file\nNode-action: add\nText-content-length: 65\nContent-length: 65\n\nxxxxxxxxxxxxxxxxxxxxxxxxxxxxxxxxxxxxxxxxxxxxxxxxxxxxxxxxxxxxxxxxx\n\n",
+        "Node-path: a\nNode-kind: file\nNode-action: add\nText-content-length: 65\nContent-length: 65\n\nxxxxxxxxxxxxxxxxxxxxxxxxxxxxxxxxxxxxxxxxxxxxxxxxxxxxxxxxxxxxxxxxx\n\n",
         Reason::TextTooLong(65, 64),
     ),
     (
-        b"Node-path: a\nNode-kind: file\nNode-action: add\nText-content-length: 9223372036854775808\nContent-length: 9223372036854775808\n\n\n\n",
+        "Node-path: a\nNode-kind: file\nNode-action: add\nText-content-length: 9223372036854775808\nContent-length: 9223372036854775808\n\n\n\n",
         Reason::TextTooLong(9223372036854775808, 64),
     ),
     (
-        b"Node-path: a\nNode-kind: file\nNode-action: add\nText-content-md5: f97c5d29941bfb1b2fdab0874906ab82\nText-content-length: 3\nContent-length: 3\n\ntwo\n\n",
+        "Node-path: a\nNode-kind: file\nNode-action: add\nText-content-md5: f97c5d29941bfb1b2fdab0874906ab82\nText-content-length: 3\nContent-length: 3\n\ntwo\n\n",
         Reason::WrongMd5,
     ),
     (
-        b"Node-path: a\nNode-kind: file\nNode-action: add\nText-content-md5: b8a9f715dbb64fd5c56e7783c6820a61\nText-content-sha1: fe05bcdcdc4928012781a5f1a2a77cbb5398e106\nText-content-length: 3\nContent-length: 3\n\ntwo\n\n",
+        "Node-path: a\nNode-kind: file\nNode-action: add\nText-content-md5: b8a9f715dbb64fd5c56e7783c6820a61\nText-content-sha1: fe05bcdcdc4928012781a5f1a2a77cbb5398e106\nText-content-length: 3\nContent-length: 3\n\ntwo\n\n",
         Reason::WrongSha1,
     ),
     (
-        b"Node-path: a\nNode-kind: file\nNode-action: add\nText-content-length: 9\nContent-length: 9\n\none\n\n",
+        "Node-path: a\nNode-kind: file\nNode-action: add\nText-content-length: 9\nContent-length: 9\n\none\n\n",
         Reason::CutOff,
     ),
     (
-        b"Node-path: a\nNode-kind: file\nNode-action: add\n",
+        "Node-path: a\nNode-kind: file\nNode-action: add\n",
         Reason::CutOff,
     ),
     (
-        b"Node-path: a\nOther: xxxxxxxxxxxxxxxxxxxxxxxxxxxxxxxxxxxxxxxxxxxxxxxxxxxxxxxxxxxxxxxxxxxxxxxxxxxxxxxxxxxxxxxxxxxxxxxxxxxxxxxxxxxxxxxxxxxxxxxxxxxxxxxxxxxxxxxxxxxxxxxxxxxxxxxxxxxxxxxxxxxxxxxxxxxxxxxxxxxxxxxxxxxxxxxxxxxxxxxxxxxxxxxxxxxxxxxxxxxxxxxxxxxxxxxxxxxxxxxxxxxxxxxxxxxxxxxxxxxxxxxxxxxxxxxxxxxxxxxxxxxxxxxxxxxxxxxxxxxxxxxxxxxxxxxxxxxxxxxxxxxxxxxxxxxxxxxxxxxxxxxxxxxxxxxxxxxxxxxxxxxxxxxxxxxxxxxxxxxxxxxxxxxxxxxxxxxxxxxx\n\n",
+        "Node-path: a\nOther: xxxxxxxxxxxxxxxxxxxxxxxxxxxxxxxxxxxxxxxxxxxxxxxxxxxxxxxxxxxxxxxxxxxxxxxxxxxxxxxxxxxxxxxxxxxxxxxxxxxxxxxxxxxxxxxxxxxxxxxxxxxxxxxxxxxxxxxxxxxxxxxxxxxxxxxxxxxxxxxxxxxxxxxxxxxxxxxxxxxxxxxxxxxxxxxxxxxxxxxxxxxxxxxxxxxxxxxxxxxxxxxxxxxxxxxxxxxxxxxxxxxxxxxxxxxxxxxxxxxxxxxxxxxxxxxxxxxxxxxxxxxxxxxxxxxxxxxxxxxxxxxxxxxxxxxxxxxxxxxxxxxxxxxxxxxxxxxxxxxxxxxxxxxxxxxxxxxxxxxxxxxxxxxxxxxxxxxxxxxxxxxxxxxxxxxxxxxxxxxx\n\n",
         Reason::HeadersTooLong,
     ),
 ];
 
 // The same where texts are kept as their checksums.
-static BAD_BY_SHA1: [(&[u8], Reason); 1] = [(
-    b"Node-path: a\nNode-kind: file\nNode-action: add\nText-delta: true\nText-content-length: 9\nContent-length: 9\n\nSVN\x00\x00\x00\x01\x00\x01\n\n",
+static BAD_BY_SHA1: [Record; 1] = [(
+    "Node-path: a\nNode-kind: file\nNode-action: add\nText-delta: true\nText-content-length: 9\nContent-length: 9\n\nSVN\x00\x00\x00\x01\x00\x01\n\n",
     Reason::NoSha1,
 )];
 
+type BadChange = (&'static str, LoadFault, u64);
+
 // Records that can be read, with the newest revision then: one that begins a revision ends the one before.
-static BAD_CHANGES: [(&[u8], LoadFault, u64); 13] = [
-    (b"Revision-number: 1\n\n", LoadFault::NotRising, 2),
-    (b"Revision-number: 2\n\n", LoadFault::NotRising, 2),
+static BAD_CHANGES: [BadChange; 13] = [
+    ("Revision-number: 1\n\n", LoadFault::NotRising, 2),
+    ("Revision-number: 2\n\n", LoadFault::NotRising, 2),
     (
-        b"Revision-number: 100000001\n\n",
+        "Revision-number: 100000001\n\n",
         LoadFault::TooManyRevisions,
         2,
     ),
+    ("Node-path: a\nNode-action: add\n\n\n", LoadFault::NoKind, 1),
     (
-        b"Node-path: a\nNode-action: add\n\n\n",
-        LoadFault::NoKind,
-        1,
-    ),
-    (
-        b"Node-path: a\nNode-kind: file\nNode-action: change\n\n\n",
+        "Node-path: a\nNode-kind: file\nNode-action: change\n\n\n",
         LoadFault::Commit(CommitFault::Missing),
         1,
     ),
     (
-        b"Node-path: a\nNode-action: delete\n\n\n",
+        "Node-path: a\nNode-action: delete\n\n\n",
         LoadFault::Commit(CommitFault::Missing),
         1,
     ),
     (
-        b"Node-path: f\nNode-kind: file\nNode-action: add\n\n\n",
+        "Node-path: f\nNode-kind: file\nNode-action: add\n\n\n",
         LoadFault::Commit(CommitFault::Exists),
         1,
     ),
     (
-        b"Node-path: f/a\nNode-kind: file\nNode-action: add\n\n\n",
+        "Node-path: f/a\nNode-kind: file\nNode-action: add\n\n\n",
         LoadFault::Commit(CommitFault::NotDir),
         1,
     ),
     (
-        b"Node-path: d\nNode-kind: dir\nNode-action: change\nText-content-length: 3\nContent-length: 3\n\none\n\n",
+        "Node-path: d\nNode-kind: dir\nNode-action: change\nText-content-length: 3\nContent-length: 3\n\none\n\n",
         LoadFault::Commit(CommitFault::NotFile),
         1,
     ),
     (
-        b"Node-path: \nNode-action: delete\n\n\n",
+        "Node-path: \nNode-action: delete\n\n\n",
         LoadFault::Commit(CommitFault::IsRoot),
         1,
     ),
     (
-        b"Node-path: a\nNode-kind: file\nNode-action: add\nNode-copyfrom-rev: 2\nNode-copyfrom-path: f\n\n\n",
+        "Node-path: a\nNode-kind: file\nNode-action: add\nNode-copyfrom-rev: 2\nNode-copyfrom-path: f\n\n\n",
         LoadFault::Commit(CommitFault::NoSuchRevision),
         1,
     ),
     (
-        b"Node-path: a\nNode-kind: file\nNode-action: add\nNode-copyfrom-rev: 1\nNode-copyfrom-path: a\n\n\n",
+        "Node-path: a\nNode-kind: file\nNode-action: add\nNode-copyfrom-rev: 1\nNode-copyfrom-path: a\n\n\n",
         LoadFault::Commit(CommitFault::Missing),
         1,
     ),
     (
-        b"Node-path: a\nNode-kind: file\nNode-action: add\nText-delta: true\nText-content-length: 4\nContent-length: 4\n\nSVN\x01\n\n",
+        "Node-path: a\nNode-kind: file\nNode-action: add\nText-delta: true\nText-content-length: 4\nContent-length: 4\n\nSVN\x01\n\n",
         LoadFault::Delta(SvndiffFault::Header),
         1,
     ),
 ];
 
 // What isn't a dump.
-static BAD_FRONTS: [(&[u8], Reason); 5] = [
-    (b"", Reason::NotADump),
-    (b"SVN\n\n", Reason::NotADump),
-    (b"UUID: 1\n\n", Reason::NotADump),
-    (b"SVN-fs-dump-format-version: 4\n\n", Reason::Version(4)),
-    (b"SVN-fs-dump-format-version: 2\n", Reason::CutOff),
+static BAD_FRONTS: [Record; 5] = [
+    ("", Reason::NotADump),
+    ("SVN\n\n", Reason::NotADump),
+    ("UUID: 1\n\n", Reason::NotADump),
+    ("SVN-fs-dump-format-version: 4\n\n", Reason::Version(4)),
+    ("SVN-fs-dump-format-version: 2\n", Reason::CutOff),
 ];
+
+// (A function is proved with all of a table that it names, so these do no more. Of a byte string that is each byte, so these are texts.)
+fn bad_records() -> &'static [Record] {
+    &BAD_RECORDS
+}
+
+fn bad_by_sha1() -> &'static [Record] {
+    &BAD_BY_SHA1
+}
+
+fn bad_changes() -> &'static [BadChange] {
+    &BAD_CHANGES
+}
+
+fn bad_fronts() -> &'static [Record] {
+    &BAD_FRONTS
+}
 
 // Whether what was loaded before is there.
 fn has_first(alloc: Global, repo: &Repo, texts: Texts, latest: u64) -> Result<bool> {
@@ -242,6 +255,13 @@ fn loader_of(alloc: Global, dump: &[u8], texts: Texts) -> Result<Loader<&[u8]>> 
     Ok(Loader::new(alloc, reader, Repo::new(alloc)?))
 }
 
+// The front with a record after it.
+fn dump_with(alloc: Global, record: &[u8]) -> Result<Vec<u8>> {
+    let mut dump = FRONT.as_bytes().to_vec(alloc)?;
+    dump.extend_from_slice(record)?;
+    Ok(dump)
+}
+
 // Whether a record is refused for this reason, where it begins, and the revisions before are there.
 fn is_refused(
     alloc: Global,
@@ -250,8 +270,7 @@ fn is_refused(
     fault: LoadFault,
     latest: u64,
 ) -> Result<bool> {
-    let mut dump = FRONT.to_vec(alloc)?;
-    dump.extend_from_slice(record)?;
+    let dump = dump_with(alloc, record)?;
     let mut loader = loader_of(alloc, &dump, texts)?;
     let refused = load_all(&mut loader);
     let at = loader.records().begun();
@@ -262,69 +281,101 @@ fn is_refused(
 // Notes a row that isn't refused as it should be.
 fn note(out: &mut String, table: &str, row: usize, is_refused: bool) -> Result<()> {
     if !is_refused {
-        let alloc = *out.allocator();
-        out.push_str(&format!(in alloc; "row {row} of {table} is refused otherwise, or taken\n")?)?;
+        writeln!(out, "row {row} of {table} is refused otherwise, or taken")?;
     }
     Ok(())
+}
+
+// Whether a record is refused while it is read, in revision 2.
+fn is_unread(alloc: Global, record: &[u8], texts: Texts, reason: Reason) -> Result<bool> {
+    let fault = LoadFault::Dump(DumpFault::Refused(reason));
+    is_refused(alloc, record, texts, fault, 1)
+}
+
+fn note_record(out: &mut String, row: usize, record: &Record) -> Result<()> {
+    let (text, reason) = *record;
+    let is_refused = is_unread(*out.allocator(), text.as_bytes(), Texts::Whole, reason)?;
+    note(out, "the records", row, is_refused)
 }
 
 fn note_records(out: &mut String) -> Result<()> {
-    let alloc = *out.allocator();
-    for (row, (record, reason)) in BAD_RECORDS.iter().enumerate() {
-        let fault = LoadFault::Dump(DumpFault::Refused(*reason));
-        let is_refused = is_refused(alloc, record, Texts::Whole, fault, 1)?;
-        note(out, "the records", row, is_refused)?;
+    for (row, record) in bad_records().iter().enumerate() {
+        note_record(out, row, record)?;
     }
     Ok(())
+}
+
+// A path that is no text.
+fn note_bytes(out: &mut String) -> Result<()> {
+    let record = b"Node-path: a\xff\nNode-action: delete\n\n\n";
+    let is_refused = is_unread(*out.allocator(), record, Texts::Whole, Reason::NotUtf8)?;
+    note(out, "the records of bytes", 0, is_refused)
+}
+
+fn note_record_by_sha1(out: &mut String, row: usize, record: &Record) -> Result<()> {
+    let (text, reason) = *record;
+    let is_refused = is_unread(*out.allocator(), text.as_bytes(), Texts::Sha1, reason)?;
+    note(out, "the records by SHA-1", row, is_refused)
 }
 
 fn note_records_by_sha1(out: &mut String) -> Result<()> {
-    let alloc = *out.allocator();
-    for (row, (record, reason)) in BAD_BY_SHA1.iter().enumerate() {
-        let fault = LoadFault::Dump(DumpFault::Refused(*reason));
-        let is_refused = is_refused(alloc, record, Texts::Sha1, fault, 1)?;
-        note(out, "the records by SHA-1", row, is_refused)?;
+    for (row, record) in bad_by_sha1().iter().enumerate() {
+        note_record_by_sha1(out, row, record)?;
     }
     Ok(())
+}
+
+fn note_change(out: &mut String, row: usize, changes: &BadChange) -> Result<()> {
+    let (text, fault, latest) = *changes;
+    let alloc = *out.allocator();
+    let is_refused = is_refused(alloc, text.as_bytes(), Texts::Whole, fault, latest)?;
+    note(out, "the changes", row, is_refused)
 }
 
 fn note_changes(out: &mut String) -> Result<()> {
-    let alloc = *out.allocator();
-    for (row, (record, fault, latest)) in BAD_CHANGES.iter().enumerate() {
-        let is_refused = is_refused(alloc, record, Texts::Whole, *fault, *latest)?;
-        note(out, "the changes", row, is_refused)?;
+    for (row, changes) in bad_changes().iter().enumerate() {
+        note_change(out, row, changes)?;
     }
     Ok(())
 }
 
+fn is_front_refused(alloc: Global, front: &Record) -> bool {
+    let (text, reason) = *front;
+    let refused = Reader::new(alloc, text.as_bytes(), LIMITS, Texts::Whole).err();
+    refused == Some(DumpFault::Refused(reason))
+}
+
 fn note_fronts(out: &mut String) -> Result<()> {
-    let alloc = *out.allocator();
-    for (row, (front, reason)) in BAD_FRONTS.iter().enumerate() {
-        let refused = Reader::new(alloc, *front, LIMITS, Texts::Whole).err();
-        let is_refused = refused == Some(DumpFault::Refused(*reason));
+    for (row, front) in bad_fronts().iter().enumerate() {
+        let is_refused = is_front_refused(*out.allocator(), front);
         note(out, "the fronts", row, is_refused)?;
     }
     Ok(())
 }
 
 // A node before revision 1.
+const EARLY: &str =
+    "SVN-fs-dump-format-version: 2\n\nRevision-number: 0\n\nNode-path: a\nNode-kind: file\nNode-action: add\n\n\n";
+
 fn note_early_node(out: &mut String) -> Result<()> {
-    let alloc = *out.allocator();
-    let dump =
-        b"SVN-fs-dump-format-version: 2\n\nRevision-number: 0\n\nNode-path: a\nNode-kind: file\nNode-action: add\n\n\n";
-    let mut loader = loader_of(alloc, dump, Texts::Whole)?;
+    let mut loader = loader_of(*out.allocator(), EARLY.as_bytes(), Texts::Whole)?;
     let refused = load_all(&mut loader);
     let is_refused = refused == Err(LoadFault::NoRevision) && loader.records().begun() == 51;
     note(out, "the early nodes", 0, is_refused)
 }
 
+fn note_all(out: &mut String) -> Result<()> {
+    note_fronts(out)?;
+    note_early_node(out)?;
+    note_records(out)?;
+    note_bytes(out)?;
+    note_records_by_sha1(out)?;
+    note_changes(out)
+}
+
 /// A line for each row that isn't refused as it should be.
 pub fn other_refusals(alloc: Global) -> Result<String> {
     let mut out = String::new(alloc);
-    note_fronts(&mut out)?;
-    note_early_node(&mut out)?;
-    note_records(&mut out)?;
-    note_records_by_sha1(&mut out)?;
-    note_changes(&mut out)?;
+    note_all(&mut out)?;
     Ok(out)
 }

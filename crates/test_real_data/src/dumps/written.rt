@@ -46,41 +46,58 @@ fn path_of(alloc: Global, text: &str) -> Result<RelPath> {
     Ok(RelPath::parse(alloc, text)?)
 }
 
-fn prop_change(alloc: Global, path: &str, value: Option<&str>) -> Result<Change> {
-    let value = match value {
-        Some(value) => Some(Text::from_slice(alloc, value.as_bytes())?),
-        None => None,
-    };
-    Ok(Change::SetProp {
-        path: path_of(alloc, path)?,
-        name: PropName::parse(alloc, "svn:eol-style")?,
-        value,
+fn text_of(alloc: Global, text: &str) -> Result<Text> {
+    Ok(Text::from_slice(alloc, text.as_bytes())?)
+}
+
+fn make_dir(alloc: Global, path: &str) -> Result<Change> {
+    let path = path_of(alloc, path)?;
+    Ok(Change::MakeDir { path })
+}
+
+fn put_file(alloc: Global, path: &str, text: &str) -> Result<Change> {
+    let path = path_of(alloc, path)?;
+    let text = text_of(alloc, text)?;
+    Ok(Change::PutFile { path, text })
+}
+
+fn prop_change(alloc: Global, path: &str, value: Option<Text>) -> Result<Change> {
+    let path = path_of(alloc, path)?;
+    let name = PropName::parse(alloc, "svn:eol-style")?;
+    Ok(Change::SetProp { path, name, value })
+}
+
+fn set_prop(alloc: Global, path: &str, value: &str) -> Result<Change> {
+    let value = text_of(alloc, value)?;
+    prop_change(alloc, path, Some(value))
+}
+
+fn remove(alloc: Global, path: &str) -> Result<Change> {
+    let path = path_of(alloc, path)?;
+    Ok(Change::Remove { path })
+}
+
+fn copy(alloc: Global, rev: u64, source: &str, path: &str) -> Result<Change> {
+    let source = path_of(alloc, source)?;
+    let path = path_of(alloc, path)?;
+    Ok(Change::CopyFrom {
+        rev: Rev(rev),
+        source,
+        path,
     })
 }
 
 // The change of a step; none where it is a commit.
-fn change_of(alloc: Global, step: Step) -> Result<Option<Change>> {
-    let change = match step {
-        Step::Commit => return Ok(None),
-        Step::MakeDir(path) => Change::MakeDir {
-            path: path_of(alloc, path)?,
-        },
-        Step::PutFile(path, text) => Change::PutFile {
-            path: path_of(alloc, path)?,
-            text: Text::from_slice(alloc, text.as_bytes())?,
-        },
-        Step::SetProp(path, value) => prop_change(alloc, path, Some(value))?,
-        Step::RemoveProp(path) => prop_change(alloc, path, None)?,
-        Step::Remove(path) => Change::Remove {
-            path: path_of(alloc, path)?,
-        },
-        Step::Copy(rev, source, path) => Change::CopyFrom {
-            rev: Rev(rev),
-            source: path_of(alloc, source)?,
-            path: path_of(alloc, path)?,
-        },
-    };
-    Ok(Some(change))
+fn change_of(alloc: Global, step: Step) -> Option<Result<Change>> {
+    match step {
+        Step::Commit => None,
+        Step::MakeDir(path) => Some(make_dir(alloc, path)),
+        Step::PutFile(path, text) => Some(put_file(alloc, path, text)),
+        Step::SetProp(path, value) => Some(set_prop(alloc, path, value)),
+        Step::RemoveProp(path) => Some(prop_change(alloc, path, None)),
+        Step::Remove(path) => Some(remove(alloc, path)),
+        Step::Copy(rev, source, path) => Some(copy(alloc, rev, source, path)),
+    }
 }
 
 fn commit(dump: &mut Vec<u8>, writer: &mut HistoryWriter, changes: &mut Vec<Change>) -> Result<()> {
@@ -89,14 +106,26 @@ fn commit(dump: &mut Vec<u8>, writer: &mut HistoryWriter, changes: &mut Vec<Chan
     Ok(())
 }
 
+fn steps() -> &'static [Step] {
+    &STEPS
+}
+
+fn take(
+    dump: &mut Vec<u8>,
+    writer: &mut HistoryWriter,
+    changes: &mut Vec<Change>,
+    step: Step,
+) -> Result<()> {
+    match change_of(*dump.allocator(), step) {
+        Some(change) => Ok(changes.push(change?)?),
+        None => commit(dump, writer, changes),
+    }
+}
+
 fn make_all(dump: &mut Vec<u8>, writer: &mut HistoryWriter) -> Result<()> {
-    let alloc = *dump.allocator();
-    let mut changes = Vec::new(alloc);
-    for step in &STEPS {
-        match change_of(alloc, *step)? {
-            Some(change) => changes.push(change)?,
-            None => commit(dump, writer, &mut changes)?,
-        }
+    let mut changes = Vec::new(*dump.allocator());
+    for step in steps() {
+        take(dump, writer, &mut changes, *step)?;
     }
     Ok(())
 }

@@ -210,8 +210,8 @@ fn time<R: Clock + Eprint>(
 
 /// Times that many calls of each kind, and a report of that many entries.
 pub(crate) fn run<R: Clock + Eprint>(rt: &R, alloc: Global, count: u64) -> Result<(), Trouble> {
-    for (what, work) in WORKS {
-        time(rt, alloc, what, work, count)?;
+    for (what, work) in &WORKS {
+        time(rt, alloc, what, *work, count)?;
     }
     Ok(())
 }

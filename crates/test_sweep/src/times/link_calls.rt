@@ -143,14 +143,16 @@ fn time<R: Threads + Wait + Sync + Clock + Eprint>(
     Ok(())
 }
 
+const CAPACITIES: [usize; 3] = [1, 64, 4096];
+
 /// Times that many calls at each capacity.
 pub(crate) fn run<R: Threads + Wait + Sync + Clock + Eprint>(
     rt: &R,
     alloc: Global,
     calls: u64,
 ) -> Result<(), Trouble> {
-    for capacity in [1, 64, 4096] {
-        time(rt, alloc, capacity, calls)?;
+    for capacity in &CAPACITIES {
+        time(rt, alloc, *capacity, calls)?;
     }
     Ok(())
 }

@@ -146,9 +146,13 @@ fn time<R: Clock + Eprint>(rt: &R, alloc: Global, row: &Row, wanted: u64) -> Res
     Ok(())
 }
 
+fn rows() -> &'static [Row] {
+    &ROWS
+}
+
 /// Times the rows with that many pools.
 pub(crate) fn run<R: Clock + Eprint>(rt: &R, alloc: Global, wanted: u64) -> Result<(), Trouble> {
-    for row in &ROWS {
+    for row in rows() {
         time(rt, alloc, row, wanted)?;
     }
     Ok(())

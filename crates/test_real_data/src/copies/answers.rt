@@ -1,0 +1,138 @@
+//! What `check` answers, of copies in memory.
+ghost use Rattle.std.specs.Prelude.{Some};
+
+use super::files::history_of;
+use anyhow::Result;
+use std::alloc::Global;
+use std::rt::Files;
+use std::{fmt, fs};
+use svn_answers::{Asked, Copies, History, Opened};
+use svn_disk_audit::Examiner;
+use svn_dump::Texts;
+use svn_types::{RelPath, Text};
+use svn_wcdb::BaseTree;
+
+const ROWS: [(&str, Option<&[u8]>, &[&str]); 4] = [
+    ("no copy", None, &[]),
+    ("a copy", None, &["copy"]),
+    ("a copy of another repository", Some(b"another"), &["copy"]),
+    (
+        "one that is gone, one that changes, and a copy",
+        None,
+        &["gone", "changing", "copy"],
+    ),
+];
+
+// Copies of the one file `f`. The database of the one that changes was cut off while it was read.
+#[derive(Clone, Copy)]
+struct InMemory<'a> {
+    alloc: Global,
+    database: &'a [u8],
+}
+
+// The text of the file.
+#[derive(Clone, Copy)]
+struct OneText(&'static [u8]);
+
+#[derive(Clone, Copy)]
+struct Refused(&'static str);
+
+impl fmt::Display for Refused {
+    fn fmt<W: fmt::Write>(&self, f: &mut fmt::Formatter<W>) -> fmt::Result {
+        f.write_str(self.0)
+    }
+}
+
+impl Examiner for OneText {
+    type Fault = Refused;
+
+    type Text = &'static [u8];
+
+    ghost text_at = { λ s _. Some s.0.now };
+
+    fn examine(&mut self, _tree: &BaseTree) -> std::result::Result<(), Refused> {
+        Ok(())
+    }
+
+    fn pristine(
+        &mut self,
+        _path: &RelPath,
+        _name: &Text,
+    ) -> std::result::Result<&'static [u8], Refused> {
+        Ok(self.0)
+    }
+}
+
+impl Copies for InMemory<'_> {
+    type Fault = Refused;
+
+    type Examiner = OneText;
+
+    fn is_memory(&self, _fault: &Refused) -> bool {
+        false
+    }
+
+    fn open(&self, name: &str) -> std::result::Result<Opened<OneText>, Refused> {
+        let bytes = match name {
+            "gone" => return Err(Refused("no such copy")),
+            "changing" => &self.database[..self.database.len() / 2],
+            _ => self.database,
+        };
+        match Vec::from_slice(self.alloc, bytes) {
+            Ok(database) => Ok(Opened {
+                database,
+                below: RelPath::root(self.alloc),
+                examiner: OneText(b"f\n"),
+            }),
+            Err(_) => Err(Refused("out of memory")),
+        }
+    }
+
+    fn look_again(
+        &self,
+        name: &str,
+        _database: &[u8],
+        _examiner: &OneText,
+    ) -> std::result::Result<(), Refused> {
+        if name == "changing" {
+            return Err(Refused("it changed"));
+        }
+        Ok(())
+    }
+}
+
+fn print_text<R: Print>(rt: &R, bytes: &[u8]) -> Result<()> {
+    print!(rt; "{}", str::from_utf8(bytes)?)?;
+    Ok(())
+}
+
+/// Checks copies, and prints the answers.
+pub(crate) fn check_copies<R: Files + AllocGlobal + Print>(rt: &R) -> Result<()> {
+    let alloc = rt.alloc();
+    let texts = Texts::Sha1;
+    let repo = history_of(rt, "copies/wrong_revision.dump", texts)?;
+    let database = fs::read(rt, "copies/wrong_revision.db")?;
+    let copies = InMemory {
+        alloc,
+        database: &database,
+    };
+    for (row, uuid, names) in &ROWS {
+        let history = History {
+            repo: &repo,
+            texts,
+            uuid: *uuid,
+        };
+        let asked = Asked {
+            alloc,
+            history,
+            copies: &copies,
+        };
+        let (mut lines, mut notices) = (Vec::new(alloc), Vec::new(alloc));
+        let verdict = asked.check(names, &mut lines, &mut notices)?;
+        let status = verdict.status();
+        println!(rt; "check of {row}: status {status}")?;
+        print_text(rt, &lines)?;
+        print_text(rt, &notices)?;
+    }
+    Ok(())
+}
