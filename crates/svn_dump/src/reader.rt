@@ -229,6 +229,17 @@ impl<R: Read + Drop> Reader<R> {
         }
     }
 
+    /// The UUID that the headers of the record give that was read last, or refused, if they could be read and give one: its bytes as they are in the
+    /// dump.
+    pub fn uuid(&self) -> Option<&[u8]>
+        ensures { option_copied result ≡ if_once (header_value self.now.block.items (codes "UUID")) }
+    {
+        match Headers::of(&self.block).value(HeaderName::Uuid) {
+            Ok(uuid) => uuid,
+            Err(_) => None,
+        }
+    }
+
     // Reads the headers of the next record; whether there is one.
     fn read_headers(&mut self) -> Result<bool, DumpFault>
         ensures headers { Reads (λ _. self.new.block.items) (left_in R.remaining self.old) (left_in R.remaining self.new) result (block_at false self.old.limits.headers) }

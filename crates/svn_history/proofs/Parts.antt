@@ -2,19 +2,22 @@
 use Rattle.std.proofs.Common.{◌≡◌, ℕ, List, [], ◌∷◌, ◌++◌, Option, Some, None, Result, Ok, Err, refl, subst, sym, ap}
 use Rattle.std.specs.Prelude.{MatchOption}
 use Rattle.std.proofs.lemmas.List.Sums.{fold-append}
+use Rattle.svn_repo.specs.Transactions.{OpenRevision}
 use Rattle.svn_dump.specs.declared.fault.DumpFault.{DumpFault}
 use Rattle.svn_dump.specs.declared.fault.DumpFault.TheVariants as dump
 use Rattle.svn_dump.specs.declared.record.NodeRecord.{NodeRecord}
 use Rattle.svn_dump.specs.declared.record.Record.{Record}
 use Rattle.svn_dump.specs.declared.record.Record.TheVariants.{Other, Revision, Node}
+use Rattle.svn_dump.specs.declared.reader.Reader.{Reader}
 use Rattle.svn_dump.specs.declared.sections.Limits.{Limits}
 use Rattle.svn_dump.specs.declared.sections.Texts.{Texts}
+use Rattle.svn_dump.specs.Readers.{left_in}
 use Rattle.svn_dump.specs.Reading.{Reads, Fails as DumpFails}
 use Rattle.svn_dump.specs.Records.{record_at}
 use Rattle.svn_history.specs.declared.fault.LoadFault.{LoadFault}
 use Rattle.svn_history.specs.declared.fault.LoadFault.TheVariants as faults
 use Rattle.svn_history.specs.Results.{Fails, of_dump}
-use Rattle.svn_history.specs.Steps.{Draft, Step, nothing, ◌>>◌, IsMade}
+use Rattle.svn_history.specs.Steps.{Draft, draft_of, Step, nothing, ◌>>◌, IsMade}
 use Rattle.svn_history.specs.Loading.{ReadsNodes, no_record, one_node, one_other, NodesAt, beginning}
 use Rattle.svn_history.specs.Parts.{IfKnown, Takes, RefusesRecord, node_changes, nodes_changes, LoadsNodes, NodesFault, RefusesNodes}
 use Rattle.svn_history.specs.Parts.{bad_record, bad_node, outside, out_of_memory, read_fault}
@@ -27,7 +30,7 @@ pub record NodesSoFar (limits : Limits) (texts : Texts) (rev : Option ℕ) (left
   pub bytes : IfKnown left now (λ bytes mid. ReadsNodes limits texts bytes nodes mid)
   pub changed : IsMade (nodes_changes texts rev nodes) d made
 
-known_same : (left : Option (List ℕ)) (P : List ℕ → List ℕ → Type 0) → ((bytes : List ℕ) → P bytes bytes) → IfKnown left left P
+pub known_same : (left : Option (List ℕ)) (P : List ℕ → List ℕ → Type 0) → ((bytes : List ℕ) → P bytes bytes) → IfKnown left left P
 known_same None P h = tt
 known_same (Some bytes) P h = h bytes
 
@@ -38,6 +41,15 @@ at_start limits texts rev left d = record {
   bytes = known_same left (λ bytes mid. ReadsNodes limits texts bytes [] mid) (λ bytes. no_record);
   changed = made_nothing d;
 }
+
+-- of a reader and a draft that are the same
+pub nodes_on : {R : Type 0} (remaining : R → Option (List ℕ)) (limits : Limits) (texts : Texts) (rev : Option ℕ) (left : Option (List ℕ))
+    (d : Draft) (records records' : Reader R) (o o' : OpenRevision) → records' ≡ records → o' ≡ o
+    → NodesSoFar limits texts rev left d (left_in remaining records) (draft_of o)
+    → NodesSoFar limits texts rev left d (left_in remaining records') (draft_of o')
+nodes_on {R} remaining limits texts rev left d records records' o o' same same' h =
+    subst (λ (r : Reader R). NodesSoFar limits texts rev left d (left_in remaining r) (draft_of o')) (sym same)
+    (subst (λ (t : OpenRevision). NodesSoFar limits texts rev left d (left_in remaining records) (draft_of t)) (sym same') h)
 
 -- what is read next, where the bytes are known
 known_next : (limits : Limits) (texts : Texts) (left now next : Option (List ℕ)) (what : Option Record) (P Q : List ℕ → List ℕ → Type 0)
@@ -129,7 +141,7 @@ module _ (limits : Limits) (texts : Texts) (rev : Option ℕ) (left : Option (Li
 
 module _ (limits limits' : Limits) (texts texts' : Texts) (now next : Option (List ℕ)) (same_limits : limits' ≡ limits)
     (same_texts : texts' ≡ texts) where
-  reads_here : (r r' : Result (Option Record) DumpFault) → r ≡ r' → Reads (λ r. r) now next r (record_at limits' texts')
+  pub reads_here : (r r' : Result (Option Record) DumpFault) → r ≡ r' → Reads (λ r. r) now next r (record_at limits' texts')
       → Reads (λ r. r) now next r' (record_at limits texts)
   reads_here r r' same h =
       subst (λ (x : Result (Option Record) DumpFault). Reads (λ r. r) now next x (record_at limits texts)) same

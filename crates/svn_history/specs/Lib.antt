@@ -4,6 +4,7 @@ pub mod Steps
 pub mod Changes
 pub mod Loading
 pub mod Parts
+pub mod Fronts
 pub mod Hearing
 pub mod Writing
 pub mod Laws

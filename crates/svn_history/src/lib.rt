@@ -18,7 +18,8 @@
 //! nothing of its revision is committed; where only the number of the next revision is refused, it is committed, and nothing after it (`fault`, by
 //! `RefusesPart` of `specs/Parts.antt`). A refusal stays (`refused`, `again`). `load_all` and `load_all_with` do so revision by revision, up to the
 //! end or the first refusal (`rest`, `fault`), and a listener hears of each revision once (`heard`). A dump that is loaded to its end is the bytes'
-//! revisions, each a commit (`dump`, by `Loads` of `specs/Loading.antt`). What is written of a commit is one record for each of its changes, in
+//! revisions, each a commit (`dump`, by `Loads` of `specs/Loading.antt`). The UUID and the number of the first revision are what the dump says before
+//! that revision (`front`, by `HasFront` of `specs/Fronts.antt`), and stay (`kept`). What is written of a commit is one record for each of its changes, in
 //! order (`commit`, `written`), a commit that is refused leaves no byte (`unwritten`), and what is written of a commit loads as the same commit
 //! ([`written_commits_load`]). From the bytes on: what was written of commits one after another is a dump, and loads as the same history, node by
 //! node and line by line ([`written_dumps_load`]); a dump loads as one history, but for the numbers of its nodes ([`dumps_load_as_one`]). Out of
@@ -28,6 +29,7 @@
 
 mod delta;
 mod fault;
+mod front;
 mod history_writer;
 mod laws;
 mod listener;

@@ -8,10 +8,12 @@ ghost use Rattle.svn_history.specs.Steps.{IsMade, draft_of, begun};
 ghost use Rattle.svn_history.specs.Loading.{EmptyCommits, LoadsDump};
 ghost use Rattle.svn_dump.specs.Counts.{Grows};
 ghost use Rattle.svn_dump.specs.Readers.{left_in, IsUnreadable};
+ghost use Rattle.svn_history.specs.Fronts.{FrontLoaded, given_uuid};
 ghost use Rattle.svn_history.specs.Hearing.{HearsAll};
 ghost use Rattle.svn_history.specs.Parts.{Begins, Ends, LoadsNodes, LoadsPart, LoadsOne, LoadsRest, RefusesNodes, RefusesNext, RefusesPart, RefusesOne, RefusesAll, RefusesRecord, Takes, begin_fault, is_open, loading, may_begin, node_changes};
 
 use crate::fault::LoadFault;
+use crate::front::Front;
 use crate::listener::{LoadListener, NoLoadListener};
 use crate::records::apply_record;
 use crate::refusal::Refusal;
@@ -19,7 +21,7 @@ use std::alloc::Global;
 use std::io::Read;
 use svn_dump::{DumpFault, NodeRecord, Reader, Record};
 use svn_repo::{Repo, Transaction};
-use svn_types::Rev;
+use svn_types::{Rev, Text};
 
 /// The largest number of a revision that is loaded: a dump that gives larger ones fills memory by its gaps alone.
 pub const MAX_REVISION: u64 = 100_000_000;
@@ -31,6 +33,8 @@ pub struct Loader<R> {
     alloc: Global,
     records: Reader<R>,
     transaction: Transaction,
+    // What was read before the first revision, and its number.
+    front: Front,
     // The revision that is being read, if one has begun.
     rev: Option<Rev>,
     // Why the dump isn't loaded further, if it was refused.
@@ -71,11 +75,17 @@ impl<R: Read + Drop> Loader<R> {
         ensures repo { draft_of result.transaction ≡ begun repo }
         ensures rev { result.rev ≡ None }
         ensures refused { result.refused ≡ None }
+        ensures uuid { result.front.uuid ≡ None }
+        ensures first { result.front.first ≡ None }
     {
         Loader {
             alloc,
             records,
             transaction: repo.begin(),
+            front: Front {
+                uuid: None,
+                first: None,
+            },
             rev: None,
             refused: None,
         }
@@ -86,6 +96,24 @@ impl<R: Read + Drop> Loader<R> {
         ensures { result ≡ self.now.rev }
     {
         self.rev
+    }
+
+    /// The UUID of the repository, if the dump gives one before its first revision, by its bytes in the dump; of several it is the last one. It
+    /// is known once the first revision began. One that comes later is passed over.
+    pub fn uuid(&self) -> Option<&[u8]>
+        ensures { option_copied result ≡ self.now.front.uuid }
+    {
+        match &self.front.uuid {
+            Some(uuid) => Some(uuid.as_slice()),
+            None => None,
+        }
+    }
+
+    /// The number of the dump's first revision; None before it began. Those before it are empty commits in the repository.
+    pub fn first_revision(&self) -> Option<Rev>
+        ensures { result ≡ self.now.front.first }
+    {
+        self.front.first
     }
 
     /// The dump, as far as it was read.
@@ -132,6 +160,7 @@ impl<R: Read + Drop> Loader<R> {
         ensures history { self.new.transaction.history ≡ self.old.transaction.history }
         ensures rev { self.new.rev ≡ self.old.rev }
         ensures records { self.new.records ≡ self.old.records }
+        ensures front { self.new.front ≡ self.old.front }
     {
         if !is_open(self.rev) {
             return Err(LoadFault::NoRevision);
@@ -147,6 +176,7 @@ impl<R: Read + Drop> Loader<R> {
         ensures history { self.new.transaction.history ≡ self.old.transaction.history }
         ensures rev { self.new.rev ≡ self.old.rev }
         ensures records { self.new.records ≡ self.old.records }
+        ensures front { self.new.front ≡ self.old.front }
     {
         match what {
             Record::Other => Ok(None),
@@ -156,6 +186,25 @@ impl<R: Read + Drop> Loader<R> {
             }
             Record::Revision { rev } => Ok(Some(rev)),
         }
+    }
+
+    // Keeps the UUID of the record that was read last, if no revision has begun.
+    fn keep_uuid(&mut self) -> Result<(), LoadFault>
+        ensures uuid { OnOk result (self.old.front.first ≡ None → self.new.front.uuid ≡ given_uuid self.old) }
+        ensures first { self.new.front.first ≡ self.old.front.first }
+        ensures kept { IsSome self.old.front.first → self.new.front ≡ self.old.front }
+        ensures fault { IfErr result (λ e. e ≡ LoadFault.Memory) }
+        ensures transaction { self.new.transaction ≡ self.old.transaction }
+        ensures rev { self.new.rev ≡ self.old.rev }
+        ensures records { self.new.records ≡ self.old.records }
+    {
+        if self.front.first.is_some() {
+            return Ok(());
+        }
+        if let Some(uuid) = self.records.uuid() {
+            self.front.uuid = Some(Text::from_slice(self.alloc, uuid)?);
+        }
+        Ok(())
     }
 
     // Makes the changes of the nodes up to the next revision, whose number is returned, or up to the end.
@@ -168,8 +217,12 @@ impl<R: Read + Drop> Loader<R> {
         ensures texts { self.new.records.texts ≡ self.old.records.texts }
         ensures read { IfErr result (λ e. e ≡ LoadFault.Dump DumpFault.Read → IsUnreadable self.new.records) }
         ensures grown { IfOk result (λ next. IsSome next → Grows self.old.records.source.taken 1 self.new.records.source.taken) }
+        ensures front { IfOk result (λ next. self.old.rev ≡ None → self.old.front.first ≡ None → FrontLoaded R.remaining self.old self.new.front.uuid next) }
+        ensures first { self.new.front.first ≡ self.old.front.first }
+        ensures kept { IsSome self.old.front.first → self.new.front ≡ self.old.front }
     {
         'records: for _ in 0..u64::MAX {
+            self.keep_uuid()?;
             let Some(what) = self.records.next_record()? else {
                 return Ok(None);
             };
@@ -190,6 +243,7 @@ impl<R: Read + Drop> Loader<R> {
         ensures history { IfErr result (λ _. self.new.transaction.history ≡ self.old.transaction.history) }
         ensures rev { self.new.rev ≡ self.old.rev }
         ensures records { self.new.records ≡ self.old.records }
+        ensures front { self.new.front ≡ self.old.front }
     {
         if is_open(self.rev) {
             self.transaction.commit()?;
@@ -233,6 +287,10 @@ impl<R: Read + Drop> Loader<R> {
         ensures rev { OnOk result (self.new.rev ≡ next) }
         ensures fault { IfErr result (λ e. RefusesNext self.old.rev next self.old.transaction.history e self.new.transaction.history) }
         ensures records { self.new.records ≡ self.old.records }
+        ensures uuid { self.new.front.uuid ≡ self.old.front.uuid }
+        ensures first { OnOk result (self.old.front.first ≡ None → self.new.front.first ≡ next) }
+        ensures kept { IsSome self.old.front.first → self.new.front ≡ self.old.front }
+        ensures known { OnOk result (IsSome self.new.rev → IsSome self.new.front.first) }
     {
         let Some(rev) = next else {
             self.rev = None;
@@ -241,6 +299,7 @@ impl<R: Read + Drop> Loader<R> {
         self.check_number(rev)?;
         fill_gap(&mut self.transaction, rev)?;
         self.rev = next;
+        self.front.begin(rev);
         Ok(())
     }
 
@@ -253,6 +312,9 @@ impl<R: Read + Drop> Loader<R> {
         ensures texts { self.new.records.texts ≡ self.old.records.texts }
         ensures read { IfErr result (λ e. e ≡ LoadFault.Dump DumpFault.Read → IsUnreadable self.new.records) }
         ensures grown { OnOk result (IsSome self.new.rev → Grows self.old.records.source.taken 1 self.new.records.source.taken) }
+        ensures front { OnOk result (self.old.rev ≡ None → self.old.front.first ≡ None → FrontLoaded R.remaining self.old self.new.front.uuid self.new.front.first) }
+        ensures kept { IsSome self.old.front.first → self.new.front ≡ self.old.front }
+        ensures known { OnOk result (IsSome self.new.rev → IsSome self.new.front.first) }
     {
         let next = self.load_nodes()?;
         self.end()?;
@@ -267,6 +329,8 @@ impl<R: Read + Drop> Loader<R> {
         ensures texts { self.new.records.texts ≡ self.old.records.texts }
         ensures read { IfErr result (λ e. e ≡ LoadFault.Dump DumpFault.Read → IsUnreadable self.new.records) }
         ensures grown { OnOk result (IsSome self.new.rev → Grows self.old.records.source.taken 1 self.new.records.source.taken) }
+        ensures kept { IsSome self.old.front.first → self.new.front ≡ self.old.front }
+        ensures known { OnOk result (IsSome self.new.rev → IsSome self.new.front.first) }
     {
         let done = self.rev;
         self.load_part()?;
@@ -283,6 +347,9 @@ impl<R: Read + Drop> Loader<R> {
         ensures texts { self.new.records.texts ≡ self.old.records.texts }
         ensures read { IfErr result (λ e. e ≡ LoadFault.Dump DumpFault.Read → IsUnreadable self.new.records) }
         ensures grown { OnOk result (IsSome self.new.rev → Grows self.old.records.source.taken 1 self.new.records.source.taken) }
+        ensures front { OnOk result (self.old.rev ≡ None → self.old.front.first ≡ None → FrontLoaded R.remaining self.old self.new.front.uuid self.new.front.first) }
+        ensures kept { IsSome self.old.front.first → self.new.front ≡ self.old.front }
+        ensures known { OnOk result (IsSome self.new.rev → IsSome self.new.front.first) }
     {
         self.load_part()?;
         if self.rev.is_none() {
@@ -300,6 +367,9 @@ impl<R: Read + Drop> Loader<R> {
         ensures texts { self.new.records.texts ≡ self.old.records.texts }
         ensures read { IfErr result (λ e. e ≡ LoadFault.Dump DumpFault.Read → IsUnreadable self.new.records) }
         ensures grown { OnOk result (IsSome self.new.rev → Grows self.old.records.source.taken 1 self.new.records.source.taken) }
+        ensures front { OnOk result (self.old.rev ≡ None → self.old.front.first ≡ None → FrontLoaded R.remaining self.old self.new.front.uuid self.new.front.first) }
+        ensures kept { IsSome self.old.front.first → self.new.front ≡ self.old.front }
+        ensures known { OnOk result (IsSome self.new.rev → IsSome self.new.front.first) }
     {
         if self.rev.is_none() {
             self.load_first()
@@ -320,6 +390,9 @@ impl<R: Read + Drop> Loader<R> {
         ensures texts { self.new.records.texts ≡ self.old.records.texts }
         ensures read { IfErr result (λ e. self.old.refused ≡ None → e ≡ LoadFault.Dump DumpFault.Read → IsUnreadable self.new.records) }
         ensures grown { OnOk result (IsSome self.new.rev → Grows self.old.records.source.taken 1 self.new.records.source.taken) }
+        ensures front { OnOk result (self.old.rev ≡ None → self.old.front.first ≡ None → FrontLoaded R.remaining self.old self.new.front.uuid self.new.front.first) }
+        ensures kept { IsSome self.old.front.first → self.new.front ≡ self.old.front }
+        ensures known { OnOk result (IsSome self.new.rev → IsSome self.new.front.first) }
     {
         if let Some(fault) = self.refused {
             return Err(fault);
@@ -346,6 +419,8 @@ impl<R: Read + Drop> Loader<R> {
         ensures again { IfSome self.old.refused (λ e. (result ≡ Err e) × (self.new ≡ self.old)) }
         ensures refused { IfErr result (λ e. self.new.refused ≡ Some e) }
         ensures read { IfErr result (λ e. self.old.refused ≡ None → e ≡ LoadFault.Dump DumpFault.Read → IsUnreadable self.new.records) }
+        ensures front { OnOk result (self.old.rev ≡ None → self.old.front.first ≡ None → FrontLoaded R.remaining self.old self.new.front.uuid self.new.front.first) }
+        ensures kept { IsSome self.old.front.first → self.new.front ≡ self.old.front }
     {
         self.load_all_with(&mut NoLoadListener)
     }
@@ -362,6 +437,8 @@ impl<R: Read + Drop> Loader<R> {
         ensures heard { self.old.refused ≡ None → HearsAll self.old.records.limits self.old.records.texts L.hears result (loading R.remaining self.old) listener.old (loading R.remaining self.new) listener.new }
         ensures refused { IfErr result (λ e. self.new.refused ≡ Some e) }
         ensures read { IfErr result (λ e. self.old.refused ≡ None → e ≡ LoadFault.Dump DumpFault.Read → IsUnreadable self.new.records) }
+        ensures front { OnOk result (self.old.rev ≡ None → self.old.front.first ≡ None → FrontLoaded R.remaining self.old self.new.front.uuid self.new.front.first) }
+        ensures kept { IsSome self.old.front.first → self.new.front ≡ self.old.front }
     {
         if let Some(fault) = self.refused {
             return Err(fault);

@@ -6,6 +6,7 @@
 //! Subversion make them. A dump that can't be loaded so has the refusal.
 mod bases;
 mod broken;
+mod fronts;
 mod history;
 mod lengths;
 mod lines;
@@ -72,11 +73,12 @@ enum Count {
     Failing,
     Pieces,
     Lengths,
+    Fronts,
     Many,
     Written,
 }
 
-const COUNTS: [(Count, &str); 8] = [
+const COUNTS: [(Count, &str); 9] = [
     (Count::Cut, "a dump that is cut has the revisions before"),
     (
         Count::Changed,
@@ -89,6 +91,10 @@ const COUNTS: [(Count, &str); 8] = [
     ),
     (Count::Pieces, "a dump may come in pieces of any size"),
     (Count::Lengths, "long headers and sections end as expected"),
+    (
+        Count::Fronts,
+        "the front of a dump gives its UUID and its first revision",
+    ),
     (
         Count::Many,
         "ten million properties are refused or passed over",
@@ -104,6 +110,7 @@ fn wrong_in(alloc: Global, what: Count, dump: &[u8], deltas: &[u8]) -> Result<us
         Count::Failing => readers::failed_wrongly(alloc, dump),
         Count::Pieces => readers::pieces_wrongly(alloc, dump),
         Count::Lengths => lengths::taken_wrongly(alloc),
+        Count::Fronts => fronts::known_wrongly(alloc),
         Count::Many => many::taken_wrongly(alloc),
         Count::Written => written::loaded_wrongly(alloc),
     }

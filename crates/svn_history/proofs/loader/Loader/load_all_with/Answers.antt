@@ -1,4 +1,4 @@
-use Rattle.std.proofs.Common.{◌≡◌, None, refl, subst, sym, ◌∙◌, rules, arith}
+use Rattle.std.proofs.Common.{◌≡◌, None, refl, subst, sym, ◌∙◌, inl, inr, rules, arith}
 use Rattle.std.specs.Prelude.{IsSome}
 use Rattle.svn_lists.proofs.Results.{IfErr_returned}
 use Rattle.svn_dump.specs.declared.fault.DumpFault.TheVariants as dump
@@ -7,6 +7,7 @@ use Rattle.svn_history.specs.declared.fault.LoadFault.{LoadFault}
 use Rattle.svn_history.specs.declared.fault.LoadFault.TheVariants as faults
 use Rattle.svn_history.specs.Hearing.{nothing_yet}
 use Rattle.svn_history.specs.Parts.{loading, LoadsAll, RefusesOne, RefusesAll, at_first}
+use Rattle.svn_history.proofs.Fronts.{kept_more, loads_front}
 use Rattle.svn_history.proofs.Hearing.{heard_before, heard_more}
 use Rattle.svn_history.proofs.Whole.{rest_at_first, rest_more, rest_done, refused_more, refuses_one_as, read_refused, loads_dump}
 use Rattle.svn_history.proofs.loader.Loader.load_all_with.Goals as goal
@@ -20,6 +21,8 @@ revisions-init g c =
       limits = refl;
       texts = refl;
       loaded = search rules;
+      kept = λ _. refl;
+      front = inl refl;
       counted = omega arith;
     }
 
@@ -105,6 +108,24 @@ returns-then-is_none-clause-dump g c = λ none start.
     c.in_ok-next_revision.field-0 inv.limits inv.texts c.in_ok-next_revision.ensures.one inv.rest ended) in
     loads_dump first.records.limits first.records.texts (view first) (view new) first.transaction.history none start all
 
+pub returns-then-is_none-clause-front : goal.returns-then-is_none-clause-front
+returns-then-is_none-clause-front g c =
+    loads_front g.R.Read.remaining c.args.self.now c.revisions.self c.next_revision.new.self.front c.revisions.invariant.front
+    c.in_ok-next_revision.ensures.front c.next_revision.ensures.kept
+
+pub returns-then-is_none-clause-kept : goal.returns-then-is_none-clause-kept
+returns-then-is_none-clause-kept g c =
+    kept_more c.args.self.now.front c.revisions.self.front c.next_revision.new.self.front c.revisions.invariant.kept
+    c.next_revision.ensures.kept
+
+pub returns-in_err-next_revision-clause-kept : goal.returns-in_err-next_revision-clause-kept
+returns-in_err-next_revision-clause-kept g c =
+    kept_more c.args.self.now.front c.revisions.self.front c.next_revision.new.self.front c.revisions.invariant.kept
+    c.next_revision.ensures.kept
+
+pub returns-clause-kept : goal.returns-clause-kept
+returns-clause-kept g c = c.revisions.invariant.kept
+
 pub revisions-preserved : goal.revisions-preserved
 revisions-preserved g c =
     let first = c.args.self.now in
@@ -125,6 +146,12 @@ revisions-preserved g c =
       limits = c.next_revision.ensures.limits ∙ inv.limits;
       texts = c.next_revision.ensures.texts ∙ inv.texts;
       loaded = search rules;
+      kept = kept_more first.front now.front new.front inv.kept c.next_revision.ensures.kept;
+      front = inr (
+        c.in_ok-next_revision.ensures.known some,
+        loads_front g.R.Read.remaining first now new.front inv.front
+            c.in_ok-next_revision.ensures.front c.next_revision.ensures.kept,
+      );
       counted = omega (arith, grown.1, inv.counted);
     }
 

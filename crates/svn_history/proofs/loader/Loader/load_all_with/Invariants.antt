@@ -1,8 +1,10 @@
 use Rattle.std.proofs.Common.{◌≡◌, ◌≤◌, None}
+use Rattle.std.specs.Prelude.{IsSome}
 use Rattle.svn_repo.specs.History.{History}
 use Rattle.svn_history.specs.declared.fault.LoadFault.{LoadFault}
 use Rattle.svn_history.specs.Hearing.{Hears}
 use Rattle.svn_history.specs.Parts.{Loading, loading, LoadsRest, RefusesAll}
+use Rattle.svn_history.proofs.Fronts.{LoadsFront}
 use Rattle.svn_history.proofs.loader.Loader.load_all_with.Given as goal
 
 abbrev pub invariant-revisions : goal.invariant-revisions
@@ -18,5 +20,7 @@ invariant-revisions g l =
       limits : l.self.records.limits ≡ limits;
       texts : l.self.records.texts ≡ texts;
       loaded : l.self.refused ≡ None;
+      kept : IsSome first.front.first → l.self.front ≡ first.front;
+      front : LoadsFront g.R.Read.remaining first l.self;
       counted : l.counter ≤ l.self.records.source.taken;
     }

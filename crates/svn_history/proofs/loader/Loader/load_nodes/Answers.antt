@@ -1,15 +1,20 @@
-use Rattle.std.proofs.Common.{◌≡◌, ℕ, Option, refl, subst, sym, ap, ◌∙◌, inl, arith}
+use Rattle.std.proofs.Common.{◌≡◌, ℕ, Option, Some, None, refl, subst, sym, ap, ◌∙◌, inl, arith}
 use Rattle.std.specs.Prelude.{IsSome, is_some}
+use Rattle.std.specs.Option.{option_or}
 use Rattle.svn_lists.proofs.Results.{IfErr_returned}
 use Rattle.svn_dump.specs.declared.fault.DumpFault.TheVariants as dump
+use Rattle.svn_dump.specs.declared.record.Record.{Record}
 use Rattle.svn_dump.specs.Readers.{left_in, IsUnreadable}
 use Rattle.svn_history.specs.declared.fault.LoadFault.{LoadFault}
 use Rattle.svn_history.specs.declared.fault.LoadFault.TheVariants as faults
 use Rattle.svn_history.specs.Results.{of_dump}
 use Rattle.svn_history.specs.Steps.{draft_of}
 use Rattle.svn_history.specs.Parts.{loading, RefusesNodes, RefusesRecord, Takes}
+use Rattle.svn_history.specs.declared.front.Front.{Front}
+use Rattle.svn_history.specs.Fronts.{FrontLoaded, given_uuid, uuid_in}
 use Rattle.svn_history.proofs.Causes.{no_record_fault, dump_failed}
-use Rattle.svn_history.proofs.Parts.{at_start, end_read, fault_read, one_more, revision_read, record_refused}
+use Rattle.svn_history.proofs.Fronts.{front_begins, front_on, other_taken, revision_taken, front_more, front_ends}
+use Rattle.svn_history.proofs.Parts.{nodes_on, at_start, end_read, fault_read, one_more, revision_read, record_refused}
 use Rattle.svn_history.proofs.loader.Loader.load_nodes.Goals as goal
 
 pub records-init : goal.records-init
@@ -22,6 +27,9 @@ records-init g c =
       texts = refl;
       rev = refl;
       history = refl;
+      front = λ _ _. front_begins first.records.limits first.records.texts (given_uuid first) (left_in g.R.Read.remaining first.records);
+      first_is = refl;
+      kept = λ _. refl;
       counted = omega arith;
       grows = omega arith;
     }
@@ -29,28 +37,40 @@ records-init g c =
 pub returns-in_err-what-clause-fault : goal.returns-in_err-what-clause-fault
 returns-in_err-what-clause-fault g c =
     let first = c.args.self.now in
-    let now = c.records.self in
+    let now = c.keep_uuid.new.self in
     let inv = c.records.invariant in
+    let same = c.keep_uuid.ensures.records in
     let left = left_in g.R.Read.remaining in
+    let limits = ap (λ r. r.limits) same ∙ inv.limits in
+    let texts = ap (λ r. r.texts) same ∙ inv.texts in
+    let nodes =
+    nodes_on g.R.Read.remaining first.records.limits first.records.texts first.rev (left first.records) (draft_of first.transaction)
+    c.records.self.records now.records c.records.self.transaction now.transaction same c.keep_uuid.ensures.transaction inv.nodes in
     let Q : LoadFault → Type 0 = RefusesNodes first.records.limits first.records.texts (loading g.R.Read.remaining first) in
     let why : Q (of_dump c.in_err-what.field-0.0) =
     fault_read first.records.limits now.records.limits first.records.texts now.records.texts first.records.texts first.rev first.rev
     (left first.records) (left now.records) (left c.next_record.new.self) (draft_of first.transaction) (draft_of now.transaction)
-    inv.nodes inv.limits inv.texts refl refl c.in_err-what.field-0.0 c.in_err-what.ensures.bytes in
-    IfErr_returned (λ e. e ≡ of_dump c.in_err-what.field-0.0) Q c.from_residual.result c.from_residual.ensures
+    nodes limits texts refl refl c.in_err-what.field-0.0 c.in_err-what.ensures.bytes in
+    IfErr_returned (λ e. e ≡ of_dump c.in_err-what.field-0.0) Q c.from_residual-in_err-what.result c.from_residual-in_err-what.ensures
     (λ e is. subst Q (sym is) why)
 
 pub returns-in_err-rev-clause-fault : goal.returns-in_err-rev-clause-fault
 returns-in_err-rev-clause-fault g c =
     let first = c.args.self.now in
-    let now = c.records.self in
+    let now = c.keep_uuid.new.self in
     let inv = c.records.invariant in
+    let same = c.keep_uuid.ensures.records in
     let left = left_in g.R.Read.remaining in
+    let limits = ap (λ r. r.limits) same ∙ inv.limits in
+    let texts = ap (λ r. r.texts) same ∙ inv.texts in
+    let nodes =
+    nodes_on g.R.Read.remaining first.records.limits first.records.texts first.rev (left first.records) (draft_of first.transaction)
+    c.records.self.records now.records c.records.self.transaction now.transaction same c.keep_uuid.ensures.transaction inv.nodes in
     let Q : LoadFault → Type 0 = RefusesNodes first.records.limits first.records.texts (loading g.R.Read.remaining first) in
     let why : Q c.in_err-rev.field-0.0 =
     record_refused first.records.limits now.records.limits first.records.texts now.records.texts c.next_record.new.self.texts first.rev
     now.rev (left first.records) (left now.records) (left c.next_record.new.self) (draft_of first.transaction)
-    (draft_of now.transaction) inv.nodes inv.limits inv.texts (c.next_record.ensures.texts ∙ inv.texts) inv.rev
+    (draft_of now.transaction) nodes limits texts (c.next_record.ensures.texts ∙ texts) (c.keep_uuid.ensures.rev ∙ inv.rev)
     (left c.next_record.new.self) (draft_of now.transaction) c.in_ok-what.field-0 c.in-Some.what c.in-Some.is refl
     c.in_ok-what.ensures.bytes c.in_err-rev.field-0.0 c.in_err-rev.ensures.fault in
     IfErr_returned (λ e. e ≡ c.in_err-rev.field-0.0) Q c.from_residual-in_err-rev.result c.from_residual-in_err-rev.ensures
@@ -59,13 +79,19 @@ returns-in_err-rev-clause-fault g c =
 pub returns-in-Some-2-clause-nodes : goal.returns-in-Some-2-clause-nodes
 returns-in-Some-2-clause-nodes g c =
     let first = c.args.self.now in
-    let now = c.records.self in
+    let now = c.keep_uuid.new.self in
     let inv = c.records.invariant in
+    let same = c.keep_uuid.ensures.records in
     let left = left_in g.R.Read.remaining in
+    let limits = ap (λ r. r.limits) same ∙ inv.limits in
+    let texts = ap (λ r. r.texts) same ∙ inv.texts in
+    let nodes =
+    nodes_on g.R.Read.remaining first.records.limits first.records.texts first.rev (left first.records) (draft_of first.transaction)
+    c.records.self.records now.records c.records.self.transaction now.transaction same c.keep_uuid.ensures.transaction inv.nodes in
     let new = c.take.new.self in
     revision_read first.records.limits now.records.limits first.records.texts now.records.texts c.next_record.new.self.texts first.rev
     now.rev (left first.records) (left now.records) (left c.next_record.new.self) (draft_of first.transaction)
-    (draft_of now.transaction) inv.nodes inv.limits inv.texts (c.next_record.ensures.texts ∙ inv.texts) inv.rev (left new.records)
+    (draft_of now.transaction) nodes limits texts (c.next_record.ensures.texts ∙ texts) (c.keep_uuid.ensures.rev ∙ inv.rev) (left new.records)
     (draft_of new.transaction) c.in_ok-what.field-0 c.in-Some.what c.in-Some.is (ap left c.take.ensures.records)
     c.in_ok-what.ensures.bytes new.rev c.in-Some-2.rev
     (subst (λ (n : Option ℕ). Takes c.next_record.new.self.texts now.rev c.in-Some.what (draft_of now.transaction)
@@ -74,23 +100,65 @@ returns-in-Some-2-clause-nodes g c =
 pub returns-in_default-clause-nodes : goal.returns-in_default-clause-nodes
 returns-in_default-clause-nodes g c =
     let first = c.args.self.now in
-    let now = c.records.self in
+    let now = c.keep_uuid.new.self in
     let inv = c.records.invariant in
+    let same = c.keep_uuid.ensures.records in
     let left = left_in g.R.Read.remaining in
+    let limits = ap (λ r. r.limits) same ∙ inv.limits in
+    let texts = ap (λ r. r.texts) same ∙ inv.texts in
+    let nodes =
+    nodes_on g.R.Read.remaining first.records.limits first.records.texts first.rev (left first.records) (draft_of first.transaction)
+    c.records.self.records now.records c.records.self.transaction now.transaction same c.keep_uuid.ensures.transaction inv.nodes in
     end_read first.records.limits now.records.limits first.records.texts now.records.texts first.records.texts first.rev now.rev
     (left first.records) (left now.records) (left c.next_record.new.self) (draft_of first.transaction) (draft_of now.transaction)
-    inv.nodes inv.limits inv.texts refl inv.rev c.in_ok-what.field-0 c.in_default.is c.in_ok-what.ensures.bytes
+    nodes limits texts refl (c.keep_uuid.ensures.rev ∙ inv.rev) c.in_ok-what.field-0 c.in_default.is c.in_ok-what.ensures.bytes
+
+pub returns-in_default-clause-front : goal.returns-in_default-clause-front
+returns-in_default-clause-front g c = λ none unknown.
+    let first = c.args.self.now in
+    let before = c.records.self in
+    let now = c.keep_uuid.new.self in
+    let inv = c.records.invariant in
+    let same = c.keep_uuid.ensures.records in
+    let left = left_in g.R.Read.remaining in
+    let so_far =
+    front_on g.R.Read.remaining first.records.limits first.records.texts (given_uuid first) (left first.records) (given_uuid before)
+    now.front.uuid before.records now.records (c.in_ok-keep_uuid.ensures.uuid (inv.first_is ∙ unknown)) same (inv.front none unknown) in
+    front_ends first.records.limits now.records.limits first.records.texts now.records.texts (given_uuid first) (left first.records)
+    now.front.uuid (left now.records) (left c.next_record.new.self) so_far (ap (λ r. r.limits) same ∙ inv.limits)
+    (ap (λ r. r.texts) same ∙ inv.texts) c.in_ok-what.field-0 c.in_ok-what.ensures.bytes None c.in_default.is
+
+pub returns-in-Some-2-clause-front : goal.returns-in-Some-2-clause-front
+returns-in-Some-2-clause-front g c = λ none unknown.
+    let first = c.args.self.now in
+    let before = c.records.self in
+    let now = c.keep_uuid.new.self in
+    let inv = c.records.invariant in
+    let same = c.keep_uuid.ensures.records in
+    let left = left_in g.R.Read.remaining in
+    let so_far =
+    front_on g.R.Read.remaining first.records.limits first.records.texts (given_uuid first) (left first.records) (given_uuid before)
+    now.front.uuid before.records now.records (c.in_ok-keep_uuid.ensures.uuid (inv.first_is ∙ unknown)) same (inv.front none unknown) in
+    let new = c.take.new.self in
+    let is = revision_taken c.next_record.new.self.texts now.rev c.in-Some.what (draft_of now.transaction) (draft_of new.transaction)
+    c.in-Some-2.rev (subst (λ (n : Option ℕ). Takes c.next_record.new.self.texts now.rev c.in-Some.what (draft_of now.transaction)
+    (draft_of new.transaction) n) c.in-Some-2.is c.in_ok-rev.ensures.takes) in
+    subst (λ (f : Front). FrontLoaded g.R.Read.remaining first f.uuid (Some c.in-Some-2.rev)) (sym c.take.ensures.front)
+    (front_ends first.records.limits now.records.limits first.records.texts now.records.texts (given_uuid first) (left first.records)
+    now.front.uuid (left now.records) (left c.next_record.new.self) so_far (ap (λ r. r.limits) same ∙ inv.limits)
+    (ap (λ r. r.texts) same ∙ inv.texts) c.in_ok-what.field-0 c.in_ok-what.ensures.bytes
+    (Some c.in-Some-2.rev) (c.in-Some.is ∙ ap (λ (w : Record). Some w) is))
 
 pub returns-in_err-what-clause-read : goal.returns-in_err-what-clause-read
 returns-in_err-what-clause-read g c =
     let read = c.next_record.new.self in
     let fault = c.in_err-what.field-0.0 in
-    IfErr_returned (λ e. e ≡ of_dump fault) (λ e. e ≡ faults.Dump dump.Read → IsUnreadable read) c.from_residual.result c.from_residual.ensures
-    (λ e is same. inl (dump_failed fault c.records.self.records.source.failed read.source.failed c.in_err-what.ensures.failed (sym is ∙ same)))
+    IfErr_returned (λ e. e ≡ of_dump fault) (λ e. e ≡ faults.Dump dump.Read → IsUnreadable read) c.from_residual-in_err-what.result c.from_residual-in_err-what.ensures
+    (λ e is same. inl (dump_failed fault c.keep_uuid.new.self.records.source.failed read.source.failed c.in_err-what.ensures.failed (sym is ∙ same)))
 
 pub returns-in_err-rev-clause-read : goal.returns-in_err-rev-clause-read
 returns-in_err-rev-clause-read g c =
-    let now = c.records.self in
+    let now = c.keep_uuid.new.self in
     let texts = c.next_record.new.self.texts in
     let d = draft_of now.transaction in
     IfErr_returned (λ e. e ≡ c.in_err-rev.field-0.0) (λ e. e ≡ faults.Dump dump.Read → IsUnreadable c.take.new.self.records)
@@ -104,30 +172,56 @@ returns-in-Some-2-clause-grown g c = λ _.
     let some : IsSome c.in_ok-what.field-0 = ap is_some c.in-Some.is in
     let grown = c.in_ok-what.ensures.grown some in
     let taken : new.records.source.taken ≡ c.next_record.new.self.source.taken = ap (λ r. r.source.taken) c.take.ensures.records in
-    (omega (arith, grown.0, taken, c.records.invariant.grows), omega (arith, grown.1, taken, c.records.invariant.grows))
+    let before : c.keep_uuid.new.self.records.source.taken ≡ c.records.self.records.source.taken =
+    ap (λ r. r.source.taken) c.keep_uuid.ensures.records in
+    (omega (arith, grown.0, taken, before, c.records.invariant.grows), omega (arith, grown.1, taken, before, c.records.invariant.grows))
 
 pub records-preserved : goal.records-preserved
 records-preserved g c =
     let first = c.args.self.now in
-    let now = c.records.self in
+    let now = c.keep_uuid.new.self in
     let inv = c.records.invariant in
+    let same = c.keep_uuid.ensures.records in
     let left = left_in g.R.Read.remaining in
+    let limits = ap (λ r. r.limits) same ∙ inv.limits in
+    let texts = ap (λ r. r.texts) same ∙ inv.texts in
+    let nodes =
+    nodes_on g.R.Read.remaining first.records.limits first.records.texts first.rev (left first.records) (draft_of first.transaction)
+    c.records.self.records now.records c.records.self.transaction now.transaction same c.keep_uuid.ensures.transaction inv.nodes in
     let new = c.take.new.self in
     let some : IsSome c.in_ok-what.field-0 = ap is_some c.in-Some.is in
     let grown = c.in_ok-what.ensures.grown some in
     let taken : new.records.source.taken ≡ c.next_record.new.self.source.taken = ap (λ r. r.source.taken) c.take.ensures.records in
+    let before : now.records.source.taken ≡ c.records.self.records.source.taken = ap (λ r. r.source.taken) same in
+    let takes = subst (λ (n : Option ℕ). Takes c.next_record.new.self.texts now.rev c.in-Some.what (draft_of now.transaction)
+    (draft_of new.transaction) n) c.in_default-2.is c.in_ok-rev.ensures.takes in
     record {
       nodes = one_more first.records.limits now.records.limits first.records.texts now.records.texts c.next_record.new.self.texts
           first.rev now.rev (left first.records) (left now.records) (left c.next_record.new.self) (draft_of first.transaction)
-          (draft_of now.transaction) inv.nodes inv.limits inv.texts (c.next_record.ensures.texts ∙ inv.texts) inv.rev (left new.records)
+          (draft_of now.transaction) nodes limits texts (c.next_record.ensures.texts ∙ texts) (c.keep_uuid.ensures.rev ∙ inv.rev) (left new.records)
           (draft_of new.transaction) c.in_ok-what.field-0 c.in-Some.what c.in-Some.is (ap left c.take.ensures.records)
-          c.in_ok-what.ensures.bytes
-          (subst (λ (n : Option ℕ). Takes c.next_record.new.self.texts now.rev c.in-Some.what (draft_of now.transaction)
-          (draft_of new.transaction) n) c.in_default-2.is c.in_ok-rev.ensures.takes);
+          c.in_ok-what.ensures.bytes takes;
       limits = cc;
       texts = cc;
-      rev = c.take.ensures.rev ∙ inv.rev;
-      history = c.take.ensures.history ∙ inv.history;
-      counted = omega (arith, grown.1, taken, inv.counted);
-      grows = omega (arith, grown.0, taken, inv.grows);
+      rev = c.take.ensures.rev ∙ (c.keep_uuid.ensures.rev ∙ inv.rev);
+      history = c.take.ensures.history ∙ (ap (λ t. t.history) c.keep_uuid.ensures.transaction ∙ inv.history);
+      front = λ none unknown.
+          let so_far =
+          front_on g.R.Read.remaining first.records.limits first.records.texts (given_uuid first) (left first.records)
+          (given_uuid c.records.self) now.front.uuid c.records.self.records now.records
+          (c.in_ok-keep_uuid.ensures.uuid (inv.first_is ∙ unknown)) same (inv.front none unknown) in
+          let other = other_taken c.next_record.new.self.texts now.rev c.in-Some.what (draft_of now.transaction) (draft_of new.transaction)
+          (c.keep_uuid.ensures.rev ∙ (inv.rev ∙ none)) takes in
+          front_on g.R.Read.remaining first.records.limits first.records.texts (given_uuid first) (left first.records)
+          (option_or (uuid_in c.next_record.new.self.block.items) now.front.uuid) (given_uuid new) c.next_record.new.self new.records
+          (ap (λ r. option_or (uuid_in r.block.items) new.front.uuid) c.take.ensures.records
+          ∙ ap (λ f. option_or (uuid_in c.next_record.new.self.block.items) f.uuid) c.take.ensures.front) c.take.ensures.records
+          (front_more first.records.limits now.records.limits first.records.texts now.records.texts (given_uuid first) (left first.records)
+          now.front.uuid (left now.records) (left c.next_record.new.self) so_far limits texts c.in_ok-what.field-0
+          c.in_ok-what.ensures.bytes now.records.source.taken c.next_record.new.self.begun c.next_record.new.self.block.items
+          (c.in-Some.is ∙ ap (λ (w : Record). Some w) other) c.in_ok-what.ensures.shown);
+      first_is = ap (λ f. f.first) c.take.ensures.front ∙ (c.keep_uuid.ensures.first ∙ inv.first_is);
+      kept = λ known. c.take.ensures.front ∙ (c.keep_uuid.ensures.kept (subst IsSome (sym inv.first_is) known) ∙ inv.kept known);
+      counted = omega (arith, grown.1, taken, before, inv.counted);
+      grows = omega (arith, grown.0, taken, before, inv.grows);
     }
