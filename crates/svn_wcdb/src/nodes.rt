@@ -8,8 +8,8 @@ use crate::fault::{Reason, TableName, WcdbFault};
 use crate::node::base_node;
 use crate::notes::Notes;
 use crate::origin::is_number;
-use crate::paths::read_path;
-use crate::place::refusal_at;
+use crate::paths::{place_in, read_path};
+use crate::place::{is_in, path_at, refusal_at};
 use crate::pristines::Pristines;
 use crate::refusal::Refusal;
 use crate::row::Row;
@@ -25,6 +25,8 @@ pub(crate) struct References<'a> {
     pub(crate) wc_id: u64,
     /// Its repository.
     pub(crate) repos_id: u64,
+    /// The text of the folder that is looked at; no byte for the root.
+    pub(crate) folder: &'a [u8],
     /// The texts that its files may have.
     pub(crate) pristines: &'a Pristines,
 }
@@ -40,7 +42,7 @@ pub(crate) struct Found {
 fn push_node(alloc: Global, to: &References, row: &Row, found: &mut Found) -> Result<(), WcdbFault>
     ensures { Gives (λ _. seen_found found.new) result (one_node (seen_references to.now) (seen row.now) (seen_found found.old)) }
 {
-    let Some(path) = row.path else {
+    let Some(path) = place_in(to.folder, row.path) else {
         return Err(WcdbFault::Refused(Reason::BadColumn(TableName::Nodes, 1)));
     };
     let path = read_path(alloc, path)?;
@@ -84,7 +86,7 @@ fn take_record(
     take_row(alloc, to, &row, found)
 }
 
-// The same with the path of the row, if it is refused.
+// The same of a row that may be outside of the folder, with its path from there, if it is refused.
 #[tactic(auto, unfolding(crate::specs::Bases::placed_after))]
 fn take_placed(
     alloc: Global,
@@ -94,14 +96,21 @@ fn take_placed(
 ) -> Result<(), Refusal>
     ensures { Finds (λ _. seen_found found.new) result (placed_after (seen_references to.now) row.now (seen_found found.old)) }
 {
+    let bytes = row.bytes.as_slice();
+    if !is_in(to.folder, bytes) {
+        return Ok(());
+    }
     match take_record(alloc, to, row, found) {
         Ok(()) => Ok(()),
-        Err(WcdbFault::Refused(reason)) => Err(refusal_at(alloc, row.bytes.as_slice(), reason)),
+        Err(WcdbFault::Refused(reason)) => {
+            let place = place_in(to.folder, path_at(bytes));
+            Err(refusal_at(alloc, place, reason))
+        }
         Err(WcdbFault::Memory) => Err(Refusal::from(WcdbFault::Memory)),
     }
 }
 
-/// Reads the base nodes of that working copy root and repository. A refusal has the path of its row.
+/// Reads the base nodes of that working copy root and repository, at the folder and below. A refusal has the path of its row from there.
 pub(crate) fn read_nodes(
     alloc: Global,
     to: &References,

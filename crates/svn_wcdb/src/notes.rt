@@ -1,10 +1,11 @@
 //! What is passed over, since no base node depends on it.
 ghost use Rattle.std.specs.Prelude.{◌≡◌};
-ghost use Rattle.svn_wcdb.specs.Bases.{counted, count_of, none_yet, notes_of};
+ghost use Rattle.svn_wcdb.specs.Bases.{counted, count_in, count_of, none_yet, notes_of};
 ghost use Rattle.svn_wcdb.specs.Reading.{Gives};
 
 use crate::fault::{TableName, WcdbFault};
 use crate::image::Image;
+use crate::place::is_in;
 use crate::schema::rows_of;
 use crate::table::TableRow;
 use std::alloc::Global;
@@ -50,16 +51,26 @@ impl Notes {
     }
 }
 
+// How many rows are at the folder or below.
+fn count_in(folder: &[u8], rows: &[TableRow]) -> usize
+    ensures { result ≡ count_in folder.now rows.now }
+{
+    rows.iter()
+        .filter(|row| is_in(folder, row.bytes.as_slice()))
+        .count()
+}
+
 fn count_rows(
     alloc: Global,
     image: &Image,
     schema: &[TableRow],
+    folder: &[u8],
     table: TableName,
 ) -> Result<u64, WcdbFault>
-    ensures { Gives (λ n. n) result (count_of image.now.size image.now.bytes.now schema.now table) }
+    ensures { Gives (λ n. n) result (count_of image.now.size image.now.bytes.now schema.now folder.now table) }
 {
     let rows = rows_of(alloc, image, schema, table)?;
-    Ok(rows.len() as u64)
+    Ok(count_in(folder, &rows) as u64)
 }
 
 /// The notes, with those of the tables that no base node is in.
@@ -67,13 +78,14 @@ pub(crate) fn read_notes(
     alloc: Global,
     image: &Image,
     schema: &[TableRow],
+    folder: &[u8],
     notes: Notes,
 ) -> Result<Notes, WcdbFault>
-    ensures { Gives (λ n. n) result (notes_of image.now.size image.now.bytes.now schema.now notes) }
+    ensures { Gives (λ n. n) result (notes_of image.now.size image.now.bytes.now schema.now folder.now notes) }
 {
-    let actual = count_rows(alloc, image, schema, TableName::ActualNode)?;
-    let locks = count_rows(alloc, image, schema, TableName::WcLock)?;
-    let work = count_rows(alloc, image, schema, TableName::WorkQueue)?;
+    let actual = count_rows(alloc, image, schema, folder, TableName::ActualNode)?;
+    let locks = count_rows(alloc, image, schema, folder, TableName::WcLock)?;
+    let work = count_rows(alloc, image, schema, &[], TableName::WorkQueue)?;
     Ok(Notes {
         actual,
         locks,
