@@ -1,13 +1,13 @@
 -- The base tree of a working copy.
---     base_tree_at folder bytes      what of it the bytes of a database stand for at a folder and below, as a tree of its own, or the first fault
---     base_tree_of bytes      the whole, which is that at the root
+--     base_tree_of bytes      the base tree that the bytes of a database stand for, or the first fault
+--     base_tree_at folder bytes      the same of what is at a folder and below, as a tree of its own
 use Rattle.std.specs.Prelude.{◌≡◌, ℕ, ◌+◌, min, Bool, not, ◌&&◌, List, [], ◌∷◌, ◌++◌, length, filter, nat_eq, bytes_eq, Option, Some, None, true, false, Result, Ok, Err, if◌then◌else◌}
 use Rattle.svn_model.specs.declared.base_node.BaseNode.{BaseNode}
 use Rattle.svn_types.specs.Names.{Path}
 use Rattle.svn_wcdb.specs.declared.base_tree.BaseTree.{BaseTree}
 use Rattle.svn_wcdb.specs.declared.base_tree.Origin.{Origin}
 use Rattle.svn_wcdb.specs.declared.fault.Reason.{Reason}
-use Rattle.svn_wcdb.specs.declared.fault.Reason.TheVariants.{NotOneRoot, NoRoot, NoRepository, OtherRepository, BadColumn}
+use Rattle.svn_wcdb.specs.declared.fault.Reason.TheVariants.{NotOneRoot, NoRoot, NoRepository, OtherRepository, BadColumn, WrongParent}
 use Rattle.svn_wcdb.specs.declared.fault.TableName.{TableName}
 use Rattle.svn_wcdb.specs.declared.fault.TableName.TheVariants as tables
 use Rattle.svn_wcdb.specs.declared.nodes.Found as nodes
@@ -18,7 +18,7 @@ use Rattle.svn_types.specs.PathTexts.{path_text}
 use Rattle.svn_wcdb.specs.Columns.{column, text_in, number_in}
 use Rattle.svn_wcdb.specs.Images.{image_of}
 use Rattle.svn_wcdb.specs.Nodes.{NodeRow, row_of, base_of}
-use Rattle.svn_wcdb.specs.Paths.{path_of, place_in, is_in}
+use Rattle.svn_wcdb.specs.Paths.{path_of, text_from, place_in, is_parent, is_in}
 use Rattle.svn_wcdb.specs.Pristines.{Sizes, pristines_of}
 use Rattle.svn_wcdb.specs.Reading.{◌>>=◌, Place, at, given, each}
 use Rattle.svn_wcdb.specs.Schema.{table_of}
@@ -124,9 +124,15 @@ one_change found = (found.0, record (found.1) { changes = counted found.1.change
 abbrev pub one_external : Found → Found
 one_external found = (found.0, record (found.1) { externals = counted found.1.externals })
 
+-- the path in the folder of a row that names the path above as its parent, by which a client finds it
+abbrev pub path_from : List ℕ → NodeRow → List ℕ → Result Path Reason
+path_from folder row text =
+    given (BadColumn tables.Nodes 1) (text_from folder text) >>= λ place. path_of place >>= λ path.
+    if is_parent row.parent text then Ok path else Err WrongParent
+
 abbrev pub one_node : References → NodeRow → Found → Result Found Reason
 one_node to row found =
-    given (BadColumn tables.Nodes 1) (place_in to.folder row.path) >>= λ text. path_of text >>= λ path.
+    given (BadColumn tables.Nodes 1) row.path >>= λ text. path_from to.folder row text >>= λ path.
     base_of to.pristines row >>= λ node. Ok (found.0 ++ (path, node) ∷ [], found.1)
 
 -- a row of that working copy and repository

@@ -1,7 +1,7 @@
 -- The columns of a record.
 --     column bytes c      the value in column c of a record, counted from 0: NULL where it has fewer
 --     AreColumns n values bytes      these are the first n columns of a record
---     text_in, blob_in, number_in table c value      the value of column c of a table, if it has that type
+--     text_in, bytes_in, number_in table c value      the value of column c of a table, if it has that type
 use Rattle.std.specs.Prelude.{◌≡◌, ◌<◌, get_or, ℕ, zero, suc, pos, Bool, true, false, List, [], ◌∷◌, Option, Some, None, Result, Ok, Err}
 use Rattle.sqlite_value.specs.declared.value.Value.{Value}
 use Rattle.sqlite_value.specs.declared.value.Value.TheVariants.{Null, Int, Text, Blob}
@@ -30,10 +30,12 @@ text_in table c Null = Ok None
 text_in table c (Text text) = Ok (Some text)
 text_in table c _ = Err (BadColumn table c)
 
-abbrev pub blob_in : TableName → ℕ → Value → Result (Option (List ℕ)) Reason
-blob_in table c Null = Ok None
-blob_in table c (Blob bytes) = Ok (Some bytes)
-blob_in table c _ = Err (BadColumn table c)
+-- the bytes of a blob, or of a text, which Subversion reads as a blob too
+abbrev pub bytes_in : TableName → ℕ → Value → Result (Option (List ℕ)) Reason
+bytes_in table c Null = Ok None
+bytes_in table c (Blob bytes) = Ok (Some bytes)
+bytes_in table c (Text text) = Ok (Some text)
+bytes_in table c _ = Err (BadColumn table c)
 
 -- a number from 0 on
 abbrev pub number_in : TableName → ℕ → Value → Result (Option ℕ) Reason

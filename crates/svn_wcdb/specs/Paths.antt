@@ -2,11 +2,13 @@
 --     path_of bytes      the path that the bytes spell
 --     text_from folder text      the text of a path from a folder on, where the path is the folder or below it
 --     place_in folder text      the same of a column
+--     is_parent parent text      whether a column has the path directly above that one
 --     is_in folder text      whether a row with that path is looked at: at the root all are, also one without a path
-use Rattle.std.specs.Prelude.{ℕ, ◌+◌, Bool, ◌&&◌, ◌||◌, List, [], length, take, drop, slice_index, bytes_eq, nat_eq, nat_lt, Option, Some, None, is_some, Result, Ok, Err, if◌then◌else◌}
+use Rattle.std.specs.Prelude.{ℕ, ◌+◌, Bool, false, not, ◌&&◌, ◌||◌, List, [], length, take, drop, slice_index, bytes_eq, nat_eq, nat_lt, Option, Some, None, is_some, Result, Ok, Err, if◌then◌else◌}
+use Rattle.std.specs.List.{list_all}
 use Rattle.std.specs.Str.{is_utf8}
 use Rattle.svn_types.specs.declared.fault.PathFault.{PathFault}
-use Rattle.svn_types.specs.Names.{Path, path_of_text}
+use Rattle.svn_types.specs.Names.{Path, is_slash, path_of_text}
 use Rattle.svn_types.specs.NameFaults.{path_fault}
 use Rattle.svn_wcdb.specs.declared.fault.Reason.{Reason}
 use Rattle.svn_wcdb.specs.declared.fault.Reason.TheVariants.{BadPath, NotUtf8}
@@ -34,6 +36,18 @@ text_from folder text =
 abbrev pub place_in : List ℕ → Option (List ℕ) → Option (List ℕ)
 place_in folder None = None
 place_in folder (Some text) = text_from folder text
+
+abbrev pub lacks_slash : List ℕ → Bool
+lacks_slash text = list_all (λ b. not (is_slash b)) text
+
+abbrev pub is_one_name : Option (List ℕ) → Bool
+is_one_name None = false
+is_one_name (Some text) = not (nat_eq (length text) 0) && lacks_slash text
+
+-- the root has no parent
+abbrev pub is_parent : Option (List ℕ) → List ℕ → Bool
+is_parent None text = nat_eq (length text) 0
+is_parent (Some parent) text = is_one_name (text_from parent text)
 
 abbrev pub is_in : List ℕ → Option (List ℕ) → Bool
 is_in folder text = nat_eq (length folder) 0 || is_some (place_in folder text)

@@ -46,9 +46,9 @@ pub struct BaseTree {
 /// Encoding, Format, CutOff; of the schema's table, and then of WCROOT, NODES, REPOSITORY and PRISTINE, NoTable, Loop, BadPage, TooDeep, BadOverflow and
 /// BadRecord as the pages and rows come; after WCROOT NotOneRoot; after NODES NoRoot and, with the root's path, BadColumn and NoRepository; after
 /// REPOSITORY NoRepository and BadColumn; after PRISTINE, row by row, BadColumn, NoChecksum and Compressed; then row by row of
-/// NODES, with its path, BadColumn of the first column from the left, NotOneRoot, OtherRepository, NotUtf8 and BadPath, BadPresence, Excluded,
-/// ServerExcluded, BadKind, Depth, IncompleteFile, NoRevision, NoReposPath, NoChecksum, NoPristine, BadProperties and BadPropName; then the tables that
-/// are counted. Memory where an allocation failed.
+/// NODES, with its path, BadColumn of the first column from the left, NotOneRoot, OtherRepository, NotUtf8 and BadPath, WrongParent, BadPresence,
+/// Excluded, ServerExcluded, BadKind, Depth, IncompleteFile, NoRevision, NoReposPath, NoChecksum, NoPristine, BadProperties and BadPropName; then the
+/// tables that are counted. Memory where an allocation failed.
 ///
 /// The rows of NODES and PRISTINE are in memory while they are read: no more bytes than the file has, and some 40 for each.
 pub fn read_base_tree(alloc: Global, bytes: &[u8]) -> Result<BaseTree, Refusal>

@@ -110,6 +110,9 @@ pub enum Reason {
     /// A path that the library doesn't take.
     #[error("bad path: {0}")]
     BadPath(PathFault),
+    /// A node whose row names another parent than the path above it, so that a client doesn't find it.
+    #[error("the row has another path for the parent")]
+    WrongParent,
     /// A node without a revision.
     #[error("no revision")]
     NoRevision,

@@ -32,6 +32,9 @@
 //! | `normal` | `file` | any | a file |
 //! | `not-present` | any | any | not present |
 //!
+//! A base node's row must name the path above it as its parent, by which Subversion finds it, and the root's none. Properties are read as bytes, also
+//! where the column has a text, as Subversion does.
+//!
 //! A row of PRISTINE is a stand-in, NULL where a compression would be, and the text's size in bytes; a file's checksum must be one of theirs
 //! ([`Pristines`]).
 //!

@@ -1,6 +1,6 @@
 //! The base nodes of a working copy, from the rows of NODES.
 ghost use Rattle.std.specs.Prelude.{◌≡◌};
-ghost use Rattle.svn_wcdb.specs.Bases.{seen_references, seen_found, none_yet, one_node, node_after, record_after, placed_after};
+ghost use Rattle.svn_wcdb.specs.Bases.{seen_references, seen_found, none_yet, path_from, one_node, node_after, record_after, placed_after};
 ghost use Rattle.svn_wcdb.specs.Nodes.{seen};
 ghost use Rattle.svn_wcdb.specs.Reading.{Gives, Finds, each};
 
@@ -8,7 +8,7 @@ use crate::fault::{Reason, TableName, WcdbFault};
 use crate::node::base_node;
 use crate::notes::Notes;
 use crate::origin::is_number;
-use crate::paths::{place_in, read_path};
+use crate::paths::{is_parent, place_in, read_path, text_from};
 use crate::place::{is_in, path_at, refusal_at};
 use crate::pristines::Pristines;
 use crate::refusal::Refusal;
@@ -38,14 +38,29 @@ pub(crate) struct Found {
     pub(crate) notes: Notes,
 }
 
+// The path in the folder of a row, which names the path above as its parent.
+fn path_from(alloc: Global, folder: &[u8], row: &Row, text: &[u8]) -> Result<RelPath, WcdbFault>
+    ensures { Gives (λ path. path) result (path_from folder.now (seen row.now) text.now) }
+{
+    let Some(place) = text_from(folder, text) else {
+        return Err(WcdbFault::Refused(Reason::BadColumn(TableName::Nodes, 1)));
+    };
+    let path = read_path(alloc, place)?;
+    if is_parent(row.parent, text) {
+        Ok(path)
+    } else {
+        Err(WcdbFault::Refused(Reason::WrongParent))
+    }
+}
+
 // Appends the node of a row.
 fn push_node(alloc: Global, to: &References, row: &Row, found: &mut Found) -> Result<(), WcdbFault>
     ensures { Gives (λ _. seen_found found.new) result (one_node (seen_references to.now) (seen row.now) (seen_found found.old)) }
 {
-    let Some(path) = place_in(to.folder, row.path) else {
+    let Some(text) = row.path else {
         return Err(WcdbFault::Refused(Reason::BadColumn(TableName::Nodes, 1)));
     };
-    let path = read_path(alloc, path)?;
+    let path = path_from(alloc, to.folder, row, text)?;
     let node = base_node(alloc, to.pristines, row)?;
     found.nodes.push((path, node))?;
     Ok(())

@@ -1,9 +1,10 @@
 //! Paths in columns, and those at a folder of the working copy or below.
 ghost use Rattle.std.specs.Prelude.{◌≡◌, IfOk};
 ghost use Rattle.std.specs.Option.{option_copied};
+ghost use Rattle.svn_types.specs.Names.{is_slash};
 ghost use Rattle.svn_types.specs.PathTexts.{path_text};
 ghost use Rattle.svn_wcdb.specs.Reading.{Gives};
-ghost use Rattle.svn_wcdb.specs.Paths.{path_of, goes_below, text_from, place_in, is_in};
+ghost use Rattle.svn_wcdb.specs.Paths.{path_of, goes_below, text_from, place_in, lacks_slash, is_one_name, is_parent};
 
 use crate::fault::{Reason, WcdbFault};
 use std::alloc::{AllocError, Global};
@@ -62,5 +63,36 @@ pub(crate) fn place_in<'a>(folder: &[u8], text: Option<&'a [u8]>) -> Option<&'a 
     match text {
         Some(text) => text_from(folder, text),
         None => None,
+    }
+}
+
+fn is_slash(byte: u8) -> bool
+    ensures { result ≡ is_slash byte }
+{
+    byte == b'/'
+}
+
+fn lacks_slash(text: &[u8]) -> bool
+    ensures { result ≡ lacks_slash text.now }
+{
+    text.iter().all(|byte| !is_slash(*byte))
+}
+
+fn is_one_name(text: Option<&[u8]>) -> bool
+    ensures { result ≡ is_one_name (option_copied text.entry) }
+{
+    match text {
+        Some(text) => !text.is_empty() && lacks_slash(text),
+        None => false,
+    }
+}
+
+/// Whether a column has the path directly above that one; the root has none.
+pub(crate) fn is_parent(parent: Option<&[u8]>, text: &[u8]) -> bool
+    ensures { result ≡ is_parent (option_copied parent.entry) text.now }
+{
+    match parent {
+        Some(parent) => is_one_name(text_from(parent, text)),
+        None => text.is_empty(),
     }
 }
