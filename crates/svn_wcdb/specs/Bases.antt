@@ -15,8 +15,9 @@ use Rattle.svn_wcdb.specs.declared.nodes.References as refs
 use Rattle.svn_wcdb.specs.declared.notes.Notes.{Notes}
 use Rattle.svn_wcdb.specs.declared.table.TableRow.{TableRow}
 use Rattle.svn_types.specs.PathTexts.{path_text}
-use Rattle.svn_wcdb.specs.Columns.{column, text_in, number_in}
+use Rattle.svn_wcdb.specs.Columns.{column, text_in, number_in, number_at, path_at, is_number}
 use Rattle.svn_wcdb.specs.Images.{image_of}
+use Rattle.svn_wcdb.specs.Locks.{locks_of, locked_in}
 use Rattle.svn_wcdb.specs.Nodes.{NodeRow, row_of, base_of}
 use Rattle.svn_wcdb.specs.Paths.{path_of, text_from, place_in, is_parent, is_in}
 use Rattle.svn_wcdb.specs.Pristines.{Sizes, pristines_of}
@@ -35,25 +36,9 @@ pub record Base : Type 0 where
 abbrev pub seen_base : BaseTree → Base
 seen_base tree = record { origin = tree.origin; pristines = tree.pristines; nodes = tree.nodes.items; notes = tree.notes }
 
-abbrev pub is_number : Option ℕ → ℕ → Bool
-is_number None n = false
-is_number (Some m) n = nat_eq m n
-
 abbrev pub is_text : Option (List ℕ) → List ℕ → Bool
 is_text None text = false
 is_text (Some bytes) text = bytes_eq bytes text
-
--- what a column has, if it has that type
-abbrev pub value_or_none : {A : Type 0} → Result (Option A) Reason → Option A
-value_or_none (Ok value) = value
-value_or_none (Err reason) = None
-
-abbrev pub number_at : ℕ → List ℕ → Option ℕ
-number_at c row = value_or_none (number_in tables.Nodes c (column row c))
-
--- the path in a row, of NODES and of others that have it in the same column
-abbrev pub path_at : List ℕ → Option (List ℕ)
-path_at row = value_or_none (text_in tables.Nodes 1 (column row 1))
 
 -- ---- the root
 
@@ -112,7 +97,7 @@ abbrev pub seen_found : nodes.Found → Found
 seen_found found = (found.nodes.items, found.notes)
 
 abbrev pub none_yet : Found
-none_yet = ([], record { changes = 0; externals = 0; actual = 0; locks = 0; work = 0 })
+none_yet = ([], record { changes = 0; externals = 0; actual = 0; locks = 0; work = 0; locked = 0 })
 
 -- one more, of at most 18446744073709551615
 abbrev pub counted : ℕ → ℕ
@@ -167,13 +152,17 @@ count_in folder rows = length (filter (λ (row : TableRow). is_in folder (path_a
 abbrev pub count_of : ℕ → List ℕ → List TableRow → List ℕ → TableName → Result ℕ Reason
 count_of size bytes schema folder table = table_of size bytes schema table >>= λ rows. Ok (count_in folder rows)
 
+abbrev pub locked_of : ℕ → List ℕ → List TableRow → References → Found → Result ℕ Reason
+locked_of size bytes schema to found = table_of size bytes schema tables.Lock >>= λ rows. Ok (locked_in (locks_of to.repos_id rows) found.0)
+
 -- unfinished work has no path
-abbrev pub notes_of : ℕ → List ℕ → List TableRow → List ℕ → Notes → Result Notes Reason
-notes_of size bytes schema folder notes = do
-  actual ← count_of size bytes schema folder tables.ActualNode
-  locks ← count_of size bytes schema folder tables.WcLock
+abbrev pub notes_of : ℕ → List ℕ → List TableRow → References → Found → Result Notes Reason
+notes_of size bytes schema to found = do
+  actual ← count_of size bytes schema to.folder tables.ActualNode
+  locks ← count_of size bytes schema to.folder tables.WcLock
   work ← count_of size bytes schema [] tables.WorkQueue
-  Ok (record notes { actual = actual; locks = locks; work = work })
+  locked ← locked_of size bytes schema to found
+  Ok (record (found.1) { actual = actual; locks = locks; work = work; locked = locked })
 
 -- a fault outside the rows of NODES is at no path
 unfoldable pub tree_at : List ℕ → ℕ → List ℕ → Result Base Place
@@ -187,8 +176,9 @@ tree_at folder size bytes = do
   origin ← at None (origin_in repos_id repositories)
   texts ← at None (table_of size bytes schema tables.Pristine)
   pristines ← at None (pristines_of texts)
-  found ← each (placed_after (record { wc_id = wc_id; repos_id = repos_id; folder = folder; pristines = pristines })) rows none_yet
-  notes ← at None (notes_of size bytes schema folder found.1)
+  to ← Ok (record { wc_id = wc_id; repos_id = repos_id; folder = folder; pristines = pristines })
+  found ← each (placed_after to) rows none_yet
+  notes ← at None (notes_of size bytes schema to found)
   Ok (record { origin = origin; pristines = pristines; nodes = found.0; notes = notes })
 
 unfoldable pub base_tree_at : Path → List ℕ → Result Base Place

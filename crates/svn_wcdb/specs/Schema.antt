@@ -20,6 +20,7 @@ name_of tables.Wcroot = codes "WCROOT"
 name_of tables.Pristine = codes "PRISTINE"
 name_of tables.ActualNode = codes "ACTUAL_NODE"
 name_of tables.WcLock = codes "WC_LOCK"
+name_of tables.Lock = codes "LOCK"
 name_of tables.WorkQueue = codes "WORK_QUEUE"
 
 abbrev pub is_text : Value → List ℕ → Bool

@@ -85,7 +85,7 @@ pub fn read_base_tree_at(alloc: Global, folder: &RelPath, bytes: &[u8]) -> Resul
         pristines: &pristines,
     };
     let found = read_nodes(alloc, &to, &rows)?;
-    let notes = read_notes(alloc, &image, &schema, folder, found.notes)?;
+    let notes = read_notes(alloc, &image, &schema, &to, &found)?;
     Ok(BaseTree {
         origin,
         pristines,

@@ -27,6 +27,9 @@ pub enum TableName {
     /// Locks of working copies, which an operation holds while it runs.
     #[error("WC_LOCK")]
     WcLock,
+    /// Locks in the repository that the client holds.
+    #[error("LOCK")]
+    Lock,
     /// What an operation has still to do in the working copy.
     #[error("WORK_QUEUE")]
     WorkQueue,

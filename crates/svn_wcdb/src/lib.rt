@@ -20,6 +20,7 @@
 //! | `columns`, `schema` | the first columns of a row, from one pass over its record; the rows of a table by its name | `Columns`, `Schema` |
 //! | `pristine`, `pristines` | where a pristine text is; the rows of PRISTINE | `Pristines` |
 //! | `row`, `paths`, `place`, `node` | a row of NODES as a base node; whether it is in a folder, and the path at which it is refused | `Nodes`, `Paths` |
+//! | `locks` | which nodes are locked in the repository | `Locks` |
 //! | `notes`, `origin`, `nodes`, `base_tree` | what is passed over; the root and the repository; the nodes; the whole | `Bases` |
 //! | `laws` | laws about these definitions | |
 //!
@@ -55,6 +56,7 @@ mod columns;
 mod fault;
 mod image;
 mod laws;
+mod locks;
 mod node;
 mod nodes;
 mod notes;

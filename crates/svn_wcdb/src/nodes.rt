@@ -4,12 +4,12 @@ ghost use Rattle.svn_wcdb.specs.Bases.{seen_references, seen_found, none_yet, pa
 ghost use Rattle.svn_wcdb.specs.Nodes.{seen};
 ghost use Rattle.svn_wcdb.specs.Reading.{Gives, Finds, each};
 
+use crate::columns::{is_number, path_at};
 use crate::fault::{Reason, TableName, WcdbFault};
 use crate::node::base_node;
 use crate::notes::Notes;
-use crate::origin::is_number;
 use crate::paths::{is_parent, place_in, read_path, text_from};
-use crate::place::{is_in, path_at, refusal_at};
+use crate::place::{is_in, refusal_at};
 use crate::pristines::Pristines;
 use crate::refusal::Refusal;
 use crate::row::Row;

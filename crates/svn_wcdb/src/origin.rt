@@ -1,14 +1,14 @@
 //! The root of a working copy, and the repository that it comes from.
 ghost use Rattle.std.specs.Prelude.{◌≡◌, ◌<◌};
 ghost use Rattle.std.specs.Option.{option_copied};
-ghost use Rattle.svn_wcdb.specs.Bases.{is_number, number_at, is_text, is_base_at, base_row, one_root, repos_of, repos_in, text_given, origin_of, origin_in};
+ghost use Rattle.svn_wcdb.specs.Bases.{is_text, is_base_at, base_row, one_root, repos_of, repos_in, text_given, origin_of, origin_in};
 ghost use Rattle.svn_wcdb.specs.Reading.{Gives, Answers, Finds};
 
 use crate::base_tree::Origin;
-use crate::columns::Columns;
+use crate::columns::{Columns, is_number, number_at, path_at};
 use crate::fault::{Reason, TableName, WcdbFault};
 use crate::paths::place_in;
-use crate::place::{path_at, refusal_at};
+use crate::place::refusal_at;
 use crate::refusal::Refusal;
 use crate::table::TableRow;
 use std::alloc::Global;
@@ -22,25 +22,6 @@ pub(crate) fn one_root(rows: &[TableRow]) -> Result<u64, Reason>
         [row] => Ok(row.rowid),
         _ => Err(Reason::NotOneRoot),
     }
-}
-
-/// Whether a column has that number.
-pub(crate) fn is_number(column: Option<u64>, number: u64) -> bool
-    ensures { result ≡ is_number column number }
-{
-    match column {
-        Some(found) => found == number,
-        None => false,
-    }
-}
-
-fn number_at(row: &[u8], place: u32) -> Option<u64>
-    requires { place < 22 }
-    ensures { result ≡ number_at place row.now }
-{
-    Columns::read(row)
-        .number(TableName::Nodes, place)
-        .unwrap_or_default()
 }
 
 fn is_text(column: Option<&[u8]>, text: &[u8]) -> bool

@@ -1,25 +1,16 @@
-//! At which path a row is, and where a row of NODES is refused.
+//! Whether a row is in the folder that is looked at, and where it is refused.
 ghost use Rattle.std.specs.Prelude.{◌≡◌, IfOk};
-ghost use Rattle.std.specs.Option.{option_copied, option_map};
-ghost use Rattle.svn_wcdb.specs.Bases.{path_at};
+ghost use Rattle.std.specs.Option.{option_copied};
+ghost use Rattle.svn_wcdb.specs.Columns.{path_at};
 ghost use Rattle.svn_wcdb.specs.Paths.{place_in, is_in};
 ghost use Rattle.svn_wcdb.specs.Reading.{Place, IsAt};
 
-use crate::columns::Columns;
-use crate::fault::{Reason, TableName, WcdbFault};
+use crate::columns::path_at;
+use crate::fault::{Reason, WcdbFault};
 use crate::paths::place_in;
 use crate::refusal::Refusal;
 use std::alloc::{AllocError, Global};
 use svn_types::Text;
-
-/// The path in a row, if it has a text there.
-pub(crate) fn path_at(row: &[u8]) -> Option<&[u8]>
-    ensures { option_copied result ≡ path_at row.now }
-{
-    Columns::read(row)
-        .text(TableName::Nodes, 1)
-        .unwrap_or_default()
-}
 
 /// Whether a row is looked at: it is at the folder or below, and at the root each is.
 pub(crate) fn is_in(folder: &[u8], row: &[u8]) -> bool

@@ -22,6 +22,7 @@ fn name_of(table: TableName) -> &'static [u8]
         TableName::Pristine => b"PRISTINE",
         TableName::ActualNode => b"ACTUAL_NODE",
         TableName::WcLock => b"WC_LOCK",
+        TableName::Lock => b"LOCK",
         TableName::WorkQueue => b"WORK_QUEUE",
     }
 }
