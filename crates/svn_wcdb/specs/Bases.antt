@@ -16,7 +16,7 @@ use Rattle.svn_wcdb.specs.declared.notes.Notes.{Notes}
 use Rattle.svn_wcdb.specs.declared.table.TableRow.{TableRow}
 use Rattle.svn_types.specs.PathTexts.{path_text}
 use Rattle.svn_wcdb.specs.Columns.{column, text_in, number_in, number_at, path_at, is_number}
-use Rattle.svn_wcdb.specs.Images.{image_of}
+use Rattle.svn_wcdb.specs.Images.{File, image_of}
 use Rattle.svn_wcdb.specs.Locks.{locks_of, locked_in}
 use Rattle.svn_wcdb.specs.Nodes.{NodeRow, row_of, base_of}
 use Rattle.svn_wcdb.specs.Paths.{path_of, text_from, place_in, is_parent, is_in}
@@ -149,40 +149,40 @@ LocalRowsChangeNothing =
 abbrev pub count_in : List ℕ → List TableRow → ℕ
 count_in folder rows = length (filter (λ (row : TableRow). is_in folder (path_at row.bytes)) rows)
 
-abbrev pub count_of : ℕ → List ℕ → List TableRow → List ℕ → TableName → Result ℕ Reason
-count_of size bytes schema folder table = table_of size bytes schema table >>= λ rows. Ok (count_in folder rows)
+abbrev pub count_of : File → List TableRow → List ℕ → TableName → Result ℕ Reason
+count_of file schema folder table = table_of file schema table >>= λ rows. Ok (count_in folder rows)
 
-abbrev pub locked_of : ℕ → List ℕ → List TableRow → References → Found → Result ℕ Reason
-locked_of size bytes schema to found = table_of size bytes schema tables.Lock >>= λ rows. Ok (locked_in (locks_of to.repos_id rows) found.0)
+abbrev pub locked_of : File → List TableRow → References → Found → Result ℕ Reason
+locked_of file schema to found = table_of file schema tables.Lock >>= λ rows. Ok (locked_in (locks_of to.repos_id rows) found.0)
 
 -- unfinished work has no path
-abbrev pub notes_of : ℕ → List ℕ → List TableRow → References → Found → Result Notes Reason
-notes_of size bytes schema to found = do
-  actual ← count_of size bytes schema to.folder tables.ActualNode
-  locks ← count_of size bytes schema to.folder tables.WcLock
-  work ← count_of size bytes schema [] tables.WorkQueue
-  locked ← locked_of size bytes schema to found
+abbrev pub notes_of : File → List TableRow → References → Found → Result Notes Reason
+notes_of file schema to found = do
+  actual ← count_of file schema to.folder tables.ActualNode
+  locks ← count_of file schema to.folder tables.WcLock
+  work ← count_of file schema [] tables.WorkQueue
+  locked ← locked_of file schema to found
   Ok (record (found.1) { actual = actual; locks = locks; work = work; locked = locked })
 
 -- a fault outside the rows of NODES is at no path
-unfoldable pub tree_at : List ℕ → ℕ → List ℕ → Result Base Place
-tree_at folder size bytes = do
-  schema ← at None (table_rows size bytes 1)
-  roots ← at None (table_of size bytes schema tables.Wcroot)
+unfoldable pub tree_at : List ℕ → File → Result Base Place
+tree_at folder file = do
+  schema ← at None (table_rows file 1)
+  roots ← at None (table_of file schema tables.Wcroot)
   wc_id ← at None (one_root roots)
-  rows ← at None (table_of size bytes schema tables.Nodes)
+  rows ← at None (table_of file schema tables.Nodes)
   repos_id ← repos_in folder rows
-  repositories ← at None (table_of size bytes schema tables.Repository)
+  repositories ← at None (table_of file schema tables.Repository)
   origin ← at None (origin_in repos_id repositories)
-  texts ← at None (table_of size bytes schema tables.Pristine)
+  texts ← at None (table_of file schema tables.Pristine)
   pristines ← at None (pristines_of texts)
   to ← Ok (record { wc_id = wc_id; repos_id = repos_id; folder = folder; pristines = pristines })
   found ← each (placed_after to) rows none_yet
-  notes ← at None (notes_of size bytes schema to found)
+  notes ← at None (notes_of file schema to found)
   Ok (record { origin = origin; pristines = pristines; nodes = found.0; notes = notes })
 
 unfoldable pub base_tree_at : Path → List ℕ → Result Base Place
-base_tree_at folder bytes = at None (image_of bytes) >>= λ size. tree_at (path_text folder) size bytes
+base_tree_at folder bytes = at None (image_of bytes) >>= tree_at (path_text folder)
 
 abbrev pub base_tree_of : List ℕ → Result Base Place
 base_tree_of = base_tree_at []

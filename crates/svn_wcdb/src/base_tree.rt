@@ -4,7 +4,7 @@ ghost use Rattle.svn_wcdb.specs.Bases.{seen_base, base_tree_of, base_tree_at};
 ghost use Rattle.svn_wcdb.specs.Reading.{Finds};
 
 use crate::fault::TableName;
-use crate::image::Image;
+use crate::image::read_image;
 use crate::nodes::{References, read_nodes};
 use crate::notes::{Notes, read_notes};
 use crate::origin::{one_root, origin_in, repos_in};
@@ -68,7 +68,7 @@ pub fn read_base_tree_at(alloc: Global, folder: &RelPath, bytes: &[u8]) -> Resul
 {
     let folder = folder_text(alloc, folder)?;
     let folder = folder.as_bytes();
-    let image = Image::new(bytes)?;
+    let image = read_image(bytes)?;
     let schema = read_table(alloc, &image, 1)?;
     let roots = rows_of(alloc, &image, &schema, TableName::Wcroot)?;
     let wc_id = one_root(&roots)?;

@@ -41,7 +41,7 @@ pub enum Reason {
     /// The file doesn't begin as one of SQLite 3.
     #[error("not a database of SQLite 3")]
     NotADatabase,
-    /// The pages aren't of 512 to 65536 bytes, or keep bytes back.
+    /// The pages aren't of 512 to 65536 bytes, or so many bytes of each are reserved that fewer than 480 are left.
     #[error("a page size that no working copy has")]
     PageSize,
     /// The file has, or had, a write-ahead log.

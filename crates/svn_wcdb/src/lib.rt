@@ -15,7 +15,7 @@
 //! |---|---|---|
 //! | `fault`, `refusal` | why a database is refused, and at which path | `Reading` |
 //! | `skel`, `properties` | lists of atoms (skels), properties | `Skels`, `Properties` |
-//! | `image` | the header of the file, and page n | `Images` |
+//! | `image`, `pages` | the header of the file, and what is used of page n: bytes at its end may be reserved | `Images` |
 //! | `table`, `payload`, `tree` | the rows of a table; a row's bytes, which may go on in overflow pages | `Pages`, `Records`, `Tables` |
 //! | `columns`, `schema` | the first columns of a row, from one pass over its record; the rows of a table by its name | `Columns`, `Schema` |
 //! | `pristine`, `pristines` | where a pristine text is; the rows of PRISTINE | `Pristines` |
@@ -61,6 +61,7 @@ mod node;
 mod nodes;
 mod notes;
 mod origin;
+mod pages;
 mod paths;
 mod payload;
 mod place;

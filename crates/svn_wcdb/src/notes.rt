@@ -1,12 +1,13 @@
 //! What is passed over, since no base node depends on it.
 ghost use Rattle.std.specs.Prelude.{◌≡◌};
 ghost use Rattle.svn_wcdb.specs.Bases.{counted, count_in, count_of, locked_of, none_yet, notes_of, seen_references, seen_found};
+ghost use Rattle.svn_wcdb.specs.Images.{seen_file};
 ghost use Rattle.svn_wcdb.specs.Reading.{Gives};
 
 use crate::fault::{TableName, WcdbFault};
-use crate::image::Image;
 use crate::locks::{locked_in, read_locks};
 use crate::nodes::{Found, References};
+use crate::pages::Image;
 use crate::place::is_in;
 use crate::schema::rows_of;
 use crate::table::TableRow;
@@ -72,7 +73,7 @@ fn count_rows(
     folder: &[u8],
     table: TableName,
 ) -> Result<u64, WcdbFault>
-    ensures { Gives (λ n. n) result (count_of image.now.size image.now.bytes.now schema.now folder.now table) }
+    ensures { Gives (λ n. n) result (count_of (seen_file image.now) schema.now folder.now table) }
 {
     let rows = rows_of(alloc, image, schema, table)?;
     Ok(count_in(folder, &rows) as u64)
@@ -85,7 +86,7 @@ fn count_locked(
     to: &References,
     found: &Found,
 ) -> Result<u64, WcdbFault>
-    ensures { Gives (λ n. n) result (locked_of image.now.size image.now.bytes.now schema.now (seen_references to.now) (seen_found found.now)) }
+    ensures { Gives (λ n. n) result (locked_of (seen_file image.now) schema.now (seen_references to.now) (seen_found found.now)) }
 {
     let rows = rows_of(alloc, image, schema, TableName::Lock)?;
     let locks = read_locks(alloc, to.repos_id, &rows)?;
@@ -100,7 +101,7 @@ pub(crate) fn read_notes(
     to: &References,
     found: &Found,
 ) -> Result<Notes, WcdbFault>
-    ensures { Gives (λ n. n) result (notes_of image.now.size image.now.bytes.now schema.now (seen_references to.now) (seen_found found.now)) }
+    ensures { Gives (λ n. n) result (notes_of (seen_file image.now) schema.now (seen_references to.now) (seen_found found.now)) }
 {
     let actual = count_rows(alloc, image, schema, to.folder, TableName::ActualNode)?;
     let locks = count_rows(alloc, image, schema, to.folder, TableName::WcLock)?;
