@@ -8,24 +8,23 @@ use Rattle.svn_model.specs.Nodes.{get_in, IsTrueOf}
 use Rattle.svn_dump.specs.declared.sections.Limits.{Limits}
 use Rattle.svn_dump.specs.declared.sections.Texts.{Texts}
 use Rattle.svn_history.specs.Loading.{LoadsDump}
-use Rattle.svn_wcdb.specs.Bases.{Base, base_tree_of}
+use Rattle.svn_wcdb.specs.Bases.{Base, base_tree_at}
 use Rattle.svn_audit.specs.declared.reason.Untrue.{Untrue}
 use Rattle.svn_audit.specs.Untrue.{untrue_in}
 use Rattle.svn_disk_audit.specs.Pristine.{Store, AreKeptAs}
-use Rattle.svn_disk_audit.specs.Audits.{copy_at, IsAudit, IsVerdict}
+use Rattle.svn_disk_audit.specs.Audits.{IsAudit, IsVerdict}
 
-same_copy : (copy kept : List (Path × BaseNode)) (below : Path) → ((p : Path) → get_in copy p ≡ copy_at kept below p)
-    → get_in copy ≡ copy_at kept below
-same_copy copy kept below same i p = same p i
+same_copy : (copy kept : List (Path × BaseNode)) → ((p : Path) → get_in copy p ≡ get_in kept p) → get_in copy ≡ get_in kept
+same_copy copy kept same i p = same p i
 
 pub is_audit : (texts : Texts) (store here : Store) (h : History) (database : List ℕ) (below : Path) (copy : List (Path × BaseNode))
     (untrue : List Untrue) (base : Base) (kept : List (Path × BaseNode)) → here ≡ store
-    → base_tree_of database ≡ Ok base → AreKeptAs texts here base.nodes kept → ((p : Path) → get_in copy p ≡ copy_at kept below p)
+    → base_tree_at below database ≡ Ok base → AreKeptAs texts here base.nodes kept → ((p : Path) → get_in copy p ≡ get_in kept p)
     → untrue ≡ untrue_in h (get_in copy) copy
     → (untrue ≡ [] → IsTrueOf h (get_in copy)) → (IsTrueOf h (get_in copy) → untrue ≡ [])
     → IsAudit texts store h database below copy untrue
 is_audit texts store here h database below copy untrue base kept looked reads pristine nodes all sound complete =
-    let same : get_in copy ≡ copy_at kept below = same_copy copy kept below nodes in
+    let same : get_in copy ≡ get_in kept = same_copy copy kept nodes in
     record {
       base = base;
       reads = reads;

@@ -1,73 +1,68 @@
--- The verdict on a working copy, from bytes.
---     copy_at nodes below      the copy of the nodes, at a path and below
+-- The verdict on a working copy, from bytes. What is at a path of it and below is a copy of its own: what the bytes of the database stand for there.
 --     IsAudit texts store h database below copy untrue      the copy is that of the database's bytes, its texts pristine, and these paths of it are untrue of h
 --     IsVerdict texts limits dump store database below untrue      no path is untrue exactly where that copy is true of the dump's history
---     IsAccepted accepts database      this holds of what the bytes of the database stand for
+--     IsAccepted accepts database below      this holds of what the bytes of the database stand for
 --     IsAuditFault texts store database below fault      why the copy isn't audited, whose base tree was read unless the database is refused
-use Rattle.std.specs.Prelude.{◌≡◌, ℕ, List, [], ◌++◌, Some, Ok}
+use Rattle.std.specs.Prelude.{◌≡◌, ℕ, List, [], Some, Ok}
 use Rattle.svn_types.specs.Names.{Path}
 use Rattle.svn_repo.specs.History.{History, new_history}
 use Rattle.svn_model.specs.declared.base_node.BaseNode.{BaseNode}
-use Rattle.svn_model.specs.Nodes.{WorkingCopy, get_in, IsTrueOf}
+use Rattle.svn_model.specs.Nodes.{get_in, IsTrueOf}
 use Rattle.svn_dump.specs.declared.sections.Limits.{Limits}
 use Rattle.svn_dump.specs.declared.sections.Texts.{Texts}
 use Rattle.svn_history.specs.Loading.{LoadsDump}
 use Rattle.svn_model.specs.declared.wc_fault.WcFault.{WcFault}
 use Rattle.svn_model.specs.Refusals.{nodes_fault}
-use Rattle.svn_wcdb.specs.Bases.{Base, base_tree_of}
+use Rattle.svn_wc.specs.Building.{Refuses}
+use Rattle.svn_wcdb.specs.Bases.{Base, base_tree_at}
 use Rattle.svn_wcdb.specs.Reading.{FailsAt}
 use Rattle.svn_audit.specs.declared.reason.Untrue.{Untrue}
-use Rattle.svn_audit.specs.Below.{nodes_below, IsFaultOrMemory}
 use Rattle.svn_audit.specs.Untrue.{untrue_in}
 use Rattle.svn_disk_audit.specs.declared.fault.AuditFault.{AuditFault}
 use Rattle.svn_disk_audit.specs.declared.fault.AuditFault.TheVariants.{Database, Examiner, Pristine, Copy, Memory}
 use Rattle.svn_disk_audit.specs.Pristine.{Store, AreKeptAs, IsRefusedFile}
 
-abbrev pub copy_at : List (Path × BaseNode) → Path → WorkingCopy
-copy_at nodes below p = get_in nodes (below ++ p)
-
 pub record IsAudit (texts : Texts) (store : Store) (h : History) (database : List ℕ) (below : Path) (copy : List (Path × BaseNode))
     (untrue : List Untrue) : Type 0 where
   pub base : Base
-  -- it is what the bytes stand for
-  pub reads : base_tree_of database ≡ Ok base
+  -- it is what the bytes stand for at the path and below
+  pub reads : base_tree_at below database ≡ Ok base
   -- its nodes, their texts as they are kept
   pub kept : List (Path × BaseNode)
   pub pristine : AreKeptAs texts store base.nodes kept
-  pub nodes : (p : Path) → get_in copy p ≡ copy_at kept below p
+  pub nodes : (p : Path) → get_in copy p ≡ get_in kept p
   -- all that is untrue of it, in path order
   pub all : untrue ≡ untrue_in h (get_in copy) copy
-  pub none_is_true : untrue ≡ [] → IsTrueOf h (copy_at kept below)
-  pub true_has_none : IsTrueOf h (copy_at kept below) → untrue ≡ []
+  pub none_is_true : untrue ≡ [] → IsTrueOf h (get_in kept)
+  pub true_has_none : IsTrueOf h (get_in kept) → untrue ≡ []
 
 pub record IsVerdict (texts : Texts) (limits : Limits) (dump : List ℕ) (store : Store) (database : List ℕ) (below : Path)
     (untrue : List Untrue) : Type 0 where
   -- the history that the bytes of the dump stand for, its texts as they are kept
   pub history : History
   pub loads : LoadsDump limits texts (Some dump) new_history history
-  -- the copy that the bytes of the database stand for, its texts as they are kept
+  -- the copy that the bytes of the database stand for at the path and below, its texts as they are kept
   pub base : Base
-  pub reads : base_tree_of database ≡ Ok base
+  pub reads : base_tree_at below database ≡ Ok base
   pub kept : List (Path × BaseNode)
   pub pristine : AreKeptAs texts store base.nodes kept
-  pub none_is_true : untrue ≡ [] → IsTrueOf history (copy_at kept below)
-  pub true_has_none : IsTrueOf history (copy_at kept below) → untrue ≡ []
+  pub none_is_true : untrue ≡ [] → IsTrueOf history (get_in kept)
+  pub true_has_none : IsTrueOf history (get_in kept) → untrue ≡ []
 
-abbrev pub IsAccepted : (Base → Type 0) → List ℕ → Type 0
-IsAccepted accepts database = (base : Base) × (base_tree_of database ≡ Ok base) × accepts base
+abbrev pub IsAccepted : (Base → Type 0) → List ℕ → Path → Type 0
+IsAccepted accepts database below = (base : Base) × (base_tree_at below database ≡ Ok base) × accepts base
 
--- this holds of the nodes of the database
-abbrev pub HasNodes : List ℕ → (List (Path × BaseNode) → Type 0) → Type 0
-HasNodes database holds = (base : Base) × (base_tree_of database ≡ Ok base) × holds base.nodes
+-- this holds of the nodes of the database at the path and below
+abbrev pub HasNodes : List ℕ → Path → (List (Path × BaseNode) → Type 0) → Type 0
+HasNodes database below holds = (base : Base) × (base_tree_at below database ≡ Ok base) × holds base.nodes
 
--- all texts were kept, and the nodes at the path and below are no copy
-abbrev pub AreNoCopy : Texts → Store → Path → WcFault → List (Path × BaseNode) → Type 0
-AreNoCopy texts store below fault nodes =
-    (kept : List (Path × BaseNode)) × AreKeptAs texts store nodes kept × IsFaultOrMemory (nodes_fault (nodes_below below kept)) fault
+-- all texts were kept, and the nodes are no copy
+abbrev pub AreNoCopy : Texts → Store → WcFault → List (Path × BaseNode) → Type 0
+AreNoCopy texts store fault nodes = (kept : List (Path × BaseNode)) × AreKeptAs texts store nodes kept × Refuses (nodes_fault kept) fault
 
 abbrev pub IsAuditFault : {F : Type 0} → Texts → Store → List ℕ → Path → AuditFault F → Type 0
-IsAuditFault texts store database below (Database refusal) = FailsAt {Y = Base} refusal.fault refusal.path (base_tree_of database)
-IsAuditFault texts store database below (Examiner fault) = HasNodes database (λ nodes. Unit {0})
-IsAuditFault texts store database below (Pristine refusal) = HasNodes database (λ nodes. IsRefusedFile store nodes refusal)
-IsAuditFault texts store database below (Copy fault) = HasNodes database (AreNoCopy texts store below fault)
+IsAuditFault texts store database below (Database refusal) = FailsAt {Y = Base} refusal.fault refusal.path (base_tree_at below database)
+IsAuditFault texts store database below (Examiner fault) = HasNodes database below (λ nodes. Unit {0})
+IsAuditFault texts store database below (Pristine refusal) = HasNodes database below (λ nodes. IsRefusedFile store nodes refusal)
+IsAuditFault texts store database below (Copy fault) = HasNodes database below (AreNoCopy texts store fault)
 IsAuditFault texts store database below Memory = Unit {0}

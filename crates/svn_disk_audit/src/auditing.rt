@@ -9,12 +9,12 @@ use crate::examiner::Examiner;
 use crate::fault::AuditFault;
 use crate::keeping::keep_texts;
 use std::alloc::Global;
-use svn_audit::{Untrue, copy_below, untrue_paths};
+use svn_audit::{Untrue, untrue_paths};
 use svn_dump::Texts;
 use svn_repo::Repo;
 use svn_types::RelPath;
 use svn_wc::WorkingCopy;
-use svn_wcdb::read_base_tree;
+use svn_wcdb::read_base_tree_at;
 
 /// What is asked of a working copy.
 #[derive(Clone, Copy)]
@@ -36,10 +36,11 @@ pub struct Audited {
     pub untrue: Vec<Untrue>,
 }
 
-/// Audits the working copy that the bytes of a database stand for, or what of it is at a path and below, as a copy of its own. The pristine text of each
-/// file of the database is read: with [`Texts::Sha1`] each different one once, in pieces of 64 KiB, and with [`Texts::Whole`] each file's, which is kept.
-/// Refused as [`read_base_tree`] refuses the database, then as the examiner refuses what it has, then at the first file, in the order of the rows, whose
-/// pristine text isn't the one that its stand-in names, then as [`copy_below`] refuses the nodes. Memory where an allocation failed.
+/// Audits the working copy that the bytes of a database stand for, or what of it is at a path and below, as a copy of its own: nothing else of it counts,
+/// and paths are from there. The pristine text of each of its files is read: with [`Texts::Sha1`] each different one once, in pieces of 64 KiB, and with
+/// [`Texts::Whole`] each file's, which is kept. Refused as [`read_base_tree_at`] refuses the database, then as the examiner refuses what it has, then at
+/// the first file, in the order of the rows, whose pristine text isn't the one that its stand-in names, then as [`WorkingCopy::from_nodes`] refuses the
+/// nodes: BadRoot where the copy has no directory at the path. Memory where an allocation failed.
 pub fn audit<E: Examiner>(
     alloc: Global,
     question: Question<'_>,
@@ -48,17 +49,17 @@ pub fn audit<E: Examiner>(
 ) -> Result<Audited, AuditFault<E::Fault>>
     ensures audit { IfOk result (λ a. IsAudit question.entry.texts (E.text_at examiner.old) question.entry.repo.now database.now question.entry.below.now a.copy a.untrue.items) }
     // the examiner took what the bytes of the database stand for
-    ensures accepted { OnOk result (IsAccepted (E.accepts examiner.old) database.now) }
+    ensures accepted { OnOk result (IsAccepted (E.accepts examiner.old) database.now question.entry.below.now) }
     ensures fault { IfErr result (IsAuditFault question.entry.texts (E.text_at examiner.old) database.now question.entry.below.now) }
     // where the repository is the history of a dump, it is the verdict on these bytes
     ensures whole { IfOk result (λ a. (limits : Limits) (dump : List ℕ) → LoadsDump limits question.entry.texts (Some dump) new_history question.entry.repo.now → IsVerdict question.entry.texts limits dump (E.text_at examiner.old) database.now question.entry.below.now a.untrue.items) }
 {
-    let tree = read_base_tree(alloc, database)?;
+    let tree = read_base_tree_at(alloc, question.below, database)?;
     if let Err(fault) = examiner.examine(&tree) {
         return Err(AuditFault::Examiner(fault));
     }
     let nodes = keep_texts(alloc, question.texts, examiner, tree.nodes)?;
-    let copy = copy_below(alloc, question.below, nodes)?;
+    let copy = WorkingCopy::from_nodes(alloc, nodes)?;
     let untrue = untrue_paths(alloc, question.repo, &copy)?;
     Ok(Audited { copy, untrue })
 }

@@ -1,28 +1,31 @@
 -- The base tree of a working copy.
 --     base_tree_of bytes      the base tree that the bytes of a database stand for, or the first fault
-use Rattle.std.specs.Prelude.{◌≡◌, ℕ, ◌+◌, min, Bool, not, ◌&&◌, List, [], ◌∷◌, ◌++◌, length, nat_eq, Option, Some, None, true, false, Result, Ok, Err, if◌then◌else◌}
+--     base_tree_at folder bytes      the same of what is at a folder and below, as a tree of its own
+use Rattle.std.specs.Prelude.{◌≡◌, ℕ, ◌+◌, min, Bool, not, ◌&&◌, List, [], ◌∷◌, ◌++◌, length, filter, nat_eq, bytes_eq, Option, Some, None, true, false, Result, Ok, Err, if◌then◌else◌}
 use Rattle.svn_model.specs.declared.base_node.BaseNode.{BaseNode}
 use Rattle.svn_types.specs.Names.{Path}
 use Rattle.svn_wcdb.specs.declared.base_tree.BaseTree.{BaseTree}
 use Rattle.svn_wcdb.specs.declared.base_tree.Origin.{Origin}
 use Rattle.svn_wcdb.specs.declared.fault.Reason.{Reason}
-use Rattle.svn_wcdb.specs.declared.fault.Reason.TheVariants.{NotOneRoot, NoRoot, NoRepository, OtherRepository, BadColumn}
+use Rattle.svn_wcdb.specs.declared.fault.Reason.TheVariants.{NotOneRoot, NoRoot, NoRepository, OtherRepository, BadColumn, WrongParent}
 use Rattle.svn_wcdb.specs.declared.fault.TableName.{TableName}
 use Rattle.svn_wcdb.specs.declared.fault.TableName.TheVariants as tables
 use Rattle.svn_wcdb.specs.declared.nodes.Found as nodes
 use Rattle.svn_wcdb.specs.declared.nodes.References as refs
 use Rattle.svn_wcdb.specs.declared.notes.Notes.{Notes}
 use Rattle.svn_wcdb.specs.declared.table.TableRow.{TableRow}
-use Rattle.svn_wcdb.specs.Columns.{column, text_in}
-use Rattle.svn_wcdb.specs.Images.{image_of}
+use Rattle.svn_types.specs.PathTexts.{path_text}
+use Rattle.svn_wcdb.specs.Columns.{column, text_in, number_in, number_at, path_at, is_number}
+use Rattle.svn_wcdb.specs.Images.{File, image_of}
+use Rattle.svn_wcdb.specs.Locks.{locks_of, locked_in}
 use Rattle.svn_wcdb.specs.Nodes.{NodeRow, row_of, base_of}
-use Rattle.svn_wcdb.specs.Paths.{path_of}
+use Rattle.svn_wcdb.specs.Paths.{path_of, text_from, place_in, is_parent, is_in}
 use Rattle.svn_wcdb.specs.Pristines.{Sizes, pristines_of}
 use Rattle.svn_wcdb.specs.Reading.{◌>>=◌, Place, at, given, each}
 use Rattle.svn_wcdb.specs.Schema.{table_of}
 use Rattle.svn_wcdb.specs.Tables.{table_rows}
 
--- where it comes from, the texts that its files may have, its nodes in the order of their rows, and what was passed over
+-- where it comes from, the texts that files may have, the nodes in the order of their rows, and what was passed over; paths are from the folder on
 pub record Base : Type 0 where
   pub origin : Origin
   pub pristines : Sizes
@@ -33,26 +36,19 @@ pub record Base : Type 0 where
 abbrev pub seen_base : BaseTree → Base
 seen_base tree = record { origin = tree.origin; pristines = tree.pristines; nodes = tree.nodes.items; notes = tree.notes }
 
-abbrev pub is_number : Option ℕ → ℕ → Bool
-is_number None n = false
-is_number (Some m) n = nat_eq m n
-
-abbrev pub is_no_byte : Option (List ℕ) → Bool
-is_no_byte None = false
-is_no_byte (Some bytes) = nat_eq (length bytes) 0
-
--- the path in a row of NODES, if it has a text there
-abbrev pub text_or_none : Result (Option (List ℕ)) Reason → Option (List ℕ)
-text_or_none (Ok text) = text
-text_or_none (Err reason) = None
-
-abbrev pub path_at : List ℕ → Option (List ℕ)
-path_at row = text_or_none (text_in tables.Nodes 1 (column row 1))
+abbrev pub is_text : Option (List ℕ) → List ℕ → Bool
+is_text None text = false
+is_text (Some bytes) text = bytes_eq bytes text
 
 -- ---- the root
 
-abbrev pub is_root : NodeRow → Bool
-is_root row = is_number row.op_depth 0 && is_no_byte row.path
+-- a row of the base tree at a path
+abbrev pub is_base_at : List ℕ → List ℕ → Bool
+is_base_at path row = is_text (path_at row) path && is_number (number_at 2 row) 0
+
+abbrev pub base_row : List ℕ → List TableRow → Option (List ℕ)
+base_row path [] = None
+base_row path (row ∷ rows) = if is_base_at path row.bytes then Some row.bytes else base_row path rows
 
 -- the number of the one row
 abbrev pub one_root : List TableRow → Result ℕ Reason
@@ -60,12 +56,12 @@ one_root [] = Err NotOneRoot
 one_root (row ∷ []) = Ok row.rowid
 one_root (row ∷ other ∷ rows) = Err NotOneRoot
 
--- the repository of the root
-abbrev pub repos_in : List TableRow → Result ℕ Place
-repos_in [] = Err (record { reason = NoRoot; path = None })
-repos_in (row ∷ rows) =
-    at (path_at row.bytes) (row_of row.bytes) >>= λ columns.
-    if is_root columns then at (path_at row.bytes) (given NoRepository columns.repos_id) else repos_in rows
+abbrev pub repos_of : List ℕ → Result ℕ Reason
+repos_of row = number_in tables.Nodes 4 (column row 4) >>= given NoRepository
+
+-- the repository of the copy's root, which a folder of it is of too
+unfoldable pub repos_in : List ℕ → List TableRow → Result ℕ Place
+repos_in folder rows = at None (given NoRoot (base_row [] rows)) >>= λ row. at (place_in folder (Some [])) (repos_of row)
 
 -- ---- the repository
 
@@ -81,15 +77,16 @@ origin_in id (row ∷ rows) = if nat_eq row.rowid id then origin_of row.bytes el
 
 -- ---- the nodes
 
--- what rows of NODES refer to: the root, its repository, and the texts
+-- what rows of NODES refer to: the root, its repository, and the texts; and the folder that is looked at
 pub record References : Type 0 where
   pub wc_id : ℕ
   pub repos_id : ℕ
+  pub folder : List ℕ
   pub pristines : Sizes
 
 -- as the code has it
 abbrev pub seen_references : refs.References → References
-seen_references to = record { wc_id = to.wc_id; repos_id = to.repos_id; pristines = to.pristines.now }
+seen_references to = record { wc_id = to.wc_id; repos_id = to.repos_id; folder = to.folder.now; pristines = to.pristines.now }
 
 -- the nodes so far, and what was passed over
 abbrev pub Found : Type 0
@@ -100,7 +97,7 @@ abbrev pub seen_found : nodes.Found → Found
 seen_found found = (found.nodes.items, found.notes)
 
 abbrev pub none_yet : Found
-none_yet = ([], record { changes = 0; externals = 0; actual = 0; locks = 0; work = 0 })
+none_yet = ([], record { changes = 0; externals = 0; actual = 0; locks = 0; work = 0; locked = 0 })
 
 -- one more, of at most 18446744073709551615
 abbrev pub counted : ℕ → ℕ
@@ -112,9 +109,16 @@ one_change found = (found.0, record (found.1) { changes = counted found.1.change
 abbrev pub one_external : Found → Found
 one_external found = (found.0, record (found.1) { externals = counted found.1.externals })
 
+-- the path in the folder of a row that names the path above as its parent, by which a client finds it
+abbrev pub path_from : List ℕ → NodeRow → List ℕ → Result Path Reason
+path_from folder row text =
+    given (BadColumn tables.Nodes 1) (text_from folder text) >>= λ place. path_of place >>= λ path.
+    if is_parent row.parent text then Ok path else Err WrongParent
+
 abbrev pub one_node : References → NodeRow → Found → Result Found Reason
 one_node to row found =
-    given (BadColumn tables.Nodes 1) row.path >>= λ text. path_of text >>= λ path. base_of to.pristines row >>= λ node. Ok (found.0 ++ (path, node) ∷ [], found.1)
+    given (BadColumn tables.Nodes 1) row.path >>= λ text. path_from to.folder row text >>= λ path.
+    base_of to.pristines row >>= λ node. Ok (found.0 ++ (path, node) ∷ [], found.1)
 
 -- a row of that working copy and repository
 unfoldable pub node_after : References → NodeRow → Found → Result Found Reason
@@ -128,9 +132,10 @@ node_after to row found =
 unfoldable pub record_after : References → TableRow → Found → Result Found Reason
 record_after to row found = row_of row.bytes >>= λ columns. node_after to columns found
 
--- a fault in a row is at its path
+-- of a row outside of the folder only the path is looked at; a fault in another is at its path
 unfoldable pub placed_after : References → TableRow → Found → Result Found Place
-placed_after to row found = at (path_at row.bytes) (record_after to row found)
+placed_after to row found =
+    if is_in to.folder (path_at row.bytes) then at (place_in to.folder (path_at row.bytes)) (record_after to row found) else Ok found
 
 -- a row of a local change adds no node
 abbrev pub LocalRowsChangeNothing : Type 0
@@ -140,31 +145,44 @@ LocalRowsChangeNothing =
 
 -- ---- the other tables
 
-abbrev pub count_of : ℕ → List ℕ → List TableRow → TableName → Result ℕ Reason
-count_of size bytes schema table = table_of size bytes schema table >>= λ rows. Ok (length rows)
+-- how many rows are at the folder or below, by the path in them
+abbrev pub count_in : List ℕ → List TableRow → ℕ
+count_in folder rows = length (filter (λ (row : TableRow). is_in folder (path_at row.bytes)) rows)
 
-abbrev pub notes_of : ℕ → List ℕ → List TableRow → Notes → Result Notes Reason
-notes_of size bytes schema notes = do
-  actual ← count_of size bytes schema tables.ActualNode
-  locks ← count_of size bytes schema tables.WcLock
-  work ← count_of size bytes schema tables.WorkQueue
-  Ok (record notes { actual = actual; locks = locks; work = work })
+abbrev pub count_of : File → List TableRow → List ℕ → TableName → Result ℕ Reason
+count_of file schema folder table = table_of file schema table >>= λ rows. Ok (count_in folder rows)
+
+abbrev pub locked_of : File → List TableRow → References → Found → Result ℕ Reason
+locked_of file schema to found = table_of file schema tables.Lock >>= λ rows. Ok (locked_in (locks_of to.repos_id rows) found.0)
+
+-- unfinished work has no path
+abbrev pub notes_of : File → List TableRow → References → Found → Result Notes Reason
+notes_of file schema to found = do
+  actual ← count_of file schema to.folder tables.ActualNode
+  locks ← count_of file schema to.folder tables.WcLock
+  work ← count_of file schema [] tables.WorkQueue
+  locked ← locked_of file schema to found
+  Ok (record (found.1) { actual = actual; locks = locks; work = work; locked = locked })
 
 -- a fault outside the rows of NODES is at no path
-unfoldable pub tree_of : ℕ → List ℕ → Result Base Place
-tree_of size bytes = do
-  schema ← at None (table_rows size bytes 1)
-  roots ← at None (table_of size bytes schema tables.Wcroot)
+unfoldable pub tree_at : List ℕ → File → Result Base Place
+tree_at folder file = do
+  schema ← at None (table_rows file 1)
+  roots ← at None (table_of file schema tables.Wcroot)
   wc_id ← at None (one_root roots)
-  rows ← at None (table_of size bytes schema tables.Nodes)
-  repos_id ← repos_in rows
-  repositories ← at None (table_of size bytes schema tables.Repository)
+  rows ← at None (table_of file schema tables.Nodes)
+  repos_id ← repos_in folder rows
+  repositories ← at None (table_of file schema tables.Repository)
   origin ← at None (origin_in repos_id repositories)
-  texts ← at None (table_of size bytes schema tables.Pristine)
+  texts ← at None (table_of file schema tables.Pristine)
   pristines ← at None (pristines_of texts)
-  found ← each (placed_after (record { wc_id = wc_id; repos_id = repos_id; pristines = pristines })) rows none_yet
-  notes ← at None (notes_of size bytes schema found.1)
+  to ← Ok (record { wc_id = wc_id; repos_id = repos_id; folder = folder; pristines = pristines })
+  found ← each (placed_after to) rows none_yet
+  notes ← at None (notes_of file schema to found)
   Ok (record { origin = origin; pristines = pristines; nodes = found.0; notes = notes })
 
-unfoldable pub base_tree_of : List ℕ → Result Base Place
-base_tree_of bytes = at None (image_of bytes) >>= λ size. tree_of size bytes
+unfoldable pub base_tree_at : Path → List ℕ → Result Base Place
+base_tree_at folder bytes = at None (image_of bytes) >>= tree_at (path_text folder)
+
+abbrev pub base_tree_of : List ℕ → Result Base Place
+base_tree_of = base_tree_at []

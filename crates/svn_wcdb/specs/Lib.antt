@@ -5,6 +5,7 @@ pub mod Columns
 pub mod Pristines
 pub mod Paths
 pub mod Nodes
+pub mod Locks
 pub mod Images
 pub mod Pages
 pub mod Records

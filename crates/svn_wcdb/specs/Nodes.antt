@@ -12,7 +12,7 @@ use Rattle.svn_wcdb.specs.declared.fault.Reason.TheVariants.{BadPresence, Exclud
 use Rattle.svn_wcdb.specs.declared.node.Presence.{Presence}
 use Rattle.svn_wcdb.specs.declared.node.Presence.TheVariants.{Dir, File, NotPresent}
 use Rattle.svn_wcdb.specs.declared.row.Row.{Row}
-use Rattle.svn_wcdb.specs.Columns.{column, text_in, blob_in, number_in, is_set}
+use Rattle.svn_wcdb.specs.Columns.{column, text_in, bytes_in, number_in, is_set}
 use Rattle.svn_wcdb.specs.Paths.{path_of}
 use Rattle.svn_wcdb.specs.Pristines.{Sizes, text_among}
 use Rattle.svn_wcdb.specs.Properties.{props_of}
@@ -23,6 +23,7 @@ pub record NodeRow : Type 0 where
   pub wc_id : Option ℕ
   pub path : Option (List ℕ)
   pub op_depth : Option ℕ
+  pub parent : Option (List ℕ)
   pub repos_id : Option ℕ
   pub repos_path : Option (List ℕ)
   pub revision : Option ℕ
@@ -39,15 +40,16 @@ row_of bytes = do
   wc_id ← number_in tables.Nodes 0 (column bytes 0)
   path ← text_in tables.Nodes 1 (column bytes 1)
   op_depth ← number_in tables.Nodes 2 (column bytes 2)
+  parent ← text_in tables.Nodes 3 (column bytes 3)
   repos_id ← number_in tables.Nodes 4 (column bytes 4)
   repos_path ← text_in tables.Nodes 5 (column bytes 5)
   revision ← number_in tables.Nodes 6 (column bytes 6)
   presence ← text_in tables.Nodes 7 (column bytes 7)
   kind ← text_in tables.Nodes 10 (column bytes 10)
-  properties ← blob_in tables.Nodes 11 (column bytes 11)
+  properties ← bytes_in tables.Nodes 11 (column bytes 11)
   depth ← text_in tables.Nodes 12 (column bytes 12)
   checksum ← text_in tables.Nodes 13 (column bytes 13)
-  Ok (record { wc_id = wc_id; path = path; op_depth = op_depth; repos_id = repos_id; repos_path = repos_path; revision = revision; presence = presence; kind = kind; properties = properties; depth = depth; checksum = checksum; is_external = is_set (column bytes 21) })
+  Ok (record { wc_id = wc_id; path = path; op_depth = op_depth; parent = parent; repos_id = repos_id; repos_path = repos_path; revision = revision; presence = presence; kind = kind; properties = properties; depth = depth; checksum = checksum; is_external = is_set (column bytes 21) })
 
 -- a row as the code has it
 abbrev pub seen : Row → NodeRow
@@ -56,6 +58,7 @@ seen row =
       wc_id = row.wc_id;
       path = option_copied row.path;
       op_depth = row.op_depth;
+      parent = option_copied row.parent;
       repos_id = row.repos_id;
       repos_path = option_copied row.repos_path;
       revision = row.revision;

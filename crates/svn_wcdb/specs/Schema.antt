@@ -1,6 +1,6 @@
 -- Where the tables of a database are, as its schema says, the table at page 1.
 --     root_of name schema      the root page of a table
---     table_of size bytes schema table      its rows
+--     table_of file schema table      its rows
 use Rattle.std.specs.Prelude.{ℕ, pos, ◌^◌, Bool, false, ◌&&◌, List, [], ◌∷◌, bytes_eq, codes, nat_lt, Option, Some, None, Result, if◌then◌else◌}
 use Rattle.sqlite_value.specs.declared.value.Value.{Value}
 use Rattle.sqlite_value.specs.declared.value.Value.TheVariants.{Int, Text}
@@ -10,6 +10,7 @@ use Rattle.svn_wcdb.specs.declared.fault.TableName.{TableName}
 use Rattle.svn_wcdb.specs.declared.fault.TableName.TheVariants as tables
 use Rattle.svn_wcdb.specs.declared.table.TableRow.{TableRow}
 use Rattle.svn_wcdb.specs.Columns.{column}
+use Rattle.svn_wcdb.specs.Images.{File}
 use Rattle.svn_wcdb.specs.Reading.{◌>>=◌, given}
 use Rattle.svn_wcdb.specs.Tables.{table_rows}
 
@@ -20,6 +21,7 @@ name_of tables.Wcroot = codes "WCROOT"
 name_of tables.Pristine = codes "PRISTINE"
 name_of tables.ActualNode = codes "ACTUAL_NODE"
 name_of tables.WcLock = codes "WC_LOCK"
+name_of tables.Lock = codes "LOCK"
 name_of tables.WorkQueue = codes "WORK_QUEUE"
 
 abbrev pub is_text : Value → List ℕ → Bool
@@ -43,5 +45,5 @@ abbrev pub root_of : List ℕ → List TableRow → Option ℕ
 root_of name [] = None
 root_of name (row ∷ rows) = or_else (root_in name row.bytes) (root_of name rows)
 
-unfoldable pub table_of : ℕ → List ℕ → List TableRow → TableName → Result (List TableRow) Reason
-table_of size bytes schema table = given (NoTable table) (root_of (name_of table) schema) >>= table_rows size bytes
+unfoldable pub table_of : File → List TableRow → TableName → Result (List TableRow) Reason
+table_of file schema table = given (NoTable table) (root_of (name_of table) schema) >>= table_rows file

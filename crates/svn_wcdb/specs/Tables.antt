@@ -2,8 +2,8 @@
 --     chain_after pages size spare n left bytes      the bytes so far, and `left` more from page n on
 --     row_after pages size row rows      the rows so far, and one more
 --     tree_after pages size levels n rows      the rows so far, and those of the tree at page n
---     table_rows size bytes root      the rows of the table with that root page, in their order
--- A table takes no more pages of the file than it has, so `spare` is how many it may still take.
+--     table_rows file root      the rows of the table with that root page, in their order
+-- `pages` are what is used of each page, and `size` is how many bytes that are. A table takes no more pages of the file than it has, so `spare` is how many it may still take.
 use Rattle.std.specs.Prelude.{ℕ, zero, suc, ◌-◌, ◌/◌, min, true, List, [], ◌∷◌, ◌++◌, length, take, drop, nat_eq, Result, Ok, Err, if◌then◌else◌}
 use Rattle.sqlite_pages.specs.PageMap.{PageMap}
 use Rattle.sqlite_format.specs.declared.kind.Tree.TheVariants as trees
@@ -13,7 +13,7 @@ use Rattle.svn_wcdb.specs.declared.fault.Reason.{Reason}
 use Rattle.svn_wcdb.specs.declared.fault.Reason.TheVariants.{TooDeep, Loop, BadOverflow, BadRecord}
 use Rattle.svn_wcdb.specs.declared.table.Table.{Table}
 use Rattle.svn_wcdb.specs.declared.table.TableRow.{TableRow}
-use Rattle.svn_wcdb.specs.Images.{page_in}
+use Rattle.svn_wcdb.specs.Images.{File, page_in}
 use Rattle.svn_wcdb.specs.Pages.{table_page, bodies_of, children_of}
 use Rattle.svn_wcdb.specs.Reading.{◌>>=◌, given, each}
 use Rattle.svn_wcdb.specs.Records.{is_record}
@@ -76,5 +76,5 @@ tree_after pages size (suc levels) n rows =
     else each (tree_after pages size levels) (children_of page.bytes n) (rows.0, spare)
 
 -- SQLite reads no tree of more than 20 levels
-unfoldable pub table_rows : ℕ → List ℕ → ℕ → Result (List TableRow) Reason
-table_rows size bytes root = tree_after (page_in size bytes) size 20 root ([], length bytes / size) >>= λ rows. Ok rows.0
+unfoldable pub table_rows : File → ℕ → Result (List TableRow) Reason
+table_rows file root = tree_after (page_in file) file.usable 20 root ([], length file.bytes / file.size) >>= λ rows. Ok rows.0

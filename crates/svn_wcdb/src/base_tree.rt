@@ -1,13 +1,14 @@
 //! The base tree of a working copy: where it comes from, and its nodes.
 ghost use Rattle.std.specs.Prelude.{◌≡◌};
-ghost use Rattle.svn_wcdb.specs.Bases.{seen_base, base_tree_of};
+ghost use Rattle.svn_wcdb.specs.Bases.{seen_base, base_tree_of, base_tree_at};
 ghost use Rattle.svn_wcdb.specs.Reading.{Finds};
 
 use crate::fault::TableName;
-use crate::image::Image;
+use crate::image::read_image;
 use crate::nodes::{References, read_nodes};
 use crate::notes::{Notes, read_notes};
 use crate::origin::{one_root, origin_in, repos_in};
+use crate::paths::folder_text;
 use crate::pristines::{Pristines, read_pristines};
 use crate::refusal::Refusal;
 use crate::schema::rows_of;
@@ -43,23 +44,36 @@ pub struct BaseTree {
 ///
 /// What it returns is what the bytes stand for (`base_tree_of`), or the first fault in this order: of the header NotADatabase, PageSize, WriteAheadLog,
 /// Encoding, Format, CutOff; of the schema's table, and then of WCROOT, NODES, REPOSITORY and PRISTINE, NoTable, Loop, BadPage, TooDeep, BadOverflow and
-/// BadRecord as the pages and rows come; after WCROOT NotOneRoot; after NODES NoRoot and NoRepository, and BadColumn in the rows up to the root's, with
-/// the row's path; after REPOSITORY NoRepository and BadColumn; after PRISTINE, row by row, BadColumn, NoChecksum and Compressed; then row by row of
-/// NODES, with its path, BadColumn of the first column from the left, NotOneRoot, OtherRepository, NotUtf8 and BadPath, BadPresence, Excluded,
-/// ServerExcluded, BadKind, Depth, IncompleteFile, NoRevision, NoReposPath, NoChecksum, NoPristine, BadProperties and BadPropName; then the tables that
-/// are counted. Memory where an allocation failed.
+/// BadRecord as the pages and rows come; after WCROOT NotOneRoot; after NODES NoRoot and, with the root's path, BadColumn and NoRepository; after
+/// REPOSITORY NoRepository and BadColumn; after PRISTINE, row by row, BadColumn, NoChecksum and Compressed; then row by row of
+/// NODES, with its path, BadColumn of the first column from the left, NotOneRoot, OtherRepository, NotUtf8 and BadPath, WrongParent, BadPresence,
+/// Excluded, ServerExcluded, BadKind, Depth, IncompleteFile, NoRevision, NoReposPath, NoChecksum, NoPristine, BadProperties and BadPropName; then the
+/// tables that are counted. Memory where an allocation failed.
 ///
 /// The rows of NODES and PRISTINE are in memory while they are read: no more bytes than the file has, and some 40 for each.
-#[tactic(auto, unfolding(crate::specs::Bases::base_tree_of, crate::specs::Bases::tree_of))]
 pub fn read_base_tree(alloc: Global, bytes: &[u8]) -> Result<BaseTree, Refusal>
     ensures { Finds seen_base result (base_tree_of bytes.now) }
 {
-    let image = Image::new(bytes)?;
+    read_base_tree_at(alloc, &RelPath::root(alloc), bytes)
+}
+
+/// Reads what of the base tree is at a folder and below, as a tree of its own: paths are from the folder on, also in a refusal, and the folder itself is
+/// the root. What else there is in the tables isn't looked at: a row of NODES that is neither at the folder nor below is passed over before anything
+/// but its path is read, and notes are of what is there, but for unfinished work, which has no path. Of the copy itself it reads the one root, the
+/// root's repository, and which pristine texts there are; these are refused as [`read_base_tree`] refuses them. Where the copy has nothing at the
+/// folder, there is no node.
+#[tactic(auto, unfolding(crate::specs::Bases::base_tree_at, crate::specs::Bases::tree_at))]
+pub fn read_base_tree_at(alloc: Global, folder: &RelPath, bytes: &[u8]) -> Result<BaseTree, Refusal>
+    ensures { Finds seen_base result (base_tree_at folder.now bytes.now) }
+{
+    let folder = folder_text(alloc, folder)?;
+    let folder = folder.as_bytes();
+    let image = read_image(bytes)?;
     let schema = read_table(alloc, &image, 1)?;
     let roots = rows_of(alloc, &image, &schema, TableName::Wcroot)?;
     let wc_id = one_root(&roots)?;
     let rows = rows_of(alloc, &image, &schema, TableName::Nodes)?;
-    let repos_id = repos_in(alloc, &rows)?;
+    let repos_id = repos_in(alloc, folder, &rows)?;
     let repositories = rows_of(alloc, &image, &schema, TableName::Repository)?;
     let origin = origin_in(alloc, repos_id, &repositories)?;
     let texts = rows_of(alloc, &image, &schema, TableName::Pristine)?;
@@ -67,10 +81,11 @@ pub fn read_base_tree(alloc: Global, bytes: &[u8]) -> Result<BaseTree, Refusal>
     let to = References {
         wc_id,
         repos_id,
+        folder,
         pristines: &pristines,
     };
     let found = read_nodes(alloc, &to, &rows)?;
-    let notes = read_notes(alloc, &image, &schema, found.notes)?;
+    let notes = read_notes(alloc, &image, &schema, &to, &found)?;
     Ok(BaseTree {
         origin,
         pristines,

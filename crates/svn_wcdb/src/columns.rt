@@ -4,7 +4,7 @@ ghost use Rattle.std.specs.Option.{option_copied};
 ghost use Rattle.sqlite_record.specs.Fields.{fields_left};
 ghost use Rattle.sqlite_value.specs.Value.{owned};
 ghost use Rattle.svn_wcdb.specs.Reading.{Answers};
-ghost use Rattle.svn_wcdb.specs.Columns.{column, column_in, text_in, blob_in, number_in, is_null, is_set};
+ghost use Rattle.svn_wcdb.specs.Columns.{column, column_in, text_in, bytes_in, number_in, number_at, path_at, is_number, is_null, is_set};
 
 use crate::fault::{Reason, TableName};
 use sqlite_record::fields::Fields;
@@ -78,17 +78,15 @@ impl<'a> Columns<'a> {
         }
     }
 
-    /// A blob, or NULL. BadColumn of that table for a value of another type.
-    pub(crate) fn blob(&self, table: TableName, place: u32) -> Result<Option<&'a [u8]>, Reason>
+    /// The bytes of a blob or a text, or NULL. BadColumn of that table for a number.
+    pub(crate) fn bytes(&self, table: TableName, place: u32) -> Result<Option<&'a [u8]>, Reason>
         requires { place < 22 }
-        ensures { Answers option_copied result (blob_in table place (column self.now place)) }
+        ensures { Answers option_copied result (bytes_in table place (column self.now place)) }
     {
         match self.value(place) {
             ValueRef::Null => Ok(None),
-            ValueRef::Blob(blob) => Ok(Some(blob)),
-            ValueRef::Int(_) | ValueRef::Real(_) | ValueRef::Text(_) => Err(Reason::BadColumn(
-                table, place,
-            )),
+            ValueRef::Blob(bytes) | ValueRef::Text(bytes) => Ok(Some(bytes)),
+            ValueRef::Int(_) | ValueRef::Real(_) => Err(Reason::BadColumn(table, place)),
         }
     }
 
@@ -133,5 +131,34 @@ impl<'a> Columns<'a> {
             ValueRef::Int(number) => number != 0,
             ValueRef::Real(_) | ValueRef::Text(_) | ValueRef::Blob(_) => true,
         }
+    }
+}
+
+/// The number in a column, if it has one there.
+pub(crate) fn number_at(row: &[u8], place: u32) -> Option<u64>
+    requires { place < 22 }
+    ensures { result ≡ number_at place row.now }
+{
+    Columns::read(row)
+        .number(TableName::Nodes, place)
+        .unwrap_or_default()
+}
+
+/// The path in a row, if it has a text there.
+pub(crate) fn path_at(row: &[u8]) -> Option<&[u8]>
+    ensures { option_copied result ≡ path_at row.now }
+{
+    Columns::read(row)
+        .text(TableName::Nodes, 1)
+        .unwrap_or_default()
+}
+
+/// Whether a column has that number.
+pub(crate) fn is_number(column: Option<u64>, number: u64) -> bool
+    ensures { result ≡ is_number column number }
+{
+    match column {
+        Some(found) => found == number,
+        None => false,
     }
 }

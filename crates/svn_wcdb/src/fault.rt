@@ -27,6 +27,9 @@ pub enum TableName {
     /// Locks of working copies, which an operation holds while it runs.
     #[error("WC_LOCK")]
     WcLock,
+    /// Locks in the repository that the client holds.
+    #[error("LOCK")]
+    Lock,
     /// What an operation has still to do in the working copy.
     #[error("WORK_QUEUE")]
     WorkQueue,
@@ -38,7 +41,7 @@ pub enum Reason {
     /// The file doesn't begin as one of SQLite 3.
     #[error("not a database of SQLite 3")]
     NotADatabase,
-    /// The pages aren't of 512 to 65536 bytes, or keep bytes back.
+    /// The pages aren't of 512 to 65536 bytes, or so many bytes of each are reserved that fewer than 480 are left.
     #[error("a page size that no working copy has")]
     PageSize,
     /// The file has, or had, a write-ahead log.
@@ -110,6 +113,9 @@ pub enum Reason {
     /// A path that the library doesn't take.
     #[error("bad path: {0}")]
     BadPath(PathFault),
+    /// A node whose row names another parent than the path above it, so that a client doesn't find it.
+    #[error("the row has another path for the parent")]
+    WrongParent,
     /// A node without a revision.
     #[error("no revision")]
     NoRevision,

@@ -1,11 +1,11 @@
-//! The bytes of a database file, and its pages (fileformat2.html, section 1.3).
-ghost use Rattle.std.specs.Prelude.{◌≡◌, ◌≤◌, ◌/◌, length, Some, IfSome, IfOk};
-ghost use Rattle.std.specs.Option.{option_copied};
+//! The header of a database file (fileformat2.html, section 1.3).
+ghost use Rattle.std.specs.Prelude.{◌≡◌, ◌≤◌, length, IfSome, option_map};
 ghost use Rattle.sqlite_pages.specs.PageMap.{IsUsableSize};
 ghost use Rattle.svn_wcdb.specs.Reading.{Answers};
-ghost use Rattle.svn_wcdb.specs.Images.{has_header, written_size, size_in, says_more, is_cut_off, sized_image, image_of, page_in};
+ghost use Rattle.svn_wcdb.specs.Images.{has_header, written_size, file_in, says_more, is_cut_off, checked_image, image_of, seen_file};
 
 use crate::fault::Reason;
+use crate::pages::Image;
 use sqlite_format::bytes::{get_u16, get_u32};
 
 /// The bytes of a file's header, with which page 1 begins.
@@ -14,14 +14,8 @@ const HEADER: usize = 100;
 /// Format 31 is that of Subversion 1.8 to 1.14 (`wc.h`, `SVN_WC__VERSION`).
 const FORMAT: u32 = 31;
 
-/// A database file's bytes. Their header was read, and no page yet.
-#[derive(Clone, Copy, Debug)]
-pub(crate) struct Image<'a> {
-    bytes: &'a [u8],
-    /// How many bytes a page has.
-    pub(crate) size: usize,
-    ghost usable: { IsUsableSize size },
-}
+/// The fewest bytes of a page that must be used.
+const LEAST_USABLE: usize = 480;
 
 fn has_header(bytes: &[u8]) -> bool
     ensures { result ≡ has_header bytes.now }
@@ -41,17 +35,22 @@ fn written_size(written: usize) -> Option<usize>
     }
 }
 
-// The size of the file's pages. No byte of them is kept back.
-fn size_in(bytes: &[u8]) -> Option<usize>
+// The bytes as a file, if its pages have a size that SQLite takes: bytes at the end of each may be reserved.
+fn file_in(bytes: &[u8]) -> Option<Image<'_>>
     requires { 100 ≤ length bytes.now }
-    ensures value { result ≡ size_in bytes.now }
-    ensures usable { IfSome result IsUsableSize }
+    ensures value { option_map seen_file result ≡ file_in bytes.now }
+    ensures same { IfSome result (λ image. image.bytes.now ≡ bytes.now) }
 {
-    if bytes[20] == 0 {
-        written_size(get_u16(bytes, 16))
-    } else {
-        None
+    let size = written_size(get_u16(bytes, 16))?;
+    let reserved = bytes[20] as usize;
+    if LEAST_USABLE + reserved > size {
+        return None;
     }
+    Some(Image {
+        bytes,
+        size,
+        usable: size - reserved,
+    })
 }
 
 // Whether the header's number of pages, if it counts, is more than these.
@@ -70,12 +69,12 @@ fn is_cut_off(size: usize, bytes: &[u8]) -> bool
     bytes.len() % size != 0 || says_more(bytes, bytes.len() / size)
 }
 
-// What is wrong with a file whose pages have that size.
-fn fault_of(size: usize, bytes: &[u8]) -> Result<(), Reason>
-    requires header { 100 ≤ length bytes.now }
-    requires usable { IsUsableSize size }
-    ensures { Answers (λ _. size) result (sized_image bytes.now (Some size)) }
+// What is wrong with a file whose pages have a size.
+fn fault_of(image: &Image) -> Result<(), Reason>
+    requires { 100 ≤ length image.now.bytes.now }
+    ensures { Answers (λ _. seen_file image.now) result (checked_image (seen_file image.now)) }
 {
+    let bytes = image.bytes;
     let format = get_u32(bytes, 60);
     if bytes[18] != 1 || bytes[19] != 1 {
         Err(Reason::WriteAheadLog)
@@ -83,48 +82,25 @@ fn fault_of(size: usize, bytes: &[u8]) -> Result<(), Reason>
         Err(Reason::Encoding)
     } else if format != FORMAT {
         Err(Reason::Format(format))
-    } else if is_cut_off(size, bytes) {
+    } else if is_cut_off(image.size, bytes) {
         Err(Reason::CutOff)
     } else {
         Ok(())
     }
 }
 
-impl<'a> Image<'a> {
-    /// Reads the file's header. The first of these is returned: NotADatabase, PageSize, WriteAheadLog, Encoding, Format, CutOff.
-    pub(crate) fn new(bytes: &'a [u8]) -> Result<Image<'a>, Reason>
-        ensures size { Answers (λ image. image.size) result (image_of bytes.now) }
-        ensures same { IfOk result (λ image. image.bytes.now ≡ bytes.now) }
-    {
-        if !has_header(bytes) {
-            return Err(Reason::NotADatabase);
-        }
-        let Some(size) = size_in(bytes) else {
-            return Err(Reason::PageSize);
-        };
-        match fault_of(size, bytes) {
-            Ok(()) => Ok(Image { bytes, size }),
-            Err(reason) => Err(reason),
-        }
+/// Reads the file's header. The first of these is returned: NotADatabase, PageSize, WriteAheadLog, Encoding, Format, CutOff.
+pub(crate) fn read_image(bytes: &[u8]) -> Result<Image<'_>, Reason>
+    ensures { Answers seen_file result (image_of bytes.now) }
+{
+    if !has_header(bytes) {
+        return Err(Reason::NotADatabase);
     }
-
-    /// How many pages the file has.
-    pub(crate) fn pages(&self) -> usize
-        ensures { result ≡ length self.now.bytes.now / self.now.size }
-    {
-        self.bytes.len() / self.size
-    }
-
-    /// The bytes of a page, counted from 1.
-    pub(crate) fn page(&self, number: u32) -> Option<&'a [u8]>
-        ensures value { option_copied result ≡ page_in self.now.size self.now.bytes.now number }
-        ensures whole { IfSome result (λ page. length page.now ≡ self.now.size) }
-    {
-        let number = number as usize;
-        let end = number * self.size;
-        if number == 0 || end > self.bytes.len() {
-            return None;
-        }
-        Some(&self.bytes[(number - 1) * self.size..end])
+    let Some(image) = file_in(bytes) else {
+        return Err(Reason::PageSize);
+    };
+    match fault_of(&image) {
+        Ok(()) => Ok(image),
+        Err(reason) => Err(reason),
     }
 }

@@ -8,18 +8,20 @@
 //! ```
 //!
 //! `from_nodes` (of `svn_wc`) refuses what no single row shows: a path that comes twice, a node without a directory above it. The text of a file is its
-//! stand-in (`svn_digits`), `$sha1$` and 40 digits; [`pristine_path`] says where the text itself is.
+//! stand-in (`svn_digits`), `$sha1$` and 40 digits; [`pristine_path`] says where the text itself is. [`read_base_tree_at`] reads what is at a folder and
+//! below as a tree of its own, whatever else the copy has.
 //!
 //! | Files, lowest first | What they do | Definitions in `specs/` |
 //! |---|---|---|
 //! | `fault`, `refusal` | why a database is refused, and at which path | `Reading` |
 //! | `skel`, `properties` | lists of atoms (skels), properties | `Skels`, `Properties` |
-//! | `image` | the header of the file, and page n | `Images` |
+//! | `image`, `pages` | the header of the file, and what is used of page n: bytes at its end may be reserved | `Images` |
 //! | `table`, `payload`, `tree` | the rows of a table; a row's bytes, which may go on in overflow pages | `Pages`, `Records`, `Tables` |
 //! | `columns`, `schema` | the first columns of a row, from one pass over its record; the rows of a table by its name | `Columns`, `Schema` |
 //! | `pristine`, `pristines` | where a pristine text is; the rows of PRISTINE | `Pristines` |
-//! | `row`, `place`, `paths`, `node` | a row of NODES as a base node, and the path at which it is refused | `Nodes`, `Paths` |
-//! | `notes`, `origin`, `nodes`, `base_tree` | what is passed over; the repository; the nodes; the whole | `Bases` |
+//! | `row`, `paths`, `place`, `node` | a row of NODES as a base node; whether it is in a folder, and the path at which it is refused | `Nodes`, `Paths` |
+//! | `locks` | which nodes are locked in the repository | `Locks` |
+//! | `notes`, `origin`, `nodes`, `base_tree` | what is passed over; the root and the repository; the nodes; the whole | `Bases` |
 //! | `laws` | laws about these definitions | |
 //!
 //! A row of NODES is passed over and counted where `op_depth` isn't 0 (a local change) or `file_external` is set. Else it is a base node, or refused:
@@ -30,6 +32,9 @@
 //! | `incomplete` | `dir` | `infinity` or NULL | a directory, not complete |
 //! | `normal` | `file` | any | a file |
 //! | `not-present` | any | any | not present |
+//!
+//! A base node's row must name the path above it as its parent, by which Subversion finds it, and the root's none. Properties are read as bytes, also
+//! where the column has a text, as Subversion does.
 //!
 //! A row of PRISTINE is a stand-in, NULL where a compression would be, and the text's size in bytes; a file's checksum must be one of theirs
 //! ([`Pristines`]).
@@ -42,8 +47,8 @@
 //! while it is looked at; and the nodes.
 //!
 //! Promises: a tree is returned only if it is what the bytes stand for, and else the refusal is the first fault, with the path of its row
-//! (`read_base_tree`, by `base_tree_of`). Only a failed allocation may come anywhere. That the tests of pages and records are the kit's definitions of
-//! them: [`pages_are_well_formed`], [`records_are_whole`].
+//! (`read_base_tree`, by `base_tree_of`; of a folder `read_base_tree_at`, by `base_tree_at`). Only a failed allocation may come anywhere. That the tests
+//! of pages and records are the kit's definitions of them: [`pages_are_well_formed`], [`records_are_whole`].
 #![tactic(auto)]
 
 mod base_tree;
@@ -51,10 +56,12 @@ mod columns;
 mod fault;
 mod image;
 mod laws;
+mod locks;
 mod node;
 mod nodes;
 mod notes;
 mod origin;
+mod pages;
 mod paths;
 mod payload;
 mod place;
@@ -68,7 +75,7 @@ mod skel;
 mod table;
 mod tree;
 
-pub use base_tree::{BaseTree, Origin, read_base_tree};
+pub use base_tree::{BaseTree, Origin, read_base_tree, read_base_tree_at};
 pub use fault::{Reason, TableName, WcdbFault};
 pub use laws::{local_rows_change_nothing, pages_are_well_formed, records_are_whole};
 pub use notes::Notes;

@@ -1,15 +1,15 @@
 //! The base nodes of a working copy, from the rows of NODES.
 ghost use Rattle.std.specs.Prelude.{◌≡◌};
-ghost use Rattle.svn_wcdb.specs.Bases.{seen_references, seen_found, none_yet, one_node, node_after, record_after, placed_after};
+ghost use Rattle.svn_wcdb.specs.Bases.{seen_references, seen_found, none_yet, path_from, one_node, node_after, record_after, placed_after};
 ghost use Rattle.svn_wcdb.specs.Nodes.{seen};
 ghost use Rattle.svn_wcdb.specs.Reading.{Gives, Finds, each};
 
+use crate::columns::{is_number, path_at};
 use crate::fault::{Reason, TableName, WcdbFault};
 use crate::node::base_node;
 use crate::notes::Notes;
-use crate::origin::is_number;
-use crate::paths::read_path;
-use crate::place::refusal_at;
+use crate::paths::{is_parent, place_in, read_path, text_from};
+use crate::place::{is_in, refusal_at};
 use crate::pristines::Pristines;
 use crate::refusal::Refusal;
 use crate::row::Row;
@@ -25,6 +25,8 @@ pub(crate) struct References<'a> {
     pub(crate) wc_id: u64,
     /// Its repository.
     pub(crate) repos_id: u64,
+    /// The text of the folder that is looked at; no byte for the root.
+    pub(crate) folder: &'a [u8],
     /// The texts that its files may have.
     pub(crate) pristines: &'a Pristines,
 }
@@ -36,14 +38,29 @@ pub(crate) struct Found {
     pub(crate) notes: Notes,
 }
 
+// The path in the folder of a row, which names the path above as its parent.
+fn path_from(alloc: Global, folder: &[u8], row: &Row, text: &[u8]) -> Result<RelPath, WcdbFault>
+    ensures { Gives (λ path. path) result (path_from folder.now (seen row.now) text.now) }
+{
+    let Some(place) = text_from(folder, text) else {
+        return Err(WcdbFault::Refused(Reason::BadColumn(TableName::Nodes, 1)));
+    };
+    let path = read_path(alloc, place)?;
+    if is_parent(row.parent, text) {
+        Ok(path)
+    } else {
+        Err(WcdbFault::Refused(Reason::WrongParent))
+    }
+}
+
 // Appends the node of a row.
 fn push_node(alloc: Global, to: &References, row: &Row, found: &mut Found) -> Result<(), WcdbFault>
     ensures { Gives (λ _. seen_found found.new) result (one_node (seen_references to.now) (seen row.now) (seen_found found.old)) }
 {
-    let Some(path) = row.path else {
+    let Some(text) = row.path else {
         return Err(WcdbFault::Refused(Reason::BadColumn(TableName::Nodes, 1)));
     };
-    let path = read_path(alloc, path)?;
+    let path = path_from(alloc, to.folder, row, text)?;
     let node = base_node(alloc, to.pristines, row)?;
     found.nodes.push((path, node))?;
     Ok(())
@@ -84,7 +101,7 @@ fn take_record(
     take_row(alloc, to, &row, found)
 }
 
-// The same with the path of the row, if it is refused.
+// The same of a row that may be outside of the folder, with its path from there, if it is refused.
 #[tactic(auto, unfolding(crate::specs::Bases::placed_after))]
 fn take_placed(
     alloc: Global,
@@ -94,14 +111,21 @@ fn take_placed(
 ) -> Result<(), Refusal>
     ensures { Finds (λ _. seen_found found.new) result (placed_after (seen_references to.now) row.now (seen_found found.old)) }
 {
+    let bytes = row.bytes.as_slice();
+    if !is_in(to.folder, bytes) {
+        return Ok(());
+    }
     match take_record(alloc, to, row, found) {
         Ok(()) => Ok(()),
-        Err(WcdbFault::Refused(reason)) => Err(refusal_at(alloc, row.bytes.as_slice(), reason)),
+        Err(WcdbFault::Refused(reason)) => {
+            let place = place_in(to.folder, path_at(bytes));
+            Err(refusal_at(alloc, place, reason))
+        }
         Err(WcdbFault::Memory) => Err(Refusal::from(WcdbFault::Memory)),
     }
 }
 
-/// Reads the base nodes of that working copy root and repository. A refusal has the path of its row.
+/// Reads the base nodes of that working copy root and repository, at the folder and below. A refusal has the path of its row from there.
 pub(crate) fn read_nodes(
     alloc: Global,
     to: &References,

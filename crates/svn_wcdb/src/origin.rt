@@ -1,16 +1,15 @@
 //! The root of a working copy, and the repository that it comes from.
 ghost use Rattle.std.specs.Prelude.{◌≡◌, ◌<◌};
-ghost use Rattle.svn_wcdb.specs.Bases.{path_at, is_number, is_root, one_root, repos_in, text_given, origin_of, origin_in};
-ghost use Rattle.svn_wcdb.specs.Nodes.{seen};
-ghost use Rattle.svn_wcdb.specs.declared.fault.Reason.TheVariants.{NoRepository};
-ghost use Rattle.svn_wcdb.specs.Reading.{Gives, Answers, Finds, at, given};
+ghost use Rattle.std.specs.Option.{option_copied};
+ghost use Rattle.svn_wcdb.specs.Bases.{is_text, is_base_at, base_row, one_root, repos_of, repos_in, text_given, origin_of, origin_in};
+ghost use Rattle.svn_wcdb.specs.Reading.{Gives, Answers, Finds};
 
 use crate::base_tree::Origin;
-use crate::columns::Columns;
+use crate::columns::{Columns, is_number, number_at, path_at};
 use crate::fault::{Reason, TableName, WcdbFault};
-use crate::place::{read_row, refusal_at};
+use crate::paths::place_in;
+use crate::place::refusal_at;
 use crate::refusal::Refusal;
-use crate::row::Row;
 use crate::table::TableRow;
 use std::alloc::Global;
 use svn_types::Text;
@@ -25,49 +24,57 @@ pub(crate) fn one_root(rows: &[TableRow]) -> Result<u64, Reason>
     }
 }
 
-/// Whether a column has that number.
-pub(crate) fn is_number(column: Option<u64>, number: u64) -> bool
-    ensures { result ≡ is_number column number }
+fn is_text(column: Option<&[u8]>, text: &[u8]) -> bool
+    ensures { result ≡ is_text (option_copied column.entry) text.now }
 {
     match column {
-        Some(found) => found == number,
+        Some(found) => found == text,
         None => false,
     }
 }
 
-fn is_root(row: &Row) -> bool
-    ensures { result ≡ is_root (seen row.now) }
+fn is_base_at(path: &[u8], row: &[u8]) -> bool
+    ensures { result ≡ is_base_at path.now row.now }
 {
-    match row.path {
-        Some(path) => is_number(row.op_depth, 0) && path.is_empty(),
-        None => false,
-    }
+    is_text(path_at(row), path) && is_number(number_at(row, 2), 0)
 }
 
-// The repository of the root, whose row has these bytes.
-fn repository_of(alloc: Global, bytes: &[u8], row: &Row) -> Result<u64, Refusal>
-    ensures { Finds (λ id. id) result (at (path_at bytes.now) (given NoRepository row.now.repos_id)) }
-{
-    match row.repos_id {
-        Some(id) => Ok(id),
-        None => Err(refusal_at(alloc, bytes, Reason::NoRepository)),
-    }
-}
-
-/// The repository of the root. NoRoot; BadColumn and NoRepository, with the path of the row.
-pub(crate) fn repos_in(alloc: Global, rows: &[TableRow]) -> Result<u64, Refusal>
-    ensures { Finds (λ id. id) result (repos_in rows.now) }
+// The first row of the base tree at a path.
+fn base_row<'a>(path: &[u8], rows: &'a [TableRow]) -> Option<&'a [u8]>
+    ensures { option_copied result ≡ base_row path.now rows.now }
 {
     let mut rest = rows;
     'rows: while let Some((first, after)) = rest.split_first() {
         let bytes = first.bytes.as_slice();
-        let row = read_row(alloc, bytes)?;
-        if is_root(&row) {
-            return repository_of(alloc, bytes, &row);
+        if is_base_at(path, bytes) {
+            return Some(bytes);
         }
         rest = after;
     }
-    Err(Refusal::from(Reason::NoRoot))
+    None
+}
+
+fn repos_of(row: &[u8]) -> Result<u64, Reason>
+    ensures { Answers (λ id. id) result (repos_of row.now) }
+{
+    match Columns::read(row).number(TableName::Nodes, 4)? {
+        Some(id) => Ok(id),
+        None => Err(Reason::NoRepository),
+    }
+}
+
+/// The repository of the copy's root, of which a folder is too. NoRoot; BadColumn and NoRepository, with the path of the root if that is looked at.
+#[tactic(auto, unfolding(crate::specs::Bases::repos_in))]
+pub(crate) fn repos_in(alloc: Global, folder: &[u8], rows: &[TableRow]) -> Result<u64, Refusal>
+    ensures { Finds (λ id. id) result (repos_in folder.now rows.now) }
+{
+    let Some(root) = base_row(&[], rows) else {
+        return Err(Refusal::from(Reason::NoRoot));
+    };
+    match repos_of(root) {
+        Ok(id) => Ok(id),
+        Err(reason) => Err(refusal_at(alloc, place_in(folder, Some(&[])), reason)),
+    }
 }
 
 fn text_given(alloc: Global, row: &Columns, column: u32) -> Result<Text, WcdbFault>

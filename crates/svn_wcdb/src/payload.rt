@@ -2,11 +2,11 @@
 ghost use Rattle.std.specs.Prelude.{◌≡◌, ◌+◌, ◌<◌, true, IfOk};
 ghost use Rattle.sqlite_format.specs.Cell.{IsBody};
 ghost use Rattle.svn_wcdb.specs.Reading.{Gives, Answers};
-ghost use Rattle.svn_wcdb.specs.Images.{page_in};
+ghost use Rattle.svn_wcdb.specs.Images.{page_in, seen_file};
 ghost use Rattle.svn_wcdb.specs.Tables.{take_page, link_after, chain_end, chain_after, payload_of};
 
 use crate::fault::{Reason, WcdbFault};
-use crate::image::Image;
+use crate::pages::Image;
 use sqlite_format::bytes::get_u32;
 use sqlite_format::{Tree, cell};
 use std::alloc::Global;
@@ -31,7 +31,7 @@ fn push_link(
     left: u64,
     out: &mut Vec<u8>,
 ) -> Result<(u32, u64), WcdbFault>
-    ensures { Gives (λ next. (next.0, next.1, out.new.items)) result (link_after (page_in image.now.size image.now.bytes.now) image.now.size number left out.old.items) }
+    ensures { Gives (λ next. (next.0, next.1, out.new.items)) result (link_after (page_in (seen_file image.now)) image.now.usable number left out.old.items) }
 {
     let Some(page) = image.page(number) else {
         return Err(WcdbFault::Refused(Reason::BadOverflow(number)));
@@ -61,7 +61,7 @@ fn push_chain(
     spare: &mut usize,
     out: &mut Vec<u8>,
 ) -> Result<(), WcdbFault>
-    ensures { Gives (λ _. (out.new.items, spare.new)) result (chain_after (page_in image.now.size image.now.bytes.now) image.now.size spare.old first len out.old.items) }
+    ensures { Gives (λ _. (out.new.items, spare.new)) result (chain_after (page_in (seen_file image.now)) image.now.usable spare.old first len out.old.items) }
 {
     let mut number = first;
     let mut left = len;
@@ -82,10 +82,10 @@ pub(crate) fn read_payload(
     row: &[u8],
     spare: &mut usize,
 ) -> Result<Vec<u8>, WcdbFault>
-    requires { IsBody Tree.Table true image.now.size row.now }
-    ensures { Gives (λ bytes. (bytes.items, spare.new)) result (payload_of (page_in image.now.size image.now.bytes.now) image.now.size row.now spare.old) }
+    requires { IsBody Tree.Table true image.now.usable row.now }
+    ensures { Gives (λ bytes. (bytes.items, spare.new)) result (payload_of (page_in (seen_file image.now)) image.now.usable row.now spare.old) }
 {
-    let Some(payload) = cell::payload_of(Tree::Table, image.size, row) else {
+    let Some(payload) = cell::payload_of(Tree::Table, image.usable, row) else {
         unreachable!()
     };
     let mut out = Vec::from_slice(alloc, payload.local)?;

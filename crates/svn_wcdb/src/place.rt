@@ -1,45 +1,42 @@
-//! At which path a row of NODES is refused.
-ghost use Rattle.std.specs.Prelude.{◌≡◌, Err, IfOk};
-ghost use Rattle.svn_wcdb.specs.Bases.{path_at};
-ghost use Rattle.svn_wcdb.specs.Nodes.{seen, row_of};
-ghost use Rattle.svn_wcdb.specs.Reading.{Place, IsAt, Finds, at};
+//! Whether a row is in the folder that is looked at, and where it is refused.
+ghost use Rattle.std.specs.Prelude.{◌≡◌, IfOk};
+ghost use Rattle.std.specs.Option.{option_copied};
+ghost use Rattle.svn_wcdb.specs.Columns.{path_at};
+ghost use Rattle.svn_wcdb.specs.Paths.{place_in, is_in};
+ghost use Rattle.svn_wcdb.specs.Reading.{Place, IsAt};
 
-use crate::columns::Columns;
-use crate::fault::{Reason, TableName, WcdbFault};
+use crate::columns::path_at;
+use crate::fault::{Reason, WcdbFault};
+use crate::paths::place_in;
 use crate::refusal::Refusal;
-use crate::row::Row;
 use std::alloc::{AllocError, Global};
 use svn_types::Text;
 
-// The path in a row, if it has a text there.
-fn path_at(alloc: Global, row: &[u8]) -> Result<Option<Text>, AllocError>
-    ensures { IfOk result (λ path. path ≡ path_at row.now) }
+/// Whether a row is looked at: it is at the folder or below, and at the root each is.
+pub(crate) fn is_in(folder: &[u8], row: &[u8]) -> bool
+    ensures { result ≡ is_in folder.now (path_at row.now) }
 {
-    match Columns::read(row).text(TableName::Nodes, 1) {
-        Ok(Some(path)) => Ok(Some(Text::from_slice(alloc, path)?)),
-        Ok(None) | Err(_) => Ok(None),
+    folder.is_empty() || place_in(folder, path_at(row)).is_some()
+}
+
+fn owned_place(alloc: Global, place: Option<&[u8]>) -> Result<Option<Text>, AllocError>
+    ensures { IfOk result (λ path. path ≡ option_copied place.entry) }
+{
+    match place {
+        Some(path) => Ok(Some(Text::from_slice(alloc, path)?)),
+        None => Ok(None),
     }
 }
 
-/// The refusal of a row, with its path. Memory, if the path can't be allocated.
-pub(crate) fn refusal_at(alloc: Global, row: &[u8], reason: Reason) -> Refusal
-    ensures { IsAt result (record { reason = reason; path = path_at row.now }) }
+/// The refusal at a path from the folder on, or at none. Memory, if the path can't be allocated.
+pub(crate) fn refusal_at(alloc: Global, place: Option<&[u8]>, reason: Reason) -> Refusal
+    ensures { IsAt result (record { reason = reason; path = option_copied place.entry }) }
 {
-    match path_at(alloc, row) {
+    match owned_place(alloc, place) {
         Ok(path) => Refusal {
             fault: WcdbFault::Refused(reason),
             path,
         },
         Err(error) => Refusal::from(error),
-    }
-}
-
-/// Reads a record of NODES. BadColumn, with the row's path.
-pub(crate) fn read_row(alloc: Global, bytes: &[u8]) -> Result<Row<'_>, Refusal>
-    ensures { Finds seen result (at (path_at bytes.now) (row_of bytes.now)) }
-{
-    match Row::read(bytes) {
-        Ok(row) => Ok(row),
-        Err(reason) => Err(refusal_at(alloc, bytes, reason)),
     }
 }

@@ -14,6 +14,8 @@ pub(crate) struct Row<'a> {
     pub(crate) path: Option<&'a [u8]>,
     /// 0 for the base tree; else a local change, as deep as the path where it was made.
     pub(crate) op_depth: Option<u64>,
+    /// The path above it, NULL of the root.
+    pub(crate) parent: Option<&'a [u8]>,
     /// Its repository.
     pub(crate) repos_id: Option<u64>,
     /// Its path in the repository.
@@ -45,12 +47,13 @@ impl<'a> Row<'a> {
             wc_id: columns.number(TableName::Nodes, 0)?,
             path: columns.text(TableName::Nodes, 1)?,
             op_depth: columns.number(TableName::Nodes, 2)?,
+            parent: columns.text(TableName::Nodes, 3)?,
             repos_id: columns.number(TableName::Nodes, 4)?,
             repos_path: columns.text(TableName::Nodes, 5)?,
             revision: columns.number(TableName::Nodes, 6)?,
             presence: columns.text(TableName::Nodes, 7)?,
             kind: columns.text(TableName::Nodes, 10)?,
-            properties: columns.blob(TableName::Nodes, 11)?,
+            properties: columns.bytes(TableName::Nodes, 11)?,
             depth: columns.text(TableName::Nodes, 12)?,
             checksum: columns.text(TableName::Nodes, 13)?,
             is_external: columns.is_set(21),

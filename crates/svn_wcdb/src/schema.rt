@@ -1,12 +1,13 @@
 //! Where the tables of a database are, as its schema says, the table at page 1.
 ghost use Rattle.std.specs.Prelude.{◌≡◌};
 ghost use Rattle.sqlite_value.specs.Value.{owned};
+ghost use Rattle.svn_wcdb.specs.Images.{seen_file};
 ghost use Rattle.svn_wcdb.specs.Reading.{Gives};
 ghost use Rattle.svn_wcdb.specs.Schema.{name_of, is_text, page_number, root_in, root_of, table_of};
 
 use crate::columns::Columns;
 use crate::fault::{Reason, TableName, WcdbFault};
-use crate::image::Image;
+use crate::pages::Image;
 use crate::table::TableRow;
 use crate::tree::read_table;
 use sqlite_value::value::ValueRef;
@@ -22,6 +23,7 @@ fn name_of(table: TableName) -> &'static [u8]
         TableName::Pristine => b"PRISTINE",
         TableName::ActualNode => b"ACTUAL_NODE",
         TableName::WcLock => b"WC_LOCK",
+        TableName::Lock => b"LOCK",
         TableName::WorkQueue => b"WORK_QUEUE",
     }
 }
@@ -79,7 +81,7 @@ pub(crate) fn rows_of(
     schema: &[TableRow],
     table: TableName,
 ) -> Result<Vec<TableRow>, WcdbFault>
-    ensures { Gives (λ rows. rows.items) result (table_of image.now.size image.now.bytes.now schema.now table) }
+    ensures { Gives (λ rows. rows.items) result (table_of (seen_file image.now) schema.now table) }
 {
     match root_of(name_of(table), schema) {
         Some(root) => read_table(alloc, image, root),

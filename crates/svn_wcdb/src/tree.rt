@@ -3,13 +3,13 @@ ghost use Rattle.std.specs.Prelude.{◌≡◌, ◌<◌, ◌≤◌, ◌+◌, leng
 ghost use Rattle.sqlite_format.specs.Cell.{IsBody};
 ghost use Rattle.sqlite_format.specs.Node.{IsSound, node_body};
 ghost use Rattle.svn_wcdb.specs.Reading.{Gives, each};
-ghost use Rattle.svn_wcdb.specs.Images.{page_in};
+ghost use Rattle.svn_wcdb.specs.Images.{page_in, seen_file};
 ghost use Rattle.svn_wcdb.specs.Pages.{kind_of, header_of, table_page, bodies_of, children_of};
 ghost use Rattle.svn_wcdb.specs.Tables.{seen_rows, rowid_of, row_after, tree_after, table_rows};
 ghost use Rattle.svn_wcdb.specs.Trees.{IsNodeOf};
 
 use crate::fault::{Reason, WcdbFault};
-use crate::image::Image;
+use crate::pages::Image;
 use crate::payload::{read_payload, take_page};
 use crate::table::{Table, TableRow};
 use sqlite_format::cell::{self, toggle_sign};
@@ -40,8 +40,8 @@ fn is_table(node: &Node) -> bool
 
 // A page of a table, if it is one that is well formed.
 fn node_at<'a>(alloc: Global, image: &Image<'a>, number: u32) -> Result<Node<'a>, WcdbFault>
-    ensures page { Gives (λ node. record { leaf = node.kind.leaf; bytes = node.bytes.now }) result (table_page (page_in image.now.size image.now.bytes.now) number) }
-    ensures node { IfOk result (IsNodeOf image.now.size number) }
+    ensures page { Gives (λ node. record { leaf = node.kind.leaf; bytes = node.bytes.now }) result (table_page (page_in (seen_file image.now)) number) }
+    ensures node { IfOk result (IsNodeOf image.now.usable number) }
 {
     let Some(bytes) = image.page(number) else {
         return Err(WcdbFault::Refused(Reason::BadPage(number)));
@@ -71,15 +71,15 @@ fn rowid_of(row: &[u8], size: usize) -> u64
 
 // Appends a row.
 fn push_row(alloc: Global, image: &Image, row: &[u8], table: &mut Table) -> Result<(), WcdbFault>
-    requires { IsBody Tree.Table true image.now.size row.now }
-    ensures { Gives (λ _. seen_rows table.new) result (row_after (page_in image.now.size image.now.bytes.now) image.now.size row.now (seen_rows table.old)) }
+    requires { IsBody Tree.Table true image.now.usable row.now }
+    ensures { Gives (λ _. seen_rows table.new) result (row_after (page_in (seen_file image.now)) image.now.usable row.now (seen_rows table.old)) }
 {
     let bytes = read_payload(alloc, image, row, &mut table.spare)?;
     if !is_record(&bytes) {
         return Err(WcdbFault::Refused(Reason::BadRecord));
     }
     table.rows.push(TableRow {
-        rowid: rowid_of(row, image.size),
+        rowid: rowid_of(row, image.usable),
         bytes: Text::new(bytes),
     })?;
     Ok(())
@@ -105,9 +105,9 @@ fn push_leaf(
     node: &Node,
     table: &mut Table,
 ) -> Result<(), WcdbFault>
-    requires node { IsNodeOf image.now.size number node.now }
+    requires node { IsNodeOf image.now.usable number node.now }
     requires leaf { node.now.kind.leaf ≡ true }
-    ensures { Gives (λ _. seen_rows table.new) result (each (row_after (page_in image.now.size image.now.bytes.now) image.now.size) (bodies_of node.now.bytes.now number) (seen_rows table.old)) }
+    ensures { Gives (λ _. seen_rows table.new) result (each (row_after (page_in (seen_file image.now)) image.now.usable) (bodies_of node.now.bytes.now number) (seen_rows table.old)) }
 {
     for i in 0..node.count {
         push_row(alloc, image, body_at(node, i), table)?;
@@ -140,7 +140,7 @@ fn push_tree(
     levels: u32,
     table: &mut Table,
 ) -> Result<(), WcdbFault>
-    ensures { Gives (λ _. seen_rows table.new) result (tree_after (page_in image.now.size image.now.bytes.now) image.now.size levels number (seen_rows table.old)) }
+    ensures { Gives (λ _. seen_rows table.new) result (tree_after (page_in (seen_file image.now)) image.now.usable levels number (seen_rows table.old)) }
 {
     if levels == 0 {
         return Err(WcdbFault::Refused(Reason::TooDeep(number)));
@@ -163,7 +163,7 @@ pub(crate) fn read_table(
     image: &Image,
     root: u32,
 ) -> Result<Vec<TableRow>, WcdbFault>
-    ensures { Gives (λ rows. rows.items) result (table_rows image.now.size image.now.bytes.now root) }
+    ensures { Gives (λ rows. rows.items) result (table_rows (seen_file image.now) root) }
 {
     let mut table = Table::new(alloc, image.pages());
     push_tree(alloc, image, root, MAX_LEVELS, &mut table)?;

@@ -1,7 +1,7 @@
 use Rattle.std.proofs.Common.{◌≡◌, ℕ, ◌+◌, ◌-◌, ◌<◌, ◌≤◌, Bool, Ok, Result, length, sym, ap, subst, ◌∙◌, arith}
 use Rattle.std.proofs.lemmas.Result.{err_from_is_err_and}
 use Rattle.svn_wcdb.specs.declared.fault.Reason.{Reason}
-use Rattle.svn_wcdb.specs.Images.{page_in}
+use Rattle.svn_wcdb.specs.Images.{page_in, seen_file}
 use Rattle.svn_wcdb.specs.Pages.{children_of}
 use Rattle.svn_wcdb.specs.Reading.{Gives, Fails}
 use Rattle.svn_wcdb.specs.Tables.{Rows, seen_rows, tree_after}
@@ -41,10 +41,10 @@ pub returns-in_err-push_tree : goal.returns-in_err-push_tree
 returns-in_err-push_tree t c =
     let p = err_from_is_err_and c.from_residual-in_err-push_tree.result c.from_residual-in_err-push_tree.ensures.1 in
     let node = c.in_ok-node.node in
-    let step = tree_after (page_in c.args.image.now.size c.args.image.now.bytes.now) c.args.image.now.size (c.args.levels - 1) in
+    let step = tree_after (page_in (seen_file c.args.image.now)) c.args.image.now.usable (c.args.levels - 1) in
     let children = children_of node.bytes.now c.args.number in
     let within : c.loop-i.i < length children =
-    omega (arith, length-children_of node.bytes.now c.args.number, count_of node c.args.image.now.size c.args.number c.in_ok-node.ensures.node, c.loop-i-test.true) in
+    omega (arith, length-children_of node.bytes.now c.args.number, count_of node c.args.image.now.usable c.args.number c.in_ok-node.ensures.node, c.loop-i-test.true) in
     rw (p.1, p.2)
     (each_fault step children c.loop-i.i 0 (seen_rows c.loop-i.table) c.in_err-push_tree.field-0.0 _ within
     (subst (λ (n : ℕ). Fails c.in_err-push_tree.field-0.0 (step n (seen_rows c.loop-i.table))) c.child_at.ensures c.in_err-push_tree.ensures) c.loop-i.invariant)
@@ -52,10 +52,10 @@ returns-in_err-push_tree t c =
 pub loop-i-preserved : goal.loop-i-preserved
 loop-i-preserved t c =
     let node = c.in_ok-node.node in
-    let step = tree_after (page_in c.args.image.now.size c.args.image.now.bytes.now) c.args.image.now.size (c.args.levels - 1) in
+    let step = tree_after (page_in (seen_file c.args.image.now)) c.args.image.now.usable (c.args.levels - 1) in
     let children = children_of node.bytes.now c.args.number in
     let within : c.loop-i.i < length children =
-    omega (arith, length-children_of node.bytes.now c.args.number, count_of node c.args.image.now.size c.args.number c.in_ok-node.ensures.node, c.loop-i-test.true) in
+    omega (arith, length-children_of node.bytes.now c.args.number, count_of node c.args.image.now.usable c.args.number c.in_ok-node.ensures.node, c.loop-i-test.true) in
     each_step step children c.loop-i.i 0 (seen_rows c.loop-i.table) _ _ within
     (sym (ap (λ (n : ℕ). step n (seen_rows c.loop-i.table)) c.child_at.ensures) ∙ c.in_ok-push_tree.ensures) c.loop-i.invariant
 
@@ -64,6 +64,6 @@ returns t c =
     let node = c.in_ok-node.node in
     let children = children_of node.bytes.now c.args.number in
     let all_done : length children ≤ c.loop-i.i =
-    omega (arith, length-children_of node.bytes.now c.args.number, count_of node c.args.image.now.size c.args.number c.in_ok-node.ensures.node, c.loop-i-test.false) in
-    each_end (tree_after (page_in c.args.image.now.size c.args.image.now.bytes.now) c.args.image.now.size (c.args.levels - 1)) children c.loop-i.i (seen_rows c.loop-i.table) _
+    omega (arith, length-children_of node.bytes.now c.args.number, count_of node c.args.image.now.usable c.args.number c.in_ok-node.ensures.node, c.loop-i-test.false) in
+    each_end (tree_after (page_in (seen_file c.args.image.now)) c.args.image.now.usable (c.args.levels - 1)) children c.loop-i.i (seen_rows c.loop-i.table) _
     all_done c.loop-i.invariant
