@@ -26,3 +26,11 @@ pub mod NodeReads
 pub mod DumpReads
 -- worked examples, computed
 pub mod Rows
+-- what a choice or a result was
+pub mod Choices
+-- headers that are found are lines of the format
+pub mod GrammarBlocks
+-- lines that are headers, and their values by name
+pub mod GrammarHeaders
+-- property sections that are read are by the format
+pub mod GrammarProps

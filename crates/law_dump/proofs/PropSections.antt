@@ -1,5 +1,5 @@
 -- Property sections, read as they were written.
-use Rattle.std.proofs.Common.{Less, ◌≡◌, ℕ, zero, suc, ◌+◌, ◌^◌, ◌<◌, ◌≤◌, Bool, true, false, cond, ◌&&◌, List, [], ◌∷◌, ◌++◌, length, take, drop, map, Option, Some, None, Ok, All, refl, sym, ap, ap₂, subst, ◌∙◌, arith, append_assoc, append-nil, nat_eq, codes, decimal, option_and_then, length-append}
+use Rattle.std.proofs.Common.{Less, ◌≡◌, ℕ, zero, suc, ◌+◌, ◌^◌, ◌<◌, ◌≤◌, Bool, true, false, cond, ◌&&◌, List, [], ◌∷◌, ◌++◌, length, map, Option, Some, None, Ok, All, refl, sym, ap, subst, ◌∙◌, arith, append_assoc, append-nil, nat_eq, codes, decimal, length-append}
 use Rattle.std.specs.List.{flat_map, AllByRecursion}
 use Rattle.std.specs.BTreeMap.{insert_entry}
 use Rattle.std.specs.Map.{keys_of}
@@ -22,7 +22,7 @@ use Rattle.svn_dump.specs.Blocks.{bytes_at}
 use Rattle.svn_dump.specs.Sections.{prop_section_of, sized_props_at}
 use Rattle.svn_dump.specs.Written.{run, entry, entries, prop_bytes}
 use Rattle.law_dump.specs.Laws.{IsPropSection}
-use Rattle.law_dump.proofs.Lacking.{lacks, place_after}
+use Rattle.law_dump.proofs.Lacking.{lacks, parts_at}
 use Rattle.law_dump.proofs.Decimals.{spelled, number_of_decimal}
 
 -- ---- so many bytes
@@ -56,12 +56,9 @@ run_line : (wanted letter : ℕ) (bytes rest : List ℕ) → nat_eq letter 10 �
 run_line wanted letter bytes rest other small =
     let head = run_head letter bytes in
     let after = bytes ++ 10 ∷ rest in
-    let all = head ++ 10 ∷ after in
     let plain : lacks 10 head ≡ true = rw other (spelled (length bytes) small).no_line_feed in
     ap (run_at wanted) (run_parts letter bytes rest)
-    ∙ ap (λ o. option_and_then (λ i. cut_line (drop (i + 1) all) (length_of wanted (take i all))) o) (place_after 10 head after plain)
-    ∙ ap₂ (λ (below front : List ℕ). cut_line below (length_of wanted front)) (drop-append-add head (10 ∷ after) 1)
-    (take-append_seam head (10 ∷ after))
+    ∙ parts_at 10 (λ line below. cut_line below (length_of wanted line)) head after plain
     ∙ ap (λ n. cut_line after (cond (nat_eq letter wanted && true) n None)) (number_of_decimal (length bytes) small)
 
 cut_at_line : (bytes rest : List ℕ) → cut_line (bytes ++ 10 ∷ rest) (Some (length bytes)) ≡ Some (bytes, rest)

@@ -2,7 +2,7 @@
 --     IsNodeRecord node      what each node's record has that the types hold
 --     IsWritable limits texts node      the same, and its lengths are within the limits
 --     IsReadAs limits texts bytes records      reading record after record gives these, and then the end
-use Rattle.std.specs.Prelude.{◌≡◌, ℕ, ◌+◌, ◌^◌, ◌<◌, ◌≤◌, List, [], ◌∷◌, ◌++◌, length, codes, replicate, map, Option, Some, None, Ok, All, IsUtf8, IfSome, MatchOption, unwrap_or, option_map}
+use Rattle.std.specs.Prelude.{◌≡◌, ℕ, ◌+◌, ◌^◌, ◌<◌, ◌≤◌, List, [], ◌∷◌, ◌++◌, length, codes, replicate, map, Option, Some, None, Ok, All, IsUtf8, IfSome, MatchOption, unwrap_or, option_map, Bool, true, false}
 use Rattle.std.specs.List.{flat_map}
 use Rattle.std.specs.Map.{keys_of}
 use Rattle.hex.specs.Hex.{IsBytes}
@@ -21,8 +21,12 @@ use Rattle.svn_dump.specs.declared.record.TextSection.TheVariants as text
 use Rattle.svn_dump.specs.declared.sections.Limits.{Limits}
 use Rattle.svn_dump.specs.declared.sections.Texts.{Texts}
 use Rattle.svn_dump.specs.declared.sections.Texts.TheVariants.{Whole, Sha1}
+use Rattle.svn_dump.specs.Blocks.{block_at}
+use Rattle.svn_dump.specs.Headers.{are_headers}
+use Rattle.svn_dump.specs.Sections.{prop_section_of}
 use Rattle.svn_dump.specs.Records.{record_at, format_at}
 use Rattle.svn_digits.specs.StandIns.{stand_in, stand_in_of}
+use Rattle.law_dump.specs.Grammar.{Header, IsBlock, IsPropsOf, header_lines}
 use Rattle.svn_dump.specs.Written.{text_bytes, prop_section, text_section, headers_of, written, revision_record, format_record}
 
 -- ---- which records the laws are about
@@ -172,3 +176,16 @@ dumps_are_read_back =
     → All (IsWritableRecord limits texts) records
     → (let bytes = flat_map written_record records in
     (format_at limits (format_record format ++ bytes) ≡ Ok (format, bytes)) × IsReadAs limits texts bytes (kept_records texts records))
+
+-- ---- what is read is by the format
+
+-- the headers that are found
+abbrev pub headers_are_by_the_format : Type 0
+headers_are_by_the_format =
+    (room : ℕ) (bytes : List ℕ) (b : ℕ) (block rest : List ℕ) → block_at false room bytes ≡ Ok (b ∷ block, rest) → are_headers (b ∷ block) ≡ true
+    → (headers : List Header) × (b ∷ block ≡ header_lines headers) × IsBlock bytes headers rest
+
+-- the properties that are read
+abbrev pub props_are_by_the_format : Type 0
+props_are_by_the_format =
+    (changes : Bool) (bytes : List ℕ) (section : PropSection) → prop_section_of changes bytes ≡ Ok section → IsPropsOf changes bytes section

@@ -14,7 +14,7 @@
 
 mod lawful;
 
-ghost use Rattle.law_dump.specs.Laws.{dumps_are_read_back, nodes_are_read_back, revisions_are_read_back, whole_nodes_are_read_back};
+ghost use Rattle.law_dump.specs.Laws.{dumps_are_read_back, headers_are_by_the_format, nodes_are_read_back, props_are_by_the_format, revisions_are_read_back, whole_nodes_are_read_back};
 
 pub use lawful::node_is_lawful;
 
@@ -36,4 +36,14 @@ pub fn revisions_are_read_back()
 /// A dump that was written is read as the records that were written, in their order, and then its end.
 pub fn dumps_are_read_back()
     ensures { dumps_are_read_back }
+{}
+
+/// The headers that are found are by the format.
+pub fn headers_are_by_the_format()
+    ensures { headers_are_by_the_format }
+{}
+
+/// The properties that are read are by the format.
+pub fn props_are_by_the_format()
+    ensures { props_are_by_the_format }
 {}

@@ -1,0 +1,232 @@
+-- Property sections that are read are by the format.
+use Rattle.std.proofs.Common.{◌≡◌, inl, inr, ℕ, zero, suc, ◌+◌, Bool, true, false, cond, ◌&&◌, List, [], ◌∷◌, ◌++◌, length, take, drop, Option, Some, None, Result, Ok, Err, refl, sym, ap, ap₂, subst, ◌∙◌, append_assoc, nat_eq, nat_lt, get_or, codes, IsSome, true≢false}
+use Rattle.std.specs.List.{AllByRecursion}
+use Rattle.std.specs.Prelude.{slice_index}
+use Rattle.std.proofs.Math.Seq.{take-append_seam, drop-append-add, get_or-append_seam}
+use Rattle.std.proofs.lemmas.Bool.{eqb-true, ltb-true, ltb-false, and_parts}
+use Rattle.std.proofs.lemmas.Option.{none-some, same_Some}
+use Rattle.svn_lists.proofs.Equality.{same_bytes}
+use Rattle.svn_lists.proofs.Options.{some-none}
+use Rattle.svn_lists.proofs.Parts.{cut_at}
+use Rattle.svn_types.specs.declared.fault.PathFault.{PathFault}
+use Rattle.svn_types.specs.declared.fault.PathFault.TheVariants.{EmptyComponent, NameTooLong, BadCharacter}
+use Rattle.svn_types.specs.Names.{IsPropName, name_limit, is_prop_text}
+use Rattle.svn_types.specs.NameFaults.{prop_name_fault}
+use Rattle.svn_types.specs.Props.{PropChange, with_changes}
+use Rattle.svn_digits.specs.Numbers.{number_of}
+use Rattle.svn_dump.specs.declared.fault.Reason.{Reason}
+use Rattle.svn_dump.specs.declared.fault.Reason.TheVariants.{NotProperties}
+use Rattle.svn_dump.specs.declared.record.PropSection.{PropSection}
+use Rattle.svn_dump.specs.declared.record.PropSection.TheVariants as props
+use Rattle.svn_dump.specs.Reading.{◌>>=◌}
+use Rattle.svn_dump.specs.Properties.{length_of, cut_line, run_at, named, set_at, change_at, is_end, changes_at, changes_of, props_of}
+use Rattle.svn_dump.specs.Sections.{prop_section_of}
+use Rattle.law_dump.specs.Grammar.{IsNumber, IsRun, IsChange, IsChanges, IsPropsOf}
+use Rattle.law_dump.proofs.Lacking.{cut, parts_at, no_parts}
+use Rattle.law_dump.proofs.Choices.{chosen, bound_ok, ok_same, read_same}
+
+-- ---- runs
+
+-- so many bytes and a line feed
+line_cut : (bytes : List ℕ) (n : ℕ) (content rest : List ℕ) → cut_line bytes (Some n) ≡ Some (content, rest)
+    → (bytes ≡ content ++ 10 ∷ rest) × (length content ≡ n)
+line_cut bytes n content rest h = by (nat_lt n (length bytes) && nat_eq (slice_index bytes n) 10) refl h
+  where
+    by : (b : Bool) → (nat_lt n (length bytes) && nat_eq (slice_index bytes n) 10) ≡ b
+        → cond {A = Option (List ℕ × List ℕ)} b (Some (take n bytes, drop (n + 1) bytes)) None ≡ Some (content, rest) → (bytes ≡ content ++ 10 ∷ rest) × (length content ≡ n)
+    by false e k = absurd (none-some (content, rest) k)
+    by true e k =
+        let tests = and_parts (nat_lt n (length bytes)) (nat_eq (slice_index bytes n) 10) e in
+        let c = cut_at n bytes (ltb-true n (length bytes) tests.0) in
+        let front = c.0 in
+        let parts : bytes ≡ front ++ c.1 ∷ c.2 = c.3 in
+        let long : length front ≡ n = c.4 in
+        let same = same_Some (take n bytes, drop (n + 1) bytes) (content, rest) k in
+        let front_is : take n bytes ≡ front =
+        ap₂ (λ (m : ℕ) (l : List ℕ). take m l) (sym long) parts ∙ take-append_seam front (c.1 ∷ c.2) in
+        let back_is : drop (n + 1) bytes ≡ c.2 =
+        ap₂ (λ (m : ℕ) (l : List ℕ). drop (m + 1) l) (sym long) parts ∙ drop-append-add front (c.1 ∷ c.2) 1 in
+        let feed : c.1 ≡ 10 =
+        sym (ap₂ (λ (m : ℕ) (l : List ℕ). get_or l m 0) (sym long) parts ∙ get_or-append_seam front c.1 c.2 0)
+        ∙ eqb-true (slice_index bytes n) 10 tests.1 in
+        let content_is : content ≡ front = sym (ap (λ (p : List ℕ × List ℕ). p.0) same) ∙ front_is in
+        let rest_is : rest ≡ c.2 = sym (ap (λ (p : List ℕ × List ℕ). p.1) same) ∙ back_is in (
+          parts ∙ ap (λ (x : ℕ). front ++ x ∷ c.2) feed ∙ ap₂ (λ (x y : List ℕ). x ++ 10 ∷ y) (sym content_is) (sym rest_is),
+          ap length content_is ∙ long,
+        )
+
+record Numbered (letter : ℕ) (l : List ℕ) (n : ℕ) : Type 0 where
+  digits : List ℕ
+  parts : l ≡ letter ∷ 32 ∷ digits
+  number : IsNumber digits n
+
+numbered : (letter : ℕ) (l : List ℕ) (n : ℕ) → length_of letter l ≡ Some n → Numbered letter l n
+numbered letter [] n h = absurd (none-some n h)
+numbered letter (b ∷ []) n h = absurd (none-some n h)
+numbered letter (b ∷ c ∷ digits) n h = by (nat_eq b letter && nat_eq c 32) refl h
+  where
+    by : (same : Bool) → (nat_eq b letter && nat_eq c 32) ≡ same → cond same (number_of digits) None ≡ Some n
+        → Numbered letter (b ∷ c ∷ digits) n
+    by false e k = absurd (none-some n k)
+    by true e k =
+        let tests = and_parts (nat_eq b letter) (nat_eq c 32) e in
+        record {
+          digits = digits;
+          parts = ap₂ (λ (x y : ℕ). x ∷ y ∷ digits) (eqb-true b letter tests.0) (eqb-true c 32 tests.1);
+          number = k;
+        }
+
+record RunIn (letter : ℕ) (bytes content rest : List ℕ) : Type 0 where
+  front : List ℕ
+  parts : bytes ≡ front ++ rest
+  is : IsRun letter front content
+
+run_in : (letter : ℕ) (bytes content rest : List ℕ) → run_at letter bytes ≡ Some (content, rest) → RunIn letter bytes content rest
+run_in letter bytes content rest h = elim (cut 10 bytes) [
+  | inl none ↦ absurd (none-some (content, rest) (sym (no_parts 10 (λ line below. cut_line below (length_of letter line)) bytes none) ∙ h))
+  | inr c ↦
+      with_length c.front c.back c.parts (length_of letter c.front) refl
+      (sym (ap (run_at letter) c.parts ∙ parts_at 10 (λ line below. cut_line below (length_of letter line)) c.front c.back c.plain) ∙ h)
+]
+  where
+    with_length : (front back : List ℕ) → bytes ≡ front ++ 10 ∷ back → (o : Option ℕ) → length_of letter front ≡ o
+        → cut_line back o ≡ Some (content, rest) → RunIn letter bytes content rest
+    with_length front back parts None e k = absurd (none-some (content, rest) k)
+    with_length front back parts (Some n) e k =
+        let number = numbered letter front n e in
+        let below = line_cut back n content rest k in
+        let head = letter ∷ 32 ∷ number.digits in
+        record {
+          front = head ++ 10 ∷ (content ++ 10 ∷ []);
+          parts =
+              parts ∙ ap₂ (λ (x y : List ℕ). x ++ 10 ∷ y) number.parts (below.0 ∙ sym (append_assoc content (10 ∷ []) rest))
+              ∙ sym (append_assoc head (10 ∷ (content ++ 10 ∷ [])) rest);
+          is = (number.digits, refl, subst (IsNumber number.digits) (sym below.1) number.number);
+        }
+
+-- ---- names
+
+no_fault : {A : Type 0} (b : Bool) (x : A) (o : Option A) → cond b (Some x) o ≡ None → (b ≡ false) × (o ≡ None)
+no_fault true x o h = absurd (some-none x h)
+no_fault false x o h = (refl, h)
+
+lawful_name : (name : List ℕ) → prop_name_fault name ≡ None → IsPropName name
+lawful_name name h =
+    let long = nat_lt name_limit (length name) in
+    let text = is_prop_text name in
+    let some = no_fault (nat_eq (length name) 0) EmptyComponent (cond long (Some NameTooLong) (cond text None (Some BadCharacter))) h in
+    let short = no_fault long NameTooLong (cond text None (Some BadCharacter)) some.1 in
+    record { bounded = ltb-false name_limit (length name) short.0; text = plain text short.1 }
+  where
+    plain : (b : Bool) → cond b None (Some BadCharacter) ≡ None → b ≡ true
+    plain true k = refl
+    plain false k = absurd (some-none BadCharacter k)
+
+named_ok : (fault : Option PathFault) (name n : List ℕ) → named fault name ≡ Ok n → (fault ≡ None) × (name ≡ n)
+named_ok None name n h = (refl, ok_same name n h)
+named_ok (Some e) name n h = cc
+
+-- ---- one change
+
+record ChangeIn (removes : Bool) (bytes : List ℕ) (c : PropChange) (rest : List ℕ) : Type 0 where
+  front : List ℕ
+  parts : bytes ≡ front ++ rest
+  is : IsChange front c.0 c.1
+  sets : removes ≡ false → IsSome c.1
+
+err_ok : {A : Type 0} (e : Reason) (y : A) → ◌≡◌ {A = Result A Reason} (Err e) (Ok y) → ⊥
+err_ok e y h = cc
+
+set_in : (removes : Bool) (bytes : List ℕ) (c : PropChange) (rest : List ℕ) → set_at (run_at 75 bytes) ≡ Ok (c, rest) → ChangeIn removes bytes c rest
+set_in removes bytes c rest h = with_name (run_at 75 bytes) refl h
+  where
+    with_value : (name below : List ℕ) → run_at 75 bytes ≡ Some (name, below) → (value : Option (List ℕ × List ℕ)) → run_at 86 below ≡ value
+        → set_at (Some (name, below)) ≡ Ok (c, rest) → ChangeIn removes bytes c rest
+    with_value name below e None f h =
+        let fault : set_at (Some (name, below)) ≡ Err NotProperties = rw f refl in
+        absurd (err_ok NotProperties (c, rest) (sym fault ∙ h))
+    with_value name below e (Some value) f h =
+        let goes_on : set_at (Some (name, below)) ≡ (named (prop_name_fault name) name >>= λ n. Ok ((n, Some value.0), value.1)) = rw f refl in
+        let ok = bound_ok (named (prop_name_fault name) name) (λ n. Ok ((n, Some value.0), value.1)) (c, rest) (sym goes_on ∙ h) in
+        let lawful = named_ok (prop_name_fault name) name ok.0 ok.1 in
+        let same = read_same ((ok.0, Some value.0), value.1) (c, rest) ok.2 in
+        let change : (name, Some value.0) ≡ c = ap (λ (n : List ℕ). (n, Some value.0)) lawful.1 ∙ same.0 in
+        let key = run_in 75 bytes name below e in
+        let run = run_in 86 below value.0 value.1 f in
+        let is : IsChange (key.front ++ run.front) name (Some value.0) =
+        (lawful_name name lawful.0, key.front, run.front, refl, key.is, run.is) in
+        record {
+          front = key.front ++ run.front;
+          parts =
+              key.parts ∙ ap (λ (l : List ℕ). key.front ++ l) (run.parts ∙ ap (λ (l : List ℕ). run.front ++ l) same.1)
+              ∙ sym (append_assoc key.front run.front rest);
+          is = subst (λ (c : PropChange). IsChange (key.front ++ run.front) c.0 c.1) change is;
+          sets = λ _. subst (λ (c : PropChange). IsSome c.1) change refl;
+        }
+
+    with_name : (name : Option (List ℕ × List ℕ)) → run_at 75 bytes ≡ name → set_at name ≡ Ok (c, rest) → ChangeIn removes bytes c rest
+    with_name None e h = absurd (err_ok NotProperties (c, rest) h)
+    with_name (Some name) e h = with_value name.0 name.1 e (run_at 86 name.1) refl h
+
+change_in : (removes : Bool) (bytes : List ℕ) (c : PropChange) (rest : List ℕ) → change_at removes bytes ≡ Ok (c, rest) → ChangeIn removes bytes c rest
+change_in false bytes c rest h = set_in false bytes c rest h
+change_in true bytes c rest h = with_name (run_at 68 bytes) refl h
+  where
+    with_name : (name : Option (List ℕ × List ℕ)) → run_at 68 bytes ≡ name → change_at true bytes ≡ Ok (c, rest) → ChangeIn true bytes c rest
+    with_name None e h =
+        let sets : change_at true bytes ≡ set_at (run_at 75 bytes) = rw e refl in
+        set_in true bytes c rest (sym sets ∙ h)
+    with_name (Some name) e h =
+        let goes_on : change_at true bytes ≡ (named (prop_name_fault name.0) name.0 >>= λ n. Ok ((n, None), name.1)) = rw e refl in
+        let ok = bound_ok (named (prop_name_fault name.0) name.0) (λ n. Ok ((n, None), name.1)) (c, rest) (sym goes_on ∙ h) in
+        let lawful = named_ok (prop_name_fault name.0) name.0 ok.0 ok.1 in
+        let same = read_same ((ok.0, None), name.1) (c, rest) ok.2 in
+        let change : (name.0, None) ≡ c = ap (λ (n : List ℕ). (n, None)) lawful.1 ∙ same.0 in
+        let run = run_in 68 bytes name.0 name.1 e in
+        let is : IsChange run.front name.0 None = (lawful_name name.0 lawful.0, run.is) in
+        record {
+          front = run.front;
+          parts = run.parts ∙ ap (λ (l : List ℕ). run.front ++ l) same.1;
+          is = subst (λ (c : PropChange). IsChange run.front c.0 c.1) change is;
+          sets = λ false_is. absurd (true≢false false_is);
+        }
+
+-- ---- all changes
+
+record ChangesIn (removes : Bool) (bytes : List ℕ) (changes : List PropChange) : Type 0 where
+  are : IsChanges bytes changes
+  set : removes ≡ false → AllByRecursion (λ (c : PropChange). IsSome c.1) changes
+
+changes_in : (most : ℕ) (removes : Bool) (bytes : List ℕ) (changes : List PropChange) → changes_at removes most bytes ≡ Ok changes
+    → ChangesIn removes bytes changes
+unfolding changes_at
+changes_in zero removes bytes changes h = absurd (err_ok NotProperties changes h)
+changes_in (suc most) removes bytes changes h =
+    let more = change_at removes bytes >>= λ first. changes_at removes most first.1 >>= λ more. Ok (first.0 ∷ more) in
+    elim (chosen (is_end bytes) (Ok []) more (Ok changes) h) [
+      | inl end ↦
+          subst (ChangesIn removes bytes) (ok_same [] changes end.1)
+          (record { are = same_bytes bytes (codes "PROPS-END\n") end.0; set = λ _. tt })
+      | inr on ↦ (
+          let first =
+          bound_ok (change_at removes bytes) (λ first. changes_at removes most first.1 >>= λ more. Ok (first.0 ∷ more)) changes on.1 in
+          let after = bound_ok (changes_at removes most first.0.1) (λ more. Ok (first.0.0 ∷ more)) changes first.2 in
+          let one = change_in removes bytes first.0.0 first.0.1 first.1 in
+          let rest = changes_in most removes first.0.1 after.0 after.1 in
+          subst (ChangesIn removes bytes) (ok_same (first.0.0 ∷ after.0) changes after.2)
+          (record { are = (one.front, first.0.1, one.parts, one.is, rest.are); set = λ e. (one.sets e, rest.set e) })
+          )
+    ]
+
+-- ---- sections
+
+pub props_in : (flag : Bool) (bytes : List ℕ) (section : PropSection) → prop_section_of flag bytes ≡ Ok section → IsPropsOf flag bytes section
+props_in true bytes section h =
+    let all = bound_ok (changes_of bytes) (λ changes. Ok (props.Delta changes)) section h in
+    subst (IsPropsOf true bytes) (ok_same (props.Delta all.0) section all.2) (changes_in (length bytes) true bytes all.0 all.1).are
+props_in false bytes section h =
+    let all = bound_ok (props_of bytes) (λ all. Ok (props.Whole all)) section h in
+    let changes = bound_ok (changes_at false (length bytes) bytes) (λ changes. Ok (with_changes [] changes)) all.0 all.1 in
+    let found = changes_in (length bytes) false bytes changes.0 changes.1 in
+    subst (IsPropsOf false bytes) (ok_same (props.Whole all.0) section all.2)
+    (changes.0, found.are, found.set refl, sym (ok_same (with_changes [] changes.0) all.0 changes.2))
