@@ -37,3 +37,10 @@ front_ok front (Ok x) whole rest h =
     let same = read_same (front ++ x.0, x.1) (whole, rest) h in
     (x.0, ap (λ (l : List ℕ). Ok (x.0, l)) same.1, sym same.0)
 front_ok front (Err e) whole rest h = cc
+
+pub err_ok : {A : Type 0} (e : Reason) (y : A) → ◌≡◌ {A = Result A Reason} (Err e) (Ok y) → ⊥
+err_ok e y h = cc
+
+-- `ap`, where the equation tells what the function is on
+pub under : {A B : Type 0} {x y : A} → x ≡ y → (f : A → B) → f x ≡ f y
+under e f = ap f e

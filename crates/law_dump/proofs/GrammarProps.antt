@@ -1,12 +1,12 @@
 -- Property sections that are read are by the format.
-use Rattle.std.proofs.Common.{◌≡◌, inl, inr, ℕ, zero, suc, ◌+◌, Bool, true, false, cond, ◌&&◌, List, [], ◌∷◌, ◌++◌, length, take, drop, Option, Some, None, Result, Ok, Err, refl, sym, ap, ap₂, subst, ◌∙◌, append_assoc, nat_eq, nat_lt, get_or, codes, IsSome, true≢false}
+use Rattle.std.proofs.Common.{◌≡◌, inl, inr, ℕ, zero, suc, ◌+◌, Bool, true, false, cond, ◌&&◌, List, [], ◌∷◌, ◌++◌, length, take, drop, Option, Some, None, Ok, Err, refl, sym, ap, ap₂, subst, ◌∙◌, append_assoc, nat_eq, nat_lt, get_or, codes, IsSome, true≢false}
 use Rattle.std.specs.List.{AllByRecursion}
 use Rattle.std.specs.Prelude.{slice_index}
 use Rattle.std.proofs.Math.Seq.{take-append_seam, drop-append-add, get_or-append_seam}
 use Rattle.std.proofs.lemmas.Bool.{eqb-true, ltb-true, ltb-false, and_parts}
 use Rattle.std.proofs.lemmas.Option.{none-some, same_Some}
 use Rattle.svn_lists.proofs.Equality.{same_bytes}
-use Rattle.svn_lists.proofs.Options.{some-none}
+use Rattle.svn_lists.proofs.Options.{some-none, cond_none}
 use Rattle.svn_lists.proofs.Parts.{cut_at}
 use Rattle.svn_types.specs.declared.fault.PathFault.{PathFault}
 use Rattle.svn_types.specs.declared.fault.PathFault.TheVariants.{EmptyComponent, NameTooLong, BadCharacter}
@@ -14,7 +14,6 @@ use Rattle.svn_types.specs.Names.{IsPropName, name_limit, is_prop_text}
 use Rattle.svn_types.specs.NameFaults.{prop_name_fault}
 use Rattle.svn_types.specs.Props.{PropChange, with_changes}
 use Rattle.svn_digits.specs.Numbers.{number_of}
-use Rattle.svn_dump.specs.declared.fault.Reason.{Reason}
 use Rattle.svn_dump.specs.declared.fault.Reason.TheVariants.{NotProperties}
 use Rattle.svn_dump.specs.declared.record.PropSection.{PropSection}
 use Rattle.svn_dump.specs.declared.record.PropSection.TheVariants as props
@@ -23,7 +22,7 @@ use Rattle.svn_dump.specs.Properties.{length_of, cut_line, run_at, named, set_at
 use Rattle.svn_dump.specs.Sections.{prop_section_of}
 use Rattle.law_dump.specs.Grammar.{IsNumber, IsRun, IsChange, IsChanges, IsPropsOf}
 use Rattle.law_dump.proofs.Lacking.{cut, parts_at, no_parts}
-use Rattle.law_dump.proofs.Choices.{chosen, bound_ok, ok_same, read_same}
+use Rattle.law_dump.proofs.Choices.{chosen, bound_ok, err_ok, ok_same, read_same}
 
 -- ---- runs
 
@@ -106,16 +105,12 @@ run_in letter bytes content rest h = elim (cut 10 bytes) [
 
 -- ---- names
 
-no_fault : {A : Type 0} (b : Bool) (x : A) (o : Option A) → cond b (Some x) o ≡ None → (b ≡ false) × (o ≡ None)
-no_fault true x o h = absurd (some-none x h)
-no_fault false x o h = (refl, h)
-
 lawful_name : (name : List ℕ) → prop_name_fault name ≡ None → IsPropName name
 lawful_name name h =
     let long = nat_lt name_limit (length name) in
     let text = is_prop_text name in
-    let some = no_fault (nat_eq (length name) 0) EmptyComponent (cond long (Some NameTooLong) (cond text None (Some BadCharacter))) h in
-    let short = no_fault long NameTooLong (cond text None (Some BadCharacter)) some.1 in
+    let some = cond_none (nat_eq (length name) 0) EmptyComponent (cond long (Some NameTooLong) (cond text None (Some BadCharacter))) h in
+    let short = cond_none long NameTooLong (cond text None (Some BadCharacter)) some.1 in
     record { bounded = ltb-false name_limit (length name) short.0; text = plain text short.1 }
   where
     plain : (b : Bool) → cond b None (Some BadCharacter) ≡ None → b ≡ true
@@ -133,9 +128,6 @@ record ChangeIn (removes : Bool) (bytes : List ℕ) (c : PropChange) (rest : Lis
   parts : bytes ≡ front ++ rest
   is : IsChange front c.0 c.1
   sets : removes ≡ false → IsSome c.1
-
-err_ok : {A : Type 0} (e : Reason) (y : A) → ◌≡◌ {A = Result A Reason} (Err e) (Ok y) → ⊥
-err_ok e y h = cc
 
 set_in : (removes : Bool) (bytes : List ℕ) (c : PropChange) (rest : List ℕ) → set_at (run_at 75 bytes) ≡ Ok (c, rest) → ChangeIn removes bytes c rest
 set_in removes bytes c rest h = with_name (run_at 75 bytes) refl h

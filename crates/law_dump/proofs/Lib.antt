@@ -34,3 +34,9 @@ pub mod GrammarBlocks
 pub mod GrammarHeaders
 -- property sections that are read are by the format
 pub mod GrammarProps
+-- what the values of headers say
+pub mod GrammarValues
+-- the sections that are read
+pub mod GrammarSections
+-- the records that are read
+pub mod GrammarRecords

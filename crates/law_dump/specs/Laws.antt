@@ -26,7 +26,7 @@ use Rattle.svn_dump.specs.Headers.{are_headers}
 use Rattle.svn_dump.specs.Sections.{prop_section_of}
 use Rattle.svn_dump.specs.Records.{record_at, format_at}
 use Rattle.svn_digits.specs.StandIns.{stand_in, stand_in_of}
-use Rattle.law_dump.specs.Grammar.{Header, IsBlock, IsPropsOf, header_lines}
+use Rattle.law_dump.specs.Grammar.{Header, IsBlock, IsPropsOf, IsRecord, header_lines}
 use Rattle.svn_dump.specs.Written.{text_bytes, prop_section, text_section, headers_of, written, revision_record, format_record}
 
 -- ---- which records the laws are about
@@ -189,3 +189,9 @@ headers_are_by_the_format =
 abbrev pub props_are_by_the_format : Type 0
 props_are_by_the_format =
     (changes : Bool) (bytes : List ℕ) (section : PropSection) → prop_section_of changes bytes ≡ Ok section → IsPropsOf changes bytes section
+
+-- What is read of a record is what is kept of one that the format gives.
+abbrev pub records_are_by_the_format : Type 0
+records_are_by_the_format =
+    (limits : Limits) (texts : Texts) (bytes : List ℕ) (what : Record) (rest : List ℕ) → record_at limits texts bytes ≡ Ok (Some what, rest)
+    → (whole : Record) × (what ≡ kept_record texts whole) × IsRecord bytes whole rest

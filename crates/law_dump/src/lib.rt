@@ -14,7 +14,7 @@
 
 mod lawful;
 
-ghost use Rattle.law_dump.specs.Laws.{dumps_are_read_back, headers_are_by_the_format, nodes_are_read_back, props_are_by_the_format, revisions_are_read_back, whole_nodes_are_read_back};
+ghost use Rattle.law_dump.specs.Laws.{dumps_are_read_back, headers_are_by_the_format, nodes_are_read_back, props_are_by_the_format, records_are_by_the_format, revisions_are_read_back, whole_nodes_are_read_back};
 
 pub use lawful::node_is_lawful;
 
@@ -46,4 +46,9 @@ pub fn headers_are_by_the_format()
 /// The properties that are read are by the format.
 pub fn props_are_by_the_format()
     ensures { props_are_by_the_format }
+{}
+
+/// What is read of a record is by the format.
+pub fn records_are_by_the_format()
+    ensures { records_are_by_the_format }
 {}
