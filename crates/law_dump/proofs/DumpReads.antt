@@ -19,7 +19,7 @@ use Rattle.law_dump.specs.Laws.{header_room, written_record, IsWritableRecord, k
 use Rattle.law_dump.proofs.HeaderFields.{Field, AreFields, lines, lines_are_headers}
 use Rattle.law_dump.proofs.HeaderBlocks.{block_of_lines, block_none}
 use Rattle.law_dump.proofs.Decimals.{spelled}
-use Rattle.law_dump.proofs.PropSections.{cut_whole}
+use Rattle.law_dump.proofs.GrammarSections.{cut_whole}
 use Rattle.law_dump.proofs.FieldValues.{value_found, number_at}
 use Rattle.law_dump.proofs.RecordReads.{record_of_block, headed_revision, lengths_of_values}
 use Rattle.law_dump.proofs.NodeReads.{node_read}

@@ -1,12 +1,12 @@
 -- Headers that are found are lines of the format, after blank ones.
-use Rattle.std.proofs.Common.{◌≡◌, inl, inr, ◌≢◌, ℕ, ◌-◌, Bool, true, false, cond, not, ◌&&◌, ◌||◌, arith, List, [], ◌∷◌, ◌++◌, Ok, Err, refl, sym, ap, subst, ◌∙◌, append_assoc, nat_eq, true≢false}
+use Rattle.std.proofs.Common.{◌≡◌, inl, inr, ◌≢◌, ℕ, ◌-◌, Bool, true, false, cond, not, ◌&&◌, ◌||◌, arith, List, [], ◌∷◌, ◌++◌, Ok, Err, refl, sym, ap, subst, ◌∙◌, append_assoc, nat_eq, true≢false, ◌+◌, length, length-append, ap₂}
 use Rattle.std.specs.List.{AllByRecursion}
-use Rattle.std.proofs.lemmas.Bool.{eqb-true}
+use Rattle.std.proofs.lemmas.Bool.{eqb-true, ne_eqb}
 use Rattle.std.proofs.lemmas.Bool.Decides.{nat_tests}
 use Rattle.svn_dump.specs.declared.fault.Reason.TheVariants.{HeadersTooLong}
 use Rattle.svn_dump.specs.Blocks.{headers_at, block_at, with_front, is_line_feed, is_space}
 use Rattle.law_dump.specs.Grammar.{ended, begins_blank, IsBlank}
-use Rattle.law_dump.proofs.Lacking.{lacks}
+use Rattle.law_dump.proofs.Lacking.{lacks, lacks_parts}
 use Rattle.law_dump.proofs.Choices.{chosen, ok_second, front_ok, read_same}
 
 -- ---- lines
@@ -199,3 +199,45 @@ block_found (b ∷ bs) blank room c block rest h =
           block_begins blank b bs (c ∷ block) after.0 rest begin.0 (lines_found bs false (room - 1) after.0 rest after.1) after.2
           )
     ]
+
+-- ---- blank lines are passed over
+
+one_less : (blank : Bool) (room : ℕ) (b : ℕ) (bytes : List ℕ) → (blank || is_space b) ≡ true
+    → block_at blank (room + 1) (b ∷ bytes) ≡ block_at (not (is_line_feed b)) room bytes
+unfolding block_at
+one_less blank room b bytes h =
+    let some : nat_eq (room + 1) 0 ≡ false = ne_eqb (room + 1) 0 (λ none. omega (arith, none)) in
+    let less : room + 1 - 1 ≡ room = omega arith in
+    rw (some, h) (ap (λ n. block_at (not (is_line_feed b)) n bytes) less)
+
+blank_rest : (text : List ℕ) (room : ℕ) (bytes : List ℕ) → lacks 10 text ≡ true
+    → block_at true (length text + 1 + room) (text ++ 10 ∷ bytes) ≡ block_at false room bytes
+blank_rest [] room bytes plain =
+    let all : 0 + 1 + room ≡ room + 1 = omega arith in
+    ap (λ n. block_at true n (10 ∷ bytes)) all ∙ one_less true room 10 bytes refl
+blank_rest (b ∷ text) room bytes plain =
+    let parts = lacks_parts 10 b text plain in
+    let all : length (b ∷ text) + 1 + room ≡ length text + 1 + room + 1 = omega arith in
+    ap (λ n. block_at true n (b ∷ (text ++ 10 ∷ bytes))) all ∙ one_less true (length text + 1 + room) b (text ++ 10 ∷ bytes) refl
+    ∙ ap (λ (feed : Bool). block_at (not feed) (length text + 1 + room) (text ++ 10 ∷ bytes)) parts.0 ∙ blank_rest text room bytes parts.1
+
+blank_line : (l : List ℕ) (room : ℕ) (bytes : List ℕ) → IsBlank l → block_at false (length l + 1 + room) (l ++ 10 ∷ bytes) ≡ block_at false room bytes
+blank_line [] room bytes h =
+    let all : 0 + 1 + room ≡ room + 1 = omega arith in
+    ap (λ n. block_at false n (10 ∷ bytes)) all ∙ one_less false room 10 bytes refl
+blank_line (b ∷ l) room bytes h =
+    let parts = lacks_parts 10 b l h.whole in
+    let all : length (b ∷ l) + 1 + room ≡ length l + 1 + room + 1 = omega arith in
+    ap (λ n. block_at false n (b ∷ (l ++ 10 ∷ bytes))) all ∙ one_less false (length l + 1 + room) b (l ++ 10 ∷ bytes) h.blank
+    ∙ ap (λ (feed : Bool). block_at (not feed) (length l + 1 + room) (l ++ 10 ∷ bytes)) parts.0 ∙ blank_rest l room bytes parts.1
+
+pub blank_lines_passed : (blank : List (List ℕ)) (room : ℕ) (bytes : List ℕ) → AllByRecursion IsBlank blank
+    → block_at false (length (ended blank) + room) (ended blank ++ bytes) ≡ block_at false room bytes
+blank_lines_passed [] room bytes h = let all : 0 + room ≡ room = omega arith in ap (λ n. block_at false n bytes) all
+blank_lines_passed (l ∷ blank) room bytes h =
+    let left = length (ended blank) + room in
+    let all : length (ended (l ∷ blank)) + room ≡ length l + 1 + left =
+    omega (arith, length-append (l ++ 10 ∷ []) (ended blank), length-append l (10 ∷ [])) in
+    ap₂ (λ (n : ℕ) (bs : List ℕ). block_at false n bs) all
+    (append_assoc (l ++ 10 ∷ []) (ended blank) bytes ∙ append_assoc l (10 ∷ []) (ended blank ++ bytes))
+    ∙ blank_line l left (ended blank ++ bytes) h.0 ∙ blank_lines_passed blank room bytes h.1

@@ -1,17 +1,18 @@
 -- Lines that are headers, as headers of the format, and their values by name.
-use Rattle.std.proofs.Common.{◌≡◌, inl, inr, ◌≢◌, ℕ, Bool, true, false, cond, not, ◌||◌, List, [], ◌∷◌, ◌++◌, length, map, Option, Some, None, Ok, refl, sym, ap, subst, ◌∙◌, arith, append_assoc, nat_eq, bytes_eq, is_some, true≢false}
+use Rattle.std.proofs.Common.{◌≡◌, inl, inr, ◌≢◌, ℕ, Bool, true, false, cond, not, ◌||◌, List, [], ◌∷◌, ◌++◌, length, map, Option, Some, None, Ok, refl, sym, ap, subst, ◌∙◌, arith, append_assoc, nat_eq, bytes_eq, is_some, true≢false, ◌+◌, ◌-◌, ◌≤◌, ap₂, ◌&&◌}
 use Rattle.std.specs.List.{AllByRecursion, list_all}
 use Rattle.std.proofs.lemmas.Bool.{eqb-true, ne_eqb, and_parts}
 use Rattle.svn_lists.proofs.Tests.{false_from_clash}
 use Rattle.svn_lists.proofs.Equality.{same_bytes, bytes_eq-same}
-use Rattle.svn_dump.specs.Blocks.{block_at}
+use Rattle.svn_dump.specs.Blocks.{block_at, headers_at, is_space, is_line_feed}
 use Rattle.svn_dump.specs.Headers.{header_of, is_header, are_headers, lines_of, valued, single, header_value, values_of}
 use Rattle.svn_dump.specs.Written.{line}
 use Rattle.law_dump.specs.Grammar.{ended, begins_blank, Header, IsHeader, IsBlock, header_lines, IsAbsent, Gives}
 use Rattle.law_dump.proofs.Lacking.{lacks, cut, parts_at, no_parts, first_part}
 use Rattle.law_dump.proofs.HeaderFields.{Field, AreFields, lines, header_text, found, given, values_of_lines, single_given, lines_are_headers}
 use Rattle.law_dump.proofs.Choices.{ok_same}
-use Rattle.law_dump.proofs.GrammarBlocks.{IsWhole, block_found}
+use Rattle.law_dump.proofs.HeaderBlocks.{begins_header, no_blank, headers_of_lines}
+use Rattle.law_dump.proofs.GrammarBlocks.{blank_lines_passed, IsWhole, block_found}
 
 -- ---- one line
 
@@ -204,3 +205,28 @@ pub value_given : (headers : List Header) (name : List ℕ) (o : Option (List �
     → Gives headers name o → header_value (header_lines headers) name ≡ Ok o
 value_given headers name o h g =
     ap single (values_are headers name h) ∙ ap single (gives_found name headers o g) ∙ single_given o
+
+-- ---- the block is found
+
+begins_solid : (bytes more : List ℕ) → begins_blank bytes ≡ false → begins_header (bytes ++ more) ≡ true
+begins_solid [] more h = absurd (true≢false h)
+begins_solid (b ∷ bytes) more h = by (is_space b) (is_line_feed b) refl refl h
+  where
+    by : (space feed : Bool) → is_space b ≡ space → is_line_feed b ≡ feed → space ≡ false → (not space && not feed) ≡ true
+    by space false e f g = rw g refl
+    by space true e f g = absurd (true≢false (sym (ap is_space (eqb-true b 10 f)) ∙ e ∙ g))
+
+pub block_given : (limit : ℕ) (bytes : List ℕ) (headers : List Header) (rest : List ℕ) (block : IsBlock bytes headers rest)
+    → length (ended block.blank) + length (header_lines headers) ≤ limit → block_at false limit bytes ≡ Ok (header_lines headers, rest)
+block_given limit bytes headers rest block fits =
+    let heads = header_lines headers in
+    let room = limit - length (ended block.blank) in
+    let whole : limit ≡ length (ended block.blank) + room = omega (arith, fits) in
+    let same = fields_lines headers in
+    let fit : length (lines (fields headers)) ≤ room = omega (arith, fits, ap length same) in
+    ap₂ (λ (n : ℕ) (bs : List ℕ). block_at false n bs) whole block.parts
+    ∙ blank_lines_passed block.blank room (heads ++ 10 ∷ rest) block.blank_is
+    ∙ no_blank room (heads ++ 10 ∷ rest) (begins_solid heads (10 ∷ rest) block.begins)
+    ∙ ap (λ (l : List ℕ). headers_at true room (l ++ 10 ∷ rest)) same
+    ∙ headers_of_lines (fields headers) room rest (are_fields headers block.headers_are) fit
+    ∙ ap (λ (l : List ℕ). Ok (l, rest)) (sym same)

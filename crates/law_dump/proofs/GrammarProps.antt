@@ -1,9 +1,10 @@
--- Property sections that are read are by the format.
-use Rattle.std.proofs.Common.{◌≡◌, inl, inr, ℕ, zero, suc, ◌+◌, Bool, true, false, cond, ◌&&◌, List, [], ◌∷◌, ◌++◌, length, take, drop, Option, Some, None, Ok, Err, refl, sym, ap, ap₂, subst, ◌∙◌, append_assoc, nat_eq, nat_lt, get_or, codes, IsSome, true≢false}
-use Rattle.std.specs.List.{AllByRecursion}
+-- Property sections that are read are by the format, and those of the format are read.
+use Rattle.std.proofs.Common.{◌≡◌, inl, inr, ℕ, arith, zero, suc, ◌+◌, Bool, true, false, cond, ◌&&◌, List, [], ◌∷◌, ◌++◌, length, take, drop, Option, Some, None, Ok, Err, refl, sym, ap, ap₂, subst, ◌∙◌, append_assoc, nat_eq, nat_lt, get_or, codes, IsSome, true≢false, nat_le, length-append, ◌≤◌}
+use Rattle.std.specs.List.{AllByRecursion, list_all}
 use Rattle.std.specs.Prelude.{slice_index}
 use Rattle.std.proofs.Math.Seq.{take-append_seam, drop-append-add, get_or-append_seam}
-use Rattle.std.proofs.lemmas.Bool.{eqb-true, ltb-true, ltb-false, and_parts}
+use Rattle.std.proofs.lemmas.Bool.{eqb-true, ltb-true, ltb-false, lt-ltb, le-ltb, ne_eqb, and_parts}
+use Rattle.std.proofs.lemmas.Bool.Decides.{nat_tests}
 use Rattle.std.proofs.lemmas.Option.{none-some, same_Some}
 use Rattle.svn_lists.proofs.Equality.{same_bytes}
 use Rattle.svn_lists.proofs.Options.{some-none, cond_none}
@@ -13,7 +14,7 @@ use Rattle.svn_types.specs.declared.fault.PathFault.TheVariants.{EmptyComponent,
 use Rattle.svn_types.specs.Names.{IsPropName, name_limit, is_prop_text}
 use Rattle.svn_types.specs.NameFaults.{prop_name_fault}
 use Rattle.svn_types.specs.Props.{PropChange, with_changes}
-use Rattle.svn_digits.specs.Numbers.{number_of}
+use Rattle.svn_digits.specs.Numbers.{number_of, is_digit, has_bytes, fitting, decimal_value}
 use Rattle.svn_dump.specs.declared.fault.Reason.TheVariants.{NotProperties}
 use Rattle.svn_dump.specs.declared.record.PropSection.{PropSection}
 use Rattle.svn_dump.specs.declared.record.PropSection.TheVariants as props
@@ -21,7 +22,7 @@ use Rattle.svn_dump.specs.Reading.{◌>>=◌}
 use Rattle.svn_dump.specs.Properties.{length_of, cut_line, run_at, named, set_at, change_at, is_end, changes_at, changes_of, props_of}
 use Rattle.svn_dump.specs.Sections.{prop_section_of}
 use Rattle.law_dump.specs.Grammar.{IsNumber, IsRun, IsChange, IsChanges, IsPropsOf}
-use Rattle.law_dump.proofs.Lacking.{cut, parts_at, no_parts}
+use Rattle.law_dump.proofs.Lacking.{lacks, cut, parts_at, no_parts}
 use Rattle.law_dump.proofs.Choices.{chosen, bound_ok, err_ok, ok_same, read_same}
 
 -- ---- runs
@@ -222,3 +223,141 @@ props_in false bytes section h =
     let found = changes_in (length bytes) false bytes changes.0 changes.1 in
     subst (IsPropsOf false bytes) (ok_same (props.Whole all.0) section all.2)
     (changes.0, found.are, found.set refl, sym (ok_same (with_changes [] changes.0) all.0 changes.2))
+
+-- ---- runs of the format are read
+
+-- a number that is spelled has no line feed
+digits_lack : (digits : List ℕ) (n : ℕ) → number_of digits ≡ Some n → lacks 10 digits ≡ true
+digits_lack digits n h = by (has_bytes digits && nat_le (length digits) 20) (list_all is_digit digits) refl h
+  where
+    each : (digits : List ℕ) → list_all is_digit digits ≡ true → lacks 10 digits ≡ true
+    each [] e = refl
+    each (b ∷ digits) e =
+        let parts = and_parts (is_digit b) (list_all is_digit digits) e in
+        rw (no_feed b parts.0) (each digits parts.1)
+      where
+        no_feed : (b : ℕ) → is_digit b ≡ true → nat_eq b 10 ≡ false
+        no_feed b e = grind (arith, nat_tests)
+
+    by : (some all : Bool) → list_all is_digit digits ≡ all
+        → cond (some && all) (fitting (decimal_value digits)) None ≡ Some n → lacks 10 digits ≡ true
+    by true true e k = each digits e
+    by true false e k = absurd (none-some n k)
+    by false all e k = absurd (none-some n k)
+
+-- whatever letter is looked for
+run_line : (wanted letter : ℕ) (run content rest : List ℕ) → nat_eq letter 10 ≡ false → IsRun letter run content
+    → run_at wanted (run ++ rest) ≡ cut_line (content ++ 10 ∷ rest) (cond (nat_eq letter wanted && true) (Some (length content)) None)
+run_line wanted letter run content rest other is =
+    let head = letter ∷ 32 ∷ is.0 in
+    let after = content ++ 10 ∷ rest in
+    let plain : lacks 10 head ≡ true = rw other (digits_lack is.0 (length content) is.2) in
+    ap (λ (l : List ℕ). run_at wanted (l ++ rest)) is.1
+    ∙ ap (run_at wanted)
+    (append_assoc head (10 ∷ (content ++ 10 ∷ [])) rest ∙ ap (λ (l : List ℕ). head ++ 10 ∷ l) (append_assoc content (10 ∷ []) rest))
+    ∙ parts_at 10 (λ line below. cut_line below (length_of wanted line)) head after plain
+    ∙ ap (λ n. cut_line after (cond (nat_eq letter wanted && true) n None)) is.2
+
+cut_at_line : (bytes rest : List ℕ) → cut_line (bytes ++ 10 ∷ rest) (Some (length bytes)) ≡ Some (bytes, rest)
+cut_at_line bytes rest =
+    let longer = lt-ltb (length bytes) (length (bytes ++ 10 ∷ rest)) (omega (arith, length-append bytes (10 ∷ rest))) in
+    rw (longer, get_or-append_seam bytes 10 rest 0, take-append_seam bytes (10 ∷ rest), drop-append-add bytes (10 ∷ rest) 1) refl
+
+run_given : (letter : ℕ) (run content rest : List ℕ) → nat_eq letter 10 ≡ false → nat_eq letter letter ≡ true → IsRun letter run content
+    → run_at letter (run ++ rest) ≡ Some (content, rest)
+run_given letter run content rest other own is =
+    run_line letter letter run content rest other is
+    ∙ ap (λ b. cut_line (content ++ 10 ∷ rest) (cond (b && true) (Some (length content)) None)) own ∙ cut_at_line content rest
+
+other_run : (wanted letter : ℕ) (run content rest : List ℕ) → nat_eq letter 10 ≡ false → nat_eq letter wanted ≡ false → IsRun letter run content
+    → run_at wanted (run ++ rest) ≡ None
+other_run wanted letter run content rest other apart is =
+    run_line wanted letter run content rest other is
+    ∙ ap (λ b. cut_line (content ++ 10 ∷ rest) (cond (b && true) (Some (length content)) None)) apart
+
+run_begins : (letter : ℕ) (run content rest : List ℕ) → nat_eq letter 80 ≡ false → IsRun letter run content → is_end (run ++ rest) ≡ false
+run_begins letter run content rest other is = ap (λ (l : List ℕ). is_end (l ++ rest)) is.1 ∙ rw other refl
+
+run_some : (letter : ℕ) (run content : List ℕ) → IsRun letter run content → 1 ≤ length run
+run_some letter run content is =
+    let long = ap length is.1 in omega (arith, long, length-append (letter ∷ 32 ∷ is.0) (10 ∷ (content ++ 10 ∷ [])))
+
+-- ---- changes of the format are read
+
+no_prop_name_fault : (n : List ℕ) → IsPropName n → prop_name_fault n ≡ None
+no_prop_name_fault n h = some n h.bounded h.text
+  where
+    some : (n : List ℕ) → length n ≤ name_limit → is_prop_text n ≡ true → prop_name_fault n ≡ None
+    some [] few text = cc
+    some (b ∷ n) few text =
+        let long : nat_eq (length (b ∷ n)) 0 ≡ false = ne_eqb (length (b ∷ n)) 0 (λ none. omega (arith, none)) in
+        rw (long, le-ltb name_limit (length (b ∷ n)) few, text) refl
+
+-- what is read of a change, whatever follows
+record ReadsAs (removes : Bool) (bytes : List ℕ) (c : PropChange) : Type 0 where
+  change : (rest : List ℕ) → change_at removes (bytes ++ rest) ≡ Ok (c, rest)
+  no_end : (rest : List ℕ) → is_end (bytes ++ rest) ≡ false
+  some : 1 ≤ length bytes
+
+set_given : (key run name value rest : List ℕ) → IsPropName name → IsRun 75 key name → IsRun 86 run value
+    → set_at (run_at 75 ((key ++ run) ++ rest)) ≡ Ok ((name, Some value), rest)
+set_given key run name value rest lawful k v =
+    let first = ap (run_at 75) (append_assoc key run rest) ∙ run_given 75 key name (run ++ rest) refl refl k in
+    rw (first, run_given 86 run value rest refl refl v, no_prop_name_fault name lawful) refl
+
+set_reads : (removes : Bool) (key run name value : List ℕ) → IsPropName name → IsRun 75 key name → IsRun 86 run value
+    → ReadsAs removes (key ++ run) (name, Some value)
+set_reads removes key run name value lawful k v = record {
+  change = by removes;
+  no_end = λ rest. ap is_end (append_assoc key run rest) ∙ run_begins 75 key name (run ++ rest) refl k;
+  some = omega (arith, run_some 75 key name k, length-append key run);
+}
+  where
+    by : (removes : Bool) (rest : List ℕ) → change_at removes ((key ++ run) ++ rest) ≡ Ok ((name, Some value), rest)
+    by false rest = set_given key run name value rest lawful k v
+    by true rest =
+        let none = ap (run_at 68) (append_assoc key run rest) ∙ other_run 68 75 key name (run ++ rest) refl refl k in
+        rw none (set_given key run name value rest lawful k v)
+
+removal_reads : (bytes name : List ℕ) → IsChange bytes name None → ReadsAs true bytes (name, None)
+removal_reads bytes name h = record {
+  change = λ rest. rw (run_given 68 bytes name rest refl refl h.1, no_prop_name_fault name h.0) refl;
+  no_end = λ rest. run_begins 68 bytes name rest refl h.1;
+  some = run_some 68 bytes name h.1;
+}
+
+-- a change that the section may have
+change_reads : (removes : Bool) (bytes name : List ℕ) (value : Option (List ℕ)) → (removes ≡ false → IsSome value) → IsChange bytes name value
+    → ReadsAs removes bytes (name, value)
+change_reads true bytes name None sets h = removal_reads bytes name h
+change_reads false bytes name None sets h = absurd (true≢false (sym (sets refl)))
+change_reads removes bytes name (Some value) sets h =
+    subst (λ (l : List ℕ). ReadsAs removes l (name, Some value)) (sym h.3) (set_reads removes h.1 h.2 name value h.0 h.4 h.5)
+
+changes_given : (changes : List PropChange) (removes : Bool) (most : ℕ) (bytes : List ℕ) → IsChanges bytes changes
+    → (removes ≡ false → AllByRecursion (λ (c : PropChange). IsSome c.1) changes) → length bytes ≤ most → changes_at removes most bytes ≡ Ok changes
+unfolding changes_at
+changes_given [] removes zero bytes h sets few = absurd (omega (arith, few, ap length h))
+changes_given [] removes (suc most) bytes h sets few = ap (changes_at removes (suc most)) h
+changes_given (c ∷ changes) removes most bytes h sets few =
+    by most few (change_reads removes h.0 c.0 c.1 (λ e. (sets e).0) h.3)
+    (λ less shorter. changes_given changes removes less h.1 h.4 (λ e. (sets e).1) shorter)
+  where
+    by : (most : ℕ) → length bytes ≤ most → ReadsAs removes h.0 c
+        → ((less : ℕ) → length h.1 ≤ less → changes_at removes less h.1 ≡ Ok changes) → changes_at removes most bytes ≡ Ok (c ∷ changes)
+    by zero few r more = absurd (omega (arith, few, r.some, ap length h.2, length-append h.0 h.1))
+    by (suc most) few r more =
+        let shorter : length h.1 ≤ most = omega (arith, few, r.some, ap length h.2, length-append h.0 h.1) in
+        ap (changes_at removes (suc most)) h.2
+        ∙ rw (r.no_end h.1, r.change h.1, more most shorter) refl
+
+pub props_given : (flag : Bool) (bytes : List ℕ) (section : PropSection) → IsPropsOf flag bytes section → prop_section_of flag bytes ≡ Ok section
+props_given true bytes (props.Delta changes) h =
+    ap (λ r. r >>= λ changes. Ok (props.Delta changes))
+    (changes_given changes true (length bytes) bytes h (λ e. absurd (true≢false e)) (omega arith))
+props_given true bytes (props.Whole all) h = absurd h
+props_given false bytes (props.Delta changes) h = absurd h
+props_given false bytes (props.Whole all) h =
+    ap (λ r. (r >>= λ changes. Ok (with_changes [] changes)) >>= λ all. Ok (props.Whole all))
+    (changes_given h.0 false (length bytes) bytes h.1 (λ e. h.2) (omega arith))
+    ∙ ap (λ (l : List (List ℕ × List ℕ)). Ok (props.Whole l)) (sym h.3)

@@ -1,10 +1,11 @@
--- The sections that are read are by the format.
-use Rattle.std.proofs.Common.{◌≡◌, ℕ, Bool, true, false, cond, not, List, [], ◌∷◌, ◌++◌, length, take, drop, Option, Some, None, Ok, Err, option_map, unwrap_or, IfSome, refl, sym, ap, ap₂, subst, ◌∙◌, arith, nat_lt, true≢false}
-use Rattle.std.proofs.lemmas.Bool.{ltb-false}
+-- The sections that are read are by the format, and those of the format are read.
+use Rattle.std.proofs.Common.{◌≡◌, ℕ, ◌≤◌, Bool, true, false, cond, not, List, [], ◌∷◌, ◌++◌, length, take, drop, Option, Some, None, Ok, Err, option_map, unwrap_or, IfSome, refl, sym, ap, ap₂, subst, ◌∙◌, arith, nat_lt, true≢false, MatchOption, bytes_eq, length-append}
+use Rattle.std.proofs.lemmas.Bool.{ltb-false, le-ltb}
+use Rattle.std.proofs.Math.Seq.{take-append_seam, drop-append_seam}
 use Rattle.std.proofs.lemmas.List.{take-append-drop, length-take-le}
 use Rattle.md5.specs.Md5.{md5}
 use Rattle.sha1.specs.Sha1.{sha1}
-use Rattle.svn_lists.proofs.Equality.{same_bytes}
+use Rattle.svn_lists.proofs.Equality.{same_bytes, bytes_eq-same}
 use Rattle.svn_digits.specs.StandIns.{stand_in_of}
 use Rattle.svn_dump.specs.declared.fault.Reason.TheVariants.{CutOff, PropsTooLong, TextTooLong, NoSha1, WrongMd5, WrongSha1}
 use Rattle.svn_dump.specs.declared.record.PropSection.{PropSection}
@@ -15,10 +16,10 @@ use Rattle.svn_dump.specs.declared.sections.Texts.TheVariants.{Whole, Sha1}
 use Rattle.svn_dump.specs.Reading.{◌>>=◌}
 use Rattle.svn_dump.specs.Blocks.{bytes_at}
 use Rattle.svn_dump.specs.Sections.{Read, if_given, skipped, after_sections, is_given_as, checked, kept, whole_text_at, stand_in_at, prop_section_of, sized_props_at, sized_text_at}
-use Rattle.law_dump.specs.Laws.{kept_section}
+use Rattle.law_dump.specs.Laws.{CanKeep, kept_section}
 use Rattle.law_dump.specs.Grammar.{Sums, IsPropsOf, IsTextOf, IsGiven}
 use Rattle.law_dump.proofs.Choices.{ok_second, bound_ok, ok_same, read_same}
-use Rattle.law_dump.proofs.GrammarProps.{props_in}
+use Rattle.law_dump.proofs.GrammarProps.{props_in, props_given}
 
 -- ---- so many bytes
 
@@ -227,3 +228,77 @@ sized_text_found Whole props len changes_props false base sums limit n bytes t r
     let all = whole_text_at Whole (record { md5 = sums.md5; sha1 = sums.sha1 }) n bytes >>= as_text text.Whole in
     whole_found Whole base sums n bytes t rest (ok_second (nat_lt limit n) (TextTooLong n limit) all (t, rest) h).1
 sized_text_found Sha1 props len changes_props false base sums limit n bytes t rest h = whole_found Sha1 base sums n bytes t rest h
+
+-- ---- sections of the format are read
+
+pub cut_whole : (front rest : List ℕ) → bytes_at (length front) (front ++ rest) ≡ Ok (front, rest)
+cut_whole front rest =
+    let enough = le-ltb (length (front ++ rest)) (length front) (omega (arith, length-append front rest)) in
+    rw (enough, take-append_seam front rest, drop-append_seam front rest) refl
+
+pub section_given : {A : Type 0} (at : ℕ → List ℕ → Read A) (own : Option (List ℕ)) (o : Option A) (rest : List ℕ)
+    → IsGiven (λ bytes x. at (length bytes) (bytes ++ rest) ≡ Ok (x, rest)) own o
+    → if_given (option_map length own) at (unwrap_or own [] ++ rest) ≡ Ok (o, rest)
+section_given at None None rest h = refl
+section_given at None (Some x) rest h = absurd h
+section_given at (Some bytes) None rest h = absurd h
+section_given at (Some bytes) (Some x) rest h = ap (λ r. r >>= λ read. Ok (Some read.0, read.1)) h
+
+skipped_given : (own : Option (List ℕ)) (rest : List ℕ)
+    → skipped (unwrap_or (option_map length own) 0) (unwrap_or own [] ++ rest) ≡ Ok (tt, rest)
+skipped_given None rest = ap (λ r. r >>= λ read. Ok (tt, read.1)) (cut_whole [] rest)
+skipped_given (Some bytes) rest = ap (λ r. r >>= λ read. Ok (tt, read.1)) (cut_whole bytes rest)
+
+pub sections_skipped : (prop_bytes text_bytes : Option (List ℕ)) (rest : List ℕ)
+    → after_sections (record { props = option_map length prop_bytes; text = option_map length text_bytes })
+    (unwrap_or prop_bytes [] ++ (unwrap_or text_bytes [] ++ rest)) ≡ Ok (tt, rest)
+sections_skipped prop_bytes text_bytes rest =
+    ap (λ r. r >>= λ read. skipped (unwrap_or (option_map length text_bytes) 0) read.1)
+    (skipped_given prop_bytes (unwrap_or text_bytes [] ++ rest)) ∙ skipped_given text_bytes rest
+
+pub sized_props_given : (flag : Bool) (limit : ℕ) (bytes : List ℕ) (section : PropSection) (rest : List ℕ) → IsPropsOf flag bytes section
+    → length bytes ≤ limit → sized_props_at flag limit (length bytes) (bytes ++ rest) ≡ Ok (section, rest)
+sized_props_given flag limit bytes section rest h fits =
+    rw (le-ltb limit (length bytes) fits, cut_whole bytes rest, props_given flag bytes section h) refl
+
+sum_given : (given : Option (List ℕ)) (sum : List ℕ) → IfSome given (λ s. s ≡ sum) → is_given_as given sum ≡ true
+sum_given None sum h = refl
+sum_given (Some s) sum h = ap (λ (x : List ℕ). bytes_eq x sum) h ∙ bytes_eq-same sum
+
+-- a text that has its checksums
+text_given : (texts : Texts) (sums : Sums) (own : List ℕ) (rest : List ℕ) → IfSome sums.md5 (λ sum. sum ≡ md5 own)
+    → IfSome sums.sha1 (λ sum. sum ≡ sha1 own)
+    → (whole_text_at texts (record { md5 = sums.md5; sha1 = sums.sha1 }) (length own) (own ++ rest) >>= as_text text.Whole)
+    ≡ Ok (kept_section texts (text.Whole own), rest)
+text_given Whole sums own rest e f = rw (cut_whole own rest, sum_given sums.md5 (md5 own) e, sum_given sums.sha1 (sha1 own) f) refl
+text_given Sha1 sums own rest e f = rw (cut_whole own rest, sum_given sums.md5 (md5 own) e, sum_given sums.sha1 (sha1 own) f) refl
+
+pub sized_text_given : (texts : Texts) (props len : Option ℕ) (changes_props flag : Bool) (base sums : Sums) (limit : ℕ) (own : List ℕ)
+    (whole : TextSection) (rest : List ℕ) → IsTextOf flag base sums own whole → CanKeep texts limit whole
+    → sized_text_at (record {
+      lengths = record { props = props; text = len };
+      sums = record { md5 = sums.md5; sha1 = sums.sha1 };
+      base_sums = record { md5 = base.md5; sha1 = base.sha1 };
+      changes_props = changes_props;
+      changes_text = flag;
+    }) texts limit (length own) (own ++ rest)
+    ≡ Ok (kept_section texts whole, rest)
+sized_text_given texts props len changes_props true base sums limit own (text.Whole bytes) rest h fits = absurd h
+sized_text_given texts props len changes_props false base sums limit own (text.Delta delta) rest h fits = absurd h
+sized_text_given Whole props len changes_props true base sums limit own (text.Delta delta) rest h fits =
+    let short = le-ltb limit (length own) (subst (λ (l : List ℕ). length l ≤ limit) h.0 fits) in
+    rw (short, cut_whole own rest) (rw (sym h.0, sym h.1, sym h.2, sym h.3, sym h.4) refl)
+sized_text_given Sha1 props len changes_props true base sums limit own (text.Delta delta) rest h fits = by delta.sha1 (sym h.4) fits
+  where
+    by : (sum : Option (List ℕ)) → sums.sha1 ≡ sum → MatchOption sum (length delta.delta ≤ 4) (λ _. Unit {0})
+        → stand_in_at sums.sha1 (length own) (own ++ rest) ≡ Ok (text.Whole (stand_in_of (unwrap_or sum (sha1 []))), rest)
+    by None e few =
+        let short = le-ltb 4 (length own) (subst (λ (l : List ℕ). length l ≤ 4) h.0 few) in
+        rw (e, short, cut_whole own rest) refl
+    by (Some sum) e few = rw (e, cut_whole own rest) refl
+sized_text_given Whole props len changes_props false base sums limit own (text.Whole bytes) rest h fits =
+    let short = le-ltb limit (length own) (subst (λ (l : List ℕ). length l ≤ limit) h.0 fits) in
+    rw short (text_given Whole sums own rest h.1 h.2)
+    ∙ ap (λ (l : List ℕ). Ok (kept_section Whole (text.Whole l), rest)) (sym h.0)
+sized_text_given Sha1 props len changes_props false base sums limit own (text.Whole bytes) rest h fits =
+    text_given Sha1 sums own rest h.1 h.2 ∙ ap (λ (l : List ℕ). Ok (kept_section Sha1 (text.Whole l), rest)) (sym h.0)

@@ -107,7 +107,7 @@ with_no_front (Ok x) = refl
 with_no_front (Err e) = refl
 
 -- the lines of all fields, and what is after the empty line
-headers_of_lines : (fields : List Field) (room : ℕ) (rest : List ℕ) → AreFields fields → length (lines fields) ≤ room
+pub headers_of_lines : (fields : List Field) (room : ℕ) (rest : List ℕ) → AreFields fields → length (lines fields) ≤ room
     → headers_at true room (lines fields ++ 10 ∷ rest) ≡ Ok (lines fields, rest)
 headers_of_lines fields room rest h fits =
     sym (with_no_front (headers_at true room (lines fields ++ 10 ∷ rest))) ∙ lines_at [] fields room rest h fits
@@ -119,7 +119,7 @@ abbrev pub begins_header : List ℕ → Bool
 begins_header [] = false
 begins_header (b ∷ bs) = not (is_space b) && not (is_line_feed b)
 
-no_blank : (room : ℕ) (bytes : List ℕ) → begins_header bytes ≡ true → block_at false room bytes ≡ headers_at true room bytes
+pub no_blank : (room : ℕ) (bytes : List ℕ) → begins_header bytes ≡ true → block_at false room bytes ≡ headers_at true room bytes
 unfolding block_at headers_at
 no_blank room [] h = cc
 no_blank room (b ∷ bs) h =

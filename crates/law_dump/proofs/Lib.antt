@@ -40,3 +40,7 @@ pub mod GrammarValues
 pub mod GrammarSections
 -- the records that are read
 pub mod GrammarRecords
+-- what the values of headers say is read
+pub mod GrammarGiven
+-- the records of the format are read
+pub mod GrammarReads

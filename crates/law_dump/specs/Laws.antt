@@ -26,7 +26,7 @@ use Rattle.svn_dump.specs.Headers.{are_headers}
 use Rattle.svn_dump.specs.Sections.{prop_section_of}
 use Rattle.svn_dump.specs.Records.{record_at, format_at}
 use Rattle.svn_digits.specs.StandIns.{stand_in, stand_in_of}
-use Rattle.law_dump.specs.Grammar.{Header, IsBlock, IsPropsOf, IsRecord, header_lines}
+use Rattle.law_dump.specs.Grammar.{Header, IsBlock, IsPropsOf, IsRecord, ended, header_lines}
 use Rattle.svn_dump.specs.Written.{text_bytes, prop_section, text_section, headers_of, written, revision_record, format_record}
 
 -- ---- which records the laws are about
@@ -195,3 +195,27 @@ abbrev pub records_are_by_the_format : Type 0
 records_are_by_the_format =
     (limits : Limits) (texts : Texts) (bytes : List ℕ) (what : Record) (rest : List ℕ) → record_at limits texts bytes ≡ Ok (Some what, rest)
     → (whole : Record) × (what ≡ kept_record texts whole) × IsRecord bytes whole rest
+
+-- ---- what is by the format is read
+
+abbrev pub NodeFits : Limits → Texts → Option (List ℕ) → Record → Type 0
+NodeFits limits texts prop_bytes Other = Unit {0}
+NodeFits limits texts prop_bytes (Revision rev) = Unit {0}
+NodeFits limits texts prop_bytes (Node node) =
+    IfSome prop_bytes (λ bytes. length bytes ≤ limits.props) × IfSome node.text (CanKeep texts limits.text)
+
+-- the headers and the blank lines before them, and of a node the properties and a text that is kept
+pub record IsWithin (limits : Limits) (texts : Texts) {bytes : List ℕ} {what : Record} {rest : List ℕ} (r : IsRecord bytes what rest) : Type 0 where
+  pub headers_fit : length (ended r.block.blank) + length (header_lines r.headers) ≤ limits.headers
+  pub node_fits : NodeFits limits texts r.prop_bytes what
+
+-- each record of the format is read, within the limits
+abbrev pub records_of_the_format_are_read : Type 0
+records_of_the_format_are_read =
+    (limits : Limits) (texts : Texts) (bytes : List ℕ) (what : Record) (rest : List ℕ) (r : IsRecord bytes what rest) → IsWithin limits texts r
+    → record_at limits texts bytes ≡ Ok (Some (kept_record texts what), rest)
+
+-- no bytes are two records
+abbrev pub records_are_one : Type 0
+records_are_one =
+    (bytes : List ℕ) (a b : Record) (rest after : List ℕ) → IsRecord bytes a rest → IsRecord bytes b after → (a ≡ b) × (rest ≡ after)

@@ -14,7 +14,7 @@
 
 mod lawful;
 
-ghost use Rattle.law_dump.specs.Laws.{dumps_are_read_back, headers_are_by_the_format, nodes_are_read_back, props_are_by_the_format, records_are_by_the_format, revisions_are_read_back, whole_nodes_are_read_back};
+ghost use Rattle.law_dump.specs.Laws.{dumps_are_read_back, headers_are_by_the_format, nodes_are_read_back, props_are_by_the_format, records_are_by_the_format, records_are_one, records_of_the_format_are_read, revisions_are_read_back, whole_nodes_are_read_back};
 
 pub use lawful::node_is_lawful;
 
@@ -51,4 +51,14 @@ pub fn props_are_by_the_format()
 /// What is read of a record is by the format.
 pub fn records_are_by_the_format()
     ensures { records_are_by_the_format }
+{}
+
+/// A record of the format is read as what is kept of it, within the limits.
+pub fn records_of_the_format_are_read()
+    ensures { records_of_the_format_are_read }
+{}
+
+/// No bytes are two records of the format.
+pub fn records_are_one()
+    ensures { records_are_one }
 {}
