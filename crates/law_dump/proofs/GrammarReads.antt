@@ -162,15 +162,15 @@ record_given limits texts bytes what rest r within =
 
 -- ---- no bytes are two records
 
-headers_len : {bytes : List ℕ} {what : Record} {rest : List ℕ} → IsRecord bytes what rest → ℕ
+pub headers_len : {bytes : List ℕ} {what : Record} {rest : List ℕ} → IsRecord bytes what rest → ℕ
 headers_len r = length (ended r.block.blank) + length (header_lines r.headers)
 
-abbrev text_len : Record → ℕ
+abbrev pub text_len : Record → ℕ
 text_len Other = 0
 text_len (Revision rev) = 0
 text_len (Node node) = length (unwrap_or (option_map text_bytes node.text) [])
 
-all_within : (limits : Limits) (bytes : List ℕ) (what : Record) (rest : List ℕ) (r : IsRecord bytes what rest) → headers_len r ≤ limits.headers
+pub all_within : (limits : Limits) (bytes : List ℕ) (what : Record) (rest : List ℕ) (r : IsRecord bytes what rest) → headers_len r ≤ limits.headers
     → length (unwrap_or r.prop_bytes []) ≤ limits.props → text_len what ≤ limits.text → IsWithin limits Whole r
 unfolding headers_len
 all_within limits bytes what rest r headers props text = record { headers_fit = headers; node_fits = by what text }
@@ -188,7 +188,7 @@ all_within limits bytes what rest r headers props text = record { headers_fit = 
     by (Revision rev) few = tt
     by (Node node) few = (props_fit r.prop_bytes props, text_fit node.text few)
 
-whole_record : (what : Record) → kept_record Whole what ≡ what
+pub whole_record : (what : Record) → kept_record Whole what ≡ what
 whole_record Other = refl
 whole_record (Revision rev) = refl
 whole_record (Node node) = refl

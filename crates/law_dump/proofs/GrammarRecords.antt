@@ -6,6 +6,7 @@ use Rattle.std.proofs.lemmas.Option.{none-some, same_Some}
 use Rattle.svn_lists.proofs.Options.{some_value, none_from_test}
 use Rattle.svn_dump.specs.declared.fault.Reason.TheVariants.{NotAHeader, UnknownRecord, Lengths as DisagreeingLengths}
 use Rattle.svn_dump.specs.declared.record.NodeRecord.{NodeRecord}
+use Rattle.svn_dump.specs.declared.record.PropSection.{PropSection}
 use Rattle.svn_dump.specs.declared.record.Record.{Record}
 use Rattle.svn_dump.specs.declared.record.Record.TheVariants.{Other, Revision, Node}
 use Rattle.svn_dump.specs.declared.record.TextSection.{TextSection}
@@ -17,10 +18,10 @@ use Rattle.svn_dump.specs.Blocks.{block_at}
 use Rattle.svn_dump.specs.Headers.{header_value, are_headers}
 use Rattle.svn_dump.specs.Fields.{number_value, sum_value, true_value, path_of, path_value, kind_value, action_value, source_value}
 use Rattle.svn_dump.specs.Shapes.{lengths_of, sums_of, base_sums_of, shape_of, agreeing}
-use Rattle.svn_dump.specs.Sections.{after_sections, sized_props_at, sized_text_at, prop_section_at, text_section_at}
+use Rattle.svn_dump.specs.Sections.{Read, if_given, after_sections, sized_props_at, sized_text_at, prop_section_at, text_section_at}
 use Rattle.svn_dump.specs.Records.{is_given, subject_of, subject_by, node_of, node_at, passed_at, headed_at, record_after, record_at}
 use Rattle.law_dump.specs.Laws.{kept_section, kept_text, kept_record}
-use Rattle.law_dump.specs.Grammar.{Header, IsHeader, IsBlock, header_lines, Gives, Says, IsOnce, IsNumber, IsKindWord, IsActionWord, IsSourceOf, IsFlag, Sums, AreSums, AreBaseSums, IsPropsOf, IsTextOf, IsGiven, AreLengths, IsNode, IsAbout, IsRecord}
+use Rattle.law_dump.specs.Grammar.{Header, IsHeader, IsBlock, header_lines, Gives, Says, AtMostOnce, IsNumber, IsKindWord, IsActionWord, IsSourceOf, IsFlag, Sums, AreSums, AreBaseSums, IsPropsOf, IsTextOf, IsGiven, AreLengths, IsNode, IsAbout, IsRecord}
 use Rattle.law_dump.proofs.Choices.{ok_first, bound_ok, err_ok, ok_same, read_same, under}
 use Rattle.law_dump.proofs.GrammarHeaders.{value_gives, block_of}
 use Rattle.law_dump.proofs.GrammarValues.{number_says, sum_says, flag_says, given_says, path_says, kind_says, action_says, source_says}
@@ -203,6 +204,79 @@ record NodeRead (texts : Texts) (headers : List Header) (bytes : List ℕ) (what
   lengths : AreLengths headers prop_bytes text_bytes
   is : IsNode headers prop_bytes text_bytes node
 
+-- what its parts are read as
+node_parts : (limits : Limits) (texts : Texts) (headers : List Header) (value bytes mid after : List ℕ) (what : Record) (rest : List ℕ) (node : NodeRecord)
+    (props len : Option ℕ) (sums base : Sums) (changes_props changes_text : Bool) (section : Option PropSection) (t : Option TextSection)
+    → AllByRecursion IsHeader headers → header_value (header_lines headers) (codes "Node-path") ≡ Ok (Some value)
+    → node_of (header_lines headers) ≡ Ok node
+    → shape_of (header_lines headers) ≡ Ok (record {
+      lengths = record { props = props; text = len };
+      sums = record { md5 = sums.md5; sha1 = sums.sha1 };
+      base_sums = record { md5 = base.md5; sha1 = base.sha1 };
+      changes_props = changes_props;
+      changes_text = changes_text;
+    })
+    → if_given props (sized_props_at changes_props limits.props) bytes ≡ Ok (section, mid)
+    → if_given len (sized_text_at (record {
+      lengths = record { props = props; text = len };
+      sums = record { md5 = sums.md5; sha1 = sums.sha1 };
+      base_sums = record { md5 = base.md5; sha1 = base.sha1 };
+      changes_props = changes_props;
+      changes_text = changes_text;
+    }) texts limits.text) mid ≡ Ok (t, after)
+    → ◌≡◌ {A = Read Record}
+    (Ok (Node (record { path = node.path; kind = node.kind; action = node.action; source = node.source; props = section; text = t }), after))
+    (Ok (what, rest))
+    → NodeRead texts headers bytes what rest
+node_parts limits texts headers value bytes mid after what rest node props len sums base changes_props changes_text section t are given e f g h k =
+    let same =
+    read_same (Node (record { path = node.path; kind = node.kind; action = node.action; source = node.source; props = section; text = t }), after)
+    (what, rest) k in
+    let fields = fields_say headers node are e in
+    let shape = shape_says headers props len sums base changes_props changes_text are f in
+    let props_read =
+    section_read (IsPropsOf changes_props) (sized_props_at changes_props limits.props) props bytes section mid
+    (λ n x k. sized_props_found changes_props limits.props n bytes x mid k) g in
+    let text_read =
+    section_read (KeptText texts changes_text base sums) _ len mid t rest
+    (λ n x k. sized_text_found texts props len changes_props changes_text base sums limits.text n mid x rest k)
+    (h ∙ ap (λ (l : List ℕ). Ok (t, l)) same.1) in
+    let whole = kept_given texts changes_text base sums text_read.own t text_read.is in
+    let path = path_says value node.path (sym (ap (λ r. r >>= λ value. path_of (unwrap_or value [])) given) ∙ fields.path) in
+    record {
+      node = record { path = node.path; kind = node.kind; action = node.action; source = node.source; props = section; text = whole.whole };
+      what_is =
+          sym same.0
+          ∙ ap (λ (o : Option TextSection). Node (record {
+            path = node.path;
+            kind = node.kind;
+            action = node.action;
+            source = node.source;
+            props = section;
+            text = o;
+          })) whole.kept_is;
+      prop_bytes = props_read.own;
+      text_bytes = text_read.own;
+      parts = props_read.parts ∙ ap (λ (l : List ℕ). unwrap_or props_read.own [] ++ l) text_read.parts;
+      lengths = are_lengths headers props len props_read.own text_read.own shape.lengths props_read.long text_read.long;
+      is = record {
+        path = (value, value_gives headers (codes "Node-path") (Some value) are given, path);
+        kind = fields.kind;
+        action = fields.action;
+        source = fields.source;
+        changes_props = changes_props;
+        changes_text = changes_text;
+        prop_delta = shape.prop_delta;
+        text_delta = shape.text_delta;
+        sums = sums;
+        base = base;
+        sums_are = shape.sums_are;
+        base_are = shape.base_are;
+        props_are = props_read.is;
+        text_is = whole.is;
+      };
+    }
+
 node_read : (limits : Limits) (texts : Texts) (headers : List Header) (value bytes : List ℕ) (what : Record) (rest : List ℕ)
     → AllByRecursion IsHeader headers → header_value (header_lines headers) (codes "Node-path") ≡ Ok (Some value)
     → node_at limits texts (header_lines headers) bytes ≡ Ok (what, rest) → NodeRead texts headers bytes what rest
@@ -213,63 +287,9 @@ node_read limits texts headers value bytes what rest are given h =
     let b = bound_ok (shape_of block) _ _ a.2 in
     let c = bound_ok (prop_section_at b.0 limits.props bytes) _ _ b.2 in
     let d = bound_ok (text_section_at b.0 texts limits.text c.0.1) _ _ c.2 in
-    let same = read_same (
-      Node (record {
-        path = a.0.path;
-        kind = a.0.kind;
-        action = a.0.action;
-        source = a.0.source;
-        props = c.0.0;
-        text = d.0.0;
-      }),
-      d.0.1,
-    ) (what, rest) d.2 in
-    let sums : Sums = record { md5 = b.0.sums.md5; sha1 = b.0.sums.sha1 } in
-    let base : Sums = record { md5 = b.0.base_sums.md5; sha1 = b.0.base_sums.sha1 } in
-    let fields = fields_say headers a.0 are a.1 in
-    let shape = shape_says headers b.0.lengths.props b.0.lengths.text sums base b.0.changes_props b.0.changes_text are b.1 in
-    let props =
-    section_read (IsPropsOf b.0.changes_props) (sized_props_at b.0.changes_props limits.props) b.0.lengths.props bytes c.0.0 c.0.1
-    (λ n x e. sized_props_found b.0.changes_props limits.props n bytes x c.0.1 e) c.1 in
-    let text =
-    section_read (KeptText texts b.0.changes_text base sums) (sized_text_at b.0 texts limits.text) b.0.lengths.text c.0.1 d.0.0 rest
-    (λ n x e. sized_text_found texts b.0.lengths.props b.0.lengths.text b.0.changes_props b.0.changes_text base sums limits.text n c.0.1 x rest e)
-    (d.1 ∙ ap (λ (l : List ℕ). Ok (d.0.0, l)) same.1) in
-    let whole = kept_given texts b.0.changes_text base sums text.own d.0.0 text.is in
-    let path = path_says value a.0.path (sym (ap (λ r. r >>= λ value. path_of (unwrap_or value [])) given) ∙ fields.path) in
-    record {
-      node = record { path = a.0.path; kind = a.0.kind; action = a.0.action; source = a.0.source; props = c.0.0; text = whole.whole };
-      what_is =
-          sym same.0
-          ∙ ap (λ (o : Option TextSection). Node (record {
-            path = a.0.path;
-            kind = a.0.kind;
-            action = a.0.action;
-            source = a.0.source;
-            props = c.0.0;
-            text = o;
-          })) whole.kept_is;
-      prop_bytes = props.own;
-      text_bytes = text.own;
-      parts = props.parts ∙ ap (λ (l : List ℕ). unwrap_or props.own [] ++ l) text.parts;
-      lengths = are_lengths headers b.0.lengths.props b.0.lengths.text props.own text.own shape.lengths props.long text.long;
-      is = record {
-        path = (value, value_gives headers (codes "Node-path") (Some value) are given, path);
-        kind = fields.kind;
-        action = fields.action;
-        source = fields.source;
-        changes_props = b.0.changes_props;
-        changes_text = b.0.changes_text;
-        prop_delta = shape.prop_delta;
-        text_delta = shape.text_delta;
-        sums = sums;
-        base = base;
-        sums_are = shape.sums_are;
-        base_are = shape.base_are;
-        props_are = props.is;
-        text_is = whole.is;
-      };
-    }
+    node_parts limits texts headers value bytes c.0.1 d.0.1 what rest a.0 b.0.lengths.props b.0.lengths.text
+    (record { md5 = b.0.sums.md5; sha1 = b.0.sums.sha1 }) (record { md5 = b.0.base_sums.md5; sha1 = b.0.base_sums.sha1 }) b.0.changes_props
+    b.0.changes_text c.0.0 d.0.0 are given a.1 b.1 c.1 d.1 d.2
 
 -- ---- records whose sections are passed over
 
@@ -305,8 +325,8 @@ pub record RecordRead (texts : Texts) (bytes : List ℕ) (what : Record) (rest :
   pub is : IsRecord bytes whole rest
 
 node_record : (texts : Texts) (bytes after : List ℕ) (headers : List Header) (what : Record) (rest : List ℕ) → IsBlock bytes headers after
-    → NodeRead texts headers after what rest → Gives headers (codes "Revision-number") None → IsOnce headers (codes "UUID")
-    → IsOnce headers (codes "SVN-fs-dump-format-version") → RecordRead texts bytes what rest
+    → NodeRead texts headers after what rest → Gives headers (codes "Revision-number") None → AtMostOnce headers (codes "UUID")
+    → AtMostOnce headers (codes "SVN-fs-dump-format-version") → RecordRead texts bytes what rest
 node_record texts bytes after headers what rest block n rev uuid format = record {
   whole = Node n.node;
   what_is = n.what_is;
@@ -374,7 +394,7 @@ without_number limits texts bytes after headers what rest block none lines h =
     rev : Gives headers (codes "Revision-number") None
     rev = number_says headers (codes "Revision-number") None are none
 
-    once : (name : List ℕ) (b : Bool) → is_given (header_lines headers) name ≡ Ok b → IsOnce headers name
+    once : (name : List ℕ) (b : Bool) → is_given (header_lines headers) name ≡ Ok b → AtMostOnce headers name
     once name b e = let g = given_says headers name b are e in (g.value, g.gives)
 
     other : (uuid format : Bool) → is_given (header_lines headers) (codes "Node-path") ≡ Ok false → is_given (header_lines headers) (codes "UUID") ≡ Ok uuid

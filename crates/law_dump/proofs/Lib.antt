@@ -44,3 +44,7 @@ pub mod GrammarRecords
 pub mod GrammarGiven
 -- the records of the format are read
 pub mod GrammarReads
+-- records one after another, and the end
+pub mod GrammarDumps
+-- records that were written are by the format
+pub mod GrammarWritten

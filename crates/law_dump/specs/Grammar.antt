@@ -4,6 +4,7 @@
 --     IsPropsOf, IsTextOf      what the sections of a node's record say
 --     IsNode headers props text node      the headers and the sections are those of the node
 --     IsRecord bytes what rest      the bytes are the record, whose text is as it was written, and then the rest
+--     AreRecords bytes records      the bytes are the records, and then the end
 use Rattle.std.specs.Prelude.{◌≡◌, ◌≢◌, ℕ, ◌+◌, ◌≤◌, Bool, true, false, not, ◌||◌, List, [], ◌∷◌, ◌++◌, length, nat_eq, codes, Option, Some, None, is_some, IsSome, IfSome, option_map, unwrap_or, Ok}
 use Rattle.std.specs.List.{list_all, flat_map, AllByRecursion}
 use Rattle.std.specs.Option.{option_or}
@@ -66,7 +67,7 @@ header_lines headers = flat_map (λ (h : Header). line h.0 h.1) headers
 -- blank lines, headers and an empty line
 pub record IsBlock (bytes : List ℕ) (headers : List Header) (rest : List ℕ) : Type 0 where
   pub blank : List (List ℕ)
-  pub parts : bytes ≡ ended blank ++ (header_lines headers ++ (10 ∷ rest))
+  pub parts : bytes ≡ ended blank ++ (header_lines headers ++ (codes "\n" ++ rest))
   pub blank_is : AllByRecursion IsBlank blank
   pub headers_are : AllByRecursion IsHeader headers
   -- there is one, and no white space before it
@@ -86,8 +87,8 @@ abbrev pub Says : {A : Type 0} → (List ℕ → A → Type 0) → List Header �
 Says Spells headers name None = Gives headers name None
 Says Spells headers name (Some x) = (value : List ℕ) × Gives headers name (Some value) × Spells value x
 
-abbrev pub IsOnce : List Header → List ℕ → Type 0
-IsOnce headers name = (value : Option (List ℕ)) × Gives headers name value
+abbrev pub AtMostOnce : List Header → List ℕ → Type 0
+AtMostOnce headers name = (value : Option (List ℕ)) × Gives headers name value
 
 -- ---- values
 
@@ -122,7 +123,7 @@ IsFlag headers name false = (value : Option (List ℕ)) × Gives headers name va
 -- a line of the letter and the number of the bytes, these, and a line feed
 abbrev pub IsRun : ℕ → List ℕ → List ℕ → Type 0
 IsRun letter run bytes =
-    (digits : List ℕ) × (run ≡ (letter ∷ 32 ∷ digits) ++ (10 ∷ (bytes ++ codes "\n"))) × IsNumber digits (length bytes)
+    (digits : List ℕ) × (run ≡ (letter ∷ codes " " ++ digits) ++ (codes "\n" ++ (bytes ++ codes "\n"))) × IsNumber digits (length bytes)
 
 -- `D` and a name that goes, or `K` and a name, and `V` and its value
 abbrev pub IsChange : List ℕ → List ℕ → Option (List ℕ) → Type 0
@@ -207,11 +208,11 @@ pub record IsNode (headers : List Header) (prop_bytes text_bytes : Option (List 
 abbrev pub IsAbout : List Header → Option (List ℕ) → Option (List ℕ) → Record → Type 0
 IsAbout headers prop_bytes text_bytes (Revision rev) = Says IsNumber headers (codes "Revision-number") (Some rev)
 IsAbout headers prop_bytes text_bytes (Node node) =
-    Gives headers (codes "Revision-number") None × IsOnce headers (codes "UUID") × IsOnce headers (codes "SVN-fs-dump-format-version")
+    Gives headers (codes "Revision-number") None × AtMostOnce headers (codes "UUID") × AtMostOnce headers (codes "SVN-fs-dump-format-version")
     × IsNode headers prop_bytes text_bytes node
 IsAbout headers prop_bytes text_bytes Other =
     Gives headers (codes "Revision-number") None × Gives headers (codes "Node-path") None
-    × (uuid : IsOnce headers (codes "UUID")) × (format : IsOnce headers (codes "SVN-fs-dump-format-version"))
+    × (uuid : AtMostOnce headers (codes "UUID")) × (format : AtMostOnce headers (codes "SVN-fs-dump-format-version"))
     × ((is_some uuid.0 || is_some format.0) ≡ true)
 
 -- how long each section is that is there, and maybe how long both are
@@ -230,3 +231,18 @@ pub record IsRecord (bytes : List ℕ) (what : Record) (rest : List ℕ) : Type 
   pub block : IsBlock bytes headers (unwrap_or prop_bytes [] ++ (unwrap_or text_bytes [] ++ rest))
   pub lengths : AreLengths headers prop_bytes text_bytes
   pub about : IsAbout headers prop_bytes text_bytes what
+
+-- ---- after the first record
+
+-- blank lines, the last maybe without its line feed
+pub record IsEnd (bytes : List ℕ) : Type 0 where
+  pub blank : List (List ℕ)
+  pub last : List ℕ
+  pub parts : bytes ≡ ended blank ++ last
+  pub blank_is : AllByRecursion IsBlank blank
+  pub last_is : IsBlank last
+
+-- one after another, and then the end
+abbrev pub AreRecords : List ℕ → List Record → Type 0
+AreRecords bytes [] = IsEnd bytes
+AreRecords bytes (what ∷ records) = (rest : List ℕ) × IsRecord bytes what rest × AreRecords rest records

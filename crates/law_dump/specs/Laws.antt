@@ -2,7 +2,7 @@
 --     IsNodeRecord node      what each node's record has that the types hold
 --     IsWritable limits texts node      the same, and its lengths are within the limits
 --     IsReadAs limits texts bytes records      reading record after record gives these, and then the end
-use Rattle.std.specs.Prelude.{◌≡◌, ℕ, ◌+◌, ◌^◌, ◌<◌, ◌≤◌, List, [], ◌∷◌, ◌++◌, length, codes, replicate, map, Option, Some, None, Ok, All, IsUtf8, IfSome, MatchOption, unwrap_or, option_map, Bool, true, false}
+use Rattle.std.specs.Prelude.{◌≡◌, ℕ, ◌+◌, ◌^◌, ◌<◌, ◌≤◌, List, [], ◌∷◌, ◌++◌, length, codes, replicate, map, Option, Some, None, Ok, All, IsUtf8, IfSome, MatchOption, unwrap_or, option_map}
 use Rattle.std.specs.List.{flat_map}
 use Rattle.std.specs.Map.{keys_of}
 use Rattle.hex.specs.Hex.{IsBytes}
@@ -21,13 +21,10 @@ use Rattle.svn_dump.specs.declared.record.TextSection.TheVariants as text
 use Rattle.svn_dump.specs.declared.sections.Limits.{Limits}
 use Rattle.svn_dump.specs.declared.sections.Texts.{Texts}
 use Rattle.svn_dump.specs.declared.sections.Texts.TheVariants.{Whole, Sha1}
-use Rattle.svn_dump.specs.Blocks.{block_at}
-use Rattle.svn_dump.specs.Headers.{are_headers}
-use Rattle.svn_dump.specs.Sections.{prop_section_of}
 use Rattle.svn_dump.specs.Records.{record_at, format_at}
 use Rattle.svn_digits.specs.StandIns.{stand_in, stand_in_of}
-use Rattle.law_dump.specs.Grammar.{Header, IsBlock, IsPropsOf, IsRecord, ended, header_lines}
 use Rattle.svn_dump.specs.Written.{text_bytes, prop_section, text_section, headers_of, written, revision_record, format_record}
+use Rattle.law_dump.specs.Grammar.{IsRecord, AreRecords, ended, header_lines}
 
 -- ---- which records the laws are about
 
@@ -179,22 +176,17 @@ dumps_are_read_back =
 
 -- ---- what is read is by the format
 
--- the headers that are found
-abbrev pub headers_are_by_the_format : Type 0
-headers_are_by_the_format =
-    (room : ℕ) (bytes : List ℕ) (b : ℕ) (block rest : List ℕ) → block_at false room bytes ≡ Ok (b ∷ block, rest) → are_headers (b ∷ block) ≡ true
-    → (headers : List Header) × (b ∷ block ≡ header_lines headers) × IsBlock bytes headers rest
-
--- the properties that are read
-abbrev pub props_are_by_the_format : Type 0
-props_are_by_the_format =
-    (changes : Bool) (bytes : List ℕ) (section : PropSection) → prop_section_of changes bytes ≡ Ok section → IsPropsOf changes bytes section
-
 -- What is read of a record is what is kept of one that the format gives.
 abbrev pub records_are_by_the_format : Type 0
 records_are_by_the_format =
     (limits : Limits) (texts : Texts) (bytes : List ℕ) (what : Record) (rest : List ℕ) → record_at limits texts bytes ≡ Ok (Some what, rest)
     → (whole : Record) × (what ≡ kept_record texts whole) × IsRecord bytes whole rest
+
+-- the same of record after record, up to the end
+abbrev pub dumps_are_by_the_format : Type 0
+dumps_are_by_the_format =
+    (limits : Limits) (texts : Texts) (bytes : List ℕ) (records : List Record) → IsReadAs limits texts bytes records
+    → (whole : List Record) × (records ≡ kept_records texts whole) × AreRecords bytes whole
 
 -- ---- what is by the format is read
 
@@ -209,13 +201,38 @@ pub record IsWithin (limits : Limits) (texts : Texts) {bytes : List ℕ} {what :
   pub headers_fit : length (ended r.block.blank) + length (header_lines r.headers) ≤ limits.headers
   pub node_fits : NodeFits limits texts r.prop_bytes what
 
--- each record of the format is read, within the limits
+-- each record, and the blank lines at the end
+abbrev pub AreWithin : Limits → Texts → (bytes : List ℕ) (records : List Record) → AreRecords bytes records → Type 0
+AreWithin limits texts bytes [] end = length bytes ≤ limits.headers
+AreWithin limits texts bytes (what ∷ records) are = IsWithin limits texts are.1 × AreWithin limits texts are.0 records are.2
+
 abbrev pub records_of_the_format_are_read : Type 0
 records_of_the_format_are_read =
     (limits : Limits) (texts : Texts) (bytes : List ℕ) (what : Record) (rest : List ℕ) (r : IsRecord bytes what rest) → IsWithin limits texts r
     → record_at limits texts bytes ≡ Ok (Some (kept_record texts what), rest)
 
--- no bytes are two records
+abbrev pub dumps_of_the_format_are_read : Type 0
+dumps_of_the_format_are_read =
+    (limits : Limits) (texts : Texts) (bytes : List ℕ) (records : List Record) (are : AreRecords bytes records)
+    → AreWithin limits texts bytes records are → IsReadAs limits texts bytes (kept_records texts records)
+
+-- ---- the format has one meaning
+
 abbrev pub records_are_one : Type 0
 records_are_one =
     (bytes : List ℕ) (a b : Record) (rest after : List ℕ) → IsRecord bytes a rest → IsRecord bytes b after → (a ≡ b) × (rest ≡ after)
+
+abbrev pub dumps_are_one : Type 0
+dumps_are_one = (bytes : List ℕ) (a b : List Record) → AreRecords bytes a → AreRecords bytes b → a ≡ b
+
+-- ---- what is written is by the format
+
+-- within no limits but those of numbers
+abbrev pub IsLawfulRecord : Record → Type 0
+IsLawfulRecord Other = ⊥
+IsLawfulRecord (Revision rev) = rev < 2 ^ 64
+IsLawfulRecord (Node node) = IsNodeRecord node × (props_len node + text_len node < 2 ^ 64)
+
+abbrev pub dumps_are_written_by_the_format : Type 0
+dumps_are_written_by_the_format =
+    (records : List Record) → All IsLawfulRecord records → AreRecords (flat_map written_record records) records

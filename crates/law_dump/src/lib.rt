@@ -14,7 +14,9 @@
 
 mod lawful;
 
-ghost use Rattle.law_dump.specs.Laws.{dumps_are_read_back, headers_are_by_the_format, nodes_are_read_back, props_are_by_the_format, records_are_by_the_format, records_are_one, records_of_the_format_are_read, revisions_are_read_back, whole_nodes_are_read_back};
+ghost use Rattle.law_dump.specs.Laws.{dumps_are_by_the_format, dumps_are_one, dumps_are_read_back, dumps_are_written_by_the_format, dumps_of_the_format_are_read};
+ghost use Rattle.law_dump.specs.Laws.{nodes_are_read_back, records_are_by_the_format, records_are_one};
+ghost use Rattle.law_dump.specs.Laws.{records_of_the_format_are_read, revisions_are_read_back, whole_nodes_are_read_back};
 
 pub use lawful::node_is_lawful;
 
@@ -38,19 +40,14 @@ pub fn dumps_are_read_back()
     ensures { dumps_are_read_back }
 {}
 
-/// The headers that are found are by the format.
-pub fn headers_are_by_the_format()
-    ensures { headers_are_by_the_format }
-{}
-
-/// The properties that are read are by the format.
-pub fn props_are_by_the_format()
-    ensures { props_are_by_the_format }
-{}
-
 /// What is read of a record is by the format.
 pub fn records_are_by_the_format()
     ensures { records_are_by_the_format }
+{}
+
+/// What is read of all records, up to the end, is by the format.
+pub fn dumps_are_by_the_format()
+    ensures { dumps_are_by_the_format }
 {}
 
 /// A record of the format is read as what is kept of it, within the limits.
@@ -58,7 +55,22 @@ pub fn records_of_the_format_are_read()
     ensures { records_of_the_format_are_read }
 {}
 
+/// Records of the format are read one after another, and then the end, within the limits.
+pub fn dumps_of_the_format_are_read()
+    ensures { dumps_of_the_format_are_read }
+{}
+
 /// No bytes are two records of the format.
 pub fn records_are_one()
     ensures { records_are_one }
+{}
+
+/// Nor are they two lists of records.
+pub fn dumps_are_one()
+    ensures { dumps_are_one }
+{}
+
+/// Records that were written are by the format.
+pub fn dumps_are_written_by_the_format()
+    ensures { dumps_are_written_by_the_format }
 {}
