@@ -1,20 +1,15 @@
 -- Headers that are found are lines of the format, after blank ones.
-use Rattle.std.proofs.Common.{◌≡◌, inl, inr, ◌≢◌, ℕ, ◌-◌, Bool, true, false, cond, not, ◌&&◌, ◌||◌, arith, List, [], ◌∷◌, ◌++◌, Ok, Err, refl, sym, ap, subst, ◌∙◌, append_assoc, nat_eq, true≢false, ◌+◌, length, length-append, ap₂}
+use Rattle.std.proofs.Common.{◌≡◌, inl, inr, ℕ, ◌-◌, Bool, true, false, cond, not, ◌&&◌, ◌||◌, arith, List, [], ◌∷◌, ◌++◌, Ok, Err, refl, sym, ap, subst, ◌∙◌, append_assoc, nat_eq, true≢false, ◌+◌, length, length-append, ap₂}
 use Rattle.std.specs.List.{AllByRecursion}
 use Rattle.std.proofs.lemmas.Bool.{eqb-true, ne_eqb}
 use Rattle.std.proofs.lemmas.Bool.Decides.{nat_tests}
 use Rattle.svn_dump.specs.declared.fault.Reason.TheVariants.{HeadersTooLong}
 use Rattle.svn_dump.specs.Blocks.{headers_at, block_at, with_front, is_line_feed, is_space}
-use Rattle.law_dump.specs.Grammar.{ended, begins_blank, IsBlank}
+use Rattle.law_dump.specs.Grammar.{ended, begins_blank, IsBlank, IsWhole}
 use Rattle.law_dump.proofs.Lacking.{lacks, lacks_parts}
 use Rattle.law_dump.proofs.Choices.{chosen, ok_second, front_ok, read_same}
 
 -- ---- lines
-
--- a line that isn't empty
-pub record IsWhole (l : List ℕ) : Type 0 where
-  pub plain : lacks 10 l ≡ true
-  pub some : l ≢ []
 
 -- lines up to an empty one
 record Lines (bytes block rest : List ℕ) : Type 0 where

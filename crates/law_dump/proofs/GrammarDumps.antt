@@ -11,11 +11,12 @@ use Rattle.svn_dump.specs.declared.sections.Texts.TheVariants.{Whole}
 use Rattle.svn_dump.specs.Reading.{◌>>=◌}
 use Rattle.svn_dump.specs.Blocks.{headers_at, block_at, with_front, is_line_feed, is_space}
 use Rattle.svn_dump.specs.Records.{headed_at, record_after, record_at}
-use Rattle.law_dump.specs.Laws.{IsReadAs, AreWithin, kept_record, kept_records}
-use Rattle.law_dump.specs.Grammar.{ended, IsBlank, IsRecord, IsEnd, AreRecords}
+use Rattle.law_dump.specs.Laws.{IsReadAs, IsDumpRead, AreWithin, IsDumpWithin, kept_record, kept_records}
+use Rattle.law_dump.specs.Grammar.{ended, IsBlank, IsRecord, IsEnd, AreRecords, IsDumpOf}
 use Rattle.law_dump.proofs.Lacking.{lacks, lacks_append, lacks_parts}
 use Rattle.law_dump.proofs.Choices.{chosen, ok_second, front_ok, bound_ok, read_same}
 use Rattle.law_dump.proofs.GrammarBlocks.{blank_lines_passed}
+use Rattle.law_dump.proofs.GrammarFormat.{format_found, format_given}
 use Rattle.law_dump.proofs.GrammarRecords.{record_found}
 use Rattle.law_dump.proofs.GrammarReads.{record_given, one_record, headers_len, text_len, all_within}
 use Rattle.law_dump.proofs.DumpReads.{kept_ones}
@@ -111,7 +112,7 @@ found limits texts bytes (what ∷ records) h =
       are = (h.0, one.is, more.are);
     }
 
-pub records_found : (limits : Limits) (texts : Texts) (bytes : List ℕ) (records : List Record) → IsReadAs limits texts bytes records
+records_found : (limits : Limits) (texts : Texts) (bytes : List ℕ) (records : List Record) → IsReadAs limits texts bytes records
     → (whole : List Record) × (records ≡ kept_records texts whole) × AreRecords bytes whole
 records_found limits texts bytes records h =
     let all = found limits texts bytes records h in
@@ -154,7 +155,7 @@ given limits texts bytes [] are within = end_given limits texts bytes are within
 given limits texts bytes (what ∷ records) are within =
     (are.0, record_given limits texts bytes what are.0 are.1 within.0, given limits texts are.0 records are.2 within.1)
 
-pub records_given : (limits : Limits) (texts : Texts) (bytes : List ℕ) (records : List Record) (are : AreRecords bytes records)
+records_given : (limits : Limits) (texts : Texts) (bytes : List ℕ) (records : List Record) (are : AreRecords bytes records)
     → AreWithin limits texts bytes records are → IsReadAs limits texts bytes (kept_records texts records)
 records_given limits texts bytes records are within =
     subst (IsReadAs limits texts bytes) (kept_ones texts records) (given limits texts bytes records are within)
@@ -168,7 +169,7 @@ no_end bytes what rest r e =
     let end = end_given limits Whole bytes e (omega arith) in
     none-some (kept_record Whole what) (read_same (None, []) (Some (kept_record Whole what), rest) (sym end ∙ read)).0
 
-pub one_list : (bytes : List ℕ) (a b : List Record) → AreRecords bytes a → AreRecords bytes b → a ≡ b
+one_list : (bytes : List ℕ) (a b : List Record) → AreRecords bytes a → AreRecords bytes b → a ≡ b
 one_list bytes [] [] x y = refl
 one_list bytes [] (what ∷ b) x y = absurd (no_end bytes what y.0 y.1 x)
 one_list bytes (what ∷ a) [] x y = absurd (no_end bytes what x.0 x.1 y)
@@ -176,3 +177,28 @@ one_list bytes (what ∷ a) (other ∷ b) x y =
     let first = one_record bytes what other x.0 y.0 x.1 y.1 in
     ap₂ (λ (r : Record) (l : List Record). r ∷ l) first.0
     (one_list x.0 a b x.2 (subst (λ (l : List ℕ). AreRecords l b) (sym first.1) y.2))
+
+-- ---- whole dumps
+
+pub dump_found : (limits : Limits) (texts : Texts) (bytes : List ℕ) (format : ℕ) (records : List Record)
+    → IsDumpRead limits texts bytes format records → (whole : List Record) × (records ≡ kept_records texts whole) × IsDumpOf bytes format whole
+dump_found limits texts bytes format records h =
+    let all = records_found limits texts h.0 records h.2 in
+    (all.0, all.1, record { rest = h.0; first = format_found limits bytes format h.0 h.1; are = all.2 })
+
+pub dump_given : (limits : Limits) (texts : Texts) (bytes : List ℕ) (format : ℕ) (records : List Record) (d : IsDumpOf bytes format records)
+    → IsDumpWithin limits texts d → IsDumpRead limits texts bytes format (kept_records texts records)
+dump_given limits texts bytes format records d within =
+    (d.rest, format_given limits bytes format d.rest d.first within.first_fits, records_given limits texts d.rest records d.are within.records_fit)
+
+pub one_dump : (bytes : List ℕ) (f g : ℕ) (a b : List Record) → IsDumpOf bytes f a → IsDumpOf bytes g b → (f ≡ g) × (a ≡ b)
+one_dump bytes f g a b x y =
+    let limits : Limits = record {
+      headers = (length (ended x.first.blank) + length (ended x.first.lines)) + (length (ended y.first.blank) + length (ended y.first.lines));
+      props = 0;
+      text = 0;
+    } in
+    let first = format_given limits bytes f x.rest x.first (omega arith) in
+    let second = format_given limits bytes g y.rest y.first (omega arith) in
+    let same = read_same (f, x.rest) (g, y.rest) (sym first ∙ second) in
+    (same.0, one_list x.rest a b x.are (subst (λ (l : List ℕ). AreRecords l b) (sym same.1) y.are))

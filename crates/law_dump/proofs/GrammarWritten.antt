@@ -1,5 +1,5 @@
 -- Records that were written are by the format.
-use Rattle.std.proofs.Common.{◌≡◌, ℕ, ◌+◌, ◌^◌, ◌<◌, List, [], ◌∷◌, ◌++◌, length, Option, Some, None, Ok, All, unwrap_or, IfSome, refl, sym, ap, subst, ◌∙◌, arith}
+use Rattle.std.proofs.Common.{◌≡◌, ℕ, ◌+◌, ◌^◌, ◌<◌, ◌≤◌, List, [], ◌∷◌, ◌++◌, length, Option, Some, None, Ok, All, unwrap_or, IfSome, refl, sym, ap, subst, ◌∙◌, arith}
 use Rattle.std.specs.List.{AllByRecursion, flat_map}
 use Rattle.svn_lists.proofs.Every.{all_from_places}
 use Rattle.svn_dump.specs.declared.record.NodeRecord.{NodeRecord}
@@ -9,13 +9,14 @@ use Rattle.svn_dump.specs.declared.record.TextSection.{TextSection}
 use Rattle.svn_dump.specs.declared.sections.Limits.{Limits}
 use Rattle.svn_dump.specs.declared.sections.Texts.TheVariants.{Whole}
 use Rattle.svn_dump.specs.Records.{record_at}
-use Rattle.svn_dump.specs.Written.{text_section, headers_of, written, revision_record}
+use Rattle.svn_dump.specs.Written.{text_section, headers_of, written, revision_record, format_record}
 use Rattle.law_dump.specs.Laws.{IsNodeRecord, IsLawfulRecord, CanKeep, props_len, text_len, header_room, kept_record, written_record}
-use Rattle.law_dump.specs.Grammar.{IsBlank, IsRecord, AreRecords}
+use Rattle.law_dump.specs.Grammar.{IsBlank, IsRecord, AreRecords, IsDumpOf}
+use Rattle.law_dump.proofs.GrammarFormat.{format_found}
 use Rattle.law_dump.proofs.GrammarRecords.{record_found}
 use Rattle.law_dump.proofs.GrammarReads.{whole_record}
 use Rattle.law_dump.proofs.NodeReads.{node_read}
-use Rattle.law_dump.proofs.DumpReads.{revision_read}
+use Rattle.law_dump.proofs.DumpReads.{revision_read, format_read}
 
 -- what is read as a whole is a record of the format
 of_reading : (limits : Limits) (bytes : List ℕ) (what : Record) (rest : List ℕ)
@@ -86,5 +87,13 @@ all_written (Node node ∷ records) h =
       line_before (10 ∷ bytes) records (line_before bytes records (all_written records h.1)),
     )
 
-pub records_written : (records : List Record) → All IsLawfulRecord records → AreRecords (flat_map written_record records) records
-records_written records h = all_written records (all_from_places IsLawfulRecord records h)
+pub dump_written : (format : ℕ) (records : List Record) → 2 ≤ format → format ≤ 3 → All IsLawfulRecord records
+    → IsDumpOf (format_record format ++ flat_map written_record records) format records
+dump_written format records low high h =
+    let bytes = flat_map written_record records in
+    let limits : Limits = record { headers = header_room; props = 0; text = 0 } in
+    record {
+      rest = bytes;
+      first = format_found limits (format_record format ++ bytes) format bytes (format_read limits format bytes low high (omega arith));
+      are = all_written records (all_from_places IsLawfulRecord records h);
+    }

@@ -91,6 +91,16 @@ single_given None = refl
 single_given (Some value) = refl
 
 -- each line is a header
+pub header_line_more : (name value more : List ℕ) → lacks 58 name ≡ true → lacks 10 name ≡ true → lacks 10 value ≡ true → are_headers more ≡ true
+    → are_headers (line name value ++ more) ≡ true
+header_line_more name value more plain line_like fits rest =
+    let header : is_some (header_of (header_text name value)) ≡ true = ap is_some (header_of_text name value plain) in
+    ap (list_all is_header) (lines_of_line name value more line_like fits) ∙ both (nat_eq (length (header_text name value)) 0) header rest
+  where
+    both : (b : Bool) {h r : Bool} → h ≡ true → r ≡ true → ((b || h) && r) ≡ true
+    both true e f = f
+    both false e f = rw (e, f) refl
+
 pub lines_are_headers : (fields : List Field) → AreFields fields → are_headers (lines fields) ≡ true
 lines_are_headers [] h = refl
 lines_are_headers (f ∷ fields) h = one f.0 f.1 h.0.name h.0.name_line h.0.value (lines_are_headers fields h.1)
@@ -98,11 +108,4 @@ lines_are_headers (f ∷ fields) h = one f.0 f.1 h.0.name h.0.name_line h.0.valu
     one : (own : List ℕ) (value : Option (List ℕ)) → lacks 58 own ≡ true → lacks 10 own ≡ true → is_value value ≡ true
         → are_headers (lines fields) ≡ true → are_headers (value_line own value ++ lines fields) ≡ true
     one own None plain line_like fits rest = rest
-    one own (Some value) plain line_like fits rest =
-        let header : is_some (header_of (header_text own value)) ≡ true = ap is_some (header_of_text own value plain) in
-        ap (list_all is_header) (lines_of_line own value (lines fields) line_like fits)
-        ∙ both (nat_eq (length (header_text own value)) 0) header rest
-      where
-        both : (b : Bool) {h r : Bool} → h ≡ true → r ≡ true → ((b || h) && r) ≡ true
-        both true e f = f
-        both false e f = rw (e, f) refl
+    one own (Some value) plain line_like fits rest = header_line_more own value (lines fields) plain line_like fits rest

@@ -1,5 +1,9 @@
 -- bytes that lack one: what is cut at that byte
 pub mod Lacking
+-- a value that one element of a list alone gives
+pub mod Singles
+-- what a choice or a result was
+pub mod Choices
 -- the headers of a record, as names with their values: what is looked up in their lines
 pub mod HeaderFields
 -- the bytes of a record, cut into its headers and what is after them
@@ -10,6 +14,18 @@ pub mod Decimals
 pub mod HexSums
 -- paths as texts
 pub mod PathFields
+-- by the grammar: blank lines and the lines after them
+pub mod GrammarBlocks
+-- headers, and their values by name
+pub mod GrammarHeaders
+-- what the values of headers say, once they are read
+pub mod GrammarValues
+-- what the values of headers say is read
+pub mod GrammarGiven
+-- property sections
+pub mod GrammarProps
+-- both sections
+pub mod GrammarSections
 -- property sections
 pub mod PropSections
 -- texts and text deltas
@@ -20,31 +36,19 @@ pub mod NodeFields
 pub mod FieldValues
 -- records, read from their headers on
 pub mod RecordReads
+-- the records that are read are by the grammar
+pub mod GrammarRecords
+-- the records of the grammar are read, and no bytes are two of them
+pub mod GrammarReads
 -- nodes, read as they were written
 pub mod NodeReads
 -- revisions, and whole dumps, read as they were written
 pub mod DumpReads
+-- the first record, which gives the format
+pub mod GrammarFormat
+-- whole dumps
+pub mod GrammarDumps
+-- what was written is by the grammar
+pub mod GrammarWritten
 -- worked examples, computed
 pub mod Rows
--- what a choice or a result was
-pub mod Choices
--- headers that are found are lines of the format
-pub mod GrammarBlocks
--- lines that are headers, and their values by name
-pub mod GrammarHeaders
--- property sections that are read are by the format
-pub mod GrammarProps
--- what the values of headers say
-pub mod GrammarValues
--- the sections that are read
-pub mod GrammarSections
--- the records that are read
-pub mod GrammarRecords
--- what the values of headers say is read
-pub mod GrammarGiven
--- the records of the format are read
-pub mod GrammarReads
--- records one after another, and the end
-pub mod GrammarDumps
--- records that were written are by the format
-pub mod GrammarWritten

@@ -5,6 +5,7 @@
 --     IsNode headers props text node      the headers and the sections are those of the node
 --     IsRecord bytes what rest      the bytes are the record, whose text is as it was written, and then the rest
 --     AreRecords bytes records      the bytes are the records, and then the end
+--     IsDumpOf bytes format records      the bytes are a dump: a record that gives the format, and these records
 use Rattle.std.specs.Prelude.{◌≡◌, ◌≢◌, ℕ, ◌+◌, ◌≤◌, Bool, true, false, not, ◌||◌, List, [], ◌∷◌, ◌++◌, length, nat_eq, codes, Option, Some, None, is_some, IsSome, IfSome, option_map, unwrap_or, Ok}
 use Rattle.std.specs.List.{list_all, flat_map, AllByRecursion}
 use Rattle.std.specs.Option.{option_or}
@@ -48,6 +49,10 @@ begins_blank (b ∷ bs) = is_space b
 pub record IsBlank (l : List ℕ) : Type 0 where
   pub whole : lacks 10 l ≡ true
   pub blank : begins_blank l ≡ true
+
+pub record IsWhole (l : List ℕ) : Type 0 where
+  pub plain : lacks 10 l ≡ true
+  pub some : l ≢ []
 
 -- ---- headers
 
@@ -232,7 +237,31 @@ pub record IsRecord (bytes : List ℕ) (what : Record) (rest : List ℕ) : Type 
   pub lengths : AreLengths headers prop_bytes text_bytes
   pub about : IsAbout headers prop_bytes text_bytes what
 
--- ---- after the first record
+-- ---- dumps
+
+-- no line is the header of this name
+abbrev pub IsOther : List ℕ → List (List ℕ) → Type 0
+IsOther name lines = AllByRecursion (λ (l : List ℕ). (value : List ℕ) → l ≢ name ++ (codes ": " ++ value)) lines
+
+-- one line alone is the header of this name, whatever the others are
+abbrev pub HasLine : List (List ℕ) → List ℕ → List ℕ → Type 0
+HasLine lines name value =
+    (before : List (List ℕ)) × (after : List (List ℕ)) × (lines ≡ before ++ ((name ++ (codes ": " ++ value)) ∷ after)) × IsOther name before
+    × IsOther name after
+
+-- the first record: blank lines, lines of which one gives the format, and an empty line
+pub record IsFormat (bytes : List ℕ) (format : ℕ) (rest : List ℕ) : Type 0 where
+  pub blank : List (List ℕ)
+  pub lines : List (List ℕ)
+  pub parts : bytes ≡ ended blank ++ (ended lines ++ (codes "\n" ++ rest))
+  pub blank_is : AllByRecursion IsBlank blank
+  pub whole : AllByRecursion IsWhole lines
+  pub begins : begins_blank (ended lines) ≡ false
+  pub digits : List ℕ
+  pub line_is : HasLine lines (codes "SVN-fs-dump-format-version") digits
+  pub number : IsNumber digits format
+  pub low : 2 ≤ format
+  pub high : format ≤ 3
 
 -- blank lines, the last maybe without its line feed
 pub record IsEnd (bytes : List ℕ) : Type 0 where
@@ -246,3 +275,8 @@ pub record IsEnd (bytes : List ℕ) : Type 0 where
 abbrev pub AreRecords : List ℕ → List Record → Type 0
 AreRecords bytes [] = IsEnd bytes
 AreRecords bytes (what ∷ records) = (rest : List ℕ) × IsRecord bytes what rest × AreRecords rest records
+
+pub record IsDumpOf (bytes : List ℕ) (format : ℕ) (records : List Record) : Type 0 where
+  pub rest : List ℕ
+  pub first : IsFormat bytes format rest
+  pub are : AreRecords rest records

@@ -24,7 +24,7 @@ use Rattle.svn_dump.specs.declared.sections.Texts.TheVariants.{Whole, Sha1}
 use Rattle.svn_dump.specs.Records.{record_at, format_at}
 use Rattle.svn_digits.specs.StandIns.{stand_in, stand_in_of}
 use Rattle.svn_dump.specs.Written.{text_bytes, prop_section, text_section, headers_of, written, revision_record, format_record}
-use Rattle.law_dump.specs.Grammar.{IsRecord, AreRecords, ended, header_lines}
+use Rattle.law_dump.specs.Grammar.{IsRecord, AreRecords, IsDumpOf, ended, header_lines}
 
 -- ---- which records the laws are about
 
@@ -182,11 +182,15 @@ records_are_by_the_format =
     (limits : Limits) (texts : Texts) (bytes : List ℕ) (what : Record) (rest : List ℕ) → record_at limits texts bytes ≡ Ok (Some what, rest)
     → (whole : Record) × (what ≡ kept_record texts whole) × IsRecord bytes whole rest
 
--- the same of record after record, up to the end
+-- the format is read of the first record, then record after record, and then the end
+abbrev pub IsDumpRead : Limits → Texts → List ℕ → ℕ → List Record → Type 0
+IsDumpRead limits texts bytes format records =
+    (rest : List ℕ) × (format_at limits bytes ≡ Ok (format, rest)) × IsReadAs limits texts rest records
+
 abbrev pub dumps_are_by_the_format : Type 0
 dumps_are_by_the_format =
-    (limits : Limits) (texts : Texts) (bytes : List ℕ) (records : List Record) → IsReadAs limits texts bytes records
-    → (whole : List Record) × (records ≡ kept_records texts whole) × AreRecords bytes whole
+    (limits : Limits) (texts : Texts) (bytes : List ℕ) (format : ℕ) (records : List Record) → IsDumpRead limits texts bytes format records
+    → (whole : List Record) × (records ≡ kept_records texts whole) × IsDumpOf bytes format whole
 
 -- ---- what is by the format is read
 
@@ -211,10 +215,15 @@ records_of_the_format_are_read =
     (limits : Limits) (texts : Texts) (bytes : List ℕ) (what : Record) (rest : List ℕ) (r : IsRecord bytes what rest) → IsWithin limits texts r
     → record_at limits texts bytes ≡ Ok (Some (kept_record texts what), rest)
 
+-- the lines of the first record too
+pub record IsDumpWithin (limits : Limits) (texts : Texts) {bytes : List ℕ} {format : ℕ} {records : List Record} (d : IsDumpOf bytes format records) : Type 0 where
+  pub first_fits : length (ended d.first.blank) + length (ended d.first.lines) ≤ limits.headers
+  pub records_fit : AreWithin limits texts d.rest records d.are
+
 abbrev pub dumps_of_the_format_are_read : Type 0
 dumps_of_the_format_are_read =
-    (limits : Limits) (texts : Texts) (bytes : List ℕ) (records : List Record) (are : AreRecords bytes records)
-    → AreWithin limits texts bytes records are → IsReadAs limits texts bytes (kept_records texts records)
+    (limits : Limits) (texts : Texts) (bytes : List ℕ) (format : ℕ) (records : List Record) (d : IsDumpOf bytes format records)
+    → IsDumpWithin limits texts d → IsDumpRead limits texts bytes format (kept_records texts records)
 
 -- ---- the format has one meaning
 
@@ -223,7 +232,8 @@ records_are_one =
     (bytes : List ℕ) (a b : Record) (rest after : List ℕ) → IsRecord bytes a rest → IsRecord bytes b after → (a ≡ b) × (rest ≡ after)
 
 abbrev pub dumps_are_one : Type 0
-dumps_are_one = (bytes : List ℕ) (a b : List Record) → AreRecords bytes a → AreRecords bytes b → a ≡ b
+dumps_are_one =
+    (bytes : List ℕ) (f g : ℕ) (a b : List Record) → IsDumpOf bytes f a → IsDumpOf bytes g b → (f ≡ g) × (a ≡ b)
 
 -- ---- what is written is by the format
 
@@ -235,4 +245,5 @@ IsLawfulRecord (Node node) = IsNodeRecord node × (props_len node + text_len nod
 
 abbrev pub dumps_are_written_by_the_format : Type 0
 dumps_are_written_by_the_format =
-    (records : List Record) → All IsLawfulRecord records → AreRecords (flat_map written_record records) records
+    (format : ℕ) (records : List Record) → 2 ≤ format → format ≤ 3 → All IsLawfulRecord records
+    → IsDumpOf (format_record format ++ flat_map written_record records) format records

@@ -1,6 +1,6 @@
-//! The laws of dumps: what is written of a record is read as that record, and what is written of a whole dump as its records. They are stated over
-//! the definitions of `svn_dump` alone, in `specs/Laws.antt`. Each law is the contract of a function that does nothing: who calls the function has
-//! the law.
+//! The laws of dumps. They are stated over the definitions of `svn_dump` and over a grammar of the format, `specs/Grammar.antt`, which says which
+//! bytes are a dump without limits, faults or an order of reading. The laws are in `specs/Laws.antt`; each is the contract of a function that does
+//! nothing: who calls the function has the law.
 //!
 //! ```
 //! node_is_lawful(&node);
@@ -8,8 +8,11 @@
 //! // from here on the proof knows that a reader whose limits the node is within reads what `push_node` wrote as the node
 //! ```
 //!
-//! Their premise is `IsWritable`: the record is lawful, as each is that the types hold ([`node_is_lawful`]), and its lengths are within the reader's
-//! limits. With the contracts of `push_node` and `Reader::next_record` a reader returns the records that were written, in their order.
+//! - What is written is read back. The premise is `IsWritable`: the record is lawful, as each is that the types hold ([`node_is_lawful`]), and its
+//!   lengths are within the reader's limits. With the contracts of `push_node` and `Reader::next_record` a reader returns the records that were
+//!   written, in their order.
+//! - What is read is by the grammar, and so is what is written; what is by it is read as what it says, if it is within the reader's limits
+//!   (`IsWithin`, `IsDumpWithin`); and no bytes are two dumps by it.
 #![tactic(auto)]
 
 mod lawful;
@@ -45,7 +48,7 @@ pub fn records_are_by_the_format()
     ensures { records_are_by_the_format }
 {}
 
-/// What is read of all records, up to the end, is by the format.
+/// What is read of a whole dump is by the format.
 pub fn dumps_are_by_the_format()
     ensures { dumps_are_by_the_format }
 {}
@@ -55,7 +58,7 @@ pub fn records_of_the_format_are_read()
     ensures { records_of_the_format_are_read }
 {}
 
-/// Records of the format are read one after another, and then the end, within the limits.
+/// A dump of the format is read as what is kept of its records, within the limits.
 pub fn dumps_of_the_format_are_read()
     ensures { dumps_of_the_format_are_read }
 {}
@@ -65,12 +68,12 @@ pub fn records_are_one()
     ensures { records_are_one }
 {}
 
-/// Nor are they two lists of records.
+/// Nor are they two dumps.
 pub fn dumps_are_one()
     ensures { dumps_are_one }
 {}
 
-/// Records that were written are by the format.
+/// A dump that was written is by the format.
 pub fn dumps_are_written_by_the_format()
     ensures { dumps_are_written_by_the_format }
 {}

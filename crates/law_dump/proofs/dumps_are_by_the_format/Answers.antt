@@ -1,5 +1,5 @@
-use Rattle.law_dump.proofs.GrammarDumps.{records_found}
+use Rattle.law_dump.proofs.GrammarDumps.{dump_found}
 use Rattle.law_dump.proofs.dumps_are_by_the_format.Goals as goal
 
 pub returns : goal.returns
-returns c = records_found
+returns c = dump_found
