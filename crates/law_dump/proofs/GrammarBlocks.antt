@@ -1,4 +1,4 @@
--- Headers that are found are lines of the format, after blank ones.
+-- Headers that are found are lines of the grammar, after blank ones.
 use Rattle.std.proofs.Common.{◌≡◌, inl, inr, ℕ, ◌-◌, Bool, true, false, cond, not, ◌&&◌, ◌||◌, arith, List, [], ◌∷◌, ◌++◌, Ok, Err, refl, sym, ap, subst, ◌∙◌, append_assoc, nat_eq, true≢false, ◌+◌, length, length-append, ap₂}
 use Rattle.std.specs.List.{AllByRecursion}
 use Rattle.std.proofs.lemmas.Bool.{eqb-true, ne_eqb}

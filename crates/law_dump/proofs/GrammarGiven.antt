@@ -1,4 +1,4 @@
--- What the values of headers say by the format is read of them.
+-- What the values of headers say by the grammar is read of them.
 use Rattle.std.proofs.Common.{◌≡◌, ◌≢◌, ℕ, Bool, true, false, List, [], Option, Some, None, Result, Ok, unwrap_or, is_some, refl, sym, ap, ◌∙◌, bytes_eq, codes}
 use Rattle.std.specs.List.{AllByRecursion}
 use Rattle.svn_lists.proofs.Tests.{false_from_clash}

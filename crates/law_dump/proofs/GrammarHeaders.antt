@@ -1,4 +1,4 @@
--- Lines that are headers, as headers of the format, and their values by name.
+-- Lines that are headers, as headers of the grammar, and their values by name.
 use Rattle.std.proofs.Common.{◌≡◌, inl, inr, ◌≢◌, ℕ, Bool, true, false, cond, not, ◌||◌, List, [], ◌∷◌, ◌++◌, length, map, Option, Some, None, Ok, refl, sym, ap, subst, ◌∙◌, arith, append_assoc, nat_eq, bytes_eq, is_some, true≢false, ◌+◌, ◌-◌, ◌≤◌, ap₂, ◌&&◌}
 use Rattle.std.specs.List.{AllByRecursion, list_all, filter_map, cons_option}
 use Rattle.std.proofs.lemmas.Bool.{eqb-true, ne_eqb, and_parts}
@@ -183,7 +183,7 @@ gives_only name headers (Some value) h =
       none_after = none h.1 h.4;
     }
 
--- a value that is looked up in headers of the format is the one that they give
+-- a value that is looked up in headers of the grammar is the one that they give
 pub value_gives : (headers : List Header) (name : List ℕ) (o : Option (List ℕ)) → AllByRecursion IsHeader headers
     → header_value (header_lines headers) name ≡ Ok o → Gives headers name o
 value_gives headers name o h e = only_gives name headers o (found_only (value_if name) headers o (sym (ap single (values_are name headers h)) ∙ e))

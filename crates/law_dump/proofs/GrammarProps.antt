@@ -1,4 +1,4 @@
--- Property sections that are read are by the format, and those of the format are read.
+-- Property sections that are read are by the grammar, and those of the grammar are read.
 use Rattle.std.proofs.Common.{◌≡◌, inl, inr, ℕ, arith, zero, suc, ◌+◌, Bool, true, false, cond, ◌&&◌, List, [], ◌∷◌, ◌++◌, length, take, drop, Option, Some, None, Ok, Err, refl, sym, ap, ap₂, subst, ◌∙◌, append_assoc, nat_eq, nat_lt, get_or, codes, IsSome, true≢false, nat_le, length-append, ◌≤◌}
 use Rattle.std.specs.List.{AllByRecursion, list_all}
 use Rattle.std.specs.Prelude.{slice_index}
@@ -224,7 +224,7 @@ props_in false bytes section h =
     subst (IsPropsOf false bytes) (ok_same (props.Whole all.0) section all.2)
     (changes.0, found.are, found.set refl, sym (ok_same (with_changes [] changes.0) all.0 changes.2))
 
--- ---- runs of the format are read
+-- ---- runs of the grammar are read
 
 -- a number that is spelled has no line feed
 digits_lack : (digits : List ℕ) (n : ℕ) → number_of digits ≡ Some n → lacks 10 digits ≡ true
@@ -282,7 +282,7 @@ run_some : (letter : ℕ) (run content : List ℕ) → IsRun letter run content 
 run_some letter run content is =
     let long = ap length is.1 in omega (arith, long, length-append (letter ∷ 32 ∷ is.0) (10 ∷ (content ++ 10 ∷ [])))
 
--- ---- changes of the format are read
+-- ---- changes of the grammar are read
 
 no_prop_name_fault : (n : List ℕ) → IsPropName n → prop_name_fault n ≡ None
 no_prop_name_fault n h = some n h.bounded h.text

@@ -1,4 +1,4 @@
--- The records of the format are read, within the limits, and so no bytes are two of them.
+-- The records of the grammar are read, within the limits, and so no bytes are two of them.
 use Rattle.std.proofs.Common.{◌≡◌, ℕ, ◌+◌, ◌≤◌, Bool, true, false, ◌||◌, List, [], ◌∷◌, ◌++◌, length, Option, Some, None, Ok, option_map, unwrap_or, is_some, IfSome, refl, sym, ap, ap₂, ◌∙◌, arith, codes, true≢false}
 use Rattle.std.specs.List.{AllByRecursion}
 use Rattle.std.proofs.lemmas.Bool.{eq-eqb}

@@ -1,4 +1,4 @@
--- The records that are read are by the format.
+-- The records that are read are by the grammar.
 use Rattle.std.proofs.Common.{◌≡◌, ℕ, ◌+◌, Bool, true, false, ◌||◌, List, [], ◌∷◌, ◌++◌, length, Option, Some, None, Ok, Err, option_map, unwrap_or, IfSome, refl, sym, ap, ap₂, subst, ◌∙◌, nat_eq, codes}
 use Rattle.std.specs.List.{AllByRecursion}
 use Rattle.std.proofs.lemmas.Bool.{eqb-true}
@@ -175,7 +175,7 @@ fields_say headers node are h =
     subst (FieldsSay headers) (ok_same _ _ d.2)
     (record { path = a.1; kind = kind_says headers b.0 are b.1; action = action_says headers c.0 are c.1; source = source_says headers d.0 are d.1 })
 
--- the text is kept of one that the format gives
+-- the text is kept of one that the grammar gives
 record KeptGiven (texts : Texts) (flag : Bool) (base sums : Sums) (own : Option (List ℕ)) (o : Option TextSection) : Type 0 where
   whole : Option TextSection
   is : IsGiven (IsTextOf flag base sums) own whole
@@ -318,7 +318,7 @@ passed_read headers what what_read bytes rest are h =
 
 -- ---- records
 
--- what is read of a record is what is kept of one of the format
+-- what is read of a record is what is kept of one of the grammar
 pub record RecordRead (texts : Texts) (bytes : List ℕ) (what : Record) (rest : List ℕ) : Type 0 where
   pub whole : Record
   pub what_is : what ≡ kept_record texts whole

@@ -1,4 +1,4 @@
--- The sections that are read are by the format, and those of the format are read.
+-- The sections that are read are by the grammar, and those of the grammar are read.
 use Rattle.std.proofs.Common.{◌≡◌, ℕ, ◌≤◌, Bool, true, false, cond, not, List, [], ◌∷◌, ◌++◌, length, take, drop, Option, Some, None, Ok, Err, option_map, unwrap_or, IfSome, refl, sym, ap, ap₂, subst, ◌∙◌, arith, nat_lt, true≢false, MatchOption, bytes_eq, length-append}
 use Rattle.std.proofs.lemmas.Bool.{ltb-false, le-ltb}
 use Rattle.std.proofs.Math.Seq.{take-append_seam, drop-append_seam}
@@ -118,7 +118,7 @@ sized_props_found flag limit n bytes section rest h =
 
 -- ---- texts
 
--- the text is kept of one that the format gives
+-- the text is kept of one that the grammar gives
 pub record KeptText (texts : Texts) (flag : Bool) (base sums : Sums) (own : List ℕ) (t : TextSection) : Type 0 where
   pub whole : TextSection
   pub is : IsTextOf flag base sums own whole
@@ -229,7 +229,7 @@ sized_text_found Whole props len changes_props false base sums limit n bytes t r
     whole_found Whole base sums n bytes t rest (ok_second (nat_lt limit n) (TextTooLong n limit) all (t, rest) h).1
 sized_text_found Sha1 props len changes_props false base sums limit n bytes t rest h = whole_found Sha1 base sums n bytes t rest h
 
--- ---- sections of the format are read
+-- ---- sections of the grammar are read
 
 pub cut_whole : (front rest : List ℕ) → bytes_at (length front) (front ++ rest) ≡ Ok (front, rest)
 cut_whole front rest =

@@ -1,4 +1,4 @@
--- Records that were written are by the format.
+-- Records that were written are by the grammar.
 use Rattle.std.proofs.Common.{◌≡◌, ℕ, ◌+◌, ◌^◌, ◌<◌, ◌≤◌, List, [], ◌∷◌, ◌++◌, length, Option, Some, None, Ok, All, unwrap_or, IfSome, refl, sym, ap, subst, ◌∙◌, arith}
 use Rattle.std.specs.List.{AllByRecursion, flat_map}
 use Rattle.svn_lists.proofs.Every.{all_from_places}
@@ -18,7 +18,7 @@ use Rattle.law_dump.proofs.GrammarReads.{whole_record}
 use Rattle.law_dump.proofs.NodeReads.{node_read}
 use Rattle.law_dump.proofs.DumpReads.{revision_read, format_read}
 
--- what is read as a whole is a record of the format
+-- what is read as a whole is a record of the grammar
 of_reading : (limits : Limits) (bytes : List ℕ) (what : Record) (rest : List ℕ)
     → record_at limits Whole bytes ≡ Ok (Some (kept_record Whole what), rest) → IsRecord bytes what rest
 of_reading limits bytes what rest h =

@@ -26,9 +26,9 @@ pub mod GrammarGiven
 pub mod GrammarProps
 -- both sections
 pub mod GrammarSections
--- property sections
+-- property sections that are written
 pub mod PropSections
--- texts and text deltas
+-- texts and text deltas that are written
 pub mod TextSections
 -- the headers of a node, as names with their values
 pub mod NodeFields
@@ -52,3 +52,5 @@ pub mod GrammarDumps
 pub mod GrammarWritten
 -- worked examples, computed
 pub mod Rows
+-- a worked example of the grammar, computed
+pub mod GrammarRows

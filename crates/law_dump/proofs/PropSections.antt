@@ -23,7 +23,7 @@ use Rattle.law_dump.proofs.GrammarProps.{props_given}
 use Rattle.law_dump.proofs.GrammarSections.{cut_whole}
 use Rattle.law_dump.proofs.Decimals.{number_of_decimal}
 
--- ---- changes that are written are by the format
+-- ---- changes that are written are by the grammar
 
 run_is : (letter : ℕ) (bytes : List ℕ) → length bytes < 2 ^ 64 → IsRun letter (run letter bytes) bytes
 run_is letter bytes small =
@@ -112,7 +112,7 @@ abbrev pub is_delta : PropSection → Bool
 is_delta (props.Whole all) = false
 is_delta (props.Delta changes) = true
 
--- a section that is written is by the format
+-- a section that is written is by the grammar
 pub section_is : (section : PropSection) → IsPropSection section → length (prop_bytes section) < 2 ^ 64
     → IsPropsOf (is_delta section) (prop_bytes section) section
 section_is (props.Whole all) h small =

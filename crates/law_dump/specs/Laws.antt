@@ -2,6 +2,8 @@
 --     IsNodeRecord node      what each node's record has that the types hold
 --     IsWritable limits texts node      the same, and its lengths are within the limits
 --     IsReadAs limits texts bytes records      reading record after record gives these, and then the end
+--     IsDumpRead limits texts bytes format records      the same after the first record, which gives the format
+--     IsWithin limits texts r      a record of the grammar is within the limits
 use Rattle.std.specs.Prelude.{◌≡◌, ℕ, ◌+◌, ◌^◌, ◌<◌, ◌≤◌, List, [], ◌∷◌, ◌++◌, length, codes, replicate, map, Option, Some, None, Ok, All, IsUtf8, IfSome, MatchOption, unwrap_or, option_map}
 use Rattle.std.specs.List.{flat_map}
 use Rattle.std.specs.Map.{keys_of}
@@ -174,11 +176,11 @@ dumps_are_read_back =
     → (let bytes = flat_map written_record records in
     (format_at limits (format_record format ++ bytes) ≡ Ok (format, bytes)) × IsReadAs limits texts bytes (kept_records texts records))
 
--- ---- what is read is by the format
+-- ---- what is read is by the grammar
 
--- What is read of a record is what is kept of one that the format gives.
-abbrev pub records_are_by_the_format : Type 0
-records_are_by_the_format =
+-- What is read of a record is what is kept of one that the grammar gives.
+abbrev pub records_are_by_the_grammar : Type 0
+records_are_by_the_grammar =
     (limits : Limits) (texts : Texts) (bytes : List ℕ) (what : Record) (rest : List ℕ) → record_at limits texts bytes ≡ Ok (Some what, rest)
     → (whole : Record) × (what ≡ kept_record texts whole) × IsRecord bytes whole rest
 
@@ -187,12 +189,12 @@ abbrev pub IsDumpRead : Limits → Texts → List ℕ → ℕ → List Record �
 IsDumpRead limits texts bytes format records =
     (rest : List ℕ) × (format_at limits bytes ≡ Ok (format, rest)) × IsReadAs limits texts rest records
 
-abbrev pub dumps_are_by_the_format : Type 0
-dumps_are_by_the_format =
+abbrev pub dumps_are_by_the_grammar : Type 0
+dumps_are_by_the_grammar =
     (limits : Limits) (texts : Texts) (bytes : List ℕ) (format : ℕ) (records : List Record) → IsDumpRead limits texts bytes format records
     → (whole : List Record) × (records ≡ kept_records texts whole) × IsDumpOf bytes format whole
 
--- ---- what is by the format is read
+-- ---- what is by the grammar is read
 
 abbrev pub NodeFits : Limits → Texts → Option (List ℕ) → Record → Type 0
 NodeFits limits texts prop_bytes Other = Unit {0}
@@ -210,8 +212,8 @@ abbrev pub AreWithin : Limits → Texts → (bytes : List ℕ) (records : List R
 AreWithin limits texts bytes [] end = length bytes ≤ limits.headers
 AreWithin limits texts bytes (what ∷ records) are = IsWithin limits texts are.1 × AreWithin limits texts are.0 records are.2
 
-abbrev pub records_of_the_format_are_read : Type 0
-records_of_the_format_are_read =
+abbrev pub records_of_the_grammar_are_read : Type 0
+records_of_the_grammar_are_read =
     (limits : Limits) (texts : Texts) (bytes : List ℕ) (what : Record) (rest : List ℕ) (r : IsRecord bytes what rest) → IsWithin limits texts r
     → record_at limits texts bytes ≡ Ok (Some (kept_record texts what), rest)
 
@@ -220,12 +222,12 @@ pub record IsDumpWithin (limits : Limits) (texts : Texts) {bytes : List ℕ} {fo
   pub first_fits : length (ended d.first.blank) + length (ended d.first.lines) ≤ limits.headers
   pub records_fit : AreWithin limits texts d.rest records d.are
 
-abbrev pub dumps_of_the_format_are_read : Type 0
-dumps_of_the_format_are_read =
+abbrev pub dumps_of_the_grammar_are_read : Type 0
+dumps_of_the_grammar_are_read =
     (limits : Limits) (texts : Texts) (bytes : List ℕ) (format : ℕ) (records : List Record) (d : IsDumpOf bytes format records)
     → IsDumpWithin limits texts d → IsDumpRead limits texts bytes format (kept_records texts records)
 
--- ---- the format has one meaning
+-- ---- the grammar has one meaning
 
 abbrev pub records_are_one : Type 0
 records_are_one =
@@ -235,7 +237,7 @@ abbrev pub dumps_are_one : Type 0
 dumps_are_one =
     (bytes : List ℕ) (f g : ℕ) (a b : List Record) → IsDumpOf bytes f a → IsDumpOf bytes g b → (f ≡ g) × (a ≡ b)
 
--- ---- what is written is by the format
+-- ---- what is written is by the grammar
 
 -- within no limits but those of numbers
 abbrev pub IsLawfulRecord : Record → Type 0
@@ -243,7 +245,7 @@ IsLawfulRecord Other = ⊥
 IsLawfulRecord (Revision rev) = rev < 2 ^ 64
 IsLawfulRecord (Node node) = IsNodeRecord node × (props_len node + text_len node < 2 ^ 64)
 
-abbrev pub dumps_are_written_by_the_format : Type 0
-dumps_are_written_by_the_format =
+abbrev pub dumps_are_written_by_the_grammar : Type 0
+dumps_are_written_by_the_grammar =
     (format : ℕ) (records : List Record) → 2 ≤ format → format ≤ 3 → All IsLawfulRecord records
     → IsDumpOf (format_record format ++ flat_map written_record records) format records

@@ -17,9 +17,9 @@
 
 mod lawful;
 
-ghost use Rattle.law_dump.specs.Laws.{dumps_are_by_the_format, dumps_are_one, dumps_are_read_back, dumps_are_written_by_the_format, dumps_of_the_format_are_read};
-ghost use Rattle.law_dump.specs.Laws.{nodes_are_read_back, records_are_by_the_format, records_are_one};
-ghost use Rattle.law_dump.specs.Laws.{records_of_the_format_are_read, revisions_are_read_back, whole_nodes_are_read_back};
+ghost use Rattle.law_dump.specs.Laws.{dumps_are_by_the_grammar, dumps_are_one, dumps_are_read_back, dumps_are_written_by_the_grammar, dumps_of_the_grammar_are_read};
+ghost use Rattle.law_dump.specs.Laws.{nodes_are_read_back, records_are_by_the_grammar, records_are_one};
+ghost use Rattle.law_dump.specs.Laws.{records_of_the_grammar_are_read, revisions_are_read_back, whole_nodes_are_read_back};
 
 pub use lawful::node_is_lawful;
 
@@ -43,27 +43,27 @@ pub fn dumps_are_read_back()
     ensures { dumps_are_read_back }
 {}
 
-/// What is read of a record is by the format.
-pub fn records_are_by_the_format()
-    ensures { records_are_by_the_format }
+/// What is read of a record is by the grammar.
+pub fn records_are_by_the_grammar()
+    ensures { records_are_by_the_grammar }
 {}
 
-/// What is read of a whole dump is by the format.
-pub fn dumps_are_by_the_format()
-    ensures { dumps_are_by_the_format }
+/// What is read of a whole dump is by the grammar.
+pub fn dumps_are_by_the_grammar()
+    ensures { dumps_are_by_the_grammar }
 {}
 
-/// A record of the format is read as what is kept of it, within the limits.
-pub fn records_of_the_format_are_read()
-    ensures { records_of_the_format_are_read }
+/// A record of the grammar is read as what is kept of it, within the limits.
+pub fn records_of_the_grammar_are_read()
+    ensures { records_of_the_grammar_are_read }
 {}
 
-/// A dump of the format is read as what is kept of its records, within the limits.
-pub fn dumps_of_the_format_are_read()
-    ensures { dumps_of_the_format_are_read }
+/// A dump of the grammar is read as what is kept of its records, within the limits.
+pub fn dumps_of_the_grammar_are_read()
+    ensures { dumps_of_the_grammar_are_read }
 {}
 
-/// No bytes are two records of the format.
+/// No bytes are two records of the grammar.
 pub fn records_are_one()
     ensures { records_are_one }
 {}
@@ -73,7 +73,7 @@ pub fn dumps_are_one()
     ensures { dumps_are_one }
 {}
 
-/// A dump that was written is by the format.
-pub fn dumps_are_written_by_the_format()
-    ensures { dumps_are_written_by_the_format }
+/// A dump that was written is by the grammar.
+pub fn dumps_are_written_by_the_grammar()
+    ensures { dumps_are_written_by_the_grammar }
 {}

@@ -1,5 +1,5 @@
 use Rattle.law_dump.proofs.GrammarRecords.{record_found}
-use Rattle.law_dump.proofs.records_are_by_the_format.Goals as goal
+use Rattle.law_dump.proofs.records_are_by_the_grammar.Goals as goal
 
 pub returns : goal.returns
 returns c =
