@@ -33,7 +33,8 @@ line_cut : (bytes : List ℕ) (n : ℕ) (content rest : List ℕ) → cut_line b
 line_cut bytes n content rest h = by (nat_lt n (length bytes) && nat_eq (slice_index bytes n) 10) refl h
   where
     by : (b : Bool) → (nat_lt n (length bytes) && nat_eq (slice_index bytes n) 10) ≡ b
-        → cond {A = Option (List ℕ × List ℕ)} b (Some (take n bytes, drop (n + 1) bytes)) None ≡ Some (content, rest) → (bytes ≡ content ++ 10 ∷ rest) × (length content ≡ n)
+        → cond {A = Option (List ℕ × List ℕ)} b (Some (take n bytes, drop (n + 1) bytes)) None ≡ Some (content, rest)
+        → (bytes ≡ content ++ 10 ∷ rest) × (length content ≡ n)
     by false e k = absurd (none-some (content, rest) k)
     by true e k =
         let tests = and_parts (nat_lt n (length bytes)) (nat_eq (slice_index bytes n) 10) e in

@@ -179,7 +179,9 @@ whole_found : (texts : Texts) (base sums : Sums) (n : ℕ) (bytes : List ℕ) (t
 unfolding TextFound
 whole_found texts base sums n bytes t rest h =
     let all = bound_ok (whole_text_at texts (record { md5 = sums.md5; sha1 = sums.sha1 }) n bytes) (as_text text.Whole) (t, rest) h in
-    let read = bound_ok (bytes_at n bytes) (λ read. checked (record { md5 = sums.md5; sha1 = sums.sha1 }) read.0 >>= λ whole. Ok (kept texts whole, read.1)) all.0 all.1 in
+    let read =
+    bound_ok (bytes_at n bytes)
+    (λ read. checked (record { md5 = sums.md5; sha1 = sums.sha1 }) read.0 >>= λ whole. Ok (kept texts whole, read.1)) all.0 all.1 in
     let whole = bound_ok (checked (record { md5 = sums.md5; sha1 = sums.sha1 }) read.0.0) (λ whole. Ok (kept texts whole, read.0.1)) all.0 read.2 in
     let c = checked_ok sums read.0.0 whole.0 whole.1 in
     let kept_same = read_same (kept texts whole.0, read.0.1) all.0 whole.2 in

@@ -31,7 +31,8 @@ use Rattle.law_dump.proofs.GrammarHeaders.{value_gives}
 -- ---- any value
 
 -- a value that is read where there is one
-pub says : {A : Type 0} (Spells : List ℕ → A → Type 0) (headers : List Header) (name : List ℕ) (read : Option (List ℕ) → Result (Option A) Reason) (o : Option A)
+pub says : {A : Type 0} (Spells : List ℕ → A → Type 0) (headers : List Header) (name : List ℕ)
+    (read : Option (List ℕ) → Result (Option A) Reason) (o : Option A)
     → read None ≡ Ok None
     → ((value : List ℕ) (o : Option A) → read (Some value) ≡ Ok o → (x : A) × (Some x ≡ o) × Spells value x)
     → AllByRecursion IsHeader headers → (header_value (header_lines headers) name >>= read) ≡ Ok o → Says Spells headers name o

@@ -93,4 +93,8 @@ utf8_path (n ∷ path) h = IsUtf8-append n (below path) (All-head IsUtf8 n path 
 pub path_of_path_text : (path : Path) → IsPath path → path_of (path_text path) ≡ Ok path
 path_of_path_text path h =
     ap path_of_bytes (no_slash path h.names)
-    ∙ rw (is_utf8-from_IsUtf8 (path_text path) (utf8_path path h.texts), spelled_path path h.names, no_path_fault path (all_from_places IsName path h.names) h.bounded) refl
+    ∙ rw (
+      is_utf8-from_IsUtf8 (path_text path) (utf8_path path h.texts),
+      spelled_path path h.names,
+      no_path_fault path (all_from_places IsName path h.names) h.bounded,
+    ) refl

@@ -4,7 +4,6 @@ use Rattle.std.specs.List.{flat_map, AllByRecursion}
 use Rattle.std.specs.BTreeMap.{insert_entry}
 use Rattle.std.specs.Map.{keys_of}
 use Rattle.std.specs.Ordering.{match_ordering}
-use Rattle.std.proofs.lemmas.Bool.{le-ltb}
 use Rattle.std.proofs.lemmas.List.Elements.{All-head, All-tail}
 use Rattle.std.proofs.lemmas.Map.Keys.{sorted_head, sorted_tail}
 use Rattle.svn_lists.proofs.Every.{all_from_places}
@@ -19,8 +18,7 @@ use Rattle.svn_dump.specs.Sections.{sized_props_at}
 use Rattle.svn_dump.specs.Written.{run, entry, entries, prop_bytes}
 use Rattle.law_dump.specs.Laws.{IsPropSection}
 use Rattle.law_dump.specs.Grammar.{IsRun, IsChange, IsChanges, IsPropsOf}
-use Rattle.law_dump.proofs.GrammarProps.{props_given}
-use Rattle.law_dump.proofs.GrammarSections.{cut_whole}
+use Rattle.law_dump.proofs.GrammarSections.{sized_props_given}
 use Rattle.law_dump.proofs.Decimals.{number_of_decimal}
 
 -- ---- changes that are written are by the grammar
@@ -134,4 +132,4 @@ pub sized_section_read : (section : PropSection) (limit : ℕ) (rest : List ℕ)
     → length (prop_bytes section) < 2 ^ 64
     → sized_props_at (is_delta section) limit (length (prop_bytes section)) (prop_bytes section ++ rest) ≡ Ok (section, rest)
 sized_section_read section limit rest h fits small =
-    rw (le-ltb limit (length (prop_bytes section)) fits, cut_whole (prop_bytes section) rest, props_given (is_delta section) (prop_bytes section) section (section_is section h small)) refl
+    sized_props_given (is_delta section) limit (prop_bytes section) section rest (section_is section h small) fits

@@ -218,7 +218,7 @@ records_of_the_grammar_are_read =
     → record_at limits texts bytes ≡ Ok (Some (kept_record texts what), rest)
 
 -- the lines of the first record too
-pub record IsDumpWithin (limits : Limits) (texts : Texts) {bytes : List ℕ} {format : ℕ} {records : List Record} (d : IsDumpOf bytes format records) : Type 0 where
+pub record IsDumpWithin (limits : Limits) (texts : Texts) {bytes : List ℕ} {n : ℕ} {records : List Record} (d : IsDumpOf bytes n records) : Type 0 where
   pub first_fits : length (ended d.first.blank) + length (ended d.first.lines) ≤ limits.headers
   pub records_fit : AreWithin limits texts d.rest records d.are
 
