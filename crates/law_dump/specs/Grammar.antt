@@ -5,6 +5,7 @@
 --     IsNode headers props text node      the headers and the sections are those of the node
 --     IsRecord bytes what rest      the bytes are the record, whose text is as it was written, and then the rest
 --     AreRecords bytes records      the bytes are the records, and then the end
+--     IsFormat bytes format rest      the bytes are the first record, which gives the format, and then the rest
 --     IsDumpOf bytes format records      the bytes are a dump: a record that gives the format, and these records
 use Rattle.std.specs.Prelude.{◌≡◌, ◌≢◌, ℕ, ◌+◌, ◌≤◌, Bool, true, false, not, ◌||◌, List, [], ◌∷◌, ◌++◌, length, nat_eq, codes, Option, Some, None, is_some, IsSome, IfSome, option_map, unwrap_or, Ok}
 use Rattle.std.specs.List.{list_all, flat_map, AllByRecursion}
@@ -46,10 +47,12 @@ abbrev pub begins_blank : List ℕ → Bool
 begins_blank [] = true
 begins_blank (b ∷ bs) = is_space b
 
+-- a line that is passed over before headers
 pub record IsBlank (l : List ℕ) : Type 0 where
   pub whole : lacks 10 l ≡ true
   pub blank : begins_blank l ≡ true
 
+-- any line that isn't empty
 pub record IsWhole (l : List ℕ) : Type 0 where
   pub plain : lacks 10 l ≡ true
   pub some : l ≢ []
@@ -118,7 +121,7 @@ IsKindWord word Directory = word ≡ codes "dir"
 abbrev pub IsActionWord : List ℕ → Action → Type 0
 IsActionWord word action = word ≡ action_word action
 
--- the header is `true`, or is given otherwise or not at all
+-- the header is `true`, or is another word or absent
 abbrev pub IsFlag : List Header → List ℕ → Bool → Type 0
 IsFlag headers name true = Gives headers name (Some (codes "true"))
 IsFlag headers name false = (value : Option (List ℕ)) × Gives headers name value × (value ≢ Some (codes "true"))
@@ -209,7 +212,8 @@ pub record IsNode (headers : List Header) (prop_bytes text_bytes : Option (List 
   pub props_are : IsGiven (IsPropsOf changes_props) prop_bytes node.props
   pub text_is : IsGiven (IsTextOf changes_text base sums) text_bytes node.text
 
--- a node's path and no revision's number; the number; or neither, and what only the whole dump has
+-- The number of a revision; or none, and a node's path; or neither, and what only the whole dump has, which is given once at most. The sections of
+-- a node's record alone have to say something.
 abbrev pub IsAbout : List Header → Option (List ℕ) → Option (List ℕ) → Record → Type 0
 IsAbout headers prop_bytes text_bytes (Revision rev) = Says IsNumber headers (codes "Revision-number") (Some rev)
 IsAbout headers prop_bytes text_bytes (Node node) =
