@@ -1,5 +1,5 @@
 -- Revisions, and whole dumps, read as they were written.
-use Rattle.std.proofs.Common.{◌≡◌, ℕ, ◌+◌, ◌^◌, ◌<◌, ◌≤◌, List, [], ◌∷◌, ◌++◌, length, replicate, map, Some, None, Ok, All, refl, ap, subst, ◌∙◌, arith, append_assoc, append-nil, codes, decimal, length-append}
+use Rattle.std.proofs.Common.{◌≡◌, ℕ, ◌+◌, ◌^◌, ◌<◌, ◌≤◌, List, [], ◌∷◌, ◌++◌, length, replicate, map, Some, None, Ok, All, refl, ap, ap₂, subst, ◌∙◌, arith, append_assoc, append-nil, codes, decimal, length-append}
 use Rattle.std.specs.List.{flat_map}
 use Rattle.std.proofs.lemmas.Bool.{le-leb}
 use Rattle.std.proofs.lemmas.Fmt.{length-decimal-le}
@@ -19,7 +19,8 @@ use Rattle.law_dump.specs.Laws.{header_room, written_record, IsWritableRecord, k
 use Rattle.law_dump.proofs.HeaderFields.{Field, AreFields, lines, lines_are_headers}
 use Rattle.law_dump.proofs.HeaderBlocks.{block_of_lines, block_none}
 use Rattle.law_dump.proofs.Decimals.{spelled}
-use Rattle.law_dump.proofs.PropSections.{cut_whole}
+use Rattle.law_dump.proofs.GrammarSections.{cut_whole}
+use Rattle.law_dump.proofs.GrammarReads.{whole_record}
 use Rattle.law_dump.proofs.FieldValues.{value_found, number_at}
 use Rattle.law_dump.proofs.RecordReads.{record_of_block, headed_revision, lengths_of_values}
 use Rattle.law_dump.proofs.NodeReads.{node_read}
@@ -140,11 +141,9 @@ kept_so limits texts (r ∷ records) empty_lines room few h =
 
 whole_records : (records : List Record) → map (kept_record Whole) records ≡ records
 whole_records [] = refl
-whole_records (Other ∷ records) = ap (λ (l : List Record). Other ∷ l) (whole_records records)
-whole_records (Revision rev ∷ records) = ap (λ (l : List Record). Revision rev ∷ l) (whole_records records)
-whole_records (Node node ∷ records) = ap (λ (l : List Record). Node node ∷ l) (whole_records records)
+whole_records (r ∷ records) = ap₂ (λ (x : Record) (l : List Record). x ∷ l) (whole_record r) (whole_records records)
 
-kept_ones : (texts : Texts) (records : List Record) → map (kept_record texts) records ≡ kept_records texts records
+pub kept_ones : (texts : Texts) (records : List Record) → map (kept_record texts) records ≡ kept_records texts records
 kept_ones Whole records = whole_records records
 kept_ones Sha1 records = refl
 

@@ -1,11 +1,13 @@
 -- The bytes of a record, cut into its headers and what is after them.
-use Rattle.std.proofs.Common.{◌≡◌, ℕ, zero, suc, ◌+◌, ◌-◌, ◌≤◌, Bool, true, false, not, ◌&&◌, List, [], ◌∷◌, ◌++◌, length, replicate, Option, Some, None, Result, Ok, Err, refl, sym, ap, ◌∙◌, append_assoc, arith, nat_eq, length-append}
+use Rattle.std.proofs.Common.{◌≡◌, ℕ, zero, suc, ◌+◌, ◌-◌, ◌≤◌, Bool, true, false, not, ◌&&◌, List, [], ◌∷◌, ◌++◌, length, replicate, Option, Some, None, Result, Ok, Err, refl, sym, ap, ◌∙◌, append_assoc, arith, nat_eq, length-append, ◌≢◌, option_map, ap₂}
+use Rattle.std.specs.List.{AllByRecursion, cons_option}
 use Rattle.std.proofs.lemmas.Bool.{and_parts, ne_eqb}
 use Rattle.svn_dump.specs.declared.fault.Reason.{Reason}
 use Rattle.svn_dump.specs.Blocks.{headers_at, block_at, with_front, is_line_feed, is_space}
 use Rattle.svn_dump.specs.Written.{line}
+use Rattle.law_dump.specs.Grammar.{ended, IsWhole}
 use Rattle.law_dump.proofs.Lacking.{lacks, lacks_parts, not_true}
-use Rattle.law_dump.proofs.HeaderFields.{Field, AreFields, is_value, value_line, lines, header_text, line_parts, text_is_line}
+use Rattle.law_dump.proofs.HeaderFields.{Field, AreFields, is_value, value_line, lines, header_text, text_is_line}
 
 -- ---- one line
 
@@ -59,58 +61,78 @@ whole_line front b text room left more plain fits =
     ∙ line_rest (front ++ b ∷ []) text (room - 1) left more parts.1 (omega (arith, fits))
     ∙ ap (λ (l : List ℕ). with_front l (headers_at true left more)) (append_assoc front (b ∷ []) (text ++ 10 ∷ []))
 
--- the line of a header
-header_line : (front name value : List ℕ) (room left : ℕ) (more : List ℕ) → lacks 10 (header_text name value) ≡ true
-    → room ≡ length (header_text name value) + 1 + left
-    → with_front front (headers_at true room (header_text name value ++ 10 ∷ more))
-    ≡ with_front (front ++ (header_text name value ++ 10 ∷ [])) (headers_at true left more)
-header_line front [] value room left more plain fits = whole_line front 58 (32 ∷ value) room left more plain fits
-header_line front (b ∷ name) value room left more plain fits = whole_line front b (name ++ 58 ∷ 32 ∷ value) room left more plain fits
-
 -- ---- all lines
 
 last_line : (front : List ℕ) (room : ℕ) (rest : List ℕ) → with_front front (headers_at true room (10 ∷ rest)) ≡ Ok (front ++ [], rest)
 unfolding headers_at
 last_line front room rest = refl
 
-line_is : (name value : List ℕ) → line name value ≡ header_text name value ++ 10 ∷ []
-line_is name value = ap (λ (l : List ℕ). l ++ 10 ∷ []) (append_assoc name (58 ∷ 32 ∷ []) value)
-
-lines_at : (front : List ℕ) (fields : List Field) (room : ℕ) (rest : List ℕ) → AreFields fields → length (lines fields) ≤ room
-    → with_front front (headers_at true room (lines fields ++ 10 ∷ rest)) ≡ Ok (front ++ lines fields, rest)
+lines_at : (front : List ℕ) (all : List (List ℕ)) (room : ℕ) (rest : List ℕ) → AllByRecursion IsWhole all → length (ended all) ≤ room
+    → with_front front (headers_at true room (ended all ++ 10 ∷ rest)) ≡ Ok (front ++ ended all, rest)
 lines_at front [] room rest h fits = last_line front room rest
-lines_at front (f ∷ fields) room rest h fits =
-    one f.0 f.1 h.0.name_line h.0.value fits (λ before left enough. lines_at before fields left rest h.1 enough)
-  where
-    one : (name : List ℕ) (value : Option (List ℕ)) → lacks 10 name ≡ true → is_value value ≡ true
-        → length (value_line name value ++ lines fields) ≤ room
-        → ((before : List ℕ) (left : ℕ) → length (lines fields) ≤ left
-        → with_front before (headers_at true left (lines fields ++ 10 ∷ rest)) ≡ Ok (before ++ lines fields, rest))
-        → with_front front (headers_at true room ((value_line name value ++ lines fields) ++ 10 ∷ rest))
-        ≡ Ok (front ++ (value_line name value ++ lines fields), rest)
-    one name None plain fits_line few more = more front room few
-    one name (Some value) plain fits_line few more =
-        let text = header_text name value in
-        let whole = length-append (line name value) (lines fields) in
-        let one_more : length (line name value) ≡ length text + 1 = ap length (line_is name value) ∙ length-append text (10 ∷ []) in
-        let left = room - (length text + 1) in
-        ap (λ (l : List ℕ). with_front front (headers_at true room l))
-        (append_assoc (line name value) (lines fields) (10 ∷ rest) ∙ line_parts name value (lines fields ++ 10 ∷ rest))
-        ∙ header_line front name value room left (lines fields ++ 10 ∷ rest) (text_is_line name value plain fits_line)
-        (omega (arith, few, whole, one_more))
-        ∙ more (front ++ (text ++ 10 ∷ [])) left (omega (arith, few, whole, one_more))
-        ∙ ap (λ (l : List ℕ). Ok (l, rest))
-        (append_assoc front (text ++ 10 ∷ []) (lines fields) ∙ ap (λ (l : List ℕ). front ++ (l ++ lines fields)) (sym (line_is name value)))
+lines_at front ([] ∷ all) room rest h fits = absurd (h.0.some refl)
+lines_at front ((b ∷ text) ∷ all) room rest h fits =
+    let l = b ∷ text in
+    let left = room - (length l + 1) in
+    let long = length-append (l ++ 10 ∷ []) (ended all) in
+    let one_more = length-append l (10 ∷ []) in
+    ap (λ (x : List ℕ). with_front front (headers_at true room x))
+    (append_assoc (l ++ 10 ∷ []) (ended all) (10 ∷ rest) ∙ append_assoc l (10 ∷ []) (ended all ++ 10 ∷ rest))
+    ∙ whole_line front b text room left (ended all ++ 10 ∷ rest) h.0.plain (omega (arith, fits, long, one_more))
+    ∙ lines_at (front ++ (l ++ 10 ∷ [])) all left rest h.1 (omega (arith, fits, long, one_more))
+    ∙ ap (λ (x : List ℕ). Ok (x, rest)) (append_assoc front (l ++ 10 ∷ []) (ended all))
 
 with_no_front : (read : Result (List ℕ × List ℕ) Reason) → with_front [] read ≡ read
 with_no_front (Ok x) = refl
 with_no_front (Err e) = refl
 
+-- the lines, and what is after the empty line
+pub headers_of_whole : (all : List (List ℕ)) (room : ℕ) (rest : List ℕ) → AllByRecursion IsWhole all → length (ended all) ≤ room
+    → headers_at true room (ended all ++ 10 ∷ rest) ≡ Ok (ended all, rest)
+headers_of_whole all room rest h fits =
+    sym (with_no_front (headers_at true room (ended all ++ 10 ∷ rest))) ∙ lines_at [] all room rest h fits
+
+-- the lines of fields without their line feeds
+abbrev texts : List Field → List (List ℕ)
+texts [] = []
+texts (f ∷ fields) = cons_option (option_map (header_text f.0) f.1) (texts fields)
+
+pub line_is : (name value : List ℕ) → line name value ≡ header_text name value ++ 10 ∷ []
+line_is name value = ap (λ (l : List ℕ). l ++ 10 ∷ []) (append_assoc name (58 ∷ 32 ∷ []) value)
+
+lines_of_texts : (fields : List Field) → lines fields ≡ ended (texts fields)
+lines_of_texts [] = refl
+lines_of_texts (f ∷ fields) = one f.0 f.1 (lines_of_texts fields)
+  where
+    one : (name : List ℕ) (value : Option (List ℕ)) → lines fields ≡ ended (texts fields)
+        → value_line name value ++ lines fields ≡ ended (cons_option (option_map (header_text name) value) (texts fields))
+    one name None more = more
+    one name (Some value) more = ap₂ (λ (x y : List ℕ). x ++ y) (line_is name value) more
+
+pub whole_text : (name value : List ℕ) → lacks 10 name ≡ true → lacks 10 value ≡ true → IsWhole (header_text name value)
+whole_text name value h k = record { plain = text_is_line name value h k; some = some name }
+  where
+    some : (name : List ℕ) → header_text name value ≢ []
+    some [] e = cc
+    some (b ∷ name) e = cc
+
+whole_texts : (fields : List Field) → AreFields fields → AllByRecursion IsWhole (texts fields)
+whole_texts [] h = tt
+whole_texts (f ∷ fields) h = one f.0 f.1 h.0.name_line h.0.value (whole_texts fields h.1)
+  where
+    one : (name : List ℕ) (value : Option (List ℕ)) → lacks 10 name ≡ true → is_value value ≡ true → AllByRecursion IsWhole (texts fields)
+        → AllByRecursion IsWhole (cons_option (option_map (header_text name) value) (texts fields))
+    one name None plain fits more = more
+    one name (Some value) plain fits more = (whole_text name value plain fits, more)
+
 -- the lines of all fields, and what is after the empty line
-headers_of_lines : (fields : List Field) (room : ℕ) (rest : List ℕ) → AreFields fields → length (lines fields) ≤ room
+pub headers_of_lines : (fields : List Field) (room : ℕ) (rest : List ℕ) → AreFields fields → length (lines fields) ≤ room
     → headers_at true room (lines fields ++ 10 ∷ rest) ≡ Ok (lines fields, rest)
 headers_of_lines fields room rest h fits =
-    sym (with_no_front (headers_at true room (lines fields ++ 10 ∷ rest))) ∙ lines_at [] fields room rest h fits
+    let same = lines_of_texts fields in
+    ap (λ (l : List ℕ). headers_at true room (l ++ 10 ∷ rest)) same
+    ∙ headers_of_whole (texts fields) room rest (whole_texts fields h) (omega (arith, fits, ap length same))
+    ∙ ap (λ (l : List ℕ). Ok (l, rest)) (sym same)
 
 -- ---- before the lines
 
@@ -119,7 +141,7 @@ abbrev pub begins_header : List ℕ → Bool
 begins_header [] = false
 begins_header (b ∷ bs) = not (is_space b) && not (is_line_feed b)
 
-no_blank : (room : ℕ) (bytes : List ℕ) → begins_header bytes ≡ true → block_at false room bytes ≡ headers_at true room bytes
+pub no_blank : (room : ℕ) (bytes : List ℕ) → begins_header bytes ≡ true → block_at false room bytes ≡ headers_at true room bytes
 unfolding block_at headers_at
 no_blank room [] h = cc
 no_blank room (b ∷ bs) h =

@@ -1,10 +1,9 @@
 -- The headers of a record as names with their values, and what is looked up in the lines that are written of them.
-use Rattle.std.proofs.Common.{◌≡◌, ℕ, ◌+◌, Bool, true, false, cond, ◌&&◌, ◌||◌, List, [], ◌∷◌, ◌++◌, length, take, drop, Option, Some, None, Ok, refl, sym, ap, ap₂, ◌∙◌, append_assoc, nat_eq, bytes_eq, is_some, option_and_then}
+use Rattle.std.proofs.Common.{◌≡◌, ℕ, Bool, true, false, cond, ◌&&◌, ◌||◌, List, [], ◌∷◌, ◌++◌, length, Option, Some, None, Ok, refl, sym, ap, ◌∙◌, append_assoc, nat_eq, bytes_eq, is_some}
 use Rattle.std.specs.List.{list_all, flat_map, filter_map, cons_option, AllByRecursion}
-use Rattle.std.proofs.Math.Seq.{take-append_seam, drop-append-add}
 use Rattle.svn_dump.specs.Headers.{lines_of, header_of, if_named, value_in, values_of, valued, single, is_header, are_headers}
 use Rattle.svn_dump.specs.Written.{line}
-use Rattle.law_dump.proofs.Lacking.{lacks, lacks_append, first_part, place_after}
+use Rattle.law_dump.proofs.Lacking.{lacks, lacks_append, first_part, parts_at}
 
 -- ---- fields
 
@@ -47,10 +46,7 @@ text_is_line name value h k = lacks_append 10 name (58 ∷ 32 ∷ value) h k
 -- ---- look-ups
 
 pub header_of_text : (name value : List ℕ) → lacks 58 name ≡ true → header_of (header_text name value) ≡ Some (name, value)
-header_of_text name value h =
-    let all = header_text name value in
-    ap (λ o. option_and_then (λ i. valued (take i all) (drop (i + 1) all)) o) (place_after 58 name (32 ∷ value) h)
-    ∙ ap₂ valued (take-append_seam name (58 ∷ 32 ∷ value)) (drop-append-add name (58 ∷ 32 ∷ value) 1)
+header_of_text name value h = parts_at 58 valued name (32 ∷ value) h
 
 -- a line and those after it
 pub lines_of_line : (name value more : List ℕ) → lacks 10 name ≡ true → lacks 10 value ≡ true
@@ -95,6 +91,16 @@ single_given None = refl
 single_given (Some value) = refl
 
 -- each line is a header
+pub header_line_more : (name value more : List ℕ) → lacks 58 name ≡ true → lacks 10 name ≡ true → lacks 10 value ≡ true → are_headers more ≡ true
+    → are_headers (line name value ++ more) ≡ true
+header_line_more name value more plain line_like fits rest =
+    let header : is_some (header_of (header_text name value)) ≡ true = ap is_some (header_of_text name value plain) in
+    ap (list_all is_header) (lines_of_line name value more line_like fits) ∙ both (nat_eq (length (header_text name value)) 0) header rest
+  where
+    both : (b : Bool) {h r : Bool} → h ≡ true → r ≡ true → ((b || h) && r) ≡ true
+    both true e f = f
+    both false e f = rw (e, f) refl
+
 pub lines_are_headers : (fields : List Field) → AreFields fields → are_headers (lines fields) ≡ true
 lines_are_headers [] h = refl
 lines_are_headers (f ∷ fields) h = one f.0 f.1 h.0.name h.0.name_line h.0.value (lines_are_headers fields h.1)
@@ -102,11 +108,4 @@ lines_are_headers (f ∷ fields) h = one f.0 f.1 h.0.name h.0.name_line h.0.valu
     one : (own : List ℕ) (value : Option (List ℕ)) → lacks 58 own ≡ true → lacks 10 own ≡ true → is_value value ≡ true
         → are_headers (lines fields) ≡ true → are_headers (value_line own value ++ lines fields) ≡ true
     one own None plain line_like fits rest = rest
-    one own (Some value) plain line_like fits rest =
-        let header : is_some (header_of (header_text own value)) ≡ true = ap is_some (header_of_text own value plain) in
-        ap (list_all is_header) (lines_of_line own value (lines fields) line_like fits)
-        ∙ both (nat_eq (length (header_text own value)) 0) header rest
-      where
-        both : (b : Bool) {h r : Bool} → h ≡ true → r ≡ true → ((b || h) && r) ≡ true
-        both true e f = f
-        both false e f = rw (e, f) refl
+    one own (Some value) plain line_like fits rest = header_line_more own value (lines fields) plain line_like fits rest

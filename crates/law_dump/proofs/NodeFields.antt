@@ -1,5 +1,5 @@
 -- The headers of a node's record, as names with their values.
-use Rattle.std.proofs.Common.{◌≡◌, ℕ, ◌+◌, ◌^◌, ◌<◌, Bool, true, false, cond, ◌||◌, List, [], ◌∷◌, ◌++◌, Option, Some, None, option_map, unwrap_or, is_some, IfSome, refl, ap, ◌∙◌, append_assoc, append-nil, codes, decimal, arith}
+use Rattle.std.proofs.Common.{◌≡◌, ℕ, ◌+◌, ◌^◌, ◌<◌, Bool, true, false, cond, ◌||◌, List, [], ◌∷◌, ◌++◌, Option, Some, None, option_map, unwrap_or, is_some, IfSome, refl, ◌∙◌, append_assoc, append-nil, codes, decimal, arith}
 use Rattle.hex.specs.Hex.{encode_lower}
 use Rattle.svn_types.specs.declared.kind.Kind.{Kind}
 use Rattle.svn_types.specs.declared.kind.Kind.TheVariants.{File, Directory}

@@ -1,5 +1,5 @@
 -- Nodes, read as they were written.
-use Rattle.std.proofs.Common.{◌≡◌, ℕ, ◌+◌, ◌^◌, ◌<◌, ◌≤◌, Bool, List, [], ◌∷◌, ◌++◌, length, replicate, Option, Some, None, Ok, option_map, unwrap_or, IfSome, refl, ap, ◌∙◌, arith, append_assoc, codes, decimal}
+use Rattle.std.proofs.Common.{◌≡◌, ℕ, ◌+◌, ◌^◌, ◌<◌, ◌≤◌, Bool, false, List, [], ◌∷◌, ◌++◌, length, replicate, Option, Some, None, Ok, option_map, unwrap_or, IfSome, refl, ap, ◌∙◌, arith, append_assoc, codes, decimal}
 use Rattle.hex.specs.Hex.{encode_lower}
 use Rattle.md5.proofs.StandardFacts.{length-md5}
 use Rattle.svn_types.specs.declared.kind.Kind.{Kind}
@@ -124,7 +124,7 @@ module _ (node : NodeRecord) (props text : Option ℕ) (lawful : AreFields (node
   headed_lines limits texts after =
       let fields = node_fields node props text in
       let block = lines fields in
-      headed_node limits texts block after (lines_are_headers fields lawful)
+      headed_node limits texts block after false false (lines_are_headers fields lawful)
       (ap (λ r. r >>= as_number) (header (codes "Revision-number") None refl))
       (given_at block (codes "Node-path") (Some (path_text node.path))
       (header (codes "Node-path") (Some (path_text node.path)) refl))

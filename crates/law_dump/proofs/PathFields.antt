@@ -1,9 +1,10 @@
 -- Paths as texts.
 use Rattle.std.proofs.Common.{◌≡◌, ℕ, ◌≤◌, true, false, List, [], ◌∷◌, ◌++◌, length, None, Ok, IsUtf8, All, refl, sym, ap, ◌∙◌, arith, nat_eq, append-nil}
-use Rattle.std.specs.List.{list_all, flat_map, slice_split}
+use Rattle.std.specs.List.{AllByRecursion, list_all, flat_map, slice_split}
 use Rattle.std.proofs.lemmas.Bool.{and_parts, ne_eqb, le-ltb}
 use Rattle.std.proofs.lemmas.List.Elements.{All-head, All-tail}
 use Rattle.std.proofs.lemmas.Str.{IsUtf8-append, IsUtf8-nil, is_utf8-from_IsUtf8}
+use Rattle.svn_lists.proofs.Every.{all_from_places}
 use Rattle.svn_types.specs.Names.{Path, IsName, is_plain, is_slash, path_of_text, name_limit, depth_limit}
 use Rattle.svn_types.specs.NameFaults.{name_fault, names_fault, path_fault}
 use Rattle.svn_types.specs.PathTexts.{path_text}
@@ -27,11 +28,11 @@ no_name_fault n h =
     let some : nat_eq (length n) 0 ≡ false = ne_eqb (length n) 0 (λ none. omega (arith, none, h.not_empty)) in
     rw (some, h.not_dots, le-ltb name_limit (length n) h.bounded, h.plain) refl
 
-no_names_fault : (path : Path) → All IsName path → names_fault path ≡ None
+no_names_fault : (path : Path) → AllByRecursion IsName path → names_fault path ≡ None
 no_names_fault [] h = refl
-no_names_fault (n ∷ path) h = rw (no_name_fault n (All-head IsName n path h)) (no_names_fault path (All-tail IsName n path h))
+no_names_fault (n ∷ path) h = rw (no_name_fault n h.0) (no_names_fault path h.1)
 
-no_path_fault : (path : Path) → All IsName path → length path ≤ depth_limit → path_fault path ≡ None
+pub no_path_fault : (path : Path) → AllByRecursion IsName path → length path ≤ depth_limit → path_fault path ≡ None
 no_path_fault path h few = rw (no_names_fault path h, le-ltb depth_limit (length path) few) refl
 
 -- ---- texts
@@ -92,4 +93,8 @@ utf8_path (n ∷ path) h = IsUtf8-append n (below path) (All-head IsUtf8 n path 
 pub path_of_path_text : (path : Path) → IsPath path → path_of (path_text path) ≡ Ok path
 path_of_path_text path h =
     ap path_of_bytes (no_slash path h.names)
-    ∙ rw (is_utf8-from_IsUtf8 (path_text path) (utf8_path path h.texts), spelled_path path h.names, no_path_fault path h.names h.bounded) refl
+    ∙ rw (
+      is_utf8-from_IsUtf8 (path_text path) (utf8_path path h.texts),
+      spelled_path path h.names,
+      no_path_fault path (all_from_places IsName path h.names) h.bounded,
+    ) refl

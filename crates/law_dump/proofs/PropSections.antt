@@ -1,173 +1,69 @@
 -- Property sections, read as they were written.
-use Rattle.std.proofs.Common.{Less, ◌≡◌, ℕ, zero, suc, ◌+◌, ◌^◌, ◌<◌, ◌≤◌, Bool, true, false, cond, ◌&&◌, List, [], ◌∷◌, ◌++◌, length, take, drop, map, Option, Some, None, Ok, All, refl, sym, ap, ap₂, subst, ◌∙◌, arith, append_assoc, append-nil, nat_eq, codes, decimal, option_and_then, length-append}
+use Rattle.std.proofs.Common.{Less, ◌≡◌, ℕ, ◌+◌, ◌^◌, ◌<◌, ◌≤◌, Bool, true, false, List, [], ◌∷◌, ◌++◌, length, map, Option, Some, None, Ok, All, refl, sym, ap, subst, ◌∙◌, arith, append_assoc, append-nil, codes, decimal, length-append, IsSome}
 use Rattle.std.specs.List.{flat_map, AllByRecursion}
 use Rattle.std.specs.BTreeMap.{insert_entry}
 use Rattle.std.specs.Map.{keys_of}
 use Rattle.std.specs.Ordering.{match_ordering}
-use Rattle.std.proofs.lemmas.Bool.{lt-ltb, le-ltb, ne_eqb}
 use Rattle.std.proofs.lemmas.List.Elements.{All-head, All-tail}
 use Rattle.std.proofs.lemmas.Map.Keys.{sorted_head, sorted_tail}
-use Rattle.std.proofs.Math.Seq.{take-append_seam, drop-append-add, drop-append_seam, get_or-append_seam}
+use Rattle.svn_lists.proofs.Every.{all_from_places}
 use Rattle.svn_lists.proofs.Entries.{all_keys_right}
-use Rattle.svn_types.specs.Names.{IsPropName, name_cmp, name_limit, is_prop_text}
-use Rattle.svn_types.specs.NameFaults.{prop_name_fault}
+use Rattle.svn_types.specs.Names.{IsPropName, name_cmp}
 use Rattle.svn_types.specs.Pairs.{InNameOrder}
 use Rattle.svn_types.specs.Props.{PropChange, with_changes}
 use Rattle.svn_types.proofs.NameLemmas.{reversed}
 use Rattle.svn_dump.specs.declared.record.PropSection.{PropSection}
 use Rattle.svn_dump.specs.declared.record.PropSection.TheVariants as props
-use Rattle.svn_dump.specs.Reading.{◌>>=◌}
-use Rattle.svn_dump.specs.Properties.{length_of, cut_line, run_at, set_at, change_at, is_end, changes_at}
-use Rattle.svn_dump.specs.Blocks.{bytes_at}
-use Rattle.svn_dump.specs.Sections.{prop_section_of, sized_props_at}
+use Rattle.svn_dump.specs.Sections.{sized_props_at}
 use Rattle.svn_dump.specs.Written.{run, entry, entries, prop_bytes}
 use Rattle.law_dump.specs.Laws.{IsPropSection}
-use Rattle.law_dump.proofs.Lacking.{lacks, place_after}
-use Rattle.law_dump.proofs.Decimals.{spelled, number_of_decimal}
+use Rattle.law_dump.specs.Grammar.{IsRun, IsChange, IsChanges, IsPropsOf}
+use Rattle.law_dump.proofs.GrammarSections.{sized_props_given}
+use Rattle.law_dump.proofs.Decimals.{number_of_decimal}
 
--- ---- so many bytes
+-- ---- changes that are written are by the grammar
 
-pub cut_whole : (front rest : List ℕ) → bytes_at (length front) (front ++ rest) ≡ Ok (front, rest)
-cut_whole front rest =
-    let enough = le-ltb (length (front ++ rest)) (length front) (omega (arith, length-append front rest)) in
-    rw (enough, take-append_seam front rest, drop-append_seam front rest) refl
-
--- ---- a run of bytes after their number
-
--- the line with the number
-abbrev pub run_head : ℕ → List ℕ → List ℕ
-run_head letter bytes = letter ∷ 32 ∷ decimal (length bytes)
-
-run_parts : (letter : ℕ) (bytes rest : List ℕ) → run letter bytes ++ rest ≡ run_head letter bytes ++ 10 ∷ (bytes ++ 10 ∷ rest)
-run_parts letter bytes rest =
-    let head = run_head letter bytes in
-    append_assoc ((head ++ 10 ∷ []) ++ bytes) (10 ∷ []) rest ∙ append_assoc (head ++ 10 ∷ []) bytes (10 ∷ rest)
-    ∙ append_assoc head (10 ∷ []) (bytes ++ 10 ∷ rest)
+run_is : (letter : ℕ) (bytes : List ℕ) → length bytes < 2 ^ 64 → IsRun letter (run letter bytes) bytes
+run_is letter bytes small =
+    let head = letter ∷ 32 ∷ decimal (length bytes) in (
+      decimal (length bytes),
+      append_assoc (head ++ 10 ∷ []) bytes (10 ∷ []) ∙ append_assoc head (10 ∷ []) (bytes ++ 10 ∷ []),
+      number_of_decimal (length bytes) small,
+    )
 
 length_run : (letter : ℕ) (bytes : List ℕ) → length bytes + 1 ≤ length (run letter bytes)
 length_run letter bytes =
-    let head = run_head letter bytes in
+    let head = letter ∷ 32 ∷ decimal (length bytes) in
     omega
     (arith, length-append ((head ++ 10 ∷ []) ++ bytes) (10 ∷ []), length-append (head ++ 10 ∷ []) bytes, length-append head (10 ∷ []))
 
--- whatever letter is looked for
-run_line : (wanted letter : ℕ) (bytes rest : List ℕ) → nat_eq letter 10 ≡ false → length bytes < 2 ^ 64
-    → run_at wanted (run letter bytes ++ rest) ≡ cut_line (bytes ++ 10 ∷ rest) (cond (nat_eq letter wanted && true) (Some (length bytes)) None)
-run_line wanted letter bytes rest other small =
-    let head = run_head letter bytes in
-    let after = bytes ++ 10 ∷ rest in
-    let all = head ++ 10 ∷ after in
-    let plain : lacks 10 head ≡ true = rw other (spelled (length bytes) small).no_line_feed in
-    ap (run_at wanted) (run_parts letter bytes rest)
-    ∙ ap (λ o. option_and_then (λ i. cut_line (drop (i + 1) all) (length_of wanted (take i all))) o) (place_after 10 head after plain)
-    ∙ ap₂ (λ (below front : List ℕ). cut_line below (length_of wanted front)) (drop-append-add head (10 ∷ after) 1)
-    (take-append_seam head (10 ∷ after))
-    ∙ ap (λ n. cut_line after (cond (nat_eq letter wanted && true) n None)) (number_of_decimal (length bytes) small)
-
-cut_at_line : (bytes rest : List ℕ) → cut_line (bytes ++ 10 ∷ rest) (Some (length bytes)) ≡ Some (bytes, rest)
-cut_at_line bytes rest =
-    let longer = lt-ltb (length bytes) (length (bytes ++ 10 ∷ rest)) (omega (arith, length-append bytes (10 ∷ rest))) in
-    rw (longer, get_or-append_seam bytes 10 rest 0, take-append_seam bytes (10 ∷ rest), drop-append-add bytes (10 ∷ rest) 1) refl
-
-run_read : (letter : ℕ) (bytes rest : List ℕ) → nat_eq letter 10 ≡ false → nat_eq letter letter ≡ true → length bytes < 2 ^ 64
-    → run_at letter (run letter bytes ++ rest) ≡ Some (bytes, rest)
-run_read letter bytes rest other own small =
-    run_line letter letter bytes rest other small
-    ∙ ap (λ b. cut_line (bytes ++ 10 ∷ rest) (cond (b && true) (Some (length bytes)) None)) own ∙ cut_at_line bytes rest
-
-other_run : (wanted letter : ℕ) (bytes rest : List ℕ) → nat_eq letter 10 ≡ false → nat_eq letter wanted ≡ false → length bytes < 2 ^ 64
-    → run_at wanted (run letter bytes ++ rest) ≡ None
-other_run wanted letter bytes rest other apart small =
-    run_line wanted letter bytes rest other small ∙ ap (λ b. cut_line (bytes ++ 10 ∷ rest) (cond (b && true) (Some (length bytes)) None)) apart
-
--- ---- one change
-
-no_prop_name_fault : (n : List ℕ) → IsPropName n → prop_name_fault n ≡ None
-no_prop_name_fault n h = some n h.bounded h.text
-  where
-    some : (n : List ℕ) → length n ≤ name_limit → is_prop_text n ≡ true → prop_name_fault n ≡ None
-    some [] few text = cc
-    some (b ∷ n) few text =
-        let long : nat_eq (length (b ∷ n)) 0 ≡ false = ne_eqb (length (b ∷ n)) 0 (λ none. omega (arith, none)) in
-        rw (long, le-ltb name_limit (length (b ∷ n)) few, text) refl
-
--- what is read of an entry, whatever follows
-pub record ReadsAs (removes : Bool) (c : PropChange) : Type 0 where
-  pub change : (rest : List ℕ) → change_at removes (entry c.0 c.1 ++ rest) ≡ Ok (c, rest)
-  pub no_end : (rest : List ℕ) → is_end (entry c.0 c.1 ++ rest) ≡ false
-  pub some : 1 ≤ length (entry c.0 c.1)
-
-set_read : (name value rest : List ℕ) → IsPropName name → length name < 2 ^ 64 → length value < 2 ^ 64
-    → set_at (run_at 75 ((run 75 name ++ run 86 value) ++ rest)) ≡ Ok ((name, Some value), rest)
-set_read name value rest lawful small_name small =
-    let key = ap (run_at 75) (append_assoc (run 75 name) (run 86 value) rest) ∙ run_read 75 name (run 86 value ++ rest) refl refl small_name in
-    let read = run_read 86 value rest refl refl small in
-    rw (key, read, no_prop_name_fault name lawful) refl
-
-set_reads : (removes : Bool) (name value : List ℕ) → IsPropName name → length name < 2 ^ 64 → length value < 2 ^ 64
-    → ReadsAs removes (name, Some value)
-set_reads removes name value lawful small_name small = record {
-  change = λ rest. by removes rest;
-  no_end = λ rest. refl;
-  some = omega (arith, length-append (run 75 name) (run 86 value), length_run 75 name);
-}
-  where
-    by : (removes : Bool) (rest : List ℕ) → change_at removes ((run 75 name ++ run 86 value) ++ rest) ≡ Ok ((name, Some value), rest)
-    by false rest = set_read name value rest lawful small_name small
-    by true rest =
-        let none =
-        ap (run_at 68) (append_assoc (run 75 name) (run 86 value) rest) ∙ other_run 68 75 name (run 86 value ++ rest) refl refl small_name in
-        rw none (set_read name value rest lawful small_name small)
-
-removal_reads : (name : List ℕ) → IsPropName name → length name < 2 ^ 64 → ReadsAs true (name, None)
-removal_reads name lawful small = record {
-  change = λ rest. rw (run_read 68 name rest refl refl small, no_prop_name_fault name lawful) refl;
-  no_end = λ rest. refl;
-  some = omega (arith, length_run 68 name);
-}
-
--- ---- all changes
+entry_is : (name : List ℕ) (value : Option (List ℕ)) → IsPropName name → length (entry name value) < 2 ^ 64 → IsChange (entry name value) name value
+entry_is name None lawful small = (lawful, run_is 68 name (omega (arith, small, length_run 68 name)))
+entry_is name (Some value) lawful small =
+    let both = length-append (run 75 name) (run 86 value) in (
+      lawful,
+      run 75 name,
+      run 86 value,
+      refl,
+      run_is 75 name (omega (arith, small, both, length_run 75 name)),
+      run_is 86 value (omega (arith, small, both, length_run 86 value)),
+    )
 
 -- the entries of changes
 abbrev pub change_entries : List PropChange → List ℕ
 change_entries changes = flat_map (λ (c : PropChange). entry c.0 c.1) changes
 
-changes_read : (removes : Bool) (changes : List PropChange) (most : ℕ) → AllByRecursion (ReadsAs removes) changes
-    → length (change_entries changes ++ codes "PROPS-END\n") ≤ most
-    → changes_at removes most (change_entries changes ++ codes "PROPS-END\n") ≡ Ok changes
-unfolding changes_at
-changes_read removes [] zero h few = absurd (omega (arith, few))
-changes_read removes [] (suc most) h few = refl
-changes_read removes (c ∷ changes) zero h few =
-    absurd
-    (omega (
-      arith,
-      few,
-      h.0.some,
-      length-append (entry c.0 c.1 ++ change_entries changes) (codes "PROPS-END\n"),
-      length-append (entry c.0 c.1) (change_entries changes),
-    ))
-changes_read removes (c ∷ changes) (suc most) h few =
-    let after = change_entries changes ++ codes "PROPS-END\n" in
-    let parts = append_assoc (entry c.0 c.1) (change_entries changes) (codes "PROPS-END\n") in
-    let shorter : length after ≤ most = omega (arith, few, h.0.some, ap length parts, length-append (entry c.0 c.1) after) in
-    ap (changes_at removes (suc most)) parts ∙ rw (h.0.no_end after, h.0.change after, changes_read removes changes most h.1 shorter) refl
-
-delta_reads : (changes : List PropChange) → All (λ (c : PropChange). IsPropName c.0) changes → length (change_entries changes) < 2 ^ 64
-    → AllByRecursion (ReadsAs true) changes
-delta_reads [] h small = tt
-delta_reads (c ∷ changes) h small =
-    let P = λ (c : PropChange). IsPropName c.0 in
+entries_are : (changes : List PropChange) → AllByRecursion (λ (c : PropChange). IsPropName c.0) changes → length (change_entries changes) < 2 ^ 64
+    → IsChanges (change_entries changes ++ codes "PROPS-END\n") changes
+entries_are [] h small = refl
+entries_are (c ∷ changes) h small =
     let both = length-append (entry c.0 c.1) (change_entries changes) in (
-      one c.0 c.1 (All-head P c changes h) (omega (arith, small, both)),
-      delta_reads changes (All-tail P c changes h) (omega (arith, small, both)),
+      entry c.0 c.1,
+      change_entries changes ++ codes "PROPS-END\n",
+      append_assoc (entry c.0 c.1) (change_entries changes) (codes "PROPS-END\n"),
+      entry_is c.0 c.1 h.0 (omega (arith, small, both)),
+      entries_are changes h.1 (omega (arith, small, both)),
     )
-  where
-    one : (name : List ℕ) (value : Option (List ℕ)) → IsPropName name → length (entry name value) < 2 ^ 64 → ReadsAs true (name, value)
-    one name None lawful small = removal_reads name lawful (omega (arith, small, length_run 68 name))
-    one name (Some value) lawful small =
-        let both = length-append (run 75 name) (run 86 value) in
-        set_reads true name value lawful (omega (arith, small, both, length_run 75 name)) (omega (arith, small, both, length_run 86 value))
 
 -- ---- all properties
 
@@ -181,16 +77,14 @@ same_entries : (all : List Prop) → flat_map (λ (p : Prop). entry p.0 (Some p.
 same_entries [] = refl
 same_entries (p ∷ all) = ap (λ (l : List ℕ). entry p.0 (Some p.1) ++ l) (same_entries all)
 
-whole_reads : (all : List Prop) → All IsPropName (keys_of all) → length (change_entries (settings all)) < 2 ^ 64
-    → AllByRecursion (ReadsAs false) (settings all)
-whole_reads [] h small = tt
-whole_reads (p ∷ all) h small =
-    let both = length-append (entry p.0 (Some p.1)) (change_entries (settings all)) in
-    let runs = length-append (run 75 p.0) (run 86 p.1) in (
-      set_reads false p.0 p.1 (All-head IsPropName p.0 (keys_of all) h) (omega (arith, small, both, runs, length_run 75 p.0))
-          (omega (arith, small, both, runs, length_run 86 p.1)),
-      whole_reads all (All-tail IsPropName p.0 (keys_of all) h) (omega (arith, small, both)),
-    )
+settings_named : (all : List Prop) → All IsPropName (keys_of all) → AllByRecursion (λ (c : PropChange). IsPropName c.0) (settings all)
+settings_named [] h = tt
+settings_named (p ∷ all) h =
+    (All-head IsPropName p.0 (keys_of all) h, settings_named all (All-tail IsPropName p.0 (keys_of all) h))
+
+settings_set : (all : List Prop) → AllByRecursion (λ (c : PropChange). IsSome c.1) (settings all)
+settings_set [] = tt
+settings_set (p ∷ all) = (refl, settings_set all)
 
 -- a name after all others is put at the end
 put_last : (done : List Prop) (p : Prop) (rest : List Prop) → InNameOrder (done ++ p ∷ rest)
@@ -216,26 +110,26 @@ abbrev pub is_delta : PropSection → Bool
 is_delta (props.Whole all) = false
 is_delta (props.Delta changes) = true
 
-section_read : (section : PropSection) → IsPropSection section → length (prop_bytes section) < 2 ^ 64
-    → prop_section_of (is_delta section) (prop_bytes section) ≡ Ok section
-section_read (props.Whole all) h small =
+-- a section that is written is by the grammar
+pub section_is : (section : PropSection) → IsPropSection section → length (prop_bytes section) < 2 ^ 64
+    → IsPropsOf (is_delta section) (prop_bytes section) section
+section_is (props.Whole all) h small =
     let same = same_entries all in
-    let bytes = change_entries (settings all) ++ codes "PROPS-END\n" in
     let fits : length (change_entries (settings all)) < 2 ^ 64 =
-    omega (arith, small, ap length same, length-append (entries (props.Whole all)) (codes "PROPS-END\n")) in
-    ap (λ (l : List ℕ). prop_section_of false (l ++ codes "PROPS-END\n")) same
-    ∙ ap (λ r. (r >>= λ changes. Ok (with_changes [] changes)) >>= λ all. Ok (props.Whole all))
-    (changes_read false (settings all) (length bytes) (whole_reads all h.0 fits) (omega arith))
-    ∙ ap (λ (l : List Prop). Ok (props.Whole l)) (set_after [] all h.1)
-section_read (props.Delta changes) h small =
-    let bytes = change_entries changes ++ codes "PROPS-END\n" in
-    ap (λ r. r >>= λ changes. Ok (props.Delta changes))
-    (changes_read true changes (length bytes)
-    (delta_reads changes h (omega (arith, small, length-append (change_entries changes) (codes "PROPS-END\n")))) (omega arith))
+    omega (arith, small, ap length same, length-append (entries (props.Whole all)) (codes "PROPS-END\n")) in (
+      settings all,
+      subst (λ (l : List ℕ). IsChanges (l ++ codes "PROPS-END\n") (settings all)) (sym same)
+          (entries_are (settings all) (settings_named all h.0) fits),
+      settings_set all,
+      sym (set_after [] all h.1),
+    )
+section_is (props.Delta changes) h small =
+    entries_are changes (all_from_places (λ (c : PropChange). IsPropName c.0) changes h)
+    (omega (arith, small, length-append (change_entries changes) (codes "PROPS-END\n")))
 
 -- a section of so many bytes, and what is after it
 pub sized_section_read : (section : PropSection) (limit : ℕ) (rest : List ℕ) → IsPropSection section → length (prop_bytes section) ≤ limit
     → length (prop_bytes section) < 2 ^ 64
     → sized_props_at (is_delta section) limit (length (prop_bytes section)) (prop_bytes section ++ rest) ≡ Ok (section, rest)
 sized_section_read section limit rest h fits small =
-    rw (le-ltb limit (length (prop_bytes section)) fits, cut_whole (prop_bytes section) rest, section_read section h small) refl
+    sized_props_given (is_delta section) limit (prop_bytes section) section rest (section_is section h small) fits

@@ -32,12 +32,12 @@ unfolding subject_of
 headed_revision limits texts block after rev headers number = rw (headers, number) refl
 
 -- headers with a node's path
-pub headed_node : (limits : Limits) (texts : Texts) (block after : List ℕ) → are_headers block ≡ true
+pub headed_node : (limits : Limits) (texts : Texts) (block after : List ℕ) (uuid format : Bool) → are_headers block ≡ true
     → number_value block (codes "Revision-number") ≡ Ok None → is_given block (codes "Node-path") ≡ Ok true
-    → is_given block (codes "UUID") ≡ Ok false → is_given block (codes "SVN-fs-dump-format-version") ≡ Ok false
+    → is_given block (codes "UUID") ≡ Ok uuid → is_given block (codes "SVN-fs-dump-format-version") ≡ Ok format
     → headed_at limits texts block after ≡ node_at limits texts block after
 unfolding subject_of
-headed_node limits texts block after headers number path uuid format = rw (headers, number, path, uuid, format) refl
+headed_node limits texts block after uuid format headers number path is_uuid is_format = rw (headers, number, path, is_uuid, is_format) refl
 
 pub node_of_values : (block : List ℕ) (path : Path) (kind : Option Kind) (action : Action) (source : Option CopySource)
     → path_value block ≡ Ok path → kind_value block ≡ Ok kind → action_value block ≡ Ok action → source_value block ≡ Ok source

@@ -34,7 +34,7 @@ limits = record { headers = 1000; props = 1000; text = 1000 }
 
 -- ---- a change of the root: a property is set
 
-abbrev root_change : NodeRecord
+abbrev pub root_change : NodeRecord
 root_change = record {
   path = [];
   kind = Some Directory;
@@ -44,7 +44,7 @@ root_change = record {
   text = None;
 }
 
-abbrev root_bytes : List ℕ
+abbrev pub root_bytes : List ℕ
 root_bytes = codes "Node-path: \nNode-kind: dir\nNode-action: change\nProp-delta: true\nProp-content-length: 22\nContent-length: 22\n\nK 1\np\nV 1\nv\nPROPS-END\n\n\n"
 
 root_written : written root_change ≡ root_bytes

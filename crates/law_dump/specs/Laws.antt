@@ -2,6 +2,8 @@
 --     IsNodeRecord node      what each node's record has that the types hold
 --     IsWritable limits texts node      the same, and its lengths are within the limits
 --     IsReadAs limits texts bytes records      reading record after record gives these, and then the end
+--     IsDumpRead limits texts bytes format records      the same after the first record, which gives the format
+--     IsWithin limits texts r      a record of the grammar is within the limits
 use Rattle.std.specs.Prelude.{◌≡◌, ℕ, ◌+◌, ◌^◌, ◌<◌, ◌≤◌, List, [], ◌∷◌, ◌++◌, length, codes, replicate, map, Option, Some, None, Ok, All, IsUtf8, IfSome, MatchOption, unwrap_or, option_map}
 use Rattle.std.specs.List.{flat_map}
 use Rattle.std.specs.Map.{keys_of}
@@ -24,6 +26,7 @@ use Rattle.svn_dump.specs.declared.sections.Texts.TheVariants.{Whole, Sha1}
 use Rattle.svn_dump.specs.Records.{record_at, format_at}
 use Rattle.svn_digits.specs.StandIns.{stand_in, stand_in_of}
 use Rattle.svn_dump.specs.Written.{text_bytes, prop_section, text_section, headers_of, written, revision_record, format_record}
+use Rattle.law_dump.specs.Grammar.{IsRecord, AreRecords, IsDumpOf, ended, header_lines}
 
 -- ---- which records the laws are about
 
@@ -172,3 +175,77 @@ dumps_are_read_back =
     → All (IsWritableRecord limits texts) records
     → (let bytes = flat_map written_record records in
     (format_at limits (format_record format ++ bytes) ≡ Ok (format, bytes)) × IsReadAs limits texts bytes (kept_records texts records))
+
+-- ---- what is read is by the grammar
+
+-- What is read of a record is what is kept of one that the grammar gives.
+abbrev pub records_are_by_the_grammar : Type 0
+records_are_by_the_grammar =
+    (limits : Limits) (texts : Texts) (bytes : List ℕ) (what : Record) (rest : List ℕ) → record_at limits texts bytes ≡ Ok (Some what, rest)
+    → (whole : Record) × (what ≡ kept_record texts whole) × IsRecord bytes whole rest
+
+-- the format is read of the first record, then record after record, and then the end
+abbrev pub IsDumpRead : Limits → Texts → List ℕ → ℕ → List Record → Type 0
+IsDumpRead limits texts bytes format records =
+    (rest : List ℕ) × (format_at limits bytes ≡ Ok (format, rest)) × IsReadAs limits texts rest records
+
+abbrev pub dumps_are_by_the_grammar : Type 0
+dumps_are_by_the_grammar =
+    (limits : Limits) (texts : Texts) (bytes : List ℕ) (format : ℕ) (records : List Record) → IsDumpRead limits texts bytes format records
+    → (whole : List Record) × (records ≡ kept_records texts whole) × IsDumpOf bytes format whole
+
+-- ---- what is by the grammar is read
+
+abbrev pub NodeFits : Limits → Texts → Option (List ℕ) → Record → Type 0
+NodeFits limits texts prop_bytes Other = Unit {0}
+NodeFits limits texts prop_bytes (Revision rev) = Unit {0}
+NodeFits limits texts prop_bytes (Node node) =
+    IfSome prop_bytes (λ bytes. length bytes ≤ limits.props) × IfSome node.text (CanKeep texts limits.text)
+
+-- the headers and the blank lines before them, and of a node the properties and a text that is kept
+pub record IsWithin (limits : Limits) (texts : Texts) {bytes : List ℕ} {what : Record} {rest : List ℕ} (r : IsRecord bytes what rest) : Type 0 where
+  pub headers_fit : length (ended r.block.blank) + length (header_lines r.headers) ≤ limits.headers
+  pub node_fits : NodeFits limits texts r.prop_bytes what
+
+-- each record, and the blank lines at the end
+abbrev pub AreWithin : Limits → Texts → (bytes : List ℕ) (records : List Record) → AreRecords bytes records → Type 0
+AreWithin limits texts bytes [] end = length bytes ≤ limits.headers
+AreWithin limits texts bytes (what ∷ records) are = IsWithin limits texts are.1 × AreWithin limits texts are.0 records are.2
+
+abbrev pub records_of_the_grammar_are_read : Type 0
+records_of_the_grammar_are_read =
+    (limits : Limits) (texts : Texts) (bytes : List ℕ) (what : Record) (rest : List ℕ) (r : IsRecord bytes what rest) → IsWithin limits texts r
+    → record_at limits texts bytes ≡ Ok (Some (kept_record texts what), rest)
+
+-- the lines of the first record too
+pub record IsDumpWithin (limits : Limits) (texts : Texts) {bytes : List ℕ} {n : ℕ} {records : List Record} (d : IsDumpOf bytes n records) : Type 0 where
+  pub first_fits : length (ended d.first.blank) + length (ended d.first.lines) ≤ limits.headers
+  pub records_fit : AreWithin limits texts d.rest records d.are
+
+abbrev pub dumps_of_the_grammar_are_read : Type 0
+dumps_of_the_grammar_are_read =
+    (limits : Limits) (texts : Texts) (bytes : List ℕ) (format : ℕ) (records : List Record) (d : IsDumpOf bytes format records)
+    → IsDumpWithin limits texts d → IsDumpRead limits texts bytes format (kept_records texts records)
+
+-- ---- the grammar has one meaning
+
+abbrev pub records_are_one : Type 0
+records_are_one =
+    (bytes : List ℕ) (a b : Record) (rest after : List ℕ) → IsRecord bytes a rest → IsRecord bytes b after → (a ≡ b) × (rest ≡ after)
+
+abbrev pub dumps_are_one : Type 0
+dumps_are_one =
+    (bytes : List ℕ) (f g : ℕ) (a b : List Record) → IsDumpOf bytes f a → IsDumpOf bytes g b → (f ≡ g) × (a ≡ b)
+
+-- ---- what is written is by the grammar
+
+-- within no limits but those of numbers
+abbrev pub IsLawfulRecord : Record → Type 0
+IsLawfulRecord Other = ⊥
+IsLawfulRecord (Revision rev) = rev < 2 ^ 64
+IsLawfulRecord (Node node) = IsNodeRecord node × (props_len node + text_len node < 2 ^ 64)
+
+abbrev pub dumps_are_written_by_the_grammar : Type 0
+dumps_are_written_by_the_grammar =
+    (format : ℕ) (records : List Record) → 2 ≤ format → format ≤ 3 → All IsLawfulRecord records
+    → IsDumpOf (format_record format ++ flat_map written_record records) format records
