@@ -1,2 +1,3 @@
 -- Verdicts, and answers one after another.
 pub mod Answering
+pub mod Driving

@@ -3,7 +3,8 @@
 --     IsCopyFault opens stayed compared word fault      why the copy of a word isn't audited: where that is said of its bytes, it stayed as it was
 --     answer_text word answer, verdict_of answer      what is printed of a word's answer, and its verdict
 --     Checks opens stayed compared words verdict text      each word was answered, in their order: these are all lines, and the worst of the verdicts
-use Rattle.std.specs.Prelude.{◌≡◌, ℕ, List, [], ◌∷◌, map, Option, Some, Result, Ok, Err}
+--     Tells opens stayed compared inquiry word verdict text      this was written of what is asked of the word's copy, and with that verdict
+use Rattle.std.specs.Prelude.{◌≡◌, ℕ, List, [], ◌∷◌, map, false, Option, Some, Result, Ok, Err}
 use Rattle.std.specs.Option.{option_copied}
 use Rattle.std.specs.List.{flat_map, AllByRecursion}
 use Rattle.svn_types.specs.Names.{Path}
@@ -22,7 +23,9 @@ use Rattle.svn_answers.specs.declared.fault.CopyFault.{CopyFault}
 use Rattle.svn_answers.specs.declared.fault.CopyFault.TheVariants.{Refused, Audit}
 use Rattle.svn_answers.specs.declared.verdict.Verdict.{Verdict}
 use Rattle.svn_answers.specs.declared.verdict.Verdict.TheVariants as verdicts
+use Rattle.svn_answers.specs.declared.telling.Inquiry.{Inquiry}
 use Rattle.svn_answers.specs.Lines.{checked_text}
+use Rattle.svn_answers.specs.Topics.{IsTopicText}
 use Rattle.svn_answers.specs.Verdicts.{worst}
 
 -- what copies are compared with: a history, how it keeps texts, and the UUID of its repository, where that is known
@@ -96,3 +99,17 @@ pub record Checks (F : Type 0) (opens : Opens) (stayed : Stayed) (compared : Com
   pub each : AllByRecursion (λ a. IsAnswer opens stayed compared a.0 a.1) answers
   pub lines : text ≡ flat_map (λ a. answer_text a.0 a.1) answers
   pub worst_of_all : verdict ≡ worst (map (λ a. verdict_of a.1) answers)
+
+-- ---- what is asked of one copy
+
+pub record IsTold (opens : Opens) (stayed : Stayed) (compared : Compared) (inquiry : Inquiry) (name : List ℕ) (text : List ℕ) : Type 0 where
+  pub audited : Audited
+  pub is : IsAudited opens stayed compared name audited
+  pub allowed : inquiry.allow_untrue ≡ false → audited.untrue.items ≡ []
+  pub answer : IsTopicText compared.history audited.copy inquiry.topic text
+
+abbrev pub Tells : Opens → Stayed → Compared → Inquiry → List ℕ → Verdict → List ℕ → Type 0
+Tells opens stayed compared inquiry name verdicts.True text = IsTold opens stayed compared inquiry name text
+Tells opens stayed compared inquiry name verdicts.Untrue text = ⊥
+-- where it is refused, nothing is written
+Tells opens stayed compared inquiry name verdicts.Refused text = text ≡ []

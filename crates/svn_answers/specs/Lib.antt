@@ -1,3 +1,5 @@
 pub mod Lines
 pub mod Verdicts
+pub mod Topics
 pub mod Answers
+pub mod Locks

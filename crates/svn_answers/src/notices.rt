@@ -22,7 +22,7 @@ pub fn tell_notes<N: Write>(name: Source<'_>, notes: Option<Notes>, notices: &mu
 }
 
 // Whether an allocation failed: then it isn't a fault of the copy.
-fn is_memory<C: Copies>(copies: &C, fault: &CopyFault<C::Fault>) -> bool {
+pub(crate) fn is_memory<C: Copies>(copies: &C, fault: &CopyFault<C::Fault>) -> bool {
     match fault {
         CopyFault::Refused(fault) => copies.is_memory(fault),
         CopyFault::Audit(AuditFault::Memory) => true,

@@ -2,7 +2,7 @@
 
 use clap::{Arg, ArgAction, ArgMatches, Command, Error, value_parser};
 use std::alloc::{AllocError, Global};
-use svn_answers::Source;
+use svn_answers::{Inquiry, Source, Topic};
 use svn_dump::Texts;
 use svn_types::Rev;
 
@@ -45,35 +45,23 @@ pub(crate) struct Write<'a> {
 }
 
 /// What is asked about working copies.
-#[derive(Clone, Copy, Debug, PartialEq, Eq)]
-pub(crate) enum Topic {
-    /// `check DUMP WC..`: whether each is true of the history.
-    Check,
-    /// `report DUMP WC`: what a client reports.
-    Report,
-    /// `update DUMP WC [REV]`: the lines that an update prints.
-    Update,
-    /// `calls DUMP WC [REV]`: the calls of an update.
-    Calls,
-    /// `nodes DUMP WC [REV]`: the nodes after an update.
-    Nodes,
+#[derive(Debug, Drop)]
+pub(crate) enum Subject<'a> {
+    /// `check DUMP WC..`: whether each of these is true of the history.
+    Check(Vec<&'a str>),
+    /// `report`, `update`, `calls` and `nodes DUMP WC`: something about this one.
+    Copy(Inquiry, &'a str),
 }
 
 /// A question about working copies.
 #[derive(Debug, Drop)]
 pub(crate) struct Question<'a> {
-    /// What is asked.
-    pub(crate) topic: Topic,
+    /// What is asked, of which folders.
+    pub(crate) subject: Subject<'a>,
     /// The dump.
     pub(crate) dump: Source<'a>,
-    /// The folders of the copies: one, but for `check`.
-    pub(crate) copies: Vec<&'a str>,
-    /// The revision that is updated to; None for the last one.
-    pub(crate) rev: Option<Rev>,
     /// How texts are kept.
     pub(crate) texts: Texts,
-    /// Whether an untrue copy is taken all the same.
-    pub(crate) allow_untrue: bool,
     /// Whether to print how far the dump was read.
     pub(crate) progress: bool,
 }
@@ -177,7 +165,7 @@ fn copy_command<'a>(
     about: &'a str,
 ) -> Result<Command<'a>, AllocError> {
     question_command(alloc, name, about)?
-        .arg(word(alloc, "copies", "WC", "The folder of a working copy").required(true))?
+        .arg(word(alloc, "copy", "WC", "The folder of a working copy").required(true))?
         .arg(
             Arg::new(alloc, "allow-untrue")
                 .long("allow-untrue")
@@ -263,30 +251,44 @@ fn copies_of<'a>(alloc: Global, matches: &ArgMatches<'a>) -> Result<Vec<&'a str>
     }
 }
 
-fn question_of<'a>(
-    alloc: Global,
-    topic: Topic,
-    matches: &ArgMatches<'a>,
-) -> Result<Question<'a>, AllocError> {
-    Ok(Question {
-        topic,
-        dump: Source(matches.get_str("dump").unwrap_or("-")),
-        copies: copies_of(alloc, matches)?,
-        rev: matches.get_one::<u64>("rev").map(|number| Rev(number)),
-        texts: texts_of(matches),
-        allow_untrue: matches.get_flag("allow-untrue"),
-        progress: matches.get_flag("progress"),
-    })
+// What is asked of one copy, by the name of its command.
+fn topic_of(name: &str, matches: &ArgMatches<'_>) -> Option<Topic> {
+    let rev = || matches.get_one::<u64>("rev").map(|number| Rev(number));
+    match name {
+        "report" => Some(Topic::Report),
+        "update" => Some(Topic::Update(rev())),
+        "calls" => Some(Topic::Calls(rev())),
+        "nodes" => Some(Topic::Nodes(rev())),
+        _ => None,
+    }
 }
 
-fn topic_of(name: &str) -> Option<Topic> {
-    match name {
-        "check" => Some(Topic::Check),
-        "report" => Some(Topic::Report),
-        "update" => Some(Topic::Update),
-        "calls" => Some(Topic::Calls),
-        "nodes" => Some(Topic::Nodes),
-        _ => None,
+fn inquiry_of<'a>(topic: Topic, matches: &ArgMatches<'a>) -> Subject<'a> {
+    let inquiry = Inquiry {
+        topic,
+        allow_untrue: matches.get_flag("allow-untrue"),
+    };
+    Subject::Copy(inquiry, matches.get_str("copy").unwrap_or("."))
+}
+
+// What is asked about working copies, if that is the command.
+fn subject_of<'a>(
+    alloc: Global,
+    name: &str,
+    matches: &ArgMatches<'a>,
+) -> Result<Option<Subject<'a>>, AllocError> {
+    if name == "check" {
+        return Ok(Some(Subject::Check(copies_of(alloc, matches)?)));
+    }
+    Ok(topic_of(name, matches).map(|topic| inquiry_of(topic, matches)))
+}
+
+fn question_of<'a>(subject: Subject<'a>, matches: &ArgMatches<'a>) -> Question<'a> {
+    Question {
+        subject,
+        dump: Source(matches.get_str("dump").unwrap_or("-")),
+        texts: texts_of(matches),
+        progress: matches.get_flag("progress"),
     }
 }
 
@@ -297,8 +299,8 @@ pub(crate) fn request_of<'a>(alloc: Global, words: &'a [&'a str]) -> Result<Requ
         // a subcommand is required
         return Err(Error::from(AllocError));
     };
-    if let Some(topic) = topic_of(name) {
-        return Ok(Request::Ask(question_of(alloc, topic, words)?));
+    if let Some(subject) = subject_of(alloc, name, words)? {
+        return Ok(Request::Ask(question_of(subject, words)));
     }
     match name {
         "show" => Ok(Request::Show(show_of(words))),

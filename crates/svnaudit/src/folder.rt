@@ -1,16 +1,12 @@
 //! The folder of a working copy.
 
+use crate::database::Database;
 use crate::fault::Fault;
 use std::alloc::Global;
 use std::fs;
-use std::fs::File;
-use std::io::{ErrorKind, Read};
 use std::path::PathBuf;
 use std::rt::Files;
 use svn_types::{PathFault, RelPath};
-
-/// How many bytes of a database are compared before and after it is read: its header, where the change counter is.
-const HEADER: usize = 100;
 
 /// The folder of a working copy, and where in it the folder is that was named.
 #[derive(Drop)]
@@ -19,20 +15,8 @@ pub(crate) struct Folder {
     below: RelPath,
 }
 
-/// The front of a database.
-#[derive(Clone, Copy, PartialEq, Eq)]
-pub(crate) struct Header([u8; HEADER]);
-
-fn database_of(alloc: Global, root: &PathBuf) -> Result<PathBuf, Fault> {
-    Ok(root.join(alloc, ".svn/wc.db")?)
-}
-
 fn has_database<T: Files + AllocGlobal>(rt: &T, root: &PathBuf) -> Result<bool, Fault> {
-    let database = database_of(rt.alloc(), root)?;
-    match fs::exists(rt, &database) {
-        Ok(exists) => Ok(exists),
-        Err(error) => Err(Fault::Unread(error)),
-    }
+    Database::of(rt.alloc(), root)?.exists(rt)
 }
 
 // A path of the working copy, as the system gives it.
@@ -67,9 +51,19 @@ fn find_above<T: Files + AllocGlobal>(rt: &T, word: &str) -> Result<Folder, Faul
     Err(Fault::NoCopy)
 }
 
+// Refuses what isn't a folder.
+fn refuse_file<T: Files>(rt: &T, word: &str) -> Result<(), Fault> {
+    match fs::metadata(rt, word) {
+        Ok(found) if found.is_dir() => Ok(()),
+        Ok(_) => Err(Fault::NoFolder),
+        Err(error) => Err(Fault::Unread(error)),
+    }
+}
+
 impl Folder {
     /// The folder that a word names, or the one above it that is a working copy's.
     pub(crate) fn find<T: Files + AllocGlobal>(rt: &T, word: &str) -> Result<Folder, Fault> {
+        refuse_file(rt, word)?;
         let root = PathBuf::from_str(rt.alloc(), word)?;
         if has_database(rt, &root)? {
             return Ok(Folder {
@@ -85,44 +79,13 @@ impl Folder {
         &self.below
     }
 
+    /// The working copy's database.
+    pub(crate) fn database(&self, alloc: Global) -> Result<Database, Fault> {
+        Database::of(alloc, &self.root)
+    }
+
     /// A file of the working copy's own.
     pub(crate) fn file(&self, alloc: Global, name: &str) -> Result<PathBuf, Fault> {
         Ok(self.root.join(alloc, name)?)
-    }
-
-    /// The database's bytes.
-    pub(crate) fn read_database<T: Files + AllocGlobal>(&self, rt: &T) -> Result<Vec<u8>, Fault> {
-        let database = database_of(rt.alloc(), &self.root)?;
-        match fs::read(rt, &database) {
-            Ok(bytes) => Ok(bytes),
-            Err(error) => Err(Fault::Unread(error)),
-        }
-    }
-
-    /// The front of the database, which is another after each change.
-    pub(crate) fn header<T: Files + AllocGlobal>(&self, rt: &T) -> Result<Header, Fault> {
-        let database = database_of(rt.alloc(), &self.root)?;
-        let mut file = match File::open(rt, &database) {
-            Ok(file) => file,
-            Err(error) => return Err(Fault::Unread(error)),
-        };
-        let mut header = [0u8; HEADER];
-        match file.read_exact(&mut header) {
-            Ok(()) => Ok(Header(header)),
-            // the reader of the database says what is wrong with it
-            Err(error) if error.kind() == ErrorKind::UnexpectedEof => Ok(Header([0u8; HEADER])),
-            Err(error) => Err(Fault::Unread(error)),
-        }
-    }
-
-    /// Refuses a journal: a change of the database was begun and not ended.
-    pub(crate) fn refuse_journal<T: Files + AllocGlobal>(&self, rt: &T) -> Result<(), Fault> {
-        let journal = self.file(rt.alloc(), ".svn/wc.db-journal")?;
-        match fs::metadata(rt, &journal) {
-            Ok(file) if file.len() > 0 => Err(Fault::Journal),
-            Ok(_) => Ok(()),
-            Err(error) if error.kind() == ErrorKind::NotFound => Ok(()),
-            Err(error) => Err(Fault::Unread(error)),
-        }
     }
 }

@@ -1,13 +1,14 @@
 //! A history, loaded from a dump.
 
-use crate::command_line::Show;
+use crate::command_line::{Question, Show};
 use crate::fault::Fault;
 use crate::progress::Progress;
 use std::alloc::Global;
 use std::io::Read;
 use std::rt::Clock;
+use svn_answers::{DumpRefusal, Loaded};
 use svn_dump::{DumpFault, Limits, Reader, Reason, Texts};
-use svn_history::{LoadFault, Loader, Refusal};
+use svn_history::{LoadFault, LoadListener, Loader};
 use svn_repo::Repo;
 use svn_types::Rev;
 use svndiff::{SvndiffFault, WindowFault};
@@ -32,7 +33,8 @@ fn advice(fault: LoadFault, texts: Texts) -> &'static str {
     }
 }
 
-fn fault_of(alloc: Global, refusal: &Refusal<'_>, texts: Texts) -> Fault {
+// What a refusal of a dump is to the program.
+fn fault_of(alloc: Global, refusal: &DumpRefusal, texts: Texts) -> Fault {
     if refusal.fault == LoadFault::Memory {
         return Fault::Memory;
     }
@@ -40,25 +42,6 @@ fn fault_of(alloc: Global, refusal: &Refusal<'_>, texts: Texts) -> Fault {
     match format!(in alloc; "{refusal}{advice}") {
         Ok(text) => Fault::Dump(text),
         Err(_) => Fault::Memory,
-    }
-}
-
-// A dump whose first record is refused.
-fn at_front(alloc: Global, fault: DumpFault, texts: Texts) -> Fault {
-    let refusal = Refusal {
-        byte: 0,
-        rev: None,
-        path: None,
-        fault: LoadFault::from(fault),
-    };
-    fault_of(alloc, &refusal, texts)
-}
-
-// A dump with a later record that is refused.
-fn at_record<R: Read + Drop>(alloc: Global, loader: &Loader<R>) -> Fault {
-    match loader.refusal() {
-        Some(refusal) => fault_of(alloc, &refusal, loader.records().texts()),
-        None => Fault::Memory,
     }
 }
 
@@ -75,7 +58,7 @@ fn load_up_to<T: Clock + Eprint, R: Read + Drop>(
         if loader.next_revision()?.is_none() {
             return Ok(());
         }
-        progress.report(loader.latest(), loader.records().begun());
+        progress.loaded(loader.latest(), loader.records().begun());
     }
     Ok(())
 }
@@ -95,7 +78,10 @@ fn open<R: Read + Drop>(alloc: Global, input: R, texts: Texts) -> Result<Loader<
     };
     match Reader::new(alloc, input, Limits::default(), texts) {
         Ok(records) => Ok(Loader::new(alloc, records, repo)),
-        Err(fault) => Err(at_front(alloc, fault, texts)),
+        Err(fault) => {
+            let refusal = DumpRefusal::at_front(LoadFault::from(fault));
+            Err(fault_of(alloc, &refusal, texts))
+        }
     }
 }
 
@@ -108,9 +94,10 @@ pub(crate) fn load<T: Clock + Eprint, R: Read + Drop>(
 ) -> Result<Repo, Fault> {
     let mut loader = open(alloc, input, show.texts)?;
     if load_up_to(&mut loader, show.rev, progress).is_err() {
-        return Err(at_record(alloc, &loader));
+        return Err(fault_of(alloc, &DumpRefusal::of(alloc, &loader), show.texts));
     }
-    progress.end(loader.latest(), loader.records().begun());
+    progress.end();
+    progress.tell_beginning(show.dump, loader.first_revision());
     loaded(loader, show.rev)
 }
 
@@ -118,13 +105,16 @@ pub(crate) fn load<T: Clock + Eprint, R: Read + Drop>(
 pub(crate) fn load_whole<T: Clock + Eprint, R: Read + Drop>(
     alloc: Global,
     input: R,
-    texts: Texts,
+    question: &Question<'_>,
     progress: &mut Progress<'_, T>,
-) -> Result<Repo, Fault> {
-    let mut loader = open(alloc, input, texts)?;
-    if loader.load_all_with(progress).is_err() {
-        return Err(at_record(alloc, &loader));
+) -> Result<Loaded, Fault> {
+    let texts = question.texts;
+    match Loaded::load(alloc, input, Limits::default(), texts, progress) {
+        Ok(loaded) => {
+            progress.end();
+            progress.tell_beginning(question.dump, loaded.first);
+            Ok(loaded)
+        }
+        Err(refusal) => Err(fault_of(alloc, &refusal, texts)),
     }
-    progress.end(loader.latest(), loader.records().begun());
-    Ok(loader.into_repo())
 }

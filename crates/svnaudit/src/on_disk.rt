@@ -1,8 +1,10 @@
 //! Working copies on disk, read and not changed.
 
+use crate::database::{Bytes, Database};
 use crate::fault::Fault;
-use crate::folder::{Folder, Header};
+use crate::folder::Folder;
 use crate::pristine::{PristineFile, open_pristine};
+use std::os::fd::AsRawFd;
 use std::rt::Files;
 use svn_answers::{Copies, Opened};
 use svn_disk_audit::Examiner;
@@ -15,12 +17,13 @@ pub(crate) struct Folders<'a, T> {
     pub(crate) rt: &'a T,
 }
 
-/// A folder whose pristine texts are opened, and the front of its database as it was before that was read.
+/// A folder whose pristine texts are opened, its database, and whether that was read under a lock.
 #[derive(Drop)]
 pub(crate) struct OpenFolder<'a, T> {
     rt: &'a T,
     folder: Folder,
-    before: Header,
+    database: Database,
+    locked: bool,
 }
 
 impl<T: Files + AllocGlobal> Examiner for OpenFolder<'_, T> {
@@ -37,7 +40,7 @@ impl<T: Files + AllocGlobal> Examiner for OpenFolder<'_, T> {
     }
 }
 
-impl<'a, T: Files + AllocGlobal> Copies for Folders<'a, T> {
+impl<'a, T: Files<File: AsRawFd> + AllocGlobal> Copies for Folders<'a, T> {
     type Fault = Fault;
 
     type Examiner = OpenFolder<'a, T>;
@@ -48,16 +51,16 @@ impl<'a, T: Files + AllocGlobal> Copies for Folders<'a, T> {
 
     fn open(&self, name: &str) -> Result<Opened<OpenFolder<'a, T>>, Fault> {
         let folder = Folder::find(self.rt, name)?;
-        let before = folder.header(self.rt)?;
-        folder.refuse_journal(self.rt)?;
-        let database = folder.read_database(self.rt)?;
+        let database = folder.database(self.rt.alloc())?;
+        let Bytes { bytes, locked } = database.read(self.rt)?;
         Ok(Opened {
-            database,
+            database: bytes,
             below: folder.below().clone()?,
             examiner: OpenFolder {
                 rt: self.rt,
                 folder,
-                before,
+                database,
+                locked,
             },
         })
     }
@@ -65,13 +68,11 @@ impl<'a, T: Files + AllocGlobal> Copies for Folders<'a, T> {
     fn look_again(
         &self,
         _name: &str,
-        _database: &[u8],
+        database: &[u8],
         examiner: &OpenFolder<'a, T>,
     ) -> Result<(), Fault> {
-        examiner.folder.refuse_journal(self.rt)?;
-        if examiner.folder.header(self.rt)? != examiner.before {
-            return Err(Fault::Changed);
-        }
-        Ok(())
+        examiner
+            .database
+            .look_again(self.rt, database, examiner.locked)
     }
 }

@@ -2,6 +2,7 @@
 
 use std::rt::Clock;
 use std::time::Instant;
+use svn_answers::Source;
 use svn_history::LoadListener;
 use svn_types::Rev;
 
@@ -15,6 +16,8 @@ pub(crate) struct Progress<'a, T> {
     asked: bool,
     // When the last line was printed, or the work began; None if the clock can't be read.
     last: Option<Instant>,
+    // What is done: the revision, and how many bytes.
+    done: (Rev, u64),
 }
 
 impl<'a, T: Clock + Eprint> Progress<'a, T> {
@@ -24,6 +27,7 @@ impl<'a, T: Clock + Eprint> Progress<'a, T> {
             rt,
             asked,
             last: Instant::now(rt).ok(),
+            done: (Rev(0), 0),
         }
     }
 
@@ -41,22 +45,34 @@ impl<'a, T: Clock + Eprint> Progress<'a, T> {
 
     /// So much is done, and the work goes on.
     pub(crate) fn report(&mut self, rev: Rev, bytes: u64) {
+        self.done = (rev, bytes);
         if self.asked && self.is_due() {
-            self.line(rev, bytes);
+            self.line();
         }
     }
 
-    /// So much is done, and that is all.
-    pub(crate) fn end(&self, rev: Rev, bytes: u64) {
+    /// All is done.
+    pub(crate) fn end(&self) {
         if self.asked {
-            self.line(rev, bytes);
+            self.line();
         }
     }
 
     // Where standard error can't be written, nothing is printed.
-    fn line(&self, rev: Rev, bytes: u64) {
-        let number = rev.0;
+    fn line(&self) {
+        let (Rev(number), bytes) = self.done;
         let _ = eprintln!(self.rt; "svnaudit: r{number}, {bytes} bytes");
+    }
+
+    /// Says if a dump begins late: revisions that are left out are empty here, so that a copy of one isn't true. Revision 0 has nothing.
+    pub(crate) fn tell_beginning(&self, name: Source<'_>, first: Option<Rev>) {
+        if let Some(Rev(number)) = first {
+            if number > 1 {
+                let _ = eprintln!(self.rt;
+                    "svnaudit: {name}: the dump begins with r{number}: the revisions before it are empty here"
+                );
+            }
+        }
     }
 }
 

@@ -101,7 +101,7 @@ fn show_history<T: Print + Eprint + Clock + AllocGlobal, R: Read + Drop>(
     let path = path_of(rt.alloc(), show.path)?;
     let mut progress = Progress::begin(rt, show.progress);
     let front = DumpFront::read(rt.alloc(), &mut input)?;
-    front.tell_beginning(rt, show.dump);
+    front.refuse_packed()?;
     let repo = load(rt.alloc(), front.bytes().chain(input), show, &mut progress)?;
     print_node(rt, &repo, show.rev, path)
 }

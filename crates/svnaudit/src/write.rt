@@ -12,6 +12,7 @@ use std::rt::{Clock, Files};
 use svn_history::{HistoryWriter, LoadFault, push_beginning};
 use svn_repo::{Change, Repo};
 use svn_script::{Command, LineFault, read_command, without_return};
+use svn_types::Rev;
 
 /// A history, and what isn't written yet of the dump that it is written as.
 #[derive(Drop)]
@@ -104,8 +105,9 @@ fn write_history<T: Print + Eprint + Clock + AllocGlobal, R: Read + Drop>(
     let mut writing = Writing::new(rt.alloc())?;
     let mut progress = Progress::begin(rt, asked);
     writing.write_ready(rt)?;
+    progress.report(Rev(0), writing.written);
     do_lines(rt, &mut lines, &mut writing, &mut progress)?;
-    progress.end(writing.writer.latest(), writing.written);
+    progress.end();
     Ok(())
 }
 

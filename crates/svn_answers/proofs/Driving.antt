@@ -1,0 +1,78 @@
+-- Drives that are made to their end.
+use Rattle.std.proofs.Common.{◌≡◌, ℕ, zero, suc, List, [], ◌∷◌, ◌++◌, length, append-nil, append_assoc, sym, ap, subst, ⊎_elim, ◌∙◌}
+use Rattle.std.specs.Prelude.{◌≢◌, ◌⊎◌, Option, Some, None, Result, Ok, Err}
+use Rattle.svn_editor.specs.declared.call.Call.{Call}
+use Rattle.svn_editor.specs.declared.fault.EditFault.{EditFault}
+use Rattle.svn_editor.specs.Editing.{Leads}
+use Rattle.svn_model.specs.declared.stop.Stop.{Stop}
+use Rattle.svn_model.specs.declared.stop.Stop.TheVariants.{Cancelled, Full, Memory, Editor}
+use Rattle.svn_model.specs.declared.drive_end.DriveEnd.{DriveEnd}
+use Rattle.svn_model.specs.declared.drive_end.DriveEnd.TheVariants.{Closed}
+use Rattle.svn_model.specs.declared.drive_fault.DriveFault.{DriveFault}
+use Rattle.svn_editor.specs.declared.call.Call.TheVariants.{AbortEdit}
+use Rattle.svn_model.specs.Ends.{Halts, Drives, IsEarly, IsWithin, LeavesSome, end_of}
+
+abbrev no_limit : Option ℕ
+no_limit = None
+
+abbrev ended : DriveEnd → Result DriveEnd DriveFault
+ended x = Ok x
+
+module _ {E : Type 0} (answers : E → Call → Result (Unit {0}) EditFault → E → Type 0) where
+  -- no number is given after which the drive must be given up
+  never_given_up : (k : ℕ) (calls : List Call) (e m : E) (made : ℕ) → Halts answers no_limit k calls e m made Cancelled → ⊥
+  never_given_up zero [] e m made h =
+      let is : Cancelled ≡ Memory = h.1 in
+      absurd cc
+  never_given_up zero (c ∷ calls) e m made h =
+      ⊎_elim
+      (λ (t : (e ≡ m) × (no_limit ≡ Some made)).
+      let is = t.1 in
+      absurd cc)
+      (λ (t : (fault : EditFault) × answers e c (Err fault) m × (Cancelled ≡ Editor fault) × (no_limit ≢ Some made)).
+      let is = t.2 in
+      absurd cc)
+      h
+  never_given_up (suc k) [] e m made h = h
+  never_given_up (suc k) (c ∷ calls) e m made h = never_given_up k calls h.0 m made h.2
+
+  -- each other stop is a fault
+  never_stopped : (s : Stop) (k : ℕ) (calls : List Call) (e m : E) (x : DriveEnd) → Halts answers no_limit k calls e m k s → ended x ≡ end_of s k → ⊥
+  never_stopped Cancelled k calls e m x h is = never_given_up k calls e m k h
+  never_stopped Full k calls e m x h is = absurd cc
+  never_stopped Memory k calls e m x h is = absurd cc
+  never_stopped (Editor fault) k calls e m x h is = absurd cc
+
+  abbrev Whole : Option DriveFault → List Call → DriveEnd → E → E → Type 0
+  Whole fault calls x e f = (n : ℕ) × (fault ≡ None) × Leads answers calls e f × (n ≡ length calls) × (ended x ≡ ended (Closed n)) × IsWithin no_limit n
+
+  abbrev Stops : Option DriveFault → List Call → DriveEnd → E → E → Type 0
+  Stops fault calls x e f = (s : Stop) × (k : ℕ) × (m : E) × (fault ≡ None) × Halts answers no_limit k calls e m k s × (ended x ≡ end_of s k)
+      × ((answer : Result (Unit {0}) EditFault) × answers m AbortEdit answer f) × LeavesSome s k (length calls) × IsWithin no_limit k
+
+  -- a drive without such a number that ends without a fault made all calls
+  all_made : (fault : Option DriveFault) (calls : List Call) (x : DriveEnd) (e f : E) → Drives answers no_limit fault calls (ended x) e f
+      → Leads answers calls e f
+  all_made fault calls x e f drove =
+      ⊎_elim (λ (t : (e ≡ f) × IsEarly fault (ended x)). absurd t.1)
+      (λ (u : Whole fault calls x e f ⊎ Stops fault calls x e f).
+      ⊎_elim (λ (t : Whole fault calls x e f). t.2)
+      (λ (t : Stops fault calls x e f). absurd (never_stopped t.0 t.1 calls e t.2 x t.4 t.5)) u) drove
+
+  -- what each accepted call keeps of the calls before it, all of them keep
+  kept : (P : E → List Call → Type 0) → ((e f : E) (c : Call) (before : List Call) → answers e c (Ok tt) f → P e before → P f (before ++ c ∷ []))
+      → (calls before : List Call) (e f : E) → Leads answers calls e f → P e before → P f (before ++ calls)
+  kept P step [] before e f led at = subst (λ (z : E). P z (before ++ [])) led (subst (P e) (sym (append-nil before)) at)
+  kept P step (c ∷ calls) before e f led at =
+      subst (P f) (append_assoc before (c ∷ []) calls) (kept P step calls (before ++ c ∷ []) led.0 f led.2 (step e led.0 c before led.1 at))
+
+  -- what each accepted call keeps of the calls before it, a drive to its end does
+  pub all_kept : (P : E → List Call → Type 0) → ((e f : E) (c : Call) (before : List Call) → answers e c (Ok tt) f → P e before → P f (before ++ c ∷ []))
+      → (limit : Option ℕ) (fault : Option DriveFault) (calls : List Call) (x : DriveEnd) (e f : E) → limit ≡ no_limit
+      → Drives answers limit fault calls (ended x) e f → P e [] → P f calls
+  all_kept P step limit fault calls x e f none drove at =
+      kept P step calls [] e f (all_made fault calls x e f (subst (λ (n : Option ℕ). Drives answers n fault calls (ended x) e f) none drove)) at
+
+-- one more call is recorded
+pub one_more : (e f before : List Call) (c : Call) → f ≡ e ++ c ∷ [] → e ≡ before → f ≡ before ++ c ∷ []
+one_more e f before c one at = one ∙ ap (λ (l : List Call). l ++ c ∷ []) at

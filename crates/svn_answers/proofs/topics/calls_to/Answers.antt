@@ -1,0 +1,17 @@
+use Rattle.std.proofs.Common.{◌≡◌, ◌∙◌, ap, false, List, None}
+use Rattle.svn_editor.specs.declared.call.Call.{Call}
+use Rattle.svn_editor.specs.contracts.recorder.RecorderEditor.TheImpl.{ghosts as recorder}
+use Rattle.svn_editor.specs.declared.mode.Mode.TheVariants as modes
+use Rattle.svn_drive.specs.Requests.{requested, drive_for}
+use Rattle.svn_answers.specs.Topics.{update_to}
+use Rattle.svn_answers.proofs.Driving.{all_kept, one_more}
+use Rattle.svn_answers.proofs.topics.calls_to.Goals as goal
+
+pub returns-in-Ok : goal.returns-in-Ok
+returns-in-Ok c =
+    let asked : c.update-request.result ≡ update_to c.args.repo.now c.args.rev =
+    c.update-request.ensures ∙ ap (λ rev. requested rev modes.Update false None) c.or_latest.ensures in
+    c.into_calls.ensures
+    ∙ all_kept recorder.answers (λ (e before : List Call). e ≡ before) (λ e f call before one at. one_more e f before call one at) _ _ _
+    c.in-Ok.field-0 _ _ (ap (λ w. w.options.cancel_after) asked) c.in-Ok.ensures.calls c.new-recorder.ensures
+    ∙ (λ i. drive_for c.args.repo.now (c.in_ok-report.ensures.report i) (asked i))

@@ -1,0 +1,45 @@
+//! What is asked of a working copy that was audited, but for the verdict on it.
+
+use std::alloc::{AllocError, AllocFailed};
+use svn_model::DriveFault;
+use svn_types::Rev;
+use thiserror::Error;
+
+/// What is asked of a working copy. An update goes to the revision that is given, or else to the newest.
+#[derive(Clone, Copy, Debug, PartialEq, Eq)]
+pub enum Topic {
+    /// What its client reports.
+    Report,
+    /// The lines that an update prints, in byte order.
+    Update(Option<Rev>),
+    /// The calls of an update.
+    Calls(Option<Rev>),
+    /// The nodes after an update.
+    Nodes(Option<Rev>),
+}
+
+/// Why it isn't answered.
+#[derive(Clone, Copy, Debug, PartialEq, Eq, Error)]
+pub enum TopicFault {
+    /// The update can't be made.
+    #[error("{0}")]
+    Drive(DriveFault),
+    /// The output couldn't be written. What was written of it is unknown.
+    #[error("write fault")]
+    Write,
+    /// An allocation failed.
+    #[error("out of memory")]
+    Memory,
+}
+
+impl From<AllocError> for TopicFault {
+    fn from(_error: AllocError) -> TopicFault {
+        TopicFault::Memory
+    }
+}
+
+impl<T: Drop> From<AllocFailed<T>> for TopicFault {
+    fn from(_error: AllocFailed<T>) -> TopicFault {
+        TopicFault::Memory
+    }
+}

@@ -1,0 +1,193 @@
+//! Questions about a working copy but for the verdict on it, and their answers.
+ghost use Rattle.std.specs.Prelude.{◌≡◌, ◌≢◌, ◌+◌, ◌-◌, ◌++◌, ◌∷◌, [], ℕ, List, length, map, flat_map, string_bytes, string_cmp, IsPermutation, IsSorted, IfOk, IfErr, OnOk};
+ghost use Rattle.std.specs.Io.KnownBytes.{Appends};
+ghost use Rattle.svn_editor.specs.Lines.{call_line};
+ghost use Rattle.svn_report.specs.Lines.{report_text};
+ghost use Rattle.svn_model.specs.Crawl.{crawl};
+ghost use Rattle.svn_wc.specs.Lines.{copy_text};
+ghost use Rattle.svn_audit.specs.Lines.{update_lines};
+ghost use Rattle.svn_audit.specs.Printing.{line_text};
+ghost use Rattle.svn_answers.specs.declared.topic.TopicFault.TheVariants.{Memory, Write as NotWritten};
+ghost use Rattle.svn_answers.specs.Topics.{IsTopicText, or_latest, calls_to, line};
+
+use crate::topic::{Topic, TopicFault};
+use std::alloc::Global;
+use std::io::Write;
+use svn_audit::update_lines;
+use svn_drive::{Request, drive_request};
+use svn_editor::{Call, EditFault, Recorder};
+use svn_model::{DriveEnd, DriveFault};
+use svn_repo::Repo;
+use svn_report::Report;
+use svn_types::Rev;
+use svn_wc::{Applier, WorkingCopy};
+
+// The revision that an update goes to.
+fn or_latest(repo: &Repo, rev: Option<Rev>) -> Rev
+    ensures { result ≡ or_latest repo.now rev }
+{
+    match rev {
+        Some(rev) => rev,
+        None => repo.latest(),
+    }
+}
+
+fn crawled(alloc: Global, copy: &WorkingCopy) -> Result<Report, TopicFault>
+    ensures report { IfOk result (λ r. r ≡ crawl copy.now) }
+    ensures fault { IfErr result (λ e. e ≡ Memory) }
+{
+    match copy.crawl(alloc) {
+        Ok(report) => Ok(report),
+        Err(_) => Err(TopicFault::Memory),
+    }
+}
+
+fn drive_fault(fault: DriveFault) -> TopicFault {
+    match fault {
+        DriveFault::Memory | DriveFault::Editor(EditFault::Memory) => TopicFault::Memory,
+        fault => TopicFault::Drive(fault),
+    }
+}
+
+// The calls of an update.
+fn calls_to(
+    alloc: Global,
+    repo: &Repo,
+    copy: &WorkingCopy,
+    rev: Option<Rev>,
+) -> Result<Vec<Call>, TopicFault>
+    ensures { IfOk result (λ calls. calls.items ≡ calls_to repo.now copy.now rev) }
+{
+    let report = crawled(alloc, copy)?;
+    let request = Request::update(or_latest(repo, rev));
+    let mut recorder = Recorder::new(alloc);
+    match drive_request(alloc, repo, &report, &request, &mut recorder) {
+        Ok(_) => Ok(recorder.into_calls()),
+        Err(fault) => Err(drive_fault(fault)),
+    }
+}
+
+// The lines of an update, in byte order.
+fn sorted_lines(alloc: Global, calls: &[Call]) -> Result<Vec<String>, TopicFault>
+    ensures same { IfOk result (λ lines. IsPermutation (map line_text (update_lines calls.now)) (map string_bytes lines.items)) }
+    ensures sorted { IfOk result (λ lines. IsSorted string_cmp lines.items) }
+{
+    let mut texts = Vec::new(alloc);
+    for line in &update_lines(alloc, calls)? {
+        texts.push(format!(in alloc; "{line}")?)?;
+    }
+    texts.sort_unstable();
+    Ok(texts)
+}
+
+// Makes an update of a copy.
+fn update(
+    alloc: Global,
+    repo: &Repo,
+    copy: &mut WorkingCopy,
+    rev: Option<Rev>,
+) -> Result<(), TopicFault> {
+    let report = crawled(alloc, copy)?;
+    let request = Request::update(or_latest(repo, rev));
+    let Ok(mut applier) = Applier::new(alloc, copy) else {
+        return Err(TopicFault::Memory);
+    };
+    match drive_request(alloc, repo, &report, &request, &mut applier) {
+        Ok(_) => Ok(()),
+        Err(fault) => Err(drive_fault(fault)),
+    }
+}
+
+// Writes calls, a line each.
+fn write_calls<W: Write>(calls: &[Call], output: &mut W) -> Result<(), TopicFault>
+    ensures written { OnOk result (Appends (W.contents output.old) (W.contents output.new) (flat_map (λ c. line (call_line c)) calls.now)) }
+    ensures fault { IfErr result (λ e. e ≡ NotWritten) }
+{
+    for call in calls {
+        if writeln!(output, "{call}").is_err() {
+            return Err(TopicFault::Write);
+        }
+    }
+    Ok(())
+}
+
+// Writes texts, a line each.
+fn write_lines<W: Write>(texts: &[String], output: &mut W) -> Result<(), TopicFault>
+    ensures written { OnOk result (Appends (W.contents output.old) (W.contents output.new) (flat_map (λ s. line (string_bytes s)) texts.now)) }
+    ensures fault { IfErr result (λ e. e ≡ NotWritten) }
+{
+    for text in texts {
+        if writeln!(output, "{text}").is_err() {
+            return Err(TopicFault::Write);
+        }
+    }
+    Ok(())
+}
+
+fn write_report<W: Write>(report: &Report, output: &mut W) -> Result<(), TopicFault>
+    ensures written { OnOk result (Appends (W.contents output.old) (W.contents output.new) (report_text report.now)) }
+    ensures fault { IfErr result (λ e. e ≡ NotWritten) }
+{
+    match write!(output, "{report}") {
+        Ok(()) => Ok(()),
+        Err(_) => Err(TopicFault::Write),
+    }
+}
+
+fn write_nodes<W: Write>(copy: &WorkingCopy, output: &mut W) -> Result<(), TopicFault>
+    ensures written { OnOk result (Appends (W.contents output.old) (W.contents output.new) (copy_text copy.now)) }
+    ensures fault { IfErr result (λ e. e ≡ NotWritten) }
+{
+    match write!(output, "{copy}") {
+        Ok(()) => Ok(()),
+        Err(_) => Err(TopicFault::Write),
+    }
+}
+
+// Writes what is asked of a copy, and leaves it to the caller to flush it.
+fn write_unflushed<W: Write>(
+    alloc: Global,
+    repo: &Repo,
+    copy: &mut WorkingCopy,
+    topic: Topic,
+    output: &mut W,
+) -> Result<(), TopicFault>
+    ensures told { OnOk result ((text : List ℕ) × IsTopicText repo.now copy.old topic text × Appends (W.contents output.old) (W.contents output.new) text) }
+    ensures unwritten { IfErr result (λ e. e ≢ NotWritten → Appends (W.contents output.old) (W.contents output.new) []) }
+{
+    match topic {
+        Topic::Report => write_report(&crawled(alloc, copy)?, output),
+        Topic::Update(rev) => {
+            let calls = calls_to(alloc, repo, copy, rev)?;
+            let lines = sorted_lines(alloc, &calls)?;
+            write_lines(&lines, output)
+        }
+        Topic::Calls(rev) => {
+            let calls = calls_to(alloc, repo, copy, rev)?;
+            write_calls(&calls, output)
+        }
+        Topic::Nodes(rev) => {
+            update(alloc, repo, copy, rev)?;
+            write_nodes(copy, output)
+        }
+    }
+}
+
+/// Writes what is asked of a copy, and flushes it. With [`Topic::Nodes`] the copy is updated. Refused as [`drive_request`] refuses the update; Write where
+/// the writer fails, Memory where an allocation failed.
+pub fn write_topic<W: Write>(
+    alloc: Global,
+    repo: &Repo,
+    copy: &mut WorkingCopy,
+    topic: Topic,
+    output: &mut W,
+) -> Result<(), TopicFault>
+    ensures told { OnOk result ((text : List ℕ) × IsTopicText repo.now copy.old topic text × Appends (W.contents output.old) (W.contents output.new) text) }
+    ensures unwritten { IfErr result (λ e. e ≢ NotWritten → Appends (W.contents output.old) (W.contents output.new) []) }
+{
+    write_unflushed(alloc, repo, copy, topic, output)?;
+    match output.flush() {
+        Ok(()) => Ok(()),
+        Err(_) => Err(TopicFault::Write),
+    }
+}
