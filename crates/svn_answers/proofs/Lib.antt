@@ -1,3 +1,4 @@
 -- Verdicts, and answers one after another.
 pub mod Answering
 pub mod Driving
+pub mod Loadings

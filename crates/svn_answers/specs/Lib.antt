@@ -3,3 +3,4 @@ pub mod Verdicts
 pub mod Topics
 pub mod Answers
 pub mod Locks
+pub mod Loadings

@@ -10,8 +10,8 @@ returns-in_ok-lines-in-Update-clause-told g c =
     let calls = c.deref.ensures.value ∙ c.in_ok-calls-in-Update.ensures in
     let lines = sym c.deref-in-Update.ensures.value in
     let same =
-        subst (λ texts. IsPermutation (map line_text (update_lines c.deref.result.now)) (map string_bytes texts)) lines
-        c.in_ok-lines-in-Update.ensures.same in
+    subst (λ texts. IsPermutation (map line_text (update_lines c.deref.result.now)) (map string_bytes texts)) lines
+    c.in_ok-lines-in-Update.ensures.same in
     rw c.in-Update.is
     (on_ok_weaker c.write_lines.result
     (λ written. (

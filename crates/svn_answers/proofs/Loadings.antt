@@ -1,0 +1,63 @@
+-- Histories, loaded from dumps.
+use Rattle.std.proofs.Common.{◌≡◌, ℕ, List, ◌∙◌, refl, sym, ap, subst, Option, None, Some, Ok}
+use Rattle.std.specs.Prelude.{MatchOption}
+use Rattle.std.specs.Option.{option_or}
+use Rattle.svn_repo.specs.History.{History, new_history}
+use Rattle.svn_dump.specs.declared.reader.Reader.{Reader}
+use Rattle.svn_dump.specs.declared.sections.Limits.{Limits}
+use Rattle.svn_dump.specs.declared.sections.Texts.{Texts}
+use Rattle.svn_dump.specs.Blocks.{block_at}
+use Rattle.svn_dump.specs.Readers.{left_in, Opens, Shows}
+use Rattle.svn_history.specs.declared.loader.Loader.{Loader}
+use Rattle.svn_history.specs.Steps.{Draft, draft_of, begun}
+use Rattle.svn_history.specs.Loading.{LoadsDump}
+use Rattle.svn_history.specs.Fronts.{HasFront, FrontLoaded, uuid_in, uuid_at, given_uuid}
+use Rattle.svn_answers.specs.declared.loaded.Loaded.{Loaded}
+use Rattle.svn_answers.specs.Loadings.{BeginsDump, HasFrontAfter, IsReady, IsLoaded}
+
+-- a reader that was made has read the first record
+pub begins_by : {R : Type 0} (remaining : R → Option (List ℕ)) (limits : Limits) (input : Option (List ℕ)) (reader : Reader R)
+    → Opens limits input (left_in remaining) (Ok reader)
+    → MatchOption input (Unit {0}) (λ bytes. BeginsDump limits bytes (left_in remaining reader))
+begins_by remaining limits None reader opens = tt
+begins_by remaining limits (Some bytes) reader opens = opens
+
+or_none : (o : Option (List ℕ)) → option_or o None ≡ o
+or_none None = refl
+or_none (Some x) = refl
+
+module _ {R : Type 0} (remaining : R → Option (List ℕ)) (limits : Limits) (texts : Texts) (loader : Loader R) where
+  abbrev HasFrontOf : Limits → Texts → Option (List ℕ) → Option (List ℕ) → Option ℕ → Type 0
+  HasFrontOf l t given uuid first = MatchOption (left_in remaining loader.records) (Unit {0}) (λ rest. HasFront l t given rest uuid first)
+
+  front_by : (input : Option (List ℕ)) (loaded : Loaded) → IsReady remaining limits texts input loader
+      → FrontLoaded remaining loader loaded.uuid loaded.first
+      → MatchOption input (Unit {0}) (λ bytes. HasFrontAfter limits texts bytes loaded (left_in remaining loader.records))
+  unfolding Shows
+  front_by None loaded ready front = tt
+  front_by (Some bytes) loaded ready front =
+      let given : given_uuid loader ≡ uuid_at limits bytes =
+      ap (option_or (uuid_in loader.records.block.items)) ready.no_uuid ∙ or_none (uuid_in loader.records.block.items) ∙ ap uuid_in ready.shown.0 in
+      subst (λ (g : Option (List ℕ)). HasFrontOf limits texts g loaded.uuid loaded.first) given
+      (subst (λ (t : Texts). HasFrontOf limits t (given_uuid loader) loaded.uuid loaded.first) ready.texts_are
+      (subst (λ (l : Limits). HasFrontOf l loader.records.texts (given_uuid loader) loaded.uuid loaded.first) ready.limits_are front))
+
+  -- what a loader begins with
+  pub begun_fresh : (input : Option (List ℕ)) → IsReady remaining limits texts input loader
+      → draft_of loader.transaction ≡ begun loader.transaction.history
+  begun_fresh input ready = ready.fresh ∙ sym (ap (λ (d : Draft). begun d.history) ready.fresh)
+
+  pub loaded_by : (input : Option (List ℕ)) (loaded : Loaded) → IsReady remaining limits texts input loader
+      → LoadsDump loader.records.limits loader.records.texts (left_in remaining loader.records) loader.transaction.history loaded.repo
+      → FrontLoaded remaining loader loaded.uuid loaded.first → IsLoaded limits texts input loaded
+  loaded_by input loaded ready loads front =
+      let left : Option (List ℕ) = left_in remaining loader.records in
+      record {
+        left = left;
+        begins = ready.begins;
+        history =
+            subst (λ (h : History). LoadsDump limits texts left h loaded.repo) (ap (λ (d : Draft). d.history) ready.fresh)
+            (subst (λ (t : Texts). LoadsDump limits t left loader.transaction.history loaded.repo) ready.texts_are
+            (subst (λ (l : Limits). LoadsDump l loader.records.texts left loader.transaction.history loaded.repo) ready.limits_are loads));
+        front = front_by input loaded ready front;
+      }
