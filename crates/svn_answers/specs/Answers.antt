@@ -52,7 +52,7 @@ pub record IsAudited (opens : Opens) (stayed : Stayed) (compared : Compared) (na
   pub store : Store
   pub opened : opens name database below store
   pub same : stayed name database
-  pub of_repository : IsAccepted (IsOfRepository compared.uuid) database
+  pub of_repository : IsAccepted (IsOfRepository compared.uuid) database below
   pub audit : IsAudit compared.texts store compared.history database below audited.copy audited.untrue.items
   -- where the history is that of a dump, it is the verdict on these bytes
   pub verdict : (limits : Limits) (dump : List ℕ) → LoadsDump limits compared.texts (Some dump) new_history compared.history

@@ -20,7 +20,7 @@ impl fmt::Display for Count {
 }
 
 impl PassedOver {
-    fn counts(self) -> [Count; 5] {
+    fn counts(self) -> [Count; 6] {
         let notes = self.0;
         [
             Count(notes.changes, "local change", "local changes"),
@@ -32,6 +32,11 @@ impl PassedOver {
             ),
             Count(notes.locks, "working copy lock", "working copy locks"),
             Count(notes.work, "unfinished work item", "unfinished work items"),
+            Count(
+                notes.locked,
+                "file locked in the repository",
+                "files locked in the repository",
+            ),
         ]
     }
 
