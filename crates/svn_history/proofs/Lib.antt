@@ -19,8 +19,6 @@ pub mod Writings
 pub mod Whole
 -- What a listener hears.
 pub mod Hearing
--- One property of a node set or removed.
-pub mod OneProp
 -- The properties of what is in a draft.
 pub mod DraftProps
 -- What is written of a change is loaded as the change.
