@@ -20,10 +20,9 @@ use Rattle.svn_history.specs.declared.fault.LoadFault.TheVariants as faults
 use Rattle.svn_history.specs.Steps.{Draft, with_changes, Changes, Step, nothing, unless, one, ◌>>◌, IsMade}
 use Rattle.svn_history.specs.Changes.{at, props_or_none, put_text, put_props, set_props, new_file, creation, record_changes}
 use Rattle.svn_history.specs.Writing.{file_record, record_of, records_of}
-use Rattle.svn_history.specs.Laws.{IsLawfulDraft, WrittenCommitsLoad}
+use Rattle.svn_history.specs.Laws.{WrittenCommitsLoad}
 use Rattle.svn_history.proofs.Stepping.{made_then, made_nothing, made_along}
 use Rattle.svn_history.proofs.Altering.{made_alteration}
-use Rattle.svn_history.proofs.DraftProps.{change_lawful}
 
 can_make : (d : Draft) (c : Change) → change_fault d.history d.pending c ≡ None → IsMade (one c) d (with_changes d (c ∷ []))
 unfolding one
@@ -113,26 +112,26 @@ prop_set d p name value can =
     made_alteration (record_of d c) d d d1 (there (t p) way.1) (made_nothing d)
     (made_then (one c) nothing d d1 d1 (can_make d c can) (made_nothing d1))
 
-reloaded : (d : Draft) (c : Change) → IsLawfulDraft d → change_fault d.history d.pending c ≡ None
+reloaded : (d : Draft) (c : Change) → change_fault d.history d.pending c ≡ None
     → IsMade (record_changes Whole (record_of d c)) d (with_changes d (c ∷ []))
-reloaded d (MakeDir p) lawful e = made_directory d p e
-reloaded d (PutFile p bytes) lawful e = file_by d p bytes e (is_some (d.pending.tree p)) refl
-reloaded d (SetProp p name value) lawful e = prop_set d p name value e
-reloaded d (Remove p) lawful e = removed d p e
-reloaded d (CopyFrom rev source p) lawful e = copied d rev source p e
+reloaded d (MakeDir p) e = made_directory d p e
+reloaded d (PutFile p bytes) e = file_by d p bytes e (is_some (d.pending.tree p)) refl
+reloaded d (SetProp p name value) e = prop_set d p name value e
+reloaded d (Remove p) e = removed d p e
+reloaded d (CopyFrom rev source p) e = copied d rev source p e
 
 -- ---- all changes
 
-all_reloaded : (start d : Draft) (step : Step) (cs : List Change) → IsLawfulDraft d
+all_reloaded : (start d : Draft) (step : Step) (cs : List Change)
     → changes_fault d.history d.pending cs ≡ None → IsMade step start d
     → IsMade (fold (λ (before : Step) (node : NodeRecord). before >> record_changes Whole node) step (records_of d cs)) start
     (with_changes d cs)
-all_reloaded start d step [] lawful e h = h
-all_reloaded start d step (c ∷ cs) lawful e h =
+all_reloaded start d step [] e h = h
+all_reloaded start d step (c ∷ cs) e h =
     let d1 = with_changes d (c ∷ []) in
     let can = option_or_none (change_fault d.history d.pending c) (changes_fault d.history (after_change d.history d.pending c) cs) e in
-    all_reloaded start d1 (step >> record_changes Whole (record_of d c)) cs (change_lawful d c can.0 lawful) can.1
-    (made_then step (record_changes Whole (record_of d c)) start d d1 h (reloaded d c lawful can.0))
+    all_reloaded start d1 (step >> record_changes Whole (record_of d c)) cs can.1
+    (made_then step (record_changes Whole (record_of d c)) start d d1 h (reloaded d c can.0))
 
 pub written_commits_load : WrittenCommitsLoad
-written_commits_load d changes lawful e = all_reloaded d d nothing changes lawful e (made_nothing d)
+written_commits_load d changes e = all_reloaded d d nothing changes e (made_nothing d)
