@@ -40,7 +40,7 @@ use Rattle.svn_history.specs.declared.fault.LoadFault.TheVariants as faults
 use Rattle.svn_history.specs.Results.{◌>>=◌, of_dump, of_commit}
 use Rattle.svn_history.specs.Steps.{Draft, with_changes, Changes, Step, unless, refused, one, ◌>>◌}
 use Rattle.svn_history.specs.Deltas.{decoded, checked, checked_base, text_after}
-use Rattle.svn_history.specs.Changes.{at, props_or_none, prop_changes, put_text, put_props, set_prop, set_props, same_prop, touch as touch_node, text_of_file, new_file, creation, addition, changes_nothing, alteration, removal, record_changes}
+use Rattle.svn_history.specs.Changes.{at, props_or_none, prop_changes, put_text, put_props, set_prop, set_props, altered_props, alter_props, text_of_file, new_file, creation, addition, alteration, removal, record_changes}
 use Rattle.svn_history.specs.Parts.{is_open, node_changes, RefusesRecord, revision_limit, may_begin, next_fault, RefusesNext, bad_number, in_gap}
 
 abbrev is_read_fault : LoadFault → Bool
@@ -117,8 +117,8 @@ props_none path (c ∷ changes) d =
 section_none : (path : Path) (section : Option PropSection) → NeverFailsSo (put_props path section)
 section_none path section d = props_none path (prop_changes (props_or_none (at d path)) section) d
 
-touch_none : (path : Path) → NeverFailsSo (touch_node path)
-touch_none path d = one_none (set_prop path (same_prop (props_or_none (at d path)))) d
+altered_none : (path : Path) (section : Option PropSection) → NeverFailsSo (alter_props path section)
+altered_none path section d = props_none path (altered_props (props_or_none (at d path)) section) d
 
 file_none : (texts : Texts) (node : NodeRecord) → NeverFailsSo (new_file texts node)
 file_none texts node d = by (is_some (at d node.path))
@@ -145,15 +145,14 @@ addition_none texts node =
     (creation_none texts node.path node.source node.kind node.action node.props node.text) (section_none node.path node.props)
 
 alteration_none : (node : NodeRecord) → NeverFailsSo (alteration node)
-alteration_none node d = by (is_some (at d node.path)) (changes_nothing node (at d node.path))
+alteration_none node d = by (is_some (at d node.path))
   where
-    by : (f m : Bool) → HasNone (cond (not f) (Err (faults.Commit commit.Missing))
-        (cond m (touch_node node.path d) ((put_text node.path node.text >> put_props node.path node.props) d)))
-    by false m = refl
-    by true true = touch_none node.path d
-    by true false =
-        next_none (put_text node.path node.text) (put_props node.path node.props) (text_none node.path node.text)
-        (section_none node.path node.props) d
+    by : (b : Bool) → HasNone (cond (not b) (Err (faults.Commit commit.Missing))
+        ((put_text node.path node.text >> alter_props node.path node.props) d))
+    by false = refl
+    by true =
+        next_none (put_text node.path node.text) (alter_props node.path node.props) (text_none node.path node.text)
+        (altered_none node.path node.props) d
 
 action_none : (texts : Texts) (path : Path) (action : Action) (source : Option CopySource) (kind : Option Kind)
     (props : Option PropSection) (section : Option TextSection)

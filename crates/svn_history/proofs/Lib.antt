@@ -19,14 +19,8 @@ pub mod Writings
 pub mod Whole
 -- What a listener hears.
 pub mod Hearing
--- One property of a node set or removed.
-pub mod OneProp
--- The properties of what is in a draft.
-pub mod DraftProps
 -- What is written of a change is loaded as the change.
 pub mod Reloading
--- A commit leaves the properties of all revisions lawful.
-pub mod CommittedProps
 -- Drafts that are the same but for the numbers of their nodes.
 pub mod SameDrafts
 -- Bytes are at most one dump.

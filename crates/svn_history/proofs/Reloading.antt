@@ -1,38 +1,28 @@
 -- What is written of a change is loaded as the change.
-use Rattle.std.proofs.Common.{◌≡◌, ℕ, ◌≤◌, Bool, true, false, cond, List, [], ◌∷◌, length, Option, Some, None, Err, refl, ap, subst, sym, ◌∙◌, true≢false}
-use Rattle.std.specs.Prelude.{not, is_some, fold, nat_eq, option_map}
-use Rattle.std.specs.Map.{values_of}
+use Rattle.std.proofs.Common.{◌≡◌, ℕ, Bool, true, false, cond, List, [], ◌∷◌, Option, Some, None, Err, refl, ap, ◌∙◌, true≢false}
+use Rattle.std.specs.Prelude.{not, is_some, fold}
 use Rattle.std.specs.Option.{option_or}
-use Rattle.std.proofs.lemmas.Bool.{le-ltb}
-use Rattle.std.proofs.lemmas.List.Elements.{All-head}
-use Rattle.svn_lists.proofs.Options.{option_or_none, option_or_next, some_value}
-use Rattle.svn_types.specs.declared.kind.Kind.{Kind}
-use Rattle.svn_types.specs.Limits.{size_limit}
+use Rattle.svn_lists.proofs.Options.{option_or_none}
 use Rattle.svn_types.specs.Names.{Path}
-use Rattle.svn_types.specs.Pairs.{value_of, with_value}
-use Rattle.svn_types.specs.Props.{PropChange, changes_between, is_same_value}
+use Rattle.svn_types.specs.Props.{changes_between}
 use Rattle.svn_repo.specs.declared.change.Change.{Change}
 use Rattle.svn_repo.specs.declared.change.Change.TheVariants.{MakeDir, PutFile, SetProp, Remove, CopyFrom}
 use Rattle.svn_repo.specs.declared.change.CommitFault.{CommitFault}
-use Rattle.svn_repo.specs.declared.change.CommitFault.TheVariants.{Exists, Missing, TooLong}
+use Rattle.svn_repo.specs.declared.change.CommitFault.TheVariants.{Exists, Missing}
 use Rattle.svn_repo.specs.Walks.{led}
-use Rattle.svn_repo.specs.Trees.{Place, Tree, graft, touch, leaf, with_prop, place_with_prop}
-use Rattle.svn_repo.specs.Changes.{change_fault, changes_fault, after_change, new_directory, with_text, value_fault, walk_fault, above_fault, missing_fault, fault_if}
+use Rattle.svn_repo.specs.Trees.{Place, Tree, graft, touch, leaf}
+use Rattle.svn_repo.specs.Changes.{change_fault, changes_fault, after_change, new_directory, with_text, value_fault, walk_fault, above_fault, missing_fault}
 use Rattle.svn_repo.proofs.Thawing.{rest_below_self}
-use Rattle.svn_dump.specs.declared.record.Action.TheVariants as actions
 use Rattle.svn_dump.specs.declared.record.NodeRecord.{NodeRecord}
 use Rattle.svn_dump.specs.declared.record.PropSection.TheVariants as props
 use Rattle.svn_dump.specs.declared.sections.Texts.TheVariants.{Whole}
 use Rattle.svn_history.specs.declared.fault.LoadFault.TheVariants as faults
 use Rattle.svn_history.specs.Steps.{Draft, with_changes, Changes, Step, nothing, unless, one, ◌>>◌, IsMade}
-use Rattle.svn_history.specs.Changes.{at, props_or_none, put_text, put_props, set_prop, set_props, same_prop, new_file, creation, changes_nothing, alteration, record_changes}
-use Rattle.svn_history.specs.Changes.{touch as touch_node}
-use Rattle.svn_history.specs.Writing.{file_record, kind_or_none, with_props, record_of, records_of}
-use Rattle.svn_history.specs.Laws.{IsLawfulProps, IsLawfulDraft, WrittenCommitsLoad}
+use Rattle.svn_history.specs.Changes.{at, props_or_none, put_text, put_props, set_props, new_file, creation, record_changes}
+use Rattle.svn_history.specs.Writing.{file_record, record_of, records_of}
+use Rattle.svn_history.specs.Laws.{WrittenCommitsLoad}
 use Rattle.svn_history.proofs.Stepping.{made_then, made_nothing, made_along}
 use Rattle.svn_history.proofs.Altering.{made_alteration}
-use Rattle.svn_history.proofs.OneProp.{no_changes, one_change, unchanged, same_prop_kept}
-use Rattle.svn_history.proofs.DraftProps.{change_lawful}
 
 can_make : (d : Draft) (c : Change) → change_fault d.history d.pending c ≡ None → IsMade (one c) d (with_changes d (c ∷ []))
 unfolding one
@@ -102,116 +92,46 @@ file_by d p bytes e false is =
 file_by d p bytes e true is =
     let c = PutFile p bytes in
     let d1 = with_changes d (c ∷ []) in
-    made_alteration (file_record p bytes false) d d1 d1 is refl (can_make d c e) (no_props p d1)
+    made_alteration (file_record p bytes false) d d1 d1 is (can_make d c e) (made_nothing d1)
 
 -- ---- one property
-
--- only what the properties are then counts
-same_parts : (t : Tree) (p : Path) (x : Place) (m n : List ℕ) (v w : Option (List ℕ)) → t p ≡ Some x
-    → with_value x.props m v ≡ with_value x.props n w → with_prop t p m v ≡ with_prop t p n w
-same_parts t p x m n v w here same = λ i. λ q. each q i
-  where
-    each : (q : Path) → with_prop t p m v q ≡ with_prop t p n w q
-    each [] =
-        let F : List (List ℕ × List ℕ) → Option Place =
-        λ ps. Some (record { number = None; line = x.line; kind = x.kind; text = x.text; props = ps }) in
-        ap (option_map (place_with_prop m v)) here ∙ ap F same ∙ sym (ap (option_map (place_with_prop n w)) here)
-    each (k ∷ q) = refl
-
-small_touch : (ps : List (List ℕ × List ℕ)) → IsLawfulProps ps → value_fault (same_prop ps).1 ≡ None
-small_touch [] l = refl
-small_touch (p ∷ ps) l =
-    ap (λ b. fault_if b TooLong)
-    (le-ltb size_limit (length p.1) (All-head (λ v. length v ≤ size_limit) p.1 (values_of ps) l.small))
-
--- the property has the value already
-module _ (d : Draft) (p : Path) (name : List ℕ) (value : Option (List ℕ)) (x : Place) (here : d.pending.tree p ≡ Some x)
-    (lawful : IsLawfulProps x.props) (can : change_fault d.history d.pending (SetProp p name value) ≡ None) where
-  touched : with_value x.props name value ≡ x.props → IsMade (touch_node p) d (with_changes d (SetProp p name value ∷ []))
-  touched same =
-      let t = d.pending.tree in
-      let c = same_prop x.props in
-      let parts = option_or_none (value_fault value) (walk_fault t p) can in
-      let fault : change_fault d.history d.pending (SetProp p c.0 c.1) ≡ None =
-      option_or_next (value_fault c.1) (walk_fault t p) (small_touch x.props lawful) ∙ parts.1 in
-      let F : Tree → Draft = λ part.
-      record { history = d.history; pending = record { tree = graft t p part; lines = d.pending.lines } } in
-      made_along (touch_node p) (one (SetProp p c.0 c.1)) d (with_changes d (SetProp p name value ∷ []))
-      (ap (λ (o : Option Place). one (set_prop p (same_prop (props_or_none o))) d) here)
-      (subst (IsMade (one (SetProp p c.0 c.1)) d)
-      (ap F (same_parts t p x c.0 name c.1 value here (same_prop_kept x.props ∙ sym same)))
-      (can_make d (SetProp p c.0 c.1) fault))
-
-  module _ (kind : Option Kind) (new : List (List ℕ × List ℕ)) (is : new ≡ with_value x.props name value) where
-    altered : (same : Bool) → is_same_value (value_of x.props name) value ≡ same
-        → IsMade (alteration (with_props p kind actions.Change new)) d (with_changes d (SetProp p name value ∷ []))
-    altered true e =
-        let node = with_props p kind actions.Change new in
-        let both = put_text p None >> put_props p (Some (props.Whole new)) in
-        let kept : with_value x.props name value ≡ x.props = unchanged x.props name value lawful.in_order e in
-        let none : changes_between x.props new ≡ [] = ap (changes_between x.props) (is ∙ kept) ∙ no_changes x.props in
-        let H : Option Place → Bool = λ o. nat_eq (length (changes_between (props_or_none o) new)) 0 in
-        let nothing_new : changes_nothing node (at d p) ≡ true =
-        ap H here ∙ ap (λ (l : List PropChange). nat_eq (length l) 0) none in
-        let F : Bool → Changes =
-        λ b. cond (not b) (Err (faults.Commit Missing)) (cond (changes_nothing node (at d p)) (touch_node p d) (both d)) in
-        let G : Bool → Changes = λ b. cond b (touch_node p d) (both d) in
-        made_along (alteration node) (touch_node p) d (with_changes d (SetProp p name value ∷ []))
-        (ap F (ap is_some here) ∙ ap G nothing_new) (touched kept)
-    altered false e =
-        let c = SetProp p name value in
-        let d1 = with_changes d (c ∷ []) in
-        let node = with_props p kind actions.Change new in
-        let just_one : changes_between x.props new ≡ (name, value) ∷ [] =
-        ap (changes_between x.props) is ∙ one_change x.props name value lawful.in_order e in
-        let H : Option Place → Bool = λ o. nat_eq (length (changes_between (props_or_none o) new)) 0 in
-        let something : changes_nothing node (at d p) ≡ false =
-        ap H here ∙ ap (λ (l : List PropChange). nat_eq (length l) 0) just_one in
-        let F : Option Place → Changes = λ o. set_props p (changes_between (props_or_none o) new) d in
-        made_alteration node d d d1 (ap is_some here) something (made_nothing d)
-        (made_along (put_props p (Some (props.Whole new))) (one c >> nothing) d d1
-        (ap F here ∙ ap (λ (l : List PropChange). set_props p l d) just_one)
-        (made_then (one c) nothing d d1 d1 (can_make d c can) (made_nothing d1)))
 
 there : (o : Option Place) → missing_fault o ≡ None → is_some o ≡ true
 there None e = let bad : Some Missing ≡ None = e in cc
 there (Some x) e = refl
 
-prop_set : (d : Draft) (p : Path) (name : List ℕ) (value : Option (List ℕ)) → IsLawfulDraft d
-    → change_fault d.history d.pending (SetProp p name value) ≡ None
+prop_set : (d : Draft) (p : Path) (name : List ℕ) (value : Option (List ℕ)) → change_fault d.history d.pending (SetProp p name value) ≡ None
     → IsMade (record_changes Whole (record_of d (SetProp p name value))) d (with_changes d (SetProp p name value ∷ []))
 unfolding record_changes
-prop_set d p name value lawful can =
+prop_set d p name value can =
     let t = d.pending.tree in
-    let parts = option_or_none (value_fault value) (walk_fault t p) can in
-    let way = option_or_none (above_fault t p) (missing_fault (t p)) parts.1 in
-    let x = some_value (t p) (there (t p) way.1) in
-    let after : graft t p (with_prop t p name value) p ≡ Some (place_with_prop name value x.0) =
-    graft_self t p (with_prop t p name value) ∙ ap (option_map (place_with_prop name value)) x.1 in
-    altered d p name value x.0 x.1 (lawful.tree p x.0 x.1) can
-    (kind_or_none (graft t p (with_prop t p name value) p)) (props_or_none (graft t p (with_prop t p name value) p))
-    (ap props_or_none after) (is_same_value (value_of x.0.props name) value) refl
+    let c = SetProp p name value in
+    let d1 = with_changes d (c ∷ []) in
+    let walk = option_or_none (value_fault value) (walk_fault t p) can in
+    let way = option_or_none (above_fault t p) (missing_fault (t p)) walk.1 in
+    made_alteration (record_of d c) d d d1 (there (t p) way.1) (made_nothing d)
+    (made_then (one c) nothing d d1 d1 (can_make d c can) (made_nothing d1))
 
-reloaded : (d : Draft) (c : Change) → IsLawfulDraft d → change_fault d.history d.pending c ≡ None
+reloaded : (d : Draft) (c : Change) → change_fault d.history d.pending c ≡ None
     → IsMade (record_changes Whole (record_of d c)) d (with_changes d (c ∷ []))
-reloaded d (MakeDir p) lawful e = made_directory d p e
-reloaded d (PutFile p bytes) lawful e = file_by d p bytes e (is_some (d.pending.tree p)) refl
-reloaded d (SetProp p name value) lawful e = prop_set d p name value lawful e
-reloaded d (Remove p) lawful e = removed d p e
-reloaded d (CopyFrom rev source p) lawful e = copied d rev source p e
+reloaded d (MakeDir p) e = made_directory d p e
+reloaded d (PutFile p bytes) e = file_by d p bytes e (is_some (d.pending.tree p)) refl
+reloaded d (SetProp p name value) e = prop_set d p name value e
+reloaded d (Remove p) e = removed d p e
+reloaded d (CopyFrom rev source p) e = copied d rev source p e
 
 -- ---- all changes
 
-all_reloaded : (start d : Draft) (step : Step) (cs : List Change) → IsLawfulDraft d
+all_reloaded : (start d : Draft) (step : Step) (cs : List Change)
     → changes_fault d.history d.pending cs ≡ None → IsMade step start d
     → IsMade (fold (λ (before : Step) (node : NodeRecord). before >> record_changes Whole node) step (records_of d cs)) start
     (with_changes d cs)
-all_reloaded start d step [] lawful e h = h
-all_reloaded start d step (c ∷ cs) lawful e h =
+all_reloaded start d step [] e h = h
+all_reloaded start d step (c ∷ cs) e h =
     let d1 = with_changes d (c ∷ []) in
     let can = option_or_none (change_fault d.history d.pending c) (changes_fault d.history (after_change d.history d.pending c) cs) e in
-    all_reloaded start d1 (step >> record_changes Whole (record_of d c)) cs (change_lawful d c can.0 lawful) can.1
-    (made_then step (record_changes Whole (record_of d c)) start d d1 h (reloaded d c lawful can.0))
+    all_reloaded start d1 (step >> record_changes Whole (record_of d c)) cs can.1
+    (made_then step (record_changes Whole (record_of d c)) start d d1 h (reloaded d c can.0))
 
 pub written_commits_load : WrittenCommitsLoad
-written_commits_load d changes lawful e = all_reloaded d d nothing changes lawful e (made_nothing d)
+written_commits_load d changes e = all_reloaded d d nothing changes e (made_nothing d)

@@ -2,7 +2,7 @@
 --     SameDraft R d e      the same, where R is what the numbers of the one are in the other
 --     changed_same      they stay so with a change
 --     revision_agrees      the changes that the records of a revision stand for are the same
-use Rattle.std.proofs.Common.{◌≡◌, ℕ, Bool, true, false, cond, List, [], ◌∷◌, ◌++◌, Option, Some, None, Result, Ok, Err, refl, sym, ap, ◌∙◌, true≢false}
+use Rattle.std.proofs.Common.{◌≡◌, ℕ, Bool, true, false, cond, List, [], ◌∷◌, ◌++◌, Option, Some, None, Result, Ok, Err, refl, sym, ap, ◌∙◌}
 use Rattle.std.specs.Prelude.{option_map, is_some, not, fold}
 use Rattle.svn_types.specs.declared.kind.Kind.{Kind}
 use Rattle.svn_types.specs.declared.kind.Kind.TheVariants.{File, Directory}
@@ -30,8 +30,7 @@ use Rattle.svn_history.specs.declared.fault.LoadFault.TheVariants as faults
 use Rattle.svn_history.specs.Results.{◌>>=◌}
 use Rattle.svn_history.specs.Steps.{Draft, with_changes, Changes, Step, nothing, refused, unless, one, ◌>>◌}
 use Rattle.svn_history.specs.Deltas.{text_after}
-use Rattle.svn_history.specs.Changes.{at, put_text, props_or_none, prop_changes, set_prop, set_props, put_props, same_prop, new_file, text_of_file, creation, addition, changes_nothing, alteration, removal, record_changes, revision_changes}
-use Rattle.svn_history.specs.Changes.{touch as touch_node}
+use Rattle.svn_history.specs.Changes.{at, put_text, props_or_none, prop_changes, set_prop, set_props, put_props, altered_props, alter_props, new_file, text_of_file, creation, addition, alteration, removal, record_changes, revision_changes}
 
 -- ---- places and trees
 
@@ -246,10 +245,10 @@ module _ (R : ℕ → ℕ → Type 0) where
       props_agree path (prop_changes (props_or_none (at d path)) section) d e s cs ds a
       (ap F (same_props (at d path) (at e path) (s.tree path)) ∙ b)
 
-  touch_agrees : (path : Path) → Agrees (touch_node path)
-  touch_agrees path d e s cs ds a b =
-      let F : List (List ℕ × List ℕ) → Changes = λ ps. one (set_prop path (same_prop ps)) e in
-      one_agrees (set_prop path (same_prop (props_or_none (at d path)))) d e s cs ds a
+  altered_agrees : (path : Path) (section : Option PropSection) → Agrees (alter_props path section)
+  altered_agrees path section d e s cs ds a b =
+      let F : List (List ℕ × List ℕ) → Changes = λ old. set_props path (altered_props old section) e in
+      props_agree path (altered_props (props_or_none (at d path)) section) d e s cs ds a
       (ap F (same_props (at d path) (at e path) (s.tree path)) ∙ b)
 
   file_agrees : (texts : Texts) (node : NodeRecord) → Agrees (new_file texts node)
@@ -280,29 +279,17 @@ module _ (R : ℕ → ℕ → Type 0) where
       (section_agrees node.path node.props)
 
   alteration_agrees : (node : NodeRecord) → Agrees (alteration node)
-  alteration_agrees node d e s cs ds a b =
-      by (is_some (at d node.path)) (is_some (at e node.path)) (changes_nothing node (at d node.path)) (changes_nothing node (at e node.path))
-      (same_tests (at d node.path) (at e node.path) (s.tree node.path)) a b
+  alteration_agrees node d e s cs ds a b = by (is_some (at d node.path)) (is_some (at e node.path)) a b
     where
-      same_tests : (o p : Option Place) → SamePlaces R o p → changes_nothing node o ≡ changes_nothing node p
-      same_tests None None s = refl
-      same_tests None (Some y) s = absurd s
-      same_tests (Some x) None s = absurd s
-      same_tests (Some x) (Some y) s =
-          let F : List (List ℕ × List ℕ) → Bool = λ ps. changes_nothing node (Some (record x { props = ps })) in ap F s.props
-
-      by : (f g m n : Bool) → m ≡ n
-          → cond (not f) (Err (faults.Commit Missing)) (cond m (touch_node node.path d) ((put_text node.path node.text >> put_props node.path node.props) d)) ≡ Ok cs
-          → cond (not g) (Err (faults.Commit Missing)) (cond n (touch_node node.path e) ((put_text node.path node.text >> put_props node.path node.props) e)) ≡ Ok ds
+      by : (f g : Bool)
+          → cond (not f) (Err (faults.Commit Missing)) ((put_text node.path node.text >> alter_props node.path node.props) d) ≡ Ok cs
+          → cond (not g) (Err (faults.Commit Missing)) ((put_text node.path node.text >> alter_props node.path node.props) e) ≡ Ok ds
           → cs ≡ ds
-      by false g m n same a b = absurd (cc)
-      by true false m n same a b = absurd (cc)
-      by true true true true same a b = touch_agrees node.path d e s cs ds a b
-      by true true false false same a b =
-          then_agrees (put_text node.path node.text) (put_props node.path node.props) (text_agrees node.path node.text)
-          (section_agrees node.path node.props) d e s cs ds a b
-      by true true true false same a b = absurd (true≢false same)
-      by true true false true same a b = absurd (true≢false (sym same))
+      by false g a b = absurd (cc)
+      by true false a b = absurd (cc)
+      by true true a b =
+          then_agrees (put_text node.path node.text) (alter_props node.path node.props) (text_agrees node.path node.text)
+          (altered_agrees node.path node.props) d e s cs ds a b
 
   record_agrees : (texts : Texts) (path : Path) (action : Action) (source : Option CopySource) (kind : Option Kind)
       (props : Option PropSection) (section : Option TextSection)

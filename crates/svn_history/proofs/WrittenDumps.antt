@@ -22,8 +22,6 @@ use Rattle.svn_history.specs.Changes.{revision_changes}
 use Rattle.svn_history.specs.Loading.{Revisions, ReadsNodes, no_record, one_node, RevisionsAt, last_revision, one_more, IsDump, empty_dump, some_revisions, no_commit as no_empty, Loads, loads_nothing, revision_0 as loads_0, one_revision, LoadsDump}
 use Rattle.svn_history.specs.Writing.{records_of}
 use Rattle.svn_history.specs.WrittenDumps.{commit_bytes, AreWritable, Writes, no_commit, revision_0, one_commit, WrittenDumpsLoad}
-use Rattle.svn_history.proofs.DraftProps.{revision_lawful}
-use Rattle.svn_history.proofs.CommittedProps.{AreLawful, draft_lawful, commit_lawful}
 use Rattle.svn_history.proofs.Reloading.{written_commits_load}
 use Rattle.svn_history.proofs.SameHistories.{dumps_load_as_one}
 
@@ -164,21 +162,21 @@ same_commit h h' changes commit m = (
   (m.no_fault, subst (λ (d : Draft). IsRevision h h' d.pending) m.after commit.1),
 )
 
-loaded : (limits : Limits) (h h' : History) (rs : Revisions) → Commits limits h rs h' → AreLawful h → NodesExist h → 1 ≤ length h.roots
+loaded : (limits : Limits) (h h' : History) (rs : Revisions) → Commits limits h rs h' → NodesExist h → 1 ≤ length h.roots
     → Loads Whole h rs h'
-loaded limits h h' rs end lawful exist some = loads_nothing
-loaded limits h h' rs (first_0 {rs = more} commits) lawful exist some = loads_0 (loaded limits h h' more commits lawful exist some)
-loaded limits h h' rs (first {rs = more} mid changes commit fit commits) lawful exist some =
-    let is = same_commit h mid changes commit (written_commits_load (begun h) changes (draft_lawful h lawful) commit.0) in
+loaded limits h h' rs end exist some = loads_nothing
+loaded limits h h' rs (first_0 {rs = more} commits) exist some = loads_0 (loaded limits h h' more commits exist some)
+loaded limits h h' rs (first {rs = more} mid changes commit fit commits) exist some =
+    let is = same_commit h mid changes commit (written_commits_load (begun h) changes commit.0) in
     let one = grown h mid changes commit in
     one_revision h mid is.0 (omega (arith, some)) (record { commits = no_empty; size = refl }) is.1 is.2
-    (loaded limits mid h' more commits (commit_lawful h mid changes lawful exist commit) (exist_after h mid changes exist commit)
+    (loaded limits mid h' more commits (exist_after h mid changes exist commit)
     (omega (arith, one)))
 
 -- ---- all of it
 
 pub written_dumps_load : dumps_are_read_back → WrittenDumpsLoad
-written_dumps_load read_back limits format h h' bytes least most room is exist some small writes =
+written_dumps_load read_back limits format h h' bytes least most room exist some small writes =
     let from = written_of limits h h' bytes writes in
     let rs = from.revisions in
     let read = read_back limits Whole format (records rs) least most room (all_records limits h h' rs from.commits small) in
@@ -187,6 +185,6 @@ written_dumps_load read_back limits format h h' bytes least most room is exist s
     let loads : LoadsDump limits Whole (Some bytes) h h' = record {
       revisions = rs;
       bytes = dump_read limits Whole rs bytes there.1;
-      loads = loaded limits h h' rs from.commits (revision_lawful h is) exist some;
+      loads = loaded limits h h' rs from.commits exist some;
     } in
     (there.0, loads, λ other again. dumps_load_as_one limits Whole bytes h h' other exist loads again)

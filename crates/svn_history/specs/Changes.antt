@@ -1,7 +1,7 @@
 -- The changes that the records of a revision stand for.
 --     record_changes texts node      those of one record
 --     revision_changes texts nodes      those of the records of a revision, one after another
-use Rattle.std.specs.Prelude.{ℕ, Bool, ◌&&◌, not, List, [], ◌∷◌, fold, length, nat_eq, is_some, codes, Option, Some, None, Err, if◌then◌else◌}
+use Rattle.std.specs.Prelude.{ℕ, not, List, [], ◌∷◌, fold, is_some, Option, Some, None, Err, if◌then◌else◌}
 use Rattle.svn_types.specs.declared.kind.Kind.{Kind}
 use Rattle.svn_types.specs.declared.kind.Kind.TheVariants.{File, Directory}
 use Rattle.svn_types.specs.Names.{Path}
@@ -65,15 +65,6 @@ prop_changes old (Some (props.Delta changes)) = changes
 abbrev pub put_props : Path → Option PropSection → Step
 put_props path section d = set_props path (prop_changes (props_or_none (at d path)) section) d
 
--- a property set to the value that it has, or, where there is none, one removed
-abbrev pub same_prop : List (List ℕ × List ℕ) → PropChange
-same_prop [] = (codes "x", None)
-same_prop (p ∷ ps) = (p.0, Some p.1)
-
--- the node is one of this revision, and is the same but for that
-abbrev pub touch : Path → Step
-touch path d = one (set_prop path (same_prop (props_or_none (at d path)))) d
-
 -- ---- nodes that are made
 
 -- `PutFile` would replace the text of a file that is there, so an add over one is refused here
@@ -96,24 +87,29 @@ addition texts node = creation texts node >> put_props node.path node.props
 
 -- ---- nodes that are there
 
--- neither the text nor a property
-abbrev pub changes_nothing : NodeRecord → Option Place → Bool
-changes_nothing node place = not (is_some node.text) && nat_eq (length (prop_changes (props_or_none place) node.props)) 0
+-- a property set to the value that it has, if there is one
+abbrev pub same_again : List (List ℕ × List ℕ) → List PropChange
+same_again [] = []
+same_again (p ∷ ps) = (p.0, Some p.1) ∷ []
 
--- changes of properties; where there are none, the node is touched
-abbrev pub set_or_touch : Path → List PropChange → Step
-set_or_touch path changes d = if nat_eq (length changes) 0 then touch path d else set_props path changes d
+abbrev pub or_again : List (List ℕ × List ℕ) → List PropChange → List PropChange
+or_again old [] = same_again old
+or_again old (c ∷ cs) = c ∷ cs
 
--- what is left of an alteration without a text
-abbrev pub change_props : Path → Option PropSection → Step
-change_props path section d = set_or_touch path (prop_changes (props_or_none (at d path)) section) d
+-- A whole section sets each property that the node then has, also to the value that it has: so the node is one of this revision.
+abbrev pub altered_props : List (List ℕ × List ℕ) → Option PropSection → List PropChange
+altered_props old None = []
+altered_props old (Some (props.Whole all)) = or_again old (changes_between old all)
+altered_props old (Some (props.Delta changes)) = changes
 
--- a record that changes nothing touches the node
+abbrev pub alter_props : Path → Option PropSection → Step
+alter_props path section d = set_props path (altered_props (props_or_none (at d path)) section) d
+
+-- a record without a text that sets and removes no property does nothing
 abbrev pub alteration : NodeRecord → Step
 alteration node d =
     if not (is_some (at d node.path)) then Err (faults.Commit Missing)
-    else if changes_nothing node (at d node.path) then touch node.path d
-    else (put_text node.path node.text >> put_props node.path node.props) d
+    else (put_text node.path node.text >> alter_props node.path node.props) d
 
 abbrev pub removal : Path → Step
 removal path = one (Remove path)

@@ -8,6 +8,7 @@ use Rattle.std.specs.List.{All, flat_map}
 use Rattle.svn_types.specs.declared.kind.Kind.{Kind}
 use Rattle.svn_types.specs.declared.kind.Kind.TheVariants.{File, Directory}
 use Rattle.svn_types.specs.Names.{Path}
+use Rattle.svn_types.specs.Props.{PropChange}
 use Rattle.svn_repo.specs.declared.change.Change.{Change}
 use Rattle.svn_repo.specs.declared.change.Change.TheVariants.{MakeDir, PutFile, SetProp, Remove, CopyFrom}
 use Rattle.svn_repo.specs.declared.change.CommitFault.{CommitFault}
@@ -25,16 +26,19 @@ use Rattle.svn_dump.specs.Written.{written}
 use Rattle.law_dump.specs.Laws.{IsNodeRecord}
 use Rattle.svn_history.specs.Steps.{Draft, draft_of, begun, with_changes, Changes, Step}
 use Rattle.svn_history.specs.Results.{of_commit}
-use Rattle.svn_history.specs.Changes.{props_or_none}
 
 -- of nothing but a path, a kind and an action
 abbrev pub bare : Path → Option Kind → Action → NodeRecord
 bare path kind action = record { path = path; kind = kind; action = action; source = None; props = None; text = None }
 
--- all properties that the node has
-abbrev pub with_props : Path → Option Kind → Action → List (List ℕ × List ℕ) → NodeRecord
-with_props path kind action all =
-    record { path = path; kind = kind; action = action; source = None; props = Some (props.Whole all); text = None }
+abbrev pub directory_record : Path → NodeRecord
+directory_record path =
+    record { path = path; kind = Some Directory; action = actions.Add; source = None; props = Some (props.Whole []); text = None }
+
+-- One property is set or removed: what is read then makes the node one of its revision, also where it has the value already.
+abbrev pub prop_record : Path → Option Kind → PropChange → NodeRecord
+prop_record path kind change =
+    record { path = path; kind = kind; action = actions.Change; source = None; props = Some (props.Delta (change ∷ [])); text = None }
 
 abbrev pub file_record : Path → List ℕ → Bool → NodeRecord
 file_record path bytes true = record {
@@ -71,9 +75,9 @@ makes_file t (CopyFrom rev source path) = false
 
 -- the record of a change after which the tree is this
 abbrev pub record_after : Tree → Change → Bool → NodeRecord
-record_after t (MakeDir path) makes = with_props path (Some Directory) actions.Add []
+record_after t (MakeDir path) makes = directory_record path
 record_after t (PutFile path bytes) makes = file_record path bytes makes
-record_after t (SetProp path name value) makes = with_props path (kind_or_none (t path)) actions.Change (props_or_none (t path))
+record_after t (SetProp path name value) makes = prop_record path (kind_or_none (t path)) (name, value)
 record_after t (Remove path) makes = bare path None actions.Delete
 record_after t (CopyFrom rev source path) makes = copy_record path (kind_or_none (t path)) (record { rev = rev; path = source })
 

@@ -8,7 +8,6 @@ use Rattle.svn_repo.specs.declared.change.Change.{Change}
 use Rattle.svn_repo.specs.Changes.{IsCommit}
 use Rattle.svn_repo.specs.History.{History}
 use Rattle.svn_repo.specs.Laws.{NodesExist}
-use Rattle.svn_repo.specs.Readings.{IsHistory}
 use Rattle.svn_dump.specs.declared.sections.Limits.{Limits}
 use Rattle.svn_dump.specs.declared.sections.Texts.TheVariants.{Whole}
 use Rattle.svn_dump.specs.Records.{format_at}
@@ -34,10 +33,10 @@ pub data Writes (limits : Limits) : History → List ℕ → History → Type 0 
   one_commit : {h h' : History} {bytes : List ℕ} (mid : History) (changes : List Change) → Writes limits h bytes mid → IsCommit mid h' changes
       → AreWritable limits mid changes → Writes limits h (bytes ++ commit_bytes mid changes) h'
 
--- The history h is a repository's, and revision numbers are of 64 bits. The reader finds the format, and what it reads then is a dump whose revisions
+-- The nodes of the history h exist, and revision numbers are of 64 bits. The reader finds the format, and what it reads then is a dump whose revisions
 -- lead from h to the history that the commits led to. Whatever loading them leads to is the same, node by node and line by line.
 abbrev pub WrittenDumpsLoad : Type 0
 WrittenDumpsLoad = (limits : Limits) (format : ℕ) (h h' : History) (bytes : List ℕ) → 2 ≤ format → format ≤ 3 → header_room ≤ limits.headers
-    → IsHistory h → NodesExist h → 1 ≤ length h.roots → length h'.roots ≤ 2 ^ 64 → Writes limits h bytes h'
+    → NodesExist h → 1 ≤ length h.roots → length h'.roots ≤ 2 ^ 64 → Writes limits h bytes h'
     → (format_at limits (format_record format ++ bytes) ≡ Ok (format, bytes)) × LoadsDump limits Whole (Some bytes) h h'
     × ((loaded : History) → LoadsDump limits Whole (Some bytes) h loaded → IsSame h' loaded)

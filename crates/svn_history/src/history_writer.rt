@@ -19,8 +19,8 @@ use svn_dump::{push_format, push_revision};
 use svn_repo::{Change, Repo, Transaction};
 use svn_types::Rev;
 
-// The format of the dumps that are written: texts are whole.
-const FORMAT: u64 = 2;
+// The format of the dumps that are written: texts are whole, but a property is written as a change of those before.
+const FORMAT: u64 = 3;
 
 /// A repository whose commits are written as revisions of a dump. It makes them change by change, and keeps the records of the changes since the last
 /// commit. A contract sees it as the transaction, and the bytes of these records.
@@ -47,7 +47,7 @@ impl Model for HistoryWriter {
 /// Writes what a dump begins with: its format, and revision 0, which has nothing. After an error the first bytes may be there.
 #[tactic(auto, using(crate::proofs::Faults::fails_memory))]
 pub fn push_beginning(out: &mut Vec<u8>) -> Result<(), LoadFault>
-    ensures written { OnOk result (out.new.items ≡ out.old.items ++ (format_record 2 ++ revision_record 0)) }
+    ensures written { OnOk result (out.new.items ≡ out.old.items ++ (format_record 3 ++ revision_record 0)) }
     ensures fault { IfErr result (λ e. e ≡ LoadFault.Memory) }
 {
     push_format(out, FORMAT)?;

@@ -1,15 +1,9 @@
 //! What loading and writing mean for one another. These functions do nothing: each promises a law of the definitions.
-ghost use Rattle.svn_history.specs.Laws.{DraftsAreLawful, WrittenCommitsLoad};
+ghost use Rattle.svn_history.specs.Laws.{WrittenCommitsLoad};
 ghost use Rattle.svn_history.specs.SameHistories.{DumpsLoadAsOne};
 ghost use Rattle.svn_history.specs.WrittenDumps.{WrittenDumpsLoad};
 
 use law_dump::dumps_are_read_back;
-
-/// Whatever changes a transaction has made so far, the properties in its draft are in the order of their names and within the limit of a commit, since
-/// they are so in the repository that it began with ([`Repo::law`](svn_repo::Repo::law)).
-pub fn drafts_are_lawful()
-    ensures { DraftsAreLawful }
-{}
 
 /// What a [`HistoryWriter`](crate::HistoryWriter) writes of a commit is loaded as the same commit: the records lead to the tree and the lines that
 /// the changes lead to.

@@ -40,7 +40,7 @@ mod writing;
 
 pub use fault::LoadFault;
 pub use history_writer::{HistoryWriter, push_beginning, push_commit};
-pub use laws::{drafts_are_lawful, dumps_load_as_one, written_commits_load, written_dumps_load};
+pub use laws::{dumps_load_as_one, written_commits_load, written_dumps_load};
 pub use listener::{LoadListener, NoLoadListener};
 pub use loader::{Loader, MAX_REVISION};
 pub use refusal::Refusal;

@@ -6,7 +6,7 @@ ghost use Rattle.svn_repo.specs.declared.change.Change.TheVariants.{MakeDir, Set
 ghost use Rattle.svn_repo.specs.Transactions.{text_or_empty};
 ghost use Rattle.svn_history.specs.Results.{Fails};
 ghost use Rattle.svn_history.specs.Steps.{IsMade, draft_of, one};
-ghost use Rattle.svn_history.specs.Changes.{at, props_or_none, set_prop, set_props, same_prop, put_text, put_props, touch, new_file, creation, addition, alteration, removal, record_changes, set_or_touch, change_props};
+ghost use Rattle.svn_history.specs.Changes.{at, props_or_none, set_prop, set_props, same_again, or_again, put_text, put_props, alter_props, new_file, creation, addition, alteration, removal, record_changes};
 ghost use Rattle.svn_types.specs.Props.{changes_between};
 
 use crate::delta::apply_delta;
@@ -138,7 +138,7 @@ fn make_file(
     make(transaction, &Change::PutFile { path, text })
 }
 
-// Changes the node that is at a path. A record that changes nothing makes it a node of this revision all the same.
+// Changes the node that is at a path.
 fn change(alloc: Global, transaction: &mut Transaction, node: &NodeRecord) -> Result<(), LoadFault>
     ensures made { OnOk result (IsMade (alteration node.now) (draft_of transaction.old) (draft_of transaction.new)) }
     ensures fault { IfErr result (λ e. Fails e (alteration node.now (draft_of transaction.old))) }
@@ -147,83 +147,64 @@ fn change(alloc: Global, transaction: &mut Transaction, node: &NodeRecord) -> Re
     if transaction.kind(&node.path).is_none() {
         return Err(LoadFault::Commit(CommitFault::Missing));
     }
-    if node.text.is_none() {
-        return change_props(alloc, transaction, &node.path, &node.props);
-    }
     put_text(alloc, transaction, &node.path, &node.text)?;
-    put_props(alloc, transaction, &node.path, &node.props)
+    alter_props(alloc, transaction, &node.path, &node.props)
 }
 
-// Changes the properties of the node at a path, and nothing else.
-fn change_props(
+// Changes the properties of the node at a path. With a whole section it is one of this revision then if it has any, also if it had the same.
+fn alter_props(
     alloc: Global,
     transaction: &mut Transaction,
     path: &RelPath,
     section: &Option<PropSection>,
 ) -> Result<(), LoadFault>
-    ensures made { OnOk result (IsMade (change_props path.now section.now) (draft_of transaction.old) (draft_of transaction.new)) }
-    ensures fault { IfErr result (λ e. Fails e (change_props path.now section.now (draft_of transaction.old))) }
+    ensures made { OnOk result (IsMade (alter_props path.now section.now) (draft_of transaction.old) (draft_of transaction.new)) }
+    ensures fault { IfErr result (λ e. Fails e (alter_props path.now section.now (draft_of transaction.old))) }
     ensures history { transaction.new.history ≡ transaction.old.history }
 {
     match section {
         Some(PropSection::Whole(new)) => {
-            let changes = whole_changes(alloc, transaction, path, new)?;
-            set_or_touch(alloc, transaction, path, &changes)
+            let changes = whole_changes_or_again(alloc, transaction, path, new)?;
+            set_props(transaction, path, &changes)
         }
-        Some(PropSection::Delta(changes)) => {
-            set_or_touch(alloc, transaction, path, changes.as_slice())
-        }
-        None => touch(alloc, transaction, path),
+        Some(PropSection::Delta(changes)) => set_props(transaction, path, changes.as_slice()),
+        None => Ok(()),
     }
 }
 
-// Makes changes of properties; where there are none, the node is touched.
-fn set_or_touch(
-    alloc: Global,
-    transaction: &mut Transaction,
-    path: &RelPath,
-    changes: &[PropChange],
-) -> Result<(), LoadFault>
-    ensures made { OnOk result (IsMade (set_or_touch path.now changes.now) (draft_of transaction.old) (draft_of transaction.new)) }
-    ensures fault { IfErr result (λ e. Fails e (set_or_touch path.now changes.now (draft_of transaction.old))) }
-    ensures history { transaction.new.history ≡ transaction.old.history }
-{
-    if changes.is_empty() {
-        return touch(alloc, transaction, path);
-    }
-    set_props(transaction, path, changes)
-}
-
-// Makes the node at a path one of this revision, which is the same but for that: a property is set to the value that it has, or, where there
-// is none, one is removed.
-fn touch(alloc: Global, transaction: &mut Transaction, path: &RelPath) -> Result<(), LoadFault>
-    ensures made { OnOk result (IsMade (touch path.now) (draft_of transaction.old) (draft_of transaction.new)) }
-    ensures fault { IfErr result (λ e. Fails e ((touch path.now) (draft_of transaction.old))) }
-    ensures history { transaction.new.history ≡ transaction.old.history }
-{
-    let (name, value) = any_prop(alloc, transaction, path)?;
-    let path = path.clone()?;
-    make(transaction, &Change::SetProp { path, name, value })
-}
-
-// A property of the node at a path with its value, or one that it hasn't.
-fn any_prop(
+// The changes of properties after which the node at a path has just these. Where it has them already one is set again.
+fn whole_changes_or_again(
     alloc: Global,
     transaction: &Transaction,
     path: &RelPath,
-) -> Result<PropChange, LoadFault>
-    ensures value { IfOk result (λ c. c ≡ same_prop (props_or_none (at (draft_of transaction.now) path.now))) }
+    new: &Props,
+) -> Result<Vec<PropChange>, LoadFault>
+    ensures value { IfOk result (λ v. let old = props_or_none (at (draft_of transaction.now) path.now) in v.items ≡ or_again old (changes_between old new.now)) }
     ensures fault { IfErr result (λ e. e ≡ LoadFault.Memory) }
 {
+    let changes = whole_changes(alloc, transaction, path, new)?;
+    if changes.is_empty() {
+        return same_again(alloc, transaction, path);
+    }
+    Ok(changes)
+}
+
+// A property of the node at a path with its value, if it has any.
+fn same_again(
+    alloc: Global,
+    transaction: &Transaction,
+    path: &RelPath,
+) -> Result<Vec<PropChange>, LoadFault>
+    ensures value { IfOk result (λ v. v.items ≡ same_again (props_or_none (at (draft_of transaction.now) path.now))) }
+    ensures fault { IfErr result (λ e. e ≡ LoadFault.Memory) }
+{
+    let mut changes = Vec::new(alloc);
     if let Some(props) = transaction.props(path) {
         if let Some((name, value)) = props.iter().next() {
-            return Ok((name.clone()?, Some(value.clone()?)));
+            changes.push((name.clone()?, Some(value.clone()?)))?;
         }
     }
-    match PropName::parse(alloc, "x") {
-        Ok(name) => Ok((name, None)),
-        Err(_) => Err(LoadFault::Memory),
-    }
+    Ok(changes)
 }
 
 // Puts a text at a path, if one is given.

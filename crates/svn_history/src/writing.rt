@@ -1,20 +1,18 @@
 //! Changes, made and written as the records of a dump.
 ghost use Rattle.std.specs.Prelude.{◌≡◌, ◌≢◌, ◌++◌, [], Some, None, IfOk, IfErr, OnOk};
-ghost use Rattle.svn_types.specs.declared.kind.Kind.TheVariants.{Directory};
-ghost use Rattle.svn_dump.specs.declared.record.Action.TheVariants.{Add, Change as Alter};
 ghost use Rattle.svn_dump.specs.Written.{written};
 ghost use Rattle.law_dump.specs.Laws.{IsNodeRecord};
 ghost use Rattle.svn_history.specs.Results.{Fails};
 ghost use Rattle.svn_history.specs.Steps.{IsMade, draft_of, one};
-ghost use Rattle.svn_history.specs.Changes.{at, props_or_none};
-ghost use Rattle.svn_history.specs.Writing.{bare, copy_record, file_record, kind_or_none, makes_file, record_after, record_of, with_props};
+ghost use Rattle.svn_history.specs.Changes.{at};
+ghost use Rattle.svn_history.specs.Writing.{bare, copy_record, directory_record, file_record, kind_or_none, makes_file, prop_record, record_after, record_of};
 
 use crate::fault::LoadFault;
 use law_dump::node_is_lawful;
 use std::alloc::Global;
-use svn_dump::{Action, CopySource, NodeRecord, PropSection, TextSection, push_node};
+use svn_dump::{Action, CopySource, NodeRecord, PropChanges, PropSection, TextSection, push_node};
 use svn_repo::{Change, Transaction};
-use svn_types::{Kind, Props, RelPath, Rev, Text};
+use svn_types::{Kind, PropName, Props, RelPath, Rev, Text};
 
 // A record of nothing but a path, a kind and an action.
 fn bare(path: &RelPath, kind: Option<Kind>, action: Action) -> Result<NodeRecord, LoadFault>
@@ -32,7 +30,7 @@ fn bare(path: &RelPath, kind: Option<Kind>, action: Action) -> Result<NodeRecord
 }
 
 fn new_directory(alloc: Global, path: &RelPath) -> Result<NodeRecord, LoadFault>
-    ensures value { IfOk result (λ r. r ≡ with_props path.now (Some Directory) Add []) }
+    ensures value { IfOk result (λ r. r ≡ directory_record path.now) }
     ensures fault { IfErr result (λ e. e ≡ LoadFault.Memory) }
 {
     let mut record = bare(path, Some(Kind::Directory), Action::Add)?;
@@ -53,21 +51,21 @@ fn file(alloc: Global, path: &RelPath, text: &Text, is_new: bool) -> Result<Node
     Ok(record)
 }
 
-// All properties that a node has.
-fn with_props(
+// One property of a node, set or removed.
+fn prop_set(
     alloc: Global,
     transaction: &Transaction,
     path: &RelPath,
+    name: &PropName,
+    value: &Option<Text>,
 ) -> Result<NodeRecord, LoadFault>
-    ensures value { IfOk result (λ r. let there = at (draft_of transaction.now) path.now in r ≡ with_props path.now (kind_or_none there) Alter (props_or_none there)) }
+    ensures value { IfOk result (λ r. r ≡ prop_record path.now (kind_or_none (at (draft_of transaction.now) path.now)) (name.now, value.now)) }
     ensures fault { IfErr result (λ e. e ≡ LoadFault.Memory) }
 {
     let mut record = bare(path, transaction.kind(path), Action::Change)?;
-    let props = match transaction.props(path) {
-        Some(props) => props.clone()?,
-        None => Props::new(alloc),
-    };
-    record.props = Some(PropSection::Whole(props));
+    let mut changes = Vec::new(alloc);
+    changes.push((name.clone()?, value.clone()?))?;
+    record.props = Some(PropSection::Delta(PropChanges::new(changes)));
     Ok(record)
 }
 
@@ -109,7 +107,7 @@ fn record_of(
     match change {
         Change::MakeDir { path } => new_directory(alloc, path),
         Change::PutFile { path, text } => file(alloc, path, text, is_new),
-        Change::SetProp { path, .. } => with_props(alloc, transaction, path),
+        Change::SetProp { path, name, value } => prop_set(alloc, transaction, path, name, value),
         Change::Remove { path } => bare(path, None, Action::Delete),
         Change::CopyFrom { rev, source, path } => copied(transaction, *rev, source, path),
     }

@@ -4,6 +4,7 @@
 //! `data/dumps` has each dump with its trees, of all revisions one after another, in the lines that a checkout of each is printed in: NAME.sha1 with texts as
 //! their SHA-1 checksums, and NAME.whole; and NAME.lines, with for each node a number that no other node has. `examples/subversion/dump_data.sh` has
 //! Subversion make them. A dump that can't be loaded so has the refusal.
+mod alterations;
 mod bases;
 mod broken;
 mod fronts;
@@ -74,11 +75,12 @@ enum Count {
     Pieces,
     Lengths,
     Fronts,
+    Alterations,
     Many,
     Written,
 }
 
-const COUNTS: [(Count, &str); 9] = [
+const COUNTS: [(Count, &str); 10] = [
     (Count::Cut, "a dump that is cut has the revisions before"),
     (
         Count::Changed,
@@ -96,6 +98,10 @@ const COUNTS: [(Count, &str); 9] = [
         "the front of a dump gives its UUID and its first revision",
     ),
     (
+        Count::Alterations,
+        "a change makes a node revision as in Subversion",
+    ),
+    (
         Count::Many,
         "ten million properties are refused or passed over",
     ),
@@ -111,6 +117,7 @@ fn wrong_in(alloc: Global, what: Count, dump: &[u8], deltas: &[u8]) -> Result<us
         Count::Pieces => readers::pieces_wrongly(alloc, dump),
         Count::Lengths => lengths::taken_wrongly(alloc),
         Count::Fronts => fronts::known_wrongly(alloc),
+        Count::Alterations => alterations::altered_wrongly(alloc),
         Count::Many => many::taken_wrongly(alloc),
         Count::Written => written::loaded_wrongly(alloc),
     }

@@ -25,7 +25,8 @@ const ROWS: [Row; 9] = [
         first: 0,
     },
     Row {
-        dump: "SVN-fs-dump-format-version: 2\n\nUUID: 11111111-1111-1111-1111-111111111111\n\nUUID: 22222222-2222-2222-2222-222222222222\n\nRevision-number: 1\n\n",
+        dump: "SVN-fs-dump-format-version: 2\n\nUUID: 11111111-1111-1111-1111-111111111111\n\n\
+UUID: 22222222-2222-2222-2222-222222222222\n\nRevision-number: 1\n\n",
         uuid: "22222222-2222-2222-2222-222222222222",
         first: 1,
     },
@@ -35,7 +36,8 @@ const ROWS: [Row; 9] = [
         first: 0,
     },
     Row {
-        dump: "SVN-fs-dump-format-version: 2\n\nUUID: 11111111-1111-1111-1111-111111111111\n\nRevision-number: 7\n\nRevision-number: 8\n\nUUID: 22222222-2222-2222-2222-222222222222\n\n",
+        dump: "SVN-fs-dump-format-version: 2\n\nUUID: 11111111-1111-1111-1111-111111111111\n\nRevision-number: 7\n\nRevision-number: 8\n\n\
+UUID: 22222222-2222-2222-2222-222222222222\n\n",
         uuid: "11111111-1111-1111-1111-111111111111",
         first: 7,
     },
