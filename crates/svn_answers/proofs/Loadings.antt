@@ -2,11 +2,10 @@
 use Rattle.std.proofs.Common.{◌≡◌, ℕ, List, ◌∙◌, refl, sym, ap, subst, Option, None, Some, Ok}
 use Rattle.std.specs.Prelude.{MatchOption}
 use Rattle.std.specs.Option.{option_or}
-use Rattle.svn_repo.specs.History.{History, new_history}
+use Rattle.svn_repo.specs.History.{History}
 use Rattle.svn_dump.specs.declared.reader.Reader.{Reader}
 use Rattle.svn_dump.specs.declared.sections.Limits.{Limits}
 use Rattle.svn_dump.specs.declared.sections.Texts.{Texts}
-use Rattle.svn_dump.specs.Blocks.{block_at}
 use Rattle.svn_dump.specs.Readers.{left_in, Opens, Shows}
 use Rattle.svn_history.specs.declared.loader.Loader.{Loader}
 use Rattle.svn_history.specs.Steps.{Draft, draft_of, begun}

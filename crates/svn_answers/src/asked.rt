@@ -52,7 +52,7 @@ pub struct Asked<'a, C> {
 
 impl<C: Copies> Asked<'_, C> {
     /// Audits the copy that a word names, or the part of one that is in the folder of that name, as a copy of its own. Refused as the opener refuses it,
-    /// then where it was changed while it was read, then as [`audit`] refuses it: so no fault is told of bytes that were read while they changed.
+    /// then where it was changed while it was read, then as [`audit`] refuses it: so no fault is reported of bytes that were read while they changed.
     pub fn audit_copy(&self, name: &str) -> Result<OnDisk, CopyFault<C::Fault>>
         ensures audited { IfOk result (λ d. IsAudited (C.opens self.now.copies.now) (C.stayed self.now.copies.now) (compared self.now.history) name.now d.audited) }
         ensures refused { IfErr result (λ e. IsCopyFault (C.opens self.now.copies.now) (C.stayed self.now.copies.now) (compared self.now.history) name.now e) }

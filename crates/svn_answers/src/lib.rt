@@ -1,18 +1,24 @@
-//! What `svnaudit check` answers: the lines and the verdict on working copies that are named by words, compared with a history.
+//! What `svnaudit` answers of working copies that are named by words, compared with the history of a dump.
 //!
 //! ```
-//! let history = History { repo: &repo, texts: Texts::Sha1, uuid: Some(uuid) };
-//! let asked = Asked { alloc, history, copies: &copies };
+//! let loaded = Loaded::load(alloc, input, Limits::default(), Texts::Sha1, &mut NoLoadListener)?;
+//! let asked = Asked { alloc, history: loaded.history(Texts::Sha1), copies: &copies };
 //! let verdict = asked.check(&["trunk", "branch"], &mut output, &mut notices)?;
 //! return ExitCode::from(verdict.status());
 //! ```
 //!
 //! prints `trunk: true: 7 nodes, r2 to r3` and `branch: untrue: a: r3 has x at a, which the copy lacks`, and returns the status 1.
 //!
-//! Promises: [`Asked::check`] answers each word, in their order (`answers`): what it writes are exactly the lines of the copies that were audited
-//! (`specs/Lines.antt`), each by the verdict of `svn_disk_audit` on the bytes that were opened, and what it returns is the worst of all verdicts. A copy
-//! that is refused has no line, and the others have theirs. A verdict, and a fault of the bytes, is told only of a copy that stayed as it was while it
-//! was read. It is for a program to open the files: [`Copies`]. What is written to standard error is only tested.
+//! Files: `loaded` loads a dump. `asked` opens and audits copies, and has `check`; `telling` the other questions, whose answers `topics` writes. A program
+//! opens the files: `copies` is what it implements, and `lock` says when a database may be read. `examination` compares the repository; `checked`, `source`,
+//! `revisions` print lines, `notices` and `passed_over` what goes to standard error.
+//!
+//! Promises: [`Loaded::load`] gives the history of the dump's bytes and what its front says (`IsLoaded`). [`Asked::check`] answers each word, in their
+//! order (`answers`): what it writes are exactly the lines of the copies that were audited (`specs/Lines.antt`), each by the verdict of `svn_disk_audit` on
+//! the bytes that were opened, and what it returns is the worst of all verdicts. A copy that is refused has no line, and the others have theirs. A
+//! verdict, and a fault of the bytes, is reported only of a copy that stayed as it was while it was read. [`Asked::answer`] writes exactly the report,
+//! the calls or the sorted lines of an update (`specs/Topics.antt`), or nothing. What is written to standard error, and the nodes after an update, are
+//! only tested.
 #![tactic(auto)]
 
 mod asked;

@@ -1,7 +1,9 @@
 //! The history of a dump.
 ghost use Rattle.std.specs.Prelude.{◌≡◌, IfOk};
+ghost use Rattle.svn_answers.specs.Answers.{compared};
 ghost use Rattle.svn_answers.specs.Loadings.{IsReady, IsLoaded};
 
+use crate::asked::History;
 use std::alloc::Global;
 use std::fmt;
 use std::io::Read;
@@ -134,5 +136,19 @@ impl Loaded {
             uuid,
             first,
         })
+    }
+
+    /// What copies are compared with, where texts are kept as they were loaded.
+    pub fn history(&self, texts: Texts) -> History<'_>
+        ensures { compared result ≡ record { history = self.now.repo; texts = texts; uuid = self.now.uuid } }
+    {
+        History {
+            repo: &self.repo,
+            texts,
+            uuid: match &self.uuid {
+                Some(uuid) => Some(uuid.as_slice()),
+                None => None,
+            },
+        }
     }
 }

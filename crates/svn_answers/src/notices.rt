@@ -1,4 +1,4 @@
-//! What is told on standard error beside an answer. Where it can't be written, the answer alone tells.
+//! What is reported on standard error beside an answer. Where it can't be written, the answer alone tells.
 
 use crate::copies::Copies;
 use crate::examination::ExaminerFault;

@@ -44,15 +44,7 @@ fn ask_of<T: Files<File: AsRawFd> + Input + Print + Eprint + Clock + AllocGlobal
     front.refuse_packed()?;
     let dump = front.bytes().chain(input);
     let loaded = load_whole(rt.alloc(), dump, question, &mut progress)?;
-    let history = History {
-        repo: &loaded.repo,
-        uuid: match &loaded.uuid {
-            Some(uuid) => Some(uuid.as_slice()),
-            None => None,
-        },
-        texts: question.texts,
-    };
-    answer_copies(rt, history, &question.subject)
+    answer_copies(rt, loaded.history(question.texts), &question.subject)
 }
 
 /// Answers a question about working copies.

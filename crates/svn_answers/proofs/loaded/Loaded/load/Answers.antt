@@ -1,5 +1,4 @@
-use Rattle.std.proofs.Common.{◌≡◌, subst, sym}
-use Rattle.svn_repo.specs.History.{History}
+use Rattle.std.proofs.Common.{subst, sym}
 use Rattle.svn_history.specs.Loading.{LoadsDump}
 use Rattle.svn_history.specs.Fronts.{FrontLoaded}
 use Rattle.svn_dump.specs.Readers.{left_in}
