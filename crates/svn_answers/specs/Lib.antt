@@ -2,5 +2,5 @@ pub mod Lines
 pub mod Verdicts
 pub mod Topics
 pub mod Answers
-pub mod Locks
+pub mod Journals
 pub mod Loadings

@@ -10,7 +10,7 @@
 //! prints `trunk: true: 7 nodes, r2 to r3` and `branch: untrue: a: r3 has x at a, which the copy lacks`, and returns the status 1.
 //!
 //! Files: `loaded` loads a dump. `asked` opens and audits copies, and has `check`; `telling` the other questions, whose answers `topics` writes. A program
-//! opens the files: `copies` is what it implements, and `lock` says when a database may be read. `examination` compares the repository; `checked`, `source`,
+//! opens the files: `copies` is what it implements, and `busy` says when a database isn't read. `examination` compares the repository; `checked`, `source`,
 //! `revisions` print lines, `notices` and `passed_over` what goes to standard error.
 //!
 //! Promises: [`Loaded::load`] gives the history of the dump's bytes and what its front says (`IsLoaded`). [`Asked::check`] answers each word, in their
@@ -22,12 +22,12 @@
 #![tactic(auto)]
 
 mod asked;
+mod busy;
 mod checked;
 mod copies;
 mod examination;
 mod fault;
 mod loaded;
-mod lock;
 mod notices;
 mod passed_over;
 mod revisions;
@@ -38,12 +38,12 @@ mod topics;
 mod verdict;
 
 pub use asked::{Asked, History, OnDisk};
+pub use busy::{BusyFault, refuse_journal};
 pub use checked::Checked;
 pub use copies::{Copies, Opened};
 pub use examination::ExaminerFault;
 pub use fault::{AnswerFault, CopyFault, TellFault};
 pub use loaded::{DumpRefusal, Loaded};
-pub use lock::{BusyFault, ReadLock, refuse_busy};
 pub use notices::tell_notes;
 pub use source::Source;
 pub use telling::Inquiry;

@@ -35,7 +35,7 @@ pub(crate) enum Fault {
     NoCopy,
     /// It is a file, and no folder.
     NoFolder,
-    /// A client is at work on the copy, or left a transaction.
+    /// A client is at work on the copy, or was cut off.
     Busy(BusyFault),
     /// A pristine text can't be opened: its file, its stand-in, and why.
     Pristine(PristineRefusal),

@@ -25,7 +25,6 @@ use crate::show::show_dump;
 use crate::write::write_script;
 use std::env;
 use std::env::Env;
-use std::os::fd::AsRawFd;
 use std::process::ExitCode;
 use std::rt::{Clock, Files};
 use svn_answers::Verdict;
@@ -43,7 +42,7 @@ fn words(rt: &(impl Env + AllocGlobal)) -> Result<Vec<String>, Fault> {
 }
 
 // Does what is asked, and says what is refused.
-fn answer<T: Files<File: AsRawFd> + Input + Print + Eprint + Clock + AllocGlobal>(
+fn answer<T: Files + Input + Print + Eprint + Clock + AllocGlobal>(
     rt: &T,
     request: &Request<'_>,
 ) -> ExitCode {
@@ -69,7 +68,7 @@ fn refuse<T: Eprint>(rt: &T, request: &Request<'_>, fault: &Fault) -> ExitCode {
     ExitCode::from(Verdict::Refused.status())
 }
 
-fn run<T: Files<File: AsRawFd> + Input + Print + Eprint + Clock + AllocGlobal>(
+fn run<T: Files + Input + Print + Eprint + Clock + AllocGlobal>(
     rt: &T,
     words: &[String],
 ) -> ExitCode {

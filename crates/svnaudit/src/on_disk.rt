@@ -1,10 +1,9 @@
 //! Working copies on disk, read and not changed.
 
-use crate::database::{Bytes, Database};
+use crate::database::Database;
 use crate::fault::Fault;
 use crate::folder::Folder;
 use crate::pristine::{PristineFile, open_pristine};
-use std::os::fd::AsRawFd;
 use std::rt::Files;
 use svn_answers::{Copies, Opened};
 use svn_disk_audit::Examiner;
@@ -17,13 +16,12 @@ pub(crate) struct Folders<'a, T> {
     pub(crate) rt: &'a T,
 }
 
-/// A folder whose pristine texts are opened, its database, and whether that was read under a lock.
+/// A folder whose pristine texts are opened, and its database.
 #[derive(Drop)]
 pub(crate) struct OpenFolder<'a, T> {
     rt: &'a T,
     folder: Folder,
     database: Database,
-    locked: bool,
 }
 
 impl<T: Files + AllocGlobal> Examiner for OpenFolder<'_, T> {
@@ -40,7 +38,7 @@ impl<T: Files + AllocGlobal> Examiner for OpenFolder<'_, T> {
     }
 }
 
-impl<'a, T: Files<File: AsRawFd> + AllocGlobal> Copies for Folders<'a, T> {
+impl<'a, T: Files + AllocGlobal> Copies for Folders<'a, T> {
     type Fault = Fault;
 
     type Examiner = OpenFolder<'a, T>;
@@ -52,15 +50,13 @@ impl<'a, T: Files<File: AsRawFd> + AllocGlobal> Copies for Folders<'a, T> {
     fn open(&self, name: &str) -> Result<Opened<OpenFolder<'a, T>>, Fault> {
         let folder = Folder::find(self.rt, name)?;
         let database = folder.database(self.rt.alloc())?;
-        let Bytes { bytes, locked } = database.read(self.rt)?;
         Ok(Opened {
-            database: bytes,
+            database: database.read(self.rt)?,
             below: folder.below().clone()?,
             examiner: OpenFolder {
                 rt: self.rt,
                 folder,
                 database,
-                locked,
             },
         })
     }
@@ -71,8 +67,6 @@ impl<'a, T: Files<File: AsRawFd> + AllocGlobal> Copies for Folders<'a, T> {
         database: &[u8],
         examiner: &OpenFolder<'a, T>,
     ) -> Result<(), Fault> {
-        examiner
-            .database
-            .look_again(self.rt, database, examiner.locked)
+        examiner.database.look_again(self.rt, database)
     }
 }

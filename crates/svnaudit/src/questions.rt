@@ -9,11 +9,10 @@ use crate::output::{error_writer, output_writer};
 use crate::progress::Progress;
 use std::fs::File;
 use std::io::Read;
-use std::os::fd::AsRawFd;
 use std::rt::{Clock, Files};
 use svn_answers::{AnswerFault, Asked, History, Verdict};
 
-fn answer_copies<T: Files<File: AsRawFd> + Print + Eprint + AllocGlobal>(
+fn answer_copies<T: Files + Print + Eprint + AllocGlobal>(
     rt: &T,
     history: History<'_>,
     subject: &Subject<'_>,
@@ -34,7 +33,7 @@ fn answer_copies<T: Files<File: AsRawFd> + Print + Eprint + AllocGlobal>(
     }
 }
 
-fn ask_of<T: Files<File: AsRawFd> + Input + Print + Eprint + Clock + AllocGlobal, R: Read + Drop>(
+fn ask_of<T: Files + Input + Print + Eprint + Clock + AllocGlobal, R: Read + Drop>(
     rt: &T,
     mut input: R,
     question: &Question<'_>,
@@ -48,7 +47,7 @@ fn ask_of<T: Files<File: AsRawFd> + Input + Print + Eprint + Clock + AllocGlobal
 }
 
 /// Answers a question about working copies.
-pub(crate) fn ask<T: Files<File: AsRawFd> + Input + Print + Eprint + Clock + AllocGlobal>(
+pub(crate) fn ask<T: Files + Input + Print + Eprint + Clock + AllocGlobal>(
     rt: &T,
     question: &Question<'_>,
 ) -> Result<Verdict, Fault> {
