@@ -169,7 +169,7 @@ def others(data):
     for name in ("dump", "said", "repo/db/uuid", sys.executable):
         yield Damage(f"the file {name}", read(name)[:200000])
     for journal in (b"x", b"\0" * 28, bytes.fromhex("d9d505f920a163d7") + bytes(504)):
-        yield Damage("a journal", data, journal=journal, wanted="the database has a journal: `svn cleanup` comes first")
+        yield Damage("a journal", data, journal=journal, wanted="the database has a journal: a client is at work, or was cut off, and `svn cleanup` comes first")
 
 
 def state(folder):

@@ -9,8 +9,8 @@ import subprocess
 import time
 
 SECONDS = 60
-CHANGED = "the working copy changed while it was read"
-JOURNAL = "the database has a journal: `svn cleanup` comes first"
+CHANGED = "the working copy is in use"
+JOURNAL = "the database has a journal: a client is at work, or was cut off, and `svn cleanup` comes first"
 
 
 def sql(text):

@@ -162,7 +162,7 @@ rm -f "$text"
 refused 'no pristine text' "svnaudit: odd: $file: pristine text \$sha1\$$sum: No such file or directory (os error 2)" "$SVNAUDIT" check dump odd
 cp kept "$text"
 echo journal >odd/.svn/wc.db-journal
-refused 'a journal' 'svnaudit: odd: the database has a journal: `svn cleanup` comes first' "$SVNAUDIT" check dump odd
+refused 'a journal' 'svnaudit: odd: the database has a journal: a client is at work, or was cut off, and `svn cleanup` comes first' "$SVNAUDIT" check dump odd
 : >odd/.svn/wc.db-journal
 client update -q -r 4 --set-depth files odd/lib
 refused 'another depth' "svnaudit: odd: lib: a directory of another depth than infinity" "$SVNAUDIT" check dump odd
