@@ -98,8 +98,8 @@ impl<R: Read + Drop> Loader<R> {
         self.rev
     }
 
-    /// The UUID of the repository, if the dump gives one before its first revision, by its bytes in the dump; of several it is the last one. It
-    /// is known once the first revision began. One that comes later is passed over.
+    /// The UUID of the repository, if the dump gives one before its first revision, by its bytes in the dump; of several it is the last one. It is
+    /// known once the first revision began. One that comes later is passed over.
     pub fn uuid(&self) -> Option<&[u8]>
         ensures { option_copied result ≡ self.now.front.uuid }
     {
@@ -109,7 +109,7 @@ impl<R: Read + Drop> Loader<R> {
         }
     }
 
-    /// The number of the dump's first revision; None before it began. Those before it are empty commits in the repository.
+    /// The number of the dump's first revision; None before it began. Numbers before it that the repository hadn't are empty commits.
     pub fn first_revision(&self) -> Option<Rev>
         ensures { result ≡ self.now.front.first }
     {
