@@ -4,3 +4,4 @@ pub mod Topics
 pub mod Answers
 pub mod Journals
 pub mod Loadings
+pub mod Shown

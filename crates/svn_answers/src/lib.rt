@@ -11,14 +11,14 @@
 //!
 //! Files: `loaded` loads a dump. `asked` opens and audits copies, and has `check`; `telling` the other questions, whose answers `topics` writes. A program
 //! opens the files: `copies` is what it implements, and `busy` says when a database isn't read. `examination` compares the repository; `checked`, `source`,
-//! `revisions` print lines, `notices` and `passed_over` what goes to standard error.
+//! `revisions` print lines, `show` trees, `notices` and `passed_over` what goes to standard error.
 //!
 //! Promises: [`Loaded::load`] gives the history of the dump's bytes and what its front says (`IsLoaded`). [`Asked::check`] answers each word, in their
 //! order (`answers`): what it writes are exactly the lines of the copies that were audited (`specs/Lines.antt`), each by the verdict of `svn_disk_audit` on
 //! the bytes that were opened, and what it returns is the worst of all verdicts. A copy that is refused has no line, and the others have theirs. A
 //! verdict, and a fault of the bytes, is reported only of a copy that stayed as it was while it was read. [`Asked::answer`] writes exactly the report,
-//! the calls or the sorted lines of an update (`specs/Topics.antt`), or nothing. What is written to standard error, and the nodes after an update, are
-//! only tested.
+//! the calls or the sorted lines of an update (`specs/Topics.antt`), or nothing; [`write_shown`] what a revision has at a path (`specs/Shown.antt`). What
+//! is written to standard error, and the nodes after an update, are only tested.
 #![tactic(auto)]
 
 mod asked;
@@ -31,6 +31,7 @@ mod loaded;
 mod notices;
 mod passed_over;
 mod revisions;
+mod show;
 mod source;
 mod telling;
 mod topic;
@@ -45,6 +46,7 @@ pub use examination::ExaminerFault;
 pub use fault::{AnswerFault, CopyFault, TellFault};
 pub use loaded::{DumpRefusal, Loaded};
 pub use notices::tell_notes;
+pub use show::{ShowFault, write_shown};
 pub use source::Source;
 pub use telling::Inquiry;
 pub use topic::{Topic, TopicFault};

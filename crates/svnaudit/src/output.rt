@@ -1,7 +1,6 @@
 //! Standard output, written in large pieces.
 
 use crate::fault::Fault;
-use std::fmt::Display;
 use std::io;
 use std::io::{BufWriter, ErrorKind, Printer, Write};
 
@@ -51,18 +50,6 @@ pub(crate) fn error_writer<T: Eprint + AllocGlobal>(
         Ok(writer) => Ok(writer),
         Err(_) => Err(Fault::Memory),
     }
-}
-
-/// Prints a value.
-pub(crate) fn print_whole<T: Print + AllocGlobal, D: Display>(
-    rt: &T,
-    value: &D,
-) -> Result<(), Fault> {
-    let mut writer = output_writer(rt)?;
-    if write!(writer, "{value}").is_err() || writer.flush().is_err() {
-        return Err(Fault::Write);
-    }
-    Ok(())
 }
 
 /// Writes bytes.

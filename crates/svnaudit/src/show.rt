@@ -4,31 +4,15 @@ use crate::command_line::Show;
 use crate::dump_front::DumpFront;
 use crate::fault::Fault;
 use crate::load::load;
-use crate::output::print_whole;
+use crate::output::output_writer;
 use crate::progress::Progress;
-use std::alloc::{AllocError, Global};
-use std::fmt;
+use std::alloc::Global;
 use std::fs::File;
 use std::io::Read;
 use std::rt::{Clock, Files};
-use svn_model::{BaseNode, WcFault};
-use svn_nodes::lines::{LineTexts, write_node};
-use svn_repo::{NodeId, Repo};
+use svn_answers::{ShowFault, write_shown};
+use svn_repo::Repo;
 use svn_types::{PathFault, RelPath, Rev};
-use svn_wc::WorkingCopy;
-
-// A file, as a copy would have it whose root is a file.
-#[derive(Drop)]
-struct FileLines {
-    path: RelPath,
-    node: BaseNode,
-}
-
-impl fmt::Display for FileLines {
-    fn fmt<W: fmt::Write>(&self, f: &mut fmt::Formatter<W>) -> fmt::Result {
-        write_node(&self.path, &self.node, &mut LineTexts::new(), f)
-    }
-}
 
 // The path that a word names: slashes at its ends count for nothing.
 fn path_of(alloc: Global, word: &str) -> Result<RelPath, Fault> {
@@ -43,37 +27,6 @@ fn path_of(alloc: Global, word: &str) -> Result<RelPath, Fault> {
     }
 }
 
-// The file with this number, which is at the path in the revision; None if it is none.
-fn file_at(
-    repo: &Repo,
-    rev: Rev,
-    path: &RelPath,
-    id: NodeId,
-) -> Result<Option<BaseNode>, AllocError> {
-    let (Some(text), Some(props)) = (repo.shared_text(id), repo.props(id)) else {
-        return Ok(None);
-    };
-    Ok(Some(BaseNode::File {
-        rev,
-        repos_path: path.clone()?,
-        text: text.clone()?,
-        props: props.clone()?,
-    }))
-}
-
-fn print_directory<T: Print + AllocGlobal>(
-    rt: &T,
-    repo: &Repo,
-    rev: Rev,
-    path: RelPath,
-) -> Result<(), Fault> {
-    match WorkingCopy::checkout_at(rt.alloc(), repo, &path, rev) {
-        Ok(copy) => print_whole(rt, &copy),
-        Err(WcFault::Memory) => Err(Fault::Memory),
-        Err(_) => Err(Fault::NoNode(rev, path)),
-    }
-}
-
 // Prints what a revision has at a path.
 fn print_node<T: Print + AllocGlobal>(
     rt: &T,
@@ -81,15 +34,11 @@ fn print_node<T: Print + AllocGlobal>(
     rev: Rev,
     path: RelPath,
 ) -> Result<(), Fault> {
-    let Some(id) = repo.lookup(rev, &path) else {
-        return Err(Fault::NoNode(rev, path));
-    };
-    match file_at(repo, rev, &path, id)? {
-        Some(node) => {
-            let path = RelPath::root(rt.alloc());
-            print_whole(rt, &FileLines { path, node })
-        }
-        None => print_directory(rt, repo, rev, path),
+    match write_shown(rt.alloc(), repo, rev, &path, &mut output_writer(rt)?) {
+        Ok(()) => Ok(()),
+        Err(ShowFault::Nothing) => Err(Fault::NoNode(rev, path)),
+        Err(ShowFault::Write) => Err(Fault::Write),
+        Err(ShowFault::Memory) => Err(Fault::Memory),
     }
 }
 
