@@ -4,18 +4,39 @@ ghost use Rattle.std.specs.Prelude.{◌≤◌, IfOk};
 
 use crate::fault::Fault;
 use std::alloc::Global;
+use std::fmt;
 use std::io::{ErrorKind, Read};
 
 // How many bytes are looked at.
 const FRONT: usize = 6;
 
 // What a packed file begins with, and what packs it so.
-const PACKED: &[(&[u8], &str)] = &[
-    (b"\x1f\x8b", "gzip"),
-    (b"BZh", "bzip2"),
-    (b"\xfd7zXZ\0", "xz"),
-    (b"\x28\xb5\x2f\xfd", "zstd"),
+const PACKED: &[(&[u8], Packer)] = &[
+    (b"\x1f\x8b", Packer::Gzip),
+    (b"BZh", Packer::Bzip2),
+    (b"\xfd7zXZ\0", Packer::Xz),
+    (b"\x28\xb5\x2f\xfd", Packer::Zstd),
 ];
+
+/// A program that packs files.
+#[derive(Clone, Copy, Debug)]
+pub(crate) enum Packer {
+    Gzip,
+    Bzip2,
+    Xz,
+    Zstd,
+}
+
+impl fmt::Display for Packer {
+    fn fmt<W: fmt::Write>(&self, f: &mut fmt::Formatter<W>) -> fmt::Result {
+        f.write_str(match self {
+            Packer::Gzip => "gzip",
+            Packer::Bzip2 => "bzip2",
+            Packer::Xz => "xz",
+            Packer::Zstd => "zstd",
+        })
+    }
+}
 
 /// The first bytes of a dump, or all of one that is shorter.
 #[derive(Drop)]
@@ -59,7 +80,7 @@ impl DumpFront {
     pub(crate) fn refuse_packed(&self) -> Result<(), Fault> {
         for (magic, packer) in PACKED {
             if self.bytes().starts_with(magic) {
-                return Err(Fault::Packed(packer));
+                return Err(Fault::Packed(*packer));
             }
         }
         Ok(())

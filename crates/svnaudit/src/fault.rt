@@ -1,5 +1,6 @@
 //! Why the program refuses.
 
+use crate::dump_front::Packer;
 use std::alloc::{AllocError, AllocFailed};
 use std::{fmt, io};
 use svn_answers::BusyFault;
@@ -16,7 +17,7 @@ pub(crate) enum Fault {
     /// The file can't be opened, or not even its first bytes can be read.
     Unread(io::Error),
     /// The dump is packed, by this program.
-    Packed(&'static str),
+    Packed(Packer),
     /// The dump is refused: where, and why.
     Dump(String),
     /// The history has no such revision; the last one.
