@@ -13,6 +13,18 @@ data=$top/crates/test_real_data/data/copies
 # database COPY FILE
 database() { sqlite3 "$1/.svn/wc.db" "pragma page_size = 512; vacuum into '$2'"; }
 
+# updated NAME: a copy that is true, before and after `svn update`, and the lines of that
+updated() {
+    database $1 $1.db
+    svn update $1 | sed -n "s|^\([ADU ][U ]   \)$1/|\1|p; s|^\([ADU ][U ]   \)$1$|\1.|p" | LC_ALL=C sort >$1.lines
+    database $1 $1.after.db
+    svnadmin dump -q $1.repo >$1.dump
+    : >$1.untrue
+}
+
+# incomplete NAME PATHS: these directories as a cut-off update leaves them, by an expression on local_relpath
+incomplete() { sqlite3 $1/.svn/wc.db "update nodes set presence = 'incomplete' where kind = 'dir' and $2"; }
+
 make_false_copies
 for name in $false_copies; do
     database $name $name.db
@@ -32,10 +44,38 @@ svn -q checkout -r 2 "$url" mixed
 svn -q update -r 1 mixed/branch mixed/doc
 svn switch -q --ignore-ancestry -r 2 "$url/branch/a@2" mixed/lib/a
 svn -q update -r 4 mixed/lib/sub
-database mixed mixed.db
-svn update mixed | sed -n 's|^\([ADU ][U ]   \)mixed/|\1|p; s|^\([ADU ][U ]   \)mixed$|\1.|p' | LC_ALL=C sort >mixed.lines
-database mixed mixed.after.db
-svnadmin dump -q mixed.repo >mixed.dump
-: >mixed.untrue
+updated mixed
+
+# an update that was cut off: all directories but two are incomplete, and one of them has the revision that it was on its way to. Of each that has properties
+# before or after, something in it changes or (`_alone`) nothing.
+repository cut_off
+(
+    cd cut_off.work
+    for directory in same same_alone other other_alone gone gone_alone gained gained_alone fewer none none_alone deep deep/none whole whole/none ahead; do
+        mkdir $directory && echo a >$directory/f && svn -q add $directory
+    done
+    svn -q propset p 1 . same same_alone other other_alone gone gone_alone fewer deep whole ahead && svn -q propset q 1 fewer
+)
+commit_in cut_off
+(
+    cd cut_off.work
+    for file in same/f other/f gone/f gained/f fewer/f none/f deep/none/f whole/none/f ahead/f; do echo b >$file; done
+    svn -q propset p 2 other other_alone gained gained_alone && svn -q propset q 2 fewer && svn -q propdel p . gone gone_alone fewer deep whole ahead
+)
+commit_in cut_off
+svn -q checkout -r 1 "$url" cut_off
+incomplete cut_off "local_relpath not like 'whole%'"
+sqlite3 cut_off/.svn/wc.db "update nodes set revision = 2 where local_relpath = 'ahead'"
+updated cut_off
+
+# one whose root loses its property, and nothing else changes
+repository cut_off_alone
+svn -q propset p 1 cut_off_alone.work
+commit_in cut_off_alone
+svn -q propdel p cut_off_alone.work
+commit_in cut_off_alone
+svn -q checkout -r 1 "$url" cut_off_alone
+incomplete cut_off_alone "local_relpath = ''"
+updated cut_off_alone
 
 cp -- *.dump *.db *.untrue *.lines "$data"

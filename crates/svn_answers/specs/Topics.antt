@@ -12,6 +12,7 @@ use Rattle.svn_editor.specs.Lines.{call_line}
 use Rattle.svn_report.specs.Lines.{report_text}
 use Rattle.svn_model.specs.declared.base_node.BaseNode.{BaseNode}
 use Rattle.svn_model.specs.Crawl.{crawl}
+use Rattle.svn_model.specs.Nodes.{get_in}
 use Rattle.svn_drive.specs.declared.request.Request.{Request}
 use Rattle.svn_drive.specs.Requests.{requested, drive_for}
 use Rattle.svn_audit.specs.Lines.{update_lines}
@@ -42,7 +43,7 @@ pub record AreSortedLines (texts : List (List ℕ)) (text : List ℕ) : Type 0 w
 
 abbrev pub IsTopicText : History → List (Path × BaseNode) → Topic → List ℕ → Type 0
 IsTopicText h nodes Report text = text ≡ report_text (crawl nodes)
-IsTopicText h nodes (Update rev) text = AreSortedLines (map line_text (update_lines (calls_to h nodes rev))) text
+IsTopicText h nodes (Update rev) text = AreSortedLines (map line_text (update_lines (get_in nodes) (calls_to h nodes rev))) text
 IsTopicText h nodes (Calls rev) text = text ≡ flat_map (λ c. line (call_line c)) (calls_to h nodes rev)
 -- only tested
 IsTopicText h nodes (Nodes rev) text = Unit {0}

@@ -4,6 +4,7 @@ ghost use Rattle.std.specs.Io.KnownBytes.{Appends};
 ghost use Rattle.svn_editor.specs.Lines.{call_line};
 ghost use Rattle.svn_report.specs.Lines.{report_text};
 ghost use Rattle.svn_model.specs.Crawl.{crawl};
+ghost use Rattle.svn_model.specs.Nodes.{get_in};
 ghost use Rattle.svn_wc.specs.Lines.{copy_text};
 ghost use Rattle.svn_audit.specs.Lines.{update_lines};
 ghost use Rattle.svn_audit.specs.Printing.{line_text};
@@ -67,13 +68,17 @@ fn calls_to(
     }
 }
 
-// The lines of an update, in byte order.
-fn sorted_lines(alloc: Global, calls: &[Call]) -> Result<Vec<String>, TopicFault>
-    ensures same { IfOk result (λ lines. IsPermutation (map line_text (update_lines calls.now)) (map string_bytes lines.items)) }
+// The lines of an update of a copy, in byte order.
+fn sorted_lines(
+    alloc: Global,
+    copy: &WorkingCopy,
+    calls: &[Call],
+) -> Result<Vec<String>, TopicFault>
+    ensures same { IfOk result (λ lines. IsPermutation (map line_text (update_lines (get_in copy.now) calls.now)) (map string_bytes lines.items)) }
     ensures sorted { IfOk result (λ lines. IsSorted string_cmp lines.items) }
 {
     let mut texts = Vec::new(alloc);
-    for line in &update_lines(alloc, calls)? {
+    for line in &update_lines(alloc, copy, calls)? {
         texts.push(format!(in alloc; "{line}")?)?;
     }
     texts.sort_unstable();
@@ -159,7 +164,7 @@ fn write_unflushed<W: Write>(
         Topic::Report => write_report(&crawled(alloc, copy)?, output),
         Topic::Update(rev) => {
             let calls = calls_to(alloc, repo, copy, rev)?;
-            let lines = sorted_lines(alloc, &calls)?;
+            let lines = sorted_lines(alloc, copy, &calls)?;
             write_lines(&lines, output)
         }
         Topic::Calls(rev) => {

@@ -1,5 +1,5 @@
 -- What the lines of an update say of its calls.
-use Rattle.std.proofs.Common.{◌≡◌, ℕ, suc, zero, Bool, true, false, ◌||◌, cond, List, [], ◌∷◌, ◌++◌, refl, sym, ◌∙◌, ap, subst}
+use Rattle.std.proofs.Common.{◌≡◌, ℕ, suc, zero, Bool, true, false, ◌&&◌, ◌||◌, cond, List, [], ◌∷◌, ◌++◌, refl, sym, ◌∙◌, ap, subst}
 use Rattle.std.proofs.Common.{append_assoc, true≢false}
 use Rattle.std.specs.Prelude.{Option, Some, None}
 use Rattle.std.specs.List.{AllByRecursion, list_any}
@@ -14,8 +14,9 @@ use Rattle.svn_editor.specs.declared.call.Call.TheVariants.{SetTargetRevision, O
 use Rattle.svn_editor.specs.declared.call.Call.TheVariants.{ChangeDirProp, CloseDirectory, AddFile, OpenFile, ChangeFileProp, ApplyText}
 use Rattle.svn_editor.specs.declared.call.Call.TheVariants.{CloseFile, CloseEdit, AbortEdit}
 use Rattle.svn_editor.specs.Calls.{applies_text}
+use Rattle.svn_model.specs.Nodes.{WorkingCopy}
 use Rattle.svn_audit.specs.declared.lines.UpdateLine.{UpdateLine}
-use Rattle.svn_audit.specs.Lines.{begins, opened, opened_path, changes_props, changed_line, closed_line, line_at}
+use Rattle.svn_audit.specs.Lines.{begins, opened, opened_path, changes_props, has_old_props, changed_line, opened_line, closed_line, line_at}
 use Rattle.svn_audit.specs.Lines.{lines_after, changes, has_path, no_change_no_line, lines_have_paths_of_calls}
 
 -- what passes among the calls of a token passes among all
@@ -78,46 +79,48 @@ prop_changes t (CloseFile token text_md5) h = h
 prop_changes t CloseEdit h = h
 prop_changes t AbortEdit h = h
 
-closed_none : (t : ℕ) (since : List Call) → list_any changes since ≡ false → closed_line t since ≡ []
-closed_none t [] h = refl
-closed_none t (c ∷ since) h =
+closed_none : (w : WorkingCopy) (t : ℕ) (since : List Call) → list_any changes since ≡ false → closed_line w t since ≡ []
+closed_none w t [] h = refl
+closed_none w t (c ∷ since) h =
     let rest = (or_parts (changes c) (list_any changes since) h).1 in
-    ap (λ b. changed_line (opened_path c) b (list_any (changes_props t) since)) (none_such (applies_text t) (text_changes t) since rest)
-    ∙ ap (changed_line (opened_path c) false) (none_such (changes_props t) (prop_changes t) since rest)
+    ap (λ b. opened_line w (opened_path c) b (list_any (changes_props t) since) (list_any changes since))
+    (none_such (applies_text t) (text_changes t) since rest)
+    ∙ ap (λ b. opened_line w (opened_path c) false b (list_any changes since)) (none_such (changes_props t) (prop_changes t) since rest)
+    ∙ ap (opened_line w (opened_path c) false false) rest
     ∙ none (opened_path c)
   where
-    none : (o : Option Path) → changed_line o false false ≡ []
+    none : (o : Option Path) → opened_line w o false false false ≡ []
     none None = refl
     none (Some p) = refl
 
 unchanged : (calls : List Call) (t : ℕ) → list_any changes calls ≡ false → list_any changes (opened calls t) ≡ false
 unchanged calls t h = false_from (list_any changes (opened calls t)) (λ k. true≢false (sym (opened_any changes calls t k) ∙ h))
 
-no_line : (before : List Call) (c : Call) → list_any changes before ≡ false → changes c ≡ false → line_at before c ≡ []
-no_line before (SetTargetRevision rev) h k = refl
-no_line before (OpenRoot base token) h k = refl
-no_line before (DeleteEntry path rev parent) h k = absurd (true≢false k)
-no_line before (AddDirectory path parent token) h k = absurd (true≢false k)
-no_line before (OpenDirectory path parent base token) h k = refl
-no_line before (ChangeDirProp token name value) h k = refl
-no_line before (CloseDirectory token) h k = closed_none token (opened before token) (unchanged before token h)
-no_line before (AddFile path parent token) h k = absurd (true≢false k)
-no_line before (OpenFile path parent base token) h k = refl
-no_line before (ChangeFileProp token name value) h k = refl
-no_line before (ApplyText token base_md5 text) h k = refl
-no_line before (CloseFile token text_md5) h k = closed_none token (opened before token) (unchanged before token h)
-no_line before CloseEdit h k = refl
-no_line before AbortEdit h k = refl
+no_line : (w : WorkingCopy) (before : List Call) (c : Call) → list_any changes before ≡ false → changes c ≡ false → line_at w before c ≡ []
+no_line w before (SetTargetRevision rev) h k = refl
+no_line w before (OpenRoot base token) h k = refl
+no_line w before (DeleteEntry path rev parent) h k = absurd (true≢false k)
+no_line w before (AddDirectory path parent token) h k = absurd (true≢false k)
+no_line w before (OpenDirectory path parent base token) h k = refl
+no_line w before (ChangeDirProp token name value) h k = refl
+no_line w before (CloseDirectory token) h k = closed_none w token (opened before token) (unchanged before token h)
+no_line w before (AddFile path parent token) h k = absurd (true≢false k)
+no_line w before (OpenFile path parent base token) h k = refl
+no_line w before (ChangeFileProp token name value) h k = refl
+no_line w before (ApplyText token base_md5 text) h k = refl
+no_line w before (CloseFile token text_md5) h k = closed_none w token (opened before token) (unchanged before token h)
+no_line w before CloseEdit h k = refl
+no_line w before AbortEdit h k = refl
 
-no_lines : (before calls : List Call) → list_any changes before ≡ false → list_any changes calls ≡ false → lines_after before calls ≡ []
-no_lines before [] h k = refl
-no_lines before (c ∷ calls) h k =
+no_lines : (w : WorkingCopy) (before calls : List Call) → list_any changes before ≡ false → list_any changes calls ≡ false → lines_after w before calls ≡ []
+no_lines w before [] h k = refl
+no_lines w before (c ∷ calls) h k =
     let parts = or_parts (changes c) (list_any changes calls) k in
-    ap (λ ls. ls ++ lines_after (before ++ c ∷ []) calls) (no_line before c h parts.0)
-    ∙ no_lines (before ++ c ∷ []) calls (any_still changes before c parts.0 ∙ h) parts.1
+    ap (λ ls. ls ++ lines_after w (before ++ c ∷ []) calls) (no_line w before c h parts.0)
+    ∙ no_lines w (before ++ c ∷ []) calls (any_still changes before c parts.0 ∙ h) parts.1
 
 pub no_change_prints_nothing : no_change_no_line
-no_change_prints_nothing calls h = no_lines [] calls refl h
+no_change_prints_nothing w calls h = no_lines w [] calls refl h
 
 -- ---- each line has the path of a call
 
@@ -148,50 +151,54 @@ at_once : (before : List Call) (c : Call) (rest : List Call) (p : Path) → has_
 at_once [] c rest p h = or_left (has_path p c) (list_any (has_path p) rest) h
 at_once (x ∷ before) c rest p h = or_right (has_path p x) (list_any (has_path p) (before ++ c ∷ rest)) (at_once before c rest p h)
 
-closed_has_path : (t : ℕ) (calls since : List Call) → ((p : Path) → list_any (has_path p) since ≡ true → list_any (has_path p) calls ≡ true)
-    → HavePaths calls (closed_line t since)
-closed_has_path t calls [] h = tt
-closed_has_path t calls (c ∷ since) h =
-    by (opened_path c) (list_any (applies_text t) since) (list_any (changes_props t) since)
-    (λ p e. h p (or_left (has_path p c) (list_any (has_path p) since) (opened_has_path c p e)))
+closed_has_path : (w : WorkingCopy) (t : ℕ) (calls since : List Call) → ((p : Path) → list_any (has_path p) since ≡ true → list_any (has_path p) calls ≡ true)
+    → HavePaths calls (closed_line w t since)
+closed_has_path w t calls [] h = tt
+closed_has_path w t calls (c ∷ since) h =
+    by (opened_path c) (λ p e. h p (or_left (has_path p c) (list_any (has_path p) since) (opened_has_path c p e)))
   where
-    by : (o : Option Path) (text props : Bool) → ((p : Path) → o ≡ Some p → list_any (has_path p) calls ≡ true)
-        → HavePaths calls (changed_line o text props)
-    by None text props k = tt
-    by (Some p) true props k = (k p refl, tt)
-    by (Some p) false true k = (k p refl, tt)
-    by (Some p) false false k = tt
+    at : (p : Path) (text props : Bool) → list_any (has_path p) calls ≡ true → HavePaths calls (changed_line p text props)
+    at p true props k = (k, tt)
+    at p false true k = (k, tt)
+    at p false false k = tt
+
+    by : (o : Option Path) → ((p : Path) → o ≡ Some p → list_any (has_path p) calls ≡ true)
+        → HavePaths calls (opened_line w o (list_any (applies_text t) since) (list_any (changes_props t) since) (list_any changes since))
+    by None k = tt
+    by (Some p) k =
+        at p (list_any (applies_text t) since)
+        (list_any (changes_props t) since || (list_any changes since && has_old_props (w p))) (k p refl)
 
 of_opened : (before rest : List Call) (t : ℕ) (p : Path) → list_any (has_path p) (opened before t) ≡ true
     → list_any (has_path p) (before ++ rest) ≡ true
 of_opened before rest t p h = in_whole (has_path p) before rest (opened_any (has_path p) before t h)
 
-at_has_path : (before : List Call) (c : Call) (rest : List Call) → HavePaths (before ++ c ∷ rest) (line_at before c)
-at_has_path before (SetTargetRevision rev) rest = tt
-at_has_path before (OpenRoot base token) rest = tt
-at_has_path before (DeleteEntry path rev parent) rest = (at_once before (DeleteEntry path rev parent) rest path (path_eq-same path), tt)
-at_has_path before (AddDirectory path parent token) rest =
+at_has_path : (w : WorkingCopy) (before : List Call) (c : Call) (rest : List Call) → HavePaths (before ++ c ∷ rest) (line_at w before c)
+at_has_path w before (SetTargetRevision rev) rest = tt
+at_has_path w before (OpenRoot base token) rest = tt
+at_has_path w before (DeleteEntry path rev parent) rest = (at_once before (DeleteEntry path rev parent) rest path (path_eq-same path), tt)
+at_has_path w before (AddDirectory path parent token) rest =
     (at_once before (AddDirectory path parent token) rest path (or_left (path_eq path path) false (path_eq-same path)), tt)
-at_has_path before (OpenDirectory path parent base token) rest = tt
-at_has_path before (ChangeDirProp token name value) rest = tt
-at_has_path before (CloseDirectory token) rest =
-    closed_has_path token (before ++ CloseDirectory token ∷ rest) (opened before token) (of_opened before (CloseDirectory token ∷ rest) token)
-at_has_path before (AddFile path parent token) rest =
+at_has_path w before (OpenDirectory path parent base token) rest = tt
+at_has_path w before (ChangeDirProp token name value) rest = tt
+at_has_path w before (CloseDirectory token) rest =
+    closed_has_path w token (before ++ CloseDirectory token ∷ rest) (opened before token) (of_opened before (CloseDirectory token ∷ rest) token)
+at_has_path w before (AddFile path parent token) rest =
     (at_once before (AddFile path parent token) rest path (or_left (path_eq path path) false (path_eq-same path)), tt)
-at_has_path before (OpenFile path parent base token) rest = tt
-at_has_path before (ChangeFileProp token name value) rest = tt
-at_has_path before (ApplyText token base_md5 text) rest = tt
-at_has_path before (CloseFile token text_md5) rest =
-    closed_has_path token (before ++ CloseFile token text_md5 ∷ rest) (opened before token) (of_opened before (CloseFile token text_md5 ∷ rest) token)
-at_has_path before CloseEdit rest = tt
-at_has_path before AbortEdit rest = tt
+at_has_path w before (OpenFile path parent base token) rest = tt
+at_has_path w before (ChangeFileProp token name value) rest = tt
+at_has_path w before (ApplyText token base_md5 text) rest = tt
+at_has_path w before (CloseFile token text_md5) rest =
+    closed_has_path w token (before ++ CloseFile token text_md5 ∷ rest) (opened before token) (of_opened before (CloseFile token text_md5 ∷ rest) token)
+at_has_path w before CloseEdit rest = tt
+at_has_path w before AbortEdit rest = tt
 
-all_have_paths : (before calls : List Call) → HavePaths (before ++ calls) (lines_after before calls)
-all_have_paths before [] = tt
-all_have_paths before (c ∷ calls) =
-    both (before ++ c ∷ calls) (line_at before c) (lines_after (before ++ c ∷ []) calls) (at_has_path before c calls)
-    (subst (λ xs. HavePaths xs (lines_after (before ++ c ∷ []) calls)) (append_assoc before (c ∷ []) calls)
-    (all_have_paths (before ++ c ∷ []) calls))
+all_have_paths : (w : WorkingCopy) (before calls : List Call) → HavePaths (before ++ calls) (lines_after w before calls)
+all_have_paths w before [] = tt
+all_have_paths w before (c ∷ calls) =
+    both (before ++ c ∷ calls) (line_at w before c) (lines_after w (before ++ c ∷ []) calls) (at_has_path w before c calls)
+    (subst (λ xs. HavePaths xs (lines_after w (before ++ c ∷ []) calls)) (append_assoc before (c ∷ []) calls)
+    (all_have_paths w (before ++ c ∷ []) calls))
 
 pub lines_have_paths : lines_have_paths_of_calls
-lines_have_paths calls = all_have_paths [] calls
+lines_have_paths w calls = all_have_paths w [] calls

@@ -1,32 +1,34 @@
 -- What one more call makes of the lines of an update, and of what is held of its tokens.
 use Rattle.std.proofs.Common.{◌≡◌, ℕ, suc, zero, ◌+◌, ◌-◌, ◌<◌, ◌≤◌, Bool, true, false, ◌||◌, cond, List, [], ◌∷◌, ◌++◌, length, refl, sym, ◌∙◌, ap}
-use Rattle.std.proofs.Common.{append_assoc, arith, get_or, set, true≢false}
-use Rattle.std.specs.Prelude.{Option, Some, None, is_some, slice_get, nat_eq}
+use Rattle.std.proofs.Common.{append_assoc, arith, get_or, set, true≢false, ◌⊎◌, inl, inr}
+use Rattle.std.specs.Prelude.{Option, Some, None, is_some, slice_get, nat_eq, nat_lt}
 use Rattle.std.specs.Option.{option_map, option_or}
 use Rattle.std.specs.List.{list_any, cons_option}
 use Rattle.std.proofs.lemmas.List.{append-nil, length_push}
-use Rattle.std.proofs.lemmas.Option.{none-some}
+use Rattle.std.proofs.lemmas.Bool.{lt-ltb, le-ltb}
+use Rattle.std.proofs.lemmas.Option.{none-some, slice_get_cases}
 use Rattle.std.proofs.Math.Bool.{or-false, or-true}
 use Rattle.std.proofs.Math.Dec.{eqb-zero-suc, eqb-suc-zero, eqb-suc-suc}
 use Rattle.svn_lists.proofs.Somewhere.{any_push}
 use Rattle.svn_editor.specs.declared.call.Call.{Call}
 use Rattle.svn_editor.specs.Calls.{Given, given_by, all_given, applies_text}
 use Rattle.svn_editor.proofs.OneMore.{given_none, given_one}
+use Rattle.svn_model.specs.Nodes.{WorkingCopy}
 use Rattle.svn_audit.specs.declared.lines.UpdateLine.{UpdateLine}
 use Rattle.svn_audit.specs.declared.lines.Opened.{Opened}
 use Rattle.svn_audit.specs.declared.lines.Noted.{Noted}
-use Rattle.svn_audit.specs.Lines.{begins, opened, opened_path, changes_props, closed_line, line_at, lines_after}
-use Rattle.svn_audit.specs.NotedLines.{line_of_node, new_node, with_text, with_props, node_of, IsNoted}
+use Rattle.svn_audit.specs.Lines.{begins, opened, opened_path, changes_props, changes, closed_line, line_at, lines_after}
+use Rattle.svn_audit.specs.NotedLines.{line_of_node, new_node, with_text, with_props, node_of, is_edited, edited_after, IsNoted, KnowsEdits}
 
 -- ---- lines
 
-lines-more : (before calls : List Call) (c : Call)
-    → lines_after before (calls ++ c ∷ []) ≡ lines_after before calls ++ line_at (before ++ calls) c
-lines-more before [] c = append-nil (line_at before c) ∙ ap (λ b. line_at b c) (sym (append-nil before))
-lines-more before (x ∷ calls) c =
-    ap (λ ls. line_at before x ++ ls) (lines-more (before ++ x ∷ []) calls c)
-    ∙ sym (append_assoc (line_at before x) (lines_after (before ++ x ∷ []) calls) (line_at ((before ++ x ∷ []) ++ calls) c))
-    ∙ ap (λ b. (line_at before x ++ lines_after (before ++ x ∷ []) calls) ++ line_at b c) (append_assoc before (x ∷ []) calls)
+lines-more : (w : WorkingCopy) (before calls : List Call) (c : Call)
+    → lines_after w before (calls ++ c ∷ []) ≡ lines_after w before calls ++ line_at w (before ++ calls) c
+lines-more w before [] c = append-nil (line_at w before c) ∙ ap (λ b. line_at w b c) (sym (append-nil before))
+lines-more w before (x ∷ calls) c =
+    ap (λ ls. line_at w before x ++ ls) (lines-more w (before ++ x ∷ []) calls c)
+    ∙ sym (append_assoc (line_at w before x) (lines_after w (before ++ x ∷ []) calls) (line_at w ((before ++ x ∷ []) ++ calls) c))
+    ∙ ap (λ b. (line_at w before x ++ lines_after w (before ++ x ∷ []) calls) ++ line_at w b c) (append_assoc before (x ∷ []) calls)
 
 -- ---- tokens
 
@@ -81,13 +83,13 @@ abbrev AreMore : List Opened → Call → List Opened → Type 0
 AreMore old c new =
     (t : ℕ) → slice_get new t ≡ option_or (option_map (after t c) (slice_get old t)) (node_of t (opened (c ∷ []) (t - length old)))
 
-noted-more : (calls : List Call) (c : Call) (old new : Noted) → IsNoted calls old
-    → new.lines.items ≡ old.lines.items ++ line_at calls c
+noted-more : (w : WorkingCopy) (calls : List Call) (c : Call) (old new : Noted) → IsNoted w calls old
+    → new.lines.items ≡ old.lines.items ++ line_at w calls c
     → length new.nodes.items ≡ length (all_given (calls ++ c ∷ []))
     → AreMore old.nodes.items c new.nodes.items
-    → IsNoted (calls ++ c ∷ []) new
-noted-more calls c old new was lines count nodes = record {
-  lines = lines ∙ ap (λ ls. ls ++ line_at calls c) was.lines ∙ sym (lines-more [] calls c);
+    → IsNoted w (calls ++ c ∷ []) new
+noted-more w calls c old new was lines count nodes = record {
+  lines = lines ∙ ap (λ ls. ls ++ line_at w calls c) was.lines ∙ sym (lines-more w [] calls c);
   count = count;
   nodes = λ t.
       nodes t
@@ -125,37 +127,37 @@ not_taken : (c : Call) (t d : ℕ) → given_by c ≡ None → node_of t (opened
 not_taken c t zero none = ap (λ (o : Option Given). node_of t (cond (is_some o) (c ∷ []) [])) none
 not_taken c t (suc d) none = ap (λ (o : Option Given). node_of t (cond (is_some o) [] [])) none
 
-noted-still : (calls : List Call) (c : Call) (old new : Noted) → IsNoted calls old → given_by c ≡ None
-    → new.lines.items ≡ old.lines.items ++ line_at calls c
+noted-still : (w : WorkingCopy) (calls : List Call) (c : Call) (old new : Noted) → IsNoted w calls old → given_by c ≡ None
+    → new.lines.items ≡ old.lines.items ++ line_at w calls c
     → ((t : ℕ) → slice_get new.nodes.items t ≡ option_map (after t c) (slice_get old.nodes.items t))
-    → IsNoted (calls ++ c ∷ []) new
-noted-still calls c old new was none lines nodes =
-    noted-more calls c old new was lines
+    → IsNoted w (calls ++ c ∷ []) new
+noted-still w calls c old new was none lines nodes =
+    noted-more w calls c old new was lines
     (same_length old.nodes.items new.nodes.items (λ t. after t c) nodes ∙ was.count ∙ ap length (sym (given_none calls c none)))
     (λ t. nodes t ∙ sym (or_none (option_map (after t c) (slice_get old.nodes.items t)))
     ∙ ap (option_or (option_map (after t c) (slice_get old.nodes.items t))) (sym (not_taken c t (t - length old.nodes.items) none)))
 
 -- a call that changes nothing that is held
-pub noted-plain : (calls : List Call) (c : Call) (old new : Noted) → IsNoted calls old → given_by c ≡ None → IsPlain c
-    → new.lines.items ≡ old.lines.items ++ line_at calls c → new.nodes.items ≡ old.nodes.items → IsNoted (calls ++ c ∷ []) new
-noted-plain calls c old new was none plain lines same =
-    noted-still calls c old new was none lines
+pub noted-plain : (w : WorkingCopy) (calls : List Call) (c : Call) (old new : Noted) → IsNoted w calls old → given_by c ≡ None → IsPlain c
+    → new.lines.items ≡ old.lines.items ++ line_at w calls c → new.nodes.items ≡ old.nodes.items → IsNoted w (calls ++ c ∷ []) new
+noted-plain w calls c old new was none plain lines same =
+    noted-still w calls c old new was none lines
     (λ t. ap (λ ns. slice_get ns t) same ∙ sym (after_plain t c plain (slice_get old.nodes.items t)))
 
 -- a call that prints nothing either
-pub noted-silent : (calls : List Call) (c : Call) (old new : Noted) → IsNoted calls old → given_by c ≡ None → IsPlain c
-    → line_at calls c ≡ [] → new.lines.items ≡ old.lines.items → new.nodes.items ≡ old.nodes.items → IsNoted (calls ++ c ∷ []) new
-noted-silent calls c old new was none plain silent lines same =
-    noted-plain calls c old new was none plain
+pub noted-silent : (w : WorkingCopy) (calls : List Call) (c : Call) (old new : Noted) → IsNoted w calls old → given_by c ≡ None → IsPlain c
+    → line_at w calls c ≡ [] → new.lines.items ≡ old.lines.items → new.nodes.items ≡ old.nodes.items → IsNoted w (calls ++ c ∷ []) new
+noted-silent w calls c old new was none plain silent lines same =
+    noted-plain w calls c old new was none plain
     (lines ∙ sym (append-nil old.lines.items) ∙ ap (λ ls. old.lines.items ++ ls) (sym silent)) same
 
 -- a call that gives a text
-pub noted-text : (calls : List Call) (c : Call) (old new : Noted) → IsNoted calls old → given_by c ≡ None → line_at calls c ≡ []
+pub noted-text : (w : WorkingCopy) (calls : List Call) (c : Call) (old new : Noted) → IsNoted w calls old → given_by c ≡ None → line_at w calls c ≡ []
     → ((t : ℕ) → changes_props t c ≡ false) → new.lines.items ≡ old.lines.items
     → ((t : ℕ) → slice_get new.nodes.items t ≡ option_map (with_text (applies_text t c)) (slice_get old.nodes.items t))
-    → IsNoted (calls ++ c ∷ []) new
-noted-text calls c old new was none silent plain lines nodes =
-    noted-still calls c old new was none
+    → IsNoted w (calls ++ c ∷ []) new
+noted-text w calls c old new was none silent plain lines nodes =
+    noted-still w calls c old new was none
     (lines ∙ sym (append-nil old.lines.items) ∙ ap (λ ls. old.lines.items ++ ls) (sym silent))
     (λ t. nodes t ∙ alone t (slice_get old.nodes.items t))
   where
@@ -166,12 +168,12 @@ noted-text calls c old new was none silent plain lines nodes =
         (sym (or-false n.props) ∙ ap (λ b. n.props || b) (sym (plain t)))
 
 -- a call that changes properties
-pub noted-props : (calls : List Call) (c : Call) (old new : Noted) → IsNoted calls old → given_by c ≡ None → line_at calls c ≡ []
+pub noted-props : (w : WorkingCopy) (calls : List Call) (c : Call) (old new : Noted) → IsNoted w calls old → given_by c ≡ None → line_at w calls c ≡ []
     → ((t : ℕ) → applies_text t c ≡ false) → new.lines.items ≡ old.lines.items
     → ((t : ℕ) → slice_get new.nodes.items t ≡ option_map (with_props (changes_props t c)) (slice_get old.nodes.items t))
-    → IsNoted (calls ++ c ∷ []) new
-noted-props calls c old new was none silent plain lines nodes =
-    noted-still calls c old new was none
+    → IsNoted w (calls ++ c ∷ []) new
+noted-props w calls c old new was none silent plain lines nodes =
+    noted-still w calls c old new was none
     (lines ∙ sym (append-nil old.lines.items) ∙ ap (λ ls. old.lines.items ++ ls) (sym silent))
     (λ t. nodes t ∙ alone t (slice_get old.nodes.items t))
   where
@@ -200,45 +202,88 @@ one_more calls c some = by (given_by c) refl some
     by None e h = absurd (true≢false (sym h))
     by (Some g) e h = ap length (given_one calls c g e) ∙ length_push (all_given calls) g
 
-noted-taken : (calls : List Call) (c : Call) (old new : Noted) → IsNoted calls old → begins c ≡ true → IsPlain c
-    → new.lines.items ≡ old.lines.items ++ line_at calls c
+noted-taken : (w : WorkingCopy) (calls : List Call) (c : Call) (old new : Noted) → IsNoted w calls old → begins c ≡ true → IsPlain c
+    → new.lines.items ≡ old.lines.items ++ line_at w calls c
     → new.nodes.items ≡ old.nodes.items ++ new_node (opened_path c) ∷ []
-    → IsNoted (calls ++ c ∷ []) new
-noted-taken calls c old new was some plain lines nodes =
-    noted-more calls c old new was lines
+    → IsNoted w (calls ++ c ∷ []) new
+noted-taken w calls c old new was some plain lines nodes =
+    noted-more w calls c old new was lines
     (ap length nodes ∙ length_push old.nodes.items (new_node (opened_path c)) ∙ ap (λ n. n + 1) was.count ∙ sym (one_more calls c some))
     (λ t. ap (λ ns. slice_get ns t) nodes ∙ get_push old.nodes.items (new_node (opened_path c)) t
     ∙ ap (λ o. option_or o (slice_get (new_node (opened_path c) ∷ []) (t - length old.nodes.items)))
     (sym (after_plain t c plain (slice_get old.nodes.items t)))
     ∙ ap (option_or (option_map (after t c) (slice_get old.nodes.items t))) (sym (this_node c t (t - length old.nodes.items) some)))
 
-pub noted-opened : (calls : List Call) (c : Call) (old new : Noted) → IsNoted calls old → begins c ≡ true → IsPlain c
-    → line_at calls c ≡ [] → new.lines.items ≡ old.lines.items
+pub noted-opened : (w : WorkingCopy) (calls : List Call) (c : Call) (old new : Noted) → IsNoted w calls old → begins c ≡ true → IsPlain c
+    → line_at w calls c ≡ [] → new.lines.items ≡ old.lines.items
     → new.nodes.items ≡ old.nodes.items ++ new_node (opened_path c) ∷ []
-    → IsNoted (calls ++ c ∷ []) new
-noted-opened calls c old new was some plain silent lines nodes =
-    noted-taken calls c old new was some plain
+    → IsNoted w (calls ++ c ∷ []) new
+noted-opened w calls c old new was some plain silent lines nodes =
+    noted-taken w calls c old new was some plain
     (lines ∙ sym (append-nil old.lines.items) ∙ ap (λ ls. old.lines.items ++ ls) (sym silent)) nodes
 
-pub noted-added : (calls : List Call) (c : Call) (old new : Noted) → IsNoted calls old → begins c ≡ true → IsPlain c
-    → (lines : List UpdateLine) → line_at calls c ≡ lines → new.lines.items ≡ old.lines.items ++ lines
+pub noted-added : (w : WorkingCopy) (calls : List Call) (c : Call) (old new : Noted) → IsNoted w calls old → begins c ≡ true → IsPlain c
+    → (lines : List UpdateLine) → line_at w calls c ≡ lines → new.lines.items ≡ old.lines.items ++ lines
     → new.nodes.items ≡ old.nodes.items ++ new_node (opened_path c) ∷ []
-    → IsNoted (calls ++ c ∷ []) new
-noted-added calls c old new was some plain ls here lines nodes =
-    noted-taken calls c old new was some plain (lines ∙ ap (λ ms. old.lines.items ++ ms) (sym here)) nodes
+    → IsNoted w (calls ++ c ∷ []) new
+noted-added w calls c old new was some plain ls here lines nodes =
+    noted-taken w calls c old new was some plain (lines ∙ ap (λ ms. old.lines.items ++ ms) (sym here)) nodes
 
 -- the line of a node's close
-node_line : (t : ℕ) (since : List Call) → line_of_node (node_of t since) ≡ closed_line t since
-node_line t [] = refl
-node_line t (c ∷ since) = refl
+node_line : (w : WorkingCopy) (t : ℕ) (since : List Call) → line_of_node w (is_edited since) (node_of t since) ≡ closed_line w t since
+node_line w t [] = refl
+node_line w t (c ∷ since) = refl
 
-pub noted-closed : (calls : List Call) (c : Call) (old new : Noted) (t : ℕ) → IsNoted calls old → given_by c ≡ None → IsPlain c
-    → line_at calls c ≡ closed_line t (opened calls t)
-    → new.lines.items ≡ old.lines.items ++ line_of_node (slice_get old.nodes.items t) → new.nodes.items ≡ old.nodes.items
-    → IsNoted (calls ++ c ∷ []) new
-noted-closed calls c old new t was none plain here lines same =
-    noted-plain calls c old new was none plain
-    (lines ∙ ap (λ ms. old.lines.items ++ ms) (ap line_of_node (was.nodes t) ∙ node_line t (opened calls t) ∙ sym here)) same
+pub noted-closed : (w : WorkingCopy) (calls : List Call) (c : Call) (old new : Noted) (t : ℕ) → IsNoted w calls old → KnowsEdits calls old.edited
+    → given_by c ≡ None → IsPlain c
+    → line_at w calls c ≡ closed_line w t (opened calls t)
+    → new.lines.items ≡ old.lines.items ++ line_of_node w (nat_lt t old.edited) (slice_get old.nodes.items t) → new.nodes.items ≡ old.nodes.items
+    → IsNoted w (calls ++ c ∷ []) new
+noted-closed w calls c old new t was edits none plain here lines same =
+    noted-plain w calls c old new was none plain
+    (lines ∙ ap (λ ms. old.lines.items ++ ms)
+    (ap (λ b. line_of_node w b (slice_get old.nodes.items t)) (edits t) ∙ ap (line_of_node w (is_edited (opened calls t))) (was.nodes t)
+    ∙ node_line w t (opened calls t) ∙ sym here)) same
+
+-- ---- what is edited
+
+in_list : (xs : List Opened) (t : ℕ) → nat_lt t (length xs) ≡ is_some (slice_get xs t)
+in_list xs t = by (slice_get_cases xs t).1
+  where
+    by : ((x : Opened) × (t < length xs) × (slice_get xs t ≡ Some x) × (get_or xs t x ≡ x)) ⊎ ((length xs ≤ t) × (slice_get xs t ≡ None))
+        → nat_lt t (length xs) ≡ is_some (slice_get xs t)
+    by (inl h) = lt-ltb t (length xs) h.1 ∙ sym (ap is_some h.2)
+    by (inr h) = le-ltb t (length xs) h.0 ∙ sym (ap is_some h.1)
+
+unedited : (c : Call) (d : ℕ) → is_edited (opened (c ∷ []) d) ≡ false
+unedited c zero = by (begins c)
+  where
+    by : (b : Bool) → is_edited (cond b (c ∷ []) []) ≡ false
+    by true = refl
+    by false = refl
+unedited c (suc d) = by (begins c)
+  where
+    by : (b : Bool) → is_edited (cond b [] []) ≡ false
+    by true = refl
+    by false = refl
+
+pub edits-more : (w : WorkingCopy) (calls : List Call) (c : Call) (old : Noted) → IsNoted w calls old → KnowsEdits calls old.edited
+    → KnowsEdits (calls ++ c ∷ []) (edited_after old c)
+unfolding later
+edits-more w calls c old was edits t =
+    by (opened calls t) (changes c) refl (was.nodes t) (edits t) ∙ ap is_edited (sym (opened-more calls c t))
+  where
+    new : List Call
+    new = opened (c ∷ []) (t - length (all_given calls))
+
+    by : (since : List Call) (b : Bool) → changes c ≡ b → slice_get old.nodes.items t ≡ node_of t since → nat_lt t old.edited ≡ is_edited since
+        → nat_lt t (cond b (length old.nodes.items) old.edited) ≡ is_edited (later since c new)
+    by [] true e n m = in_list old.nodes.items t ∙ ap is_some n ∙ sym (unedited c (t - length (all_given calls)))
+    by [] false e n m = m ∙ sym (unedited c (t - length (all_given calls)))
+    by (x ∷ since) true e n m =
+        in_list old.nodes.items t ∙ ap is_some n ∙ sym (any_push changes since c ∙ ap (λ b. list_any changes since || b) e ∙ or-true (list_any changes since))
+    by (x ∷ since) false e n m =
+        m ∙ sym (any_push changes since c ∙ ap (λ b. list_any changes since || b) e ∙ or-false (list_any changes since))
 
 -- ---- one node marked
 

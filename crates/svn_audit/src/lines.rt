@@ -1,15 +1,18 @@
 //! The lines that an update prints.
-ghost use Rattle.std.specs.Prelude.{◌≡◌, ℕ, ◌++◌, ◌∷◌, [], List, IfOk, OnOk, Some, nat_eq, slice_get};
+ghost use Rattle.std.specs.Prelude.{◌≡◌, ℕ, ◌++◌, ◌∷◌, [], List, IfOk, OnOk, Some, nat_eq, nat_lt, slice_get};
 ghost use Rattle.std.specs.Option.{option_map};
 ghost use Rattle.svn_editor.specs.declared.call.Call.{Call};
-ghost use Rattle.svn_audit.specs.Lines.{line_of, changed_line, update_lines, no_change_no_line, lines_have_paths_of_calls};
+ghost use Rattle.svn_model.specs.Nodes.{get_in};
+ghost use Rattle.svn_audit.specs.Lines.{line_of, changes, has_old_props, changed_line, opened_line, update_lines, no_change_no_line, lines_have_paths_of_calls};
 ghost use Rattle.svn_audit.specs.Printing.{node_letter, props_letter, line_text};
-ghost use Rattle.svn_audit.specs.NotedLines.{line_of_node, new_node, with_text, with_props, IsNoted};
+ghost use Rattle.svn_audit.specs.NotedLines.{line_of_node, new_node, with_text, with_props, edited_after, IsNoted, KnowsEdits};
 
 use std::alloc::{AllocError, Global};
 use std::fmt;
 use svn_editor::{Call, Token};
+use svn_model::BaseNode;
 use svn_types::RelPath;
+use svn_wc::WorkingCopy;
 
 /// What an update does to a node.
 #[derive(Clone, Copy, Debug, PartialEq, Eq)]
@@ -82,7 +85,39 @@ struct Opened {
 struct Noted {
     /// Each node that was opened or added, by its token: tokens are 0, 1, 2 and so on.
     nodes: Vec<Opened>,
+    /// How many nodes were opened or added before the last call that changes something: each of them has a change since.
+    edited: usize,
     lines: Vec<UpdateLine>,
+}
+
+// Whether a call deletes, adds or changes.
+fn is_change(call: &Call) -> bool
+    ensures { result ≡ changes call.now }
+{
+    match call {
+        Call::DeleteEntry { .. } | Call::AddDirectory { .. } | Call::AddFile { .. } => true,
+        Call::ChangeDirProp { .. } | Call::ChangeFileProp { .. } | Call::ApplyText { .. } => true,
+        Call::SetTargetRevision { .. } | Call::OpenRoot { .. } | Call::OpenDirectory { .. } =>
+            false,
+        Call::OpenFile { .. } | Call::CloseDirectory { .. } | Call::CloseFile { .. } => false,
+        Call::CloseEdit | Call::AbortEdit => false,
+    }
+}
+
+// Whether a copy has an incomplete directory with properties at a path.
+fn has_old_props(copy: &WorkingCopy, path: &RelPath) -> bool
+    ensures { result ≡ has_old_props (get_in copy.now path.now) }
+{
+    match copy.get(path) {
+        Some(
+            BaseNode::Dir {
+                complete,
+                props,
+                ..
+            },
+        ) => !*complete && !props.is_empty(),
+        Some(_) | None => false,
+    }
 }
 
 fn begin(nodes: &mut Vec<Opened>, path: Option<RelPath>) -> Result<(), AllocError>
@@ -129,35 +164,57 @@ fn push_line(
     Ok(())
 }
 
-// The line of a node at its close: a changed one's.
-fn push_changed(lines: &mut Vec<UpdateLine>, opened: &Opened) -> Result<(), AllocError>
-    ensures { OnOk result (lines.new.items ≡ lines.old.items ++ changed_line opened.now.path opened.now.text opened.now.props) }
+// The line of a node whose text or properties were changed.
+fn push_changed(
+    lines: &mut Vec<UpdateLine>,
+    path: &RelPath,
+    text: bool,
+    props: bool,
+) -> Result<(), AllocError>
+    ensures { OnOk result (lines.new.items ≡ lines.old.items ++ changed_line path.now text props) }
 {
-    let Some(path) = &opened.path else {
-        return Ok(());
-    };
-    if opened.text || opened.props {
-        let node = if opened.text {
+    if text || props {
+        let node = if text {
             NodeChange::Updated
         } else {
             NodeChange::Unchanged
         };
         lines.push(UpdateLine {
             node,
-            props: opened.props,
+            props,
             path: path.clone()?,
         })?;
     }
     Ok(())
 }
 
+// The line of a node at its close, if it was there before.
+fn push_opened(
+    lines: &mut Vec<UpdateLine>,
+    copy: &WorkingCopy,
+    opened: &Opened,
+    edited: bool,
+) -> Result<(), AllocError>
+    ensures { OnOk result (lines.new.items ≡ lines.old.items ++ opened_line (get_in copy.now) opened.now.path opened.now.text opened.now.props edited) }
+{
+    match &opened.path {
+        Some(path) => {
+            let props = opened.props || (edited && has_old_props(copy, path));
+            push_changed(lines, path, opened.text, props)
+        }
+        None => Ok(()),
+    }
+}
+
 impl Noted {
-    fn close(&mut self, token: Token) -> Result<(), AllocError>
+    fn close(&mut self, copy: &WorkingCopy, token: Token) -> Result<(), AllocError>
         ensures nodes { self.new.nodes.items ≡ self.old.nodes.items }
-        ensures lines { OnOk result (self.new.lines.items ≡ self.old.lines.items ++ line_of_node (slice_get self.old.nodes.items token)) }
+        ensures lines { OnOk result (self.new.lines.items ≡ self.old.lines.items ++ line_of_node (get_in copy.now) (nat_lt token self.old.edited) (slice_get self.old.nodes.items token)) }
     {
-        match self.nodes.get(token.0 as usize) {
-            Some(opened) => push_changed(&mut self.lines, opened),
+        let place = token.0 as usize;
+        let edited = place < self.edited;
+        match self.nodes.get(place) {
+            Some(opened) => push_opened(&mut self.lines, copy, opened, edited),
             None => Ok(()),
         }
     }
@@ -178,8 +235,20 @@ impl Noted {
         begin(&mut self.nodes, None)
     }
 
-    fn note(&mut self, alloc: Global, call: &Call) -> Result<(), AllocError>
-        ensures { OnOk result ((calls : List Call) → IsNoted calls self.old → IsNoted (calls ++ call.now ∷ []) self.new) }
+    // How many nodes were opened or added before the last change, this call included.
+    fn edited_after(&self, call: &Call) -> usize
+        ensures { result ≡ edited_after self.now call.now }
+    {
+        if is_change(call) {
+            self.nodes.len()
+        } else {
+            self.edited
+        }
+    }
+
+    // Notes a call, but for whether it is a change.
+    fn take(&mut self, alloc: Global, copy: &WorkingCopy, call: &Call) -> Result<(), AllocError>
+        ensures { OnOk result ((calls : List Call) → IsNoted (get_in copy.now) calls self.old → KnowsEdits calls self.old.edited → IsNoted (get_in copy.now) (calls ++ call.now ∷ []) self.new) }
     {
         match call {
             Call::OpenRoot { .. } => begin(&mut self.nodes, Some(RelPath::root(alloc))),
@@ -202,28 +271,48 @@ impl Noted {
                 set_props(&mut self.nodes, *token);
                 Ok(())
             }
-            Call::CloseDirectory { token } => self.close(*token),
-            Call::CloseFile { token, .. } => self.close(*token),
+            Call::CloseDirectory { token } => self.close(copy, *token),
+            Call::CloseFile { token, .. } => self.close(copy, *token),
             Call::SetTargetRevision { .. } => Ok(()),
             Call::CloseEdit => Ok(()),
             Call::AbortEdit => Ok(()),
         }
     }
+
+    fn note(&mut self, alloc: Global, copy: &WorkingCopy, call: &Call) -> Result<(), AllocError>
+        ensures noted { OnOk result ((calls : List Call) → IsNoted (get_in copy.now) calls self.old → KnowsEdits calls self.old.edited → IsNoted (get_in copy.now) (calls ++ call.now ∷ []) self.new) }
+        ensures edits { OnOk result ((calls : List Call) → IsNoted (get_in copy.now) calls self.old → KnowsEdits calls self.old.edited → KnowsEdits (calls ++ call.now ∷ []) self.new.edited) }
+    {
+        let edited = self.edited_after(call);
+        self.take(alloc, copy, call)?;
+        self.edited = edited;
+        Ok(())
+    }
 }
 
-/// The lines that an update prints which makes these calls, in their order: an added node's at its add, a deleted one's at its delete, and that of a
-/// node that was there before at its close, if its text or its properties were changed. AllocError where an allocation failed.
-pub fn update_lines(alloc: Global, calls: &[Call]) -> Result<Vec<UpdateLine>, AllocError>
-    ensures lines { IfOk result (λ lines. lines.items ≡ update_lines calls.now) }
+/// The lines that an update of a copy prints which makes these calls, in their order: an added node's at its add, a deleted one's at its delete, and that
+/// of a node that was there before at its close, if its text or its properties were changed. A call says so, but at a directory that is incomplete in the
+/// copy and has properties: that has its line if anything in it or below it is changed. AllocError where an allocation failed.
+pub fn update_lines(
+    alloc: Global,
+    copy: &WorkingCopy,
+    calls: &[Call],
+) -> Result<Vec<UpdateLine>, AllocError>
+    ensures lines { IfOk result (λ lines. lines.items ≡ update_lines (get_in copy.now) calls.now) }
 {
     let mut noted = Noted {
         nodes: Vec::new(alloc),
+        edited: 0,
         lines: Vec::new(alloc),
     };
     for call in calls {
-        noted.note(alloc, call)?;
+        noted.note(alloc, copy, call)?;
     }
-    let Noted { nodes: _, lines } = noted;
+    let Noted {
+        nodes: _,
+        edited: _,
+        lines,
+    } = noted;
     Ok(lines)
 }
 

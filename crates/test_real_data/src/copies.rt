@@ -11,7 +11,7 @@ mod one_text;
 use crate::names::names_of;
 use answers::check_copies;
 use anyhow::{Result, bail};
-use by_hand::{Row, calls_of, rows};
+use by_hand::{Row, calls_of, copy_of_rows, rows};
 use files::{copy_in, history_of};
 use one_text::audit_with_texts;
 use std::alloc::Global;
@@ -56,7 +56,7 @@ fn lines_in_order(alloc: Global, repo: &Repo, copy: &WorkingCopy) -> Result<Stri
         &mut calls,
     )?;
     let mut lines = Vec::new(alloc);
-    for line in &update_lines(alloc, calls.calls())? {
+    for line in &update_lines(alloc, copy, calls.calls())? {
         lines.push(format!(in alloc; "{line}")?)?;
     }
     lines.sort()?;
@@ -118,10 +118,10 @@ fn compare_copy<R: Files + AllocGlobal + Print>(rt: &R, name: &str) -> Result<()
 }
 
 // The lines of calls that are written by hand.
-fn compare_row<R: AllocGlobal + Print>(rt: &R, row: &Row) -> Result<()> {
+fn compare_row<R: AllocGlobal + Print>(rt: &R, copy: &WorkingCopy, row: &Row) -> Result<()> {
     let alloc = rt.alloc();
     let calls = calls_of(alloc, row)?;
-    let found = lines_of(alloc, &update_lines(alloc, &calls)?)?;
+    let found = lines_of(alloc, &update_lines(alloc, copy, &calls)?)?;
     compare(
         rt,
         row.name,
@@ -136,8 +136,9 @@ pub(crate) fn run<R: Files + AllocGlobal + Print + Clone + Drop>(rt: &R) -> Resu
     for name in &names_of(rt, "copies", ".dump")? {
         compare_copy(rt, name)?;
     }
+    let copy = copy_of_rows(rt.alloc())?;
     for row in rows() {
-        compare_row(rt, row)?;
+        compare_row(rt, &copy, row)?;
     }
     audit_with_texts(rt)?;
     check_copies(rt)

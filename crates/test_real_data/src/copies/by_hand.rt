@@ -7,7 +7,9 @@ use self::Step::{
 use anyhow::Result;
 use std::alloc::Global;
 use svn_editor::{Call, Token};
-use svn_types::{PropName, RelPath, Rev, Text};
+use svn_model::BaseNode;
+use svn_types::{PropName, Props, RelPath, Rev, Text};
+use svn_wc::WorkingCopy;
 
 /// A call with a text in the place of its path. One that opens or adds a node takes the next token, 0, 1, 2 and so on; the others name it.
 #[derive(Clone, Copy)]
@@ -34,7 +36,7 @@ pub(crate) struct Row {
     pub(crate) lines: &'static str,
 }
 
-static ROWS: [Row; 4] = [
+static ROWS: [Row; 6] = [
     Row {
         name: "properties of added nodes",
         steps: &[
@@ -96,6 +98,31 @@ static ROWS: [Row; 4] = [
         ],
         lines: " U   .\nU    d/f\n",
     },
+    Row {
+        name: "a text in an incomplete directory",
+        steps: &[
+            OpenRoot,
+            OpenDirectory("cut"),
+            OpenFile("cut/f"),
+            GiveText(2),
+            CloseFile(2),
+            CloseDirectory(1),
+            CloseDirectory(0),
+        ],
+        lines: "U    cut/f\n U   cut\n",
+    },
+    Row {
+        name: "changes beside an incomplete directory",
+        steps: &[
+            OpenRoot,
+            Delete("a"),
+            OpenDirectory("cut"),
+            CloseDirectory(1),
+            Delete("x"),
+            CloseDirectory(0),
+        ],
+        lines: "D    a\nD    x\n",
+    },
 ];
 
 /// The rows.
@@ -104,6 +131,30 @@ pub(crate) fn rows() -> &'static [Row] {
 }
 
 const REV: Rev = Rev(1);
+
+// A directory with a property.
+fn directory(alloc: Global, path: &str, complete: bool) -> Result<(RelPath, BaseNode)> {
+    let mut props = Props::new(alloc);
+    props.insert(PropName::parse(alloc, "p")?, Text::new(Vec::new(alloc)))?;
+    Ok((
+        RelPath::parse(alloc, path)?,
+        BaseNode::Dir {
+            rev: REV,
+            repos_path: RelPath::parse(alloc, path)?,
+            complete,
+            props,
+        },
+    ))
+}
+
+/// The copy whose updates the rows are: `cut` is incomplete.
+pub(crate) fn copy_of_rows(alloc: Global) -> Result<WorkingCopy> {
+    let nodes = vec![in alloc;
+        directory(alloc, "", true)?,
+        directory(alloc, "cut", false)?,
+    ]?;
+    Ok(WorkingCopy::from_nodes(alloc, nodes)?)
+}
 
 // The directories above aren't looked at.
 const PARENT: Token = Token(0);
